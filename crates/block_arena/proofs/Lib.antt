@@ -1,0 +1,4 @@
+pub mod Copies
+pub mod Pieces
+pub mod Powers
+pub mod Walks

@@ -1,0 +1,22 @@
+// A piece that is written whole.
+
+ghost use Rattle.std.specs.Prelude.{◌≤◌, OnOk, OnErr};
+ghost use Rattle.std.specs.Io.KnownBytes.{Appends};
+ghost use Rattle.outside.specs.Counts.{Rose};
+ghost use Rattle.csv_edge.specs.Written.{AppendsFront};
+
+use outside::{Failed, Sink};
+
+/// Appends the whole piece. After [`Failed`] a front of it stands in the sink.
+pub fn write_whole<K: Sink>(sink: &mut K, piece: &[u8]) -> Result<(), Failed>
+    ensures ok { OnOk result (Appends (K.contents sink.old) (K.contents sink.new) piece.now) }
+    ensures err { OnErr result (AppendsFront (K.contents sink.old) (K.contents sink.new) piece.now) }
+    ensures failed { OnErr result (Rose (K.faults sink.old) (K.faults sink.new)) }
+    ensures never_falls { K.faults sink.old ≤ K.faults sink.new }
+{
+    let mut at = 0;
+    while at < piece.len() {
+        at += sink.write(&piece[at..])?;
+    }
+    Ok(())
+}

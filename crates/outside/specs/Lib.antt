@@ -1,0 +1,9 @@
+pub mod Counts
+pub mod Told
+pub mod Slots
+pub mod Names
+pub mod Schedule
+pub mod InMemory
+pub mod Entries
+pub mod Files
+pub mod Outputs

@@ -1,0 +1,112 @@
+// A sink that keeps its bytes in memory.
+
+ghost use Rattle.std.specs.Prelude.{◌≡◌, ◌≤◌, ◌<◌, ◌⊎◌, ◌++◌, min, length, take, Some, IsErr, IfOk, OnErr};
+ghost use Rattle.std.specs.Io.KnownBytes.{WriteAppends};
+ghost use Rattle.outside.specs.Counts.{Rose};
+ghost use Rattle.outside.specs.Schedule.{FailsNext, after_call};
+ghost use Rattle.outside.specs.InMemory.{fresh_sink, WriteFailed, WriteStarved};
+
+use crate::memory::Memory;
+use crate::schedule::Schedule;
+use crate::stream::{Failed, Sink};
+use std::alloc::Global;
+use std::marker::Model;
+
+/// A sink in memory. It tells its bytes, and fails exactly at the writes that are listed and at
+/// those that find no memory, which it counts.
+#[derive(Debug, Drop)]
+pub struct MemSink {
+    bytes: Vec<u8>,
+    chunk: usize,
+    schedule: Schedule,
+    starved: u64,
+}
+
+impl Model for MemSink {
+    ghost use Rattle.std.specs.Prelude.{◌<◌};
+    ghost use Rattle.outside.specs.InMemory.{SinkState};
+
+    ghost Value = { SinkState };
+
+    ghost view = { λ s. record { bytes = s.bytes.items; chunk = s.chunk; plan = s.schedule; starved = s.starved } };
+
+    ghost invariant = { λ s. 0 < s.chunk };
+}
+
+impl MemSink {
+    /// An empty sink, of which a write takes at most `chunk` bytes. The writes whose numbers,
+    /// counted from 0, stand in `fails` are faults.
+    pub fn new(alloc: Global, chunk: usize, fails: &[u64]) -> Result<MemSink, Memory>
+        requires { 0 < chunk }
+        ensures { IfOk result (λ s. s ≡ fresh_sink chunk fails.now) }
+    {
+        Ok(MemSink {
+            bytes: Vec::new(alloc),
+            chunk,
+            schedule: Schedule::new(alloc, fails)?,
+            starved: 0,
+        })
+    }
+
+    /// The bytes that were appended so far.
+    pub fn bytes(&self) -> &[u8]
+        ensures { result.now ≡ self.now.bytes }
+    {
+        self.bytes.as_slice()
+    }
+
+    /// The bytes that were appended, without a copy.
+    pub(crate) fn into_bytes(self) -> Vec<u8>
+        ensures { result.items ≡ self.bytes }
+    {
+        self.bytes
+    }
+
+    /// The writes that failed so far, those that found no memory included.
+    pub fn faults(&self) -> u64
+        ensures { result ≡ self.now.plan.faults }
+    {
+        self.schedule.faults()
+    }
+
+    /// The writes that found no memory so far.
+    pub fn starved(&self) -> u64
+        ensures { result ≡ self.now.starved }
+    {
+        self.starved
+    }
+}
+
+impl Sink for MemSink {
+    ghost contents = { λ s. Some s.bytes };
+
+    ghost faults = { λ s. s.plan.faults };
+
+    fn write(&mut self, piece: &[u8]) -> Result<usize, Failed>
+        requires { 0 < length piece.now }
+        ensures listed { FailsNext self.old.plan → IsErr result }
+        ensures size { IfOk result (λ n. n ≡ min self.old.chunk (length piece.now)) }
+        ensures ok { IfOk result (λ n. self.new ≡ record self.old { bytes = self.old.bytes ++ take n piece.now; plan = after_call self.old.plan }) }
+        // A write that is not listed fails only for want of memory.
+        ensures err { OnErr result (WriteFailed self.old self.new ⊎ WriteStarved self.old self.new) }
+
+        ensures some { IfOk result (λ n. 0 < n) }
+        ensures count { IfOk result (λ n. n ≤ length piece.now) }
+        ensures bytes { WriteAppends (Some self.old.bytes) (Some self.new.bytes) result piece.now }
+        ensures never_falls { self.old.plan.faults ≤ self.new.plan.faults }
+        ensures failed { OnErr result (Rose self.old.plan.faults self.new.plan.faults) }
+    {
+        if self.schedule.fails_next() {
+            self.schedule.fail();
+            return Err(Failed);
+        }
+        let size = self.chunk.min(piece.len());
+        if self.bytes.extend_from_slice(&piece[..size]).is_err() {
+            self.schedule.fail();
+            self.starved = self.starved.saturating_add(1);
+            return Err(Failed);
+        }
+        self.schedule.pass();
+        Ok(size)
+    }
+}

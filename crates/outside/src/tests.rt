@@ -1,0 +1,121 @@
+ghost use Rattle.std.specs.Prelude.{◌<◌, length};
+
+use crate::{
+    Gate, Inputs, MemInputs, MemOutputs, MemSink, MemSlot, MemSource, OpenGate, Outputs, Point,
+    Sink, Slot, Source,
+};
+use std::test::Fail;
+
+#[test]
+fn a_source_gives_its_chunks_and_fails_where_it_is_listed(rt: HostRuntime) -> Result<(), Fail> {
+    let mut source = MemSource::over(rt.alloc(), b"abcdefg", 3, &[1, 4])?;
+    let mut buf = [0u8; 4];
+    // Read 1 and read 4 fail, and take nothing.
+    for want in [
+        Some(b"abc".as_slice()),
+        None,
+        Some(b"def".as_slice()),
+        Some(b"g".as_slice()),
+        None,
+    ] {
+        match (source.read(&mut buf), want) {
+            (Ok(count), Some(bytes)) => assert_eq!(rt; buf.get(..count), Some(bytes)),
+            (Err(_), None) => {}
+            _ => assert!(rt; false, "the read that was listed, and no other, fails"),
+        }
+    }
+    assert_eq!(rt; source.read(&mut buf).ok(), Some(0));
+    assert_eq!(rt; source.faults(), 2);
+    Ok(())
+}
+
+#[test]
+fn a_sink_takes_its_chunks_and_fails_where_it_is_listed(rt: HostRuntime) -> Result<(), Fail> {
+    let mut sink = MemSink::new(rt.alloc(), 4, &[1])?;
+    for (piece, want) in [
+        (b"abcdef".as_slice(), Some(4)),
+        (b"x".as_slice(), None),
+        (b"ef".as_slice(), Some(2)),
+    ] {
+        assert_eq!(rt; sink.write(piece).ok(), want);
+    }
+    assert_eq!(rt; sink.bytes(), b"abcdef".as_slice());
+    assert_eq!(rt; (sink.faults(), sink.starved()), (1, 0));
+    Ok(())
+}
+
+#[test]
+fn a_slot_shows_its_block_until_a_store_fails(rt: HostRuntime) -> Result<(), Fail> {
+    let mut slot = MemSlot::new(rt.alloc(), &[2, 4])?;
+    let mut shown = [9u8; 2];
+    assert!(rt; slot.store(&[1, 2]).is_ok());
+    assert!(rt; slot.load(&mut shown).is_ok());
+    assert_eq!(rt; shown.as_slice(), [1, 2].as_slice());
+    assert!(rt; slot.load(&mut shown).is_err());
+    assert!(rt; slot.store(&[3, 4]).is_ok());
+    assert!(rt; slot.store(&[5, 6]).is_err());
+    assert_eq!(rt; (slot.stores(), slot.faults(), slot.starved()), (2, 2, 0));
+    Ok(())
+}
+
+#[test]
+fn inputs_open_what_was_put_and_count_faults_by_name(rt: HostRuntime) -> Result<(), Fail> {
+    let mut inputs = MemInputs::new(rt.alloc())?;
+    assert!(rt; inputs.open("a.csv").is_err());
+    inputs.put("a.csv", b"xyz", 2, &[0])?;
+    let Ok(mut source) = inputs.open("a.csv") else {
+        assert!(rt; false, "a name that was put opens");
+        return Ok(());
+    };
+    let mut buf = [0u8; 8];
+    assert!(rt; source.read(&mut buf).is_err());
+    assert_eq!(rt; source.read(&mut buf).ok(), Some(2));
+    inputs.close("a.csv", source);
+    // The fault before the name was put is one of all names that are not there.
+    assert_eq!(rt;
+        (
+            inputs.faults("a.csv"),
+            inputs.faults("b.csv"),
+            inputs.starved()
+        ),
+        (2, 1, 0)
+    );
+    Ok(())
+}
+
+#[test]
+fn an_output_has_the_bytes_of_its_sink_once_it_is_done(rt: HostRuntime) -> Result<(), Fail> {
+    let mut outputs = MemOutputs::new(rt.alloc())?;
+    assert!(rt; outputs.bytes("o.csv").is_none());
+    write_out(&mut outputs, b"part", false)?;
+    assert_eq!(rt; outputs.bytes("o.csv"), Some(b"part".as_slice()));
+    assert!(rt; !outputs.is_whole("o.csv"));
+    write_out(&mut outputs, b"answer", true)?;
+    assert_eq!(rt; outputs.bytes("o.csv"), Some(b"answer".as_slice()));
+    assert!(rt; outputs.is_whole("o.csv"));
+    assert_eq!(rt; (outputs.faults("o.csv"), outputs.starved()), (0, 0));
+    Ok(())
+}
+
+fn write_out(outputs: &mut MemOutputs, piece: &[u8], whole: bool) -> Result<(), Fail>
+    requires { 0 < length piece.now }
+{
+    let mut sink = outputs.create("o.csv")?;
+    sink.write(piece)?;
+    outputs.done("o.csv", sink, whole)?;
+    Ok(())
+}
+
+#[test]
+fn the_open_gate_lets_all_pass() {
+    for point in [
+        Point::BeforeStore,
+        Point::AfterStore,
+        Point::BeforeLoad,
+        Point::AfterLoad,
+        Point::QueryRead,
+        Point::QueryWrote,
+    ] {
+        OpenGate.pass(1000, point);
+    }
+}

@@ -1,0 +1,4 @@
+mod Counted
+pub mod Grouping
+mod ReadTexts
+mod Ties

@@ -1,0 +1,73 @@
+-- The answer of a count, as computed over the bytes of its input.
+use Rattle.std.specs.Prelude.{◌≡◌, ℕ, List, [], ◌∷◌, ◌++◌, true, false, Option, Some, None, map, flat_map, codes, length, sum_by, pos, ⊤}
+use Rattle.std.specs.Io.KnownBytes.{Appends}
+use Rattle.row_codec.specs.declared.values.Value.{Value}
+use Rattle.row_codec.specs.declared.values.Value.TheVariants.{Text, Wide}
+use Rattle.row_codec.specs.declared.values.Kind.TheVariants as kind
+use Rattle.row_codec.specs.declared.values.Column.{Column}
+use Rattle.csv_edge.specs.Typed.{reading}
+use Rattle.csv_edge.specs.Lines.{line_of}
+use Rattle.csv_edge.specs.Written.{AppendsFront}
+use Rattle.query_run.specs.Groups.{Group, AreGroups}
+use Rattle.query_run.specs.declared.outcome.Ran.{Ran}
+
+-- the one column that is counted, which holds texts
+abbrev pub text_column : List ℕ → List Column
+text_column name = record { name = name; kind = kind.Text } ∷ []
+
+-- a row of one text
+abbrev pub text_row : List ℕ → List Value
+text_row text = Text text ∷ []
+
+-- the input is accepted to its end, and its column has these texts
+abbrev pub HasTexts : List ℕ → List ℕ → List (List ℕ) → Type 0
+HasTexts column bytes texts = reading (text_column column) bytes ≡ record { rows = map text_row texts; accepted = true }
+
+-- the input is accepted to its end
+abbrev pub IsAccepted : List ℕ → List ℕ → Type 0
+IsAccepted column bytes = (reading (text_column column) bytes).accepted ≡ true
+
+-- the input is refused
+abbrev pub IsRefused : List ℕ → List ℕ → Type 0
+IsRefused column bytes = (reading (text_column column) bytes).accepted ≡ false
+
+-- the row of names
+abbrev pub header_row : List ℕ → List Value
+header_row column = Text column ∷ Text (codes "count") ∷ []
+
+-- the row of a group
+abbrev pub group_row : Group → List Value
+group_row g = Text g.text ∷ Wide (pos g.count) ∷ []
+
+-- the text of an answer
+abbrev pub answer_text : List ℕ → List Group → List ℕ
+answer_text column groups = line_of (header_row column) ++ flat_map (λ g. line_of (group_row g)) groups
+
+-- how often each text of the column stands in the input
+pub record Counting (column bytes : List ℕ) : Type 0 where
+  pub texts : List (List ℕ)
+  pub read : HasTexts column bytes texts
+  pub groups : List Group
+  pub grouped : AreGroups texts groups
+
+-- the text is the answer over these bytes
+abbrev pub IsAnswer : List ℕ → List ℕ → List ℕ → Type 0
+IsAnswer column bytes text = (c : Counting column bytes) × (text ≡ answer_text column c.groups)
+
+-- the whole answer was appended, where the bytes are told
+abbrev pub WroteAnswer : List ℕ → Option (List ℕ) → Option (List ℕ) → Option (List ℕ) → Type 0
+WroteAnswer column None old new = ⊤
+WroteAnswer column (Some bytes) old new = (text : List ℕ) × IsAnswer column bytes text × Appends old new text
+
+-- a front of the answer was appended, where the bytes are told
+abbrev pub WroteFront : List ℕ → Option (List ℕ) → Option (List ℕ) → Option (List ℕ) → Type 0
+WroteFront column None old new = ⊤
+WroteFront column (Some bytes) old new = (text : List ℕ) × IsAnswer column bytes text × AppendsFront old new text
+
+-- the numbers that go with an answer
+pub record Numbers {column bytes : List ℕ} (c : Counting column bytes) (ran : Ran) : Type 0 where
+  pub left : ran.left ≡ length c.texts
+  pub right : ran.right ≡ 0
+  pub kept : ran.kept ≡ length c.texts
+  pub lines : ran.lines ≡ length c.groups
+  pub totals : ran.totals ≡ pos (sum_by (λ g. g.count) c.groups) ∷ []

@@ -1,0 +1,4 @@
+pub mod Groups
+pub mod Answer
+pub mod Causes
+pub mod Inside

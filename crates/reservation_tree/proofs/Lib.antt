@@ -1,0 +1,15 @@
+pub mod Maps
+pub mod Sums
+pub mod Outline
+pub mod Shares
+pub mod Steps
+pub mod Above
+pub mod Growing
+pub mod Moving
+pub mod Tables
+pub mod Held
+pub mod Writes
+pub mod Strides
+pub mod Members
+pub mod Places
+pub mod Climbs

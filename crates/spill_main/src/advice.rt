@@ -1,0 +1,30 @@
+// What a person is told on standard error: one sentence that says what went wrong and what to do.
+
+use std::io;
+
+const USAGE: &str = "\
+usage: spill count FILE COLUMN   how often each value of a column of a CSV file occurs
+           spill count orders.csv city
+";
+
+// Tells what a status means, for the words that led to it. Status 0 needs no word.
+pub(crate) fn advise(rt: &impl Eprint, status: u8, words: &[String]) -> io::Result<()> {
+    match (status, words) {
+        (0, _) => Ok(()),
+        (1, _) => {
+            eprintln!(rt; "spill: these words are no command")?;
+            rt.eprint(USAGE)
+        }
+        (3, [_, file, ..]) => eprintln!(rt;
+            "spill: {file} could not be read: check that it is there, that it is a file, and that you may read it"
+        ),
+        (4, [_, file, column]) => eprintln!(rt;
+            "spill: {file} was refused: its header must have the column \"{column}\" exactly once, and each record as many fields as the header"
+        ),
+        (9, _) => eprintln!(rt;
+            "spill: the answer could not be written to standard output, so what stands there is no whole answer"
+        ),
+        (10, _) => eprintln!(rt; "spill: out of memory: give the program more, or a smaller file"),
+        (status, _) => eprintln!(rt; "spill: ended with status {status}"),
+    }
+}

@@ -1,0 +1,66 @@
+//! The program `spill`: the words of its command line, files as inputs, standard output as the
+//! report, and for people a sentence on standard error.
+//!
+//! Nothing is decided here: the top call answers the status, and this hands it files and standard
+//! output as they are. Each adapter counts its faults and claims nothing of what it holds.
+#![tactic(auto)]
+
+mod advice;
+mod files;
+mod output;
+
+use files::{FileInputs, FileOutputs};
+use output::Output;
+use outside::{MemSlot, OpenGate};
+use spill_top::spill_top;
+use std::alloc::AllocError;
+use std::fs::File;
+use std::process::ExitCode;
+use std::rt::{Env, Files};
+use std::{env, io};
+
+// The status where there was no memory for the words.
+const NO_MEMORY: u8 = 10;
+
+fn main(rt: HostRuntime) -> ExitCode {
+    ExitCode::from(run(&rt).unwrap_or(NO_MEMORY))
+}
+
+// Runs the command that the process was given, and answers its status.
+fn run<R: Files<File = File> + Env + Print + Eprint + AllocGlobal>(
+    rt: &R,
+) -> Result<u8, AllocError> {
+    let words = words(rt)?;
+    let mut slots: Vec<MemSlot> = Vec::new(rt.alloc());
+    let status = spill_top(
+        rt.alloc(),
+        words.as_slice(),
+        &mut FileInputs::new(rt),
+        &mut FileOutputs::new(rt),
+        &mut Output::new(io::writer(rt)),
+        &mut slots,
+        &OpenGate,
+    );
+    // A person who can't be told loses nothing: the status stands.
+    let _ = advice::advise(rt, status, words.as_slice());
+    Ok(status)
+}
+
+// The words behind the program's name. Where one of them is no text, there are none: that is no
+// command either.
+fn words<R: Env + AllocGlobal>(rt: &R) -> Result<Vec<String>, AllocError> {
+    let mut words = Vec::new(rt.alloc());
+    match env::args(rt) {
+        Ok(args) => {
+            for word in args.skip(1) {
+                words.push(word)?;
+            }
+        }
+        Err(e) if e.kind() == io::ErrorKind::OutOfMemory => return Err(AllocError),
+        Err(_) => {}
+    }
+    Ok(words)
+}
+
+#[cfg(test)]
+mod tests;

@@ -1,0 +1,43 @@
+// A writer as a sink.
+
+ghost use Rattle.std.specs.Prelude.{◌≡◌};
+
+use outside::{Failed, Sink};
+use std::io::Write;
+
+// Bytes that go to a writer, such as a file or standard output. It tells what its writer tells.
+#[derive(Drop)]
+pub(crate) struct Output<W> {
+    writer: W,
+    faults: u64,
+}
+
+impl<W: Write> Output<W> {
+    pub(crate) fn new(writer: W) -> Output<W>
+        ensures { result.faults ≡ 0 }
+    {
+        Output { writer, faults: 0 }
+    }
+
+    pub(crate) fn faults(&self) -> u64
+        ensures { result ≡ self.now.faults }
+    {
+        self.faults
+    }
+}
+
+impl<W: Write> Sink for Output<W> {
+    ghost contents = { λ s. W.contents s.writer };
+
+    ghost faults = { λ s. s.faults };
+
+    fn write(&mut self, piece: &[u8]) -> Result<usize, Failed> {
+        match self.writer.write(piece) {
+            Ok(count) if count > 0 => Ok(count),
+            _ => {
+                self.faults = self.faults.saturating_add(1);
+                Err(Failed)
+            }
+        }
+    }
+}

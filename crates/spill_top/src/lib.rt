@@ -1,0 +1,12 @@
+//! The program's top call: from the words of a command to the bytes of its report.
+#![tactic(auto)]
+
+mod command;
+mod count;
+mod report;
+mod top;
+
+pub use top::spill_top;
+
+#[cfg(test)]
+mod tests;

@@ -1,0 +1,149 @@
+use crate::spill_top;
+use outside::{MemInputs, MemOutputs, MemSink, MemSlot, OpenGate};
+use std::alloc::{AllocError, Global};
+use std::test::Fail;
+
+// A run of the top call: the file `in.csv`, if it is there, in chunks of 5 bytes with these reads
+// failing, and a report with these writes failing.
+#[derive(Clone, Copy)]
+struct Run<'a> {
+    words: &'a [&'a str],
+    file: Option<&'a [u8]>,
+    reads: &'a [u64],
+    writes: &'a [u64],
+}
+
+impl<'a> Run<'a> {
+    fn count(file: &'a [u8]) -> Run<'a> {
+        Run {
+            words: &["count", "in.csv", "k"],
+            file: Some(file),
+            reads: &[],
+            writes: &[],
+        }
+    }
+
+    fn words(words: &'a [&'a str]) -> Run<'a> {
+        Run {
+            words,
+            file: Some(b"k\na\n"),
+            reads: &[],
+            writes: &[],
+        }
+    }
+
+    // The status and the report.
+    fn outcome(&self, alloc: Global) -> Result<(u8, Vec<u8>), Fail> {
+        let words = owned(alloc, self.words)?;
+        let mut inputs = MemInputs::new(alloc)?;
+        if let Some(bytes) = self.file {
+            inputs.put("in.csv", bytes, 5, self.reads)?;
+        }
+        let mut report = MemSink::new(alloc, usize::MAX, self.writes)?;
+        let mut slots: Vec<MemSlot> = Vec::new(alloc);
+        let status = spill_top(
+            alloc,
+            words.as_slice(),
+            &mut inputs,
+            &mut MemOutputs::new(alloc)?,
+            &mut report,
+            &mut slots,
+            &OpenGate,
+        );
+        Ok((status, Vec::from_slice(alloc, report.bytes())?))
+    }
+}
+
+fn owned(alloc: Global, words: &[&str]) -> Result<Vec<String>, AllocError> {
+    let mut all = Vec::new(alloc);
+    for word in words {
+        all.push(String::from_str(alloc, word)?)?;
+    }
+    Ok(all)
+}
+
+#[test]
+fn a_count_answers_in_the_order_of_paths(rt: HostRuntime) -> Result<(), Fail> {
+    let rows: [(&[u8], &[u8]); 4] = [
+        (b"k\na\nb\na\nd\nc\n", b"k,count\nb,1\nd,1\nc,1\na,2\n"),
+        (b"k\n", b"k,count\n"),
+        (b"\xef\xbb\xbfz,k\r\n1,a\r\n2,a\r\n", b"k,count\na,2\n"),
+        (
+            b"k\n\"a,b\"\n\"q\"\"q\"\n\"x\ny\"\n\"\"\n",
+            b"k,count\n\"x\ny\",1\n,1\n\"a,b\",1\n\"q\"\"q\",1\n",
+        ),
+    ];
+    for (file, report) in rows {
+        let (status, said) = Run::count(file).outcome(rt.alloc())?;
+        assert_eq!(rt; said.as_slice(), report);
+        assert_eq!(rt; status, 0);
+    }
+    Ok(())
+}
+
+#[test]
+fn a_long_field_is_one_group(rt: HostRuntime) -> Result<(), Fail> {
+    let alloc = rt.alloc();
+    let field = vec![in alloc; b'x'; 8168]?;
+    let mut file = Vec::from_slice(alloc, b"k\n")?;
+    file.extend_from_slice(field.as_slice())?;
+    file.extend_from_slice(b"\n")?;
+    let (status, said) = Run::count(file.as_slice()).outcome(alloc)?;
+    let mut report = Vec::from_slice(alloc, b"k,count\n")?;
+    report.extend_from_slice(field.as_slice())?;
+    report.extend_from_slice(b",1\n")?;
+    assert_eq!(rt; said.as_slice(), report.as_slice());
+    assert_eq!(rt; status, 0);
+    Ok(())
+}
+
+#[test]
+fn a_refusal_says_its_cause(rt: HostRuntime) -> Result<(), Fail> {
+    let rows = [
+        (Run::words(&[]), 1, b"1 words\n".as_slice()),
+        (Run::words(&["frob"]), 1, b"1 words\n"),
+        (Run::words(&["count", "in.csv"]), 1, b"1 words\n"),
+        (Run::words(&["count", "-x", "k"]), 1, b"1 words\n"),
+        (Run::words(&["count", "in.csv", ""]), 1, b"1 words\n"),
+        (Run::words(&["count", "in.csv", "k", "k"]), 1, b"1 words\n"),
+        (
+            Run::words(&["selfcheck", "1", "2", "0", "4"]),
+            1,
+            b"1 words\n",
+        ),
+        (Run::count(b""), 4, b"4 input left\n"),
+        (Run::count(b"x\na\n"), 4, b"4 input left\n"),
+        (Run::count(b"k,k\na,b\n"), 4, b"4 input left\n"),
+        (Run::count(b"k,v\na,1\nb\n"), 4, b"4 input left\n"),
+        (
+            Run {
+                reads: &[1],
+                ..Run::count(b"k\na\nb\na\n")
+            },
+            3,
+            b"3 input left\n",
+        ),
+        (
+            Run {
+                file: None,
+                ..Run::count(b"")
+            },
+            3,
+            b"3 input left\n",
+        ),
+        (
+            Run {
+                writes: &[0],
+                ..Run::count(b"k\na\n")
+            },
+            9,
+            b"",
+        ),
+    ];
+    for (run, status, report) in rows {
+        let (answered, said) = run.outcome(rt.alloc())?;
+        assert_eq!(rt; said.as_slice(), report);
+        assert_eq!(rt; answered, status);
+    }
+    Ok(())
+}
