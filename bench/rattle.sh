@@ -1,6 +1,7 @@
 #!/bin/sh
 # Proves, builds and runs bench/NAME as a program of its own: sh bench/rattle.sh NAME [WORD..]
-# The repository is copied to a temporary folder, so that its crates.txt stays as it is.
+# The repository is copied to a temporary folder, so that its crates.txt stays as it is. A bench's
+# sources end in .rt.txt, since the gate takes every .rt file for one of a crate.
 set -eu
 name=$1
 shift
@@ -9,7 +10,9 @@ copy=$(mktemp -d)
 trap 'rm -rf "$copy"' EXIT
 cp -r "$top/HANDLES" "$top/crates.txt" "$top/crates" "$copy"
 mkdir -p "$copy/crates/bench_$name/src"
-cp "$top/bench/$name"/*.rt "$copy/crates/bench_$name/src"
+for source in "$top/bench/$name"/*.rt.txt; do
+    cp "$source" "$copy/crates/bench_$name/src/$(basename "$source" .txt)"
+done
 cat "$top/bench/$name/deps.txt" >> "$copy/crates.txt"
 cd "$copy/crates/bench_$name"
 rt run -- "$@"
