@@ -1,0 +1,5 @@
+pub mod Proper
+pub mod Totals
+pub mod Summed
+pub mod Kept
+pub mod Sums

@@ -1,0 +1,6 @@
+pub mod Maps
+pub mod Names
+pub mod Entries
+pub mod Changes
+pub mod Found
+pub mod Steps

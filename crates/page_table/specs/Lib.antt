@@ -1,0 +1,5 @@
+pub mod Pages
+pub mod Slots
+pub mod Rows
+pub mod Codes
+pub mod Lends
