@@ -35,4 +35,12 @@ impl Shell {
         let none = Vec::with_capacity(alloc, blocks as usize)?;
         Ok(Shell { room: blocks, none })
     }
+
+    /// How many blocks it has room for.
+    #[inline]
+    pub fn room(&self) -> u32
+        ensures { result ≡ self.now }
+    {
+        self.room
+    }
 }

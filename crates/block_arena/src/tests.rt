@@ -10,7 +10,9 @@ use std::test::Fail;
 fn blocks_are_counted_and_come_back(rt: HostRuntime) -> Result<(), Fail> {
     let mut arena = Arena::open(rt.alloc(), 4, 64)?;
     assert_eq!(rt; arena.free(), 4);
-    let buf = arena.fill(Shell::with(rt.alloc(), 2)?);
+    let shell = Shell::with(rt.alloc(), 2)?;
+    assert_eq!(rt; shell.room(), 2);
+    let buf = arena.fill(shell);
     assert_eq!(rt; (buf.len(), arena.free()), (128, 2));
     let _shell = arena.take_back(buf);
     assert_eq!(rt; arena.free(), 4);

@@ -1,6 +1,10 @@
-pub mod Records
+pub mod Turns
+pub mod Readers
 pub mod Places
-pub mod Under
+pub mod Placing
 pub mod Flexible
 pub mod Steps
+pub mod Digits
+pub mod Filling
+pub mod Cuts
 pub mod RowKinds

@@ -1,35 +1,58 @@
 -- What the parts of the reading keep.
-use Rattle.std.specs.Prelude.{◌≡◌, ℕ, List, [], ◌∷◌, Some, map, length, ⊤}
-use Rattle.std.specs.Borrow.{Bor}
-use Rattle.csv_edge.specs.Typed.{places_of, row_at}
-use Rattle.row_codec.specs.declared.values.Column.{Column}
-use Rattle.row_codec.specs.declared.values.Value.{Value}
-use Rattle.csv.specs.Reading.{Reached, Ready, default_config, source_of, strip_bom}
-use Rattle.csv.specs.declared.parser.State.TheVariants as st
+use Rattle.std.specs.Prelude.{◌≡◌, ◌+◌, ◌-◌, ◌++◌, ℕ, List, [], Option, Some, None, Vec, IfSome, drop, length, flat_map, option_map, take}
+use Rattle.std.specs.Io.Cursor.{cursor_remaining}
+use Rattle.std.specs.declared.io.Cursor.{Cursor}
+use Rattle.std.specs.declared.alloc.Global.{Global}
+use Rattle.std.specs.Io.KnownBytes.{Consumes}
+use Rattle.csv_edge.specs.Pieces.{front_len, later_pieces, piece_bytes}
+use Rattle.csv_edge.specs.Typed.{Typed, records_in}
+use Rattle.csv_edge.specs.Unread.{Feed, Unread, records_left, typed_left}
+use Rattle.csv_edge.specs.declared.scan.Scan.TheVariants as scan
+use Rattle.csv.specs.Reading.{Ready, default_config, records_from, source_of}
+use Rattle.csv.specs.declared.parser.State.{State}
 use Rattle.csv.specs.declared.reader.Reader.{Reader}
 use Rattle.csv.specs.declared.reader.Trim.TheVariants as trim
 
--- a reader of a text that has given these records and stands behind them
-pub record StandsBehind (text : List ℕ) (given : List (List (List ℕ))) (reader : Reader (Bor (List ℕ))) : Type 0 where
+-- the records of these bytes, from a state on
+abbrev pub records_in_state : State → Option (List ℕ) → List (List (List ℕ))
+records_in_state state None = []
+records_in_state state (Some bytes) = records_from default_config (length bytes + 1) state bytes
+
+-- the bytes that a piece still gives
+abbrev pub piece_left : Cursor (Vec ℕ Global) → Option (List ℕ)
+piece_left piece = cursor_remaining (λ v. Some v.items) piece
+
+-- the records that a reader of a piece still gives
+abbrev pub records_behind : Reader (Cursor (Vec ℕ Global)) → List (List (List ℕ))
+records_behind reader = records_in_state reader.state (source_of piece_left reader)
+
+-- a reader of a piece as this crate makes it, which has not failed
+pub record IsSound (reader : Reader (Cursor (Vec ℕ Global))) : Type 0 where
   pub plain : reader.trim ≡ trim.None
   pub ready : Ready reader
   pub default : reader.config ≡ default_config
   pub left : List ℕ
-  pub source : source_of (λ s. Some s.now) reader ≡ Some left
-  pub reached : Reached default_config st.StartRecord (strip_bom text) given reader.state left
+  pub source : source_of piece_left reader ≡ Some left
 
--- each of these records has so many fields
-abbrev pub AreWide : ℕ → List (List (List ℕ)) → Type 0
-AreWide width [] = ⊤
-AreWide width (first ∷ rest) = (length first ≡ width) × AreWide width rest
+-- bytes moved from the source to the end of a piece, up to the first cut at which it is long enough, or up to the end
+pub record Fills (before now : Option (List ℕ)) (old piece : List ℕ) : Type 0 where
+  pub front : List ℕ
+  pub grown : piece ≡ old ++ front
+  pub taken : Consumes before now front
+  pub len : IfSome before (λ bytes. length front ≡ front_len scan.Start (piece_bytes - length old) bytes)
 
--- a reader of a text that has given the header, where the columns stand at these places, and then these rows
-pub record HasRead (text : List ℕ) (columns : List Column) (width : ℕ) (places : List ℕ) (count : ℕ) (rows : List (List Value)) (reader : Reader (Bor (List ℕ))) : Type 0 where
-  pub header : List (List ℕ)
-  pub given : List (List (List ℕ))
-  pub stands : StandsBehind text (header ∷ given) reader
-  pub placed : places_of header columns ≡ Some places
-  pub wide : length header ≡ width
-  pub even : AreWide width given
-  pub counted : length given ≡ count
-  pub made : rows ≡ map (row_at places) given
+-- told bytes begin with a piece of this length, and lose it
+abbrev pub Cuts : (List ℕ → ℕ) → Option (List ℕ) → Option (List ℕ) → List ℕ → Type 0
+Cuts len before now piece = IfSome before (λ bytes. (piece ≡ take (len bytes) bytes) × (now ≡ Some (drop (len bytes) bytes)))
+
+-- the records of the pieces that stand behind a cut
+abbrev pub later_records : List ℕ → List (List (List ℕ))
+later_records bytes = flat_map records_in (later_pieces bytes)
+
+-- the records that are still to come, where the bytes of the source are told
+abbrev pub records_told : Feed → Option (List ℕ) → Option (List (List (List ℕ)))
+records_told feed told = option_map (records_left feed) told
+
+-- the rows that are still to come, where the bytes of the source are told
+abbrev pub typed_told : Unread → Option (List ℕ) → Option Typed
+typed_told unread told = option_map (typed_left unread) told

@@ -1,6 +1,10 @@
+pub mod Ints
+pub mod Pieces
+pub mod Cutting
 pub mod Typed
+pub mod Unread
+pub mod Inside
 pub mod Rows
 pub mod Lines
 pub mod Written
-pub mod Inside
 pub mod Writer

@@ -4,28 +4,38 @@ ghost use Rattle.std.specs.Prelude.{◌≡◌, IfOk, option_map, count_by, posit
 ghost use Rattle.csv.specs.Records.{fields_of};
 ghost use Rattle.csv_edge.specs.Typed.{only_place, places_of};
 
-use crate::field::field_of;
+use crate::row::field_of;
 use csv::ByteRecord;
-use row_codec::{Bytes, Column, Memory};
+use row_codec::{Bytes, Column, Kind, Memory};
 use std::alloc::Global;
 
-/// The places of the columns, or `None` where one's name does not stand in the header once.
+/// A declared column, and the place of its field in each record.
+#[derive(Clone, Copy, Debug, PartialEq, Eq)]
+pub(crate) struct Placed {
+    pub(crate) place: usize,
+    pub(crate) kind: Kind,
+}
+
+/// The columns with their places, or `None` where one's name does not stand in the header once.
 pub(crate) fn places(
     alloc: Global,
     header: &ByteRecord,
     columns: &[Column],
-) -> Result<Option<Vec<usize>>, Memory>
+) -> Result<Option<Vec<Placed>>, Memory>
     ensures { IfOk result (λ o. option_map (λ v. v.items) o ≡ places_of (fields_of header.now) columns.now) }
 {
     let names = copied_fields(alloc, header)?;
-    let mut places = Vec::with_capacity(alloc, columns.len())?;
+    let mut placed = Vec::with_capacity(alloc, columns.len())?;
     for column in columns {
         let Some(place) = only_place_of(&names, &column.name) else {
             return Ok(None);
         };
-        places.push(place)?;
+        placed.push(Placed {
+            place,
+            kind: column.kind,
+        })?;
     }
-    Ok(Some(places))
+    Ok(Some(placed))
 }
 
 // The place of a name that stands in the header exactly once.

@@ -1,108 +1,103 @@
 // The rows of a source, handed out one by one.
 
-ghost use Rattle.std.specs.Prelude.{◌≡◌, ◌≢◌, ◌≤◌, IfOk, OnOk, OnErr, IfErr, IfSome, IfNone, IsErrOf};
+ghost use Rattle.std.specs.Prelude.{◌≡◌, ◌≤◌, ◌+◌, ◌⊎◌, ◌<◌, Some, length, map, option_map, IfOk, OnOk, OnErr, IfErr, IfSome, IfNone, IsErrOf};
 ghost use Rattle.std.specs.Io.KnownBytes.{IsAtEnd};
 ghost use Rattle.outside.specs.Counts.{Rose};
-ghost use Rattle.csv_edge.specs.Typed.{nothing_more, reading, refused_here, row_then};
-ghost use Rattle.csv_edge.specs.Rows.{AreOfKinds, AreTexts, rest_of};
+ghost use Rattle.csv_edge.specs.Typed.{nothing_more, refused_here, row_then, typed_rows};
+ghost use Rattle.csv_edge.specs.Rows.{Becomes, CountsBytes, FitsLimit, GoesOn, HasEnded, IsOfRecord, IsOpen, PassesLimit, bytes_allowed, kinds_in, records_allowed, rest_of};
 
-use crate::input::read_all;
+use crate::open::Open;
 use crate::refusal::InputErr;
-use crate::table::{Table, read_table};
 use outside::Source;
 use row_codec::{Column, Value};
 use std::alloc::Global;
-use std::collections::VecDeque;
-
-// The most bytes of an input.
-const MOST_BYTES: usize = 1048576;
-
-// The most records of an input under its header.
-const MOST_ROWS: u32 = 65535;
 
 /// Typed rows of a source, which it borrows. What was read of the source stays read.
 pub struct RowsOver<'a, S, L> {
     src: &'a mut S,
     left: L,
-    refuses: bool,
 }
 
-pub type Rows<'a, S> = RowsOver<'a, S, VecDeque<Vec<Value>>>;
+/// The rows of a source: none before [`Rows::start`], none behind a refusal or the end.
+pub type Rows<'a, S> = RowsOver<'a, S, Option<Box<Open>>>;
 
 impl<S, L: Drop> Drop for RowsOver<'_, S, L> {
     fn drop(self)
         ensures { self.exit.0.now ≡ self.entry.src.now }
     {
-        let RowsOver {
-            src: _,
-            left,
-            refuses: _,
-        } = self;
+        let RowsOver { src: _, left } = self;
         drop(left);
     }
 }
 
-impl<'a, S: Source> RowsOver<'a, S, VecDeque<Vec<Value>>> {
+impl<'a, S: Source> RowsOver<'a, S, Option<Box<Open>>> {
     /// Rows of this source, of which nothing is read yet.
-    pub fn of(alloc: Global, src: &'a mut S) -> Rows<'a, S>
+    pub fn of(src: &'a mut S) -> Rows<'a, S>
         ensures same { result.src.ghost_name ≡ src.entry.ghost_name }
         ensures source { result.src.now ≡ src.old }
-        ensures rest { rest_of result ≡ nothing_more }
+        ensures ended { HasEnded S.remaining result }
     {
-        RowsOver {
-            src,
-            left: VecDeque::new(alloc),
-            refuses: false,
-        }
+        RowsOver { src, left: None }
     }
 
-    /// Reads the source to its end, and its header.
+    /// Reads the header. So many records are allowed, the header among them, and so many bytes.
     ///
-    /// An input is refused here where it has more than 1048576 bytes, or a column's name does not
-    /// stand in its header exactly once. What the rows before were is forgotten.
-    pub fn start(&mut self, alloc: Global, columns: &[Column]) -> Result<(), InputErr>
-        requires { AreTexts columns.now }
-        ensures ok { OnOk result (IfSome (S.remaining self.old.src.now) (λ bytes. reading columns.now bytes ≡ rest_of self.new)) }
-        ensures end { OnOk result (IsAtEnd (S.remaining self.new.src.now)) }
-        ensures kinds { AreOfKinds columns.now (rest_of self.new).rows }
-        ensures err { OnErr result (rest_of self.new ≡ nothing_more) }
+    /// What the rows before were is forgotten. An input that passes a limit is refused when that
+    /// shows: of one with too many bytes, the rows before the refusal are some of those before the
+    /// limit.
+    pub fn start(
+        &mut self,
+        alloc: Global,
+        columns: &[Column],
+        max_records: u64,
+        max_bytes: u64,
+    ) -> Result<(), InputErr>
+        ensures ok { OnOk result (Becomes (λ t. t) (option_map (typed_rows columns.now max_records) (S.remaining self.old.src.now)) (rest_of S.remaining self.new)) }
+        ensures open { OnOk result (IsOpen self.new) }
+        ensures kinds { OnOk result (kinds_in self.new ≡ map (λ column. column.kind) columns.now) }
+        ensures allowed { OnOk result (records_allowed self.new + 1 ≡ max_records) }
+        ensures counts { OnOk result (CountsBytes max_bytes (S.remaining self.old.src.now) (bytes_allowed self.new) (S.remaining self.new.src.now)) }
+        ensures err { OnErr result (HasEnded S.remaining self.new) }
 
         // Why it failed.
-        ensures refused { IsErrOf result InputErr.Refused → IfSome (S.remaining self.old.src.now) (λ bytes. reading columns.now bytes ≡ refused_here) }
+        ensures refused { IfErr result (λ e. IsOfRecord e → IfSome (S.remaining self.old.src.now) (λ bytes. typed_rows columns.now max_records bytes ≡ refused_here e)) }
+        ensures large { IsErrOf result InputErr.TooLarge → IfSome (S.remaining self.old.src.now) (λ bytes. (typed_rows columns.now max_records bytes ≡ refused_here InputErr.TooLarge) ⊎ (max_bytes < length bytes)) }
         ensures fault { IsErrOf result InputErr.Fault → Rose (S.faults self.old.src.now) (S.faults self.new.src.now) }
         ensures never_falls { S.faults self.old.src.now ≤ S.faults self.new.src.now }
         ensures same { self.new.src.ghost_name ≡ self.old.src.ghost_name }
     {
-        self.left.clear();
-        self.refuses = false;
-        let Some(text) = read_all(alloc, self.src, MOST_BYTES)? else {
-            return Err(InputErr::Refused);
-        };
-        let Table { rows, accepted } = read_table(alloc, text.as_slice(), columns, MOST_ROWS)?;
-        self.left = rows;
-        self.refuses = !accepted;
+        self.left = None;
+        let open = Open::over(alloc, self.src, columns, max_records, max_bytes)?;
+        self.left = Some(Box::new(alloc, open)?);
         Ok(())
     }
 
-    /// The next row, or `None` behind the last one. A refusal comes once, behind the rows before it.
+    /// The next row, or `None` at the end of the input, and behind a refusal or the end.
     pub fn next(&mut self) -> Result<Option<Vec<Value>>, InputErr>
-        ensures row { IfOk result (λ next. IfSome next (λ row. rest_of self.old ≡ row_then row.items (rest_of self.new))) }
-        ensures end { IfOk result (λ next. IfNone next ((rest_of self.old ≡ nothing_more) × (rest_of self.new ≡ nothing_more))) }
-        ensures refused { IsErrOf result InputErr.Refused → rest_of self.old ≡ refused_here }
-        ensures err { OnErr result (rest_of self.new ≡ nothing_more) }
+        ensures row { IfOk result (λ next. IfSome next (λ row. Becomes (row_then row.items) (rest_of S.remaining self.old) (rest_of S.remaining self.new))) }
+        ensures goes_on { IfOk result (λ next. IfSome next (λ row. GoesOn row.items self.old self.new)) }
+        ensures counts { IfOk result (λ next. IfSome next (λ _. CountsBytes (bytes_allowed self.old) (S.remaining self.old.src.now) (bytes_allowed self.new) (S.remaining self.new.src.now))) }
 
-        // The source was read before.
-        ensures cause { IfErr result (λ e. e ≡ InputErr.Refused) }
-        ensures source { self.new.src.now ≡ self.old.src.now }
+        // At the end all was read, and no limit was passed.
+        ensures end { IfOk result (λ next. IfNone next (Becomes (λ t. t) (rest_of S.remaining self.old) (Some nothing_more) × HasEnded S.remaining self.new)) }
+        ensures ended { HasEnded S.remaining self.old → result ≡ Ok None }
+        ensures read { IfOk result (λ next. IfNone next (IsOpen self.old → IsAtEnd (S.remaining self.new.src.now) × FitsLimit (bytes_allowed self.old) (S.remaining self.old.src.now))) }
+
+        // Why it failed.
+        ensures refused { IfErr result (λ e. IsOfRecord e → Becomes (λ t. t) (rest_of S.remaining self.old) (Some (refused_here e))) }
+        ensures large { IsErrOf result InputErr.TooLarge → Becomes (λ t. t) (rest_of S.remaining self.old) (Some (refused_here InputErr.TooLarge)) ⊎ PassesLimit (bytes_allowed self.old) (S.remaining self.old.src.now) }
+        ensures err { OnErr result (HasEnded S.remaining self.new) }
+        ensures fault { IsErrOf result InputErr.Fault → Rose (S.faults self.old.src.now) (S.faults self.new.src.now) }
+        ensures never_falls { S.faults self.old.src.now ≤ S.faults self.new.src.now }
         ensures same { self.new.src.ghost_name ≡ self.old.src.ghost_name }
     {
-        if let Some(row) = self.left.pop_front() {
-            return Ok(Some(row));
-        }
-        if self.refuses {
-            self.refuses = false;
-            return Err(InputErr::Refused);
-        }
-        Ok(None)
+        let Some(mut open) = self.left.take() else {
+            return Ok(None);
+        };
+        let Some(row) = open.next_row(self.src)? else {
+            return Ok(None);
+        };
+        self.left = Some(open);
+        Ok(Some(row))
     }
 }

@@ -1,32 +1,45 @@
-// The records of a text, one after the other.
+// The records of one piece, one after the other.
 
-ghost use Rattle.std.specs.Prelude.{◌≡◌, ◌++◌, ◌∷◌, [], ℕ, List, IfOk, true, false};
+ghost use Rattle.std.specs.Prelude.{◌≡◌, ◌∷◌, [], IfOk, true, false};
 ghost use Rattle.csv.specs.Records.{fields_of};
-ghost use Rattle.csv_edge.specs.Inside.{StandsBehind};
-ghost use Rattle.csv_edge.specs.Typed.{records_of};
+ghost use Rattle.csv_edge.specs.Inside.{IsSound, records_behind};
+ghost use Rattle.csv_edge.specs.Typed.{records_in};
 
 use csv::{ByteRecord, Reader, ReaderBuilder};
 use row_codec::Memory;
 use std::alloc::Global;
+use std::io::Cursor;
 
-/// A reader at the front of the text.
-pub(crate) fn reader_of(alloc: Global, text: &[u8]) -> Reader<&[u8]>
-    ensures { StandsBehind text.now [] result }
+/// Reads the records of a piece, which stands in memory.
+pub(crate) type PieceReader = Reader<Cursor<Vec<u8>>>;
+
+/// A reader at the front of a piece.
+pub(crate) fn reader_of(alloc: Global, piece: Vec<u8>) -> PieceReader
+    ensures sound { IsSound result }
+    ensures records { records_behind result ≡ records_in piece.items }
 {
     ReaderBuilder::new()
         .has_headers(false)
         .flexible(true)
-        .from_reader(alloc, text)
+        .from_reader(alloc, Cursor::new(piece))
 }
 
-/// Reads the next record into `row`, or answers `false` behind the last one.
+/// Reads the next record of the piece, or answers `false` behind the last one.
 ///
-/// Records may be of any width, and a slice has no faults: an error is want of memory.
-pub(crate) fn read_record(reader: &mut Reader<&[u8]>, row: &mut ByteRecord) -> Result<bool, Memory>
-    ensures more { IfOk result (λ found. (text : List ℕ) (given : List (List (List ℕ))) → StandsBehind text given reader.old → found ≡ true → StandsBehind text (given ++ fields_of row.new ∷ []) reader.new) }
-    ensures end { IfOk result (λ found. (text : List ℕ) (given : List (List (List ℕ))) → StandsBehind text given reader.old → found ≡ false → records_of text ≡ given) }
+/// Records may be of any width, and a piece in memory has no faults: an error is want of memory,
+/// and then the reader has nothing more.
+pub(crate) fn read_record(
+    alloc: Global,
+    reader: &mut PieceReader,
+    record: &mut ByteRecord,
+) -> Result<bool, Memory>
+    requires { IsSound reader.old }
+    ensures sound { IsSound reader.new }
+    ensures more { IfOk result (λ found. found ≡ true → records_behind reader.old ≡ fields_of record.new ∷ records_behind reader.new) }
+    ensures end { IfOk result (λ found. found ≡ false → records_behind reader.old ≡ []) }
 {
-    let Ok(found) = reader.read_byte_record(row) else {
+    let Ok(found) = reader.read_byte_record(record) else {
+        *reader = reader_of(alloc, Vec::new(alloc));
         return Err(Memory);
     };
     Ok(found)

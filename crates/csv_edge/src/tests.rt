@@ -1,132 +1,332 @@
-ghost use Rattle.std.specs.Prelude.{◌≡◌, IfOk};
-ghost use Rattle.csv_edge.specs.Rows.{AreTexts};
-ghost use Rattle.row_codec.specs.declared.values.Kind.TheVariants as kind;
-
 use crate::{InputErr, Lines, Rows, row_text, write_whole};
 use outside::{MemSink, MemSource, Sink};
 use row_codec::{Bytes, Column, Kind, Memory, Value};
 use std::alloc::Global;
 use std::test::Fail;
 
-fn text_column(alloc: Global, name: &str) -> Result<Column, Memory>
-    ensures { IfOk result (λ column. column.kind ≡ kind.Text) }
-{
+// Limits that no input here passes.
+const ANY: u64 = 1 << 40;
+
+fn column(alloc: Global, name: &str, kind: Kind) -> Result<Column, Memory> {
     Ok(Column {
         name: Bytes::of(alloc, name.as_bytes())?,
-        kind: Kind::Text,
+        kind,
     })
 }
 
-// The lines of an input's rows, and then how its reading ended: `.` for the end, `!` for a
-// refusal, `?` for a fault. Whatever it was, nothing may follow.
-fn told(alloc: Global, columns: &[Column], input: &[u8], fails: &[u64]) -> Result<Vec<u8>, Fail>
-    requires { AreTexts columns.now }
-{
-    let mut src = MemSource::over(alloc, input, 5, fails)?;
-    let mut rows = Rows::of(alloc, &mut src);
+// How an input is read: bytes of a read, reads that fail, and the limits.
+#[derive(Clone, Copy)]
+struct Reading<'a> {
+    chunk: usize,
+    fails: &'a [u64],
+    max_records: u64,
+    max_bytes: u64,
+}
+
+fn plainly() -> Reading<'static> {
+    Reading {
+        chunk: 5,
+        fails: &[],
+        max_records: ANY,
+        max_bytes: ANY,
+    }
+}
+
+// The lines of an input's rows, and then how its reading ended. Whatever it was, nothing may follow.
+fn told(
+    alloc: Global,
+    columns: &[Column],
+    input: &[u8],
+    how: &Reading,
+) -> Result<(Vec<u8>, Option<InputErr>), Fail> {
+    let mut src = MemSource::over(alloc, input, how.chunk.max(1), how.fails)?;
+    let mut rows = Rows::of(&mut src);
+    assert_none(rows.next())?;
     let mut lines = Lines::new(alloc);
-    let mut ending = rows.start(alloc, columns);
-    if ending.is_ok() {
-        for _ in 0..u64::MAX {
-            match rows.next() {
-                Ok(Some(row)) => lines.push(&row)?,
-                Ok(None) => break,
-                Err(e) => {
-                    ending = Err(e);
-                    break;
-                }
+    if let Err(e) = rows.start(alloc, columns, how.max_records, how.max_bytes) {
+        assert_none(rows.next())?;
+        return Ok((lines.finish()?, Some(e)));
+    }
+    let mut refusal = None;
+    for _ in 0..u64::MAX {
+        match rows.next() {
+            Ok(Some(row)) => lines.push(&row)?,
+            Ok(None) => break,
+            Err(e) => {
+                refusal = Some(e);
+                break;
             }
         }
     }
-    let mut text = lines.finish()?;
-    text.push(match ending {
-        Ok(()) => b'.',
-        Err(InputErr::Refused) => b'!',
-        Err(InputErr::Fault) => b'?',
-        Err(InputErr::Memory) => return Err(Fail::from("no memory")),
-    })?;
-    if rows.next()?.is_some() {
-        text.push(b'+')?;
+    assert_none(rows.next())?;
+    Ok((lines.finish()?, refusal))
+}
+
+fn assert_none(next: Result<Option<Vec<Value>>, InputErr>) -> Result<(), Fail> {
+    match next {
+        Ok(None) => Ok(()),
+        _ => Err(Fail::from("something comes behind the end")),
     }
-    Ok(text)
 }
 
 #[test]
-fn rows_of_one_column(rt: HostRuntime) -> Result<(), Fail> {
+fn rows_and_the_place_of_a_refusal(rt: HostRuntime) -> Result<(), Fail> {
     let alloc = rt.alloc();
-    let columns = [text_column(alloc, "k")?];
-    let table: [(&[u8], &[u8]); 13] = [
-        (b"k\na\nb\n", b"a\nb\n."),
-        (b"k\r\na\r\nb", b"a\nb\n."),
-        (b"k\n", b"."),
-        (b"", b"!"),
-        (b"x\na\n", b"!"),
-        (b"k,k\na,b\n", b"!"),
-        (b"x,k\n1,a\n\n2,b\n", b"a\nb\n."),
-        (b"k,v\na,1\nb\nc,2\n", b"a\n!"),
-        (b"k\na,1\n", b"!"),
+    let columns = [column(alloc, "k", Kind::Text)?];
+    let table: [(&[u8], &[u8], Option<InputErr>); 14] = [
+        (b"k\na\nb\n", b"a\nb\n", None),
+        (b"k\r\na\r\nb", b"a\nb\n", None),
+        (b"k\n", b"", None),
+        (b"", b"", Some(InputErr::Header)),
+        (b"x\na\n", b"", Some(InputErr::Header)),
+        (b"K\na\n", b"", Some(InputErr::Header)),
+        (b"k,k\na,b\n", b"", Some(InputErr::Header)),
+        (b"x,k\n1,a\n\n2,b\n", b"a\nb\n", None),
+        (
+            b"k,v\na,1\nb\nc,2\n",
+            b"a\n",
+            Some(InputErr::Csv { number: 2 }),
+        ),
+        (b"k\na,1\n", b"", Some(InputErr::Csv { number: 1 })),
         (
             b"k\n\"a,b\"\n\"q\"\"q\"\n\"x\ny\"\n\"\"\n",
-            b"\"a,b\"\n\"q\"\"q\"\n\"x\ny\"\n\"\"\n.",
+            b"\"a,b\"\n\"q\"\"q\"\n\"x\ny\"\n\"\"\n",
+            None,
         ),
-        (b"\xef\xbb\xbfk\na\n", b"a\n."),
-        (b"\"k\"\na\n", b"a\n."),
-        (b"K\na\n", b"!"),
+        (b"\xef\xbb\xbfk\na\n", b"a\n", None),
+        (b"\xef\xbb\xbf\"k\"\na\n", b"a\n", None),
+        (
+            b"\xef\xbb\xbf\xef\xbb\xbfk\na\n",
+            b"",
+            Some(InputErr::Header),
+        ),
     ];
-    for (input, want) in table {
+    for (input, lines, refusal) in table {
+        let (text, why) = told(alloc, &columns, input, &plainly())?;
+        assert_eq!(rt; text.as_slice(), lines, "{input:?}");
+        assert_eq!(rt; why, refusal, "{input:?}");
+    }
+    Ok(())
+}
+
+#[test]
+fn columns_in_any_order_and_the_first_refusal(rt: HostRuntime) -> Result<(), Fail> {
+    let alloc = rt.alloc();
+    let columns = [
+        column(alloc, "k", Kind::Text)?,
+        column(alloc, "v", Kind::Int)?,
+    ];
+    let field = |number| Some(InputErr::Field { number, column: 1 });
+    let table: [(&[u8], &[u8], Option<InputErr>); 6] = [
+        (b"k,v\na,7\nb,\n", b"a,7\n", field(2)),
+        (
+            b"v,z,k\n+7,q,a\n-9,q,a\n007,q,b\n",
+            b"a,7\na,-9\nb,7\n",
+            None,
+        ),
+        (b"k,v\na,x\nb\n", b"", field(1)),
+        (b"k,v\na\nb,x\n", b"", Some(InputErr::Csv { number: 1 })),
+        (b"k,z\na,1\n", b"", Some(InputErr::Header)),
+        (b"v,k\n1,a\n2,b\nx,c\n", b"a,1\nb,2\n", field(3)),
+    ];
+    for (input, lines, refusal) in table {
+        let (text, why) = told(alloc, &columns, input, &plainly())?;
+        assert_eq!(rt; text.as_slice(), lines, "{input:?}");
+        assert_eq!(rt; why, refusal, "{input:?}");
+    }
+    let sums = [column(alloc, "k", Kind::Wide)?];
+    let (_, why) = told(alloc, &sums, b"k\n1\n", &plainly())?;
+    assert_eq!(rt;
+        why,
+        Some(InputErr::Field {
+            number: 1,
+            column: 0
+        })
+    );
+    Ok(())
+}
+
+#[test]
+fn fields_that_spell_an_int(rt: HostRuntime) -> Result<(), Fail> {
+    let alloc = rt.alloc();
+    let columns = [column(alloc, "v", Kind::Int)?];
+    let table: [(&[u8], &[u8]); 14] = [
+        (b"0", b"0\n"),
+        (b"-0", b"0\n"),
+        (b"9223372036854775807", b"9223372036854775807\n"),
+        (b"-9223372036854775808", b"-9223372036854775808\n"),
+        (b"+00000000000000000000000012", b"12\n"),
+        (b"9223372036854775808", b""),
+        (b"-9223372036854775809", b""),
+        (b"18446744073709551617", b""),
+        (b"340282366920938463463374607431768211457", b""),
+        (b"+", b""),
+        (b"\"\"", b""),
+        (b" 7", b""),
+        (b"7.", b""),
+        (b"+-7", b""),
+    ];
+    for (field, line) in table {
+        let mut input = Vec::from_slice(alloc, b"v\n")?;
+        input.extend_from_slice(field)?;
+        let (text, why) = told(alloc, &columns, input.as_slice(), &plainly())?;
+        let refusal = InputErr::Field {
+            number: 1,
+            column: 0,
+        };
+        assert_eq!(rt; text.as_slice(), line, "{field:?}");
         assert_eq!(rt;
-            told(alloc, &columns, input, &[])?.as_slice(),
-            want,
-            "{input:?}"
+            why,
+            if line.is_empty() { Some(refusal) } else { None },
+            "{field:?}"
         );
     }
     Ok(())
 }
 
 #[test]
-fn columns_come_in_declared_order(rt: HostRuntime) -> Result<(), Fail> {
+fn limits_of_records_and_bytes(rt: HostRuntime) -> Result<(), Fail> {
     let alloc = rt.alloc();
-    let columns = [text_column(alloc, "k")?, text_column(alloc, "v")?];
-    assert_eq!(rt;
-        told(alloc, &columns, b"v,z,k\n7,q,a\n,,\n", &[])?.as_slice(),
-        b"a,7\n,\n.".as_slice()
-    );
-    assert_eq!(rt;
-        told(alloc, &columns, b"k,z\na,q\n", &[])?.as_slice(),
-        b"!".as_slice()
-    );
+    let columns = [column(alloc, "k", Kind::Text)?];
+    let large = Some(InputErr::TooLarge);
+    let table: [(&[u8], u64, u64, &[u8], Option<InputErr>); 8] = [
+        (b"k\na\nb\n", 3, 6, b"a\nb\n", None),
+        (b"k\na\nb\n", 2, 6, b"a\n", large),
+        (b"k\na\nb\n", 1, 6, b"", large),
+        (b"k\na\nb\n", 0, 6, b"", large),
+        (b"", 0, 0, b"", Some(InputErr::Header)),
+        (b"k\na\nb\n", 3, 5, b"", large),
+        (b"x\n", 1, 2, b"", Some(InputErr::Header)),
+        (
+            b"k\na\nb,c\n",
+            2,
+            9,
+            b"a\n",
+            Some(InputErr::Csv { number: 2 }),
+        ),
+    ];
+    for (input, max_records, max_bytes, lines, refusal) in table {
+        let how = Reading {
+            max_records,
+            max_bytes,
+            ..plainly()
+        };
+        let (text, why) = told(alloc, &columns, input, &how)?;
+        assert_eq!(rt;
+            text.as_slice(),
+            lines,
+            "{input:?} {max_records} {max_bytes}"
+        );
+        assert_eq!(rt; why, refusal, "{input:?} {max_records} {max_bytes}");
+    }
+    let numbers = [column(alloc, "k", Kind::Int)?];
+    let how = Reading {
+        max_records: 2,
+        ..plainly()
+    };
+    let (text, why) = told(alloc, &numbers, b"k\n1\nx\n", &how)?;
+    assert_eq!(rt; text.as_slice(), b"1\n".as_slice());
+    assert_eq!(rt; why, large);
+    Ok(())
+}
+
+// A header, a record of so many bytes, and then the rest.
+fn long_input(alloc: Global, len: usize, rest: &[u8]) -> Result<Vec<u8>, Fail> {
+    let mut input = Vec::from_slice(alloc, b"k\n")?;
+    input.extend_from_slice(vec![in alloc; b'a'; len]?.as_slice())?;
+    input.extend_from_slice(rest)?;
+    Ok(input)
+}
+
+// What the lines of such an input's rows are behind the long one.
+fn told_behind(alloc: Global, len: usize, rest: &[u8], chunk: usize) -> Result<Vec<u8>, Fail> {
+    let columns = [column(alloc, "k", Kind::Text)?];
+    let input = long_input(alloc, len, rest)?;
+    let how = Reading { chunk, ..plainly() };
+    let (text, why) = told(alloc, &columns, input.as_slice(), &how)?;
+    if why.is_some() || text.len() <= len {
+        return Err(Fail::from("refused"));
+    }
+    Ok(Vec::from_slice(alloc, &text.as_slice()[len + 1..])?)
+}
+
+#[test]
+fn an_input_is_cut_behind_newlines_outside_quotes(rt: HostRuntime) -> Result<(), Fail> {
+    let alloc = rt.alloc();
+    // Behind the first record and its newline the input has 1048576 bytes, or one less.
+    let table: [(usize, &[u8], &[u8]); 7] = [
+        (1048573, b"\nb\nc\n", b"b\nc\n"),
+        // A mark at the front of a later piece is passed over, and so are quotes behind it.
+        (1048573, b"\n\xef\xbb\xbfb\nc\n", b"b\nc\n"),
+        (1048573, b"\n\xef\xbb\xbf\"b\"\nc\n", b"b\nc\n"),
+        // Where no piece begins, a mark is text.
+        (1048572, b"\n\xef\xbb\xbfb\nc\n", b"\xef\xbb\xbfb\nc\n"),
+        (1048572, b"\n\"x\ny\"\nc\n", b"\"x\ny\"\nc\n"),
+        (1048570, b"\n\"\"\"\n\"\n\"z\"\n", b"\"\"\"\n\"\nz\n"),
+        (1048572, b"\n\n\n\nc", b"c\n"),
+    ];
+    for (len, rest, lines) in table {
+        for chunk in [1048576, 7] {
+            let text = told_behind(alloc, len, rest, chunk)?;
+            assert_eq!(rt; text.as_slice(), lines, "{len} {rest:?} {chunk}");
+        }
+    }
     Ok(())
 }
 
 #[test]
-fn faults_and_sizes(rt: HostRuntime) -> Result<(), Fail> {
+fn a_newline_inside_quotes_is_no_cut(rt: HostRuntime) -> Result<(), Fail> {
     let alloc = rt.alloc();
-    let columns = [text_column(alloc, "k")?];
-    assert_eq!(rt;
-        told(alloc, &columns, b"k\na\nb\n", &[1])?.as_slice(),
-        b"?".as_slice()
-    );
-    // 65535 rows under the header are allowed, and 1048576 bytes.
-    let mut many = Vec::from_slice(alloc, b"k\n")?;
-    for _ in 0..65535u32 {
-        many.extend_from_slice(b"a\n")?;
+    let columns = [column(alloc, "k", Kind::Text)?];
+    let mut input = Vec::from_slice(alloc, b"k\n")?;
+    for _ in 0..524286u32 {
+        input.extend_from_slice(b"a\n")?;
     }
-    assert_eq!(rt; told(alloc, &columns, many.as_slice(), &[])?.len(), 131071);
-    many.extend_from_slice(b"a\n")?;
-    assert_eq!(rt;
-        told(alloc, &columns, many.as_slice(), &[])?.last(),
-        Some(&b'!')
-    );
-    let mut long = Vec::from_slice(alloc, b"k\n")?;
-    for _ in 0..1048574u32 {
-        long.push(b'x')?;
+    input.extend_from_slice(b"\"x\ny\"\na\n")?;
+    assert_eq!(rt; input.len(), 1048582);
+    let (text, why) = told(alloc, &columns, input.as_slice(), &plainly())?;
+    assert_eq!(rt; why, None);
+    // The lines are the input's own, without its header.
+    assert_eq!(rt; text.as_slice(), &input.as_slice()[2..]);
+    Ok(())
+}
+
+#[test]
+fn any_chunking_and_faults(rt: HostRuntime) -> Result<(), Fail> {
+    let alloc = rt.alloc();
+    let columns = [
+        column(alloc, "v", Kind::Int)?,
+        column(alloc, "k", Kind::Text)?,
+    ];
+    let input = b"\xef\xbb\xbfk,\"v\"\n\"a\nb\",1\r\nc,-2";
+    for chunk in [1, 2, 3, 4, 7, 64] {
+        let how = Reading { chunk, ..plainly() };
+        let (text, why) = told(alloc, &columns, input, &how)?;
+        assert_eq!(rt;
+            text.as_slice(),
+            b"1,\"a\nb\"\n-2,c\n".as_slice(),
+            "{chunk}"
+        );
+        assert_eq!(rt; why, None, "{chunk}");
     }
-    assert_eq!(rt; told(alloc, &columns, long.as_slice(), &[])?.len(), 1048576);
-    long.push(b'x')?;
-    assert_eq!(rt;
-        told(alloc, &columns, long.as_slice(), &[])?.as_slice(),
-        b"!".as_slice()
-    );
+    let how = Reading {
+        fails: &[1],
+        ..plainly()
+    };
+    let (text, why) = told(alloc, &columns, input, &how)?;
+    assert_eq!(rt; text.as_slice(), b"".as_slice());
+    assert_eq!(rt; why, Some(InputErr::Fault));
+    // The second piece can't be read: the rows of the first one came before.
+    let texts = [column(alloc, "k", Kind::Text)?];
+    let long = long_input(alloc, 1048573, b"\nb\n")?;
+    let how = Reading {
+        chunk: 16384,
+        fails: &[65],
+        ..plainly()
+    };
+    let (text, why) = told(alloc, &texts, long.as_slice(), &how)?;
+    assert_eq!(rt; text.len(), 1048574);
+    assert_eq!(rt; why, Some(InputErr::Fault));
     Ok(())
 }
 

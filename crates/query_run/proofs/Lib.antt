@@ -1,4 +1,7 @@
 mod Counted
+mod Fronts
 pub mod Grouping
-mod ReadTexts
+mod Halves
+mod Reading
+mod TextRows
 mod Ties

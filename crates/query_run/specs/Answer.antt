@@ -3,33 +3,20 @@ use Rattle.std.specs.Prelude.{◌≡◌, ℕ, List, [], ◌∷◌, ◌++◌, tru
 use Rattle.std.specs.Io.KnownBytes.{Appends}
 use Rattle.row_codec.specs.declared.values.Value.{Value}
 use Rattle.row_codec.specs.declared.values.Value.TheVariants.{Text, Wide}
-use Rattle.row_codec.specs.declared.values.Kind.TheVariants as kind
-use Rattle.row_codec.specs.declared.values.Column.{Column}
-use Rattle.csv_edge.specs.Typed.{reading}
 use Rattle.csv_edge.specs.Lines.{line_of}
 use Rattle.csv_edge.specs.Written.{AppendsFront}
 use Rattle.query_run.specs.Groups.{Group, AreGroups}
+use Rattle.query_run.specs.Input.{IsAccepted, column_rows}
 use Rattle.query_run.specs.declared.outcome.Ran.{Ran}
-
--- the one column that is counted, which holds texts
-abbrev pub text_column : List ℕ → List Column
-text_column name = record { name = name; kind = kind.Text } ∷ []
 
 -- a row of one text
 abbrev pub text_row : List ℕ → List Value
 text_row text = Text text ∷ []
 
 -- the input is accepted to its end, and its column has these texts
-abbrev pub HasTexts : List ℕ → List ℕ → List (List ℕ) → Type 0
-HasTexts column bytes texts = reading (text_column column) bytes ≡ record { rows = map text_row texts; accepted = true }
-
--- the input is accepted to its end
-abbrev pub IsAccepted : List ℕ → List ℕ → Type 0
-IsAccepted column bytes = (reading (text_column column) bytes).accepted ≡ true
-
--- the input is refused
-abbrev pub IsRefused : List ℕ → List ℕ → Type 0
-IsRefused column bytes = (reading (text_column column) bytes).accepted ≡ false
+pub record HasTexts (column bytes : List ℕ) (texts : List (List ℕ)) : Type 0 where
+  pub accepted : IsAccepted column bytes
+  pub rows : (column_rows column bytes).rows ≡ map text_row texts
 
 -- the row of names
 abbrev pub header_row : List ℕ → List Value

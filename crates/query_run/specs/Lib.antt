@@ -1,4 +1,5 @@
 pub mod Groups
-pub mod Answer
 pub mod Causes
+pub mod Input
+pub mod Answer
 pub mod Inside

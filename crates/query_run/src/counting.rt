@@ -1,43 +1,45 @@
 // How often each text stands.
 
-ghost use Rattle.std.specs.Prelude.{◌≡◌, ◌<◌, ◌+◌, ◌^◌, [], ℕ, List, IfOk, OnOk, Some, map, unwrap_or, if◌then◌else◌};
+ghost use Rattle.std.specs.Prelude.{◌≡◌, ◌<◌, ◌+◌, ◌^◌, ◌∷◌, [], ℕ, List, IfOk, OnOk, Some, map, unwrap_or, if◌then◌else◌};
 ghost use Rattle.std.specs.BTreeMap.{get};
 ghost use Rattle.std.specs.Str.{bytes_eq};
 ghost use Rattle.row_codec.specs.Order.{path_order};
 ghost use Rattle.query_run.specs.Groups.{counted, key_of};
+ghost use Rattle.query_run.specs.Answer.{text_row};
+ghost use Rattle.query_run.specs.Inside.{IsKept, Keeps};
 
-use row_codec::{Bytes, Memory, PathKey, Value, encoded_len, key_bytes};
+use row_codec::{Kind, Memory, PathKey, Value, decode_row, key_bytes, law_row_back};
 use std::alloc::Global;
 use std::collections::BTreeMap;
 
 // How often each key stands, in the order of the keys.
 pub(crate) type Counts = BTreeMap<PathKey, u64>;
 
-// Counts texts by their keys. A text is let go as soon as it is counted.
-pub(crate) fn count_texts(alloc: Global, texts: Vec<Bytes>) -> Result<Counts, Memory>
-    ensures { IfOk result (λ counts. (key : List ℕ) → get path_order counts key ≡ counted key (map key_of texts.items)) }
+// Counts the texts of kept rows by their keys.
+pub(crate) fn count_texts(alloc: Global, kept: &[u8]) -> Result<Counts, Memory>
+    requires { (texts : List (List ℕ)) × Keeps kept.now texts }
+    ensures { IfOk result (λ counts. (texts : List (List ℕ)) → Keeps kept.now texts → (key : List ℕ) → get path_order counts key ≡ counted key (map key_of texts)) }
 {
+    law_row_back();
     let mut counts = BTreeMap::new(alloc);
     let mut room = Vec::new(alloc);
-    for text in texts {
-        let key = text_key(text, room)?;
+    let mut rest = kept;
+    while let Some((row, len)) = decode_row(alloc, &[Kind::Text], rest)? {
+        let key = text_key(&row, room)?;
         room = count_one(&mut counts, alloc, key)?;
+        (_, rest) = rest.split_at(len);
     }
     Ok(counts)
 }
 
-// The key of a text, in memory that may be there already.
-fn text_key(text: Bytes, room: Vec<u8>) -> Result<Vec<u8>, Memory>
-    ensures { IfOk result (λ key. key.items ≡ key_of text) }
+// The key of a row of one text, in memory that may be there already.
+fn text_key(row: &[Value], room: Vec<u8>) -> Result<Vec<u8>, Memory>
+    requires { (text : List ℕ) × (row.now ≡ text_row text) × IsKept text }
+    ensures { IfOk result (λ key. (text : List ℕ) → row.now ≡ text_row text → key.items ≡ key_of text) }
 {
-    let row = [Value::Text(text)];
-    // No accepted input has a text of 4 GiB.
-    if encoded_len(&row) > u64::from(u32::MAX) {
-        return Err(Memory);
-    }
     let mut key = room;
     key.clear();
-    key_bytes(&row, &[0], &mut key)?;
+    key_bytes(row, &[0], &mut key)?;
     Ok(key)
 }
 

@@ -1,8 +1,10 @@
 // What a query that ran has to tell.
 
 ghost use Rattle.std.specs.Prelude.{◌≡◌, ◌<◌, ◌^◌, ◌∷◌, [], IfOk, pos};
+ghost use Rattle.query_run.specs.Causes.{cause_of_input};
 
 use csv_edge::InputErr;
+use query_plan::Side;
 use row_codec::Memory;
 use std::alloc::{AllocError, AllocFailed, Global};
 use std::marker::Model;
@@ -55,20 +57,70 @@ pub struct Ran {
     pub totals: Totals,
 }
 
-/// Why a query has no answer.
+/// Why a query has no answer. Records are numbered from 0, the header, and columns from 0 in the
+/// order in which they were asked for.
 #[derive(Clone, Copy, Debug, Error, PartialEq, Eq)]
 pub enum QueryErr {
     /// The source answered with a fault.
-    #[error("the input could not be read")]
-    SourceFault,
-    /// The input is no table with such a column.
-    #[error("the input was refused")]
-    Refused,
+    #[error("an input could not be read")]
+    SourceFault {
+        side: Side,
+    },
+    /// The input has no header, or the name of a column doesn't stand in it exactly once.
+    #[error("an input has no such columns")]
+    BadHeader {
+        side: Side,
+    },
+    /// `csv` refuses the record, or it has more or fewer fields than the header.
+    #[error("a record of an input is broken")]
+    BadCsv {
+        side: Side,
+        number: u64,
+    },
+    /// The field is not of the kind of its column.
+    #[error("a field of an input is of another kind")]
+    BadField {
+        side: Side,
+        number: u64,
+        column: u32,
+    },
+    /// The input has more records or more bytes than a query takes.
+    #[error("an input is too large")]
+    TooLarge {
+        side: Side,
+    },
+    /// The row weighs more than a page holds; the weight is in bytes.
+    #[error("a row of an input is too long")]
+    RowTooLong {
+        side: Side,
+        number: u64,
+        bytes: u64,
+    },
     /// The sink answered with a fault.
     #[error("the answer could not be written")]
     SinkFault,
     #[error("out of memory")]
     Memory,
+}
+
+impl QueryErr {
+    // What the refusal of an input is to the query that reads it.
+    pub(crate) fn of_input(side: Side, e: InputErr) -> QueryErr
+        ensures { result ≡ cause_of_input side e }
+    {
+        match e {
+            InputErr::Fault => QueryErr::SourceFault { side },
+            InputErr::Header => QueryErr::BadHeader { side },
+            InputErr::Csv { number } => QueryErr::BadCsv { side, number },
+            InputErr::Field { number, column } => QueryErr::BadField {
+                side,
+                number,
+                column,
+            },
+            InputErr::TooLarge => QueryErr::TooLarge { side },
+            InputErr::Memory => QueryErr::Memory,
+        }
+    }
 }
 
 impl From<Memory> for QueryErr {
@@ -101,20 +153,5 @@ impl<T: Drop> From<AllocFailed<T>> for QueryErr {
 
     fn from(_: AllocFailed<T>) -> QueryErr {
         QueryErr::Memory
-    }
-}
-
-impl From<InputErr> for QueryErr {
-    ghost use Rattle.query_run.specs.Causes.{cause_of_input};
-    ghost use Rattle.std.specs.Prelude.{◌≡◌};
-
-    ghost from_gives = { λ input e. e ≡ cause_of_input input };
-
-    fn from(e: InputErr) -> QueryErr {
-        match e {
-            InputErr::Fault => QueryErr::SourceFault,
-            InputErr::Refused => QueryErr::Refused,
-            InputErr::Memory => QueryErr::Memory,
-        }
     }
 }

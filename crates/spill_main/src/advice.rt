@@ -19,7 +19,10 @@ pub(crate) fn advise(rt: &impl Eprint, status: u8, words: &[String]) -> io::Resu
             "spill: {file} could not be read: check that it is there, that it is a file, and that you may read it"
         ),
         (4, [_, file, column]) => eprintln!(rt;
-            "spill: {file} was refused: its header must have the column \"{column}\" exactly once, and each record as many fields as the header"
+            "spill: {file} was refused: its header must have the column \"{column}\" exactly once, and each record as many fields as the header; the line on standard output says what is amiss, and in which record (the header is 0)"
+        ),
+        (5, [_, file, ..]) => eprintln!(rt;
+            "spill: {file} has a row that is too long: a value has at most 8168 bytes; the line on standard output names the record and its weight"
         ),
         (9, _) => eprintln!(rt;
             "spill: the answer could not be written to standard output, so what stands there is no whole answer"

@@ -1,11 +1,18 @@
 -- When each status comes, and what the report says then.
-use Rattle.std.specs.Prelude.{◌≡◌, ◌⊎◌, ℕ, List, Option, Some, IfSome}
-use Rattle.query_run.specs.Answer.{IsAccepted, IsRefused, WroteAnswer, WroteFront}
+use Rattle.std.specs.Prelude.{◌≡◌, ◌≤◌, ◌<◌, ◌⊎◌, ℕ, List, Option, Some, IfSome, length, option_map, ⊤}
+use Rattle.outside.specs.Counts.{Rose}
+use Rattle.query_run.specs.Answer.{WroteAnswer, WroteFront}
+use Rattle.query_run.specs.Input.{IsAccepted, IsRefusal, most_bytes, refusal_of}
+use Rattle.query_run.specs.declared.outcome.QueryErr.{QueryErr}
+use Rattle.spill_top.specs.declared.report.Refusal.{Refusal}
+use Rattle.spill_top.specs.declared.report.Refusal.TheVariants.{InputFault, Header, Csv, Field, Large, Row, Memory}
+use Rattle.spill_top.specs.Refusals.{refusal_for}
+use Rattle.spill_top.specs.Report.{Tells, line_of, status_of}
 use Rattle.spill_top.specs.Words.{Command}
 
 -- the statuses: an answer, or its cause
 abbrev pub IsStatus : ℕ → Type 0
-IsStatus status = (status ≡ 0) ⊎ (status ≡ 1) ⊎ (status ≡ 3) ⊎ (status ≡ 4) ⊎ (status ≡ 9) ⊎ (status ≡ 10)
+IsStatus status = (status ≡ 0) ⊎ (status ≡ 1) ⊎ (status ≡ 3) ⊎ (status ≡ 4) ⊎ (status ≡ 5) ⊎ (status ≡ 9) ⊎ (status ≡ 10)
 
 -- the whole answer of the command was appended to the report, over the bytes that stand under its file
 abbrev pub Answers : (List ℕ → Option (List ℕ)) → Option (List ℕ) → Option (List ℕ) → Command → Type 0
@@ -15,14 +22,46 @@ Answers bytes_at before now command = WroteAnswer command.column (bytes_at comma
 abbrev pub AnswersInPart : (List ℕ → Option (List ℕ)) → Option (List ℕ) → Option (List ℕ) → Command → Type 0
 AnswersInPart bytes_at before now command = WroteFront command.column (bytes_at command.file) before now
 
--- the input of the command is refused, if its bytes are told
-abbrev pub RefusesIfTold : (List ℕ → Option (List ℕ)) → Command → Type 0
-RefusesIfTold bytes_at command = IfSome (bytes_at command.file) (IsRefused command.column)
+-- what the bytes of the input, if they are told, are refused for gives this refusal
+abbrev pub IsOfInput : Option (List ℕ) → Command → Refusal → Type 0
+IsOfInput told command refusal = IfSome told (λ bytes. (why : QueryErr) × IsRefusal command.column bytes why × (refusal_for why ≡ Some refusal))
 
--- the bytes of the input are told, and it is refused
-abbrev pub RefusesInput : (List ℕ → Option (List ℕ)) → Command → Type 0
-RefusesInput bytes_at command = (bytes : List ℕ) × (bytes_at command.file ≡ Some bytes) × IsRefused command.column bytes
+-- why a command was refused: its file had a fault, its bytes are refused, or memory was wanting
+abbrev pub IsCause : Option (List ℕ) → ℕ → ℕ → Command → Refusal → Type 0
+IsCause told before now command InputFault = Rose before now
+IsCause told before now command Header = IsOfInput told command Header
+IsCause told before now command (Csv number) = IsOfInput told command (Csv number)
+IsCause told before now command (Field number) = IsOfInput told command (Field number)
+IsCause told before now command Large = IsOfInput told command Large
+IsCause told before now command (Row number weight) = IsOfInput told command (Row number weight)
+IsCause told before now command Memory = ⊤
 
--- the bytes of the input are told, and it is accepted to its end
-abbrev pub AcceptsInput : (List ℕ → Option (List ℕ)) → Command → Type 0
-AcceptsInput bytes_at command = (bytes : List ℕ) × (bytes_at command.file ≡ Some bytes) × IsAccepted command.column bytes
+-- a refusal of this status: why, and its line in the report
+pub record Refuses (status : ℕ) (command : Command) (told : Option (List ℕ)) (faults faults_now : ℕ) (report report_now : Option (List ℕ)) (writes writes_now : ℕ) : Type 0 where
+  pub why : Refusal
+  pub status_is : status ≡ status_of why
+  pub cause : IsCause told faults faults_now command why
+  pub tells : Tells (line_of command.column why) report report_now writes writes_now
+
+-- the bytes of the input are told, and this is the first refusal in them; they are no more than allowed
+pub record RefusesBytes (told : Option (List ℕ)) (command : Command) (why : QueryErr) : Type 0 where
+  pub bytes : List ℕ
+  pub told_is : told ≡ Some bytes
+  pub fits : length bytes ≤ most_bytes
+  pub first : refusal_of command.column bytes ≡ Some why
+
+-- the bytes of the input are told, and they are too many
+pub record HasTooMany (told : Option (List ℕ)) : Type 0 where
+  pub bytes : List ℕ
+  pub told_is : told ≡ Some bytes
+  pub more : most_bytes < length bytes
+
+-- the bytes of the input are told, and accepted to their end
+pub record AcceptsInput (told : Option (List ℕ)) (command : Command) : Type 0 where
+  pub bytes : List ℕ
+  pub told_is : told ≡ Some bytes
+  pub accepted : IsAccepted command.column bytes
+
+-- the status is that of this cause
+abbrev pub IsStatusOf : QueryErr → ℕ → Type 0
+IsStatusOf why status = option_map status_of (refusal_for why) ≡ Some status

@@ -1,10 +1,9 @@
 // The command `count`.
 
-ghost use Rattle.std.specs.Prelude.{◌≡◌, ◌≢◌, ◌≤◌, Some, IfErr, IsErrOf, OnOk, OnErr};
+ghost use Rattle.std.specs.Prelude.{◌≡◌, ◌≢◌, ◌≤◌, Some, IfErr, IsErrOf, OnOk};
 ghost use Rattle.outside.specs.Counts.{NoneFell, Rose};
 ghost use Rattle.outside.specs.Names.{AllStay};
-ghost use Rattle.spill_top.specs.declared.report.Refusal.TheVariants as why;
-ghost use Rattle.spill_top.specs.Headline.{AcceptsInput, Answers, AnswersInPart, RefusesIfTold};
+ghost use Rattle.spill_top.specs.Headline.{Answers, AnswersInPart, IsCause};
 
 use crate::report::Refusal;
 use outside::{Inputs, Sink};
@@ -30,9 +29,7 @@ pub(crate) fn count<I: Inputs, R: Sink>(
     report: &mut R,
 ) -> Result<(), Stop>
     ensures answer { OnOk result (Answers (I.bytes_at inputs.old) (R.contents report.old) (R.contents report.new) (record { file = file.now; column = column.now })) }
-    ensures never_words { IfErr result (λ e. e ≢ Stop.Refused why.Words) }
-    ensures input_fault { IsErrOf result (Stop.Refused why.InputFault) → Rose (I.faults_at inputs.old file.now) (I.faults_at inputs.new file.now) }
-    ensures input_refused { IsErrOf result (Stop.Refused why.InputRefused) → RefusesIfTold (I.bytes_at inputs.old) (record { file = file.now; column = column.now }) }
+    ensures cause { IfErr result (λ e. (why : Refusal) → e ≡ Stop.Refused why → IsCause (I.bytes_at inputs.old file.now) (I.faults_at inputs.old file.now) (I.faults_at inputs.new file.now) (record { file = file.now; column = column.now }) why) }
     ensures output_fault { IsErrOf result Stop.Report → Rose (R.faults report.old) (R.faults report.new) }
     ensures part { IsErrOf result Stop.Report → AnswersInPart (I.bytes_at inputs.old) (R.contents report.old) (R.contents report.new) (record { file = file.now; column = column.now }) }
     ensures untouched { IfErr result (λ e. e ≢ Stop.Report → report.new ≡ report.old) }
@@ -50,9 +47,9 @@ pub(crate) fn count<I: Inputs, R: Sink>(
     inputs.close(file, left);
     match ran {
         Ok(_) => Ok(()),
-        Err(QueryErr::SourceFault) => Err(Stop::Refused(Refusal::InputFault)),
-        Err(QueryErr::Refused) => Err(Stop::Refused(Refusal::InputRefused)),
-        Err(QueryErr::SinkFault) => Err(Stop::Report),
-        Err(QueryErr::Memory) => Err(Stop::Refused(Refusal::Memory)),
+        Err(e) => match Refusal::of(e) {
+            Some(refusal) => Err(Stop::Refused(refusal)),
+            None => Err(Stop::Report),
+        },
     }
 }

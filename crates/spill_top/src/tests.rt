@@ -81,19 +81,28 @@ fn a_count_answers_in_the_order_of_paths(rt: HostRuntime) -> Result<(), Fail> {
     Ok(())
 }
 
-#[test]
-fn a_long_field_is_one_group(rt: HostRuntime) -> Result<(), Fail> {
-    let alloc = rt.alloc();
-    let field = vec![in alloc; b'x'; 8168]?;
+// A file of a header and one field of so many bytes.
+fn long_field(alloc: Global, len: usize) -> Result<Vec<u8>, AllocError> {
     let mut file = Vec::from_slice(alloc, b"k\n")?;
-    file.extend_from_slice(field.as_slice())?;
+    file.extend_from_slice(vec![in alloc; b'x'; len]?.as_slice())?;
     file.extend_from_slice(b"\n")?;
+    Ok(file)
+}
+
+#[test]
+fn a_row_weighs_at_most_a_page(rt: HostRuntime) -> Result<(), Fail> {
+    let alloc = rt.alloc();
+    let file = long_field(alloc, 8168)?;
     let (status, said) = Run::count(file.as_slice()).outcome(alloc)?;
     let mut report = Vec::from_slice(alloc, b"k,count\n")?;
-    report.extend_from_slice(field.as_slice())?;
+    report.extend_from_slice(vec![in alloc; b'x'; 8168]?.as_slice())?;
     report.extend_from_slice(b",1\n")?;
     assert_eq!(rt; said.as_slice(), report.as_slice());
     assert_eq!(rt; status, 0);
+    let file = long_field(alloc, 8169)?;
+    let (status, said) = Run::count(file.as_slice()).outcome(alloc)?;
+    assert_eq!(rt; said.as_slice(), b"5 row left 1 8193\n".as_slice());
+    assert_eq!(rt; status, 5);
     Ok(())
 }
 
@@ -111,10 +120,10 @@ fn a_refusal_says_its_cause(rt: HostRuntime) -> Result<(), Fail> {
             1,
             b"1 words\n",
         ),
-        (Run::count(b""), 4, b"4 input left\n"),
-        (Run::count(b"x\na\n"), 4, b"4 input left\n"),
-        (Run::count(b"k,k\na,b\n"), 4, b"4 input left\n"),
-        (Run::count(b"k,v\na,1\nb\n"), 4, b"4 input left\n"),
+        (Run::count(b""), 4, b"4 header left\n"),
+        (Run::count(b"x\na\n"), 4, b"4 header left\n"),
+        (Run::count(b"k,k\na,b\n"), 4, b"4 header left\n"),
+        (Run::count(b"k,v\na,1\nb\n"), 4, b"4 csv left 2\n"),
         (
             Run {
                 reads: &[1],

@@ -1,15 +1,16 @@
 // The top call.
 
-ghost use Rattle.std.specs.Prelude.{◌≡◌, ◌≢◌, ◌≤◌, ◌↔◌, ◌⊎◌, Some, None, IfSome, map, string_bytes, vec_len};
+ghost use Rattle.std.specs.Prelude.{◌≡◌, ◌≢◌, ◌≤◌, ◌↔◌, ◌⊎◌, None, IfSome, map, string_bytes, vec_len};
 ghost use Rattle.outside.specs.Counts.{NoneFell, Rose};
 ghost use Rattle.outside.specs.Names.{AllStay};
-ghost use Rattle.spill_top.specs.Words.{Command, command_of};
-ghost use Rattle.spill_top.specs.Report.{line_of, Tells};
-ghost use Rattle.spill_top.specs.Headline.{AcceptsInput, Answers, AnswersInPart, IsStatus, RefusesIfTold, RefusesInput};
+ghost use Rattle.query_run.specs.declared.outcome.QueryErr.{QueryErr};
+ghost use Rattle.spill_top.specs.Words.{command_of};
+ghost use Rattle.spill_top.specs.Report.{Tells, usage};
+ghost use Rattle.spill_top.specs.Headline.{AcceptsInput, Answers, AnswersInPart, HasTooMany, IsStatus, IsStatusOf, Refuses, RefusesBytes};
 
 use crate::command::command;
 use crate::count::{Stop, count};
-use crate::report::{Refusal, refuse};
+use crate::report::{refuse, refuse_words};
 use outside::{Gate, Inputs, Outputs, Sink, Slot};
 use std::alloc::Global;
 
@@ -23,7 +24,8 @@ use std::alloc::Global;
 /// | 0 | the report has the whole answer |
 /// | 1 | the words are no command |
 /// | 3 | the input could not be read |
-/// | 4 | the input was refused: it is no table with such a column |
+/// | 4 | the input was refused: it is no table with such a column, or too large |
+/// | 5 | a row weighs more than 8192 bytes: its encoding, and 16 |
 /// | 9 | the report could not be written |
 /// | 10 | out of memory; when this comes is left open |
 pub fn spill_top<I: Inputs, O: Outputs, R: Sink, D: Slot, G: Gate>(
@@ -42,31 +44,36 @@ pub fn spill_top<I: Inputs, O: Outputs, R: Sink, D: Slot, G: Gate>(
     // Every other status has its cause.
     ensures status { IsStatus result }
     ensures words { (result ≡ 1) ↔ (command_of (map string_bytes words.now) ≡ None) }
+    ensures usage { result ≡ 1 → Tells usage (R.contents report.old) (R.contents report.new) (R.faults report.old) (R.faults report.new) }
     ensures input_fault { result ≡ 3 → IfSome (command_of (map string_bytes words.now)) (λ c. Rose (I.faults_at inputs.old c.file) (I.faults_at inputs.new c.file)) }
-    ensures input_refused { result ≡ 4 → IfSome (command_of (map string_bytes words.now)) (RefusesIfTold (I.bytes_at inputs.old)) }
+    ensures refused { result ≢ 0 → result ≢ 1 → result ≢ 9 → IfSome (command_of (map string_bytes words.now)) (λ c.
+        Refuses result c (I.bytes_at inputs.old c.file) (I.faults_at inputs.old c.file) (I.faults_at inputs.new c.file) (R.contents report.old) (R.contents report.new) (R.faults report.old) (R.faults report.new)) }
     ensures output_fault { result ≡ 9 → Rose (R.faults report.old) (R.faults report.new) }
+    ensures part { result ≡ 9 → IfSome (command_of (map string_bytes words.now)) (AnswersInPart (I.bytes_at inputs.old) (R.contents report.old) (R.contents report.new)) }
 
-    ensures refuses { IfSome (command_of (map string_bytes words.now)) (λ c. RefusesInput (I.bytes_at inputs.old) c → (result ≡ 4) ⊎ (result ≡ 3) ⊎ (result ≡ 10)) }
+    // Where the bytes of the input are refused, that is answered, unless it can't be read or memory is wanting.
+    ensures refuses { IfSome (command_of (map string_bytes words.now)) (λ c. (why : QueryErr) → RefusesBytes (I.bytes_at inputs.old c.file) c why
+        → IsStatusOf why result ⊎ (result ≡ 3) ⊎ (result ≡ 10)) }
+    ensures too_many { IfSome (command_of (map string_bytes words.now)) (λ c. HasTooMany (I.bytes_at inputs.old c.file)
+        → (result ≡ 4) ⊎ (result ≡ 5) ⊎ (result ≡ 3) ⊎ (result ≡ 10)) }
 
     // Where the input is accepted and no count rises, only memory can be wanting.
-    ensures succeeds { IfSome (command_of (map string_bytes words.now)) (λ c. AcceptsInput (I.bytes_at inputs.old) c
+    ensures succeeds { IfSome (command_of (map string_bytes words.now)) (λ c. AcceptsInput (I.bytes_at inputs.old c.file) c
         → (Rose (I.faults_at inputs.old c.file) (I.faults_at inputs.new c.file) ⊎ Rose (R.faults report.old) (R.faults report.new)) ⊎ ((result ≡ 0) ⊎ (result ≡ 10))) }
-
-    // What the report says then.
-    ensures line { result ≢ 0 → result ≢ 9 → Tells (line_of result) (R.contents report.old) (R.contents report.new) (R.faults report.old) (R.faults report.new) }
-    ensures part { result ≡ 9 → IfSome (command_of (map string_bytes words.now)) (AnswersInPart (I.bytes_at inputs.old) (R.contents report.old) (R.contents report.new)) }
 
     ensures slots { slots.new ≡ slots.old }
     ensures outputs { outputs.new ≡ outputs.old }
     ensures inputs { AllStay (I.bytes_at inputs.old) (I.bytes_at inputs.new) }
     ensures never_falls { NoneFell (I.faults_at inputs.old) (I.faults_at inputs.new) }
+    ensures report { R.faults report.old ≤ R.faults report.new }
 {
     let Some((file, column)) = command(words) else {
-        return refuse(report, Refusal::Words);
+        refuse_words(report);
+        return 1;
     };
     match count(alloc, file, column, inputs, report) {
         Ok(()) => 0,
         Err(Stop::Report) => 9,
-        Err(Stop::Refused(refusal)) => refuse(report, refusal),
+        Err(Stop::Refused(refusal)) => refuse(alloc, report, refusal, column.as_bytes()),
     }
 }

@@ -1,8 +1,10 @@
-use Rattle.std.proofs.Common.{◌≡◌, ℕ, List, map}
-use Rattle.std.specs.BTreeMap.{get}
-use Rattle.row_codec.specs.Order.{path_order}
-use Rattle.query_run.specs.Groups.{counted, key_of}
+use Rattle.std.proofs.Common.{ℕ, List, length}
+use Rattle.query_run.specs.Inside.{Keeps}
+use Rattle.query_run.proofs.Halves.{Halves}
 use Rattle.query_run.proofs.counting.count_texts.Given as goal
 
-abbrev pub invariant-loop-text : goal.invariant-loop-text
-invariant-loop-text l = (key : List ℕ) → get path_order l.counts key ≡ counted key (map key_of l.yielded)
+abbrev pub invariant-loop-counts : goal.invariant-loop-counts
+invariant-loop-counts l = (texts : List (List ℕ)) → Keeps l.fn.kept texts → Halves l.fn.kept l.rest l.counts texts
+
+abbrev pub decreases-loop-counts : goal.decreases-loop-counts
+decreases-loop-counts l = length l.rest

@@ -1,0 +1,3 @@
+pub mod Cleans
+pub mod Eviction
+pub mod Inside

@@ -1,0 +1,11 @@
+-- What the scan of some bytes tells of a piece.
+use Rattle.std.specs.Prelude.{◌≡◌, ◌≤◌, ◌<◌, ◌+◌, ◌-◌, ◌++◌, ℕ, List, length}
+use Rattle.csv_edge.specs.declared.scan.Front.{Front}
+use Rattle.csv_edge.specs.declared.scan.Front.TheVariants.{Cut, All}
+use Rattle.csv_edge.specs.declared.scan.Scan.{Scan}
+use Rattle.csv_edge.specs.Pieces.{front_len}
+
+-- the front ends within these bytes, or goes on behind them, whatever bytes follow
+abbrev pub FrontIs : Scan → ℕ → List ℕ → Front → Type 0
+FrontIs scan least bytes (Cut len) = (0 < len) × (len ≤ length bytes) × ((more : List ℕ) → front_len scan least (bytes ++ more) ≡ len)
+FrontIs scan least bytes (All after) = (more : List ℕ) → front_len scan least (bytes ++ more) ≡ length bytes + front_len after (least - length bytes) more

@@ -1,0 +1,68 @@
+// Where an input may be cut.
+
+ghost use Rattle.std.specs.Prelude.{◌≡◌};
+ghost use Rattle.csv_edge.specs.Pieces.{after_byte, is_cut};
+ghost use Rattle.csv_edge.specs.Cutting.{FrontIs};
+
+/// Where a scan of an input's bytes stands.
+#[derive(Clone, Copy, Debug, PartialEq, Eq)]
+pub(crate) enum Scan {
+    /// At the start of a field.
+    Start,
+    /// Inside a field that has no quotes, or behind what follows its quotes.
+    Plain,
+    /// Inside quotes.
+    Quoted,
+    /// Behind a quote inside quotes: it closes them, or a second one follows.
+    Closing,
+}
+
+impl Scan {
+    /// Where the scan stands behind this byte.
+    pub(crate) fn after(self, byte: u8) -> Scan
+        ensures { result ≡ after_byte self byte }
+    {
+        match (self, byte) {
+            (Scan::Start | Scan::Closing, b'"') => Scan::Quoted,
+            (Scan::Quoted, b'"') => Scan::Closing,
+            (Scan::Quoted, _) => Scan::Quoted,
+            (_, b',' | b'\n' | b'\r') => Scan::Start,
+            _ => Scan::Plain,
+        }
+    }
+
+    /// Whether the input may be cut behind this byte.
+    pub(crate) fn cuts(self, byte: u8) -> bool
+        ensures { result ≡ is_cut self byte }
+    {
+        match self {
+            Scan::Quoted => false,
+            _ => byte == b'\n',
+        }
+    }
+}
+
+/// How much of some bytes belongs to a piece.
+#[derive(Clone, Copy, Debug, PartialEq, Eq)]
+pub(crate) enum Front {
+    /// So many bytes: a cut stands behind them.
+    Cut(usize),
+    /// All of them, behind which the scan stands here.
+    All(Scan),
+}
+
+/// Scans bytes for the first cut that has at least so many of them before it.
+pub(crate) fn front_of(start: Scan, least: usize, bytes: &[u8]) -> Front
+    ensures { FrontIs start least bytes.now result }
+{
+    let mut scan = start;
+    let mut len = 0;
+    for byte in bytes {
+        len += 1;
+        if scan.cuts(*byte) && least <= len {
+            return Front::Cut(len);
+        }
+        scan = scan.after(*byte);
+    }
+    Front::All(scan)
+}

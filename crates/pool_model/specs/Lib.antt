@@ -1,0 +1,17 @@
+pub mod Makers
+pub mod Bytes
+pub mod State
+pub mod Sums
+pub mod Owning
+pub mod TrackerRows
+pub mod PageRows
+pub mod ScratchRows
+pub mod LookingBack
+pub mod Refusals
+pub mod MayFollow
+pub mod Effects
+pub mod Legal
+pub mod Sound
+pub mod PoolLaws
+pub mod HistoryLaws
+pub mod Frames

@@ -1,0 +1,49 @@
+-- What each legal history keeps, in a form that one entry after the other keeps.
+use Rattle.std.specs.Prelude.{◌≡◌, ℕ, ◌+◌, ◌≤◌, ◌<◌, Bool, true, false, Some}
+use Rattle.std.specs.FinMap.{get}
+use Rattle.reservation_tree.specs.Total.{total}
+use Rattle.reservation_tree.specs.Tracker.{Tracker, Trackers, reservation_of, limit_of, FitsTree, IsTree}
+use Rattle.pool_model.specs.Bytes.{bytes_of}
+use Rattle.pool_model.specs.State.{Place, Evicted, Page, Pages, Buffer, Buffers, Session, Sessions, State}
+use Rattle.pool_model.specs.Sums.{is_held, bytes_in, pages_for, buffers_for, IsClient, memory}
+
+-- a live tracker right under the root
+pub record IsQuery (ts : Trackers) (t : ℕ) : Type 0 where
+  pub tracker : Tracker
+  pub lives : get ts t ≡ Some tracker
+  pub under : tracker.parent ≡ Some 0
+
+-- the tree of three levels under a root with this limit, and the seats of the sessions in it
+pub record IsSeated (bytes : ℕ) (ts : Trackers) (sessions : Sessions) : Type 0 where
+  pub tree : IsTree ts
+  pub children_fit : FitsTree (λ _. 0) ts
+  pub low : (t : ℕ) (x : Tracker) → get ts t ≡ Some x → x.depth ≤ 2
+  pub top : limit_of ts 0 ≡ bytes
+  pub seats : (maker : ℕ) (x : Session) → get sessions maker ≡ Some x → IsQuery ts x.query
+  pub apart : (m n : ℕ) (x y : Session) → get sessions m ≡ Some x → get sessions n ≡ Some y → x.query ≡ y.query → m ≡ n
+
+-- pages and buffers are clients', and each page has an older name than the next one
+pub record IsOwned (ts : Trackers) (pages : Pages) (buffers : Buffers) (next_name : ℕ) : Type 0 where
+  pub page_clients : (p : ℕ) (x : Page) → get pages p ≡ Some x → IsClient ts x.client
+  pub buffer_clients : (f : ℕ) (x : Buffer) → get buffers f ≡ Some x → IsClient ts x.client
+  pub names : (p : ℕ) (x : Page) → get pages p ≡ Some x → p < next_name
+
+-- pages that have blocks
+abbrev pub is_in_memory : Place → Bool
+is_in_memory Evicted = false
+is_in_memory _ = true
+
+-- the bytes of all buffers
+unfoldable pub buffer_bytes : ℕ → Buffers → ℕ
+buffer_bytes block_len buffers = total (λ _ x. bytes_of block_len x.blocks) buffers
+
+-- what each tracker holds fits its reservation, and all blocks in use fit the memory
+pub record IsWithin (block_len blocks : ℕ) (ts : Trackers) (pages : Pages) (buffers : Buffers) : Type 0 where
+  pub held : (t : ℕ) → pages_for is_held block_len pages t + buffers_for block_len buffers t ≤ reservation_of ts t
+  pub memory : bytes_in is_in_memory block_len pages + buffer_bytes block_len buffers ≤ bytes_of block_len blocks
+
+-- the tree and its seats; whose things are; and the sums
+pub record IsSound (s : State) : Type 0 where
+  pub seated : IsSeated (memory s) s.trackers s.sessions
+  pub owned : IsOwned s.trackers s.pages s.buffers s.next_name
+  pub within : IsWithin s.block_len s.blocks s.trackers s.pages s.buffers

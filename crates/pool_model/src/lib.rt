@@ -1,0 +1,40 @@
+//! What may happen in a pool, and what holds after it.
+//!
+//! Model: a history is a list of entries, the oldest first. The state after it has the live trackers,
+//! sessions, pages and buffers. An entry may follow where the state allows it.
+//! No code of a pool runs here: the types are the words of entries, and each law is the contract of a
+//! function that does nothing.
+#![tactic(auto)]
+
+mod call;
+mod content;
+mod entry;
+mod event;
+mod fault_sum;
+mod laws;
+mod maker;
+#[cfg(test)]
+mod plain_pages;
+#[cfg(test)]
+mod plain_pool;
+#[cfg(test)]
+mod plain_rules;
+#[cfg(test)]
+mod plain_scratch;
+#[cfg(test)]
+mod plain_trackers;
+#[cfg(test)]
+mod tests;
+#[cfg(test)]
+mod worked;
+
+pub use call::Call;
+pub use content::Content;
+pub use entry::Entry;
+pub use event::Event;
+pub use fault_sum::FaultSum;
+pub use laws::{
+    law_clients, law_count, law_failures, law_fronts, law_made, law_names, law_owners, law_rest,
+    law_room, law_sound, law_trackers,
+};
+pub use maker::{FIRST_WRITER, MAX_SESSIONS, MAX_WRITERS, Maker};

@@ -1,0 +1,190 @@
+//! Worked histories, for the tests.
+use crate::plain_pool::{Place, PlainPool};
+use crate::{Content, Entry, Event, Maker};
+use reservation_tree::TrackerId;
+use std::alloc::{AllocError, Global};
+use std::process::Abort;
+
+pub const QUERY: u32 = 1;
+
+pub const CLIENT: u32 = 2;
+
+pub const OTHER: u32 = 3;
+/// What there is after some entries: reservations of root, query and client, the client's charge and what it
+/// holds, free bytes, and the places of the pages 0 to 4.
+#[derive(Clone, Copy)]
+pub struct After {
+    reserved: [u64; 3],
+    charge: u64,
+    held: u64,
+    free: u64,
+    places: [Option<Place>; 5],
+}
+
+pub fn compare(rt: &impl Abort, pool: &PlainPool, after: &After) {
+    let at = pool.entries;
+    for (t, bytes) in [0, QUERY, CLIENT].into_iter().zip(after.reserved) {
+        assert_eq!(rt; pool.reservation(t), bytes, "reservation of {t} at {at}");
+    }
+    assert_eq!(rt; pool.charge(CLIENT), after.charge, "charge at {at}");
+    assert_eq!(rt; pool.held(CLIENT), after.held, "held at {at}");
+    assert_eq!(rt; pool.free(), after.free, "free at {at}");
+    for (page, place) in (0u64..).zip(after.places) {
+        assert_eq!(rt; pool.place(page), place, "page {page} at {at}");
+    }
+}
+
+pub fn tracker(number: u32) -> TrackerId {
+    TrackerId::of(number)
+}
+
+pub fn create(page: u64) -> Event {
+    Event::Create {
+        page,
+        client: tracker(CLIENT),
+        blocks: 1,
+    }
+}
+
+pub fn unpin(alloc: Global, page: u64, byte: u8) -> Result<Event, AllocError> {
+    let bytes = Vec::from_elem(alloc, byte, 64)?;
+    Ok(Event::Unpin {
+        page,
+        content: Content::of(bytes),
+    })
+}
+
+/// One session with one client, each with 256 bytes reserved, and four pages of one block: entries 0 to 11.
+pub fn four_pages(alloc: Global) -> Result<Vec<Event>, AllocError> {
+    let mut events = Vec::new(alloc);
+    events.push(Event::AddTracker {
+        tracker: tracker(QUERY),
+        parent: tracker(0),
+        limit: 256,
+        quota: Some(8),
+    })?;
+    events.push(Event::Increase {
+        tracker: tracker(QUERY),
+        bytes: 256,
+    })?;
+    events.push(Event::AddTracker {
+        tracker: tracker(CLIENT),
+        parent: tracker(QUERY),
+        limit: 256,
+        quota: None,
+    })?;
+    events.push(Event::Increase {
+        tracker: tracker(CLIENT),
+        bytes: 256,
+    })?;
+    for page in 0..4 {
+        events.push(Event::Ask)?;
+        events.push(create(page))?;
+    }
+    Ok(events)
+}
+
+/// Page 0 is left, written and evicted for page 4, and page 1 is left: entries 12 to 18. Then page 0 is asked
+/// for, and page 1 is taken to be written: entries 19 and 20.
+pub fn five_pages(alloc: Global) -> Result<Vec<Event>, AllocError> {
+    let mut events = four_pages(alloc)?;
+    events.push(unpin(alloc, 0, 0x11)?)?;
+    events.push(Event::Ask)?;
+    events.push(Event::StartWrite { page: 0 })?;
+    events.push(Event::WriteOk { page: 0 })?;
+    events.push(Event::Evict { page: 0 })?;
+    events.push(create(4))?;
+    events.push(unpin(alloc, 1, 0x22)?)?;
+    events.push(Event::Ask)?;
+    events.push(Event::StartWrite { page: 1 })?;
+    Ok(events)
+}
+
+pub fn evict_and_load(events: &mut Vec<Event>) -> Result<(), AllocError> {
+    events.push(Event::WriteOk { page: 1 })?;
+    events.push(Event::Evict { page: 1 })?;
+    events.push(Event::PinLoad { page: 0 })?;
+    Ok(())
+}
+
+pub fn by_session(event: Event) -> Entry {
+    Entry {
+        maker: Maker::session(0),
+        event,
+    }
+}
+
+/// The pool after these entries, each of which may follow. After those that are named it is as the rows say.
+pub fn follow(
+    rt: &impl Abort,
+    alloc: Global,
+    events: Vec<Event>,
+    rows: &[(u64, After)],
+) -> Result<PlainPool, AllocError> {
+    let mut pool = PlainPool::open(alloc, 4, 64)?;
+    for event in events {
+        let number = pool.entries;
+        assert!(rt; pool.enter(&by_session(event))?, "entry {number}");
+        for (at, after) in rows.iter() {
+            if *at == number {
+                compare(rt, &pool, after);
+            }
+        }
+    }
+    Ok(pool)
+}
+
+pub const ALL: [u64; 3] = [256; 3];
+
+pub const PINNED: Option<Place> = Some(Place::Pinned);
+
+pub const DIRTY: Option<Place> = Some(Place::Dirty);
+
+pub const EVICTED: Option<Place> = Some(Place::Evicted);
+
+pub fn row(charge: u64, held: u64, free: u64, places: [Option<Place>; 5]) -> After {
+    After {
+        reserved: ALL,
+        charge,
+        held,
+        free,
+        places,
+    }
+}
+
+/// Two clients of 128 and 64 bytes under the query of 256: the clients 2 and 3.
+pub fn two_clients(alloc: Global) -> Result<Vec<Event>, AllocError> {
+    let mut events = Vec::new(alloc);
+    events.push(Event::AddTracker {
+        tracker: tracker(QUERY),
+        parent: tracker(0),
+        limit: 256,
+        quota: Some(1),
+    })?;
+    for (client, bytes) in [(CLIENT, 128), (OTHER, 64)] {
+        events.push(Event::AddTracker {
+            tracker: tracker(client),
+            parent: tracker(QUERY),
+            limit: 256,
+            quota: None,
+        })?;
+        events.push(Event::IncreaseToFit {
+            tracker: tracker(client),
+            bytes,
+        })?;
+    }
+    Ok(events)
+}
+
+/// The event may not follow these.
+pub fn refuse(
+    rt: &impl Abort,
+    alloc: Global,
+    events: Vec<Event>,
+    event: Event,
+    why: &str,
+) -> Result<(), AllocError> {
+    let mut pool = follow(rt, alloc, events, &[])?;
+    assert!(rt; !pool.enter(&by_session(event))?, "{why}");
+    Ok(())
+}

@@ -1,0 +1,5 @@
+mod Documents
+mod Items
+mod LeastKey
+mod NamedColumns
+mod Walks

@@ -1,0 +1,12 @@
+pub mod Columns
+pub mod Drafts
+pub mod Faults
+pub mod Keys
+pub mod Names
+pub mod PlanOf
+pub mod Presences
+pub mod Resolved
+pub mod Sizes
+pub mod Told
+pub mod Values
+pub mod Words

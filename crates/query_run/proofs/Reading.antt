@@ -1,0 +1,185 @@
+-- What is known of an input while its rows are read.
+use Rattle.std.proofs.Common.{◌≡◌, ◌∙◌, ◌≤◌, ◌<◌, ◌+◌, ◌++◌, ◌∷◌, ◌⊎◌, inl, inr, [], ℕ, zero, suc, List, Bool, true, false, Option, Some, None, IfSome, All, length, map, nat_le, slice_index_or, cond, sym, ap, refl, arith, subst, rules}
+use Rattle.std.specs.Option.{option_map}
+use Rattle.std.proofs.lemmas.List.{append-nil, append_assoc, map-append, length-append}
+use Rattle.std.proofs.lemmas.List.Elements.{All-append}
+use Rattle.std.proofs.lemmas.Grind.{common_steps}
+use Rattle.row_codec.specs.declared.values.Value.{Value}
+use Rattle.row_codec.specs.RowBytes.{row_bytes}
+use Rattle.csv_edge.specs.Typed.{Typed, nothing_more, refused_here, row_then, rows_then}
+use Rattle.csv_edge.specs.Rows.{Becomes, CountsBytes, FitsLimit, IsOfRecord, PassesLimit}
+use Rattle.csv_edge.specs.declared.refusal.InputErr.{InputErr}
+use Rattle.csv_edge.specs.declared.refusal.InputErr.TheVariants as input
+use Rattle.csv_edge.proofs.Steps.{none-handed, row-handed}
+use Rattle.query_run.specs.Answer.{HasTexts, text_row}
+use Rattle.query_run.specs.Causes.{IsOfBytes, cause_of_input}
+use Rattle.query_run.specs.Input.{IsAccepted, IsRefusal, column_rows, first_refusal, first_too_long, most_bytes, most_weight, weight_of}
+use Rattle.query_run.specs.Inside.{Adds, HasKept, IsKept, IsTooLong, Keeps, encoded}
+use Rattle.query_run.specs.declared.rows.Kept.{Kept}
+use Rattle.query_plan.specs.declared.plan.Side.TheVariants.{Left}
+use Rattle.query_run.specs.declared.outcome.QueryErr.{QueryErr}
+use Rattle.query_run.specs.declared.outcome.QueryErr.TheVariants.{TooLarge}
+
+-- the texts so far, and what is still to come, are the input
+abbrev pub IsSoFar : List ℕ → Option (List ℕ) → List (List ℕ) → Option Typed → Type 0
+IsSoFar column told texts rest = Becomes (rows_then (map text_row texts)) (option_map (column_rows column) told) rest
+
+-- no text that is kept weighs too much
+first-behind : (texts : List (List ℕ)) (number : ℕ) (rest : List (List Value)) → All IsKept texts
+    → first_too_long number (map text_row texts ++ rest) ≡ first_too_long (number + length texts) rest
+first-behind [] number rest kept = let same : number + 0 ≡ number = omega arith in rw same refl
+first-behind (text ∷ texts) number rest kept =
+    let first : IsKept text = kept 0 text (omega arith) in
+    let light : nat_le (weight_of (text_row text)) most_weight ≡ true = search (rules, first) in
+    let later : All IsKept texts = λ k d below. kept (suc k) d (omega (arith, below)) in
+    let same : number + 1 + length texts ≡ number + length (text ∷ texts) = omega arith in
+    rw (light, first-behind texts (number + 1) rest later, same) refl
+
+-- the refusal behind texts that are kept is the first
+refusal-behind : (texts : List (List ℕ)) (e : InputErr) → All IsKept texts
+    → first_refusal (rows_then (map text_row texts) (refused_here e)) ≡ Some (cause_of_input Left e)
+refusal-behind texts e kept = rw (first-behind texts 1 [] kept) refl
+
+none-behind : (texts : List (List ℕ)) → All IsKept texts → first_refusal (rows_then (map text_row texts) nothing_more) ≡ None
+none-behind texts kept = rw (first-behind texts 1 [] kept) refl
+
+-- so is a row that weighs too much
+too-long-behind : (texts : List (List ℕ)) (row : List Value) (more : Typed) (why : QueryErr) → All IsKept texts → IsTooLong row (length texts) why
+    → first_refusal (rows_then (map text_row texts) (row_then row more)) ≡ Some why
+too-long-behind texts row more why kept long =
+    let heavy : nat_le (weight_of row) most_weight ≡ false = search (rules, long) in
+    let place : 1 + length texts ≡ length texts + 1 = omega arith in
+    let names = long.names_it in
+    rw (first-behind texts 1 (row ∷ more.rows) kept, heavy, place, names) refl
+
+pub refused_at : (column : List ℕ) (told : Option (List ℕ)) (texts : List (List ℕ)) (rest : Option Typed) (e : InputErr) → All IsKept texts
+    → IsSoFar column told texts rest → Becomes (λ t. t) rest (Some (refused_here e))
+    → IfSome told (λ bytes. IsRefusal column bytes (cause_of_input Left e))
+refused_at column None texts rest e kept so-far here = tt
+refused_at column (Some bytes) texts None e kept so-far here = absurd so-far
+refused_at column (Some bytes) texts (Some rest) e kept so-far here =
+    let all : column_rows column bytes ≡ rows_then (map text_row texts) (refused_here e) = so-far ∙ ap (rows_then (map text_row texts)) here in
+    inl (ap first_refusal all ∙ refusal-behind texts e kept)
+
+pub too_long_at : (column : List ℕ) (told : Option (List ℕ)) (texts : List (List ℕ)) (row : List Value) (old new : Option Typed) (why : QueryErr) → All IsKept texts
+    → IsSoFar column told texts old → Becomes (row_then row) old new → IsTooLong row (length texts) why
+    → IfSome told (λ bytes. IsRefusal column bytes why)
+too_long_at column None texts row old new why kept so-far next long = tt
+too_long_at column (Some bytes) texts row None new why kept so-far next long = absurd so-far
+too_long_at column (Some bytes) texts row (Some old) None why kept so-far next long = absurd next
+too_long_at column (Some bytes) texts row (Some old) (Some new) why kept so-far next long =
+    let all : column_rows column bytes ≡ rows_then (map text_row texts) (row_then row new) = so-far ∙ ap (rows_then (map text_row texts)) next in
+    inl (ap first_refusal all ∙ too-long-behind texts row new why kept long)
+
+-- told bytes that pass what is still allowed pass the whole limit
+passes : (told now : Option (List ℕ)) (allowed : ℕ) → CountsBytes most_bytes told allowed now → PassesLimit allowed now → IfSome told (λ bytes. most_bytes < length bytes)
+passes None now allowed counts more = tt
+passes (Some bytes) None allowed counts more = absurd counts
+passes (Some bytes) (Some left) allowed counts more = omega (arith, counts, more)
+
+fits : (told now : Option (List ℕ)) (allowed : ℕ) → CountsBytes most_bytes told allowed now → FitsLimit allowed now → IfSome told (λ bytes. length bytes ≤ most_bytes)
+fits None now allowed counts more = tt
+fits (Some bytes) None allowed counts more = absurd counts
+fits (Some bytes) (Some left) allowed counts more = omega (arith, counts, more)
+
+large-if : (column : List ℕ) (told : Option (List ℕ)) → IfSome told (λ bytes. most_bytes < length bytes) → IfSome told (λ bytes. IsRefusal column bytes (TooLarge Left))
+large-if column None more = tt
+large-if column (Some bytes) more = inr (refl, more)
+
+pub large_at : (column : List ℕ) (told now : Option (List ℕ)) (allowed : ℕ) (texts : List (List ℕ)) (rest : Option Typed) → All IsKept texts
+    → IsSoFar column told texts rest → CountsBytes most_bytes told allowed now
+    → Becomes (λ t. t) rest (Some (refused_here input.TooLarge)) ⊎ PassesLimit allowed now
+    → IfSome told (λ bytes. IsRefusal column bytes (TooLarge Left))
+large_at column told now allowed texts rest kept so-far counts (inl here) = refused_at column told texts rest input.TooLarge kept so-far here
+large_at column told now allowed texts rest kept so-far counts (inr more) = large-if column told (passes told now allowed counts more)
+
+-- what the bytes are refused for is the first refusal
+pub refusal_of_input : (column : List ℕ) (told now : Option (List ℕ)) (allowed : ℕ) (texts : List (List ℕ)) (rest : Option Typed) (e : InputErr) → All IsKept texts
+    → IsSoFar column told texts rest → CountsBytes most_bytes told allowed now
+    → (IsOfRecord e → Becomes (λ t. t) rest (Some (refused_here e)))
+    → (e ≡ input.TooLarge → Becomes (λ t. t) rest (Some (refused_here input.TooLarge)) ⊎ PassesLimit allowed now)
+    → IsOfBytes (cause_of_input Left e) → IfSome told (λ bytes. IsRefusal column bytes (cause_of_input Left e))
+refusal_of_input column told now allowed texts rest input.Fault kept so-far counts refused large is = absurd is
+refusal_of_input column told now allowed texts rest input.Memory kept so-far counts refused large is = absurd is
+refusal_of_input column told now allowed texts rest input.TooLarge kept so-far counts refused large is = large_at column told now allowed texts rest kept so-far counts (large refl)
+refusal_of_input column told now allowed texts rest input.Header kept so-far counts refused large is = refused_at column told texts rest input.Header kept so-far (refused tt)
+refusal_of_input column told now allowed texts rest (input.Csv number) kept so-far counts refused large is = refused_at column told texts rest (input.Csv number) kept so-far (refused tt)
+refusal_of_input column told now allowed texts rest (input.Field number place) kept so-far counts refused large is = refused_at column told texts rest (input.Field number place) kept so-far (refused tt)
+
+-- at the end, the texts are those of the input
+has-texts : (column bytes : List ℕ) (texts : List (List ℕ)) → All IsKept texts → column_rows column bytes ≡ rows_then (map text_row texts) nothing_more
+    → length bytes ≤ most_bytes → HasTexts column bytes texts
+has-texts column bytes texts kept all few = record {
+  accepted = record { whole = ap first_refusal all ∙ none-behind texts kept; fits = few };
+  rows = ap (λ (t : Typed). t.rows) all ∙ append-nil (map text_row texts);
+}
+
+pub ended_at : (column : List ℕ) (told now : Option (List ℕ)) (allowed : ℕ) (texts : List (List ℕ)) (rest : Option Typed) → All IsKept texts
+    → IsSoFar column told texts rest → CountsBytes most_bytes told allowed now → Becomes (λ t. t) rest (Some nothing_more) → FitsLimit allowed now
+    → IfSome told (λ bytes. HasTexts column bytes texts)
+ended_at column None now allowed texts rest kept so-far counts here few = tt
+ended_at column (Some bytes) now allowed texts None kept so-far counts here few = absurd so-far
+ended_at column (Some bytes) now allowed texts (Some rest) kept so-far counts here few =
+    has-texts column bytes texts kept (so-far ∙ ap (rows_then (map text_row texts)) here) (fits (Some bytes) now allowed counts few)
+
+-- one more text was read
+pub one_more : (column : List ℕ) (told : Option (List ℕ)) (texts : List (List ℕ)) (text : List ℕ) (row : List Value) (old new : Option Typed)
+    → row ≡ text_row text → IsSoFar column told texts old → Becomes (row_then row) old new → IsSoFar column told (texts ++ text ∷ []) new
+one_more column told texts text row old new is so-far next =
+    rw (map-append text_row texts (text ∷ []), sym is) (row-handed (map text_row texts) row (option_map (column_rows column) told) old new so-far next)
+
+pub counts_on : (told now later : Option (List ℕ)) (most allowed left : ℕ) → CountsBytes most told allowed now → CountsBytes allowed now left later → CountsBytes most told left later
+counts_on None now later most allowed left old new = tt
+counts_on (Some bytes) None later most allowed left old new = absurd old
+counts_on (Some bytes) (Some rest) None most allowed left old new = absurd new
+counts_on (Some bytes) (Some rest) (Some more) most allowed left old new = omega (arith, old, new)
+
+-- what is kept of rows of which none was looked at yet, and with one more
+pub none_kept : All IsKept []
+none_kept = λ k d below. absurd (omega (arith, below))
+
+pub one_kept : (texts : List (List ℕ)) (text : List ℕ) → All IsKept texts → IsKept text → All IsKept (texts ++ text ∷ [])
+one_kept texts text kept is = All-append IsKept texts (text ∷ []) kept (λ k d below. only k d below) where
+  only : (k : ℕ) (d : List ℕ) → k < 1 → IsKept (slice_index_or (text ∷ []) k d)
+  only zero d below = is
+  only (suc k) d below = absurd (omega (arith, below))
+
+-- the bytes of one row more
+encoded-more : (texts : List (List ℕ)) (text : List ℕ) → encoded texts ++ row_bytes (text_row text) ≡ encoded (texts ++ text ∷ [])
+encoded-more [] text = sym (append-nil (row_bytes (text_row text)))
+encoded-more (first ∷ texts) text = append_assoc (row_bytes (text_row first)) (encoded texts) (row_bytes (text_row text)) ∙ ap (λ l. row_bytes (text_row first) ++ l) (encoded-more texts text)
+
+-- the rows so far are kept, and the others are still to come
+pub record IsReading (column : List ℕ) (told : Option (List ℕ)) (kept : Kept) (rest : Option Typed) (now : Option (List ℕ)) (allowed : ℕ) : Type 0 where
+  pub texts : List (List ℕ)
+  pub keeps : Keeps kept.bytes.items texts
+  pub counted : kept.rows ≡ length texts
+  pub so_far : IsSoFar column told texts rest
+  pub counts : CountsBytes most_bytes told allowed now
+
+-- nothing was read yet but the header
+pub started : (column : List ℕ) (told : Option (List ℕ)) (kept : Kept) (rest : Option Typed) (now : Option (List ℕ)) (allowed : ℕ)
+    → kept.bytes.items ≡ [] → kept.rows ≡ 0 → Becomes (λ t. t) (option_map (column_rows column) told) rest → CountsBytes most_bytes told allowed now
+    → IsReading column told kept rest now allowed
+started column told kept rest now allowed empty none ok counts = record {
+  texts = [];
+  keeps = record { spelled = empty; kept = none_kept };
+  counted = none;
+  so_far = none-handed (option_map (column_rows column) told) rest ok;
+  counts = counts;
+}
+
+-- a row was read and kept
+pub went_on : (column : List ℕ) (told : Option (List ℕ)) (row : List Value) (old new : Kept) (rest later : Option Typed) (now then : Option (List ℕ)) (allowed left : ℕ)
+    → IsReading column told old rest now allowed → Adds row old new → Becomes (row_then row) rest later → CountsBytes allowed now left then
+    → IsReading column told new later then left
+went_on column told row old new rest later now then allowed left before adds next counts = record {
+  texts = before.texts ++ adds.text ∷ [];
+  keeps = record {
+    spelled = adds.bytes ∙ rw before.keeps.spelled (encoded-more before.texts adds.text);
+    kept = one_kept before.texts adds.text before.keeps.kept adds.kept;
+  };
+  counted = let is = adds.counted in let was = before.counted in let more = length-append before.texts (adds.text ∷ []) in omega (arith, is, was, more);
+  so_far = one_more column told before.texts adds.text row rest later adds.is_text before.so_far next;
+  counts = counts_on told now then most_bytes allowed left before.counts counts;
+}

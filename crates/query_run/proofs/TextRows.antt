@@ -1,0 +1,43 @@
+-- Rows of one text.
+use Rattle.std.proofs.Common.{◌≡◌, ◌≤◌, ◌<◌, ◌+◌, ◌^◌, ◌++◌, ◌∷◌, [], ℕ, List, All, flat_map, length, refl, arith, rules}
+use Rattle.std.proofs.lemmas.Grind.{common_steps}
+use Rattle.row_codec.specs.declared.values.Kind.TheVariants as kind
+use Rattle.row_codec.specs.declared.values.Value.{Value}
+use Rattle.row_codec.specs.declared.values.Value.TheVariants.{Int, Text, Wide}
+use Rattle.row_codec.specs.Row.{IsValue, kinds_of}
+use Rattle.row_codec.specs.RowBytes.{field_bytes, framed, row_bytes}
+use Rattle.row_codec.specs.RowLaws.{IsRow}
+use Rattle.query_run.specs.Answer.{text_row}
+use Rattle.query_run.specs.Input.{most_weight, weight_of}
+use Rattle.query_run.specs.Inside.{Adds, IsKept}
+use Rattle.query_run.specs.declared.rows.Kept.{Kept}
+
+-- a row with the kinds of one text is one text
+pub text_in : (row : List Value) → kinds_of row ≡ kind.Text ∷ [] → (text : List ℕ) × (row ≡ text_row text)
+text_in [] is = cc
+text_in (Int z ∷ rest) is = cc
+text_in (Wide z ∷ rest) is = cc
+text_in (Text text ∷ []) is = (text, refl)
+text_in (Text text ∷ next ∷ rest) is = cc
+
+-- the bytes of its fields are fewer than those of the row
+body-fits : (row : List Value) → length (row_bytes row) + 16 ≤ 8192 → length (flat_map field_bytes row) < 2 ^ 32
+unfolding row_bytes
+body-fits row light = search (rules, light)
+
+-- a row of one text is kept
+pub adds : (row : List Value) (old new : Kept) → kinds_of row ≡ kind.Text ∷ [] → weight_of row ≤ most_weight → All IsValue row
+    → new.bytes.items ≡ old.bytes.items ++ row_bytes row → new.rows ≡ old.rows + 1 → Adds row old new
+adds row old new kinds light values bytes counted =
+    let found = text_in row kinds in
+    let is : row ≡ text_row found.0 = found.1 in
+    record {
+      text = found.0;
+      is_text = is;
+      kept = record {
+        is_row = record { some = omega arith; values = rw is at values; fits = rw is at (body-fits row light) };
+        light = rw is at light;
+      };
+      bytes = rw is at bytes;
+      counted = counted;
+    }

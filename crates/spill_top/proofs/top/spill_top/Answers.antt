@@ -1,0 +1,29 @@
+use Rattle.std.proofs.Common.{◌≡◌, Option, Some, List, ℕ, map, string_bytes, rules, refl}
+use Rattle.spill_top.specs.Headline.{IsCause}
+use Rattle.spill_top.specs.Words.{Command, command_of}
+use Rattle.spill_top.proofs.Causes.{fault_so, refuses_so, said, succeeds_so}
+use Rattle.spill_top.proofs.top.spill_top.Goals as goal
+
+pub returns-in-Err-Refused-clause-input_fault : goal.returns-in-Err-Refused-clause-input_fault
+returns-in-Err-Refused-clause-input_fault g c = λ three.
+    let is : command_of (map string_bytes c.args.words.now) ≡ Some (record { file = c.in-Some.file.now; column = c.in-Some.column.now }) = search rules in
+    let cause : IsCause (g.I.Inputs.bytes_at c.args.inputs.now c.in-Some.file.now) (g.I.Inputs.faults_at c.args.inputs.now c.in-Some.file.now) (g.I.Inputs.faults_at c.count.new.inputs c.in-Some.file.now) (record { file = c.in-Some.file.now; column = c.in-Some.column.now }) c.in-Err-Refused.refusal = search rules in
+    let command : Command = record { file = c.in-Some.file.now; column = c.in-Some.column.now } in
+    let says = c.refuse.ensures.says in
+    rw is (fault_so _ _ _ command _ (said _ _ _ command c.in-Err-Refused.refusal says.why _ cause says.is_why says.status_is) three)
+
+pub returns-in-Err-Refused-clause-refuses : goal.returns-in-Err-Refused-clause-refuses
+returns-in-Err-Refused-clause-refuses g c =
+    let is : command_of (map string_bytes c.args.words.now) ≡ Some (record { file = c.in-Some.file.now; column = c.in-Some.column.now }) = search rules in
+    let cause : IsCause (g.I.Inputs.bytes_at c.args.inputs.now c.in-Some.file.now) (g.I.Inputs.faults_at c.args.inputs.now c.in-Some.file.now) (g.I.Inputs.faults_at c.count.new.inputs c.in-Some.file.now) (record { file = c.in-Some.file.now; column = c.in-Some.column.now }) c.in-Err-Refused.refusal = search rules in
+    let command : Command = record { file = c.in-Some.file.now; column = c.in-Some.column.now } in
+    let says = c.refuse.ensures.says in
+    rw is (λ why refuses. refuses_so _ _ _ command _ why (said _ _ _ command c.in-Err-Refused.refusal says.why _ cause says.is_why says.status_is) refuses)
+
+pub returns-in-Err-Refused-clause-succeeds : goal.returns-in-Err-Refused-clause-succeeds
+returns-in-Err-Refused-clause-succeeds g c =
+    let is : command_of (map string_bytes c.args.words.now) ≡ Some (record { file = c.in-Some.file.now; column = c.in-Some.column.now }) = search rules in
+    let cause : IsCause (g.I.Inputs.bytes_at c.args.inputs.now c.in-Some.file.now) (g.I.Inputs.faults_at c.args.inputs.now c.in-Some.file.now) (g.I.Inputs.faults_at c.count.new.inputs c.in-Some.file.now) (record { file = c.in-Some.file.now; column = c.in-Some.column.now }) c.in-Err-Refused.refusal = search rules in
+    let command : Command = record { file = c.in-Some.file.now; column = c.in-Some.column.now } in
+    let says = c.refuse.ensures.says in
+    rw is (λ accepts. succeeds_so _ _ _ _ _ command _ (said _ _ _ command c.in-Err-Refused.refusal says.why _ cause says.is_why says.status_is) accepts)
