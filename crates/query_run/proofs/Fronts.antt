@@ -1,8 +1,7 @@
 -- What stands at the front of kept rows.
-use Rattle.std.proofs.Common.{◌≡◌, ◌∙◌, ◌≤◌, ◌<◌, ◌+◌, ◌++◌, ◌∷◌, [], ℕ, suc, List, Option, Some, None, All, length, drop, sym, ap, refl, arith, subst, rules}
+use Rattle.std.proofs.Common.{◌≡◌, ◌∙◌, ◌≤◌, ◌<◌, ◌++◌, ◌∷◌, [], ℕ, suc, List, Option, Some, None, All, length, drop, sym, ap, refl, arith, rules}
 use Rattle.std.proofs.lemmas.List.{length-append}
 use Rattle.std.proofs.Math.Seq.{drop-append_seam}
-use Rattle.std.proofs.lemmas.Grind.{common_steps}
 use Rattle.row_codec.specs.declared.values.Kind.TheVariants as kind
 use Rattle.row_codec.specs.declared.values.Value.{Value}
 use Rattle.row_codec.specs.RowBytes.{row_bytes}

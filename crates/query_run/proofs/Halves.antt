@@ -1,5 +1,5 @@
 -- Kept rows, of which some are counted.
-use Rattle.std.proofs.Common.{◌≡◌, ◌∙◌, ◌≤◌, ◌<◌, ◌+◌, ◌^◌, ◌++◌, ◌∷◌, [], ℕ, List, Some, None, length, map, drop, unwrap_or, cond, sym, ap, refl, arith, if◌then◌else◌}
+use Rattle.std.proofs.Common.{◌≡◌, ◌∙◌, ◌≤◌, ◌<◌, ◌+◌, ◌++◌, ◌∷◌, [], ℕ, List, Some, None, length, map, drop, unwrap_or, sym, ap, arith, if◌then◌else◌}
 use Rattle.std.specs.BTreeMap.{BTreeMap, get}
 use Rattle.std.specs.Str.{bytes_eq}
 use Rattle.std.proofs.lemmas.List.{length-append, length-drop, map-append, append-nil, append_assoc}
@@ -11,7 +11,7 @@ use Rattle.row_codec.specs.RowReading.{row_at}
 use Rattle.query_run.specs.Groups.{counted, key_of}
 use Rattle.query_run.specs.Inside.{Keeps}
 use Rattle.query_run.proofs.Counted.{counted_more}
-use Rattle.query_run.proofs.Fronts.{Front, front_at, none_left}
+use Rattle.query_run.proofs.Fronts.{Front, none_left}
 
 -- these texts are counted, and the rows of the others stand in the rest
 pub record Halves (kept rest : List ℕ) (counts : BTreeMap (List ℕ) ℕ) (texts : List (List ℕ)) : Type 0 where

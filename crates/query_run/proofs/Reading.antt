@@ -1,9 +1,8 @@
 -- What is known of an input while its rows are read.
-use Rattle.std.proofs.Common.{◌≡◌, ◌∙◌, ◌≤◌, ◌<◌, ◌+◌, ◌++◌, ◌∷◌, ◌⊎◌, inl, inr, [], ℕ, zero, suc, List, Bool, true, false, Option, Some, None, IfSome, All, length, map, nat_le, slice_index_or, cond, sym, ap, refl, arith, subst, rules}
+use Rattle.std.proofs.Common.{◌≡◌, ◌∙◌, ◌≤◌, ◌<◌, ◌+◌, ◌++◌, ◌∷◌, ◌⊎◌, inl, inr, [], ℕ, zero, suc, List, true, false, Option, Some, None, IfSome, All, length, map, nat_le, slice_index_or, sym, ap, refl, arith, rules}
 use Rattle.std.specs.Option.{option_map}
 use Rattle.std.proofs.lemmas.List.{append-nil, append_assoc, map-append, length-append}
 use Rattle.std.proofs.lemmas.List.Elements.{All-append}
-use Rattle.std.proofs.lemmas.Grind.{common_steps}
 use Rattle.row_codec.specs.declared.values.Value.{Value}
 use Rattle.row_codec.specs.RowBytes.{row_bytes}
 use Rattle.csv_edge.specs.Typed.{Typed, nothing_more, refused_here, row_then, rows_then}
@@ -13,8 +12,8 @@ use Rattle.csv_edge.specs.declared.refusal.InputErr.TheVariants as input
 use Rattle.csv_edge.proofs.Steps.{none-handed, row-handed}
 use Rattle.query_run.specs.Answer.{HasTexts, text_row}
 use Rattle.query_run.specs.Causes.{IsOfBytes, cause_of_input}
-use Rattle.query_run.specs.Input.{IsAccepted, IsRefusal, column_rows, first_refusal, first_too_long, most_bytes, most_weight, weight_of}
-use Rattle.query_run.specs.Inside.{Adds, HasKept, IsKept, IsTooLong, Keeps, encoded}
+use Rattle.query_run.specs.Input.{IsRefusal, column_rows, first_refusal, first_too_long, most_bytes, most_weight, weight_of}
+use Rattle.query_run.specs.Inside.{Adds, IsKept, IsTooLong, Keeps, encoded}
 use Rattle.query_run.specs.declared.rows.Kept.{Kept}
 use Rattle.query_plan.specs.declared.plan.Side.TheVariants.{Left}
 use Rattle.query_run.specs.declared.outcome.QueryErr.{QueryErr}

@@ -1,15 +1,13 @@
 -- Rows of one text.
 use Rattle.std.proofs.Common.{◌≡◌, ◌≤◌, ◌<◌, ◌+◌, ◌^◌, ◌++◌, ◌∷◌, [], ℕ, List, All, flat_map, length, refl, arith, rules}
-use Rattle.std.proofs.lemmas.Grind.{common_steps}
 use Rattle.row_codec.specs.declared.values.Kind.TheVariants as kind
 use Rattle.row_codec.specs.declared.values.Value.{Value}
 use Rattle.row_codec.specs.declared.values.Value.TheVariants.{Int, Text, Wide}
 use Rattle.row_codec.specs.Row.{IsValue, kinds_of}
-use Rattle.row_codec.specs.RowBytes.{field_bytes, framed, row_bytes}
-use Rattle.row_codec.specs.RowLaws.{IsRow}
+use Rattle.row_codec.specs.RowBytes.{field_bytes, row_bytes}
 use Rattle.query_run.specs.Answer.{text_row}
 use Rattle.query_run.specs.Input.{most_weight, weight_of}
-use Rattle.query_run.specs.Inside.{Adds, IsKept}
+use Rattle.query_run.specs.Inside.{Adds}
 use Rattle.query_run.specs.declared.rows.Kept.{Kept}
 
 -- a row with the kinds of one text is one text

@@ -1,5 +1,5 @@
 -- The answer of a count, as computed over the bytes of its input.
-use Rattle.std.specs.Prelude.{◌≡◌, ℕ, List, [], ◌∷◌, ◌++◌, true, false, Option, Some, None, map, flat_map, codes, length, sum_by, pos, ⊤}
+use Rattle.std.specs.Prelude.{◌≡◌, ℕ, List, [], ◌∷◌, ◌++◌, Option, Some, None, map, flat_map, codes, length, sum_by, pos, ⊤}
 use Rattle.std.specs.Io.KnownBytes.{Appends}
 use Rattle.row_codec.specs.declared.values.Value.{Value}
 use Rattle.row_codec.specs.declared.values.Value.TheVariants.{Text, Wide}

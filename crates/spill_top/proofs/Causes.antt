@@ -1,5 +1,5 @@
 -- Why a command was refused, told by its status.
-use Rattle.std.proofs.Common.{◌≡◌, ◌∙◌, ◌≤◌, ◌<◌, ◌⊎◌, inl, inr, ℕ, List, Option, Some, None, IfSome, length, sym, ap, refl, arith, subst}
+use Rattle.std.proofs.Common.{◌≡◌, ◌∙◌, ◌≤◌, ◌⊎◌, inl, inr, ℕ, List, Option, Some, None, IfSome, length, sym, ap, refl, arith}
 use Rattle.std.specs.Option.{option_map}
 use Rattle.outside.specs.Counts.{Rose}
 use Rattle.query_run.specs.Causes.{IsOfBytes, IsSourceFault}
@@ -10,7 +10,7 @@ use Rattle.spill_top.specs.declared.report.Refusal.{Refusal}
 use Rattle.spill_top.specs.declared.report.Refusal.TheVariants.{InputFault, Header, Csv, Field, Large, Row, Memory}
 use Rattle.spill_top.specs.Headline.{AcceptsInput, IsCause, IsOfInput, IsStatusOf, RefusesBytes}
 use Rattle.spill_top.specs.Report.{status_of}
-use Rattle.spill_top.specs.Refusals.{Says, refusal_for}
+use Rattle.spill_top.specs.Refusals.{refusal_for}
 use Rattle.spill_top.specs.Words.{Command}
 
 of-input : (told : Option (List ℕ)) (command : Command) (e : QueryErr) (refusal : Refusal) → refusal_for e ≡ Some refusal

@@ -1,8 +1,8 @@
-use Rattle.std.proofs.Common.{rules, ◌≡◌, ◌<◌, ◌≤◌, ◌+◌, ◌∷◌, [], ℕ, List, Some, None, length, drop, arith, sym, subst}
+use Rattle.std.proofs.Common.{rules, ◌≡◌, ◌∷◌, [], ℕ, List, Some, None, drop, subst}
 use Rattle.row_codec.specs.declared.values.Kind.TheVariants as kind
 use Rattle.row_codec.specs.RowReading.{row_at}
 use Rattle.query_run.specs.Groups.{key_of}
-use Rattle.query_run.proofs.Fronts.{Front, front_at}
+use Rattle.query_run.proofs.Fronts.{front_at}
 use Rattle.query_run.proofs.Halves.{Halves, all_counted, one_counted}
 use Rattle.query_run.proofs.counting.count_texts.Goals as goal
 

@@ -1,9 +1,9 @@
-use Rattle.std.proofs.Common.{rules, refl, ◌≡◌, ◌≤◌, ◌+◌, ◌⊎◌, Option, Some, List, ℕ, IfSome, map, arith}
+use Rattle.std.proofs.Common.{rules, refl, ◌≡◌, ◌⊎◌, Some}
 use Rattle.std.specs.Option.{option_map}
-use Rattle.csv_edge.specs.Rows.{Becomes, CountsBytes, FitsLimit, IsOfRecord, PassesLimit, bytes_allowed, records_allowed, rest_of}
+use Rattle.csv_edge.specs.Rows.{Becomes, CountsBytes, FitsLimit, IsOfRecord, PassesLimit, bytes_allowed, rest_of}
 use Rattle.csv_edge.specs.Typed.{nothing_more, refused_here, row_then}
 use Rattle.csv_edge.specs.declared.refusal.InputErr.TheVariants as input
-use Rattle.query_run.specs.Input.{IsRefusal, column_rows, most_bytes, most_records}
+use Rattle.query_run.specs.Input.{column_rows, most_bytes}
 use Rattle.query_run.specs.Inside.{Adds, IsTooLong}
 use Rattle.query_run.proofs.Reading.{ended_at, refusal_of_input, started, too_long_at, went_on}
 use Rattle.query_run.proofs.rows.keep_rows.Goals as goal

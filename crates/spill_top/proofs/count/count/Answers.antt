@@ -1,8 +1,7 @@
-use Rattle.std.proofs.Common.{◌≡◌, Option, Some, List, ℕ, IfSome, rules, sym, subst}
+use Rattle.std.proofs.Common.{◌≡◌, Some, IfSome, rules}
 use Rattle.outside.specs.Counts.{Rose}
 use Rattle.query_run.specs.Causes.{IsOfBytes, IsSourceFault}
 use Rattle.query_run.specs.Input.{IsRefusal}
-use Rattle.spill_top.specs.Headline.{IsCause}
 use Rattle.spill_top.specs.Refusals.{refusal_for}
 use Rattle.spill_top.specs.Words.{Command}
 use Rattle.spill_top.proofs.Causes.{cause_is}

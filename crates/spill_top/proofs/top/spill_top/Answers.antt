@@ -1,4 +1,4 @@
-use Rattle.std.proofs.Common.{◌≡◌, Option, Some, List, ℕ, map, string_bytes, rules, refl}
+use Rattle.std.proofs.Common.{◌≡◌, Some, map, string_bytes, rules}
 use Rattle.spill_top.specs.Headline.{IsCause}
 use Rattle.spill_top.specs.Words.{Command, command_of}
 use Rattle.spill_top.proofs.Causes.{fault_so, refuses_so, said, succeeds_so}

@@ -1,7 +1,4 @@
-use Rattle.std.proofs.Common.{rules, refl, ◌≡◌, ◌≤◌, ◌+◌, ◌∷◌, [], List, length}
-use Rattle.row_codec.specs.declared.values.Kind.TheVariants as kind
-use Rattle.row_codec.specs.declared.values.Value.{Value}
-use Rattle.row_codec.specs.Row.{kinds_of}
+use Rattle.std.proofs.Common.{rules, refl, ◌≤◌}
 use Rattle.query_run.specs.Input.{most_weight, weight_of}
 use Rattle.query_run.proofs.TextRows.{adds}
 use Rattle.query_run.proofs.rows.Kept.add.Goals as goal
