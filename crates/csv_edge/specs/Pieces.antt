@@ -10,10 +10,11 @@ use Rattle.csv_edge.specs.declared.scan.Scan.TheVariants.{Start, Plain, Quoted, 
 abbrev pub piece_bytes : ℕ
 piece_bytes = 1048576
 
--- whether a byte is a quote; whether it ends a field
+-- whether a byte is a quote
 abbrev pub is_quote : ℕ → Bool
 is_quote byte = byte == 34
 
+-- whether a byte outside quotes ends a field
 abbrev pub ends_field : ℕ → Bool
 ends_field byte = (byte == 44) || (byte == 10) || (byte == 13)
 

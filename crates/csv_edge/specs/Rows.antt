@@ -18,34 +18,39 @@ Rows S = RowsOver S (Option (Box Unread Global))
 abbrev pub IsOpen : {S : Type 0} → Rows S → Type 0
 IsOpen rows = IsSome rows.left
 
--- the rows that are still to come, where the bytes of the source are told
+-- the rows that an input still holds, if it is open and the bytes of its source are told
 abbrev pub rest_if : Option (Box Unread Global) → Option (List ℕ) → Option Typed
 rest_if None told = Some nothing_more
 rest_if (Some unread) told = option_map (typed_left unread.value) told
 
+-- the rows that are still to come, where the bytes of the source are told
 abbrev pub rest_of : {S : Type 0} → (S → Option (List ℕ)) → Rows S → Option Typed
 rest_of told rows = rest_if rows.left (told rows.src.now)
 
--- the kinds of the declared columns, in declared order
+-- the kinds of the declared columns of an input, if it is open
 abbrev pub kinds_if : Option (Box Unread Global) → List Kind
 kinds_if None = []
 kinds_if (Some unread) = map (λ column. column.kind) unread.value.columns
 
+-- the kinds of the declared columns, in declared order
 abbrev pub kinds_in : {S : Type 0} → Rows S → List Kind
 kinds_in rows = kinds_if rows.left
 
--- how many more records are allowed; how many more bytes
+-- how many more records an input may have, if it is open
 abbrev pub records_allowed_if : Option (Box Unread Global) → ℕ
 records_allowed_if None = 0
 records_allowed_if (Some unread) = unread.value.most - unread.value.number
 
+-- how many more records are allowed
 abbrev pub records_allowed : {S : Type 0} → Rows S → ℕ
 records_allowed rows = records_allowed_if rows.left
 
+-- how many more bytes an input may have, if it is open
 abbrev pub bytes_allowed_if : Option (Box Unread Global) → ℕ
 bytes_allowed_if None = 0
 bytes_allowed_if (Some unread) = unread.value.feed.taken.allowed
 
+-- how many more bytes are allowed
 abbrev pub bytes_allowed : {S : Type 0} → Rows S → ℕ
 bytes_allowed rows = bytes_allowed_if rows.left
 
@@ -61,10 +66,11 @@ CountsBytes allowed None allowed_now now = ⊤
 CountsBytes allowed (Some bytes) allowed_now None = ⊥
 CountsBytes allowed (Some bytes) allowed_now (Some left) = allowed + length left ≡ allowed_now + length bytes
 
--- told bytes are more than are allowed; they are no more
+-- told bytes are more than are allowed
 abbrev pub PassesLimit : ℕ → Option (List ℕ) → Type 0
 PassesLimit allowed told = IfSome told (λ bytes. allowed < length bytes)
 
+-- told bytes are no more than are allowed
 abbrev pub FitsLimit : ℕ → Option (List ℕ) → Type 0
 FitsLimit allowed told = IfSome told (λ bytes. length bytes ≤ allowed)
 

@@ -39,8 +39,18 @@ pub(crate) fn read_record(
     ensures end { IfOk result (λ found. found ≡ false → records_behind reader.old ≡ []) }
 {
     let Ok(found) = reader.read_byte_record(record) else {
-        *reader = reader_of(alloc, Vec::new(alloc));
+        let_go(alloc, reader);
         return Err(Memory);
     };
     Ok(found)
+}
+
+// Lets the piece go. This stands apart since a reader is large, and room for one more would be zeroed
+// at each record.
+#[cold]
+#[inline(never)]
+fn let_go(alloc: Global, reader: &mut PieceReader)
+    ensures { IsSound reader.new }
+{
+    *reader = reader_of(alloc, Vec::new(alloc));
 }

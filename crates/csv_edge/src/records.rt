@@ -94,7 +94,9 @@ impl Records {
     }
 
     // Reads the next piece in place of the one that was, or answers `false` where no byte is left.
-    // A piece may have no records.
+    // A piece may have no records. This stands apart, as the one that lets a reader go does.
+    #[cold]
+    #[inline(never)]
     fn next_piece<S: Source>(&mut self, alloc: Global, src: &mut S) -> Result<bool, InputErr>
         ensures records { OnOk result (Becomes (λ rs. rs) (option_map later_records (prepend_known self.old.taken.ahead (S.remaining src.old))) (records_told self.new (S.remaining src.new))) }
         ensures falls { IfOk result (λ more. more ≡ true → self.new.taken.allowed + length self.new.taken.ahead < self.old.taken.allowed + length self.old.taken.ahead) }

@@ -127,8 +127,10 @@ impl Ord for PathKey {
     #[inline]
     #[tactic(auto, using(crate::proofs::PathNumber::path_number_order))]
     fn cmp(&self, other: &PathKey) -> Ordering {
-        self.path
-            .cmp(&other.path)
-            .then(self.bytes.as_slice().cmp(other.bytes.as_slice()))
+        // Bytes are looked at only where the paths are one.
+        match self.path.cmp(&other.path) {
+            Ordering::Equal => self.bytes.as_slice().cmp(other.bytes.as_slice()),
+            apart => apart,
+        }
     }
 }
