@@ -23,7 +23,8 @@ use Rattle.pool_model.proofs.Going.{close_sound}
 use Rattle.pool_model.proofs.Opened.{opened_sound}
 use Rattle.pool_model.proofs.Pages.{counted_sound}
 use Rattle.pool_model.proofs.Events.{pin_here, pin_load, read_ok, read_failed, unpin, destroy, start_write, write_ok, write_failed, evict}
-use Rattle.pool_model.proofs.Blocks.{create_sound, alloc_sound, move_buffer_sound, free_sound, extract_sound}
+use Rattle.pool_model.proofs.Blocks.{create_sound, alloc_sound}
+use Rattle.pool_model.proofs.Loans.{move_buffer_sound, free_sound, extract_sound}
 
 pub own_live : (s : State) → IsSound s → (maker t : ℕ) → IsTrackerOf s maker t → IsLive s.trackers t
 own_live s sound maker t own = let below : IsBelow s maker t = is_below s sound.seated maker t own in is_there (get s.trackers t) below.tracker below.lives

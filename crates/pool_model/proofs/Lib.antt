@@ -10,6 +10,7 @@ pub mod PageSums
 pub mod Pages
 pub mod Events
 pub mod Blocks
+pub mod Loans
 pub mod Opened
 pub mod Kept
 pub mod Fronts
@@ -22,3 +23,9 @@ pub mod Windows
 pub mod Keeping
 pub mod Failures
 pub mod Noted
+pub mod Queues
+pub mod Times
+pub mod Waiting
+pub mod Arriving
+pub mod Lining
+pub mod Lined

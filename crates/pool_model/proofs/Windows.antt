@@ -5,7 +5,7 @@ use Rattle.std.proofs.lemmas.List.Folds.{find-append}
 use Rattle.pool_model.specs.declared.entry.Entry.{Entry}
 use Rattle.pool_model.specs.LookingBack.{since, Numbered, numbered, fails, is_for_own, forgets, first_failed}
 
-numbered_more : (k : ℕ) (h : List Entry) (e : Entry) → numbered k (h ++ e ∷ []) ≡ numbered k h ++ record { number = k + length h; entry = e } ∷ []
+pub numbered_more : (k : ℕ) (h : List Entry) (e : Entry) → numbered k (h ++ e ∷ []) ≡ numbered k h ++ record { number = k + length h; entry = e } ∷ []
 numbered_more k [] e = let same : k ≡ k + 0 = omega arith in ap (λ (n : ℕ). record { number = n; entry = e } ∷ []) same
 numbered_more k (d ∷ h) e =
     let same : (k + 1) + length h ≡ k + suc (length h) = omega arith in

@@ -15,3 +15,4 @@ pub mod Sound
 pub mod PoolLaws
 pub mod HistoryLaws
 pub mod Frames
+pub mod Orders

@@ -1,6 +1,7 @@
 //! Laws over every legal history: each is the contract of a function that does nothing.
 ghost use Rattle.pool_model.specs.PoolLaws.{LegalIsSound, LegalFitsTrackers, LegalFitsClients, LegalFitsMemory, LegalFindsRoom};
 ghost use Rattle.pool_model.specs.Frames.{EntriesLeaveRest};
+ghost use Rattle.pool_model.specs.Orders.{LegalKeepsQueues};
 ghost use Rattle.pool_model.specs.HistoryLaws.{LegalFronts, LegalGrows, LegalGrowsSo, StateRunsOn, LegalNamesAreNew, CountsEntries, LegalPagesAsMade, LegalPagesAreOwned, LegalKeepsFailures};
 
 /// Charges and the reservations of children fit each reservation, and each reservation fits its limit.
@@ -73,4 +74,11 @@ pub fn law_owners()
 #[tactic(auto, using(crate::proofs::Noted::legal_keeps_failures))]
 pub fn law_failures()
     ensures { LegalKeepsFailures }
+{}
+
+/// Pages wait in the state's lists as the history tells: a client's dirty ones in the order of their last unpin
+/// or failed write, and all clean ones in the order of their last write.
+#[tactic(auto, using(crate::proofs::Lined::legal_keeps_queues))]
+pub fn law_orders()
+    ensures { LegalKeepsQueues }
 {}

@@ -34,7 +34,7 @@ pub use entry::Entry;
 pub use event::Event;
 pub use fault_sum::FaultSum;
 pub use laws::{
-    law_clients, law_count, law_failures, law_fronts, law_made, law_names, law_owners, law_rest,
-    law_room, law_sound, law_trackers,
+    law_clients, law_count, law_failures, law_fronts, law_made, law_names, law_orders, law_owners,
+    law_rest, law_room, law_sound, law_trackers,
 };
 pub use maker::{FIRST_WRITER, MAX_SESSIONS, MAX_WRITERS, Maker};

@@ -63,20 +63,14 @@ impl PlainPool {
                 limit,
                 quota,
             } => {
-                let query = tracker.number();
                 let new = Tracker {
                     parent: Some(parent.number()),
                     limit: *limit,
                     reservation: 0,
                 };
-                self.trackers.insert(query, new)?;
+                self.trackers.insert(tracker.number(), new)?;
                 if let Some(quota) = quota {
-                    let session = Session {
-                        query,
-                        quota: *quota,
-                        asked: None,
-                    };
-                    self.sessions.insert(maker, session)?;
+                    self.open_session(maker, tracker.number(), *quota)?;
                 }
             }
             Event::CloseTracker { tracker } => {
@@ -91,17 +85,7 @@ impl PlainPool {
                 let t = tracker.number();
                 self.increase(t, bytes.saturating_sub(self.unused(t)));
             }
-            Event::Decrease { tracker, bytes } => {
-                let t = tracker.number();
-                let query = self.trackers.get(&t).and_then(|x| x.parent);
-                self.fall(t, *bytes);
-                if let Some(query) = query {
-                    self.fall(query, *bytes);
-                    if query != 0 {
-                        self.fall(0, *bytes);
-                    }
-                }
-            }
+            Event::Decrease { tracker, bytes } => self.decrease(tracker.number(), *bytes),
             Event::MoveReservation { from, to, bytes } => {
                 if self.is_client_of(maker, from.number()) {
                     self.fall(from.number(), *bytes);
@@ -129,6 +113,27 @@ impl PlainPool {
             .get(&to)
             .map_or(0, |x| x.limit.saturating_sub(x.reservation));
         self.owns(maker, to) && (!rises || bytes <= room)
+    }
+
+    fn open_session(&mut self, maker: u32, query: u32, quota: u32) -> Result<(), AllocError> {
+        let session = Session {
+            query,
+            quota,
+            asked: None,
+        };
+        self.sessions.insert(maker, session)?;
+        Ok(())
+    }
+
+    fn decrease(&mut self, t: u32, bytes: u64) {
+        let query = self.trackers.get(&t).and_then(|x| x.parent);
+        self.fall(t, bytes);
+        if let Some(query) = query {
+            self.fall(query, bytes);
+            if query != 0 {
+                self.fall(0, bytes);
+            }
+        }
     }
 
     fn increase(&mut self, t: u32, bytes: u64) {

@@ -103,7 +103,7 @@ fn a_load_that_fails_refuses_the_pin_and_the_next_pin_tries_again(
 }
 
 #[test]
-fn these_entries_may_not_follow(rt: HostRuntime) -> Result<(), Fail> {
+fn pages_move_in_their_turn_and_within_the_reservation(rt: HostRuntime) -> Result<(), Fail> {
     let alloc = rt.alloc();
     let pinned = Event::Evict { page: 1 };
     refuse(
@@ -151,6 +151,12 @@ fn these_entries_may_not_follow(rt: HostRuntime) -> Result<(), Fail> {
         "the newer clean page is evicted first",
     )?;
 
+    Ok(())
+}
+
+#[test]
+fn what_is_reserved_stays_and_what_is_enabled_is_not_refused(rt: HostRuntime) -> Result<(), Fail> {
+    let alloc = rt.alloc();
     let reserved = Event::CloseTracker {
         tracker: tracker(CLIENT),
     };
@@ -264,5 +270,6 @@ fn laws_are_calls_that_do_nothing(_rt: HostRuntime) {
     law_made();
     law_owners();
     law_failures();
+    law_orders();
     law_rest();
 }

@@ -12,6 +12,7 @@ same_kind Text Text = true
 same_kind Wide Wide = true
 same_kind a b = false
 
+-- the column has this name
 abbrev pub is_named : List ℕ → Column → Bool
 is_named name column = bytes_eq column.name name
 
@@ -21,17 +22,21 @@ named_from name place [] = None
 named_from name place (column ∷ columns) =
     if is_named name column then Some (place, column.kind) else named_from name (place + 1) columns
 
+-- the first column of this name: its place from 0, and its kind
 unfoldable pub named : List ℕ → List Column → Option (ℕ × Kind)
 named name columns = named_from name 0 columns
 
+-- the place that was found
 abbrev pub place_of : Option (ℕ × Kind) → ℕ
 place_of None = 0
 place_of (Some found) = found.0
 
+-- the place of the column of this name
 abbrev pub place_named : List ℕ → List Column → ℕ
 place_named name columns = place_of (named name columns)
 
 -- the columns of a side in a joined row, whose names begin with the side's
+-- a column whose name has this in front
 abbrev pub with_front : List ℕ → Column → Column
 with_front front column = record { name = front ++ column.name; kind = column.kind }
 

@@ -15,9 +15,11 @@ use Rattle.query_plan.specs.declared.draft.Draft.{Draft}
 use Rattle.query_plan.specs.Words.{cmp_of, agg_of, agg_over, column_of}
 use Rattle.query_plan.specs.Values.{under, number_at, text_at, list_at, text_of, list_of, table_of, scalar_of}
 
+-- a column
 abbrev pub column_in : Data → Column
 column_in value = unwrap_or (column_of (text_of value)) (record { name = []; kind = kind.Text })
 
+-- the texts of a list of two
 abbrev pub both : List Data → List ℕ × List ℕ
 both (left ∷ right ∷ []) = (text_of left, text_of right)
 both _ = ([], [])
@@ -25,9 +27,11 @@ both _ = ([], [])
 abbrev pub pair_in : Data → List ℕ × List ℕ
 pair_in value = both (list_of value)
 
+-- a comparison, by its sign
 abbrev pub cmp_in : Data → Cmp
 cmp_in value = unwrap_or (cmp_of (text_of value)) Eq
 
+-- a filter
 unfoldable pub filter_in : Members → FilterDraft
 filter_in entries = record {
   column = text_at (codes "column") entries;
@@ -35,12 +39,15 @@ filter_in entries = record {
   value = under (codes "value") entries scalar_of (Text []);
 }
 
+-- the name of an aggregate
 abbrev pub word_in : Data → AggWord
 word_in value = unwrap_or (agg_of (text_of value)) Count
 
+-- an aggregate
 unfoldable pub agg_in : Members → AggDraft
 agg_in entries = agg_over (under (codes "op") entries word_in Count) (text_at (codes "column") entries)
 
+-- a side
 unfoldable pub side_in : Members → SideDraft
 side_in entries = record {
   file = text_at (codes "file") entries;
@@ -48,6 +55,7 @@ side_in entries = record {
   filter = list_at (codes "filter") entries (λ value. filter_in (table_of value));
 }
 
+-- a query; an optional list that is not there is empty
 unfoldable pub query_in : Members → Draft
 query_in entries = record {
   page_blocks = number_at (codes "page_blocks") entries;

@@ -1,7 +1,7 @@
 -- What is wrong with a value of a document: the first fault in the order of reading, or nothing.
 -- A check judges a value that stands at a path. A path is keys with dots between them, where the
 -- members of a list are numbered from 1; the document itself stands at the empty path.
-use Rattle.std.specs.Prelude.{codes, ℕ, zero, ◌+◌, ℤ, String, Bool, true, false, not, ◌&&◌, ◌==◌, nat_le, List, [], ◌∷◌, ◌++◌, length, filter, fold, if◌then◌else◌, Option, Some, None, is_some, option_map, bytes_eq}
+use Rattle.std.specs.Prelude.{ℕ, ◌+◌, Bool, not, ◌&&◌, ◌==◌, nat_le, List, [], ◌∷◌, ◌++◌, length, filter, fold, if◌then◌else◌, Option, Some, None, is_some, option_map, bytes_eq}
 use Rattle.std.specs.Option.{option_or}
 use Rattle.std.specs.List.{list_any}
 use Rattle.std.specs.Ordering.{nat_cmp, is_lt}
@@ -14,6 +14,7 @@ use Rattle.query_plan.specs.declared.limit.Limit.{Limit}
 use Rattle.query_plan.specs.Words.{keeps}
 use Rattle.query_plan.specs.Values.{as_list, keys_in}
 
+-- what may be wrong with a value that stands at a path
 abbrev pub Check : Type 0
 Check = List ℕ → Data → Option PlanErr
 
@@ -97,9 +98,11 @@ abbrev pub found_fault : Bool → Check → List ℕ → Option Data → Option 
 found_fault must check path None = if must then Some (err.MissingKey path) else None
 found_fault must check path (Some value) = check path value
 
+-- the same of a key of a table at a path
 unfoldable pub key_fault : Bool → List ℕ → Check → List ℕ → Members → Option PlanErr
 key_fault must key check path entries = found_fault must check (key_in path key) (get_member key entries)
 
+-- a row of the table of keys
 abbrev pub row_fault : Row → List ℕ → Members → Option PlanErr
 row_fault row path entries = key_fault (row.presence.must entries) row.key (row.check entries) path entries
 
@@ -117,5 +120,6 @@ unfoldable pub table_with : List Row → (List ℕ → Members → Option PlanEr
 table_with rows more path value =
     of_part (as_table value) path (λ entries. option_or (table_fault rows path entries) (more path entries))
 
+-- a table of which nothing more is asked
 unfoldable pub table : List Row → Check
 table rows = table_with rows (λ path entries. None)

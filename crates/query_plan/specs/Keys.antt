@@ -14,6 +14,7 @@ use Rattle.query_plan.specs.Names.{names_fault}
 
 -- ---- tests of texts
 
+-- any text; one that is not empty; one that names an aggregate; one that is the sign of a comparison
 abbrev pub any : List ℕ → Bool
 any bytes = true
 
@@ -26,6 +27,7 @@ is_agg bytes = is_some (agg_of bytes)
 abbrev pub is_cmp : List ℕ → Bool
 is_cmp bytes = is_some (cmp_of bytes)
 
+-- a column, and a value to compare with
 abbrev pub column : Check
 column = readable (λ value. option_and_then column_of (as_str value))
 
@@ -34,6 +36,7 @@ scalar = readable as_scalar
 
 -- ---- the rows
 
+-- a row whose limit does not depend on other keys
 abbrev pub row : List ℕ → Presence → Check → Row
 row key presence check = record { key = key; presence = presence; check = λ _. check }
 

@@ -21,6 +21,7 @@ abbrev pub judged : Option (ℕ × Kind) → List ℕ → (Kind → Option PlanE
 judged None path judge = Some (err.UnknownColumn path)
 judged (Some found) path judge = judge found.1
 
+-- the same of the column of this name
 abbrev pub named_fault : List ℕ → List Column → List ℕ → (Kind → Option PlanErr) → Option PlanErr
 named_fault name columns path judge = judged (named name columns) path judge
 
@@ -48,6 +49,7 @@ if_among names name path = if list_any (λ other. bytes_eq other name) names the
 abbrev pub group_column_fault : List Column → List (List ℕ) → List ℕ → List ℕ → Option PlanErr
 group_column_fault columns earlier path name = named_fault name columns path (λ kind. if_among earlier name path)
 
+-- the member at a place of a group
 abbrev pub group_fault : List Column → List (List ℕ) → List ℕ → ℕ → List ℕ → Option PlanErr
 group_fault columns names path place name = group_column_fault columns (take place names) (member_in path place) name
 
@@ -55,12 +57,14 @@ group_fault columns names path place name = group_column_fault columns (take pla
 abbrev pub int_fault : List Column → List ℕ → List ℕ → Option PlanErr
 int_fault columns path name = named_fault name columns path (λ kind. unless_same kind Int path)
 
+-- the column of an aggregate, if it is of one
 abbrev pub agg_column_fault : List Column → List ℕ → AggDraft → Option PlanErr
 agg_column_fault columns path Count = None
 agg_column_fault columns path (Sum name) = int_fault columns path name
 agg_column_fault columns path (Min name) = int_fault columns path name
 agg_column_fault columns path (Max name) = int_fault columns path name
 
+-- the aggregate at a place of the list
 abbrev pub agg_fault : List Column → List ℕ → ℕ → AggDraft → Option PlanErr
 agg_fault columns path place agg = agg_column_fault columns (key_in (member_in path place) (codes "column")) agg
 
@@ -73,12 +77,14 @@ filter_fault columns path place filter =
 
 -- ---- all names of a query
 
+-- a side that stands at a path: its repeated columns; its filters
 unfoldable pub side_repeats : List ℕ → SideDraft → Option PlanErr
 side_repeats path side = first_from (repeat_fault side.columns (key_in path (codes "columns"))) 0 side.columns
 
 unfoldable pub side_filters : List ℕ → SideDraft → Option PlanErr
 side_filters path side = first_from (filter_fault side.columns (key_in path (codes "filter"))) 0 side.filter
 
+-- the fault of the right side, where there is one
 abbrev pub on_right : (SideDraft → Option PlanErr) → Option SideDraft → Option PlanErr
 on_right judge None = None
 on_right judge (Some side) = judge side
@@ -95,8 +101,8 @@ pairs_fault path draft =
     first_from (on_fault draft.left.columns (right_columns draft.right) (key_in path (codes "on"))) 0 draft.on
 
 -- the columns to group by, then those of the aggregates
-unfoldable pub row_fault : List ℕ → List Column → Draft → Option PlanErr
-row_fault path columns draft =
+unfoldable pub grouped_fault : List ℕ → List Column → Draft → Option PlanErr
+grouped_fault path columns draft =
     option_or (first_from (group_fault columns draft.group (key_in path (codes "group"))) 0 draft.group)
     (first_from (agg_fault columns (key_in path (codes "agg"))) 0 draft.aggs)
 
@@ -111,4 +117,4 @@ unfoldable pub names_fault : List ℕ → Draft → Option PlanErr
 names_fault path draft =
     option_or (repeats_fault path draft)
     (option_or (pairs_fault path draft)
-    (option_or (row_fault path (row_columns draft.left draft.right) draft) (filters_fault path draft)))
+    (option_or (grouped_fault path (row_columns draft.left draft.right) draft) (filters_fault path draft)))

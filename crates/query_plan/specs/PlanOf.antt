@@ -16,16 +16,18 @@ use Rattle.query_plan.specs.Faults.{key_in, member_in, first_from, table_fault}
 use Rattle.query_plan.specs.Resolved.{query_of}
 use Rattle.query_plan.specs.Keys.{top_rows}
 
--- the query writes the file; the query reads it
+-- the query writes the file
 abbrev pub writes : List ℕ → Query → Bool
 writes name query = bytes_eq query.output name
 
-abbrev pub is_right : List ℕ → Option SidePlan → Bool
-is_right name None = false
-is_right name (Some side) = bytes_eq side.file name
+-- the right side reads the file
+abbrev pub reads_right : List ℕ → Option SidePlan → Bool
+reads_right name None = false
+reads_right name (Some side) = bytes_eq side.file name
 
+-- the query reads the file
 abbrev pub reads : List ℕ → Query → Bool
-reads name query = bytes_eq query.left.file name || is_right name query.right
+reads name query = bytes_eq query.left.file name || reads_right name query.right
 
 -- an output that is an earlier output, or a file of any query
 abbrev pub output_fault : List Query → ℕ → Query → Option PlanErr
@@ -54,6 +56,7 @@ plan_fault slots entries =
     option_or (table_fault top_rows [] entries)
     (option_or (first_from (output_fault queries) 0 queries) (quota_fault slots queries))
 
+-- the plan, or else its fault
 abbrev pub plan_or : Option PlanErr → Plan → Result Plan PlanErr
 plan_or None plan = Ok plan
 plan_or (Some fault) plan = Err fault
@@ -62,6 +65,7 @@ plan_or (Some fault) plan = Err fault
 abbrev pub document_of : List ℕ → Option Members
 document_of bytes = if is_utf8 bytes then parse_document bytes else None
 
+-- the plan of a document that has this table, or has none
 abbrev pub plan_of_table : ℕ → Option Members → Result Plan PlanErr
 plan_of_table slots None = Err Syntax
 plan_of_table slots (Some entries) = plan_or (plan_fault slots entries) (plan_in entries)

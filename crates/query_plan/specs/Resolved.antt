@@ -13,12 +13,15 @@ use Rattle.query_plan.specs.declared.plan.Query.{Query}
 use Rattle.query_plan.specs.declared.plan.SidePlan.{SidePlan}
 use Rattle.query_plan.specs.Columns.{place_named, row_columns, right_columns}
 
+-- the places of a pair of columns
 abbrev pub pair_on : List Column → List Column → List ℕ × List ℕ → ℕ × ℕ
 pair_on left right pair = (place_named pair.0 left, place_named pair.1 right)
 
+-- the place of a column to group by
 abbrev pub group_on : List Column → List ℕ → ℕ
 group_on columns name = place_named name columns
 
+-- an aggregate, and a comparison, over the places of these columns
 abbrev pub agg_on : List Column → AggDraft → Agg
 agg_on columns Count = agg.Count
 agg_on columns (Sum name) = agg.Sum (place_named name columns)
@@ -29,6 +32,7 @@ abbrev pub pred_on : List Column → FilterDraft → Pred
 pred_on columns filter =
     record { column = place_named filter.column columns; op = filter.op; value = filter.value }
 
+-- a side, and a query
 abbrev pub side_of : SideDraft → SidePlan
 side_of side =
     record { file = side.file; columns = side.columns; preds = map (pred_on side.columns) side.filter }

@@ -10,6 +10,7 @@ abbrev pub list_in : Items → List Data
 list_in no_items = []
 list_in (item value items) = value ∷ list_in items
 
+-- a value as a list
 abbrev pub as_list : Data → Option (List Data)
 as_list value = option_map list_in (as_array value)
 
@@ -24,6 +25,7 @@ as_scalar (integer z) = Some (Int z)
 as_scalar (string text) = Some (Text text)
 as_scalar _ = None
 
+-- a number that is not negative
 abbrev pub whole : ℤ → ℕ
 whole (pos n) = n
 whole (negsuc n) = 0

@@ -2,7 +2,7 @@
 
 ghost use Rattle.std.specs.Prelude.{◌≡◌, map, IfOk};
 ghost use Rattle.query_plan.specs.Columns.{row_columns};
-ghost use Rattle.query_plan.specs.Names.{row_fault};
+ghost use Rattle.query_plan.specs.Names.{grouped_fault};
 ghost use Rattle.query_plan.specs.Resolved.{group_on, agg_on};
 ghost use Rattle.query_plan.specs.Told.{Tells, Clears};
 
@@ -23,8 +23,8 @@ pub(crate) fn resolve_row(
     path: &[u8],
     draft: &Draft,
 ) -> Result<(Listed<usize>, Listed<Agg>), PlanErr>
-    ensures tells { Tells result (row_fault path.now (row_columns draft.now.left draft.now.right) draft.now) }
-    ensures clears { Clears result (row_fault path.now (row_columns draft.now.left draft.now.right) draft.now) }
+    ensures tells { Tells result (grouped_fault path.now (row_columns draft.now.left draft.now.right) draft.now) }
+    ensures clears { Clears result (grouped_fault path.now (row_columns draft.now.left draft.now.right) draft.now) }
     ensures group { IfOk result (λ it. it.0 ≡ map (group_on (row_columns draft.now.left draft.now.right)) draft.now.group) }
     ensures aggs { IfOk result (λ it. it.1 ≡ map (agg_on (row_columns draft.now.left draft.now.right)) draft.now.aggs) }
 {
@@ -38,15 +38,15 @@ pub(crate) fn resolve_row(
     resolve_over(alloc, path, columns.as_slice(), draft)
 }
 
-#[tactic(auto, unfolding(crate::specs::Names::row_fault))]
+#[tactic(auto, unfolding(crate::specs::Names::grouped_fault))]
 fn resolve_over(
     alloc: Global,
     path: &[u8],
     columns: &[Column],
     draft: &Draft,
 ) -> Result<(Listed<usize>, Listed<Agg>), PlanErr>
-    ensures tells { Tells result (row_fault path.now columns.now draft.now) }
-    ensures clears { Clears result (row_fault path.now columns.now draft.now) }
+    ensures tells { Tells result (grouped_fault path.now columns.now draft.now) }
+    ensures clears { Clears result (grouped_fault path.now columns.now draft.now) }
     ensures group { IfOk result (λ it. it.0 ≡ map (group_on columns.now) draft.now.group) }
     ensures aggs { IfOk result (λ it. it.1 ≡ map (agg_on columns.now) draft.now.aggs) }
 {

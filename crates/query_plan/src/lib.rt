@@ -1,6 +1,8 @@
 //! Plans: what queries a document asks for, or the first thing that is wrong with it.
 //!
-//! Model: a plan is numbers, names and lists of numbers; its text is a TOML document.
+//! Model: a document is the table that `toml` reads from its bytes. Each table in it is read by the
+//! rows of one table of keys, in their order, and the first fault is told with the path of its key.
+//! A plan is what the document says: numbers, names, and columns by their places.
 #![tactic(auto)]
 
 mod aggregated;

@@ -1,7 +1,6 @@
 // What names of columns stand for: pairs, aggregates and filters.
 
-ghost use Rattle.std.specs.Prelude.{◌≡◌, ◌+◌, ◌<◌, ◌^◌, IfOk, codes};
-ghost use Rattle.query_plan.specs.Faults.{key_in, member_in};
+ghost use Rattle.std.specs.Prelude.{◌≡◌, IfOk};
 ghost use Rattle.query_plan.specs.Columns.{place_named};
 ghost use Rattle.query_plan.specs.Names.{on_fault, int_fault, agg_fault, filter_fault};
 ghost use Rattle.query_plan.specs.Resolved.{pair_on, agg_on, pred_on};

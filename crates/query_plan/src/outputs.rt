@@ -1,6 +1,6 @@
 // What the queries of a plan share: files, and slots.
 
-ghost use Rattle.std.specs.Prelude.{◌≡◌, ◌≤◌, length, codes};
+ghost use Rattle.std.specs.Prelude.{◌≡◌, ◌≤◌, length};
 ghost use Rattle.std.specs.List.{list_any};
 ghost use Rattle.query_plan.specs.Faults.{first_from};
 ghost use Rattle.query_plan.specs.PlanOf.{output_fault, quota_fault, writes, reads};

@@ -1,8 +1,7 @@
 // Queries: their keys, and then the columns that they name.
 
 ghost use Rattle.std.specs.Prelude.{◌≡◌, ⊤, IfOk};
-ghost use Rattle.toml.specs.View.{table_view, view};
-ghost use Rattle.query_plan.specs.Values.{table_of};
+ghost use Rattle.toml.specs.View.{table_view};
 ghost use Rattle.query_plan.specs.Drafts.{query_in, pair_in};
 ghost use Rattle.query_plan.specs.Faults.{table_fault, list_of, text};
 ghost use Rattle.query_plan.specs.Keys.{query_rows, any};

@@ -1,31 +1,5 @@
-use super::{PlanErr, fault, least, read_plan};
+use super::{PlanErr, fault, read_plan};
 use std::test::Fail;
-
-#[test]
-fn a_document_that_groups_and_one_that_joins_are_read(rt: HostRuntime) -> Result<(), Fail> {
-    let groups = "block_len = 256\nblocks = 64\nwriters = 0\n[[query]]\npage_blocks = 1
-limit = 16384\nquota = 700\noutput = \"out.csv\"\ngroup = [\"k\"]
-agg = [{op = \"count\"}, {op = \"sum\", column = \"v\"}]\n[query.left]\nfile = \"in.csv\"
-columns = [\"k:text\", \"v:int\"]\n";
-    let joins = "block_len = 64\nblocks = 32\nwriters = 1\n[[query]]\npage_blocks = 1
-limit = 2048\nquota = 700\noutput = \"out.csv\"\non = [[\"k\", \"k\"]]\n[query.left]
-file = \"l.csv\"\ncolumns = [\"k:int\", \"x:text\"]\n[query.right]\nfile = \"r.csv\"
-columns = [\"k:int\", \"y:text\"]\n";
-    let both = "block_len = 8192\nblocks = 8192\nwriters = 2\n[[query]]\npage_blocks = 8
-limit = 67108864\nquota = 131072\noutput = \"out.csv\"\non = [[\"cust\", \"id\"]]
-group = [\"right.region\"]\nagg = [{op = \"count\"}, {op = \"sum\", column = \"left.amount\"}]
-[query.left]\nfile = \"orders.csv\"\ncolumns = [\"cust:int\", \"amount:int\"]\n[query.right]
-file = \"customers.csv\"\ncolumns = [\"id:int\", \"region:text\"]\n";
-    for (text, bytes) in [(groups, 5120), (joins, 1280), (both, 2621440)] {
-        let plan = read_plan(rt.alloc(), text.as_bytes(), 131072)?;
-        for query in plan.queries.as_slice() {
-            if query.page_blocks <= 256 && plan.block_len <= 65536 {
-                assert_eq!(rt; least(query, plan.block_len), bytes);
-            }
-        }
-    }
-    Ok(())
-}
 
 #[test]
 fn outputs_and_quotas_are_looked_at_last(rt: HostRuntime) -> Result<(), Fail> {
