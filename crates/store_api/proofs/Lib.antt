@@ -1,0 +1,16 @@
+pub mod Puts
+pub mod Totals
+pub mod Clients
+pub mod Pieces
+pub mod Keeping
+pub mod Standing
+pub mod PieceOf
+pub mod Turns
+pub mod Coming
+pub mod PageTurns
+pub mod PageEnds
+pub mod LoanTurns
+pub mod Reserving
+pub mod Growing
+pub mod Answered
+pub mod Untouched

@@ -1,0 +1,23 @@
+-- A call that leaves a store alone leaves what all its clients have.
+use Rattle.std.proofs.Common.{ℕ, Option, refl}
+use Rattle.store_api.specs.Holdings.{Holdings}
+use Rattle.store_api.specs.Emitters.{SameFor, OthersStay}
+
+same_for : (t : ℕ) (h : Holdings) → SameFor t h h
+same_for t h =
+    record {
+      account = refl;
+      pages = λ q page own. (λ is. is, λ is. is);
+      loans = λ q loan own. (λ is. is, λ is. is);
+    }
+
+pub others_stay : (client : Option ℕ) (h : Holdings) → OthersStay client h h
+others_stay client h =
+    record {
+      block_len = refl;
+      session = refl;
+      query = refl;
+      limit = refl;
+      live_clients = refl;
+      others = λ t apart. same_for t h;
+    }

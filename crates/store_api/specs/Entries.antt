@@ -1,0 +1,57 @@
+-- The entries that a call of a store makes, the oldest first. Those of other makers may stand between them in
+-- the pool's history; a store's trail has its own alone.
+use Rattle.std.specs.Prelude.{◌≡◌, ◌⊎◌, ℕ, List, [], ◌∷◌, ◌++◌, map, All, ⊤}
+use Rattle.reservation_tree.specs.declared.errors.PoolErr.{PoolErr}
+use Rattle.reservation_tree.specs.declared.errors.PoolErr.TheVariants.{WriteFault, ReadFault, NamesSpent}
+use Rattle.pool_model.specs.declared.call.Call.{Call}
+use Rattle.pool_model.specs.declared.call.Call.TheVariants as call
+use Rattle.pool_model.specs.declared.event.Event.{Event}
+use Rattle.pool_model.specs.declared.event.Event.TheVariants.{Ask, PinHere, PinLoad, ReadOk, ReadFailed, StartWrite, WriteOk, WriteFailed, Evict, Refused}
+use Rattle.pool_model.specs.declared.entry.Entry.{Entry}
+use Rattle.store_api.specs.Signs.{Signs, Entered}
+
+-- entries of one maker
+abbrev pub by : ℕ → List Event → List Entry
+by maker events = map (λ e. record { maker = maker; event = e }) events
+
+-- writes that were begun and ended, each before the next
+abbrev pub AreWrites : List Event → Type 0
+AreWrites [] = ⊤
+AreWrites (StartWrite p ∷ WriteOk q ∷ rest) = (q ≡ p) × AreWrites rest
+AreWrites (StartWrite p ∷ WriteFailed q before after ∷ rest) = (q ≡ p) × AreWrites rest
+AreWrites _ = ⊥
+
+abbrev pub IsEvict : Event → Type 0
+IsEvict (Evict p) = ⊤
+IsEvict _ = ⊥
+
+-- the call asked, wrote what it had to, and ended so
+abbrev pub IsAsked : List Event → List Event → Type 0
+IsAsked last events = (writes : List Event) × AreWrites writes × (events ≡ Ask ∷ (writes ++ last))
+
+-- the same, and clean pages made room before the end
+abbrev pub IsTaken : List Event → List Event → Type 0
+IsTaken last events = (evicts : List Event) × All IsEvict evicts × IsAsked (evicts ++ last) events
+
+-- a pin found the page in memory, or loaded it
+abbrev pub IsPin : ℕ → List Event → Type 0
+IsPin p events = IsAsked (PinHere p ∷ []) events ⊎ IsTaken (PinLoad p ∷ ReadOk p ∷ []) events
+
+-- a load failed
+abbrev pub IsFailedLoad : ℕ → ℕ → List Event → Type 0
+IsFailedLoad p entry events = (before after : ℕ) × IsTaken (PinLoad p ∷ ReadFailed p before after ∷ Refused (call.Pin p) entry ∷ []) events
+
+-- a call was refused, with this error: `Memory` comes before all else, and names are looked at last
+abbrev pub IsRefusal : Call → PoolErr → List Event → Type 0
+IsRefusal what (WriteFault entry) events = IsAsked (Refused what entry ∷ []) events
+IsRefusal (call.Pin p) (ReadFault entry) events = IsFailedLoad p entry events
+IsRefusal what NamesSpent events = IsAsked [] events
+IsRefusal what _ events = events ≡ []
+
+-- the trail grew by this maker's entries, and of their events this holds
+abbrev pub Made : ℕ → (List Event → Type 0) → Signs → Signs → Type 0
+Made maker P old new = Entered (λ more. (events : List Event) × (more ≡ by maker events) × P events) old.trail new.trail
+
+-- the trail grew by these
+abbrev pub MadeThese : ℕ → List Event → Signs → Signs → Type 0
+MadeThese maker events old new = Made maker (λ made. made ≡ events) old new

@@ -1,0 +1,13 @@
+pub mod Tokens
+pub mod Holdings
+pub mod Changes
+pub mod Signs
+pub mod Entries
+pub mod Refusals
+pub mod Conditions
+pub mod Alike
+pub mod Shapes
+pub mod Emitters
+pub mod MemAccounts
+pub mod MemPieces
+pub mod MemStore

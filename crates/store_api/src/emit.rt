@@ -1,0 +1,51 @@
+//! Who takes an operator's rows.
+ghost use Rattle.std.specs.Prelude.{◌≡◌, ◌⊎◌, ◌↔◌, ℕ, ◌≤◌, [], ◌∷◌, ◌++◌, List, Option, IfErr, OnOk, OnErr};
+ghost use Rattle.row_codec.specs.declared.values.Value.{Value};
+ghost use Rattle.store_api.specs.Holdings.{Holdings};
+ghost use Rattle.store_api.specs.Signs.{Grows};
+ghost use Rattle.store_api.specs.Emitters.{SameOwn, OthersStay, HasClient, CameOf};
+
+use crate::op_err::OpErr;
+use crate::store::Store;
+use row_codec::Value;
+
+/// Takes rows, one at a time. It may keep them in pages of the same store, under a client of its own.
+pub trait Emit<St: Store> {
+    // The rows that it took, the first one first, over what the store holds. Where there are such rows the
+    // emitter stands over that store.
+    ghost took: { Self → Holdings → List (List Value) → Type 0 };
+
+    // The rows that may be given. This never changes.
+    ghost admits: { Self → List Value → Type 0 };
+
+    // Its client, where it has one. This never changes.
+    ghost client: { Self → Option ℕ };
+
+    // The faults so far of what it hands rows to.
+    ghost faults: { Self → ℕ };
+
+    /// Takes the row.
+    ///
+    /// Whatever it answers, nothing of another client changed. An error leaves open whether the row was taken.
+    ///
+    /// # Errors
+    ///
+    /// `Pool`: the store answered so in this call, or there was no memory. `Sink`: a fault came.
+    fn row(&mut self, store: &mut St, row: &[Value]) -> Result<(), OpErr>
+        requires admits { admits self.old row.now }
+        requires client { HasClient (client self.old) (St.holds store.old) }
+        requires stands { (rows : List (List Value)) × took self.old (St.holds store.old) rows }
+        ensures ok { OnOk result ((rows : List (List Value)) → took self.old (St.holds store.old) rows → took self.new (St.holds store.new) (rows ++ row.now ∷ [])) }
+        ensures err { OnErr result ((rows : List (List Value)) → took self.old (St.holds store.old) rows → took self.new (St.holds store.new) rows ⊎ took self.new (St.holds store.new) (rows ++ row.now ∷ [])) }
+        ensures cause { IfErr result (CameOf (faults self.old) (faults self.new) (St.signs store.old) (St.signs store.new)) }
+
+        ensures admits_kept { (other : List Value) → admits self.old other ↔ admits self.new other }
+        ensures client_kept { client self.new ≡ client self.old }
+        ensures client_lives { HasClient (client self.old) (St.holds store.new) }
+        ensures others { OthersStay (client self.old) (St.holds store.old) (St.holds store.new) }
+        ensures never_falls { faults self.old ≤ faults self.new }
+        ensures grows { Grows (St.signs store.old) (St.signs store.new) };
+
+    // It asks of a store nothing but the block length and what is its client's.
+    ghost asks_own: { (e : Self) (old new : Holdings) (rows : List (List Value)) → SameOwn (client e) old new → took e old rows → took e new rows };
+}

@@ -1,0 +1,186 @@
+//! A walk over every call of a store, for the tests of each store. It is proved over the trait alone.
+ghost use Rattle.std.specs.Prelude.{◌≡◌, ◌≢◌, ℕ, ◌≤◌, IfOk, OnOk, length, slice_index};
+ghost use Rattle.store_api.specs.Holdings.{unused_of, loan_len};
+ghost use Rattle.store_api.specs.Changes.{after_free};
+ghost use Rattle.store_api.specs.Conditions.{IsClient, IsLoan};
+ghost use Rattle.store_api.specs.Alike.{Alike, AlikeButClients};
+
+use crate::store::Store;
+use crate::tokens::{Client, Loan};
+use reservation_tree::PoolErr;
+use std::alloc::Global;
+
+// A page is left with a byte and shows it again; then it ends.
+fn page_round<St: Store>(store: &mut St, alloc: Global, c: &Client, byte: u8) -> Result<u8, PoolErr>
+    requires client { IsClient c.now (St.holds store.old) }
+    requires unused { (St.holds store.old).block_len ≤ unused_of c.now.tracker (St.holds store.old) }
+    requires block { 1 ≤ (St.holds store.old).block_len }
+    ensures ok { IfOk result (λ shown. shown ≡ byte) }
+    ensures same { Alike (St.holds store.old) (St.holds store.new) }
+{
+    let (page, mut buf) = store.create(alloc, c, 1)?;
+    buf.write_at(0, &[byte]);
+    if let Err((buf, e)) = store.unpin(&page, buf) {
+        store.destroy(page, Some(buf));
+        return Err(e);
+    }
+    match store.pin(&page) {
+        Ok(buf) => {
+            let mut shown = [0];
+            buf.read_at(0, &mut shown);
+            store.destroy(page, Some(buf));
+            Ok(shown[0])
+        }
+        Err(e) => {
+            store.destroy(page, None);
+            Err(e)
+        }
+    }
+}
+
+// The loan is charged to the other client, shows its first byte, and is freed.
+fn move_round<St: Store>(store: &mut St, loan: Loan, other: &Client) -> Result<u8, PoolErr>
+    requires loan { IsLoan loan (St.holds store.old) }
+    requires other { IsClient other.now (St.holds store.old) }
+    requires unused { loan_len loan.number (St.holds store.old) ≤ unused_of other.now.tracker (St.holds store.old) }
+    requires byte { 1 ≤ length loan.buf.bytes }
+    ensures ok { IfOk result (λ shown. shown ≡ slice_index loan.buf.bytes 0) }
+    ensures freed { Alike (after_free loan.number (St.holds store.old)) (St.holds store.new) }
+{
+    match store.move_buffer(loan, other) {
+        Ok(loan) => {
+            let mut shown = [0];
+            loan.buf().read_at(0, &mut shown);
+            store.free(loan);
+            Ok(shown[0])
+        }
+        Err((loan, e)) => {
+            store.free(loan);
+            Err(e)
+        }
+    }
+}
+
+// A page's buffer becomes a loan, is charged to the other client, and is freed.
+fn loan_round<St: Store>(
+    store: &mut St,
+    alloc: Global,
+    c: &Client,
+    other: &Client,
+    byte: u8,
+) -> Result<u8, PoolErr>
+    requires client { IsClient c.now (St.holds store.old) }
+    requires other { IsClient other.now (St.holds store.old) }
+    requires apart { c.now.tracker ≢ other.now.tracker }
+    requires unused { (St.holds store.old).block_len ≤ unused_of c.now.tracker (St.holds store.old) }
+    requires unused_other { (St.holds store.old).block_len ≤ unused_of other.now.tracker (St.holds store.old) }
+    requires block { 1 ≤ (St.holds store.old).block_len }
+    ensures ok { IfOk result (λ shown. shown ≡ byte) }
+    ensures same { Alike (St.holds store.old) (St.holds store.new) }
+{
+    let (page, mut buf) = store.create(alloc, c, 1)?;
+    buf.write_at(0, &[byte]);
+    let loan = store.extract(page, buf);
+    move_round(store, loan, other)
+}
+
+// A loan of zeros comes and goes.
+fn alloc_round<St: Store>(store: &mut St, alloc: Global, c: &Client) -> Result<u8, PoolErr>
+    requires client { IsClient c.now (St.holds store.old) }
+    requires unused { (St.holds store.old).block_len ≤ unused_of c.now.tracker (St.holds store.old) }
+    requires block { 1 ≤ (St.holds store.old).block_len }
+    ensures ok { IfOk result (λ shown. shown ≡ 0) }
+    ensures same { Alike (St.holds store.old) (St.holds store.new) }
+{
+    let loan = store.alloc(alloc, c, 1)?;
+    let mut shown = [1];
+    loan.buf().read_at(0, &mut shown);
+    store.free(loan);
+    Ok(shown[0])
+}
+
+// Both clients get a block's length of reservation, by two blocks of the first; the rest is given back.
+pub(crate) fn reserve_round<St: Store>(
+    store: &mut St,
+    c: &Client,
+    other: &Client,
+) -> Result<(), PoolErr>
+    requires client { IsClient c.now (St.holds store.old) }
+    requires other { IsClient other.now (St.holds store.old) }
+    requires apart { c.now.tracker ≢ other.now.tracker }
+    requires short { (St.holds store.old).block_len ≤ 65536 }
+    ensures rest { AlikeButClients (St.holds store.old) (St.holds store.new) }
+    ensures others { (q : ℕ) → q ≢ c.now.tracker → q ≢ other.now.tracker → (St.holds store.new).clients q ≡ (St.holds store.old).clients q }
+    ensures client { IsClient c.now (St.holds store.new) }
+    ensures other { IsClient other.now (St.holds store.new) }
+    ensures unused { OnOk result ((St.holds store.old).block_len ≤ unused_of c.now.tracker (St.holds store.new)) }
+    ensures unused_other { OnOk result ((St.holds store.old).block_len ≤ unused_of other.now.tracker (St.holds store.new)) }
+{
+    let len = u64::from(store.block_len());
+    store.reserve(c, 3 * len)?;
+    store.move_reservation(c, other, len)?;
+    store.give_back(c, len)?;
+    store.reserve_to_fit(other, len)
+}
+
+/// What a walk saw: the bytes of a page that was pinned again, of a loan that was moved, and of a new loan.
+#[derive(Clone, Copy, Debug, PartialEq, Eq)]
+pub struct Walked {
+    pub pinned: u8,
+    pub moved: u8,
+    pub fresh: u8,
+}
+
+// Every call that clients make, by two of them.
+fn rounds<St: Store>(
+    store: &mut St,
+    alloc: Global,
+    c: &Client,
+    other: &Client,
+) -> Result<Walked, PoolErr>
+    requires client { IsClient c.now (St.holds store.old) }
+    requires other { IsClient other.now (St.holds store.old) }
+    requires apart { c.now.tracker ≢ other.now.tracker }
+    requires short { (St.holds store.old).block_len ≤ 65536 }
+    requires block { 1 ≤ (St.holds store.old).block_len }
+    ensures ok { IfOk result (λ walked. walked ≡ record { pinned = 7; moved = 9; fresh = 0 }) }
+    ensures rest { AlikeButClients (St.holds store.old) (St.holds store.new) }
+    ensures others { (q : ℕ) → q ≢ c.now.tracker → q ≢ other.now.tracker → (St.holds store.new).clients q ≡ (St.holds store.old).clients q }
+    ensures client { IsClient c.now (St.holds store.new) }
+    ensures other { IsClient other.now (St.holds store.new) }
+{
+    reserve_round(store, c, other)?;
+    let pinned = page_round(store, alloc, c, 7)?;
+    let moved = loan_round(store, alloc, c, other, 9)?;
+    let fresh = alloc_round(store, alloc, c)?;
+    Ok(Walked {
+        pinned,
+        moved,
+        fresh,
+    })
+}
+
+/// Calls each call of a store at least once, and leaves the store as it was but for the query's reservation.
+///
+/// # Errors
+///
+/// What the store answered. It is left so then too.
+pub fn walk<St: Store>(store: &mut St, alloc: Global) -> Result<Walked, PoolErr>
+    requires short { (St.holds store.old).block_len ≤ 65536 }
+    requires block { 1 ≤ (St.holds store.old).block_len }
+    ensures ok { IfOk result (λ walked. walked ≡ record { pinned = 7; moved = 9; fresh = 0 }) }
+    ensures rest { AlikeButClients (St.holds store.old) (St.holds store.new) }
+    ensures clients { (q : ℕ) → (St.holds store.new).clients q ≡ (St.holds store.old).clients q }
+{
+    let c = store.add_client(u64::MAX)?;
+    let walked = match store.add_client(u64::MAX) {
+        Ok(other) => {
+            let walked = rounds(store, alloc, &c, &other);
+            store.end_client(other);
+            walked
+        }
+        Err(e) => Err(e),
+    };
+    store.end_client(c);
+    walked
+}

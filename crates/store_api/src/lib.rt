@@ -1,0 +1,30 @@
+//! One query's face of the pool: the trait that every operator is generic over.
+//!
+//! Model: what a store holds (its query's tracker, its clients, its live pages and loans) changes by an exact
+//! equation in every call; what it has shown (failures, refused unpins, spent names, its trail) only grows.
+//! A client is charged for its pinned pages and its loans, and what of its reservation isn't charged is unused.
+#![tactic(auto)]
+
+mod emit;
+mod every_call;
+mod listed;
+mod mem_store;
+mod op_err;
+#[cfg(test)]
+mod row_count;
+mod shapes;
+mod store;
+mod tokens;
+
+pub use emit::Emit;
+pub use every_call::{Walked, walk};
+pub use listed::Listed;
+pub use mem_store::{MAX_CLIENTS, MemStore};
+pub use op_err::OpErr;
+pub use row_codec::{Agg, Column, Kind, Value};
+pub use shapes::{JoinShape, Shape};
+pub use store::Store;
+pub use tokens::{Client, Loan, Page};
+
+#[cfg(test)]
+mod tests;

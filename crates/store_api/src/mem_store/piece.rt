@@ -1,0 +1,23 @@
+//! What a store in memory keeps of a page or a loan.
+
+use block_arena::Buf;
+use reservation_tree::TrackerId;
+
+/// How a piece stands.
+#[derive(Drop)]
+pub(crate) enum Stand {
+    /// A page rests, with these bytes.
+    Resting(Buf),
+    /// A page is pinned: its client has the buffer.
+    Pinned,
+    /// A loan: its holder has the buffer.
+    Lent,
+}
+
+/// A page or a loan, so many blocks long.
+#[derive(Drop)]
+pub(crate) struct Piece {
+    pub(crate) client: TrackerId,
+    pub(crate) blocks: u32,
+    pub(crate) stand: Stand,
+}

@@ -1,0 +1,37 @@
+//! An emitter that counts its rows, for tests.
+ghost use Rattle.std.specs.Prelude.{◌≡◌, length, None, ⊤};
+
+use crate::emit::Emit;
+use crate::op_err::OpErr;
+use crate::store::Store;
+use reservation_tree::PoolErr;
+use row_codec::Value;
+
+/// How many rows it took. It has no client.
+#[derive(Clone, Copy, Debug, PartialEq, Eq)]
+pub(crate) struct RowCount {
+    pub(crate) rows: u64,
+}
+
+impl<St: Store> Emit<St> for RowCount {
+    ghost took = { λ e h rows. length rows ≡ e.rows };
+
+    ghost admits = { λ e row. ⊤ };
+
+    ghost client = { λ e. None };
+
+    ghost faults = { λ e. 0 };
+
+    #[tactic(auto, using(crate::proofs::Growing::grows_refl, crate::proofs::Untouched::others_stay))]
+    fn row(&mut self, _store: &mut St, _row: &[Value]) -> Result<(), OpErr> {
+        match self.rows.checked_add(1) {
+            Some(rows) => {
+                self.rows = rows;
+                Ok(())
+            }
+            None => Err(OpErr::Pool(PoolErr::Memory)),
+        }
+    }
+
+    ghost asks_own = { λ e old new rows same took. took };
+}
