@@ -1,6 +1,6 @@
 -- The entries that a call of a store makes, the oldest first. Those of other makers may stand between them in
 -- the pool's history; a store's trail has its own alone.
-use Rattle.std.specs.Prelude.{◌≡◌, ◌⊎◌, ℕ, List, [], ◌∷◌, ◌++◌, map, All, ⊤}
+use Rattle.std.specs.Prelude.{◌≡◌, ◌⊎◌, ℕ, List, [], ◌∷◌, ◌++◌, Option, Some, None, map, All, ⊤}
 use Rattle.reservation_tree.specs.declared.errors.PoolErr.{PoolErr}
 use Rattle.reservation_tree.specs.declared.errors.PoolErr.TheVariants.{WriteFault, ReadFault, NamesSpent}
 use Rattle.pool_model.specs.declared.call.Call.{Call}
@@ -8,6 +8,8 @@ use Rattle.pool_model.specs.declared.call.Call.TheVariants as call
 use Rattle.pool_model.specs.declared.event.Event.{Event}
 use Rattle.pool_model.specs.declared.event.Event.TheVariants.{Ask, PinHere, PinLoad, ReadOk, ReadFailed, StartWrite, WriteOk, WriteFailed, Evict, Refused}
 use Rattle.pool_model.specs.declared.entry.Entry.{Entry}
+use Rattle.pool_model.specs.LookingBack.{content_from}
+use Rattle.store_api.specs.Holdings.{LivePage, Holdings}
 use Rattle.store_api.specs.Signs.{Signs, Entered}
 
 -- entries of one maker
@@ -55,3 +57,8 @@ Made maker P old new = Entered (λ more. (events : List Event) × (more ≡ by m
 -- the trail grew by these
 abbrev pub MadeThese : ℕ → List Event → Signs → Signs → Type 0
 MadeThese maker events old new = Made maker (λ made. made ≡ events) old new
+
+-- where the trail is told, what was left in a page that rests is what its last unpin left
+abbrev pub TellsLeft : Holdings → Option (List Entry) → Type 0
+TellsLeft h None = ⊤
+TellsLeft h (Some trail) = (p : ℕ) (page : LivePage) → h.pages p ≡ Some page → page.pins ≡ 0 → page.left ≡ content_from p [] trail

@@ -108,7 +108,7 @@ pub(crate) fn reserve_round<St: Store>(
     requires client { IsClient c.now (St.holds store.old) }
     requires other { IsClient other.now (St.holds store.old) }
     requires apart { c.now.tracker ≢ other.now.tracker }
-    requires short { (St.holds store.old).block_len ≤ 65536 }
+    ensures block { 1 ≤ (St.holds store.old).block_len }
     ensures rest { AlikeButClients (St.holds store.old) (St.holds store.new) }
     ensures others { (q : ℕ) → q ≢ c.now.tracker → q ≢ other.now.tracker → (St.holds store.new).clients q ≡ (St.holds store.old).clients q }
     ensures client { IsClient c.now (St.holds store.new) }
@@ -141,8 +141,6 @@ fn rounds<St: Store>(
     requires client { IsClient c.now (St.holds store.old) }
     requires other { IsClient other.now (St.holds store.old) }
     requires apart { c.now.tracker ≢ other.now.tracker }
-    requires short { (St.holds store.old).block_len ≤ 65536 }
-    requires block { 1 ≤ (St.holds store.old).block_len }
     ensures ok { IfOk result (λ walked. walked ≡ record { pinned = 7; moved = 9; fresh = 0 }) }
     ensures rest { AlikeButClients (St.holds store.old) (St.holds store.new) }
     ensures others { (q : ℕ) → q ≢ c.now.tracker → q ≢ other.now.tracker → (St.holds store.new).clients q ≡ (St.holds store.old).clients q }
@@ -166,8 +164,6 @@ fn rounds<St: Store>(
 ///
 /// What the store answered. It is left so then too.
 pub fn walk<St: Store>(store: &mut St, alloc: Global) -> Result<Walked, PoolErr>
-    requires short { (St.holds store.old).block_len ≤ 65536 }
-    requires block { 1 ≤ (St.holds store.old).block_len }
     ensures ok { IfOk result (λ walked. walked ≡ record { pinned = 7; moved = 9; fresh = 0 }) }
     ensures rest { AlikeButClients (St.holds store.old) (St.holds store.new) }
     ensures clients { (q : ℕ) → (St.holds store.new).clients q ≡ (St.holds store.old).clients q }

@@ -8,7 +8,7 @@ ghost use Rattle.pool_model.specs.declared.event.Event.TheVariants as event;
 ghost use Rattle.store_api.specs.Holdings.{Holdings, length_of, account_of, page_of, unused_of, page_len, loan_len};
 ghost use Rattle.store_api.specs.Changes.{query_growth, lacking, after_end_client, after_reserve, after_give_back, after_move_reservation, after_pin, after_unpin, after_extract, after_destroy, after_free, after_move_buffer};
 ghost use Rattle.store_api.specs.Signs.{Signs, Grows, WasAnswered, CountsRefused};
-ghost use Rattle.store_api.specs.Entries.{Made, MadeThese, IsTaken, IsAsked, IsPin, IsRefusal};
+ghost use Rattle.store_api.specs.Entries.{Made, MadeThese, IsTaken, IsAsked, IsPin, IsRefusal, TellsLeft};
 ghost use Rattle.store_api.specs.Refusals.{reserve_refusal, move_refusal, IsSharedRefusal, MayRefuseRoom, MayRefusePin, MayRefuseAlloc, MayRefuseCreate, LacksSlots, IsScratchFull};
 ghost use Rattle.store_api.specs.Conditions.{IsBlockCount, IsClient, IsPage, Fits, IsLoan, IsHeld, IsIdle, FitsAccount, FitsQuery, IsNewClient, IsNewPage, IsNewLoan, ShowsLeft};
 
@@ -28,9 +28,11 @@ pub trait Store {
     // What only grows.
     ghost signs: { Self → Signs };
 
-    /// The length of a block, in bytes.
+    /// The length of a block, in bytes: a power of two from 64 to 65536.
     fn block_len(&self) -> u32
         ensures value { result ≡ (holds self.now).block_len }
+        ensures least { 64 ≤ result }
+        ensures most { result ≤ 65536 }
         ensures counted { CountsRefused (signs self.now).trail (signs self.now).refused_unpins };
 
     /// What of the reservation of the query's own tracker isn't its clients', in bytes.
@@ -267,4 +269,7 @@ pub trait Store {
         ensures grows { Grows (signs self.old) (signs self.new) }
         ensures entries { loan.client ≢ to.now.tracker → OnOk result (Made (holds self.old).session (IsAsked (event.MoveBuffer loan.number to.now.tracker ∷ [])) (signs self.old) (signs self.new)) }
         ensures refusal { IfErr result (λ e. Made (holds self.old).session (IsRefusal (call.MoveBuffer loan.number to.now.tracker) e.1) (signs self.old) (signs self.new)) };
+
+    // What was left in a page that rests is what the trail, if it is told, says of its last unpin.
+    ghost tells_left: { (st : Self) → TellsLeft (holds st) (signs st).trail };
 }

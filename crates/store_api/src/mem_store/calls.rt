@@ -18,6 +18,8 @@ impl Store for MemStore {
 
     ghost signs = { λ s. no_signs };
 
+    ghost tells_left = { λ st. tt };
+
     fn block_len(&self) -> u32 {
         self.block_len
     }
