@@ -1,0 +1,36 @@
+-- for callers
+pub mod Beside
+pub mod Chains
+pub mod Frames
+mod Chosen
+mod Emptied
+mod Endings
+mod FewPages
+mod Filling
+mod KeepingRows
+mod LastPage
+mod NewPage
+mod NewReady
+mod NewRows
+mod NewTouches
+mod NextPages
+mod OpenPages
+mod Packing
+mod PageLists
+mod Pinned
+mod Pinning
+mod Placed
+mod Refused
+mod Resting
+mod RowBytes
+mod RowLists
+mod RowsOn
+mod Spends
+mod SpentRows
+mod Starts
+mod Sums
+mod Told
+mod Turned
+mod Writing
+mod WrittenPlaces
+mod WrittenStream

@@ -1,0 +1,9 @@
+pub mod PageRows
+pub mod Streamed
+pub mod Streams
+pub mod Places
+pub mod Touches
+pub mod Bounds
+pub mod Ready
+pub mod Ending
+pub mod Kept
