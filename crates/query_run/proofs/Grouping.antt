@@ -109,42 +109,42 @@ grouped counts texts ordered at_key =
     }
 
 -- the texts of the column of these bytes, and their groups
-pub record IsCounted (column bytes : List ℕ) (texts : List (List ℕ)) (groups : List Group) : Type 0 where
-  pub read : HasTexts column bytes texts
+pub record IsCounted (page : ℕ) (column bytes : List ℕ) (texts : List (List ℕ)) (groups : List Group) : Type 0 where
+  pub read : HasTexts page column bytes texts
   pub grouped : AreGroups texts groups
 
 -- where the bytes are told, the texts that were read are grouped
-pub counting : (column : List ℕ) (told : Option (List ℕ)) (counts : BTreeMap (List ℕ) ℕ) (texts : List (List ℕ)) → IsOrdered path_order counts
+pub counting : (page : ℕ) (column : List ℕ) (told : Option (List ℕ)) (counts : BTreeMap (List ℕ) ℕ) (texts : List (List ℕ)) → IsOrdered path_order counts
     → ((key : List ℕ) → get path_order counts key ≡ counted key (map key_of texts))
-    → IfSome told (λ bytes. HasTexts column bytes texts)
-    → IfSome told (λ bytes. IsCounted column bytes texts (groups_in counts.entries))
-counting column None counts texts ordered at_key read = tt
-counting column (Some bytes) counts texts ordered at_key read = record {
+    → IfSome told (λ bytes. HasTexts page column bytes texts)
+    → IfSome told (λ bytes. IsCounted page column bytes texts (groups_in counts.entries))
+counting page column None counts texts ordered at_key read = tt
+counting page column (Some bytes) counts texts ordered at_key read = record {
   read = read;
   grouped = grouped counts texts ordered at_key;
 }
 
-pub wrote_answer : (column : List ℕ) (told : Option (List ℕ)) (texts : List (List ℕ)) (groups : List Group) (text : List ℕ) (old new : Option (List ℕ))
-    → IfSome told (λ bytes. IsCounted column bytes texts groups) → text ≡ answer_text column groups → Appends old new text
-    → WroteAnswer column told old new
-wrote_answer column None texts groups text old new read is appends = tt
-wrote_answer column (Some bytes) texts groups text old new read is appends =
+pub wrote_answer : (page : ℕ) (column : List ℕ) (told : Option (List ℕ)) (texts : List (List ℕ)) (groups : List Group) (text : List ℕ) (old new : Option (List ℕ))
+    → IfSome told (λ bytes. IsCounted page column bytes texts groups) → text ≡ answer_text column groups → Appends old new text
+    → WroteAnswer page column told old new
+wrote_answer page column None texts groups text old new read is appends = tt
+wrote_answer page column (Some bytes) texts groups text old new read is appends =
     (text, (record { texts = texts; read = read.read; groups = groups; grouped = read.grouped }, is), appends)
 
-pub wrote_front : (column : List ℕ) (told : Option (List ℕ)) (texts : List (List ℕ)) (groups : List Group) (text : List ℕ) (old new : Option (List ℕ))
-    → IfSome told (λ bytes. IsCounted column bytes texts groups) → text ≡ answer_text column groups → AppendsFront old new text
-    → WroteFront column told old new
-wrote_front column None texts groups text old new read is appends = tt
-wrote_front column (Some bytes) texts groups text old new read is appends =
+pub wrote_front : (page : ℕ) (column : List ℕ) (told : Option (List ℕ)) (texts : List (List ℕ)) (groups : List Group) (text : List ℕ) (old new : Option (List ℕ))
+    → IfSome told (λ bytes. IsCounted page column bytes texts groups) → text ≡ answer_text column groups → AppendsFront old new text
+    → WroteFront page column told old new
+wrote_front page column None texts groups text old new read is appends = tt
+wrote_front page column (Some bytes) texts groups text old new read is appends =
     (text, (record { texts = texts; read = read.read; groups = groups; grouped = read.grouped }, is), appends)
 
-pub numbers : (column : List ℕ) (told : Option (List ℕ)) (texts : List (List ℕ)) (groups : List Group) (ran : Ran)
-    → IfSome told (λ bytes. IsCounted column bytes texts groups)
+pub numbers : (page : ℕ) (column : List ℕ) (told : Option (List ℕ)) (texts : List (List ℕ)) (groups : List Group) (ran : Ran)
+    → IfSome told (λ bytes. IsCounted page column bytes texts groups)
     → ran.left ≡ length texts → ran.right ≡ 0 → ran.kept ≡ length texts → ran.lines ≡ length groups
     → ran.totals ≡ pos (sum_by (λ (g : Group). g.count) groups) ∷ []
-    → IfSome told (λ bytes. (c : Counting column bytes) × Numbers c ran)
-numbers column None texts groups ran read left right kept lines totals = tt
-numbers column (Some bytes) texts groups ran read left right kept lines totals = (
+    → IfSome told (λ bytes. (c : Counting page column bytes) × Numbers c ran)
+numbers page column None texts groups ran read left right kept lines totals = tt
+numbers page column (Some bytes) texts groups ran read left right kept lines totals = (
   record { texts = texts; read = read.read; groups = groups; grouped = read.grouped },
   record { left = left; right = right; kept = kept; lines = lines; totals = totals },
 )

@@ -1,7 +1,10 @@
+mod Answering
 mod Counted
-mod Fronts
 pub mod Grouping
 mod Halves
 mod Reading
+mod Spans
+mod Spelled
 mod TextRows
 mod Ties
+mod Wants

@@ -1,10 +1,9 @@
 -- What is known of an input while its rows are read.
 use Rattle.std.proofs.Common.{◌≡◌, ◌∙◌, ◌≤◌, ◌<◌, ◌+◌, ◌++◌, ◌∷◌, ◌⊎◌, inl, inr, [], ℕ, zero, suc, List, true, false, Option, Some, None, IfSome, All, length, map, nat_le, slice_index_or, sym, ap, refl, arith, rules}
 use Rattle.std.specs.Option.{option_map}
-use Rattle.std.proofs.lemmas.List.{append-nil, append_assoc, map-append, length-append}
+use Rattle.std.proofs.lemmas.List.{append-nil, map-append, length-map}
 use Rattle.std.proofs.lemmas.List.Elements.{All-append}
 use Rattle.row_codec.specs.declared.values.Value.{Value}
-use Rattle.row_codec.specs.RowBytes.{row_bytes}
 use Rattle.csv_edge.specs.Typed.{Typed, nothing_more, refused_here, row_then, rows_then}
 use Rattle.csv_edge.specs.Rows.{Becomes, CountsBytes, FitsLimit, IsOfRecord, PassesLimit}
 use Rattle.csv_edge.specs.declared.refusal.InputErr.{InputErr}
@@ -12,9 +11,8 @@ use Rattle.csv_edge.specs.declared.refusal.InputErr.TheVariants as input
 use Rattle.csv_edge.proofs.Steps.{none-handed, row-handed}
 use Rattle.query_run.specs.Answer.{HasTexts, text_row}
 use Rattle.query_run.specs.Causes.{IsOfBytes, cause_of_input}
-use Rattle.query_run.specs.Input.{IsRefusal, column_rows, first_refusal, first_too_long, most_bytes, most_weight, weight_of}
-use Rattle.query_run.specs.Inside.{Adds, IsKept, IsTooLong, Keeps, encoded}
-use Rattle.query_run.specs.declared.rows.Kept.{Kept}
+use Rattle.query_run.specs.Input.{IsRefusal, column_rows, first_refusal, first_too_long, most_bytes, weight_of}
+use Rattle.query_run.specs.Inside.{Adds, IsKept, IsTooLong, Keeps, spelled}
 use Rattle.query_plan.specs.declared.plan.Side.TheVariants.{Left}
 use Rattle.query_run.specs.declared.outcome.QueryErr.{QueryErr}
 use Rattle.query_run.specs.declared.outcome.QueryErr.TheVariants.{TooLarge}
@@ -24,51 +22,51 @@ abbrev pub IsSoFar : List ℕ → Option (List ℕ) → List (List ℕ) → Opti
 IsSoFar column told texts rest = Becomes (rows_then (map text_row texts)) (option_map (column_rows column) told) rest
 
 -- no text that is kept weighs too much
-first-behind : (texts : List (List ℕ)) (number : ℕ) (rest : List (List Value)) → All IsKept texts
-    → first_too_long number (map text_row texts ++ rest) ≡ first_too_long (number + length texts) rest
-first-behind [] number rest kept = let same : number + 0 ≡ number = omega arith in rw same refl
-first-behind (text ∷ texts) number rest kept =
-    let first : IsKept text = kept 0 text (omega arith) in
-    let light : nat_le (weight_of (text_row text)) most_weight ≡ true = search (rules, first) in
-    let later : All IsKept texts = λ k d below. kept (suc k) d (omega (arith, below)) in
+first-behind : (page : ℕ) (texts : List (List ℕ)) (number : ℕ) (rest : List (List Value)) → All (IsKept page) texts
+    → first_too_long page number (map text_row texts ++ rest) ≡ first_too_long page (number + length texts) rest
+first-behind page [] number rest kept = let same : number + 0 ≡ number = omega arith in rw same refl
+first-behind page (text ∷ texts) number rest kept =
+    let first : IsKept page text = kept 0 text (omega arith) in
+    let light : nat_le (weight_of (text_row text)) page ≡ true = search (rules, first) in
+    let later : All (IsKept page) texts = λ k d below. kept (suc k) d (omega (arith, below)) in
     let same : number + 1 + length texts ≡ number + length (text ∷ texts) = omega arith in
-    rw (light, first-behind texts (number + 1) rest later, same) refl
+    rw (light, first-behind page texts (number + 1) rest later, same) refl
 
 -- the refusal behind texts that are kept is the first
-refusal-behind : (texts : List (List ℕ)) (e : InputErr) → All IsKept texts
-    → first_refusal (rows_then (map text_row texts) (refused_here e)) ≡ Some (cause_of_input Left e)
-refusal-behind texts e kept = rw (first-behind texts 1 [] kept) refl
+refusal-behind : (page : ℕ) (texts : List (List ℕ)) (e : InputErr) → All (IsKept page) texts
+    → first_refusal page (rows_then (map text_row texts) (refused_here e)) ≡ Some (cause_of_input Left e)
+refusal-behind page texts e kept = rw (first-behind page texts 1 [] kept) refl
 
-none-behind : (texts : List (List ℕ)) → All IsKept texts → first_refusal (rows_then (map text_row texts) nothing_more) ≡ None
-none-behind texts kept = rw (first-behind texts 1 [] kept) refl
+none-behind : (page : ℕ) (texts : List (List ℕ)) → All (IsKept page) texts → first_refusal page (rows_then (map text_row texts) nothing_more) ≡ None
+none-behind page texts kept = rw (first-behind page texts 1 [] kept) refl
 
 -- so is a row that weighs too much
-too-long-behind : (texts : List (List ℕ)) (row : List Value) (more : Typed) (why : QueryErr) → All IsKept texts → IsTooLong row (length texts) why
-    → first_refusal (rows_then (map text_row texts) (row_then row more)) ≡ Some why
-too-long-behind texts row more why kept long =
-    let heavy : nat_le (weight_of row) most_weight ≡ false = search (rules, long) in
+too-long-behind : (page : ℕ) (texts : List (List ℕ)) (row : List Value) (more : Typed) (why : QueryErr) → All (IsKept page) texts → IsTooLong page row (length texts) why
+    → first_refusal page (rows_then (map text_row texts) (row_then row more)) ≡ Some why
+too-long-behind page texts row more why kept long =
+    let heavy : nat_le (weight_of row) page ≡ false = search (rules, long) in
     let place : 1 + length texts ≡ length texts + 1 = omega arith in
     let names = long.names_it in
-    rw (first-behind texts 1 (row ∷ more.rows) kept, heavy, place, names) refl
+    rw (first-behind page texts 1 (row ∷ more.rows) kept, heavy, place, names) refl
 
-pub refused_at : (column : List ℕ) (told : Option (List ℕ)) (texts : List (List ℕ)) (rest : Option Typed) (e : InputErr) → All IsKept texts
+pub refused_at : (page : ℕ) (column : List ℕ) (told : Option (List ℕ)) (texts : List (List ℕ)) (rest : Option Typed) (e : InputErr) → All (IsKept page) texts
     → IsSoFar column told texts rest → Becomes (λ t. t) rest (Some (refused_here e))
-    → IfSome told (λ bytes. IsRefusal column bytes (cause_of_input Left e))
-refused_at column None texts rest e kept so-far here = tt
-refused_at column (Some bytes) texts None e kept so-far here = absurd so-far
-refused_at column (Some bytes) texts (Some rest) e kept so-far here =
+    → IfSome told (λ bytes. IsRefusal page column bytes (cause_of_input Left e))
+refused_at page column None texts rest e kept so-far here = tt
+refused_at page column (Some bytes) texts None e kept so-far here = absurd so-far
+refused_at page column (Some bytes) texts (Some rest) e kept so-far here =
     let all : column_rows column bytes ≡ rows_then (map text_row texts) (refused_here e) = so-far ∙ ap (rows_then (map text_row texts)) here in
-    inl (ap first_refusal all ∙ refusal-behind texts e kept)
+    inl (ap (first_refusal page) all ∙ refusal-behind page texts e kept)
 
-pub too_long_at : (column : List ℕ) (told : Option (List ℕ)) (texts : List (List ℕ)) (row : List Value) (old new : Option Typed) (why : QueryErr) → All IsKept texts
-    → IsSoFar column told texts old → Becomes (row_then row) old new → IsTooLong row (length texts) why
-    → IfSome told (λ bytes. IsRefusal column bytes why)
-too_long_at column None texts row old new why kept so-far next long = tt
-too_long_at column (Some bytes) texts row None new why kept so-far next long = absurd so-far
-too_long_at column (Some bytes) texts row (Some old) None why kept so-far next long = absurd next
-too_long_at column (Some bytes) texts row (Some old) (Some new) why kept so-far next long =
+pub too_long_at : (page : ℕ) (column : List ℕ) (told : Option (List ℕ)) (texts : List (List ℕ)) (row : List Value) (old new : Option Typed) (why : QueryErr) → All (IsKept page) texts
+    → IsSoFar column told texts old → Becomes (row_then row) old new → IsTooLong page row (length texts) why
+    → IfSome told (λ bytes. IsRefusal page column bytes why)
+too_long_at page column None texts row old new why kept so-far next long = tt
+too_long_at page column (Some bytes) texts row None new why kept so-far next long = absurd so-far
+too_long_at page column (Some bytes) texts row (Some old) None why kept so-far next long = absurd next
+too_long_at page column (Some bytes) texts row (Some old) (Some new) why kept so-far next long =
     let all : column_rows column bytes ≡ rows_then (map text_row texts) (row_then row new) = so-far ∙ ap (rows_then (map text_row texts)) next in
-    inl (ap first_refusal all ∙ too-long-behind texts row new why kept long)
+    inl (ap (first_refusal page) all ∙ too-long-behind page texts row new why kept long)
 
 -- told bytes that pass what is still allowed pass the whole limit
 passes : (told now : Option (List ℕ)) (allowed : ℕ) → CountsBytes most_bytes told allowed now → PassesLimit allowed now → IfSome told (λ bytes. most_bytes < length bytes)
@@ -81,45 +79,45 @@ fits None now allowed counts more = tt
 fits (Some bytes) None allowed counts more = absurd counts
 fits (Some bytes) (Some left) allowed counts more = omega (arith, counts, more)
 
-large-if : (column : List ℕ) (told : Option (List ℕ)) → IfSome told (λ bytes. most_bytes < length bytes) → IfSome told (λ bytes. IsRefusal column bytes (TooLarge Left))
-large-if column None more = tt
-large-if column (Some bytes) more = inr (refl, more)
+large-if : (page : ℕ) (column : List ℕ) (told : Option (List ℕ)) → IfSome told (λ bytes. most_bytes < length bytes) → IfSome told (λ bytes. IsRefusal page column bytes (TooLarge Left))
+large-if page column None more = tt
+large-if page column (Some bytes) more = inr (refl, more)
 
-pub large_at : (column : List ℕ) (told now : Option (List ℕ)) (allowed : ℕ) (texts : List (List ℕ)) (rest : Option Typed) → All IsKept texts
+pub large_at : (page : ℕ) (column : List ℕ) (told now : Option (List ℕ)) (allowed : ℕ) (texts : List (List ℕ)) (rest : Option Typed) → All (IsKept page) texts
     → IsSoFar column told texts rest → CountsBytes most_bytes told allowed now
     → Becomes (λ t. t) rest (Some (refused_here input.TooLarge)) ⊎ PassesLimit allowed now
-    → IfSome told (λ bytes. IsRefusal column bytes (TooLarge Left))
-large_at column told now allowed texts rest kept so-far counts (inl here) = refused_at column told texts rest input.TooLarge kept so-far here
-large_at column told now allowed texts rest kept so-far counts (inr more) = large-if column told (passes told now allowed counts more)
+    → IfSome told (λ bytes. IsRefusal page column bytes (TooLarge Left))
+large_at page column told now allowed texts rest kept so-far counts (inl here) = refused_at page column told texts rest input.TooLarge kept so-far here
+large_at page column told now allowed texts rest kept so-far counts (inr more) = large-if page column told (passes told now allowed counts more)
 
 -- what the bytes are refused for is the first refusal
-pub refusal_of_input : (column : List ℕ) (told now : Option (List ℕ)) (allowed : ℕ) (texts : List (List ℕ)) (rest : Option Typed) (e : InputErr) → All IsKept texts
+pub refusal_of_input : (page : ℕ) (column : List ℕ) (told now : Option (List ℕ)) (allowed : ℕ) (texts : List (List ℕ)) (rest : Option Typed) (e : InputErr) → All (IsKept page) texts
     → IsSoFar column told texts rest → CountsBytes most_bytes told allowed now
     → (IsOfRecord e → Becomes (λ t. t) rest (Some (refused_here e)))
     → (e ≡ input.TooLarge → Becomes (λ t. t) rest (Some (refused_here input.TooLarge)) ⊎ PassesLimit allowed now)
-    → IsOfBytes (cause_of_input Left e) → IfSome told (λ bytes. IsRefusal column bytes (cause_of_input Left e))
-refusal_of_input column told now allowed texts rest input.Fault kept so-far counts refused large is = absurd is
-refusal_of_input column told now allowed texts rest input.Memory kept so-far counts refused large is = absurd is
-refusal_of_input column told now allowed texts rest input.TooLarge kept so-far counts refused large is = large_at column told now allowed texts rest kept so-far counts (large refl)
-refusal_of_input column told now allowed texts rest input.Header kept so-far counts refused large is = refused_at column told texts rest input.Header kept so-far (refused tt)
-refusal_of_input column told now allowed texts rest (input.Csv number) kept so-far counts refused large is = refused_at column told texts rest (input.Csv number) kept so-far (refused tt)
-refusal_of_input column told now allowed texts rest (input.Field number place) kept so-far counts refused large is = refused_at column told texts rest (input.Field number place) kept so-far (refused tt)
+    → IsOfBytes (cause_of_input Left e) → IfSome told (λ bytes. IsRefusal page column bytes (cause_of_input Left e))
+refusal_of_input page column told now allowed texts rest input.Fault kept so-far counts refused large is = absurd is
+refusal_of_input page column told now allowed texts rest input.Memory kept so-far counts refused large is = absurd is
+refusal_of_input page column told now allowed texts rest input.TooLarge kept so-far counts refused large is = large_at page column told now allowed texts rest kept so-far counts (large refl)
+refusal_of_input page column told now allowed texts rest input.Header kept so-far counts refused large is = refused_at page column told texts rest input.Header kept so-far (refused tt)
+refusal_of_input page column told now allowed texts rest (input.Csv number) kept so-far counts refused large is = refused_at page column told texts rest (input.Csv number) kept so-far (refused tt)
+refusal_of_input page column told now allowed texts rest (input.Field number place) kept so-far counts refused large is = refused_at page column told texts rest (input.Field number place) kept so-far (refused tt)
 
 -- at the end, the texts are those of the input
-has-texts : (column bytes : List ℕ) (texts : List (List ℕ)) → All IsKept texts → column_rows column bytes ≡ rows_then (map text_row texts) nothing_more
-    → length bytes ≤ most_bytes → HasTexts column bytes texts
-has-texts column bytes texts kept all few = record {
-  accepted = record { whole = ap first_refusal all ∙ none-behind texts kept; fits = few };
+has-texts : (page : ℕ) (column bytes : List ℕ) (texts : List (List ℕ)) → All (IsKept page) texts → column_rows column bytes ≡ rows_then (map text_row texts) nothing_more
+    → length bytes ≤ most_bytes → HasTexts page column bytes texts
+has-texts page column bytes texts kept all few = record {
+  accepted = record { whole = ap (first_refusal page) all ∙ none-behind page texts kept; fits = few };
   rows = ap (λ (t : Typed). t.rows) all ∙ append-nil (map text_row texts);
 }
 
-pub ended_at : (column : List ℕ) (told now : Option (List ℕ)) (allowed : ℕ) (texts : List (List ℕ)) (rest : Option Typed) → All IsKept texts
+pub ended_at : (page : ℕ) (column : List ℕ) (told now : Option (List ℕ)) (allowed : ℕ) (texts : List (List ℕ)) (rest : Option Typed) → All (IsKept page) texts
     → IsSoFar column told texts rest → CountsBytes most_bytes told allowed now → Becomes (λ t. t) rest (Some nothing_more) → FitsLimit allowed now
-    → IfSome told (λ bytes. HasTexts column bytes texts)
-ended_at column None now allowed texts rest kept so-far counts here few = tt
-ended_at column (Some bytes) now allowed texts None kept so-far counts here few = absurd so-far
-ended_at column (Some bytes) now allowed texts (Some rest) kept so-far counts here few =
-    has-texts column bytes texts kept (so-far ∙ ap (rows_then (map text_row texts)) here) (fits (Some bytes) now allowed counts few)
+    → IfSome told (λ bytes. HasTexts page column bytes texts)
+ended_at page column None now allowed texts rest kept so-far counts here few = tt
+ended_at page column (Some bytes) now allowed texts None kept so-far counts here few = absurd so-far
+ended_at page column (Some bytes) now allowed texts (Some rest) kept so-far counts here few =
+    has-texts page column bytes texts kept (so-far ∙ ap (rows_then (map text_row texts)) here) (fits (Some bytes) now allowed counts few)
 
 -- one more text was read
 pub one_more : (column : List ℕ) (told : Option (List ℕ)) (texts : List (List ℕ)) (text : List ℕ) (row : List Value) (old new : Option Typed)
@@ -134,51 +132,47 @@ counts_on (Some bytes) (Some rest) None most allowed left old new = absurd new
 counts_on (Some bytes) (Some rest) (Some more) most allowed left old new = omega (arith, old, new)
 
 -- what is kept of rows of which none was looked at yet, and with one more
-pub none_kept : All IsKept []
-none_kept = λ k d below. absurd (omega (arith, below))
+pub none_kept : (page : ℕ) → All (IsKept page) []
+none_kept page = λ k d below. absurd (omega (arith, below))
 
-pub one_kept : (texts : List (List ℕ)) (text : List ℕ) → All IsKept texts → IsKept text → All IsKept (texts ++ text ∷ [])
-one_kept texts text kept is = All-append IsKept texts (text ∷ []) kept (λ k d below. only k d below) where
-  only : (k : ℕ) (d : List ℕ) → k < 1 → IsKept (slice_index_or (text ∷ []) k d)
+pub one_kept : (page : ℕ) (texts : List (List ℕ)) (text : List ℕ) → All (IsKept page) texts → IsKept page text → All (IsKept page) (texts ++ text ∷ [])
+one_kept page texts text kept is = All-append (IsKept page) texts (text ∷ []) kept (λ k d below. only k d below) where
+  only : (k : ℕ) (d : List ℕ) → k < 1 → IsKept page (slice_index_or (text ∷ []) k d)
   only zero d below = is
   only (suc k) d below = absurd (omega (arith, below))
 
--- the bytes of one row more
-encoded-more : (texts : List (List ℕ)) (text : List ℕ) → encoded texts ++ row_bytes (text_row text) ≡ encoded (texts ++ text ∷ [])
-encoded-more [] text = sym (append-nil (row_bytes (text_row text)))
-encoded-more (first ∷ texts) text = append_assoc (row_bytes (text_row first)) (encoded texts) (row_bytes (text_row text)) ∙ ap (λ l. row_bytes (text_row first) ++ l) (encoded-more texts text)
-
 -- the rows so far are kept, and the others are still to come
-pub record IsReading (column : List ℕ) (told : Option (List ℕ)) (kept : Kept) (rest : Option Typed) (now : Option (List ℕ)) (allowed : ℕ) : Type 0 where
+pub record IsReading (page : ℕ) (column : List ℕ) (told : Option (List ℕ)) (rows : List (List ℕ)) (rest : Option Typed) (now : Option (List ℕ)) (allowed : ℕ) : Type 0 where
   pub texts : List (List ℕ)
-  pub keeps : Keeps kept.bytes.items texts
-  pub counted : kept.rows ≡ length texts
+  pub keeps : Keeps page rows texts
   pub so_far : IsSoFar column told texts rest
   pub counts : CountsBytes most_bytes told allowed now
 
 -- nothing was read yet but the header
-pub started : (column : List ℕ) (told : Option (List ℕ)) (kept : Kept) (rest : Option Typed) (now : Option (List ℕ)) (allowed : ℕ)
-    → kept.bytes.items ≡ [] → kept.rows ≡ 0 → Becomes (λ t. t) (option_map (column_rows column) told) rest → CountsBytes most_bytes told allowed now
-    → IsReading column told kept rest now allowed
-started column told kept rest now allowed empty none ok counts = record {
+pub started : (page : ℕ) (column : List ℕ) (told : Option (List ℕ)) (rows : List (List ℕ)) (rest : Option Typed) (now : Option (List ℕ)) (allowed : ℕ)
+    → rows ≡ [] → Becomes (λ t. t) (option_map (column_rows column) told) rest → CountsBytes most_bytes told allowed now
+    → IsReading page column told rows rest now allowed
+started page column told rows rest now allowed empty ok counts = record {
   texts = [];
-  keeps = record { spelled = empty; kept = none_kept };
-  counted = none;
+  keeps = record { rows_are = empty; kept = none_kept page };
   so_far = none-handed (option_map (column_rows column) told) rest ok;
   counts = counts;
 }
 
 -- a row was read and kept
-pub went_on : (column : List ℕ) (told : Option (List ℕ)) (row : List Value) (old new : Kept) (rest later : Option Typed) (now then : Option (List ℕ)) (allowed left : ℕ)
-    → IsReading column told old rest now allowed → Adds row old new → Becomes (row_then row) rest later → CountsBytes allowed now left then
-    → IsReading column told new later then left
-went_on column told row old new rest later now then allowed left before adds next counts = record {
+pub went_on : (page : ℕ) (column : List ℕ) (told : Option (List ℕ)) (row : List Value) (old new : List (List ℕ)) (rest later : Option Typed) (now then : Option (List ℕ)) (allowed left : ℕ)
+    → IsReading page column told old rest now allowed → Adds page row old new → Becomes (row_then row) rest later → CountsBytes allowed now left then
+    → IsReading page column told new later then left
+went_on page column told row old new rest later now then allowed left before adds next counts = record {
   texts = before.texts ++ adds.text ∷ [];
   keeps = record {
-    spelled = adds.bytes ∙ rw before.keeps.spelled (encoded-more before.texts adds.text);
-    kept = one_kept before.texts adds.text before.keeps.kept adds.kept;
+    rows_are = adds.rows ∙ rw before.keeps.rows_are (sym (map-append spelled before.texts (adds.text ∷ [])));
+    kept = one_kept page before.texts adds.text before.keeps.kept adds.kept;
   };
-  counted = let is = adds.counted in let was = before.counted in let more = length-append before.texts (adds.text ∷ []) in omega (arith, is, was, more);
   so_far = one_more column told before.texts adds.text row rest later adds.is_text before.so_far next;
   counts = counts_on told now then most_bytes allowed left before.counts counts;
 }
+
+-- as many rows are kept as were read
+pub kept_length : (page : ℕ) (rows texts : List (List ℕ)) → Keeps page rows texts → length rows ≡ length texts
+kept_length page rows texts keeps = ap length keeps.rows_are ∙ length-map texts spelled

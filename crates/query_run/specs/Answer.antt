@@ -1,4 +1,4 @@
--- The answer of a count, as computed over the bytes of its input.
+-- The answer of a count, as computed over the bytes of its input. A row weighs at most the bytes of a page.
 use Rattle.std.specs.Prelude.{◌≡◌, ℕ, List, [], ◌∷◌, ◌++◌, Option, Some, None, map, flat_map, codes, length, sum_by, pos, ⊤}
 use Rattle.std.specs.Io.KnownBytes.{Appends}
 use Rattle.row_codec.specs.declared.values.Value.{Value}
@@ -14,8 +14,8 @@ abbrev pub text_row : List ℕ → List Value
 text_row text = Text text ∷ []
 
 -- the input is accepted to its end, and its column has these texts
-pub record HasTexts (column bytes : List ℕ) (texts : List (List ℕ)) : Type 0 where
-  pub accepted : IsAccepted column bytes
+pub record HasTexts (page : ℕ) (column bytes : List ℕ) (texts : List (List ℕ)) : Type 0 where
+  pub accepted : IsAccepted page column bytes
   pub rows : (column_rows column bytes).rows ≡ map text_row texts
 
 -- the row of names
@@ -31,28 +31,28 @@ abbrev pub answer_text : List ℕ → List Group → List ℕ
 answer_text column groups = line_of (header_row column) ++ flat_map (λ g. line_of (group_row g)) groups
 
 -- how often each text of the column stands in the input
-pub record Counting (column bytes : List ℕ) : Type 0 where
+pub record Counting (page : ℕ) (column bytes : List ℕ) : Type 0 where
   pub texts : List (List ℕ)
-  pub read : HasTexts column bytes texts
+  pub read : HasTexts page column bytes texts
   pub groups : List Group
   pub grouped : AreGroups texts groups
 
 -- the text is the answer over these bytes
-abbrev pub IsAnswer : List ℕ → List ℕ → List ℕ → Type 0
-IsAnswer column bytes text = (c : Counting column bytes) × (text ≡ answer_text column c.groups)
+abbrev pub IsAnswer : ℕ → List ℕ → List ℕ → List ℕ → Type 0
+IsAnswer page column bytes text = (c : Counting page column bytes) × (text ≡ answer_text column c.groups)
 
 -- the whole answer was appended, where the bytes are told
-abbrev pub WroteAnswer : List ℕ → Option (List ℕ) → Option (List ℕ) → Option (List ℕ) → Type 0
-WroteAnswer column None old new = ⊤
-WroteAnswer column (Some bytes) old new = (text : List ℕ) × IsAnswer column bytes text × Appends old new text
+abbrev pub WroteAnswer : ℕ → List ℕ → Option (List ℕ) → Option (List ℕ) → Option (List ℕ) → Type 0
+WroteAnswer page column None old new = ⊤
+WroteAnswer page column (Some bytes) old new = (text : List ℕ) × IsAnswer page column bytes text × Appends old new text
 
 -- a front of the answer was appended, where the bytes are told
-abbrev pub WroteFront : List ℕ → Option (List ℕ) → Option (List ℕ) → Option (List ℕ) → Type 0
-WroteFront column None old new = ⊤
-WroteFront column (Some bytes) old new = (text : List ℕ) × IsAnswer column bytes text × AppendsFront old new text
+abbrev pub WroteFront : ℕ → List ℕ → Option (List ℕ) → Option (List ℕ) → Option (List ℕ) → Type 0
+WroteFront page column None old new = ⊤
+WroteFront page column (Some bytes) old new = (text : List ℕ) × IsAnswer page column bytes text × AppendsFront old new text
 
 -- the numbers that go with an answer
-pub record Numbers {column bytes : List ℕ} (c : Counting column bytes) (ran : Ran) : Type 0 where
+pub record Numbers {page : ℕ} {column bytes : List ℕ} (c : Counting page column bytes) (ran : Ran) : Type 0 where
   pub left : ran.left ≡ length c.texts
   pub right : ran.right ≡ 0
   pub kept : ran.kept ≡ length c.texts

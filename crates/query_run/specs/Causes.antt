@@ -2,6 +2,7 @@
 use Rattle.std.specs.Prelude.{◌≡◌, Option, Some, None, ⊤}
 use Rattle.csv_edge.specs.declared.refusal.InputErr.{InputErr}
 use Rattle.csv_edge.specs.declared.refusal.InputErr.TheVariants as input
+use Rattle.reservation_tree.specs.declared.errors.PoolErr.TheVariants.{Memory}
 use Rattle.query_plan.specs.declared.plan.Side.{Side}
 use Rattle.query_run.specs.declared.outcome.QueryErr.{QueryErr}
 use Rattle.query_run.specs.declared.outcome.QueryErr.TheVariants as query
@@ -12,7 +13,7 @@ cause_of_input side input.Header = query.BadHeader side
 cause_of_input side (input.Csv number) = query.BadCsv side number
 cause_of_input side (input.Field number column) = query.BadField side number column
 cause_of_input side input.TooLarge = query.TooLarge side
-cause_of_input side input.Memory = query.Memory
+cause_of_input side input.Memory = query.Pool Memory
 
 -- what the bytes of an input are refused for
 abbrev pub IsOfBytes : QueryErr → Type 0
@@ -23,7 +24,7 @@ IsOfBytes (query.BadField side number column) = ⊤
 IsOfBytes (query.TooLarge side) = ⊤
 IsOfBytes (query.RowTooLong side number bytes) = ⊤
 IsOfBytes query.SinkFault = ⊥
-IsOfBytes query.Memory = ⊥
+IsOfBytes (query.Pool e) = ⊥
 
 -- the source had a fault
 abbrev pub IsSourceFault : QueryErr → Type 0
@@ -38,4 +39,4 @@ side_of (query.BadField side number column) = Some side
 side_of (query.TooLarge side) = Some side
 side_of (query.RowTooLong side number bytes) = Some side
 side_of query.SinkFault = None
-side_of query.Memory = None
+side_of (query.Pool e) = None

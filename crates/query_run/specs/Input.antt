@@ -19,10 +19,6 @@ most_records = 2147483648
 abbrev pub most_bytes : ℕ
 most_bytes = 1099511627776
 
--- the most that a row may weigh: the bytes of a page
-abbrev pub most_weight : ℕ
-most_weight = 8192
-
 -- the one column that is counted, which holds texts
 abbrev pub text_column : List ℕ → List Column
 text_column name = record { name = name; kind = kind.Text } ∷ []
@@ -35,26 +31,26 @@ column_rows column bytes = typed_rows (text_column column) most_records bytes
 abbrev pub weight_of : List Value → ℕ
 weight_of row = length (row_bytes row) + 16
 
--- the first of these rows that weighs too much, where they are numbered from here on
-abbrev pub first_too_long : ℕ → List (List Value) → Option QueryErr
-first_too_long number [] = None
-first_too_long number (row ∷ rest) =
-    if nat_le (weight_of row) most_weight then first_too_long (number + 1) rest
+-- the first of these rows that weighs more than a page has bytes, where they are numbered from here on
+abbrev pub first_too_long : ℕ → ℕ → List (List Value) → Option QueryErr
+first_too_long page number [] = None
+first_too_long page number (row ∷ rest) =
+    if nat_le (weight_of row) page then first_too_long page (number + 1) rest
     else Some (RowTooLong Left number (min (weight_of row) (2 ^ 64 - 1)))
 
 -- the first refusal of these rows and what stands behind them
-abbrev pub first_refusal : Typed → Option QueryErr
-first_refusal typed = option_or (first_too_long 1 typed.rows) (option_map (cause_of_input Left) typed.refusal)
+abbrev pub first_refusal : ℕ → Typed → Option QueryErr
+first_refusal page typed = option_or (first_too_long page 1 typed.rows) (option_map (cause_of_input Left) typed.refusal)
 
--- the first refusal of an input, in the order of reading
-abbrev pub refusal_of : List ℕ → List ℕ → Option QueryErr
-refusal_of column bytes = first_refusal (column_rows column bytes)
+-- the first refusal of an input, in the order of reading, to a query with pages of so many bytes
+abbrev pub refusal_of : ℕ → List ℕ → List ℕ → Option QueryErr
+refusal_of page column bytes = first_refusal page (column_rows column bytes)
 
 -- the input is refused for this: where it has too many bytes, that may be found before another refusal
-abbrev pub IsRefusal : List ℕ → List ℕ → QueryErr → Type 0
-IsRefusal column bytes why = (refusal_of column bytes ≡ Some why) ⊎ ((why ≡ TooLarge Left) × (most_bytes < length bytes))
+abbrev pub IsRefusal : ℕ → List ℕ → List ℕ → QueryErr → Type 0
+IsRefusal page column bytes why = (refusal_of page column bytes ≡ Some why) ⊎ ((why ≡ TooLarge Left) × (most_bytes < length bytes))
 
 -- the input is accepted to its end
-pub record IsAccepted (column bytes : List ℕ) : Type 0 where
-  pub whole : refusal_of column bytes ≡ None
+pub record IsAccepted (page : ℕ) (column bytes : List ℕ) : Type 0 where
+  pub whole : refusal_of page column bytes ≡ None
   pub fits : length bytes ≤ most_bytes

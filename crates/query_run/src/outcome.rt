@@ -5,6 +5,7 @@ ghost use Rattle.query_run.specs.Causes.{cause_of_input};
 
 use csv_edge::InputErr;
 use query_plan::Side;
+use reservation_tree::PoolErr;
 use row_codec::Memory;
 use std::alloc::{AllocError, AllocFailed, Global};
 use std::marker::Model;
@@ -99,8 +100,9 @@ pub enum QueryErr {
     /// The sink answered with a fault.
     #[error("the answer could not be written")]
     SinkFault,
-    #[error("out of memory")]
-    Memory,
+    /// The store refused a call so, or there was no memory.
+    #[error("{0}")]
+    Pool(PoolErr),
 }
 
 impl QueryErr {
@@ -118,40 +120,54 @@ impl QueryErr {
                 column,
             },
             InputErr::TooLarge => QueryErr::TooLarge { side },
-            InputErr::Memory => QueryErr::Memory,
+            InputErr::Memory => QueryErr::Pool(PoolErr::Memory),
         }
+    }
+}
+
+impl From<PoolErr> for QueryErr {
+    ghost use Rattle.query_run.specs.declared.outcome.QueryErr.TheVariants as err;
+    ghost use Rattle.std.specs.Prelude.{◌≡◌};
+
+    ghost from_gives = { λ cause e. e ≡ err.Pool cause };
+
+    fn from(cause: PoolErr) -> QueryErr {
+        QueryErr::Pool(cause)
     }
 }
 
 impl From<Memory> for QueryErr {
     ghost use Rattle.query_run.specs.declared.outcome.QueryErr.TheVariants as err;
+    ghost use Rattle.reservation_tree.specs.declared.errors.PoolErr.TheVariants.{Memory};
     ghost use Rattle.std.specs.Prelude.{◌≡◌};
 
-    ghost from_gives = { λ _ e. e ≡ err.Memory };
+    ghost from_gives = { λ _ e. e ≡ err.Pool Memory };
 
     fn from(_: Memory) -> QueryErr {
-        QueryErr::Memory
+        QueryErr::Pool(PoolErr::Memory)
     }
 }
 
 impl From<AllocError> for QueryErr {
     ghost use Rattle.query_run.specs.declared.outcome.QueryErr.TheVariants as err;
+    ghost use Rattle.reservation_tree.specs.declared.errors.PoolErr.TheVariants.{Memory};
     ghost use Rattle.std.specs.Prelude.{◌≡◌};
 
-    ghost from_gives = { λ _ e. e ≡ err.Memory };
+    ghost from_gives = { λ _ e. e ≡ err.Pool Memory };
 
     fn from(_: AllocError) -> QueryErr {
-        QueryErr::Memory
+        QueryErr::Pool(PoolErr::Memory)
     }
 }
 
 impl<T: Drop> From<AllocFailed<T>> for QueryErr {
     ghost use Rattle.query_run.specs.declared.outcome.QueryErr.TheVariants as err;
+    ghost use Rattle.reservation_tree.specs.declared.errors.PoolErr.TheVariants.{Memory};
     ghost use Rattle.std.specs.Prelude.{◌≡◌};
 
-    ghost from_gives = { λ _ e. e ≡ err.Memory };
+    ghost from_gives = { λ _ e. e ≡ err.Pool Memory };
 
     fn from(_: AllocFailed<T>) -> QueryErr {
-        QueryErr::Memory
+        QueryErr::Pool(PoolErr::Memory)
     }
 }

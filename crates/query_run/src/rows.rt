@@ -1,21 +1,29 @@
-// The rows of an input, kept as bytes.
+// The rows of an input, kept on pages.
 
-ghost use Rattle.std.specs.Prelude.{◌≡◌, ◌≢◌, ◌≤◌, ◌<◌, ◌^◌, ◌⊎◌, ◌∷◌, [], Some, IfErr, IfOk, IfSome, OnOk, List, length, ℕ};
+ghost use Rattle.std.specs.Prelude.{◌≡◌, ◌≢◌, ◌≤◌, ◌<◌, ◌+◌, ◌^◌, ◌⊎◌, ◌∷◌, [], Some, IfErr, IfSome, OnOk, ℕ, List};
 ghost use Rattle.std.specs.Io.KnownBytes.{IsAtEnd};
 ghost use Rattle.outside.specs.Counts.{Rose};
+ghost use Rattle.reservation_tree.specs.declared.errors.PoolErr.{PoolErr};
 ghost use Rattle.row_codec.specs.declared.values.Kind.TheVariants as kind;
 ghost use Rattle.row_codec.specs.Row.{kinds_of};
-ghost use Rattle.query_run.specs.Causes.{IsOfBytes, IsSourceFault, side_of};
-ghost use Rattle.query_run.specs.Input.{IsRefusal};
+ghost use Rattle.store_api.specs.Conditions.{IsClient};
+ghost use Rattle.store_api.specs.Signs.{Grows};
+ghost use Rattle.tuple_stream.specs.Streamed.{len_in, rows_of};
+ghost use Rattle.tuple_stream.specs.Streams.{IsStream, HasRoom};
+ghost use Rattle.tuple_stream.specs.Touches.{Touches};
 ghost use Rattle.query_plan.specs.declared.plan.Side.TheVariants.{Left};
-ghost use Rattle.query_run.specs.Inside.{Adds, HasKept, IsTooLong};
+ghost use Rattle.query_run.specs.Causes.{IsOfBytes, IsSourceFault, side_of};
+ghost use Rattle.query_run.specs.Input.{IsRefusal, text_column};
+ghost use Rattle.query_run.specs.Inside.{Adds, CameOfPool, HasKept, IsTooLong};
 
 use crate::outcome::QueryErr;
 use csv_edge::Rows;
 use outside::Source;
 use query_plan::Side;
-use row_codec::{Bytes, Column, Kind, Value, encode_row, encoded_len};
+use row_codec::{Column, Value, encode_row, encoded_len, law_row_back};
 use std::alloc::Global;
+use store_api::{Client, Store};
+use tuple_stream::{Stream, StreamErr};
 
 // The most records of an input, the header among them.
 const MOST_RECORDS: u64 = 2147483648;
@@ -23,77 +31,100 @@ const MOST_RECORDS: u64 = 2147483648;
 // The most bytes of an input.
 const MOST_BYTES: u64 = 1099511627776;
 
-// The most that a row may weigh: the bytes of a page.
-const MOST_WEIGHT: u64 = 8192;
-
 // What an aggregate adds to the weight of a row.
 const AGGREGATE: u64 = 16;
 
-// Rows, one behind the other, and how many they are.
-#[derive(Drop)]
-pub(crate) struct Kept {
-    pub(crate) bytes: Vec<u8>,
-    pub(crate) rows: u64,
-}
-
-// Reads what is left of a source to its end, and keeps the rows of one column of texts.
-pub(crate) fn keep_rows<S: Source>(
+// Reads what is left of a source to its end, and keeps the rows of one column of texts. A page has `page` bytes.
+pub(crate) fn keep_rows<St: Store, S: Source>(
     alloc: Global,
+    store: &mut St,
+    c: &Client,
+    kept: &mut Stream,
+    page: u64,
+    columns: &[Column],
     left: &mut S,
-    column: &Bytes,
-) -> Result<Kept, QueryErr>
-    ensures ok { IfOk result (λ kept. HasKept column.now (S.remaining left.old) kept) }
+) -> Result<(), QueryErr>
+    requires client { IsClient c.now (St.holds store.old) }
+    requires stream { IsStream c.now.tracker kept.old (St.holds store.old) }
+    requires room { HasRoom c.now.tracker kept.old (St.holds store.old) }
+    requires none { rows_of kept.old (St.holds store.old) ≡ [] }
+    requires page { page ≡ len_in kept.old (St.holds store.old) }
+    requires short { page < 2 ^ 32 }
+    requires column { (name : List ℕ) × (columns.now ≡ text_column name) }
+    ensures ok { OnOk result ((name : List ℕ) → columns.now ≡ text_column name → HasKept page name (S.remaining left.old) (rows_of kept.new (St.holds store.new))) }
+    ensures few { OnOk result (kept.new.count < 2 ^ 32) }
     ensures read { OnOk result (IsAtEnd (S.remaining left.new)) }
-    ensures refused { IfErr result (λ e. IsOfBytes e → IfSome (S.remaining left.old) (λ bytes. IsRefusal column.now bytes e)) }
+    ensures refused { IfErr result (λ e. IsOfBytes e → (name : List ℕ) → columns.now ≡ text_column name → IfSome (S.remaining left.old) (λ bytes. IsRefusal page name bytes e)) }
     ensures source_fault { IfErr result (λ e. IsSourceFault e → Rose (S.faults left.old) (S.faults left.new)) }
     ensures side { IfErr result (λ e. IfSome (side_of e) (λ side. side ≡ Left)) }
     ensures cause { IfErr result (λ e. e ≢ QueryErr.SinkFault) }
+    ensures pool { IfErr result (CameOfPool kept.old (St.holds store.new) (St.signs store.old) (St.signs store.new)) }
+
     ensures source_kept { S.faults left.old ≤ S.faults left.new }
+    ensures stream { IsStream c.now.tracker kept.new (St.holds store.new) }
+    ensures sized { kept.new.page_blocks ≡ kept.old.page_blocks }
+    ensures touches { Touches c.now.tracker kept.old kept.new (St.holds store.old) (St.holds store.new) }
+    ensures grows { Grows (St.signs store.old) (St.signs store.new) }
 {
-    let columns = [Column {
-        name: Bytes::of(alloc, column.as_slice())?,
-        kind: Kind::Text,
-    }];
-    let mut kept = Kept {
-        bytes: Vec::new(alloc),
-        rows: 0,
-    };
+    let mut room = Vec::new(alloc);
     let mut rows = Rows::of(left);
-    if let Err(e) = rows.start(alloc, &columns, MOST_RECORDS, MOST_BYTES) {
+    if let Err(e) = rows.start(alloc, columns, MOST_RECORDS, MOST_BYTES) {
         return Err(QueryErr::of_input(Side::Left, e));
     }
     loop {
         let row = match rows.next() {
             Ok(Some(row)) => row,
-            Ok(None) => return Ok(kept),
+            Ok(None) => return Ok(()),
             Err(e) => return Err(QueryErr::of_input(Side::Left, e)),
         };
-        if let Err(e) = kept.add(&row) {
+        if let Err(e) = keep_row(alloc, store, c, kept, page, &row, &mut room) {
             return Err(e);
         }
     }
 }
 
-impl Kept {
-    // Keeps one more row of one text, unless it weighs too much.
-    fn add(&mut self, row: &[Value]) -> Result<(), QueryErr>
-        requires kinds { kinds_of row.now ≡ kind.Text ∷ [] }
-        requires few { self.old.rows < 2 ^ 32 }
-        ensures ok { OnOk result (Adds row.now self.old self.new) }
-        ensures refused { IfErr result (λ e. IsOfBytes e → IsTooLong row.now self.old.rows e) }
-        ensures cause { IfErr result (λ e. (e ≡ QueryErr.Memory) ⊎ (IsOfBytes e × (side_of e ≡ Some Left))) }
-    {
-        let number = self.rows + 1;
-        let weight = encoded_len(row).saturating_add(AGGREGATE);
-        if weight > MOST_WEIGHT {
-            return Err(QueryErr::RowTooLong {
-                side: Side::Left,
-                number,
-                bytes: weight,
-            });
-        }
-        encode_row(row, &mut self.bytes)?;
-        self.rows = number;
-        Ok(())
+// Keeps one more row of one text, unless it weighs too much. Its bytes are made in `room`.
+fn keep_row<St: Store>(
+    alloc: Global,
+    store: &mut St,
+    c: &Client,
+    kept: &mut Stream,
+    page: u64,
+    row: &[Value],
+    room: &mut Vec<u8>,
+) -> Result<(), QueryErr>
+    requires client { IsClient c.now (St.holds store.old) }
+    requires stream { IsStream c.now.tracker kept.old (St.holds store.old) }
+    requires room { HasRoom c.now.tracker kept.old (St.holds store.old) }
+    requires page { page ≡ len_in kept.old (St.holds store.old) }
+    requires short { page < 2 ^ 32 }
+    requires kinds { kinds_of row.now ≡ kind.Text ∷ [] }
+    requires few { kept.old.count < 2 ^ 32 }
+    ensures ok { OnOk result (Adds page row.now (rows_of kept.old (St.holds store.old)) (rows_of kept.new (St.holds store.new))) }
+    ensures counted { OnOk result (kept.new.count ≡ kept.old.count + 1) }
+    ensures refused { IfErr result (λ e. IsOfBytes e → IsTooLong page row.now kept.old.count e) }
+    ensures cause { IfErr result (λ e. (side_of e ≡ Some Left) × IsOfBytes e ⊎ (pool : PoolErr) × (e ≡ QueryErr.Pool pool)) }
+    ensures pool { IfErr result (CameOfPool kept.old (St.holds store.new) (St.signs store.old) (St.signs store.new)) }
+
+    ensures stream { IsStream c.now.tracker kept.new (St.holds store.new) }
+    ensures sized { kept.new.page_blocks ≡ kept.old.page_blocks }
+    ensures touches { Touches c.now.tracker kept.old kept.new (St.holds store.old) (St.holds store.new) }
+    ensures grows { Grows (St.signs store.old) (St.signs store.new) }
+{
+    law_row_back();
+    let weight = encoded_len(row).saturating_add(AGGREGATE);
+    if weight > page {
+        return Err(QueryErr::RowTooLong {
+            side: Side::Left,
+            number: kept.rows() + 1,
+            bytes: weight,
+        });
+    }
+    room.clear();
+    encode_row(row, room)?;
+    match kept.append(alloc, store, c, room.as_slice()) {
+        Ok(()) => Ok(()),
+        Err(StreamErr::Pool(e)) => Err(QueryErr::Pool(e)),
+        Err(StreamErr::RowTooLong { bytes: _ }) => unreachable!(),
     }
 }

@@ -1,61 +1,94 @@
-// A count, from the bytes of its input to those of its answer.
+// A query, from the bytes of its input to those of its answer.
 
-ghost use Rattle.std.specs.Prelude.{◌≡◌, ◌≢◌, ◌≤◌, IfErr, IfOk, IfSome, IsErrOf, OnOk};
+ghost use Rattle.std.specs.Prelude.{◌≡◌, ◌≢◌, ◌≤◌, IfErr, IfOk, IfSome, IsErrOf, OnOk, is_some};
 ghost use Rattle.std.specs.Io.KnownBytes.{IsAtEnd};
 ghost use Rattle.outside.specs.Counts.{Rose};
+ghost use Rattle.store_api.specs.Signs.{Grows};
 ghost use Rattle.query_plan.specs.declared.plan.Side.TheVariants.{Left};
+ghost use Rattle.query_plan.specs.Sizes.{joins, least_of, page_len};
 ghost use Rattle.query_run.specs.Answer.{Counting, Numbers, WroteAnswer, WroteFront};
 ghost use Rattle.query_run.specs.Causes.{IsOfBytes, IsSourceFault, side_of};
 ghost use Rattle.query_run.specs.Input.{IsRefusal};
+ghost use Rattle.query_run.specs.Plans.{CountsTexts, column_of};
+ghost use Rattle.query_run.specs.Stopped.{IsLeft, MayStop};
 
-use crate::counting::count_texts;
 use crate::outcome::{QueryErr, Ran, Totals};
-use crate::rows::{Kept, keep_rows};
+use crate::through::count_rows;
 use crate::writing::{Answer, make_answer};
 use csv_edge::write_whole;
 use outside::{Sink, Source};
+use query_plan::Query;
 use row_codec::Bytes;
 use std::alloc::Global;
+use store_api::Store;
 
-/// Counts how often each text of a column stands in what is left of the source, and writes the
-/// answer. The whole input is read before anything is written.
+/// Runs a query that counts the texts of one column of its left input, and writes its answer. The whole input is
+/// read before anything is written. Its rows are kept on pages of the store, by a client of its own with the least
+/// reservation, and what it answers is counted over what comes back.
 ///
-/// An input has at most 2147483648 records, the header among them, and 1099511627776 bytes. A row
-/// weighs its encoded bytes and 16 more, and at most 8192. The first refusal in the order of reading
-/// is answered; that an input has too many bytes may show before another refusal.
-pub fn run_count<S: Source, K: Sink>(
+/// The store has no live client and room for the least reservation; afterwards it has no live client again, and at
+/// least the room that it had. `right` holds a source exactly where the query joins, and holds it afterwards.
+///
+/// An input has at most 2147483648 records, the header among them, and 1099511627776 bytes. A row weighs its encoded
+/// bytes and 16 more, and at most as many as a page has. The first refusal in the order of reading is answered; that
+/// an input has too many bytes may show before another refusal.
+///
+/// # Errors
+///
+/// Those of the input, each with its place; `SinkFault`; and `Pool`, where the store answered so in this call or
+/// there was no memory: a query neither asks for more than the least reservation nor for a second client.
+pub fn run_query<St: Store, S: Source, K: Sink>(
     alloc: Global,
+    store: &mut St,
+    plan: &Query,
     left: &mut S,
-    column: &Bytes,
+    right: &mut Option<S>,
     sink: &mut K,
 ) -> Result<Ran, QueryErr>
-    ensures answer { OnOk result (WroteAnswer column.now (S.remaining left.old) (K.contents sink.old) (K.contents sink.new)) }
+    requires plan { CountsTexts plan.now }
+    requires idle { (St.holds store.old).live_clients ≡ 0 }
+    requires room { least_of plan.now (St.holds store.old).block_len ≤ (St.holds store.old).room }
+    requires right { is_some right.old ≡ joins plan.now }
+    ensures answer { OnOk result (WroteAnswer (page_len plan.now (St.holds store.old).block_len) (column_of plan.now) (S.remaining left.old) (K.contents sink.old) (K.contents sink.new)) }
     ensures read { OnOk result (IsAtEnd (S.remaining left.new)) }
-    ensures numbers { IfOk result (λ ran. IfSome (S.remaining left.old) (λ bytes. (c : Counting column.now bytes) × Numbers c ran)) }
+    ensures numbers { IfOk result (λ ran. IfSome (S.remaining left.old) (λ bytes. (c : Counting (page_len plan.now (St.holds store.old).block_len) (column_of plan.now) bytes) × Numbers c ran)) }
 
     ensures source_fault { IfErr result (λ e. IsSourceFault e → Rose (S.faults left.old) (S.faults left.new)) }
-    ensures refused { IfErr result (λ e. IsOfBytes e → IfSome (S.remaining left.old) (λ bytes. IsRefusal column.now bytes e)) }
+    ensures refused { IfErr result (λ e. IsOfBytes e → IfSome (S.remaining left.old) (λ bytes. IsRefusal (page_len plan.now (St.holds store.old).block_len) (column_of plan.now) bytes e)) }
     ensures side { IfErr result (λ e. IfSome (side_of e) (λ side. side ≡ Left)) }
+    ensures pool { IfErr result (MayStop plan.now.page_blocks (St.holds store.old) (St.signs store.old) (St.signs store.new)) }
     ensures sink_fault { IsErrOf result QueryErr.SinkFault → Rose (K.faults sink.old) (K.faults sink.new) }
-    ensures front { IsErrOf result QueryErr.SinkFault → WroteFront column.now (S.remaining left.old) (K.contents sink.old) (K.contents sink.new) }
+    ensures front { IsErrOf result QueryErr.SinkFault → WroteFront (page_len plan.now (St.holds store.old).block_len) (column_of plan.now) (S.remaining left.old) (K.contents sink.old) (K.contents sink.new) }
     ensures untouched { IfErr result (λ e. e ≢ QueryErr.SinkFault → sink.new ≡ sink.old) }
 
+    ensures leaves { IsLeft (St.holds store.old) (St.holds store.new) }
+    ensures right { right.new ≡ right.old }
     ensures source_kept { S.faults left.old ≤ S.faults left.new }
     ensures sink_kept { K.faults sink.old ≤ K.faults sink.new }
+    ensures grows { Grows (St.signs store.old) (St.signs store.new) }
 {
-    let Kept { bytes, rows } = keep_rows(alloc, left, column)?;
-    let counts = count_texts(alloc, &bytes)?;
-    drop(bytes);
-    let Answer { text, lines, total } = make_answer(alloc, column, counts)?;
+    let counted = count_rows(alloc, store, plan, left)?;
+    let Answer { text, lines, total } = make_answer(alloc, first_name(plan), counted.counts)?;
     let totals = Totals::one(alloc, total)?;
     if write_whole(sink, text.as_slice()).is_err() {
         return Err(QueryErr::SinkFault);
     }
     Ok(Ran {
-        left: rows,
+        left: counted.rows,
         right: 0,
-        kept: rows,
+        kept: counted.rows,
         lines,
         totals,
     })
+}
+
+// The name of the column that is counted.
+fn first_name(plan: &Query) -> &Bytes
+    requires { CountsTexts plan.now }
+    ensures { result.now ≡ column_of plan.now }
+{
+    match plan.left.columns.as_slice() {
+        [column, ..] => &column.name,
+        [] => unreachable!(),
+    }
 }

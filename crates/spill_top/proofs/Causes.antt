@@ -2,19 +2,20 @@
 use Rattle.std.proofs.Common.{◌≡◌, ◌∙◌, ◌≤◌, ◌⊎◌, inl, inr, ℕ, List, Option, Some, None, IfSome, length, sym, ap, refl, arith}
 use Rattle.std.specs.Option.{option_map}
 use Rattle.outside.specs.Counts.{Rose}
+use Rattle.reservation_tree.specs.declared.errors.PoolErr.TheVariants as pool
 use Rattle.query_run.specs.Causes.{IsOfBytes, IsSourceFault}
 use Rattle.query_run.specs.Input.{IsRefusal, most_bytes, refusal_of}
 use Rattle.query_run.specs.declared.outcome.QueryErr.{QueryErr}
 use Rattle.query_run.specs.declared.outcome.QueryErr.TheVariants as query
 use Rattle.spill_top.specs.declared.report.Refusal.{Refusal}
 use Rattle.spill_top.specs.declared.report.Refusal.TheVariants.{InputFault, Header, Csv, Field, Large, Row, Memory}
-use Rattle.spill_top.specs.Headline.{AcceptsInput, IsCause, IsOfInput, IsStatusOf, RefusesBytes}
+use Rattle.spill_top.specs.Headline.{AcceptsInput, IsCause, IsOfInput, IsStatusOf, RefusesBytes, page_bytes}
 use Rattle.spill_top.specs.Report.{status_of}
 use Rattle.spill_top.specs.Refusals.{refusal_for}
 use Rattle.spill_top.specs.Words.{Command}
 
 of-input : (told : Option (List ℕ)) (command : Command) (e : QueryErr) (refusal : Refusal) → refusal_for e ≡ Some refusal
-    → IfSome told (λ bytes. IsRefusal command.column bytes e) → IsOfInput told command refusal
+    → IfSome told (λ bytes. IsRefusal page_bytes command.column bytes e) → IsOfInput told command refusal
 of-input None command e refusal is refused = tt
 of-input (Some bytes) command e refusal is refused = (e, refused, is)
 
@@ -50,11 +51,17 @@ of-shortage told before now command Memory is = tt
 
 -- the cause of a query is that of its command
 pub cause_is : (told : Option (List ℕ)) (before now : ℕ) (command : Command) (e : QueryErr) (refusal : Refusal) → refusal_for e ≡ Some refusal
-    → (IsOfBytes e → IfSome told (λ bytes. IsRefusal command.column bytes e)) → (IsSourceFault e → Rose before now)
+    → (IsOfBytes e → IfSome told (λ bytes. IsRefusal page_bytes command.column bytes e)) → (IsSourceFault e → Rose before now)
     → IsCause told before now command refusal
 cause_is told before now command (query.SourceFault side) refusal is bytes fault = of-fault told before now command refusal is (fault (side, refl))
 cause_is told before now command query.SinkFault refusal is bytes fault = cc
-cause_is told before now command query.Memory refusal is bytes fault = of-shortage told before now command refusal is
+cause_is told before now command (query.Pool pool.Memory) refusal is bytes fault = of-shortage told before now command refusal is
+cause_is told before now command (query.Pool (pool.NoReservation tracker wanted room)) refusal is bytes fault = cc
+cause_is told before now command (query.Pool (pool.ScratchFull need free)) refusal is bytes fault = cc
+cause_is told before now command (query.Pool (pool.WriteFault entry)) refusal is bytes fault = cc
+cause_is told before now command (query.Pool (pool.ReadFault entry)) refusal is bytes fault = cc
+cause_is told before now command (query.Pool (pool.TooManyTrackers count)) refusal is bytes fault = cc
+cause_is told before now command (query.Pool pool.NamesSpent) refusal is bytes fault = cc
 cause_is told before now command (query.BadHeader side) refusal is bytes fault =
     of-bytes told before now command (query.BadHeader side) refusal is (λ (fault_is : Some InputFault ≡ Some refusal). cc) (of-input told command (query.BadHeader side) refusal is (bytes tt))
 cause_is told before now command (query.BadCsv side number) refusal is bytes fault =
@@ -102,7 +109,7 @@ first-is (Some bytes) command refusal status why refuses is (e, inl first, for) 
     let told = refuses.told_is in
     let here : refuses.bytes ≡ bytes = cc in
     let what = refuses.first in
-    let same : refusal_of command.column bytes ≡ Some why = rw here at what in
+    let same : refusal_of page_bytes command.column bytes ≡ Some why = rw here at what in
     let one : e ≡ why = cc in
     ap (option_map status_of) (sym (ap refusal_for one)) ∙ (ap (option_map status_of) for ∙ ap (λ (n : ℕ). Some n) (sym is))
 first-is (Some bytes) command refusal status why refuses is (e, inr more, for) =
@@ -126,7 +133,7 @@ never-refused (Some bytes) command refusal accepts (e, inl first, for) =
     let told = accepts.told_is in
     let here : accepts.bytes ≡ bytes = cc in
     let what = accepts.accepted.whole in
-    let none : refusal_of command.column bytes ≡ None = rw here at what in
+    let none : refusal_of page_bytes command.column bytes ≡ None = rw here at what in
     cc
 never-refused (Some bytes) command refusal accepts (e, inr more, for) =
     let told = accepts.told_is in

@@ -10,21 +10,25 @@ use Rattle.spill_top.specs.Refusals.{refusal_for}
 use Rattle.spill_top.specs.Report.{Tells, line_of, status_of}
 use Rattle.spill_top.specs.Words.{Command}
 
+-- the bytes of a page of a count, which no row may pass
+abbrev pub page_bytes : ℕ
+page_bytes = 8192
+
 -- the statuses: an answer, or its cause
 abbrev pub IsStatus : ℕ → Type 0
 IsStatus status = (status ≡ 0) ⊎ (status ≡ 1) ⊎ (status ≡ 3) ⊎ (status ≡ 4) ⊎ (status ≡ 5) ⊎ (status ≡ 9) ⊎ (status ≡ 10)
 
 -- the whole answer of the command was appended to the report, over the bytes that stand under its file
 abbrev pub Answers : (List ℕ → Option (List ℕ)) → Option (List ℕ) → Option (List ℕ) → Command → Type 0
-Answers bytes_at before now command = WroteAnswer command.column (bytes_at command.file) before now
+Answers bytes_at before now command = WroteAnswer page_bytes command.column (bytes_at command.file) before now
 
 -- a front of that answer was appended
 abbrev pub AnswersInPart : (List ℕ → Option (List ℕ)) → Option (List ℕ) → Option (List ℕ) → Command → Type 0
-AnswersInPart bytes_at before now command = WroteFront command.column (bytes_at command.file) before now
+AnswersInPart bytes_at before now command = WroteFront page_bytes command.column (bytes_at command.file) before now
 
 -- what the bytes of the input, if they are told, are refused for gives this refusal
 abbrev pub IsOfInput : Option (List ℕ) → Command → Refusal → Type 0
-IsOfInput told command refusal = IfSome told (λ bytes. (why : QueryErr) × IsRefusal command.column bytes why × (refusal_for why ≡ Some refusal))
+IsOfInput told command refusal = IfSome told (λ bytes. (why : QueryErr) × IsRefusal page_bytes command.column bytes why × (refusal_for why ≡ Some refusal))
 
 -- why a command was refused: its file had a fault, its bytes are refused, or memory was wanting
 abbrev pub IsCause : Option (List ℕ) → ℕ → ℕ → Command → Refusal → Type 0
@@ -48,7 +52,7 @@ pub record RefusesBytes (told : Option (List ℕ)) (command : Command) (why : Qu
   pub bytes : List ℕ
   pub told_is : told ≡ Some bytes
   pub fits : length bytes ≤ most_bytes
-  pub first : refusal_of command.column bytes ≡ Some why
+  pub first : refusal_of page_bytes command.column bytes ≡ Some why
 
 -- the bytes of the input are told, and they are too many
 pub record HasTooMany (told : Option (List ℕ)) : Type 0 where
@@ -60,7 +64,7 @@ pub record HasTooMany (told : Option (List ℕ)) : Type 0 where
 pub record AcceptsInput (told : Option (List ℕ)) (command : Command) : Type 0 where
   pub bytes : List ℕ
   pub told_is : told ≡ Some bytes
-  pub accepted : IsAccepted command.column bytes
+  pub accepted : IsAccepted page_bytes command.column bytes
 
 -- the status is that of this cause
 abbrev pub IsStatusOf : QueryErr → ℕ → Type 0

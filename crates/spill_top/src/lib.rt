@@ -3,6 +3,7 @@
 
 mod command;
 mod count;
+mod plan;
 mod report;
 mod top;
 

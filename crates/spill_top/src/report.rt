@@ -8,6 +8,7 @@ use csv_edge::write_whole;
 use outside::Sink;
 use query_plan::Side;
 use query_run::QueryErr;
+use reservation_tree::PoolErr;
 use row_codec::{Bytes, Memory};
 use run_report::{Cause, Outcome, outcome_line};
 use std::alloc::Global;
@@ -25,7 +26,8 @@ pub(crate) enum Refusal {
 }
 
 impl Refusal {
-    // What the cause of a query that wrote nothing is to its command; a fault of the report is no refusal.
+    // What the cause of a query that wrote nothing is to its command, over a store in memory; a fault of the report
+    // is no refusal.
     pub(crate) fn of(e: QueryErr) -> Option<Refusal>
         ensures { result ≡ refusal_for e }
     {
@@ -47,8 +49,8 @@ impl Refusal {
                 number,
                 weight: bytes,
             }),
-            QueryErr::SinkFault => None,
-            QueryErr::Memory => Some(Refusal::Memory),
+            QueryErr::Pool(PoolErr::Memory) => Some(Refusal::Memory),
+            QueryErr::SinkFault | QueryErr::Pool(_) => None,
         }
     }
 

@@ -1,0 +1,46 @@
+// The client of a query.
+
+ghost use Rattle.std.specs.Prelude.{◌≡◌, ◌≤◌, Some};
+ghost use Rattle.store_api.specs.Changes.{after_reserve};
+ghost use Rattle.store_api.specs.Conditions.{IsNewClient};
+ghost use Rattle.store_api.specs.Signs.{Grows};
+ghost use Rattle.query_run.specs.Inside.{HasOwn};
+
+use store_api::{Client, Store};
+
+// A client with so much reservation, for which the query has room. This is never refused.
+pub(crate) fn own_client<St: Store>(store: &mut St, bytes: u64) -> Client
+    requires idle { (St.holds store.old).live_clients ≡ 0 }
+    requires room { bytes ≤ (St.holds store.old).room }
+    ensures own { HasOwn result bytes (St.holds store.old) (St.holds store.new) }
+    ensures grows { Grows (St.signs store.old) (St.signs store.new) }
+{
+    let c = new_client(store, bytes);
+    grow(store, &c, bytes);
+    c
+}
+
+// A client that may have so much reservation, and has none.
+fn new_client<St: Store>(store: &mut St, limit: u64) -> Client
+    requires { (St.holds store.old).live_clients ≡ 0 }
+    ensures new { IsNewClient result limit (St.holds store.old) (St.holds store.new) }
+    ensures grows { Grows (St.signs store.old) (St.signs store.new) }
+{
+    match store.add_client(limit) {
+        Ok(c) => c,
+        Err(_) => unreachable!(),
+    }
+}
+
+// Raises a reservation of 0 by bytes for which the client's limit and the query's room suffice.
+fn grow<St: Store>(store: &mut St, c: &Client, bytes: u64)
+    requires client { (St.holds store.old).clients c.now.tracker ≡ Some (record { limit = bytes; reservation = 0; unused = 0 }) }
+    requires room { bytes ≤ (St.holds store.old).room }
+    ensures grown { St.holds store.new ≡ after_reserve c.now.tracker bytes (St.holds store.old) }
+    ensures grows { Grows (St.signs store.old) (St.signs store.new) }
+{
+    match store.reserve(c, bytes) {
+        Ok(()) => (),
+        Err(_) => unreachable!(),
+    }
+}
