@@ -3,12 +3,14 @@
 ghost use Rattle.std.specs.Prelude.{None, true};
 
 use crate::output::Output;
+use crate::progress::Progress;
+use crate::watched::Watched;
 use outside::{Failed, Inputs, Outputs, Source};
 use std::alloc::AllocError;
 use std::fs;
 use std::fs::File;
 use std::io::Read;
-use std::rt::Files;
+use std::rt::{Clock, Files};
 
 // A reader as a source. It tells what its reader tells.
 #[derive(Drop)]
@@ -37,25 +39,50 @@ impl<R: Read> Source for Input<R> {
 #[derive(Drop)]
 pub(crate) struct FileInputs<'a, F> {
     files: &'a F,
+    shows_progress: bool,
     faults: u64,
 }
 
-impl<'a, F> FileInputs<'a, F> {
-    pub(crate) fn new(files: &'a F) -> FileInputs<'a, F> {
-        FileInputs { files, faults: 0 }
+impl<'a, F: Clock + Eprint + AllocGlobal> FileInputs<'a, F> {
+    pub(crate) fn new(files: &'a F, shows_progress: bool) -> FileInputs<'a, F> {
+        FileInputs {
+            files,
+            shows_progress,
+            faults: 0,
+        }
+    }
+
+    // Without a clock nothing is shown, and the file is read all the same.
+    fn watched(&self, file: File) -> Watched<'a, File, F> {
+        if !self.shows_progress {
+            return Watched::new(file, None);
+        }
+        let progress = Progress::start(self.files, size_of(&file));
+        Watched::new(file, progress.ok())
     }
 }
 
-impl<'a, F: Files<File = File>> Inputs for FileInputs<'a, F> {
-    type Src = Input<File>;
+// The bytes of a file, if it is one that tells: a pipe has no size, and a file of the system's own has 0.
+fn size_of(file: &File) -> Option<u64> {
+    match file.metadata() {
+        Ok(data) if data.is_file() && data.len() > 0 => Some(data.len()),
+        _ => None,
+    }
+}
+
+impl<'a, F: Files<File = File> + Clock + Eprint + AllocGlobal + Sync> Inputs for FileInputs<'a, F> {
+    type Src = Input<Watched<'a, File, F>>;
 
     ghost bytes_at = { λ _ _. None };
 
     ghost faults_at = { λ s _. s.faults };
 
-    fn open(&mut self, name: &str) -> Result<Input<File>, Failed> {
+    fn open(&mut self, name: &str) -> Result<Input<Watched<'a, File, F>>, Failed> {
         match fs::open(self.files, name) {
-            Ok(reader) => Ok(Input { reader, faults: 0 }),
+            Ok(file) => Ok(Input {
+                reader: self.watched(file),
+                faults: 0,
+            }),
             Err(_) => {
                 self.faults = self.faults.saturating_add(1);
                 Err(Failed)
@@ -63,8 +90,9 @@ impl<'a, F: Files<File = File>> Inputs for FileInputs<'a, F> {
         }
     }
 
-    fn close(&mut self, _name: &str, src: Input<File>) {
+    fn close(&mut self, _name: &str, mut src: Input<Watched<'a, File, F>>) {
         self.faults = self.faults.saturating_add(src.faults);
+        src.reader.finish();
     }
 }
 

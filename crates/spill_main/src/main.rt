@@ -1,5 +1,5 @@
 //! The program `spill`: the words of its command line, files as inputs, standard output as the
-//! report, and for people a sentence on standard error.
+//! report, and for people a sentence on standard error and the progress of a long input.
 //!
 //! Nothing is decided here: the top call answers the status, and this hands it files and standard
 //! output as they are. Each adapter counts its faults and claims nothing of what it holds.
@@ -8,6 +8,8 @@
 mod advice;
 mod files;
 mod output;
+mod progress;
+mod watched;
 
 use files::{FileInputs, FileOutputs};
 use output::Output;
@@ -15,27 +17,30 @@ use outside::{MemSlot, OpenGate};
 use spill_top::spill_top;
 use std::alloc::AllocError;
 use std::fs::File;
+use std::io::IsTerminal;
 use std::process::ExitCode;
-use std::rt::{Env, Files};
+use std::rt::{Clock, Env, Files};
 use std::{env, io};
 
 // The status where there was no memory for the words.
 const NO_MEMORY: u8 = 10;
 
 fn main(rt: HostRuntime) -> ExitCode {
-    ExitCode::from(run(&rt).unwrap_or(NO_MEMORY))
+    let shows_progress = rt.stderr().is_terminal();
+    ExitCode::from(run(&rt, shows_progress).unwrap_or(NO_MEMORY))
 }
 
 // Runs the command that the process was given, and answers its status.
-fn run<R: Files<File = File> + Env + Print + Eprint + AllocGlobal>(
+fn run<R: Files<File = File> + Clock + Env + Print + Eprint + AllocGlobal + Sync>(
     rt: &R,
+    shows_progress: bool,
 ) -> Result<u8, AllocError> {
     let words = words(rt)?;
     let mut slots: Vec<MemSlot> = Vec::new(rt.alloc());
     let status = spill_top(
         rt.alloc(),
         words.as_slice(),
-        &mut FileInputs::new(rt),
+        &mut FileInputs::new(rt, shows_progress),
         &mut FileOutputs::new(rt),
         &mut Output::new(io::writer(rt)),
         &mut slots,
@@ -46,9 +51,9 @@ fn run<R: Files<File = File> + Env + Print + Eprint + AllocGlobal>(
     Ok(status)
 }
 
-// The words behind the program's name. Where one of them is no text, there are none: that is no
-// command either.
-fn words<R: Env + AllocGlobal>(rt: &R) -> Result<Vec<String>, AllocError> {
+// The words behind the program's name. Where one of them is no text, a person is told, and there are
+// none: that is no command either.
+fn words<R: Env + Eprint + AllocGlobal>(rt: &R) -> Result<Vec<String>, AllocError> {
     let mut words = Vec::new(rt.alloc());
     match env::args(rt) {
         Ok(args) => {
@@ -57,7 +62,9 @@ fn words<R: Env + AllocGlobal>(rt: &R) -> Result<Vec<String>, AllocError> {
             }
         }
         Err(e) if e.kind() == io::ErrorKind::OutOfMemory => return Err(AllocError),
-        Err(_) => {}
+        Err(_) => {
+            let _ = eprintln!(rt; "spill: a word of the command is no text in UTF-8");
+        }
     }
     Ok(words)
 }

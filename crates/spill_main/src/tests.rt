@@ -5,6 +5,8 @@ use std::io::Write;
 use std::test::Fail;
 use std::{env, fs, io, process};
 
+mod people;
+
 // A place of this process alone.
 fn place(rt: &HostRuntime, name: &str) -> Result<String, Fail> {
     let folder = env::temp_dir(rt)?;
@@ -19,7 +21,7 @@ fn place(rt: &HostRuntime, name: &str) -> Result<String, Fail> {
 #[test]
 fn a_file_is_read_to_its_end_and_a_missing_one_is_a_fault(rt: HostRuntime) -> Result<(), Fail> {
     let name = place(&rt, "in.csv")?;
-    let mut inputs = FileInputs::new(&rt);
+    let mut inputs = FileInputs::new(&rt, false);
     assert!(rt; inputs.open(name.as_str()).is_err());
     fs::write(&rt, name.as_str(), "k\na\n")?;
     let mut source = inputs.open(name.as_str())?;

@@ -1,0 +1,117 @@
+// What a person at a terminal gets.
+
+use crate::advice::advise;
+use crate::progress::Progress;
+use std::alloc::{AllocError, Global};
+use std::cell::{Cell, RefCell};
+use std::fmt::Display;
+use std::io;
+use std::rt::Clock;
+use std::test::Fail;
+use std::time::Duration;
+
+// A terminal, and a clock that is 50 milliseconds on at each look.
+#[derive(Drop)]
+struct Desk {
+    millis: Cell<u64>,
+    shown: RefCell<String>,
+}
+
+impl Desk {
+    fn new(alloc: Global) -> Desk {
+        Desk {
+            millis: Cell::new(0),
+            shown: RefCell::new(String::new(alloc)),
+        }
+    }
+}
+
+impl Clock for Desk {
+    fn monotonic(&self) -> io::Result<Duration> {
+        self.millis.set(self.millis.get().wrapping_add(50));
+        Ok(Duration::from_millis(self.millis.get()))
+    }
+
+    fn since_1970(&self) -> io::Result<Duration> {
+        self.monotonic()
+    }
+}
+
+impl Eprint for Desk {
+    fn eprint<D: Display + Drop>(&self, value: D) -> io::Result<()> {
+        match self.shown.try_borrow_mut() {
+            Ok(mut shown) => Ok(write!(shown, "{value}")?),
+            Err(_) => Err(io::Error::from(io::ErrorKind::ResourceBusy)),
+        }
+    }
+
+    fn eprintln<D: Display + Drop>(&self, value: D) -> io::Result<()> {
+        self.eprint(format_args!("{value}\n"))
+    }
+}
+
+#[test]
+fn progress_is_drawn_ten_times_a_second_and_cleared(rt: HostRuntime) -> Result<(), Fail> {
+    let rows = [
+        (
+            Some(12_345_678),
+            "\rspill: 0.4 of 12.3 MB, 4000000 rows a second                \
+             \rspill: 0.8 of 12.3 MB, 4000000 rows a second                ",
+        ),
+        (
+            None,
+            "\rspill: 0.4 MB, 4000000 rows a second                        \
+             \rspill: 0.8 MB, 4000000 rows a second                        ",
+        ),
+    ];
+    let piece = vec![in rt.alloc(); b'\n'; 200_000]?;
+    for (size, drawn) in rows {
+        let desk = (Desk::new(rt.alloc()), rt.alloc());
+        let mut progress = Progress::start(&desk, size)?;
+        for _ in 0..5 {
+            progress.pass(piece.as_slice());
+        }
+        progress.clear();
+        progress.clear();
+        let want = format!(in rt.alloc(); "{drawn}\r{:60}\r", "")?;
+        let shown = desk.0.shown.try_borrow()?;
+        assert_eq!(rt; shown.as_str(), want.as_str());
+    }
+    Ok(())
+}
+
+#[test]
+fn who_asks_for_help_is_told_of_no_mistake(rt: HostRuntime) -> Result<(), Fail> {
+    let rows: [(u8, &[&str], &str); 5] = [
+        (0, &["count", "in.csv", "k"], ""),
+        (1, &[], "usage: "),
+        (1, &["--help"], "usage: "),
+        (
+            1,
+            &["cuont", "in.csv"],
+            "spill: these words are no command\nusage: ",
+        ),
+        (
+            3,
+            &["count", "in.csv", "k"],
+            "spill: in.csv could not be read: ",
+        ),
+    ];
+    for (status, words, begins) in rows {
+        let desk = Desk::new(rt.alloc());
+        let words = owned(rt.alloc(), words)?;
+        advise(&desk, status, words.as_slice())?;
+        let shown = desk.shown.try_borrow()?;
+        assert!(rt; shown.as_str().starts_with(begins), "{status} {begins}");
+        assert_eq!(rt; shown.as_str().is_empty(), begins.is_empty());
+    }
+    Ok(())
+}
+
+fn owned(alloc: Global, words: &[&str]) -> Result<Vec<String>, AllocError> {
+    let mut all = Vec::new(alloc);
+    for word in words {
+        all.push(String::from_str(alloc, word)?)?;
+    }
+    Ok(all)
+}
