@@ -7,7 +7,7 @@ use Rattle.store_api.specs.Signs.{Signs, WasAnswered}
 use Rattle.query_run.specs.declared.outcome.QueryErr.{QueryErr}
 use Rattle.query_run.specs.declared.outcome.QueryErr.TheVariants as query
 
--- no client is live, the query has at least the room that it had, and its other numbers are as they were
+-- no client is live, the query has at least the room that it had, and its limit and its free slots are as they were
 pub record IsLeft (old new : Holdings) : Type 0 where
   pub live_clients : new.live_clients ≡ 0
   pub room : old.room ≤ new.room
