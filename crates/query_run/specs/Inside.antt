@@ -66,6 +66,8 @@ pub record HasOwn (c : ClientToken) (bytes : ℕ) (old new : Holdings) : Type 0 
   pub idle : IsIdle c.tracker new
   pub room : new.room + bytes ≡ old.room
   pub live_clients : new.live_clients ≡ 1
+  pub reservation : new.reservation ≡ old.reservation
+  pub above : new.above ≡ old.above
   pub limit : new.limit ≡ old.limit
   pub query : new.query ≡ old.query
   pub session : new.session ≡ old.session
@@ -81,6 +83,8 @@ pub record OwnsOnly (t : ℕ) (pages : List PageToken) (h : Holdings) : Type 0 w
 pub record HasEnded (t : ℕ) (s : Streamed) (old new : Holdings) : Type 0 where
   pub room : new.room ≡ old.room + (account_of t old).reservation
   pub live_clients : new.live_clients ≡ old.live_clients - 1
+  pub reservation : new.reservation ≡ old.reservation
+  pub above : new.above ≡ old.above
   pub limit : new.limit ≡ old.limit
   pub query : new.query ≡ old.query
   pub session : new.session ≡ old.session

@@ -7,10 +7,13 @@ use Rattle.store_api.specs.Signs.{Signs, WasAnswered}
 use Rattle.query_run.specs.declared.outcome.QueryErr.{QueryErr}
 use Rattle.query_run.specs.declared.outcome.QueryErr.TheVariants as query
 
--- no client is live, the query has at least the room that it had, and its limit and its free slots are as they were
+-- no client is live, the query has at least the room that it had, and its other numbers, what is above it and the
+-- free slots are as they were
 pub record IsLeft (old new : Holdings) : Type 0 where
   pub live_clients : new.live_clients ≡ 0
   pub room : old.room ≤ new.room
+  pub reservation : new.reservation ≡ old.reservation
+  pub above : new.above ≡ old.above
   pub limit : new.limit ≡ old.limit
   pub query : new.query ≡ old.query
   pub session : new.session ≡ old.session

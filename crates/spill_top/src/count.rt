@@ -13,6 +13,7 @@ use crate::report::Refusal;
 use outside::{Inputs, Sink};
 use query_plan::Query;
 use query_run::{QueryErr, run_query};
+use reservation_tree::PoolErr;
 use std::alloc::Global;
 use store_api::MemStore;
 
@@ -45,8 +46,10 @@ pub(crate) fn count<I: Inputs, R: Sink>(
     let Ok(plan) = counting_plan(alloc, file, column) else {
         return Err(Stop::Refused(Refusal::Memory));
     };
-    let Ok(mut store) = MemStore::open(alloc, BLOCK_LEN, LIMIT, LEAST) else {
-        return Err(Stop::Refused(Refusal::Memory));
+    let mut store = match MemStore::open(alloc, BLOCK_LEN, LIMIT, LEAST) {
+        Ok(store) => store,
+        Err(PoolErr::Memory) => return Err(Stop::Refused(Refusal::Memory)),
+        Err(_) => unreachable!(),
     };
     let counted = count_in(alloc, &mut store, &plan, file, inputs, report);
     store.close();

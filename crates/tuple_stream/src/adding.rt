@@ -1,5 +1,5 @@
 //! Rows come.
-ghost use Rattle.std.specs.Prelude.{◌≡◌, ◌+◌, ◌^◌, ◌<◌, ◌≤◌, [], ◌∷◌, ◌++◌, length, IsSome, IfSome, IfErr, OnOk, OnErr, Err};
+ghost use Rattle.std.specs.Prelude.{◌≡◌, ◌+◌, ◌^◌, ◌<◌, ◌≤◌, [], ◌∷◌, ◌++◌, length, option_map, Some, IsSome, IfSome, IfErr, OnOk, OnErr, Err};
 ghost use Rattle.store_api.specs.Conditions.{IsBlockCount, IsClient};
 ghost use Rattle.store_api.specs.Signs.{Grows};
 ghost use Rattle.tuple_stream.specs.declared.err.StreamErr.TheVariants as failure;
@@ -36,6 +36,7 @@ impl Stream {
         requires room { HasRoom c.now.tracker self.old (St.holds store.old) }
         requires row { IsOneRow row.now }
         ensures ok { OnOk result (rows_of self.new (St.holds store.new) ≡ rows_of self.old (St.holds store.old) ++ row.now ∷ []) }
+        ensures pinned { OnOk result (option_map (λ p. p.place + 1) self.new.pinned ≡ Some (length self.new.pages)) }
         ensures places { OnOk result (KeepsPlaces (row.now ∷ []) self.old self.new (St.holds store.old) (St.holds store.new)) }
         ensures long { len_in self.old (St.holds store.old) < length row.now → result ≡ Err (failure.RowTooLong (length row.now)) }
         ensures cause { IfErr result (MayRefuseRow (length row.now) self.old (St.holds store.new) (St.signs store.old) (St.signs store.new)) }

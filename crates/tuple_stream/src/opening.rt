@@ -1,5 +1,5 @@
 //! Which page is pinned.
-ghost use Rattle.std.specs.Prelude.{◌≡◌, ◌<◌, ◌≤◌, true, ℕ, [], None, Some, length, option_map, IfErr, OnOk};
+ghost use Rattle.std.specs.Prelude.{◌≡◌, ◌↔◌, ◌<◌, ◌≤◌, true, ℕ, [], None, Some, length, option_map, IsOk, IfErr, OnOk};
 ghost use Rattle.store_api.specs.Holdings.{unused_of};
 ghost use Rattle.store_api.specs.Signs.{Grows};
 ghost use Rattle.tuple_stream.specs.Streamed.{len_in, page_rows, rows_of};
@@ -51,6 +51,7 @@ impl Stream {
         requires inside { place < length self.old.pages }
         ensures ok { OnOk result (option_map (λ p. p.place) self.new.pinned ≡ Some place) }
         ensures cause { IfErr result (CameOfStore self.old (St.holds store.new) (St.signs store.old) (St.signs store.new)) }
+        ensures still { option_map (λ p. p.place) self.old.pinned ≡ Some place → IsOk result × (St.holds store.new ≡ St.holds store.old) × (St.signs store.new ≡ St.signs store.old) }
 
         ensures same { self.new ≡ record self.old { pinned = self.new.pinned } }
         ensures rows { page_rows self.new (St.holds store.new) ≡ page_rows self.old (St.holds store.old) }
@@ -68,7 +69,7 @@ impl Stream {
 
     // Whether the page at this place is the one that is pinned.
     fn is_open_at(&self, place: usize) -> bool
-        ensures { result ≡ true → option_map (λ p. p.place) self.now.pinned ≡ Some place }
+        ensures { (result ≡ true) ↔ (option_map (λ p. p.place) self.now.pinned ≡ Some place) }
     {
         match &self.pinned {
             Some(page) => page.place == place,
