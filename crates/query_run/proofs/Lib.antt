@@ -2,6 +2,8 @@ mod Answering
 mod Counted
 pub mod Grouping
 mod Halves
+mod KeptFirst
+mod Onwards
 mod Reading
 mod Spans
 mod Spelled

@@ -3,7 +3,7 @@ use Rattle.std.proofs.Common.{◌≡◌, ℕ, List, Option, IfSome, subst}
 use Rattle.reservation_tree.specs.declared.errors.PoolErr.{PoolErr}
 use Rattle.store_api.specs.Holdings.{Holdings}
 use Rattle.store_api.specs.Signs.{Signs, Grows}
-use Rattle.store_api.proofs.Answered.{answered_after, answered_before}
+use Rattle.store_api.proofs.Answered.{answered_before}
 use Rattle.tuple_stream.specs.Streamed.{Streamed}
 use Rattle.tuple_stream.specs.Touches.{CameOfStore, IsFull}
 use Rattle.query_run.specs.Input.{IsRefusal}

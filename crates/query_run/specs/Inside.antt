@@ -5,7 +5,7 @@ use Rattle.row_codec.specs.declared.values.Value.{Value}
 use Rattle.row_codec.specs.Order.{path_order}
 use Rattle.row_codec.specs.RowBytes.{row_bytes}
 use Rattle.row_codec.specs.RowLaws.{IsRow}
-use Rattle.store_api.specs.Holdings.{Account, LivePage, LiveLoan, Holdings, account_of}
+use Rattle.store_api.specs.Holdings.{LivePage, LiveLoan, Holdings, account_of}
 use Rattle.store_api.specs.Conditions.{IsIdle}
 use Rattle.store_api.specs.Tokens.{ClientToken, PageToken}
 use Rattle.store_api.specs.Signs.{Signs}

@@ -5,3 +5,4 @@ pub mod Plans
 pub mod Answer
 pub mod Stopped
 pub mod Inside
+pub mod Trail

@@ -1,8 +1,10 @@
 // The client of a query.
 
-ghost use Rattle.std.specs.Prelude.{◌≡◌, ◌≤◌, Some};
+ghost use Rattle.std.specs.Prelude.{[], ◌∷◌, ◌≡◌, ◌≤◌, None, Some};
+ghost use Rattle.pool_model.specs.declared.event.Event.TheVariants as event;
 ghost use Rattle.store_api.specs.Changes.{after_reserve};
 ghost use Rattle.store_api.specs.Conditions.{IsNewClient};
+ghost use Rattle.store_api.specs.Entries.{MadeThese};
 ghost use Rattle.store_api.specs.Signs.{Grows};
 ghost use Rattle.query_run.specs.Inside.{HasOwn};
 
@@ -13,6 +15,7 @@ pub(crate) fn own_client<St: Store>(store: &mut St, bytes: u64) -> Client
     requires idle { (St.holds store.old).live_clients ≡ 0 }
     requires room { bytes ≤ (St.holds store.old).room }
     ensures own { HasOwn result bytes (St.holds store.old) (St.holds store.new) }
+    ensures entries { MadeThese (St.holds store.old).session (event.AddTracker result.tracker (St.holds store.old).query bytes None ∷ event.Increase result.tracker bytes ∷ []) (St.signs store.old) (St.signs store.new) }
     ensures grows { Grows (St.signs store.old) (St.signs store.new) }
 {
     let c = new_client(store, bytes);
@@ -24,6 +27,7 @@ pub(crate) fn own_client<St: Store>(store: &mut St, bytes: u64) -> Client
 fn new_client<St: Store>(store: &mut St, limit: u64) -> Client
     requires { (St.holds store.old).live_clients ≡ 0 }
     ensures new { IsNewClient result limit (St.holds store.old) (St.holds store.new) }
+    ensures entries { MadeThese (St.holds store.old).session (event.AddTracker result.tracker (St.holds store.old).query limit None ∷ []) (St.signs store.old) (St.signs store.new) }
     ensures grows { Grows (St.signs store.old) (St.signs store.new) }
 {
     match store.add_client(limit) {
@@ -37,6 +41,7 @@ fn grow<St: Store>(store: &mut St, c: &Client, bytes: u64)
     requires client { (St.holds store.old).clients c.now.tracker ≡ Some (record { limit = bytes; reservation = 0; unused = 0 }) }
     requires room { bytes ≤ (St.holds store.old).room }
     ensures grown { St.holds store.new ≡ after_reserve c.now.tracker bytes (St.holds store.old) }
+    ensures entries { MadeThese (St.holds store.old).session (event.Increase c.now.tracker bytes ∷ []) (St.signs store.old) (St.signs store.new) }
     ensures grows { Grows (St.signs store.old) (St.signs store.new) }
 {
     match store.reserve(c, bytes) {

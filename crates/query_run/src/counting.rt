@@ -1,14 +1,16 @@
 // How often each text stands.
 
-ghost use Rattle.std.specs.Prelude.{◌≡◌, ◌<◌, ◌+◌, ◌^◌, ◌∷◌, [], ℕ, List, IfOk, IfErr, OnOk, Some, map, unwrap_or, if◌then◌else◌};
+ghost use Rattle.std.specs.Prelude.{Option, ◌≡◌, ◌<◌, ◌+◌, ◌^◌, ◌∷◌, [], ℕ, List, IfOk, IfErr, OnOk, Some, map, unwrap_or, if◌then◌else◌};
 ghost use Rattle.std.specs.BTreeMap.{get};
 ghost use Rattle.std.specs.Str.{bytes_eq};
+ghost use Rattle.pool_model.specs.declared.entry.Entry.{Entry};
 ghost use Rattle.row_codec.specs.Order.{path_order};
 ghost use Rattle.store_api.specs.Conditions.{IsClient};
 ghost use Rattle.store_api.specs.Signs.{Grows};
 ghost use Rattle.tuple_stream.specs.Streamed.{rows_of};
 ghost use Rattle.tuple_stream.specs.Streams.{IsStream, HasRoom};
 ghost use Rattle.tuple_stream.specs.Touches.{Touches, CameOfStore};
+ghost use Rattle.tuple_stream.specs.Trails.{Reads};
 ghost use Rattle.query_run.specs.Groups.{counted, key_of};
 ghost use Rattle.query_run.specs.Answer.{text_row};
 ghost use Rattle.query_run.specs.Inside.{IsKept, Keeps, spelled};
@@ -41,6 +43,7 @@ pub(crate) fn count_texts<St: Store>(
     ensures stream { IsStream c.now.tracker rows.new (St.holds store.new) }
     ensures same { rows.new ≡ record rows.old { pinned = rows.new.pinned } }
     ensures touches { Touches c.now.tracker rows.old rows.new (St.holds store.old) (St.holds store.new) }
+    ensures reads { (start : Option (List Entry)) → Reads rows.old start (St.signs store.old).trail → Reads rows.new start (St.signs store.new).trail }
     ensures grows { Grows (St.signs store.old) (St.signs store.new) }
 {
     law_first_place();

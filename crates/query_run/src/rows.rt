@@ -1,9 +1,10 @@
 // The rows of an input, kept on pages.
 
-ghost use Rattle.std.specs.Prelude.{◌≡◌, ◌≢◌, ◌≤◌, ◌<◌, ◌+◌, ◌^◌, ◌⊎◌, ◌∷◌, [], Some, IfErr, IfSome, OnOk, ℕ, List};
+ghost use Rattle.std.specs.Prelude.{Option, ◌≡◌, ◌≢◌, ◌≤◌, ◌<◌, ◌+◌, ◌^◌, ◌⊎◌, ◌∷◌, [], Some, IfErr, IfSome, OnOk, ℕ, List};
 ghost use Rattle.std.specs.Io.KnownBytes.{IsAtEnd};
 ghost use Rattle.outside.specs.Counts.{Rose};
 ghost use Rattle.reservation_tree.specs.declared.errors.PoolErr.{PoolErr};
+ghost use Rattle.pool_model.specs.declared.entry.Entry.{Entry};
 ghost use Rattle.row_codec.specs.declared.values.Kind.TheVariants as kind;
 ghost use Rattle.row_codec.specs.Row.{kinds_of};
 ghost use Rattle.store_api.specs.Conditions.{IsClient};
@@ -11,6 +12,7 @@ ghost use Rattle.store_api.specs.Signs.{Grows};
 ghost use Rattle.tuple_stream.specs.Streamed.{len_in, rows_of};
 ghost use Rattle.tuple_stream.specs.Streams.{IsStream, HasRoom};
 ghost use Rattle.tuple_stream.specs.Touches.{Touches};
+ghost use Rattle.tuple_stream.specs.Trails.{Builds};
 ghost use Rattle.query_plan.specs.declared.plan.Side.TheVariants.{Left};
 ghost use Rattle.query_run.specs.Causes.{IsOfBytes, IsSourceFault, side_of};
 ghost use Rattle.query_run.specs.Input.{IsRefusal, text_column};
@@ -63,6 +65,8 @@ pub(crate) fn keep_rows<St: Store, S: Source>(
     ensures source_kept { S.faults left.old ≤ S.faults left.new }
     ensures stream { IsStream c.now.tracker kept.new (St.holds store.new) }
     ensures sized { kept.new.page_blocks ≡ kept.old.page_blocks }
+    ensures builds { OnOk result ((start : Option (List Entry)) → Builds kept.old (St.holds store.old) start (St.signs store.old).trail → Builds kept.new (St.holds store.new) start (St.signs store.new).trail) }
+    ensures spent { kept.new.spent ≡ kept.old.spent }
     ensures touches { Touches c.now.tracker kept.old kept.new (St.holds store.old) (St.holds store.new) }
     ensures grows { Grows (St.signs store.old) (St.signs store.new) }
 {
@@ -108,6 +112,8 @@ fn keep_row<St: Store>(
 
     ensures stream { IsStream c.now.tracker kept.new (St.holds store.new) }
     ensures sized { kept.new.page_blocks ≡ kept.old.page_blocks }
+    ensures builds { OnOk result ((start : Option (List Entry)) → Builds kept.old (St.holds store.old) start (St.signs store.old).trail → Builds kept.new (St.holds store.new) start (St.signs store.new).trail) }
+    ensures spent { kept.new.spent ≡ kept.old.spent }
     ensures touches { Touches c.now.tracker kept.old kept.new (St.holds store.old) (St.holds store.new) }
     ensures grows { Grows (St.signs store.old) (St.signs store.new) }
 {

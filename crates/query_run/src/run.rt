@@ -4,6 +4,7 @@ ghost use Rattle.std.specs.Prelude.{◌≡◌, ◌≢◌, ◌≤◌, IfErr, IfOk
 ghost use Rattle.std.specs.Io.KnownBytes.{IsAtEnd};
 ghost use Rattle.outside.specs.Counts.{Rose};
 ghost use Rattle.store_api.specs.Signs.{Grows};
+ghost use Rattle.tuple_stream.specs.Trails.{Since};
 ghost use Rattle.query_plan.specs.declared.plan.Side.TheVariants.{Left};
 ghost use Rattle.query_plan.specs.Sizes.{joins, least_of, page_len};
 ghost use Rattle.query_run.specs.Answer.{Counting, Numbers, WroteAnswer, WroteFront};
@@ -11,6 +12,7 @@ ghost use Rattle.query_run.specs.Causes.{IsOfBytes, IsSourceFault, side_of};
 ghost use Rattle.query_run.specs.Input.{IsRefusal};
 ghost use Rattle.query_run.specs.Plans.{CountsTexts, column_of};
 ghost use Rattle.query_run.specs.Stopped.{IsLeft, MayStop};
+ghost use Rattle.query_run.specs.Trail.{KeptTexts, ReservesFirst};
 
 use crate::outcome::{QueryErr, Ran, Totals};
 use crate::through::count_rows;
@@ -61,6 +63,8 @@ pub fn run_query<St: Store, S: Source, K: Sink>(
     ensures front { IsErrOf result QueryErr.SinkFault → WroteFront (page_len plan.now (St.holds store.old).block_len) (column_of plan.now) (S.remaining left.old) (K.contents sink.old) (K.contents sink.new) }
     ensures untouched { IfErr result (λ e. e ≢ QueryErr.SinkFault → sink.new ≡ sink.old) }
 
+    ensures kept { OnOk result (KeptTexts (page_len plan.now (St.holds store.old).block_len) (column_of plan.now) (S.remaining left.old) (St.signs store.old).trail (St.signs store.new).trail) }
+    ensures reserves { Since (ReservesFirst (St.holds store.old).query (least_of plan.now (St.holds store.old).block_len)) (St.signs store.old).trail (St.signs store.new).trail }
     ensures leaves { IsLeft (St.holds store.old) (St.holds store.new) }
     ensures right { right.new ≡ right.old }
     ensures source_kept { S.faults left.old ≤ S.faults left.new }

@@ -1,13 +1,15 @@
 // Counting through a store: rows are kept on pages, and counted as they come back.
 
-ghost use Rattle.std.specs.Prelude.{◌≡◌, ◌≢◌, ◌≤◌, ◌<◌, ◌^◌, [], ℕ, List, None, IfErr, IfOk, IfSome, OnOk};
+ghost use Rattle.std.specs.Prelude.{Option, ◌≡◌, ◌≢◌, ◌≤◌, ◌<◌, ◌^◌, [], ℕ, List, None, IfErr, IfOk, IfSome, OnOk};
 ghost use Rattle.std.specs.Io.KnownBytes.{IsAtEnd};
 ghost use Rattle.outside.specs.Counts.{Rose};
+ghost use Rattle.pool_model.specs.declared.entry.Entry.{Entry};
 ghost use Rattle.store_api.specs.Conditions.{IsClient};
 ghost use Rattle.store_api.specs.Signs.{Grows};
 ghost use Rattle.tuple_stream.specs.Streamed.{len_in, rows_of};
 ghost use Rattle.tuple_stream.specs.Streams.{IsStream, HasRoom};
 ghost use Rattle.tuple_stream.specs.Touches.{Touches};
+ghost use Rattle.tuple_stream.specs.Trails.{Builds, PinsFirst, Reads, Since};
 ghost use Rattle.query_plan.specs.declared.plan.Side.TheVariants.{Left};
 ghost use Rattle.query_plan.specs.Sizes.{page_len, least_of};
 ghost use Rattle.query_run.specs.Causes.{IsOfBytes, IsSourceFault, side_of};
@@ -15,6 +17,7 @@ ghost use Rattle.query_run.specs.Input.{IsRefusal, text_column};
 ghost use Rattle.query_run.specs.Inside.{CameOfPool, HasCounted, HasEnded, OwnsOnly};
 ghost use Rattle.query_run.specs.Plans.{CountsTexts, column_of};
 ghost use Rattle.query_run.specs.Stopped.{IsLeft, MayStop};
+ghost use Rattle.query_run.specs.Trail.{KeptAndRead, KeptTexts, ReservesFirst};
 
 use crate::client::own_client;
 use crate::counting::{Counts, count_texts};
@@ -53,6 +56,8 @@ pub(crate) fn count_rows<St: Store, S: Source>(
     ensures pool { IfErr result (MayStop plan.now.page_blocks (St.holds store.old) (St.signs store.old) (St.signs store.new)) }
 
     ensures source_kept { S.faults left.old ≤ S.faults left.new }
+    ensures kept { OnOk result (KeptTexts (page_len plan.now (St.holds store.old).block_len) (column_of plan.now) (S.remaining left.old) (St.signs store.old).trail (St.signs store.new).trail) }
+    ensures reserves { Since (ReservesFirst (St.holds store.old).query (least_of plan.now (St.holds store.old).block_len)) (St.signs store.old).trail (St.signs store.new).trail }
     ensures leaves { IsLeft (St.holds store.old) (St.holds store.new) }
     ensures grows { Grows (St.signs store.old) (St.signs store.new) }
 {
@@ -83,6 +88,7 @@ fn count_through<St: Store, S: Source>(
     requires page { page ≡ len_in rows.old (St.holds store.old) }
     requires short { page < 2 ^ 32 }
     requires column { (name : List ℕ) × (columns.now ≡ text_column name) }
+    requires whole { rows.old.spent ≡ 0 }
     ensures counted { IfOk result (λ it. (name : List ℕ) → columns.now ≡ text_column name → HasCounted page name (S.remaining left.old) it.rows it.counts) }
     ensures read { OnOk result (IsAtEnd (S.remaining left.new)) }
     ensures refused { IfErr result (λ e. IsOfBytes e → (name : List ℕ) → columns.now ≡ text_column name → IfSome (S.remaining left.old) (λ bytes. IsRefusal page name bytes e)) }
@@ -94,6 +100,7 @@ fn count_through<St: Store, S: Source>(
     ensures source_kept { S.faults left.old ≤ S.faults left.new }
     ensures stream { IsStream c.now.tracker rows.new (St.holds store.new) }
     ensures sized { rows.new.page_blocks ≡ rows.old.page_blocks }
+    ensures kept { OnOk result ((start : Option (List Entry)) (name : List ℕ) → columns.now ≡ text_column name → Builds rows.old (St.holds store.old) start (St.signs store.old).trail → KeptAndRead page name (S.remaining left.old) rows.new start (St.signs store.new).trail) }
     ensures touches { Touches c.now.tracker rows.old rows.new (St.holds store.old) (St.holds store.new) }
     ensures grows { Grows (St.signs store.old) (St.signs store.new) }
 {
@@ -112,6 +119,7 @@ fn end_all<St: Store>(store: &mut St, c: Client, rows: Stream)
     requires stream { IsStream c.tracker rows (St.holds store.old) }
     requires only { OwnsOnly c.tracker rows.pages (St.holds store.old) }
     ensures ended { HasEnded c.tracker rows (St.holds store.old) (St.holds store.new) }
+    ensures reads { (start : Option (List Entry)) → Reads rows start (St.signs store.old).trail → Since PinsFirst start (St.signs store.new).trail }
     ensures grows { Grows (St.signs store.old) (St.signs store.new) }
 {
     let mut rows = rows;

@@ -13,4 +13,10 @@ pub mod LoanTurns
 pub mod Reserving
 pub mod Growing
 pub mod Answered
+pub mod Stopping
+pub mod Unfit
+pub mod Reserved
 pub mod Untouched
+pub mod Telling
+pub mod Limits
+pub mod Slots

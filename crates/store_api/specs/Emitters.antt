@@ -1,6 +1,7 @@
 -- What an emitter asks of a store, and what it leaves.
 use Rattle.std.specs.Prelude.{◌≡◌, ◌≢◌, ℕ, ◌^◌, ◌-◌, ◌<◌, ◌↔◌, Option, Some, None, IsSome, ⊤}
 use Rattle.store_api.specs.Holdings.{LivePage, LiveLoan, Holdings}
+use Rattle.store_api.specs.Alike.{Alike}
 use Rattle.store_api.specs.Signs.{Signs, WasAnswered}
 use Rattle.store_api.specs.declared.op_err.OpErr.{OpErr}
 use Rattle.store_api.specs.declared.op_err.OpErr.TheVariants.{Pool, Sink}
@@ -16,7 +17,7 @@ pub record SameOwn (client : Option ℕ) (old new : Holdings) : Type 0 where
   pub block_len : new.block_len ≡ old.block_len
   pub own : (t : ℕ) → client ≡ Some t → SameFor t old new
 
--- whatever isn't this client's is as before
+-- whatever isn't this client's is as before; and where there is no client, so is all, the query's own numbers too
 pub record OthersStay (client : Option ℕ) (old new : Holdings) : Type 0 where
   pub block_len : new.block_len ≡ old.block_len
   pub session : new.session ≡ old.session
@@ -24,6 +25,7 @@ pub record OthersStay (client : Option ℕ) (old new : Holdings) : Type 0 where
   pub limit : new.limit ≡ old.limit
   pub live_clients : new.live_clients ≡ old.live_clients
   pub others : (t : ℕ) → client ≢ Some t → SameFor t old new
+  pub alone : client ≡ None → Alike old new
 
 -- the emitter's client, where it has one, is live
 abbrev pub HasClient : Option ℕ → Holdings → Type 0

@@ -4,8 +4,11 @@ pub mod Changes
 pub mod Signs
 pub mod Entries
 pub mod Refusals
+pub mod Walks
 pub mod Conditions
 pub mod Alike
+pub mod EntryLaws
+pub mod HoldingLaws
 pub mod Shapes
 pub mod Emitters
 pub mod MemAccounts

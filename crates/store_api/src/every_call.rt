@@ -1,7 +1,9 @@
 //! A walk over every call of a store, for the tests of each store. It is proved over the trait alone.
-ghost use Rattle.std.specs.Prelude.{◌≡◌, ◌≢◌, ℕ, ◌≤◌, IfOk, OnOk, length, slice_index};
+ghost use Rattle.std.specs.Prelude.{◌≡◌, ◌≢◌, ℕ, ◌≤◌, IfOk, IfErr, OnOk, length, slice_index};
 ghost use Rattle.store_api.specs.Holdings.{unused_of, loan_len};
 ghost use Rattle.store_api.specs.Changes.{after_free};
+ghost use Rattle.store_api.specs.Signs.{Grows, WasAnswered};
+ghost use Rattle.store_api.specs.Walks.{StoppedRound, StoppedWalk};
 ghost use Rattle.store_api.specs.Conditions.{IsClient, IsLoan};
 ghost use Rattle.store_api.specs.Alike.{Alike, AlikeButClients};
 
@@ -11,12 +13,15 @@ use reservation_tree::PoolErr;
 use std::alloc::Global;
 
 // A page is left with a byte and shows it again; then it ends.
+#[tactic(auto, using(crate::proofs::Growing::grows_trans, crate::proofs::Answered::answered_before, crate::proofs::Answered::answered_after))]
 fn page_round<St: Store>(store: &mut St, alloc: Global, c: &Client, byte: u8) -> Result<u8, PoolErr>
     requires client { IsClient c.now (St.holds store.old) }
     requires unused { (St.holds store.old).block_len ≤ unused_of c.now.tracker (St.holds store.old) }
     requires block { 1 ≤ (St.holds store.old).block_len }
     ensures ok { IfOk result (λ shown. shown ≡ byte) }
     ensures same { Alike (St.holds store.old) (St.holds store.new) }
+    ensures cause { IfErr result (λ e. WasAnswered e (St.signs store.old) (St.signs store.new)) }
+    ensures grows { Grows (St.signs store.old) (St.signs store.new) }
 {
     let (page, mut buf) = store.create(alloc, c, 1)?;
     buf.write_at(0, &[byte]);
@@ -39,6 +44,7 @@ fn page_round<St: Store>(store: &mut St, alloc: Global, c: &Client, byte: u8) ->
 }
 
 // The loan is charged to the other client, shows its first byte, and is freed.
+#[tactic(auto, using(crate::proofs::Answered::answered_after))]
 fn move_round<St: Store>(store: &mut St, loan: Loan, other: &Client) -> Result<u8, PoolErr>
     requires loan { IsLoan loan (St.holds store.old) }
     requires other { IsClient other.now (St.holds store.old) }
@@ -46,6 +52,8 @@ fn move_round<St: Store>(store: &mut St, loan: Loan, other: &Client) -> Result<u
     requires byte { 1 ≤ length loan.buf.bytes }
     ensures ok { IfOk result (λ shown. shown ≡ slice_index loan.buf.bytes 0) }
     ensures freed { Alike (after_free loan.number (St.holds store.old)) (St.holds store.new) }
+    ensures cause { IfErr result (λ e. WasAnswered e (St.signs store.old) (St.signs store.new)) }
+    ensures grows { Grows (St.signs store.old) (St.signs store.new) }
 {
     match store.move_buffer(loan, other) {
         Ok(loan) => {
@@ -62,6 +70,7 @@ fn move_round<St: Store>(store: &mut St, loan: Loan, other: &Client) -> Result<u
 }
 
 // A page's buffer becomes a loan, is charged to the other client, and is freed.
+#[tactic(auto, using(crate::proofs::Growing::grows_trans, crate::proofs::Answered::answered_before))]
 fn loan_round<St: Store>(
     store: &mut St,
     alloc: Global,
@@ -77,6 +86,8 @@ fn loan_round<St: Store>(
     requires block { 1 ≤ (St.holds store.old).block_len }
     ensures ok { IfOk result (λ shown. shown ≡ byte) }
     ensures same { Alike (St.holds store.old) (St.holds store.new) }
+    ensures cause { IfErr result (λ e. WasAnswered e (St.signs store.old) (St.signs store.new)) }
+    ensures grows { Grows (St.signs store.old) (St.signs store.new) }
 {
     let (page, mut buf) = store.create(alloc, c, 1)?;
     buf.write_at(0, &[byte]);
@@ -91,6 +102,8 @@ fn alloc_round<St: Store>(store: &mut St, alloc: Global, c: &Client) -> Result<u
     requires block { 1 ≤ (St.holds store.old).block_len }
     ensures ok { IfOk result (λ shown. shown ≡ 0) }
     ensures same { Alike (St.holds store.old) (St.holds store.new) }
+    ensures cause { IfErr result (λ e. WasAnswered e (St.signs store.old) (St.signs store.new)) }
+    ensures grows { Grows (St.signs store.old) (St.signs store.new) }
 {
     let loan = store.alloc(alloc, c, 1)?;
     let mut shown = [1];
@@ -100,6 +113,7 @@ fn alloc_round<St: Store>(store: &mut St, alloc: Global, c: &Client) -> Result<u
 }
 
 // Both clients get a block's length of reservation, by two blocks of the first; the rest is given back.
+#[tactic(auto, using(crate::proofs::Growing::grows_trans, crate::proofs::Stopping::stopped_before, crate::proofs::Stopping::answered_stops))]
 pub(crate) fn reserve_round<St: Store>(
     store: &mut St,
     c: &Client,
@@ -115,6 +129,8 @@ pub(crate) fn reserve_round<St: Store>(
     ensures other { IsClient other.now (St.holds store.new) }
     ensures unused { OnOk result ((St.holds store.old).block_len ≤ unused_of c.now.tracker (St.holds store.new)) }
     ensures unused_other { OnOk result ((St.holds store.old).block_len ≤ unused_of other.now.tracker (St.holds store.new)) }
+    ensures cause { IfErr result (StoppedRound (St.signs store.old) (St.signs store.new)) }
+    ensures grows { Grows (St.signs store.old) (St.signs store.new) }
 {
     let len = u64::from(store.block_len());
     store.reserve(c, 3 * len)?;
@@ -132,6 +148,7 @@ pub struct Walked {
 }
 
 // Every call that clients make, by two of them.
+#[tactic(auto, using(crate::proofs::Growing::grows_trans, crate::proofs::Stopping::stopped_before, crate::proofs::Stopping::answered_stops))]
 fn rounds<St: Store>(
     store: &mut St,
     alloc: Global,
@@ -146,6 +163,8 @@ fn rounds<St: Store>(
     ensures others { (q : ℕ) → q ≢ c.now.tracker → q ≢ other.now.tracker → (St.holds store.new).clients q ≡ (St.holds store.old).clients q }
     ensures client { IsClient c.now (St.holds store.new) }
     ensures other { IsClient other.now (St.holds store.new) }
+    ensures cause { IfErr result (StoppedRound (St.signs store.old) (St.signs store.new)) }
+    ensures grows { Grows (St.signs store.old) (St.signs store.new) }
 {
     reserve_round(store, c, other)?;
     let pinned = page_round(store, alloc, c, 7)?;
@@ -162,11 +181,16 @@ fn rounds<St: Store>(
 ///
 /// # Errors
 ///
-/// What the store answered. It is left so then too.
+/// `TooManyTrackers`, exactly where fifteen or more clients are live. `NoReservation`: a growth passed a limit, or the
+/// room of what is above. Else what the store answered in this call, or there was no memory. The store is left so
+/// then too.
+#[tactic(auto, using(crate::proofs::Growing::grows_trans))]
 pub fn walk<St: Store>(store: &mut St, alloc: Global) -> Result<Walked, PoolErr>
     ensures ok { IfOk result (λ walked. walked ≡ record { pinned = 7; moved = 9; fresh = 0 }) }
     ensures rest { AlikeButClients (St.holds store.old) (St.holds store.new) }
     ensures clients { (q : ℕ) → (St.holds store.new).clients q ≡ (St.holds store.old).clients q }
+    ensures cause { IfErr result (StoppedWalk (St.holds store.old) (St.signs store.old) (St.signs store.new)) }
+    ensures grows { Grows (St.signs store.old) (St.signs store.new) }
 {
     let c = store.add_client(u64::MAX)?;
     let walked = match store.add_client(u64::MAX) {

@@ -7,6 +7,7 @@
 
 mod emit;
 mod every_call;
+mod laws;
 mod listed;
 mod mem_store;
 mod op_err;
@@ -18,6 +19,7 @@ mod tokens;
 
 pub use emit::Emit;
 pub use every_call::{Walked, walk};
+pub use laws::{law_entries, law_give_back, law_growth, law_slots};
 pub use listed::Listed;
 pub use mem_store::{MAX_CLIENTS, MemStore};
 pub use op_err::OpErr;

@@ -7,7 +7,10 @@ ghost use Rattle.store_api.specs.Alike.{Alike, AlikeButClients};
 
 use crate::every_call::reserve_round;
 use crate::row_count::RowCount;
-use crate::{Client, Emit, Loan, MemStore, Store, Value, Walked, walk};
+use crate::{
+    Client, Emit, Loan, MemStore, Store, Value, Walked, law_entries, law_give_back, law_growth,
+    law_slots, walk,
+};
 use reservation_tree::{PoolErr, TrackerId};
 use std::alloc::Global;
 use std::test::Fail;
@@ -211,4 +214,12 @@ fn an_emitter_takes_a_row_beside_a_store(rt: HostRuntime) -> Result<(), Fail> {
     store.close();
     assert_eq!(rt; (answer, counted), (Ok(()), RowCount { rows: 1 }));
     Ok(())
+}
+
+#[test]
+fn laws_are_calls_that_do_nothing(_rt: HostRuntime) {
+    law_entries();
+    law_give_back();
+    law_growth();
+    law_slots();
 }

@@ -1,14 +1,14 @@
 -- A call of one stream leaves the others of its store as they were.
-use Rattle.std.proofs.Common.{◌≡◌, ℕ, ◌+◌, ◌*◌, ◌<◌, ◌==◌, if◌then◌else◌, List, [], ◌++◌, drop, length, Option, Some, IsSome, refl, ap, sym, ◌∙◌, subst, append-nil}
+use Rattle.std.proofs.Common.{◌≡◌, ℕ, ◌+◌, ◌*◌, ◌<◌, ◌==◌, if◌then◌else◌, List, [], ◌++◌, drop, length, Option, Some, IsSome, ap, sym, ◌∙◌, subst, append-nil}
 use Rattle.std.specs.Prelude.{All, slice_get}
 use Rattle.std.specs.List.{concat}
 use Rattle.std.proofs.lemmas.List.Elements.{All-drop}
 use Rattle.std.proofs.lemmas.Option.{IfSome_then}
 use Rattle.store_api.specs.Tokens.{PageToken}
 use Rattle.store_api.specs.Holdings.{LivePage, Holdings, or_else, no_page, page_of}
-use Rattle.tuple_stream.specs.Streamed.{OpenPage, Streamed, bytes_of, open_bytes, all_bytes, rows_by_page, page_rows, rows_of, joined}
-use Rattle.tuple_stream.specs.Streams.{IsApart, IsOpen, IsOwnPage, IsPacked, IsStream, IsFilled, start_of, unspent}
-use Rattle.tuple_stream.specs.Places.{Place, IsPlace, KeepsPlaces, rows_from, start_in}
+use Rattle.tuple_stream.specs.Streamed.{Streamed, bytes_of, open_bytes, all_bytes, rows_by_page, page_rows, rows_of, joined}
+use Rattle.tuple_stream.specs.Streams.{IsApart, IsOwnPage, IsPacked, IsStream, IsFilled, start_of, unspent}
+use Rattle.tuple_stream.specs.Places.{KeepsPlaces, rows_from, start_in}
 use Rattle.tuple_stream.specs.Touches.{Touches}
 use Rattle.tuple_stream.proofs.Chosen.{at_place, all_placed, map_agrees}
 

@@ -2,6 +2,10 @@
 pub mod Beside
 pub mod Chains
 pub mod Frames
+pub mod PinsFirst
+pub mod Sinces
+mod BuildingPages
+mod BuildingQuiet
 mod Chosen
 mod Emptied
 mod Endings
@@ -9,6 +13,8 @@ mod FewPages
 mod Filling
 mod KeepingRows
 mod LastPage
+mod LeftPages
+mod LeftRows
 mod NewPage
 mod NewReady
 mod NewRows
@@ -20,6 +26,10 @@ mod PageLists
 mod Pinned
 mod Pinning
 mod Placed
+mod ReadingCalls
+mod ReadingEnds
+mod ReadingEvents
+mod ReadingOpen
 mod Refused
 mod Resting
 mod RowBytes

@@ -1,5 +1,5 @@
 -- A stream whose rows are read and stay.
-use Rattle.std.specs.Prelude.{◌≡◌, ◌≢◌, ℕ, ◌+◌, ◌<◌, List, [], ◌∷◌, length, Option, Some, None}
+use Rattle.std.specs.Prelude.{◌≡◌, ◌≢◌, ℕ, ◌+◌, ◌<◌, List, [], ◌∷◌, length, Option, Some, None, option_map}
 use Rattle.store_api.specs.Holdings.{Holdings}
 use Rattle.store_api.specs.Signs.{Signs, Grows}
 use Rattle.tuple_stream.specs.Streamed.{Streamed, rows_of}
@@ -36,3 +36,8 @@ IsInPage (Some behind) place row s h = (rows_from place s h ≡ row ∷ rows_fro
 abbrev pub IsInStream : Option Place → Place → List ℕ → Streamed → Holdings → Type 0
 IsInStream None place row s h = rows_from place s h ≡ []
 IsInStream (Some behind) place row s h = (rows_from place s h ≡ row ∷ rows_from behind s h) × (IsPlace place s h → IsPlace behind s h)
+
+-- a row was read: its page is pinned, and where it was so before and the place stood in it, the store is as before
+pub record KeepsOpen (place behind : Place) (s now : Streamed) (old new : Holdings) (before after : Signs) : Type 0 where
+  pub pinned : option_map (λ p. p.place) now.pinned ≡ Some behind.page
+  pub still : option_map (λ p. p.place) s.pinned ≡ Some behind.page → place.page ≡ behind.page → (new ≡ old) × (after ≡ before)

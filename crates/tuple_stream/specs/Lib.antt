@@ -3,6 +3,7 @@ pub mod Streamed
 pub mod Streams
 pub mod Places
 pub mod Touches
+pub mod Trails
 pub mod Bounds
 pub mod Ready
 pub mod Ending

@@ -1,5 +1,5 @@
 -- What is so of a stream over its store, after each call.
-use Rattle.std.specs.Prelude.{◌≡◌, ◌≢◌, ℕ, ◌+◌, ◌-◌, ◌<◌, ◌≤◌, ◌⊎◌, ◌==◌, List, [], ◌∷◌, length, map, drop, replicate, All, slice_get, if◌then◌else◌, Option, Some, None, IfSome, IsSome, ⊤}
+use Rattle.std.specs.Prelude.{◌≡◌, ◌≢◌, ℕ, ◌+◌, ◌-◌, ◌<◌, ◌≤◌, ◌⊎◌, ◌==◌, List, [], ◌∷◌, length, drop, replicate, All, slice_get, if◌then◌else◌, Option, Some, None, IfSome, IsSome, ⊤}
 use Rattle.std.specs.List.{concat}
 use Rattle.store_api.specs.Tokens.{PageToken}
 use Rattle.store_api.specs.Holdings.{Holdings, page_of, unused_of}

@@ -1,5 +1,6 @@
 //! Rows come.
-ghost use Rattle.std.specs.Prelude.{◌≡◌, ◌+◌, ◌^◌, ◌<◌, ◌≤◌, [], ◌∷◌, ◌++◌, length, option_map, Some, IsSome, IfSome, IfErr, OnOk, OnErr, Err};
+ghost use Rattle.std.specs.Prelude.{List, ◌≡◌, ◌+◌, ◌^◌, ◌<◌, ◌≤◌, [], ◌∷◌, ◌++◌, length, option_map, Option, Some, IsSome, IfSome, IfErr, OnOk, OnErr, Err};
+ghost use Rattle.pool_model.specs.declared.entry.Entry.{Entry};
 ghost use Rattle.store_api.specs.Conditions.{IsBlockCount, IsClient};
 ghost use Rattle.store_api.specs.Signs.{Grows};
 ghost use Rattle.tuple_stream.specs.declared.err.StreamErr.TheVariants as failure;
@@ -9,6 +10,7 @@ ghost use Rattle.tuple_stream.specs.Streams.{IsStream, HasRoom};
 ghost use Rattle.tuple_stream.specs.Places.{KeepsPlaces};
 ghost use Rattle.tuple_stream.specs.Ready.{with_row};
 ghost use Rattle.tuple_stream.specs.Touches.{Touches, MayRefuseRow};
+ghost use Rattle.tuple_stream.specs.Trails.{Builds};
 
 use crate::err::StreamErr;
 use crate::stream::Stream;
@@ -46,6 +48,7 @@ impl Stream {
         ensures stream { IsStream c.now.tracker self.new (St.holds store.new) }
         ensures sized { self.new.page_blocks ≡ self.old.page_blocks }
         ensures spent { self.new.spent ≡ self.old.spent }
+        ensures builds { OnOk result ((start : Option (List Entry)) → Builds self.old (St.holds store.old) start (St.signs store.old).trail → Builds self.new (St.holds store.new) start (St.signs store.new).trail) }
         ensures touches { Touches c.now.tracker self.old self.new (St.holds store.old) (St.holds store.new) }
         ensures grows { Grows (St.signs store.old) (St.signs store.new) }
     {

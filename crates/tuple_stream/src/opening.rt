@@ -1,11 +1,13 @@
 //! Which page is pinned.
-ghost use Rattle.std.specs.Prelude.{◌≡◌, ◌↔◌, ◌<◌, ◌≤◌, true, ℕ, [], None, Some, length, option_map, IsOk, IfErr, OnOk};
+ghost use Rattle.std.specs.Prelude.{List, Option, ◌≡◌, ◌↔◌, ◌<◌, ◌≤◌, true, ℕ, [], None, Some, length, option_map, IsOk, IfErr, OnOk};
+ghost use Rattle.pool_model.specs.declared.entry.Entry.{Entry};
 ghost use Rattle.store_api.specs.Holdings.{unused_of};
 ghost use Rattle.store_api.specs.Signs.{Grows};
 ghost use Rattle.tuple_stream.specs.Streamed.{len_in, page_rows, rows_of};
 ghost use Rattle.tuple_stream.specs.Streams.{IsStream, HasRoom};
 ghost use Rattle.tuple_stream.specs.Places.{KeepsPlaces};
 ghost use Rattle.tuple_stream.specs.Touches.{Touches, CameOfStore, IsFullOnly, TellsRows};
+ghost use Rattle.tuple_stream.specs.Trails.{Builds, Leaves, Reads, Rests, Since};
 
 use crate::stream::{Open, Stream};
 use reservation_tree::PoolErr;
@@ -21,6 +23,8 @@ impl Stream {
         requires { (t : ℕ) × IsStream t self.old (St.holds store.old) }
         ensures ok { OnOk result (self.new.pinned ≡ None) }
         ensures told { OnOk result (TellsRows self.new (St.holds store.new) (St.signs store.new).trail) }
+        ensures leaves { OnOk result ((start : Option (List Entry)) → self.old.spent ≡ 0 → Builds self.old (St.holds store.old) start (St.signs store.old).trail → Since (Leaves (rows_of self.new (St.holds store.new))) start (St.signs store.new).trail) }
+        ensures rests { OnOk result ((start : Option (List Entry)) → Builds self.old (St.holds store.old) start (St.signs store.old).trail → Rests self.new (St.holds store.new) start (St.signs store.new).trail) }
         ensures cause { IfErr result (IsFullOnly self.old (St.holds store.new)) }
         ensures answered { IfErr result (CameOfStore self.old (St.holds store.new) (St.signs store.old) (St.signs store.new)) }
         ensures err { IfErr result (λ _. (self.new ≡ self.old) × (St.holds store.new ≡ St.holds store.old)) }
@@ -31,6 +35,7 @@ impl Stream {
         ensures rows { rows_of self.new (St.holds store.new) ≡ rows_of self.old (St.holds store.old) }
         ensures places { KeepsPlaces [] self.old self.new (St.holds store.old) (St.holds store.new) }
         ensures touches { (t : ℕ) → IsStream t self.old (St.holds store.old) → Touches t self.old self.new (St.holds store.old) (St.holds store.new) }
+        ensures reads { (start : Option (List Entry)) → Reads self.old start (St.signs store.old).trail → Reads self.new start (St.signs store.new).trail }
         ensures grows { Grows (St.signs store.old) (St.signs store.new) }
     {
         let Some(Open { place, buf }) = self.pinned.take() else {
@@ -58,6 +63,7 @@ impl Stream {
         ensures stream { (t : ℕ) → IsStream t self.old (St.holds store.old) → IsStream t self.new (St.holds store.new) }
         ensures places { KeepsPlaces [] self.old self.new (St.holds store.old) (St.holds store.new) }
         ensures touches { (t : ℕ) → IsStream t self.old (St.holds store.old) → Touches t self.old self.new (St.holds store.old) (St.holds store.new) }
+        ensures reads { (start : Option (List Entry)) → Reads self.old start (St.signs store.old).trail → Reads self.new start (St.signs store.new).trail }
         ensures grows { Grows (St.signs store.old) (St.signs store.new) }
     {
         if self.is_open_at(place) {
@@ -90,6 +96,7 @@ impl Stream {
         ensures stream { (t : ℕ) → IsStream t self.old (St.holds store.old) → IsStream t self.new (St.holds store.new) }
         ensures places { KeepsPlaces [] self.old self.new (St.holds store.old) (St.holds store.new) }
         ensures touches { (t : ℕ) → IsStream t self.old (St.holds store.old) → Touches t self.old self.new (St.holds store.old) (St.holds store.new) }
+        ensures reads { (start : Option (List Entry)) → Reads self.old start (St.signs store.old).trail → Reads self.new start (St.signs store.new).trail }
         ensures grows { Grows (St.signs store.old) (St.signs store.new) }
     {
         let buf = store.pin(&self.pages[place])?;

@@ -1,12 +1,14 @@
 //! Rows are read, and stay.
-ghost use Rattle.std.specs.Prelude.{◌≡◌, ◌<◌, ℕ, [], length, Some, None, IsSome, option_map, if◌then◌else◌, IfOk, IfErr, OnOk, OnErr};
+ghost use Rattle.std.specs.Prelude.{List, Option, ◌≡◌, ◌<◌, ℕ, [], true, length, Some, None, IsSome, IfSome, option_map, if◌then◌else◌, IfOk, IfErr, OnOk, OnErr};
+ghost use Rattle.pool_model.specs.declared.entry.Entry.{Entry};
 ghost use Rattle.store_api.specs.Conditions.{IsClient};
 ghost use Rattle.store_api.specs.Signs.{Grows};
 ghost use Rattle.tuple_stream.specs.Streamed.{rows_of};
 ghost use Rattle.tuple_stream.specs.Streams.{IsStream, HasRoom};
 ghost use Rattle.tuple_stream.specs.Places.{IsPlace, KeepsPlaces, IsNext, rows_from, start_in};
-ghost use Rattle.tuple_stream.specs.Kept.{Keeps, IsInPage, IsInStream};
+ghost use Rattle.tuple_stream.specs.Kept.{Keeps, KeepsOpen, IsInPage, IsInStream};
 ghost use Rattle.tuple_stream.specs.Touches.{Touches, CameOfStore};
+ghost use Rattle.tuple_stream.specs.Trails.{Reads};
 
 use crate::place::At;
 use crate::stream::Stream;
@@ -34,6 +36,7 @@ impl Stream {
         requires place { IsPlace place.old self.old (St.holds store.old) }
         ensures next { IfOk result (λ found. IsNext (option_map (λ row. row.items) found) (rows_from place.old self.old (St.holds store.old)) (rows_from place.new self.new (St.holds store.new))) }
         ensures place { IsPlace place.new self.new (St.holds store.new) }
+        ensures still { IfOk result (λ found. IsSome found → KeepsOpen place.old place.new self.old self.new (St.holds store.old) (St.holds store.new) (St.signs store.old) (St.signs store.new)) }
         ensures cause { IfErr result (CameOfStore self.old (St.holds store.new) (St.signs store.old) (St.signs store.new)) }
         ensures err { OnErr result (place.new ≡ place.old) }
 
@@ -42,6 +45,7 @@ impl Stream {
         ensures rows { rows_of self.new (St.holds store.new) ≡ rows_of self.old (St.holds store.old) }
         ensures places { KeepsPlaces [] self.old self.new (St.holds store.old) (St.holds store.new) }
         ensures touches { Touches c.now.tracker self.old self.new (St.holds store.old) (St.holds store.new) }
+        ensures reads { (start : Option (List Entry)) → Reads self.old start (St.signs store.old).trail → Reads self.new start (St.signs store.new).trail }
         ensures grows { Grows (St.signs store.old) (St.signs store.new) }
     {
         let mut row = Vec::new(alloc);
@@ -67,6 +71,7 @@ impl Stream {
         requires place { IsPlace place.old self.old (St.holds store.old) }
         ensures next { IfOk result (λ found. IsNext (if found then Some out.new.items else None) (rows_from place.old self.old (St.holds store.old)) (rows_from place.new self.new (St.holds store.new))) }
         ensures place { IsPlace place.new self.new (St.holds store.new) }
+        ensures still { IfOk result (λ found. found ≡ true → KeepsOpen place.old place.new self.old self.new (St.holds store.old) (St.holds store.new) (St.signs store.old) (St.signs store.new)) }
         ensures cause { IfErr result (CameOfStore self.old (St.holds store.new) (St.signs store.old) (St.signs store.new)) }
         ensures err { OnErr result (place.new ≡ place.old) }
 
@@ -75,6 +80,7 @@ impl Stream {
         ensures rows { rows_of self.new (St.holds store.new) ≡ rows_of self.old (St.holds store.old) }
         ensures places { KeepsPlaces [] self.old self.new (St.holds store.old) (St.holds store.new) }
         ensures touches { Touches c.now.tracker self.old self.new (St.holds store.old) (St.holds store.new) }
+        ensures reads { (start : Option (List Entry)) → Reads self.old start (St.signs store.old).trail → Reads self.new start (St.signs store.new).trail }
         ensures grows { Grows (St.signs store.old) (St.signs store.new) }
     {
         match self.keep_next(store, *place, out)? {
@@ -96,8 +102,10 @@ impl Stream {
         requires stream { (t : ℕ) × IsStream t self.old (St.holds store.old) × HasRoom t self.old (St.holds store.old) }
         requires place { IsPlace place self.old (St.holds store.old) }
         ensures found { IfOk result (λ found. IsInStream found place out.new.items self.new (St.holds store.new)) }
+        ensures still { IfOk result (λ found. IfSome found (λ behind. KeepsOpen place behind self.old self.new (St.holds store.old) (St.holds store.new) (St.signs store.old) (St.signs store.new))) }
         ensures cause { IfErr result (CameOfStore self.old (St.holds store.new) (St.signs store.old) (St.signs store.new)) }
         ensures kept { Keeps self.old self.new (St.holds store.old) (St.holds store.new) (St.signs store.old) (St.signs store.new) }
+        ensures reads { (start : Option (List Entry)) → Reads self.old start (St.signs store.old).trail → Reads self.new start (St.signs store.new).trail }
     {
         if self.pages.is_empty() {
             return Ok(None);
@@ -125,9 +133,12 @@ impl Stream {
         requires stream { (t : ℕ) × IsStream t self.old (St.holds store.old) × HasRoom t self.old (St.holds store.old) }
         requires inside { place.page < length self.old.pages }
         ensures found { IfOk result (λ found. IsInPage found place out.new.items self.new (St.holds store.new)) }
-        ensures pinned { OnOk result (IsSome self.new.pinned) }
+        ensures page { IfOk result (λ found. IfSome found (λ behind. behind.page ≡ place.page)) }
+        ensures pinned { OnOk result (option_map (λ p. p.place) self.new.pinned ≡ Some place.page) }
+        ensures still { option_map (λ p. p.place) self.old.pinned ≡ Some place.page → (St.holds store.new ≡ St.holds store.old) × (St.signs store.new ≡ St.signs store.old) }
         ensures cause { IfErr result (CameOfStore self.old (St.holds store.new) (St.signs store.old) (St.signs store.new)) }
         ensures kept { Keeps self.old self.new (St.holds store.old) (St.holds store.new) (St.signs store.old) (St.signs store.new) }
+        ensures reads { (start : Option (List Entry)) → Reads self.old start (St.signs store.old).trail → Reads self.new start (St.signs store.new).trail }
     {
         self.open_at(store, place.page)?;
         let start = self.start_in(place);

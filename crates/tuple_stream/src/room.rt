@@ -1,11 +1,13 @@
 //! Room for a row at the end.
-ghost use Rattle.std.specs.Prelude.{◌≡◌, ◌<◌, ◌≤◌, ◌+◌, true, false, length, None, IfErr, OnOk, OnErr};
+ghost use Rattle.std.specs.Prelude.{List, Option, ◌≡◌, ◌<◌, ◌≤◌, ◌+◌, true, false, length, None, IfErr, OnOk, OnErr};
+ghost use Rattle.pool_model.specs.declared.entry.Entry.{Entry};
 ghost use Rattle.store_api.specs.Conditions.{IsClient};
 ghost use Rattle.store_api.specs.Holdings.{unused_of};
 ghost use Rattle.tuple_stream.specs.Streamed.{len_in};
 ghost use Rattle.tuple_stream.specs.Streams.{IsStream, HasRoom};
 ghost use Rattle.tuple_stream.specs.Ready.{IsReady, IsReadyForMore, KeepsRows};
 ghost use Rattle.tuple_stream.specs.Touches.{CameOfStore};
+ghost use Rattle.tuple_stream.specs.Trails.{Builds, Rests};
 
 use crate::stream::{Open, Stream};
 use reservation_tree::PoolErr;
@@ -32,6 +34,7 @@ impl Stream {
         ensures cause { IfErr result (CameOfStore self.old (St.holds store.new) (St.signs store.old) (St.signs store.new)) }
         ensures err { OnErr result (IsStream c.now.tracker self.new (St.holds store.new)) }
         ensures kept { KeepsRows c.now.tracker self.old self.new (St.holds store.old) (St.holds store.new) (St.signs store.old) (St.signs store.new) }
+        ensures builds { OnOk result ((start : Option (List Entry)) → Builds self.old (St.holds store.old) start (St.signs store.old).trail → Builds self.new (St.holds store.new) start (St.signs store.new).trail) }
     {
         if self.has_room(len, bytes) {
             let last = self.pages.len() - 1;
@@ -65,6 +68,7 @@ impl Stream {
         ensures cause { IfErr result (CameOfStore self.old (St.holds store.new) (St.signs store.old) (St.signs store.new)) }
         ensures err { OnErr result (IsStream c.now.tracker self.new (St.holds store.new)) }
         ensures kept { KeepsRows c.now.tracker self.old self.new (St.holds store.old) (St.holds store.new) (St.signs store.old) (St.signs store.new) }
+        ensures builds { OnOk result ((start : Option (List Entry)) → Builds self.old (St.holds store.old) start (St.signs store.old).trail → Builds self.new (St.holds store.new) start (St.signs store.new).trail) }
     {
         self.rest(store)?;
         self.add_page(alloc, store, c)
@@ -86,6 +90,7 @@ impl Stream {
         ensures err { OnErr result (self.new ≡ self.old) }
         ensures stays { OnErr result (St.holds store.new ≡ St.holds store.old) }
         ensures kept { KeepsRows c.now.tracker self.old self.new (St.holds store.old) (St.holds store.new) (St.signs store.old) (St.signs store.new) }
+        ensures builds { OnOk result ((start : Option (List Entry)) → Rests self.old (St.holds store.old) start (St.signs store.old).trail → Builds self.new (St.holds store.new) start (St.signs store.new).trail) }
     {
         if self.pages.reserve(1).is_err() {
             return Err(PoolErr::Memory);

@@ -1,8 +1,5 @@
-use Rattle.std.proofs.Common.{◌≡◌, ◌+◌, ◌∷◌, [], ℕ, List, Some, None, unwrap_or, if◌then◌else◌, sym, rules}
-use Rattle.std.specs.BTreeMap.{get}
-use Rattle.std.specs.Str.{bytes_eq}
+use Rattle.std.proofs.Common.{◌≡◌, ◌∷◌, [], Some, None, rules}
 use Rattle.row_codec.specs.declared.values.Kind.TheVariants as kind
-use Rattle.row_codec.specs.Order.{path_order}
 use Rattle.row_codec.specs.RowReading.{row_at}
 use Rattle.query_run.specs.Answer.{text_row}
 use Rattle.query_run.specs.Groups.{key_of}

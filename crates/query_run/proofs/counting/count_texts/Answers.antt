@@ -1,8 +1,7 @@
-use Rattle.std.proofs.Common.{rules, refl, ◌≡◌, ◌<◌, ◌^◌, ◌∷◌, ℕ, List, length, ap, subst}
-use Rattle.store_api.specs.Signs.{Grows}
+use Rattle.std.proofs.Common.{rules, refl, ◌≡◌, ◌<◌, ◌^◌, ◌∷◌, ℕ, length, ap, subst}
 use Rattle.store_api.proofs.Growing.{grows_refl, grows_trans}
 use Rattle.tuple_stream.specs.Streamed.{Streamed, rows_of}
-use Rattle.tuple_stream.specs.Places.{IsPlace, rows_from}
+use Rattle.tuple_stream.specs.Places.{rows_from}
 use Rattle.tuple_stream.specs.Touches.{CameOfStore}
 use Rattle.tuple_stream.proofs.Frames.{client_kept}
 use Rattle.tuple_stream.proofs.Chains.{has_room_kept, touches_refl, touches_trans}
@@ -23,6 +22,7 @@ loop-row-init g c =
       refl,
       touches_refl _ _ _,
       grows_refl _,
+      (λ start read. read),
     )
 
 pub returns-in_err-keep_into-clause-cause : goal.returns-in_err-keep_into-clause-cause
@@ -31,6 +31,9 @@ returns-in_err-keep_into-clause-cause g c =
     let came : CameOfStore c.args.rows.now (g.St.Store.holds c.keep_into.new.store) (g.St.Store.signs c.args.store.now) (g.St.Store.signs c.keep_into.new.store) c.in_err-keep_into.field-0.0 =
     came_before c.loop-row.rows c.args.rows.now _ _ _ _ _ (ap (λ (s : Streamed). s.page_blocks) before.5) before.7 c.in_err-keep_into.ensures.cause in
     search (rules, came)
+
+pub returns-in_err-keep_into-clause-reads : goal.returns-in_err-keep_into-clause-reads
+returns-in_err-keep_into-clause-reads g c = λ start read. c.keep_into.ensures.reads start (c.loop-row.invariant.8 start read)
 
 pub returns-in_err-keep_into-clause-grows : goal.returns-in_err-keep_into-clause-grows
 returns-in_err-keep_into-clause-grows g c = grows_trans _ _ _ c.loop-row.invariant.7 c.keep_into.ensures.grows
@@ -55,6 +58,9 @@ count_row-requires-clause-few g c =
 pub returns-in_default-clause-touches : goal.returns-in_default-clause-touches
 returns-in_default-clause-touches g c = touches_trans _ _ _ _ _ _ _ c.loop-row.invariant.6 c.keep_into.ensures.touches
 
+pub returns-in_default-clause-reads : goal.returns-in_default-clause-reads
+returns-in_default-clause-reads g c = λ start read. c.keep_into.ensures.reads start (c.loop-row.invariant.8 start read)
+
 pub returns-in_default-clause-grows : goal.returns-in_default-clause-grows
 returns-in_default-clause-grows g c = grows_trans _ _ _ c.loop-row.invariant.7 c.keep_into.ensures.grows
 
@@ -77,6 +83,7 @@ loop-row-preserved g c =
       search (rules, before, same),
       touches_trans _ _ _ _ _ _ _ before.6 touches,
       grows_trans _ _ _ before.7 c.keep_into.ensures.grows,
+      (λ start read. c.keep_into.ensures.reads start (before.8 start read)),
     )
 
 pub returns-clause-counts : goal.returns-clause-counts
@@ -87,6 +94,9 @@ returns-clause-counts g c = λ page texts keeps.
 
 pub returns-clause-touches : goal.returns-clause-touches
 returns-clause-touches g c = touches_trans _ _ _ _ _ _ _ c.loop-row.invariant.6 c.keep_into.ensures.touches
+
+pub returns-clause-reads : goal.returns-clause-reads
+returns-clause-reads g c = λ start read. c.keep_into.ensures.reads start (c.loop-row.invariant.8 start read)
 
 pub returns-clause-grows : goal.returns-clause-grows
 returns-clause-grows g c = grows_trans _ _ _ c.loop-row.invariant.7 c.keep_into.ensures.grows

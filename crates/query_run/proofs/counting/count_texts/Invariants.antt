@@ -1,10 +1,12 @@
-use Rattle.std.proofs.Common.{◌≡◌, ℕ, List, length}
+use Rattle.std.proofs.Common.{◌≡◌, ℕ, List, Option, length}
+use Rattle.pool_model.specs.declared.entry.Entry.{Entry}
 use Rattle.store_api.specs.Conditions.{IsClient}
 use Rattle.store_api.specs.Signs.{Grows}
 use Rattle.tuple_stream.specs.Streamed.{rows_of}
 use Rattle.tuple_stream.specs.Streams.{IsStream, HasRoom}
 use Rattle.tuple_stream.specs.Places.{IsPlace, rows_from}
 use Rattle.tuple_stream.specs.Touches.{Touches}
+use Rattle.tuple_stream.specs.Trails.{Reads}
 use Rattle.query_run.specs.Inside.{Keeps}
 use Rattle.query_run.proofs.Halves.{Halves}
 use Rattle.query_run.proofs.counting.count_texts.Given as goal
@@ -20,6 +22,7 @@ invariant-loop-row g l =
     × (l.rows ≡ record l.fn.rows { pinned = l.rows.pinned })
     × Touches l.fn.c.tracker l.fn.rows l.rows (g.St.Store.holds l.fn.store) (g.St.Store.holds l.store)
     × Grows (g.St.Store.signs l.fn.store) (g.St.Store.signs l.store)
+    × ((start : Option (List Entry)) → Reads l.fn.rows start (g.St.Store.signs l.fn.store).trail → Reads l.rows start (g.St.Store.signs l.store).trail)
 
 abbrev pub decreases-loop-row : goal.decreases-loop-row
 decreases-loop-row g l = length (rows_from l.place l.rows (g.St.Store.holds l.store))

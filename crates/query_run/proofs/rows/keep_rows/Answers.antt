@@ -1,17 +1,14 @@
-use Rattle.std.proofs.Common.{rules, refl, ◌≡◌, ◌⊎◌, ◌∙◌, ℕ, Some, length, sym}
+use Rattle.std.proofs.Common.{rules, refl, ◌≡◌, ◌⊎◌, ◌∙◌, Some, length}
 use Rattle.std.specs.Option.{option_map}
-use Rattle.store_api.specs.Signs.{Grows}
-use Rattle.store_api.specs.Conditions.{IsClient}
 use Rattle.store_api.proofs.Growing.{grows_refl, grows_trans}
 use Rattle.tuple_stream.specs.Streamed.{rows_of}
-use Rattle.tuple_stream.specs.Streams.{HasRoom, IsStream}
 use Rattle.tuple_stream.proofs.Frames.{client_kept}
 use Rattle.tuple_stream.proofs.Chains.{has_room_kept, touches_refl, touches_trans}
-use Rattle.csv_edge.specs.Rows.{Becomes, CountsBytes, FitsLimit, IsOfRecord, PassesLimit, bytes_allowed, records_allowed, rest_of}
+use Rattle.csv_edge.specs.Rows.{Becomes, CountsBytes, FitsLimit, IsOfRecord, PassesLimit, bytes_allowed, rest_of}
 use Rattle.csv_edge.specs.Typed.{nothing_more, refused_here, row_then}
 use Rattle.csv_edge.specs.declared.refusal.InputErr.TheVariants as input
-use Rattle.query_run.specs.Input.{column_rows, most_bytes, most_records}
-use Rattle.query_run.specs.Inside.{Adds, CameOfPool, IsTooLong}
+use Rattle.query_run.specs.Input.{column_rows, most_bytes}
+use Rattle.query_run.specs.Inside.{Adds, IsTooLong}
 use Rattle.query_run.proofs.Reading.{ended_at, kept_length, refusal_of_input, started, too_long_at, went_on}
 use Rattle.query_run.proofs.Spans.{pool_before}
 use Rattle.query_run.proofs.rows.keep_rows.Goals as goal
@@ -34,6 +31,8 @@ loop-row-init g c =
       refl,
       touches_refl _ _ _,
       grows_refl _,
+      (λ start builds. builds),
+      refl,
     )
 
 pub loop-row-preserved : goal.loop-row-preserved
@@ -57,6 +56,8 @@ loop-row-preserved g c =
       sized ∙ before.10,
       touches_trans _ _ _ _ _ _ _ before.11 touches,
       grows_trans _ _ _ before.12 c.keep_row.ensures.grows,
+      (λ start builds. c.in_default-keep_row.ensures.builds start (before.13 start builds)),
+      c.keep_row.ensures.spent ∙ before.14,
     )
 
 pub returns-in-Ok-None-clause-ok : goal.returns-in-Ok-None-clause-ok
@@ -92,3 +93,15 @@ pub returns-in-Err-keep_row-clause-pool : goal.returns-in-Err-keep_row-clause-po
 returns-in-Err-keep_row-clause-pool g c =
     let before = c.loop-row.invariant in
     pool_before c.loop-row.kept _ _ _ _ _ c.in-Err-keep_row.e before.10 before.12 c.in-Err-keep_row.ensures.pool
+
+pub returns-in-Ok-None-clause-builds : goal.returns-in-Ok-None-clause-builds
+returns-in-Ok-None-clause-builds g c = c.loop-row.invariant.13
+
+pub returns-in-Ok-None-clause-spent : goal.returns-in-Ok-None-clause-spent
+returns-in-Ok-None-clause-spent g c = c.loop-row.invariant.14
+
+pub returns-in-Err-next-clause-spent : goal.returns-in-Err-next-clause-spent
+returns-in-Err-next-clause-spent g c = c.loop-row.invariant.14
+
+pub returns-in-Err-keep_row-clause-spent : goal.returns-in-Err-keep_row-clause-spent
+returns-in-Err-keep_row-clause-spent g c = c.keep_row.ensures.spent ∙ c.loop-row.invariant.14

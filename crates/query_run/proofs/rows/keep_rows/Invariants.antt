@@ -1,10 +1,12 @@
-use Rattle.std.proofs.Common.{◌≡◌, ◌≤◌, ◌+◌, ◌∷◌, [], ℕ, List}
+use Rattle.std.proofs.Common.{◌≡◌, ◌≤◌, ◌+◌, ◌∷◌, [], ℕ, List, Option}
+use Rattle.pool_model.specs.declared.entry.Entry.{Entry}
 use Rattle.row_codec.specs.declared.values.Kind.TheVariants as kind
 use Rattle.store_api.specs.Conditions.{IsClient}
 use Rattle.store_api.specs.Signs.{Grows}
 use Rattle.tuple_stream.specs.Streamed.{len_in, rows_of}
 use Rattle.tuple_stream.specs.Streams.{IsStream, HasRoom}
 use Rattle.tuple_stream.specs.Touches.{Touches}
+use Rattle.tuple_stream.specs.Trails.{Builds}
 use Rattle.csv_edge.specs.Rows.{IsOpen, bytes_allowed, kinds_in, records_allowed, rest_of}
 use Rattle.query_run.specs.Input.{most_records, text_column}
 use Rattle.query_run.proofs.Reading.{IsReading}
@@ -26,6 +28,8 @@ invariant-loop-row g l =
     × (l.kept.page_blocks ≡ l.fn.kept.page_blocks)
     × Touches l.fn.c.tracker l.fn.kept l.kept (g.St.Store.holds l.fn.store) (g.St.Store.holds l.store)
     × Grows (g.St.Store.signs l.fn.store) (g.St.Store.signs l.store)
+    × ((start : Option (List Entry)) → Builds l.fn.kept (g.St.Store.holds l.fn.store) start (g.St.Store.signs l.fn.store).trail → Builds l.kept (g.St.Store.holds l.store) start (g.St.Store.signs l.store).trail)
+    × (l.kept.spent ≡ l.fn.kept.spent)
 
 abbrev pub decreases-loop-row : goal.decreases-loop-row
 decreases-loop-row g l = records_allowed l.rows

@@ -4,6 +4,9 @@ use Rattle.tuple_stream.specs.Streams.{IsStream}
 use Rattle.tuple_stream.specs.Places.{KeepsPlaces}
 use Rattle.tuple_stream.specs.Touches.{Touches}
 use Rattle.tuple_stream.specs.Ready.{IsReady, with_row}
+use Rattle.tuple_stream.specs.Trails.{Builds, HaveBuilt}
+use Rattle.tuple_stream.proofs.Sinces.{since_so}
+use Rattle.tuple_stream.proofs.BuildingPages.{built_row}
 use Rattle.tuple_stream.proofs.Chains.{touches_trans, keeps_places_then}
 use Rattle.tuple_stream.proofs.Writing.{written_rows}
 use Rattle.tuple_stream.proofs.WrittenPlaces.{written_places}
@@ -47,3 +50,13 @@ returns-clause-touches g c =
     subst (λ (s : Streamed). Touches c.args.c.now.tracker c.args.self.now s was h) (sym c.put_row.ensures)
     (touches_trans c.args.c.now.tracker c.args.self.now c.make_room.new.self (with_row row c.in-Some.count c.make_room.new.self) was h h c.make_room.ensures.kept.touches
     (written_touches c.in-Some.count (ready g c) c.requires.row))
+
+pub returns-clause-builds : goal.returns-clause-builds
+returns-clause-builds g c = λ start builds.
+    let h = g.St.Store.holds c.make_room.new.store in
+    let trail = (g.St.Store.signs c.make_room.new.store).trail in
+    let s = c.make_room.new.self in
+    let row = c.args.row.now in
+    let now = with_row row c.in-Some.count s in
+    subst (λ (s : Streamed). Builds s h start trail) (sym c.put_row.ensures)
+    (since_so (HaveBuilt s h) (HaveBuilt now h) start trail (built_row row c.in-Some.count s h) (c.in_ok-make_room.ensures.builds start builds))

@@ -6,6 +6,7 @@ use Rattle.tuple_stream.specs.Kept.{EndsPage, IsInPage, next_page}
 use Rattle.tuple_stream.proofs.Chains.{came_later}
 use Rattle.tuple_stream.proofs.Frames.{keeps_trans}
 use Rattle.tuple_stream.proofs.NextPages.{goes_on}
+use Rattle.tuple_stream.proofs.ReadingOpen.{open_is_some, next_open}
 use Rattle.tuple_stream.proofs.stream.Stream.keep_next.Goals as goal
 
 next_below : {len now was result page place : ℕ} → len ≡ now → len ≡ result → was ≡ now → was ≢ 0 → page ≡ place → page + 1 ≢ result → place ≤ now - 1 → place + 1 < len
@@ -13,7 +14,7 @@ next_below same is old some page apart within = omega arith
 
 pub keep_at-requires-2-clause-stream : goal.keep_at-requires-2-clause-stream
 keep_at-requires-2-clause-stream g c =
-    (c.requires.stream.0, c.in_ok-behind.ensures.kept.stream c.requires.stream.0 c.requires.stream.1, inr c.in_ok-behind.ensures.pinned)
+    (c.requires.stream.0, c.in_ok-behind.ensures.kept.stream c.requires.stream.0 c.requires.stream.1, inr (open_is_some c.keep_at.new.self.pinned c.args.place.page c.in_ok-behind.ensures.pinned))
 
 pub returns-clause-found : goal.returns-clause-found
 returns-clause-found g c =
@@ -41,3 +42,8 @@ returns-clause-cause g c =
 pub returns-clause-kept : goal.returns-clause-kept
 returns-clause-kept g c =
     keeps_trans c.args.self.now c.keep_at.new.self c.keep_at-2.new.self _ _ _ _ _ _ c.in_ok-behind.ensures.kept c.keep_at-2.ensures.kept
+
+pub returns-clause-still : goal.returns-clause-still
+returns-clause-still g c =
+    next_open c.args.place _ c.args.self.now c.keep_at-2.new.self (g.St.Store.holds c.args.store.now) (g.St.Store.holds c.keep_at-2.new.store) (g.St.Store.signs c.args.store.now) (g.St.Store.signs c.keep_at-2.new.store)
+    (ap (λ (p : Place). p.page + 1) c.place.view_is) c.keep_at-2.result c.keep_at-2.ensures.page c.keep_at-2.ensures.pinned

@@ -33,3 +33,6 @@ returns-clause-touches g c = λ t is.
 
 pub returns-clause-grows : goal.returns-clause-grows
 returns-clause-grows g c = grows_trans (g.St.Store.signs c.args.store.now) (g.St.Store.signs c.rest.new.store) (g.St.Store.signs c.pin_at.new.store) c.rest.ensures.grows c.pin_at.ensures.grows
+
+pub returns-clause-reads : goal.returns-clause-reads
+returns-clause-reads g c = λ start was. c.pin_at.ensures.reads start (c.rest.ensures.reads start was)

@@ -7,6 +7,7 @@ use Rattle.tuple_stream.specs.Places.{KeepsPlaces}
 use Rattle.tuple_stream.specs.Touches.{Touches}
 use Rattle.tuple_stream.proofs.Turned.{Turns, turned_stream, turned_rows, turned_places}
 use Rattle.tuple_stream.proofs.Pinning.{IsPin, one_client, resting_page, pinned_turns, pinned_fits, pinned_touches}
+use Rattle.tuple_stream.proofs.ReadingCalls.{pin_reads, refused_pin_reads}
 use Rattle.tuple_stream.proofs.stream.Stream.pin_at.Given as given
 use Rattle.tuple_stream.proofs.stream.Stream.pin_at.Goals as goal
 
@@ -57,3 +58,11 @@ returns-clause-touches g c = λ t is.
     let new = g.St.Store.holds c.pin.new.self in
     subst (λ (s : Streamed). Touches t c.args.self.now s old new) (sym c.set_pinned.ensures)
     (pinned_touches t c.args.self.now (record { place = c.args.place; buf = c.in_ok-buf.buf }) c.index.result.now old new is (pin_is g c) room)
+
+pub returns-clause-reads : goal.returns-clause-reads
+returns-clause-reads g c = λ start was.
+    pin_reads c.args.self.now c.set_pinned.new.self (g.St.Store.holds c.args.store.now).session (g.St.Store.signs c.args.store.now) (g.St.Store.signs c.pin.new.self) start was c.index.result.now.name c.in_ok-buf.ensures.entries
+
+pub returns-in_err-buf-clause-reads : goal.returns-in_err-buf-clause-reads
+returns-in_err-buf-clause-reads g c = λ start was.
+    refused_pin_reads c.args.self.now c.args.self.now (g.St.Store.holds c.args.store.now).session (g.St.Store.signs c.args.store.now) (g.St.Store.signs c.pin.new.self) start was c.index.result.now.name _ (λ none. none) c.in_err-buf.ensures.refusal

@@ -1,0 +1,31 @@
+-- What entries and changes of a store come to. Statements alone.
+use Rattle.std.specs.Prelude.{◌≡◌, ℕ, List, [], ◌∷◌, false, None, IsSome}
+use Rattle.pool_model.specs.declared.event.Event.{Event}
+use Rattle.pool_model.specs.declared.event.Event.TheVariants.{Create, Alloc, MoveBuffer}
+use Rattle.pool_model.specs.State.{State, Pinned, Evicted, page_at, buffer_at}
+use Rattle.pool_model.specs.Legal.{run}
+use Rattle.store_api.specs.Holdings.{Holdings}
+use Rattle.store_api.specs.Changes.{after_reserve, after_give_back}
+use Rattle.store_api.specs.Refusals.{refusal_above}
+use Rattle.store_api.specs.Alike.{Alike}
+use Rattle.store_api.specs.Entries.{by, IsAsked, IsTaken, IsPin, IsFailedLoad}
+
+-- what the entries of one call leave of their page or buffer in a pool
+pub record EntriesTell (maker : ℕ) (old new : State) (events : List Event) : Type 0 where
+  pub pinned : (p : ℕ) → IsPin p events → (page_at new p).place ≡ Pinned
+  pub not_loaded : (p entry : ℕ) → IsFailedLoad p entry events → (page_at new p).place ≡ Evicted
+  pub created : (p client blocks : ℕ) → IsTaken (Create p client blocks ∷ []) events
+      → page_at new p ≡ record { session = maker; client = client; blocks = blocks; place = Pinned; has_slots = false }
+  pub lent : (f client blocks : ℕ) → IsTaken (Alloc f client blocks ∷ []) events
+      → buffer_at new f ≡ record { client = client; blocks = blocks }
+  pub moved : (f to : ℕ) → IsAsked (MoveBuffer f to ∷ []) events
+      → buffer_at new f ≡ record (buffer_at old f) { client = to }
+
+-- whoever makes them, and whatever the pool has
+abbrev pub AllEntriesTell : Type 0
+AllEntriesTell = (maker : ℕ) (s : State) (events : List Event) → EntriesTell maker s (run s (by maker events)) events
+
+-- a fall undoes a growth, where the query has no room of its own and the growth fits what is above
+abbrev pub FallsUndoGrowths : Type 0
+FallsUndoGrowths = (t bytes : ℕ) (h : Holdings) → IsSome (h.clients t) → h.room ≡ 0 → refusal_above bytes h.above ≡ None
+    → Alike h (after_give_back t bytes (after_reserve t bytes h))
