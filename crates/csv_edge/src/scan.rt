@@ -1,6 +1,6 @@
 // Where an input may be cut.
 
-ghost use Rattle.std.specs.Prelude.{◌≡◌};
+ghost use Rattle.std.specs.Prelude.{◌≡◌, ◌<◌, ℕ};
 ghost use Rattle.csv_edge.specs.Pieces.{after_byte, is_cut};
 ghost use Rattle.csv_edge.specs.Cutting.{FrontIs};
 
@@ -22,6 +22,10 @@ impl Scan {
     pub(crate) fn after(self, byte: u8) -> Scan
         ensures { result ≡ after_byte self byte }
     {
+        // Most bytes stand above all that end a field or are a quote.
+        if byte > b',' {
+            return self.through();
+        }
         match (self, byte) {
             (Scan::Start | Scan::Closing, b'"') => Scan::Quoted,
             (Scan::Quoted, b'"') => Scan::Closing,
@@ -31,14 +35,21 @@ impl Scan {
         }
     }
 
+    // Where the scan stands behind a byte that means nothing.
+    fn through(self) -> Scan
+        ensures { (byte : ℕ) → 44 < byte → result ≡ after_byte self byte }
+    {
+        match self {
+            Scan::Quoted => Scan::Quoted,
+            _ => Scan::Plain,
+        }
+    }
+
     /// Whether the input may be cut behind this byte.
     pub(crate) fn cuts(self, byte: u8) -> bool
         ensures { result ≡ is_cut self byte }
     {
-        match self {
-            Scan::Quoted => false,
-            _ => byte == b'\n',
-        }
+        byte == b'\n' && self != Scan::Quoted
     }
 }
 

@@ -1,6 +1,7 @@
 mod Answering
 mod Counted
 pub mod Grouping
+mod KeyBytes
 mod Halves
 mod KeptFirst
 mod Onwards

@@ -12,15 +12,17 @@ ghost use Rattle.tuple_stream.specs.Streams.{IsStream, HasRoom};
 ghost use Rattle.tuple_stream.specs.Touches.{Touches, CameOfStore};
 ghost use Rattle.tuple_stream.specs.Trails.{Reads};
 ghost use Rattle.query_run.specs.Groups.{counted, key_of};
-ghost use Rattle.query_run.specs.Answer.{text_row};
 ghost use Rattle.query_run.specs.Inside.{IsKept, Keeps, spelled};
 
 use reservation_tree::PoolErr;
-use row_codec::{Kind, Memory, PathKey, Value, decode_row, key_bytes, law_row_back};
+use row_codec::{Memory, PathKey};
 use std::alloc::Global;
 use std::collections::BTreeMap;
 use store_api::{Client, Store};
 use tuple_stream::{At, Stream, law_first_place};
+
+// The tag of a text in a key.
+const TEXT: u8 = 2;
 
 // How often each key stands, in the order of the keys.
 pub(crate) type Counts = BTreeMap<PathKey, u64>;
@@ -71,24 +73,24 @@ fn count_row(
     requires few { (key : List ℕ) → unwrap_or (get path_order counts.old key) 0 + 1 < 2 ^ 64 }
     ensures { OnOk result ((page : ℕ) (text : List ℕ) → IsKept page text → row.now ≡ spelled text → (other : List ℕ) → get path_order counts.new other ≡ (if bytes_eq (key_of text) other then Some (unwrap_or (get path_order counts.old (key_of text)) 0 + 1) else get path_order counts.old other)) }
 {
-    law_row_back();
-    match decode_row(alloc, &[Kind::Text], row)? {
-        Some((values, _)) => {
-            let key = text_key(&values, room)?;
-            count_one(counts, alloc, key)
-        }
-        None => unreachable!(),
-    }
+    let key = key_of_row(row, room)?;
+    count_one(counts, alloc, key)
 }
 
-// The key of a row of one text, in memory that may be there already.
-fn text_key(row: &[Value], room: Vec<u8>) -> Result<Vec<u8>, Memory>
-    requires { (page : ℕ) × (text : List ℕ) × (row.now ≡ text_row text) × IsKept page text }
-    ensures { IfOk result (λ key. (text : List ℕ) → row.now ≡ text_row text → key.items ≡ key_of text) }
+// The key of a kept row, in memory that may be there already. Behind its length the row has its text as the key has it
+// behind its tag, so that no row is made again.
+fn key_of_row(row: &[u8], room: Vec<u8>) -> Result<Vec<u8>, Memory>
+    requires { (text : List ℕ) × (row.now ≡ spelled text) }
+    ensures { IfOk result (λ key. (text : List ℕ) → row.now ≡ spelled text → key.items ≡ key_of text) }
 {
+    let Some((_, text)) = row.split_at_checked(4) else {
+        unreachable!()
+    };
     let mut key = room;
     key.clear();
-    key_bytes(row, &[0], &mut key)?;
+    key.reserve(1 + text.len())?;
+    key.push(TEXT)?;
+    key.extend_from_slice(text)?;
     Ok(key)
 }
 
