@@ -58,6 +58,7 @@ impl Stream {
         ensures value { self.new ≡ with_next self.old }
         ensures holds { (p : PageToken) → slice_get self.old.pages 0 ≡ Some p → St.holds store.new ≡ after_destroy p.name (St.holds store.old) }
         ensures touches { (t : ℕ) → HasPages t self.old (St.holds store.old) → Touches t self.old self.new (St.holds store.old) (St.holds store.new) }
+        ensures entries { (p : PageToken) → slice_get self.old.pages 0 ≡ Some p → MadeThese (St.holds store.old).session (event.Destroy p.name ∷ []) (St.signs store.old) (St.signs store.new) }
         ensures grows { Grows (St.signs store.old) (St.signs store.new) }
     {
         self.drop_first(store);

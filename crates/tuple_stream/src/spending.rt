@@ -1,5 +1,6 @@
 //! Rows are taken out.
-ghost use Rattle.std.specs.Prelude.{◌≡◌, ◌<◌, ◌+◌, ◌^◌, ℕ, [], ◌∷◌, take, drop, Some, None, option_map, if◌then◌else◌, IfOk, IfErr, OnErr};
+ghost use Rattle.std.specs.Prelude.{List, Option, ◌≡◌, ◌<◌, ◌+◌, ◌^◌, ℕ, [], ◌∷◌, true, length, take, drop, Some, None, IsSome, option_map, if◌then◌else◌, IfOk, IfErr, OnErr};
+ghost use Rattle.pool_model.specs.declared.entry.Entry.{Entry};
 ghost use Rattle.store_api.specs.Conditions.{IsClient};
 ghost use Rattle.store_api.specs.Signs.{Grows};
 ghost use Rattle.tuple_stream.specs.PageRows.{row_len};
@@ -7,6 +8,8 @@ ghost use Rattle.tuple_stream.specs.Streamed.{open_bytes, rows_of};
 ghost use Rattle.tuple_stream.specs.Streams.{IsStream, HasRoom};
 ghost use Rattle.tuple_stream.specs.Places.{IsNext, KeepsPlaces};
 ghost use Rattle.tuple_stream.specs.Touches.{Touches, CameOfStore};
+ghost use Rattle.tuple_stream.specs.Trails.{Reads};
+ghost use Rattle.tuple_stream.specs.Ending.{SpendsOpen};
 
 use crate::stream::Stream;
 use reservation_tree::PoolErr;
@@ -33,10 +36,12 @@ impl Stream {
         ensures cause { IfErr result (CameOfStore self.old (St.holds store.new) (St.signs store.old) (St.signs store.new)) }
         ensures err { OnErr result (rows_of self.new (St.holds store.new) ≡ rows_of self.old (St.holds store.old)) }
         ensures places { OnErr result (KeepsPlaces [] self.old self.new (St.holds store.old) (St.holds store.new)) }
+        ensures still { IfOk result (λ found. IsSome found → SpendsOpen self.old self.new (St.holds store.old) (St.holds store.new) (St.signs store.old) (St.signs store.new)) }
 
         ensures stream { IsStream c.now.tracker self.new (St.holds store.new) }
         ensures sized { self.new.page_blocks ≡ self.old.page_blocks }
         ensures touches { Touches c.now.tracker self.old self.new (St.holds store.old) (St.holds store.new) }
+        ensures reads { (start : Option (List Entry)) → Reads self.old start (St.signs store.old).trail → Reads self.new start (St.signs store.new).trail }
         ensures grows { Grows (St.signs store.old) (St.signs store.new) }
     {
         let mut row = Vec::new(alloc);
@@ -62,10 +67,12 @@ impl Stream {
         ensures cause { IfErr result (CameOfStore self.old (St.holds store.new) (St.signs store.old) (St.signs store.new)) }
         ensures err { OnErr result (rows_of self.new (St.holds store.new) ≡ rows_of self.old (St.holds store.old)) }
         ensures places { OnErr result (KeepsPlaces [] self.old self.new (St.holds store.old) (St.holds store.new)) }
+        ensures still { IfOk result (λ found. found ≡ true → SpendsOpen self.old self.new (St.holds store.old) (St.holds store.new) (St.signs store.old) (St.signs store.new)) }
 
         ensures stream { IsStream c.now.tracker self.new (St.holds store.new) }
         ensures sized { self.new.page_blocks ≡ self.old.page_blocks }
         ensures touches { Touches c.now.tracker self.old self.new (St.holds store.old) (St.holds store.new) }
+        ensures reads { (start : Option (List Entry)) → Reads self.old start (St.signs store.old).trail → Reads self.new start (St.signs store.new).trail }
         ensures grows { Grows (St.signs store.old) (St.signs store.new) }
     {
         if self.pages.is_empty() {
@@ -85,8 +92,10 @@ impl Stream {
         requires short { self.old.spent + len < 2 ^ 64 }
         ensures next { rows_of self.old (St.holds store.old) ≡ take len (drop self.old.spent (open_bytes self.old.pinned)) ∷ rows_of self.new (St.holds store.new) }
         ensures stream { (t : ℕ) → IsStream t self.old (St.holds store.old) → IsStream t self.new (St.holds store.new) }
+        ensures still { length self.new.pages ≡ length self.old.pages → (self.new.pinned ≡ self.old.pinned) × (St.holds store.new ≡ St.holds store.old) × (St.signs store.new ≡ St.signs store.old) }
         ensures sized { self.new.page_blocks ≡ self.old.page_blocks }
         ensures touches { (t : ℕ) → IsStream t self.old (St.holds store.old) → Touches t self.old self.new (St.holds store.old) (St.holds store.new) }
+        ensures reads { (start : Option (List Entry)) → Reads self.old start (St.signs store.old).trail → Reads self.new start (St.signs store.new).trail }
         ensures grows { Grows (St.signs store.old) (St.signs store.new) }
     {
         self.spent += len;

@@ -1,4 +1,4 @@
-use Rattle.std.proofs.Common.{◌≡◌, ◌≢◌, ◌+◌, ◌-◌, ◌∷◌, take, drop, slice_get, Some, ap, sym, ◌∙◌, subst, arith}
+use Rattle.std.proofs.Common.{rules, ◌≡◌, ◌≢◌, ◌+◌, ◌-◌, ◌<◌, ◌∷◌, length, take, drop, slice_get, Some, ap, sym, ◌∙◌, subst, arith}
 use Rattle.store_api.specs.Tokens.{PageToken}
 use Rattle.store_api.specs.Changes.{after_destroy}
 use Rattle.tuple_stream.specs.PageRows.{row_len}
@@ -9,6 +9,7 @@ use Rattle.tuple_stream.specs.Ending.{HasPages, with_next}
 use Rattle.tuple_stream.specs.contracts.stream.Stream.{the_view}
 use Rattle.tuple_stream.proofs.Chains.{touches_trans}
 use Rattle.tuple_stream.proofs.Frames.{touches_counts}
+use Rattle.tuple_stream.proofs.ReadingEnds.{ended_reads}
 use Rattle.tuple_stream.proofs.SpentRows.{has_row, goes_first, goes_last, leaves_stream, leaves_rest, pages_left}
 use Rattle.tuple_stream.proofs.stream.Stream.spend.Goals as goal
 
@@ -88,3 +89,10 @@ returns-else-len_in_open-eq0-clause-touches g c =
     let mid : record (the_view c.self.inside) { spent = c.self.inside.spent + n; count = c.self.inside.count - 1 } ≡ record s { spent = s.spent + n; count = s.count - 1 } =
     ap (λ (x : Streamed). record x { spent = x.spent + n; count = x.count - 1 }) c.self.view_is in
     λ t is. subst (λ (x : Streamed). Touches t s x h h) (sym mid) (touches_counts t s (s.spent + n) s.used (s.count - 1) h)
+
+pub returns-then-len_in_open-eq0-clause-reads : goal.returns-then-len_in_open-eq0-clause-reads
+returns-then-len_in_open-eq0-clause-reads g c = λ start read.
+    let mid : Streamed = record (the_view c.self.inside) { spent = c.self.inside.spent + c.args.len; count = c.self.inside.count - 1 } in
+    let some : 0 < length mid.pages = search rules in
+    ended_reads c.args.self.now mid c.end_first.new.self (g.St.Store.holds c.args.store.now).session (g.St.Store.signs c.args.store.now) (g.St.Store.signs c.end_first.new.store) start read
+    (ap (λ (x : Streamed). x.pinned) c.self.view_is) some c.end_first.ensures.value c.end_first.ensures.entries
