@@ -1,6 +1,6 @@
 // How often each text stands.
 
-ghost use Rattle.std.specs.Prelude.{Option, ◌≡◌, ◌<◌, ◌+◌, ◌^◌, ◌∷◌, [], ℕ, List, IfOk, IfErr, OnOk, Some, map, unwrap_or, if◌then◌else◌};
+ghost use Rattle.std.specs.Prelude.{Option, ◌≡◌, ◌<◌, ◌+◌, ◌^◌, ℕ, List, IfOk, IfErr, OnOk, Some, map, unwrap_or, if◌then◌else◌};
 ghost use Rattle.std.specs.BTreeMap.{get};
 ghost use Rattle.std.specs.Str.{bytes_eq};
 ghost use Rattle.pool_model.specs.declared.entry.Entry.{Entry};

@@ -1,6 +1,6 @@
 // Counting through a store: rows are kept on pages, and counted as they come back.
 
-ghost use Rattle.std.specs.Prelude.{Option, ◌≡◌, ◌≢◌, ◌≤◌, ◌<◌, ◌^◌, [], ℕ, List, None, IfErr, IfOk, IfSome, OnOk};
+ghost use Rattle.std.specs.Prelude.{Option, ◌≡◌, ◌≢◌, ◌≤◌, ◌<◌, ◌^◌, [], ℕ, List, IfErr, IfOk, IfSome, OnOk};
 ghost use Rattle.std.specs.Io.KnownBytes.{IsAtEnd};
 ghost use Rattle.outside.specs.Counts.{Rose};
 ghost use Rattle.pool_model.specs.declared.entry.Entry.{Entry};

@@ -1,6 +1,6 @@
 // The text of an answer.
 
-ghost use Rattle.std.specs.Prelude.{◌≡◌, ◌<◌, ◌^◌, ◌++◌, pos, length, sum_by, IfOk};
+ghost use Rattle.std.specs.Prelude.{◌≡◌, ◌<◌, ◌^◌, ◌++◌, length, sum_by, IfOk};
 ghost use Rattle.std.specs.BTreeMap.{IsOrdered};
 ghost use Rattle.row_codec.specs.Order.{path_order};
 ghost use Rattle.query_run.specs.Answer.{answer_text, group_row, header_row};
