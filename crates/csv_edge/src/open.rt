@@ -23,7 +23,7 @@ use std::marker::Model;
 pub struct Open {
     alloc: Global,
     records: Records,
-    record: ByteRecord,
+    byte_record: ByteRecord,
     width: usize,
     columns: Vec<Placed>,
     number: u64,
@@ -62,21 +62,21 @@ impl Open {
         ensures never_falls { S.faults src.old ≤ S.faults src.new }
     {
         let mut records = Records::over(alloc, src, max_bytes)?;
-        let mut record = ByteRecord::new(alloc);
-        if !records.next(alloc, src, &mut record)? {
+        let mut byte_record = ByteRecord::new(alloc);
+        if !records.next(alloc, src, &mut byte_record)? {
             return Err(InputErr::Header);
         }
         if max_records == 0 {
             return Err(InputErr::TooLarge);
         }
-        let Some(columns) = places(alloc, &record, columns)? else {
+        let Some(columns) = places(alloc, &byte_record, columns)? else {
             return Err(InputErr::Header);
         };
         Ok(Open {
             alloc,
-            width: record.len(),
+            width: byte_record.len(),
             records,
-            record,
+            byte_record,
             columns,
             number: 1,
             most: max_records,
@@ -104,17 +104,17 @@ impl Open {
         ensures fault { IsErrOf result InputErr.Fault → Rose (S.faults src.old) (S.faults src.new) }
         ensures never_falls { S.faults src.old ≤ S.faults src.new }
     {
-        if !self.records.next(self.alloc, src, &mut self.record)? {
+        if !self.records.next(self.alloc, src, &mut self.byte_record)? {
             return Ok(None);
         }
         let number = self.number;
-        if self.record.len() != self.width {
+        if self.byte_record.len() != self.width {
             return Err(InputErr::Csv { number });
         }
         if number >= self.most {
             return Err(InputErr::TooLarge);
         }
-        match row_of(self.alloc, &self.record, &self.columns)? {
+        match row_of(self.alloc, &self.byte_record, &self.columns)? {
             Ok(row) => {
                 self.number += 1;
                 Ok(Some(row))

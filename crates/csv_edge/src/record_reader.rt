@@ -31,14 +31,14 @@ pub(crate) fn reader_of(alloc: Global, piece: Vec<u8>) -> PieceReader
 pub(crate) fn read_record(
     alloc: Global,
     reader: &mut PieceReader,
-    record: &mut ByteRecord,
+    byte_record: &mut ByteRecord,
 ) -> Result<bool, Memory>
     requires { IsSound reader.old }
     ensures sound { IsSound reader.new }
-    ensures more { IfOk result (λ found. found ≡ true → records_behind reader.old ≡ fields_of record.new ∷ records_behind reader.new) }
+    ensures more { IfOk result (λ found. found ≡ true → records_behind reader.old ≡ fields_of byte_record.new ∷ records_behind reader.new) }
     ensures end { IfOk result (λ found. found ≡ false → records_behind reader.old ≡ []) }
 {
-    let Ok(found) = reader.read_byte_record(record) else {
+    let Ok(found) = reader.read_byte_record(byte_record) else {
         let_go(alloc, reader);
         return Err(Memory);
     };

@@ -65,9 +65,9 @@ impl Records {
         &mut self,
         alloc: Global,
         src: &mut S,
-        record: &mut ByteRecord,
+        byte_record: &mut ByteRecord,
     ) -> Result<bool, InputErr>
-        ensures more { IfOk result (λ found. found ≡ true → Becomes (λ rs. fields_of record.new ∷ rs) (records_told self.old (S.remaining src.old)) (records_told self.new (S.remaining src.new))) }
+        ensures more { IfOk result (λ found. found ≡ true → Becomes (λ rs. fields_of byte_record.new ∷ rs) (records_told self.old (S.remaining src.old)) (records_told self.new (S.remaining src.new))) }
         ensures none { IfOk result (λ found. found ≡ false → IfSome (records_told self.old (S.remaining src.old)) (λ rs. rs ≡ [])) }
         ensures end { IfOk result (λ found. found ≡ false → IsAtEnd (S.remaining src.new)) }
         ensures counts { OnOk result (CountsBytes self.old.taken.allowed (S.remaining src.old) self.new.taken.allowed (S.remaining src.new)) }
@@ -76,7 +76,7 @@ impl Records {
         ensures never_falls { S.faults src.old ≤ S.faults src.new }
         ensures cause { IfErr result (λ e. IsOfRecord e → ⊥) }
     {
-        while !self.next_of_piece(alloc, record)? {
+        while !self.next_of_piece(alloc, byte_record)? {
             if !self.next_piece(alloc, src)? {
                 return Ok(false);
             }
@@ -85,12 +85,12 @@ impl Records {
     }
 
     // Reads the next record of the piece, or answers `false` at its end.
-    fn next_of_piece(&mut self, alloc: Global, record: &mut ByteRecord) -> Result<bool, Memory>
-        ensures more { IfOk result (λ found. found ≡ true → self.old.records ≡ fields_of record.new ∷ self.new.records) }
+    fn next_of_piece(&mut self, alloc: Global, byte_record: &mut ByteRecord) -> Result<bool, Memory>
+        ensures more { IfOk result (λ found. found ≡ true → self.old.records ≡ fields_of byte_record.new ∷ self.new.records) }
         ensures none { IfOk result (λ found. found ≡ false → self.old.records ≡ []) }
         ensures taken { self.new.taken ≡ self.old.taken }
     {
-        read_record(alloc, &mut self.reader, record)
+        read_record(alloc, &mut self.reader, byte_record)
     }
 
     // Reads the next piece in place of the one that was, or answers `false` where no byte is left.

@@ -18,23 +18,23 @@ pub(crate) struct NoValue {
 
 /// The field at a place, with no bytes where the record has none there.
 #[inline]
-pub(crate) fn field_of(record: &ByteRecord, place: usize) -> &[u8]
-    ensures { result.now ≡ slice_index_or (fields_of record.now) place [] }
+pub(crate) fn field_of(byte_record: &ByteRecord, place: usize) -> &[u8]
+    ensures { result.now ≡ slice_index_or (fields_of byte_record.now) place [] }
 {
-    record.get(place).unwrap_or(&[])
+    byte_record.get(place).unwrap_or(&[])
 }
 
 /// The row of a record.
 pub(crate) fn row_of(
     alloc: Global,
-    record: &ByteRecord,
+    byte_record: &ByteRecord,
     columns: &[Placed],
 ) -> Result<Result<Vec<Value>, NoValue>, Memory>
-    ensures { IfOk result (λ made. MatchResult made (λ row. row_from 0 columns.now (fields_of record.now) ≡ Ok row.items) (λ none. row_from 0 columns.now (fields_of record.now) ≡ Err none.column)) }
+    ensures { IfOk result (λ made. MatchResult made (λ row. row_from 0 columns.now (fields_of byte_record.now) ≡ Ok row.items) (λ none. row_from 0 columns.now (fields_of byte_record.now) ≡ Err none.column)) }
 {
     let mut row = Vec::with_capacity(alloc, columns.len())?;
     for (at, column) in columns.iter().enumerate() {
-        let field = field_of(record, column.place);
+        let field = field_of(byte_record, column.place);
         let Some(value) = value_of(alloc, column.kind, field)? else {
             // No list of 2^32 columns is handed in.
             let Ok(column) = u32::try_from(at) else {

@@ -4,4 +4,4 @@ use Rattle.csv_edge.proofs.Places.{field-index}
 use Rattle.csv_edge.proofs.row.field_of.Goals as goal
 
 pub returns : goal.returns
-returns c = rw (← field-index (fields_of c.args.record.now) c.args.place) (search rules)
+returns c = rw (← field-index (fields_of c.args.byte_record.now) c.args.place) (search rules)

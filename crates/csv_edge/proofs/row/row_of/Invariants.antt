@@ -5,4 +5,4 @@ use Rattle.csv_edge.proofs.Placing.{behind}
 use Rattle.csv_edge.proofs.row.row_of.Given as goal
 
 abbrev pub invariant-loop-at : goal.invariant-loop-at
-invariant-loop-at l = row_from 0 l.columns (fields_of l.record) ≡ behind l.row.items (row_from l.at (drop l.at l.columns) (fields_of l.record))
+invariant-loop-at l = row_from 0 l.columns (fields_of l.byte_record) ≡ behind l.row.items (row_from l.at (drop l.at l.columns) (fields_of l.byte_record))

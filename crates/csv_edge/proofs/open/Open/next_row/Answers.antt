@@ -6,5 +6,5 @@ use Rattle.csv_edge.proofs.open.Open.next_row.Goals as goal
 
 pub returns-in-Ok-clause-kinds : goal.returns-in-Ok-clause-kinds
 returns-in-Ok-clause-kinds g c =
-    let made : row_from 0 c.args.self.now.columns (fields_of c.next.new.record) ≡ Ok c.in-Ok.row.items = search rules in
-    row_kinds 0 c.args.self.now.columns (fields_of c.next.new.record) c.in-Ok.row.items made
+    let made : row_from 0 c.args.self.now.columns (fields_of c.next.new.byte_record) ≡ Ok c.in-Ok.row.items = search rules in
+    row_kinds 0 c.args.self.now.columns (fields_of c.next.new.byte_record) c.in-Ok.row.items made

@@ -6,5 +6,5 @@ use Rattle.csv_edge.proofs.open.Open.over.Goals as goal
 
 pub returns-clause-kinds : goal.returns-clause-kinds
 returns-clause-kinds g c =
-    let placed : places_of (fields_of c.next.new.record) c.args.columns.now ≡ Some c.in-Some.columns.items = search rules in
-    placed_kinds (fields_of c.next.new.record) c.args.columns.now c.in-Some.columns.items placed
+    let placed : places_of (fields_of c.next.new.byte_record) c.args.columns.now ≡ Some c.in-Some.columns.items = search rules in
+    placed_kinds (fields_of c.next.new.byte_record) c.args.columns.now c.in-Some.columns.items placed
