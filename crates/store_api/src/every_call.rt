@@ -181,7 +181,7 @@ fn rounds<St: Store>(
 ///
 /// # Errors
 ///
-/// `TooManyTrackers`, exactly where fifteen or more clients are live. `NoReservation`: a growth passed a limit, or the
+/// `TooManyTrackers`, only where fifteen or more clients are live. `NoReservation`: a growth passed a limit, or the
 /// room of what is above. Else what the store answered in this call, or there was no memory. The store is left so
 /// then too.
 #[tactic(auto, using(crate::proofs::Growing::grows_trans))]
