@@ -8,7 +8,7 @@ use Rattle.reservation_tree.proofs.Members.{live_apart, child_tree, child_fits}
 use Rattle.pool_model.specs.State.{Session, State}
 use Rattle.pool_model.specs.Sums.{held_by, IsClient, memory}
 use Rattle.pool_model.specs.TrackerRows.{MayAddClient}
-use Rattle.pool_model.specs.Effects.{open_session, add_client, forget_failures}
+use Rattle.pool_model.specs.Parts.{open_session, add_client, forget_failures}
 use Rattle.pool_model.specs.Sound.{IsQuery, IsSeated, IsOwned, IsSound}
 use Rattle.pool_model.proofs.ByClients.{not_client}
 use Rattle.pool_model.proofs.Seats.{failures_seats, keep_seats, root_depth, query_depth, some_is}
@@ -67,6 +67,7 @@ module _ (s : State) (sound : IsSound s) (t p limit : ℕ) (fresh : get s.tracke
     page_clients = λ q x is. let client : IsClient s.trackers x.client = sound.owned.page_clients q x is in same_here s.trackers _ x.client (stayed x.client client.live) client;
     buffer_clients = λ f x is. let client : IsClient s.trackers x.client = sound.owned.buffer_clients f x is in same_here s.trackers _ x.client (stayed x.client client.live) client;
     names = sound.owned.names;
+    pins = sound.owned.pins;
   }
 
   pub held_too : (q : ℕ) → held_by s q ≤ reservation_of (with_child t p limit s.trackers) q

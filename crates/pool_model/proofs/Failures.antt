@@ -10,9 +10,11 @@ use Rattle.pool_model.specs.declared.event.Event.TheVariants.{CloseTracker, Crea
 use Rattle.pool_model.specs.declared.entry.Entry.{Entry}
 use Rattle.pool_model.specs.State.{Page, Session, State, shown, page_at}
 use Rattle.pool_model.specs.Owning.{IsClientOf, IsTrackerOf}
-use Rattle.pool_model.specs.LookingBack.{Made, makes, maker_of, fails, is_for_own, forgets, closes}
+use Rattle.pool_model.specs.LookingBack.{Made, makes, maker_of}
+use Rattle.pool_model.specs.Failures.{fails, is_for_own, forgets, closes}
 use Rattle.pool_model.specs.MayFollow.{Allows, MayFollow}
-use Rattle.pool_model.specs.Effects.{effect, after, count_entry, with_failures, keep_first}
+use Rattle.pool_model.specs.Parts.{with_failures, keep_first}
+use Rattle.pool_model.specs.Effects.{effect, after, count_entry}
 use Rattle.pool_model.specs.Sound.{IsQuery, IsSound}
 use Rattle.pool_model.specs.HistoryLaws.{made, LegalPagesAreOwned}
 use Rattle.pool_model.proofs.Seats.{some_is, query_depth, own_client}
@@ -30,8 +32,8 @@ page_stays before s maker _ may p x is = refl
 -- a page that is made is for a client of its session
 made_for : (before : List Entry) (s : State) (maker : ℕ) (event : Event) → Allows before s maker event → (p : ℕ) (m : Made) → makes p maker event ≡ Some m
     → IsClientOf s m.session m.client × (closes m.client event ≡ false)
-made_for before s maker (Create q client blocks) may p m is =
-    elim (q == p) as (λ b. (if b then Some (record { session = maker; client = client; blocks = blocks }) else None) ≡ Some m → IsClientOf s m.session m.client × (closes m.client (Create q client blocks) ≡ false)) [
+made_for before s maker (Create q client blocks key) may p m is =
+    elim (q == p) as (λ b. (if b then Some (record { session = maker; client = client; blocks = blocks }) else None) ≡ Some m → IsClientOf s m.session m.client × (closes m.client (Create q client blocks key) ≡ false)) [
       | true ↦ λ there.
           let new : Made = record { session = maker; client = client; blocks = blocks } in
           let same : new ≡ m = some_is new m there in

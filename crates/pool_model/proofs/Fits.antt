@@ -10,11 +10,11 @@ use Rattle.reservation_tree.proofs.Sums.{total-le, total-none, total-same}
 use Rattle.reservation_tree.proofs.Above.{Above, above, at_root}
 use Rattle.pool_model.specs.Bytes.{only_if}
 use Rattle.pool_model.specs.State.{Sessions, State}
-use Rattle.pool_model.specs.Sums.{is_charged, is_held, charge_of, held_by, pages_for, is_client, IsClient, over_clients, clean_bytes, bytes_in_memory, memory, FitsClients}
+use Rattle.pool_model.specs.Sums.{times_charged, times_held, charge_of, held_by, page_bytes, pages_for, is_client, IsClient, over_clients, clean_bytes, bytes_in_memory, memory, FitsClients, FitsPages}
 use Rattle.pool_model.specs.Sound.{IsSeated, IsSound}
 use Rattle.pool_model.specs.PoolLaws.{FindsRoom}
 use Rattle.pool_model.proofs.Weights.{only_none, only_when, only_less, only_le, total-single, total-spare, by-owners}
-use Rattle.pool_model.proofs.ByClients.{memory_by_pages, charges_held, not_client}
+use Rattle.pool_model.proofs.ByClients.{memory_by_clients, charges_held, part_held, not_client}
 
 module _ (bytes : ℕ) (ts : Trackers) (sessions : Sessions) (seated : IsSeated bytes ts sessions) where
   -- nothing stands under a client
@@ -82,7 +82,7 @@ module _ (bytes : ℕ) (ts : Trackers) (sessions : Sessions) (seated : IsSeated 
 
 module _ (s : State) (sound : IsSound s) where
   charge_fits : (t : ℕ) → charge_of s t ≤ held_by s t
-  charge_fits t = let pages : pages_for is_charged s.block_len s.pages t ≤ pages_for is_held s.block_len s.pages t = charges_held s.block_len s.pages t in omega (arith, pages)
+  charge_fits t = let pages : pages_for times_charged s.block_len s.pages t ≤ pages_for times_held s.block_len s.pages t = charges_held s.block_len s.pages t in omega (arith, pages)
 
   pub fits_tree : FitsTree (charge_of s) s.trackers
   fits_tree t live =
@@ -101,10 +101,14 @@ module _ (s : State) (sound : IsSound s) where
   pub fits_clients : FitsClients s
   fits_clients c client = sound.within.held c
 
+  pub fits_pages : FitsPages s
+  fits_pages p x is =
+      let part : page_bytes times_held s.block_len x ≤ pages_for times_held s.block_len s.pages x.client = part_held times_held s.block_len s.pages p x is in
+      let held : held_by s x.client ≤ reservation_of s.trackers x.client = sound.within.held x.client in
+      omega (arith, part, held)
+
   pub in_memory : bytes_in_memory s ≤ memory s
-  in_memory =
-      let by_pages = memory_by_pages s.block_len s.trackers s.pages s.buffers s.next_name sound.owned in
-      omega (arith, by_pages, sound.within.memory)
+  in_memory = sound.within.memory
 
   pub finds_room : FindsRoom s
   unfolding over_clients
@@ -117,5 +121,6 @@ module _ (s : State) (sound : IsSound s) where
       total-spare (λ d x. only_if (is_client x) (held_by s d)) (λ d x. only_if (is_client x) (reservation_of s.trackers d)) s.trackers c it.0 n it.1
       (λ d x is. only_le (is_client x) (held_by s d) (reservation_of s.trackers d) (sound.within.held d)) here in
       let all : over_clients (reservation_of s.trackers) s.trackers ≤ memory s = reserved (memory s) s.trackers s.sessions sound.seated in
-      let clean : over_clients (held_by s) s.trackers + clean_bytes s ≤ memory s = in_memory in
-      omega (arith, spare, all, clean)
+      let used : bytes_in_memory s ≤ over_clients (held_by s) s.trackers + clean_bytes s = memory_by_clients s.block_len s.trackers s.pages s.buffers s.next_name sound.owned in
+      let fits : bytes_in_memory s ≤ memory s = in_memory in
+      omega (arith, spare, all, used, fits)

@@ -3,7 +3,7 @@ use Rattle.std.proofs.Common.{◌≡◌, ◌≢◌, ℕ, true, false, Some, None
 use Rattle.std.specs.FinMap.{get, insert}
 use Rattle.reservation_tree.proofs.Maps.{get_other, removed_other}
 use Rattle.pool_model.specs.declared.event.Event.{Event}
-use Rattle.pool_model.specs.declared.event.Event.TheVariants.{AddTracker, CloseTracker, Increase, IncreaseToFit, Decrease, MoveReservation, Create, PinHere, PinLoad, ReadOk, ReadFailed, Unpin, Extract, Destroy, Alloc, Free, MoveBuffer, StartWrite, WriteOk, WriteFailed, Evict}
+use Rattle.pool_model.specs.declared.event.Event.TheVariants.{AddTracker, CloseTracker, Increase, IncreaseToFit, Decrease, MoveReservation, Create, PinHere, PinLoad, ReadOk, ReadFailed, PinAgain, UnpinOnce, Unpin, Extract, Destroy, Alloc, Free, MoveBuffer, StartWrite, WriteOk, WriteFailed, Evict}
 use Rattle.pool_model.specs.State.{State, page_at}
 use Rattle.pool_model.specs.Effects.{effect, after}
 use Rattle.pool_model.specs.Frames.{page_in, buffer_in, is_of_trackers, EntriesLeaveRest}
@@ -14,11 +14,13 @@ apart p q other same = other (ap Some (sym same))
 pages_left : (maker : ℕ) (event : Event) (s : State) (p : ℕ) → page_in event ≢ Some p → get (effect maker event s).pages p ≡ get s.pages p
 pages_left maker (AddTracker t parent limit (Some quota)) s q other = refl
 pages_left maker (AddTracker t parent limit None) s q other = refl
-pages_left maker (Create p client blocks) s q other = get_other s.pages p _ q (apart p q other)
+pages_left maker (Create p client blocks key) s q other = get_other s.pages p _ q (apart p q other)
 pages_left maker (PinHere p) s q other = get_other s.pages p _ q (apart p q other)
 pages_left maker (PinLoad p) s q other = get_other s.pages p _ q (apart p q other)
 pages_left maker (ReadOk p) s q other = get_other s.pages p _ q (apart p q other)
 pages_left maker (ReadFailed p before after) s q other = get_other s.pages p _ q (apart p q other)
+pages_left maker (PinAgain p) s q other = get_other s.pages p _ q (apart p q other)
+pages_left maker (UnpinOnce p) s q other = get_other s.pages p _ q (apart p q other)
 pages_left maker (Unpin p content) s q other =
     get_other (insert s.pages p (record (page_at s p) { has_slots = true })) p _ q (apart p q other) ∙ get_other s.pages p _ q (apart p q other)
 pages_left maker (Extract p f) s q other = removed_other s.pages p q (apart p q other)

@@ -7,9 +7,9 @@ use Rattle.reservation_tree.proofs.Maps.{removed_same, removed_other, same_or_ot
 use Rattle.reservation_tree.proofs.Outline.{reservation_is}
 use Rattle.reservation_tree.proofs.Members.{closed_tree, closed_fits}
 use Rattle.pool_model.specs.State.{Session, State}
-use Rattle.pool_model.specs.Sums.{held_by, is_held, pages_for, buffers_for, memory}
+use Rattle.pool_model.specs.Sums.{held_by, times_held, pages_for, buffers_for, memory}
 use Rattle.pool_model.specs.TrackerRows.{MayCloseTracker}
-use Rattle.pool_model.specs.Effects.{without_tracker, close_tracker}
+use Rattle.pool_model.specs.Parts.{without_tracker, close_tracker}
 use Rattle.pool_model.specs.Sound.{IsQuery, IsSeated, IsSound}
 use Rattle.pool_model.proofs.ByClients.{no_pages, no_buffers}
 use Rattle.pool_model.proofs.Seats.{HadSeat, put_session, IsBelow, is_below}
@@ -62,11 +62,12 @@ close_sound s sound maker t may =
         page_clients = λ p x is. same_here s.trackers new x.client (stays x.client (may.no_page p x is)) (sound.owned.page_clients p x is);
         buffer_clients = λ f x is. same_here s.trackers new x.client (stays x.client (may.no_buffer f x is)) (sound.owned.buffer_clients f x is);
         names = sound.owned.names;
+        pins = sound.owned.pins;
       };
       within = record {
         held = λ q. elim (same_or_other q t) [
           | inl here ↦
-              let pages : pages_for is_held s.block_len s.pages q ≡ 0 = no_pages is_held s.block_len s.pages q (λ p x is same. may.no_page p x is (same ∙ here)) in
+              let pages : pages_for times_held s.block_len s.pages q ≡ 0 = no_pages times_held s.block_len s.pages q (λ p x is same. may.no_page p x is (same ∙ here)) in
               let buffers : buffers_for s.block_len s.buffers q ≡ 0 = no_buffers s.block_len s.buffers q (λ f x is same. may.no_buffer f x is (same ∙ here)) in
               omega (arith, pages, buffers)
           | inr other ↦

@@ -12,7 +12,7 @@ use Rattle.pool_model.specs.Bytes.{only_if}
 use Rattle.pool_model.specs.State.{Pages, Buffers, Sessions, State}
 use Rattle.pool_model.specs.Sums.{charge_of, held_by, IsClient, memory}
 use Rattle.pool_model.specs.TrackerRows.{CanLose}
-use Rattle.pool_model.specs.Effects.{with_trackers}
+use Rattle.pool_model.specs.Parts.{with_trackers}
 use Rattle.pool_model.specs.Sound.{IsQuery, IsSeated, IsOwned, IsSound}
 use Rattle.pool_model.proofs.Weights.{mine, not_mine}
 use Rattle.pool_model.proofs.ByClients.{not_client}
@@ -45,6 +45,7 @@ reowned old new pages buffers next_name same owned = record {
   page_clients = λ p x is. same_client old new same x.client (owned.page_clients p x is);
   buffer_clients = λ f x is. same_client old new same x.client (owned.buffer_clients f x is);
   names = owned.names;
+  pins = owned.pins;
 }
 
 deep_lives : (o : Option Tracker) → (unwrap_or o no_tracker).depth ≡ 2 → IsSome o

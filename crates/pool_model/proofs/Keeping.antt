@@ -7,8 +7,8 @@ use Rattle.reservation_tree.proofs.Maps.{get_same, get_other, removed_same, remo
 use Rattle.pool_model.specs.declared.entry.Entry.{Entry}
 use Rattle.pool_model.specs.State.{Session, Sessions, State, shown}
 use Rattle.pool_model.specs.Owning.{IsClientOf}
-use Rattle.pool_model.specs.LookingBack.{fails, is_for_own, forgets}
-use Rattle.pool_model.specs.Effects.{with_failures, without_tracker, keep_first}
+use Rattle.pool_model.specs.Failures.{fails, is_for_own, forgets}
+use Rattle.pool_model.specs.Parts.{with_failures, without_tracker, keep_first}
 use Rattle.pool_model.proofs.Seats.{some_is}
 use Rattle.pool_model.proofs.Windows.{first_by, forgotten, quiet, failed}
 

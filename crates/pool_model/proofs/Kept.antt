@@ -5,7 +5,7 @@ use Rattle.reservation_tree.specs.Tracker.{IsLive}
 use Rattle.reservation_tree.specs.Change.{lacking}
 use Rattle.reservation_tree.proofs.Maps.{is_there}
 use Rattle.pool_model.specs.declared.event.Event.{Event}
-use Rattle.pool_model.specs.declared.event.Event.TheVariants.{Ask, AddTracker, CloseTracker, Increase, IncreaseToFit, Decrease, MoveReservation, Create, PinHere, PinLoad, ReadOk, ReadFailed, Unpin, UnpinRefused, Extract, Destroy, Alloc, Free, MoveBuffer, StartWrite, WriteOk, WriteFailed, Evict, Refused}
+use Rattle.pool_model.specs.declared.event.Event.TheVariants.{Ask, AddTracker, CloseTracker, Increase, IncreaseToFit, Decrease, MoveReservation, Create, PinHere, PinLoad, ReadOk, ReadFailed, PinAgain, UnpinOnce, Unpin, UnpinRefused, Extract, Destroy, Alloc, Free, MoveBuffer, StartWrite, WriteOk, WriteFailed, Evict, Refused}
 use Rattle.pool_model.specs.declared.entry.Entry.{Entry}
 use Rattle.pool_model.specs.State.{opened, State}
 use Rattle.pool_model.specs.Sums.{charge_of}
@@ -14,15 +14,15 @@ use Rattle.pool_model.specs.MayFollow.{Allows, MayFollow}
 use Rattle.pool_model.specs.Effects.{effect, after}
 use Rattle.pool_model.specs.Legal.{run, Follow, state_after}
 use Rattle.pool_model.specs.Sound.{IsSound}
-use Rattle.pool_model.specs.PoolLaws.{LegalFitsTrackers, LegalFitsClients, LegalFitsMemory, LegalFindsRoom, LegalIsSound}
-use Rattle.pool_model.proofs.Fits.{fits_tree, fits_clients, in_memory, finds_room}
+use Rattle.pool_model.specs.PoolLaws.{LegalFitsTrackers, LegalFitsClients, LegalFitsPages, LegalFitsMemory, LegalFindsRoom, LegalIsSound}
+use Rattle.pool_model.proofs.Fits.{fits_tree, fits_clients, fits_pages, in_memory, finds_room}
 use Rattle.pool_model.proofs.Growing.{grow_sound, shrink_sound, move_sound}
 use Rattle.pool_model.proofs.Seats.{IsBelow, is_below}
 use Rattle.pool_model.proofs.Coming.{add_sound, open_sound, forget_sound}
 use Rattle.pool_model.proofs.Going.{close_sound}
 use Rattle.pool_model.proofs.Opened.{opened_sound}
 use Rattle.pool_model.proofs.Pages.{counted_sound}
-use Rattle.pool_model.proofs.Events.{pin_here, pin_load, read_ok, read_failed, unpin, destroy, start_write, write_ok, write_failed, evict}
+use Rattle.pool_model.proofs.Events.{pin_here, pin_load, read_ok, read_failed, pin_again, unpin_once, unpin, destroy, start_write, write_ok, write_failed, evict}
 use Rattle.pool_model.proofs.Blocks.{create_sound, alloc_sound}
 use Rattle.pool_model.proofs.Loans.{move_buffer_sound, free_sound, extract_sound}
 
@@ -39,11 +39,13 @@ event_sound before s sound maker (Increase t bytes) may = grow_sound s sound t b
 event_sound before s sound maker (IncreaseToFit t bytes) may = grow_sound s sound t (lacking (charge_of s) bytes t s.trackers) (own_live s sound maker t may.own) may.fits
 event_sound before s sound maker (Decrease t bytes) may = shrink_sound s sound t bytes (own_live s sound maker t may.own) may.spare
 event_sound before s sound maker (MoveReservation from to bytes) may = move_sound s sound from to bytes (own_live s sound maker from may.own) (own_live s sound maker to may.own_to) may.spare may.fits
-event_sound before s sound maker (Create p client blocks) may = create_sound s sound maker p client blocks may
+event_sound before s sound maker (Create p client blocks key) may = create_sound s sound maker p client blocks key may
 event_sound before s sound maker (PinHere p) may = pin_here s sound maker p may
 event_sound before s sound maker (PinLoad p) may = pin_load s sound maker p may
 event_sound before s sound maker (ReadOk p) may = read_ok s sound maker p may
 event_sound before s sound maker (ReadFailed p sum_before sum_after) may = read_failed s sound maker p may.ends
+event_sound before s sound maker (PinAgain p) may = pin_again s sound maker p may
+event_sound before s sound maker (UnpinOnce p) may = unpin_once s sound maker p may
 event_sound before s sound maker (Unpin p content) may = unpin s sound maker p content may
 event_sound before s sound maker (UnpinRefused p) may = sound
 event_sound before s sound maker (Extract p f) may = extract_sound s sound maker p f may
@@ -73,6 +75,9 @@ legal_fits_trackers o h legal = fits_tree (state_after o h) (legal_sound o h leg
 
 pub legal_fits_clients : LegalFitsClients
 legal_fits_clients o h legal = fits_clients (state_after o h) (legal_sound o h legal)
+
+pub legal_fits_pages : LegalFitsPages
+legal_fits_pages o h legal = fits_pages (state_after o h) (legal_sound o h legal)
 
 pub legal_fits_memory : LegalFitsMemory
 legal_fits_memory o h legal = in_memory (state_after o h) (legal_sound o h legal)

@@ -29,3 +29,12 @@ pub mod Waiting
 pub mod Arriving
 pub mod Lining
 pub mod Lined
+pub mod OwnEntries
+pub mod Sitting
+pub mod Slots
+pub mod Rising
+pub mod Untouched
+pub mod Contents
+pub mod Resting
+pub mod Pins
+pub mod Refused

@@ -5,11 +5,12 @@ use Rattle.std.specs.FinMap.{get, insert, get-empty}
 use Rattle.reservation_tree.proofs.Maps.{get_same, get_other, removed_same, removed_other}
 use Rattle.reservation_tree.proofs.Members.{live_apart}
 use Rattle.pool_model.specs.declared.event.Event.{Event}
-use Rattle.pool_model.specs.declared.event.Event.TheVariants.{AddTracker, CloseTracker, Create, PinHere, PinLoad, ReadOk, ReadFailed, Unpin, Extract, Destroy, StartWrite, WriteOk, WriteFailed, Evict}
+use Rattle.pool_model.specs.declared.event.Event.TheVariants.{AddTracker, CloseTracker, Create, PinHere, PinLoad, ReadOk, ReadFailed, PinAgain, UnpinOnce, Unpin, Extract, Destroy, StartWrite, WriteOk, WriteFailed, Evict}
 use Rattle.pool_model.specs.declared.entry.Entry.{Entry}
 use Rattle.pool_model.specs.State.{Opening, opened, Place, Pinned, Dirty, Flying, Loading, Clean, Evicted, Page, page_at, State, dirty_of}
 use Rattle.pool_model.specs.MayFollow.{Allows, MayFollow}
-use Rattle.pool_model.specs.Effects.{effect, after, put_in, give_slots, queue_dirty, queue_clean, unqueue, end_page}
+use Rattle.pool_model.specs.Parts.{put_in, give_slots, queue_dirty, queue_clean, unqueue, end_page}
+use Rattle.pool_model.specs.Effects.{effect, after}
 use Rattle.pool_model.specs.Sound.{IsSound}
 use Rattle.pool_model.specs.Orders.{dirtied, cleaned, dirty_for, clean_at, last_time, InOrder, stands_in, AreQueues, LegalKeepsQueues}
 use Rattle.pool_model.proofs.Pages.{page_is}
@@ -40,18 +41,20 @@ module _ (h : List Entry) (s : State) (sound : IsSound s) (queues : AreQueues h 
       renewed h s _ _ queues refl refl t (ap (λ (o : Option (List ℕ)). unwrap_or o []) (removed_same s.dirty t))
       (λ c apart. ap (λ (o : Option (List ℕ)). unwrap_or o []) (removed_other s.dirty t c apart)) refl (λ q. refl)
       (λ q. not_for t (get s.pages q) (λ x is. may.no_page q x is))
-  step maker (Create p client blocks) may = comes h s sound queues _ refl refl _ p _ may.next refl refl refl refl
-  step maker (PinHere p) may = leaves h s sound queues _ refl refl p may.page may.own.lives Pinned refl refl
+  step maker (Create p client blocks key) may = comes h s sound queues _ refl refl _ p _ may.next refl refl refl refl
+  step maker (PinHere p) may = leaves h s sound queues _ refl refl p may.page may.own.lives (Pinned 1) refl refl
   step maker (PinLoad p) may = idles h s sound queues _ _ refl refl p may.page _ Evicted Loading may.own.lives may.evicted refl refl refl refl refl refl refl refl
-  step maker (ReadOk p) may = idles h s sound queues _ _ refl refl p may.page _ Loading Pinned may.own.lives may.loading refl refl refl refl refl refl refl refl
+  step maker (ReadOk p) may = idles h s sound queues _ _ refl refl p may.page _ Loading (Pinned 1) may.own.lives may.loading refl refl refl refl refl refl refl refl
   step maker (ReadFailed p sum_before sum_after) may = idles h s sound queues _ _ refl refl p may.ends.page _ Loading Evicted may.ends.own.lives may.ends.loading refl refl refl refl refl refl refl refl
+  step maker (PinAgain p) may = idles h s sound queues _ _ refl refl p may.page _ (Pinned may.count) _ may.own.lives may.pinned refl refl refl refl refl refl refl refl
+  step maker (UnpinOnce p) may = idles h s sound queues _ _ refl refl p may.page _ (Pinned may.count) _ may.own.lives may.pinned refl refl refl refl refl refl refl refl
   step maker (Unpin p content) may =
       let x : Page = may.page in
       let w0 : Page = record (page_at s p) { has_slots = true } in
       let given : page_at (give_slots p (queue_dirty p s)) p ≡ w0 = page_is (give_slots p (queue_dirty p s)) p w0 (get_same s.pages p w0) in
       let client : (page_at s p).client ≡ x.client = ap (λ (z : Page). z.client) (page_is s p x may.own.lives) in
-      dirties (effect maker (Unpin p content) s) _ refl p x (record (page_at (give_slots p (queue_dirty p s)) p) { place = Dirty }) Pinned refl may.own.lives may.pinned
-      (λ c. idle_dirty c (get s.pages p) x Pinned may.own.lives may.pinned refl) (idle_clean (get s.pages p) x Pinned may.own.lives may.pinned refl)
+      dirties (effect maker (Unpin p content) s) _ refl p x (record (page_at (give_slots p (queue_dirty p s)) p) { place = Dirty }) (Pinned 1) refl may.own.lives may.pinned
+      (λ c. idle_dirty c (get s.pages p) x (Pinned 1) may.own.lives may.pinned refl) (idle_clean (get s.pages p) x (Pinned 1) may.own.lives may.pinned refl)
       (ap (λ (k : ℕ). insert s.dirty k (dirty_of s k ++ p ∷ [])) client) refl
       (λ q away. get_other (insert s.pages p w0) p _ q away ∙ get_other s.pages p w0 q away) (get_same (insert s.pages p w0) p _) refl (ap (λ (z : Page). z.client) given ∙ client)
   step maker (Extract p f) may = ends h s sound queues _ _ refl refl p may.page may.own.lives may.pinned refl refl refl

@@ -6,7 +6,7 @@ use Rattle.reservation_tree.proofs.Maps.{get_same, get_other, removed_same, remo
 use Rattle.pool_model.specs.declared.entry.Entry.{Entry}
 use Rattle.pool_model.specs.State.{Place, Pinned, Page, page_at, State}
 use Rattle.pool_model.specs.Sums.{is_clean}
-use Rattle.pool_model.specs.Effects.{put_in, unqueue}
+use Rattle.pool_model.specs.Parts.{put_in, unqueue}
 use Rattle.pool_model.specs.Sound.{IsSound}
 use Rattle.pool_model.specs.Orders.{dirtied, cleaned, is_dirty, dirty_for, clean_at, AreQueues}
 use Rattle.pool_model.proofs.Pages.{page_is}
@@ -56,7 +56,7 @@ module _ (h : List Entry) (s : State) (sound : IsSound s) (queues : AreQueues h 
       ])
 
   -- a page ends
-  pub ends : (new : State) (e : Entry) → dirtied e.event ≡ None → cleaned e.event ≡ None → (p : ℕ) (x : Page) → get s.pages p ≡ Some x → x.place ≡ Pinned
+  pub ends : (new : State) (e : Entry) → dirtied e.event ≡ None → cleaned e.event ≡ None → (p : ℕ) (x : Page) → get s.pages p ≡ Some x → x.place ≡ Pinned 1
       → new.dirty ≡ s.dirty → new.clean ≡ s.clean → new.pages ≡ remove s.pages p → AreQueues (h ++ e ∷ []) new
   ends new e no_dirt no_wash p x is at dirty clean pages =
       let here : get new.pages p ≡ None = ap (λ m. get m p) pages ∙ removed_same s.pages p in
@@ -64,12 +64,12 @@ module _ (h : List Entry) (s : State) (sound : IsSound s) (queues : AreQueues h 
       unchanged h s new e queues no_dirt no_wash (λ c. ap (λ (d : FinMap nat_cmp (List ℕ)). unwrap_or (get d c) []) dirty) clean
       (λ c q. elim (same_or_other q p) [
         | inl same ↦ ap (λ (r : ℕ). dirty_for c (get new.pages r)) same ∙ ap (dirty_for c) here
-            ∙ sym (idle_dirty c (get s.pages p) x Pinned is at refl) ∙ ap (λ (r : ℕ). dirty_for c (get s.pages r)) (sym same)
+            ∙ sym (idle_dirty c (get s.pages p) x (Pinned 1) is at refl) ∙ ap (λ (r : ℕ). dirty_for c (get s.pages r)) (sym same)
         | inr away ↦ ap (dirty_for c) (beside q away)
       ])
       (λ q. elim (same_or_other q p) [
         | inl same ↦ ap (λ (r : ℕ). clean_at (get new.pages r)) same ∙ ap clean_at here
-            ∙ sym (idle_clean (get s.pages p) x Pinned is at refl) ∙ ap (λ (r : ℕ). clean_at (get s.pages r)) (sym same)
+            ∙ sym (idle_clean (get s.pages p) x (Pinned 1) is at refl) ∙ ap (λ (r : ℕ). clean_at (get s.pages r)) (sym same)
         | inr away ↦ ap clean_at (beside q away)
       ])
 
@@ -78,7 +78,7 @@ module _ (h : List Entry) (s : State) (sound : IsSound s) (queues : AreQueues h 
   fresh_page p next None is = refl
   fresh_page p next (Some x) is = let low : p < s.next_name = sound.owned.names p x is in absurd (omega (arith, low, next))
 
-  pub comes : (e : Entry) → dirtied e.event ≡ None → cleaned e.event ≡ None → (new : State) (p : ℕ) (w : Page) → p ≡ s.next_name → w.place ≡ Pinned
+  pub comes : (e : Entry) → dirtied e.event ≡ None → cleaned e.event ≡ None → (new : State) (p : ℕ) (w : Page) → p ≡ s.next_name → w.place ≡ Pinned 1
       → new.dirty ≡ s.dirty → new.clean ≡ s.clean → new.pages ≡ insert s.pages p w → AreQueues (h ++ e ∷ []) new
   comes e no_dirt no_wash new p w next at dirty clean pages =
       let none : get s.pages p ≡ None = fresh_page p next (get s.pages p) refl in
@@ -86,12 +86,12 @@ module _ (h : List Entry) (s : State) (sound : IsSound s) (queues : AreQueues h 
       let beside : (q : ℕ) → q ≢ p → get new.pages q ≡ get s.pages q = λ q away. ap (λ m. get m q) pages ∙ get_other s.pages p w q away in
       unchanged h s new e queues no_dirt no_wash (λ c. ap (λ (d : FinMap nat_cmp (List ℕ)). unwrap_or (get d c) []) dirty) clean
       (λ c q. elim (same_or_other q p) [
-        | inl same ↦ ap (λ (r : ℕ). dirty_for c (get new.pages r)) same ∙ idle_dirty c (get new.pages p) w Pinned here at refl
+        | inl same ↦ ap (λ (r : ℕ). dirty_for c (get new.pages r)) same ∙ idle_dirty c (get new.pages p) w (Pinned 1) here at refl
             ∙ sym (ap (dirty_for c) none) ∙ ap (λ (r : ℕ). dirty_for c (get s.pages r)) (sym same)
         | inr away ↦ ap (dirty_for c) (beside q away)
       ])
       (λ q. elim (same_or_other q p) [
-        | inl same ↦ ap (λ (r : ℕ). clean_at (get new.pages r)) same ∙ idle_clean (get new.pages p) w Pinned here at refl
+        | inl same ↦ ap (λ (r : ℕ). clean_at (get new.pages r)) same ∙ idle_clean (get new.pages p) w (Pinned 1) here at refl
             ∙ sym (ap clean_at none) ∙ ap (λ (r : ℕ). clean_at (get s.pages r)) (sym same)
         | inr away ↦ ap clean_at (beside q away)
       ])

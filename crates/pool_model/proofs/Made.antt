@@ -5,12 +5,13 @@ use Rattle.std.specs.Ordering.{nat_cmp}
 use Rattle.std.specs.FinMap.{get, insert, remove, get-empty}
 use Rattle.reservation_tree.proofs.Maps.{get_same, get_other, removed_same, removed_other, same_or_other}
 use Rattle.pool_model.specs.declared.event.Event.{Event}
-use Rattle.pool_model.specs.declared.event.Event.TheVariants.{AddTracker, Create, PinHere, PinLoad, ReadOk, ReadFailed, Unpin, Extract, Destroy, StartWrite, WriteOk, WriteFailed, Evict}
+use Rattle.pool_model.specs.declared.event.Event.TheVariants.{AddTracker, Create, PinHere, PinLoad, ReadOk, ReadFailed, PinAgain, UnpinOnce, Unpin, Extract, Destroy, StartWrite, WriteOk, WriteFailed, Evict}
 use Rattle.pool_model.specs.declared.entry.Entry.{Entry}
 use Rattle.pool_model.specs.State.{Opening, Page, page_at, State}
 use Rattle.pool_model.specs.LookingBack.{Made, makes, maker_of}
 use Rattle.pool_model.specs.MayFollow.{Allows, MayFollow}
-use Rattle.pool_model.specs.Effects.{effect, after, give_slots}
+use Rattle.pool_model.specs.Parts.{give_slots}
+use Rattle.pool_model.specs.Effects.{effect, after}
 use Rattle.pool_model.specs.Legal.{state_after, IsLegal}
 use Rattle.pool_model.specs.Sound.{IsSound}
 use Rattle.pool_model.specs.HistoryLaws.{made, LegalPagesAsMade}
@@ -39,9 +40,9 @@ gone_before s p q y there = elim (same_or_other q p) [
   | inr other ↦ record { page = y; lives = sym (removed_other s.pages p q other) ∙ there; same = refl }
 ]
 
-created : (s : State) (maker p client blocks : ℕ) (w : Page) → made w ≡ record { session = maker; client = client; blocks = blocks } → (q : ℕ) (y : Page) → get (insert s.pages p w) q ≡ Some y
-    → WasLive s q y ⊎ (makes q maker (Create p client blocks) ≡ Some (made y))
-created s maker p client blocks w is q y there = elim (same_or_other q p) [
+created : (s : State) (maker p client blocks key : ℕ) (w : Page) → made w ≡ record { session = maker; client = client; blocks = blocks } → (q : ℕ) (y : Page) → get (insert s.pages p w) q ≡ Some y
+    → WasLive s q y ⊎ (makes q maker (Create p client blocks key) ≡ Some (made y))
+created s maker p client blocks key w is q y there = elim (same_or_other q p) [
   | inl here ↦
       let now : w ≡ y = some_is w y (sym (get_same s.pages p w) ∙ ap (get (insert s.pages p w)) (sym here) ∙ there) in
       inr (ap (λ (b : Bool). if b then Some (record { session = maker; client = client; blocks = blocks }) else None) (eq-eqb p q (sym here)) ∙ ap Some (sym is ∙ ap made now))
@@ -53,11 +54,13 @@ pub live_before : (before : List Entry) (s : State) (maker : ℕ) (event : Event
     → WasLive s q y ⊎ (makes q maker event ≡ Some (made y))
 live_before before s maker (AddTracker t parent limit (Some quota)) may q y is = inl (record { page = y; lives = is; same = refl })
 live_before before s maker (AddTracker t parent limit None) may q y is = inl (record { page = y; lives = is; same = refl })
-live_before before s maker (Create p client blocks) may q y is = created s maker p client blocks _ refl q y is
+live_before before s maker (Create p client blocks key) may q y is = created s maker p client blocks key _ refl q y is
 live_before before s maker (PinHere p) may q y is = inl (put_before s p may.page _ may.own.lives refl q y is)
 live_before before s maker (PinLoad p) may q y is = inl (put_before s p may.page _ may.own.lives refl q y is)
 live_before before s maker (ReadOk p) may q y is = inl (put_before s p may.page _ may.own.lives refl q y is)
 live_before before s maker (ReadFailed p sum_before sum_after) may q y is = inl (put_before s p may.ends.page _ may.ends.own.lives refl q y is)
+live_before before s maker (PinAgain p) may q y is = inl (put_before s p may.page _ may.own.lives refl q y is)
+live_before before s maker (UnpinOnce p) may q y is = inl (put_before s p may.page _ may.own.lives refl q y is)
 live_before before s maker (Unpin p content) may q y is =
     let x : Page = may.page in
     let w : Page = record (page_at s p) { has_slots = true } in
@@ -101,22 +104,25 @@ pub record TellsPages (h : List Entry) (s : State) : Type 0 where
   pub as_made : (p : ℕ) (x : Page) → get s.pages p ≡ Some x → maker_of h p ≡ Some (made x)
   pub fresh : (p : ℕ) → s.next_name ≤ p → maker_of h p ≡ None
 
-not_named : (p maker q client blocks : ℕ) → q ≢ p → makes p maker (Create q client blocks) ≡ None
-not_named p maker q client blocks apart = ap (λ (b : Bool). if b then Some (record { session = maker; client = client; blocks = blocks }) else None) (ne_eqb q p apart)
+not_named : (p maker q client blocks key : ℕ) → q ≢ p → makes p maker (Create q client blocks key) ≡ None
+not_named p maker q client blocks key apart = ap (λ (b : Bool). if b then Some (record { session = maker; client = client; blocks = blocks }) else None) (ne_eqb q p apart)
 
 -- what an event names is below the next name after it, and is the next name before it
 names_next : (before : List Entry) (s : State) (maker : ℕ) (event : Event) → Allows before s maker event → (p : ℕ)
     → (s.next_name ≤ (effect maker event s).next_name) × ((effect maker event s).next_name ≤ p → makes p maker event ≡ None)
-names_next before s maker (Create q client blocks) may p =
-    (omega arith, λ above. not_named p maker q client blocks (λ same. let next : q ≡ s.next_name = may.next in omega (arith, same, next, above)))
+names_next before s maker (Create q client blocks key) may p =
+    (omega arith, λ above. not_named p maker q client blocks key (λ same. let next : q ≡ s.next_name = may.next in omega (arith, same, next, above)))
 names_next before s maker (AddTracker t parent limit (Some quota)) may p = (omega arith, λ above. refl)
 names_next before s maker (AddTracker t parent limit None) may p = (omega arith, λ above. refl)
 names_next before s maker _ may p = (omega arith, λ above. refl)
 
-makes_next : (before : List Entry) (s : State) (maker : ℕ) (event : Event) → Allows before s maker event → (p : ℕ) (m : Made) → makes p maker event ≡ Some m → s.next_name ≤ p
-makes_next before s maker (Create q client blocks) may p m is = elim (same_or_other q p) [
+pub next_more : (before : List Entry) (s : State) (maker : ℕ) (event : Event) → Allows before s maker event → s.next_name ≤ (effect maker event s).next_name
+next_more before s maker event may = (names_next before s maker event may 0).0
+
+pub makes_next : (before : List Entry) (s : State) (maker : ℕ) (event : Event) → Allows before s maker event → (p : ℕ) (m : Made) → makes p maker event ≡ Some m → s.next_name ≤ p
+makes_next before s maker (Create q client blocks key) may p m is = elim (same_or_other q p) [
   | inl here ↦ let next : q ≡ s.next_name = may.next in omega (arith, here, next)
-  | inr other ↦ let no : None ≡ Some m = sym (not_named p maker q client blocks other) ∙ is in cc
+  | inr other ↦ let no : None ≡ Some m = sym (not_named p maker q client blocks key other) ∙ is in cc
 ]
 makes_next before s maker _ may p m is = cc
 

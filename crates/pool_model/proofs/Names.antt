@@ -18,7 +18,7 @@ use Rattle.pool_model.proofs.Fronts.{holds_after}
 -- an event gives the next name, or none
 named : (before : List Entry) (s : State) (maker : ℕ) (event : Event) → Allows before s maker event
     → ((name_in event ≡ None) × ((effect maker event s).next_name ≡ s.next_name)) ⊎ ((name_in event ≡ Some s.next_name) × ((effect maker event s).next_name ≡ s.next_name + 1))
-named before s maker (Create p client blocks) may = inr (ap Some may.next, refl)
+named before s maker (Create p client blocks key) may = inr (ap Some may.next, refl)
 named before s maker (AddTracker t parent limit (Some quota)) may = inl (refl, refl)
 named before s maker (AddTracker t parent limit None) may = inl (refl, refl)
 named before s maker _ may = inl (refl, refl)

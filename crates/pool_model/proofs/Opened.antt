@@ -9,18 +9,18 @@ use Rattle.reservation_tree.proofs.Members.{root_tree, root_fits}
 use Rattle.reservation_tree.proofs.Sums.{total-none}
 use Rattle.pool_model.specs.Bytes.{bytes_of}
 use Rattle.pool_model.specs.State.{Opening, opened}
-use Rattle.pool_model.specs.Sums.{is_held, page_bytes, bytes_in, pages_for, buffers_for}
-use Rattle.pool_model.specs.Sound.{IsSound, is_in_memory, buffer_bytes}
+use Rattle.pool_model.specs.Sums.{times_held, is_in_memory, once, page_bytes, bytes_in, pages_for, buffers_for, buffer_bytes}
+use Rattle.pool_model.specs.Sound.{HasPins, IsSound}
 use Rattle.pool_model.proofs.ByClients.{no_pages, no_buffers}
 use Rattle.pool_model.proofs.Seats.{some_is}
 
 nobody : {X : Type 0} (goal : Type 0) (m : FinMap nat_cmp X) (k : ℕ) (x : X) → m ≡ empty → get m k ≡ Some x → goal
 nobody {X} goal m k x none is = let no : None ≡ Some x = sym (get-empty nat_cmp k) ∙ ap (λ (n : FinMap nat_cmp X). get n k) (sym none) ∙ is in cc
 
-no_bytes : (block_len : ℕ) → bytes_in is_in_memory block_len empty + buffer_bytes block_len empty ≡ 0
+no_bytes : (block_len : ℕ) → bytes_in (once is_in_memory) block_len empty + buffer_bytes block_len empty ≡ 0
 unfolding bytes_in buffer_bytes
 no_bytes block_len =
-    let pages : bytes_in is_in_memory block_len empty ≡ 0 = total-none (λ _ x. page_bytes is_in_memory block_len x) empty (λ p x is. nobody _ empty p x refl is) in
+    let pages : bytes_in (once is_in_memory) block_len empty ≡ 0 = total-none (λ _ x. page_bytes (once is_in_memory) block_len x) empty (λ p x is. nobody _ empty p x refl is) in
     let buffers : buffer_bytes block_len empty ≡ 0 = total-none (λ _ x. bytes_of block_len x.blocks) empty (λ f x is. nobody _ empty f x refl is) in
     omega (arith, pages, buffers)
 
@@ -50,12 +50,13 @@ opened_sound o = record {
     page_clients = λ p x is. nobody _ empty p x refl is;
     buffer_clients = λ f x is. nobody _ empty f x refl is;
     names = λ p x is. nobody _ empty p x refl is;
+    pins = λ p x is. nobody (HasPins x.place) empty p x refl is;
   };
   within = record {
     held = λ t.
-        let pages : pages_for is_held o.block_len empty t ≡ 0 = no_pages is_held o.block_len empty t (λ p x is same. nobody _ empty p x refl is) in
+        let pages : pages_for times_held o.block_len empty t ≡ 0 = no_pages times_held o.block_len empty t (λ p x is same. nobody _ empty p x refl is) in
         let buffers : buffers_for o.block_len empty t ≡ 0 = no_buffers o.block_len empty t (λ f x is same. nobody _ empty f x refl is) in
         omega (arith, pages, buffers);
-    memory = let none : bytes_in is_in_memory o.block_len empty + buffer_bytes o.block_len empty ≡ 0 = no_bytes o.block_len in omega (arith, none);
+    memory = let none : bytes_in (once is_in_memory) o.block_len empty + buffer_bytes o.block_len empty ≡ 0 = no_bytes o.block_len in omega (arith, none);
   };
 }

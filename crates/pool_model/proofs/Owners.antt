@@ -14,9 +14,10 @@ use Rattle.pool_model.specs.declared.entry.Entry.{Entry}
 use Rattle.pool_model.specs.State.{Session, Sessions, State, page_at}
 use Rattle.pool_model.specs.Sums.{charge_of}
 use Rattle.pool_model.specs.Owning.{IsClientOf}
-use Rattle.pool_model.specs.LookingBack.{closes}
+use Rattle.pool_model.specs.Failures.{closes}
 use Rattle.pool_model.specs.MayFollow.{Allows}
-use Rattle.pool_model.specs.Effects.{effect, with_failures, without_tracker, keep_first}
+use Rattle.pool_model.specs.Parts.{with_failures, without_tracker, keep_first}
+use Rattle.pool_model.specs.Effects.{effect}
 use Rattle.pool_model.specs.Sound.{IsSound}
 use Rattle.pool_model.proofs.Seats.{some_is}
 use Rattle.pool_model.proofs.Outlines.{grow_outline, shrink_outline, move_outline}

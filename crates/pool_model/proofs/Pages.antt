@@ -1,15 +1,15 @@
 -- One page comes, changes its place or goes: a sound state stays sound.
-use Rattle.std.proofs.Common.{◌≡◌, ℕ, ◌+◌, ◌≤◌, ◌<◌, ◌==◌, Bool, true, Option, Some, None, unwrap_or, ap, sym, ◌∙◌, subst, arith, inl, inr}
+use Rattle.std.proofs.Common.{◌≡◌, ℕ, ◌+◌, ◌*◌, ◌≤◌, ◌<◌, ◌==◌, Bool, true, Option, Some, None, unwrap_or, ap, sym, ◌∙◌, subst, arith, inl, inr}
 use Rattle.std.specs.FinMap.{get, insert, remove}
 use Rattle.reservation_tree.specs.Tracker.{reservation_of}
 use Rattle.reservation_tree.proofs.Maps.{get_same, get_other, removed_same, removed_other, same_or_other}
 use Rattle.pool_model.specs.Bytes.{only_if}
 use Rattle.pool_model.specs.State.{Place, Page, no_page, page_at, State}
-use Rattle.pool_model.specs.Sums.{is_held, length_of, page_bytes, bytes_in, pages_for, buffers_for, held_by, HasRoom, IsClient, bytes_in_memory, memory, free_bytes}
-use Rattle.pool_model.specs.Effects.{put_in, give_slots, end_page, unqueue, queue_dirty, queue_clean, note_failure, keep_first, count_entry}
-use Rattle.pool_model.specs.Sound.{IsOwned, IsSound, is_in_memory, buffer_bytes}
+use Rattle.pool_model.specs.Sums.{times_held, is_in_memory, once, length_of, page_bytes, bytes_in, pages_for, buffers_for, buffer_bytes, held_by, HasRoom, IsClient, bytes_in_memory, memory, free_bytes}
+use Rattle.pool_model.specs.Parts.{put_in, give_slots, end_page, unqueue, queue_dirty, queue_clean, note_failure, keep_first}
+use Rattle.pool_model.specs.Effects.{count_entry}
+use Rattle.pool_model.specs.Sound.{HasPins, IsOwned, IsSound}
 use Rattle.pool_model.proofs.Weights.{mine, not_mine}
-use Rattle.pool_model.proofs.ByClients.{memory_by_pages}
 use Rattle.pool_model.proofs.Fits.{in_memory}
 use Rattle.pool_model.proofs.PageSums.{pages_put, bytes_put, pages_gone, bytes_gone}
 use Rattle.pool_model.proofs.Seats.{failures_seats, keep_seats, some_is}
@@ -17,26 +17,26 @@ use Rattle.pool_model.proofs.Seats.{failures_seats, keep_seats, some_is}
 pub page_is : (s : State) (p : ℕ) (x : Page) → get s.pages p ≡ Some x → page_at s p ≡ x
 page_is s p x is = ap (λ (o : Option Page). unwrap_or o no_page) is
 
--- what is free is free when counted by pages
-pub space : (s : State) → IsSound s → (bytes : ℕ) → bytes ≤ free_bytes s → bytes_in is_in_memory s.block_len s.pages + buffer_bytes s.block_len s.buffers + bytes ≤ memory s
+-- what is free has room
+pub space : (s : State) → IsSound s → (bytes : ℕ) → bytes ≤ free_bytes s → bytes_in (once is_in_memory) s.block_len s.pages + buffer_bytes s.block_len s.buffers + bytes ≤ memory s
 space s sound bytes free =
-    let by_pages : bytes_in_memory s ≡ bytes_in is_in_memory s.block_len s.pages + buffer_bytes s.block_len s.buffers = memory_by_pages s.block_len s.trackers s.pages s.buffers s.next_name sound.owned in
     let fits : bytes_in_memory s ≤ memory s = in_memory s sound in
-    omega (arith, by_pages, fits, free)
+    omega (arith, fits, free)
 
 -- what a page needs more of, to go to another place
 pub record Grants (s : State) (x : Page) (place : Place) : Type 0 where
   pub held_more : ℕ
   pub memory_more : ℕ
-  pub held : only_if (is_held place) (length_of s x.blocks) ≤ only_if (is_held x.place) (length_of s x.blocks) + held_more
+  pub held : times_held place * length_of s x.blocks ≤ times_held x.place * length_of s x.blocks + held_more
   pub room : HasRoom s x.client held_more
-  pub memory : only_if (is_in_memory place) (length_of s x.blocks) ≤ only_if (is_in_memory x.place) (length_of s x.blocks) + memory_more
+  pub memory : once is_in_memory place * length_of s x.blocks ≤ once is_in_memory x.place * length_of s x.blocks + memory_more
   pub free : memory_more ≤ free_bytes s
+  pub pins : HasPins place
 
 module _ (s : State) (sound : IsSound s) (p : ℕ) (x : Page) (is : get s.pages p ≡ Some x) where
   -- a page of the same client, with the same blocks and name
-  owned_put : (place : Place) (has_slots : Bool) → IsOwned s.trackers (insert s.pages p (record x { place = place; has_slots = has_slots })) s.buffers s.next_name
-  owned_put place has_slots =
+  owned_put : (place : Place) (has_slots : Bool) → HasPins place → IsOwned s.trackers (insert s.pages p (record x { place = place; has_slots = has_slots })) s.buffers s.next_name
+  owned_put place has_slots has =
       let y : Page = record x { place = place; has_slots = has_slots } in record {
         page_clients = λ q z there. elim (same_or_other q p) [
           | inl here ↦
@@ -49,25 +49,31 @@ module _ (s : State) (sound : IsSound s) (p : ℕ) (x : Page) (is : get s.pages 
           | inl here ↦ subst (λ (r : ℕ). r < s.next_name) (sym here) (sound.owned.names p x is)
           | inr other ↦ sound.owned.names q z (sym (get_other s.pages p y q other) ∙ there)
         ];
+        pins = λ q z there. elim (same_or_other q p) [
+          | inl here ↦
+              let same : y ≡ z = some_is y z (sym (get_same s.pages p y) ∙ ap (get (insert s.pages p y)) (sym here) ∙ there) in
+              subst (λ (v : Page). HasPins v.place) same has
+          | inr other ↦ sound.owned.pins q z (sym (get_other s.pages p y q other) ∙ there)
+        ];
       }
 
   held_put : (place : Place) (has_slots : Bool) → Grants s x place → (t : ℕ)
-      → pages_for is_held s.block_len (insert s.pages p (record x { place = place; has_slots = has_slots })) t + buffers_for s.block_len s.buffers t ≤ reservation_of s.trackers t
+      → pages_for times_held s.block_len (insert s.pages p (record x { place = place; has_slots = has_slots })) t + buffers_for s.block_len s.buffers t ≤ reservation_of s.trackers t
   held_put place has_slots grants t =
       let y : Page = record x { place = place; has_slots = has_slots } in
-      let sum : pages_for is_held s.block_len (insert s.pages p y) t + only_if (x.client == t) (page_bytes is_held s.block_len x) ≡ pages_for is_held s.block_len s.pages t + only_if (x.client == t) (page_bytes is_held s.block_len y) =
-      pages_put is_held s.block_len s.pages p x is y t in
+      let sum : pages_for times_held s.block_len (insert s.pages p y) t + only_if (x.client == t) (page_bytes times_held s.block_len x) ≡ pages_for times_held s.block_len s.pages t + only_if (x.client == t) (page_bytes times_held s.block_len y) =
+      pages_put times_held s.block_len s.pages p x is y t in
       let was : held_by s t ≤ reservation_of s.trackers t = sound.within.held t in
       elim (same_or_other x.client t) [
         | inl here ↦
-            let old : only_if (x.client == t) (page_bytes is_held s.block_len x) ≡ page_bytes is_held s.block_len x = ap (λ (c : ℕ). only_if (c == t) (page_bytes is_held s.block_len x)) here ∙ mine t _ in
-            let now : only_if (x.client == t) (page_bytes is_held s.block_len y) ≡ page_bytes is_held s.block_len y = ap (λ (c : ℕ). only_if (c == t) (page_bytes is_held s.block_len y)) here ∙ mine t _ in
+            let old : only_if (x.client == t) (page_bytes times_held s.block_len x) ≡ page_bytes times_held s.block_len x = ap (λ (c : ℕ). only_if (c == t) (page_bytes times_held s.block_len x)) here ∙ mine t _ in
+            let now : only_if (x.client == t) (page_bytes times_held s.block_len y) ≡ page_bytes times_held s.block_len y = ap (λ (c : ℕ). only_if (c == t) (page_bytes times_held s.block_len y)) here ∙ mine t _ in
             let room : held_by s t + grants.held_more ≤ reservation_of s.trackers t = subst (λ (c : ℕ). held_by s c + grants.held_more ≤ reservation_of s.trackers c) here grants.room in
-            let more : only_if (is_held place) (length_of s x.blocks) ≤ only_if (is_held x.place) (length_of s x.blocks) + grants.held_more = grants.held in
+            let more : times_held place * length_of s x.blocks ≤ times_held x.place * length_of s x.blocks + grants.held_more = grants.held in
             omega (arith, sum, old, now, room, more)
         | inr other ↦
-            let old : only_if (x.client == t) (page_bytes is_held s.block_len x) ≡ 0 = not_mine x.client t _ other in
-            let now : only_if (x.client == t) (page_bytes is_held s.block_len y) ≡ 0 = not_mine x.client t _ other in
+            let old : only_if (x.client == t) (page_bytes times_held s.block_len x) ≡ 0 = not_mine x.client t _ other in
+            let now : only_if (x.client == t) (page_bytes times_held s.block_len y) ≡ 0 = not_mine x.client t _ other in
             omega (arith, sum, old, now, was)
       ]
 
@@ -76,14 +82,14 @@ module _ (s : State) (sound : IsSound s) (p : ℕ) (x : Page) (is : get s.pages 
   placed place has_slots grants =
       let y : Page = record x { place = place; has_slots = has_slots } in record {
         seated = sound.seated;
-        owned = owned_put place has_slots;
+        owned = owned_put place has_slots grants.pins;
         within = record {
           held = held_put place has_slots grants;
           memory =
-              let sum : bytes_in is_in_memory s.block_len (insert s.pages p y) + page_bytes is_in_memory s.block_len x ≡ bytes_in is_in_memory s.block_len s.pages + page_bytes is_in_memory s.block_len y =
-              bytes_put is_in_memory s.block_len s.pages p x is y in
-              let fits : bytes_in is_in_memory s.block_len s.pages + buffer_bytes s.block_len s.buffers + grants.memory_more ≤ memory s = space s sound grants.memory_more grants.free in
-              let more : only_if (is_in_memory place) (length_of s x.blocks) ≤ only_if (is_in_memory x.place) (length_of s x.blocks) + grants.memory_more = grants.memory in
+              let sum : bytes_in (once is_in_memory) s.block_len (insert s.pages p y) + page_bytes (once is_in_memory) s.block_len x ≡ bytes_in (once is_in_memory) s.block_len s.pages + page_bytes (once is_in_memory) s.block_len y =
+              bytes_put (once is_in_memory) s.block_len s.pages p x is y in
+              let fits : bytes_in (once is_in_memory) s.block_len s.pages + buffer_bytes s.block_len s.buffers + grants.memory_more ≤ memory s = space s sound grants.memory_more grants.free in
+              let more : once is_in_memory place * length_of s x.blocks ≤ once is_in_memory x.place * length_of s x.blocks + grants.memory_more = grants.memory in
               omega (arith, sum, fits, more);
         };
       }
@@ -96,7 +102,7 @@ module _ (s : State) (sound : IsSound s) (p : ℕ) (x : Page) (is : get s.pages 
   slots_sound =
       let room : held_by s x.client + 0 ≤ reservation_of s.trackers x.client = let was : held_by s x.client ≤ reservation_of s.trackers x.client = sound.within.held x.client in omega (arith, was) in
       subst (λ (z : Page). IsSound (record s { pages = insert s.pages p (record z { has_slots = true }) })) (sym (page_is s p x is))
-      (placed x.place true (record { held_more = 0; memory_more = 0; held = omega arith; room = room; memory = omega arith; free = omega arith }))
+      (placed x.place true (record { held_more = 0; memory_more = 0; held = omega arith; room = room; memory = omega arith; free = omega arith; pins = sound.owned.pins p x is }))
 
   -- the page ends
   pub end_sound : IsSound (end_page p s)
@@ -112,15 +118,19 @@ module _ (s : State) (sound : IsSound s) (p : ℕ) (x : Page) (is : get s.pages 
         | inl here ↦ let none : None ≡ Some z = sym (removed_same s.pages p) ∙ ap (get (remove s.pages p)) (sym here) ∙ there in cc
         | inr other ↦ sound.owned.names q z (sym (removed_other s.pages p q other) ∙ there)
       ];
+      pins = λ q z there. elim (same_or_other q p) [
+        | inl here ↦ let none : None ≡ Some z = sym (removed_same s.pages p) ∙ ap (get (remove s.pages p)) (sym here) ∙ there in cc
+        | inr other ↦ sound.owned.pins q z (sym (removed_other s.pages p q other) ∙ there)
+      ];
     };
     within = record {
       held = λ t.
-          let sum : pages_for is_held s.block_len (remove s.pages p) t + only_if (x.client == t) (page_bytes is_held s.block_len x) ≡ pages_for is_held s.block_len s.pages t = pages_gone is_held s.block_len s.pages p x is t in
+          let sum : pages_for times_held s.block_len (remove s.pages p) t + only_if (x.client == t) (page_bytes times_held s.block_len x) ≡ pages_for times_held s.block_len s.pages t = pages_gone times_held s.block_len s.pages p x is t in
           let was : held_by s t ≤ reservation_of s.trackers t = sound.within.held t in
           omega (arith, sum, was);
       memory =
-          let sum : bytes_in is_in_memory s.block_len (remove s.pages p) + page_bytes is_in_memory s.block_len x ≡ bytes_in is_in_memory s.block_len s.pages = bytes_gone is_in_memory s.block_len s.pages p x is in
-          let fits : bytes_in is_in_memory s.block_len s.pages + buffer_bytes s.block_len s.buffers ≤ memory s = sound.within.memory in
+          let sum : bytes_in (once is_in_memory) s.block_len (remove s.pages p) + page_bytes (once is_in_memory) s.block_len x ≡ bytes_in (once is_in_memory) s.block_len s.pages = bytes_gone (once is_in_memory) s.block_len s.pages p x is in
+          let fits : bytes_in (once is_in_memory) s.block_len s.pages + buffer_bytes s.block_len s.buffers ≤ memory s = sound.within.memory in
           omega (arith, sum, fits);
     };
   }

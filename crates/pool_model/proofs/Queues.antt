@@ -2,7 +2,7 @@
 use Rattle.std.proofs.Common.{◌≡◌, ◌≢◌, ℕ, ◌==◌, Bool, true, false, cond, not, ◌||◌, Option, IsSome, List, [], ◌∷◌, ◌++◌, refl, ap, sym, ◌∙◌, subst, eq-eqb, ne_eqb, eqb-true}
 use Rattle.std.proofs.Math.Bool.{or_assoc}
 use Rattle.std.specs.List.{AllByRecursion}
-use Rattle.pool_model.specs.Effects.{without}
+use Rattle.pool_model.specs.Parts.{without}
 use Rattle.pool_model.specs.Orders.{IsBefore, InOrder, stands_in}
 
 or_nothing : (b : Bool) → (b || false) ≡ b

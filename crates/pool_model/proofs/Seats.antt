@@ -9,7 +9,7 @@ use Rattle.reservation_tree.proofs.Above.{Above, above, at_root}
 use Rattle.pool_model.specs.State.{Session, Sessions, State}
 use Rattle.pool_model.specs.Sums.{IsClient, memory}
 use Rattle.pool_model.specs.Owning.{IsClientOf, IsTrackerOf}
-use Rattle.pool_model.specs.Effects.{with_failures}
+use Rattle.pool_model.specs.Parts.{with_failures}
 use Rattle.pool_model.specs.Sound.{IsQuery, IsSeated}
 
 pub some_is : {X : Type 0} (x y : X) → Some x ≡ Some y → x ≡ y

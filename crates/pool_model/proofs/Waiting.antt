@@ -6,7 +6,7 @@ use Rattle.reservation_tree.proofs.Maps.{get_same, get_other, same_or_other}
 use Rattle.pool_model.specs.declared.event.Event.{Event}
 use Rattle.pool_model.specs.declared.entry.Entry.{Entry}
 use Rattle.pool_model.specs.State.{State, dirty_of}
-use Rattle.pool_model.specs.Effects.{without}
+use Rattle.pool_model.specs.Parts.{without}
 use Rattle.pool_model.specs.Orders.{dirtied, cleaned, is_page, last_time, InOrder, stands_in, dirty_for, clean_at, AreQueues}
 use Rattle.pool_model.proofs.Queues.{stands_gone, stands_other, order_left, order_same}
 use Rattle.pool_model.proofs.Times.{last_time_more}

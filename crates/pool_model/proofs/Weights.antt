@@ -1,5 +1,5 @@
 -- Sums that are shared out: each value has one owner, and the owners' sums make the whole.
-use Rattle.std.proofs.Common.{◌≡◌, ℕ, ◌+◌, ◌≤◌, ◌==◌, ◌≢◌, Bool, true, false, Some, None, Option, refl, ap, sym, ◌∙◌, subst, List, [], ◌∷◌, arith, eq-eqb, ne_eqb, inl, inr}
+use Rattle.std.proofs.Common.{◌≡◌, ℕ, ◌+◌, ◌*◌, ◌≤◌, ◌==◌, ◌≢◌, Bool, true, false, Some, None, Option, refl, ap, sym, ◌∙◌, subst, List, [], ◌∷◌, arith, eq-eqb, ne_eqb, inl, inr}
 use Rattle.std.specs.Ordering.{nat_cmp}
 use Rattle.std.specs.FinMap.{FinMap, get, remove, entries}
 use Rattle.reservation_tree.specs.Total.{weigh, total}
@@ -24,6 +24,9 @@ only_less false n = omega arith
 pub only_le : (b : Bool) (m n : ℕ) → m ≤ n → only_if b m ≤ only_if b n
 only_le true m n le = le
 only_le false m n le = omega arith
+
+pub one_time : (n : ℕ) → 1 * n ≡ n
+one_time n = omega arith
 
 -- what is mine is nobody else's
 pub mine : (c n : ℕ) → only_if (c == c) n ≡ n

@@ -3,7 +3,8 @@ use Rattle.std.proofs.Common.{◌≡◌, ℕ, suc, ◌+◌, Bool, true, false, c
 use Rattle.std.specs.Option.{option_or}
 use Rattle.std.proofs.lemmas.List.Folds.{find-append}
 use Rattle.pool_model.specs.declared.entry.Entry.{Entry}
-use Rattle.pool_model.specs.LookingBack.{since, Numbered, numbered, fails, is_for_own, forgets, first_failed}
+use Rattle.pool_model.specs.LookingBack.{since, Numbered, numbered}
+use Rattle.pool_model.specs.Failures.{fails, is_for_own, forgets, first_failed}
 
 pub numbered_more : (k : ℕ) (h : List Entry) (e : Entry) → numbered k (h ++ e ∷ []) ≡ numbered k h ++ record { number = k + length h; entry = e } ∷ []
 numbered_more k [] e = let same : k ≡ k + 0 = omega arith in ap (λ (n : ℕ). record { number = n; entry = e } ∷ []) same
@@ -12,7 +13,7 @@ numbered_more k (d ∷ h) e =
     ap (λ (ns : List Numbered). record { number = k; entry = d } ∷ ns)
     (numbered_more (k + 1) h e ∙ ap (λ (n : ℕ). numbered (k + 1) h ++ record { number = n; entry = e } ∷ []) same)
 
-since_more : {X : Type 0} (begins : X → Bool) (kept xs : List X) (y : X) → since begins kept (xs ++ y ∷ []) ≡ (if begins y then y ∷ [] else since begins kept xs ++ y ∷ [])
+pub since_more : {X : Type 0} (begins : X → Bool) (kept xs : List X) (y : X) → since begins kept (xs ++ y ∷ []) ≡ (if begins y then y ∷ [] else since begins kept xs ++ y ∷ [])
 since_more begins kept [] y = refl
 since_more begins kept (x ∷ xs) y = since_more begins (if begins x then x ∷ [] else kept ++ x ∷ []) xs y
 

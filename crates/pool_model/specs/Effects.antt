@@ -1,95 +1,13 @@
--- What entries do. Each part of a change leaves all that it doesn't name.
-use Rattle.std.specs.Prelude.{ℕ, ◌+◌, ◌==◌, List, [], ◌∷◌, ◌++◌, filter, not, true, false, if◌then◌else◌, Some, None}
-use Rattle.std.specs.Ordering.{nat_cmp}
-use Rattle.std.specs.FinMap.{FinMap, get, insert, remove, empty}
-use Rattle.reservation_tree.specs.Tracker.{Trackers}
-use Rattle.reservation_tree.specs.Change.{with_child, grow, lacking, shrink, move_to}
+-- What entries do.
+use Rattle.std.specs.Prelude.{ℕ, ◌+◌, ◌-◌, Some, None}
+use Rattle.std.specs.FinMap.{remove}
+use Rattle.reservation_tree.specs.Change.{grow, lacking, shrink, move_to}
 use Rattle.pool_model.specs.declared.event.Event.{Event}
-use Rattle.pool_model.specs.declared.event.Event.TheVariants.{Ask, AddTracker, CloseTracker, Increase, IncreaseToFit, Decrease, MoveReservation, Create, PinHere, PinLoad, ReadOk, ReadFailed, Unpin, UnpinRefused, Extract, Destroy, Alloc, Free, MoveBuffer, StartWrite, WriteOk, WriteFailed, Evict, Refused}
+use Rattle.pool_model.specs.declared.event.Event.TheVariants.{Ask, AddTracker, CloseTracker, Increase, IncreaseToFit, Decrease, MoveReservation, Create, PinHere, PinLoad, ReadOk, ReadFailed, PinAgain, UnpinOnce, Unpin, UnpinRefused, Extract, Destroy, Alloc, Free, MoveBuffer, StartWrite, WriteOk, WriteFailed, Evict, Refused}
 use Rattle.pool_model.specs.declared.entry.Entry.{Entry}
-use Rattle.pool_model.specs.State.{Place, Pinned, Dirty, Flying, Loading, Clean, Evicted, Buffer, Sessions, State, shown, page_at, buffer_at, dirty_of}
+use Rattle.pool_model.specs.State.{Pinned, Dirty, Flying, Loading, Clean, Evicted, State, shown, page_at, buffer_at}
 use Rattle.pool_model.specs.Sums.{charge_of}
-
--- the names but this one, in their order
-abbrev pub without : ℕ → List ℕ → List ℕ
-without p names = filter (λ q. not (q == p)) names
-
-abbrev pub with_trackers : Trackers → State → State
-with_trackers ts s = record s { trackers = ts }
-
--- the page goes to another place
-abbrev pub put_in : Place → ℕ → State → State
-put_in place p s = record s { pages = insert s.pages p (record (page_at s p) { place = place }) }
-
--- the page has slots from now on
-abbrev pub give_slots : ℕ → State → State
-give_slots p s = record s { pages = insert s.pages p (record (page_at s p) { has_slots = true }) }
-
-abbrev pub end_page : ℕ → State → State
-end_page p s = record s { pages = remove s.pages p }
-
--- the page is the newest of its client's dirty ones
-abbrev pub queue_dirty : ℕ → State → State
-queue_dirty p s = record s { dirty = insert s.dirty (page_at s p).client (dirty_of s (page_at s p).client ++ p ∷ []) }
-
--- the page waits neither among the dirty ones nor among the clean ones
-abbrev pub unqueue : ℕ → State → State
-unqueue p s = record s {
-  dirty = insert s.dirty (page_at s p).client (without p (dirty_of s (page_at s p).client));
-  clean = without p s.clean;
-}
-
-abbrev pub queue_clean : ℕ → State → State
-queue_clean p s = record s { clean = s.clean ++ p ∷ [] }
-
--- a session's numbers of first failures change
-abbrev pub with_failures : (FinMap nat_cmp ℕ → FinMap nat_cmp ℕ) → ℕ → Sessions → Sessions
-with_failures change maker sessions =
-    elim (get sessions maker) [ None ↦ sessions | Some x ↦ insert sessions maker (record x { failures = change x.failures }) ]
-
--- the first number stays
-abbrev pub keep_first : ℕ → ℕ → FinMap nat_cmp ℕ → FinMap nat_cmp ℕ
-keep_first c number failures = elim (get failures c) [ None ↦ insert failures c number | Some first ↦ failures ]
-
--- a failure on this page is noted, with the number of this entry
-abbrev pub note_failure : ℕ → State → State
-note_failure p s = record s { sessions = with_failures (keep_first (page_at s p).client s.entries) (page_at s p).session s.sessions }
-
--- a session forgets the failures of its clients
-abbrev pub forget_failures : ℕ → State → State
-forget_failures maker s = record s { sessions = with_failures (λ failures. empty) maker s.sessions }
-
-abbrev pub open_session : ℕ → ℕ → ℕ → ℕ → State → State
-open_session maker t limit quota s = record s {
-  trackers = with_child t 0 limit s.trackers;
-  sessions = insert s.sessions maker (record { query = t; quota = quota; failures = empty });
-}
-
-abbrev pub add_client : ℕ → ℕ → ℕ → State → State
-add_client t parent limit s = record s { trackers = with_child t parent limit s.trackers; dirty = insert s.dirty t [] }
-
--- with its query tracker a session ends; with a client's tracker what was kept of the client
-abbrev pub without_tracker : ℕ → ℕ → Sessions → Sessions
-without_tracker maker t sessions = elim (get sessions maker) [
-  | None ↦ sessions
-  | Some x ↦ if x.query == t then remove sessions maker else insert sessions maker (record x { failures = remove x.failures t })
-]
-
-abbrev pub close_tracker : ℕ → ℕ → State → State
-close_tracker maker t s = record s {
-  trackers = remove s.trackers t;
-  sessions = without_tracker maker t s.sessions;
-  dirty = remove s.dirty t;
-}
-
-abbrev pub create_page : ℕ → ℕ → ℕ → ℕ → State → State
-create_page maker p client blocks s = record s {
-  pages = insert s.pages p (record { session = maker; client = client; blocks = blocks; place = Pinned; has_slots = false });
-  next_name = s.next_name + 1;
-}
-
-abbrev pub put_buffer : ℕ → Buffer → State → State
-put_buffer f buffer s = record s { buffers = insert s.buffers f buffer }
+use Rattle.pool_model.specs.Parts.{with_trackers, pins_at, put_in, give_slots, end_page, queue_dirty, unqueue, queue_clean, note_failure, forget_failures, open_session, add_client, close_tracker, create_page, put_buffer}
 
 -- what an event does, but that it is counted
 abbrev pub effect : ℕ → Event → State → State
@@ -101,11 +19,13 @@ effect maker (Increase t bytes) s = with_trackers (grow (charge_of s) bytes t s.
 effect maker (IncreaseToFit t bytes) s = with_trackers (grow (charge_of s) (lacking (charge_of s) bytes t s.trackers) t s.trackers) s
 effect maker (Decrease t bytes) s = with_trackers (shrink bytes t s.trackers) s
 effect maker (MoveReservation from to bytes) s = with_trackers (move_to bytes from to s.trackers) s
-effect maker (Create p client blocks) s = create_page maker p client blocks s
-effect maker (PinHere p) s = put_in Pinned p (unqueue p s)
+effect maker (Create p client blocks key) s = create_page maker p client blocks key s
+effect maker (PinHere p) s = put_in (Pinned 1) p (unqueue p s)
 effect maker (PinLoad p) s = put_in Loading p s
-effect maker (ReadOk p) s = put_in Pinned p s
+effect maker (ReadOk p) s = put_in (Pinned 1) p s
 effect maker (ReadFailed p before after) s = put_in Evicted p (note_failure p s)
+effect maker (PinAgain p) s = put_in (Pinned (pins_at s p + 1)) p s
+effect maker (UnpinOnce p) s = put_in (Pinned (pins_at s p - 1)) p s
 effect maker (Unpin p content) s = put_in Dirty p (give_slots p (queue_dirty p s))
 effect maker (UnpinRefused p) s = s
 effect maker (Extract p f) s = end_page p (put_buffer f (record { client = (page_at s p).client; blocks = (page_at s p).blocks }) s)

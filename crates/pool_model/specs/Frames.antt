@@ -2,18 +2,20 @@
 use Rattle.std.specs.Prelude.{◌≡◌, ◌≢◌, ℕ, Bool, true, false, Option, Some, None}
 use Rattle.std.specs.FinMap.{get}
 use Rattle.pool_model.specs.declared.event.Event.{Event}
-use Rattle.pool_model.specs.declared.event.Event.TheVariants.{AddTracker, CloseTracker, Increase, IncreaseToFit, Decrease, MoveReservation, Create, PinHere, PinLoad, ReadOk, ReadFailed, Unpin, UnpinRefused, Extract, Destroy, Alloc, Free, MoveBuffer, StartWrite, WriteOk, WriteFailed, Evict}
+use Rattle.pool_model.specs.declared.event.Event.TheVariants.{AddTracker, CloseTracker, Increase, IncreaseToFit, Decrease, MoveReservation, Create, PinHere, PinLoad, ReadOk, ReadFailed, PinAgain, UnpinOnce, Unpin, UnpinRefused, Extract, Destroy, Alloc, Free, MoveBuffer, StartWrite, WriteOk, WriteFailed, Evict}
 use Rattle.pool_model.specs.declared.entry.Entry.{Entry}
 use Rattle.pool_model.specs.State.{State}
 use Rattle.pool_model.specs.Effects.{after}
 
 -- the page that an event names
 abbrev pub page_in : Event → Option ℕ
-page_in (Create p client blocks) = Some p
+page_in (Create p client blocks key) = Some p
 page_in (PinHere p) = Some p
 page_in (PinLoad p) = Some p
 page_in (ReadOk p) = Some p
 page_in (ReadFailed p before after) = Some p
+page_in (PinAgain p) = Some p
+page_in (UnpinOnce p) = Some p
 page_in (Unpin p content) = Some p
 page_in (UnpinRefused p) = Some p
 page_in (Extract p f) = Some p

@@ -5,7 +5,8 @@ use Rattle.std.specs.FinMap.{get}
 use Rattle.pool_model.specs.declared.entry.Entry.{Entry}
 use Rattle.pool_model.specs.State.{Opening, Page, Session, shown}
 use Rattle.pool_model.specs.Owning.{IsClientOf}
-use Rattle.pool_model.specs.LookingBack.{names_in, Made, maker_of, first_failure}
+use Rattle.pool_model.specs.LookingBack.{names_in, Made, maker_of}
+use Rattle.pool_model.specs.Failures.{first_failure}
 use Rattle.pool_model.specs.Legal.{run, Follow, state_after, IsLegal}
 
 -- every front of a legal history is legal

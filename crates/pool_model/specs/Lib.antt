@@ -7,12 +7,16 @@ pub mod TrackerRows
 pub mod PageRows
 pub mod ScratchRows
 pub mod LookingBack
+pub mod Failures
 pub mod Refusals
 pub mod MayFollow
+pub mod Parts
 pub mod Effects
 pub mod Legal
 pub mod Sound
 pub mod PoolLaws
 pub mod HistoryLaws
+pub mod OwnLaws
+pub mod RefusalLaws
 pub mod Frames
 pub mod Orders

@@ -2,12 +2,12 @@
 use Rattle.std.specs.Prelude.{ℕ, ◌⊎◌, List, Some, None}
 use Rattle.std.specs.Bool.{⊤}
 use Rattle.pool_model.specs.declared.event.Event.{Event}
-use Rattle.pool_model.specs.declared.event.Event.TheVariants.{Ask, AddTracker, CloseTracker, Increase, IncreaseToFit, Decrease, MoveReservation, Create, PinHere, PinLoad, ReadOk, ReadFailed, Unpin, UnpinRefused, Extract, Destroy, Alloc, Free, MoveBuffer, StartWrite, WriteOk, WriteFailed, Evict, Refused}
+use Rattle.pool_model.specs.declared.event.Event.TheVariants.{Ask, AddTracker, CloseTracker, Increase, IncreaseToFit, Decrease, MoveReservation, Create, PinHere, PinLoad, ReadOk, ReadFailed, PinAgain, UnpinOnce, Unpin, UnpinRefused, Extract, Destroy, Alloc, Free, MoveBuffer, StartWrite, WriteOk, WriteFailed, Evict, Refused}
 use Rattle.pool_model.specs.declared.entry.Entry.{Entry}
 use Rattle.pool_model.specs.Makers.{IsSession, IsWriter}
 use Rattle.pool_model.specs.State.{State}
 use Rattle.pool_model.specs.TrackerRows.{MayOpenSession, MayAddClient, MayCloseTracker, MayIncrease, MayIncreaseToFit, MayDecrease, MayMoveReservation}
-use Rattle.pool_model.specs.PageRows.{MayCreate, MayPinHere, MayPinLoad, MayUnpin, MayRefuseUnpin, MayExtract, MayDestroy, MayAlloc, MayFree, MayMoveBuffer}
+use Rattle.pool_model.specs.PageRows.{MayCreate, MayPinHere, MayPinLoad, MayPinAgain, MayUnpinOnce, MayUnpin, MayRefuseUnpin, MayExtract, MayDestroy, MayAlloc, MayFree, MayMoveBuffer}
 use Rattle.pool_model.specs.ScratchRows.{MayEndRead, MayFailRead, MayStartWrite, MayEndWrite, MayFailWrite, MayEvict}
 use Rattle.pool_model.specs.Refusals.{MayRefuse}
 
@@ -28,11 +28,13 @@ Allows before s maker (Increase t bytes) = MayIncrease s maker t bytes
 Allows before s maker (IncreaseToFit t bytes) = MayIncreaseToFit s maker t bytes
 Allows before s maker (Decrease t bytes) = MayDecrease s maker t bytes
 Allows before s maker (MoveReservation from to bytes) = MayMoveReservation s maker from to bytes
-Allows before s maker (Create p client blocks) = MayCreate s maker p client blocks
+Allows before s maker (Create p client blocks key) = MayCreate s maker p client blocks
 Allows before s maker (PinHere p) = MayPinHere s maker p
 Allows before s maker (PinLoad p) = MayPinLoad s maker p
 Allows before s maker (ReadOk p) = MayEndRead s maker p
 Allows before s maker (ReadFailed p sum_before sum_after) = MayFailRead s maker p sum_before sum_after
+Allows before s maker (PinAgain p) = MayPinAgain s maker p
+Allows before s maker (UnpinOnce p) = MayUnpinOnce s maker p
 Allows before s maker (Unpin p content) = MayUnpin s maker p content
 Allows before s maker (UnpinRefused p) = MayRefuseUnpin s maker p
 Allows before s maker (Extract p f) = MayExtract s maker p f

@@ -32,25 +32,41 @@ pub record MayPinLoad (s : State) (maker p : ℕ) : Type 0 where
   pub evicted : page.place ≡ Evicted
   pub takes : CanTake s page.client page.blocks
 
--- a pinned page is left with bytes; the first time it takes slots
+-- a pinned page is charged once more
+pub record MayPinAgain (s : State) (maker p : ℕ) : Type 0 where
+  pub page : Page
+  pub own : IsPageOf s maker p page
+  pub count : ℕ
+  pub pinned : page.place ≡ Pinned count
+  pub room : HasRoom s page.client (length_of s page.blocks)
+
+-- one of several pins ends
+pub record MayUnpinOnce (s : State) (maker p : ℕ) : Type 0 where
+  pub page : Page
+  pub own : IsPageOf s maker p page
+  pub count : ℕ
+  pub pinned : page.place ≡ Pinned count
+  pub several : 2 ≤ count
+
+-- a page is left with bytes by its only pin; the first time it takes slots
 pub record MayUnpin (s : State) (maker p : ℕ) (content : List ℕ) : Type 0 where
   pub page : Page
   pub own : IsPageOf s maker p page
-  pub pinned : page.place ≡ Pinned
+  pub pinned : page.place ≡ Pinned 1
   pub whole : length content ≡ length_of s page.blocks
   pub slots : (page.has_slots ≡ true) ⊎ (page.blocks ≤ free_slots s maker)
 
 pub record MayRefuseUnpin (s : State) (maker p : ℕ) : Type 0 where
   pub page : Page
   pub own : IsPageOf s maker p page
-  pub pinned : page.place ≡ Pinned
+  pub pinned : page.place ≡ Pinned 1
   pub none : page.has_slots ≡ false
   pub few : free_slots s maker < page.blocks
 
 pub record MayExtract (s : State) (maker p f : ℕ) : Type 0 where
   pub page : Page
   pub own : IsPageOf s maker p page
-  pub pinned : page.place ≡ Pinned
+  pub pinned : page.place ≡ Pinned 1
   pub fresh : get s.buffers f ≡ None
 
 pub record MayDestroy (s : State) (maker p : ℕ) : Type 0 where

@@ -17,17 +17,19 @@ pub record Opening : Type 0 where
   pub faults : ℕ
   pub stores : ℕ
 
--- where a live page is; a flying one has the maker that writes it
+-- where a live page is; a pinned one has the number of its pins, a flying one the maker that writes it
 pub data Place : Type 0 where
-  Pinned : Place
+  Pinned : (count : ℕ) → Place
   Dirty : Place
   Flying : (writer : ℕ) → Place
   Loading : Place
   Clean : Place
   Evicted : Place
 
--- a live page: for whom it was made, how many blocks it has, where it is, and whether it has slots
+-- a live page: the key by which the pool finds it, for whom it was made, how many blocks it has, where it is,
+-- and whether it has slots
 pub record Page : Type 0 where
+  pub key : ℕ
   pub session : ℕ
   pub client : ℕ
   pub blocks : ℕ
@@ -90,10 +92,15 @@ opened o = record {
 
 -- what is read where no page is live
 abbrev pub no_page : Page
-no_page = record { session = 0; client = 0; blocks = 0; place = Evicted; has_slots = false }
+no_page = record { key = 0; session = 0; client = 0; blocks = 0; place = Evicted; has_slots = false }
 
 abbrev pub page_at : State → ℕ → Page
 page_at s p = unwrap_or (get s.pages p) no_page
+
+-- how often a page in this place is pinned
+abbrev pub pins_of : Place → ℕ
+pins_of (Pinned count) = count
+pins_of _ = 0
 
 -- what is read where no buffer is live
 abbrev pub no_buffer : Buffer

@@ -9,6 +9,10 @@ pub enum Call {
     Pin {
         page: u64,
     },
+    /// A pinned page is to be pinned once more.
+    PinAgain {
+        page: u64,
+    },
     /// A page of so many blocks is to be made.
     Create {
         client: TrackerId,

@@ -45,13 +45,14 @@ pub enum Event {
         to: TrackerId,
         bytes: u64,
     },
-    /// A pinned page of zeros comes.
+    /// A page of zeros comes, with one pin. The pool finds it under this key.
     Create {
         page: u64,
         client: TrackerId,
         blocks: u32,
+        key: u32,
     },
-    /// A dirty or clean page is pinned where it is.
+    /// A dirty or clean page is pinned where it is, with one pin.
     PinHere {
         page: u64,
     },
@@ -59,7 +60,7 @@ pub enum Event {
     PinLoad {
         page: u64,
     },
-    /// A load ended well: the page is pinned.
+    /// A load ended well: the page is pinned, with one pin.
     ReadOk {
         page: u64,
     },
@@ -69,7 +70,15 @@ pub enum Event {
         before: FaultSum,
         after: FaultSum,
     },
-    /// A pinned page is left with these bytes, and is dirty.
+    /// A pinned page is pinned once more, and charged once more.
+    PinAgain {
+        page: u64,
+    },
+    /// One of a page's pins ends. The page stays pinned.
+    UnpinOnce {
+        page: u64,
+    },
+    /// A page with one pin is left with these bytes, and is dirty.
     Unpin {
         page: u64,
         content: Content,
@@ -78,7 +87,7 @@ pub enum Event {
     UnpinRefused {
         page: u64,
     },
-    /// A pinned page ends, and its blocks are a buffer.
+    /// A page with one pin ends, and its blocks are a buffer.
     Extract {
         page: u64,
         buffer: u32,

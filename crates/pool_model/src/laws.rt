@@ -1,7 +1,9 @@
 //! Laws over every legal history: each is the contract of a function that does nothing.
-ghost use Rattle.pool_model.specs.PoolLaws.{LegalIsSound, LegalFitsTrackers, LegalFitsClients, LegalFitsMemory, LegalFindsRoom};
+ghost use Rattle.pool_model.specs.PoolLaws.{LegalIsSound, LegalFitsTrackers, LegalFitsClients, LegalFitsPages, LegalFitsMemory, LegalFindsRoom, LegalFitsQuotas, AllPinsAreCharged};
 ghost use Rattle.pool_model.specs.Frames.{EntriesLeaveRest};
 ghost use Rattle.pool_model.specs.Orders.{LegalKeepsQueues};
+ghost use Rattle.pool_model.specs.OwnLaws.{LegalSessionsAreTold, LegalContentsAreTold, LegalKeptFailuresRose, FailuresGrow};
+ghost use Rattle.pool_model.specs.RefusalLaws.{LegalRefusalsNameOwn};
 ghost use Rattle.pool_model.specs.HistoryLaws.{LegalFronts, LegalGrows, LegalGrowsSo, StateRunsOn, LegalNamesAreNew, CountsEntries, LegalPagesAsMade, LegalPagesAreOwned, LegalKeepsFailures};
 
 /// Charges and the reservations of children fit each reservation, and each reservation fits its limit.
@@ -9,11 +11,19 @@ pub fn law_trackers()
     ensures { LegalFitsTrackers }
 {}
 
-/// What a client holds fits its reservation: pages that are pinned, loading, dirty or flying, and buffers.
-#[tactic(auto, using(crate::proofs::Kept::legal_fits_clients))]
+/// What a client holds fits its reservation: pinned pages, each once for each pin, pages that are loading, dirty
+/// or flying, and buffers. So the pins of one page alone fit it.
+#[tactic(auto, using(crate::proofs::Kept::legal_fits_clients, crate::proofs::Kept::legal_fits_pages))]
 pub fn law_clients()
     ensures trackers { LegalFitsTrackers }
     ensures clients { LegalFitsClients }
+    ensures pages { LegalFitsPages }
+{}
+
+/// Each pin of a page is charged the page's length, and a page has its blocks once however often it is pinned.
+#[tactic(auto, using(crate::proofs::Pins::all_pins_are_charged))]
+pub fn law_pins()
+    ensures { AllPinsAreCharged }
 {}
 
 /// All blocks in use fit the pool, and a client that has room in its reservation finds as much memory that
@@ -22,6 +32,12 @@ pub fn law_clients()
 pub fn law_room()
     ensures memory { LegalFitsMemory }
     ensures room { LegalFindsRoom }
+{}
+
+/// The slots in use of a live session are within its quota.
+#[tactic(auto, using(crate::proofs::Slots::legal_fits_quotas))]
+pub fn law_quotas()
+    ensures { LegalFitsQuotas }
 {}
 
 /// What each entry keeps, from which the other laws follow.
@@ -70,10 +86,13 @@ pub fn law_owners()
 {}
 
 /// What a session keeps of failures is what the history tells: for each client the first failure on its pages
-/// since the session's last Ask.
-#[tactic(auto, using(crate::proofs::Noted::legal_keeps_failures))]
+/// since the session's last Ask. So the count of failures on its pages for that client has risen since that Ask.
+/// The count never falls, also where a client's number comes again.
+#[tactic(auto, using(crate::proofs::Noted::legal_keeps_failures, crate::proofs::Rising::kept_failures_rose, crate::proofs::Rising::failures_grow))]
 pub fn law_failures()
-    ensures { LegalKeepsFailures }
+    ensures kept { LegalKeepsFailures }
+    ensures rose { LegalKeptFailuresRose }
+    ensures grow { FailuresGrow }
 {}
 
 /// Pages wait in the state's lists as the history tells: a client's dirty ones in the order of their last unpin
@@ -81,4 +100,23 @@ pub fn law_failures()
 #[tactic(auto, using(crate::proofs::Lined::legal_keeps_queues))]
 pub fn law_orders()
     ensures { LegalKeepsQueues }
+{}
+
+/// A session is live exactly where its own entries began it and didn't end it, with the query tracker that they
+/// name.
+#[tactic(auto, using(crate::proofs::Sitting::legal_sessions_are_told))]
+pub fn law_sessions()
+    ensures { LegalSessionsAreTold }
+{}
+
+/// The bytes of a live page are those of its last unpin, and zeros of its length before the first. The entries of
+/// its session alone tell them.
+pub fn law_contents()
+    ensures { LegalContentsAreTold }
+{}
+
+/// A refused call names only pages, buffers and trackers that are live and its maker's.
+#[tactic(auto, using(crate::proofs::Refused::legal_refusals_name_own))]
+pub fn law_refusals()
+    ensures { LegalRefusalsNameOwn }
 {}

@@ -11,6 +11,7 @@ impl PlainPool {
                 page,
                 client,
                 blocks,
+                key: _,
             } => {
                 *page == self.next_name
                     && *page < u64::MAX
@@ -26,17 +27,23 @@ impl PlainPool {
             Event::PinLoad { page } => self
                 .own_page(maker, *page, Place::Evicted)
                 .is_some_and(|x| self.can_take(x.client, x.blocks)),
+            Event::PinAgain { page } => self
+                .own_pins(maker, *page)
+                .is_some_and(|(x, _)| self.has_room(x.client, self.len_of(x.blocks))),
+            Event::UnpinOnce { page } => self
+                .own_pins(maker, *page)
+                .is_some_and(|(_, count)| count >= 2),
             Event::Unpin { page, content } => self
-                .own_page(maker, *page, Place::Pinned)
+                .own_page(maker, *page, Place::Pinned(1))
                 .is_some_and(|x| {
                     content.as_slice().len() as u64 == self.len_of(x.blocks)
                         && (x.has_slots || x.blocks <= self.free_slots(maker))
                 }),
             Event::UnpinRefused { page } => self
-                .own_page(maker, *page, Place::Pinned)
+                .own_page(maker, *page, Place::Pinned(1))
                 .is_some_and(|x| !x.has_slots && self.free_slots(maker) < x.blocks),
             Event::Extract { page, buffer } => {
-                self.own_page(maker, *page, Place::Pinned).is_some()
+                self.own_page(maker, *page, Place::Pinned(1)).is_some()
                     && !self.buffers.contains_key(buffer)
             }
             Event::Destroy { page } => self.pages.get(page).is_some_and(|x| {
@@ -52,12 +59,13 @@ impl PlainPool {
                 page,
                 client,
                 blocks,
+                key: _,
             } => {
                 let new = Page {
                     session: maker,
                     client: client.number(),
                     blocks: *blocks,
-                    place: Place::Pinned,
+                    place: Place::Pinned(1),
                     has_slots: false,
                 };
                 self.pages.insert(*page, new)?;
@@ -65,9 +73,19 @@ impl PlainPool {
             }
             Event::PinHere { page } => {
                 self.unqueue(*page);
-                self.put(*page, Place::Pinned);
+                self.put(*page, Place::Pinned(1));
             }
             Event::PinLoad { page } => self.put(*page, Place::Loading),
+            Event::PinAgain { page } => {
+                if let Some((_, count)) = self.own_pins(maker, *page) {
+                    self.put(*page, Place::Pinned(count.saturating_add(1)));
+                }
+            }
+            Event::UnpinOnce { page } => {
+                if let Some((_, count)) = self.own_pins(maker, *page) {
+                    self.put(*page, Place::Pinned(count.saturating_sub(1)));
+                }
+            }
             Event::Unpin { page, .. } => {
                 self.dirty.push(*page)?;
                 self.put(*page, Place::Dirty);

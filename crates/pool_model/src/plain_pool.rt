@@ -5,7 +5,8 @@ use std::collections::BTreeMap;
 
 #[derive(Clone, Copy, Debug, PartialEq, Eq)]
 pub enum Place {
-    Pinned,
+    /// With so many pins.
+    Pinned(u32),
     Dirty,
     Flying(u32),
     Loading,
@@ -98,17 +99,23 @@ impl PlainPool {
         u64::from(blocks).saturating_mul(self.block_len)
     }
 
-    /// What a client is charged, and what it holds.
+    /// What a client is charged: a pinned page for each of its pins.
     pub fn charge(&self, client: u32) -> u64 {
         let mut bytes = self.buffer_bytes(client);
         for page in self.pages.values() {
-            if page.client == client && matches!(page.place, Place::Pinned | Place::Loading) {
-                bytes = bytes.saturating_add(self.len_of(page.blocks));
+            if page.client == client {
+                let times = match page.place {
+                    Place::Pinned(count) => u64::from(count),
+                    Place::Loading => 1,
+                    _ => 0,
+                };
+                bytes = bytes.saturating_add(self.len_of(page.blocks).saturating_mul(times));
             }
         }
         bytes
     }
 
+    /// What a client holds.
     pub fn held(&self, client: u32) -> u64 {
         let mut bytes = self.charge(client);
         for page in self.pages.values() {
@@ -191,6 +198,15 @@ impl PlainPool {
     pub fn own_page(&self, maker: u32, page: u64, place: Place) -> Option<Page> {
         let found = self.pages.get(&page).copied()?;
         (found.session == maker && found.place == place).then_some(found)
+    }
+
+    /// The page and its pins, where it is the session's and pinned.
+    pub fn own_pins(&self, maker: u32, page: u64) -> Option<(Page, u32)> {
+        let found = self.pages.get(&page).copied()?;
+        match found.place {
+            Place::Pinned(count) if found.session == maker => Some((found, count)),
+            _ => None,
+        }
     }
 
     pub fn free_slots(&self, session: u32) -> u32 {

@@ -1,6 +1,6 @@
 //! Reads, writes, evictions and refusals over plain maps.
 
-use crate::plain_pool::{Place, PlainPool};
+use crate::plain_pool::{Buffer, Place, PlainPool};
 use crate::{Call, Event};
 use std::alloc::AllocError;
 
@@ -40,7 +40,7 @@ impl PlainPool {
 
     pub fn take_scratch(&mut self, maker: u32, event: &Event) -> Result<(), AllocError> {
         match event {
-            Event::ReadOk { page } => self.put(*page, Place::Pinned),
+            Event::ReadOk { page } => self.put(*page, Place::Pinned(1)),
             Event::ReadFailed { page, .. } => {
                 self.note_failure(maker, *page, true)?;
                 self.put(*page, Place::Evicted);
@@ -71,15 +71,34 @@ impl PlainPool {
         let Some(asked) = self.sessions.get(&maker).and_then(|x| x.asked) else {
             return false;
         };
-        if let Call::Pin { page } = call {
-            let own = self.pages.get(page).is_some_and(|x| x.session == maker);
-            if own && self.last_failed_read(maker, *page, asked) == Some(entry) {
-                return true;
+        if !self.is_own_call(maker, call) {
+            return false;
+        }
+        if let Call::Pin { page } = call
+            && self.last_failed_read(maker, *page, asked) == Some(entry)
+        {
+            return true;
+        }
+        self.lacking_client(call)
+            .is_some_and(|client| self.first_failure(client, asked) == Some(entry))
+    }
+
+    fn is_own_call(&self, maker: u32, call: &Call) -> bool {
+        match call {
+            Call::Pin { page } | Call::PinAgain { page } => {
+                self.pages.get(page).is_some_and(|x| x.session == maker)
+            }
+            Call::Create { client, .. }
+            | Call::Alloc { client, .. }
+            | Call::GiveBack { client, .. } => self.is_client_of(maker, client.number()),
+            Call::MoveReservation { from, to, .. } => {
+                self.is_client_of(maker, from.number()) && self.owns(maker, to.number())
+            }
+            Call::MoveBuffer { buffer, to } => {
+                let own = |x: &Buffer| self.is_client_of(maker, x.client);
+                self.buffers.get(buffer).is_some_and(own) && self.is_client_of(maker, to.number())
             }
         }
-        self.lacking_client(call).is_some_and(|client| {
-            self.is_client_of(maker, client) && self.first_failure(client, asked) == Some(entry)
-        })
     }
 
     // The call's client, where the call lacks its room.
@@ -90,6 +109,10 @@ impl PlainPool {
                 if matches!(found.place, Place::Dirty | Place::Flying(_)) {
                     return None;
                 }
+                (found.client, self.len_of(found.blocks))
+            }
+            Call::PinAgain { page } => {
+                let found = self.pages.get(page)?;
                 (found.client, self.len_of(found.blocks))
             }
             Call::Create { client, blocks } | Call::Alloc { client, blocks } => {

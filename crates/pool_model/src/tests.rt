@@ -1,9 +1,9 @@
 //! Worked histories, followed by the program over plain maps.
 use super::*;
-use crate::plain_pool::Place;
 use crate::worked::{
-    ALL, After, CLIENT, DIRTY, EVICTED, OTHER, PINNED, QUERY, by_session, create, evict_and_load,
-    five_pages, follow, four_pages, refuse, row, tracker, two_clients, unpin,
+    CLEAN, CLIENT, DIRTY, EVICTED, FLYING, OTHER, PINNED, QUERY, by_session, create,
+    evict_and_load, five_pages, follow, four_pages, one_client, pinned_twice, pins, refuse, row,
+    tracker, two_clients, unpin, with_192,
 };
 use std::alloc::Global;
 use std::process::Abort;
@@ -189,6 +189,181 @@ fn what_is_reserved_stays_and_what_is_enabled_is_not_refused(rt: HostRuntime) ->
 }
 
 #[test]
+fn each_pin_is_charged_and_the_page_has_its_blocks_once(rt: HostRuntime) -> Result<(), Fail> {
+    let mut events = one_client(rt.alloc(), 192)?;
+    events.push(create(0))?;
+    events.push(Event::PinAgain { page: 0 })?;
+    events.push(Event::PinAgain { page: 0 })?;
+    events.push(Event::UnpinOnce { page: 0 })?;
+    events.push(Event::UnpinOnce { page: 0 })?;
+    events.push(unpin(rt.alloc(), 0, 0x11)?)?;
+    let rows = [
+        (
+            6,
+            with_192(row(192, 192, 192, [pins(3), None, None, None, None])),
+        ),
+        (
+            8,
+            with_192(row(64, 64, 192, [pins(1), None, None, None, None])),
+        ),
+        (
+            9,
+            with_192(row(0, 64, 192, [DIRTY, None, None, None, None])),
+        ),
+    ];
+    let pool = follow(&rt, rt.alloc(), events, &rows)?;
+    assert_eq!(rt; pool.entries, 10);
+    Ok(())
+}
+
+#[test]
+fn another_pin_waits_for_a_dirty_page_to_be_written(rt: HostRuntime) -> Result<(), Fail> {
+    let mut events = pinned_twice(rt.alloc())?;
+    events.push(Event::WriteOk { page: 0 })?;
+    events.push(Event::PinAgain { page: 1 })?;
+    let rows = [
+        (
+            8,
+            with_192(row(64, 128, 128, [DIRTY, pins(1), None, None, None])),
+        ),
+        (
+            10,
+            with_192(row(128, 192, 128, [DIRTY, pins(2), None, None, None])),
+        ),
+        (
+            12,
+            with_192(row(128, 192, 128, [FLYING, pins(2), None, None, None])),
+        ),
+        (
+            14,
+            with_192(row(192, 192, 128, [CLEAN, pins(3), None, None, None])),
+        ),
+    ];
+    follow(&rt, rt.alloc(), events, &rows)?;
+
+    let mut failed = pinned_twice(rt.alloc())?;
+    failed.push(Event::WriteFailed {
+        page: 0,
+        before: FaultSum::of(0),
+        after: FaultSum::of(1),
+    })?;
+    failed.push(Event::Refused {
+        call: Call::PinAgain { page: 1 },
+        entry: 13,
+    })?;
+    let stays = [(
+        14,
+        with_192(row(128, 192, 128, [DIRTY, pins(2), None, None, None])),
+    )];
+    follow(&rt, rt.alloc(), failed, &stays)?;
+    Ok(())
+}
+
+#[test]
+fn one_pin_is_left_with_bytes_and_several_one_by_one(rt: HostRuntime) -> Result<(), Fail> {
+    let alloc = rt.alloc();
+    let beyond = Event::PinAgain { page: 1 };
+    refuse(
+        &rt,
+        alloc,
+        pinned_twice(alloc)?,
+        beyond,
+        "a pin beyond the reservation",
+    )?;
+
+    let waits = Event::PinAgain { page: 0 };
+    refuse(
+        &rt,
+        alloc,
+        pinned_twice(alloc)?,
+        waits,
+        "a page is pinned again that isn't pinned",
+    )?;
+
+    let whole = unpin(alloc, 1, 0)?;
+    refuse(
+        &rt,
+        alloc,
+        pinned_twice(alloc)?,
+        whole,
+        "a page with two pins is left",
+    )?;
+
+    let lent = Event::Extract { page: 1, buffer: 0 };
+    refuse(
+        &rt,
+        alloc,
+        pinned_twice(alloc)?,
+        lent,
+        "a page with two pins is extracted",
+    )?;
+
+    let last = Event::UnpinOnce { page: 0 };
+    refuse(
+        &rt,
+        alloc,
+        four_pages(alloc)?,
+        last,
+        "the only pin ends without bytes",
+    )?;
+
+    let mut destroyed = pinned_twice(alloc)?;
+    destroyed.push(Event::Destroy { page: 1 })?;
+    let pool = follow(&rt, alloc, destroyed, &[])?;
+    assert_eq!(rt; (pool.held(CLIENT), pool.free()), (64, 192));
+    Ok(())
+}
+
+#[test]
+fn a_refused_call_is_on_what_the_session_has(rt: HostRuntime) -> Result<(), Fail> {
+    let alloc = rt.alloc();
+    let rows = [
+        (
+            Call::MoveReservation {
+                from: tracker(CLIENT),
+                to: tracker(QUERY),
+                bytes: 64,
+            },
+            true,
+        ),
+        (
+            Call::MoveReservation {
+                from: tracker(CLIENT),
+                to: tracker(OTHER),
+                bytes: 64,
+            },
+            false,
+        ),
+        (
+            Call::MoveBuffer {
+                buffer: 0,
+                to: tracker(CLIENT),
+            },
+            false,
+        ),
+        (
+            Call::GiveBack {
+                client: tracker(CLIENT),
+                bytes: 64,
+            },
+            true,
+        ),
+    ];
+    for (call, may) in rows {
+        let mut events = five_pages(alloc)?;
+        events.push(Event::WriteFailed {
+            page: 1,
+            before: FaultSum::of(0),
+            after: FaultSum::of(1),
+        })?;
+        let mut pool = follow(&rt, alloc, events, &[])?;
+        let refused = Event::Refused { call, entry: 21 };
+        assert_eq!(rt; pool.enter(&by_session(refused))?, may);
+    }
+    Ok(())
+}
+
+#[test]
 fn a_buffer_keeps_its_blocks_and_changes_its_client(rt: HostRuntime) -> Result<(), Fail> {
     let mut events = two_clients(rt.alloc())?;
     events.push(create(0))?;
@@ -272,4 +447,9 @@ fn laws_are_calls_that_do_nothing(_rt: HostRuntime) {
     law_failures();
     law_orders();
     law_rest();
+    law_quotas();
+    law_refusals();
+    law_pins();
+    law_sessions();
+    law_contents();
 }

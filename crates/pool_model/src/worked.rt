@@ -43,6 +43,7 @@ pub fn create(page: u64) -> Event {
         page,
         client: tracker(CLIENT),
         blocks: 1,
+        key: 0,
     }
 }
 
@@ -54,8 +55,8 @@ pub fn unpin(alloc: Global, page: u64, byte: u8) -> Result<Event, AllocError> {
     })
 }
 
-/// One session with one client, each with 256 bytes reserved, and four pages of one block: entries 0 to 11.
-pub fn four_pages(alloc: Global) -> Result<Vec<Event>, AllocError> {
+/// One session with 256 bytes reserved, and one client with so many: entries 0 to 3.
+pub fn one_client(alloc: Global, bytes: u64) -> Result<Vec<Event>, AllocError> {
     let mut events = Vec::new(alloc);
     events.push(Event::AddTracker {
         tracker: tracker(QUERY),
@@ -75,8 +76,14 @@ pub fn four_pages(alloc: Global) -> Result<Vec<Event>, AllocError> {
     })?;
     events.push(Event::Increase {
         tracker: tracker(CLIENT),
-        bytes: 256,
+        bytes,
     })?;
+    Ok(events)
+}
+
+/// One client with 256 bytes reserved, and four pages of one block: entries 0 to 11.
+pub fn four_pages(alloc: Global) -> Result<Vec<Event>, AllocError> {
+    let mut events = one_client(alloc, 256)?;
     for page in 0..4 {
         events.push(Event::Ask)?;
         events.push(create(page))?;
@@ -136,11 +143,28 @@ pub fn follow(
 
 pub const ALL: [u64; 3] = [256; 3];
 
-pub const PINNED: Option<Place> = Some(Place::Pinned);
+pub const PINNED: Option<Place> = Some(Place::Pinned(1));
 
 pub const DIRTY: Option<Place> = Some(Place::Dirty);
 
 pub const EVICTED: Option<Place> = Some(Place::Evicted);
+
+pub const FLYING: Option<Place> = Some(Place::Flying(0));
+
+pub const CLEAN: Option<Place> = Some(Place::Clean);
+
+/// A page with so many pins.
+pub fn pins(count: u32) -> Option<Place> {
+    Some(Place::Pinned(count))
+}
+
+/// The same where the client has 192 bytes reserved.
+pub fn with_192(row: After) -> After {
+    After {
+        reserved: [256, 256, 192],
+        ..row
+    }
+}
 
 pub fn row(charge: u64, held: u64, free: u64, places: [Option<Place>; 5]) -> After {
     After {
@@ -150,6 +174,22 @@ pub fn row(charge: u64, held: u64, free: u64, places: [Option<Place>; 5]) -> Aft
         free,
         places,
     }
+}
+
+/// A client with 192 bytes reserved has two pages. Page 0 is left, page 1 is pinned twice and is to be pinned
+/// once more, and page 0 is taken to be written: entries 0 to 12.
+pub fn pinned_twice(alloc: Global) -> Result<Vec<Event>, AllocError> {
+    let mut events = one_client(alloc, 192)?;
+    for page in 0..2 {
+        events.push(Event::Ask)?;
+        events.push(create(page))?;
+    }
+    events.push(unpin(alloc, 0, 0x11)?)?;
+    events.push(Event::Ask)?;
+    events.push(Event::PinAgain { page: 1 })?;
+    events.push(Event::Ask)?;
+    events.push(Event::StartWrite { page: 0 })?;
+    Ok(events)
 }
 
 /// Two clients of 128 and 64 bytes under the query of 256: the clients 2 and 3.
