@@ -1,4 +1,5 @@
 pub mod Maps
+pub mod Numbers
 pub mod Sums
 pub mod Outline
 pub mod Shares

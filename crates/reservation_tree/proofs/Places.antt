@@ -1,14 +1,15 @@
 -- Rows that come, go or are charged: the state follows, and the rows stay sound.
-use Rattle.std.proofs.Common.{◌≡◌, ℕ, ◌+◌, ◌<◌, ◌≤◌, ◌≢◌, ◌^◌, List, [], Option, Some, None, is_some, count_by, unwrap_or, option_map, slice_index_or, refl, ap, sym, ◌∙◌, subst, arith, inl, inr}
+use Rattle.std.proofs.Common.{◌≡◌, ℕ, ◌+◌, ◌<◌, ◌≤◌, ◌≢◌, List, [], Option, Some, None, is_some, count_by, unwrap_or, option_map, slice_index_or, refl, ap, sym, ◌∙◌, subst, arith, inl, inr}
 use Rattle.std.specs.Ordering.{nat_cmp}
 use Rattle.std.specs.FinMap as map
 use Rattle.slab.specs.Slab.{Slab, get, Updates, slab_len}
 use Rattle.reservation_tree.specs.declared.row.Row.{Row}
-use Rattle.reservation_tree.specs.Tracker.{Tracker, Trackers, IsLive, reservation_of, depth_of, children_of, HasNoChild, Fits, FitsTree, IsTree}
+use Rattle.reservation_tree.specs.Tracker.{Tracker, Trackers, IsLive, reservation_of, depth_of, children_of, HasNoChild, Fits, FitsTree, IsTree, AreBelow}
 use Rattle.reservation_tree.specs.Tree.{TreeState, charge_of, opened, set_charge, with_new, without}
 use Rattle.reservation_tree.specs.Change.{new_root, root_alone, with_child}
 use Rattle.reservation_tree.specs.Rows.{tracker_in, used_in, trackers_in, charges_in, state_in, IsSound, Writes, with_used}
 use Rattle.reservation_tree.proofs.Maps.{same_or_other, found, get_same, get_other, removed_other, len_more, len_less}
+use Rattle.reservation_tree.proofs.Numbers.{put_below, gone_below, root_below}
 use Rattle.reservation_tree.proofs.Outline.{reservation_is}
 use Rattle.reservation_tree.proofs.Tables.{table-put, table-gone, table-kept, table-empty, get-table}
 use Rattle.reservation_tree.proofs.Held.{has_row}
@@ -57,8 +58,8 @@ charged_in r0 r1 sound t bytes live enough one =
             sum ∙ ap (λ (m : Trackers). children_of m q) (sym same);
         counted = one.len ∙ sound.counted ∙ ap map.len (sym same);
         few = subst (λ (m : Trackers). map.len m ≤ 4096) (sym same) sound.few;
-        room = subst (λ (n : ℕ). 4096 ≤ n) (sym one.capacity) sound.room;
-        keys = subst (λ (n : ℕ). n ≤ 2 ^ 32) (sym one.capacity) sound.keys;
+        capacity = one.capacity ∙ sound.capacity;
+        numbers = subst (AreBelow 4096) (sym same) sound.numbers;
       };
       state = state;
     }
@@ -77,7 +78,7 @@ not_live rows k none = get-table tracker_in rows k ∙ ap (option_map tracker_in
 -- a row has come
 module _ (r0 r1 : Slab Row) (sound : IsSound r0) (k p limit : ℕ) (row : Row) (live : IsLive (trackers_in r0) p) (none : get r0 k ≡ None) (up : Updates r0 r1 k (Some row))
     (says : tracker_in row ≡ record { parent = Some p; depth = depth_of (trackers_in r0) p + 1; limit = limit; reservation = 0 }) (free : row.used ≡ 0) (empty_sum : row.children ≡ 0)
-    (count : slab_len r1 ≡ slab_len r0 + 1) (space : r1.capacity ≡ r0.capacity) (few : slab_len r0 < 4096) where
+    (count : slab_len r1 ≡ slab_len r0 + 1) (space : r1.capacity ≡ r0.capacity) (few : slab_len r0 < 4096) (low : k < 4096) where
   come_in : After r1 (with_new k p limit (state_in r0))
   come_in =
       let ts : Trackers = trackers_in r0 in
@@ -102,8 +103,8 @@ module _ (r0 r1 : Slab Row) (sound : IsSound r0) (k p limit : ℕ) (row : Row) (
               sum ∙ ap (λ (m : Trackers). children_of m q) (sym now);
           counted = count ∙ ap (λ (n : ℕ). n + 1) sound.counted ∙ sym as_many;
           few = omega (arith, few, sound.counted, as_many);
-          room = subst (λ (n : ℕ). 4096 ≤ n) (sym space) sound.room;
-          keys = subst (λ (n : ℕ). n ≤ 2 ^ 32) (sym space) sound.keys;
+          capacity = space ∙ sound.capacity;
+          numbers = subst (AreBelow 4096) (sym now) (put_below 4096 ts sound.numbers k low _);
         };
         state = state;
       }
@@ -137,16 +138,16 @@ module _ (r0 r1 : Slab Row) (sound : IsSound r0) (t : ℕ) (live : IsLive (track
               sum ∙ ap (λ (m : Trackers). children_of m q) (sym now);
           counted = omega (arith, count, sound.counted, fewer);
           few = omega (arith, sound.few, fewer);
-          room = subst (λ (n : ℕ). 4096 ≤ n) (sym space) sound.room;
-          keys = subst (λ (n : ℕ). n ≤ 2 ^ 32) (sym space) sound.keys;
+          capacity = space ∙ sound.capacity;
+          numbers = subst (AreBelow 4096) (sym now) (gone_below 4096 ts sound.numbers t);
         };
         state = state;
       }
 
 -- the first row
 pub first_row : (r0 r1 : Slab Row) (limit : ℕ) (row : Row) → r0.slots ≡ [] → Updates r0 r1 0 (Some row) → tracker_in row ≡ new_root limit → row.used ≡ 0 → row.children ≡ 0
-    → slab_len r1 ≡ slab_len r0 + 1 → 4096 ≤ r1.capacity → r1.capacity ≤ 2 ^ 32 → After r1 (opened limit)
-first_row r0 r1 limit row clean up says free empty_sum count room keys =
+    → slab_len r1 ≡ slab_len r0 + 1 → r1.capacity ≡ 4096 → After r1 (opened limit)
+first_row r0 r1 limit row clean up says free empty_sum count space =
     let none_yet : trackers_in r0 ≡ map.empty = table-empty tracker_in r0 clean in
     let now : trackers_in r1 ≡ root_alone limit = table-put tracker_in r0 r1 0 row up ∙ ap (λ (m : Trackers). map.insert m 0 (tracker_in row)) none_yet ∙ ap (map.insert map.empty 0) says in
     let costs : charges_in r1 ≡ map.insert map.empty 0 0 = table-put used_in r0 r1 0 row up ∙ ap (λ (m : map.FinMap nat_cmp ℕ). map.insert m 0 row.used) (table-empty used_in r0 clean) ∙ ap (map.insert map.empty 0) free in
@@ -167,19 +168,19 @@ first_row r0 r1 limit row clean up says free empty_sum count room keys =
             sum ∙ sym (root_sums limit q) ∙ ap (λ (m : Trackers). children_of m q) (sym now);
         counted = one_row ∙ sym one_live;
         few = omega (arith, one_live);
-        room = room;
-        keys = keys;
+        capacity = space;
+        numbers = subst (AreBelow 4096) (sym now) (root_below 4096 limit (omega arith));
       };
       state = state;
     }
 
 pub come : (s : TreeState) (r0 r1 : Slab Row) → IsSound r0 → state_in r0 ≡ s → (k p limit : ℕ) (row : Row) → IsLive s.trackers p → get r0 k ≡ None → Updates r0 r1 k (Some row)
     → tracker_in row ≡ record { parent = Some p; depth = depth_of s.trackers p + 1; limit = limit; reservation = 0 } → row.used ≡ 0 → row.children ≡ 0
-    → slab_len r1 ≡ slab_len r0 + 1 → r1.capacity ≡ r0.capacity → slab_len r0 < 4096 → After r1 (with_new k p limit s)
+    → slab_len r1 ≡ slab_len r0 + 1 → r1.capacity ≡ r0.capacity → slab_len r0 < 4096 → k < 4096 → After r1 (with_new k p limit s)
 come s r0 r1 sound view k p limit row =
     subst (λ (state : TreeState). IsLive state.trackers p → get r0 k ≡ None → Updates r0 r1 k (Some row)
     → tracker_in row ≡ record { parent = Some p; depth = depth_of state.trackers p + 1; limit = limit; reservation = 0 } → row.used ≡ 0 → row.children ≡ 0
-    → slab_len r1 ≡ slab_len r0 + 1 → r1.capacity ≡ r0.capacity → slab_len r0 < 4096 → After r1 (with_new k p limit state)) view (come_in r0 r1 sound k p limit row)
+    → slab_len r1 ≡ slab_len r0 + 1 → r1.capacity ≡ r0.capacity → slab_len r0 < 4096 → k < 4096 → After r1 (with_new k p limit state)) view (come_in r0 r1 sound k p limit row)
 
 pub gone : (s : TreeState) (r0 r1 : Slab Row) → IsSound r0 → state_in r0 ≡ s → (t : ℕ) → IsLive s.trackers t → t ≢ 0 → reservation_of s.trackers t ≡ 0 → HasNoChild s.trackers t
     → Updates r0 r1 t None → slab_len r1 + 1 ≡ slab_len r0 → r1.capacity ≡ r0.capacity → After r1 (without t s)

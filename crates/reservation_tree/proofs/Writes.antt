@@ -1,14 +1,15 @@
 -- When the rows of a tree are written, its state follows and its rows stay sound.
-use Rattle.std.proofs.Common.{◌≡◌, ℕ, ◌≤◌, ◌≢◌, ◌^◌, Option, Some, None, IsSome, is_some, unwrap_or, refl, ap, sym, ◌∙◌, subst, inl, inr}
+use Rattle.std.proofs.Common.{◌≡◌, ℕ, ◌≤◌, ◌≢◌, Option, Some, None, IsSome, is_some, unwrap_or, refl, ap, sym, ◌∙◌, subst, inl, inr}
 use Rattle.std.specs.FinMap.{len}
 use Rattle.std.specs.FinMap as map
 use Rattle.slab.specs.Slab.{Slab, get, Updates, slab_len}
 use Rattle.reservation_tree.specs.declared.row.Row.{Row}
-use Rattle.reservation_tree.specs.Tracker.{Tracker, Trackers, IsLive, tracker_at, children_of, FitsTree, IsTree}
+use Rattle.reservation_tree.specs.Tracker.{Tracker, Trackers, IsLive, tracker_at, children_of, FitsTree, IsTree, AreBelow}
 use Rattle.reservation_tree.specs.Tree.{TreeState, charge_of}
 use Rattle.reservation_tree.specs.Change.{set_reservation}
 use Rattle.reservation_tree.specs.Rows.{tracker_in, used_in, trackers_in, charges_in, state_in, AreSums, IsSound, Writes, with_reservation, with_children}
 use Rattle.reservation_tree.proofs.Maps.{same_or_other, is_there, found, len_same}
+use Rattle.reservation_tree.proofs.Numbers.{put_below}
 use Rattle.reservation_tree.proofs.Outline.{tracker_is, set_outline, tree_same}
 use Rattle.reservation_tree.proofs.Shares.{children_kept}
 use Rattle.reservation_tree.proofs.Tables.{table-put, table-kept}
@@ -103,8 +104,8 @@ sound_after old new t bytes row sound is changed count space fits =
         sums = changed.sums;
         counted = count ∙ sound.counted ∙ sym as_many;
         few = subst (λ (n : ℕ). n ≤ 4096) (sym as_many) sound.few;
-        room = subst (λ (n : ℕ). 4096 ≤ n) (sym space) sound.room;
-        keys = subst (λ (n : ℕ). n ≤ 2 ^ 32) (sym space) sound.keys;
+        capacity = space ∙ sound.capacity;
+        numbers = subst (AreBelow 4096) (sym changed.trackers) (put_below 4096 (trackers_in old) sound.numbers t (sound.numbers t (row_lives old t row is)) _);
       };
       state = state;
     }

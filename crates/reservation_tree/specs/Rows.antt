@@ -1,11 +1,11 @@
 -- The rows of a tree: what they stand for, and what their running numbers keep. About private fields.
-use Rattle.std.specs.Prelude.{◌≡◌, ℕ, ◌+◌, ◌^◌, ◌≤◌, ◌<◌, Some}
+use Rattle.std.specs.Prelude.{◌≡◌, ℕ, ◌+◌, ◌≤◌, ◌<◌, Some}
 use Rattle.std.specs.Ordering.{nat_cmp}
 use Rattle.std.specs.FinMap.{FinMap}
 use Rattle.std.specs.FinMap as map
 use Rattle.slab.specs.Slab.{Slab, get, slab_len, Updates}
 use Rattle.reservation_tree.specs.declared.row.Row.{Row}
-use Rattle.reservation_tree.specs.Tracker.{Tracker, Trackers, tracker_at, children_of, Hangs, FitsTree, IsTree}
+use Rattle.reservation_tree.specs.Tracker.{Tracker, Trackers, tracker_at, children_of, Hangs, FitsTree, IsTree, AreBelow}
 use Rattle.reservation_tree.specs.Tree.{TreeState, charge_of}
 use Rattle.reservation_tree.specs.Table.{table}
 
@@ -36,8 +36,8 @@ pub record IsSound (rows : Slab Row) : Type 0 where
   pub sums : AreSums rows
   pub counted : slab_len rows ≡ map.len (trackers_in rows)
   pub few : map.len (trackers_in rows) ≤ 4096
-  pub room : 4096 ≤ rows.capacity
-  pub keys : rows.capacity ≤ 2 ^ 32
+  pub capacity : rows.capacity ≡ 4096
+  pub numbers : AreBelow 4096 (trackers_in rows)
 
 -- the row that a live tracker has, and what holds of it
 pub record IsRowOf (s : TreeState) (t : ℕ) (row : Row) : Type 0 where

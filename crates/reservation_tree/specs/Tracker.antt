@@ -1,7 +1,7 @@
 -- Trackers, the finite map of the live ones, and what they hold.
 -- Bytes are whole numbers without end. What a tracker is charged is a parameter, `charge`, so that a
 -- tree that counts its charges and a pool that sums up its pages share these words.
-use Rattle.std.specs.Prelude.{◌≡◌, ℕ, ◌+◌, ◌-◌, ◌≤◌, ◌==◌, if◌then◌else◌, Option, Some, None, IsSome, unwrap_or, refl}
+use Rattle.std.specs.Prelude.{◌≡◌, ℕ, ◌+◌, ◌-◌, ◌≤◌, ◌<◌, ◌==◌, if◌then◌else◌, Option, Some, None, IsSome, unwrap_or, refl}
 use Rattle.std.specs.Ordering.{nat_cmp}
 use Rattle.std.specs.FinMap.{FinMap, get, code}
 use Rattle.std.specs.Coded.{Coded, code_by, coded×, coded_ℕ, coded_option}
@@ -32,6 +32,10 @@ trackers_code = code coded_ℕ tracker_code
 -- the tracker is live
 abbrev pub IsLive : Trackers → ℕ → Type 0
 IsLive ts t = IsSome (get ts t)
+
+-- each live tracker's number is below this
+abbrev pub AreBelow : ℕ → Trackers → Type 0
+AreBelow bound ts = (t : ℕ) → IsLive ts t → t < bound
 
 -- what is read where no tracker is live
 abbrev pub no_tracker : Tracker

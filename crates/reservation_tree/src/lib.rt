@@ -4,7 +4,8 @@
 //! reservation, and a map from the same numbers to the bytes charged. The root is tracker 0.
 //! Invariant: each tracker but the root hangs from a live one, and at each the bytes charged and the
 //! reservations of its children fit its reservation, which fits its limit. A row's running number of
-//! children's bytes is their sum. At most 4096 trackers are live, and room for all was taken at opening.
+//! children's bytes is their sum. At most 4096 trackers are live, with numbers below 4096, and room for all was
+//! taken at opening.
 //! Bytes are u64 in the rows and numbers without end in the model, so no sum wraps.
 //!
 //! A growth and the rise of a move go from the top down, one call a level that changes, so that each

@@ -157,7 +157,8 @@ fn so_many_trackers_may_be_live(rt: HostRuntime) -> Result<(), Fail> {
     let mut tree = Tree::open(rt.alloc(), 1)?;
     for _child in 1..MAX_TRACKERS {
         let root = tree.root();
-        tree.add_child(root, 1)?;
+        let newest = tree.add_child(root, 1)?;
+        assert!(rt; newest.number() < MAX_TRACKERS);
     }
     let root = tree.root();
     assert_eq!(rt;

@@ -1,8 +1,8 @@
 //! The tree of reservations.
-ghost use Rattle.std.specs.Prelude.{◌≡◌, ◌≢◌, ◌↔◌, ◌+◌, ◌-◌, ◌≤◌, ℕ, Some, None, IfOk, IfErr, OnErr, IsErr, IsTrue};
+ghost use Rattle.std.specs.Prelude.{◌≡◌, ◌≢◌, ◌↔◌, ◌+◌, ◌-◌, ◌≤◌, ◌<◌, ℕ, Some, None, IfOk, IfErr, OnErr, IsErr, IsTrue};
 ghost use Rattle.std.specs.FinMap.{get, len};
 ghost use Rattle.reservation_tree.specs.Tree.{charge_of, opened, set_charge, with_new, without};
-ghost use Rattle.reservation_tree.specs.Tracker.{IsLive, IsTree, FitsTree, HasNoChild, reservation_of, limit_of, children_of, unused, room_of, tracker_at};
+ghost use Rattle.reservation_tree.specs.Tracker.{IsLive, AreBelow, IsTree, FitsTree, HasNoChild, reservation_of, limit_of, children_of, unused, room_of, tracker_at};
 ghost use Rattle.reservation_tree.specs.Change.{raise, lower};
 
 use crate::errors::{Memory, PoolErr};
@@ -12,7 +12,7 @@ use slab::Slab;
 use std::alloc::Global;
 use std::marker::Model;
 
-/// How many trackers may be live, the root among them.
+/// How many trackers may be live, the root among them. Their numbers are below it.
 pub const MAX_TRACKERS: u32 = 4096;
 
 /// A tree of trackers, each with a limit and a reservation in bytes.
@@ -41,11 +41,16 @@ impl Tree {
     /// The tree of a root with this limit, its reservation 0, and room for `MAX_TRACKERS` trackers.
     ///
     /// It is the one call that takes memory.
+    ///
+    /// # Errors
+    ///
+    /// `Memory`: there was no memory for the table, or it came in a size that isn't the one asked for.
     pub fn open(alloc: Global, limit: u64) -> Result<Tree, Memory>
         ensures { IfOk result (λ tree. tree ≡ opened limit) }
     {
         let mut rows = Slab::with_capacity(alloc, MAX_TRACKERS as usize)?;
-        if rows.capacity() > u32::MAX as usize {
+        // A key is below the capacity, so it is a tracker's number where the two are equal.
+        if rows.capacity() != MAX_TRACKERS as usize {
             return Err(Memory);
         }
         rows.insert_reserved(Row::new(None, 0, limit));
@@ -70,11 +75,12 @@ impl Tree {
         self.rows.contains(t.key())
     }
 
-    /// A new tracker under `parent`, with this limit and the reservation 0.
+    /// A new tracker under `parent`, with this limit and the reservation 0. Its number is below `MAX_TRACKERS`.
     pub fn add_child(&mut self, parent: TrackerId, limit: u64) -> Result<TrackerId, PoolErr>
         requires { IsLive self.old.trackers parent }
         ensures ok { IfOk result (λ t. self.new ≡ with_new t parent limit self.old) }
         ensures fresh { IfOk result (λ t. get self.old.trackers t ≡ None) }
+        ensures number { IfOk result (λ t. t < 4096) }
 
         // It is refused exactly where as many trackers as there may be are live.
         ensures refused { IsErr result ↔ (len self.old.trackers ≡ 4096) }
@@ -172,11 +178,13 @@ impl Tree {
         self.row(t).limit
     }
 
-    /// What holds of each tree: it hangs together, each tracker fits, and no more than so many are live.
+    /// What holds of each tree: it hangs together, each tracker fits, no more than so many are live, and each
+    /// number is below `MAX_TRACKERS`.
     pub fn law_fits(&self)
         ensures tree { IsTree self.now.trackers }
         ensures fits { FitsTree (charge_of self.now) self.now.trackers }
         ensures few { len self.now.trackers ≤ 4096 }
+        ensures numbers { AreBelow 4096 self.now.trackers }
     {
         let _rows = &self.rows;
     }

@@ -13,7 +13,7 @@ invariant_of-self c =
     (come c.args.self.now c.self.inside.rows c.insert_reserved-key.new.self c.self.invariant c.self.view_is c.insert_reserved-key.result c.args.parent c.args.limit c.new.result c.requires
     c.insert_reserved-key.ensures.was_vacant c.insert_reserved-key.ensures.updates
     (ap tracker_in c.new.ensures ∙ ap (λ (n : ℕ). record { parent = Some c.args.parent; depth = n; limit = c.args.limit; reservation = 0 }) deep)
-    (ap used_in c.new.ensures) (ap (λ (r : Row). r.children) c.new.ensures) c.insert_reserved-key.ensures.len c.insert_reserved-key.ensures.capacity (omega (arith, c.len.ensures, c.if-len.false))).sound
+    (ap used_in c.new.ensures) (ap (λ (r : Row). r.children) c.new.ensures) c.insert_reserved-key.ensures.len c.insert_reserved-key.ensures.capacity (omega (arith, c.len.ensures, c.if-len.false)) (omega (arith, c.insert_reserved-key.ensures.key_in_range, c.insert_reserved-key.ensures.capacity, c.self.invariant.capacity))).sound
 
 pub returns-clause-ok : goal.returns-clause-ok
 returns-clause-ok c =
@@ -21,7 +21,7 @@ returns-clause-ok c =
     (come c.args.self.now c.self.inside.rows c.insert_reserved-key.new.self c.self.invariant c.self.view_is c.insert_reserved-key.result c.args.parent c.args.limit c.new.result c.requires
     c.insert_reserved-key.ensures.was_vacant c.insert_reserved-key.ensures.updates
     (ap tracker_in c.new.ensures ∙ ap (λ (n : ℕ). record { parent = Some c.args.parent; depth = n; limit = c.args.limit; reservation = 0 }) deep)
-    (ap used_in c.new.ensures) (ap (λ (r : Row). r.children) c.new.ensures) c.insert_reserved-key.ensures.len c.insert_reserved-key.ensures.capacity (omega (arith, c.len.ensures, c.if-len.false))).state
+    (ap used_in c.new.ensures) (ap (λ (r : Row). r.children) c.new.ensures) c.insert_reserved-key.ensures.len c.insert_reserved-key.ensures.capacity (omega (arith, c.len.ensures, c.if-len.false)) (omega (arith, c.insert_reserved-key.ensures.key_in_range, c.insert_reserved-key.ensures.capacity, c.self.invariant.capacity))).state
     ∙ ap (λ (k : ℕ). with_new k c.args.parent c.args.limit c.args.self.now) (sym c.of.ensures)
 
 pub returns-clause-fresh : goal.returns-clause-fresh
