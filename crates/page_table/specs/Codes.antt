@@ -9,33 +9,33 @@ use Rattle.page_table.specs.declared.entry.Mem.{Mem}
 use Rattle.page_table.specs.declared.entry.Mem.TheVariants.{Held, Empty, Out}
 use Rattle.page_table.specs.declared.entry.Entry.{Entry}
 
--- a number for each place
-abbrev pub number_of : Place → ℕ
-number_of Pinned = 0
-number_of Dirty = 1
-number_of Loading = 2
-number_of Clean = 3
-number_of Evicted = 4
-number_of (Flying writer) = suc (suc (suc (suc (suc writer))))
+-- which place it is, and its count or writer
+abbrev pub parts_of : Place → ℕ × ℕ
+parts_of (Pinned count) = (0, count)
+parts_of Dirty = (1, 0)
+parts_of (Flying writer) = (2, writer)
+parts_of Loading = (3, 0)
+parts_of Clean = (4, 0)
+parts_of Evicted = (5, 0)
 
-abbrev pub place_of : ℕ → Place
-place_of zero = Pinned
-place_of (suc zero) = Dirty
-place_of (suc (suc zero)) = Loading
-place_of (suc (suc (suc zero))) = Clean
-place_of (suc (suc (suc (suc zero)))) = Evicted
-place_of (suc (suc (suc (suc (suc writer))))) = Flying writer
+abbrev pub place_from : ℕ → ℕ → Place
+place_from zero n = Pinned n
+place_from (suc zero) n = Dirty
+place_from (suc (suc zero)) n = Flying n
+place_from (suc (suc (suc zero))) n = Loading
+place_from (suc (suc (suc (suc zero)))) n = Clean
+place_from (suc (suc (suc (suc (suc more))))) n = Evicted
 
-abbrev pub place_back : (place : Place) → place_of (number_of place) ≡ place
-place_back Pinned = refl
+abbrev pub place_back : (place : Place) → place_from (parts_of place).0 (parts_of place).1 ≡ place
+place_back (Pinned count) = refl
 place_back Dirty = refl
+place_back (Flying writer) = refl
 place_back Loading = refl
 place_back Clean = refl
 place_back Evicted = refl
-place_back (Flying writer) = refl
 
 abbrev pub place_code : Coded Place
-place_code = code_by ℕ coded_ℕ number_of place_of place_back
+place_code = code_by (ℕ × ℕ) (coded× coded_ℕ coded_ℕ) parts_of (λ p. place_from p.0 p.1) place_back
 
 -- a buffer is stored as the tuple of its fields
 abbrev pub buffer_code : Coded Buffer

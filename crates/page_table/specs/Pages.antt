@@ -82,7 +82,7 @@ module _ {E : Type 0} where
     pub below : (name : ℕ) → IsSome (get t.entries name) → name < t.next_name
     pub few : len t.entries ≤ t.room
 
--- a page as it begins: pinned
+-- a page as it begins: pinned once
 abbrev pub new_entry : {S : Type 0} → ℕ → ℕ → ℕ → ℕ → Mem → S → Entry S
 new_entry name session client blocks mem scratch =
-    record { name = name; session = session; client = client; blocks = blocks; place = Pinned; mem = mem; scratch = scratch }
+    record { name = name; session = session; client = client; blocks = blocks; place = Pinned 1; mem = mem; scratch = scratch }

@@ -5,8 +5,8 @@ use block_arena::{Buf, Shell};
 /// Where a page stands on its way between memory and scratch.
 #[derive(Clone, Copy, Debug, PartialEq, Eq)]
 pub enum Place {
-    /// Its client has its buffer.
-    Pinned,
+    /// Its client has its buffer, with so many pins. A new page has one.
+    Pinned(u32),
     /// Its bytes are in memory alone.
     Dirty,
     /// The writer of this number writes its bytes out.

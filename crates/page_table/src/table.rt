@@ -80,7 +80,7 @@ impl<S> PageTable<S> {
         self.rows.len() < self.room as usize
     }
 
-    /// A new page, pinned, under the next name.
+    /// A new page, pinned once, under the next name.
     #[inline]
     pub fn add(&mut self, session: u32, client: u32, blocks: u32, mem: Mem, scratch: S) -> PageId
         requires not_spent { IsSpent self.old → ⊥ }
@@ -100,7 +100,7 @@ impl<S> PageTable<S> {
             session,
             client,
             blocks,
-            place: Place::Pinned,
+            place: Place::Pinned(1),
             mem,
             scratch,
         };

@@ -49,7 +49,7 @@ fn a_key_that_comes_again_has_another_name(rt: HostRuntime) -> Result<(), Fail> 
     assert_eq!(rt; (entry.name, entry.session, entry.client), (7, 1, 3));
     assert_eq!(rt;
         (entry.blocks, entry.place, entry.scratch),
-        (2, Place::Pinned, 30)
+        (2, Place::Pinned(1), 30)
     );
     assert_eq!(rt;
         (client_of(&table, first), table.id_at(first.key)),
@@ -82,7 +82,7 @@ fn what_is_written_through_an_entry_stays(rt: HostRuntime) -> Result<(), Fail> {
     );
     assert_eq!(rt;
         table.get(other).map(|entry| entry.place),
-        Some(Place::Pinned)
+        Some(Place::Pinned(1))
     );
     assert!(rt; table.get(page).is_some());
     let kept = evict(&mut table, page);
