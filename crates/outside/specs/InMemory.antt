@@ -42,6 +42,7 @@ pub record WriteFailed (old new : SinkState) : Type 0 where
 
 -- a write that was not listed and found no memory: nothing was appended, and it counts
 pub record WriteStarved (old new : SinkState) : Type 0 where
+  pub unlisted : FailsNext old.plan → ⊥
   pub state : new ≡ record old { plan = after_fault old.plan; starved = counted old.starved }
 
 -- a store that was listed: the slot holds nothing that is known
@@ -49,6 +50,7 @@ pub record StoreFailed (old new : SlotState) : Type 0 where
   pub listed : FailsNext old.plan
   pub state : new ≡ record old { held = None; plan = after_fault old.plan }
 
--- a store that found no memory, likewise, and it counts
+-- a store that was not listed and found no memory, likewise, and it counts
 pub record StoreStarved (old new : SlotState) : Type 0 where
+  pub unlisted : FailsNext old.plan → ⊥
   pub state : new ≡ record old { held = None; plan = after_fault old.plan; starved = counted old.starved }

@@ -1,5 +1,5 @@
 -- What stands under the names of inputs and outputs.
-use Rattle.std.specs.Prelude.{◌≡◌, ◌≢◌, ◌&&◌, ◌<◌, ℕ, Bool, true, false, List, [], Option, Some, None, Result, ⊤, if◌then◌else◌}
+use Rattle.std.specs.Prelude.{◌≡◌, ◌≢◌, ◌&&◌, ◌<◌, ◌⊎◌, ℕ, Bool, true, false, List, [], Option, Some, None, IsSome, Result, ⊤, if◌then◌else◌}
 use Rattle.std.specs.Str.{bytes_eq}
 use Rattle.std.specs.Result.{is_ok}
 use Rattle.outside.specs.Counts.{Rose}
@@ -40,6 +40,10 @@ AllStay before now = (name : List ℕ) → now name ≡ before name
 -- every other name stays as it was
 abbrev pub OthersStay : {A : Type 0} → List ℕ → (List ℕ → A) → (List ℕ → A) → Type 0
 OthersStay name before now = (other : List ℕ) → other ≢ name → now other ≡ before other
+
+-- the count of every other name stays, but that names with no entry have one count together
+abbrev pub OtherCountsStay : {X : Type 0} → List ℕ → (List ℕ → Option X) → (List ℕ → ℕ) → (List ℕ → ℕ) → Type 0
+OtherCountsStay name entries before now = (other : List ℕ) → other ≢ name → IsSome (entries name) ⊎ IsSome (entries other) → now other ≡ before other
 
 -- the name has this now, and every other name stays as it was
 abbrev pub Changes : {A : Type 0} → List ℕ → Option A → (List ℕ → Option A) → (List ℕ → Option A) → Type 0

@@ -9,7 +9,8 @@ use crate::stream::{Failed, Sink, Source};
 
 /// Inputs by name. One counter of faults may serve several names, whose counts then rise together.
 pub trait Inputs {
-    type Src: Source + Send + Drop;
+    /// A source has no `Drop` here: one that was opened is closed, so that its faults are counted.
+    type Src: Source + Send;
 
     // The bytes that stand under a name, where they are told.
     ghost bytes_at: { Self → List ℕ → Option (List ℕ) };
@@ -36,7 +37,8 @@ pub trait Inputs {
 
 /// Outputs by name. One counter of faults may serve several names, whose counts then rise together.
 pub trait Outputs {
-    type Snk: Sink + Send + Drop;
+    /// A sink has no `Drop` here: one that was created is given back by `done`.
+    type Snk: Sink + Send;
 
     // What stands under a name, where outputs are told; a name that was never created has nothing.
     ghost written: { Self → List ℕ → Option Written };

@@ -97,6 +97,28 @@ fn an_output_has_the_bytes_of_its_sink_once_it_is_done(rt: HostRuntime) -> Resul
     Ok(())
 }
 
+#[test]
+fn a_fault_counts_on_its_own_name(rt: HostRuntime) -> Result<(), Fail> {
+    let mut inputs = MemInputs::new(rt.alloc())?;
+    inputs.put("a.csv", b"x", 1, &[0])?;
+    inputs.put("b.csv", b"y", 1, &[])?;
+    let mut source = inputs.open("a.csv")?;
+    assert!(rt; source.read(&mut [0u8; 1]).is_err());
+    inputs.close("a.csv", source);
+    for (name, count) in [("a.csv", 1), ("b.csv", 0), ("c.csv", 0)] {
+        assert_eq!(rt; inputs.faults(name), count, "{name}");
+    }
+    let mut outputs = MemOutputs::new(rt.alloc())?;
+    let _created = outputs.create("o.csv")?;
+    let mut sink = MemSink::new(rt.alloc(), 1, &[0])?;
+    assert!(rt; sink.write(b"x").is_err());
+    outputs.done("o.csv", sink, false)?;
+    for (name, count) in [("o.csv", 1), ("p.csv", 0)] {
+        assert_eq!(rt; outputs.faults(name), count, "{name}");
+    }
+    Ok(())
+}
+
 fn write_out(outputs: &mut MemOutputs, piece: &[u8], whole: bool) -> Result<(), Fail>
     requires { 0 < length piece.now }
 {

@@ -4,7 +4,7 @@ ghost use Rattle.std.specs.Prelude.{◌≡◌, ◌<◌, ◌≤◌, ◌+◌, ◌�
 ghost use Rattle.std.specs.BTreeMap.{get_by_text};
 ghost use Rattle.outside.specs.Counts.{NoneFell, Rose, counted, more_counted};
 ghost use Rattle.outside.specs.Told.{GivesBytes};
-ghost use Rattle.outside.specs.Names.{AllStay, Changes, TakesFaults};
+ghost use Rattle.outside.specs.Names.{AllStay, Changes, OtherCountsStay, TakesFaults};
 ghost use Rattle.outside.specs.InMemory.{fresh_source};
 ghost use Rattle.outside.specs.Files.{file_at, bytes_of_input, faults_of_input, KeepsInputs, starved_inputs};
 
@@ -136,6 +136,7 @@ impl MemInputs {
         ensures here { faults_of_input self.new name.now ≡ more_counted more (faults_of_input self.old name.now) }
         ensures never_falls { NoneFell (faults_of_input self.old) (faults_of_input self.new) }
         ensures kept { KeepsInputs self.old self.new }
+        ensures others { OtherCountsStay name.now (file_at self.old) (faults_of_input self.old) (faults_of_input self.new) }
         ensures starved { starved_inputs self.new ≡ starved_inputs self.old }
     {
         if !by_name::add_faults(&mut self.files, name, more) {
@@ -163,6 +164,7 @@ impl Inputs for MemInputs {
         ensures fresh { IfOk result (λ src. src.plan.faults ≡ 0) }
         ensures ok { OnOk result (AllStay (faults_of_input self.old) (faults_of_input self.new)) }
         ensures kept { AllStay (bytes_of_input self.old) (bytes_of_input self.new) }
+        ensures others { OtherCountsStay name.now (file_at self.old) (faults_of_input self.old) (faults_of_input self.new) }
         ensures never_falls { NoneFell (faults_of_input self.old) (faults_of_input self.new) }
         ensures failed { OnErr result (Rose (faults_of_input self.old name.now) (faults_of_input self.new name.now)) }
     {
@@ -188,6 +190,7 @@ impl Inputs for MemInputs {
         ensures takes { TakesFaults src.plan.faults (faults_of_input self.old name.now) (faults_of_input self.new name.now) }
         ensures quiet { src.plan.faults ≡ 0 → AllStay (faults_of_input self.old) (faults_of_input self.new) }
         ensures kept { AllStay (bytes_of_input self.old) (bytes_of_input self.new) }
+        ensures others { OtherCountsStay name.now (file_at self.old) (faults_of_input self.old) (faults_of_input self.new) }
         ensures never_falls { NoneFell (faults_of_input self.old) (faults_of_input self.new) }
     {
         if src.faults() > 0 {

@@ -2,7 +2,7 @@
 
 ghost use Rattle.std.specs.Prelude.{◌≡◌, ◌<◌, ◌⊎◌, ℕ, Bool, true, List, [], Some, None, IfOk, IsErr, OnOk, OnErr, IsTrue, IsOk, IfSome, option_map};
 ghost use Rattle.outside.specs.Counts.{NoneFell, Rose, counted, last_count, more_counted};
-ghost use Rattle.outside.specs.Names.{AllStay, Changes, NowWritten, OthersStay, StartsEmpty, StaysCreated, TakesBytes, TakesFaults, fresh};
+ghost use Rattle.outside.specs.Names.{AllStay, Changes, NowWritten, OtherCountsStay, OthersStay, StartsEmpty, StaysCreated, TakesBytes, TakesFaults, fresh};
 ghost use Rattle.outside.specs.InMemory.{fresh_sink};
 ghost use Rattle.outside.specs.Entries.{with_bytes};
 ghost use Rattle.outside.specs.Outputs.{output_at, written_under, was_created, bytes_under, is_whole_under, faults_of_output, starved_outputs};
@@ -122,6 +122,7 @@ impl MemOutputs {
         ensures never_falls { NoneFell (faults_of_output self.old) (faults_of_output self.new) }
         ensures written { AllStay (written_under self.old) (written_under self.new) }
         ensures created { AllStay (was_created self.old) (was_created self.new) }
+        ensures others { OtherCountsStay name.now (output_at self.old) (faults_of_output self.old) (faults_of_output self.new) }
         ensures starved { starved_outputs self.new ≡ starved_outputs self.old }
     {
         if !by_name::add_faults(&mut self.entries, name, more) {
@@ -176,6 +177,7 @@ impl Outputs for MemOutputs {
         ensures fed { OnOk result (starved_outputs self.new ≡ starved_outputs self.old) }
         ensures sink { IfOk result (λ snk. snk ≡ fresh_sink last_count []) }
         ensures none { OnErr result (AllStay (was_created self.old) (was_created self.new)) }
+        ensures counts { OtherCountsStay name.now (output_at self.old) (faults_of_output self.old) (faults_of_output self.new) }
 
         ensures ok { OnOk result (NowWritten (written_under self.old name.now) (written_under self.new name.now) fresh) }
         ensures created { OnOk result (was_created self.new name.now ≡ true) }
@@ -203,6 +205,7 @@ impl Outputs for MemOutputs {
         ensures succeeds { IsOk result }
         ensures starved { starved_outputs self.new ≡ more_counted snk.starved (starved_outputs self.old) }
         ensures adds { 0 < snk.plan.faults → faults_of_output self.new name.now ≡ more_counted snk.plan.faults (faults_of_output self.old name.now) }
+        ensures counts { OtherCountsStay name.now (output_at self.old) (faults_of_output self.old) (faults_of_output self.new) }
 
         ensures bytes { TakesBytes (written_under self.old name.now) (written_under self.new name.now) (Some snk.bytes) whole result }
         ensures takes { TakesFaults snk.plan.faults (faults_of_output self.old name.now) (faults_of_output self.new name.now) }
