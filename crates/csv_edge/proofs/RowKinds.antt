@@ -1,5 +1,9 @@
 -- Rows have the kinds of the columns.
-use Rattle.std.proofs.Common.{◌≡◌, ◌+◌, refl, ℕ, ℤ, List, [], ◌∷◌, Option, Some, None, Result, Ok, Err, map, slice_index_or, option_map}
+use Rattle.std.proofs.Common.{◌≡◌, ◌+◌, refl, ℕ, ℤ, List, [], ◌∷◌, Option, Some, None, Result, Ok, Err, map, slice_get, slice_index_or, option_map, suc, arith}
+use Rattle.std.specs.Prelude.{◌≢◌}
+use Rattle.csv_edge.specs.declared.refusal.InputErr.{InputErr}
+use Rattle.csv_edge.specs.declared.refusal.InputErr.TheVariants as why
+use Rattle.csv_edge.specs.Rows.{HasNoSums, IsOfRecord, NamesInt}
 use Rattle.csv_edge.specs.Ints.{int_of}
 use Rattle.csv_edge.specs.Typed.{only_place, placed_then, places_of, row_from, value_of, value_then}
 use Rattle.csv_edge.specs.declared.header.Placed.{Placed}
@@ -50,3 +54,46 @@ pub placed_kinds : (header : List (List ℕ)) (columns : List Column) (placed : 
 placed_kinds header [] placed e = let same : placed ≡ [] = cc e in rw same refl
 placed_kinds header (column ∷ rest) placed e =
     more-placed column.kind (map (λ (c : Column). c.kind) rest) (only_place header column.name) (places_of header rest) placed (λ found is. placed_kinds header rest found is) e
+
+-- the first column that has no value is an int
+names-next : (number : ℕ) (k : Kind) (kinds : List Kind) (one-value : Option Value) (others : Result (List Value) ℕ) (column : ℕ)
+    → (one-value ≡ None → k ≡ kind.Int) → ((later : ℕ) → others ≡ Err later → (i : ℕ) × (later ≡ number + 1 + i) × (slice_get kinds i ≡ Some kind.Int))
+    → value_then number one-value others ≡ Err column → (i : ℕ) × (column ≡ number + i) × (slice_get (k ∷ kinds) i ≡ Some kind.Int)
+names-next number k kinds None others column one more e =
+    let same : number ≡ column = cc e in
+    let int : k ≡ kind.Int = one refl in
+    (0, omega (arith, same), rw int refl)
+names-next number k kinds (Some found) (Ok rest) column one more e = cc e
+names-next number k kinds (Some found) (Err later) column one more e =
+    let same : later ≡ column = cc e in
+    let below = more later refl in
+    let at = below.1 in
+    (suc below.0, omega (arith, same, at), below.2)
+
+no-value : (k : Kind) (field : List ℕ) → k ≢ kind.Wide → value_of k field ≡ None → k ≡ kind.Int
+no-value kind.Int field plain e = refl
+no-value kind.Text field plain e = cc e
+no-value kind.Wide field plain e = absurd (plain refl)
+
+names_int : (number : ℕ) (columns : List Placed) (fields : List (List ℕ)) (column : ℕ) → row_from number columns fields ≡ Err column
+    → HasNoSums (map (λ (c : Placed). c.kind) columns) → (i : ℕ) × (column ≡ number + i) × (slice_get (map (λ (c : Placed). c.kind) columns) i ≡ Some kind.Int)
+names_int number [] fields column e plain = cc e
+names_int number (first ∷ rest) fields column e plain =
+    names-next number first.kind (map (λ (c : Placed). c.kind) rest) (value_of first.kind (slice_index_or fields first.place [])) (row_from (number + 1) rest fields) column
+    (no-value first.kind (slice_index_or fields first.place []) plain.0) (λ later is. names_int (number + 1) rest fields later is plain.1) e
+
+-- the column is counted from the first one
+pub int_named : (columns : List Placed) (fields : List (List ℕ)) (column : ℕ) → row_from 0 columns fields ≡ Err column
+    → HasNoSums (map (λ (c : Placed). c.kind) columns) → slice_get (map (λ (c : Placed). c.kind) columns) column ≡ Some kind.Int
+int_named columns fields column e plain =
+    let found = names_int 0 columns fields column e plain in
+    let same : column ≡ found.0 = omega (arith, found.1) in
+    rw same found.2
+
+pub names_no_field : (e : InputErr) (kinds : List Kind) → (IsOfRecord e → ⊥) → NamesInt e kinds
+names_no_field why.Fault kinds other = tt
+names_no_field why.TooLarge kinds other = tt
+names_no_field why.Header kinds other = tt
+names_no_field (why.Csv number) kinds other = tt
+names_no_field (why.Field number column) kinds other = absurd (other tt)
+names_no_field why.Memory kinds other = tt

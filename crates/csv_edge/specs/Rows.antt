@@ -1,7 +1,8 @@
 -- What the rows of a source will still give, and how that changes.
-use Rattle.std.specs.Prelude.{◌≡◌, ◌≤◌, ◌<◌, ◌+◌, ◌-◌, ℕ, List, [], Option, Some, None, IsSome, IfSome, map, option_map, length, Box, ⊤}
+use Rattle.std.specs.Prelude.{◌≡◌, ◌≢◌, ◌≤◌, ◌<◌, ◌+◌, ◌-◌, ℕ, List, [], ◌∷◌, Option, Some, None, IsSome, IfSome, map, option_map, length, slice_get, Box, ⊤}
 use Rattle.std.specs.declared.alloc.Global.{Global}
 use Rattle.row_codec.specs.declared.values.Kind.{Kind}
+use Rattle.row_codec.specs.declared.values.Kind.TheVariants as kind
 use Rattle.row_codec.specs.declared.values.Value.{Value}
 use Rattle.row_codec.specs.Row.{kinds_of}
 use Rattle.csv_edge.specs.declared.refusal.InputErr.{InputErr}
@@ -82,6 +83,20 @@ IsOfRecord why.Header = ⊤
 IsOfRecord (why.Csv number) = ⊤
 IsOfRecord (why.Field number column) = ⊤
 IsOfRecord why.Memory = ⊥
+
+-- no column of sums is among these
+abbrev pub HasNoSums : List Kind → Type 0
+HasNoSums [] = ⊤
+HasNoSums (k ∷ kinds) = (k ≢ kind.Wide) × HasNoSums kinds
+
+-- the column whose field spells no value is one of ints, where no column of sums is declared
+abbrev pub NamesInt : InputErr → List Kind → Type 0
+NamesInt (why.Field number column) kinds = HasNoSums kinds → slice_get kinds column ≡ Some kind.Int
+NamesInt why.Fault kinds = ⊤
+NamesInt why.TooLarge kinds = ⊤
+NamesInt why.Header kinds = ⊤
+NamesInt (why.Csv number) kinds = ⊤
+NamesInt why.Memory kinds = ⊤
 
 -- nothing more will come
 pub record HasEnded {S : Type 0} (told : S → Option (List ℕ)) (rows : Rows S) : Type 0 where

@@ -5,7 +5,7 @@ ghost use Rattle.std.specs.Io.KnownBytes.{IsAtEnd};
 ghost use Rattle.outside.specs.Counts.{Rose};
 ghost use Rattle.row_codec.specs.Row.{kinds_of};
 ghost use Rattle.csv_edge.specs.Inside.{typed_told};
-ghost use Rattle.csv_edge.specs.Rows.{Becomes, CountsBytes, FitsLimit, IsOfRecord, PassesLimit};
+ghost use Rattle.csv_edge.specs.Rows.{Becomes, CountsBytes, FitsLimit, IsOfRecord, NamesInt, PassesLimit};
 ghost use Rattle.csv_edge.specs.Typed.{nothing_more, refused_here, row_then, typed_rows};
 
 use crate::header::{Placed, places};
@@ -57,6 +57,7 @@ impl Open {
 
         // Why it failed.
         ensures refused { IfErr result (λ e. IsOfRecord e → IfSome (S.remaining src.old) (λ bytes. typed_rows columns.now max_records bytes ≡ refused_here e)) }
+        ensures field { IfErr result (λ e. NamesInt e (map (λ column. column.kind) columns.now)) }
         ensures large { IsErrOf result InputErr.TooLarge → IfSome (S.remaining src.old) (λ bytes. (typed_rows columns.now max_records bytes ≡ refused_here InputErr.TooLarge) ⊎ (max_bytes < length bytes)) }
         ensures fault { IsErrOf result InputErr.Fault → Rose (S.faults src.old) (S.faults src.new) }
         ensures never_falls { S.faults src.old ≤ S.faults src.new }
@@ -100,6 +101,7 @@ impl Open {
 
         // Why it failed.
         ensures refused { IfErr result (λ e. IsOfRecord e → Becomes (λ t. t) (typed_told self.old (S.remaining src.old)) (Some (refused_here e))) }
+        ensures field { IfErr result (λ e. NamesInt e (map (λ column. column.kind) self.old.columns)) }
         ensures large { IsErrOf result InputErr.TooLarge → Becomes (λ t. t) (typed_told self.old (S.remaining src.old)) (Some (refused_here InputErr.TooLarge)) ⊎ PassesLimit self.old.feed.taken.allowed (S.remaining src.old) }
         ensures fault { IsErrOf result InputErr.Fault → Rose (S.faults src.old) (S.faults src.new) }
         ensures never_falls { S.faults src.old ≤ S.faults src.new }

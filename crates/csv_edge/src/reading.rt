@@ -4,7 +4,7 @@ ghost use Rattle.std.specs.Prelude.{◌≡◌, ◌≤◌, ◌+◌, ◌⊎◌, �
 ghost use Rattle.std.specs.Io.KnownBytes.{IsAtEnd};
 ghost use Rattle.outside.specs.Counts.{Rose};
 ghost use Rattle.csv_edge.specs.Typed.{nothing_more, refused_here, row_then, typed_rows};
-ghost use Rattle.csv_edge.specs.Rows.{Becomes, CountsBytes, FitsLimit, GoesOn, HasEnded, IsOfRecord, IsOpen, PassesLimit, bytes_allowed, kinds_in, records_allowed, rest_of};
+ghost use Rattle.csv_edge.specs.Rows.{Becomes, CountsBytes, FitsLimit, GoesOn, HasEnded, IsOfRecord, IsOpen, NamesInt, PassesLimit, bytes_allowed, kinds_in, records_allowed, rest_of};
 
 use crate::open::Open;
 use crate::refusal::InputErr;
@@ -61,6 +61,7 @@ impl<'a, S: Source> RowsOver<'a, S, Option<Box<Open>>> {
 
         // Why it failed.
         ensures refused { IfErr result (λ e. IsOfRecord e → IfSome (S.remaining self.old.src.now) (λ bytes. typed_rows columns.now max_records bytes ≡ refused_here e)) }
+        ensures field { IfErr result (λ e. NamesInt e (map (λ column. column.kind) columns.now)) }
         ensures large { IsErrOf result InputErr.TooLarge → IfSome (S.remaining self.old.src.now) (λ bytes. (typed_rows columns.now max_records bytes ≡ refused_here InputErr.TooLarge) ⊎ (max_bytes < length bytes)) }
         ensures fault { IsErrOf result InputErr.Fault → Rose (S.faults self.old.src.now) (S.faults self.new.src.now) }
         ensures never_falls { S.faults self.old.src.now ≤ S.faults self.new.src.now }
@@ -85,6 +86,7 @@ impl<'a, S: Source> RowsOver<'a, S, Option<Box<Open>>> {
 
         // Why it failed.
         ensures refused { IfErr result (λ e. IsOfRecord e → Becomes (λ t. t) (rest_of S.remaining self.old) (Some (refused_here e))) }
+        ensures field { IfErr result (λ e. NamesInt e (kinds_in self.old)) }
         ensures large { IsErrOf result InputErr.TooLarge → Becomes (λ t. t) (rest_of S.remaining self.old) (Some (refused_here InputErr.TooLarge)) ⊎ PassesLimit (bytes_allowed self.old) (S.remaining self.old.src.now) }
         ensures err { OnErr result (HasEnded S.remaining self.new) }
         ensures fault { IsErrOf result InputErr.Fault → Rose (S.faults self.old.src.now) (S.faults self.new.src.now) }

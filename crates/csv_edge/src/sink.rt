@@ -1,6 +1,6 @@
 // A piece that is written whole.
 
-ghost use Rattle.std.specs.Prelude.{◌≤◌, OnOk, OnErr};
+ghost use Rattle.std.specs.Prelude.{◌≡◌, ◌≤◌, OnOk, OnErr};
 ghost use Rattle.std.specs.Io.KnownBytes.{Appends};
 ghost use Rattle.outside.specs.Counts.{Rose};
 ghost use Rattle.csv_edge.specs.Written.{AppendsFront};
@@ -11,6 +11,7 @@ use outside::{Failed, Sink};
 pub fn write_whole<K: Sink>(sink: &mut K, piece: &[u8]) -> Result<(), Failed>
     ensures ok { OnOk result (Appends (K.contents sink.old) (K.contents sink.new) piece.now) }
     ensures err { OnErr result (AppendsFront (K.contents sink.old) (K.contents sink.new) piece.now) }
+    ensures quiet { OnOk result (K.faults sink.new ≡ K.faults sink.old) }
     ensures failed { OnErr result (Rose (K.faults sink.old) (K.faults sink.new)) }
     ensures never_falls { K.faults sink.old ≤ K.faults sink.new }
 {

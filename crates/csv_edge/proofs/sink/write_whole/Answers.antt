@@ -8,4 +8,4 @@ pub loop-at-preserved : goal.loop-at-preserved
 loop-at-preserved g c =
     let inv = c.loop-at.invariant in
     let bytes = rw take_rest at c.in_ok-at.ensures.bytes in
-    (omega (arith, c.in_ok-at.ensures.count), rw take-add (appends-more _ _ _ _ _ inv.1 bytes), omega arith)
+    (omega (arith, c.in_ok-at.ensures.count), rw take-add (appends-more _ _ _ _ _ inv.1 bytes), omega (arith, c.in_ok-at.ensures.quiet, inv.2))
