@@ -1,5 +1,5 @@
 -- The first key of a table that is not allowed is the least one, since the keys ascend.
-use Rattle.std.proofs.Common.{◌≡◌, ℕ, List, [], ◌∷◌, map, filter, fold, not, Bool, true, false, Option, Some, None, String, Global, Less, Greater, nat_cmp, string_bytes, cond, refl, ap, ◌∙◌}
+use Rattle.std.proofs.Common.{◌≡◌, ℕ, List, [], ◌∷◌, map, filter, fold, not, Bool, true, false, Some, None, String, Global, Less, Greater, nat_cmp, string_bytes, cond, refl, ap, ◌∙◌}
 use Rattle.std.proofs.lemmas.Cmp.{nat_list_cmp_total}
 use Rattle.std.specs.Cmp.Lexicographic.{slice_cmp}
 use Rattle.std.specs.Ordering.{ordering_reverse}
@@ -8,8 +8,7 @@ use Rattle.std.specs.List.{AllByRecursion}
 use Rattle.std.specs.List.Sorted.{IsStrictlySortedBy}
 use Rattle.std.specs.Map.{keys_of}
 use Rattle.toml.specs.declared.value.Value.{Value}
-use Rattle.toml.specs.Data.{Data}
-use Rattle.toml.specs.View.{view, members_view}
+use Rattle.toml.specs.View.{members_view}
 use Rattle.query_plan.specs.Values.{keys_in}
 use Rattle.query_plan.specs.Faults.{lesser, least_key}
 

@@ -1,5 +1,5 @@
 -- What the tables of a document say, once nothing is wrong with their keys.
-use Rattle.std.specs.Prelude.{codes, ℕ, List, [], ◌∷◌, Option, option_map, unwrap_or}
+use Rattle.std.specs.Prelude.{codes, ℕ, List, [], ◌∷◌, option_map, unwrap_or}
 use Rattle.toml.specs.Data.{Data, Members, no_members, get_member}
 use Rattle.row_codec.specs.declared.values.Kind.TheVariants as kind
 use Rattle.row_codec.specs.declared.values.Column.{Column}

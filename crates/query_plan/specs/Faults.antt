@@ -1,7 +1,7 @@
 -- What is wrong with a value of a document: the first fault in the order of reading, or nothing.
 -- A check judges a value that stands at a path. A path is keys with dots between them, where the
 -- members of a list are numbered from 1; the document itself stands at the empty path.
-use Rattle.std.specs.Prelude.{ℕ, ◌+◌, Bool, not, ◌&&◌, ◌==◌, nat_le, List, [], ◌∷◌, ◌++◌, length, filter, fold, if◌then◌else◌, Option, Some, None, is_some, option_map, bytes_eq}
+use Rattle.std.specs.Prelude.{ℕ, ◌+◌, Bool, not, ◌&&◌, ◌==◌, nat_le, List, [], ◌∷◌, ◌++◌, length, filter, fold, if◌then◌else◌, Option, Some, None, option_map, bytes_eq}
 use Rattle.std.specs.Option.{option_or}
 use Rattle.std.specs.List.{list_any}
 use Rattle.std.specs.Ordering.{nat_cmp, is_lt}

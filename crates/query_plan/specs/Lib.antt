@@ -6,6 +6,7 @@ pub mod Names
 pub mod PlanOf
 pub mod Presences
 pub mod Resolved
+pub mod Rules
 pub mod Sizes
 pub mod Told
 pub mod Values

@@ -1,5 +1,5 @@
 -- The plan of a document, or its first fault.
-use Rattle.std.specs.Prelude.{codes, ℕ, Bool, false, ◌||◌, List, [], sum_by, take, length, nat_le, if◌then◌else◌, Option, Some, None, option_and_then, Result, Ok, Err, bytes_eq}
+use Rattle.std.specs.Prelude.{codes, ℕ, Bool, false, ◌||◌, List, [], sum_by, take, length, nat_le, if◌then◌else◌, Option, Some, None, Result, Ok, Err, bytes_eq}
 use Rattle.std.specs.Option.{option_or}
 use Rattle.std.specs.List.{list_any}
 use Rattle.std.specs.Str.{is_utf8}

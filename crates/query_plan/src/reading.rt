@@ -8,6 +8,7 @@ ghost use Rattle.query_plan.specs.Values.{table_of};
 ghost use Rattle.query_plan.specs.Faults.{table_fault};
 ghost use Rattle.query_plan.specs.Keys.{query, top_rows};
 ghost use Rattle.query_plan.specs.PlanOf.{plan_in, plan_of, document_of};
+ghost use Rattle.query_plan.specs.Rules.{KeepsRules};
 ghost use Rattle.query_plan.specs.Told.{Tells, Clears};
 
 use crate::error::PlanErr;
@@ -39,6 +40,7 @@ const MOST_BYTES: usize = 1048576;
 pub fn read_plan(alloc: Global, bytes: &[u8], slots: u32) -> Result<Plan, PlanErr>
     ensures plan { IfOk result (λ plan. plan_of bytes.now slots ≡ Ok plan) }
     ensures cause { IfErr result (λ told. told ≢ PlanErr.Memory → plan_of bytes.now slots ≡ Err told) }
+    ensures rules { IfOk result (KeepsRules slots) }
 {
     if bytes.len() > MOST_BYTES {
         let key = Bytes::of(alloc, b"plan")?;

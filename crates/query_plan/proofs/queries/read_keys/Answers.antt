@@ -1,4 +1,4 @@
-use Rattle.std.proofs.Common.{◌≡◌, ◌≢◌, None, Some, refl, rules}
+use Rattle.std.proofs.Common.{◌≡◌, ◌≢◌, Some, refl, rules}
 use Rattle.toml.specs.View.{table_view}
 use Rattle.query_plan.specs.declared.error.PlanErr.TheVariants.{Memory}
 use Rattle.query_plan.specs.Drafts.{query_in}

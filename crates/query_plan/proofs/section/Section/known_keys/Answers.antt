@@ -1,7 +1,6 @@
 use Rattle.std.proofs.Common.{◌≡◌, ◌∙◌, sym, refl, true, false}
 use Rattle.toml.specs.View.{table_view}
-use Rattle.query_plan.specs.declared.error.PlanErr.TheVariants.{UnknownKey}
-use Rattle.query_plan.specs.Faults.{unknown_fault, is_allowed, key_in}
+use Rattle.query_plan.specs.Faults.{unknown_fault, is_allowed}
 use Rattle.query_plan.specs.Keys.{rows_of}
 use Rattle.query_plan.proofs.LeastKey.{first_is_least, seen_more, none_left, all_left}
 use Rattle.query_plan.proofs.section.Section.known_keys.Goals as goal

@@ -1,6 +1,3 @@
-use Rattle.std.proofs.Common.{◌≡◌, map, filter, not, string_bytes}
-use Rattle.std.specs.String.{string_cmp}
-use Rattle.std.specs.List.Sorted.{IsStrictlySortedBy}
 use Rattle.toml.specs.View.{table_view}
 use Rattle.query_plan.specs.Faults.{is_allowed}
 use Rattle.query_plan.specs.Keys.{rows_of}
