@@ -6,9 +6,9 @@ use Rattle.slab.specs.Slab.{Slab, get, slab_len, Updates, with_value, ContainsKe
 use Rattle.slab.proofs.SlabLemmas.{Updates-with_value}
 use Rattle.store_api.specs.Holdings.{Account, put, or_else, no_account}
 use Rattle.store_api.specs.declared.mem_store.account.MemAccount.{MemAccount}
-use Rattle.store_api.specs.MemAccounts.{total, weight_of, seen_account, clients_of, account_at, reserved}
+use Rattle.store_api.specs.MemAccounts.{slot_sum, weight_of, seen_account, clients_of, account_at, reserved}
 use Rattle.store_api.proofs.Puts.{puts}
-use Rattle.store_api.proofs.Totals.{total-updates, weight-at-most}
+use Rattle.store_api.proofs.Totals.{slot_sum-updates, weight-at-most}
 
 at_or_above : (q : ℕ) → leb 2 q ≡ true → (q - 2) + 2 ≡ q
 at_or_above q above = grind (arith, rules)
@@ -37,12 +37,12 @@ module _ (old new : Slab MemAccount) (key : ℕ) (slot : Option MemAccount) (u :
 
   -- and so did what the clients have reserved together
   pub reserved-updates : reserved new + weight_of (λ a. a.reservation) (get old key) ≡ reserved old + weight_of (λ a. a.reservation) slot
-  reserved-updates = total-updates (λ a. a.reservation) old new key slot u
+  reserved-updates = slot_sum-updates (λ a. a.reservation) old new key slot u
 
-count-total : {X : Type 0} (xs : List (Option X)) → count_by is_some xs ≡ total (λ x. 1) xs
-count-total [] = refl
-count-total (None ∷ rest) = omega (arith, count-total rest, sum_by-cons (λ o. cond (is_some o) 1 0) None rest)
-count-total (Some x ∷ rest) = omega (arith, count-total rest, sum_by-cons (λ o. cond (is_some o) 1 0) (Some x) rest)
+count-slot_sum : {X : Type 0} (xs : List (Option X)) → count_by is_some xs ≡ slot_sum (λ x. 1) xs
+count-slot_sum [] = refl
+count-slot_sum (None ∷ rest) = omega (arith, count-slot_sum rest, sum_by-cons (λ o. cond (is_some o) 1 0) None rest)
+count-slot_sum (Some x ∷ rest) = omega (arith, count-slot_sum rest, sum_by-cons (λ o. cond (is_some o) 1 0) (Some x) rest)
 
 one_if : {X : Type 0} (o : Option X) → IsSome o → weight_of (λ x. 1) o ≡ 1
 one_if (Some x) some = refl
@@ -51,10 +51,10 @@ one_if None some = absurd (cc)
 -- a write leaves as many values
 pub len-write : {X : Type 0} (s : Slab X) (key : ℕ) (value : X) → ContainsKey s key → slab_len (with_value s key value) ≡ slab_len s
 len-write s key value there =
-    let both = total-updates (λ x. 1) s (with_value s key value) key (Some value) (Updates-with_value s key value there) in
+    let both = slot_sum-updates (λ x. 1) s (with_value s key value) key (Some value) (Updates-with_value s key value there) in
     let was : weight_of (λ x. 1) (get s key) ≡ 1 = one_if (get s key) there in
-    let a = count-total s.slots in
-    let b = count-total (with_value s key value).slots in
+    let a = count-slot_sum s.slots in
+    let b = count-slot_sum (with_value s key value).slots in
     omega (arith, both, was, a, b)
 
 -- one client's account was written

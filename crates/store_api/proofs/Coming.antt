@@ -3,7 +3,7 @@ use Rattle.std.proofs.Common.{◌≡◌, ℕ, ◌+◌, List, get_or, Option, Non
 use Rattle.slab.specs.Slab.{Slab, get}
 use Rattle.store_api.specs.Holdings.{Account}
 use Rattle.store_api.specs.declared.mem_store.piece.Piece.{Piece}
-use Rattle.store_api.specs.MemAccounts.{total}
+use Rattle.store_api.specs.MemAccounts.{slot_sum}
 use Rattle.store_api.specs.MemPieces.{pages_of, page_in, loans_of, loan_in, charge_for, charge_in, Changed, IsKept}
 use Rattle.store_api.proofs.Pieces.{changed}
 use Rattle.store_api.proofs.Keeping.{at}
@@ -23,7 +23,7 @@ module _ (s r : Slab Piece) (e : r.slots ≡ s.slots) where
       record {
         sound = λ k piece is. kept.sound k piece (ap (λ (xs : List (Option Piece)). get_or xs k None) (sym e) ∙ is);
         balanced = λ t.
-            let same : charge_in block t r ≡ charge_in block t s = ap (total (charge_for block t)) e in
+            let same : charge_in block t r ≡ charge_in block t s = ap (slot_sum (charge_for block t)) e in
             let was : (at t clients).unused + charge_in block t s ≡ (at t clients).reservation = kept.balanced t in
             omega (arith, same, was);
       }

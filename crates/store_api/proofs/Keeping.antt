@@ -1,10 +1,10 @@
 -- What keeps a store in memory: changes of accounts, of pieces, and of both together.
-use Rattle.std.proofs.Common.{◌≡◌, ◌≢◌, ℕ, suc, ◌+◌, List, [], ◌∷◌, Option, Some, None, IsSome, refl, ap, sym, ◌∙◌, subst, inl, inr, arith, ne_eqb, get_or}
+use Rattle.std.proofs.Common.{◌≡◌, ◌≢◌, ℕ, ◌+◌, Option, Some, None, IsSome, refl, ap, sym, ◌∙◌, subst, inl, inr, arith}
 use Rattle.std.proofs.lemmas.Bool.{cases_eq}
 use Rattle.slab.specs.Slab.{Slab, get}
 use Rattle.store_api.specs.Holdings.{Account, put, or_else, no_account}
 use Rattle.store_api.specs.declared.mem_store.piece.Piece.{Piece}
-use Rattle.store_api.specs.MemAccounts.{total, weight_of}
+use Rattle.store_api.specs.MemAccounts.{weight_of}
 use Rattle.store_api.specs.MemPieces.{charge_for, charge_in, Changed, IsSound, IsKept}
 use Rattle.store_api.proofs.Puts.{put_here, put_there}
 
@@ -17,6 +17,10 @@ some_put t s a clients some =
       | inl same ↦ subst (λ (o : Option Account). IsSome o) (sym (ap (put t (Some a) clients) same ∙ put_here t (Some a) clients)) refl
       | inr apart ↦ subst (λ (o : Option Account). IsSome o) (sym (put_there t s (Some a) clients apart)) some
     ]
+
+-- a piece stays sound where its client stays live
+sound_still : (block key : ℕ) (clients now : ℕ → Option Account) (piece : Piece) → IsSound block clients key piece → IsSome (now piece.client) → IsSound block now key piece
+sound_still block key clients now piece old owned = record { short = old.short; owned = owned; blocks = old.blocks; counted = old.counted; whole = old.whole }
 
 module _ (block : ℕ) (clients : ℕ → Option Account) (pieces : Slab Piece) (kept : IsKept block clients pieces) where
   -- one account, where its charge stays
@@ -38,7 +42,7 @@ module _ (block : ℕ) (clients : ℕ → Option Account) (pieces : Slab Piece) 
       let now : a.unused + charge_in block t pieces ≡ a.reservation = omega (arith, even, was) in
       record {
         sound = λ k piece is. let old = kept.sound k piece is in
-            record { short = old.short; owned = some_put t piece.client a clients old.owned; whole = old.whole };
+            sound_still block k clients (put t (Some a) clients) piece old (some_put t piece.client a clients old.owned);
         balanced = balanced_put t (Some a) now;
       }
 
@@ -47,7 +51,7 @@ module _ (block : ℕ) (clients : ℕ → Option Account) (pieces : Slab Piece) 
   kept_ended t idle none =
       record {
         sound = λ k piece is. let old = kept.sound k piece is in
-            record { short = old.short; owned = subst (λ (o : Option Account). IsSome o) (sym (put_there t piece.client None clients (idle k piece is))) old.owned; whole = old.whole };
+            sound_still block k clients (put t None clients) piece old (subst (λ (o : Option Account). IsSome o) (sym (put_there t piece.client None clients (idle k piece is))) old.owned);
         balanced = balanced_put t None (omega (arith, none));
       }
 
@@ -61,7 +65,7 @@ module _ (block : ℕ) (clients : ℕ → Option Account) (pieces : Slab Piece) 
               subst (λ (n : ℕ). IsSound block now n piece) (sym same) (fits piece here)
           | inr apart ↦
               let old = kept.sound k piece (sym (changed.slots.others k apart) ∙ is) in
-              record { short = old.short; owned = stay piece.client old.owned; whole = old.whole }
+              sound_still block k clients now piece old (stay piece.client old.owned)
         ];
         balanced = λ s.
             let was : (at s clients).unused + charge_in block s pieces ≡ (at s clients).reservation = kept.balanced s in
@@ -69,15 +73,3 @@ module _ (block : ℕ) (clients : ℕ → Option Account) (pieces : Slab Piece) 
             let turn = turns s in
             omega (arith, was, moved, turn);
       }
-
--- a client without pieces is charged nothing
-weightless : (block t : ℕ) (piece : Piece) → piece.client ≢ t → charge_for block t piece ≡ 0
-weightless block t piece apart = rw (ne_eqb piece.client t apart) refl
-
-pub no_charge : (block t : ℕ) (slots : List (Option Piece)) → ((k : ℕ) (piece : Piece) → get_or slots k None ≡ Some piece → piece.client ≢ t) → total (charge_for block t) slots ≡ 0
-no_charge block t [] idle = refl
-no_charge block t (None ∷ rest) idle = no_charge block t rest (λ k piece is. idle (suc k) piece is)
-no_charge block t (Some piece ∷ rest) idle =
-    let one = weightless block t piece (idle 0 piece refl) in
-    let others = no_charge block t rest (λ k other is. idle (suc k) other is) in
-    omega (arith, one, others)

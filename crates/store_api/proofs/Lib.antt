@@ -8,7 +8,6 @@ pub mod PieceOf
 pub mod Turns
 pub mod Coming
 pub mod PageTurns
-pub mod PageEnds
 pub mod LoanTurns
 pub mod Reserving
 pub mod Growing
@@ -17,6 +16,11 @@ pub mod Stopping
 pub mod Unfit
 pub mod Reserved
 pub mod Untouched
+pub mod Handed
 pub mod Telling
 pub mod Limits
 pub mod Slots
+pub mod Writing
+pub mod Pins
+pub mod Left
+pub mod Names

@@ -5,7 +5,7 @@ use Rattle.reservation_tree.specs.declared.errors.PoolErr.{PoolErr}
 use Rattle.reservation_tree.specs.declared.errors.PoolErr.TheVariants.{NoReservation}
 use Rattle.store_api.specs.Holdings.{Account, Above, Nothing, Room, Shared, Holdings, or_else, no_account, account_of}
 use Rattle.store_api.specs.Changes.{query_growth, raised, after_reserve}
-use Rattle.store_api.specs.Refusals.{unless_fits, refusal_above, room_of}
+use Rattle.store_api.specs.Refusals.{unless_fits, refusal_above, client_room}
 use Rattle.store_api.specs.HoldingLaws.{HasRoomFor, RefusesOverLimits}
 use Rattle.store_api.proofs.Puts.{put_here}
 
@@ -39,7 +39,7 @@ refuses_over_limits t bytes h client query =
     let above : Option PoolErr = refusal_above (query_growth bytes h) h.above in
     let others : Option PoolErr = unless_fits h.query (query_growth bytes h) (h.limit - h.reservation) above in (
       λ none.
-          let first : (bytes ≤ room_of t h) × (others ≡ None) = fits_none t bytes (room_of t h) others none in
+          let first : (bytes ≤ client_room t h) × (others ≡ None) = fits_none t bytes (client_room t h) others none in
           let second : (query_growth bytes h ≤ h.limit - h.reservation) × (above ≡ None) = fits_none h.query (query_growth bytes h) (h.limit - h.reservation) above first.1 in
           record {
             client = omega (arith, now, first.0, client);
@@ -47,6 +47,6 @@ refuses_over_limits t bytes h client query =
             above = above_fits (query_growth bytes h) h.above second.1;
           },
       λ fits.
-          none_fits t bytes (room_of t h) others (omega (arith, now, fits.client))
+          none_fits t bytes (client_room t h) others (omega (arith, now, fits.client))
           (none_fits h.query (query_growth bytes h) (h.limit - h.reservation) above (omega (arith, fits.query)) (fits_above (query_growth bytes h) h.above fits.above)),
     )

@@ -7,7 +7,7 @@ use Rattle.store_api.specs.declared.mem_store.piece.Piece.{Piece}
 use Rattle.store_api.specs.declared.mem_store.piece.Stand.{Stand}
 use Rattle.store_api.specs.declared.mem_store.piece.Stand.TheVariants.{Resting, Pinned, Lent}
 use Rattle.store_api.specs.MemAccounts.{weight_of}
-use Rattle.store_api.specs.MemPieces.{page_in, loans_of, loan_at, loan_in, loan_standing, page_standing, charge_for, charge_standing, Changed, IsSound, IsKept, piece_at}
+use Rattle.store_api.specs.MemPieces.{page_in, loans_of, loan_at, loan_in, loan_standing, page_standing, charge_for, charge_standing, Changed, IsSound, IsKept, no_piece, piece_at}
 use Rattle.store_api.proofs.Puts.{put_here, put_there}
 use Rattle.store_api.proofs.Keeping.{at, some_put, kept_changed}
 use Rattle.store_api.proofs.Turns.{charge_fits, weigh, kept_gone}
@@ -21,7 +21,7 @@ module _ (block : ℕ) (clients : ℕ → Option Account) (pieces : Slab Piece) 
   pub freed_keeps : (now : ℕ → Option Account) (new : Slab Piece) (key name t own len : ℕ) → key ≡ name → t ≡ own → IsSome (loans_of pieces name) → (loan_at name pieces).client ≡ own → len ≡ (piece_at key pieces).blocks * block → Changed pieces new key None → now ≡ put t (Some (record (at t clients) { unused = (at t clients).unused + len })) clients → IsKept block now new
   freed_keeps now new key name t own len e te some client length changed is =
       let p = loan_piece (get pieces key) (loan_by_key key name e some) in
-      let found : piece_at key pieces ≡ p.piece = ap (or_else (record { client = 0; blocks = 0; stand = Pinned })) p.there in
+      let found : piece_at key pieces ≡ p.piece = ap (or_else no_piece) p.there in
       let long : len ≡ p.piece.blocks * block = length ∙ ap (λ (q : Piece). q.blocks * block) found in
       let same_loan : loan_at key pieces ≡ loan_at name pieces = ap (λ (k : ℕ). loan_at k pieces) e in
       let owner : t ≡ p.piece.client = te ∙ sym client ∙ ap (λ (q : LiveLoan). q.client) (sym same_loan) ∙ p.client in
@@ -31,7 +31,7 @@ module _ (block : ℕ) (clients : ℕ → Option Account) (pieces : Slab Piece) 
   pub freed_fits : (key name t own len : ℕ) → key ≡ name → t ≡ own → IsSome (loans_of pieces name) → (loan_at name pieces).client ≡ own → len ≡ (piece_at key pieces).blocks * block → (at t clients).unused + len ≤ (at t clients).reservation
   freed_fits key name t own len e te some client length =
       let p = loan_piece (get pieces key) (loan_by_key key name e some) in
-      let found : piece_at key pieces ≡ p.piece = ap (or_else (record { client = 0; blocks = 0; stand = Pinned })) p.there in
+      let found : piece_at key pieces ≡ p.piece = ap (or_else no_piece) p.there in
       let long : len ≡ p.piece.blocks * block = length ∙ ap (λ (q : Piece). q.blocks * block) found in
       let same_loan : loan_at key pieces ≡ loan_at name pieces = ap (λ (k : ℕ). loan_at k pieces) e in
       let owner : t ≡ p.piece.client = te ∙ sym client ∙ ap (λ (q : LiveLoan). q.client) (sym same_loan) ∙ p.client in
@@ -44,7 +44,7 @@ module _ (block : ℕ) (clients : ℕ → Option Account) (pieces : Slab Piece) 
   pub hand_keeps : (now : ℕ → Option Account) (new : Slab Piece) (key name from own to len : ℕ) → key ≡ name → from ≡ own → IsSome (loans_of pieces name) → (loan_at name pieces).client ≡ own → from ≢ to → len ≡ (piece_at key pieces).blocks * block → len ≤ (at to clients).unused → IsSome (clients to) → Changed pieces new key (Some (record (piece_at key pieces) { client = to })) → now ≡ put to (Some (record (at to clients) { unused = (at to clients).unused - len })) (put from (Some (record (at from clients) { unused = (at from clients).unused + len })) clients) → IsKept block now new
   hand_keeps now new key name from own to len e te some client apart length fits some_to ch is =
       let p = loan_piece (get pieces key) (loan_by_key key name e some) in
-      let found : piece_at key pieces ≡ p.piece = ap (or_else (record { client = 0; blocks = 0; stand = Pinned })) p.there in
+      let found : piece_at key pieces ≡ p.piece = ap (or_else no_piece) p.there in
       let long : len ≡ p.piece.blocks * block = length ∙ ap (λ (q : Piece). q.blocks * block) found in
       let same_loan : loan_at key pieces ≡ loan_at name pieces = ap (λ (k : ℕ). loan_at k pieces) e in
       let owner : from ≡ p.piece.client = te ∙ sym client ∙ ap (λ (q : LiveLoan). q.client) (sym same_loan) ∙ p.client in
@@ -56,7 +56,7 @@ module _ (block : ℕ) (clients : ℕ → Option Account) (pieces : Slab Piece) 
       let middle : ℕ → Option Account = put from (Some a_from) clients in
       let last : ℕ → Option Account = put to (Some a_to) middle in
       let old = kept.sound key p.piece p.there in
-      let sound : IsSound block last key piece = record { short = old.short; owned = some_put to to a_to middle (some_put from to a_from clients some_to); whole = old.whole } in
+      let sound : IsSound block last key piece = record { short = old.short; owned = some_put to to a_to middle (some_put from to a_from clients some_to); blocks = old.blocks; counted = old.counted; whole = old.whole } in
       let was : (s : ℕ) → weight_of (charge_for block s) (get pieces key) ≡ (if from == s then len else 0) = λ s. weigh block s (get pieces key) p.piece p.there from len owner charge in
       let comes : (s : ℕ) → weight_of (charge_for block s) (Some piece) ≡ (if to == s then len else 0) = λ s. weigh block s (Some piece) piece refl to len refl charge in
       let turns : (s : ℕ) → (at s last).unused + weight_of (charge_for block s) (Some piece) + (at s clients).reservation ≡ (at s clients).unused + weight_of (charge_for block s) (get pieces key) + (at s last).reservation = λ s.
@@ -96,22 +96,22 @@ module _ (block : ℕ) (clients : ℕ → Option Account) (pieces : Slab Piece) 
       (λ q same. subst (λ (x : Piece). IsSound block last key x) (ap (or_else piece) same) sound)
       turns)
 
-pub handed_slot : (o : Option Piece) (to : ℕ) → IsSome (loan_in o) → loan_in (Some (record (or_else (record { client = 0; blocks = 0; stand = Pinned }) o) { client = to })) ≡ Some (record (or_else no_loan (loan_in o)) { client = to })
+pub handed_slot : (o : Option Piece) (to : ℕ) → IsSome (loan_in o) → loan_in (Some (record (or_else no_piece o) { client = to })) ≡ Some (record (or_else no_loan (loan_in o)) { client = to })
 handed_slot None to some = absurd (cc)
 handed_slot (Some piece) to some = by_stand piece.client piece.blocks piece.stand some
   where
     by_stand : (client blocks : ℕ) (stand : Stand) → IsSome (loan_standing client blocks stand) → loan_standing to blocks stand ≡ Some (record (or_else no_loan (loan_standing client blocks stand)) { client = to })
     by_stand client blocks (Resting buf) some = absurd (cc)
-    by_stand client blocks Pinned some = absurd (cc)
+    by_stand client blocks (Pinned count) some = absurd (cc)
     by_stand client blocks Lent some = refl
 
-pub handed_page : (o : Option Piece) (to : ℕ) → IsSome (loan_in o) → page_in o ≡ page_in (Some (record (or_else (record { client = 0; blocks = 0; stand = Pinned }) o) { client = to }))
+pub handed_page : (o : Option Piece) (to : ℕ) → IsSome (loan_in o) → page_in o ≡ page_in (Some (record (or_else no_piece o) { client = to }))
 handed_page None to some = absurd (cc)
 handed_page (Some piece) to some = by_stand piece.client piece.blocks piece.stand some
   where
     by_stand : (client blocks : ℕ) (stand : Stand) → IsSome (loan_standing client blocks stand) → page_standing client blocks stand ≡ page_standing to blocks stand
     by_stand client blocks (Resting buf) some = absurd (cc)
-    by_stand client blocks Pinned some = absurd (cc)
+    by_stand client blocks (Pinned count) some = absurd (cc)
     by_stand client blocks Lent some = refl
 
 some_slot : (o : Option Piece) → IsSome (loan_in o) → IsSome o

@@ -1,93 +1,109 @@
--- A store in memory is kept where a page is pinned, rests, or becomes a loan.
-use Rattle.std.proofs.Common.{◌≡◌, ℕ, ◌+◌, ◌-◌, ◌*◌, ◌<◌, ◌≤◌, ◌^◌, Option, Some, IsSome, refl, ap, sym, ◌∙◌, subst, arith}
+-- A store in memory is kept where a page stands otherwise or ends, and its client's account turns with it.
+use Rattle.std.proofs.Common.{◌≡◌, ℕ, ◌+◌, ◌*◌, ◌<◌, ◌≤◌, ◌^◌, Option, Some, None, IsSome, ap, sym, ◌∙◌, subst, arith}
+use Rattle.std.proofs.Math.Nat.{one-le-mul, le-mul_of_pos_right}
 use Rattle.block_arena.specs.Memory.{Buffer, IsBufferOf}
 use Rattle.slab.specs.Slab.{Slab, get}
 use Rattle.store_api.specs.Holdings.{Account, LivePage, put, or_else}
 use Rattle.store_api.specs.declared.mem_store.piece.Piece.{Piece}
-use Rattle.store_api.specs.declared.mem_store.piece.Stand.TheVariants.{Resting, Pinned, Lent}
-use Rattle.store_api.specs.MemPieces.{pages_of, page_at, charge_standing, Changed, IsKept, piece_at}
+use Rattle.store_api.specs.declared.mem_store.piece.Stand.{Stand}
+use Rattle.store_api.specs.declared.mem_store.piece.Stand.TheVariants.{Resting, Pinned}
+use Rattle.store_api.specs.MemPieces.{no_piece, pages_of, page_at, charge_standing, Changed, IsKept, piece_at}
 use Rattle.store_api.proofs.Keeping.{at}
-use Rattle.store_api.proofs.Turns.{charge_fits, resting_same, kept_stand, kept_alike}
+use Rattle.store_api.proofs.Turns.{charge_fits, kept_stand, kept_gone}
 use Rattle.store_api.proofs.PieceOf.{page_piece}
 
+-- what a call knows of a page: its key by its name, its client, its length in bytes, and how often it is pinned
+pub record IsKnown (block : ℕ) (pieces : Slab Piece) (key name t own len count : ℕ) : Type 0 where
+  pub named : key ≡ name
+  pub owner : t ≡ own
+  pub lives : IsSome (pages_of pieces name)
+  pub client : (page_at name pieces).client ≡ own
+  pub long : len ≡ (piece_at key pieces).blocks * block
+  pub pins : (page_at name pieces).pins ≡ count
+
+-- the piece of that page
+record IsFound (block : ℕ) (pieces : Slab Piece) (key name t len count : ℕ) : Type 0 where
+  piece : Piece
+  there : get pieces key ≡ Some piece
+  owner : t ≡ piece.client
+  blocks : (page_at name pieces).blocks ≡ piece.blocks
+  long : len ≡ piece.blocks * block
+  charge : charge_standing (piece.blocks * block) piece.stand ≡ count * len
+
+found : (block : ℕ) (pieces : Slab Piece) (key name t own len count : ℕ) → IsKnown block pieces key name t own len count → IsFound block pieces key name t len count
+found block pieces key name t own len count known =
+    let p = page_piece (get pieces key) (subst (λ (k : ℕ). IsSome (pages_of pieces k)) (sym known.named) known.lives) in
+    let same : page_at key pieces ≡ page_at name pieces = ap (λ (k : ℕ). page_at k pieces) known.named in
+    let long : len ≡ p.piece.blocks * block = known.long ∙ ap (λ (o : Option Piece). (or_else no_piece o).blocks * block) p.there in
+    record {
+      piece = p.piece;
+      there = p.there;
+      owner = known.owner ∙ sym known.client ∙ ap (λ (q : LivePage). q.client) (sym same) ∙ p.client;
+      blocks = ap (λ (q : LivePage). q.blocks) (sym same) ∙ p.blocks;
+      long = long;
+      charge = p.charge (p.piece.blocks * block) ∙ ap (λ (n : ℕ). n * (p.piece.blocks * block)) (ap (λ (q : LivePage). q.pins) same ∙ known.pins) ∙ ap (λ (n : ℕ). count * n) (sym long);
+    }
+
 module _ (block : ℕ) (clients : ℕ → Option Account) (pieces : Slab Piece) (kept : IsKept block clients pieces) where
-  pub kept_pin : (now : ℕ → Option Account) (new : Slab Piece) (key : ℕ) → IsSome (pages_of pieces key) → (page_at key pieces).pins ≡ 0 → Changed pieces new key (Some (record (piece_at key pieces) { stand = Pinned })) → (t : ℕ) → (page_at key pieces).client ≡ t → (len : ℕ) → len ≡ (piece_at key pieces).blocks * block → len ≤ (at t clients).unused → now ≡ put t (Some (record (at t clients) { unused = (at t clients).unused - len })) clients → IsKept block now new
-  kept_pin now new key some rests changed t client len length fits is =
-      let p = page_piece (get pieces key) some in
-      let found : piece_at key pieces ≡ p.piece = ap (or_else (record { client = 0; blocks = 0; stand = Pinned })) p.there in
-      let long : len ≡ p.piece.blocks * block = length ∙ ap (λ (q : Piece). q.blocks * block) found in
-      let free : charge_standing (p.piece.blocks * block) p.piece.stand ≡ 0 = ap (charge_standing (p.piece.blocks * block)) (p.rests rests).1 in
-      kept_stand block clients pieces kept now new key p.piece p.there Pinned changed t (sym client ∙ p.client) (record (at t clients) { unused = (at t clients).unused - len }) is
-      (λ buf wrong. absurd (cc)) (omega (arith, long, free, fits))
+  module _ (key name t own len count : ℕ) (known : IsKnown block pieces key name t own len count) where
+    -- the page stands otherwise
+    pub restood : (now : ℕ → Option Account) (new : Slab Piece) (stand : Stand) (a : Account) → Changed pieces new key (Some (record (piece_at key pieces) { stand = stand })) → now ≡ put t (Some a) clients → ((buf : Buffer) → stand ≡ Resting buf → IsBufferOf (page_at name pieces).blocks block buf) → ((pins : ℕ) → stand ≡ Pinned pins → 1 ≤ pins) → a.unused + charge_standing len stand + (at t clients).reservation ≡ (at t clients).unused + count * len + a.reservation → IsKept block now new
+    restood now new stand a changed is whole counted even =
+        let f = found block pieces key name t own len count known in
+        let charge : charge_standing len stand ≡ charge_standing (f.piece.blocks * block) stand = ap (λ (n : ℕ). charge_standing n stand) f.long in
+        kept_stand block clients pieces kept now new key f.piece f.there stand changed t f.owner a is
+        (λ buf rests. subst (λ (n : ℕ). IsBufferOf n block buf) f.blocks (whole buf rests)) counted (omega (arith, even, charge, f.charge))
 
-  pub kept_rest : (now : ℕ → Option Account) (new : Slab Piece) (key : ℕ) (buf : Buffer) → IsSome (pages_of pieces key) → (page_at key pieces).pins ≡ 1 → IsBufferOf (page_at key pieces).blocks block buf → Changed pieces new key (Some (record (piece_at key pieces) { stand = Resting buf })) → (t : ℕ) → (page_at key pieces).client ≡ t → (len : ℕ) → len ≡ (piece_at key pieces).blocks * block → now ≡ put t (Some (record (at t clients) { unused = (at t clients).unused + len })) clients → IsKept block now new
-  kept_rest now new key buf some pinned fits changed t client len length is =
-      let p = page_piece (get pieces key) some in
-      let found : piece_at key pieces ≡ p.piece = ap (or_else (record { client = 0; blocks = 0; stand = Pinned })) p.there in
-      let long : len ≡ p.piece.blocks * block = length ∙ ap (λ (q : Piece). q.blocks * block) found in
-      let paid : charge_standing (p.piece.blocks * block) p.piece.stand ≡ p.piece.blocks * block = ap (charge_standing (p.piece.blocks * block)) (p.pinned (omega (arith, pinned))) in
-      let own : IsBufferOf p.piece.blocks block buf = subst (λ (n : ℕ). IsBufferOf n block buf) p.blocks fits in
-      kept_stand block clients pieces kept now new key p.piece p.there (Resting buf) changed t (sym client ∙ p.client) (record (at t clients) { unused = (at t clients).unused + len }) is
-      (λ other same. subst (λ (b : Buffer). IsBufferOf p.piece.blocks block b) (resting_same buf other same) own) (omega (arith, long, paid))
+    -- the page ends, and each of its pins gives its charge back
+    pub ended : (now : ℕ → Option Account) (new : Slab Piece) → Changed pieces new key None → now ≡ put t (Some (record (at t clients) { unused = (at t clients).unused + count * len })) clients → IsKept block now new
+    ended now new changed is =
+        let f = found block pieces key name t own len count known in
+        kept_gone block clients pieces kept now new key f.piece f.there changed t f.owner (record (at t clients) { unused = (at t clients).unused + count * len }) is (omega (arith, f.charge))
 
-  -- what a pinned page is charged can be returned
-  pub room_to_rest : (key : ℕ) → IsSome (pages_of pieces key) → 1 ≤ (page_at key pieces).pins → (t : ℕ) → (page_at key pieces).client ≡ t → (len : ℕ) → len ≡ (piece_at key pieces).blocks * block → (at t clients).unused + len ≤ (at t clients).reservation
-  room_to_rest key some pinned t client len length =
-      let p = page_piece (get pieces key) some in
-      let found : piece_at key pieces ≡ p.piece = ap (or_else (record { client = 0; blocks = 0; stand = Pinned })) p.there in
-      let long : len ≡ p.piece.blocks * block = length ∙ ap (λ (q : Piece). q.blocks * block) found in
-      let paid : charge_standing (p.piece.blocks * block) p.piece.stand ≡ p.piece.blocks * block = ap (charge_standing (p.piece.blocks * block)) (p.pinned pinned) in
-      let fits : (at p.piece.client clients).unused + charge_standing (p.piece.blocks * block) p.piece.stand ≤ (at p.piece.client clients).reservation = charge_fits block clients pieces kept key p.piece p.there in
-      let own : p.piece.client ≡ t = sym p.client ∙ client in
-      let all : (at p.piece.client clients).unused + len ≤ (at p.piece.client clients).reservation = omega (arith, long, paid, fits) in
-      subst (λ (q : ℕ). (at q clients).unused + len ≤ (at q clients).reservation) own all
+    -- what the page is charged can be returned
+    pub charge_within : (at t clients).unused + count * len ≤ (at t clients).reservation
+    charge_within =
+        let f = found block pieces key name t own len count known in
+        let fits : (at f.piece.client clients).unused + charge_standing (f.piece.blocks * block) f.piece.stand ≤ (at f.piece.client clients).reservation = charge_fits block clients pieces kept key f.piece f.there in
+        subst (λ (q : ℕ). (at q clients).unused + count * len ≤ (at q clients).reservation) (sym f.owner) (omega (arith, fits, f.charge))
 
-  -- what the calls know of a page: by its name, and by its client's tracker
-  pub page_by_key : (key name : ℕ) → key ≡ name → IsSome (pages_of pieces name) → IsSome (pages_of pieces key)
-  page_by_key key name e some = subst (λ (k : ℕ). IsSome (pages_of pieces k)) (sym e) some
+    -- and so can one of several pins
+    pub pin_within : 1 ≤ count → (at t clients).unused + len ≤ (at t clients).reservation
+    pin_within some =
+        let most : len ≤ len * count = le-mul_of_pos_right len (omega (arith, some)) in
+        omega (arith, most, charge_within)
 
-  pub pin_keeps : (now : ℕ → Option Account) (new : Slab Piece) (key name t own len : ℕ) → key ≡ name → t ≡ own → IsSome (pages_of pieces name) → (page_at name pieces).pins ≡ 0 → (page_at name pieces).client ≡ own → (page_at name pieces).blocks * block ≤ (at own clients).unused → len ≡ (piece_at key pieces).blocks * block → Changed pieces new key (Some (record (piece_at key pieces) { stand = Pinned })) → now ≡ put t (Some (record (at t clients) { unused = (at t clients).unused - len })) clients → IsKept block now new
-  pin_keeps now new key name t own len e te some rests client fits length changed is =
-      let some_key = page_by_key key name e some in
-      let p = page_piece (get pieces key) some_key in
-      let found : piece_at key pieces ≡ p.piece = ap (or_else (record { client = 0; blocks = 0; stand = Pinned })) p.there in
-      let same_page : page_at key pieces ≡ page_at name pieces = ap (λ (k : ℕ). page_at k pieces) e in
-      let long : len ≡ (page_at name pieces).blocks * block = length ∙ ap (λ (q : Piece). q.blocks * block) found ∙ ap (λ (n : ℕ). n * block) (sym p.blocks ∙ ap (λ (q : LivePage). q.blocks) same_page) in
-      let fits_t : (page_at name pieces).blocks * block ≤ (at t clients).unused = subst (λ (q : ℕ). (page_at name pieces).blocks * block ≤ (at q clients).unused) (sym te) fits in
-      kept_pin now new key some_key (ap (λ (q : LivePage). q.pins) same_page ∙ rests) changed t (ap (λ (q : LivePage). q.client) same_page ∙ client ∙ sym te) len length (omega (arith, long, fits_t)) is
+    -- each pin is charged at least a byte, so a page has fewer pins than its client's reservation has bytes
+    pub one_more_within : 1 ≤ block → len ≤ (at t clients).unused → count + 1 ≤ (at t clients).reservation
+    one_more_within blocks fits =
+        let f = found block pieces key name t own len count known in
+        let some : 1 ≤ len = subst (λ (n : ℕ). 1 ≤ n) (sym f.long) (one-le-mul (kept.sound key f.piece f.there).blocks blocks) in
+        let most : count ≤ count * len = le-mul_of_pos_right count (omega (arith, some)) in
+        omega (arith, most, some, fits, charge_within)
 
-  pub rest_keeps : (now : ℕ → Option Account) (new : Slab Piece) (key name t own len : ℕ) (buf : Buffer) → key ≡ name → t ≡ own → IsSome (pages_of pieces name) → (page_at name pieces).pins ≡ 1 → (page_at name pieces).client ≡ own → IsBufferOf (page_at name pieces).blocks block buf → len ≡ (piece_at key pieces).blocks * block → Changed pieces new key (Some (record (piece_at key pieces) { stand = Resting buf })) → now ≡ put t (Some (record (at t clients) { unused = (at t clients).unused + len })) clients → IsKept block now new
-  rest_keeps now new key name t own len buf e te some pinned client fits length changed is =
-      let same_page : page_at name pieces ≡ page_at key pieces = ap (λ (k : ℕ). page_at k pieces) (sym e) in
-      let fits_key : IsBufferOf (page_at key pieces).blocks block buf = subst (λ (q : LivePage). IsBufferOf q.blocks block buf) same_page fits in
-      kept_rest now new key buf (page_by_key key name e some) (ap (λ (q : LivePage). q.pins) (sym same_page) ∙ pinned) fits_key changed t (ap (λ (q : LivePage). q.client) (sym same_page) ∙ client ∙ sym te) len length is
+    -- the page's client is live
+    pub page_owned : IsSome (clients t)
+    page_owned =
+        let f = found block pieces key name t own len count known in
+        subst (λ (q : ℕ). IsSome (clients q)) (sym f.owner) (kept.sound key f.piece f.there).owned
 
-  pub rest_fits : (key name t own len : ℕ) → key ≡ name → t ≡ own → IsSome (pages_of pieces name) → 1 ≤ (page_at name pieces).pins → (page_at name pieces).client ≡ own → len ≡ (piece_at key pieces).blocks * block → (at t clients).unused + len ≤ (at t clients).reservation
-  rest_fits key name t own len e te some pinned client length =
-      let same_page : page_at name pieces ≡ page_at key pieces = ap (λ (k : ℕ). page_at k pieces) (sym e) in
-      let pinned_key : 1 ≤ (page_at key pieces).pins = subst (λ (q : LivePage). 1 ≤ q.pins) same_page pinned in
-      room_to_rest key (page_by_key key name e some) pinned_key t (ap (λ (q : LivePage). q.client) (sym same_page) ∙ client ∙ sym te) len length
+    -- a page that rests shows a buffer of its length
+    pub rests_whole : (buf : Buffer) → (piece_at key pieces).stand ≡ Resting buf → IsBufferOf (page_at name pieces).blocks block buf
+    rests_whole buf rests =
+        let f = found block pieces key name t own len count known in
+        let stands : f.piece.stand ≡ Resting buf = ap (λ (o : Option Piece). (or_else no_piece o).stand) (sym f.there) ∙ rests in
+        subst (λ (n : ℕ). IsBufferOf n block buf) (sym f.blocks) ((kept.sound key f.piece f.there).whole buf stands)
 
-  -- a page that rests shows a buffer of its length
-  pub rests_whole : (key name : ℕ) (buf : Buffer) → key ≡ name → IsSome (pages_of pieces name) → (piece_at key pieces).stand ≡ Resting buf → IsBufferOf (page_at name pieces).blocks block buf
-  rests_whole key name buf e some rests =
-      let p = page_piece (get pieces key) (page_by_key key name e some) in
-      let found : p.piece ≡ piece_at key pieces = sym (ap (or_else (record { client = 0; blocks = 0; stand = Pinned })) p.there) in
-      let stands : p.piece.stand ≡ Resting buf = ap (λ (q : Piece). q.stand) found ∙ rests in
-      let whole : IsBufferOf p.piece.blocks block buf = (kept.sound key p.piece p.there).whole buf stands in
-      let same_page : page_at key pieces ≡ page_at name pieces = ap (λ (k : ℕ). page_at k pieces) e in
-      subst (λ (n : ℕ). IsBufferOf n block buf) (sym p.blocks ∙ ap (λ (q : LivePage). q.blocks) same_page) whole
-
-  -- a pinned page's buffer is lent: the charge stays
-  pub lend_keeps : (new : Slab Piece) (key name own : ℕ) → key ≡ name → IsSome (pages_of pieces name) → 1 ≤ (page_at name pieces).pins → Changed pieces new key (Some (record (piece_at key pieces) { stand = Lent })) → IsKept block clients new
-  lend_keeps new key name own e some pinned changed =
-      let p = page_piece (get pieces key) (page_by_key key name e some) in
-      let same_page : page_at name pieces ≡ page_at key pieces = ap (λ (k : ℕ). page_at k pieces) (sym e) in
-      let pinned_key : 1 ≤ (page_at key pieces).pins = subst (λ (q : LivePage). 1 ≤ q.pins) same_page pinned in
-      let paid : charge_standing (p.piece.blocks * block) p.piece.stand ≡ p.piece.blocks * block = ap (charge_standing (p.piece.blocks * block)) (p.pinned pinned_key) in
-      kept_stand block clients pieces kept clients new key p.piece p.there Lent changed p.piece.client refl (at p.piece.client clients) (kept_alike block clients pieces kept p.piece.client (kept.sound key p.piece p.there).owned) (λ buf wrong. absurd (cc)) (omega (arith, paid))
+  -- a page's piece is sound: its number is short, and it has a pin where it is pinned
+  page_at_key : (key : ℕ) → IsSome (pages_of pieces key) → (piece : Piece) × (get pieces key ≡ Some piece)
+  page_at_key key some = let p = page_piece (get pieces key) some in (p.piece, p.there)
 
   pub page_short : (key name : ℕ) → key ≡ name → IsSome (pages_of pieces name) → key < 2 ^ 32
   page_short key name e some =
-      let p = page_piece (get pieces key) (page_by_key key name e some) in
-      (kept.sound key p.piece p.there).short
+      let p = page_at_key key (subst (λ (k : ℕ). IsSome (pages_of pieces k)) (sym e) some) in
+      (kept.sound key p.0 p.1).short
+
+  pub page_counted : (key name : ℕ) → key ≡ name → IsSome (pages_of pieces name) → (count : ℕ) → (piece_at key pieces).stand ≡ Pinned count → 1 ≤ count
+  page_counted key name e some count pinned =
+      let p = page_at_key key (subst (λ (k : ℕ). IsSome (pages_of pieces k)) (sym e) some) in
+      (kept.sound key p.0 p.1).counted count (ap (λ (o : Option Piece). (or_else no_piece o).stand) (sym p.1) ∙ pinned)

@@ -1,11 +1,10 @@
 -- What is told of a page or a loan is told of its piece.
-use Rattle.std.proofs.Common.{◌≡◌, ℕ, ◌≤◌, Option, Some, None, IsSome, refl, arith}
-use Rattle.block_arena.specs.Memory.{Buffer}
+use Rattle.std.proofs.Common.{◌≡◌, ℕ, ◌*◌, Option, Some, None, IsSome, refl, sym, zero-mul}
 use Rattle.store_api.specs.Holdings.{LivePage, LiveLoan, or_else, no_page, no_loan}
 use Rattle.store_api.specs.declared.mem_store.piece.Piece.{Piece}
 use Rattle.store_api.specs.declared.mem_store.piece.Stand.{Stand}
 use Rattle.store_api.specs.declared.mem_store.piece.Stand.TheVariants.{Resting, Pinned, Lent}
-use Rattle.store_api.specs.MemPieces.{page_in, loan_in, loan_standing, page_standing}
+use Rattle.store_api.specs.MemPieces.{page_in, loan_in, loan_standing, page_standing, charge_standing}
 
 abbrev page_seen : ℕ → ℕ → Stand → LivePage
 page_seen client blocks stand = or_else no_page (page_standing client blocks stand)
@@ -13,27 +12,22 @@ page_seen client blocks stand = or_else no_page (page_standing client blocks sta
 module _ (client blocks : ℕ) where
   standing_client : (stand : Stand) → IsSome (page_standing client blocks stand) → (page_seen client blocks stand).client ≡ client
   standing_client (Resting buf) some = refl
-  standing_client Pinned some = refl
+  standing_client (Pinned count) some = refl
   standing_client Lent some = absurd (cc)
 
   standing_blocks : (stand : Stand) → IsSome (page_standing client blocks stand) → (page_seen client blocks stand).blocks ≡ blocks
   standing_blocks (Resting buf) some = refl
-  standing_blocks Pinned some = refl
+  standing_blocks (Pinned count) some = refl
   standing_blocks Lent some = absurd (cc)
 
-  standing_rests : (stand : Stand) → IsSome (page_standing client blocks stand) → (page_seen client blocks stand).pins ≡ 0 → (buf : Buffer) × (stand ≡ Resting buf)
-  standing_rests (Resting buf) some rests = (buf, refl)
-  standing_rests Pinned some rests = absurd (omega (arith, rests))
-  standing_rests Lent some rests = absurd (cc)
-
-  standing_pinned : (stand : Stand) → IsSome (page_standing client blocks stand) → 1 ≤ (page_seen client blocks stand).pins → stand ≡ Pinned
-  standing_pinned (Resting buf) some pinned = absurd (omega (arith, pinned))
-  standing_pinned Pinned some pinned = refl
-  standing_pinned Lent some pinned = absurd (cc)
+  standing_charge : (stand : Stand) → IsSome (page_standing client blocks stand) → (len : ℕ) → charge_standing len stand ≡ (page_seen client blocks stand).pins * len
+  standing_charge (Resting buf) some len = sym (zero-mul len)
+  standing_charge (Pinned count) some len = refl
+  standing_charge Lent some len = absurd (cc)
 
   pub standing_lent : (stand : Stand) → IsSome (loan_standing client blocks stand) → stand ≡ Lent
   standing_lent (Resting buf) some = absurd (cc)
-  standing_lent Pinned some = absurd (cc)
+  standing_lent (Pinned count) some = absurd (cc)
   standing_lent Lent some = refl
 
 -- what is told of a page is told of its piece
@@ -42,8 +36,7 @@ pub record IsPagePiece (o : Option Piece) (page : LivePage) : Type 0 where
   pub there : o ≡ Some piece
   pub client : page.client ≡ piece.client
   pub blocks : page.blocks ≡ piece.blocks
-  pub rests : page.pins ≡ 0 → (buf : Buffer) × (piece.stand ≡ Resting buf)
-  pub pinned : 1 ≤ page.pins → piece.stand ≡ Pinned
+  pub charge : (len : ℕ) → charge_standing len piece.stand ≡ page.pins * len
 
 pub page_piece : (o : Option Piece) → IsSome (page_in o) → IsPagePiece o (or_else no_page (page_in o))
 page_piece None some = absurd (cc)
@@ -53,8 +46,7 @@ page_piece (Some piece) some =
       there = refl;
       client = standing_client piece.client piece.blocks piece.stand some;
       blocks = standing_blocks piece.client piece.blocks piece.stand some;
-      rests = standing_rests piece.client piece.blocks piece.stand some;
-      pinned = standing_pinned piece.client piece.blocks piece.stand some;
+      charge = standing_charge piece.client piece.blocks piece.stand some;
     }
 
 -- what is told of a loan is told of its piece
@@ -67,12 +59,12 @@ pub record IsLoanPiece (o : Option Piece) (loan : LiveLoan) : Type 0 where
 
 lent_client : (client blocks : ℕ) (stand : Stand) → IsSome (loan_standing client blocks stand) → (or_else no_loan (loan_standing client blocks stand)).client ≡ client
 lent_client client blocks (Resting buf) some = absurd (cc)
-lent_client client blocks Pinned some = absurd (cc)
+lent_client client blocks (Pinned count) some = absurd (cc)
 lent_client client blocks Lent some = refl
 
 lent_blocks : (client blocks : ℕ) (stand : Stand) → IsSome (loan_standing client blocks stand) → (or_else no_loan (loan_standing client blocks stand)).blocks ≡ blocks
 lent_blocks client blocks (Resting buf) some = absurd (cc)
-lent_blocks client blocks Pinned some = absurd (cc)
+lent_blocks client blocks (Pinned count) some = absurd (cc)
 lent_blocks client blocks Lent some = refl
 
 pub loan_piece : (o : Option Piece) → IsSome (loan_in o) → IsLoanPiece o (or_else no_loan (loan_in o))

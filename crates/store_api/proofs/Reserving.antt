@@ -1,5 +1,5 @@
 -- A store in memory is kept where accounts grow, fall or come, and its pieces stay.
-use Rattle.std.proofs.Common.{◌≡◌, ◌≢◌, ℕ, ◌+◌, ◌≤◌, ◌==◌, if◌then◌else◌, Option, Some, None, IsSome, Result, Ok, Err, OnOk, OnErr, IfSome, IfNone, false, true, [], refl, ap, sym, ◌∙◌, subst, inl, inr, arith, ne_eqb, eq-eqb}
+use Rattle.std.proofs.Common.{◌≡◌, ◌≢◌, ℕ, ◌+◌, ◌≤◌, ◌==◌, if◌then◌else◌, Option, Some, None, IsSome, Result, Ok, Err, OnOk, OnErr, IfSome, IfNone, false, true, refl, ap, sym, ◌∙◌, subst, inl, inr, arith, ne_eqb, eq-eqb}
 use Rattle.std.proofs.lemmas.Bool.{cases_eq}
 use Rattle.slab.specs.Slab.{Slab, get}
 use Rattle.reservation_tree.specs.declared.errors.PoolErr.{PoolErr}
@@ -12,7 +12,8 @@ use Rattle.store_api.specs.declared.mem_store.accounts.Accounts.{Accounts}
 use Rattle.store_api.specs.MemAccounts.{clients_of, account_at}
 use Rattle.store_api.specs.MemPieces.{IsKept, pages_of, loans_of, page_in, loan_in, page_standing, loan_standing}
 use Rattle.store_api.proofs.Puts.{put_there}
-use Rattle.store_api.proofs.Keeping.{at, kept_account, kept_ended, no_charge}
+use Rattle.store_api.specs.MemLaws.{no_charge, idle_pieces}
+use Rattle.store_api.proofs.Keeping.{at, kept_account, kept_ended}
 
 -- a client's unused bytes are among its reservation
 abbrev pub Within : ℕ → (ℕ → Option Account) → Type 0
@@ -25,12 +26,12 @@ pub record IsIdleIn (pieces : Slab Piece) (t : ℕ) : Type 0 where
 
 standing_page : (client blocks : ℕ) (stand : Stand) (page : LivePage) → page_standing client blocks stand ≡ Some page → page.client ≡ client
 standing_page client blocks (Resting buf) page is = sym (ap (λ (o : Option LivePage). (or_else no_page o).client) is)
-standing_page client blocks Pinned page is = sym (ap (λ (o : Option LivePage). (or_else no_page o).client) is)
+standing_page client blocks (Pinned count) page is = sym (ap (λ (o : Option LivePage). (or_else no_page o).client) is)
 standing_page client blocks Lent page is = absurd (cc)
 
 standing_loan : (client blocks : ℕ) (stand : Stand) (loan : LiveLoan) → loan_standing client blocks stand ≡ Some loan → loan.client ≡ client
 standing_loan client blocks (Resting buf) loan is = absurd (cc)
-standing_loan client blocks Pinned loan is = absurd (cc)
+standing_loan client blocks (Pinned count) loan is = absurd (cc)
 standing_loan client blocks Lent loan is = sym (ap (λ (o : Option LiveLoan). (or_else no_loan o).client) is)
 
 -- a page that is seen is of a piece, and so is a loan
@@ -79,15 +80,6 @@ module _ (block : ℕ) (old new : Accounts) (pieces : Slab Piece) (kept : IsKept
             subst (λ (f : ℕ → Option Account). IsKept block f pieces) (sym is)
             (kept_account block middle pieces first to (raised bytes (account_at to old.clients)) (omega (arith, other_unused, other_reservation)))
       ]
-
--- a store without a page and a loan of a client has no piece of it
-idle_pieces : (pieces : Slab Piece) (t : ℕ) → ((q : ℕ) (page : LivePage) → pages_of pieces q ≡ Some page → page.client ≢ t) → ((q : ℕ) (loan : LiveLoan) → loans_of pieces q ≡ Some loan → loan.client ≢ t) → (k : ℕ) (piece : Piece) → get pieces k ≡ Some piece → piece.client ≢ t
-idle_pieces pieces t pages loans k piece is wrong = by_stand piece.stand refl
-  where
-    by_stand : (stand : Stand) → piece.stand ≡ stand → ⊥
-    by_stand (Resting buf) e = pages k (record { key = 0; client = piece.client; blocks = piece.blocks; pins = 0; left = buf.bytes; has_slots = false }) (ap page_in is ∙ ap (page_standing piece.client piece.blocks) e) wrong
-    by_stand Pinned e = pages k (record { key = 0; client = piece.client; blocks = piece.blocks; pins = 1; left = []; has_slots = false }) (ap page_in is ∙ ap (page_standing piece.client piece.blocks) e) wrong
-    by_stand Lent e = loans k (record { client = piece.client; blocks = piece.blocks }) (ap loan_in is ∙ ap (loan_standing piece.client piece.blocks) e) wrong
 
 module _ (block : ℕ) (clients : ℕ → Option Account) (pieces : Slab Piece) (kept : IsKept block clients pieces) where
   pub ended_keeps : (now : ℕ → Option Account) (t own : ℕ) → t ≡ own → IsIdleIn pieces own → now ≡ put t None clients → IsKept block now pieces

@@ -1,59 +1,72 @@
 -- What pages and loans are seen where a piece stands otherwise.
-use Rattle.std.proofs.Common.{◌≡◌, ℕ, ◌+◌, ◌-◌, false, Option, Some, None, IsSome, refl, ◌∙◌, subst, arith, ◌||◌, []}
+use Rattle.std.proofs.Common.{◌≡◌, ℕ, ◌+◌, ◌-◌, ◌≤◌, false, Option, Some, None, IsSome, refl, ◌∙◌, subst, arith, ◌||◌, []}
 use Rattle.block_arena.specs.Memory.{Buffer}
 use Rattle.slab.specs.Slab.{Slab}
 use Rattle.store_api.specs.Holdings.{LivePage, LiveLoan, put, or_else, no_page}
 use Rattle.store_api.specs.declared.mem_store.piece.Piece.{Piece}
 use Rattle.store_api.specs.declared.mem_store.piece.Stand.{Stand}
 use Rattle.store_api.specs.declared.mem_store.piece.Stand.TheVariants.{Resting, Pinned, Lent}
-use Rattle.store_api.specs.MemPieces.{pages_of, page_in, loans_of, loan_in, loan_standing, page_standing, Changed}
+use Rattle.store_api.specs.MemPieces.{no_piece, pages_of, page_in, loans_of, loan_in, loan_standing, page_standing, Changed}
 use Rattle.store_api.proofs.Puts.{put_same}
 
 abbrev page_seen : ℕ → ℕ → Stand → LivePage
 page_seen client blocks stand = or_else no_page (page_standing client blocks stand)
 
 module _ (client blocks : ℕ) where
-  pinned_page : (stand : Stand) → IsSome (page_standing client blocks stand) → (page_seen client blocks stand).pins ≡ 0 → page_standing client blocks Pinned ≡ Some (record (page_seen client blocks stand) { pins = (page_seen client blocks stand).pins + 1; left = [] })
-  pinned_page (Resting buf) some rests = refl
-  pinned_page Pinned some rests = absurd (omega (arith, rests))
-  pinned_page Lent some rests = absurd (cc)
+  pinned_page : (stand : Stand) → IsSome (page_standing client blocks stand) → ((count : ℕ) → stand ≡ Pinned count → 1 ≤ count) → (page_seen client blocks stand).pins ≡ 0 → page_standing client blocks (Pinned 1) ≡ Some (record (page_seen client blocks stand) { pins = (page_seen client blocks stand).pins + 1; left = [] })
+  pinned_page (Resting buf) some counted rests = refl
+  pinned_page (Pinned count) some counted rests = absurd (omega (arith, rests, counted count refl))
+  pinned_page Lent some counted rests = absurd (cc)
+
+  repinned_page : (again : ℕ) (stand : Stand) → IsSome (page_standing client blocks stand) → 1 ≤ (page_seen client blocks stand).pins → page_standing client blocks (Pinned again) ≡ Some (record (page_seen client blocks stand) { pins = again })
+  repinned_page again (Resting buf) some pinned = absurd (omega (arith, pinned))
+  repinned_page again (Pinned count) some pinned = refl
+  repinned_page again Lent some pinned = absurd (cc)
 
   rested_page : (buf : Buffer) (stand : Stand) → IsSome (page_standing client blocks stand) → (page_seen client blocks stand).pins ≡ 1 → page_standing client blocks (Resting buf) ≡ Some (record (page_seen client blocks stand) { pins = (page_seen client blocks stand).pins - 1; left = buf.bytes; has_slots = (page_seen client blocks stand).has_slots || false })
   rested_page buf (Resting old) some pinned = absurd (omega (arith, pinned))
-  rested_page buf Pinned some pinned = refl
+  rested_page buf (Pinned count) some pinned = rw pinned refl
   rested_page buf Lent some pinned = absurd (cc)
 
   page_is_no_loan : (stand : Stand) → IsSome (page_standing client blocks stand) → loan_standing client blocks stand ≡ None
   page_is_no_loan (Resting old) some = refl
-  page_is_no_loan Pinned some = refl
+  page_is_no_loan (Pinned count) some = refl
   page_is_no_loan Lent some = absurd (cc)
 
   loan_is_no_page : (stand : Stand) → IsSome (loan_standing client blocks stand) → page_standing client blocks stand ≡ None
   loan_is_no_page (Resting old) some = absurd (cc)
-  loan_is_no_page Pinned some = absurd (cc)
+  loan_is_no_page (Pinned count) some = absurd (cc)
   loan_is_no_page Lent some = refl
 
-pub page_there : (o : Option Piece) → IsSome (page_in o) → o ≡ Some (or_else (record { client = 0; blocks = 0; stand = Pinned }) o)
+pub page_there : (o : Option Piece) → IsSome (page_in o) → o ≡ Some (or_else no_piece o)
 page_there None some = absurd (cc)
 page_there (Some piece) some = refl
 
-pub loan_there : (o : Option Piece) → IsSome (loan_in o) → o ≡ Some (or_else (record { client = 0; blocks = 0; stand = Pinned }) o)
+pub loan_there : (o : Option Piece) → IsSome (loan_in o) → o ≡ Some (or_else no_piece o)
 loan_there None some = absurd (cc)
 loan_there (Some piece) some = refl
 
 module _ (o : Option Piece) where
   -- a page that rests is pinned
-  pub pinned_slot : IsSome (page_in o) → (or_else no_page (page_in o)).pins ≡ 0 → page_in (Some (record (or_else (record { client = 0; blocks = 0; stand = Pinned }) o) { stand = Pinned })) ≡ Some (record (or_else no_page (page_in o)) { pins = (or_else no_page (page_in o)).pins + 1; left = [] })
-  pinned_slot some rests = by_slot o some rests
+  pub pinned_slot : IsSome (page_in o) → ((count : ℕ) → (or_else no_piece o).stand ≡ Pinned count → 1 ≤ count) → (or_else no_page (page_in o)).pins ≡ 0 → page_in (Some (record (or_else no_piece o) { stand = Pinned 1 })) ≡ Some (record (or_else no_page (page_in o)) { pins = (or_else no_page (page_in o)).pins + 1; left = [] })
+  pinned_slot some counted rests = by_slot o some counted rests
     where
-      by_slot : (o : Option Piece) → IsSome (page_in o) → (or_else no_page (page_in o)).pins ≡ 0 → page_in (Some (record (or_else (record { client = 0; blocks = 0; stand = Pinned }) o) { stand = Pinned })) ≡ Some (record (or_else no_page (page_in o)) { pins = (or_else no_page (page_in o)).pins + 1; left = [] })
-      by_slot None some rests = absurd (cc)
-      by_slot (Some piece) some rests = pinned_page piece.client piece.blocks piece.stand some rests
+      by_slot : (o : Option Piece) → IsSome (page_in o) → ((count : ℕ) → (or_else no_piece o).stand ≡ Pinned count → 1 ≤ count) → (or_else no_page (page_in o)).pins ≡ 0 → page_in (Some (record (or_else no_piece o) { stand = Pinned 1 })) ≡ Some (record (or_else no_page (page_in o)) { pins = (or_else no_page (page_in o)).pins + 1; left = [] })
+      by_slot None some counted rests = absurd (cc)
+      by_slot (Some piece) some counted rests = pinned_page piece.client piece.blocks piece.stand some counted rests
 
-  pub rested_slot : (buf : Buffer) → IsSome (page_in o) → (or_else no_page (page_in o)).pins ≡ 1 → page_in (Some (record (or_else (record { client = 0; blocks = 0; stand = Pinned }) o) { stand = Resting buf })) ≡ Some (record (or_else no_page (page_in o)) { pins = (or_else no_page (page_in o)).pins - 1; left = buf.bytes; has_slots = (or_else no_page (page_in o)).has_slots || false })
+  -- a pinned page is pinned so often
+  pub repinned_slot : (again : ℕ) → IsSome (page_in o) → 1 ≤ (or_else no_page (page_in o)).pins → page_in (Some (record (or_else no_piece o) { stand = Pinned again })) ≡ Some (record (or_else no_page (page_in o)) { pins = again })
+  repinned_slot again some pinned = by_slot o some pinned
+    where
+      by_slot : (o : Option Piece) → IsSome (page_in o) → 1 ≤ (or_else no_page (page_in o)).pins → page_in (Some (record (or_else no_piece o) { stand = Pinned again })) ≡ Some (record (or_else no_page (page_in o)) { pins = again })
+      by_slot None some pinned = absurd (cc)
+      by_slot (Some piece) some pinned = repinned_page piece.client piece.blocks again piece.stand some pinned
+
+  pub rested_slot : (buf : Buffer) → IsSome (page_in o) → (or_else no_page (page_in o)).pins ≡ 1 → page_in (Some (record (or_else no_piece o) { stand = Resting buf })) ≡ Some (record (or_else no_page (page_in o)) { pins = (or_else no_page (page_in o)).pins - 1; left = buf.bytes; has_slots = (or_else no_page (page_in o)).has_slots || false })
   rested_slot buf some pinned = by_slot o some pinned
     where
-      by_slot : (o : Option Piece) → IsSome (page_in o) → (or_else no_page (page_in o)).pins ≡ 1 → page_in (Some (record (or_else (record { client = 0; blocks = 0; stand = Pinned }) o) { stand = Resting buf })) ≡ Some (record (or_else no_page (page_in o)) { pins = (or_else no_page (page_in o)).pins - 1; left = buf.bytes; has_slots = (or_else no_page (page_in o)).has_slots || false })
+      by_slot : (o : Option Piece) → IsSome (page_in o) → (or_else no_page (page_in o)).pins ≡ 1 → page_in (Some (record (or_else no_piece o) { stand = Resting buf })) ≡ Some (record (or_else no_page (page_in o)) { pins = (or_else no_page (page_in o)).pins - 1; left = buf.bytes; has_slots = (or_else no_page (page_in o)).has_slots || false })
       by_slot None some pinned = absurd (cc)
       by_slot (Some piece) some pinned = rested_page piece.client piece.blocks buf piece.stand some pinned
 

@@ -1,6 +1,7 @@
 -- A store in memory is kept where one piece changes, and the account of its client turns with it.
-use Rattle.std.proofs.Common.{◌≡◌, ℕ, ◌+◌, ◌*◌, ◌<◌, ◌≤◌, ◌^◌, ◌==◌, if◌then◌else◌, Bool, true, false, Option, Some, None, IsSome, refl, ap, sym, ◌∙◌, subst, inl, inr, arith, ne_eqb, eq-eqb}
+use Rattle.std.proofs.Common.{◌≡◌, ℕ, suc, ◌+◌, ◌-◌, ◌*◌, ◌<◌, ◌≤◌, ◌^◌, ◌==◌, if◌then◌else◌, Bool, true, false, Option, Some, None, IsSome, refl, ap, sym, ◌∙◌, subst, inl, inr, arith, ne_eqb, eq-eqb}
 use Rattle.std.proofs.lemmas.Bool.{cases_eq}
+use Rattle.std.proofs.Math.Nat.{suc-mul}
 use Rattle.block_arena.specs.Memory.{Buffer, IsBufferOf}
 use Rattle.slab.specs.Slab.{Slab, get}
 use Rattle.store_api.specs.Holdings.{Account, put, or_else, no_account}
@@ -8,7 +9,7 @@ use Rattle.store_api.specs.declared.mem_store.piece.Piece.{Piece}
 use Rattle.store_api.specs.declared.mem_store.piece.Stand.{Stand}
 use Rattle.store_api.specs.declared.mem_store.piece.Stand.TheVariants.{Resting, Pinned}
 use Rattle.store_api.specs.MemAccounts.{weight_of}
-use Rattle.store_api.specs.MemPieces.{charge_for, charge_in, charge_standing, Changed, IsSound, IsKept, piece_at}
+use Rattle.store_api.specs.MemPieces.{charge_for, charge_in, charge_standing, Changed, IsSound, IsKept, no_piece, piece_at}
 use Rattle.store_api.proofs.Puts.{put_same}
 use Rattle.store_api.proofs.Keeping.{at, some_put, kept_changed}
 use Rattle.store_api.proofs.Totals.{weight-at-most}
@@ -65,18 +66,33 @@ buffer_in other _ = other
 pub resting_same : (buf other : Buffer) → Resting buf ≡ Resting other → buf ≡ other
 resting_same buf other same = ap (buffer_in buf) same
 
+-- how often a stand is pinned, or what stands for none
+abbrev pins_in : Stand → ℕ
+pins_in (Pinned count) = count
+pins_in _ = 0
+
+pub pinned_same : (count other : ℕ) → Pinned count ≡ Pinned other → count ≡ other
+pinned_same count other same = ap pins_in same
+
+-- a pin more, or one less
+pub one_more : (count len : ℕ) → (count + 1) * len ≡ count * len + len
+one_more count len = ap (λ (n : ℕ). n * len) (let next : count + 1 ≡ suc count = omega arith in next) ∙ suc-mul count len
+
+pub one_less : (count len : ℕ) → 1 ≤ count → (count - 1) * len + len ≡ count * len
+one_less count len some = sym (one_more (count - 1) len) ∙ ap (λ (n : ℕ). n * len) (omega (arith, some))
+
 pub some_at : (o : Option Account) → IsSome o → o ≡ Some (or_else no_account o)
 some_at None some = absurd (cc)
 some_at (Some a) some = refl
 
 module _ (block : ℕ) (clients : ℕ → Option Account) (pieces : Slab Piece) (kept : IsKept block clients pieces) where
   -- a piece stands otherwise
-  pub kept_stand : (now : ℕ → Option Account) (new : Slab Piece) (key : ℕ) (piece : Piece) → get pieces key ≡ Some piece → (stand : Stand) → Changed pieces new key (Some (record (piece_at key pieces) { stand = stand })) → (t : ℕ) → t ≡ piece.client → (a : Account) → now ≡ put t (Some a) clients → ((buf : Buffer) → stand ≡ Resting buf → IsBufferOf piece.blocks block buf) → a.unused + charge_standing (piece.blocks * block) stand + (at t clients).reservation ≡ (at t clients).unused + charge_standing (piece.blocks * block) piece.stand + a.reservation → IsKept block now new
-  kept_stand now new key piece there stand changed t client a is whole even =
-      let found : piece_at key pieces ≡ piece = ap (or_else (record { client = 0; blocks = 0; stand = Pinned })) there in
+  pub kept_stand : (now : ℕ → Option Account) (new : Slab Piece) (key : ℕ) (piece : Piece) → get pieces key ≡ Some piece → (stand : Stand) → Changed pieces new key (Some (record (piece_at key pieces) { stand = stand })) → (t : ℕ) → t ≡ piece.client → (a : Account) → now ≡ put t (Some a) clients → ((buf : Buffer) → stand ≡ Resting buf → IsBufferOf piece.blocks block buf) → ((count : ℕ) → stand ≡ Pinned count → 1 ≤ count) → a.unused + charge_standing (piece.blocks * block) stand + (at t clients).reservation ≡ (at t clients).unused + charge_standing (piece.blocks * block) piece.stand + a.reservation → IsKept block now new
+  kept_stand now new key piece there stand changed t client a is whole counted even =
+      let found : piece_at key pieces ≡ piece = ap (or_else no_piece) there in
       let changed_so : Changed pieces new key (Some (record piece { stand = stand })) = subst (λ (p : Piece). Changed pieces new key (Some (record p { stand = stand }))) found changed in
       let old = kept.sound key piece there in
-      let sound : IsSound block (put t (Some a) clients) key (record piece { stand = stand }) = record { short = old.short; owned = some_put t piece.client a clients old.owned; whole = whole } in
+      let sound : IsSound block (put t (Some a) clients) key (record piece { stand = stand }) = record { short = old.short; owned = some_put t piece.client a clients old.owned; blocks = old.blocks; counted = counted; whole = whole } in
       kept_turn block clients pieces kept now new key (Some (record piece { stand = stand })) t a
       (charge_standing (piece.blocks * block) piece.stand) (charge_standing (piece.blocks * block) stand) changed_so is
       (λ q same. subst (λ (p : Piece). IsSound block (put t (Some a) clients) key p) (ap (or_else piece) same) sound)
@@ -94,13 +110,17 @@ module _ (block : ℕ) (clients : ℕ → Option Account) (pieces : Slab Piece) 
       (omega (arith, even))
 
   -- a piece comes, and is charged
-  pub kept_come : (now : ℕ → Option Account) (new : Slab Piece) (key : ℕ) (piece : Piece) → get pieces key ≡ None → Changed pieces new key (Some piece) → (a : Account) → now ≡ put piece.client (Some a) clients → IsSome (clients piece.client) → key < 2 ^ 32 → ((len : ℕ) → charge_standing len piece.stand ≡ len) → a.unused + piece.blocks * block + (at piece.client clients).reservation ≡ (at piece.client clients).unused + a.reservation → IsKept block now new
-  kept_come now new key piece none changed a is some short charged even =
+  pub kept_come : (now : ℕ → Option Account) (new : Slab Piece) (key : ℕ) (piece : Piece) → get pieces key ≡ None → Changed pieces new key (Some piece) → (a : Account) → now ≡ put piece.client (Some a) clients → IsSome (clients piece.client) → key < 2 ^ 32 → 1 ≤ piece.blocks → ((len : ℕ) → charge_standing len piece.stand ≡ len) → a.unused + piece.blocks * block + (at piece.client clients).reservation ≡ (at piece.client clients).unused + a.reservation → IsKept block now new
+  kept_come now new key piece none changed a is some short blocks charged even =
       let whole : (buf : Buffer) → piece.stand ≡ Resting buf → IsBufferOf piece.blocks block buf = λ buf rests.
       let one : charge_standing 1 piece.stand ≡ 1 = charged 1 in
       let nil : charge_standing 1 piece.stand ≡ 0 = ap (charge_standing 1) rests in
       absurd (omega (arith, one, nil)) in
-      let sound : IsSound block (put piece.client (Some a) clients) key piece = record { short = short; owned = some_put piece.client piece.client a clients some; whole = whole } in
+      let counted : (count : ℕ) → piece.stand ≡ Pinned count → 1 ≤ count = λ count pinned.
+      let one : charge_standing 1 piece.stand ≡ 1 = charged 1 in
+      let pins : charge_standing 1 piece.stand ≡ count * 1 = ap (charge_standing 1) pinned in
+      omega (arith, one, pins) in
+      let sound : IsSound block (put piece.client (Some a) clients) key piece = record { short = short; owned = some_put piece.client piece.client a clients some; blocks = blocks; counted = counted; whole = whole } in
       kept_turn block clients pieces kept now new key (Some piece) piece.client a 0 (piece.blocks * block) changed is
       (λ q same. subst (λ (p : Piece). IsSound block (put piece.client (Some a) clients) key p) (ap (or_else piece) same) sound)
       (λ s. weigh_none block s piece.client (get pieces key) none)

@@ -1,5 +1,5 @@
 -- A call that leaves a store alone leaves what all its clients have.
-use Rattle.std.proofs.Common.{ℕ, Option, refl}
+use Rattle.std.proofs.Common.{ℕ, Option, refl, arith}
 use Rattle.store_api.specs.Holdings.{Holdings}
 use Rattle.store_api.specs.Alike.{Alike}
 use Rattle.store_api.specs.Emitters.{SameFor, OthersStay}
@@ -13,7 +13,7 @@ same_for t h =
       loans = λ q loan own. (λ is. is, λ is. is);
     }
 
-same : (h : Holdings) → Alike h h
+pub same : (h : Holdings) → Alike h h
 same h = record { rest = alike h; reservation = refl; room = refl; above = refl; clients = λ q. refl }
 
 pub others_stay : (client : Option ℕ) (h : Holdings) → OthersStay client h h
@@ -24,6 +24,8 @@ others_stay client h =
       query = refl;
       limit = refl;
       live_clients = refl;
+      told = refl;
+      reservation = omega arith;
       others = λ t apart. same_for t h;
       alone = λ none. same h;
     }

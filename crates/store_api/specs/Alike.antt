@@ -10,6 +10,7 @@ pub record AlikeButClients (old new : Holdings) : Type 0 where
   pub limit : new.limit ≡ old.limit
   pub live_clients : new.live_clients ≡ old.live_clients
   pub free_slots : new.free_slots ≡ old.free_slots
+  pub told : new.told ≡ old.told
   pub pages : (q : ℕ) → new.pages q ≡ old.pages q
   pub loans : (q : ℕ) → new.loans q ≡ old.loans q
 

@@ -56,7 +56,7 @@ raised bytes account = record account { reservation = account.reservation + byte
 abbrev pub lowered : ℕ → Account → Account
 lowered bytes account = record account { reservation = account.reservation - bytes; unused = account.unused - bytes }
 
--- a client grows, and the query by what its room doesn't cover
+-- a client's reservation grows, and the query's by what its room doesn't cover
 abbrev pub after_reserve : ℕ → ℕ → Holdings → Holdings
 after_reserve t bytes h = record h {
   clients = put t (Some (raised bytes (account_of t h))) h.clients;
@@ -65,11 +65,11 @@ after_reserve t bytes h = record h {
   above = grown_above (query_growth bytes h) h.above;
 }
 
--- what a client lacks to so much unused
-abbrev pub lacking : ℕ → ℕ → Holdings → ℕ
-lacking t bytes h = bytes - unused_of t h
+-- how many bytes a client lacks to have so many unused
+abbrev pub shortfall : ℕ → ℕ → Holdings → ℕ
+shortfall t bytes h = bytes - unused_of t h
 
--- a client falls, and the query with it
+-- a client's reservation falls, and the query's with it
 abbrev pub after_give_back : ℕ → ℕ → Holdings → Holdings
 after_give_back t bytes h = record h {
   clients = put t (Some (lowered bytes (account_of t h))) h.clients;
@@ -89,11 +89,23 @@ after_create p key t blocks h =
     with_page p (Some (record { key = key; client = t; blocks = blocks; pins = 1; left = []; has_slots = false }))
     (charged t (length_of blocks h) h)
 
--- a page is pinned once more, and what was left in it is with its client
+-- a page that rests is pinned, and what was left in it is with its client
 abbrev pub after_pin : ℕ → Holdings → Holdings
 after_pin p h =
     with_page p (Some (record (page_of p h) { pins = (page_of p h).pins + 1; left = [] }))
     (charged (page_of p h).client (page_len p h) h)
+
+-- a pinned page is pinned once more
+abbrev pub after_pin_again : ℕ → Holdings → Holdings
+after_pin_again p h =
+    with_page p (Some (record (page_of p h) { pins = (page_of p h).pins + 1 }))
+    (charged (page_of p h).client (page_len p h) h)
+
+-- one pin of several ends
+abbrev pub after_unpin_once : ℕ → Holdings → Holdings
+after_unpin_once p h =
+    with_page p (Some (record (page_of p h) { pins = (page_of p h).pins - 1 }))
+    (released (page_of p h).client (page_len p h) h)
 
 -- the free slots when a page takes its own: it takes them once
 abbrev pub slots_taken : LivePage → Option ℕ → Option ℕ

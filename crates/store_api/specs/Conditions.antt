@@ -1,5 +1,5 @@
 -- What the calls of a store need. Lengths are in bytes.
-use Rattle.std.specs.Prelude.{◌≡◌, ◌≢◌, ℕ, ◌≤◌, ◌==◌, [], ◌∷◌, IsTrue, Option, Some, None, IsSome, replicate}
+use Rattle.std.specs.Prelude.{◌≡◌, ◌≢◌, ℕ, ◌≤◌, ◌==◌, [], ◌∷◌, IsTrue, true, Option, Some, None, IsSome, replicate}
 use Rattle.std.specs.List.{list_any}
 use Rattle.block_arena.specs.Memory.{Buffer, IsBufferOf}
 use Rattle.store_api.specs.Tokens.{ClientToken, PageToken, LoanToken}
@@ -11,8 +11,8 @@ abbrev pub IsBlockCount : ℕ → Type 0
 IsBlockCount n = IsTrue (list_any (λ blocks. blocks == n) (1 ∷ 2 ∷ 4 ∷ 8 ∷ 16 ∷ 32 ∷ 64 ∷ 128 ∷ 256 ∷ []))
 
 -- the client is one of the store's, and live
-abbrev pub IsClient : ClientToken → Holdings → Type 0
-IsClient c h = IsSome (h.clients c.tracker)
+abbrev pub IsLiveClient : ClientToken → Holdings → Type 0
+IsLiveClient c h = IsSome (h.clients c.tracker)
 
 -- the page is one of the store's, and live
 pub record IsPage (p : PageToken) (h : Holdings) : Type 0 where
@@ -40,13 +40,13 @@ pub record IsIdle (t : ℕ) (h : Holdings) : Type 0 where
   pub pages : (q : ℕ) (page : LivePage) → h.pages q ≡ Some page → page.client ≢ t
   pub loans : (q : ℕ) (loan : LiveLoan) → h.loans q ≡ Some loan → loan.client ≢ t
 
--- so many bytes of an account are unused, and fit the limits above
+-- an account's unused bytes are of its reservation, which is of its limit and of the query's reservation
 pub record FitsAccount (account : Account) (h : Holdings) : Type 0 where
   pub unused : account.unused ≤ account.reservation
   pub reservation : account.reservation ≤ account.limit
   pub query : account.reservation ≤ h.reservation
 
--- the query's own numbers fit one another
+-- the query's room is of its reservation, which is of its limit
 pub record FitsQuery (h : Holdings) : Type 0 where
   pub room : h.room ≤ h.reservation
   pub reservation : h.reservation ≤ h.limit
@@ -78,7 +78,7 @@ pub record IsNewLoan (c : ClientToken) (blocks : ℕ) (loan : LoanToken) (old ne
   pub buffer : IsZeroed blocks old loan.buf
   pub holdings : new ≡ after_alloc loan.number c.tracker blocks old
 
--- a buffer shows the bytes last left in a page
+-- a buffer of a page; where the store tells what was left, it shows the bytes last left in the page
 pub record ShowsLeft (page : LivePage) (h : Holdings) (buf : Buffer) : Type 0 where
   pub fits : Fits page.blocks h buf
-  pub bytes : buf.bytes ≡ page.left
+  pub bytes : h.told ≡ true → buf.bytes ≡ page.left

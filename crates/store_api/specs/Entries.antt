@@ -1,6 +1,7 @@
 -- The entries that a call of a store makes, the oldest first. Those of other makers may stand between them in
--- the pool's history; a store's trail has its own alone.
-use Rattle.std.specs.Prelude.{◌≡◌, ◌⊎◌, ℕ, List, [], ◌∷◌, ◌++◌, Option, Some, None, map, All, ⊤}
+-- the pool's history; a store's trail has its own alone. `t` is the client of the call, and `h` what the store held
+-- before it.
+use Rattle.std.specs.Prelude.{◌≡◌, ◌⊎◌, ◌<◌, ℕ, List, [], ◌∷◌, ◌++◌, Option, Some, None, map, All, ⊤}
 use Rattle.reservation_tree.specs.declared.errors.PoolErr.{PoolErr}
 use Rattle.reservation_tree.specs.declared.errors.PoolErr.TheVariants.{WriteFault, ReadFault, NamesSpent}
 use Rattle.pool_model.specs.declared.call.Call.{Call}
@@ -8,47 +9,47 @@ use Rattle.pool_model.specs.declared.call.Call.TheVariants as call
 use Rattle.pool_model.specs.declared.event.Event.{Event}
 use Rattle.pool_model.specs.declared.event.Event.TheVariants.{Ask, PinHere, PinLoad, ReadOk, ReadFailed, StartWrite, WriteOk, WriteFailed, Evict, Refused}
 use Rattle.pool_model.specs.declared.entry.Entry.{Entry}
-use Rattle.pool_model.specs.LookingBack.{content_from}
-use Rattle.store_api.specs.Holdings.{LivePage, Holdings}
+use Rattle.pool_model.specs.LookingBack.{content_from, names_in}
+use Rattle.store_api.specs.Holdings.{LivePage, Holdings, IsPageOf}
 use Rattle.store_api.specs.Signs.{Signs, Entered}
 
 -- entries of one maker
 abbrev pub by : ℕ → List Event → List Entry
 by maker events = map (λ e. record { maker = maker; event = e }) events
 
--- writes that were begun and ended, each before the next
-abbrev pub AreWrites : List Event → Type 0
-AreWrites [] = ⊤
-AreWrites (StartWrite p ∷ WriteOk q ∷ rest) = (q ≡ p) × AreWrites rest
-AreWrites (StartWrite p ∷ WriteFailed q before after ∷ rest) = (q ≡ p) × AreWrites rest
-AreWrites _ = ⊥
+-- writes of the client's pages that were begun and ended, each before the next
+abbrev pub AreWrites : ℕ → Holdings → List Event → Type 0
+AreWrites t h [] = ⊤
+AreWrites t h (StartWrite p ∷ WriteOk q ∷ rest) = IsPageOf t h p × (q ≡ p) × AreWrites t h rest
+AreWrites t h (StartWrite p ∷ WriteFailed q before after ∷ rest) = IsPageOf t h p × (q ≡ p) × AreWrites t h rest
+AreWrites t h _ = ⊥
 
 abbrev pub IsEvict : Event → Type 0
 IsEvict (Evict p) = ⊤
 IsEvict _ = ⊥
 
 -- the call asked, wrote what it had to, and ended so
-abbrev pub IsAsked : List Event → List Event → Type 0
-IsAsked last events = (writes : List Event) × AreWrites writes × (events ≡ Ask ∷ (writes ++ last))
+abbrev pub IsAsked : ℕ → Holdings → List Event → List Event → Type 0
+IsAsked t h last events = (writes : List Event) × AreWrites t h writes × (events ≡ Ask ∷ (writes ++ last))
 
 -- the same, and clean pages made room before the end
-abbrev pub IsTaken : List Event → List Event → Type 0
-IsTaken last events = (evicts : List Event) × All IsEvict evicts × IsAsked (evicts ++ last) events
+abbrev pub IsTaken : ℕ → Holdings → List Event → List Event → Type 0
+IsTaken t h last events = (evicts : List Event) × All IsEvict evicts × IsAsked t h (evicts ++ last) events
 
 -- a pin found the page in memory, or loaded it
-abbrev pub IsPin : ℕ → List Event → Type 0
-IsPin p events = IsAsked (PinHere p ∷ []) events ⊎ IsTaken (PinLoad p ∷ ReadOk p ∷ []) events
+abbrev pub IsPin : ℕ → Holdings → ℕ → List Event → Type 0
+IsPin t h p events = IsAsked t h (PinHere p ∷ []) events ⊎ IsTaken t h (PinLoad p ∷ ReadOk p ∷ []) events
 
 -- a load failed
-abbrev pub IsFailedLoad : ℕ → ℕ → List Event → Type 0
-IsFailedLoad p entry events = (before after : ℕ) × IsTaken (PinLoad p ∷ ReadFailed p before after ∷ Refused (call.Pin p) entry ∷ []) events
+abbrev pub IsFailedLoad : ℕ → Holdings → ℕ → ℕ → List Event → Type 0
+IsFailedLoad t h p entry events = (before after : ℕ) × IsTaken t h (PinLoad p ∷ ReadFailed p before after ∷ Refused (call.Pin p) entry ∷ []) events
 
 -- a call was refused, with this error: `Memory` comes before all else, and names are looked at last
-abbrev pub IsRefusal : Call → PoolErr → List Event → Type 0
-IsRefusal what (WriteFault entry) events = IsAsked (Refused what entry ∷ []) events
-IsRefusal (call.Pin p) (ReadFault entry) events = IsFailedLoad p entry events
-IsRefusal what NamesSpent events = IsAsked [] events
-IsRefusal what _ events = events ≡ []
+abbrev pub IsRefusal : ℕ → Holdings → Call → PoolErr → List Event → Type 0
+IsRefusal t h what (WriteFault entry) events = IsAsked t h (Refused what entry ∷ []) events
+IsRefusal t h (call.Pin p) (ReadFault entry) events = IsFailedLoad t h p entry events
+IsRefusal t h what NamesSpent events = IsAsked t h [] events
+IsRefusal t h what _ events = events ≡ []
 
 -- the trail grew by this maker's entries, and of their events this holds
 abbrev pub Made : ℕ → (List Event → Type 0) → Signs → Signs → Type 0
@@ -62,3 +63,8 @@ MadeThese maker events old new = Made maker (λ made. made ≡ events) old new
 abbrev pub TellsLeft : Holdings → Option (List Entry) → Type 0
 TellsLeft h None = ⊤
 TellsLeft h (Some trail) = (p : ℕ) (page : LivePage) → h.pages p ≡ Some page → page.pins ≡ 0 → page.left ≡ content_from p [] trail
+
+-- where the trail is told, a new page's name is above every name in it
+abbrev pub IsAboveNames : ℕ → Option (List Entry) → Type 0
+IsAboveNames name None = ⊤
+IsAboveNames name (Some trail) = All (λ q. q < name) (names_in trail)

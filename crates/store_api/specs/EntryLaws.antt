@@ -1,25 +1,30 @@
 -- What entries and changes of a store come to. Statements alone.
-use Rattle.std.specs.Prelude.{◌≡◌, ℕ, List, [], ◌∷◌, false, None, IsSome}
+use Rattle.std.specs.Prelude.{◌≡◌, ◌≢◌, ℕ, ◌+◌, ◌-◌, List, [], ◌∷◌, false, All, None, IsSome}
 use Rattle.pool_model.specs.declared.event.Event.{Event}
-use Rattle.pool_model.specs.declared.event.Event.TheVariants.{Create, Alloc, MoveBuffer}
+use Rattle.pool_model.specs.declared.event.Event.TheVariants.{Create, Alloc, MoveBuffer, PinAgain, UnpinOnce}
 use Rattle.pool_model.specs.State.{State, Pinned, Evicted, page_at, buffer_at}
+use Rattle.pool_model.specs.Parts.{pins_at}
 use Rattle.pool_model.specs.Legal.{run}
 use Rattle.store_api.specs.Holdings.{Holdings}
 use Rattle.store_api.specs.Changes.{after_reserve, after_give_back}
 use Rattle.store_api.specs.Refusals.{refusal_above}
 use Rattle.store_api.specs.Alike.{Alike}
+use Rattle.store_api.specs.WriteLaws.{written}
 use Rattle.store_api.specs.Entries.{by, IsAsked, IsTaken, IsPin, IsFailedLoad}
 
 -- what the entries of one call leave of their page or buffer in a pool
 pub record EntriesTell (maker : ℕ) (old new : State) (events : List Event) : Type 0 where
-  pub pinned : (p : ℕ) → IsPin p events → (page_at new p).place ≡ Pinned
-  pub not_loaded : (p entry : ℕ) → IsFailedLoad p entry events → (page_at new p).place ≡ Evicted
-  pub created : (p client blocks : ℕ) → IsTaken (Create p client blocks ∷ []) events
-      → page_at new p ≡ record { session = maker; client = client; blocks = blocks; place = Pinned; has_slots = false }
-  pub lent : (f client blocks : ℕ) → IsTaken (Alloc f client blocks ∷ []) events
+  pub pinned : (t : ℕ) (h : Holdings) (p : ℕ) → IsPin t h p events → (page_at new p).place ≡ Pinned 1
+  pub not_loaded : (t : ℕ) (h : Holdings) (p entry : ℕ) → IsFailedLoad t h p entry events → (page_at new p).place ≡ Evicted
+  pub created : (t : ℕ) (h : Holdings) (p client blocks key : ℕ) → IsTaken t h (Create p client blocks key ∷ []) events
+      → page_at new p ≡ record { key = key; session = maker; client = client; blocks = blocks; place = Pinned 1; has_slots = false }
+  pub lent : (t : ℕ) (h : Holdings) (f client blocks : ℕ) → IsTaken t h (Alloc f client blocks ∷ []) events
       → buffer_at new f ≡ record { client = client; blocks = blocks }
-  pub moved : (f to : ℕ) → IsAsked (MoveBuffer f to ∷ []) events
+  pub moved : (t : ℕ) (h : Holdings) (f to : ℕ) → IsAsked t h (MoveBuffer f to ∷ []) events
       → buffer_at new f ≡ record (buffer_at old f) { client = to }
+  pub pinned_again : (t : ℕ) (h : Holdings) (p : ℕ) → IsAsked t h (PinAgain p ∷ []) events → All (λ q. q ≢ p) (written events)
+      → (page_at new p).place ≡ Pinned (pins_at old p + 1)
+  pub unpinned_once : (p : ℕ) → events ≡ UnpinOnce p ∷ [] → (page_at new p).place ≡ Pinned (pins_at old p - 1)
 
 -- whoever makes them, and whatever the pool has
 abbrev pub AllEntriesTell : Type 0

@@ -36,6 +36,6 @@ SlotsComeBack =
 -- a pinned page lacks slots exactly where a pool may refuse to unpin it
 abbrev pub LacksAsInPool : Type 0
 LacksAsInPool =
-    (s : State) (maker p : ℕ) (page : Page) (live : LivePage) → IsPageOf s maker p page → page.place ≡ Pinned
+    (s : State) (maker p : ℕ) (page : Page) (live : LivePage) → IsPageOf s maker p page → page.place ≡ Pinned 1
     → live.blocks ≡ page.blocks → live.has_slots ≡ page.has_slots
     → LacksSlots live (Some (free_slots s maker)) ↔ MayRefuseUnpin s maker p

@@ -1,6 +1,6 @@
 -- What a store holds for its query. Lengths and reservations are in bytes; clients go by the numbers of
 -- their trackers, pages by their names, loans by their numbers.
-use Rattle.std.specs.Prelude.{ℕ, ◌*◌, ◌==◌, List, [], Bool, false, if◌then◌else◌, Option, Some, None}
+use Rattle.std.specs.Prelude.{◌≡◌, ℕ, ◌*◌, ◌==◌, List, [], Bool, false, if◌then◌else◌, Option, Some, None, IsSome}
 
 -- a client: what its reservation may rise to, its reservation, and what of it isn't charged
 pub record Account : Type 0 where
@@ -30,7 +30,8 @@ pub data Above : Type 0 where
   Shared : Above
 
 -- the query's own tracker, with `room` what of its reservation isn't its clients'; who is live; and how many
--- slots of the quota are free, where there is a quota
+-- slots of the quota are free, where there is a quota. `told` says whether a pin shows what was left in the page,
+-- as it does where slots tell what they hold; no call changes it
 pub record Holdings : Type 0 where
   pub block_len : ℕ
   pub session : ℕ
@@ -44,6 +45,7 @@ pub record Holdings : Type 0 where
   pub pages : ℕ → Option LivePage
   pub loans : ℕ → Option LiveLoan
   pub free_slots : Option ℕ
+  pub told : Bool
 
 -- the same but at one number
 abbrev pub put : {X : Type 0} → ℕ → Option X → (ℕ → Option X) → ℕ → Option X
@@ -87,3 +89,8 @@ page_len p h = length_of (page_of p h).blocks h
 
 abbrev pub loan_len : ℕ → Holdings → ℕ
 loan_len f h = length_of (loan_of f h).blocks h
+
+-- a live page of this client
+pub record IsPageOf (t : ℕ) (h : Holdings) (p : ℕ) : Type 0 where
+  pub lives : IsSome (h.pages p)
+  pub client : (page_of p h).client ≡ t

@@ -9,8 +9,13 @@ pub mod Conditions
 pub mod Alike
 pub mod EntryLaws
 pub mod HoldingLaws
+pub mod PinLaws
+pub mod WriteLaws
 pub mod Shapes
 pub mod Emitters
+pub mod EmitterLaws
+pub mod OwnLaws
 pub mod MemAccounts
 pub mod MemPieces
 pub mod MemStore
+pub mod MemLaws

@@ -5,10 +5,10 @@ use Rattle.store_api.specs.Holdings.{Account, or_else, no_account}
 use Rattle.store_api.specs.declared.mem_store.account.MemAccount.{MemAccount}
 
 -- the sum of what the slots weigh
-abbrev pub total : {X : Type 0} → (X → ℕ) → List (Option X) → ℕ
-total weight [] = 0
-total weight (None ∷ rest) = total weight rest
-total weight (Some x ∷ rest) = weight x + total weight rest
+abbrev pub slot_sum : {X : Type 0} → (X → ℕ) → List (Option X) → ℕ
+slot_sum weight [] = 0
+slot_sum weight (None ∷ rest) = slot_sum weight rest
+slot_sum weight (Some x ∷ rest) = weight x + slot_sum weight rest
 
 -- what a slot weighs
 abbrev pub weight_of : {X : Type 0} → (X → ℕ) → Option X → ℕ
@@ -27,4 +27,4 @@ account_at t slab = or_else no_account (clients_of slab t)
 
 -- what the clients have reserved together
 abbrev pub reserved : Slab MemAccount → ℕ
-reserved slab = total (λ a. a.reservation) slab.slots
+reserved slab = slot_sum (λ a. a.reservation) slab.slots

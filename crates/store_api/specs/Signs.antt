@@ -7,7 +7,8 @@ use Rattle.pool_model.specs.declared.event.Event.{Event}
 use Rattle.pool_model.specs.declared.event.Event.TheVariants.{UnpinRefused, Refused}
 use Rattle.pool_model.specs.declared.entry.Entry.{Entry}
 
--- failed writes and reads of this store's pages, in all and for each client by its number; refused unpins;
+-- failed writes and reads of the pages that this store's session made, in all and for each client's number, also of
+-- clients that had the number before; refused unpins;
 -- whether no page name is left; and, where they are told, the entries that the store made, the oldest first
 pub record Signs : Type 0 where
   pub failures : ℕ

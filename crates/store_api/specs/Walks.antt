@@ -1,9 +1,16 @@
--- Why a walk over every call of a store gave up.
-use Rattle.std.specs.Prelude.{◌≡◌, ◌<◌, ◌≤◌}
+-- What a walk over every call of a store saw, and why it gave up.
+use Rattle.std.specs.Prelude.{◌≡◌, ◌<◌, ◌≤◌, Bool, true}
 use Rattle.reservation_tree.specs.declared.errors.PoolErr.{PoolErr}
 use Rattle.reservation_tree.specs.declared.errors.PoolErr.TheVariants.{NoReservation, TooManyTrackers}
 use Rattle.store_api.specs.Holdings.{Holdings}
 use Rattle.store_api.specs.Signs.{Signs, WasAnswered}
+use Rattle.store_api.specs.declared.every_call.Walked.{Walked}
+
+-- the bytes that it wrote came back, of a page where pages show what was left in them; a new loan is of zeros
+pub record HasWalked (told : Bool) (walked : Walked) : Type 0 where
+  pub pinned : told ≡ true → walked.pinned ≡ 7
+  pub moved : walked.moved ≡ 9
+  pub fresh : walked.fresh ≡ 0
 
 -- why its rounds gave up, once both clients are there: a growth doesn't fit, or the store answered so
 abbrev pub StoppedRound : Signs → Signs → PoolErr → Type 0

@@ -1,9 +1,8 @@
 //! Who takes an operator's rows.
-ghost use Rattle.std.specs.Prelude.{◌≡◌, ◌⊎◌, ◌↔◌, ℕ, ◌≤◌, [], ◌∷◌, ◌++◌, List, Option, IfErr, OnOk, OnErr};
+ghost use Rattle.std.specs.Prelude.{◌≡◌, ◌⊎◌, ℕ, ◌≤◌, [], ◌∷◌, ◌++◌, List, Option, IfErr, OnOk, OnErr};
 ghost use Rattle.row_codec.specs.declared.values.Value.{Value};
 ghost use Rattle.store_api.specs.Holdings.{Holdings};
-ghost use Rattle.store_api.specs.Signs.{Grows};
-ghost use Rattle.store_api.specs.Emitters.{SameOwn, OthersStay, HasClient, CameOf};
+ghost use Rattle.store_api.specs.Emitters.{SameOwn, OthersStay, HasClient, IsSameEmitter, GrowsBy, CameOf, slots_with};
 
 use crate::op_err::OpErr;
 use crate::store::Store;
@@ -11,8 +10,8 @@ use row_codec::Value;
 
 /// Takes rows, one at a time. It may keep them in pages of the same store, under a client of its own.
 pub trait Emit<St: Store> {
-    // The rows that it took, the first one first, over what the store holds. Where there are such rows the
-    // emitter stands over that store.
+    // The rows that it took, the first one first, over what the store holds. It is given a row only where there are
+    // such rows.
     ghost took: { Self → Holdings → List (List Value) → Type 0 };
 
     // The rows that may be given. This never changes.
@@ -23,6 +22,15 @@ pub trait Emit<St: Store> {
 
     // The faults so far of what it hands rows to.
     ghost faults: { Self → ℕ };
+
+    // The slots that its client's pages have, over what the store holds.
+    ghost slots: { Self → Holdings → ℕ };
+
+    // The most slots that they have once it took these rows. This never changes.
+    ghost slots_for: { Self → List (List Value) → ℕ };
+
+    // The most pages that a row makes. This never changes.
+    ghost creates: { Self → ℕ };
 
     /// Takes the row.
     ///
@@ -39,13 +47,20 @@ pub trait Emit<St: Store> {
         ensures err { OnErr result ((rows : List (List Value)) → took self.old (St.holds store.old) rows → took self.new (St.holds store.new) rows ⊎ took self.new (St.holds store.new) (rows ++ row.now ∷ [])) }
         ensures cause { IfErr result (CameOf (faults self.old) (faults self.new) (St.signs store.old) (St.signs store.new)) }
 
-        ensures admits_kept { (other : List Value) → admits self.old other ↔ admits self.new other }
-        ensures client_kept { client self.new ≡ client self.old }
+        ensures same { IsSameEmitter (admits self.old) (admits self.new) (client self.old) (client self.new) (creates self.old) (creates self.new) (slots_for self.old) (slots_for self.new) }
         ensures client_lives { HasClient (client self.old) (St.holds store.new) }
         ensures others { OthersStay (client self.old) (St.holds store.old) (St.holds store.new) }
+        ensures slots { slots_with (slots self.new (St.holds store.new)) (St.holds store.new) ≡ slots_with (slots self.old (St.holds store.old)) (St.holds store.old) }
         ensures never_falls { faults self.old ≤ faults self.new }
-        ensures grows { Grows (St.signs store.old) (St.signs store.new) };
+        ensures grows { GrowsBy (client self.old) (creates self.old) (St.signs store.old) (St.signs store.new) };
 
-    // It asks of a store nothing but the block length and what is its client's.
+    // It asks of a store nothing but the block length, whether pages show what was left in them, and what is its
+    // client's.
     ghost asks_own: { (e : Self) (old new : Holdings) (rows : List (List Value)) → SameOwn (client e) old new → took e old rows → took e new rows };
+
+    // So do the slots that its pages have.
+    ghost slots_own: { (e : Self) (old new : Holdings) → SameOwn (client e) old new → slots e new ≡ slots e old };
+
+    // They are no more than the rows that it took may have.
+    ghost slots_fit: { (e : Self) (h : Holdings) (rows : List (List Value)) → took e h rows → slots e h ≤ slots_for e rows };
 }

@@ -1,10 +1,10 @@
 //! A walk over every call of a store, for the tests of each store. It is proved over the trait alone.
-ghost use Rattle.std.specs.Prelude.{◌≡◌, ◌≢◌, ℕ, ◌≤◌, IfOk, IfErr, OnOk, length, slice_index};
+ghost use Rattle.std.specs.Prelude.{◌≡◌, ◌≢◌, ℕ, ◌*◌, ◌≤◌, true, IfOk, IfErr, OnOk, length, slice_index};
 ghost use Rattle.store_api.specs.Holdings.{unused_of, loan_len};
 ghost use Rattle.store_api.specs.Changes.{after_free};
 ghost use Rattle.store_api.specs.Signs.{Grows, WasAnswered};
-ghost use Rattle.store_api.specs.Walks.{StoppedRound, StoppedWalk};
-ghost use Rattle.store_api.specs.Conditions.{IsClient, IsLoan};
+ghost use Rattle.store_api.specs.Walks.{HasWalked, StoppedRound, StoppedWalk};
+ghost use Rattle.store_api.specs.Conditions.{IsLiveClient, IsLoan};
 ghost use Rattle.store_api.specs.Alike.{Alike, AlikeButClients};
 
 use crate::store::Store;
@@ -12,13 +12,13 @@ use crate::tokens::{Client, Loan};
 use reservation_tree::PoolErr;
 use std::alloc::Global;
 
-// A page is left with a byte and shows it again; then it ends.
+// A byte is left in a page, and read again where a pin shows what was left; then the page ends.
 #[tactic(auto, using(crate::proofs::Growing::grows_trans, crate::proofs::Answered::answered_before, crate::proofs::Answered::answered_after))]
 fn page_round<St: Store>(store: &mut St, alloc: Global, c: &Client, byte: u8) -> Result<u8, PoolErr>
-    requires client { IsClient c.now (St.holds store.old) }
+    requires client { IsLiveClient c.now (St.holds store.old) }
     requires unused { (St.holds store.old).block_len ≤ unused_of c.now.tracker (St.holds store.old) }
     requires block { 1 ≤ (St.holds store.old).block_len }
-    ensures ok { IfOk result (λ shown. shown ≡ byte) }
+    ensures ok { IfOk result (λ shown. (St.holds store.old).told ≡ true → shown ≡ byte) }
     ensures same { Alike (St.holds store.old) (St.holds store.new) }
     ensures cause { IfErr result (λ e. WasAnswered e (St.signs store.old) (St.signs store.new)) }
     ensures grows { Grows (St.signs store.old) (St.signs store.new) }
@@ -43,11 +43,34 @@ fn page_round<St: Store>(store: &mut St, alloc: Global, c: &Client, byte: u8) ->
     }
 }
 
+// A page is pinned once more, and ends with as many pins as it was made with.
+#[tactic(auto, using(crate::proofs::Growing::grows_trans, crate::proofs::Answered::answered_before, crate::proofs::Answered::answered_after))]
+fn again_round<St: Store>(store: &mut St, alloc: Global, c: &Client) -> Result<(), PoolErr>
+    requires client { IsLiveClient c.now (St.holds store.old) }
+    requires unused { 2 * (St.holds store.old).block_len ≤ unused_of c.now.tracker (St.holds store.old) }
+    ensures same { Alike (St.holds store.old) (St.holds store.new) }
+    ensures cause { IfErr result (λ e. WasAnswered e (St.signs store.old) (St.signs store.new)) }
+    ensures grows { Grows (St.signs store.old) (St.signs store.new) }
+{
+    let (page, buf) = store.create(alloc, c, 1)?;
+    match store.pin_again(&page) {
+        Ok(()) => {
+            store.unpin_once(&page);
+            store.destroy(page, Some(buf));
+            Ok(())
+        }
+        Err(e) => {
+            store.destroy(page, Some(buf));
+            Err(e)
+        }
+    }
+}
+
 // The loan is charged to the other client, shows its first byte, and is freed.
-#[tactic(auto, using(crate::proofs::Answered::answered_after))]
+#[tactic(auto, using(crate::proofs::Growing::grows_trans, crate::proofs::Answered::answered_after))]
 fn move_round<St: Store>(store: &mut St, loan: Loan, other: &Client) -> Result<u8, PoolErr>
     requires loan { IsLoan loan (St.holds store.old) }
-    requires other { IsClient other.now (St.holds store.old) }
+    requires other { IsLiveClient other.now (St.holds store.old) }
     requires unused { loan_len loan.number (St.holds store.old) ≤ unused_of other.now.tracker (St.holds store.old) }
     requires byte { 1 ≤ length loan.buf.bytes }
     ensures ok { IfOk result (λ shown. shown ≡ slice_index loan.buf.bytes 0) }
@@ -78,8 +101,8 @@ fn loan_round<St: Store>(
     other: &Client,
     byte: u8,
 ) -> Result<u8, PoolErr>
-    requires client { IsClient c.now (St.holds store.old) }
-    requires other { IsClient other.now (St.holds store.old) }
+    requires client { IsLiveClient c.now (St.holds store.old) }
+    requires other { IsLiveClient other.now (St.holds store.old) }
     requires apart { c.now.tracker ≢ other.now.tracker }
     requires unused { (St.holds store.old).block_len ≤ unused_of c.now.tracker (St.holds store.old) }
     requires unused_other { (St.holds store.old).block_len ≤ unused_of other.now.tracker (St.holds store.old) }
@@ -96,8 +119,9 @@ fn loan_round<St: Store>(
 }
 
 // A loan of zeros comes and goes.
+#[tactic(auto, using(crate::proofs::Growing::grows_trans))]
 fn alloc_round<St: Store>(store: &mut St, alloc: Global, c: &Client) -> Result<u8, PoolErr>
-    requires client { IsClient c.now (St.holds store.old) }
+    requires client { IsLiveClient c.now (St.holds store.old) }
     requires unused { (St.holds store.old).block_len ≤ unused_of c.now.tracker (St.holds store.old) }
     requires block { 1 ≤ (St.holds store.old).block_len }
     ensures ok { IfOk result (λ shown. shown ≡ 0) }
@@ -112,34 +136,35 @@ fn alloc_round<St: Store>(store: &mut St, alloc: Global, c: &Client) -> Result<u
     Ok(shown[0])
 }
 
-// Both clients get a block's length of reservation, by two blocks of the first; the rest is given back.
+// The first client gets two blocks' length of reservation, and the other one, by four blocks of the first; the rest
+// is given back.
 #[tactic(auto, using(crate::proofs::Growing::grows_trans, crate::proofs::Stopping::stopped_before, crate::proofs::Stopping::answered_stops))]
 pub(crate) fn reserve_round<St: Store>(
     store: &mut St,
     c: &Client,
     other: &Client,
 ) -> Result<(), PoolErr>
-    requires client { IsClient c.now (St.holds store.old) }
-    requires other { IsClient other.now (St.holds store.old) }
+    requires client { IsLiveClient c.now (St.holds store.old) }
+    requires other { IsLiveClient other.now (St.holds store.old) }
     requires apart { c.now.tracker ≢ other.now.tracker }
     ensures block { 1 ≤ (St.holds store.old).block_len }
     ensures rest { AlikeButClients (St.holds store.old) (St.holds store.new) }
     ensures others { (q : ℕ) → q ≢ c.now.tracker → q ≢ other.now.tracker → (St.holds store.new).clients q ≡ (St.holds store.old).clients q }
-    ensures client { IsClient c.now (St.holds store.new) }
-    ensures other { IsClient other.now (St.holds store.new) }
-    ensures unused { OnOk result ((St.holds store.old).block_len ≤ unused_of c.now.tracker (St.holds store.new)) }
+    ensures client { IsLiveClient c.now (St.holds store.new) }
+    ensures other { IsLiveClient other.now (St.holds store.new) }
+    ensures unused { OnOk result (2 * (St.holds store.old).block_len ≤ unused_of c.now.tracker (St.holds store.new)) }
     ensures unused_other { OnOk result ((St.holds store.old).block_len ≤ unused_of other.now.tracker (St.holds store.new)) }
     ensures cause { IfErr result (StoppedRound (St.signs store.old) (St.signs store.new)) }
     ensures grows { Grows (St.signs store.old) (St.signs store.new) }
 {
     let len = u64::from(store.block_len());
-    store.reserve(c, 3 * len)?;
+    store.reserve(c, 4 * len)?;
     store.move_reservation(c, other, len)?;
     store.give_back(c, len)?;
     store.reserve_to_fit(other, len)
 }
 
-/// What a walk saw: the bytes of a page that was pinned again, of a loan that was moved, and of a new loan.
+/// What a walk saw: a byte of a page that was left and pinned again, of a loan that was moved, and of a new loan.
 #[derive(Clone, Copy, Debug, PartialEq, Eq)]
 pub struct Walked {
     pub pinned: u8,
@@ -155,19 +180,20 @@ fn rounds<St: Store>(
     c: &Client,
     other: &Client,
 ) -> Result<Walked, PoolErr>
-    requires client { IsClient c.now (St.holds store.old) }
-    requires other { IsClient other.now (St.holds store.old) }
+    requires client { IsLiveClient c.now (St.holds store.old) }
+    requires other { IsLiveClient other.now (St.holds store.old) }
     requires apart { c.now.tracker ≢ other.now.tracker }
-    ensures ok { IfOk result (λ walked. walked ≡ record { pinned = 7; moved = 9; fresh = 0 }) }
+    ensures ok { IfOk result (HasWalked (St.holds store.old).told) }
     ensures rest { AlikeButClients (St.holds store.old) (St.holds store.new) }
     ensures others { (q : ℕ) → q ≢ c.now.tracker → q ≢ other.now.tracker → (St.holds store.new).clients q ≡ (St.holds store.old).clients q }
-    ensures client { IsClient c.now (St.holds store.new) }
-    ensures other { IsClient other.now (St.holds store.new) }
+    ensures client { IsLiveClient c.now (St.holds store.new) }
+    ensures other { IsLiveClient other.now (St.holds store.new) }
     ensures cause { IfErr result (StoppedRound (St.signs store.old) (St.signs store.new)) }
     ensures grows { Grows (St.signs store.old) (St.signs store.new) }
 {
     reserve_round(store, c, other)?;
     let pinned = page_round(store, alloc, c, 7)?;
+    again_round(store, alloc, c)?;
     let moved = loan_round(store, alloc, c, other, 9)?;
     let fresh = alloc_round(store, alloc, c)?;
     Ok(Walked {
@@ -182,11 +208,11 @@ fn rounds<St: Store>(
 /// # Errors
 ///
 /// `TooManyTrackers`, only where fifteen or more clients are live. `NoReservation`: a growth passed a limit, or the
-/// room of what is above. Else what the store answered in this call, or there was no memory. The store is left so
-/// then too.
+/// room of what is above. Else what the store answered in this call, or there was no memory. The store is left the
+/// same way after an error.
 #[tactic(auto, using(crate::proofs::Growing::grows_trans))]
 pub fn walk<St: Store>(store: &mut St, alloc: Global) -> Result<Walked, PoolErr>
-    ensures ok { IfOk result (λ walked. walked ≡ record { pinned = 7; moved = 9; fresh = 0 }) }
+    ensures ok { IfOk result (HasWalked (St.holds store.old).told) }
     ensures rest { AlikeButClients (St.holds store.old) (St.holds store.new) }
     ensures clients { (q : ℕ) → (St.holds store.new).clients q ≡ (St.holds store.old).clients q }
     ensures cause { IfErr result (StoppedWalk (St.holds store.old) (St.signs store.old) (St.signs store.new)) }

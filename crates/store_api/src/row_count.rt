@@ -1,5 +1,6 @@
 //! An emitter that counts its rows, for tests.
-ghost use Rattle.std.specs.Prelude.{◌≡◌, length, None, ⊤};
+ghost use Rattle.std.specs.Prelude.{◌≡◌, length, None, ⊤, refl};
+ghost use Rattle.std.proofs.Common.{zero-le};
 
 use crate::emit::Emit;
 use crate::op_err::OpErr;
@@ -22,6 +23,12 @@ impl<St: Store> Emit<St> for RowCount {
 
     ghost faults = { λ e. 0 };
 
+    ghost slots = { λ e h. 0 };
+
+    ghost slots_for = { λ e rows. 0 };
+
+    ghost creates = { λ e. 0 };
+
     #[tactic(auto, using(crate::proofs::Growing::grows_refl, crate::proofs::Untouched::others_stay))]
     fn row(&mut self, _store: &mut St, _row: &[Value]) -> Result<(), OpErr> {
         match self.rows.checked_add(1) {
@@ -34,4 +41,8 @@ impl<St: Store> Emit<St> for RowCount {
     }
 
     ghost asks_own = { λ e old new rows same took. took };
+
+    ghost slots_own = { λ e old new same. refl };
+
+    ghost slots_fit = { λ e h rows took. zero-le };
 }

@@ -1,5 +1,5 @@
 //! The clients of a store in memory, and the query's own numbers.
-ghost use Rattle.std.specs.Prelude.{◌≡◌, ◌≢◌, ◌↔◌, ℕ, ◌+◌, ◌≤◌, Some, None, IsSome, IsNone, OnSome, IfOk, IfSome, IfNone};
+ghost use Rattle.std.specs.Prelude.{◌≡◌, ◌≢◌, ◌↔◌, ℕ, ◌+◌, ◌≤◌, ◌<◌, ◌^◌, Some, None, IsSome, IsNone, OnSome, IfOk, IfSome, IfNone};
 ghost use Rattle.slab.specs.Slab.{get, slab_len};
 ghost use Rattle.store_api.specs.Holdings.{put};
 ghost use Rattle.store_api.specs.MemAccounts.{clients_of, account_at, reserved};
@@ -30,6 +30,7 @@ pub(crate) struct Accounts {
     ghost few: { slab_len clients ≤ 16 },
     ghost whole: { reserved clients + room ≡ reservation },
     ghost fits: { reservation ≤ limit },
+    ghost short: { limit < 2 ^ 64 },
 }
 
 impl Accounts {

@@ -1,10 +1,11 @@
 //! The calls of a store in memory.
-ghost use Rattle.std.specs.Prelude.{◌≡◌, IfNone, OnSome};
 
 use crate::mem_store::accounts::MAX_CLIENTS;
 use crate::mem_store::held::MemStore;
 use crate::mem_store::piece::Stand;
-use crate::mem_store::pieces::{end_loan, end_page, hand_over, pin_at, rest_at, stand};
+use crate::mem_store::pieces::{
+    end_loan, end_page, hand_over, pin_at, pins_at, repin_at, rest_at, stand,
+};
 use crate::store::Store;
 use crate::tokens::{Client, Loan, Page};
 use block_arena::Buf;
@@ -13,12 +14,18 @@ use std::alloc::Global;
 
 impl Store for MemStore {
     ghost use Rattle.store_api.specs.MemStore.{held_in, no_signs};
+    ghost use Rattle.store_api.specs.MemAccounts.{clients_of};
+    ghost use Rattle.store_api.specs.MemLaws.{all_unused, all_room};
 
     ghost holds = { held_in };
 
     ghost signs = { λ s. no_signs };
 
     ghost tells_left = { λ st. tt };
+
+    ghost idle_unused = { λ st t lives idle. all_unused st.block_len (clients_of st.accounts.clients) st.pieces st.kept t idle.pages idle.loans };
+
+    ghost idle_room = { λ st none. all_room st.accounts none };
 
     fn block_len(&self) -> u32 {
         self.block_len
@@ -63,7 +70,7 @@ impl Store for MemStore {
 
     fn create(&mut self, alloc: Global, c: &Client, blocks: u32) -> Result<(Page, Buf), PoolErr> {
         let client = c.tracker();
-        let (key, buf) = self.add_piece(alloc, client, blocks, Stand::Pinned)?;
+        let (key, buf) = self.add_piece(alloc, client, blocks, Stand::Pinned(1))?;
         Ok((Page::of(key as u64, 0, client), buf))
     }
 
@@ -72,6 +79,23 @@ impl Store for MemStore {
         let len = self.len_at(key);
         self.accounts.charge(p.client(), len);
         Ok(pin_at(&mut self.pieces, key))
+    }
+
+    fn pin_again(&mut self, p: &Page) -> Result<(), PoolErr> {
+        let key = p.name() as usize;
+        let count = pins_at(&self.pieces, key);
+        let len = self.len_at(key);
+        self.accounts.charge(p.client(), len);
+        repin_at(&mut self.pieces, key, count + 1);
+        Ok(())
+    }
+
+    fn unpin_once(&mut self, p: &Page) {
+        let key = p.name() as usize;
+        let count = pins_at(&self.pieces, key);
+        let len = self.len_at(key);
+        self.accounts.release(p.client(), len);
+        repin_at(&mut self.pieces, key, count - 1);
     }
 
     fn unpin(&mut self, p: &Page, buf: Buf) -> Result<(), (Buf, PoolErr)> {
@@ -89,11 +113,11 @@ impl Store for MemStore {
         Loan::of(key as u32, client, buf)
     }
 
-    fn destroy(&mut self, p: Page, buf: Option<Buf>) {
+    fn destroy(&mut self, p: Page, _buf: Option<Buf>) {
         let client = p.client();
         let key = p.into_name() as usize;
-        let len = self.len_at(key);
-        self.accounts.release(client, held_by(&buf, len));
+        let charge = self.charge_at(key);
+        self.accounts.release(client, charge);
         end_page(&mut self.pieces, key);
     }
 
@@ -123,12 +147,4 @@ impl Store for MemStore {
         hand_over(&mut self.pieces, key, target);
         Ok(Loan::of(number, target, loan.into_buf()))
     }
-}
-
-// The bytes that are charged for a page of this length.
-fn held_by(buf: &Option<Buf>, len: u64) -> u64
-    ensures none { IfNone buf.now (result ≡ 0) }
-    ensures some { OnSome buf.now (result ≡ len) }
-{
-    if buf.is_some() { len } else { 0 }
 }

@@ -8,8 +8,8 @@ use reservation_tree::TrackerId;
 pub(crate) enum Stand {
     /// A page rests, with these bytes.
     Resting(Buf),
-    /// A page is pinned: its client has the buffer.
-    Pinned,
+    /// A page has so many pins, at least one: its client has the buffer.
+    Pinned(u64),
     /// A loan: its holder has the buffer.
     Lent,
 }

@@ -1,5 +1,5 @@
 //! Changes of one piece, and new buffers.
-ghost use Rattle.std.specs.Prelude.{◌≡◌, ◌+◌, ◌-◌, ◌*◌, ◌||◌, false, [], Some, None, IsSome, IfOk, replicate};
+ghost use Rattle.std.specs.Prelude.{◌≡◌, ℕ, ◌≤◌, ◌+◌, ◌-◌, ◌*◌, ◌||◌, false, [], Some, None, IsSome, IfOk, replicate};
 ghost use Rattle.slab.specs.Slab.{get, HasRoomFor};
 ghost use Rattle.block_arena.specs.Blocks.{IsBlockLen};
 ghost use Rattle.block_arena.specs.Memory.{IsBufferOf};
@@ -41,7 +41,7 @@ pub(crate) fn come(pieces: &mut Slab<Piece>, piece: Piece) -> usize
     pieces.insert_reserved(piece)
 }
 
-// A piece stands otherwise.
+// How a piece stands changes.
 pub(crate) fn stand(pieces: &mut Slab<Piece>, key: usize, stand: Stand) -> Stand
     requires { IsSome (get pieces.old key) }
     ensures was { result ≡ (piece_at key pieces.old).stand }
@@ -69,23 +69,46 @@ pub(crate) fn go(pieces: &mut Slab<Piece>, key: usize) -> Piece
     pieces.remove(key)
 }
 
+// How many pins a page has.
+pub(crate) fn pins_at(pieces: &Slab<Piece>, key: usize) -> u64
+    requires { IsSome (pages_of pieces.now key) }
+    ensures { result ≡ (page_at key pieces.now).pins }
+{
+    match &pieces[key].stand {
+        Stand::Pinned(count) => *count,
+        _ => 0,
+    }
+}
+
 // A page that rests is pinned.
 pub(crate) fn pin_at(pieces: &mut Slab<Piece>, key: usize) -> Buf
     requires page { IsSome (pages_of pieces.old key) }
+    requires counted { (count : ℕ) → (piece_at key pieces.old).stand ≡ Pinned count → 1 ≤ count }
     requires rests { (page_at key pieces.old).pins ≡ 0 }
-    ensures changed { Changed pieces.old pieces.new key (Some (record (piece_at key pieces.old) { stand = Pinned })) }
+    ensures changed { Changed pieces.old pieces.new key (Some (record (piece_at key pieces.old) { stand = Pinned 1 })) }
     ensures was { (piece_at key pieces.old).stand ≡ Resting result }
     ensures pages { pages_of pieces.new ≡ put key (Some (record (page_at key pieces.old) { pins = (page_at key pieces.old).pins + 1; left = [] })) (pages_of pieces.old) }
     ensures loans { loans_of pieces.new ≡ loans_of pieces.old }
     ensures bytes { result.bytes ≡ (page_at key pieces.old).left }
 {
-    match stand(pieces, key, Stand::Pinned) {
+    match stand(pieces, key, Stand::Pinned(1)) {
         Stand::Resting(buf) => buf,
         _ => unreachable!(),
     }
 }
 
-// A pinned page rests.
+// A pinned page has so many pins from now on.
+pub(crate) fn repin_at(pieces: &mut Slab<Piece>, key: usize, count: u64)
+    requires page { IsSome (pages_of pieces.old key) }
+    requires pinned { 1 ≤ (page_at key pieces.old).pins }
+    ensures changed { Changed pieces.old pieces.new key (Some (record (piece_at key pieces.old) { stand = Pinned count })) }
+    ensures pages { pages_of pieces.new ≡ put key (Some (record (page_at key pieces.old) { pins = count })) (pages_of pieces.old) }
+    ensures loans { loans_of pieces.new ≡ loans_of pieces.old }
+{
+    stand(pieces, key, Stand::Pinned(count));
+}
+
+// A page that is pinned once rests.
 pub(crate) fn rest_at(pieces: &mut Slab<Piece>, key: usize, buf: Buf)
     requires page { IsSome (pages_of pieces.old key) }
     requires pinned { (page_at key pieces.old).pins ≡ 1 }

@@ -17,7 +17,7 @@ returns-in_err-move_reservation-clause-cause g c =
     let mid : Signs = g.St.Store.signs c.reserve.new.self in
     let last : Signs = g.St.Store.signs c.move_reservation.new.self in
     let stop : StoppedRound mid last e =
-    shift_stops mid last c.args.c.now.tracker c.args.other.now.tracker c.from-len.result (g.St.Store.holds c.reserve.new.self) (Err e) _ c.in_err-move_reservation.ensures.refused c.in_err-move_reservation.ensures.answered in
+    shift_stops mid last c.args.c.now.tracker c.args.other.now.tracker c.from-len.result (g.St.Store.holds c.reserve.new.self) (Err e) _ _ _ c.in_err-move_reservation.ensures.refused c.in_err-move_reservation.ensures.err in
     rw same (stopped_before e first mid last c.reserve.ensures.grows stop)
 
 pub returns-clause-rest : goal.returns-clause-rest
@@ -27,8 +27,8 @@ returns-clause-rest g c =
     let h2 : Holdings = g.St.Store.holds c.move_reservation.new.self in
     let h3 : Holdings = g.St.Store.holds c.give_back.new.self in
     let h4 : Holdings = g.St.Store.holds c.reserve_to_fit.new.self in
-    let grown : AlikeButClients h0 h1 = reserved_alike h0 h1 (Ok tt) _ _ c.in_ok-reserve.ensures.ok tt in
+    let grown : AlikeButClients h0 h1 = reserved_alike h0 h1 (Ok tt) _ _ (g.St.Store.signs c.args.store.now) (g.St.Store.signs c.args.store.now) c.in_ok-reserve.ensures.ok tt in
     let moved : AlikeButClients h1 h2 = moved_alike h1 h2 _ _ _ c.requires.apart c.in_ok-move_reservation.ensures.ok in
     let fallen : AlikeButClients h2 h3 = fallen_alike h2 h3 _ _ c.in_ok-give_back.ensures.ok in
-    let last : AlikeButClients h3 h4 = reserved_alike h3 h4 c.reserve_to_fit.result _ _ c.reserve_to_fit.ensures.ok c.reserve_to_fit.ensures.err in
+    let last : AlikeButClients h3 h4 = reserved_alike h3 h4 c.reserve_to_fit.result _ _ _ _ c.reserve_to_fit.ensures.ok c.reserve_to_fit.ensures.err in
     alike_on h0 h1 h4 grown (alike_on h1 h2 h4 moved (alike_on h2 h3 h4 fallen last))

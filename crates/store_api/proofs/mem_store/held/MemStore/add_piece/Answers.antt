@@ -23,20 +23,28 @@ invariant_of-self-2 c =
     let account = account_at c.args.client s.accounts.clients in
     record {
       block = s.block;
-      kept = kept_come s.block_len (clients_of s.accounts.clients) r kept (clients_of c.charge.new.self.clients) c.come-key.new.pieces c.come-key.result piece c.come-key.ensures.fresh c.come-key.ensures.changed (record account { unused = account.unused - c.len_of-len.result }) c.charge.ensures.clients c.requires.client (search rules) c.requires.charged (omega (arith, c.len_of-len.ensures, c.requires.unused));
+      kept = kept_come s.block_len (clients_of s.accounts.clients) r kept (clients_of c.charge.new.self.clients) c.come-key.new.pieces c.come-key.result piece c.come-key.ensures.fresh c.come-key.ensures.changed (record account { unused = account.unused - c.len_of-len.result }) c.charge.ensures.clients c.requires.client (search rules) c.requires.blocks c.requires.charged (omega (arith, c.len_of-len.ensures, c.requires.unused));
     }
 
-pub returns-clause-changed : goal.returns-clause-changed
-returns-clause-changed c = regrown c.args.self.now.pieces c.reserve.new.self (ap (λ (x : Slab Piece). x.slots) c.reserve.ensures.rest_kept) c.come-key.new.pieces c.come-key.result _ c.come-key.ensures.changed
-
-pub returns-clause-pages : goal.returns-clause-pages
-returns-clause-pages c = (regrown c.args.self.now.pieces c.reserve.new.self (ap (λ (x : Slab Piece). x.slots) c.reserve.ensures.rest_kept) c.come-key.new.pieces c.come-key.result _ c.come-key.ensures.changed).pages
-
-pub returns-clause-loans : goal.returns-clause-loans
-returns-clause-loans c = (regrown c.args.self.now.pieces c.reserve.new.self (ap (λ (x : Slab Piece). x.slots) c.reserve.ensures.rest_kept) c.come-key.new.pieces c.come-key.result _ c.come-key.ensures.changed).loans
-
-pub returns-clause-no_page : goal.returns-clause-no_page
-returns-clause-no_page c none = come_no_page c.args.self.now.pieces c.reserve.new.self (ap (λ (x : Slab Piece). x.slots) c.reserve.ensures.rest_kept) c.come-key.new.pieces c.come-key.result _ c.come-key.ensures.changed c.come-key.ensures.fresh none
-
-pub returns-clause-no_loan : goal.returns-clause-no_loan
-returns-clause-no_loan c none = come_no_loan c.args.self.now.pieces c.reserve.new.self (ap (λ (x : Slab Piece). x.slots) c.reserve.ensures.rest_kept) c.come-key.new.pieces c.come-key.result _ c.come-key.ensures.changed c.come-key.ensures.fresh none
+pub returns-clause-ok : goal.returns-clause-ok
+returns-clause-ok c =
+    let old = c.args.self.now.pieces in
+    let now = c.come-key.new.pieces in
+    let key = c.come-key.result in
+    let same = ap (λ (x : Slab Piece). x.slots) c.reserve.ensures.rest_kept in
+    let changed = regrown old c.reserve.new.self same now key _ c.come-key.ensures.changed in
+    record {
+      fresh = search rules;
+      short = search rules;
+      pages = changed.pages;
+      loans = changed.loans;
+      no_page = λ none. come_no_page old c.reserve.new.self same now key _ c.come-key.ensures.changed c.come-key.ensures.fresh none;
+      no_loan = λ none. come_no_loan old c.reserve.new.self same now key _ c.come-key.ensures.changed c.come-key.ensures.fresh none;
+      fits = search rules;
+      zeros = search rules;
+      clients = search rules;
+      live = search rules;
+      limit = search rules;
+      reservation = search rules;
+      room = search rules;
+    }
