@@ -7,16 +7,13 @@ use Rattle.std.proofs.lemmas.Option.{IfSome_then}
 use Rattle.store_api.specs.Tokens.{PageToken}
 use Rattle.store_api.specs.Holdings.{LivePage, Holdings, or_else, no_page, page_of}
 use Rattle.tuple_stream.specs.Streamed.{Streamed, bytes_of, open_bytes, all_bytes, rows_by_page, page_rows, rows_of, joined}
-use Rattle.tuple_stream.specs.Streams.{IsApart, IsOwnPage, IsPacked, IsStream, IsFilled, start_of, unspent}
+use Rattle.tuple_stream.specs.Streams.{IsApart, IsOwnPage, IsPacked, IsShaped, HasRows, IsFilled, start_of, unspent}
 use Rattle.tuple_stream.specs.Places.{KeepsPlaces, rows_from, start_in}
 use Rattle.tuple_stream.specs.Touches.{Touches}
+use Rattle.tuple_stream.specs.Families.{AreDisjoint}
 use Rattle.tuple_stream.proofs.Chosen.{at_place, all_placed, map_agrees}
 
--- no page of the one is a page of the other
-abbrev pub AreDisjoint : Streamed → Streamed → Type 0
-AreDisjoint a b = All (λ p. IsApart p.name a.pages) b.pages
-
-module _ {t u : ℕ} {a now b : Streamed} {old new : Holdings} (touches : Touches t a now old new) (is : IsStream u b old) (disjoint : AreDisjoint a b) where
+module _ {t u : ℕ} {a now b : Streamed} {old new : Holdings} (touches : Touches t a now old new) (is : IsShaped u b old) (disjoint : AreDisjoint a b) where
   own_was : (k : ℕ) (p : PageToken) → slice_get b.pages k ≡ Some p → IsOwnPage u b.page_blocks old p
   own_was k p there = at_place (IsOwnPage u b.page_blocks old) b.pages k p is.own there
 
@@ -50,6 +47,7 @@ module _ {t u : ℕ} {a now b : Streamed} {old new : Holdings} (touches : Touche
       let from : rows_from place b new ≡ rows_from place b old = ap (λ (bytes : List (List ℕ)). joined (rows_by_page (start_in b place) bytes)) (bytes_from place.page) in (
         record {
           before = there.before;
+          behind = there.behind;
           rows = beside_rows ∙ there.rows ∙ ap (λ (rows : List (List ℕ)). there.before ++ rows) (sym from);
           page_is = there.page_is;
           first = there.first;
@@ -72,8 +70,8 @@ module _ {t u : ℕ} {a now b : Streamed} {old new : Holdings} (touches : Touche
         blocks_are = ap (λ (q : LivePage). q.blocks) page ∙ own.blocks_are;
       }
 
-  pub beside_stream : IsStream u b new
-  beside_stream =
+  pub beside_shape : IsShaped u b new
+  beside_shape =
       record {
         sized = is.sized;
         apart = is.apart;
@@ -87,11 +85,18 @@ module _ {t u : ℕ} {a now b : Streamed} {old new : Holdings} (touches : Touche
             whole = opened.fits.whole ∙ ap (λ (n : ℕ). b.page_blocks * n) (sym touches.block_len);
           };
         });
-        filled = λ k p there last. subst (IsFilled (start_of b k) b.used) (sym (bytes_stay_at k p there)) (is.filled k p there last);
         begins = is.begins;
-        each = subst (All (λ (rows : List (List ℕ)). 0 < length rows)) (sym pages_stay) is.each;
-        counted = is.counted ∙ ap length (sym beside_rows);
+      }
+
+  -- and so do its rows, whether pins are told or not
+  pub beside_has : (rows : List (List ℕ)) → HasRows rows b old → HasRows rows b new
+  beside_has rows has =
+      record {
+        are = beside_rows ∙ has.are;
+        counted = has.counted;
+        filled = λ k p there last. subst (IsFilled (start_of b k) b.used) (sym (bytes_stay_at k p there)) (has.filled k p there last);
+        each = subst (All (λ (rows : List (List ℕ)). 0 < length rows)) (sym pages_stay) has.each;
         packed =
             subst (λ (rows : List (List (List ℕ))). IsPacked (b.page_blocks * new.block_len) (unspent b rows)) (sym pages_stay)
-            (subst (λ (len : ℕ). IsPacked (b.page_blocks * len) (unspent b (page_rows b old))) (sym touches.block_len) is.packed);
+            (subst (λ (len : ℕ). IsPacked (b.page_blocks * len) (unspent b (page_rows b old))) (sym touches.block_len) has.packed);
       }

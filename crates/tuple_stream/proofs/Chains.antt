@@ -1,13 +1,10 @@
 -- What a stream's calls keep, over no call and over two, one after the other.
-use Rattle.std.proofs.Common.{◌≡◌, ℕ, ◌+◌, ◌*◌, ◌≤◌, ◌⊎◌, List, [], ◌++◌, Option, Some, None, IsSome, option_map, is_some, Result, Ok, Err, IfErr, OnErr, if◌then◌else◌, refl, ap, sym, ◌∙◌, subst, inl, inr, arith, append-nil, append_assoc}
-use Rattle.reservation_tree.specs.declared.errors.PoolErr.{PoolErr}
+use Rattle.std.proofs.Common.{◌≡◌, ℕ, ◌+◌, ◌*◌, ◌≤◌, ◌⊎◌, List, [], ◌++◌, Option, Some, None, IsSome, option_map, is_some, if◌then◌else◌, refl, ap, sym, ◌∙◌, subst, inl, inr, arith, append-nil, append_assoc}
 use Rattle.store_api.specs.Holdings.{Account, LivePage, Holdings, or_else, no_account, unused_of}
-use Rattle.store_api.specs.Signs.{Signs, Grows}
-use Rattle.store_api.proofs.Answered.{answered_before}
 use Rattle.tuple_stream.specs.Streamed.{OpenPage, Streamed, len_in}
-use Rattle.tuple_stream.specs.Streams.{IsStream, HasRoom}
+use Rattle.tuple_stream.specs.Streams.{HasPageRoom}
 use Rattle.tuple_stream.specs.Places.{KeepsPlaces, rows_from}
-use Rattle.tuple_stream.specs.Touches.{Touches, CameOfStore, IsFull, held, with_unused}
+use Rattle.tuple_stream.specs.Touches.{Touches, held, with_unused}
 
 pub same_account : (o : Option Account) → IsSome o → (unused : ℕ) → (or_else no_account o).unused ≡ unused → o ≡ option_map (with_unused unused) o
 same_account None lives unused same = absurd cc
@@ -32,6 +29,7 @@ touches_refl t s h =
       above = refl;
       live_clients = refl;
       loans = refl;
+      told = refl;
       clients = λ q apart. refl;
       account = λ lives. same_account (h.clients t) lives (unused_of t h) refl;
       pages = λ q lives apart. (refl, apart);
@@ -66,6 +64,7 @@ module _ (t : ℕ) (a b c : Streamed) (old mid new : Holdings) where
         above = second.above ∙ first.above;
         live_clients = second.live_clients ∙ first.live_clients;
         loans = second.loans ∙ first.loans;
+        told = second.told ∙ first.told;
         clients = λ q apart. second.clients q apart ∙ first.clients q apart;
         account = λ lives.
             let moved : mid.clients t ≡ option_map (with_unused (unused_of t mid)) (old.clients t) = first.account lives in
@@ -90,13 +89,6 @@ module _ (t : ℕ) (a b c : Streamed) (old mid new : Holdings) where
       let two = second place one.0 in
       (two.0, two.1 ∙ ap (λ (rows : List (List ℕ)). rows ++ more) one.1 ∙ append_assoc (rows_from place a old) some more)
 
-  -- where the first call brings no rows
-  pub keeps_places_then : (more : List (List ℕ)) → KeepsPlaces [] a b old mid → KeepsPlaces more b c mid new → KeepsPlaces more a c old new
-  keeps_places_then more first second = λ place there.
-      let one = first place there in
-      let two = second place one.0 in
-      (two.0, two.1 ∙ ap (λ (rows : List (List ℕ)). rows ++ more) (one.1 ∙ append-nil (rows_from place a old)))
-
 pub keeps_places_refl : (s : Streamed) (h : Holdings) → KeepsPlaces [] s s h h
 keeps_places_refl s h = λ place there. (there, sym (append-nil (rows_from place s h)))
 
@@ -113,7 +105,7 @@ no_page None closed some = absurd cc
 no_page (Some page) closed some = absurd cc
 
 -- the room for a page stays
-pub has_room_kept : (t : ℕ) (s now : Streamed) (old new : Holdings) → HasRoom t s old → Touches t s now old new → now.page_blocks ≡ s.page_blocks → HasRoom t now new
+pub has_room_kept : (t : ℕ) (s now : Streamed) (old new : Holdings) → HasPageRoom t s old → Touches t s now old new → now.page_blocks ≡ s.page_blocks → HasPageRoom t now new
 has_room_kept t s now old new room touches sized =
     let same : len_in now new ≡ len_in s old = ap (λ (n : ℕ). n * new.block_len) sized ∙ ap (λ (n : ℕ). s.page_blocks * n) touches.block_len in
     let enough : len_in s old ≤ unused_of t old + held s old = elim room [
@@ -123,29 +115,9 @@ has_room_kept t s now old new room touches sized =
     room_kept now.pinned (len_in now new) (unused_of t old + held s old) (unused_of t new) touches.unused (omega (arith, same, enough))
 
 -- and where none is pinned it is unused
-pub closed_room : (t : ℕ) (s now : Streamed) (old new : Holdings) → HasRoom t s old → Touches t s now old new → now.page_blocks ≡ s.page_blocks → now.pinned ≡ None → len_in now new ≤ unused_of t new
+pub closed_room : (t : ℕ) (s now : Streamed) (old new : Holdings) → HasPageRoom t s old → Touches t s now old new → now.page_blocks ≡ s.page_blocks → now.pinned ≡ None → len_in now new ≤ unused_of t new
 closed_room t s now old new room touches sized closed =
     elim (has_room_kept t s now old new room touches sized) [
       | inl unused ↦ unused
       | inr some ↦ absurd (no_page now.pinned closed some)
     ]
-
--- what the store answered in the second of two calls, it answered in both
-pub came_later : {X : Type 0} (s now : Streamed) (h : Holdings) (old mid new : Signs) (result : Result X PoolErr) → Grows old mid → now.page_blocks ≡ s.page_blocks → IfErr result (CameOfStore now h mid new) → IfErr result (CameOfStore s h old new)
-came_later s now h old mid new (Ok x) grows sized came = tt
-came_later s now h old mid new (Err e) grows sized came =
-    record {
-      answered = answered_before e old mid new grows came.answered;
-      full = subst (λ (n : ℕ). IsFull n h.free_slots e) sized came.full;
-    }
-
--- where a refused call changes nothing a stream stays one
-pub stays_on_err : {X : Type 0} (t : ℕ) (s now : Streamed) (old new : Holdings) (result : Result X PoolErr) → IsStream t s old → OnErr result (now ≡ s) → OnErr result (new ≡ old) → OnErr result (IsStream t now new)
-stays_on_err t s now old new (Ok x) is same stays = tt
-stays_on_err t s now old new (Err e) is same stays =
-    subst (λ (h : Holdings). IsStream t now h) (sym stays) (subst (λ (r : Streamed). IsStream t r old) (sym same) is)
-
--- what is so in any case is so after a refusal
-pub on_err : {X : Type 0} {P : Type 0} (result : Result X PoolErr) → P → OnErr result P
-on_err (Ok x) is = tt
-on_err (Err e) is = is

@@ -10,7 +10,7 @@ use Rattle.store_api.specs.Changes.{after_destroy}
 use Rattle.store_api.specs.Conditions.{IsHeld, Fits}
 use Rattle.store_api.proofs.Puts.{put_here, put_there}
 use Rattle.tuple_stream.specs.Streamed.{OpenPage, Streamed, len_in}
-use Rattle.tuple_stream.specs.Streams.{IsOwnPage, IsOpen, IsStream, pins_at}
+use Rattle.tuple_stream.specs.Streams.{IsOwnPage, IsOpen, IsShaped, pins_at}
 use Rattle.tuple_stream.specs.Touches.{Touches, slots_of, with_unused}
 use Rattle.tuple_stream.proofs.Chosen.{at_place}
 use Rattle.tuple_stream.proofs.Sums.{sum_same}
@@ -132,6 +132,7 @@ module _ (t : ℕ) (s : Streamed) (h : Holdings) (p : PageToken) (rest : List Pa
         above = refl;
         live_clients = refl;
         loans = refl;
+        told = refl;
         clients = λ q apart. put_there (page_of p.name h).client q (Some (record (account_of (page_of p.name h).client h) { unused = unused_of (page_of p.name h).client h + (page_of p.name h).pins * page_len p.name h })) h.clients (λ e. apart (e ∙ first_own.page.client ∙ first_own.client));
         account = λ lives. account_now ∙ charged_less (h.clients t) ((page_of p.name h).pins * page_len p.name h) lives ∙ ap (λ (n : ℕ). option_map (with_unused n) (h.clients t)) (sym unused_now);
         pages = λ q some apart. (put_there p.name q None h.pages (λ e. All-head (λ (r : PageToken). r.name ≢ q) p rest apart (sym e)), All-tail (λ (r : PageToken). r.name ≢ q) p rest apart);
@@ -147,7 +148,7 @@ module _ (t : ℕ) (s : Streamed) (h : Holdings) (p : PageToken) (rest : List Pa
       }
 
 -- a stream has its pages
-pub has_pages : (t : ℕ) (s : Streamed) (h : Holdings) → IsStream t s h → HasPages t s h
+pub has_pages : (t : ℕ) (s : Streamed) (h : Holdings) → IsShaped t s h → HasPages t s h
 has_pages t s h is = record { apart = is.apart; own = is.own; pins = is.pins; opened = is.opened }
 
 -- the same of a stream whose pages begin so

@@ -5,10 +5,9 @@ use Rattle.std.specs.List.{concat}
 use Rattle.std.proofs.lemmas.List.{length-map}
 use Rattle.std.proofs.lemmas.List.Elements.{All-head, All-tail}
 use Rattle.std.proofs.lemmas.List.Folds.{concat-append}
-use Rattle.store_api.specs.Holdings.{Holdings}
-use Rattle.tuple_stream.specs.Streamed.{Streamed, len_in, bytes_of, all_bytes, page_rows, joined}
-use Rattle.tuple_stream.specs.Streams.{IsPacked, IsStream}
-use Rattle.tuple_stream.specs.Bounds.{FewPages}
+use Rattle.tuple_stream.specs.Streamed.{len_in, bytes_of, all_bytes, page_rows, joined}
+use Rattle.tuple_stream.specs.Streams.{IsPacked}
+use Rattle.tuple_stream.specs.Bounds.{AllFew}
 use Rattle.tuple_stream.proofs.PageLists.{rows_count}
 
 -- the bytes of the rows of all these pages
@@ -51,11 +50,13 @@ rows_enough (page ∷ pages) each =
     let all : length (joined (page ∷ pages)) ≡ length page + length (joined pages) = length-append page (joined pages) in
     omega (arith, here, rest, all)
 
-pub few_pages : (t : ℕ) (s : Streamed) (h : Holdings) → IsStream t s h → FewPages s h
-few_pages t s h is =
+pub few_pages : AllFew
+few_pages t rows s h is has =
     let count : length (page_rows s h) ≡ length s.pages = rows_count s.spent (all_bytes s h s.pages) ∙ length-map s.pages (bytes_of s h) in
     record {
-      rows = let enough = rows_enough (page_rows s h) is.each in omega (arith, enough, count, is.counted);
-      bytes = subst (λ (n : ℕ). n * len_in s h ≤ 2 * total (page_rows s h) + (if s.spent == 0 then 1 else 2) * len_in s h) count
-          (packed_if (s.spent == 0) (len_in s h) (page_rows s h) is.packed);
+      by_rows = let enough = rows_enough (page_rows s h) has.each in let all = ap length has.are in omega (arith, enough, count, all);
+      by_bytes =
+          subst (λ (rs : List (List ℕ)). length s.pages * len_in s h ≤ 2 * length (concat rs) + (if s.spent == 0 then 1 else 2) * len_in s h) has.are
+          (subst (λ (n : ℕ). n * len_in s h ≤ 2 * total (page_rows s h) + (if s.spent == 0 then 1 else 2) * len_in s h) count
+          (packed_if (s.spent == 0) (len_in s h) (page_rows s h) has.packed));
     }

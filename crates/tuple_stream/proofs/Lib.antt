@@ -1,46 +1,57 @@
--- for callers
 pub mod Beside
 pub mod Chains
-pub mod Frames
-pub mod PinsFirst
 pub mod Sinces
-mod BuildingPages
 mod BuildingQuiet
+pub mod PinsFirst
+mod ReadingEvents
+mod Told
 mod Chosen
-mod Emptied
-mod Endings
-mod FewPages
 mod Filling
-mod KeepingRows
 mod LastPage
-mod LeftPages
-mod LeftRows
 mod NewPage
 mod NewReady
 mod NewRows
 mod NewTouches
-mod NextPages
 mod OpenPages
 mod Packing
 mod PageLists
 mod Pinned
 mod Pinning
-mod Placed
-mod ReadingCalls
-mod ReadingEnds
-mod ReadingEvents
-mod ReadingOpen
-mod Refused
 mod Resting
 mod RowBytes
 mod RowLists
 mod RowsOn
-mod Spends
-mod SpentRows
-mod Starts
 mod Sums
-mod Told
 mod Turned
 mod Writing
 mod WrittenPlaces
 mod WrittenStream
+pub mod Going
+pub mod Empty
+pub mod Built
+mod RestedPage
+mod PinnedPage
+mod NewOne
+mod Readying
+mod Placed
+pub mod ReadRow
+pub mod ReadAll
+mod FewPages
+mod Starts
+mod Endings
+mod Emptied
+mod Spends
+mod SpentRows
+pub mod Frames
+pub mod Ends
+pub mod SpendAll
+mod OnePlace
+mod FamilyBeside
+pub mod FamilyStep
+pub mod FamilyChains
+pub mod FamilyWords
+pub mod FamilyHolds
+pub mod FamilyRooms
+pub mod FamilyKept
+mod FamilyLawsHold
+mod Dealt

@@ -9,9 +9,10 @@ use Rattle.std.proofs.lemmas.Option.{slice_get_within, same_Some}
 use Rattle.block_arena.specs.Memory.{Buffer}
 use Rattle.store_api.specs.Tokens.{ClientToken, PageToken}
 use Rattle.store_api.specs.Holdings.{LivePage, Holdings, page_of, length_of}
+use Rattle.store_api.specs.Conditions.{Fits}
 use Rattle.tuple_stream.specs.PageRows.{rows_on}
 use Rattle.tuple_stream.specs.Streamed.{Streamed, len_in, bytes_of, all_bytes, rows_by_page, page_rows}
-use Rattle.tuple_stream.specs.Streams.{IsOwnPage, IsFilled, IsPacked, pins_at, start_of, unspent}
+use Rattle.tuple_stream.specs.Streams.{IsOwnPage, IsShaped, HasRows, IsFilled, IsPacked, pins_at, start_of, unspent}
 use Rattle.tuple_stream.specs.Ready.{IsReady, rows_then}
 use Rattle.tuple_stream.proofs.Chosen.{all_placed, map_agrees}
 use Rattle.tuple_stream.proofs.Pinned.{pins_here, pins_elsewhere}
@@ -85,6 +86,26 @@ module _ {c : ClientToken} {s : Streamed} {p : PageToken} {buf : Buffer} {old ne
         zeros = comes.made.buffer.zeros ∙ ap (λ (n : ℕ). replicate n 0) (omega (arith, ap length comes.made.buffer.zeros, length-replicate {A = ℕ} (length_of s.page_blocks old) 0));
       })
 
+  new_fits : Fits s.page_blocks new buf
+  new_fits =
+      record {
+        blocks = comes.made.buffer.fits.blocks;
+        block_len = comes.made.buffer.fits.block_len ∙ sym (same_block comes);
+        whole = comes.made.buffer.fits.whole ∙ ap (λ (n : ℕ). s.page_blocks * n) (sym (same_block comes));
+      }
+
+  pub new_shape : IsShaped c.tracker (with_new p buf s) new
+  new_shape =
+      record {
+        sized = comes.stream.sized;
+        apart = apart_push s.pages p comes.stream.apart (all_placed (λ r. r.name ≢ p.name) s.pages (apart_now comes));
+        own = All-push (IsOwnPage c.tracker s.page_blocks new) s.pages p (all_placed (IsOwnPage c.tracker s.page_blocks new) s.pages own_now) own_new;
+        pins = pins_now;
+        opened = record { inside = omega (arith, (longer comes)); fits = new_fits };
+        begins = λ none. absurd (let long : length (s.pages ++ p ∷ []) ≡ 0 = ap length none in omega (arith, long, (longer comes)));
+      }
+
+module _ {c : ClientToken} {s : Streamed} {p : PageToken} {buf : Buffer} {old new : Holdings} (comes : Comes c s p buf old new) (rows : List (List ℕ)) (has : HasRows rows s old) where
   -- a full page before it keeps neighbours packed
   packed_behind : (row : List ℕ) → (0 < length s.pages → len_in s old < s.used + length row) → IsPacked (len_in s old) (unspent s (page_rows s old ++ (row ∷ []) ∷ []))
   packed_behind row full =
@@ -98,7 +119,7 @@ module _ {c : ClientToken} {s : Streamed} {p : PageToken} {buf : Buffer} {old ne
             let rows : page_rows s old ≡ front ++ last ∷ [] = rows_split s old some.0 some.1 some.2 in
             let long : length s.pages ≡ length some.0 + 1 = ap length some.2 ∙ length-append some.0 (some.1 ∷ []) in
             let at : slice_get s.pages (length some.0) ≡ Some some.1 = subst (λ (pages : List PageToken). slice_get pages (length some.0) ≡ Some some.1) (sym some.2) (at_end some.0 some.1) in
-            let filled : IsFilled (start_of s (length some.0)) s.used (bytes_of s old some.1) = comes.stream.filled (length some.0) some.1 at (omega (arith, long)) in
+            let filled : IsFilled (start_of s (length some.0)) s.used (bytes_of s old some.1) = has.filled (length some.0) some.1 at (omega (arith, long)) in
             let more : length (concat (row ∷ [])) ≡ length row = ap length (append-nil row) in
             let passed : len_in s old < s.used + length row = full (omega (arith, long)) in
             subst (λ (rs : List (List (List ℕ))). IsPacked (len_in s old) (unspent s (rs ++ (row ∷ []) ∷ []))) (sym rows)
@@ -109,10 +130,10 @@ module _ {c : ClientToken} {s : Streamed} {p : PageToken} {buf : Buffer} {old ne
             let apart : length some.0 ≢ 0 = λ zero. omega (arith, zero, count, behind) in
             let start : start_of s (length some.0) ≡ 0 = rw (ne_eqb (length some.0) 0 apart) refl in
             omega (arith, start, filled.rows, more, passed))
-            (subst (λ (rs : List (List (List ℕ))). IsPacked (len_in s old) (unspent s rs)) rows comes.stream.packed))
+            (subst (λ (rs : List (List (List ℕ))). IsPacked (len_in s old) (unspent s rs)) rows has.packed))
       ]
 
-  pub new_ready : (bytes : ℕ) → bytes ≤ len_in s old → (0 < length s.pages → len_in s old < s.used + bytes) → IsReady c.tracker bytes (with_new p buf s) new
+  pub new_ready : (bytes : ℕ) → bytes ≤ len_in s old → (0 < length s.pages → len_in s old < s.used + bytes) → IsReady bytes (with_new p buf s) new
   new_ready bytes fits full =
       record {
         before = s.pages;
@@ -120,22 +141,14 @@ module _ {c : ClientToken} {s : Streamed} {p : PageToken} {buf : Buffer} {old ne
         buf = buf;
         pages_are = refl;
         pinned_is = refl;
-        sized = comes.stream.sized;
-        apart = apart_push s.pages p comes.stream.apart (all_placed (λ r. r.name ≢ p.name) s.pages (apart_now comes));
-        own = All-push (IsOwnPage c.tracker s.page_blocks new) s.pages p (all_placed (IsOwnPage c.tracker s.page_blocks new) s.pages own_now) own_new;
-        pins = pins_now;
-        fits = record {
-          blocks = comes.made.buffer.fits.blocks;
-          block_len = comes.made.buffer.fits.block_len ∙ sym (same_block comes);
-          whole = comes.made.buffer.fits.whole ∙ ap (λ (n : ℕ). s.page_blocks * n) (sym (same_block comes));
-        };
-        filled = new_filled;
+        pins = pins_now comes;
+        filled = new_filled comes;
         room = omega (arith, fits, comes.made.buffer.fits.whole);
-        each = subst (All (λ (rows : List (List ℕ)). 0 < length rows)) (sym rows_before) comes.stream.each;
-        counted = comes.stream.counted ∙ ap length (sym (new_rows comes));
+        each = subst (All (λ (rows : List (List ℕ)). 0 < length rows)) (sym (rows_before comes)) has.each;
+        counted = has.counted ∙ ap length (sym has.are) ∙ ap length (sym (new_rows comes));
         packed = λ row long.
             subst (λ (len : ℕ). IsPacked (s.page_blocks * len) (unspent s (rows_then (rows_by_page s.spent (all_bytes (with_new p buf s) new s.pages)) (rows_on (drop (start_of s (length s.pages)) buf.bytes)) row))) (sym (same_block comes))
-            (subst (λ (rows : List (List (List ℕ))). IsPacked (len_in s old) (unspent s (rows_then rows (rows_on (drop (start_of s (length s.pages)) buf.bytes)) row))) (sym rows_before)
+            (subst (λ (rows : List (List (List ℕ))). IsPacked (len_in s old) (unspent s (rows_then rows (rows_on (drop (start_of s (length s.pages)) buf.bytes)) row))) (sym (rows_before comes))
             (subst (λ (rows : List (List ℕ)). IsPacked (len_in s old) (unspent s (rows_then (page_rows s old) rows row))) (sym (zeros_from comes (start_of s (length s.pages))))
             (packed_behind row (λ some. let passed = full some in omega (arith, passed, long)))));
       }

@@ -7,7 +7,7 @@ use Rattle.pool_model.specs.LookingBack.{content_from}
 use Rattle.pool_model.specs.declared.entry.Entry.{Entry}
 use Rattle.tuple_stream.specs.PageRows.{rows_on}
 use Rattle.tuple_stream.specs.Streamed.{OpenPage, Streamed, bytes_of}
-use Rattle.tuple_stream.specs.Streams.{IsOwnPage, IsStream, pins_at}
+use Rattle.tuple_stream.specs.Streams.{IsOwnPage, IsShaped, pins_at}
 use Rattle.tuple_stream.specs.Touches.{TellsRows}
 use Rattle.tuple_stream.proofs.Chosen.{at_place, all_placed, map_agrees}
 use Rattle.tuple_stream.proofs.Turned.{resting_bytes}
@@ -17,7 +17,7 @@ some_slot None lives = absurd cc
 some_slot (Some page) lives = refl
 
 -- where nothing is pinned the trail tells the rows
-pub tells_rows : (t : ℕ) (s : Streamed) (h : Holdings) (trail : Option (List Entry)) → IsStream t s h → s.pinned ≡ None → TellsLeft h trail → TellsRows s h trail
+pub tells_rows : (t : ℕ) (s : Streamed) (h : Holdings) (trail : Option (List Entry)) → IsShaped t s h → s.pinned ≡ None → TellsLeft h trail → TellsRows s h trail
 tells_rows t s h None is none told = tt
 tells_rows t s h (Some trail) is none told =
     map_agrees (λ (p : PageToken). rows_on (content_from p.name [] trail)) (λ (p : PageToken). rows_on (bytes_of s h p)) s.pages

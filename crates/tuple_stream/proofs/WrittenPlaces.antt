@@ -14,7 +14,7 @@ use Rattle.tuple_stream.specs.Ready.{IsReady, with_row}
 use Rattle.tuple_stream.proofs.PageLists.{start_behind, start_behind_map, start_behind_if, start_behind_some}
 use Rattle.tuple_stream.proofs.Writing.{pages_long, written_rows, start_from, rows_were, joined_now}
 
-module _ {t : ℕ} {s : Streamed} {h : Holdings} {row : List ℕ} (count : ℕ) (is : IsReady t (length row) s h) (one : IsOneRow row) where
+module _ {s : Streamed} {h : Holdings} {row : List ℕ} (count : ℕ) (is : IsReady (length row) s h) (one : IsOneRow row) where
   filled_from : (start n : ℕ) → n ≤ length is.before → (n ≡ length is.before → start + length (concat (joined (rows_by_page start (all_bytes s h (drop n s.pages))))) ≡ s.used) → IsFilled (start_from count is one start n) s.used is.buf.bytes
   filled_from start n inside last =
       elim (cases_lt n (length is.before)) [
@@ -47,6 +47,7 @@ module _ {t : ℕ} {s : Streamed} {h : Holdings} {row : List ℕ} (count : ℕ) 
       ∙ length-append (concat (rows_from place s h)) row in (
         record {
           before = there.before;
+          behind = there.behind;
           rows =
               (written_rows count is one) ∙ ap (λ (rs : List (List ℕ)). rs ++ row ∷ []) there.rows ∙ append_assoc there.before (rows_from place s h) (row ∷ [])
               ∙ ap (λ (rs : List (List ℕ)). there.before ++ rs) (sym from);

@@ -1,9 +1,8 @@
--- A stream whose pages go one by one, from the front. Its rows no longer matter.
-use Rattle.std.specs.Prelude.{◌≡◌, ℕ, ◌-◌, ◌==◌, List, [], ◌∷◌, length, drop, slice_get, All, if◌then◌else◌, Option, Some, None, IfSome, option_map}
+-- A stream whose pages go one by one, from the front. About inner calls; no public clause cites this.
+use Rattle.std.specs.Prelude.{◌≡◌, ℕ, ◌-◌, ◌==◌, List, [], ◌∷◌, drop, slice_get, All, if◌then◌else◌, Option, Some, None, IfSome}
 use Rattle.block_arena.specs.Memory.{Buffer}
 use Rattle.store_api.specs.Tokens.{PageToken}
 use Rattle.store_api.specs.Holdings.{Holdings, page_of}
-use Rattle.store_api.specs.Signs.{Signs}
 use Rattle.tuple_stream.specs.Streamed.{OpenPage, Streamed}
 use Rattle.tuple_stream.specs.Streams.{AreApart, IsOwnPage, IsOpen, pins_at}
 
@@ -36,9 +35,3 @@ used_in (p ∷ pages) used = used
 -- the stream without its first page, of which all rows were spent
 abbrev pub with_next : Streamed → Streamed
 with_next s = record (without_first s) { spent = 0; used = used_in (drop 1 s.pages) s.used }
-
--- a row was taken out: unless its page went with it, that page is pinned, and where it was so before, the store is as
--- it was
-pub record SpendsOpen (s now : Streamed) (old new : Holdings) (before after : Signs) : Type 0 where
-  pub pinned : length now.pages ≡ length s.pages → option_map (λ p. p.place) now.pinned ≡ Some 0
-  pub still : length now.pages ≡ length s.pages → option_map (λ p. p.place) s.pinned ≡ Some 0 → (new ≡ old) × (after ≡ before)

@@ -4,7 +4,12 @@ pub mod Streams
 pub mod Places
 pub mod Touches
 pub mod Trails
-pub mod Bounds
 pub mod Ready
+pub mod Steps
+pub mod Reading
+pub mod Spending
 pub mod Ending
-pub mod Kept
+pub mod Bounds
+pub mod Families
+pub mod FamilyCalls
+pub mod FamilyLaws

@@ -1,14 +1,14 @@
 -- Places in a stream.
-use Rattle.std.specs.Prelude.{◌≡◌, ℕ, ◌+◌, ◌-◌, ◌≤◌, ◌==◌, List, [], ◌∷◌, ◌++◌, length, drop, max, if◌then◌else◌, Option, Some, None}
+use Rattle.std.specs.Prelude.{◌≡◌, ℕ, ◌+◌, ◌-◌, ◌≤◌, ◌==◌, List, [], ◌++◌, length, drop, max, if◌then◌else◌}
 use Rattle.std.specs.List.{concat}
 use Rattle.store_api.specs.Holdings.{Holdings}
 use Rattle.tuple_stream.specs.Streamed.{Streamed, all_bytes, joined, rows_by_page, rows_of}
-use Rattle.tuple_stream.specs.Streams.{IsStream}
 
--- a byte of a page, both counted from 0
+-- a byte of a page, and how many rows stand before it, all counted from 0
 pub record Place : Type 0 where
   pub page : ℕ
   pub byte : ℕ
+  pub row : ℕ
 
 -- where reading goes on: nothing that is spent is read
 abbrev pub start_in : Streamed → Place → ℕ
@@ -22,6 +22,7 @@ rows_from place s h = joined (rows_by_page (start_in s place) (all_bytes s h (dr
 pub record IsPlace (place : Place) (s : Streamed) (h : Holdings) : Type 0 where
   pub before : List (List ℕ)
   pub rows : rows_of s h ≡ before ++ rows_from place s h
+  pub behind : place.row ≡ length before
   pub page_is : place.page ≤ length s.pages - 1
   pub first : s.pages ≡ [] → place.byte ≡ 0
   pub last : place.page + 1 ≡ length s.pages → start_in s place + length (concat (rows_from place s h)) ≡ s.used
@@ -31,15 +32,11 @@ abbrev pub KeepsPlaces : List (List ℕ) → Streamed → Streamed → Holdings 
 KeepsPlaces more s now old new =
     (place : Place) → IsPlace place s old → IsPlace place now new × (rows_from place now new ≡ rows_from place s old ++ more)
 
--- a row was found in front of the others, or there was none
-abbrev pub IsNext : Option (List ℕ) → List (List ℕ) → List (List ℕ) → Type 0
-IsNext None before after = (before ≡ []) × (after ≡ [])
-IsNext (Some row) before after = before ≡ row ∷ after
+-- whatever its pages show, a place names a page of the stream, where there is one, and has no more rows before it than there are
+pub record IsWithin (place : Place) (s : Streamed) : Type 0 where
+  pub page_is : place.page ≤ length s.pages - 1
+  pub row_is : place.row ≤ s.count
 
 -- the start
 abbrev pub first : Place
-first = record { page = 0; byte = 0 }
-
--- it is a place of every stream, and all rows are behind it
-abbrev pub StartsFirst : Type 0
-StartsFirst = (t : ℕ) (s : Streamed) (h : Holdings) → IsStream t s h → IsPlace first s h × (rows_from first s h ≡ rows_of s h)
+first = record { page = 0; byte = 0; row = 0 }

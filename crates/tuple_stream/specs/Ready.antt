@@ -4,13 +4,9 @@ use Rattle.block_arena.specs.Bytes.{written}
 use Rattle.block_arena.specs.Memory.{Buffer, with_bytes}
 use Rattle.store_api.specs.Tokens.{PageToken}
 use Rattle.store_api.specs.Holdings.{Holdings, page_of}
-use Rattle.store_api.specs.Conditions.{IsBlockCount, Fits}
-use Rattle.store_api.specs.Signs.{Signs, Grows}
 use Rattle.tuple_stream.specs.PageRows.{rows_on}
 use Rattle.tuple_stream.specs.Streamed.{OpenPage, Streamed, len_in, all_bytes, rows_by_page, rows_of}
-use Rattle.tuple_stream.specs.Streams.{AreApart, IsOwnPage, IsFilled, IsPacked, pins_at, start_of, unspent}
-use Rattle.tuple_stream.specs.Places.{KeepsPlaces}
-use Rattle.tuple_stream.specs.Touches.{Touches}
+use Rattle.tuple_stream.specs.Streams.{IsFilled, IsPacked, pins_at, start_of, unspent}
 
 -- the pinned page with a row written from this byte on
 abbrev pub with_row_at : ℕ → List ℕ → OpenPage → OpenPage
@@ -28,36 +24,16 @@ with_row row count s = record s {
 abbrev pub rows_then : List (List (List ℕ)) → List (List ℕ) → List ℕ → List (List (List ℕ))
 rows_then pages last row = pages ++ (last ++ row ∷ []) ∷ []
 
--- a stream of a client whose last page is pinned and has room for a row of so many bytes; that page may have no
--- row yet
-pub record IsReady (t bytes : ℕ) (s : Streamed) (h : Holdings) : Type 0 where
+-- a stream whose last page is pinned and has room for a row of so many bytes; that page may have no row yet
+pub record IsReady (bytes : ℕ) (s : Streamed) (h : Holdings) : Type 0 where
   pub before : List PageToken
   pub last : PageToken
   pub buf : Buffer
   pub pages_are : s.pages ≡ before ++ last ∷ []
   pub pinned_is : s.pinned ≡ Some (record { place = length before; buf = buf })
-  pub sized : IsBlockCount s.page_blocks
-  pub apart : AreApart s.pages
-  pub own : All (IsOwnPage t s.page_blocks h) s.pages
   pub pins : (place : ℕ) (p : PageToken) → slice_get s.pages place ≡ Some p → (page_of p.name h).pins ≡ pins_at s.pinned place
-  pub fits : Fits s.page_blocks h buf
   pub filled : IsFilled (start_of s (length before)) s.used buf.bytes
   pub room : s.used + bytes ≤ length buf.bytes
   pub each : All (λ rows. 0 < length rows) (rows_by_page s.spent (all_bytes s h before))
   pub counted : s.count ≡ length (rows_of s h)
   pub packed : (row : List ℕ) → length row ≡ bytes → IsPacked (len_in s h) (unspent s (rows_then (rows_by_page s.spent (all_bytes s h before)) (rows_on (drop (start_of s (length before)) buf.bytes)) row))
-
--- the other stream is ready for each row that a page can have and the last page of this one has no room for
-abbrev pub IsReadyForMore : ℕ → Streamed → Streamed → Holdings → Holdings → Type 0
-IsReadyForMore t s now old new =
-    (bytes : ℕ) → bytes ≤ len_in s old → (0 < length s.pages → len_in s old < s.used + bytes) → IsReady t bytes now new
-
--- the rows stay, and all that a row at the end doesn't change
-pub record KeepsRows (t : ℕ) (s now : Streamed) (old new : Holdings) (before after : Signs) : Type 0 where
-  pub sized : now.page_blocks ≡ s.page_blocks
-  pub spent : now.spent ≡ s.spent
-  pub counted : now.count ≡ s.count
-  pub rows : rows_of now new ≡ rows_of s old
-  pub places : KeepsPlaces [] s now old new
-  pub touches : Touches t s now old new
-  pub grows : Grows before after

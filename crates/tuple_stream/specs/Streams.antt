@@ -1,5 +1,5 @@
 -- What is so of a stream over its store, after each call.
-use Rattle.std.specs.Prelude.{◌≡◌, ◌≢◌, ℕ, ◌+◌, ◌-◌, ◌<◌, ◌≤◌, ◌⊎◌, ◌==◌, List, [], ◌∷◌, length, drop, replicate, All, slice_get, if◌then◌else◌, Option, Some, None, IfSome, IsSome, ⊤}
+use Rattle.std.specs.Prelude.{◌≡◌, ◌≢◌, ℕ, ◌+◌, ◌-◌, ◌<◌, ◌≤◌, ◌⊎◌, ◌==◌, List, [], ◌∷◌, length, drop, replicate, All, slice_get, if◌then◌else◌, Option, Some, None, IfSome, IsSome, option_map, ⊤}
 use Rattle.std.specs.List.{concat}
 use Rattle.store_api.specs.Tokens.{PageToken}
 use Rattle.store_api.specs.Holdings.{Holdings, page_of, unused_of}
@@ -51,20 +51,31 @@ IsPacked len (a ∷ b ∷ rest) = (len < length (concat a) + length (concat b)) 
 abbrev pub unspent : Streamed → List (List (List ℕ)) → List (List (List ℕ))
 unspent s pages = if s.spent == 0 then pages else drop 1 pages
 
--- a stream of a client: its pages are the client's and apart, at most one is pinned, each has a row, and the last
--- one is filled up to where the next row may stand
-pub record IsStream (t : ℕ) (s : Streamed) (h : Holdings) : Type 0 where
+-- a stream of a client, whatever its pages show: they are the client's and apart, and at most one is pinned
+pub record IsShaped (t : ℕ) (s : Streamed) (h : Holdings) : Type 0 where
   pub sized : IsBlockCount s.page_blocks
   pub apart : AreApart s.pages
   pub own : All (IsOwnPage t s.page_blocks h) s.pages
   pub pins : (place : ℕ) (p : PageToken) → slice_get s.pages place ≡ Some p → (page_of p.name h).pins ≡ pins_at s.pinned place
   pub opened : IfSome s.pinned (IsOpen s h)
-  pub filled : (place : ℕ) (p : PageToken) → slice_get s.pages place ≡ Some p → place + 1 ≡ length s.pages → IsFilled (start_of s place) s.used (bytes_of s h p)
   pub begins : s.pages ≡ [] → (s.spent ≡ 0) × (s.used ≡ 0)
+
+-- these rows stand on its pages: each page has one, and the last is filled up to where the next row may stand
+pub record HasRows (rows : List (List ℕ)) (s : Streamed) (h : Holdings) : Type 0 where
+  pub are : rows_of s h ≡ rows
+  pub counted : s.count ≡ length rows
+  pub filled : (place : ℕ) (p : PageToken) → slice_get s.pages place ≡ Some p → place + 1 ≡ length s.pages → IsFilled (start_of s place) s.used (bytes_of s h p)
   pub each : All (λ rows. 0 < length rows) (page_rows s h)
-  pub counted : s.count ≡ length (rows_of s h)
   pub packed : IsPacked (len_in s h) (unspent s (page_rows s h))
 
+-- the page at this place is pinned
+abbrev pub IsOpenAt : ℕ → Streamed → Type 0
+IsOpenAt place s = option_map (λ p. p.place) s.pinned ≡ Some place
+
+-- rows can be appended without a pin: the last page is pinned, or there is none
+abbrev pub IsAtEnd : Streamed → Type 0
+IsAtEnd s = 0 < length s.pages → option_map (λ p. p.place + 1) s.pinned ≡ Some (length s.pages)
+
 -- the client has room for one page more, or the stream has one that it can let rest
-abbrev pub HasRoom : ℕ → Streamed → Holdings → Type 0
-HasRoom t s h = (len_in s h ≤ unused_of t h) ⊎ IsSome s.pinned
+abbrev pub HasPageRoom : ℕ → Streamed → Holdings → Type 0
+HasPageRoom t s h = (len_in s h ≤ unused_of t h) ⊎ IsSome s.pinned

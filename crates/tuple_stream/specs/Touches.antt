@@ -6,12 +6,9 @@ use Rattle.pool_model.specs.LookingBack.{content_from}
 use Rattle.pool_model.specs.declared.entry.Entry.{Entry}
 use Rattle.store_api.specs.Tokens.{PageToken}
 use Rattle.store_api.specs.Holdings.{Account, Holdings, page_of, unused_of}
-use Rattle.store_api.specs.Signs.{Signs, WasAnswered}
 use Rattle.tuple_stream.specs.PageRows.{rows_on}
 use Rattle.tuple_stream.specs.Streamed.{Streamed, len_in, bytes_of}
 use Rattle.tuple_stream.specs.Streams.{IsApart}
-use Rattle.tuple_stream.specs.declared.err.StreamErr.{StreamErr}
-use Rattle.tuple_stream.specs.declared.err.StreamErr.TheVariants as stream_err
 
 -- the bytes that the stream's pinned page takes
 abbrev pub held : Streamed → Holdings → ℕ
@@ -40,6 +37,7 @@ pub record Touches (t : ℕ) (s now : Streamed) (old new : Holdings) : Type 0 wh
   pub above : new.above ≡ old.above
   pub live_clients : new.live_clients ≡ old.live_clients
   pub loans : new.loans ≡ old.loans
+  pub told : new.told ≡ old.told
   pub clients : (q : ℕ) → q ≢ t → new.clients q ≡ old.clients q
   pub account : IsSome (old.clients t) → new.clients t ≡ option_map (with_unused (unused_of t new)) (old.clients t)
   pub pages : (q : ℕ) → IsSome (old.pages q) → IsApart q s.pages → (new.pages q ≡ old.pages q) × IsApart q now.pages
@@ -51,21 +49,6 @@ pub record Touches (t : ℕ) (s now : Streamed) (old new : Holdings) : Type 0 wh
 abbrev pub IsFull : ℕ → Option ℕ → PoolErr → Type 0
 IsFull blocks free (ScratchFull need few) = (need ≡ blocks) × (few < blocks) × (free ≡ Some few)
 IsFull blocks free _ = ⊤
-
--- the store answered this
-pub record CameOfStore (s : Streamed) (h : Holdings) (old new : Signs) (e : PoolErr) : Type 0 where
-  pub answered : WasAnswered e old new
-  pub full : IsFull s.page_blocks h.free_slots e
-
--- there were too few slots, and nothing else
-abbrev pub IsFullOnly : Streamed → Holdings → PoolErr → Type 0
-IsFullOnly s h (ScratchFull need few) = IsFull s.page_blocks h.free_slots (ScratchFull need few)
-IsFullOnly s h _ = ⊥
-
--- why a row of so many bytes wasn't appended: the store answered so, or the row is longer than a page
-abbrev pub MayRefuseRow : ℕ → Streamed → Holdings → Signs → Signs → StreamErr → Type 0
-MayRefuseRow len s h old new (stream_err.Pool e) = CameOfStore s h old new e
-MayRefuseRow len s h old new (stream_err.RowTooLong bytes) = (bytes ≡ len) × (len_in s h < len)
 
 -- where the trail is told, the bytes of each page's last unpin have that page's rows
 abbrev pub TellsRows : Streamed → Holdings → Option (List Entry) → Type 0

@@ -1,16 +1,12 @@
 //! Rows come.
-ghost use Rattle.std.specs.Prelude.{List, ◌≡◌, ◌+◌, ◌^◌, ◌<◌, ◌≤◌, [], ◌∷◌, ◌++◌, length, option_map, Option, Some, IsSome, IfSome, IfErr, OnOk, OnErr, Err};
-ghost use Rattle.pool_model.specs.declared.entry.Entry.{Entry};
-ghost use Rattle.store_api.specs.Conditions.{IsBlockCount, IsClient};
-ghost use Rattle.store_api.specs.Signs.{Grows};
+ghost use Rattle.std.specs.Prelude.{◌≡◌, ◌+◌, ◌^◌, ◌<◌, ◌≤◌, length, option_map, Some, IsSome, IfSome, IfErr, OnOk, Err};
+ghost use Rattle.store_api.specs.Conditions.{IsBlockCount, IsLiveClient};
 ghost use Rattle.tuple_stream.specs.declared.err.StreamErr.TheVariants as failure;
 ghost use Rattle.tuple_stream.specs.PageRows.{IsOneRow};
-ghost use Rattle.tuple_stream.specs.Streamed.{len_in, rows_of};
-ghost use Rattle.tuple_stream.specs.Streams.{IsStream, HasRoom};
-ghost use Rattle.tuple_stream.specs.Places.{KeepsPlaces};
+ghost use Rattle.tuple_stream.specs.Streamed.{len_in};
+ghost use Rattle.tuple_stream.specs.Streams.{HasPageRoom, IsAtEnd, IsShaped};
 ghost use Rattle.tuple_stream.specs.Ready.{with_row};
-ghost use Rattle.tuple_stream.specs.Touches.{Touches, MayRefuseRow};
-ghost use Rattle.tuple_stream.specs.Trails.{Builds};
+ghost use Rattle.tuple_stream.specs.Steps.{Adds, MayRefuseRow, came, scene};
 
 use crate::err::StreamErr;
 use crate::stream::Stream;
@@ -33,24 +29,14 @@ impl Stream {
         c: &Client,
         row: &[u8],
     ) -> Result<(), StreamErr>
-        requires client { IsClient c.now (St.holds store.old) }
-        requires stream { IsStream c.now.tracker self.old (St.holds store.old) }
-        requires room { HasRoom c.now.tracker self.old (St.holds store.old) }
+        requires client { IsLiveClient c.now (St.holds store.old) }
+        requires stream { IsShaped c.now.tracker self.old (St.holds store.old) }
+        requires room { HasPageRoom c.now.tracker self.old (St.holds store.old) }
         requires row { IsOneRow row.now }
-        ensures ok { OnOk result (rows_of self.new (St.holds store.new) ≡ rows_of self.old (St.holds store.old) ++ row.now ∷ []) }
-        ensures pinned { OnOk result (option_map (λ p. p.place + 1) self.new.pinned ≡ Some (length self.new.pages)) }
-        ensures places { OnOk result (KeepsPlaces (row.now ∷ []) self.old self.new (St.holds store.old) (St.holds store.new)) }
+        ensures went { Adds c.now.tracker (came result row.now) (scene self.old (St.holds store.old) (St.signs store.old)) (scene self.new (St.holds store.new) (St.signs store.new)) }
+        ensures pinned { OnOk result (IsAtEnd self.new × IsSome self.new.pinned) }
         ensures long { len_in self.old (St.holds store.old) < length row.now → result ≡ Err (failure.RowTooLong (length row.now)) }
-        ensures cause { IfErr result (MayRefuseRow (length row.now) self.old (St.holds store.new) (St.signs store.old) (St.signs store.new)) }
-        ensures err { OnErr result (rows_of self.new (St.holds store.new) ≡ rows_of self.old (St.holds store.old)) }
-        ensures places_kept { OnErr result (KeepsPlaces [] self.old self.new (St.holds store.old) (St.holds store.new)) }
-
-        ensures stream { IsStream c.now.tracker self.new (St.holds store.new) }
-        ensures sized { self.new.page_blocks ≡ self.old.page_blocks }
-        ensures spent { self.new.spent ≡ self.old.spent }
-        ensures builds { OnOk result ((start : Option (List Entry)) → Builds self.old (St.holds store.old) start (St.signs store.old).trail → Builds self.new (St.holds store.new) start (St.signs store.new).trail) }
-        ensures touches { Touches c.now.tracker self.old self.new (St.holds store.old) (St.holds store.new) }
-        ensures grows { Grows (St.signs store.old) (St.signs store.new) }
+        ensures cause { IfErr result (MayRefuseRow row.now (scene self.old (St.holds store.old) (St.signs store.old)) (scene self.new (St.holds store.new) (St.signs store.new))) }
     {
         let len = self.page_len(store);
         if row.len() > len {

@@ -1,14 +1,14 @@
 //! Pages go.
-ghost use Rattle.std.specs.Prelude.{List, Option, ◌∷◌, ◌≡◌, ◌<◌, ℕ, [], None, Some, length, slice_get};
-ghost use Rattle.pool_model.specs.declared.entry.Entry.{Entry};
+ghost use Rattle.std.specs.Prelude.{◌∷◌, ◌≡◌, ◌<◌, ℕ, [], None, Some, length, slice_get};
 ghost use Rattle.pool_model.specs.declared.event.Event.TheVariants as event;
 ghost use Rattle.store_api.specs.Tokens.{PageToken};
 ghost use Rattle.store_api.specs.Changes.{after_destroy};
 ghost use Rattle.store_api.specs.Entries.{MadeThese};
 ghost use Rattle.store_api.specs.Signs.{Grows};
-ghost use Rattle.tuple_stream.specs.Streams.{IsStream};
+ghost use Rattle.tuple_stream.specs.Streams.{IsShaped};
 ghost use Rattle.tuple_stream.specs.Touches.{Touches};
-ghost use Rattle.tuple_stream.specs.Trails.{Reads};
+ghost use Rattle.tuple_stream.specs.Steps.{scene};
+ghost use Rattle.tuple_stream.specs.Spending.{Empties};
 ghost use Rattle.tuple_stream.specs.Ending.{HasPages, first_buf, behind_first, without_first, with_next};
 
 use crate::stream::{Open, Stream};
@@ -18,12 +18,9 @@ use store_api::Store;
 impl Stream {
     /// Destroys all pages, and with them the rows. This takes no memory.
     pub fn drop_all<St: Store>(&mut self, store: &mut St)
-        requires { (t : ℕ) × IsStream t self.old (St.holds store.old) }
+        requires { (t : ℕ) × IsShaped t self.old (St.holds store.old) }
         ensures value { self.new ≡ record { page_blocks = self.old.page_blocks; pages = []; pinned = None; spent = 0; used = 0; count = 0 } }
-        ensures stream { (t : ℕ) → IsStream t self.old (St.holds store.old) → IsStream t self.new (St.holds store.new) }
-        ensures touches { (t : ℕ) → IsStream t self.old (St.holds store.old) → Touches t self.old self.new (St.holds store.old) (St.holds store.new) }
-        ensures reads { (start : Option (List Entry)) → Reads self.old start (St.signs store.old).trail → Reads self.new start (St.signs store.new).trail }
-        ensures grows { Grows (St.signs store.old) (St.signs store.new) }
+        ensures went { (t : ℕ) → IsShaped t self.old (St.holds store.old) → Empties t (scene self.old (St.holds store.old) (St.signs store.old)) (scene self.new (St.holds store.new) (St.signs store.new)) }
     {
         while !self.pages.is_empty() {
             self.drop_first(store);

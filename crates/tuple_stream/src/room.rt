@@ -1,13 +1,10 @@
 //! Room for a row at the end.
-ghost use Rattle.std.specs.Prelude.{List, Option, ◌≡◌, ◌<◌, ◌≤◌, ◌+◌, true, false, length, None, IfErr, OnOk, OnErr};
-ghost use Rattle.pool_model.specs.declared.entry.Entry.{Entry};
-ghost use Rattle.store_api.specs.Conditions.{IsClient};
+ghost use Rattle.std.specs.Prelude.{◌≡◌, ◌<◌, ◌≤◌, ◌⊎◌, ◌+◌, [], true, false, length, None, IfErr, OnOk, OnErr, ⊤};
+ghost use Rattle.store_api.specs.Conditions.{IsLiveClient};
 ghost use Rattle.store_api.specs.Holdings.{unused_of};
 ghost use Rattle.tuple_stream.specs.Streamed.{len_in};
-ghost use Rattle.tuple_stream.specs.Streams.{IsStream, HasRoom};
-ghost use Rattle.tuple_stream.specs.Ready.{IsReady, IsReadyForMore, KeepsRows};
-ghost use Rattle.tuple_stream.specs.Touches.{CameOfStore};
-ghost use Rattle.tuple_stream.specs.Trails.{Builds, Rests};
+ghost use Rattle.tuple_stream.specs.Streams.{HasPageRoom, IsAtEnd, IsShaped};
+ghost use Rattle.tuple_stream.specs.Steps.{Adds, CameOf, Readies, Tells, Went, scene};
 
 use crate::stream::{Open, Stream};
 use reservation_tree::PoolErr;
@@ -24,23 +21,21 @@ impl Stream {
         len: usize,
         bytes: usize,
     ) -> Result<(), PoolErr>
-        requires client { IsClient c.now (St.holds store.old) }
-        requires stream { IsStream c.now.tracker self.old (St.holds store.old) }
-        requires room { HasRoom c.now.tracker self.old (St.holds store.old) }
+        requires client { IsLiveClient c.now (St.holds store.old) }
+        requires stream { IsShaped c.now.tracker self.old (St.holds store.old) }
+        requires room { HasPageRoom c.now.tracker self.old (St.holds store.old) }
         requires len { len ≡ len_in self.old (St.holds store.old) }
         requires some { 0 < bytes }
         requires fits { bytes ≤ len }
-        ensures ok { OnOk result (IsReady c.now.tracker bytes self.new (St.holds store.new)) }
-        ensures cause { IfErr result (CameOfStore self.old (St.holds store.new) (St.signs store.old) (St.signs store.new)) }
-        ensures err { OnErr result (IsStream c.now.tracker self.new (St.holds store.new)) }
-        ensures kept { KeepsRows c.now.tracker self.old self.new (St.holds store.old) (St.holds store.new) (St.signs store.old) (St.signs store.new) }
-        ensures builds { OnOk result ((start : Option (List Entry)) → Builds self.old (St.holds store.old) start (St.signs store.old).trail → Builds self.new (St.holds store.new) start (St.signs store.new).trail) }
+        ensures ok { OnOk result (Readies (Tells (scene self.old (St.holds store.old) (St.signs store.old)) ⊎ IsAtEnd self.old) (IsAtEnd self.old) c.now.tracker bytes (scene self.old (St.holds store.old) (St.signs store.old)) (scene self.new (St.holds store.new) (St.signs store.new))) }
+        ensures err { OnErr result (Adds c.now.tracker [] (scene self.old (St.holds store.old) (St.signs store.old)) (scene self.new (St.holds store.new) (St.signs store.new))) }
+        ensures cause { IfErr result (CameOf (scene self.old (St.holds store.old) (St.signs store.old)) (scene self.new (St.holds store.new) (St.signs store.new))) }
     {
         if self.has_room(len, bytes) {
             let last = self.pages.len() - 1;
             self.open_at(store, last)
         } else {
-            self.begin_page(alloc, store, c)
+            self.begin_page(alloc, store, c, len, bytes)
         }
     }
 
@@ -60,18 +55,21 @@ impl Stream {
         alloc: Global,
         store: &mut St,
         c: &Client,
+        len: usize,
+        bytes: usize,
     ) -> Result<(), PoolErr>
-        requires client { IsClient c.now (St.holds store.old) }
-        requires stream { IsStream c.now.tracker self.old (St.holds store.old) }
-        requires room { HasRoom c.now.tracker self.old (St.holds store.old) }
-        ensures ok { OnOk result (IsReadyForMore c.now.tracker self.old self.new (St.holds store.old) (St.holds store.new)) }
-        ensures cause { IfErr result (CameOfStore self.old (St.holds store.new) (St.signs store.old) (St.signs store.new)) }
-        ensures err { OnErr result (IsStream c.now.tracker self.new (St.holds store.new)) }
-        ensures kept { KeepsRows c.now.tracker self.old self.new (St.holds store.old) (St.holds store.new) (St.signs store.old) (St.signs store.new) }
-        ensures builds { OnOk result ((start : Option (List Entry)) → Builds self.old (St.holds store.old) start (St.signs store.old).trail → Builds self.new (St.holds store.new) start (St.signs store.new).trail) }
+        requires client { IsLiveClient c.now (St.holds store.old) }
+        requires stream { IsShaped c.now.tracker self.old (St.holds store.old) }
+        requires room { HasPageRoom c.now.tracker self.old (St.holds store.old) }
+        requires len { len ≡ len_in self.old (St.holds store.old) }
+        requires fits { bytes ≤ len }
+        requires full { 0 < length self.old.pages → len < self.old.used + bytes }
+        ensures ok { OnOk result (Readies ⊤ (IsAtEnd self.old ⊎ (self.old.pinned ≡ None)) c.now.tracker bytes (scene self.old (St.holds store.old) (St.signs store.old)) (scene self.new (St.holds store.new) (St.signs store.new))) }
+        ensures err { OnErr result (Went ⊤ (IsAtEnd self.old ⊎ (self.old.pinned ≡ None)) ⊥ c.now.tracker [] (scene self.old (St.holds store.old) (St.signs store.old)) (scene self.new (St.holds store.new) (St.signs store.new))) }
+        ensures cause { IfErr result (CameOf (scene self.old (St.holds store.old) (St.signs store.old)) (scene self.new (St.holds store.new) (St.signs store.new))) }
     {
         self.rest(store)?;
-        self.add_page(alloc, store, c)
+        self.add_page(alloc, store, c, len, bytes)
     }
 
     // Adds a page, where none is pinned.
@@ -80,17 +78,19 @@ impl Stream {
         alloc: Global,
         store: &mut St,
         c: &Client,
+        len: usize,
+        bytes: usize,
     ) -> Result<(), PoolErr>
-        requires client { IsClient c.now (St.holds store.old) }
-        requires stream { IsStream c.now.tracker self.old (St.holds store.old) }
+        requires client { IsLiveClient c.now (St.holds store.old) }
+        requires stream { IsShaped c.now.tracker self.old (St.holds store.old) }
         requires closed { self.old.pinned ≡ None }
         requires room { len_in self.old (St.holds store.old) ≤ unused_of c.now.tracker (St.holds store.old) }
-        ensures ok { OnOk result (IsReadyForMore c.now.tracker self.old self.new (St.holds store.old) (St.holds store.new)) }
-        ensures cause { IfErr result (CameOfStore self.old (St.holds store.new) (St.signs store.old) (St.signs store.new)) }
-        ensures err { OnErr result (self.new ≡ self.old) }
-        ensures stays { OnErr result (St.holds store.new ≡ St.holds store.old) }
-        ensures kept { KeepsRows c.now.tracker self.old self.new (St.holds store.old) (St.holds store.new) (St.signs store.old) (St.signs store.new) }
-        ensures builds { OnOk result ((start : Option (List Entry)) → Rests self.old (St.holds store.old) start (St.signs store.old).trail → Builds self.new (St.holds store.new) start (St.signs store.new).trail) }
+        requires len { len ≡ len_in self.old (St.holds store.old) }
+        requires fits { bytes ≤ len }
+        requires full { 0 < length self.old.pages → len < self.old.used + bytes }
+        ensures ok { OnOk result (Readies ⊤ ⊤ c.now.tracker bytes (scene self.old (St.holds store.old) (St.signs store.old)) (scene self.new (St.holds store.new) (St.signs store.new))) }
+        ensures err { OnErr result (Went ⊤ ⊤ ⊥ c.now.tracker [] (scene self.old (St.holds store.old) (St.signs store.old)) (scene self.new (St.holds store.new) (St.signs store.new))) }
+        ensures cause { IfErr result (CameOf (scene self.old (St.holds store.old) (St.signs store.old)) (scene self.new (St.holds store.new) (St.signs store.new))) }
     {
         if self.pages.reserve(1).is_err() {
             return Err(PoolErr::Memory);

@@ -1,15 +1,11 @@
 //! Rows are taken out.
-ghost use Rattle.std.specs.Prelude.{List, Option, ◌≡◌, ◌<◌, ◌+◌, ◌^◌, ℕ, [], ◌∷◌, true, length, take, drop, Some, None, IsSome, option_map, if◌then◌else◌, IfOk, IfErr, OnErr};
-ghost use Rattle.pool_model.specs.declared.entry.Entry.{Entry};
-ghost use Rattle.store_api.specs.Conditions.{IsClient};
-ghost use Rattle.store_api.specs.Signs.{Grows};
+ghost use Rattle.std.specs.Prelude.{◌≡◌, ◌≢◌, ℕ, ◌+◌, ◌^◌, ◌<◌, take, drop, Some, None, option_map, if◌then◌else◌, IfOk, IfErr, OnErr, ⊤};
+ghost use Rattle.store_api.specs.Conditions.{IsLiveClient};
 ghost use Rattle.tuple_stream.specs.PageRows.{row_len};
-ghost use Rattle.tuple_stream.specs.Streamed.{open_bytes, rows_of};
-ghost use Rattle.tuple_stream.specs.Streams.{IsStream, HasRoom};
-ghost use Rattle.tuple_stream.specs.Places.{IsNext, KeepsPlaces};
-ghost use Rattle.tuple_stream.specs.Touches.{Touches, CameOfStore};
-ghost use Rattle.tuple_stream.specs.Trails.{Reads};
-ghost use Rattle.tuple_stream.specs.Ending.{SpendsOpen};
+ghost use Rattle.tuple_stream.specs.Streamed.{open_bytes};
+ghost use Rattle.tuple_stream.specs.Streams.{HasPageRoom, IsOpenAt, IsShaped};
+ghost use Rattle.tuple_stream.specs.Steps.{CameOf, Reads, scene};
+ghost use Rattle.tuple_stream.specs.Spending.{Spends, SpendsRow};
 
 use crate::stream::Stream;
 use reservation_tree::PoolErr;
@@ -21,28 +17,21 @@ impl Stream {
     ///
     /// # Errors
     ///
-    /// The store answered so in this call, or there was no memory. The rows are as before; which page is pinned may
-    /// have changed.
+    /// The store answered so in this call, or there was no memory, or a page shows no row where one must be. The rows
+    /// are as before; which page is pinned may have changed.
     pub fn next_spend<St: Store>(
         &mut self,
         alloc: Global,
         store: &mut St,
         c: &Client,
     ) -> Result<Option<Vec<u8>>, PoolErr>
-        requires client { IsClient c.now (St.holds store.old) }
-        requires stream { IsStream c.now.tracker self.old (St.holds store.old) }
-        requires room { HasRoom c.now.tracker self.old (St.holds store.old) }
-        ensures next { IfOk result (λ found. IsNext (option_map (λ row. row.items) found) (rows_of self.old (St.holds store.old)) (rows_of self.new (St.holds store.new))) }
-        ensures cause { IfErr result (CameOfStore self.old (St.holds store.new) (St.signs store.old) (St.signs store.new)) }
-        ensures err { OnErr result (rows_of self.new (St.holds store.new) ≡ rows_of self.old (St.holds store.old)) }
-        ensures places { OnErr result (KeepsPlaces [] self.old self.new (St.holds store.old) (St.holds store.new)) }
-        ensures still { IfOk result (λ found. IsSome found → SpendsOpen self.old self.new (St.holds store.old) (St.holds store.new) (St.signs store.old) (St.signs store.new)) }
-
-        ensures stream { IsStream c.now.tracker self.new (St.holds store.new) }
-        ensures sized { self.new.page_blocks ≡ self.old.page_blocks }
-        ensures touches { Touches c.now.tracker self.old self.new (St.holds store.old) (St.holds store.new) }
-        ensures reads { (start : Option (List Entry)) → Reads self.old start (St.signs store.old).trail → Reads self.new start (St.signs store.new).trail }
-        ensures grows { Grows (St.signs store.old) (St.signs store.new) }
+        requires client { IsLiveClient c.now (St.holds store.old) }
+        requires stream { IsShaped c.now.tracker self.old (St.holds store.old) }
+        requires room { HasPageRoom c.now.tracker self.old (St.holds store.old) }
+        ensures ok { IfOk result (λ found. Spends c.now.tracker (option_map (λ row. row.items) found) (scene self.old (St.holds store.old) (St.signs store.old)) (scene self.new (St.holds store.new) (St.signs store.new))) }
+        ensures err { OnErr result (Reads c.now.tracker (scene self.old (St.holds store.old) (St.signs store.old)) (scene self.new (St.holds store.new) (St.signs store.new))) }
+        ensures same { OnErr result (self.new ≡ record self.old { pinned = self.new.pinned }) }
+        ensures cause { IfErr result (CameOf (scene self.old (St.holds store.old) (St.signs store.old)) (scene self.new (St.holds store.new) (St.signs store.new))) }
     {
         let mut row = Vec::new(alloc);
         if self.spend_into(store, c, &mut row)? {
@@ -60,46 +49,41 @@ impl Stream {
         c: &Client,
         out: &mut Vec<u8>,
     ) -> Result<bool, PoolErr>
-        requires client { IsClient c.now (St.holds store.old) }
-        requires stream { IsStream c.now.tracker self.old (St.holds store.old) }
-        requires room { HasRoom c.now.tracker self.old (St.holds store.old) }
-        ensures next { IfOk result (λ found. IsNext (if found then Some out.new.items else None) (rows_of self.old (St.holds store.old)) (rows_of self.new (St.holds store.new))) }
-        ensures cause { IfErr result (CameOfStore self.old (St.holds store.new) (St.signs store.old) (St.signs store.new)) }
-        ensures err { OnErr result (rows_of self.new (St.holds store.new) ≡ rows_of self.old (St.holds store.old)) }
-        ensures places { OnErr result (KeepsPlaces [] self.old self.new (St.holds store.old) (St.holds store.new)) }
-        ensures still { IfOk result (λ found. found ≡ true → SpendsOpen self.old self.new (St.holds store.old) (St.holds store.new) (St.signs store.old) (St.signs store.new)) }
-
-        ensures stream { IsStream c.now.tracker self.new (St.holds store.new) }
-        ensures sized { self.new.page_blocks ≡ self.old.page_blocks }
-        ensures touches { Touches c.now.tracker self.old self.new (St.holds store.old) (St.holds store.new) }
-        ensures reads { (start : Option (List Entry)) → Reads self.old start (St.signs store.old).trail → Reads self.new start (St.signs store.new).trail }
-        ensures grows { Grows (St.signs store.old) (St.signs store.new) }
+        requires client { IsLiveClient c.now (St.holds store.old) }
+        requires stream { IsShaped c.now.tracker self.old (St.holds store.old) }
+        requires room { HasPageRoom c.now.tracker self.old (St.holds store.old) }
+        ensures ok { IfOk result (λ found. Spends c.now.tracker (if found then Some out.new.items else None) (scene self.old (St.holds store.old) (St.signs store.old)) (scene self.new (St.holds store.new) (St.signs store.new))) }
+        ensures err { OnErr result (Reads c.now.tracker (scene self.old (St.holds store.old) (St.signs store.old)) (scene self.new (St.holds store.new) (St.signs store.new))) }
+        ensures same { OnErr result (self.new ≡ record self.old { pinned = self.new.pinned }) }
+        ensures cause { IfErr result (CameOf (scene self.old (St.holds store.old) (St.signs store.old)) (scene self.new (St.holds store.new) (St.signs store.new))) }
     {
-        if self.pages.is_empty() {
+        let Some(count) = self.count.checked_sub(1) else {
             return Ok(false);
+        };
+        if self.pages.is_empty() {
+            return Err(PoolErr::Memory);
         }
         self.open_at(store, 0)?;
         let len = self.copy_from_open(self.spent, out)?;
-        self.spend(store, len);
+        if len == 0 {
+            return Err(PoolErr::Memory);
+        }
+        self.spend(store, count, len);
         Ok(true)
     }
 
-    // The first row, of so many bytes, goes. With the last row of its page the page goes.
-    fn spend<St: Store>(&mut self, store: &mut St, len: usize)
-        requires stream { (t : ℕ) × IsStream t self.old (St.holds store.old) }
-        requires pinned { option_map (λ page. page.place) self.old.pinned ≡ Some 0 }
+    // The first row, of so many bytes, goes, and so many rows stay. With the last row of its page the page goes.
+    fn spend<St: Store>(&mut self, store: &mut St, count: u64, len: usize)
+        requires stream { (t : ℕ) × IsShaped t self.old (St.holds store.old) }
+        requires pinned { IsOpenAt 0 self.old }
         requires len { len ≡ row_len (drop self.old.spent (open_bytes self.old.pinned)) }
+        requires some { len ≢ 0 }
         requires short { self.old.spent + len < 2 ^ 64 }
-        ensures next { rows_of self.old (St.holds store.old) ≡ take len (drop self.old.spent (open_bytes self.old.pinned)) ∷ rows_of self.new (St.holds store.new) }
-        ensures stream { (t : ℕ) → IsStream t self.old (St.holds store.old) → IsStream t self.new (St.holds store.new) }
-        ensures still { length self.new.pages ≡ length self.old.pages → (self.new.pinned ≡ self.old.pinned) × (St.holds store.new ≡ St.holds store.old) × (St.signs store.new ≡ St.signs store.old) }
-        ensures sized { self.new.page_blocks ≡ self.old.page_blocks }
-        ensures touches { (t : ℕ) → IsStream t self.old (St.holds store.old) → Touches t self.old self.new (St.holds store.old) (St.holds store.new) }
-        ensures reads { (start : Option (List Entry)) → Reads self.old start (St.signs store.old).trail → Reads self.new start (St.signs store.new).trail }
-        ensures grows { Grows (St.signs store.old) (St.signs store.new) }
+        requires count { self.old.count ≡ count + 1 }
+        ensures went { (t : ℕ) → IsShaped t self.old (St.holds store.old) → SpendsRow ⊤ t (take len (drop self.old.spent (open_bytes self.old.pinned))) (scene self.old (St.holds store.old) (St.signs store.old)) (scene self.new (St.holds store.new) (St.signs store.new)) }
     {
         self.spent += len;
-        self.count -= 1;
+        self.count = count;
         if self.len_in_open(self.spent) == 0 {
             self.end_first(store);
         }

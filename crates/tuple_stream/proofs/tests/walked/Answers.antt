@@ -1,25 +1,23 @@
-use Rattle.std.proofs.Common.{refl, sym, ◌∙◌, subst}
-use Rattle.tuple_stream.specs.Places.{Place, IsPlace}
+use Rattle.std.proofs.Common.{refl, sym, ◌∙◌, subst, arith}
+use Rattle.tuple_stream.specs.Places.{Place, IsWithin}
 use Rattle.tuple_stream.proofs.Chains.{touches_refl, touches_trans, has_room_kept}
 use Rattle.tuple_stream.proofs.Frames.{client_kept}
-use Rattle.tuple_stream.proofs.Placed.{first_stands}
 use Rattle.tuple_stream.proofs.tests.walked.Goals as goal
 
 pub loop-s-init : goal.loop-s-init
 loop-s-init g c =
     let s = c.args.stream.now in
-    let h = g.St.Store.holds c.args.store.now in
     record {
       client = c.requires.client;
       stream = c.requires.stream;
       room = c.requires.room;
-      place = subst (λ (at : Place). IsPlace at s h) (sym c.first-place.ensures) (first_stands c.args.c.now.tracker s h c.requires.stream);
+      place = subst (λ (at : Place). IsWithin at s) (sym c.first-place.ensures) (record { page_is = omega arith; row_is = omega arith });
       sized = refl;
-      touches = touches_refl c.args.c.now.tracker s h;
+      touches = touches_refl c.args.c.now.tracker s (g.St.Store.holds c.args.store.now);
     }
 
-pub returns-in_err-row-clause-touches : goal.returns-in_err-row-clause-touches
-returns-in_err-row-clause-touches g c =
+pub returns-in_err-shown-clause-touches : goal.returns-in_err-shown-clause-touches
+returns-in_err-shown-clause-touches g c =
     touches_trans c.args.c.now.tracker c.args.stream.now c.loop-s.stream _ _ _ _ c.loop-s.invariant.touches c.take_step.ensures.touches
 
 pub returns-then-is_err-clause-touches : goal.returns-then-is_err-clause-touches
