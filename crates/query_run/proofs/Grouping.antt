@@ -18,7 +18,7 @@ use Rattle.row_codec.specs.RowBytes.{key_bytes}
 use Rattle.query_run.specs.Groups.{AreGroups, Group, count_in, counted, key_of, some_number}
 use Rattle.std.specs.Io.KnownBytes.{Appends}
 use Rattle.csv_edge.specs.Written.{AppendsFront}
-use Rattle.query_run.specs.Answer.{Counting, HasTexts, Numbers, WroteAnswer, WroteFront, answer_text}
+use Rattle.query_run.specs.Answer.{HasTexts, Numbers, WroteAnswer, WroteFront, answer_text}
 use Rattle.query_run.specs.declared.outcome.Ran.{Ran}
 use Rattle.query_run.specs.Inside.{group_of, groups_in, text_behind}
 use Rattle.query_run.proofs.Ties.{ties}
@@ -138,13 +138,19 @@ wrote_front page column None texts groups text old new read is appends = tt
 wrote_front page column (Some bytes) texts groups text old new read is appends =
     (text, (record { texts = texts; read = read.read; groups = groups; grouped = read.grouped }, is), appends)
 
-pub numbers : (page : ℕ) (column : List ℕ) (told : Option (List ℕ)) (texts : List (List ℕ)) (groups : List Group) (ran : Ran)
-    → IfSome told (λ bytes. IsCounted page column bytes texts groups)
+pub numbers : (page : ℕ) (column : List ℕ) (told : Option (List ℕ)) (tells : Bool) (texts : List (List ℕ)) (groups : List Group) (ran : Ran)
+    → IfSome told (λ bytes. HasTexts page column bytes texts) → (tells ≡ true → IfSome told (λ bytes. IsCounted page column bytes texts groups))
     → ran.left ≡ length texts → ran.right ≡ 0 → ran.kept ≡ length texts → ran.lines ≡ length groups
     → ran.totals ≡ pos (sum_by (λ (g : Group). g.count) groups) ∷ []
-    → IfSome told (λ bytes. (c : Counting page column bytes) × Numbers c ran)
-numbers page column None texts groups ran read left right kept lines totals = tt
-numbers page column (Some bytes) texts groups ran read left right kept lines totals = (
-  record { texts = texts; read = read.read; groups = groups; grouped = read.grouped },
-  record { left = left; right = right; kept = kept; lines = lines; totals = totals },
-)
+    → IfSome told (Numbers page column tells ran)
+numbers page column None tells texts groups ran read are left right kept lines totals = tt
+numbers page column (Some bytes) tells texts groups ran read are left right kept lines totals = record {
+  texts = texts;
+  read = read;
+  left = left;
+  right = right;
+  kept = kept;
+  lines = λ is.
+      let counted = are is in
+      (record { texts = texts; read = counted.read; groups = groups; grouped = counted.grouped }, record { lines = lines; totals = totals });
+}

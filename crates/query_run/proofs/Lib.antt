@@ -1,11 +1,13 @@
+mod AnswerParts
 mod Answering
 mod Counted
 pub mod Grouping
 mod KeyBytes
-mod Halves
 mod KeptFirst
-mod Onwards
 mod Reading
+mod ReadBack
+mod Sending
+mod Served
 mod Spans
 mod Spelled
 mod TextRows

@@ -1,20 +1,29 @@
 -- What is known of an input while its rows are read.
-use Rattle.std.proofs.Common.{◌≡◌, ◌∙◌, ◌≤◌, ◌<◌, ◌+◌, ◌++◌, ◌∷◌, ◌⊎◌, inl, inr, [], ℕ, zero, suc, List, true, false, Option, Some, None, IfSome, All, length, map, nat_le, slice_index_or, sym, ap, refl, arith, rules}
+use Rattle.std.proofs.Common.{◌≡◌, ◌∙◌, ◌≤◌, ◌<◌, ◌+◌, ◌++◌, ◌∷◌, ◌⊎◌, inl, inr, [], ℕ, zero, suc, List, true, false, Option, Some, None, IfSome, All, length, map, min, nat_le, ◌-◌, ◌^◌, slice_index_or, sym, ap, subst, refl, arith, rules}
 use Rattle.std.specs.Option.{option_map}
 use Rattle.std.proofs.lemmas.List.{append-nil, map-append, length-map}
 use Rattle.std.proofs.lemmas.List.Elements.{All-append}
 use Rattle.row_codec.specs.declared.values.Value.{Value}
+use Rattle.row_codec.specs.declared.values.Kind.{Kind}
+use Rattle.row_codec.specs.declared.values.Kind.TheVariants as kind
+use Rattle.row_codec.specs.RowBytes.{row_bytes}
+use Rattle.tuple_stream.specs.Streams.{IsAtEnd}
+use Rattle.tuple_stream.specs.Steps.{Adds, Scene, Shaped}
+use Rattle.tuple_stream.proofs.Built.{adds_trans}
+use Rattle.tuple_stream.proofs.Going.{went_refl}
 use Rattle.csv_edge.specs.Typed.{Typed, nothing_more, refused_here, row_then, rows_then}
-use Rattle.csv_edge.specs.Rows.{Becomes, CountsBytes, FitsLimit, IsOfRecord, PassesLimit}
+use Rattle.csv_edge.specs.Rows.{Becomes, CountsBytes, FitsLimit, HasNoSums, IsOfRecord, PassesLimit}
+use Rattle.csv_edge.specs.Rows as rows
 use Rattle.csv_edge.specs.declared.refusal.InputErr.{InputErr}
 use Rattle.csv_edge.specs.declared.refusal.InputErr.TheVariants as input
 use Rattle.csv_edge.proofs.Steps.{none-handed, row-handed}
 use Rattle.query_run.specs.Answer.{HasTexts, text_row}
-use Rattle.query_run.specs.Causes.{IsOfBytes, cause_of_input}
+use Rattle.query_run.specs.Causes.{IsOfBytes, NamesInt, cause_of_input, side_of}
 use Rattle.query_run.specs.Input.{IsRefusal, column_rows, first_refusal, first_too_long, most_bytes, weight_of}
-use Rattle.query_run.specs.Inside.{Adds, IsKept, IsTooLong, Keeps, spelled}
+use Rattle.query_run.specs.Keeping.{IsKept, IsTextRow, IsTooLong, KeepsTexts, spelled}
 use Rattle.query_plan.specs.declared.plan.Side.TheVariants.{Left}
 use Rattle.query_run.specs.declared.outcome.QueryErr.{QueryErr}
+use Rattle.query_run.specs.declared.outcome.QueryErr.TheVariants as query
 use Rattle.query_run.specs.declared.outcome.QueryErr.TheVariants.{TooLarge}
 
 -- the texts so far, and what is still to come, are the input
@@ -103,6 +112,34 @@ refusal_of_input page column told now allowed texts rest input.Header kept so-fa
 refusal_of_input page column told now allowed texts rest (input.Csv number) kept so-far counts refused large is = refused_at page column told texts rest (input.Csv number) kept so-far (refused tt)
 refusal_of_input page column told now allowed texts rest (input.Field number place) kept so-far counts refused large is = refused_at page column told texts rest (input.Field number place) kept so-far (refused tt)
 
+-- a bad field is one of a column of ints
+pub int_of_input : (e : InputErr) (kinds : List Kind) → HasNoSums kinds → rows.NamesInt e kinds → NamesInt kinds (cause_of_input Left e)
+int_of_input input.Fault kinds none names = tt
+int_of_input input.Memory kinds none names = tt
+int_of_input input.TooLarge kinds none names = tt
+int_of_input input.Header kinds none names = tt
+int_of_input (input.Csv number) kinds none names = tt
+int_of_input (input.Field number place) kinds none names = names none
+
+pub texts_no_sums : HasNoSums (kind.Text ∷ [])
+texts_no_sums = ((λ e. absurd (cc)), tt)
+
+-- a row that is too long is no bad field
+pub long_no_field : (page : ℕ) (row : List Value) (before : ℕ) (why : QueryErr) (kinds : List Kind) → (IsOfBytes why → IsTooLong page row before why) → NamesInt kinds why
+long_no_field page row before (query.BadField side number column) kinds long =
+    let is : query.BadField side number column ≡ query.RowTooLong Left (before + 1) (min (weight_of row) (2 ^ 64 - 1)) = (long tt).names_it in
+    absurd (cc)
+long_no_field page row before _ kinds long = tt
+
+-- and whatever it is, it speaks of the left input
+pub side_of_input : (e : InputErr) → IfSome (side_of (cause_of_input Left e)) (λ side. side ≡ Left)
+side_of_input input.Fault = refl
+side_of_input input.Memory = tt
+side_of_input input.TooLarge = refl
+side_of_input input.Header = refl
+side_of_input (input.Csv number) = refl
+side_of_input (input.Field number place) = refl
+
 -- at the end, the texts are those of the input
 has-texts : (page : ℕ) (column bytes : List ℕ) (texts : List (List ℕ)) → All (IsKept page) texts → column_rows column bytes ≡ rows_then (map text_row texts) nothing_more
     → length bytes ≤ most_bytes → HasTexts page column bytes texts
@@ -142,37 +179,44 @@ one_kept page texts text kept is = All-append (IsKept page) texts (text ∷ []) 
   only (suc k) d below = absurd (omega (arith, below))
 
 -- the rows so far are kept, and the others are still to come
-pub record IsReading (page : ℕ) (column : List ℕ) (told : Option (List ℕ)) (rows : List (List ℕ)) (rest : Option Typed) (now : Option (List ℕ)) (allowed : ℕ) : Type 0 where
+pub record IsReading (t page : ℕ) (column : List ℕ) (told : Option (List ℕ)) (a b : Scene) (rest : Option Typed) (now : Option (List ℕ)) (allowed : ℕ) : Type 0 where
   pub texts : List (List ℕ)
-  pub keeps : Keeps page rows texts
+  pub keeps : KeepsTexts t page texts a b
   pub so_far : IsSoFar column told texts rest
   pub counts : CountsBytes most_bytes told allowed now
 
 -- nothing was read yet but the header
-pub started : (page : ℕ) (column : List ℕ) (told : Option (List ℕ)) (rows : List (List ℕ)) (rest : Option Typed) (now : Option (List ℕ)) (allowed : ℕ)
-    → rows ≡ [] → Becomes (λ t. t) (option_map (column_rows column) told) rest → CountsBytes most_bytes told allowed now
-    → IsReading page column told rows rest now allowed
-started page column told rows rest now allowed empty ok counts = record {
+pub started : (t page : ℕ) (column : List ℕ) (told : Option (List ℕ)) (a : Scene) (rest : Option Typed) (now : Option (List ℕ)) (allowed : ℕ)
+    → Shaped t a → Becomes (λ t. t) (option_map (column_rows column) told) rest → CountsBytes most_bytes told allowed now
+    → IsReading t page column told a a rest now allowed
+started t page column told a rest now allowed is ok counts = record {
   texts = [];
-  keeps = record { rows_are = empty; kept = none_kept page };
+  keeps = record { kept = none_kept page; went = went_refl t a.stream a.stream a.held a.signs is refl; at_end = λ ends. ends };
   so_far = none-handed (option_map (column_rows column) told) rest ok;
   counts = counts;
 }
 
 -- a row was read and kept
-pub went_on : (page : ℕ) (column : List ℕ) (told : Option (List ℕ)) (row : List Value) (old new : List (List ℕ)) (rest later : Option Typed) (now then : Option (List ℕ)) (allowed left : ℕ)
-    → IsReading page column told old rest now allowed → Adds page row old new → Becomes (row_then row) rest later → CountsBytes allowed now left then
-    → IsReading page column told new later then left
-went_on page column told row old new rest later now then allowed left before adds next counts = record {
-  texts = before.texts ++ adds.text ∷ [];
-  keeps = record {
-    rows_are = adds.rows ∙ rw before.keeps.rows_are (sym (map-append spelled before.texts (adds.text ∷ [])));
-    kept = one_kept page before.texts adds.text before.keeps.kept adds.kept;
-  };
-  so_far = one_more column told before.texts adds.text row rest later adds.is_text before.so_far next;
-  counts = counts_on told now then most_bytes allowed left before.counts counts;
-}
+pub went_on : (t page : ℕ) (column : List ℕ) (told : Option (List ℕ)) (row : List Value) (a b c : Scene) (rest later : Option Typed) (now then : Option (List ℕ)) (allowed left : ℕ)
+    → IsReading t page column told a b rest now allowed → IsTextRow page row → Adds t (row_bytes row ∷ []) b c → IsAtEnd c.stream → Becomes (row_then row) rest later → CountsBytes allowed now left then
+    → IsReading t page column told a c later then left
+went_on t page column told row a b c rest later now then allowed left before is went ends next counts =
+    let rows : map spelled before.texts ++ row_bytes row ∷ [] ≡ map spelled (before.texts ++ is.text ∷ []) =
+    ap (λ (r : List Value). map spelled before.texts ++ row_bytes r ∷ []) is.is_text ∙ sym (map-append spelled before.texts (is.text ∷ [])) in
+    record {
+      texts = before.texts ++ is.text ∷ [];
+      keeps = record {
+        kept = one_kept page before.texts is.text before.keeps.kept is.kept;
+        went = subst (λ (rs : List (List ℕ)). Adds t rs a c) rows (adds_trans t a b c before.keeps.at_end before.keeps.went went);
+        at_end = λ was. ends;
+      };
+      so_far = one_more column told before.texts is.text row rest later is.is_text before.so_far next;
+      counts = counts_on told now then most_bytes allowed left before.counts counts;
+    }
 
 -- as many rows are kept as were read
-pub kept_length : (page : ℕ) (rows texts : List (List ℕ)) → Keeps page rows texts → length rows ≡ length texts
-kept_length page rows texts keeps = ap length keeps.rows_are ∙ length-map texts spelled
+pub kept_length : (t page : ℕ) (texts : List (List ℕ)) (a b : Scene) → KeepsTexts t page texts a b → a.stream.count ≡ 0 → b.stream.count ≡ length texts
+kept_length t page texts a b keeps none =
+    let more = keeps.went.counted in
+    let long = length-map texts spelled in
+    omega (arith, more, none, long)

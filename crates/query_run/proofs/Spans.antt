@@ -1,36 +1,28 @@
 -- What the store answered in a part of a query, it answered in the whole of it.
-use Rattle.std.proofs.Common.{◌≡◌, ℕ, List, Option, IfSome, subst}
+use Rattle.std.proofs.Common.{◌≡◌, ℕ, Result, Err}
 use Rattle.reservation_tree.specs.declared.errors.PoolErr.{PoolErr}
-use Rattle.store_api.specs.Holdings.{Holdings}
-use Rattle.store_api.specs.Signs.{Signs, Grows}
-use Rattle.store_api.proofs.Answered.{answered_before}
-use Rattle.tuple_stream.specs.Streamed.{Streamed}
-use Rattle.tuple_stream.specs.Touches.{CameOfStore, IsFull}
-use Rattle.query_run.specs.Input.{IsRefusal}
-use Rattle.query_run.specs.Inside.{CameOfPool}
+use Rattle.store_api.specs.Signs.{Grows}
+use Rattle.tuple_stream.specs.Steps.{CameOf, Scene}
+use Rattle.tuple_stream.proofs.Going.{came_later}
+use Rattle.query_run.specs.Causes.{OfPool}
+use Rattle.query_run.specs.Keeping.{CameOfPool}
 use Rattle.query_run.specs.declared.outcome.QueryErr.{QueryErr}
 use Rattle.query_run.specs.declared.outcome.QueryErr.TheVariants as query
 
+pub of_pool_so : (P Q : PoolErr → Type 0) → ((e : PoolErr) → P e → Q e) → (e : QueryErr) → OfPool P e → OfPool Q e
+of_pool_so P Q so (query.Pool e) holds = so e holds
+of_pool_so P Q so (query.SourceFault side) holds = holds
+of_pool_so P Q so (query.BadHeader side) holds = holds
+of_pool_so P Q so (query.BadCsv side number) holds = holds
+of_pool_so P Q so (query.BadField side number column) holds = holds
+of_pool_so P Q so (query.TooLarge side) holds = holds
+of_pool_so P Q so (query.RowTooLong side number bytes) holds = holds
+of_pool_so P Q so query.SinkFault holds = holds
+
 -- a span that begins earlier
-pub came_before : (s first : Streamed) (h : Holdings) (a b c : Signs) (e : PoolErr) → s.page_blocks ≡ first.page_blocks → Grows a b
-    → CameOfStore s h b c e → CameOfStore first h a c e
-came_before s first h a b c e sized grows came = record {
-  answered = answered_before e a b c grows came.answered;
-  full = subst (λ (n : ℕ). IsFull n h.free_slots e) sized came.full;
-}
+module _ (a b c : Scene) (grows : Grows a.signs b.signs) (sized : b.stream.page_blocks ≡ a.stream.page_blocks) where
+  pub span_later : (e : PoolErr) → CameOf b c e → CameOf a c e
+  span_later e came = let r : Result ℕ PoolErr = Err e in came_later a b c r grows sized came
 
-pub pool_before : (s first : Streamed) (h : Holdings) (a b c : Signs) (e : QueryErr) → s.page_blocks ≡ first.page_blocks → Grows a b
-    → CameOfPool s h b c e → CameOfPool first h a c e
-pool_before s first h a b c (query.Pool e) sized grows came = came_before s first h a b c e sized grows came
-pool_before s first h a b c (query.SourceFault side) sized grows came = came
-pool_before s first h a b c (query.BadHeader side) sized grows came = came
-pool_before s first h a b c (query.BadCsv side number) sized grows came = came
-pool_before s first h a b c (query.BadField side number column) sized grows came = came
-pool_before s first h a b c (query.TooLarge side) sized grows came = came
-pool_before s first h a b c (query.RowTooLong side number bytes) sized grows came = came
-pool_before s first h a b c query.SinkFault sized grows came = came
-
--- the same page by another name
-pub refused_page : (told : Option (List ℕ)) (column : List ℕ) (e : QueryErr) (page other : ℕ)
-    → IfSome told (λ bytes. IsRefusal page column bytes e) → page ≡ other → IfSome told (λ bytes. IsRefusal other column bytes e)
-refused_page told column e page other refused same = subst (λ (n : ℕ). IfSome told (λ bytes. IsRefusal n column bytes e)) same refused
+  pub pool_later : (e : QueryErr) → CameOfPool b c e → CameOfPool a c e
+  pool_later = of_pool_so (CameOf b c) (CameOf a c) span_later

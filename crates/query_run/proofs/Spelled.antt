@@ -1,5 +1,5 @@
 -- Rows of kept texts, as their bytes.
-use Rattle.std.proofs.Common.{◌≡◌, ◌∙◌, ◌<◌, ◌+◌, ◌∷◌, [], ℕ, List, Option, Some, None, length, sym, ap, refl, arith, rules}
+use Rattle.std.proofs.Common.{◌≡◌, ◌∙◌, ◌<◌, ◌+◌, ◌∷◌, [], ℕ, List, Option, Some, None, length, sym, ap, subst, refl, arith, rules}
 use Rattle.std.specs.Option.{option_map, option_and_then}
 use Rattle.std.proofs.lemmas.List.{append-nil}
 use Rattle.row_codec.specs.declared.values.Kind.{Kind}
@@ -10,27 +10,13 @@ use Rattle.row_codec.specs.RowLaws.{RowBack}
 use Rattle.row_codec.specs.RowReading.{fields_in, framed_at, row_at}
 use Rattle.tuple_stream.specs.PageRows.{IsOneRow, framed_len, row_len}
 use Rattle.query_run.specs.Answer.{text_row}
-use Rattle.query_run.specs.Inside.{IsKept, spelled}
+use Rattle.query_run.specs.Keeping.{IsKept, IsTextRow, spelled}
 
 -- what is read of the bytes of a kept row is its text
-pub read_back : RowBack → (page : ℕ) (text row : List ℕ) → IsKept page text → row ≡ spelled text
+read_back : RowBack → (page : ℕ) (text row : List ℕ) → IsKept page text → row ≡ spelled text
     → row_at (kind.Text ∷ []) row ≡ Some (text_row text, length (spelled text))
 read_back back page text row kept is =
     ap (row_at (kind.Text ∷ [])) (is ∙ sym (append-nil (spelled text))) ∙ back (text_row text) [] kept.is_row
-
-row-in : Option (List Value × ℕ) → List Value
-row-in None = []
-row-in (Some found) = found.0
-
--- so the values that were read are that text
-pub text_read : RowBack → (page : ℕ) (text row : List ℕ) (values : List Value) (len : ℕ) → IsKept page text → row ≡ spelled text
-    → row_at (kind.Text ∷ []) row ≡ Some (values, len) → values ≡ text_row text
-unfolding row-in
-text_read back page text row values len kept is found = ap row-in (sym found ∙ read_back back page text row kept is)
-
--- something is read there
-pub some_read : RowBack → (page : ℕ) (text row : List ℕ) → IsKept page text → row ≡ spelled text → row_at (kind.Text ∷ []) row ≡ None → ⊥
-some_read back page text row kept is none = let found = read_back back page text row kept is in cc
 
 len-in : Option (List Value × ℕ) → ℕ
 len-in None = 0
@@ -56,11 +42,14 @@ long : (text : List ℕ) → 4 < length (row_bytes (text_row text))
 unfolding row_bytes
 long text = search rules
 
--- the bytes of a kept row are one row of a page
-pub one_row : RowBack → (page : ℕ) (text : List ℕ) → IsKept page text → IsOneRow (spelled text)
-one_row back page text kept =
+one-row : RowBack → (page : ℕ) (text : List ℕ) → IsKept page text → IsOneRow (spelled text)
+one-row back page text kept =
     let some = long text in
     record {
       some = omega (arith, some);
       whole = len-at kind.Text (spelled text) (text_row text) (length (spelled text)) (read_back back page text (spelled text) kept refl) some;
     }
+
+-- the bytes of a row that may be kept are one row of a page
+pub one_row : RowBack → (page : ℕ) (row : List Value) (bytes : List ℕ) → IsTextRow page row → bytes ≡ row_bytes row → IsOneRow bytes
+one_row back page row bytes is same = subst IsOneRow (sym (same ∙ ap row_bytes is.is_text)) (one-row back page is.text is.kept)

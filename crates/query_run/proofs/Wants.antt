@@ -11,10 +11,11 @@ use Rattle.store_api.specs.Signs.{Signs, Grows}
 use Rattle.store_api.proofs.Answered.{answered_after, answered_before}
 use Rattle.tuple_stream.specs.Streamed.{Streamed}
 use Rattle.tuple_stream.specs.Touches.{IsFull, slots_of, slots_with}
-use Rattle.query_run.specs.Inside.{CameOfPool}
-use Rattle.query_run.specs.Stopped.{IsRest, IsWant, MayStop}
+use Rattle.tuple_stream.specs.Steps.{CameOf, Scene}
+use Rattle.query_run.specs.Keeping.{AnySteps, CameOfPool}
+use Rattle.query_run.specs.Stopped.{IsRest, IsWant, MayStop, StoppedBy}
 use Rattle.query_run.specs.declared.outcome.QueryErr.{QueryErr}
-use Rattle.query_run.specs.declared.outcome.QueryErr.TheVariants as query
+use Rattle.query_run.proofs.Spans.{of_pool_so}
 
 -- pages have the slots of some number of pages
 slots-times : (s : Streamed) (h : Holdings) (pages : List PageToken) → (times : ℕ) × (sum_by (slots_of s h) pages ≡ times * s.page_blocks)
@@ -46,48 +47,29 @@ rest-of blocks few total times (Some start) less is same =
     let all : few + total ≡ start + 0 = cc in
     left-over blocks start few total times less (omega (arith, all)) is
 
-module _ (s now : Streamed) (old new : Holdings) (start : Option ℕ) where
-  want-of : s.pages ≡ [] → old.free_slots ≡ start → now.page_blocks ≡ s.page_blocks → slots_with now new ≡ slots_with s old
-      → (e : PoolErr) → IsFull s.page_blocks new.free_slots e → IsWant s.page_blocks start e
-  want-of none was sized slots (ScratchFull need few) full =
-      let taken = slots-times now new now.pages in
-      let total : sum_by (slots_of now new) now.pages ≡ taken.0 * s.page_blocks = taken.1 ∙ ap (λ (n : ℕ). taken.0 * n) sized in
-      let before : slots_with s old ≡ option_map {T = ℕ} (λ free. free + 0) start =
-      ap (λ (pages : List PageToken). option_map {T = ℕ} (λ free. free + sum_by (slots_of s old) pages) old.free_slots) none
-      ∙ ap (option_map {T = ℕ} (λ free. free + 0)) was in
-      let after : option_map {T = ℕ} (λ free. free + sum_by (slots_of now new) now.pages) (Some few) ≡ slots_with now new =
-      sym (ap (option_map {T = ℕ} (λ free. free + sum_by (slots_of now new) now.pages)) full.2) in
-      (full.0, rest-of s.page_blocks few _ taken.0 start full.1 total (after ∙ slots ∙ before))
-  want-of none was sized slots (NoReservation tracker wanted room) full = full
-  want-of none was sized slots (WriteFault entry) full = full
-  want-of none was sized slots (ReadFault entry) full = full
-  want-of none was sized slots (TooManyTrackers count) full = full
-  want-of none was sized slots NamesSpent full = full
-  want-of none was sized slots Memory full = full
+-- what stopped a stream that began without pages stopped its query
+module _ (t : ℕ) (a b : Scene) (first : Holdings) (before after : Signs) (none : a.stream.pages ≡ []) (was : a.held.free_slots ≡ first.free_slots) (step : AnySteps t a b) where
+  slots_before : slots_with a.stream a.held ≡ option_map {T = ℕ} (λ free. free + 0) first.free_slots
+  slots_before =
+      ap (λ (pages : List PageToken). option_map {T = ℕ} (λ free. free + sum_by (slots_of a.stream a.held) pages) a.held.free_slots) none
+      ∙ ap (option_map {T = ℕ} (λ free. free + 0)) was
 
--- what stopped a stream that began empty stopped its query
-pub may_stop : (s now : Streamed) (first old new : Holdings) (before mid after : Signs) → s.pages ≡ [] → old.free_slots ≡ first.free_slots
-    → now.page_blocks ≡ s.page_blocks → slots_with now new ≡ slots_with s old → Grows before mid
-    → (e : QueryErr) → CameOfPool s new mid after e → MayStop s.page_blocks first before after e
-may_stop s now first old new before mid after none was sized slots grows (query.Pool e) came = record {
-  answered = answered_before e before mid after grows came.answered;
-  want = want-of s now old new first.free_slots none was sized slots e came.full;
-}
-may_stop s now first old new before mid after none was sized slots grows (query.SourceFault side) came = came
-may_stop s now first old new before mid after none was sized slots grows (query.BadHeader side) came = came
-may_stop s now first old new before mid after none was sized slots grows (query.BadCsv side number) came = came
-may_stop s now first old new before mid after none was sized slots grows (query.BadField side number column) came = came
-may_stop s now first old new before mid after none was sized slots grows (query.TooLarge side) came = came
-may_stop s now first old new before mid after none was sized slots grows (query.RowTooLong side number bytes) came = came
-may_stop s now first old new before mid after none was sized slots grows query.SinkFault came = came
+  want_of : (e : PoolErr) → IsFull a.stream.page_blocks b.held.free_slots e → IsWant a.stream.page_blocks first.free_slots e
+  want_of (ScratchFull need few) full =
+      let taken = slots-times b.stream b.held b.stream.pages in
+      let total : sum_by (slots_of b.stream b.held) b.stream.pages ≡ taken.0 * a.stream.page_blocks = taken.1 ∙ ap (λ (n : ℕ). taken.0 * n) step.sized in
+      let now : option_map {T = ℕ} (λ free. free + sum_by (slots_of b.stream b.held) b.stream.pages) (Some few) ≡ slots_with b.stream b.held =
+      sym (ap (option_map {T = ℕ} (λ free. free + sum_by (slots_of b.stream b.held) b.stream.pages)) full.2) in
+      (full.0, rest-of a.stream.page_blocks few _ taken.0 first.free_slots full.1 total (now ∙ step.touches.slots ∙ slots_before))
+  want_of (NoReservation tracker wanted room) full = full
+  want_of (WriteFault entry) full = full
+  want_of (ReadFault entry) full = full
+  want_of (TooManyTrackers count) full = full
+  want_of NamesSpent full = full
+  want_of Memory full = full
 
--- a span that ends later
-pub stop_later : (blocks : ℕ) (first : Holdings) (before mid after : Signs) → Grows mid after → (e : QueryErr) → MayStop blocks first before mid e → MayStop blocks first before after e
-stop_later blocks first before mid after grows (query.Pool e) stop = record { answered = answered_after e before mid after stop.answered grows; want = stop.want }
-stop_later blocks first before mid after grows (query.SourceFault side) stop = stop
-stop_later blocks first before mid after grows (query.BadHeader side) stop = stop
-stop_later blocks first before mid after grows (query.BadCsv side number) stop = stop
-stop_later blocks first before mid after grows (query.BadField side number column) stop = stop
-stop_later blocks first before mid after grows (query.TooLarge side) stop = stop
-stop_later blocks first before mid after grows (query.RowTooLong side number bytes) stop = stop
-stop_later blocks first before mid after grows query.SinkFault stop = stop
+  pub may_stop : Grows before a.signs → Grows b.signs after → (e : QueryErr) → CameOfPool a b e → MayStop a.stream.page_blocks first before after e
+  may_stop grows later = of_pool_so (CameOf a b) (StoppedBy a.stream.page_blocks first before after) (λ e came. record {
+    answered = answered_after e before b.signs after (answered_before e before a.signs b.signs grows came.answered) later;
+    want = want_of e came.full;
+  })

@@ -1,5 +1,5 @@
 -- The answer of a count, as computed over the bytes of its input. A row weighs at most the bytes of a page.
-use Rattle.std.specs.Prelude.{◌≡◌, ℕ, List, [], ◌∷◌, ◌++◌, Option, Some, None, map, flat_map, codes, length, sum_by, pos, ⊤}
+use Rattle.std.specs.Prelude.{◌≡◌, ℕ, List, [], ◌∷◌, ◌++◌, Option, Some, None, Bool, true, map, flat_map, codes, length, sum_by, pos, ⊤}
 use Rattle.std.specs.Io.KnownBytes.{Appends}
 use Rattle.row_codec.specs.declared.values.Value.{Value}
 use Rattle.row_codec.specs.declared.values.Value.TheVariants.{Text, Wide}
@@ -51,10 +51,16 @@ abbrev pub WroteFront : ℕ → List ℕ → Option (List ℕ) → Option (List 
 WroteFront page column None old new = ⊤
 WroteFront page column (Some bytes) old new = (text : List ℕ) × IsAnswer page column bytes text × AppendsFront old new text
 
--- the numbers that go with an answer
-pub record Numbers {page : ℕ} {column bytes : List ℕ} (c : Counting page column bytes) (ran : Ran) : Type 0 where
-  pub left : ran.left ≡ length c.texts
-  pub right : ran.right ≡ 0
-  pub kept : ran.kept ≡ length c.texts
+-- the numbers of the lines of an answer
+pub record LineNumbers {page : ℕ} {column bytes : List ℕ} (c : Counting page column bytes) (ran : Ran) : Type 0 where
   pub lines : ran.lines ≡ length c.groups
   pub totals : ran.totals ≡ pos (sum_by (λ g. g.count) c.groups) ∷ []
+
+-- the numbers that go with an answer: those of the rows always, and those of the lines where pins are told
+pub record Numbers (page : ℕ) (column : List ℕ) (tells : Bool) (ran : Ran) (bytes : List ℕ) : Type 0 where
+  pub texts : List (List ℕ)
+  pub read : HasTexts page column bytes texts
+  pub left : ran.left ≡ length texts
+  pub right : ran.right ≡ 0
+  pub kept : ran.kept ≡ length texts
+  pub lines : tells ≡ true → (c : Counting page column bytes) × LineNumbers c ran

@@ -1,7 +1,10 @@
 -- What the refusal of an input is to a query.
-use Rattle.std.specs.Prelude.{◌≡◌, Option, Some, None, ⊤}
+use Rattle.std.specs.Prelude.{◌≡◌, List, slice_get, Option, Some, None, ⊤}
+use Rattle.row_codec.specs.declared.values.Kind.{Kind}
+use Rattle.row_codec.specs.declared.values.Kind.TheVariants.{Int}
 use Rattle.csv_edge.specs.declared.refusal.InputErr.{InputErr}
 use Rattle.csv_edge.specs.declared.refusal.InputErr.TheVariants as input
+use Rattle.reservation_tree.specs.declared.errors.PoolErr.{PoolErr}
 use Rattle.reservation_tree.specs.declared.errors.PoolErr.TheVariants.{Memory}
 use Rattle.query_plan.specs.declared.plan.Side.{Side}
 use Rattle.query_run.specs.declared.outcome.QueryErr.{QueryErr}
@@ -26,6 +29,11 @@ IsOfBytes (query.RowTooLong side number bytes) = ⊤
 IsOfBytes query.SinkFault = ⊥
 IsOfBytes (query.Pool e) = ⊥
 
+-- the column whose field spells no value is one of ints
+abbrev pub NamesInt : List Kind → QueryErr → Type 0
+NamesInt kinds (query.BadField side number column) = slice_get kinds column ≡ Some Int
+NamesInt kinds _ = ⊤
+
 -- the source had a fault
 abbrev pub IsSourceFault : QueryErr → Type 0
 IsSourceFault why = (side : Side) × (why ≡ query.SourceFault side)
@@ -40,3 +48,8 @@ side_of (query.TooLarge side) = Some side
 side_of (query.RowTooLong side number bytes) = Some side
 side_of query.SinkFault = None
 side_of (query.Pool e) = None
+
+-- where it is an answer of a store, this holds of that answer
+abbrev pub OfPool : (PoolErr → Type 0) → QueryErr → Type 0
+OfPool P (query.Pool e) = P e
+OfPool P _ = ⊤

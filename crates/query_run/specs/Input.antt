@@ -1,12 +1,13 @@
 -- What an input is to a query that counts a column of texts: its rows, or the first place where it is refused.
-use Rattle.std.specs.Prelude.{◌≡◌, ◌<◌, ◌≤◌, ◌⊎◌, ◌+◌, ◌-◌, ◌^◌, ℕ, List, [], ◌∷◌, Option, Some, None, length, min, nat_le, if◌then◌else◌}
+use Rattle.std.specs.Prelude.{◌≡◌, ◌<◌, ◌≤◌, ◌⊎◌, ◌+◌, ◌-◌, ◌^◌, ℕ, List, [], ◌∷◌, Option, Some, None, IfSome, length, min, nat_le, if◌then◌else◌, map}
 use Rattle.std.specs.Option.{option_map, option_or}
+use Rattle.outside.specs.Counts.{Rose}
 use Rattle.row_codec.specs.declared.values.Kind.TheVariants as kind
 use Rattle.row_codec.specs.declared.values.Column.{Column}
 use Rattle.row_codec.specs.declared.values.Value.{Value}
 use Rattle.row_codec.specs.RowBytes.{row_bytes}
 use Rattle.csv_edge.specs.Typed.{Typed, typed_rows}
-use Rattle.query_run.specs.Causes.{cause_of_input}
+use Rattle.query_run.specs.Causes.{IsOfBytes, IsSourceFault, cause_of_input, side_of, NamesInt}
 use Rattle.query_plan.specs.declared.plan.Side.TheVariants.{Left}
 use Rattle.query_run.specs.declared.outcome.QueryErr.{QueryErr}
 use Rattle.query_run.specs.declared.outcome.QueryErr.TheVariants.{RowTooLong, TooLarge}
@@ -54,3 +55,11 @@ IsRefusal page column bytes why = (refusal_of page column bytes ≡ Some why) �
 pub record IsAccepted (page : ℕ) (column bytes : List ℕ) : Type 0 where
   pub whole : refusal_of page column bytes ≡ None
   pub fits : length bytes ≤ most_bytes
+
+-- what an error says of the input is so: it speaks of the left one, its bytes, where they are told, are refused for
+-- this, a bad field is one of a column of ints, and a fault of the source was counted
+pub record SaysOfInput (page : ℕ) (column : List ℕ) (told : Option (List ℕ)) (faults faults_now : ℕ) (why : QueryErr) : Type 0 where
+  pub side : IfSome (side_of why) (λ side. side ≡ Left)
+  pub refused : IsOfBytes why → IfSome told (λ bytes. IsRefusal page column bytes why)
+  pub field : NamesInt (map (λ c. c.kind) (text_column column)) why
+  pub source_fault : IsSourceFault why → Rose faults faults_now

@@ -3,6 +3,9 @@ pub mod Causes
 pub mod Input
 pub mod Plans
 pub mod Answer
+pub mod Keeping
+pub mod KeyCounts
+pub mod Trail
 pub mod Stopped
 pub mod Inside
-pub mod Trail
+pub mod Parts

@@ -3,22 +3,38 @@ use Rattle.std.specs.Prelude.{◌≡◌, ℕ, ◌≤◌, ◌%◌, Option, Some, 
 use Rattle.reservation_tree.specs.declared.errors.PoolErr.{PoolErr}
 use Rattle.reservation_tree.specs.declared.errors.PoolErr.TheVariants.{ScratchFull}
 use Rattle.store_api.specs.Holdings.{Holdings}
-use Rattle.store_api.specs.Signs.{Signs, WasAnswered}
+use Rattle.store_api.specs.Signs.{Signs, Grows, WasAnswered}
+use Rattle.tuple_stream.specs.Trails.{EnteredEvents}
+use Rattle.query_plan.specs.declared.plan.Query.{Query}
+use Rattle.query_plan.specs.Sizes.{least_of}
+use Rattle.query_run.specs.Causes.{OfPool}
+use Rattle.query_run.specs.Trail.{ReservesFirst}
 use Rattle.query_run.specs.declared.outcome.QueryErr.{QueryErr}
-use Rattle.query_run.specs.declared.outcome.QueryErr.TheVariants as query
 
--- no client is live, the query has at least the room that it had, and its other numbers, what is above it and the
--- free slots are as they were
+-- a store over which a plan may run: no client is live, and there is room for the least reservation
+pub record HasRoomFor (plan : Query) (h : Holdings) : Type 0 where
+  pub idle : h.live_clients ≡ 0
+  pub room : least_of plan h.block_len ≤ h.room
+
+-- no client is live, the query has at least the room and the reservation that it had, and its limit, the free slots and
+-- whether pins are told are as they were
 pub record IsLeft (old new : Holdings) : Type 0 where
   pub live_clients : new.live_clients ≡ 0
   pub room : old.room ≤ new.room
-  pub reservation : new.reservation ≡ old.reservation
-  pub above : new.above ≡ old.above
+  pub reservation : old.reservation ≤ new.reservation
   pub limit : new.limit ≡ old.limit
   pub query : new.query ≡ old.query
   pub session : new.session ≡ old.session
   pub block_len : new.block_len ≡ old.block_len
   pub free_slots : new.free_slots ≡ old.free_slots
+  pub told : new.told ≡ old.told
+
+-- what became of a store over which a plan ran: its client came first, and reserved the least reservation, nothing of
+-- it is left, and what the store shows only grew
+pub record RanOver (plan : Query) (old new : Holdings) (before after : Signs) : Type 0 where
+  pub reserves : EnteredEvents (ReservesFirst old.query (least_of plan old.block_len)) before.trail after.trail
+  pub left : IsLeft old new
+  pub grows : Grows before after
 
 -- what is left of the slots that were free at the start, when as many pages as they hold have theirs; nothing was
 -- ever wanting where there is no quota
@@ -38,5 +54,4 @@ pub record StoppedBy (blocks : ℕ) (start : Holdings) (old new : Signs) (e : Po
 
 -- where it is an answer of the store, it gave it
 abbrev pub MayStop : ℕ → Holdings → Signs → Signs → QueryErr → Type 0
-MayStop blocks start old new (query.Pool e) = StoppedBy blocks start old new e
-MayStop blocks start old new _ = ⊤
+MayStop blocks start old new e = OfPool (StoppedBy blocks start old new) e

@@ -1,22 +1,18 @@
 // The rows of an input, kept on pages.
 
-ghost use Rattle.std.specs.Prelude.{Option, ◌≡◌, ◌≢◌, ◌≤◌, ◌<◌, ◌+◌, ◌^◌, ◌⊎◌, ◌∷◌, [], Some, IfErr, IfSome, OnOk, ℕ, List};
-ghost use Rattle.std.specs.Io.KnownBytes.{IsAtEnd};
-ghost use Rattle.outside.specs.Counts.{Rose};
+ghost use Rattle.std.specs.Prelude.{◌≡◌, ◌≢◌, ◌≤◌, ◌<◌, ◌^◌, ◌⊎◌, ◌∷◌, [], Some, IfErr, OnOk};
+ghost use Rattle.std.specs.Io.KnownBytes.{IsAtEnd as EndsInput};
 ghost use Rattle.reservation_tree.specs.declared.errors.PoolErr.{PoolErr};
-ghost use Rattle.pool_model.specs.declared.entry.Entry.{Entry};
 ghost use Rattle.row_codec.specs.declared.values.Kind.TheVariants as kind;
 ghost use Rattle.row_codec.specs.Row.{kinds_of};
-ghost use Rattle.store_api.specs.Conditions.{IsClient};
-ghost use Rattle.store_api.specs.Signs.{Grows};
-ghost use Rattle.tuple_stream.specs.Streamed.{len_in, rows_of};
-ghost use Rattle.tuple_stream.specs.Streams.{IsStream, HasRoom};
-ghost use Rattle.tuple_stream.specs.Touches.{Touches};
-ghost use Rattle.tuple_stream.specs.Trails.{Builds};
+ghost use Rattle.row_codec.specs.RowBytes.{row_bytes};
+ghost use Rattle.tuple_stream.specs.Streams.{IsAtEnd};
+ghost use Rattle.tuple_stream.specs.Steps.{Adds, came, scene};
 ghost use Rattle.query_plan.specs.declared.plan.Side.TheVariants.{Left};
-ghost use Rattle.query_run.specs.Causes.{IsOfBytes, IsSourceFault, side_of};
-ghost use Rattle.query_run.specs.Input.{IsRefusal, text_column};
-ghost use Rattle.query_run.specs.Inside.{Adds, CameOfPool, HasKept, IsTooLong};
+ghost use Rattle.query_run.specs.Causes.{IsOfBytes, side_of};
+ghost use Rattle.query_run.specs.Input.{text_column, SaysOfInput};
+ghost use Rattle.query_run.specs.Plans.{first_name};
+ghost use Rattle.query_run.specs.Keeping.{AnySteps, CameOfPool, HasKept, IsPageLen, IsServed, IsTextRow, IsTooLong};
 
 use crate::outcome::QueryErr;
 use csv_edge::Rows;
@@ -46,29 +42,19 @@ pub(crate) fn keep_rows<St: Store, S: Source>(
     columns: &[Column],
     left: &mut S,
 ) -> Result<(), QueryErr>
-    requires client { IsClient c.now (St.holds store.old) }
-    requires stream { IsStream c.now.tracker kept.old (St.holds store.old) }
-    requires room { HasRoom c.now.tracker kept.old (St.holds store.old) }
-    requires none { rows_of kept.old (St.holds store.old) ≡ [] }
-    requires page { page ≡ len_in kept.old (St.holds store.old) }
-    requires short { page < 2 ^ 32 }
-    requires column { (name : List ℕ) × (columns.now ≡ text_column name) }
-    ensures ok { OnOk result ((name : List ℕ) → columns.now ≡ text_column name → HasKept page name (S.remaining left.old) (rows_of kept.new (St.holds store.new))) }
+    requires served { IsServed c.now (scene kept.old (St.holds store.old) (St.signs store.old)) }
+    requires page { IsPageLen page (scene kept.old (St.holds store.old) (St.signs store.old)) }
+    requires none { kept.old.count ≡ 0 }
+    requires column { columns.now ≡ text_column (first_name columns.now) }
+    ensures ok { OnOk result (HasKept c.now.tracker page (first_name columns.now) (S.remaining left.old) (scene kept.old (St.holds store.old) (St.signs store.old)) (scene kept.new (St.holds store.new) (St.signs store.new))) }
     ensures few { OnOk result (kept.new.count < 2 ^ 32) }
-    ensures read { OnOk result (IsAtEnd (S.remaining left.new)) }
-    ensures refused { IfErr result (λ e. IsOfBytes e → (name : List ℕ) → columns.now ≡ text_column name → IfSome (S.remaining left.old) (λ bytes. IsRefusal page name bytes e)) }
-    ensures source_fault { IfErr result (λ e. IsSourceFault e → Rose (S.faults left.old) (S.faults left.new)) }
-    ensures side { IfErr result (λ e. IfSome (side_of e) (λ side. side ≡ Left)) }
+    ensures read { OnOk result (EndsInput (S.remaining left.new)) }
+    ensures input { IfErr result (SaysOfInput page (first_name columns.now) (S.remaining left.old) (S.faults left.old) (S.faults left.new)) }
     ensures cause { IfErr result (λ e. e ≢ QueryErr.SinkFault) }
-    ensures pool { IfErr result (CameOfPool kept.old (St.holds store.new) (St.signs store.old) (St.signs store.new)) }
+    ensures pool { IfErr result (CameOfPool (scene kept.old (St.holds store.old) (St.signs store.old)) (scene kept.new (St.holds store.new) (St.signs store.new))) }
 
     ensures source_kept { S.faults left.old ≤ S.faults left.new }
-    ensures stream { IsStream c.now.tracker kept.new (St.holds store.new) }
-    ensures sized { kept.new.page_blocks ≡ kept.old.page_blocks }
-    ensures builds { OnOk result ((start : Option (List Entry)) → Builds kept.old (St.holds store.old) start (St.signs store.old).trail → Builds kept.new (St.holds store.new) start (St.signs store.new).trail) }
-    ensures spent { kept.new.spent ≡ kept.old.spent }
-    ensures touches { Touches c.now.tracker kept.old kept.new (St.holds store.old) (St.holds store.new) }
-    ensures grows { Grows (St.signs store.old) (St.signs store.new) }
+    ensures went { AnySteps c.now.tracker (scene kept.old (St.holds store.old) (St.signs store.old)) (scene kept.new (St.holds store.new) (St.signs store.new)) }
 {
     let mut room = Vec::new(alloc);
     let mut rows = Rows::of(left);
@@ -97,25 +83,16 @@ fn keep_row<St: Store>(
     row: &[Value],
     room: &mut Vec<u8>,
 ) -> Result<(), QueryErr>
-    requires client { IsClient c.now (St.holds store.old) }
-    requires stream { IsStream c.now.tracker kept.old (St.holds store.old) }
-    requires room { HasRoom c.now.tracker kept.old (St.holds store.old) }
-    requires page { page ≡ len_in kept.old (St.holds store.old) }
-    requires short { page < 2 ^ 32 }
+    requires served { IsServed c.now (scene kept.old (St.holds store.old) (St.signs store.old)) }
+    requires page { IsPageLen page (scene kept.old (St.holds store.old) (St.signs store.old)) }
     requires kinds { kinds_of row.now ≡ kind.Text ∷ [] }
     requires few { kept.old.count < 2 ^ 32 }
-    ensures ok { OnOk result (Adds page row.now (rows_of kept.old (St.holds store.old)) (rows_of kept.new (St.holds store.new))) }
-    ensures counted { OnOk result (kept.new.count ≡ kept.old.count + 1) }
+    ensures ok { OnOk result (IsTextRow page row.now) }
+    ensures at_end { OnOk result (IsAtEnd kept.new) }
+    ensures went { Adds c.now.tracker (came result (row_bytes row.now)) (scene kept.old (St.holds store.old) (St.signs store.old)) (scene kept.new (St.holds store.new) (St.signs store.new)) }
     ensures refused { IfErr result (λ e. IsOfBytes e → IsTooLong page row.now kept.old.count e) }
     ensures cause { IfErr result (λ e. (side_of e ≡ Some Left) × IsOfBytes e ⊎ (pool : PoolErr) × (e ≡ QueryErr.Pool pool)) }
-    ensures pool { IfErr result (CameOfPool kept.old (St.holds store.new) (St.signs store.old) (St.signs store.new)) }
-
-    ensures stream { IsStream c.now.tracker kept.new (St.holds store.new) }
-    ensures sized { kept.new.page_blocks ≡ kept.old.page_blocks }
-    ensures builds { OnOk result ((start : Option (List Entry)) → Builds kept.old (St.holds store.old) start (St.signs store.old).trail → Builds kept.new (St.holds store.new) start (St.signs store.new).trail) }
-    ensures spent { kept.new.spent ≡ kept.old.spent }
-    ensures touches { Touches c.now.tracker kept.old kept.new (St.holds store.old) (St.holds store.new) }
-    ensures grows { Grows (St.signs store.old) (St.signs store.new) }
+    ensures pool { IfErr result (CameOfPool (scene kept.old (St.holds store.old) (St.signs store.old)) (scene kept.new (St.holds store.new) (St.signs store.new))) }
 {
     law_row_back();
     let weight = encoded_len(row).saturating_add(AGGREGATE);

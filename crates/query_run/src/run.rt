@@ -1,23 +1,19 @@
 // A query, from the bytes of its input to those of its answer.
 
-ghost use Rattle.std.specs.Prelude.{◌≡◌, ◌≢◌, ◌≤◌, IfErr, IfOk, IfSome, IsErrOf, OnOk, is_some};
+ghost use Rattle.std.specs.Prelude.{◌≡◌, ◌≤◌, ◌⊎◌, IfErr, IfOk, IfSome, IsErrOf, IsSome, OnOk, is_some, true};
 ghost use Rattle.std.specs.Io.KnownBytes.{IsAtEnd};
 ghost use Rattle.outside.specs.Counts.{Rose};
-ghost use Rattle.store_api.specs.Signs.{Grows};
-ghost use Rattle.tuple_stream.specs.Trails.{Since};
-ghost use Rattle.query_plan.specs.declared.plan.Side.TheVariants.{Left};
-ghost use Rattle.query_plan.specs.Sizes.{joins, least_of, page_len};
-ghost use Rattle.query_run.specs.Answer.{Counting, Numbers, WroteAnswer, WroteFront};
-ghost use Rattle.query_run.specs.Causes.{IsOfBytes, IsSourceFault, side_of};
-ghost use Rattle.query_run.specs.Input.{IsRefusal};
+ghost use Rattle.query_plan.specs.Sizes.{joins, page_len};
+ghost use Rattle.query_run.specs.Answer.{Numbers, WroteAnswer, WroteFront};
+ghost use Rattle.query_run.specs.Causes.{side_of};
+ghost use Rattle.query_run.specs.Input.{SaysOfInput};
 ghost use Rattle.query_run.specs.Plans.{CountsTexts, column_of};
-ghost use Rattle.query_run.specs.Stopped.{IsLeft, MayStop};
-ghost use Rattle.query_run.specs.Trail.{KeptTexts, ReservesFirst};
+ghost use Rattle.query_run.specs.Stopped.{HasRoomFor, MayStop, RanOver};
+ghost use Rattle.query_run.specs.Trail.{KeptTexts};
 
 use crate::outcome::{QueryErr, Ran, Totals};
 use crate::through::count_rows;
-use crate::writing::{Answer, make_answer};
-use csv_edge::write_whole;
+use crate::writing::{Summary, write_answer};
 use outside::{Sink, Source};
 use query_plan::Query;
 use row_codec::Bytes;
@@ -27,6 +23,9 @@ use store_api::Store;
 /// Runs a query that counts the texts of one column of its left input, and writes its answer. The whole input is
 /// read before anything is written. Its rows are kept on pages of the store, by a client of its own with the least
 /// reservation, and what it answers is counted over what comes back.
+///
+/// So an answer is promised where the store tells what a pin shows. Where it doesn't, what comes back may be any bytes,
+/// and bytes that are no row are answered by `Memory`.
 ///
 /// The store has no live client and room for the least reservation; afterwards it has no live client again, and at
 /// least the room that it had. `right` holds a source exactly where the query joins, and holds it afterwards.
@@ -48,35 +47,30 @@ pub fn run_query<St: Store, S: Source, K: Sink>(
     sink: &mut K,
 ) -> Result<Ran, QueryErr>
     requires plan { CountsTexts plan.now }
-    requires idle { (St.holds store.old).live_clients ≡ 0 }
-    requires room { least_of plan.now (St.holds store.old).block_len ≤ (St.holds store.old).room }
+    requires store { HasRoomFor plan.now (St.holds store.old) }
     requires right { is_some right.old ≡ joins plan.now }
-    ensures answer { OnOk result (WroteAnswer (page_len plan.now (St.holds store.old).block_len) (column_of plan.now) (S.remaining left.old) (K.contents sink.old) (K.contents sink.new)) }
+    ensures answer { (St.holds store.old).told ≡ true → OnOk result (WroteAnswer (page_len plan.now (St.holds store.old).block_len) (column_of plan.now) (S.remaining left.old) (K.contents sink.old) (K.contents sink.new)) }
     ensures read { OnOk result (IsAtEnd (S.remaining left.new)) }
-    ensures numbers { IfOk result (λ ran. IfSome (S.remaining left.old) (λ bytes. (c : Counting (page_len plan.now (St.holds store.old).block_len) (column_of plan.now) bytes) × Numbers c ran)) }
+    ensures numbers { IfOk result (λ ran. IfSome (S.remaining left.old) (Numbers (page_len plan.now (St.holds store.old).block_len) (column_of plan.now) (St.holds store.old).told ran)) }
 
-    ensures source_fault { IfErr result (λ e. IsSourceFault e → Rose (S.faults left.old) (S.faults left.new)) }
-    ensures refused { IfErr result (λ e. IsOfBytes e → IfSome (S.remaining left.old) (λ bytes. IsRefusal (page_len plan.now (St.holds store.old).block_len) (column_of plan.now) bytes e)) }
-    ensures side { IfErr result (λ e. IfSome (side_of e) (λ side. side ≡ Left)) }
+    ensures input { IfErr result (SaysOfInput (page_len plan.now (St.holds store.old).block_len) (column_of plan.now) (S.remaining left.old) (S.faults left.old) (S.faults left.new)) }
     ensures pool { IfErr result (MayStop plan.now.page_blocks (St.holds store.old) (St.signs store.old) (St.signs store.new)) }
     ensures sink_fault { IsErrOf result QueryErr.SinkFault → Rose (K.faults sink.old) (K.faults sink.new) }
-    ensures front { IsErrOf result QueryErr.SinkFault → WroteFront (page_len plan.now (St.holds store.old).block_len) (column_of plan.now) (S.remaining left.old) (K.contents sink.old) (K.contents sink.new) }
-    ensures untouched { IfErr result (λ e. e ≢ QueryErr.SinkFault → sink.new ≡ sink.old) }
+    ensures front { (St.holds store.old).told ≡ true → IsErrOf result QueryErr.SinkFault → WroteFront (page_len plan.now (St.holds store.old).block_len) (column_of plan.now) (S.remaining left.old) (K.contents sink.old) (K.contents sink.new) }
+    ensures untouched { IfErr result (λ e. IsSome (side_of e) → sink.new ≡ sink.old) }
+    ensures stopped { IfErr result (λ _. (sink.new ≡ sink.old) ⊎ (IsAtEnd (S.remaining left.new) × ((St.holds store.old).told ≡ true → WroteFront (page_len plan.now (St.holds store.old).block_len) (column_of plan.now) (S.remaining left.old) (K.contents sink.old) (K.contents sink.new)))) }
+    ensures quiet { IsErrOf result QueryErr.SinkFault ⊎ (K.faults sink.new ≡ K.faults sink.old) }
 
     ensures kept { OnOk result (KeptTexts (page_len plan.now (St.holds store.old).block_len) (column_of plan.now) (S.remaining left.old) (St.signs store.old).trail (St.signs store.new).trail) }
-    ensures reserves { Since (ReservesFirst (St.holds store.old).query (least_of plan.now (St.holds store.old).block_len)) (St.signs store.old).trail (St.signs store.new).trail }
-    ensures leaves { IsLeft (St.holds store.old) (St.holds store.new) }
+    ensures store { RanOver plan.now (St.holds store.old) (St.holds store.new) (St.signs store.old) (St.signs store.new) }
     ensures right { right.new ≡ right.old }
     ensures source_kept { S.faults left.old ≤ S.faults left.new }
     ensures sink_kept { K.faults sink.old ≤ K.faults sink.new }
-    ensures grows { Grows (St.signs store.old) (St.signs store.new) }
 {
     let counted = count_rows(alloc, store, plan, left)?;
-    let Answer { text, lines, total } = make_answer(alloc, first_name(plan), counted.counts)?;
+    let name = first_name(plan);
+    let Summary { lines, total } = write_answer(alloc, name, counted.counts, sink)?;
     let totals = Totals::one(alloc, total)?;
-    if write_whole(sink, text.as_slice()).is_err() {
-        return Err(QueryErr::SinkFault);
-    }
     Ok(Ran {
         left: counted.rows,
         right: 0,
