@@ -1,13 +1,14 @@
 -- When each status comes, and what the report says then.
-use Rattle.std.specs.Prelude.{◌≡◌, ◌≤◌, ◌<◌, ◌⊎◌, ℕ, List, Option, Some, IfSome, length, option_map, ⊤}
+use Rattle.std.specs.Prelude.{◌≡◌, ◌≤◌, ◌<◌, ◌⊎◌, ℕ, List, Option, Some, IfSome, length, option_map}
+use Rattle.std.specs.Io.KnownBytes.{Keeps}
 use Rattle.outside.specs.Counts.{Rose}
 use Rattle.query_run.specs.Answer.{WroteAnswer, WroteFront}
 use Rattle.query_run.specs.Input.{IsAccepted, IsRefusal, most_bytes, refusal_of}
 use Rattle.query_run.specs.declared.outcome.QueryErr.{QueryErr}
 use Rattle.spill_top.specs.declared.report.Refusal.{Refusal}
-use Rattle.spill_top.specs.declared.report.Refusal.TheVariants.{InputFault, Header, Csv, Field, Large, Row, Memory}
+use Rattle.spill_top.specs.declared.report.Refusal.TheVariants.{InputFault, Header, Csv, Large, Row}
 use Rattle.spill_top.specs.Refusals.{refusal_for}
-use Rattle.spill_top.specs.Report.{Tells, line_of, status_of}
+use Rattle.spill_top.specs.Report.{Tells, TellsOrMisses, line_of, shortage, status_of}
 use Rattle.spill_top.specs.Words.{Command}
 
 -- the bytes of a page of a count, which no row may pass
@@ -30,22 +31,29 @@ AnswersInPart bytes_at before now command = WroteFront page_bytes command.column
 abbrev pub IsOfInput : Option (List ℕ) → Command → Refusal → Type 0
 IsOfInput told command refusal = IfSome told (λ bytes. (why : QueryErr) × IsRefusal page_bytes command.column bytes why × (refusal_for why ≡ Some refusal))
 
--- why a command was refused: its file had a fault, its bytes are refused, or memory was wanting
+-- why a command was refused: its file had a fault, or its bytes are refused
 abbrev pub IsCause : Option (List ℕ) → ℕ → ℕ → Command → Refusal → Type 0
 IsCause told before now command InputFault = Rose before now
 IsCause told before now command Header = IsOfInput told command Header
 IsCause told before now command (Csv number) = IsOfInput told command (Csv number)
-IsCause told before now command (Field number) = IsOfInput told command (Field number)
 IsCause told before now command Large = IsOfInput told command Large
 IsCause told before now command (Row number weight) = IsOfInput told command (Row number weight)
-IsCause told before now command Memory = ⊤
 
--- a refusal of this status: why, and its line in the report
+-- a refusal of this status: why, and its line in the report, unless that found no memory
 pub record Refuses (status : ℕ) (command : Command) (told : Option (List ℕ)) (faults faults_now : ℕ) (report report_now : Option (List ℕ)) (writes writes_now : ℕ) : Type 0 where
   pub why : Refusal
   pub status_is : status ≡ status_of why
   pub cause : IsCause told faults faults_now command why
-  pub tells : Tells (line_of command.column why) report report_now writes writes_now
+  pub tells : TellsOrMisses (line_of why) report report_now writes writes_now
+
+-- nothing was appended, or a front of the answer
+abbrev pub WroteLess : (List ℕ → Option (List ℕ)) → Option (List ℕ) → Option (List ℕ) → Command → Type 0
+WroteLess bytes_at before now command = Keeps before now ⊎ AnswersInPart bytes_at before now command
+
+-- want of memory: the report has its line, or no more than a front of the answer and no new fault
+abbrev pub LacksMemory : (List ℕ → Option (List ℕ)) → Option (List ℕ) → Option (List ℕ) → ℕ → ℕ → Command → Type 0
+LacksMemory bytes_at report report_now writes writes_now command =
+    Tells shortage report report_now writes writes_now ⊎ (WroteLess bytes_at report report_now command × (writes_now ≡ writes))
 
 -- the bytes of the input are told, and this is the first refusal in them; they are no more than allowed
 pub record RefusesBytes (told : Option (List ℕ)) (command : Command) (why : QueryErr) : Type 0 where

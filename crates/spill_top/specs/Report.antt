@@ -1,6 +1,6 @@
 -- What the report says where there is no answer, and how much of it.
-use Rattle.std.specs.Prelude.{◌⊎◌, ℕ, List, Option, None}
-use Rattle.std.specs.Io.KnownBytes.{Appends}
+use Rattle.std.specs.Prelude.{◌≡◌, ◌⊎◌, ℕ, List, Option, None}
+use Rattle.std.specs.Io.KnownBytes.{Appends, Keeps}
 use Rattle.outside.specs.Counts.{Rose}
 use Rattle.csv_edge.specs.Written.{AppendsFront}
 use Rattle.query_plan.specs.declared.plan.Side.TheVariants.{Left}
@@ -10,38 +10,42 @@ use Rattle.run_report.specs.declared.outcome.Outcome.{Outcome}
 use Rattle.run_report.specs.declared.outcome.Outcome.TheVariants.{Refused}
 use Rattle.run_report.specs.Report.{outcome_text}
 use Rattle.spill_top.specs.declared.report.Refusal.{Refusal}
-use Rattle.spill_top.specs.declared.report.Refusal.TheVariants.{InputFault, Header, Csv, Field, Large, Row, Memory}
+use Rattle.spill_top.specs.declared.report.Refusal.TheVariants.{InputFault, Header, Csv, Large, Row}
 
 -- the line for words that are no command
 abbrev pub usage : List ℕ
 usage = outcome_text None (Refused 1 cause.Words)
 
+-- the line for want of memory
+abbrev pub shortage : List ℕ
+shortage = outcome_text None (Refused 10 cause.Memory)
+
 abbrev pub status_of : Refusal → ℕ
 status_of InputFault = 3
 status_of Header = 4
 status_of (Csv number) = 4
-status_of (Field number) = 4
 status_of Large = 4
 status_of (Row number weight) = 5
-status_of Memory = 10
 
--- the cause that is printed, where this column was asked for
-abbrev pub cause_of : List ℕ → Refusal → Cause
-cause_of column InputFault = cause.Input Left
-cause_of column Header = cause.Header Left
-cause_of column (Csv number) = cause.Csv Left number
-cause_of column (Field number) = cause.Field Left number column
-cause_of column Large = cause.Large Left
-cause_of column (Row number weight) = cause.Row Left number weight
-cause_of column Memory = cause.Memory
+-- the cause that is printed
+abbrev pub cause_of : Refusal → Cause
+cause_of InputFault = cause.Input Left
+cause_of Header = cause.Header Left
+cause_of (Csv number) = cause.Csv Left number
+cause_of Large = cause.Large Left
+cause_of (Row number weight) = cause.Row Left number weight
 
-abbrev pub outcome_of : List ℕ → Refusal → Outcome
-outcome_of column refusal = Refused (status_of refusal) (cause_of column refusal)
+abbrev pub outcome_of : Refusal → Outcome
+outcome_of refusal = Refused (status_of refusal) (cause_of refusal)
 
 -- the line of a refusal
-abbrev pub line_of : List ℕ → Refusal → List ℕ
-line_of column refusal = outcome_text None (outcome_of column refusal)
+abbrev pub line_of : Refusal → List ℕ
+line_of refusal = outcome_text None (outcome_of refusal)
 
--- a line was appended to the report, or a front of it where the report's faults rose
+-- a line was appended to the report, whose faults stay, or a front of it where they rose
 abbrev pub Tells : List ℕ → Option (List ℕ) → Option (List ℕ) → ℕ → ℕ → Type 0
-Tells line old new before now = Appends old new line ⊎ (Rose before now × AppendsFront old new line)
+Tells line old new before now = (Appends old new line × (now ≡ before)) ⊎ (Rose before now × AppendsFront old new line)
+
+-- the same, or where the line found no memory, nothing was appended
+abbrev pub TellsOrMisses : List ℕ → Option (List ℕ) → Option (List ℕ) → ℕ → ℕ → Type 0
+TellsOrMisses line old new before now = Tells line old new before now ⊎ (Keeps old new × (now ≡ before))

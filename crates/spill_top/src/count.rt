@@ -1,12 +1,11 @@
 // The command `count`.
 
-ghost use Rattle.std.specs.Prelude.{◌≡◌, ◌≢◌, ◌≤◌, Some, None, IfErr, IsErrOf, OnOk};
+ghost use Rattle.std.specs.Prelude.{◌≡◌, ◌≢◌, ◌≤◌, ◌⊎◌, None, Some, IfErr, IsErrOf, OnOk};
 ghost use Rattle.outside.specs.Counts.{NoneFell, Rose};
 ghost use Rattle.outside.specs.Names.{AllStay};
-ghost use Rattle.store_api.specs.MemStore.{IsOpened, held_in};
 ghost use Rattle.query_run.specs.Plans.{CountsTexts, column_of};
 ghost use Rattle.spill_top.specs.Refusals.{refusal_for};
-ghost use Rattle.spill_top.specs.Headline.{Answers, AnswersInPart, IsCause};
+ghost use Rattle.spill_top.specs.Headline.{Answers, AnswersInPart, IsCause, WroteLess};
 
 use crate::plan::{BLOCK_LEN, LEAST, LIMIT, counting_plan};
 use crate::report::Refusal;
@@ -22,7 +21,11 @@ use store_api::MemStore;
 pub(crate) enum Stop {
     // The report failed, and nothing more is written to it.
     Report,
-    // Nothing of the answer was written.
+    // Memory was wanting, and nothing was written.
+    Memory,
+    // Memory was wanting when a front of the answer may have been written.
+    Short,
+    // The input was refused, and nothing was written.
     Refused(Refusal),
 }
 
@@ -38,28 +41,22 @@ pub(crate) fn count<I: Inputs, R: Sink>(
     ensures cause { IfErr result (λ e. (why : Refusal) → e ≡ Stop.Refused why → IsCause (I.bytes_at inputs.old file.now) (I.faults_at inputs.old file.now) (I.faults_at inputs.new file.now) (record { file = file.now; column = column.now }) why) }
     ensures output_fault { IsErrOf result Stop.Report → Rose (R.faults report.old) (R.faults report.new) }
     ensures part { IsErrOf result Stop.Report → AnswersInPart (I.bytes_at inputs.old) (R.contents report.old) (R.contents report.new) (record { file = file.now; column = column.now }) }
-    ensures untouched { IfErr result (λ e. e ≢ Stop.Report → report.new ≡ report.old) }
+    ensures short { IsErrOf result Stop.Short → WroteLess (I.bytes_at inputs.old) (R.contents report.old) (R.contents report.new) (record { file = file.now; column = column.now }) }
+    ensures untouched { IfErr result (λ e. (e ≡ Stop.Report) ⊎ (e ≡ Stop.Short) ⊎ (report.new ≡ report.old)) }
+    ensures quiet { IsErrOf result Stop.Report ⊎ (R.faults report.new ≡ R.faults report.old) }
     ensures inputs { AllStay (I.bytes_at inputs.old) (I.bytes_at inputs.new) }
     ensures never_falls { NoneFell (I.faults_at inputs.old) (I.faults_at inputs.new) }
     ensures report { R.faults report.old ≤ R.faults report.new }
 {
     let Ok(plan) = counting_plan(alloc, file, column) else {
-        return Err(Stop::Refused(Refusal::Memory));
+        return Err(Stop::Memory);
     };
-    let mut store = match MemStore::open(alloc, BLOCK_LEN, LIMIT, LEAST) {
-        Ok(store) => store,
-        Err(PoolErr::Memory) => return Err(Stop::Refused(Refusal::Memory)),
-        Err(_) => unreachable!(),
-    };
-    let counted = count_in(alloc, &mut store, &plan, file, inputs, report);
-    store.close();
-    counted
+    count_in(alloc, &plan, file, inputs, report)
 }
 
-// Runs the plan over the file, in this store.
+// Runs the plan over the file. The source is opened before the store, and given back in any case.
 fn count_in<I: Inputs, R: Sink>(
     alloc: Global,
-    store: &mut MemStore,
     plan: &Query,
     file: &str,
     inputs: &mut I,
@@ -67,38 +64,65 @@ fn count_in<I: Inputs, R: Sink>(
 ) -> Result<(), Stop>
     requires plan { CountsTexts plan.now }
     requires page { plan.now.page_blocks ≡ 1 }
-    requires store { IsOpened 8192 8388608 163840 (held_in store.old) }
     ensures answer { OnOk result (Answers (I.bytes_at inputs.old) (R.contents report.old) (R.contents report.new) (record { file = file.now; column = column_of plan.now })) }
     ensures cause { IfErr result (λ e. (why : Refusal) → e ≡ Stop.Refused why → IsCause (I.bytes_at inputs.old file.now) (I.faults_at inputs.old file.now) (I.faults_at inputs.new file.now) (record { file = file.now; column = column_of plan.now }) why) }
     ensures output_fault { IsErrOf result Stop.Report → Rose (R.faults report.old) (R.faults report.new) }
     ensures part { IsErrOf result Stop.Report → AnswersInPart (I.bytes_at inputs.old) (R.contents report.old) (R.contents report.new) (record { file = file.now; column = column_of plan.now }) }
-    ensures untouched { IfErr result (λ e. e ≢ Stop.Report → report.new ≡ report.old) }
+    ensures short { IsErrOf result Stop.Short → WroteLess (I.bytes_at inputs.old) (R.contents report.old) (R.contents report.new) (record { file = file.now; column = column_of plan.now }) }
+    ensures untouched { IfErr result (λ e. (e ≡ Stop.Report) ⊎ (e ≡ Stop.Short) ⊎ (report.new ≡ report.old)) }
+    ensures quiet { IsErrOf result Stop.Report ⊎ (R.faults report.new ≡ R.faults report.old) }
     ensures inputs { AllStay (I.bytes_at inputs.old) (I.bytes_at inputs.new) }
     ensures never_falls { NoneFell (I.faults_at inputs.old) (I.faults_at inputs.new) }
     ensures report { R.faults report.old ≤ R.faults report.new }
-    ensures store { (held_in store.new).live_clients ≡ 0 }
 {
     let Ok(mut left) = inputs.open(file) else {
         return Err(Stop::Refused(Refusal::InputFault));
     };
+    let mut store = match MemStore::open(alloc, BLOCK_LEN, LIMIT, LEAST) {
+        Ok(store) => store,
+        Err(PoolErr::Memory) => {
+            inputs.close(file, left);
+            return Err(Stop::Memory);
+        }
+        Err(_) => unreachable!(),
+    };
     let mut right = None;
-    let ran = run_query(alloc, store, plan, &mut left, &mut right, report);
+    let ran = run_query(alloc, &mut store, plan, &mut left, &mut right, report);
     inputs.close(file, left);
-    match ran {
-        Ok(_) => Ok(()),
-        Err(e) => Err(Stop::of(e)),
+    store.close();
+    let_go(right);
+    let Err(e) = ran else {
+        return Ok(());
+    };
+    Err(Stop::of(e))
+}
+
+// Lets go of a source that is not there.
+fn let_go<S>(none: Option<S>)
+    requires { none ≡ None }
+{
+    match none {
+        None => (),
+        Some(_) => unreachable!(),
     }
 }
 
 impl Stop {
-    // Why a query stopped that ran over a store in memory.
+    // Why a query stopped that counts texts over a store in memory: such a store refuses for want of memory alone,
+    // and a column of texts has no bad field.
     fn of(e: QueryErr) -> Stop
         ensures refused { (why : Refusal) → result ≡ Stop.Refused why → refusal_for e ≡ Some why }
-        ensures report { result ≡ Stop.Report → refusal_for e ≡ None }
+        ensures report { result ≡ Stop.Report → e ≡ QueryErr.SinkFault }
+        ensures fault { e ≡ QueryErr.SinkFault → result ≡ Stop.Report }
+        ensures short { result ≡ Stop.Short → refusal_for e ≡ None }
+        ensures apart { result ≢ Stop.Memory }
     {
-        match Refusal::of(e) {
-            Some(refusal) => Stop::Refused(refusal),
-            None => Stop::Report,
+        if let Some(refusal) = Refusal::of(&e) {
+            return Stop::Refused(refusal);
+        }
+        match &e {
+            QueryErr::SinkFault => Stop::Report,
+            _ => Stop::Short,
         }
     }
 }

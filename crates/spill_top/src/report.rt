@@ -1,56 +1,52 @@
-// The line of a refusal.
+// The lines of refusals.
 
-ghost use Rattle.std.specs.Prelude.{◌≡◌, ◌≤◌, IfOk};
-ghost use Rattle.spill_top.specs.Report.{Tells, line_of, outcome_of, usage, status_of};
+ghost use Rattle.std.specs.Prelude.{◌≡◌, ◌≤◌, IfOk, Some, None};
+ghost use Rattle.spill_top.specs.Report.{Tells, line_of, outcome_of, shortage, usage, status_of};
 ghost use Rattle.spill_top.specs.Refusals.{Says, refusal_for};
 
 use csv_edge::write_whole;
 use outside::Sink;
 use query_plan::Side;
 use query_run::QueryErr;
-use reservation_tree::PoolErr;
-use row_codec::{Bytes, Memory};
+use row_codec::Memory;
 use run_report::{Cause, Outcome, outcome_line};
 use std::alloc::Global;
 
-// Why a command has no answer. Records are numbered from 0, the header; a weight is in bytes.
+// Why an input has no answer. Records are numbered from 0, the header; a weight is in bytes.
 #[derive(Clone, Copy, Debug, PartialEq, Eq)]
 pub(crate) enum Refusal {
     InputFault,
     Header,
     Csv { number: u64 },
-    Field { number: u64 },
     Large,
     Row { number: u64, weight: u64 },
-    Memory,
 }
 
 impl Refusal {
-    // What the cause of a query that wrote nothing is to its command, over a store in memory; a fault of the report
-    // is no refusal.
-    pub(crate) fn of(e: QueryErr) -> Option<Refusal>
-        ensures { result ≡ refusal_for e }
+    // What the cause of a query is to its command, where it is one of the input.
+    pub(crate) fn of(e: &QueryErr) -> Option<Refusal>
+        ensures { result ≡ refusal_for e.now }
     {
         match e {
             QueryErr::SourceFault { side: _ } => Some(Refusal::InputFault),
             QueryErr::BadHeader { side: _ } => Some(Refusal::Header),
-            QueryErr::BadCsv { side: _, number } => Some(Refusal::Csv { number }),
-            QueryErr::BadField {
-                side: _,
-                number,
-                column: _,
-            } => Some(Refusal::Field { number }),
+            QueryErr::BadCsv { side: _, number } => Some(Refusal::Csv { number: *number }),
             QueryErr::TooLarge { side: _ } => Some(Refusal::Large),
             QueryErr::RowTooLong {
                 side: _,
                 number,
                 bytes,
             } => Some(Refusal::Row {
-                number,
-                weight: bytes,
+                number: *number,
+                weight: *bytes,
             }),
-            QueryErr::Pool(PoolErr::Memory) => Some(Refusal::Memory),
-            QueryErr::SinkFault | QueryErr::Pool(_) => None,
+            QueryErr::BadField {
+                side: _,
+                number: _,
+                column: _,
+            }
+            | QueryErr::SinkFault
+            | QueryErr::Pool(_) => None,
         }
     }
 
@@ -59,21 +55,17 @@ impl Refusal {
     {
         match self {
             Refusal::InputFault => 3,
-            Refusal::Header
-            | Refusal::Csv { number: _ }
-            | Refusal::Field { number: _ }
-            | Refusal::Large => 4,
+            Refusal::Header | Refusal::Csv { number: _ } | Refusal::Large => 4,
             Refusal::Row {
                 number: _,
                 weight: _,
             } => 5,
-            Refusal::Memory => 10,
         }
     }
 
-    // What a command comes to that is so refused, where this column was asked for.
-    fn outcome(self, alloc: Global, column: &[u8]) -> Result<Outcome, Memory>
-        ensures { IfOk result (λ outcome. outcome ≡ outcome_of column.now self) }
+    // What a command comes to that is so refused.
+    fn outcome(self) -> Outcome
+        ensures { result ≡ outcome_of self }
     {
         let side = Side::Left;
         let status = self.status();
@@ -81,46 +73,43 @@ impl Refusal {
             Refusal::InputFault => Cause::Input { side },
             Refusal::Header => Cause::Header { side },
             Refusal::Csv { number } => Cause::Csv { side, number },
-            Refusal::Field { number } => Cause::Field {
-                side,
-                number,
-                name: Bytes::of(alloc, column)?,
-            },
             Refusal::Large => Cause::Large { side },
             Refusal::Row { number, weight } => Cause::Row {
                 side,
                 number,
                 weight,
             },
-            Refusal::Memory => Cause::Memory,
         };
-        Ok(Outcome::Refused { status, cause })
+        Outcome::Refused { status, cause }
     }
 
     // Its line.
-    fn line(self, alloc: Global, column: &[u8]) -> Result<Vec<u8>, Memory>
-        ensures { IfOk result (λ line. line.items ≡ line_of column.now self) }
+    fn line(self, alloc: Global) -> Result<Vec<u8>, Memory>
+        ensures { IfOk result (λ line. line.items ≡ line_of self) }
     {
-        let outcome = self.outcome(alloc, column)?;
-        outcome_line(alloc, None, &outcome)
+        outcome_line(alloc, None, &self.outcome())
     }
 }
 
-// Where even the line of a refusal finds no memory, this one is written, which takes none.
-const MEMORY: &[u8] = b"10 memory\n";
-
-// Appends the line of a refusal to the report, and answers its status. Where the report fails, what
-// is left of the line is not written.
-pub(crate) fn refuse<R: Sink>(alloc: Global, report: &mut R, refusal: Refusal, column: &[u8]) -> u8
-    ensures says { Says refusal column.now result (R.contents report.old) (R.contents report.new) (R.faults report.old) (R.faults report.new) }
+// Appends the line of a refusal to the report, unless it finds no memory, and answers its status.
+pub(crate) fn refuse<R: Sink>(alloc: Global, report: &mut R, refusal: Refusal) -> u8
+    ensures says { Says refusal result (R.contents report.old) (R.contents report.new) (R.faults report.old) (R.faults report.new) }
     ensures never_falls { R.faults report.old ≤ R.faults report.new }
 {
-    let Ok(line) = refusal.line(alloc, column) else {
-        tell(report, MEMORY);
-        return 10;
+    let status = refusal.status();
+    let Ok(line) = refusal.line(alloc) else {
+        return status;
     };
     tell(report, line.as_slice());
-    refusal.status()
+    status
+}
+
+// Appends the line for want of memory, which takes none.
+pub(crate) fn refuse_memory<R: Sink>(report: &mut R)
+    ensures tells { Tells shortage (R.contents report.old) (R.contents report.new) (R.faults report.old) (R.faults report.new) }
+    ensures never_falls { R.faults report.old ≤ R.faults report.new }
+{
+    tell(report, b"10 memory\n");
 }
 
 // Appends the line for words that are no command.

@@ -6,18 +6,19 @@ ghost use Rattle.outside.specs.Names.{AllStay};
 ghost use Rattle.query_run.specs.declared.outcome.QueryErr.{QueryErr};
 ghost use Rattle.spill_top.specs.Words.{command_of};
 ghost use Rattle.spill_top.specs.Report.{Tells, usage};
-ghost use Rattle.spill_top.specs.Headline.{AcceptsInput, Answers, AnswersInPart, HasTooMany, IsStatus, IsStatusOf, Refuses, RefusesBytes};
+ghost use Rattle.spill_top.specs.Headline.{AcceptsInput, Answers, AnswersInPart, HasTooMany, IsStatus, IsStatusOf, LacksMemory, Refuses, RefusesBytes};
 
 use crate::command::command;
 use crate::count::{Stop, count};
-use crate::report::{refuse, refuse_words};
+use crate::report::{refuse, refuse_memory, refuse_words};
 use outside::{Gate, Inputs, Outputs, Sink, Slot};
 use std::alloc::Global;
 
 /// Runs a command and answers its status. The words come without the program's name.
 ///
 /// `count FILE COLUMN` appends to the report how often each text of the column stands in the file.
-/// A refusal appends its line in its place; after a fault of the report nothing more is written.
+/// A refusal appends its line in its place, unless the line finds no memory; where memory is wanting, the
+/// report may also have a front of the answer. After a fault of the report nothing more is written.
 ///
 /// | status | meaning |
 /// |---|---|
@@ -46,8 +47,10 @@ pub fn spill_top<I: Inputs, O: Outputs, R: Sink, D: Slot, G: Gate>(
     ensures words { (result ≡ 1) ↔ (command_of (map string_bytes words.now) ≡ None) }
     ensures usage { result ≡ 1 → Tells usage (R.contents report.old) (R.contents report.new) (R.faults report.old) (R.faults report.new) }
     ensures input_fault { result ≡ 3 → IfSome (command_of (map string_bytes words.now)) (λ c. Rose (I.faults_at inputs.old c.file) (I.faults_at inputs.new c.file)) }
-    ensures refused { result ≢ 0 → result ≢ 1 → result ≢ 9 → IfSome (command_of (map string_bytes words.now)) (λ c.
+    ensures refused { result ≢ 0 → result ≢ 1 → result ≢ 9 → result ≢ 10 → IfSome (command_of (map string_bytes words.now)) (λ c.
         Refuses result c (I.bytes_at inputs.old c.file) (I.faults_at inputs.old c.file) (I.faults_at inputs.new c.file) (R.contents report.old) (R.contents report.new) (R.faults report.old) (R.faults report.new)) }
+    ensures lacks_memory { result ≡ 10 → IfSome (command_of (map string_bytes words.now)) (LacksMemory (I.bytes_at inputs.old) (R.contents report.old) (R.contents report.new) (R.faults report.old) (R.faults report.new)) }
+    ensures quiet { result ≡ 0 → R.faults report.new ≡ R.faults report.old }
     ensures output_fault { result ≡ 9 → Rose (R.faults report.old) (R.faults report.new) }
     ensures part { result ≡ 9 → IfSome (command_of (map string_bytes words.now)) (AnswersInPart (I.bytes_at inputs.old) (R.contents report.old) (R.contents report.new)) }
 
@@ -74,6 +77,11 @@ pub fn spill_top<I: Inputs, O: Outputs, R: Sink, D: Slot, G: Gate>(
     match count(alloc, file, column, inputs, report) {
         Ok(()) => 0,
         Err(Stop::Report) => 9,
-        Err(Stop::Refused(refusal)) => refuse(alloc, report, refusal, column.as_bytes()),
+        Err(Stop::Memory) => {
+            refuse_memory(report);
+            10
+        }
+        Err(Stop::Short) => 10,
+        Err(Stop::Refused(refusal)) => refuse(alloc, report, refusal),
     }
 }
