@@ -35,8 +35,8 @@ impl CleanList {
         let _oldest = self.oldest();
     }
 
-    /// How many names `make_room` and `acquire` may append: no more than pages are on the list, and where each of them
-    /// has a block, no more than blocks are wanted.
+    /// How many names `make_room` and `acquire` may append: no more than pages are on the list, and
+    /// where each of them has a block, no more than blocks are wanted.
     #[inline]
     pub fn law_fewest<S>(&self, arena: &Arena, pages: &PageTable<S>, wanted: u32)
         ensures most { fewest wanted arena.now pages.now self.now.keys ≤ length self.now.keys }

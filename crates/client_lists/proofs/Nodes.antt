@@ -1,5 +1,5 @@
 -- For callers: which nodes are where after a call, and how long they are. Who is open stays, by definition.
-use Rattle.std.proofs.Common.{◌≡◌, ◌≢◌, ℕ, ◌*◌, ◌+◌, ◌<◌, false, List, [], ◌∷◌, ◌++◌, Some, None, length, get_or, ap, sym, ◌∙◌, inl, inr, arith}
+use Rattle.std.proofs.Common.{◌≡◌, ◌≢◌, ℕ, ◌<◌, false, List, [], ◌∷◌, ◌++◌, Some, None, length, get_or, ap, sym, ◌∙◌, inl, inr, arith}
 use Rattle.std.proofs.lemmas.Bool.{false≢true, cases_Bool, cases_lt}
 use Rattle.std.proofs.lemmas.List.{length-map, set-get_or, get_or_past, get_or-set_same, get_or-set_other}
 use Rattle.index_list.specs.Listing.{Listing, list_with, stands_in, without, others}
