@@ -14,7 +14,7 @@ use Rattle.page_table.specs.Pages.{Pages, IsProper, id_of, with_entry}
 use Rattle.page_table.proofs.Maps.{get_other}
 use Rattle.page_table.proofs.Entries.{one_of}
 use Rattle.clean_evict.specs.Cleans.{Cleans, without}
-use Rattle.clean_evict.specs.Eviction.{name_at, blocks_at, blocks_of, with_freed, evicted, IsCleanPage, IsCleanList, AreEvicted}
+use Rattle.clean_evict.specs.Eviction.{name_at, blocks_at, blocks_of, with_freed, evicted, evicted_all, IsCleanPage, IsCleanList}
 use Rattle.clean_evict.specs.Inside.{Evicts}
 use Rattle.clean_evict.proofs.Changed.{evicted-one, blocks_of-kept}
 
@@ -66,12 +66,13 @@ module _ {S : Type 0} where
       let new : Pages (Entry S) = with_entry pages id (evicted c.page) in
       let left = front-left key rest fresh in
       let name : c.name ≡ name_at pages key = sym (ap (λ (o : Option ℕ). unwrap_or o 0) c.live) in
-      let one : AreEvicted (c.name ∷ []) pages new = evicted-one pages id c.page c.there in
-      let those : AreEvicted (name_at pages key ∷ []) pages new = subst (λ (n : ℕ). AreEvicted (n ∷ []) pages new) name one in
+      let one : new ≡ evicted_all (c.name ∷ []) pages = evicted-one pages id c.page c.there in
+      let those : new ≡ evicted_all (name_at pages key ∷ []) pages = one ∙ ap (λ (n : ℕ). evicted_all (n ∷ []) pages) name in
+      let blocks : blocks_of new rest ≡ blocks_of pages rest = ap (λ (t : Pages (Entry S)). blocks_of t rest) one ∙ blocks_of-kept (c.name ∷ []) pages rest in
       let room = clean.fits in
       let rest_clean : IsCleanList (with_freed (blocks_at pages key) arena) new rest = record {
         clean = λ q s. still-clean pages key c.name arena.block_len (evicted c.page) proper c.live q (λ same. false≢true (sym fresh ∙ ap (λ (n : ℕ). stands_in n rest) (sym same) ∙ s)) (clean.clean q (or_right (eqb q key) (stands_in q rest) s));
-        fits = omega (arith, room, blocks-first pages key rest, blocks_of-kept (c.name ∷ []) pages new one rest);
+        fits = omega (arith, room, blocks-first pages key rest, blocks);
       } in
       record {
         list_left = ap (λ (ks : List ℕ). record { nodes = nodes; keys = ks }) left;

@@ -11,7 +11,7 @@ use Rattle.index_list.specs.Listing.{stands_in, others}
 use Rattle.page_table.specs.declared.entry.Entry.{Entry}
 use Rattle.page_table.specs.Pages.{Pages}
 use Rattle.clean_evict.specs.Cleans.{Cleans, without_oldest}
-use Rattle.clean_evict.specs.Eviction.{blocks_at, blocks_of, names_of, IsCleanPage, IsCleanList, AreEvicted}
+use Rattle.clean_evict.specs.Eviction.{blocks_at, blocks_of, names_of, with_freed, evicted_all, IsCleanPage, IsCleanList}
 use Rattle.clean_evict.proofs.Changed.{blocks_of-kept}
 
 -- sums of numbers that are equal on the list
@@ -112,11 +112,25 @@ module _ {S : Type 0} where
     | inr s ↦ s
   ]
 
-  -- what is free or clean after a buffer was acquired was so before, but for the blocks that were lent
-  pub acquired-total : (count lent : ℕ) (list list_new : Cleans) (arena arena_new : Supply) (pages new : Pages (Entry S)) → list_new ≡ without_oldest count list → AreEvicted (names_of pages (take count list.keys)) pages new → lent ≤ arena.free + blocks_of pages (take count list.keys) → arena_new ≡ record arena { free = arena.free + blocks_of pages (take count list.keys) - lent } → (arena_new.free + blocks_of new list_new.keys) + lent ≡ arena.free + blocks_of pages list.keys
-  acquired-total count lent list list_new arena arena_new pages new left gone enough freed =
-      let names = names_of pages (take count list.keys) in
+  -- the pages that are left on the list have the blocks that they had
+  blocks-left : (count : ℕ) (list list_new : Cleans) (pages new : Pages (Entry S)) → list_new ≡ without_oldest count list → new ≡ evicted_all (names_of pages (take count list.keys)) pages → blocks_of new list_new.keys ≡ blocks_of pages (drop count list.keys)
+  blocks-left count list list_new pages new left gone =
+      ap (λ (l : Cleans). blocks_of new l.keys) left
+      ∙ ap (λ (t : Pages (Entry S)). blocks_of t (drop count list.keys)) gone
+      ∙ blocks_of-kept (names_of pages (take count list.keys)) pages (drop count list.keys)
+
+  -- what is free or clean after room was made was so before
+  pub freed-total : (count : ℕ) (list list_new : Cleans) (arena arena_new : Supply) (pages new : Pages (Entry S)) → list_new ≡ without_oldest count list → new ≡ evicted_all (names_of pages (take count list.keys)) pages → arena_new ≡ with_freed (blocks_of pages (take count list.keys)) arena → arena_new.free + blocks_of new list_new.keys ≡ arena.free + blocks_of pages list.keys
+  freed-total count list list_new arena arena_new pages new left gone freed =
       let free = ap (λ (a : Supply). a.free) freed in
-      let kept = ap (λ (l : Cleans). blocks_of new l.keys) left ∙ blocks_of-kept names pages new gone (drop count list.keys) in
+      let kept = blocks-left count list list_new pages new left gone in
+      let both = sum_by-take-drop (λ key. blocks_at pages key) list.keys count in
+      omega (arith, free, kept, both)
+
+  -- and after a buffer was acquired, but for the blocks that were lent
+  pub acquired-total : (count lent : ℕ) (list list_new : Cleans) (arena arena_new : Supply) (pages new : Pages (Entry S)) → list_new ≡ without_oldest count list → new ≡ evicted_all (names_of pages (take count list.keys)) pages → lent ≤ arena.free + blocks_of pages (take count list.keys) → arena_new ≡ record arena { free = arena.free + blocks_of pages (take count list.keys) - lent } → (arena_new.free + blocks_of new list_new.keys) + lent ≡ arena.free + blocks_of pages list.keys
+  acquired-total count lent list list_new arena arena_new pages new left gone enough freed =
+      let free = ap (λ (a : Supply). a.free) freed in
+      let kept = blocks-left count list list_new pages new left gone in
       let both = sum_by-take-drop (λ key. blocks_at pages key) list.keys count in
       omega (arith, free, kept, both, enough)

@@ -10,7 +10,8 @@ use Rattle.page_table.specs.declared.entry.Entry.{Entry}
 use Rattle.page_table.specs.declared.entry.Place.TheVariants.{Clean}
 use Rattle.page_table.specs.Pages.{Pages}
 use Rattle.page_table.proofs.Entries.{one_of}
-use Rattle.clean_evict.specs.Eviction.{name_at, names_of, IsCleanPage, IsCleanList, AreEvicted}
+use Rattle.clean_evict.specs.Eviction.{name_at, names_of, evicted_all, IsCleanPage, IsCleanList}
+use Rattle.clean_evict.proofs.Changed.{get-evicted_other}
 
 -- what stands in a front stands in the list
 stands-taken : (q count : ℕ) (keys : List ℕ) → stands_in q (take count keys) ≡ true → stands_in q keys ≡ true
@@ -33,9 +34,9 @@ module _ {S : Type 0} where
       ]
 
   -- a page that is not clean is as it was
-  pub others-kept : (count : ℕ) (keys : List ℕ) (arena : Supply) (pages new : Pages (Entry S)) → IsCleanList arena pages keys → AreEvicted (names_of pages (take count keys)) pages new → (name : ℕ) (page : Entry S) → get pages.entries name ≡ Some page → (page.place ≡ Clean → ⊥) → get new.entries name ≡ Some page
+  pub others-kept : (count : ℕ) (keys : List ℕ) (arena : Supply) (pages new : Pages (Entry S)) → IsCleanList arena pages keys → new ≡ evicted_all (names_of pages (take count keys)) pages → (name : ℕ) (page : Entry S) → get pages.entries name ≡ Some page → (page.place ≡ Clean → ⊥) → get new.entries name ≡ Some page
   others-kept count keys arena pages new clean gone name page there other =
       elim (cases_Bool (stands_in name (names_of pages (take count keys)))) [
         | inl s ↦ absurd (other (named-clean arena.block_len pages (take count keys) (λ key t. clean.clean key (stands-taken key count keys t)) name s page there))
-        | inr s ↦ gone.others name s ∙ there
+        | inr s ↦ ap (λ (t : Pages (Entry S)). get t.entries name) gone ∙ get-evicted_other (names_of pages (take count keys)) pages name s ∙ there
       ]

@@ -1,7 +1,8 @@
 -- How clean pages make room. Keys and names run from the page that has been clean longest on; room is
 -- counted in blocks.
-use Rattle.std.specs.Prelude.{◌≡◌, ℕ, ◌+◌, ◌≤◌, true, false, List, Option, Some, map, length, take, option_map, unwrap_or, nat_le}
-use Rattle.std.specs.FinMap.{get, len}
+use Rattle.std.specs.Prelude.{◌≡◌, ℕ, ◌+◌, ◌≤◌, true, List, [], ◌∷◌, Option, Some, None, map, length, take, option_map, unwrap_or, nat_le}
+use Rattle.std.specs.Ordering.{nat_cmp}
+use Rattle.std.specs.FinMap.{FinMap, get, insert}
 use Rattle.std.specs.List.{sum_by, position_or_len, range_with_len}
 use Rattle.std.specs.Option.{option_and_then}
 use Rattle.block_arena.specs.Memory.{Supply, Buffer, IsBufferOf}
@@ -62,14 +63,23 @@ module _ {S : Type 0} where
   abbrev pub evicted : Entry S → Entry S
   evicted page = record page { place = Evicted; mem = Empty page.blocks }
 
-  -- the pages of these names were evicted, and all else of the table is as it was
-  pub record AreEvicted (names : List ℕ) (old new : Pages (Entry S)) : Type 0 where
-    pub these : (name : ℕ) → stands_in name names ≡ true → get new.entries name ≡ option_map evicted (get old.entries name)
-    pub others : (name : ℕ) → stands_in name names ≡ false → get new.entries name ≡ get old.entries name
-    pub keys_kept : new.names ≡ old.names
-    pub count_kept : len new.entries ≡ len old.entries
-    pub next_kept : new.next_name ≡ old.next_name
-    pub room_kept : new.room ≡ old.room
+  -- the entries, of which the page of this name was evicted, where there is one
+  abbrev pub evicted_if : Option (Entry S) → ℕ → FinMap nat_cmp (Entry S) → FinMap nat_cmp (Entry S)
+  evicted_if None name entries = entries
+  evicted_if (Some page) name entries = insert entries name (evicted page)
+
+  -- the entries once the pages of these names were evicted, the first name first
+  abbrev pub entries_after : List ℕ → FinMap nat_cmp (Entry S) → FinMap nat_cmp (Entry S)
+  entries_after [] entries = entries
+  entries_after (name ∷ names) entries = entries_after names (evicted_if (get entries name) name entries)
+
+  -- the table once the page of this name was evicted; a name that no page has changes nothing
+  abbrev pub evicted_at : ℕ → Pages (Entry S) → Pages (Entry S)
+  evicted_at name t = record t { entries = evicted_if (get t.entries name) name t.entries }
+
+  -- the table once the pages of these names were evicted
+  abbrev pub evicted_all : List ℕ → Pages (Entry S) → Pages (Entry S)
+  evicted_all names t = record t { entries = entries_after names t.entries }
 
 -- that many more blocks of the arena are free
 abbrev pub with_freed : ℕ → Supply → Supply

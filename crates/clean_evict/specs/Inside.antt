@@ -4,14 +4,14 @@ use Rattle.block_arena.specs.Memory.{Supply}
 use Rattle.page_table.specs.declared.entry.Entry.{Entry}
 use Rattle.page_table.specs.Pages.{Pages}
 use Rattle.clean_evict.specs.Cleans.{Cleans, without_oldest}
-use Rattle.clean_evict.specs.Eviction.{names_of, blocks_of, with_freed, IsCleanList, AreEvicted}
+use Rattle.clean_evict.specs.Eviction.{names_of, blocks_of, with_freed, IsCleanList, evicted_all}
 
 module _ {S : Type 0} where
   -- the first pages of the list, so many, were evicted and told, and nothing else changed
   pub record Evicts (count : ℕ) (list list_new : Cleans) (arena arena_new : Supply) (pages pages_new : Pages (Entry S)) (told told_new : List ℕ) : Type 0 where
     pub list_left : list_new ≡ without_oldest count list
     pub freed : arena_new ≡ with_freed (blocks_of pages (take count list.keys)) arena
-    pub evicted : AreEvicted (names_of pages (take count list.keys)) pages pages_new
+    pub evicted : pages_new ≡ evicted_all (names_of pages (take count list.keys)) pages
     pub named : told_new ≡ told ++ names_of pages (take count list.keys)
     pub clean : IsCleanList arena_new pages_new list_new.keys
 

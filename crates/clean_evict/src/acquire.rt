@@ -1,11 +1,11 @@
-//! A buffer for a shell, for which clean pages go out of memory where too few blocks are free.
+//! Clean pages go out of memory where too few blocks are free for what is wanted.
 ghost use Rattle.std.specs.Prelude.{◌≡◌, ◌≢◌, ◌+◌, ◌-◌, ◌<◌, ◌≤◌, ◌++◌, ℕ, Some, length, vec_len, vec_capacity};
 ghost use Rattle.std.specs.FinMap.{get};
 ghost use Rattle.block_arena.specs.Memory.{IsBufferOf};
 ghost use Rattle.page_table.specs.declared.entry.Entry.{Entry as Page};
 ghost use Rattle.page_table.specs.declared.entry.Place.TheVariants.{Clean};
 ghost use Rattle.clean_evict.specs.Cleans.{without_oldest};
-ghost use Rattle.clean_evict.specs.Eviction.{IsCleanList, AreEvicted, fewest, going, names_of, blocks_of};
+ghost use Rattle.clean_evict.specs.Eviction.{IsCleanList, fewest, going, names_of, blocks_of, evicted_all, with_freed};
 ghost use Rattle.clean_evict.specs.Inside.{Evicts};
 
 use crate::evict::evict;
@@ -37,7 +37,7 @@ impl CleanList {
         // The oldest pages went, as few as cover the shell with the free blocks, and were told in order.
         ensures list { self.new ≡ without_oldest (fewest shell arena.old pages.old self.old.keys) self.old }
         ensures told { evicted.new.items ≡ evicted.old.items ++ names_of pages.old (going shell arena.old pages.old self.old.keys) }
-        ensures pages { AreEvicted (names_of pages.old (going shell arena.old pages.old self.old.keys)) pages.old pages.new }
+        ensures pages { pages.new ≡ evicted_all (names_of pages.old (going shell arena.old pages.old self.old.keys)) pages.old }
 
         // A page that is not clean is as it was.
         ensures others { (name : ℕ) (page : Page S) → get pages.old.entries name ≡ Some page → page.place ≢ Clean → get pages.new.entries name ≡ Some page }
@@ -55,8 +55,11 @@ impl CleanList {
         arena.fill(shell)
     }
 
-    // Evicts pages until that many blocks are free, and no longer.
-    fn make_room<S>(
+    /// Makes room for that many blocks: while fewer are free, the page that has been clean longest goes
+    /// out of memory, and its name is appended to `evicted`, as by `acquire`. No block is lent.
+    ///
+    /// The conditions are those of `acquire`.
+    pub fn make_room<S>(
         &mut self,
         arena: &mut Arena,
         pages: &mut PageTable<S>,
@@ -66,8 +69,18 @@ impl CleanList {
         requires clean { IsCleanList arena.old pages.old self.old.keys }
         requires covered { wanted ≤ arena.old.free + blocks_of pages.old self.old.keys }
         requires room { vec_len evicted.old + fewest wanted arena.old pages.old self.old.keys ≤ vec_capacity evicted.old }
-        ensures evicts { Evicts (fewest wanted arena.old pages.old self.old.keys) self.old self.new arena.old arena.new pages.old pages.new evicted.old.items evicted.new.items }
+
+        // The oldest pages went, as few as cover the blocks with the free ones, and were told in order.
+        ensures list { self.new ≡ without_oldest (fewest wanted arena.old pages.old self.old.keys) self.old }
+        ensures told { evicted.new.items ≡ evicted.old.items ++ names_of pages.old (going wanted arena.old pages.old self.old.keys) }
+        ensures pages { pages.new ≡ evicted_all (names_of pages.old (going wanted arena.old pages.old self.old.keys)) pages.old }
+
+        // The blocks of those that went came back.
+        ensures arena { arena.new ≡ with_freed (blocks_of pages.old (going wanted arena.old pages.old self.old.keys)) arena.old }
         ensures enough { wanted ≤ arena.new.free }
+
+        // The next call can be made.
+        ensures clean { IsCleanList arena.new pages.new self.new.keys }
         ensures capacity { vec_capacity evicted.new ≡ vec_capacity evicted.old }
     {
         while arena.free() < wanted {

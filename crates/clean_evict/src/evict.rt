@@ -18,7 +18,7 @@ pub(crate) fn evict<S>(arena: &mut Arena, pages: &mut PageTable<S>, id: PageId)
     ensures pages { (page : Page S) → get pages.old.entries id.name ≡ Some page → pages.new ≡ with_entry pages.old id (evicted page) }
     ensures arena { arena.new ≡ with_freed (blocks_at pages.old id.key) arena.old }
 {
-    let entry = pages.get_mut(id).unwrap();
+    let entry = pages.entry_mut(id);
     entry.place = Place::Evicted;
     let Mem::Held(buf) = mem::replace(&mut entry.mem, Mem::Out) else {
         unreachable!()

@@ -1,5 +1,6 @@
 //! What a caller knows of the clean list between calls. These functions do nothing.
-ghost use Rattle.std.specs.Prelude.{◌≡◌, ◌+◌, ◌<◌, ◌≤◌, ℕ, true, length};
+ghost use Rattle.std.specs.Prelude.{◌≡◌, ◌+◌, ◌<◌, ◌≤◌, ℕ, true, length, eqb};
+ghost use Rattle.std.specs.List.{IsDistinct};
 ghost use Rattle.index_list.specs.Listing.{stands_in};
 ghost use Rattle.clean_evict.specs.Cleans.{pushed, without};
 ghost use Rattle.clean_evict.specs.Eviction.{IsCleanPage, IsCleanList, blocks_at, blocks_of, fewest};
@@ -26,8 +27,16 @@ impl CleanList {
         ensures { IsCleanList arena.now pages.now (without node self.now).keys }
     {}
 
-    /// How many names `acquire` may append: no more than pages are on the list, and where each of them
-    /// has a block, no more than blocks are wanted.
+    /// No page is on the list twice.
+    #[inline]
+    pub fn law_distinct(&self)
+        ensures { IsDistinct eqb self.now.keys }
+    {
+        let _oldest = self.oldest();
+    }
+
+    /// How many names `make_room` and `acquire` may append: no more than pages are on the list, and
+    /// where each of them has a block, no more than blocks are wanted.
     #[inline]
     pub fn law_fewest<S>(&self, arena: &Arena, pages: &PageTable<S>, wanted: u32)
         ensures most { fewest wanted arena.now pages.now self.now.keys ≤ length self.now.keys }

@@ -133,6 +133,33 @@ fn the_oldest_pages_go_while_too_few_blocks_are_free(rt: HostRuntime) -> Result<
     makes_room(&rt, rt.alloc(), 2, &[], [Place::Clean, Place::Clean])
 }
 
+// Two blocks are free and two pages of one block are clean, as room for some blocks is made.
+fn frees(rt: &impl Abort, alloc: Global, wanted: u32, names: &[u64]) -> Result<(), Fail>
+    requires wanted { wanted ≤ 4 }
+    requires names { length names.now ≤ 2 }
+{
+    let mut list = CleanList::with(alloc, 2)?;
+    let mut arena = Arena::open(alloc, 4, 64)?;
+    let mut pages = PageTable::with(alloc, 2, 0)?;
+    let (_first, _none) = turned(rt, alloc, &mut list, &mut arena, &mut pages, 1)?;
+    let (_second, _none) = turned(rt, alloc, &mut list, &mut arena, &mut pages, 1)?;
+    list.law_distinct();
+    list.law_fewest(&arena, &pages, wanted);
+    let mut evicted = Vec::with_capacity(alloc, 4)?;
+    list.make_room(&mut arena, &mut pages, wanted, &mut evicted);
+    assert_eq!(rt; evicted.as_slice(), names, "{wanted}");
+    assert_eq!(rt; arena.free() as usize, 2 + names.len(), "{wanted}");
+    assert_eq!(rt; list.oldest().is_none(), names.len() == 2, "{wanted}");
+    Ok(())
+}
+
+#[test]
+fn room_is_made_and_no_block_is_lent(rt: HostRuntime) -> Result<(), Fail> {
+    frees(&rt, rt.alloc(), 4, &[0, 1])?;
+    frees(&rt, rt.alloc(), 3, &[0])?;
+    frees(&rt, rt.alloc(), 2, &[])
+}
+
 // A plain list of the clean pages' names and blocks, oldest first, and how many blocks are free.
 #[derive(Drop)]
 struct Plain {

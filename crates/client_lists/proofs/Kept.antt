@@ -13,7 +13,7 @@ use Rattle.client_lists.specs.Inside.{IsKept, Settles}
 use Rattle.client_lists.proofs.Proper.{same_or_other}
 use Rattle.client_lists.proofs.Summed.{none-first}
 
-number-le : (which : Which) → number which ≤ 2
+pub number-le : (which : Which) → number which ≤ 2
 number-le Pinned = omega arith
 number-le Dirty = omega arith
 number-le Flying = omega arith

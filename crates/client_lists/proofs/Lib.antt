@@ -3,3 +3,4 @@ pub mod Totals
 pub mod Summed
 pub mod Kept
 pub mod Sums
+pub mod Nodes

@@ -145,6 +145,15 @@ impl ClientLists {
         self.busy.front(BUSY)
     }
 
+    /// What holds of all lists at all times: no node is on two of them, or twice on one, each has a
+    /// length, and a client that isn't open has no node.
+    #[inline]
+    pub fn law_whole(&self)
+        ensures { IsWhole self.now }
+    {
+        self.pages.law_measured();
+    }
+
     /// The number of the list that a node is on.
     #[cfg(test)]
     pub(crate) fn list_of(&self, node: u32) -> Option<u32>

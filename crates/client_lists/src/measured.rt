@@ -113,6 +113,14 @@ impl MeasuredLists {
         self.lists.back(list)
     }
 
+    /// What holds of all lists at all times.
+    #[inline]
+    pub(crate) fn law_measured(&self)
+        ensures { IsMeasured self.now }
+    {
+        let _lists = &self.lists;
+    }
+
     /// The list that a node is on.
     #[cfg(test)]
     pub(crate) fn list_of(&self, node: u32) -> Option<u32>

@@ -33,6 +33,7 @@ fn pages_come_move_and_leave_with_their_lengths(rt: HostRuntime) -> Result<(), F
         ),
         (64, 128, Some(3))
     );
+    lists.law_whole();
     lists.take_out(1, 3);
     assert_eq!(rt;
         (

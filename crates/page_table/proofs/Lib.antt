@@ -4,3 +4,4 @@ pub mod Entries
 pub mod Changes
 pub mod Found
 pub mod Steps
+pub mod Proper

@@ -138,6 +138,17 @@ impl<S> PageTable<S> {
         }
     }
 
+    /// The entry of a live page, to be written. What is left there is the page's, and nothing else changes.
+    #[inline]
+    pub fn entry_mut(&mut self, id: PageId) -> &mut Entry<S>
+        requires { IsLive self.old id }
+        ensures* writes_back { sem 𝓛 (lends_entry S.row self.entry id result) }
+        ensures value { get self.old.entries id.name ≡ Some result.now }
+    {
+        let row = &mut self.rows[id.key as usize];
+        &mut row.entry
+    }
+
     /// Ends the page, and gives its entry. Its key may come again, its name never does.
     #[inline]
     pub fn remove(&mut self, id: PageId) -> Entry<S>
@@ -179,15 +190,5 @@ impl<S> PageTable<S> {
             Some(row) => row.name == id.name,
             None => false,
         }
-    }
-
-    #[inline]
-    fn entry_mut(&mut self, id: PageId) -> &mut Entry<S>
-        requires { IsLive self.old id }
-        ensures* writes_back { sem 𝓛 (lends_entry S.row self.entry id result) }
-        ensures value { get self.old.entries id.name ≡ Some result.now }
-    {
-        let row = &mut self.rows[id.key as usize];
-        &mut row.entry
     }
 }

@@ -85,6 +85,9 @@ fn what_is_written_through_an_entry_stays(rt: HostRuntime) -> Result<(), Fail> {
         Some(Place::Pinned(1))
     );
     assert!(rt; table.get(page).is_some());
+    table.entry_mut(page).blocks = 7;
+    assert_eq!(rt; table.get(page).map(|entry| entry.blocks), Some(7));
+    assert_eq!(rt; table.get(other).map(|entry| entry.blocks), Some(2));
     let kept = evict(&mut table, page);
     assert!(rt; matches!(kept, Some(Mem::Empty(_))));
     assert_eq!(rt;

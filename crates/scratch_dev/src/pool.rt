@@ -77,6 +77,14 @@ impl<D> SlotPool<D> {
         self.spare
     }
 
+    /// What holds of every pool: as many slots are free as are spare or free in a quota.
+    #[inline]
+    pub fn law_counted(&self)
+        ensures { IsCounted self.now }
+    {
+        let _free = &self.free;
+    }
+
     /// Sets `size` spare slots aside for the quota `q`, which is closed.
     pub fn open_quota(&mut self, q: u32, size: u32)
         requires number { q < length self.old.quotas }

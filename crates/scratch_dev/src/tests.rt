@@ -62,6 +62,7 @@ fn slots_go_out_in_front_and_come_back_behind(rt: HostRuntime) -> Result<(), Fai
     assert_eq!(rt; third.slots.as_slice(), [4, 5].as_slice());
     let _two = pool.give(1, third);
     pool.close_quota(1);
+    pool.law_counted();
     assert_eq!(rt; pool.spare(), 2);
     pool.close_quota(0);
     assert_eq!(rt; pool.close().as_slice(), [1, 2, 3, 4, 5].as_slice());

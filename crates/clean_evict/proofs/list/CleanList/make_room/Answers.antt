@@ -40,7 +40,17 @@ loop-self-preserved g c =
       omega (arith, c.evict_oldest.ensures.capacity, c.loop-self.invariant.3),
     )
 
-pub returns-clause-evicts : goal.returns-clause-evicts
-returns-clause-evicts g c =
-    let freed = c.loop-self.invariant.1 in
-    freed-all freed (omega (arith, c.loop-self-test.false, c.free.ensures.value))
+pub returns-clause-list : goal.returns-clause-list
+returns-clause-list g c = (freed-all c.loop-self.invariant.1 (omega (arith, c.loop-self-test.false, c.free.ensures.value))).list_left
+
+pub returns-clause-told : goal.returns-clause-told
+returns-clause-told g c = (freed-all c.loop-self.invariant.1 (omega (arith, c.loop-self-test.false, c.free.ensures.value))).named
+
+pub returns-clause-pages : goal.returns-clause-pages
+returns-clause-pages g c = (freed-all c.loop-self.invariant.1 (omega (arith, c.loop-self-test.false, c.free.ensures.value))).evicted
+
+pub returns-clause-arena : goal.returns-clause-arena
+returns-clause-arena g c = (freed-all c.loop-self.invariant.1 (omega (arith, c.loop-self-test.false, c.free.ensures.value))).freed
+
+pub returns-clause-clean : goal.returns-clause-clean
+returns-clause-clean g c = (freed-all c.loop-self.invariant.1 (omega (arith, c.loop-self-test.false, c.free.ensures.value))).clean
