@@ -1,0 +1,5 @@
+pub mod Changes
+pub mod Trackers
+pub mod Failures
+pub mod Found
+pub mod Counts

@@ -70,9 +70,13 @@ noting t entry m = if m.tracker == t then record m { failed = Some (unwrap_or m.
 abbrev pub noted : ℕ → ℕ → Seat → Seat
 noted t entry x = record x { members = map (noting t entry) x.members }
 
+-- no failure is noted of the client any more
+abbrev pub forgetting : Member → Member
+forgetting m = record m { failed = None }
+
 -- no failure is noted of any client
 abbrev pub forgotten : Seat → Seat
-forgotten x = record x { members = map (λ m. record m { failed = None }) x.members }
+forgotten x = record x { members = map forgetting x.members }
 
 -- at most 16 clients, and none of them twice
 pub record IsProper (x : Seat) : Type 0 where

@@ -1,5 +1,5 @@
 //! One number of the table: a session, or none.
-ghost use Rattle.std.specs.Prelude.{◌≡◌, ◌↔◌, ◌<◌, None, Some, IfOk, IsSome, IsTrue, is_none, length, option_map};
+ghost use Rattle.std.specs.Prelude.{◌≡◌, ◌↔◌, ◌<◌, [], None, Some, IfOk, IsSome, IsTrue, is_none, length, option_map};
 ghost use Rattle.session_table.specs.Seats.{first_of, members_in, with_member, without_member, noted, forgotten};
 
 use crate::member::Member;
@@ -115,11 +115,10 @@ impl Row {
         requires { IsSome self.now }
         ensures { result ≡ first_of (members_in self.now) tracker }
     {
-        let member = self
-            .members
+        self.members
             .iter()
-            .find(|member| member.tracker == tracker)?;
-        member.failed
+            .find(|member| member.tracker == tracker)
+            .and_then(|member| member.failed)
     }
 
     pub(crate) fn forget(&mut self)
