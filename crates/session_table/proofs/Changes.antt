@@ -1,7 +1,8 @@
 -- What a change of one session leaves of the table.
-use Rattle.std.proofs.Common.{◌≡◌, ℕ, ◌<◌, ◌≢◌, length, [], Option, None, Some, option_map, set, ap, sym, ◌∙◌, inl, inr, arith}
+use Rattle.std.proofs.Common.{◌≡◌, ℕ, ◌<◌, ◌≢◌, length, [], Option, None, Some, IsSome, option_map, set, ap, sym, ◌∙◌, inl, inr, arith}
 use Rattle.std.proofs.lemmas.Bool.{cases_lt}
 use Rattle.std.proofs.lemmas.List.{get_or-set_same, get_or-set_other, get_or_past, length-set}
+use Rattle.reservation_tree.proofs.Maps.{found}
 use Rattle.session_table.specs.Seats.{Seat, Seats, seat_of, members_in, members_of, changed, with_seat, without_seat}
 
 -- a number with a session is one of the table's
@@ -10,6 +11,9 @@ seat_within seats s x is = elim (cases_lt s (length seats)) [
   | inl within ↦ within
   | inr past ↦ let both : None ≡ Some x = sym (get_or_past seats s None past) ∙ is in absurd (cc)
 ]
+
+pub some_within : (seats : Seats) (s : ℕ) → IsSome (seat_of seats s) → s < length seats
+some_within seats s there = let x = found (seat_of seats s) there in seat_within seats s x.0 x.1
 
 pub changed_at : (seats : Seats) (s : ℕ) (f : Seat → Seat) → seat_of (changed s f seats) s ≡ option_map f (seat_of seats s)
 changed_at seats s f = elim (cases_lt s (length seats)) [

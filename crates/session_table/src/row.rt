@@ -105,9 +105,7 @@ impl Row {
         ensures { self.new ≡ option_map (noted tracker entry) self.old }
     {
         for member in self.members.iter_mut() {
-            if member.tracker == tracker {
-                member.failed = Some(member.failed.unwrap_or(entry));
-            }
+            member.note(tracker, entry);
         }
     }
 
@@ -115,10 +113,11 @@ impl Row {
         requires { IsSome self.now }
         ensures { result ≡ first_of (members_in self.now) tracker }
     {
-        self.members
+        let member = self
+            .members
             .iter()
-            .find(|member| member.tracker == tracker)
-            .and_then(|member| member.failed)
+            .find(|member| member.tracker == tracker)?;
+        member.failed
     }
 
     pub(crate) fn forget(&mut self)
@@ -126,7 +125,7 @@ impl Row {
         ensures { self.new ≡ option_map forgotten self.old }
     {
         for member in self.members.iter_mut() {
-            member.failed = None;
+            member.forget();
         }
     }
 }
