@@ -11,6 +11,8 @@
 mod member;
 mod row;
 mod table;
+#[cfg(test)]
+mod tests;
 
 pub use member::Member;
 pub use reservation_tree::Memory;

@@ -128,4 +128,13 @@ impl Row {
             member.forget();
         }
     }
+
+    /// The members of a session.
+    #[cfg(test)]
+    pub(crate) fn members(&self) -> &[Member]
+        requires { IsSome self.now }
+        ensures { result.now ≡ members_in self.now }
+    {
+        self.members.as_slice()
+    }
 }
