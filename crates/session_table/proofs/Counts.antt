@@ -1,5 +1,5 @@
 -- How many trackers the sessions have, after each change.
-use Rattle.std.proofs.Common.{◌≡◌, ℕ, ◌+◌, ◌*◌, ◌<◌, ◌≤◌, eqb, true, [], length, set, Option, Some, None, option_map, refl, ap, sym, ◌∙◌, subst, arith, get_or}
+use Rattle.std.proofs.Common.{◌≡◌, ℕ, ◌+◌, ◌*◌, ◌<◌, ◌≤◌, eqb, true, [], length, set, Option, Some, None, option_map, refl, ap, ◌∙◌, subst, arith, get_or}
 use Rattle.std.specs.List.{IsDistinct, All}
 use Rattle.std.proofs.lemmas.List.{get_or_default}
 use Rattle.std.proofs.lemmas.List.Sums.{sum_by-set, sum_by-le}

@@ -5,7 +5,7 @@ use Rattle.std.specs.Ordering.{nat_cmp}
 use Rattle.std.specs.FinMap.{FinMap, get, insert, remove, empty, get-empty}
 use Rattle.reservation_tree.proofs.Maps.{get_same, get_other, removed_same, removed_other, alike, same_or_other}
 use Rattle.index_list.specs.Listing.{stands_in}
-use Rattle.pool_model.specs.State.{Session, Sessions}
+use Rattle.pool_model.specs.State.{Session}
 use Rattle.pool_model.specs.Parts.{with_failures, keep_first}
 use Rattle.session_table.specs.Seats.{Seat, Seats, seat_of, trackers_of, changed, with_seat, without_seat, with_member, without_member, noted, forgotten}
 use Rattle.session_table.specs.Sessions.{failures_in, session_in, sessions_from, sessions_in}
@@ -56,9 +56,6 @@ put_at old new s x own others = alike _ _ (λ q. elim (same_or_other q s) [
 module _ (seats : Seats) (s : ℕ) where
   pub sessions_changed : (f : Seat → Seat) (x : Seat) → seat_of seats s ≡ Some x → sessions_in (changed s f seats) ≡ insert (sessions_in seats) s (session_in (f x))
   sessions_changed f x is = put_at seats (changed s f seats) s (f x) (changed_seat seats s f x is) (changed_other seats s f)
-
-  with_session : FinMap nat_cmp ℕ → Seat → Sessions
-  with_session failures x = insert (sessions_in seats) s (record (session_in x) { failures = failures })
 
   -- what the model says of a session that is there
   pub failures_changed : (change : FinMap nat_cmp ℕ → FinMap nat_cmp ℕ) (x : Seat) → seat_of seats s ≡ Some x → with_failures change s (sessions_in seats) ≡ insert (sessions_in seats) s (record (session_in x) { failures = change (failures_in x.members) })

@@ -86,6 +86,7 @@ impl Row {
         requires room { length (members_in self.old) < 16 }
         ensures { self.new ≡ option_map (with_member tracker) self.old }
     {
+        // Each row has had room for 16 clients since the opening.
         prove!(self.members.as_slice().len() < MAX_CLIENTS as usize);
         self.members.push_reserved(Member {
             tracker,

@@ -1,5 +1,5 @@
 //! Sessions against worked rows and plain lists.
-ghost use Rattle.std.specs.Prelude.{◌≡◌, ◌<◌, [], None, IsSome, length};
+ghost use Rattle.std.specs.Prelude.{◌≡◌, ◌<◌, IsSome};
 ghost use Rattle.index_list.specs.Listing.{stands_in};
 ghost use Rattle.session_table.specs.Seats.{members_of, seat_of, trackers_of};
 

@@ -1,5 +1,5 @@
 -- What `retain` leaves.
-use Rattle.std.proofs.Common.{◌≡◌, List, filter, not, eqb, rules, tests}
+use Rattle.std.proofs.Common.{◌≡◌, filter, not, eqb, rules, tests}
 use Rattle.std.proofs.lemmas.Fn.{filter_same}
 use Rattle.session_table.specs.declared.member.Member.{Member}
 use Rattle.session_table.proofs.Rows.{row_changed}
