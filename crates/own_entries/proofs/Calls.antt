@@ -1,5 +1,5 @@
 -- The entries of a call come to what its clause says.
-use Rattle.std.proofs.Common.{◌≡◌, ◌≢◌, ℕ, ◌+◌, ◌-◌, ◌≤◌, ◌==◌, List, [], ◌∷◌, ◌++◌, Bool, true, false, if◌then◌else◌, Option, Some, None, IsSome, is_some, All, refl, sym, ap, ◌∙◌, subst, arith, inl, inr, eq-eqb, ne_eqb}
+use Rattle.std.proofs.Common.{◌≡◌, ◌≢◌, ℕ, ◌+◌, ◌-◌, ◌≤◌, ◌==◌, List, [], ◌∷◌, ◌++◌, Bool, true, false, if◌then◌else◌, Option, Some, None, IsSome, is_some, All, refl, sym, ap, ◌∙◌, subst, arith, inl, inr, eq-eqb, ne_eqb, le-leb}
 use Rattle.std.proofs.Math.Path.{fun_ext}
 use Rattle.std.proofs.lemmas.Bool.{cases_eq}
 use Rattle.reservation_tree.specs.declared.errors.PoolErr.{PoolErr}
@@ -104,7 +104,7 @@ calls_tell who h = record {
   create = λ p t blocks key events taken. taken_hold who h _ events taken;
   pin = pinned who h;
   pin_again = λ p events asked. asked_hold who h _ events asked;
-  unpin_once = λ p. refl;
+  unpin_once = λ p several. ap (λ (b : Bool). if b then after_unpin_once p h else h) (le-leb 2 (page_of p h).pins several);
   unpin = λ p bytes. refl;
   unpin_refused = λ p. refl;
   extract = λ p f. refl;

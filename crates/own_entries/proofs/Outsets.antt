@@ -1,10 +1,10 @@
 -- No entry changes the length of a block, whose session it is, and whether pins show what was left.
 use Rattle.std.proofs.Common.{◌≡◌, ℕ, ◌==◌, List, [], ◌∷◌, Bool, true, false, if◌then◌else◌, Some, None, refl, ◌∙◌}
 use Rattle.pool_model.specs.declared.event.Event.{Event}
-use Rattle.pool_model.specs.declared.event.Event.TheVariants.{AddTracker, CloseTracker, Increase, IncreaseToFit, Decrease, MoveReservation, MoveBuffer}
+use Rattle.pool_model.specs.declared.event.Event.TheVariants.{AddTracker, CloseTracker, Increase, IncreaseToFit, Decrease, MoveReservation, UnpinOnce, MoveBuffer}
 use Rattle.pool_model.specs.declared.entry.Entry.{Entry}
 use Rattle.store_api.specs.Holdings.{Holdings, loan_of}
-use Rattle.own_entries.specs.OwnHoldings.{Outset, step, after_entries, none_held, moved_between, has_client}
+use Rattle.own_entries.specs.OwnHoldings.{Outset, step, after_entries, none_held, moved_between, has_client, has_several_pins}
 use Rattle.own_entries.specs.CallLaws.{StaysFrom, OutsetsStay}
 
 module _ (block_len session : ℕ) (outset : Outset) where
@@ -33,6 +33,7 @@ module _ (block_len session : ℕ) (outset : Outset) where
   stays_on (IncreaseToFit t bytes) h stays = either (has_client t h) _ _ (same h _ stays refl refl refl) (same h _ stays refl refl refl)
   stays_on (Decrease t bytes) h stays = either (has_client t h) _ _ (same h _ stays refl refl refl) (same h _ stays refl refl refl)
   stays_on (MoveReservation from to bytes) h stays = between (has_client from h) (has_client to h) from to bytes h stays
+  stays_on (UnpinOnce p) h stays = either (has_several_pins p h) _ _ (same h _ stays refl refl refl) stays
   stays_on (MoveBuffer f to) h stays = either ((loan_of f h).client == to) _ _ stays (same h _ stays refl refl refl)
   stays_on event h stays = same h _ stays refl refl refl
 

@@ -1,10 +1,11 @@
 -- A page of the session changes its place, or goes: what is held is told by the step of its event.
-use Rattle.std.proofs.Common.{◌≡◌, ◌≢◌, ℕ, ◌+◌, ◌-◌, ◌*◌, ◌≤◌, ◌==◌, ◌||◌, List, [], Bool, true, false, if◌then◌else◌, Option, Some, None, IsSome, is_some, option_map, refl, sym, ap, ◌∙◌, subst, arith, inl, inr, ◌⊎◌, eq-eqb, ne_eqb}
+use Rattle.std.proofs.Common.{◌≡◌, ◌≢◌, ℕ, ◌+◌, ◌-◌, ◌*◌, ◌≤◌, ◌==◌, ◌||◌, List, [], Bool, true, false, leb, if◌then◌else◌, Option, Some, None, IsSome, is_some, option_map, refl, sym, ap, ◌∙◌, subst, arith, inl, inr, ◌⊎◌, eq-eqb, ne_eqb, le-leb}
 use Rattle.std.specs.FinMap.{get, insert, remove}
 use Rattle.reservation_tree.specs.Total.{total, weight_at}
 use Rattle.reservation_tree.specs.Tracker.{Tracker, Trackers, reservation_of}
 use Rattle.reservation_tree.proofs.Maps.{get_same, get_other, removed_same, removed_other, same_or_other, alike}
 use Rattle.reservation_tree.proofs.Sums.{total-insert}
+use Rattle.pool_model.specs.declared.event.Event.TheVariants.{UnpinOnce}
 use Rattle.pool_model.specs.Bytes.{bytes_of, only_if}
 use Rattle.pool_model.specs.State.{Place, Pinned, Dirty, Flying, Loading, Clean, Evicted, Page, Pages, Buffer, Buffers, pins_of}
 use Rattle.pool_model.specs.Sums.{times_charged, page_bytes, pages_for, buffers_for, slots_of}
@@ -12,6 +13,7 @@ use Rattle.pool_model.proofs.Weights.{mine, not_mine}
 use Rattle.pool_model.proofs.PageSums.{pages_put, pages_gone}
 use Rattle.store_api.specs.Holdings.{Account, LivePage, LiveLoan, Holdings, put, or_else, no_page, page_of, page_len}
 use Rattle.store_api.specs.Changes.{charged, released, with_page, slots_taken, slots_given, after_pin, after_pin_again, after_unpin_once, after_unpin, after_destroy}
+use Rattle.own_entries.specs.OwnHoldings.{step}
 use Rattle.own_entries.specs.LiveParts.{is_under, live_account, live_page, left_at, live_loan, charge_in, Tells}
 use Rattle.own_entries.proofs.PagesTold.{rebuilt, charge_put}
 use Rattle.own_entries.proofs.Views.{len_is, at, accounts_same, accounts_up, accounts_down, pages_put_told, pages_gone_told, pages_alike, pages_lost, slots_at, slots_new, slots_put, slots_gone}
@@ -72,9 +74,9 @@ module _ (left : ℕ → List ℕ) (len : ℕ) (ts : Trackers) (pages : Pages) (
       let sum = own_sum w refl in
       let a : page_bytes times_charged len x ≡ times * bytes_of len x.blocks = charges x times was in
       let b : page_bytes times_charged len w ≡ (times + 1) * bytes_of len x.blocks = charges w (times + 1) now in
-      let step : (times + 1) * bytes_of len x.blocks ≡ times * bytes_of len x.blocks + bytes_of len x.blocks = omega arith in
+      let more : (times + 1) * bytes_of len x.blocks ≡ times * bytes_of len x.blocks + bytes_of len x.blocks = omega arith in
       let clients : (c : ℕ) → put x.client (Some (record (at x.client h.clients) { unused = (at x.client h.clients).unused - bytes_of len x.blocks })) h.clients c ≡ live_account query (charge_in len (insert pages p w) buffers c) (get ts c) =
-      accounts_up query ts (charge_in len pages buffers) (charge_in len (insert pages p w) buffers) h.clients told.clients x.client (bytes_of len x.blocks) client (others_same w refl) (omega (arith, sum, a, b, step)) in
+      accounts_up query ts (charge_in len pages buffers) (charge_in len (insert pages p w) buffers) h.clients told.clients x.client (bytes_of len x.blocks) client (others_same w refl) (omega (arith, sum, a, b, more)) in
       λ c. ap (λ (n : ℕ). (charged (page_of p h).client n h).clients c) length_is ∙ ap (λ (v : LivePage). (charged v.client (bytes_of len x.blocks) h).clients c) is_held ∙ clients c
 
   -- or once less
@@ -84,9 +86,9 @@ module _ (left : ℕ → List ℕ) (len : ℕ) (ts : Trackers) (pages : Pages) (
       let sum = own_sum w same in
       let a : page_bytes times_charged len x ≡ (times + 1) * bytes_of len x.blocks = charges x (times + 1) was in
       let b : page_bytes times_charged len w ≡ times * bytes_of len x.blocks = charges w times now ∙ ap (λ (n : ℕ). times * bytes_of len n) as_long in
-      let step : (times + 1) * bytes_of len x.blocks ≡ times * bytes_of len x.blocks + bytes_of len x.blocks = omega arith in
+      let more : (times + 1) * bytes_of len x.blocks ≡ times * bytes_of len x.blocks + bytes_of len x.blocks = omega arith in
       let clients : (c : ℕ) → put x.client (Some (record (at x.client h.clients) { unused = (at x.client h.clients).unused + bytes_of len x.blocks })) h.clients c ≡ live_account query (charge_in len (insert pages p w) buffers c) (get ts c) =
-      accounts_down query ts (charge_in len pages buffers) (charge_in len (insert pages p w) buffers) h.clients told.clients x.client (bytes_of len x.blocks) client (others_same w same) (omega (arith, sum, a, b, step)) fits in
+      accounts_down query ts (charge_in len pages buffers) (charge_in len (insert pages p w) buffers) h.clients told.clients x.client (bytes_of len x.blocks) client (others_same w same) (omega (arith, sum, a, b, more)) fits in
       λ c. ap (λ (n : ℕ). (released (page_of p h).client n h).clients c) length_is ∙ ap (λ (v : LivePage). (released v.client (bytes_of len x.blocks) h).clients c) is_held ∙ clients c
 
   same_slots : (place : Place) → slots_of (insert pages p (record x { place = place })) m ≡ slots_of pages m
@@ -148,15 +150,18 @@ module _ (left : ℕ → List ℕ) (len : ℕ) (ts : Trackers) (pages : Pages) (
       (pages_put_told m left left pages h.pages told.live_pages p (λ q apart. refl) w _ (reads (left p) w refl ∙ sym now))
       told.loans (still_free _ (same_slots (Pinned (count + 1)))) (still_few _ (same_slots (Pinned (count + 1))))
 
-  pub unpinned_once : (count : ℕ) → x.place ≡ Pinned count → 2 ≤ count → Tells left len ts (insert pages p (record x { place = Pinned (count - 1) })) buffers m query quota (after_unpin_once p h)
+  pub unpinned_once : (count : ℕ) → x.place ≡ Pinned count → 2 ≤ count → Tells left len ts (insert pages p (record x { place = Pinned (count - 1) })) buffers m query quota (step (UnpinOnce p) h)
   unpinned_once count was several =
       let w : Page = record x { place = Pinned (count - 1) } in
       let one_less : count ≡ (count - 1) + 1 = omega (arith, several) in
+      let pins : (page_of p h).pins ≡ count = ap (λ (v : LivePage). v.pins) is_held ∙ ap pins_of was in
+      let steps : step (UnpinOnce p) h ≡ after_unpin_once p h = ap (λ (b : Bool). if b then after_unpin_once p h else h) (ap (leb 2) pins ∙ le-leb 2 count several) in
       let now : Some (record (page_of p h) { pins = (page_of p h).pins - 1 }) ≡ Some (reads_as (left p) w) =
       ap (λ (v : LivePage). Some (record v { pins = v.pins - 1 })) is_held ∙ ap (λ (place : Place). Some (record (reads_as (left p) x) { pins = pins_of place - 1; left = left_at place (left p) })) was in
-      rebuilt left len ts pages buffers m query quota h told left (insert pages p w) buffers _ _ h.loans h.free_slots (less_clients w refl refl (count - 1) (ap times_charged was ∙ one_less) refl)
+      subst (Tells left len ts (insert pages p w) buffers m query quota) (sym steps)
+      (rebuilt left len ts pages buffers m query quota h told left (insert pages p w) buffers _ _ h.loans h.free_slots (less_clients w refl refl (count - 1) (ap times_charged was ∙ one_less) refl)
       (pages_put_told m left left pages h.pages told.live_pages p (λ q apart. refl) w _ (reads (left p) w refl ∙ sym now))
-      told.loans (still_free _ (same_slots (Pinned (count - 1)))) (still_few _ (same_slots (Pinned (count - 1))))
+      told.loans (still_free _ (same_slots (Pinned (count - 1)))) (still_few _ (same_slots (Pinned (count - 1)))))
 
   -- it rests with these bytes, and has slots
   module _ (content : List ℕ) (left2 : ℕ → List ℕ) (here : left2 p ≡ content) (others : (q : ℕ) → q ≢ p → left2 q ≡ left q)

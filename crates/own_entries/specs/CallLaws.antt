@@ -29,7 +29,7 @@ pub record CallsTell (who : ℕ) (h : Holdings) : Type 0 where
   pub create : (p t blocks key : ℕ) (events : List Event) → IsTaken who h (Create p t blocks key ∷ []) events → after_events h events ≡ after_create p key t blocks h
   pub pin : (p : ℕ) (events : List Event) → IsPin who h p events → after_events h events ≡ after_pin p h
   pub pin_again : (p : ℕ) (events : List Event) → IsAsked who h (PinAgain p ∷ []) events → after_events h events ≡ after_pin_again p h
-  pub unpin_once : (p : ℕ) → after_events h (UnpinOnce p ∷ []) ≡ after_unpin_once p h
+  pub unpin_once : (p : ℕ) → 2 ≤ (page_of p h).pins → after_events h (UnpinOnce p ∷ []) ≡ after_unpin_once p h
   pub unpin : (p : ℕ) (bytes : List ℕ) → after_events h (Unpin p bytes ∷ []) ≡ after_unpin p bytes h
   pub unpin_refused : (p : ℕ) → after_events h (UnpinRefused p ∷ []) ≡ h
   pub extract : (p f : ℕ) → after_events h (Extract p f ∷ []) ≡ after_extract p f h

@@ -1,6 +1,6 @@
 -- What a session holds, told by the entries that it made itself, the oldest first. Entries of others, and its own
 -- writes and evictions, change none of it.
-use Rattle.std.specs.Prelude.{ℕ, ◌+◌, ◌-◌, List, [], ◌∷◌, Bool, true, false, if◌then◌else◌, Option, Some, None, is_some}
+use Rattle.std.specs.Prelude.{ℕ, ◌+◌, ◌-◌, List, [], ◌∷◌, Bool, true, false, leb, if◌then◌else◌, Option, Some, None, is_some}
 use Rattle.pool_model.specs.declared.event.Event.{Event}
 use Rattle.pool_model.specs.declared.event.Event.TheVariants.{AddTracker, CloseTracker, Increase, IncreaseToFit, Decrease, MoveReservation, Create, PinHere, PinLoad, ReadOk, ReadFailed, PinAgain, UnpinOnce, Unpin, Extract, Destroy, Alloc, Free, MoveBuffer}
 use Rattle.pool_model.specs.declared.entry.Entry.{Entry}
@@ -51,6 +51,10 @@ session_ended h = record h { free_slots = None }
 abbrev pub has_client : ℕ → Holdings → Bool
 has_client t h = is_some (h.clients t)
 
+-- a page has more than one pin: by an unpin of one of several it never comes to rest
+abbrev pub has_several_pins : ℕ → Holdings → Bool
+has_several_pins p h = leb 2 (page_of p h).pins
+
 -- reservation goes from one tracker to another, by whether the one and the other are clients'
 abbrev pub moved_between : Bool → Bool → ℕ → ℕ → ℕ → Holdings → Holdings
 moved_between true true from to bytes h = after_move_reservation from to bytes h
@@ -73,7 +77,7 @@ step (PinLoad p) h = charged (page_of p h).client (page_len p h) h
 step (ReadOk p) h = with_page p (Some (record (page_of p h) { pins = (page_of p h).pins + 1; left = [] })) h
 step (ReadFailed p before after) h = released (page_of p h).client (page_len p h) h
 step (PinAgain p) h = after_pin_again p h
-step (UnpinOnce p) h = after_unpin_once p h
+step (UnpinOnce p) h = if has_several_pins p h then after_unpin_once p h else h
 step (Unpin p content) h = after_unpin p content h
 step (Extract p f) h = after_extract p f h
 step (Destroy p) h = after_destroy p h

@@ -1,0 +1,91 @@
+-- What a session holds fits itself.
+use Rattle.std.proofs.Common.{◌≡◌, ◌≢◌, ℕ, ◌+◌, ◌-◌, ◌≤◌, ◌==◌, List, [], ◌∷◌, ◌++◌, Bool, true, false, if◌then◌else◌, Option, Some, None, IsSome, refl, sym, ap, ◌∙◌, subst, arith, inl, inr, eq-eqb, ne_eqb, eqb-true}
+use Rattle.std.specs.Ordering.{nat_cmp}
+use Rattle.std.specs.FinMap.{get, insert, remove, get-empty}
+use Rattle.reservation_tree.specs.Total.{total}
+use Rattle.reservation_tree.specs.Tracker.{Tracker, Trackers, share_of, children_of, reservation_of, limit_of, Fits}
+use Rattle.reservation_tree.proofs.Maps.{get_same, get_other, removed_same, removed_other, same_or_other, is_there}
+use Rattle.reservation_tree.proofs.Sums.{weight-le-total}
+use Rattle.reservation_tree.proofs.Shares.{share_here}
+use Rattle.reservation_tree.proofs.Outline.{reservation_is, limit_is}
+use Rattle.pool_model.specs.declared.entry.Entry.{Entry}
+use Rattle.pool_model.specs.State.{Opening, Page, Session, State}
+use Rattle.pool_model.specs.Owning.{IsClientOf}
+use Rattle.pool_model.specs.Legal.{state_after, IsLegal}
+use Rattle.pool_model.specs.Sound.{IsQuery, IsSound}
+use Rattle.pool_model.specs.LookingBack.{content_from}
+use Rattle.pool_model.proofs.Kept.{legal_sound}
+use Rattle.pool_model.proofs.Failures.{PagesOwned, legal_pages_are_owned}
+use Rattle.store_api.specs.Holdings.{Account, Holdings, or_else, no_account, account_of}
+use Rattle.own_entries.specs.LiveParts.{is_parent, is_under, live_account, charge_in, Tells}
+use Rattle.own_entries.specs.FitLaws.{FitsHeld, LegalHoldingsFit, LegalRefusesAsTold}
+use Rattle.own_entries.specs.HeldLaws.{own_holdings}
+use Rattle.own_entries.proofs.Facts.{seat}
+use Rattle.own_entries.proofs.Held.{legal_holdings_are_told}
+use Rattle.own_entries.proofs.Refused.{refuses_as_told}
+
+-- a client that is told is the session's
+client_by : (s : State) (m : ℕ) (x : Session) → get s.sessions m ≡ Some x → (c charge : ℕ) (o : Option Tracker) → get s.trackers c ≡ o → IsSome (live_account x.query charge o) → IsClientOf s m c
+client_by s m x is c charge None there some = let never : false ≡ true = some in cc
+client_by s m x is c charge (Some y) there some = record { session = x; opened = is; tracker = y; lives = there; under = by_parent y.parent (some_when (is_parent x.query y.parent) _ some) }
+  where
+    some_when : {X : Type 0} (b : Bool) (v : X) → IsSome (if b then Some v else None) → b ≡ true
+    some_when true v some = refl
+    some_when false v some = let never : false ≡ true = some in cc
+
+    by_parent : (o : Option ℕ) → is_parent x.query o ≡ true → o ≡ Some x.query
+    by_parent None mine = let never : false ≡ true = mine in cc
+    by_parent (Some p) mine = ap Some (eqb-true p x.query mine)
+
+-- one child's reservation is part of the children's
+pub child_within : (ts : Trackers) (c q : ℕ) (y : Tracker) → get ts c ≡ Some y → y.parent ≡ Some q → y.reservation ≤ children_of ts q
+unfolding children_of
+child_within ts c q y is under_it =
+    let part : share_of q y.parent y.reservation ≤ total (λ _ x. share_of q x.parent x.reservation) ts = weight-le-total (λ _ x. share_of q x.parent x.reservation) ts c y is in
+    let all : share_of q y.parent y.reservation ≡ y.reservation = ap (λ (o : Option ℕ). share_of q o y.reservation) under_it ∙ share_here q y.reservation in
+    omega (arith, part, all)
+
+module _ (left : ℕ → List ℕ) (s : State) (sound : IsSound s) (m : ℕ) (x : Session) (is : get s.sessions m ≡ Some x) (h : Holdings)
+    (told : Tells left s.block_len s.trackers s.pages s.buffers m x.query x.quota h) where
+  pub told_client : (c : ℕ) → IsSome (h.clients c) → IsClientOf s m c
+  told_client c some = client_by s m x is c (charge_in s.block_len s.pages s.buffers c) (get s.trackers c) refl (subst IsSome (told.clients c) some)
+
+  fits : FitsHeld h
+  fits =
+      let its : IsQuery s.trackers x.query = seat s sound m x is in
+      let fit : Fits (λ _. 0) s.trackers x.query = sound.seated.children_fit x.query (is_there (get s.trackers x.query) its.tracker its.lives) in
+      let res : h.reservation ≡ reservation_of s.trackers x.query = told.reservation in
+      let lim : h.limit ≡ limit_of s.trackers x.query = told.limit in
+      let room : h.room + children_of s.trackers x.query ≡ reservation_of s.trackers x.query = told.room in
+      record {
+        query = record { room = omega (arith, res, room); reservation = omega (arith, res, lim, fit.below) };
+        accounts = λ c some.
+            let client : IsClientOf s m c = told_client c some in
+            let y : Tracker = client.tracker in
+            let charge : ℕ = charge_in s.block_len s.pages s.buffers c in
+            let mine : is_parent x.query y.parent ≡ true =
+            ap (is_parent x.query) client.under ∙ eq-eqb client.session.query x.query (ap (λ (o : Option Session). elim o [ None ↦ x.query | Some z ↦ z.query ]) (sym client.opened ∙ is)) in
+            let account : account_of c h ≡ record { limit = y.limit; reservation = y.reservation; unused = y.reservation - charge } =
+            ap (or_else no_account) (told.clients c ∙ ap (live_account x.query charge) client.lives ∙ ap (λ (b : Bool). if b then Some (record { limit = y.limit; reservation = y.reservation; unused = y.reservation - charge }) else None) mine) in
+            let live : IsSome (get s.trackers c) = is_there (get s.trackers c) y client.lives in
+            let its_fit : Fits (λ _. 0) s.trackers c = sound.seated.children_fit c live in
+            let has : reservation_of s.trackers c ≡ y.reservation = reservation_is s.trackers c y client.lives in
+            let bound : limit_of s.trackers c ≡ y.limit = limit_is s.trackers c y client.lives in
+            let same : client.session.query ≡ x.query = ap (λ (o : Option Session). elim o [ None ↦ x.query | Some z ↦ z.query ]) (sym client.opened ∙ is) in
+            let part : y.reservation ≤ children_of s.trackers x.query = child_within s.trackers c x.query y client.lives (client.under ∙ ap Some same) in
+            subst (λ (a : Account). Rattle.store_api.specs.Conditions.FitsAccount a h) (sym account) (record {
+              unused = omega arith;
+              reservation = omega (arith, has, bound, its_fit.below);
+              query = omega (arith, part, room, res);
+            });
+      }
+
+pub legal_holdings_fit : LegalHoldingsFit
+legal_holdings_fit o outset h legal m x is =
+    fits (λ p. content_from p [] h) (state_after o h) (legal_sound o h legal) m x is (own_holdings o outset h m) (legal_holdings_are_told o outset h legal m x is)
+
+pub legal_refuses_as_told : LegalRefusesAsTold
+legal_refuses_as_told o outset h legal m x is t bytes some =
+    let told = legal_holdings_are_told o outset h legal m x is in
+    refuses_as_told (λ p. content_from p [] h) h (state_after o h) (legal_sound o h legal) (legal_pages_are_owned o h legal) m x is (own_holdings o outset h m) told t bytes
+    (told_client (λ p. content_from p [] h) (state_after o h) (legal_sound o h legal) m x is (own_holdings o outset h m) told t some)
