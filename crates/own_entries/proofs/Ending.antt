@@ -28,62 +28,26 @@ use Rattle.store_api.specs.Holdings.{Account, LivePage, LiveLoan, Holdings, acco
 use Rattle.store_api.specs.Holdings.{or_else as value_or}
 use Rattle.store_api.specs.Conditions.{IsIdle}
 use Rattle.own_entries.specs.LiveParts.{is_parent, is_under, left_at, Tells}
-use Rattle.own_entries.specs.EndLaws.{LegalEndsIdle}
+use Rattle.own_entries.specs.ClientLaws.{IsWholeIdle, LegalIdleIsWhole, LegalEndsIdle}
 use Rattle.own_entries.specs.HeldLaws.{own_holdings}
 use Rattle.own_entries.proofs.Views.{told_account, account_is}
-use Rattle.own_entries.proofs.Ways.{never_refused, moves_up, reservation_here}
+use Rattle.own_entries.proofs.Setting.{reservation_here}
+use Rattle.own_entries.proofs.Ways.{never_refused, moves_up}
 use Rattle.own_entries.proofs.Facts.{own_under, own_low, seat, high}
 use Rattle.own_entries.proofs.Held.{legal_holdings_are_told}
-use Rattle.own_entries.proofs.Fitting.{told_client}
+use Rattle.own_entries.proofs.Behind.{told_client}
+use Rattle.own_entries.proofs.Idle.{no_page, no_buffer, none_held, none_charged, all_of_it}
 
 module _ (left : ℕ → List ℕ) (before : List Entry) (s : State) (sound : IsSound s) (owned : PagesOwned s) (m : ℕ) (x : Session) (session : IsSession m) (is : get s.sessions m ≡ Some x) (h : Holdings)
     (told : Tells left s.block_len s.trackers s.pages s.buffers m x.query x.quota h) (t : ℕ) (client : IsClientOf s m t) (idle : IsIdle t h) where
-  its_query : client.session.query ≡ x.query
-  its_query = ap (λ (z : Session). z.query) (some_is client.session x (sym client.opened ∙ is))
-
-  no_page : (p : ℕ) (y : Page) → get s.pages p ≡ Some y → y.client ≢ t
-  no_page p y there same =
-      let its : IsClientOf s y.session y.client = owned p y there in
-      let one : its.tracker ≡ client.tracker = some_is its.tracker client.tracker (sym its.lives ∙ ap (get s.trackers) same ∙ client.lives) in
-      let up : its.session.query ≡ client.session.query = some_is its.session.query client.session.query (sym its.under ∙ ap (λ (z : Tracker). z.parent) one ∙ client.under) in
-      let own : y.session ≡ m = sound.seated.apart y.session m its.session client.session its.opened client.opened up in
-      let v : LivePage = record { key = y.key; client = y.client; blocks = y.blocks; pins = pins_of y.place; left = left_at y.place (left p); has_slots = y.has_slots } in
-      idle.pages p v (told.live_pages p ∙ ap (λ (o : Option Page). Rattle.own_entries.specs.LiveParts.live_page m (left p) o) there ∙ ap (λ (b : Bool). if b then Some v else None) (eq-eqb y.session m own)) same
-
-  no_buffer : (f : ℕ) (b : Buffer) → get s.buffers f ≡ Some b → b.client ≢ t
-  no_buffer f b there same =
-      let mine : is_under x.query (get s.trackers b.client) ≡ true = ap (λ (c : ℕ). is_under x.query (get s.trackers c)) same ∙ own_under s sound m x is t client in
-      let v : LiveLoan = record { client = b.client; blocks = b.blocks } in
-      idle.loans f v (told.loans f ∙ ap (λ (o : Option Buffer). Rattle.own_entries.specs.LiveParts.live_loan x.query s.trackers o) there ∙ ap (λ (r : Bool). if r then Some v else None) mine) same
-
-  none_held : held_by s t ≡ 0
-  none_held =
-      let pages : pages_for times_held s.block_len s.pages t ≡ 0 = no_pages times_held s.block_len s.pages t no_page in
-      let buffers : buffers_for s.block_len s.buffers t ≡ 0 = no_buffers s.block_len s.buffers t no_buffer in
-      omega (arith, pages, buffers)
-
-  none_charged : charge_of s t ≡ 0
-  none_charged =
-      let pages : pages_for times_charged s.block_len s.pages t ≡ 0 = no_pages times_charged s.block_len s.pages t no_page in
-      let buffers : buffers_for s.block_len s.buffers t ≡ 0 = no_buffers s.block_len s.buffers t no_buffer in
-      omega (arith, pages, buffers)
-
   alone : HasNoChild s.trackers t
   alone = no_child (memory s) s.trackers s.sessions sound.seated t (own_client s sound.seated m t client)
 
-  bytes : ℕ
-  bytes = (account_of t h).reservation
-
-  all_of_it : (account_of t h).reservation ≡ reservation_of s.trackers t
-  all_of_it =
-      ap (λ (o : Option Account). (value_or no_account o).reservation) (told.clients t ∙ account_is x.query (charge_of s t) (get s.trackers t) client.tracker client.lives (own_under s sound m x is t client))
-      ∙ sym (reservation_is s.trackers t client.tracker client.lives)
-
   move_row : MayMoveReservation s m t x.query (account_of t h).reservation
   move_row =
-      let none = none_charged in
-      let empty = none_held in
-      let all = all_of_it in
+      let none = none_charged left s sound owned m x is h told t client idle in
+      let empty = none_held left s sound owned m x is h told t client idle in
+      let all = all_of_it left s sound owned m x is h told t client idle in
       let children : children_of s.trackers t ≡ 0 = children-none s.trackers t alone in
       record {
         own = inr client;
@@ -102,7 +66,7 @@ module _ (left : ℕ → List ℕ) (before : List Entry) (s : State) (sound : Is
   close_row =
       let n : ℕ = (account_of t h).reservation in
       let still : IsClientOf (effect m (MoveReservation t x.query (account_of t h).reservation) s) m t = still_client before s sound m (MoveReservation t x.query (account_of t h).reservation) move_row m t client refl in
-      let all : n ≡ reservation_of s.trackers t = all_of_it in
+      let all : n ≡ reservation_of s.trackers t = all_of_it left s sound owned m x is h told t client idle in
       let rest : reservation_of s.trackers t - n ≡ 0 = omega (arith, all) in
       record {
         own = inr (record { session = still.session; opened = still.opened; tracker = still.tracker; lives = still.lives; under = still.under });
@@ -117,8 +81,8 @@ module _ (left : ℕ → List ℕ) (before : List Entry) (s : State) (sound : Is
                   alone t client.tracker client.lives (ap (λ (y : Tracker). y.parent) same ∙ under_it)
               | inr other ↦ alone child z (sym (get_other s.trackers t _ child other) ∙ was _ now_lowered there) under_it
             ];
-        no_page = no_page;
-        no_buffer = no_buffer;
+        no_page = no_page left s sound owned m x is h told t client idle;
+        no_buffer = no_buffer left s sound owned m x is h told t client idle;
       }
 
   pub ends : Follow before s (record { maker = m; event = MoveReservation t x.query (account_of t h).reservation } ∷ record { maker = m; event = CloseTracker t } ∷ [])
@@ -130,4 +94,4 @@ legal_ends_idle o outset h legal m x session is t some idle =
     let sound : IsSound s = legal_sound o h legal in
     let told = legal_holdings_are_told o outset h legal m x is in
     subst (λ (q : ℕ). Follow h (state_after o h) (record { maker = m; event = MoveReservation t q (account_of t (own_holdings o outset h m)).reservation } ∷ record { maker = m; event = CloseTracker t } ∷ [])) (sym told.tracker)
-    (ends (λ p. content_from p [] h) h s sound (legal_pages_are_owned o h legal) m x session is (own_holdings o outset h m) told t (told_client (λ p. content_from p [] h) s sound m x is (own_holdings o outset h m) told t some) idle)
+    (ends (λ p. content_from p [] h) h s sound (legal_pages_are_owned o h legal) m x session is (own_holdings o outset h m) told t (told_client (λ p. content_from p [] h) s m x is (own_holdings o outset h m) told t some) idle)

@@ -18,24 +18,12 @@ use Rattle.pool_model.proofs.Kept.{legal_sound}
 use Rattle.pool_model.proofs.Failures.{PagesOwned, legal_pages_are_owned}
 use Rattle.store_api.specs.Holdings.{Account, Holdings, or_else, no_account, account_of}
 use Rattle.own_entries.specs.LiveParts.{is_parent, is_under, live_account, charge_in, Tells}
-use Rattle.own_entries.specs.FitLaws.{FitsHeld, LegalHoldingsFit, LegalRefusesAsTold}
+use Rattle.own_entries.specs.FitLaws.{FitsHeld, LegalHoldingsFit}
 use Rattle.own_entries.specs.HeldLaws.{own_holdings}
-use Rattle.own_entries.proofs.Facts.{seat}
+use Rattle.own_entries.proofs.Facts.{seat, query_under}
+use Rattle.own_entries.proofs.Behind.{told_client}
+use Rattle.own_entries.proofs.TrackersTold.{account_none}
 use Rattle.own_entries.proofs.Held.{legal_holdings_are_told}
-use Rattle.own_entries.proofs.Refused.{refuses_as_told}
-
--- a client that is told is the session's
-client_by : (s : State) (m : ℕ) (x : Session) → get s.sessions m ≡ Some x → (c charge : ℕ) (o : Option Tracker) → get s.trackers c ≡ o → IsSome (live_account x.query charge o) → IsClientOf s m c
-client_by s m x is c charge None there some = let never : false ≡ true = some in cc
-client_by s m x is c charge (Some y) there some = record { session = x; opened = is; tracker = y; lives = there; under = by_parent y.parent (some_when (is_parent x.query y.parent) _ some) }
-  where
-    some_when : {X : Type 0} (b : Bool) (v : X) → IsSome (if b then Some v else None) → b ≡ true
-    some_when true v some = refl
-    some_when false v some = let never : false ≡ true = some in cc
-
-    by_parent : (o : Option ℕ) → is_parent x.query o ≡ true → o ≡ Some x.query
-    by_parent None mine = let never : false ≡ true = mine in cc
-    by_parent (Some p) mine = ap Some (eqb-true p x.query mine)
 
 -- one child's reservation is part of the children's
 pub child_within : (ts : Trackers) (c q : ℕ) (y : Tracker) → get ts c ≡ Some y → y.parent ≡ Some q → y.reservation ≤ children_of ts q
@@ -47,9 +35,6 @@ child_within ts c q y is under_it =
 
 module _ (left : ℕ → List ℕ) (s : State) (sound : IsSound s) (m : ℕ) (x : Session) (is : get s.sessions m ≡ Some x) (h : Holdings)
     (told : Tells left s.block_len s.trackers s.pages s.buffers m x.query x.quota h) where
-  pub told_client : (c : ℕ) → IsSome (h.clients c) → IsClientOf s m c
-  told_client c some = client_by s m x is c (charge_in s.block_len s.pages s.buffers c) (get s.trackers c) refl (subst IsSome (told.clients c) some)
-
   fits : FitsHeld h
   fits =
       let its : IsQuery s.trackers x.query = seat s sound m x is in
@@ -60,7 +45,7 @@ module _ (left : ℕ → List ℕ) (s : State) (sound : IsSound s) (m : ℕ) (x 
       record {
         query = record { room = omega (arith, res, room); reservation = omega (arith, res, lim, fit.below) };
         accounts = λ c some.
-            let client : IsClientOf s m c = told_client c some in
+            let client : IsClientOf s m c = told_client left s m x is h told c some in
             let y : Tracker = client.tracker in
             let charge : ℕ = charge_in s.block_len s.pages s.buffers c in
             let mine : is_parent x.query y.parent ≡ true =
@@ -78,14 +63,11 @@ module _ (left : ℕ → List ℕ) (s : State) (sound : IsSound s) (m : ℕ) (x 
               reservation = omega (arith, has, bound, its_fit.below);
               query = omega (arith, part, room, res);
             });
+        apart =
+            ap h.clients told.tracker ∙ told.clients x.query
+            ∙ account_none x.query (charge_in s.block_len s.pages s.buffers x.query) (get s.trackers x.query) (query_under s sound x.query x.query its its);
       }
 
 pub legal_holdings_fit : LegalHoldingsFit
 legal_holdings_fit o outset h legal m x is =
     fits (λ p. content_from p [] h) (state_after o h) (legal_sound o h legal) m x is (own_holdings o outset h m) (legal_holdings_are_told o outset h legal m x is)
-
-pub legal_refuses_as_told : LegalRefusesAsTold
-legal_refuses_as_told o outset h legal m x is t bytes some =
-    let told = legal_holdings_are_told o outset h legal m x is in
-    refuses_as_told (λ p. content_from p [] h) h (state_after o h) (legal_sound o h legal) (legal_pages_are_owned o h legal) m x is (own_holdings o outset h m) told t bytes
-    (told_client (λ p. content_from p [] h) (state_after o h) (legal_sound o h legal) m x is (own_holdings o outset h m) told t some)

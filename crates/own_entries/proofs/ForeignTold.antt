@@ -8,7 +8,8 @@ use Rattle.reservation_tree.proofs.Climbs.{no_move}
 use Rattle.pool_model.specs.State.{Pages, Buffers}
 use Rattle.store_api.specs.Holdings.{Holdings}
 use Rattle.own_entries.specs.LiveParts.{is_under, Tells}
-use Rattle.own_entries.proofs.Ways.{under_stays, IsHigh, IsLow, root_growth, query_growth, query_grows, query_falls, client_grows, client_falls, moves_up, moves_down, moves_beside}
+use Rattle.own_entries.proofs.Setting.{under_stays}
+use Rattle.own_entries.proofs.Ways.{IsHigh, IsLow, root_growth, query_growth, query_grows, query_falls, client_grows, client_falls, moves_up, moves_down, moves_beside}
 use Rattle.own_entries.proofs.TrackersTold.{foreign_set}
 
 -- neither the query nor a client of it

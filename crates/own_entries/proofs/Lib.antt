@@ -4,6 +4,7 @@ pub mod Views
 pub mod PagesTold
 pub mod OwnPages
 pub mod LoansTold
+pub mod Setting
 pub mod Ways
 pub mod TrackersTold
 pub mod ComingTold
@@ -15,9 +16,13 @@ pub mod Held
 pub mod Lives
 pub mod LeftTold
 pub mod BusyTold
-pub mod Refused
+pub mod Behind
 pub mod Fitting
+pub mod Fresh
+pub mod Refused
+pub mod Idle
 pub mod Ending
 pub mod AboveTold
 pub mod RootTight
 pub mod Alone
+pub mod AloneRefused

@@ -24,7 +24,8 @@ use Rattle.pool_model.proofs.Seats.{some_is, root_depth, IsBelow, is_below}
 use Rattle.pool_model.proofs.Fronts.{holds_after}
 use Rattle.own_entries.specs.LiveParts.{is_parent, is_under}
 use Rattle.own_entries.specs.AboveLaws.{LegalRootIsTight}
-use Rattle.own_entries.proofs.Ways.{under_stays, reservation_here, reservation_there, child_set, other_set, IsHigh, IsLow, query_growth, root_growth, query_grows, query_falls, client_grows, client_falls, moves_up, moves_down, moves_beside}
+use Rattle.own_entries.proofs.Setting.{under_stays, reservation_here, reservation_there, child_set, other_set}
+use Rattle.own_entries.proofs.Ways.{IsHigh, IsLow, query_growth, root_growth, query_grows, query_falls, client_grows, client_falls, moves_up, moves_down, moves_beside}
 use Rattle.own_entries.proofs.Facts.{root_under, not_root, high, low}
 use Rattle.own_entries.proofs.Fitting.{child_within}
 use Rattle.own_entries.proofs.AboveTold.{own_within}

@@ -13,7 +13,8 @@ use Rattle.store_api.proofs.Puts.{put_here, put_there}
 use Rattle.own_entries.specs.OwnHoldings.{query_grown, query_fallen, given_to_query, taken_from_query}
 use Rattle.own_entries.specs.LiveParts.{is_parent, is_under, live_account, live_loan, charge_in, count_under, Tells}
 use Rattle.own_entries.proofs.Views.{at, told_account, account_is, account_same, mine_tracker}
-use Rattle.own_entries.proofs.Ways.{limit_stays, depth_stays, parent_stays, under_stays, count_stays, reservation_here, reservation_there, child_set, other_set, IsHigh, IsLow, root_growth, query_growth, query_grows, query_falls, client_grows, client_falls, not_query, moves_up, moves_down, moves_beside}
+use Rattle.own_entries.proofs.Setting.{limit_stays, depth_stays, parent_stays, under_stays, count_stays, reservation_here, reservation_there, child_set, other_set}
+use Rattle.own_entries.proofs.Ways.{IsHigh, IsLow, root_growth, query_growth, query_grows, query_falls, client_grows, client_falls, not_query, moves_up, moves_down, moves_beside}
 
 pub account_none : (query charge : ℕ) (o : Option Tracker) → is_under query o ≡ false → live_account query charge o ≡ None
 account_none query charge None is = refl

@@ -1,13 +1,16 @@
 -- What is above a query, where no other takes room there. Statements alone.
-use Rattle.std.specs.Prelude.{◌≡◌, ℕ, ◌-◌, List, [], ◌∷◌, Some, Bool, ⊤}
+use Rattle.std.specs.Prelude.{◌≡◌, ℕ, ◌-◌, List, [], ◌∷◌, Some, Bool, ⊤, option_map, IsSome}
 use Rattle.std.specs.FinMap.{get}
 use Rattle.reservation_tree.specs.Tracker.{reservation_of, children_of}
+use Rattle.reservation_tree.specs.Change.{grow_refusal}
+use Rattle.reservation_tree.specs.Answer.{no_reservation}
 use Rattle.pool_model.specs.declared.entry.Entry.{Entry}
 use Rattle.pool_model.specs.State.{Opening, Session, State}
-use Rattle.pool_model.specs.Sums.{memory}
+use Rattle.pool_model.specs.Sums.{charge_of, memory}
 use Rattle.pool_model.specs.Legal.{state_after, IsLegal}
 use Rattle.pool_model.specs.PoolLaws.{HoldsAfterAll}
 use Rattle.store_api.specs.Holdings.{Holdings, Room}
+use Rattle.store_api.specs.Refusals.{reserve_refusal}
 use Rattle.own_entries.specs.OwnHoldings.{Outset}
 use Rattle.own_entries.specs.HeldLaws.{own_holdings}
 
@@ -35,3 +38,10 @@ abbrev pub LegalAloneUnderRoot : Type 0
 LegalAloneUnderRoot =
     (o : Opening) (h : List Entry) → IsLegal o h → (m : ℕ) → AllBy m h → (x : Session) → get (state_after o h).sessions m ≡ Some x
     → children_of (state_after o h).trackers 0 ≡ reservation_of (state_after o h).trackers x.query
+
+-- and its clients' growths are refused exactly as a store refuses them that has so much room above
+abbrev pub LegalRefusesAlone : Type 0
+LegalRefusesAlone =
+    (o : Opening) (told : Bool) (h : List Entry) → IsLegal o h → (m : ℕ) → AllBy m h → (x : Session) → get (state_after o h).sessions m ≡ Some x
+    → (t bytes : ℕ) → IsSome ((held_alone o told h m).clients t)
+    → option_map no_reservation (grow_refusal (charge_of (state_after o h)) bytes t (state_after o h).trackers) ≡ reserve_refusal t bytes (held_alone o told h m)

@@ -4,5 +4,6 @@ pub mod LiveParts
 pub mod HeldLaws
 pub mod Busy
 pub mod FitLaws
-pub mod EndLaws
+pub mod RefusalLaws
+pub mod ClientLaws
 pub mod AboveLaws

@@ -2,9 +2,10 @@
 ghost use Rattle.own_entries.specs.CallLaws.{AllCallsTell, CallsRunOn, OutsetsStay};
 ghost use Rattle.own_entries.specs.HeldLaws.{LegalHoldingsAreTold, LegalLivesAsTold, LeftIsTold, OwnEntriesDecide};
 ghost use Rattle.own_entries.specs.Busy.{LegalBusyPagesAreTold};
-ghost use Rattle.own_entries.specs.FitLaws.{LegalHoldingsFit, LegalRefusesAsTold};
-ghost use Rattle.own_entries.specs.EndLaws.{LegalEndsIdle};
-ghost use Rattle.own_entries.specs.AboveLaws.{LegalAboveIsTold, LegalAloneUnderRoot, LegalRootIsTight};
+ghost use Rattle.own_entries.specs.FitLaws.{LegalHoldingsFit};
+ghost use Rattle.own_entries.specs.RefusalLaws.{LegalRefusesAsTold};
+ghost use Rattle.own_entries.specs.ClientLaws.{LegalEndsIdle, LegalHoldsOnlyLive, LegalIdleIsWhole};
+ghost use Rattle.own_entries.specs.AboveLaws.{LegalAboveIsTold, LegalAloneUnderRoot, LegalRefusesAlone, LegalRootIsTight};
 
 /// The entries of each call of a store change what its session holds as the call's clause says, and those of a call
 /// that was refused change nothing. The entries of more calls are told one call after the other, and none of them
@@ -43,23 +44,35 @@ pub fn law_busy()
     ensures { LegalBusyPagesAreTold }
 {}
 
-/// What a session holds fits its own limits, and a client's growth is refused by the client's limit, then by the
-/// query's, as the session tells both, and then by the root's.
+/// What a session holds fits its own limits.
 pub fn law_fits()
-    ensures fits { LegalHoldingsFit }
-    ensures refused { LegalRefusesAsTold }
+    ensures { LegalHoldingsFit }
 {}
 
-/// A client that has no page and no loan may end, by two entries.
+/// A pool refuses a session what the session's own entries tell: a client's growth by the client's limit, then by the
+/// query's, and then by the root's; a move to another client by that one's limit; and an unpin for want of slots.
+pub fn law_refusals()
+    ensures { LegalRefusesAsTold }
+{}
+
+/// A number of a tracker, a page or a buffer that the pool doesn't have is new to the session.
+pub fn law_fresh()
+    ensures { LegalHoldsOnlyLive }
+{}
+
+/// A client without pages and loans has its whole reservation unused, and may end, by two entries. A query without
+/// clients has its whole reservation as room.
 pub fn law_ends()
-    ensures { LegalEndsIdle }
+    ensures whole { LegalIdleIsWhole }
+    ensures ends { LegalEndsIdle }
 {}
 
 /// The root's reservation is the sum of its children's. So what is above the query of a session that had all memory
-/// above it when it was opened is the memory that the query hasn't reserved; and where one maker alone made a history,
-/// its query is the root's one child.
+/// above it when it was opened is the memory that the query hasn't reserved. Where one maker alone made a history, its
+/// query is the root's one child, and its clients' growths are refused exactly as that room says.
 pub fn law_tops()
     ensures above { LegalAboveIsTold }
     ensures tight { LegalRootIsTight }
     ensures alone { LegalAloneUnderRoot }
+    ensures refused { LegalRefusesAlone }
 {}

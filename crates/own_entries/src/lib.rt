@@ -8,5 +8,6 @@
 mod laws;
 
 pub use laws::{
-    law_busy, law_calls, law_decides, law_ends, law_fits, law_held, law_left, law_lives, law_tops,
+    law_busy, law_calls, law_decides, law_ends, law_fits, law_fresh, law_held, law_left, law_lives,
+    law_refusals, law_tops,
 };
