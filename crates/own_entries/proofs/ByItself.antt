@@ -30,8 +30,10 @@ use Rattle.own_entries.proofs.Views.{at, told_account, account_is, mine_tracker}
 use Rattle.own_entries.proofs.Ways.{IsHigh, IsLow}
 use Rattle.own_entries.proofs.Facts.{fits, root_under, not_root, query_under, query_free, high, seat, same_one, own_under, own_low}
 use Rattle.own_entries.proofs.OwnPages.{pin_here, pin_load, read_ok, read_failed, pinned_again, unpinned_once, unpinned, destroyed}
-use Rattle.own_entries.proofs.LoansTold.{created, lent, freed, moved_buffer, extracted}
-use Rattle.own_entries.proofs.TrackersTold.{account_none, unused_is, grown_told, reserved, fallen_told, gave_back, gave_up, moved_beside, moved_itself, took}
+use Rattle.own_entries.proofs.LoansTold.{created, lent, freed}
+use Rattle.own_entries.proofs.BuffersMoved.{moved_buffer, extracted}
+use Rattle.own_entries.proofs.TrackersTold.{account_none, unused_is, grown_told, reserved}
+use Rattle.own_entries.proofs.FallsTold.{fallen_told, gave_back, gave_up, moved_beside, moved_itself, took}
 use Rattle.own_entries.proofs.ComingTold.{client_came, client_went}
 use Rattle.own_entries.proofs.ByOthers.{none_there, pins_are, buffer_is, unpinned_pages, fresh_apart, fresh_buffers, Still, placed, quietly}
 

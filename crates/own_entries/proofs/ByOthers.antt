@@ -24,7 +24,8 @@ use Rattle.own_entries.specs.LiveParts.{is_parent, is_under, left_at, charge_in,
 use Rattle.own_entries.proofs.Ways.{IsHigh, IsLow}
 use Rattle.own_entries.proofs.Facts.{root_under, not_root, query_under, high, low, seat, foreign_query, foreign_under, foreign_apart}
 use Rattle.own_entries.proofs.PagesTold.{quiet, foreign_put, foreign_gone, insert_again}
-use Rattle.own_entries.proofs.LoansTold.{foreign_page, foreign_lent, foreign_freed, foreign_moved}
+use Rattle.own_entries.proofs.LoansTold.{foreign_page, foreign_lent, foreign_freed}
+use Rattle.own_entries.proofs.BuffersMoved.{foreign_moved}
 use Rattle.own_entries.proofs.ComingTold.{foreign_came, foreign_went}
 use Rattle.own_entries.proofs.ForeignTold.{IsForeign, foreign_query_grows, foreign_query_falls, foreign_client_grows, foreign_client_falls, foreign_up, foreign_down, foreign_beside, foreign_itself}
 

@@ -4,9 +4,11 @@ pub mod Views
 pub mod PagesTold
 pub mod OwnPages
 pub mod LoansTold
+pub mod BuffersMoved
 pub mod Setting
 pub mod Ways
 pub mod TrackersTold
+pub mod FallsTold
 pub mod ComingTold
 pub mod Facts
 pub mod ForeignTold
