@@ -1,32 +1,27 @@
 -- The room above a query is what it hasn't reserved, and the root reserves no more than its children.
-use Rattle.std.proofs.Common.{◌≡◌, ◌≢◌, ℕ, ◌+◌, ◌-◌, ◌≤◌, ◌==◌, List, [], ◌∷◌, ◌++◌, Bool, true, false, if◌then◌else◌, Option, Some, None, refl, sym, ap, ◌∙◌, subst, arith, inl, inr, ◌⊎◌, eq-eqb, ne_eqb}
+use Rattle.std.proofs.Common.{◌≡◌, ℕ, ◌+◌, ◌-◌, ◌≤◌, ◌==◌, List, [], ◌∷◌, ◌++◌, Bool, true, false, if◌then◌else◌, Some, None, refl, sym, ap, ◌∙◌, subst, arith, inl, inr}
 use Rattle.std.specs.Ordering.{nat_cmp}
-use Rattle.std.specs.FinMap.{get, insert, remove, get-empty}
-use Rattle.reservation_tree.specs.Tracker.{Tracker, Trackers, reservation_of, limit_of, unused, children_of, Fits}
-use Rattle.reservation_tree.specs.Change.{grow, shrink, move_to, lacking, raise, lower, set_reservation}
-use Rattle.reservation_tree.proofs.Maps.{get_same, get_other, removed_other, same_or_other, is_there}
-use Rattle.reservation_tree.proofs.Shares.{children-new, children-gone}
+use Rattle.std.specs.FinMap.{get, get-empty}
+use Rattle.reservation_tree.specs.Tracker.{reservation_of, limit_of, unused, children_of, Fits}
+use Rattle.reservation_tree.proofs.Maps.{same_or_other, is_there}
 use Rattle.reservation_tree.proofs.Outline.{reservation_is}
-use Rattle.reservation_tree.proofs.Climbs.{no_move}
 use Rattle.pool_model.specs.declared.event.Event.{Event}
 use Rattle.pool_model.specs.declared.event.Event.TheVariants.{AddTracker, CloseTracker, Increase, IncreaseToFit, Decrease, MoveReservation, UnpinOnce, MoveBuffer}
 use Rattle.pool_model.specs.declared.entry.Entry.{Entry}
 use Rattle.pool_model.specs.State.{Opening, opened, Session, State}
-use Rattle.pool_model.specs.Sums.{charge_of, memory, length_of}
-use Rattle.pool_model.specs.Owning.{IsClientOf, IsQueryOf, IsTrackerOf}
+use Rattle.pool_model.specs.Sums.{charge_of, memory}
+use Rattle.pool_model.specs.Owning.{IsTrackerOf}
 use Rattle.pool_model.specs.LookingBack.{opens, made_by}
 use Rattle.pool_model.specs.MayFollow.{Allows, MayFollow}
 use Rattle.pool_model.specs.Effects.{effect, after}
 use Rattle.pool_model.specs.Legal.{state_after, IsLegal}
 use Rattle.pool_model.specs.Sound.{IsQuery, IsSound}
-use Rattle.pool_model.proofs.Seats.{some_is, IsBelow, is_below}
 use Rattle.pool_model.proofs.Fronts.{holds_after}
 use Rattle.pool_model.proofs.OwnEntries.{made_by_other, made_more, made_first}
 use Rattle.pool_model.proofs.Frames.{entries_leave_rest}
 use Rattle.store_api.specs.Holdings.{Above, Room, Holdings, loan_of}
 use Rattle.store_api.specs.Changes.{grown_above, fallen_above}
 use Rattle.own_entries.specs.OwnHoldings.{Outset, step, moved_between, has_client, has_several_pins, holdings_of, none_held}
-use Rattle.own_entries.specs.LiveParts.{Tells}
 use Rattle.own_entries.specs.AboveLaws.{LegalAboveIsTold}
 use Rattle.own_entries.proofs.Facts.{seat, same_one}
 use Rattle.own_entries.proofs.Fitting.{child_within}
@@ -148,7 +143,7 @@ record SameMemory (a b : State) : Type 0 where
 memory_stays : (o : Opening) (h : List Entry) → IsLegal o h → memory (state_after o h) ≡ memory (opened o)
 memory_stays o h legal =
     let same : SameMemory (opened o) (state_after o h) = holds_after (λ before s. SameMemory (opened o) s)
-        (λ before s sound same e may. record { len = (entries_leave_rest s e).block_len ∙ same.len; blocks = (entries_leave_rest s e).blocks ∙ same.blocks }) o (record { len = refl; blocks = refl }) h legal in
+    (λ before s sound same e may. record { len = (entries_leave_rest s e).block_len ∙ same.len; blocks = (entries_leave_rest s e).blocks ∙ same.blocks }) o (record { len = refl; blocks = refl }) h legal in
     ap (λ (n : ℕ). Rattle.pool_model.specs.Bytes.bytes_of n (state_after o h).blocks) same.len ∙ ap (λ (n : ℕ). Rattle.pool_model.specs.Bytes.bytes_of o.block_len n) same.blocks
 
 pub legal_above_is_told : LegalAboveIsTold

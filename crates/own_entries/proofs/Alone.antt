@@ -1,9 +1,8 @@
 -- Where one maker alone made a history, its query is the root's one child.
-use Rattle.std.proofs.Common.{◌≡◌, ◌≢◌, ℕ, ◌+◌, ◌==◌, List, [], ◌∷◌, ◌++◌, Bool, true, false, if◌then◌else◌, Option, Some, None, is_some, refl, sym, ap, ◌∙◌, subst, arith, inl, inr, ◌⊎◌, eq-eqb, ne_eqb}
+use Rattle.std.proofs.Common.{◌≡◌, ◌≢◌, ℕ, ◌+◌, ◌==◌, List, [], ◌∷◌, ◌++◌, Bool, true, false, if◌then◌else◌, Option, Some, None, is_some, refl, sym, ap, ◌∙◌, inl, inr, ne_eqb}
 use Rattle.std.specs.Ordering.{nat_cmp}
-use Rattle.std.specs.FinMap.{FinMap, get, insert, remove, empty, get-empty}
-use Rattle.reservation_tree.specs.Total.{total}
-use Rattle.reservation_tree.specs.Tracker.{Tracker, Trackers, depth_of, share_of, children_of, reservation_of}
+use Rattle.std.specs.FinMap.{get, insert, remove, empty, get-empty}
+use Rattle.reservation_tree.specs.Tracker.{Tracker, Trackers, depth_of, share_of, children_of}
 use Rattle.reservation_tree.specs.Change.{new_root, root_alone, lacking}
 use Rattle.reservation_tree.proofs.Maps.{get_same, get_other, removed_same, removed_other, same_or_other}
 use Rattle.reservation_tree.proofs.Outline.{SameOutline, in_old, bare, reservation_is}
@@ -14,16 +13,15 @@ use Rattle.pool_model.specs.declared.entry.Entry.{Entry}
 use Rattle.pool_model.specs.Bytes.{bytes_of}
 use Rattle.pool_model.specs.State.{Opening, opened, page_at, Session, Sessions, State}
 use Rattle.pool_model.specs.Sums.{charge_of}
-use Rattle.pool_model.specs.Owning.{IsClientOf}
 use Rattle.pool_model.specs.MayFollow.{Allows, MayFollow}
 use Rattle.pool_model.specs.Effects.{effect, after}
-use Rattle.pool_model.specs.Parts.{with_failures, without_tracker, keep_first}
-use Rattle.pool_model.specs.Legal.{state_after, IsLegal}
+use Rattle.pool_model.specs.Parts.{without_tracker, keep_first}
+use Rattle.pool_model.specs.Legal.{state_after}
 use Rattle.pool_model.specs.Sound.{IsQuery, IsSound}
 use Rattle.pool_model.proofs.Weights.{total-single}
 use Rattle.pool_model.proofs.Seats.{some_is}
 use Rattle.pool_model.proofs.Kept.{own_live, legal_sound}
-use Rattle.pool_model.proofs.Owners.{StillOpen, same_session, failures_open}
+use Rattle.pool_model.proofs.Owners.{StillOpen, failures_open}
 use Rattle.pool_model.proofs.Outlines.{grow_outline, shrink_outline, move_outline}
 use Rattle.pool_model.proofs.Fronts.{holds_after}
 use Rattle.own_entries.specs.AboveLaws.{AllBy, LegalAloneUnderRoot}
@@ -163,6 +161,6 @@ legal_alone_under_root o h legal m by_it x is =
     let it : Alone m h s = holds_after (Alone m) (alone_on m) o (first_alone m o) h legal in
     let its : IsQuery s.trackers x.query = seat s sound m x is in
     let only : (t : ℕ) (y : Tracker) → get s.trackers t ≡ Some y → t ≢ x.query → share_of 0 y.parent y.reservation ≡ 0 = λ t y there apart.
-        under_other 0 y.parent y.reservation (λ up. seat_apart s m x is t apart (it.all t y there up) (it.others by_it)) in
+    under_other 0 y.parent y.reservation (λ up. seat_apart s m x is t apart (it.all t y there up) (it.others by_it)) in
     total-single (λ _ y. share_of 0 y.parent y.reservation) s.trackers x.query its.tracker its.lives only
     ∙ ap (λ (p : Option ℕ). share_of 0 p its.tracker.reservation) its.under ∙ share_here 0 its.tracker.reservation ∙ sym (reservation_is s.trackers x.query its.tracker its.lives)

@@ -1,19 +1,19 @@
 -- Where one maker alone made a history, its growths are refused as a store refuses them with so much room above.
-use Rattle.std.proofs.Common.{◌≡◌, ℕ, ◌+◌, ◌-◌, ◌≤◌, leb, List, Bool, true, false, if◌then◌else◌, Option, Some, None, option_map, refl, sym, ap, ◌∙◌, arith}
+use Rattle.std.proofs.Common.{◌≡◌, ℕ, ◌-◌, leb, true, false, if◌then◌else◌, Option, Some, None, option_map, refl, sym, ap, ◌∙◌, arith}
 use Rattle.std.specs.Option.{option_or}
 use Rattle.reservation_tree.specs.declared.errors.PoolErr.{PoolErr}
 use Rattle.reservation_tree.specs.Tracker.{unused, reservation_of, limit_of, children_of}
 use Rattle.reservation_tree.specs.Tracker.{room_of as tree_room}
-use Rattle.reservation_tree.specs.Change.{Refusal, over}
+use Rattle.reservation_tree.specs.Change.{over}
 use Rattle.reservation_tree.specs.Answer.{no_reservation}
 use Rattle.pool_model.specs.State.{State}
 use Rattle.pool_model.specs.Sums.{charge_of, memory}
 use Rattle.pool_model.specs.Legal.{state_after}
 use Rattle.pool_model.specs.Sound.{IsSound}
 use Rattle.pool_model.proofs.Kept.{legal_sound}
-use Rattle.store_api.specs.Holdings.{Above, Room, Holdings}
+use Rattle.store_api.specs.Holdings.{Room, Holdings}
 use Rattle.store_api.specs.Changes.{query_growth}
-use Rattle.store_api.specs.Refusals.{client_room, unless_fits, refusal_above, reserve_refusal}
+use Rattle.store_api.specs.Refusals.{client_room, unless_fits, refusal_above}
 use Rattle.own_entries.specs.OwnHoldings.{Outset}
 use Rattle.own_entries.specs.AboveLaws.{held_alone, LegalRefusesAlone}
 use Rattle.own_entries.proofs.Held.{legal_holdings_are_told}

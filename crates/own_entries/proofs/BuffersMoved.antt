@@ -1,21 +1,18 @@
 -- A buffer changes its client, or a pinned page is a buffer from now on: what is held is still told.
-use Rattle.std.proofs.Common.{◌≡◌, ◌≢◌, ℕ, ◌+◌, ◌-◌, ◌*◌, ◌≤◌, ◌==◌, List, [], Bool, true, false, if◌then◌else◌, Option, Some, None, refl, sym, ap, ◌∙◌, subst, arith, inl, inr, eq-eqb, ne_eqb}
+use Rattle.std.proofs.Common.{◌≡◌, ◌≢◌, ℕ, ◌+◌, ◌*◌, ◌≤◌, ◌==◌, List, Bool, true, false, if◌then◌else◌, Option, Some, None, refl, sym, ap, ◌∙◌, subst, arith, inl, inr, ne_eqb}
 use Rattle.std.specs.FinMap.{get, insert, remove}
-use Rattle.reservation_tree.specs.Total.{total, weight_at}
 use Rattle.reservation_tree.specs.Tracker.{Trackers, reservation_of}
 use Rattle.reservation_tree.proofs.Maps.{get_same, get_other, removed_same, removed_other, same_or_other, alike}
-use Rattle.reservation_tree.proofs.Sums.{total-insert, total-remove}
 use Rattle.pool_model.specs.Bytes.{bytes_of, only_if}
-use Rattle.pool_model.specs.State.{Place, Pinned, Page, Pages, Buffer, Buffers, pins_of}
-use Rattle.pool_model.specs.Sums.{times_charged, page_bytes, pages_for, buffers_for, slots_of}
-use Rattle.pool_model.proofs.Weights.{mine, not_mine, one_time}
-use Rattle.pool_model.proofs.PageSums.{pages_gone, buffers_gone}
-use Rattle.store_api.specs.Holdings.{Account, LivePage, LiveLoan, Holdings, put, or_else, no_loan, loan_of, loan_len, page_of, length_of}
-use Rattle.store_api.specs.Changes.{charged, released, with_loan, after_create, after_extract, after_alloc, after_free, after_move_buffer}
-use Rattle.store_api.proofs.Puts.{put_here, put_there}
-use Rattle.own_entries.specs.LiveParts.{is_under, live_account, live_page, left_at, live_loan, charge_in, Tells}
+use Rattle.pool_model.specs.State.{Place, Pinned, Page, Pages, Buffer, Buffers}
+use Rattle.pool_model.specs.Sums.{times_charged, page_bytes, pages_for}
+use Rattle.pool_model.proofs.Weights.{one_time}
+use Rattle.pool_model.proofs.PageSums.{pages_gone}
+use Rattle.store_api.specs.Holdings.{LivePage, LiveLoan, Holdings, loan_of, page_of}
+use Rattle.store_api.specs.Changes.{charged, released, with_loan, after_extract, after_alloc, after_free, after_move_buffer}
+use Rattle.own_entries.specs.LiveParts.{is_under, charge_in, Tells}
 use Rattle.own_entries.proofs.Calls.{put_again}
-use Rattle.own_entries.proofs.Views.{len_is, at, accounts_same, accounts_up, accounts_down, pages_put_told, pages_gone_told, pages_alike, slots_at, slots_new, slots_gone}
+use Rattle.own_entries.proofs.Views.{accounts_same, pages_gone_told}
 use Rattle.own_entries.proofs.PagesTold.{rebuilt}
 use Rattle.own_entries.proofs.OwnPages.{is_held, slots_back, few_slots}
 use Rattle.own_entries.proofs.LoansTold.{loans_put_told, buffer_sum, reads_loan, lent, foreign_lent, loan_is, freed, foreign_freed}

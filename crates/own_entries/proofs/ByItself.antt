@@ -1,34 +1,34 @@
 -- Each event of the session itself changes what is held by one step.
-use Rattle.std.proofs.Common.{◌≡◌, ◌≢◌, ℕ, ◌+◌, ◌-◌, ◌≤◌, ◌<◌, ◌==◌, List, [], Bool, true, false, if◌then◌else◌, Option, Some, None, IsSome, is_some, unwrap_or, refl, sym, ap, ◌∙◌, subst, arith, inl, inr, ◌⊎◌, eq-eqb, ne_eqb}
+use Rattle.std.proofs.Common.{◌≡◌, ℕ, ◌+◌, ◌-◌, ◌≤◌, ◌<◌, List, Bool, true, false, if◌then◌else◌, Option, Some, None, is_some, unwrap_or, refl, sym, ap, ◌∙◌, subst, arith, inl, inr, ◌⊎◌, eq-eqb, ne_eqb}
 use Rattle.std.specs.FinMap.{get, insert, remove}
-use Rattle.reservation_tree.specs.Tracker.{Tracker, Trackers, no_tracker, reservation_of, children_of, unused}
+use Rattle.reservation_tree.specs.Tracker.{Trackers, reservation_of, children_of, unused}
 use Rattle.reservation_tree.specs.Change.{grow, shrink, move_to, lacking}
-use Rattle.reservation_tree.proofs.Maps.{get_same, same_or_other}
+use Rattle.reservation_tree.proofs.Maps.{same_or_other}
 use Rattle.reservation_tree.proofs.Outline.{reservation_is}
 use Rattle.reservation_tree.proofs.Shares.{children-none}
 use Rattle.pool_model.specs.declared.event.Event.{Event}
 use Rattle.pool_model.specs.declared.event.Event.TheVariants.{Ask, AddTracker, CloseTracker, Increase, IncreaseToFit, Decrease, MoveReservation, Create, PinHere, PinLoad, ReadOk, ReadFailed, PinAgain, UnpinOnce, Unpin, UnpinRefused, Extract, Destroy, Alloc, Free, MoveBuffer, StartWrite, WriteOk, WriteFailed, Evict, Refused}
 use Rattle.pool_model.specs.declared.entry.Entry.{Entry}
-use Rattle.pool_model.specs.State.{Place, Pinned, Dirty, Flying, Loading, Clean, Evicted, Page, Pages, no_page, page_at, Buffer, Buffers, no_buffer, buffer_at, Session, State, pins_of}
+use Rattle.pool_model.specs.State.{Pinned, Dirty, Flying, Loading, Clean, Evicted, Page, Pages, page_at, Buffer, Session, State, pins_of}
 use Rattle.pool_model.specs.Sums.{charge_of, times_charged, slots_of, free_slots, memory}
 use Rattle.pool_model.specs.Owning.{IsClientOf, IsQueryOf, IsTrackerOf}
 use Rattle.pool_model.specs.LookingBack.{left_in, opens}
 use Rattle.pool_model.specs.Failures.{closes}
 use Rattle.pool_model.specs.MayFollow.{Allows}
 use Rattle.pool_model.specs.Effects.{effect}
-use Rattle.pool_model.specs.Sound.{IsQuery, IsSound}
-use Rattle.pool_model.proofs.Seats.{some_is, own_client}
+use Rattle.pool_model.specs.Sound.{IsSound}
+use Rattle.pool_model.proofs.Seats.{own_client}
 use Rattle.pool_model.proofs.Fits.{no_child}
 use Rattle.pool_model.proofs.Pages.{page_is}
 use Rattle.pool_model.proofs.Failures.{PagesOwned}
 use Rattle.store_api.specs.Holdings.{Account, Holdings, or_else, no_account, account_of, unused_of}
 use Rattle.store_api.specs.Changes.{with_account, raised, lowered, after_reserve, after_give_back, after_move_reservation}
 use Rattle.store_api.specs.Changes.{shortfall}
-use Rattle.own_entries.specs.OwnHoldings.{step, has_client, moved_between, given_to_query, taken_from_query, client_ended, query_grown, query_fallen}
-use Rattle.own_entries.specs.LiveParts.{is_parent, is_under, left_at, charge_in, live_account, Tells}
-use Rattle.own_entries.proofs.Views.{at, told_account, account_is, mine_tracker}
-use Rattle.own_entries.proofs.Ways.{IsHigh, IsLow}
-use Rattle.own_entries.proofs.Facts.{fits, root_under, not_root, query_under, query_free, high, seat, same_one, own_under, own_low}
+use Rattle.own_entries.specs.OwnHoldings.{step, has_client, moved_between, given_to_query, taken_from_query, query_grown, query_fallen}
+use Rattle.own_entries.specs.LiveParts.{is_under, Tells}
+use Rattle.own_entries.proofs.Views.{account_is}
+use Rattle.own_entries.proofs.Ways.{IsHigh}
+use Rattle.own_entries.proofs.Facts.{fits, root_under, query_under, query_free, high, seat, same_one, own_under, own_low}
 use Rattle.own_entries.proofs.OwnPages.{pin_here, pin_load, read_ok, read_failed, pinned_again, unpinned_once, unpinned, destroyed}
 use Rattle.own_entries.proofs.LoansTold.{created, lent, freed}
 use Rattle.own_entries.proofs.BuffersMoved.{moved_buffer, extracted}

@@ -1,16 +1,16 @@
 -- Each event of another maker leaves what is held as it is told.
-use Rattle.std.proofs.Common.{◌≡◌, ◌≢◌, ℕ, ◌+◌, ◌-◌, ◌≤◌, ◌<◌, ◌==◌, List, [], Bool, true, false, if◌then◌else◌, Option, Some, None, IsSome, unwrap_or, refl, sym, ap, ◌∙◌, subst, arith, inl, inr, ◌⊎◌, eq-eqb, ne_eqb}
+use Rattle.std.proofs.Common.{◌≡◌, ◌≢◌, ℕ, ◌+◌, ◌-◌, ◌<◌, List, Bool, true, false, if◌then◌else◌, Option, Some, None, IsSome, unwrap_or, refl, sym, ap, ◌∙◌, subst, arith, inl, inr, ne_eqb}
 use Rattle.std.specs.FinMap.{get, insert, remove}
-use Rattle.reservation_tree.specs.Tracker.{Tracker, Trackers, no_tracker, reservation_of}
+use Rattle.reservation_tree.specs.Tracker.{Tracker, Trackers, reservation_of}
 use Rattle.reservation_tree.specs.Change.{grow, shrink, move_to, lacking}
 use Rattle.reservation_tree.proofs.Maps.{get_same, same_or_other}
 use Rattle.reservation_tree.proofs.Outline.{reservation_is}
 use Rattle.pool_model.specs.declared.event.Event.{Event}
 use Rattle.pool_model.specs.declared.event.Event.TheVariants.{Ask, AddTracker, CloseTracker, Increase, IncreaseToFit, Decrease, MoveReservation, Create, PinHere, PinLoad, ReadOk, ReadFailed, PinAgain, UnpinOnce, Unpin, UnpinRefused, Extract, Destroy, Alloc, Free, MoveBuffer, StartWrite, WriteOk, WriteFailed, Evict, Refused}
 use Rattle.pool_model.specs.declared.entry.Entry.{Entry}
-use Rattle.pool_model.specs.State.{Place, Pinned, Dirty, Flying, Loading, Clean, Evicted, Page, Pages, no_page, page_at, Buffer, Buffers, no_buffer, buffer_at, Session, State, pins_of}
+use Rattle.pool_model.specs.State.{Place, Pinned, Dirty, Flying, Loading, Clean, Evicted, Page, Pages, no_page, page_at, Buffer, no_buffer, buffer_at, Session, State, pins_of}
 use Rattle.pool_model.specs.Sums.{charge_of, times_charged}
-use Rattle.pool_model.specs.Owning.{IsClientOf, IsQueryOf, IsTrackerOf}
+use Rattle.pool_model.specs.Owning.{IsClientOf, IsTrackerOf}
 use Rattle.pool_model.specs.LookingBack.{left_in}
 use Rattle.pool_model.specs.MayFollow.{Allows}
 use Rattle.pool_model.specs.Parts.{pins_at}
@@ -20,7 +20,7 @@ use Rattle.pool_model.proofs.Seats.{some_is}
 use Rattle.pool_model.proofs.Pages.{page_is}
 use Rattle.pool_model.proofs.Failures.{PagesOwned}
 use Rattle.store_api.specs.Holdings.{Holdings}
-use Rattle.own_entries.specs.LiveParts.{is_parent, is_under, left_at, charge_in, Tells}
+use Rattle.own_entries.specs.LiveParts.{is_under, left_at, Tells}
 use Rattle.own_entries.proofs.Ways.{IsHigh, IsLow}
 use Rattle.own_entries.proofs.Facts.{root_under, not_root, query_under, high, low, seat, foreign_query, foreign_under, foreign_apart}
 use Rattle.own_entries.proofs.PagesTold.{quiet, foreign_put, foreign_gone, insert_again}

@@ -1,22 +1,21 @@
 -- The entries of a call come to what its clause says.
-use Rattle.std.proofs.Common.{◌≡◌, ◌≢◌, ℕ, ◌+◌, ◌-◌, ◌≤◌, ◌==◌, List, [], ◌∷◌, ◌++◌, Bool, true, false, if◌then◌else◌, Option, Some, None, IsSome, is_some, All, refl, sym, ap, ◌∙◌, subst, arith, inl, inr, eq-eqb, ne_eqb, le-leb}
+use Rattle.std.proofs.Common.{◌≡◌, ℕ, ◌+◌, ◌-◌, ◌≤◌, ◌==◌, List, [], ◌∷◌, ◌++◌, Bool, true, false, if◌then◌else◌, Option, Some, None, IsSome, is_some, All, refl, ap, ◌∙◌, arith, inl, inr, le-leb}
 use Rattle.std.proofs.Math.Path.{fun_ext}
-use Rattle.std.proofs.lemmas.Bool.{cases_eq}
 use Rattle.reservation_tree.specs.declared.errors.PoolErr.{PoolErr}
 use Rattle.reservation_tree.specs.declared.errors.PoolErr.TheVariants.{WriteFault, ReadFault, NamesSpent}
 use Rattle.pool_model.specs.declared.call.Call.{Call}
 use Rattle.pool_model.specs.declared.call.Call.TheVariants as call
 use Rattle.pool_model.specs.declared.event.Event.{Event}
-use Rattle.pool_model.specs.declared.event.Event.TheVariants.{Ask, AddTracker, CloseTracker, Increase, IncreaseToFit, Decrease, MoveReservation, Create, PinHere, PinLoad, ReadOk, ReadFailed, PinAgain, UnpinOnce, Unpin, UnpinRefused, Extract, Destroy, Alloc, Free, MoveBuffer, StartWrite, WriteOk, WriteFailed, Evict, Refused}
+use Rattle.pool_model.specs.declared.event.Event.TheVariants.{CloseTracker, MoveReservation, PinHere, PinLoad, ReadOk, ReadFailed, StartWrite, WriteOk, WriteFailed, Evict, Refused}
 use Rattle.pool_model.specs.declared.entry.Entry.{Entry}
-use Rattle.store_api.specs.Holdings.{Account, LivePage, Holdings, put, or_else, no_account, account_of, page_of, unused_of, page_len, loan_of}
-use Rattle.store_api.specs.Changes.{charged, released, lowered, after_end_client, after_reserve, shortfall, after_give_back, after_move_reservation, after_create, after_pin, after_pin_again, after_unpin_once, after_alloc, after_move_buffer}
+use Rattle.store_api.specs.Holdings.{Account, Holdings, put, or_else, no_account, account_of, page_of, unused_of, page_len}
+use Rattle.store_api.specs.Changes.{charged, released, lowered, after_end_client, after_reserve, shortfall, after_give_back, after_move_reservation, after_pin, after_unpin_once}
 use Rattle.store_api.specs.Entries.{by, AreWrites, IsEvict, IsAsked, IsTaken, IsPin, IsFailedLoad, IsRefusal}
 use Rattle.reservation_tree.proofs.Maps.{found}
 use Rattle.std.proofs.lemmas.List.Elements.{All-head, All-tail}
 use Rattle.store_api.proofs.Puts.{put_here, put_same}
-use Rattle.own_entries.specs.OwnHoldings.{Outset, step, after_events, after_entries, holdings_of, none_held, moved_between, given_to_query, client_ended, session_ended, has_client}
-use Rattle.own_entries.specs.CallLaws.{CanBeCharged, CallsTell, AllCallsTell, CallsRunOn}
+use Rattle.own_entries.specs.OwnHoldings.{step, after_events, after_entries, none_held, moved_between, given_to_query, client_ended, session_ended, has_client}
+use Rattle.own_entries.specs.CallLaws.{CanBeCharged, AllCallsTell, CallsRunOn}
 
 module _ {X : Type 0} where
   -- to put twice is to put the second
@@ -74,9 +73,9 @@ charge_returns h t bytes is fits =
     let whole : record (account_of t (charged t bytes h)) { unused = unused_of t (charged t bytes h) + bytes } ≡ it.0 =
     ap (λ (a : Account). record a { unused = a.unused + bytes }) now ∙ ap (λ (n : ℕ). record (account_of t h) { unused = n }) back ∙ mine in
     ap (λ (cs : ℕ → Option Account). record h { clients = cs }) (
-      ap (λ (a : Account). put t (Some a) (charged t bytes h).clients) whole
-      ∙ put_again h.clients t _ (Some it.0)
-      ∙ put_same h.clients t (Some it.0) it.1)
+    ap (λ (a : Account). put t (Some a) (charged t bytes h).clients) whole
+    ∙ put_again h.clients t _ (Some it.0)
+    ∙ put_same h.clients t (Some it.0) it.1)
 
 failed_load_holds : (who : ℕ) (h : Holdings) (p entry : ℕ) (events : List Event) → CanBeCharged p h → IsFailedLoad who h p entry events → after_events h events ≡ h
 failed_load_holds who h p entry events can failed =

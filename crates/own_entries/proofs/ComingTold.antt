@@ -1,21 +1,21 @@
 -- A tracker comes or goes: what is held is still told.
-use Rattle.std.proofs.Common.{◌≡◌, ◌≢◌, ℕ, ◌+◌, ◌-◌, ◌≤◌, ◌==◌, List, Bool, true, false, if◌then◌else◌, Option, Some, None, unwrap_or, refl, sym, ap, ◌∙◌, subst, arith, inl, inr, eq-eqb, ne_eqb, eqb-true}
+use Rattle.std.proofs.Common.{◌≡◌, ◌≢◌, ℕ, ◌+◌, ◌-◌, List, Bool, true, false, if◌then◌else◌, Option, Some, None, unwrap_or, refl, sym, ap, ◌∙◌, subst, arith, inl, inr, eq-eqb, ne_eqb}
 use Rattle.std.specs.FinMap.{get, insert, remove}
 use Rattle.reservation_tree.specs.Total.{total, weight_at}
-use Rattle.reservation_tree.specs.Tracker.{Tracker, Trackers, no_tracker, reservation_of, limit_of, children_of, share_of, HasNoChild}
+use Rattle.reservation_tree.specs.Tracker.{Tracker, Trackers, no_tracker, reservation_of, limit_of, children_of}
 use Rattle.reservation_tree.proofs.Maps.{get_same, get_other, removed_same, removed_other, same_or_other}
 use Rattle.reservation_tree.proofs.Sums.{total-insert, total-remove, total-none}
 use Rattle.reservation_tree.proofs.Shares.{children-new, children-gone, children-none}
 use Rattle.pool_model.specs.Bytes.{only_if}
 use Rattle.pool_model.specs.State.{Page, Pages, Buffer, Buffers, pins_of}
 use Rattle.pool_model.specs.Sums.{slots_of}
-use Rattle.store_api.specs.Holdings.{Account, LiveLoan, Holdings, put}
+use Rattle.store_api.specs.Holdings.{Account, Holdings}
 use Rattle.store_api.specs.Changes.{after_add_client}
 use Rattle.store_api.proofs.Puts.{put_here, put_there}
 use Rattle.own_entries.specs.OwnHoldings.{client_ended, opened_with}
 use Rattle.own_entries.specs.LiveParts.{is_parent, is_under, left_at, live_account, live_page, live_loan, charge_in, count_under, Tells}
 use Rattle.own_entries.proofs.Views.{slots_at}
-use Rattle.own_entries.proofs.TrackersTold.{account_none, by_under}
+use Rattle.own_entries.proofs.TrackersTold.{account_none}
 
 abbrev weight : ℕ → ℕ → Tracker → ℕ
 weight query _ y = only_if (is_parent query y.parent) 1
@@ -61,12 +61,21 @@ module _ (left : ℕ → List ℕ) (len : ℕ) (ts : Trackers) (pages : Pages) (
       let res : reservation_of ts2 query ≡ reservation_of ts query = reads.0 in
       let was : h.room + children_of ts query ≡ reservation_of ts query = told.room in
       record {
-        block_len = told.block_len; session = told.session; tracker = told.tracker; limit = told.limit ∙ sym reads.1; reservation = told.reservation ∙ sym res; room = omega (arith, was, res, children); live_clients = count;
+        block_len = told.block_len;
+        session = told.session;
+        tracker = told.tracker;
+        limit = told.limit ∙ sym reads.1;
+        reservation = told.reservation ∙ sym res;
+        room = omega (arith, was, res, children);
+        live_clients = count;
         clients = λ c. elim (same_or_other c t) [
           | inl one ↦ subst (λ (q : ℕ). clients q ≡ live_account query (charge q) (get ts2 q)) (sym one) here
           | inr other ↦ there c other ∙ told.clients c ∙ ap (live_account query (charge c)) (sym (same c other))
         ];
-        live_pages = told.live_pages; loans = loans; free_slots = told.free_slots; slots = told.slots;
+        live_pages = told.live_pages;
+        loans = loans;
+        free_slots = told.free_slots;
+        slots = told.slots;
       }
 
   module _ (y : Tracker) (fresh : get ts t ≡ None) (empty : y.reservation ≡ 0) (no_buffer : (g : ℕ) (x : Buffer) → get buffers g ≡ Some x → x.client ≢ t) where
@@ -150,7 +159,13 @@ module _ (left : ℕ → List ℕ) (len : ℕ) (ts : Trackers) (pages : Pages) (
       let none : weight t t y ≡ 0 = ap (λ (b : Bool). only_if b 1) apart in
       let before : count_under t ts ≡ 0 = no_count t ts alone in
       record {
-        block_len = long; session = whose; tracker = refl; limit = sym lim; reservation = sym res; room = omega (arith, children, res); live_clients = omega (arith, count, none, before);
+        block_len = long;
+        session = whose;
+        tracker = refl;
+        limit = sym lim;
+        reservation = sym res;
+        room = omega (arith, children, res);
+        live_clients = omega (arith, count, none, before);
         clients = λ c. sym (account_none t (charge_in len pages buffers c) (get (insert ts t y) c) (nobody c));
         live_pages = λ p. no_page_in p (get pages p) (no_page p);
         loans = λ g. no_loan_in (get buffers g);

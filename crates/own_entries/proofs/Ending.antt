@@ -1,39 +1,35 @@
 -- A client that has no page and no loan may end.
-use Rattle.std.proofs.Common.{◌≡◌, ◌≢◌, ℕ, ◌+◌, ◌-◌, ◌≤◌, ◌==◌, List, [], ◌∷◌, ◌++◌, Bool, true, false, if◌then◌else◌, Option, Some, None, IsSome, refl, sym, ap, ◌∙◌, subst, arith, inl, inr, eq-eqb, ne_eqb}
+use Rattle.std.proofs.Common.{◌≡◌, ℕ, ◌-◌, List, [], ◌∷◌, Some, refl, sym, ap, ◌∙◌, subst, arith, inl, inr}
 use Rattle.std.specs.FinMap.{get}
-use Rattle.reservation_tree.specs.Tracker.{Tracker, Trackers, reservation_of, unused, children_of, HasNoChild}
-use Rattle.reservation_tree.specs.Change.{lower, move_to, move_refusal}
-use Rattle.reservation_tree.proofs.Maps.{get_same, get_other, is_there, same_or_other}
-use Rattle.reservation_tree.proofs.Outline.{reservation_is, tracker_is}
+use Rattle.reservation_tree.specs.Tracker.{Tracker, Trackers, reservation_of, children_of, HasNoChild}
+use Rattle.reservation_tree.specs.Change.{lower, move_to}
+use Rattle.reservation_tree.proofs.Maps.{get_same, get_other, same_or_other}
+use Rattle.reservation_tree.proofs.Outline.{tracker_is}
 use Rattle.reservation_tree.proofs.Shares.{children-none}
 use Rattle.pool_model.specs.declared.event.Event.TheVariants.{MoveReservation, CloseTracker}
 use Rattle.pool_model.specs.declared.entry.Entry.{Entry}
 use Rattle.pool_model.specs.Makers.{IsSession}
-use Rattle.pool_model.specs.State.{Opening, Page, Buffer, Session, State, pins_of}
-use Rattle.pool_model.specs.Sums.{charge_of, held_by, pages_for, buffers_for, times_charged, times_held, memory}
-use Rattle.pool_model.specs.Owning.{IsClientOf, IsTrackerOf}
+use Rattle.pool_model.specs.State.{Session, State}
+use Rattle.pool_model.specs.Sums.{charge_of, memory}
+use Rattle.pool_model.specs.Owning.{IsClientOf}
 use Rattle.pool_model.specs.TrackerRows.{MayMoveReservation, MayCloseTracker}
-use Rattle.pool_model.specs.MayFollow.{MayFollow}
 use Rattle.pool_model.specs.Effects.{effect, after}
 use Rattle.pool_model.specs.LookingBack.{content_from}
-use Rattle.pool_model.specs.Legal.{Follow, state_after, IsLegal}
+use Rattle.pool_model.specs.Legal.{Follow, state_after}
 use Rattle.pool_model.specs.Sound.{IsSound}
-use Rattle.pool_model.proofs.ByClients.{no_pages, no_buffers}
 use Rattle.pool_model.proofs.Seats.{some_is, own_client}
 use Rattle.pool_model.proofs.Fits.{no_child}
 use Rattle.pool_model.proofs.Owners.{still_client}
 use Rattle.pool_model.proofs.Kept.{legal_sound}
 use Rattle.pool_model.proofs.Failures.{PagesOwned, legal_pages_are_owned}
-use Rattle.store_api.specs.Holdings.{Account, LivePage, LiveLoan, Holdings, account_of, no_account}
-use Rattle.store_api.specs.Holdings.{or_else as value_or}
+use Rattle.store_api.specs.Holdings.{Holdings, account_of}
 use Rattle.store_api.specs.Conditions.{IsIdle}
-use Rattle.own_entries.specs.LiveParts.{is_parent, is_under, left_at, Tells}
-use Rattle.own_entries.specs.ClientLaws.{IsWholeIdle, LegalIdleIsWhole, LegalEndsIdle}
+use Rattle.own_entries.specs.LiveParts.{Tells}
+use Rattle.own_entries.specs.ClientLaws.{LegalEndsIdle}
 use Rattle.own_entries.specs.HeldLaws.{own_holdings}
-use Rattle.own_entries.proofs.Views.{told_account, account_is}
 use Rattle.own_entries.proofs.Setting.{reservation_here}
 use Rattle.own_entries.proofs.Ways.{never_refused, moves_up}
-use Rattle.own_entries.proofs.Facts.{own_under, own_low, seat, high}
+use Rattle.own_entries.proofs.Facts.{own_low, seat, high}
 use Rattle.own_entries.proofs.Held.{legal_holdings_are_told}
 use Rattle.own_entries.proofs.Behind.{told_client}
 use Rattle.own_entries.proofs.Idle.{no_page, no_buffer, none_held, none_charged, all_of_it}

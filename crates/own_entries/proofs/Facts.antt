@@ -1,16 +1,16 @@
 -- What a sound state says of a session's trackers, and of others'.
-use Rattle.std.proofs.Common.{◌≡◌, ◌≢◌, ℕ, ◌+◌, ◌≤◌, ◌==◌, Bool, true, false, Option, Some, None, unwrap_or, refl, sym, ap, ◌∙◌, subst, arith, inl, inr, eq-eqb, ne_eqb, ◌⊎◌}
+use Rattle.std.proofs.Common.{◌≡◌, ◌≢◌, ℕ, ◌≤◌, true, false, Some, refl, sym, ap, ◌∙◌, subst, arith, eq-eqb, ne_eqb}
 use Rattle.std.specs.FinMap.{get}
-use Rattle.reservation_tree.specs.Tracker.{Tracker, Trackers, no_tracker, reservation_of, depth_of, parent_of, IsTree}
-use Rattle.reservation_tree.proofs.Maps.{found, same_or_other}
-use Rattle.reservation_tree.proofs.Outline.{parent_is, depth_is}
-use Rattle.reservation_tree.proofs.Above.{Above, above, at_root}
-use Rattle.pool_model.specs.State.{Page, Session, State}
-use Rattle.pool_model.specs.Sums.{pages_for, buffers_for, times_charged, times_held, held_by, IsClient, memory}
-use Rattle.pool_model.specs.Owning.{IsClientOf, IsQueryOf, IsTrackerOf}
-use Rattle.pool_model.specs.Sound.{IsQuery, IsSeated, IsSound}
+use Rattle.reservation_tree.specs.Tracker.{Tracker, Trackers, reservation_of, depth_of}
+use Rattle.reservation_tree.proofs.Maps.{found}
+use Rattle.reservation_tree.proofs.Outline.{parent_is}
+use Rattle.reservation_tree.proofs.Above.{at_root}
+use Rattle.pool_model.specs.State.{Session, State}
+use Rattle.pool_model.specs.Sums.{pages_for, times_charged, times_held, held_by}
+use Rattle.pool_model.specs.Owning.{IsClientOf}
+use Rattle.pool_model.specs.Sound.{IsQuery, IsSound}
 use Rattle.pool_model.proofs.ByClients.{charges_held, not_client}
-use Rattle.pool_model.proofs.Seats.{some_is, root_depth, depth_under, query_depth, own_client}
+use Rattle.pool_model.proofs.Seats.{some_is, root_depth, query_depth, own_client}
 use Rattle.own_entries.specs.LiveParts.{is_parent, is_under, charge_in}
 use Rattle.own_entries.proofs.Ways.{IsHigh, IsLow}
 

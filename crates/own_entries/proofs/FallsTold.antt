@@ -1,20 +1,18 @@
 -- Reservations fall, and move between a session's trackers: what is held is still told.
-use Rattle.std.proofs.Common.{◌≡◌, ◌≢◌, ℕ, ◌+◌, ◌-◌, ◌≤◌, ◌==◌, List, Bool, true, false, if◌then◌else◌, Option, Some, None, unwrap_or, refl, sym, ap, ◌∙◌, subst, arith, inl, inr, eq-eqb, ne_eqb}
-use Rattle.std.specs.FinMap.{get, insert}
-use Rattle.reservation_tree.specs.Tracker.{Tracker, Trackers, no_tracker, tracker_at, reservation_of, limit_of, depth_of, parent_of, children_of, unused}
-use Rattle.reservation_tree.specs.Change.{set_reservation, raise, lower, grow, shrink, move_to}
-use Rattle.reservation_tree.proofs.Maps.{get_same, get_other, same_or_other}
-use Rattle.reservation_tree.proofs.Outline.{tracker_is, reservation_is}
+use Rattle.std.proofs.Common.{◌≡◌, ◌≢◌, ℕ, ◌+◌, ◌-◌, ◌≤◌, List, Bool, true, false, if◌then◌else◌, Some, sym, ap, ◌∙◌, subst, arith, ne_eqb}
+use Rattle.std.specs.FinMap.{get}
+use Rattle.reservation_tree.specs.Tracker.{Trackers, reservation_of, children_of}
+use Rattle.reservation_tree.specs.Change.{set_reservation, raise, lower, shrink, move_to}
+use Rattle.reservation_tree.proofs.Maps.{get_other}
 use Rattle.reservation_tree.proofs.Climbs.{no_move}
-use Rattle.pool_model.specs.State.{Pages, Buffer, Buffers}
-use Rattle.store_api.specs.Holdings.{Account, LiveLoan, Holdings, Above, put, or_else, no_account, account_of}
-use Rattle.store_api.specs.Changes.{raised, lowered, with_account, after_reserve, after_give_back, after_move_reservation}
-use Rattle.store_api.proofs.Puts.{put_here, put_there}
-use Rattle.own_entries.specs.OwnHoldings.{query_grown, query_fallen, given_to_query, taken_from_query}
-use Rattle.own_entries.specs.LiveParts.{is_parent, is_under, live_account, live_loan, charge_in, count_under, Tells}
-use Rattle.own_entries.proofs.Views.{at, told_account, account_is, account_same, mine_tracker}
-use Rattle.own_entries.proofs.Setting.{limit_stays, depth_stays, parent_stays, under_stays, count_stays, reservation_here, reservation_there, child_set, other_set}
-use Rattle.own_entries.proofs.Ways.{IsHigh, IsLow, root_growth, query_growth, query_grows, query_falls, client_grows, client_falls, not_query, moves_up, moves_down, moves_beside}
+use Rattle.pool_model.specs.State.{Pages, Buffers}
+use Rattle.store_api.specs.Holdings.{Account, Holdings, Above, or_else, no_account, account_of}
+use Rattle.store_api.specs.Changes.{raised, lowered, with_account, after_give_back, after_move_reservation}
+use Rattle.store_api.proofs.Puts.{put_there}
+use Rattle.own_entries.specs.OwnHoldings.{query_fallen, given_to_query, taken_from_query}
+use Rattle.own_entries.specs.LiveParts.{is_under, charge_in, Tells}
+use Rattle.own_entries.proofs.Setting.{limit_stays, depth_stays, parent_stays, under_stays, count_stays, reservation_here, reservation_there, other_set}
+use Rattle.own_entries.proofs.Ways.{IsHigh, IsLow, query_falls, client_falls, moves_up, moves_down, moves_beside}
 use Rattle.own_entries.proofs.TrackersTold.{accounts_kept, retold, foreign_set, query_low, lowered_told, raised_told}
 
 -- ways stay where a reservation is set

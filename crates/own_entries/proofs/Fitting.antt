@@ -1,23 +1,20 @@
 -- What a session holds fits itself.
-use Rattle.std.proofs.Common.{◌≡◌, ◌≢◌, ℕ, ◌+◌, ◌-◌, ◌≤◌, ◌==◌, List, [], ◌∷◌, ◌++◌, Bool, true, false, if◌then◌else◌, Option, Some, None, IsSome, refl, sym, ap, ◌∙◌, subst, arith, inl, inr, eq-eqb, ne_eqb, eqb-true}
-use Rattle.std.specs.Ordering.{nat_cmp}
-use Rattle.std.specs.FinMap.{get, insert, remove, get-empty}
+use Rattle.std.proofs.Common.{◌≡◌, ℕ, ◌+◌, ◌-◌, ◌≤◌, List, [], Bool, true, if◌then◌else◌, Option, Some, None, IsSome, sym, ap, ◌∙◌, subst, arith, eq-eqb}
+use Rattle.std.specs.FinMap.{get}
 use Rattle.reservation_tree.specs.Total.{total}
 use Rattle.reservation_tree.specs.Tracker.{Tracker, Trackers, share_of, children_of, reservation_of, limit_of, Fits}
-use Rattle.reservation_tree.proofs.Maps.{get_same, get_other, removed_same, removed_other, same_or_other, is_there}
+use Rattle.reservation_tree.proofs.Maps.{is_there}
 use Rattle.reservation_tree.proofs.Sums.{weight-le-total}
 use Rattle.reservation_tree.proofs.Shares.{share_here}
 use Rattle.reservation_tree.proofs.Outline.{reservation_is, limit_is}
-use Rattle.pool_model.specs.declared.entry.Entry.{Entry}
-use Rattle.pool_model.specs.State.{Opening, Page, Session, State}
+use Rattle.pool_model.specs.State.{Session, State}
 use Rattle.pool_model.specs.Owning.{IsClientOf}
-use Rattle.pool_model.specs.Legal.{state_after, IsLegal}
+use Rattle.pool_model.specs.Legal.{state_after}
 use Rattle.pool_model.specs.Sound.{IsQuery, IsSound}
 use Rattle.pool_model.specs.LookingBack.{content_from}
 use Rattle.pool_model.proofs.Kept.{legal_sound}
-use Rattle.pool_model.proofs.Failures.{PagesOwned, legal_pages_are_owned}
 use Rattle.store_api.specs.Holdings.{Account, Holdings, or_else, no_account, account_of}
-use Rattle.own_entries.specs.LiveParts.{is_parent, is_under, live_account, charge_in, Tells}
+use Rattle.own_entries.specs.LiveParts.{is_parent, live_account, charge_in, Tells}
 use Rattle.own_entries.specs.FitLaws.{FitsHeld, LegalHoldingsFit}
 use Rattle.own_entries.specs.HeldLaws.{own_holdings}
 use Rattle.own_entries.proofs.Facts.{seat, query_under}

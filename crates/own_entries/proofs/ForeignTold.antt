@@ -1,9 +1,8 @@
 -- Other sessions change their trackers: what is held is still told.
-use Rattle.std.proofs.Common.{◌≡◌, ◌≢◌, ℕ, ◌+◌, ◌-◌, ◌≤◌, ◌==◌, List, Bool, true, false, Option, Some, None, refl, sym, ap, ◌∙◌, subst, arith, inl, inr}
+use Rattle.std.proofs.Common.{◌≡◌, ◌≢◌, ℕ, ◌+◌, ◌-◌, List, false, sym, ◌∙◌, subst}
 use Rattle.std.specs.FinMap.{get}
 use Rattle.reservation_tree.specs.Tracker.{Trackers, reservation_of}
-use Rattle.reservation_tree.specs.Change.{set_reservation, raise, lower, grow, shrink, move_to}
-use Rattle.reservation_tree.proofs.Maps.{same_or_other}
+use Rattle.reservation_tree.specs.Change.{set_reservation, lower, grow, shrink, move_to}
 use Rattle.reservation_tree.proofs.Climbs.{no_move}
 use Rattle.pool_model.specs.State.{Pages, Buffers}
 use Rattle.store_api.specs.Holdings.{Holdings}

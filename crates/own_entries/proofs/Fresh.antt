@@ -1,9 +1,7 @@
 -- What the pool doesn't have, no session holds.
-use Rattle.std.proofs.Common.{◌≡◌, ◌≢◌, ℕ, List, [], Option, Some, None, IsSome, refl, sym, ap, ◌∙◌, subst}
+use Rattle.std.proofs.Common.{◌≡◌, ◌≢◌, ℕ, List, [], Some, None, IsSome, sym, ap, ◌∙◌, subst}
 use Rattle.std.specs.FinMap.{get}
-use Rattle.reservation_tree.specs.Tracker.{Tracker}
 use Rattle.reservation_tree.proofs.Maps.{is_there}
-use Rattle.pool_model.specs.declared.entry.Entry.{Entry}
 use Rattle.pool_model.specs.State.{Session, State}
 use Rattle.pool_model.specs.Sums.{charge_of}
 use Rattle.pool_model.specs.LookingBack.{content_from}
@@ -12,7 +10,7 @@ use Rattle.pool_model.specs.Sound.{IsSound}
 use Rattle.pool_model.proofs.Seats.{some_is}
 use Rattle.pool_model.proofs.Kept.{legal_sound}
 use Rattle.store_api.specs.Holdings.{LivePage, LiveLoan, Holdings}
-use Rattle.own_entries.specs.LiveParts.{left_at, live_account, live_page, live_loan, Tells}
+use Rattle.own_entries.specs.LiveParts.{live_account, live_page, live_loan, Tells}
 use Rattle.own_entries.specs.HeldLaws.{own_holdings}
 use Rattle.own_entries.specs.ClientLaws.{IsNewNumber, HoldsOnlyLive, LegalHoldsOnlyLive}
 use Rattle.own_entries.proofs.Facts.{seat}

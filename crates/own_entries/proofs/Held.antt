@@ -1,25 +1,21 @@
 -- After every legal history a session holds what its own entries tell.
-use Rattle.std.proofs.Common.{◌≡◌, ◌≢◌, ℕ, ◌+◌, ◌-◌, ◌==◌, List, [], ◌∷◌, ◌++◌, Bool, true, false, ◌&&◌, if◌then◌else◌, Option, Some, None, IsSome, unwrap_or, filter, refl, sym, ap, ◌∙◌, subst, arith, inl, inr, ◌⊎◌, eq-eqb, ne_eqb}
+use Rattle.std.proofs.Common.{◌≡◌, ◌≢◌, ℕ, ◌+◌, List, [], ◌∷◌, ◌++◌, true, false, Option, Some, None, IsSome, unwrap_or, refl, sym, ap, ◌∙◌, subst, inl, inr, ◌⊎◌, ne_eqb}
 use Rattle.std.proofs.Math.Path.{fun_ext}
-use Rattle.std.proofs.lemmas.List.{append-nil}
-use Rattle.std.proofs.lemmas.List.Elements.{filter-append}
 use Rattle.std.specs.Ordering.{nat_cmp}
-use Rattle.std.specs.FinMap.{get, insert, remove, empty, get-empty}
-use Rattle.reservation_tree.specs.Tracker.{Tracker, Hangs, depth_of, limit_of, reservation_of}
+use Rattle.std.specs.FinMap.{get, empty, get-empty}
+use Rattle.reservation_tree.specs.Tracker.{Tracker, Hangs, depth_of}
 use Rattle.reservation_tree.specs.Change.{with_child}
-use Rattle.reservation_tree.proofs.Maps.{get_same, get_other, same_or_other, is_there}
+use Rattle.reservation_tree.proofs.Maps.{get_same, get_other, same_or_other}
 use Rattle.pool_model.specs.declared.event.Event.{Event}
-use Rattle.pool_model.specs.declared.event.Event.TheVariants.{Ask, AddTracker, CloseTracker, ReadFailed, WriteFailed, Unpin}
+use Rattle.pool_model.specs.declared.event.Event.TheVariants.{Ask, AddTracker, CloseTracker, ReadFailed, WriteFailed}
 use Rattle.pool_model.specs.declared.entry.Entry.{Entry}
-use Rattle.pool_model.specs.State.{Opening, opened, Page, page_at, Session, State}
-use Rattle.pool_model.specs.Owning.{IsClientOf}
+use Rattle.pool_model.specs.State.{page_at, Session, State}
 use Rattle.pool_model.specs.LookingBack.{content_from, left_in, opens, made_by}
 use Rattle.pool_model.specs.Failures.{closes}
-use Rattle.pool_model.specs.TrackerRows.{MayOpenSession}
 use Rattle.pool_model.specs.MayFollow.{Allows, MayFollow}
 use Rattle.pool_model.specs.Effects.{effect, after}
 use Rattle.pool_model.specs.Parts.{keep_first}
-use Rattle.pool_model.specs.Legal.{state_after, IsLegal}
+use Rattle.pool_model.specs.Legal.{state_after}
 use Rattle.pool_model.specs.Sound.{IsSound}
 use Rattle.pool_model.proofs.Seats.{some_is, HadSeat, is_below}
 use Rattle.pool_model.proofs.Going.{left_seats}
@@ -31,7 +27,7 @@ use Rattle.pool_model.proofs.OwnEntries.{content_more, made_by_other, made_more,
 use Rattle.store_api.specs.Holdings.{Shared, Holdings}
 use Rattle.own_entries.specs.OwnHoldings.{Outset, step, after_entries, holdings_of, none_held}
 use Rattle.own_entries.specs.LiveParts.{is_parent, Tells}
-use Rattle.own_entries.specs.HeldLaws.{TellsState, LegalHoldingsAreTold, SameForSession, OwnEntriesDecide}
+use Rattle.own_entries.specs.HeldLaws.{TellsState, LegalHoldingsAreTold, OwnEntriesDecide}
 use Rattle.own_entries.proofs.ByOthers.{by_other}
 use Rattle.own_entries.proofs.ByItself.{by_itself}
 use Rattle.own_entries.proofs.ComingTold.{opened_told}

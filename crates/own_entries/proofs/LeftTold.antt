@@ -1,5 +1,5 @@
 -- What is left in a page that rests is what its session's entries left in it last.
-use Rattle.std.proofs.Common.{◌≡◌, ◌≢◌, ℕ, ◌+◌, ◌-◌, ◌==◌, List, [], ◌∷◌, ◌≤◌, Bool, true, false, leb, if◌then◌else◌, Option, Some, None, refl, sym, ap, ◌∙◌, subst, arith, inl, inr, eq-eqb, ne_eqb}
+use Rattle.std.proofs.Common.{◌≡◌, ℕ, ◌+◌, ◌-◌, ◌==◌, List, [], ◌∷◌, ◌≤◌, Bool, true, false, leb, if◌then◌else◌, Option, Some, None, refl, sym, ap, ◌∙◌, arith, inl, inr, eq-eqb, ne_eqb}
 use Rattle.std.proofs.lemmas.Bool.{leb-true}
 use Rattle.reservation_tree.proofs.Maps.{same_or_other}
 use Rattle.pool_model.specs.declared.event.Event.{Event}
@@ -9,7 +9,6 @@ use Rattle.pool_model.specs.LookingBack.{left_in, content_from}
 use Rattle.pool_model.proofs.Seats.{some_is}
 use Rattle.store_api.specs.Holdings.{LivePage, Holdings, put, page_of, loan_of}
 use Rattle.store_api.specs.Changes.{after_unpin_once}
-use Rattle.store_api.specs.Entries.{TellsLeft}
 use Rattle.store_api.proofs.Puts.{put_here, put_there}
 use Rattle.own_entries.specs.OwnHoldings.{step, moved_between, has_client, after_entries, none_held}
 use Rattle.own_entries.specs.HeldLaws.{LeftIsTold}

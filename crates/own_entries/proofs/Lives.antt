@@ -1,26 +1,22 @@
 -- A session is live exactly while its own entries say so.
 use Rattle.std.proofs.Common.{◌≡◌, ◌≢◌, ℕ, ◌+◌, ◌-◌, ◌==◌, List, [], ◌∷◌, ◌++◌, Bool, true, false, if◌then◌else◌, Option, Some, None, is_some, option_map, refl, sym, ap, ◌∙◌, subst, inl, inr, eq-eqb, ne_eqb}
 use Rattle.std.specs.Ordering.{nat_cmp}
-use Rattle.std.specs.FinMap.{FinMap, get, insert, remove, empty, get-empty}
+use Rattle.std.specs.FinMap.{FinMap, get, insert, remove, get-empty}
 use Rattle.reservation_tree.proofs.Maps.{get_same, get_other, removed_same, removed_other, same_or_other}
 use Rattle.pool_model.specs.declared.event.Event.{Event}
 use Rattle.pool_model.specs.declared.event.Event.TheVariants.{Ask, AddTracker, CloseTracker, Increase, IncreaseToFit, Decrease, MoveReservation, UnpinOnce, Unpin, Extract, Destroy, MoveBuffer, ReadFailed, WriteFailed}
 use Rattle.pool_model.specs.declared.entry.Entry.{Entry}
-use Rattle.pool_model.specs.State.{Opening, opened, page_at, Session, Sessions, State}
-use Rattle.pool_model.specs.Owning.{IsClientOf}
+use Rattle.pool_model.specs.State.{page_at, Session, Sessions, State}
 use Rattle.pool_model.specs.LookingBack.{opens, made_by}
 use Rattle.pool_model.specs.MayFollow.{Allows, MayFollow}
 use Rattle.pool_model.specs.Effects.{effect, after}
 use Rattle.pool_model.specs.Parts.{with_failures, without_tracker, keep_first}
-use Rattle.pool_model.specs.Legal.{state_after, IsLegal}
-use Rattle.pool_model.specs.Sound.{IsQuery, IsSound}
-use Rattle.pool_model.proofs.Seats.{some_is}
+use Rattle.pool_model.specs.Sound.{IsSound}
 use Rattle.pool_model.proofs.Fronts.{holds_after}
 use Rattle.pool_model.proofs.OwnEntries.{made_by_other, made_more, made_first}
 use Rattle.store_api.specs.Holdings.{LivePage, Holdings, page_of, loan_of}
 use Rattle.store_api.specs.Changes.{slots_taken, slots_given}
 use Rattle.own_entries.specs.OwnHoldings.{Outset, step, has_client, has_several_pins, moved_between, client_ended, session_ended, holdings_of, none_held}
-use Rattle.own_entries.specs.LiveParts.{Tells}
 use Rattle.own_entries.specs.HeldLaws.{LegalLivesAsTold}
 use Rattle.own_entries.proofs.ByItself.{is_client, isnt_client}
 use Rattle.own_entries.proofs.Held.{Held, held_on, held_more}

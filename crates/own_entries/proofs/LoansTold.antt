@@ -1,23 +1,21 @@
 -- A page comes, or a buffer comes or goes: what is held is still told.
 use Rattle.std.proofs.Common.{◌≡◌, ◌≢◌, ℕ, ◌+◌, ◌-◌, ◌*◌, ◌≤◌, ◌==◌, List, [], Bool, true, false, if◌then◌else◌, Option, Some, None, refl, sym, ap, ◌∙◌, subst, arith, inl, inr, eq-eqb, ne_eqb}
 use Rattle.std.specs.FinMap.{get, insert, remove}
-use Rattle.reservation_tree.specs.Total.{total, weight_at}
+use Rattle.reservation_tree.specs.Total.{weight_at}
 use Rattle.reservation_tree.specs.Tracker.{Trackers, reservation_of}
-use Rattle.reservation_tree.proofs.Maps.{get_same, get_other, removed_same, removed_other, same_or_other, alike}
-use Rattle.reservation_tree.proofs.Sums.{total-insert, total-remove}
+use Rattle.reservation_tree.proofs.Maps.{get_same, get_other, removed_same, removed_other, same_or_other}
+use Rattle.reservation_tree.proofs.Sums.{total-insert}
 use Rattle.pool_model.specs.Bytes.{bytes_of, only_if}
-use Rattle.pool_model.specs.State.{Place, Pinned, Page, Pages, Buffer, Buffers, pins_of}
+use Rattle.pool_model.specs.State.{Pinned, Page, Pages, Buffer, Buffers}
 use Rattle.pool_model.specs.Sums.{times_charged, page_bytes, pages_for, buffers_for, slots_of}
 use Rattle.pool_model.proofs.Weights.{mine, not_mine, one_time}
-use Rattle.pool_model.proofs.PageSums.{pages_gone, buffers_gone}
-use Rattle.store_api.specs.Holdings.{Account, LivePage, LiveLoan, Holdings, put, or_else, no_loan, loan_of, loan_len, page_of, length_of}
-use Rattle.store_api.specs.Changes.{charged, released, with_loan, after_create, after_extract, after_alloc, after_free, after_move_buffer}
+use Rattle.pool_model.proofs.PageSums.{buffers_gone}
+use Rattle.store_api.specs.Holdings.{Account, LivePage, LiveLoan, Holdings, put, or_else, no_loan, loan_of, length_of}
+use Rattle.store_api.specs.Changes.{charged, released, after_create, after_alloc, after_free}
 use Rattle.store_api.proofs.Puts.{put_here, put_there}
-use Rattle.own_entries.specs.LiveParts.{is_under, live_account, live_page, left_at, live_loan, charge_in, Tells}
-use Rattle.own_entries.proofs.Calls.{put_again}
-use Rattle.own_entries.proofs.Views.{len_is, at, accounts_same, accounts_up, accounts_down, pages_put_told, pages_gone_told, pages_alike, slots_at, slots_new, slots_gone}
+use Rattle.own_entries.specs.LiveParts.{is_under, live_account, live_page, live_loan, charge_in, Tells}
+use Rattle.own_entries.proofs.Views.{len_is, at, accounts_same, accounts_up, accounts_down, pages_put_told, pages_alike, slots_at, slots_new}
 use Rattle.own_entries.proofs.PagesTold.{rebuilt}
-use Rattle.own_entries.proofs.OwnPages.{is_held, slots_back, few_slots}
 
 module _ (query : ℕ) (ts : Trackers) (buffers : Buffers) (held : ℕ → Option LiveLoan) (told : (g : ℕ) → held g ≡ live_loan query ts (get buffers g)) (f : ℕ) where
   pub loans_put_told : (w : Buffer) (v : Option LiveLoan) → live_loan query ts (Some w) ≡ v → (g : ℕ) → put f v held g ≡ live_loan query ts (get (insert buffers f w) g)

@@ -1,22 +1,20 @@
 -- A page of the session changes its place, or goes: what is held is told by the step of its event.
-use Rattle.std.proofs.Common.{◌≡◌, ◌≢◌, ℕ, ◌+◌, ◌-◌, ◌*◌, ◌≤◌, ◌==◌, ◌||◌, List, [], Bool, true, false, leb, if◌then◌else◌, Option, Some, None, IsSome, is_some, option_map, refl, sym, ap, ◌∙◌, subst, arith, inl, inr, ◌⊎◌, eq-eqb, ne_eqb, le-leb}
+use Rattle.std.proofs.Common.{◌≡◌, ◌≢◌, ℕ, ◌+◌, ◌-◌, ◌*◌, ◌≤◌, ◌==◌, ◌||◌, List, [], Bool, true, false, leb, if◌then◌else◌, Option, Some, None, is_some, refl, sym, ap, ◌∙◌, subst, arith, inl, inr, ◌⊎◌, eq-eqb, le-leb}
 use Rattle.std.specs.FinMap.{get, insert, remove}
-use Rattle.reservation_tree.specs.Total.{total, weight_at}
-use Rattle.reservation_tree.specs.Tracker.{Tracker, Trackers, reservation_of}
-use Rattle.reservation_tree.proofs.Maps.{get_same, get_other, removed_same, removed_other, same_or_other, alike}
-use Rattle.reservation_tree.proofs.Sums.{total-insert}
+use Rattle.reservation_tree.specs.Tracker.{Trackers, reservation_of}
+use Rattle.reservation_tree.proofs.Maps.{same_or_other}
 use Rattle.pool_model.specs.declared.event.Event.TheVariants.{UnpinOnce}
 use Rattle.pool_model.specs.Bytes.{bytes_of, only_if}
-use Rattle.pool_model.specs.State.{Place, Pinned, Dirty, Flying, Loading, Clean, Evicted, Page, Pages, Buffer, Buffers, pins_of}
-use Rattle.pool_model.specs.Sums.{times_charged, page_bytes, pages_for, buffers_for, slots_of}
+use Rattle.pool_model.specs.State.{Place, Pinned, Dirty, Flying, Loading, Clean, Evicted, Page, Pages, Buffers, pins_of}
+use Rattle.pool_model.specs.Sums.{times_charged, page_bytes, pages_for, slots_of}
 use Rattle.pool_model.proofs.Weights.{mine, not_mine}
-use Rattle.pool_model.proofs.PageSums.{pages_put, pages_gone}
-use Rattle.store_api.specs.Holdings.{Account, LivePage, LiveLoan, Holdings, put, or_else, no_page, page_of, page_len}
+use Rattle.pool_model.proofs.PageSums.{pages_gone}
+use Rattle.store_api.specs.Holdings.{LivePage, Holdings, put, or_else, no_page, page_of, page_len}
 use Rattle.store_api.specs.Changes.{charged, released, with_page, slots_taken, slots_given, after_pin, after_pin_again, after_unpin_once, after_unpin, after_destroy}
 use Rattle.own_entries.specs.OwnHoldings.{step}
-use Rattle.own_entries.specs.LiveParts.{is_under, live_account, live_page, left_at, live_loan, charge_in, Tells}
+use Rattle.own_entries.specs.LiveParts.{is_under, live_account, live_page, left_at, charge_in, Tells}
 use Rattle.own_entries.proofs.PagesTold.{rebuilt, charge_put}
-use Rattle.own_entries.proofs.Views.{len_is, at, accounts_same, accounts_up, accounts_down, pages_put_told, pages_gone_told, pages_alike, pages_lost, slots_at, slots_new, slots_put, slots_gone}
+use Rattle.own_entries.proofs.Views.{len_is, at, accounts_same, accounts_up, accounts_down, pages_put_told, pages_gone_told, pages_alike, slots_at, slots_put, slots_gone}
 
 or_true : (b : Bool) → (b || true) ≡ true
 or_true true = refl
@@ -225,8 +223,8 @@ module _ (left : ℕ → List ℕ) (len : ℕ) (ts : Trackers) (pages : Pages) (
       let bytes : ℕ = pins_of x.place * bytes_of len x.blocks in
       let cost : page_bytes times_charged len x ≡ bytes = ap (λ (n : ℕ). n * bytes_of len x.blocks) (paid x.place isnt) in
       let sum : (c : ℕ) → charge_in len (remove pages p) buffers c + only_if (x.client == c) (page_bytes times_charged len x) ≡ charge_in len pages buffers c = λ c.
-          let gone : pages_for times_charged len (remove pages p) c + only_if (x.client == c) (page_bytes times_charged len x) ≡ pages_for times_charged len pages c = pages_gone times_charged len pages p x is c in
-          omega (arith, gone) in
+      let gone : pages_for times_charged len (remove pages p) c + only_if (x.client == c) (page_bytes times_charged len x) ≡ pages_for times_charged len pages c = pages_gone times_charged len pages p x is c in
+      omega (arith, gone) in
       let own = sum x.client in
       let whole : only_if (x.client == x.client) (page_bytes times_charged len x) ≡ page_bytes times_charged len x = mine x.client _ in
       let clients : (c : ℕ) → put x.client (Some (record (at x.client h.clients) { unused = (at x.client h.clients).unused + bytes })) h.clients c ≡ live_account query (charge_in len (remove pages p) buffers c) (get ts c) =

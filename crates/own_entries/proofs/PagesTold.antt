@@ -1,19 +1,16 @@
 -- A page of anybody changes its place, and a page of others goes: what is held is still told.
-use Rattle.std.proofs.Common.{◌≡◌, ◌≢◌, ℕ, ◌+◌, ◌-◌, ◌*◌, ◌≤◌, ◌==◌, ◌||◌, List, [], Bool, true, false, if◌then◌else◌, Option, Some, None, IsSome, is_some, option_map, refl, sym, ap, ◌∙◌, subst, arith, inl, inr, ◌⊎◌, eq-eqb, ne_eqb}
+use Rattle.std.proofs.Common.{◌≡◌, ◌≢◌, ℕ, ◌+◌, ◌-◌, ◌*◌, ◌≤◌, ◌==◌, List, Bool, true, false, if◌then◌else◌, Option, Some, None, refl, sym, ap, ◌∙◌, subst, arith, inl, inr, ne_eqb}
 use Rattle.std.specs.FinMap.{get, insert, remove}
-use Rattle.reservation_tree.specs.Total.{total, weight_at}
-use Rattle.reservation_tree.specs.Tracker.{Tracker, Trackers, reservation_of}
-use Rattle.reservation_tree.proofs.Maps.{get_same, get_other, removed_same, removed_other, same_or_other, alike}
-use Rattle.reservation_tree.proofs.Sums.{total-insert}
+use Rattle.reservation_tree.specs.Tracker.{Trackers}
+use Rattle.reservation_tree.proofs.Maps.{get_same, get_other, same_or_other, alike}
 use Rattle.pool_model.specs.Bytes.{bytes_of, only_if}
-use Rattle.pool_model.specs.State.{Place, Pinned, Dirty, Flying, Loading, Clean, Evicted, Page, Pages, Buffer, Buffers, pins_of}
-use Rattle.pool_model.specs.Sums.{times_charged, page_bytes, pages_for, buffers_for, slots_of}
-use Rattle.pool_model.proofs.Weights.{mine, not_mine}
+use Rattle.pool_model.specs.State.{Place, Page, Pages, Buffers, pins_of}
+use Rattle.pool_model.specs.Sums.{times_charged, page_bytes, pages_for, slots_of}
+use Rattle.pool_model.proofs.Weights.{not_mine}
 use Rattle.pool_model.proofs.PageSums.{pages_put, pages_gone}
-use Rattle.store_api.specs.Holdings.{Account, LivePage, LiveLoan, Holdings, put, or_else, no_page, page_of, page_len}
-use Rattle.store_api.specs.Changes.{charged, released, with_page, slots_taken, slots_given, after_create, after_pin, after_unpin, after_destroy}
+use Rattle.store_api.specs.Holdings.{Account, LivePage, LiveLoan, Holdings}
 use Rattle.own_entries.specs.LiveParts.{is_under, live_account, live_page, left_at, live_loan, charge_in, Tells}
-use Rattle.own_entries.proofs.Views.{len_is, at, accounts_same, accounts_up, accounts_down, pages_put_told, pages_gone_told, pages_alike, pages_lost, slots_at, slots_new, slots_put, slots_gone}
+use Rattle.own_entries.proofs.Views.{accounts_same, pages_alike, pages_lost, slots_at, slots_put, slots_gone}
 
 module _ {X : Type 0} where
   pub insert_again : (m : Rattle.std.specs.FinMap.FinMap Rattle.std.specs.Ordering.nat_cmp X) (k : ℕ) (v w : X) → insert (insert m k v) k w ≡ insert m k w
@@ -32,8 +29,18 @@ module _ (left : ℕ → List ℕ) (len : ℕ) (ts : Trackers) (pages : Pages) (
       → free ≡ Some (quota - slots_of pages2 m) → slots_of pages2 m ≤ quota
       → Tells left2 len ts pages2 buffers2 m query quota (record h { clients = clients; pages = held; loans = loans; free_slots = free })
   rebuilt left2 pages2 buffers2 clients held loans free c p f n fits = record {
-    block_len = told.block_len; session = told.session; tracker = told.tracker; limit = told.limit; reservation = told.reservation; room = told.room; live_clients = told.live_clients;
-    clients = c; live_pages = p; loans = f; free_slots = n; slots = fits;
+    block_len = told.block_len;
+    session = told.session;
+    tracker = told.tracker;
+    limit = told.limit;
+    reservation = told.reservation;
+    room = told.room;
+    live_clients = told.live_clients;
+    clients = c;
+    live_pages = p;
+    loans = f;
+    free_slots = n;
+    slots = fits;
   }
 
   module _ (p : ℕ) (x : Page) (is : get pages p ≡ Some x) where

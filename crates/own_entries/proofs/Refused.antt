@@ -1,5 +1,5 @@
 -- A pool refuses a growth where what the session holds says so.
-use Rattle.std.proofs.Common.{◌≡◌, ◌≢◌, ℕ, suc, ◌+◌, ◌-◌, ◌≤◌, ◌==◌, leb, List, Bool, true, false, if◌then◌else◌, Option, Some, None, IsSome, [], ◌↔◌, option_map, unwrap_or, refl, sym, ap, ◌∙◌, subst, arith, inl, inr, eq-eqb, ne_eqb}
+use Rattle.std.proofs.Common.{◌≡◌, ℕ, suc, ◌-◌, leb, List, Bool, true, false, if◌then◌else◌, Option, Some, None, IsSome, [], ◌↔◌, option_map, unwrap_or, refl, sym, ap, ◌∙◌, subst, inl, inr, eq-eqb, ne_eqb}
 use Rattle.std.specs.FinMap.{get}
 use Rattle.reservation_tree.specs.Tracker.{Tracker, Trackers, unused, reservation_of, limit_of, children_of}
 use Rattle.reservation_tree.specs.Tracker.{room_of as tree_room}
@@ -30,8 +30,8 @@ use Rattle.own_entries.specs.HeldLaws.{own_holdings}
 use Rattle.own_entries.proofs.Behind.{IsTold, told_client, told_page, pinned_once}
 use Rattle.own_entries.proofs.Held.{legal_holdings_are_told}
 use Rattle.own_entries.specs.RefusalLaws.{RefusesAsTold, LegalRefusesAsTold}
-use Rattle.own_entries.proofs.Views.{at, told_account, account_is}
-use Rattle.own_entries.proofs.Ways.{or_none, refused_beside, refused_itself, IsHigh, IsLow}
+use Rattle.own_entries.proofs.Views.{told_account, account_is}
+use Rattle.own_entries.proofs.Ways.{or_none, refused_beside, refused_itself, IsLow}
 use Rattle.own_entries.proofs.Facts.{own_under, own_low, high, seat}
 use Rattle.own_entries.proofs.ByItself.{room_is}
 
@@ -89,15 +89,15 @@ module _ (left : ℕ → List ℕ) (before : List Entry) (s : State) (sound : Is
       let own : Option Refusal = or_else (told_over t bytes (client_room t h)) (told_over h.query (query_growth bytes h) (h.limit - h.reservation)) in
       let root : Option Refusal = over s.trackers (query_growth bytes h - unused (charge_of s) s.trackers 0) 0 in
       let growth : grow_refusal (charge_of s) bytes t s.trackers ≡ or_else own root =
-            refusal_is (charge_of s) s.trackers bytes x.query t (own_low s sound m x is t client)
-            ∙ ap (λ (o : Option Refusal). or_else o (or_else (over s.trackers (bytes - unused (charge_of s) s.trackers x.query) x.query) (or_else (over s.trackers ((bytes - unused (charge_of s) s.trackers x.query) - unused (charge_of s) s.trackers 0) 0) None))) first
-            ∙ ap (λ (o : Option Refusal). or_else (told_over t bytes (client_room t h)) (or_else o (or_else (over s.trackers ((bytes - unused (charge_of s) s.trackers x.query) - unused (charge_of s) s.trackers 0) 0) None))) second
-            ∙ ap (λ (o : Option Refusal). or_else (told_over t bytes (client_room t h)) (or_else (told_over h.query (query_growth bytes h) (h.limit - h.reservation)) o)) (or_none _ ∙ third)
-            ∙ or_assoc (told_over t bytes (client_room t h)) (told_over h.query (query_growth bytes h) (h.limit - h.reservation)) (over s.trackers (query_growth bytes h - unused (charge_of s) s.trackers 0) 0) in
+      refusal_is (charge_of s) s.trackers bytes x.query t (own_low s sound m x is t client)
+      ∙ ap (λ (o : Option Refusal). or_else o (or_else (over s.trackers (bytes - unused (charge_of s) s.trackers x.query) x.query) (or_else (over s.trackers ((bytes - unused (charge_of s) s.trackers x.query) - unused (charge_of s) s.trackers 0) 0) None))) first
+      ∙ ap (λ (o : Option Refusal). or_else (told_over t bytes (client_room t h)) (or_else o (or_else (over s.trackers ((bytes - unused (charge_of s) s.trackers x.query) - unused (charge_of s) s.trackers 0) 0) None))) second
+      ∙ ap (λ (o : Option Refusal). or_else (told_over t bytes (client_room t h)) (or_else (told_over h.query (query_growth bytes h) (h.limit - h.reservation)) o)) (or_none _ ∙ third)
+      ∙ or_assoc (told_over t bytes (client_room t h)) (told_over h.query (query_growth bytes h) (h.limit - h.reservation)) (over s.trackers (query_growth bytes h - unused (charge_of s) s.trackers 0) 0) in
       let call : reserve_refusal t bytes (record h { above = Shared }) ≡ option_map no_reservation own =
-            ap (unless_fits t bytes (client_room t h)) (as_call h.query (query_growth bytes h) (h.limit - h.reservation) None)
-            ∙ as_call t bytes (client_room t h) (or_else (told_over h.query (query_growth bytes h) (h.limit - h.reservation)) None)
-            ∙ ap (λ (o : Option Refusal). option_map no_reservation (or_else (told_over t bytes (client_room t h)) o)) (or_none _) in
+      ap (unless_fits t bytes (client_room t h)) (as_call h.query (query_growth bytes h) (h.limit - h.reservation) None)
+      ∙ as_call t bytes (client_room t h) (or_else (told_over h.query (query_growth bytes h) (h.limit - h.reservation)) None)
+      ∙ ap (λ (o : Option Refusal). option_map no_reservation (or_else (told_over t bytes (client_room t h)) o)) (or_none _) in
       ap (option_map no_reservation) growth ∙ either_as_errors own root ∙ ap (λ (o : Option PoolErr). option_or o (option_map no_reservation root)) (sym call)
 
   move_refused : (from to bytes : ℕ) → IsClientOf s m from → IsClientOf s m to → option_map no_reservation (tree_move_refusal bytes from to s.trackers) ≡ move_refusal from to bytes h

@@ -1,10 +1,10 @@
 -- The root has reserved what its children have, and no more.
-use Rattle.std.proofs.Common.{◌≡◌, ◌≢◌, ℕ, ◌+◌, ◌-◌, ◌≤◌, ◌==◌, List, [], ◌∷◌, ◌++◌, Bool, true, false, Option, Some, None, unwrap_or, refl, sym, ap, ◌∙◌, subst, arith, inl, inr, ◌⊎◌, eq-eqb, ne_eqb}
+use Rattle.std.proofs.Common.{◌≡◌, ◌≢◌, ℕ, ◌+◌, ◌-◌, ◌≤◌, List, [], true, false, Option, Some, None, unwrap_or, refl, sym, ap, ◌∙◌, subst, arith, inl, inr, ne_eqb}
 use Rattle.std.specs.Ordering.{nat_cmp}
 use Rattle.std.specs.FinMap.{get, insert, remove, empty, get-empty}
-use Rattle.reservation_tree.specs.Tracker.{Tracker, Trackers, no_tracker, reservation_of, depth_of, unused, children_of, Fits}
+use Rattle.reservation_tree.specs.Tracker.{Tracker, Trackers, no_tracker, reservation_of, depth_of, unused, children_of}
 use Rattle.reservation_tree.specs.Change.{new_root, grow, shrink, move_to, lacking, raise, lower, set_reservation}
-use Rattle.reservation_tree.proofs.Maps.{get_same, get_other, removed_other, same_or_other, found, is_there}
+use Rattle.reservation_tree.proofs.Maps.{get_same, get_other, removed_other, same_or_other, found}
 use Rattle.reservation_tree.proofs.Shares.{children-new, children-gone, children-none}
 use Rattle.reservation_tree.proofs.Outline.{reservation_is}
 use Rattle.reservation_tree.proofs.Climbs.{no_move}
@@ -13,11 +13,10 @@ use Rattle.pool_model.specs.declared.event.Event.TheVariants.{AddTracker, CloseT
 use Rattle.pool_model.specs.declared.entry.Entry.{Entry}
 use Rattle.pool_model.specs.Bytes.{bytes_of}
 use Rattle.pool_model.specs.State.{Opening, opened, Session, State}
-use Rattle.pool_model.specs.Sums.{charge_of, held_by, pages_for, times_charged, times_held, memory}
+use Rattle.pool_model.specs.Sums.{charge_of, held_by, pages_for, times_charged, times_held}
 use Rattle.pool_model.specs.Owning.{IsClientOf, IsQueryOf, IsTrackerOf}
-use Rattle.pool_model.specs.MayFollow.{Allows, MayFollow}
-use Rattle.pool_model.specs.Effects.{effect, after}
-use Rattle.pool_model.specs.Legal.{state_after, IsLegal}
+use Rattle.pool_model.specs.MayFollow.{Allows}
+use Rattle.pool_model.specs.Effects.{effect}
 use Rattle.pool_model.specs.Sound.{IsQuery, IsSound}
 use Rattle.pool_model.proofs.ByClients.{charges_held, not_client}
 use Rattle.pool_model.proofs.Seats.{some_is, root_depth, IsBelow, is_below}
@@ -25,9 +24,8 @@ use Rattle.pool_model.proofs.Fronts.{holds_after}
 use Rattle.own_entries.specs.LiveParts.{is_parent, is_under}
 use Rattle.own_entries.specs.AboveLaws.{LegalRootIsTight}
 use Rattle.own_entries.proofs.Setting.{under_stays, reservation_here, reservation_there, child_set, other_set}
-use Rattle.own_entries.proofs.Ways.{IsHigh, IsLow, query_growth, root_growth, query_grows, query_falls, client_grows, client_falls, moves_up, moves_down, moves_beside}
+use Rattle.own_entries.proofs.Ways.{IsLow, query_growth, query_grows, query_falls, client_grows, client_falls, moves_up, moves_down, moves_beside}
 use Rattle.own_entries.proofs.Facts.{root_under, not_root, high, low}
-use Rattle.own_entries.proofs.Fitting.{child_within}
 use Rattle.own_entries.proofs.AboveTold.{own_within}
 
 abbrev Tight : Trackers → Type 0
@@ -119,8 +117,7 @@ module _ (s : State) (sound : IsSound s) (tight : reservation_of s.trackers 0 �
     client_apart t client =
         let way : IsLow s.trackers t client.session.query = low s sound maker t client in
         let its : IsQuery s.trackers client.session.query = sound.seated.seats maker client.session client.opened in
-        let deep : depth_of s.trackers t ≡ 2 = way.deep in
-        (
+        let deep : depth_of s.trackers t ≡ 2 = way.deep in (
           λ same. let one : depth_of s.trackers t ≡ depth_of s.trackers 0 = ap (depth_of s.trackers) same in let top : depth_of s.trackers 0 ≡ 0 = way.high.top in omega (arith, one, top, deep),
           ap (is_under 0) client.lives ∙ ap (is_parent 0) client.under ∙ ne_eqb client.session.query 0 (q_apart client.session.query its),
           λ same. let one : depth_of s.trackers t ≡ depth_of s.trackers client.session.query = ap (depth_of s.trackers) same in let high_up : depth_of s.trackers client.session.query ≡ 1 = way.high.deep in omega (arith, one, high_up, deep),

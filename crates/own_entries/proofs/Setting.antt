@@ -1,14 +1,12 @@
 -- What changes where one reservation is set, and what doesn't.
-use Rattle.std.proofs.Common.{◌≡◌, ◌≢◌, ℕ, zero, suc, ◌+◌, ◌-◌, ◌≤◌, ◌<◌, ◌==◌, Bool, true, false, leb, if◌then◌else◌, Option, Some, None, unwrap_or, refl, sym, ap, ◌∙◌, subst, arith, inl, inr, eq-eqb, ne_eqb, le-leb}
-use Rattle.std.proofs.lemmas.Bool.{lt-leb}
-use Rattle.std.specs.FinMap.{get, insert}
+use Rattle.std.proofs.Common.{◌≡◌, ◌≢◌, ℕ, ◌+◌, Bool, true, false, if◌then◌else◌, Option, Some, None, unwrap_or, refl, sym, ap, ◌∙◌, subst, arith, inl, inr}
+use Rattle.std.specs.FinMap.{get}
 use Rattle.reservation_tree.specs.Total.{total, weight_at}
-use Rattle.reservation_tree.specs.Tracker.{Tracker, Trackers, no_tracker, tracker_at, reservation_of, limit_of, depth_of, parent_of, share_of, children_of, unused}
-use Rattle.reservation_tree.specs.Change.{set_reservation, raise, lower, growth_above, grown, grow, fallen, shrink, risen, risen_refusal, move_to, move_refusal, meeting, ancestor_of, levels_below}
+use Rattle.reservation_tree.specs.Tracker.{Tracker, Trackers, no_tracker, tracker_at, reservation_of, limit_of, depth_of, parent_of, share_of, children_of}
+use Rattle.reservation_tree.specs.Change.{set_reservation}
 use Rattle.reservation_tree.proofs.Maps.{get_same, get_other, same_or_other}
 use Rattle.reservation_tree.proofs.Sums.{total-insert}
-use Rattle.reservation_tree.proofs.Climbs.{met}
-use Rattle.reservation_tree.proofs.Shares.{children-insert, share-none}
+use Rattle.reservation_tree.proofs.Shares.{children-insert}
 use Rattle.pool_model.specs.Bytes.{only_if}
 use Rattle.own_entries.specs.LiveParts.{is_parent, is_under, count_under}
 

@@ -1,20 +1,19 @@
 -- One reservation is another, or a tracker grows: what is held is still told.
-use Rattle.std.proofs.Common.{◌≡◌, ◌≢◌, ℕ, ◌+◌, ◌-◌, ◌≤◌, ◌==◌, List, Bool, true, false, if◌then◌else◌, Option, Some, None, unwrap_or, refl, sym, ap, ◌∙◌, subst, arith, inl, inr, eq-eqb, ne_eqb}
-use Rattle.std.specs.FinMap.{get, insert}
-use Rattle.reservation_tree.specs.Tracker.{Tracker, Trackers, no_tracker, tracker_at, reservation_of, limit_of, depth_of, parent_of, children_of, unused}
-use Rattle.reservation_tree.specs.Change.{set_reservation, raise, lower, grow, shrink, move_to}
+use Rattle.std.proofs.Common.{◌≡◌, ◌≢◌, ℕ, ◌+◌, ◌-◌, ◌≤◌, List, Bool, true, false, if◌then◌else◌, Option, Some, None, refl, sym, ap, ◌∙◌, subst, arith, inl, inr}
+use Rattle.std.specs.FinMap.{get}
+use Rattle.reservation_tree.specs.Tracker.{Tracker, Trackers, tracker_at, reservation_of, limit_of, depth_of, children_of, unused}
+use Rattle.reservation_tree.specs.Change.{set_reservation, raise, lower, grow}
 use Rattle.reservation_tree.proofs.Maps.{get_same, get_other, same_or_other}
 use Rattle.reservation_tree.proofs.Outline.{tracker_is, reservation_is}
-use Rattle.reservation_tree.proofs.Climbs.{no_move}
 use Rattle.pool_model.specs.State.{Pages, Buffer, Buffers}
-use Rattle.store_api.specs.Holdings.{Account, LiveLoan, Holdings, Above, put, or_else, no_account, account_of}
-use Rattle.store_api.specs.Changes.{raised, lowered, with_account, after_reserve, after_give_back, after_move_reservation}
+use Rattle.store_api.specs.Holdings.{Account, Holdings, Above, put, or_else, no_account, account_of}
+use Rattle.store_api.specs.Changes.{raised, lowered, after_reserve}
 use Rattle.store_api.proofs.Puts.{put_here, put_there}
-use Rattle.own_entries.specs.OwnHoldings.{query_grown, query_fallen, given_to_query, taken_from_query}
-use Rattle.own_entries.specs.LiveParts.{is_parent, is_under, live_account, live_loan, charge_in, count_under, Tells}
-use Rattle.own_entries.proofs.Views.{at, told_account, account_is, account_same, mine_tracker}
-use Rattle.own_entries.proofs.Setting.{limit_stays, depth_stays, parent_stays, under_stays, count_stays, reservation_here, reservation_there, child_set, other_set}
-use Rattle.own_entries.proofs.Ways.{IsHigh, IsLow, root_growth, query_growth, query_grows, query_falls, client_grows, client_falls, not_query, moves_up, moves_down, moves_beside}
+use Rattle.own_entries.specs.OwnHoldings.{query_grown, given_to_query, taken_from_query}
+use Rattle.own_entries.specs.LiveParts.{is_under, live_account, live_loan, charge_in, count_under, Tells}
+use Rattle.own_entries.proofs.Views.{at, told_account, account_is, mine_tracker}
+use Rattle.own_entries.proofs.Setting.{limit_stays, under_stays, count_stays, reservation_here, reservation_there, child_set, other_set}
+use Rattle.own_entries.proofs.Ways.{IsHigh, IsLow, root_growth, query_growth, query_grows, client_grows, not_query}
 
 pub account_none : (query charge : ℕ) (o : Option Tracker) → is_under query o ≡ false → live_account query charge o ≡ None
 account_none query charge None is = refl
@@ -63,8 +62,18 @@ module _ (left : ℕ → List ℕ) (len : ℕ) (ts : Trackers) (pages : Pages) (
       → reservation ≡ reservation_of ts2 query → room + children_of ts2 query ≡ reservation_of ts2 query → ((c : ℕ) → clients c ≡ live_account query (charge c) (get ts2 c))
       → Tells left len ts2 pages buffers m query quota (record h { clients = clients; reservation = reservation; room = room; above = above })
   retold ts2 clients reservation room above same limit count res sum accounts = record {
-    block_len = told.block_len; session = told.session; tracker = told.tracker; limit = told.limit ∙ sym limit; reservation = res; room = sum; live_clients = told.live_clients ∙ sym count;
-    clients = accounts; live_pages = told.live_pages; loans = λ g. told.loans g ∙ loan_stays query ts ts2 same (get buffers g); free_slots = told.free_slots; slots = told.slots;
+    block_len = told.block_len;
+    session = told.session;
+    tracker = told.tracker;
+    limit = told.limit ∙ sym limit;
+    reservation = res;
+    room = sum;
+    live_clients = told.live_clients ∙ sym count;
+    clients = accounts;
+    live_pages = told.live_pages;
+    loans = λ g. told.loans g ∙ loan_stays query ts ts2 same (get buffers g);
+    free_slots = told.free_slots;
+    slots = told.slots;
   }
 
   -- a tracker that is neither the query's nor a client's

@@ -1,7 +1,7 @@
 -- What is read of accounts, pages and slots where one of them changes.
-use Rattle.std.proofs.Common.{◌≡◌, ◌≢◌, ℕ, ◌+◌, ◌-◌, ◌*◌, ◌≤◌, ◌==◌, List, [], Bool, true, false, if◌then◌else◌, Option, Some, None, IsSome, is_some, refl, sym, ap, ◌∙◌, subst, arith, inl, inr, eq-eqb, ne_eqb}
+use Rattle.std.proofs.Common.{◌≡◌, ◌≢◌, ℕ, ◌+◌, ◌-◌, ◌*◌, ◌≤◌, ◌==◌, List, Bool, true, false, if◌then◌else◌, Option, Some, None, refl, sym, ap, ◌∙◌, subst, arith, inl, inr}
 use Rattle.std.specs.FinMap.{get, insert, remove}
-use Rattle.reservation_tree.specs.Total.{total, weight_at}
+use Rattle.reservation_tree.specs.Total.{weight_at}
 use Rattle.reservation_tree.specs.Tracker.{Tracker, Trackers, reservation_of}
 use Rattle.reservation_tree.proofs.Maps.{get_same, get_other, removed_same, removed_other, same_or_other}
 use Rattle.reservation_tree.proofs.Sums.{total-insert, total-remove}

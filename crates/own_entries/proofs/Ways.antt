@@ -1,18 +1,11 @@
 -- Growths, falls and moves of a session's trackers, written out: a client stands right under its query, and that
 -- right under the root.
-use Rattle.std.proofs.Common.{◌≡◌, ◌≢◌, ℕ, zero, suc, ◌+◌, ◌-◌, ◌≤◌, ◌<◌, ◌==◌, Bool, true, false, leb, if◌then◌else◌, Option, Some, None, unwrap_or, refl, sym, ap, ◌∙◌, subst, arith, inl, inr, eq-eqb, ne_eqb, le-leb}
+use Rattle.std.proofs.Common.{◌≡◌, ◌≢◌, ℕ, suc, ◌+◌, ◌-◌, Bool, leb, if◌then◌else◌, Option, Some, None, refl, sym, ap, ◌∙◌, arith, ne_eqb, le-leb}
 use Rattle.std.proofs.lemmas.Bool.{lt-leb}
-use Rattle.std.specs.FinMap.{get, insert}
-use Rattle.reservation_tree.specs.Total.{total, weight_at}
-use Rattle.reservation_tree.specs.Tracker.{Tracker, Trackers, no_tracker, tracker_at, reservation_of, limit_of, depth_of, parent_of, share_of, children_of, unused}
-use Rattle.reservation_tree.specs.Change.{set_reservation, raise, lower, growth_above, grown, grow, fallen, shrink, risen, risen_refusal, move_to, Refusal, over, or_else, move_refusal, meeting, ancestor_of, levels_below}
-use Rattle.reservation_tree.proofs.Maps.{get_same, get_other, same_or_other}
-use Rattle.reservation_tree.proofs.Sums.{total-insert}
+use Rattle.reservation_tree.specs.Tracker.{Trackers, reservation_of, depth_of, parent_of, unused}
+use Rattle.reservation_tree.specs.Change.{raise, lower, grown, grow, fallen, shrink, risen, risen_refusal, move_to, Refusal, over, or_else, move_refusal, meeting, ancestor_of}
 use Rattle.reservation_tree.proofs.Climbs.{met, ancestor_itself}
-use Rattle.reservation_tree.proofs.Shares.{children-insert, share-none}
-use Rattle.pool_model.specs.Bytes.{only_if}
-use Rattle.own_entries.proofs.Setting.{depth_stays, parent_stays}
-use Rattle.own_entries.specs.LiveParts.{is_parent, is_under, count_under}
+use Rattle.own_entries.proofs.Setting.{parent_stays}
 
 -- a query and the way above it
 pub record IsHigh (ts : Trackers) (q : ℕ) : Type 0 where

@@ -5,13 +5,12 @@ use Rattle.reservation_tree.specs.Tracker.{reservation_of, children_of}
 use Rattle.reservation_tree.specs.Change.{grow_refusal}
 use Rattle.reservation_tree.specs.Answer.{no_reservation}
 use Rattle.pool_model.specs.declared.entry.Entry.{Entry}
-use Rattle.pool_model.specs.State.{Opening, Session, State}
+use Rattle.pool_model.specs.State.{Opening, Session}
 use Rattle.pool_model.specs.Sums.{charge_of, memory}
 use Rattle.pool_model.specs.Legal.{state_after, IsLegal}
 use Rattle.pool_model.specs.PoolLaws.{HoldsAfterAll}
 use Rattle.store_api.specs.Holdings.{Holdings, Room}
 use Rattle.store_api.specs.Refusals.{reserve_refusal}
-use Rattle.own_entries.specs.OwnHoldings.{Outset}
 use Rattle.own_entries.specs.HeldLaws.{own_holdings}
 
 -- what a session holds that has all memory above it when it is opened

@@ -1,12 +1,12 @@
 -- What the entries of a store's calls come to. Statements alone.
-use Rattle.std.specs.Prelude.{◌≡◌, ◌≢◌, ℕ, ◌≤◌, ◌++◌, List, [], ◌∷◌, None, IsSome}
+use Rattle.std.specs.Prelude.{◌≡◌, ℕ, ◌≤◌, ◌++◌, List, [], ◌∷◌, None, IsSome}
 use Rattle.reservation_tree.specs.declared.errors.PoolErr.{PoolErr}
 use Rattle.pool_model.specs.declared.call.Call.{Call}
 use Rattle.pool_model.specs.declared.call.Call.TheVariants.{Pin}
 use Rattle.pool_model.specs.declared.event.Event.{Event}
 use Rattle.pool_model.specs.declared.event.Event.TheVariants.{AddTracker, CloseTracker, Increase, IncreaseToFit, Decrease, MoveReservation, Create, PinAgain, UnpinOnce, Unpin, UnpinRefused, Extract, Destroy, Alloc, Free, MoveBuffer}
 use Rattle.pool_model.specs.declared.entry.Entry.{Entry}
-use Rattle.store_api.specs.Holdings.{Holdings, account_of, page_of, unused_of, page_len, loan_of}
+use Rattle.store_api.specs.Holdings.{Holdings, account_of, page_of, unused_of, page_len}
 use Rattle.store_api.specs.Changes.{after_add_client, after_end_client, after_reserve, shortfall, after_give_back, after_move_reservation, after_create, after_pin, after_pin_again, after_unpin_once, after_unpin, after_extract, after_destroy, after_alloc, after_free, after_move_buffer}
 use Rattle.store_api.specs.Entries.{by, IsAsked, IsTaken, IsPin, IsRefusal}
 use Rattle.own_entries.specs.OwnHoldings.{Outset, after_events, holdings_of}

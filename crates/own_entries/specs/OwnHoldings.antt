@@ -1,6 +1,6 @@
 -- What a session holds, told by the entries that it made itself, the oldest first. Entries of others, and its own
 -- writes and evictions, change none of it.
-use Rattle.std.specs.Prelude.{ℕ, ◌+◌, ◌-◌, List, [], ◌∷◌, Bool, true, false, leb, if◌then◌else◌, Option, Some, None, is_some}
+use Rattle.std.specs.Prelude.{ℕ, ◌+◌, ◌-◌, List, [], ◌∷◌, Bool, true, false, leb, if◌then◌else◌, Some, None, is_some}
 use Rattle.pool_model.specs.declared.event.Event.{Event}
 use Rattle.pool_model.specs.declared.event.Event.TheVariants.{AddTracker, CloseTracker, Increase, IncreaseToFit, Decrease, MoveReservation, Create, PinHere, PinLoad, ReadOk, ReadFailed, PinAgain, UnpinOnce, Unpin, Extract, Destroy, Alloc, Free, MoveBuffer}
 use Rattle.pool_model.specs.declared.entry.Entry.{Entry}
@@ -16,14 +16,32 @@ pub record Outset : Type 0 where
 -- before its session is opened
 abbrev pub none_held : ℕ → ℕ → Outset → Holdings
 none_held block_len session outset = record {
-  block_len = block_len; session = session; query = 0; limit = 0; reservation = 0; room = 0; above = outset.above; live_clients = 0;
-  clients = λ q. None; pages = λ q. None; loans = λ q. None; free_slots = None; told = outset.told;
+  block_len = block_len;
+  session = session;
+  query = 0;
+  limit = 0;
+  reservation = 0;
+  room = 0;
+  above = outset.above;
+  live_clients = 0;
+  clients = λ q. None;
+  pages = λ q. None;
+  loans = λ q. None;
+  free_slots = None;
+  told = outset.told;
 }
 
 abbrev pub opened_with : ℕ → ℕ → ℕ → Holdings → Holdings
 opened_with t limit quota h = record h {
-  query = t; limit = limit; reservation = 0; room = 0; live_clients = 0;
-  clients = λ q. None; pages = λ q. None; loans = λ q. None; free_slots = Some quota;
+  query = t;
+  limit = limit;
+  reservation = 0;
+  room = 0;
+  live_clients = 0;
+  clients = λ q. None;
+  pages = λ q. None;
+  loans = λ q. None;
+  free_slots = Some quota;
 }
 
 -- the query's own tracker grows, or falls
