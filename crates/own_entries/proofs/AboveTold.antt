@@ -1,4 +1,4 @@
--- The room above a query is what it hasn't reserved, and the root reserves no more than its children.
+-- The room above a query is what it hasn't reserved of all memory.
 use Rattle.std.proofs.Common.{◌≡◌, ℕ, ◌+◌, ◌-◌, ◌≤◌, ◌==◌, List, [], ◌∷◌, ◌++◌, Bool, true, false, if◌then◌else◌, Some, None, refl, sym, ap, ◌∙◌, subst, arith, inl, inr}
 use Rattle.std.specs.Ordering.{nat_cmp}
 use Rattle.std.specs.FinMap.{get, get-empty}
@@ -8,6 +8,7 @@ use Rattle.reservation_tree.proofs.Outline.{reservation_is}
 use Rattle.pool_model.specs.declared.event.Event.{Event}
 use Rattle.pool_model.specs.declared.event.Event.TheVariants.{AddTracker, CloseTracker, Increase, IncreaseToFit, Decrease, MoveReservation, UnpinOnce, MoveBuffer}
 use Rattle.pool_model.specs.declared.entry.Entry.{Entry}
+use Rattle.pool_model.specs.Bytes.{bytes_of}
 use Rattle.pool_model.specs.State.{Opening, opened, Session, State}
 use Rattle.pool_model.specs.Sums.{charge_of, memory}
 use Rattle.pool_model.specs.Owning.{IsTrackerOf}
@@ -109,7 +110,7 @@ module _ (len most : ℕ) (shows : Bool) where
   topped_on : (before : List Entry) (s : State) → IsSound s → Topped before s → (e : Entry) → MayFollow before s e → Topped (before ++ e ∷ []) (after s e)
   topped_on before s sound it e may = record {
     held = held_on len alone before s sound it.held e may;
-    all = ap (λ (n : ℕ). Rattle.pool_model.specs.Bytes.bytes_of n (after s e).blocks) (entries_leave_rest s e).block_len ∙ ap (λ (n : ℕ). Rattle.pool_model.specs.Bytes.bytes_of s.block_len n) (entries_leave_rest s e).blocks ∙ it.all;
+    all = ap (λ (n : ℕ). bytes_of n (after s e).blocks) (entries_leave_rest s e).block_len ∙ ap (λ (n : ℕ). bytes_of s.block_len n) (entries_leave_rest s e).blocks ∙ it.all;
     tops = λ m y there. elim (same_or_other e.maker m) [
       | inr other ↦
           let was : Was s m y = was_open before s e.maker e.event may.allows m y there (inr other) in
@@ -144,7 +145,7 @@ memory_stays : (o : Opening) (h : List Entry) → IsLegal o h → memory (state_
 memory_stays o h legal =
     let same : SameMemory (opened o) (state_after o h) = holds_after (λ before s. SameMemory (opened o) s)
     (λ before s sound same e may. record { len = (entries_leave_rest s e).block_len ∙ same.len; blocks = (entries_leave_rest s e).blocks ∙ same.blocks }) o (record { len = refl; blocks = refl }) h legal in
-    ap (λ (n : ℕ). Rattle.pool_model.specs.Bytes.bytes_of n (state_after o h).blocks) same.len ∙ ap (λ (n : ℕ). Rattle.pool_model.specs.Bytes.bytes_of o.block_len n) same.blocks
+    ap (λ (n : ℕ). bytes_of n (state_after o h).blocks) same.len ∙ ap (λ (n : ℕ). bytes_of o.block_len n) same.blocks
 
 pub legal_above_is_told : LegalAboveIsTold
 legal_above_is_told o told h legal m x is =

@@ -1,5 +1,5 @@
 -- Each event of the session itself changes what is held by one step.
-use Rattle.std.proofs.Common.{◌≡◌, ℕ, ◌+◌, ◌-◌, ◌≤◌, ◌<◌, List, Bool, true, false, if◌then◌else◌, Option, Some, None, is_some, unwrap_or, refl, sym, ap, ◌∙◌, subst, arith, inl, inr, ◌⊎◌, eq-eqb, ne_eqb}
+use Rattle.std.proofs.Common.{◌≡◌, ℕ, ◌+◌, ◌-◌, ◌≤◌, ◌<◌, List, Bool, true, false, if◌then◌else◌, Option, Some, None, is_some, option_map, unwrap_or, refl, sym, ap, ◌∙◌, subst, arith, inl, inr, ◌⊎◌, eq-eqb, ne_eqb}
 use Rattle.std.specs.FinMap.{get, insert, remove}
 use Rattle.reservation_tree.specs.Tracker.{Trackers, reservation_of, children_of, unused}
 use Rattle.reservation_tree.specs.Change.{grow, shrink, move_to, lacking}
@@ -148,7 +148,7 @@ module _ (left : ℕ → List ℕ) (before : List Entry) (s : State) (sound : Is
     unpins : (content : List ℕ) → y.place ≡ Pinned 1 → (y.has_slots ≡ true) ⊎ (y.blocks ≤ free_slots s m)
         → Tells (λ q. left_in q (Unpin p content) (left q)) s.block_len s.trackers (insert s.pages p (record y { place = Dirty; has_slots = true })) s.buffers m x.query x.quota (step (Unpin p content) h)
     unpins content pinned slots =
-        let quota_is : free_slots s m ≡ x.quota - slots_of s.pages m = ap (λ (o : Option Session). unwrap_or (Rattle.std.specs.Prelude.option_map (λ (z : Session). z.quota) o) 0 - slots_of s.pages m) is in
+        let quota_is : free_slots s m ≡ x.quota - slots_of s.pages m = ap (λ (o : Option Session). unwrap_or (option_map (λ (z : Session). z.quota) o) 0 - slots_of s.pages m) is in
         unpinned left s.block_len s.trackers s.pages s.buffers m x.query x.quota h told p y there its page_under (fits s sound y.client) content (λ q. left_in q (Unpin p content) (left q))
         (ap (λ (b : Bool). if b then content else left p) (eq-eqb p p refl)) (λ q apart. ap (λ (b : Bool). if b then content else left q) (ne_eqb p q (λ same. apart (sym same))))
         (elim slots [ inl has ↦ inl has | inr few ↦ inr (subst (λ (n : ℕ). y.blocks ≤ n) quota_is few) ]) pinned

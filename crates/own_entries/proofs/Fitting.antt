@@ -14,6 +14,7 @@ use Rattle.pool_model.specs.Sound.{IsQuery, IsSound}
 use Rattle.pool_model.specs.LookingBack.{content_from}
 use Rattle.pool_model.proofs.Kept.{legal_sound}
 use Rattle.store_api.specs.Holdings.{Account, Holdings, or_else, no_account, account_of}
+use Rattle.store_api.specs.Conditions.{FitsAccount}
 use Rattle.own_entries.specs.LiveParts.{is_parent, live_account, charge_in, Tells}
 use Rattle.own_entries.specs.FitLaws.{FitsHeld, LegalHoldingsFit}
 use Rattle.own_entries.specs.HeldLaws.{own_holdings}
@@ -55,7 +56,7 @@ module _ (left : ℕ → List ℕ) (s : State) (sound : IsSound s) (m : ℕ) (x 
             let bound : limit_of s.trackers c ≡ y.limit = limit_is s.trackers c y client.lives in
             let same : client.session.query ≡ x.query = ap (λ (o : Option Session). elim o [ None ↦ x.query | Some z ↦ z.query ]) (sym client.opened ∙ is) in
             let part : y.reservation ≤ children_of s.trackers x.query = child_within s.trackers c x.query y client.lives (client.under ∙ ap Some same) in
-            subst (λ (a : Account). Rattle.store_api.specs.Conditions.FitsAccount a h) (sym account) (record {
+            subst (λ (a : Account). FitsAccount a h) (sym account) (record {
               unused = omega arith;
               reservation = omega (arith, has, bound, its_fit.below);
               query = omega (arith, part, room, res);

@@ -1,6 +1,7 @@
 -- A page of anybody changes its place, and a page of others goes: what is held is still told.
 use Rattle.std.proofs.Common.{◌≡◌, ◌≢◌, ℕ, ◌+◌, ◌-◌, ◌*◌, ◌≤◌, ◌==◌, List, Bool, true, false, if◌then◌else◌, Option, Some, None, refl, sym, ap, ◌∙◌, subst, arith, inl, inr, ne_eqb}
-use Rattle.std.specs.FinMap.{get, insert, remove}
+use Rattle.std.specs.FinMap.{FinMap, get, insert, remove}
+use Rattle.std.specs.Ordering.{nat_cmp}
 use Rattle.reservation_tree.specs.Tracker.{Trackers}
 use Rattle.reservation_tree.proofs.Maps.{get_same, get_other, same_or_other, alike}
 use Rattle.pool_model.specs.Bytes.{bytes_of, only_if}
@@ -13,7 +14,7 @@ use Rattle.own_entries.specs.LiveParts.{is_under, live_account, live_page, left_
 use Rattle.own_entries.proofs.Views.{accounts_same, pages_alike, pages_lost, slots_at, slots_put, slots_gone}
 
 module _ {X : Type 0} where
-  pub insert_again : (m : Rattle.std.specs.FinMap.FinMap Rattle.std.specs.Ordering.nat_cmp X) (k : ℕ) (v w : X) → insert (insert m k v) k w ≡ insert m k w
+  pub insert_again : (m : FinMap nat_cmp X) (k : ℕ) (v w : X) → insert (insert m k v) k w ≡ insert m k w
   insert_again m k v w = alike _ _ (λ q. elim (same_or_other q k) [
     | inl here ↦ subst (λ (r : ℕ). get (insert (insert m k v) k w) r ≡ get (insert m k w) r) (sym here) (get_same (insert m k v) k w ∙ sym (get_same m k w))
     | inr apart ↦ get_other (insert m k v) k w q apart ∙ get_other m k v q apart ∙ sym (get_other m k w q apart)

@@ -1,7 +1,7 @@
--- A pool refuses a growth where what the session holds says so.
+-- A pool refuses growths, moves and unpins where what the session holds says so.
 use Rattle.std.proofs.Common.{◌≡◌, ℕ, suc, ◌-◌, leb, List, Bool, true, false, if◌then◌else◌, Option, Some, None, IsSome, [], ◌↔◌, option_map, unwrap_or, refl, sym, ap, ◌∙◌, subst, inl, inr, eq-eqb, ne_eqb}
 use Rattle.std.specs.FinMap.{get}
-use Rattle.reservation_tree.specs.Tracker.{Tracker, Trackers, unused, reservation_of, limit_of, children_of}
+use Rattle.reservation_tree.specs.Tracker.{parent_of, Trackers, unused, reservation_of}
 use Rattle.reservation_tree.specs.Tracker.{room_of as tree_room}
 use Rattle.std.specs.Option.{option_or}
 use Rattle.reservation_tree.specs.declared.errors.PoolErr.{PoolErr}
@@ -40,7 +40,7 @@ refusal_is : (charge : ℕ → ℕ) (ts : Trackers) (n q t : ℕ) → IsLow ts t
 unfolding grow_refusal
 refusal_is charge ts n q t low =
     ap (λ (d : ℕ). grown_refusal charge ts (suc d) n t) low.deep
-    ∙ ap (λ (p : ℕ). or_else (over ts n t) (or_else (over ts (n - unused charge ts p) p) (or_else (over ts ((n - unused charge ts p) - unused charge ts (Rattle.reservation_tree.specs.Tracker.parent_of ts p)) (Rattle.reservation_tree.specs.Tracker.parent_of ts p)) None))) low.up
+    ∙ ap (λ (p : ℕ). or_else (over ts n t) (or_else (over ts (n - unused charge ts p) p) (or_else (over ts ((n - unused charge ts p) - unused charge ts (parent_of ts p)) (parent_of ts p)) None))) low.up
     ∙ ap (λ (r : ℕ). or_else (over ts n t) (or_else (over ts (n - unused charge ts q) q) (or_else (over ts ((n - unused charge ts q) - unused charge ts r) r) None))) low.high.up
 
 or_assoc : (a b c : Option Refusal) → or_else a (or_else b c) ≡ or_else (or_else a b) c
