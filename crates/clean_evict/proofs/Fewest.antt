@@ -83,7 +83,7 @@ module _ {S : Type 0} where
       omega (arith, most, many)
 
   -- one page fewer does not cover
-  fewest-short : (wanted : ℕ) (arena : Supply) (pages : Pages (Entry S)) (keys : List ℕ) (k : ℕ) → k < fewest wanted arena pages keys → room_with arena pages keys k < wanted
+  pub fewest-short : (wanted : ℕ) (arena : Supply) (pages : Pages (Entry S)) (keys : List ℕ) (k : ℕ) → k < fewest wanted arena pages keys → room_with arena pages keys k < wanted
   unfolding fewest
   fewest-short wanted arena pages keys k less =
       let counts = range_with_len 0 (length keys) in

@@ -1,0 +1,94 @@
+//! What a page takes along when its bytes are stored or loaded outside the pool's value.
+ghost use Rattle.std.specs.Prelude.{◌≡◌, true};
+ghost use Rattle.page_table.specs.declared.entry.Place.TheVariants as spot;
+ghost use Rattle.page_table.specs.Pages.{IsLive, with_entry};
+ghost use Rattle.pin_core.specs.Changes.{entry_in};
+ghost use Rattle.pin_core.specs.Invariant.{IsKeptOf};
+ghost use Rattle.pin_core.specs.Keeping.{row_in};
+ghost use Rattle.pin_core.specs.Flights.{buffer_in, flying, is_held_mem, job_of, put_back};
+
+use crate::kept::Kept;
+use block_arena::Buf;
+use page_table::{Entry, Mem, PageId, PageTable, Place};
+use scratch_dev::SlotRow;
+use std::mem;
+
+/// A page that is written: its buffer, its slots, and who writes it.
+pub struct WriteJob<D> {
+    pub(crate) id: PageId,
+    pub(crate) who: u32,
+    pub(crate) client: u32,
+    pub(crate) buf: Buf,
+    pub(crate) row: SlotRow<D>,
+    /// Whether a store failed.
+    pub(crate) failed: bool,
+}
+
+/// A page that is loaded: its buffer, and its slots.
+pub struct ReadJob<D> {
+    pub(crate) id: PageId,
+    pub(crate) client: u32,
+    pub(crate) buf: Buf,
+    pub(crate) row: SlotRow<D>,
+    /// Whether a load failed.
+    pub(crate) failed: bool,
+}
+
+// A dirty page goes out with its buffer and its slots.
+#[inline]
+fn fly<D: Drop>(entry: &mut Entry<Kept<D>>, who: u32) -> (Buf, SlotRow<D>)
+    requires held { is_held_mem entry.old.mem ≡ true }
+    requires slots { IsKeptOf entry.old.blocks spot.Dirty entry.old.scratch }
+    ensures entry { entry.new ≡ flying who entry.old }
+    ensures buffer { result.0 ≡ buffer_in entry.old.mem }
+    ensures row { result.1 ≡ row_in entry.old.scratch }
+{
+    entry.place = Place::Flying(who);
+    let Mem::Held(buf) = mem::replace(&mut entry.mem, Mem::Out) else {
+        unreachable!()
+    };
+    let Kept::Held(row) = mem::replace(&mut entry.scratch, Kept::Out) else {
+        unreachable!()
+    };
+    (buf, row)
+}
+
+// The same of the page in the table.
+pub(crate) fn fly_at<D: Drop>(pages: &mut PageTable<Kept<D>>, id: PageId, who: u32) -> WriteJob<D>
+    requires live { IsLive pages.old id }
+    requires held { is_held_mem (entry_in pages.old id.name).mem ≡ true }
+    requires slots { IsKeptOf (entry_in pages.old id.name).blocks spot.Dirty (entry_in pages.old id.name).scratch }
+    ensures pages { pages.new ≡ with_entry pages.old id (flying who (entry_in pages.old id.name)) }
+    ensures job { result ≡ job_of who id (entry_in pages.old id.name) }
+{
+    let entry = pages.entry_mut(id);
+    let client = entry.client;
+    let (buf, row) = fly(entry, who);
+    WriteJob {
+        id,
+        who,
+        client,
+        buf,
+        row,
+        failed: false,
+    }
+}
+
+// A page comes back to this place with what it keeps in memory, and with its slots. Whose session's it is.
+pub(crate) fn put_at<D: Drop>(
+    pages: &mut PageTable<Kept<D>>,
+    id: PageId,
+    place: Place,
+    mem: Mem,
+    row: SlotRow<D>,
+) -> u32
+    requires live { IsLive pages.old id }
+    ensures pages { pages.new ≡ with_entry pages.old id (put_back place mem row (entry_in pages.old id.name)) }
+    ensures session { result ≡ (entry_in pages.old id.name).session }
+{
+    let entry = pages.entry_mut(id);
+    entry.place = place;
+    entry.mem = mem;
+    entry.scratch = Kept::Held(row);
+    entry.session
+}

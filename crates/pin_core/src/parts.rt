@@ -1,0 +1,46 @@
+//! All that a pool has.
+ghost use Rattle.std.specs.Prelude.{◌≡◌};
+
+use crate::kept::Kept;
+use block_arena::Arena;
+use buffer_transfer::BufferBook;
+use clean_evict::CleanList;
+use client_lists::ClientLists;
+use page_table::PageTable;
+use reservation_tree::Tree;
+use scratch_dev::SlotPool;
+use session_table::SessionTable;
+
+/// All that a pool has: its trackers, its pages and where they stand, its blocks and slots, its buffers, its
+/// sessions, and how many entries its history has, up to the greatest u64.
+#[derive(Drop)]
+pub struct Parts<D> {
+    pub(crate) block_len: u32,
+    pub(crate) tree: Tree,
+    pub(crate) pages: PageTable<Kept<D>>,
+    pub(crate) lists: ClientLists,
+    pub(crate) clean: CleanList,
+    pub(crate) arena: Arena,
+    pub(crate) slots: SlotPool<D>,
+    pub(crate) buffers: BufferBook,
+    pub(crate) seats: SessionTable,
+    pub(crate) entries: u64,
+}
+
+impl<D> Parts<D> {
+    ghost use Rattle.pin_core.specs.Lawful.{Lawful};
+
+    // What each part keeps by itself.
+    #[inline]
+    pub(crate) fn laws(&self)
+        ensures { Lawful self.now }
+    {
+        self.pages.law_proper();
+        self.tree.law_fits();
+        self.clean.law_distinct();
+        self.slots.law_counted();
+        self.lists.law_whole();
+        self.buffers.law_proper();
+        self.seats.law_proper();
+    }
+}

@@ -1,0 +1,46 @@
+//! The value of a pool.
+ghost use Rattle.std.specs.Prelude.{◌≡◌};
+ghost use Rattle.pin_core.specs.Needs.{id_in};
+
+use crate::parts::Parts;
+use page_table::PageId;
+use std::marker::Model;
+use store_api::Page;
+
+/// The value of a pool: its parts, and room for the names of the pages that one call evicts.
+#[derive(Drop)]
+pub struct PoolState<D> {
+    pub(crate) parts: Parts<D>,
+    pub(crate) evicted: Vec<u64>,
+}
+
+impl<D> Model for PoolState<D> {
+    ghost use Rattle.pin_core.specs.declared.parts.Parts.{Parts as All};
+    ghost use Rattle.std.specs.Coded.{codes};
+    ghost use Rattle.reservation_tree.specs.Tree.{state_code};
+    ghost use Rattle.page_table.specs.Pages.{pages_code};
+    ghost use Rattle.buffer_transfer.specs.Buffers.{book_code};
+    ghost use Rattle.pin_core.specs.Codes.{seats_code};
+
+    ghost Value = { All D };
+
+    ghost coded = { Prim.hlevel (codes, state_code, pages_code, book_code, seats_code, D.code) };
+
+    ghost use Rattle.std.specs.Prelude.{◌≤◌, vec_capacity};
+    ghost use Rattle.pin_core.specs.Invariant.{IsKept};
+
+    ghost view = { λ s. s.parts };
+
+    ghost invariant = { λ s. IsKept s.parts × (256 ≤ vec_capacity s.evicted) };
+}
+
+// The page by its name and key.
+#[inline]
+pub(crate) fn id_of(p: &Page) -> PageId
+    ensures { result ≡ id_in p.now }
+{
+    PageId {
+        name: p.name(),
+        key: p.key(),
+    }
+}
