@@ -1,7 +1,11 @@
--- A partial row says what its row says.
-use Rattle.std.proofs.Common.{◌≡◌, ◌≢◌, ℕ, zero, suc, ◌+◌, ◌<◌, ◌≤◌, ◌^◌, List, [], ◌∷◌, ◌++◌, length, map, take, drop, Option, Some, None, refl, ap, ap₂, sym, ◌∙◌, subst, arith}
-use Rattle.std.specs.Prelude.{All, flat_map, filter_map, slice_get, ℤ}
+-- A partial row is read back, and a key tells its values.
+use Rattle.std.proofs.Common.{◌≡◌, ◌≢◌, ℕ, zero, suc, ◌+◌, ◌<◌, ◌≤◌, ◌^◌, List, [], ◌∷◌, ◌++◌, length, map, take, drop, Option, Some, None, refl, ap, ap₂, sym, ◌∙◌, subst, arith, append_assoc, length-append}
+use Rattle.std.specs.Prelude.{All, flat_map, filter_map, slice_get, ℤ, FitsSigned}
 use Rattle.std.specs.List.{cons_option}
+use Rattle.std.specs.Int.{w32, w64, to_be_bytes, from_be_bytes, cast_unsigned, cast_signed}
+use Rattle.std.proofs.Math.Facts.{Fits-of_z}
+use Rattle.std.proofs.lemmas.Int.{to_z-of_z}
+use Rattle.std.proofs.lemmas.Nat.{from_be_bytes-to_be_bytes_4, from_be_bytes-to_be_bytes_8}
 use Rattle.std.proofs.Math.Seq.{take-append_seam, drop-append_seam}
 use Rattle.std.proofs.lemmas.List.Elements.{All-head, All-tail}
 use Rattle.std.proofs.lemmas.Option.{same_Some}
@@ -15,7 +19,7 @@ use Rattle.row_codec.specs.RowBytes.{field_bytes, key_bytes, key_part, values_in
 use Rattle.group_rows.specs.Aggregates.{number_of, own}
 use Rattle.group_rows.specs.Bounds.{partial_row}
 use Rattle.group_rows.specs.Partials.{Partial, Shape, partial_of}
-use Rattle.group_rows.specs.Rows.{HasKeys, partial_in}
+use Rattle.group_rows.specs.Rows.{HasKeys, IsKeyValue, partial_in}
 
 one_there : (row : List Value) (c : ℕ) (vs : List Value) (n : ℕ) → c < length row → length vs ≡ n → length (cons_option (slice_get row c) vs) ≡ suc n
 one_there [] c vs n inside long = absurd (omega (arith, inside))
@@ -39,3 +43,56 @@ reads_back shape row has =
     ap (λ (n : ℕ). (record { key = flat_map key_part (take n (partial_row shape row)); numbers = map number_of (drop n (partial_row shape row)) })) (sym long)
     ∙ ap₂ (λ (a b : List Value). (record { key = flat_map key_part a; numbers = map number_of b })) (take-append_seam vs wides) (drop-append_seam vs wides)
     ∙ ap (λ (ns : List ℤ). (record { key = flat_map key_part vs; numbers = ns })) (numbers_back shape.aggs row)
+
+-- bytes of one length in front of others are told from them
+front_same : (a b behind rest : List ℕ) → length a ≡ length b → a ++ behind ≡ b ++ rest → (a ≡ b) × (behind ≡ rest)
+front_same a b behind rest long same =
+    let first : a ≡ b = sym (take-append_seam a behind) ∙ ap₂ (λ (n : ℕ) (bytes : List ℕ). take n bytes) long same ∙ take-append_seam b rest in
+    let second : behind ≡ rest = sym (drop-append_seam a behind) ∙ ap₂ (λ (n : ℕ) (bytes : List ℕ). drop n bytes) long same ∙ drop-append_seam b rest in
+    (first, second)
+
+int_tells : (x y : ℤ) (behind rest : List ℕ) → FitsSigned w64 x → FitsSigned w64 y → field_bytes (Int x) ++ behind ≡ field_bytes (Int y) ++ rest → (Int x ≡ Int y) × (behind ≡ rest)
+int_tells x y behind rest a b same =
+    let both = front_same (to_be_bytes w64 (cast_unsigned w64 x)) (to_be_bytes w64 (cast_unsigned w64 y)) behind rest refl same in
+    let numbers : cast_unsigned w64 x ≡ cast_unsigned w64 y =
+    sym (from_be_bytes-to_be_bytes_8 (cast_unsigned w64 x) (Fits-of_z a).fits) ∙ ap (from_be_bytes w64) both.0 ∙ from_be_bytes-to_be_bytes_8 (cast_unsigned w64 y) (Fits-of_z b).fits in
+    let ints : x ≡ y = sym (to_z-of_z w64 x a) ∙ ap (cast_signed w64) numbers ∙ to_z-of_z w64 y b in
+    (ap (λ (z : ℤ). Int z) ints, both.1)
+
+text_tells : (t u behind rest : List ℕ) → length t < 2 ^ 32 → length u < 2 ^ 32 → field_bytes (Text t) ++ behind ≡ field_bytes (Text u) ++ rest → (Text t ≡ Text u) × (behind ≡ rest)
+text_tells t u behind rest a b same =
+    let heads : List ℕ × List ℕ = (to_be_bytes w32 (length t), to_be_bytes w32 (length u)) in
+    let outer = front_same heads.0 heads.1 (t ++ behind) (u ++ rest) refl (sym (append_assoc heads.0 t behind) ∙ same ∙ append_assoc heads.1 u rest) in
+    let long : length t ≡ length u = sym (from_be_bytes-to_be_bytes_4 (length t) a) ∙ ap (from_be_bytes w32) outer.0 ∙ from_be_bytes-to_be_bytes_4 (length u) b in
+    let inner = front_same t u behind rest long outer.1 in
+    (ap (λ (text : List ℕ). Text text) inner.0, inner.1)
+
+text_short : (t : List ℕ) → length (field_bytes (Text t)) < 2 ^ 32 → length t < 2 ^ 32
+text_short t short = omega (arith, short, length-append (to_be_bytes w32 (length t)) t)
+
+join_both : (v w : Value) (vs ws : List Value) → (flat_map key_part vs ≡ flat_map key_part ws → vs ≡ ws) → (v ≡ w) × (flat_map key_part vs ≡ flat_map key_part ws) → v ∷ vs ≡ w ∷ ws
+join_both v w vs ws rest both = ap₂ (λ (x : Value) (xs : List Value). x ∷ xs) both.0 (rest both.1)
+
+part_tells : (v w : Value) (vs ws : List Value) → IsKeyValue v → IsKeyValue w → (flat_map key_part vs ≡ flat_map key_part ws → vs ≡ ws) → key_part v ++ flat_map key_part vs ≡ key_part w ++ flat_map key_part ws → v ∷ vs ≡ w ∷ ws
+part_tells (Wide z) w vs ws a b rest same = absurd (a.narrow refl)
+part_tells v (Wide z) vs ws a b rest same = absurd (b.narrow refl)
+part_tells (Int x) (Text t) vs ws a b rest same = absurd cc
+part_tells (Text t) (Int x) vs ws a b rest same = absurd cc
+part_tells (Int x) (Int y) vs ws a b rest same =
+    let behind : field_bytes (Int x) ++ flat_map key_part vs ≡ field_bytes (Int y) ++ flat_map key_part ws = cc in
+    join_both (Int x) (Int y) vs ws rest (int_tells x y (flat_map key_part vs) (flat_map key_part ws) a.good b.good behind)
+part_tells (Text t) (Text u) vs ws a b rest same =
+    let behind : field_bytes (Text t) ++ flat_map key_part vs ≡ field_bytes (Text u) ++ flat_map key_part ws = cc in
+    join_both (Text t) (Text u) vs ws rest (text_tells t u (flat_map key_part vs) (flat_map key_part ws) (text_short t a.short) (text_short u b.short) behind)
+
+first_part : (v : Value) (more : List ℕ) → IsKeyValue v → key_part v ++ more ≡ [] → ⊥
+first_part (Int z) more a e = cc
+first_part (Text t) more a e = cc
+first_part (Wide z) more a e = a.narrow refl
+
+pub key_tells : (vs ws : List Value) → All IsKeyValue vs → All IsKeyValue ws → flat_map key_part vs ≡ flat_map key_part ws → vs ≡ ws
+key_tells [] [] a b same = refl
+key_tells [] (w ∷ ws) a b same = absurd (first_part w (flat_map key_part ws) (All-head IsKeyValue w ws b) (sym same))
+key_tells (v ∷ vs) [] a b same = absurd (first_part v (flat_map key_part vs) (All-head IsKeyValue v vs a) same)
+key_tells (v ∷ vs) (w ∷ ws) a b same =
+    part_tells v w vs ws (All-head IsKeyValue v vs a) (All-head IsKeyValue w ws b) (key_tells vs ws (All-tail IsKeyValue v vs a) (All-tail IsKeyValue w ws b)) same

@@ -16,11 +16,13 @@ use Rattle.group_rows.specs.Aggregates.{aggregate}
 use Rattle.group_rows.specs.Keyed.{one_of, with_key}
 use Rattle.group_rows.specs.Laws.{AreValues, IsKeyOrder}
 use Rattle.group_rows.specs.Partials.{Partial, Shape, combine, combined_by, group_in, groups_by, key_of, partial_of}
-use Rattle.group_rows.specs.Says.{GoesOn, Say}
+use Rattle.group_rows.specs.Rows.{IsKeyValue, group_row, key_values}
+use Rattle.group_rows.specs.Says.{GoesOn, HaveKeyValues, Say}
 use Rattle.group_rows.proofs.Combining.{in_parts}
 use Rattle.group_rows.proofs.Giving.{gives}
 use Rattle.group_rows.proofs.Joining.{combines}
 use Rattle.group_rows.proofs.Keys.{true_same}
+use Rattle.group_rows.proofs.RowsBack.{key_tells}
 use Rattle.group_rows.proofs.Tables.{any_order, into_entry}
 
 module _ (order : List ℕ → List ℕ → Ordering) (is_order : IsKeyOrder order) (shape : Shape) where
@@ -52,3 +54,25 @@ module _ (order : List ℕ → List ℕ → Ordering) (is_order : IsKeyOrder ord
     moved = λ fed old new same says. any_order order is_order shape old new same ∙ says;
     joined = λ fed some others says. parts some others ∙ says;
   }
+
+first_values : (shape : Shape) (values : List Value) (rows : List (List Value)) → All (λ row. All IsKeyValue (values_in shape.keys row)) rows → All (λ row. key_bytes shape.keys row ≡ flat_map key_part values) rows → All IsKeyValue values → 0 < length rows
+    → values ≡ key_values shape rows
+unfolding key_bytes
+first_values shape values [] good keys are some = absurd (omega (arith, some))
+first_values shape values (row ∷ rows) good keys are some =
+    key_tells values (values_in shape.keys row) are (All-head (λ row. All IsKeyValue (values_in shape.keys row)) row rows good)
+    (sym (All-head (λ row. key_bytes shape.keys row ≡ flat_map key_part values) row rows keys))
+
+map_twice : (f : Agg → ℤ) (aggs : List Agg) → map Wide (map f aggs) ≡ map (λ agg. Wide (f agg)) aggs
+map_twice f [] = refl
+map_twice f (agg ∷ aggs) = ap (λ (vs : List Value). Wide (f agg) ∷ vs) (map_twice f aggs)
+
+pub emits : (shape : Shape) (rows : List (List Value)) (values : List Value) → HaveKeyValues shape rows → All IsKeyValue values
+    → 0 < length (with_key (key_bytes shape.keys) (flat_map key_part values) rows)
+    → values ++ map Wide (group_in shape rows (flat_map key_part values)).numbers ≡ group_row shape rows (flat_map key_part values)
+emits shape rows values good are some =
+    let q : List ℕ = flat_map key_part values in
+    ap₂ (λ (a b : List Value). a ++ b)
+    (first_values shape values (with_key (key_bytes shape.keys) q rows) (All-filter (λ r. bytes_eq q (key_bytes shape.keys r)) (λ row. All IsKeyValue (values_in shape.keys row)) rows good)
+    (λ k d inside. sym (true_same q _ (filter_passes (λ r. bytes_eq q (key_bytes shape.keys r)) rows k d inside))) are some)
+    (map_twice (λ agg. aggregate agg (with_key (key_bytes shape.keys) q rows)) shape.aggs)

@@ -30,3 +30,18 @@ pub record IsKeyValue (v : Value) : Type 0 where
   pub good : IsValue v
   pub narrow : kind_of v ≢ kind.Wide
   pub short : length (field_bytes v) < 2 ^ 32
+
+-- values of one key are the same values
+abbrev pub KeyTellsValues : Type 0
+KeyTellsValues = (vs ws : List Value) → All IsKeyValue vs → All IsKeyValue ws → flat_map key_part vs ≡ flat_map key_part ws → vs ≡ ws
+
+-- the key's values in the first of these rows
+abbrev pub key_values : Shape → List (List Value) → List Value
+key_values shape [] = []
+key_values shape (row ∷ rows) = values_in shape.keys row
+
+-- the row of a group
+abbrev pub group_row : Shape → List (List Value) → List ℕ → List Value
+group_row shape rows q =
+    key_values shape (with_key (key_bytes shape.keys) q rows)
+    ++ map (λ agg. Wide (aggregate agg (with_key (key_bytes shape.keys) q rows))) shape.aggs

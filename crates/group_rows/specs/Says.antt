@@ -10,7 +10,7 @@ use Rattle.row_codec.specs.RowBytes.{key_bytes, key_part, values_in}
 use Rattle.group_rows.specs.Keyed.{with_key}
 use Rattle.group_rows.specs.Laws.{AreValues, IsKeyOrder}
 use Rattle.group_rows.specs.Partials.{Partial, Shape, combine, combined_by, group_in, groups_by, partial_of}
-use Rattle.group_rows.specs.Rows.{IsKeyValue}
+use Rattle.group_rows.specs.Rows.{IsKeyValue, group_row}
 
 -- combined, they are the groups of these rows
 abbrev pub Say : (List ℕ → List ℕ → Ordering) → Shape → List (List Value) → List Partial → Type 0
@@ -29,3 +29,14 @@ pub record GoesOn (order : List ℕ → List ℕ → Ordering) (shape : Shape) :
 
 abbrev pub SayThroughout : Type 0
 SayThroughout = (order : List ℕ → List ℕ → Ordering) → IsKeyOrder order → (shape : Shape) → GoesOn order shape
+
+-- the key values of a row are values that a key may have
+abbrev pub HaveKeyValues : Shape → List (List Value) → Type 0
+HaveKeyValues shape rows = All (λ row. All IsKeyValue (values_in shape.keys row)) rows
+
+-- key values that spell the key of some rows, with the numbers of their group, are the group's row
+abbrev pub EmitsGroupRow : Type 0
+EmitsGroupRow =
+    (shape : Shape) (rows : List (List Value)) (values : List Value) → HaveKeyValues shape rows → All IsKeyValue values
+    → 0 < length (with_key (key_bytes shape.keys) (flat_map key_part values) rows)
+    → values ++ map Wide (group_in shape rows (flat_map key_part values)).numbers ≡ group_row shape rows (flat_map key_part values)

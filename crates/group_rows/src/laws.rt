@@ -12,8 +12,8 @@ ghost use Rattle.group_rows.specs.Laws.{
   InAnyParts,
 };
 ghost use Rattle.group_rows.specs.Ordered.{FirstSuffice, LongByKey, OrderedAreGroups, PutsInOrder};
-ghost use Rattle.group_rows.specs.Rows.{ReadsBack};
-ghost use Rattle.group_rows.specs.Says.{SayThroughout};
+ghost use Rattle.group_rows.specs.Rows.{KeyTellsValues, ReadsBack};
+ghost use Rattle.group_rows.specs.Says.{EmitsGroupRow, SayThroughout};
 ghost use Rattle.group_rows.specs.Splitting.{OnePath, PartsByCut, PartsByPath, PathGrows};
 
 /// The rows' own partial results, combined, are the groups.
@@ -58,9 +58,10 @@ pub fn law_weight()
     ensures law { WeighsEnough }
 {}
 
-/// A row's partial row says what the row says.
+/// A partial row is read back, and a key tells its values.
 pub fn law_rows_back()
     ensures back { ReadsBack }
+    ensures values { KeyTellsValues }
 {}
 
 /// What combining keeps.
@@ -74,6 +75,7 @@ pub fn law_kept()
 /// What is in a table and in streams goes on saying what was fed, up to the groups' rows.
 pub fn law_says()
     ensures throughout { SayThroughout }
+    ensures emits { EmitsGroupRow }
 {}
 
 /// Partial results that no rows are named for are gathered number by number.

@@ -1,5 +1,8 @@
-use Rattle.group_rows.proofs.RowsBack.{reads_back}
+use Rattle.group_rows.proofs.RowsBack.{key_tells, reads_back}
 use Rattle.group_rows.proofs.laws.law_rows_back.Goals as goal
 
-pub returns : goal.returns
-returns c = record { back = reads_back }
+pub returns-clause-back : goal.returns-clause-back
+returns-clause-back c = reads_back
+
+pub returns-clause-values : goal.returns-clause-values
+returns-clause-values c = key_tells

@@ -1,5 +1,8 @@
-use Rattle.group_rows.proofs.Saying.{goes_on}
+use Rattle.group_rows.proofs.Saying.{emits, goes_on}
 use Rattle.group_rows.proofs.laws.law_says.Goals as goal
 
-pub returns : goal.returns
-returns c = record { throughout = goes_on }
+pub returns-clause-throughout : goal.returns-clause-throughout
+returns-clause-throughout c = goes_on
+
+pub returns-clause-emits : goal.returns-clause-emits
+returns-clause-emits c = emits
