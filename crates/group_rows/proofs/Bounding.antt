@@ -1,14 +1,14 @@
 -- Sums of few numbers don't wrap.
-use Rattle.std.proofs.Common.{◌≡◌, ◌⊎◌, inl, inr, ℕ, zero, suc, ◌+◌, ◌*◌, ◌<◌, ◌≤◌, ◌^◌, List, [], ◌∷◌, map, length, refl, ap, sym, ◌∙◌, subst, arith, rules}
+use Rattle.std.proofs.Common.{◌≡◌, ◌⊎◌, inl, inr, ℕ, suc, ◌+◌, ◌*◌, ◌<◌, ◌≤◌, ◌^◌, List, [], ◌∷◌, length, refl, ap, sym, ◌∙◌, subst, arith}
 use Rattle.std.specs.Prelude.{All, fold, ℤ, pos, negsuc, ◌+ℤ◌, ◌≤ℤ◌, FitsSigned, unsigned_abs}
-use Rattle.std.specs.Int.{w64, w128, int_wrap, int_min, int_max}
+use Rattle.std.specs.Int.{w64, w128, int_min, int_max}
 use Rattle.std.specs.List.{Contains}
 use Rattle.std.proofs.lemmas.Int.{ints, int_wrap_fits, fits_signed_from_abs, fold-int_min_bounds, fold-int_min_reached, fold-int_max_bounds, fold-int_max_reached}
 use Rattle.std.proofs.lemmas.List.{length-map}
 use Rattle.std.proofs.lemmas.List.Elements.{All-head, All-tail, All-cons}
 use Rattle.row_codec.specs.declared.values.Value.{Value}
 use Rattle.group_rows.specs.Aggregates.{number_at, numbers_at, total}
-use Rattle.group_rows.specs.Bounds.{AreEnds, AreTrue}
+use Rattle.group_rows.specs.Bounds.{AreExtremes, AreTrue}
 use Rattle.group_rows.proofs.Giving.{total_from}
 
 pub abs_add : (a b : ℤ) → unsigned_abs (a +ℤ b) ≤ unsigned_abs a + unsigned_abs b
@@ -41,9 +41,9 @@ reached : (n r : ℤ) (ns : List ℤ) → (r ≡ n) ⊎ Contains ns r → Contai
 reached n r ns (inl e) = (0, omega arith, sym e)
 reached n r ns (inr (k, inside, is)) = (suc k, omega (arith, inside), is)
 
-pub ends_are_true : (column : ℕ) (rows : List (List Value)) → 0 < length rows → AreEnds column rows
-ends_are_true column [] some = absurd (omega (arith, some))
-ends_are_true column (row ∷ rows) some =
+pub extremes_are_true : (column : ℕ) (rows : List (List Value)) → 0 < length rows → AreExtremes column rows
+extremes_are_true column [] some = absurd (omega (arith, some))
+extremes_are_true column (row ∷ rows) some =
     let n : ℤ = number_at column row in
     let ns : List ℤ = numbers_at column rows in
     let low : ℤ = fold int_min (number_at column row) (numbers_at column rows) in

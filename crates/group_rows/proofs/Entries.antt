@@ -1,26 +1,25 @@
--- An entry whose first numbers have been joined.
-use Rattle.std.proofs.Common.{◌≡◌, ℕ, zero, suc, ◌+◌, ◌<◌, ◌≤◌, List, [], ◌∷◌, ◌++◌, length, map, take, drop, get_or, set, refl, ap, ap₂, sym, ◌∙◌, subst, arith}
+-- An entry whose first numbers have been combined.
+use Rattle.std.proofs.Common.{◌≡◌, ℕ, zero, suc, ◌+◌, ◌<◌, List, [], ◌∷◌, length, map, drop, get_or, set, refl, ap, ◌∙◌, arith}
 use Rattle.std.specs.Prelude.{ℤ, pos}
 use Rattle.row_codec.specs.declared.values.Agg.{Agg}
-use Rattle.row_codec.specs.declared.values.Agg.TheVariants.{Count}
 use Rattle.row_codec.specs.declared.values.Value.{Value}
-use Rattle.group_rows.specs.Aggregates.{joined, number_at, number_of}
-use Rattle.group_rows.specs.Partials.{joined_all}
+use Rattle.group_rows.specs.Aggregates.{combined_number, number_at, number_of}
+use Rattle.group_rows.specs.Partials.{combined_numbers}
 
--- the first n are joined, the others as they were
+-- the first n are combined, the others as they were
 abbrev pub half : ℕ → List Agg → List ℤ → List ℤ → List ℤ
 half zero aggs ms ns = ms
 half (suc n) [] ms ns = ms
 half (suc n) (agg ∷ aggs) [] ns = []
 half (suc n) (agg ∷ aggs) (m ∷ ms) [] = m ∷ ms
-half (suc n) (agg ∷ aggs) (m ∷ ms) (k ∷ ns) = joined agg m k ∷ half n aggs ms ns
+half (suc n) (agg ∷ aggs) (m ∷ ms) (k ∷ ns) = combined_number agg m k ∷ half n aggs ms ns
 
-pub half_all : (aggs : List Agg) (ms ns : List ℤ) → length ms ≡ length aggs → length ns ≡ length aggs → half (length aggs) aggs ms ns ≡ joined_all aggs ms ns
+pub half_all : (aggs : List Agg) (ms ns : List ℤ) → length ms ≡ length aggs → length ns ≡ length aggs → half (length aggs) aggs ms ns ≡ combined_numbers aggs ms ns
 half_all [] [] ns same many = refl
 half_all [] (m ∷ ms) ns same many = absurd (omega (arith, same))
 half_all (agg ∷ aggs) [] ns same many = refl
 half_all (agg ∷ aggs) (m ∷ ms) [] same many = absurd (omega (arith, many))
-half_all (agg ∷ aggs) (m ∷ ms) (k ∷ ns) same many = ap (λ (l : List ℤ). joined agg m k ∷ l) (half_all aggs ms ns (omega (arith, same)) (omega (arith, many)))
+half_all (agg ∷ aggs) (m ∷ ms) (k ∷ ns) same many = ap (λ (l : List ℤ). combined_number agg m k ∷ l) (half_all aggs ms ns (omega (arith, same)) (omega (arith, many)))
 
 pub half_long : (n : ℕ) (aggs : List Agg) (ms ns : List ℤ) → length (half n aggs ms ns) ≡ length ms
 half_long zero aggs ms ns = refl
@@ -31,13 +30,13 @@ half_long (suc n) (agg ∷ aggs) (m ∷ ms) (k ∷ ns) = ap suc (half_long n agg
 
 -- one more
 pub half_more : (n : ℕ) (aggs : List Agg) (ms ns : List ℤ) (agg : Agg) (d e : ℤ) → n < length aggs → length ms ≡ length aggs → length ns ≡ length aggs
-    → set (half n aggs ms ns) n (joined (get_or aggs n agg) (get_or (half n aggs ms ns) n d) (get_or ns n e)) ≡ half (suc n) aggs ms ns
+    → set (half n aggs ms ns) n (combined_number (get_or aggs n agg) (get_or (half n aggs ms ns) n d) (get_or ns n e)) ≡ half (suc n) aggs ms ns
 half_more n [] ms ns a d e inside same many = absurd (omega (arith, inside))
 half_more n (agg ∷ aggs) [] ns a d e inside same many = absurd (omega (arith, same))
 half_more n (agg ∷ aggs) (m ∷ ms) [] a d e inside same many = absurd (omega (arith, many))
 half_more zero (agg ∷ aggs) (m ∷ ms) (k ∷ ns) a d e inside same many = refl
 half_more (suc n) (agg ∷ aggs) (m ∷ ms) (k ∷ ns) a d e inside same many =
-    ap (λ (l : List ℤ). joined agg m k ∷ l) (half_more n aggs ms ns a d e (omega (arith, inside)) (omega (arith, same)) (omega (arith, many)))
+    ap (λ (l : List ℤ). combined_number agg m k ∷ l) (half_more n aggs ms ns a d e (omega (arith, inside)) (omega (arith, same)) (omega (arith, many)))
 
 pub map_read : {A B : Type 0} (f : A → B) (xs : List A) (k : ℕ) (d : A) (e : B) → k < length xs → get_or (map f xs) k e ≡ f (get_or xs k d)
 map_read f [] k d e inside = absurd (omega (arith, inside))

@@ -1,21 +1,19 @@
 -- Partial results are gathered key by key and number by number.
-use Rattle.std.proofs.Common.{◌≡◌, ◌⊎◌, inl, inr, ℕ, zero, suc, ◌+◌, ◌<◌, ◌≤◌, ◌^◌, Bool, true, false, cond, List, [], ◌∷◌, ◌++◌, map, drop, length, get_or, Option, Some, None, refl, ap, ap₂, sym, ◌∙◌, subst, arith, true≢false}
-use Rattle.std.specs.Prelude.{All, fold, filter_map, ℤ, pos, ◌+ℤ◌, FitsSigned, unsigned_abs}
-use Rattle.std.specs.Int.{w128, int_wrap, int_min, int_max}
-use Rattle.std.specs.List.{AllByRecursion, list_any, sum_by}
+use Rattle.std.proofs.Common.{◌≡◌, inl, inr, ℕ, ◌+◌, ◌<◌, ◌≤◌, ◌^◌, true, List, [], ◌∷◌, map, drop, length, get_or, Option, Some, refl, ap, ap₂, sym, ◌∙◌, subst, arith, true≢false}
+use Rattle.std.specs.Prelude.{All, ℤ, pos, ◌+ℤ◌, FitsSigned, unsigned_abs}
+use Rattle.std.specs.Int.{w128, int_wrap}
+use Rattle.std.specs.List.{list_any, sum_by}
 use Rattle.std.specs.Str.{bytes_eq}
-use Rattle.std.specs.declared.cmp.Ordering.{Ordering}
 use Rattle.std.proofs.lemmas.Bool.{cases_Bool}
 use Rattle.std.proofs.lemmas.Int.{ints, int_wrap_fits, int_wrap-add_right, fits_signed_from_abs}
 use Rattle.std.proofs.lemmas.List.Elements.{All-head, All-tail, All-filter, filter_passes}
 use Rattle.std.proofs.lemmas.List.Sums.{sum_by-cons}
 use Rattle.row_codec.specs.declared.values.Agg.{Agg}
 use Rattle.row_codec.specs.declared.values.Agg.TheVariants.{Count, Sum, Min, Max}
-use Rattle.group_rows.specs.Aggregates.{joined, least, greatest, total}
+use Rattle.group_rows.specs.Aggregates.{combined_number, total}
 use Rattle.group_rows.specs.Gathered.{IsPartial, gathered, gathered_all, gathered_in, heads}
-use Rattle.group_rows.specs.Keyed.{as_one, join_front, keys_in, one_of, with_key}
-use Rattle.group_rows.specs.Laws.{IsKeyOrder}
-use Rattle.group_rows.specs.Partials.{Partial, Shape, combine, combined_by, joined_all, key_of}
+use Rattle.group_rows.specs.Keyed.{IsExactOrder, KeyOrder, as_one, keys_in, merge_front, one_of, with_key}
+use Rattle.group_rows.specs.Partials.{Grouping, Partial, combine, combined_by, combined_numbers, key_of}
 use Rattle.group_rows.proofs.Bounding.{abs_add}
 use Rattle.group_rows.proofs.Each.{all_chosen, of_each}
 use Rattle.group_rows.proofs.Giving.{max_from, min_from, total_from}
@@ -36,7 +34,7 @@ alone (Sum column) n fits = sum_alone n fits
 alone (Min column) n fits = refl
 alone (Max column) n fits = refl
 
-one_more : (agg : Agg) (n m : ℤ) (ms : List ℤ) → joined agg n (gathered agg (m ∷ ms)) ≡ gathered agg (n ∷ m ∷ ms)
+one_more : (agg : Agg) (n m : ℤ) (ms : List ℤ) → combined_number agg n (gathered agg (m ∷ ms)) ≡ gathered agg (n ∷ m ∷ ms)
 one_more Count n m ms = sum_more n (m ∷ ms)
 one_more (Sum column) n m ms = sum_more n (m ∷ ms)
 one_more (Min column) n m ms = min_from n m ms
@@ -50,31 +48,31 @@ all_alone (agg ∷ aggs) (n ∷ ns) many fits =
     ap₂ (λ (k : ℤ) (ks : List ℤ). k ∷ ks) (alone agg n (All-head (λ n. FitsSigned w128 n) n ns fits))
     (all_alone aggs ns (omega (arith, many)) (All-tail (λ n. FitsSigned w128 n) n ns fits))
 
-all_more : (aggs : List Agg) (ns ms : List ℤ) (lists : List (List ℤ)) → length ns ≡ length aggs → joined_all aggs ns (gathered_all aggs (ms ∷ lists)) ≡ gathered_all aggs (ns ∷ ms ∷ lists)
+all_more : (aggs : List Agg) (ns ms : List ℤ) (lists : List (List ℤ)) → length ns ≡ length aggs → combined_numbers aggs ns (gathered_all aggs (ms ∷ lists)) ≡ gathered_all aggs (ns ∷ ms ∷ lists)
 all_more [] ns ms lists many = refl
 all_more (agg ∷ aggs) [] ms lists many = absurd (omega (arith, many))
 all_more (agg ∷ aggs) (n ∷ ns) ms lists many =
     ap₂ (λ (k : ℤ) (ks : List ℤ). k ∷ ks) (one_more agg n (get_or ms 0 (pos 0)) (heads lists))
     (all_more aggs ns (drop 1 ms) (map (drop 1) lists) (omega (arith, many)))
 
-abbrev gathered_with : Shape → List ℕ → List Partial → Partial
-gathered_with shape q ps = record { key = q; numbers = gathered_all shape.aggs (map (λ p. p.numbers) ps) }
+abbrev gathered_with : Grouping → List ℕ → List Partial → Partial
+gathered_with grouping q ps = record { key = q; numbers = gathered_all grouping.aggs (map (λ p. p.numbers) ps) }
 
-as_gathered : (shape : Shape) (q : List ℕ) (p : Partial) (ps : List Partial) → All (λ p. p.key ≡ q) (p ∷ ps) → All (IsPartial shape) (p ∷ ps) → as_one (combine shape) (p ∷ ps) ≡ Some (gathered_with shape q (p ∷ ps))
-as_gathered shape q p [] keys good =
+as_gathered : (grouping : Grouping) (q : List ℕ) (p : Partial) (ps : List Partial) → All (λ p. p.key ≡ q) (p ∷ ps) → All (IsPartial grouping) (p ∷ ps) → as_one (combine grouping) (p ∷ ps) ≡ Some (gathered_with grouping q (p ∷ ps))
+as_gathered grouping q p [] keys good =
     let of_q = All-head (λ p. p.key ≡ q) p [] keys in
-    let is = All-head (IsPartial shape) p [] good in
-    ap₂ (λ (k : List ℕ) (ns : List ℤ). Some (record { key = k; numbers = ns })) of_q (all_alone shape.aggs p.numbers is.many is.wide)
-as_gathered shape q p (next ∷ ps) keys good =
+    let is = All-head (IsPartial grouping) p [] good in
+    ap₂ (λ (k : List ℕ) (ns : List ℤ). Some (record { key = k; numbers = ns })) of_q (all_alone grouping.aggs p.numbers is.many is.wide)
+as_gathered grouping q p (next ∷ ps) keys good =
     let of_q = All-head (λ p. p.key ≡ q) p (next ∷ ps) keys in
-    let is = All-head (IsPartial shape) p (next ∷ ps) good in
-    let rest = as_gathered shape q next ps (All-tail (λ p. p.key ≡ q) p (next ∷ ps) keys) (All-tail (IsPartial shape) p (next ∷ ps) good) in
-    ap (λ (o : Option Partial). Some (join_front (combine shape) p o)) rest
-    ∙ ap₂ (λ (k : List ℕ) (ns : List ℤ). Some (record { key = k; numbers = ns })) of_q (all_more shape.aggs p.numbers next.numbers (map (λ p. p.numbers) ps) is.many)
+    let is = All-head (IsPartial grouping) p (next ∷ ps) good in
+    let rest = as_gathered grouping q next ps (All-tail (λ p. p.key ≡ q) p (next ∷ ps) keys) (All-tail (IsPartial grouping) p (next ∷ ps) good) in
+    ap (λ (o : Option Partial). Some (merge_front (combine grouping) p o)) rest
+    ∙ ap₂ (λ (k : List ℕ) (ns : List ℤ). Some (record { key = k; numbers = ns })) of_q (all_more grouping.aggs p.numbers next.numbers (map (λ p. p.numbers) ps) is.many)
 
-some_gathered : (shape : Shape) (q : List ℕ) (ps : List Partial) → (ps ≡ [] → ⊥) → All (λ p. p.key ≡ q) ps → All (IsPartial shape) ps → as_one (combine shape) ps ≡ Some (gathered_with shape q ps)
-some_gathered shape q [] some keys good = absurd (some refl)
-some_gathered shape q (p ∷ ps) some keys good = as_gathered shape q p ps keys good
+some_gathered : (grouping : Grouping) (q : List ℕ) (ps : List Partial) → (ps ≡ [] → ⊥) → All (λ p. p.key ≡ q) ps → All (IsPartial grouping) ps → as_one (combine grouping) ps ≡ Some (gathered_with grouping q ps)
+some_gathered grouping q [] some keys good = absurd (some refl)
+some_gathered grouping q (p ∷ ps) some keys good = as_gathered grouping q p ps keys good
 
 some_with : (q : List ℕ) (ps : List Partial) → list_any (λ p. bytes_eq q (key_of p)) ps ≡ true → with_key key_of q ps ≡ [] → ⊥
 some_with q [] is none = true≢false (sym is)
@@ -86,14 +84,14 @@ some_with q (p ∷ ps) is none = elim (cases_Bool (bytes_eq q p.key)) [
       some_with q ps more rest
 ]
 
-pub are_gathered : (order : List ℕ → List ℕ → Ordering) → IsKeyOrder order → (shape : Shape) (partials : List Partial) → All (IsPartial shape) partials
-    → combined_by order shape partials ≡ map (gathered_in shape partials) (keys_in order key_of partials)
-are_gathered order is_order shape partials good =
-    all_chosen (λ q. one_of key_of (combine shape) q partials) (gathered_in shape partials) (keys_in order key_of partials)
-    (of_each order is_order key_of (λ q. one_of key_of (combine shape) q partials ≡ Some (gathered_in shape partials q)) partials
-    (λ q is. some_gathered shape q (with_key key_of q partials) (some_with q partials is)
+pub are_gathered : (order : KeyOrder) → IsExactOrder order → (grouping : Grouping) (partials : List Partial) → All (IsPartial grouping) partials
+    → combined_by order grouping partials ≡ map (gathered_in grouping partials) (keys_in order key_of partials)
+are_gathered order is_order grouping partials good =
+    all_chosen (λ q. one_of key_of (combine grouping) q partials) (gathered_in grouping partials) (keys_in order key_of partials)
+    (of_each order is_order key_of (λ q. one_of key_of (combine grouping) q partials ≡ Some (gathered_in grouping partials q)) partials
+    (λ q is. some_gathered grouping q (with_key key_of q partials) (some_with q partials is)
     (λ k d inside. sym (true_same q _ (filter_passes (λ p. bytes_eq q (key_of p)) partials k d inside)))
-    (All-filter (λ p. bytes_eq q (key_of p)) (IsPartial shape) partials good)))
+    (All-filter (λ p. bytes_eq q (key_of p)) (IsPartial grouping) partials good)))
 
 abs_total : (ns : List ℤ) → unsigned_abs (total ns) ≤ sum_by unsigned_abs ns
 abs_total [] = omega arith
@@ -101,5 +99,5 @@ abs_total (n ∷ ns) =
     let sum : unsigned_abs (total (n ∷ ns)) ≤ unsigned_abs n + unsigned_abs (total ns) = subst (λ (z : ℤ). unsigned_abs z ≤ unsigned_abs n + unsigned_abs (total ns)) (sym (total_cons n ns)) (abs_add n (total ns)) in
     omega (arith, sum, abs_total ns, sum_by-cons unsigned_abs n ns)
 
-pub gather_true : (column : ℕ) (ns : List ℤ) → sum_by unsigned_abs ns < 2 ^ 127 → gathered (Sum column) ns ≡ total ns
-gather_true column ns few = int_wrap_fits w128 (total ns) (fits_signed_from_abs w128 (total ns) (omega (arith, few, abs_total ns)))
+pub gathered_sum_is_true : (column : ℕ) (ns : List ℤ) → sum_by unsigned_abs ns < 2 ^ 127 → gathered (Sum column) ns ≡ total ns
+gathered_sum_is_true column ns few = int_wrap_fits w128 (total ns) (fits_signed_from_abs w128 (total ns) (omega (arith, few, abs_total ns)))

@@ -1,30 +1,26 @@
 -- What combining keeps.
-use Rattle.std.proofs.Common.{◌≡◌, ◌⊎◌, inl, inr, ℕ, zero, suc, ◌+◌, ◌*◌, ◌<◌, ◌≤◌, Bool, true, false, cond, ◌||◌, List, [], ◌∷◌, ◌++◌, map, length, refl, ap, ap₂, sym, ◌∙◌, subst, arith, rules, true≢false}
-use Rattle.std.specs.Prelude.{All, fold, ℤ}
+use Rattle.std.proofs.Common.{◌≡◌, ℕ, ◌+◌, ◌≤◌, Bool, true, false, ◌||◌, List, [], ◌∷◌, map, refl, ap, sym, ◌∙◌, subst, arith, true≢false}
+use Rattle.std.specs.Prelude.{fold}
 use Rattle.std.specs.BTreeSet.{insert_key}
-use Rattle.std.specs.List.{IsDistinct, AllByRecursion, list_any, sum_by}
+use Rattle.std.specs.List.{IsDistinct, AllByRecursion, sum_by}
 use Rattle.std.specs.List.Sorted.{IsPermutation, IsStrictlySortedBy}
 use Rattle.std.specs.Ordering.{match_ordering}
 use Rattle.std.specs.Str.{bytes_eq}
 use Rattle.std.specs.declared.cmp.Ordering.{Ordering}
 use Rattle.std.specs.declared.cmp.Ordering.TheVariants.{Less, Equal, Greater}
 use Rattle.std.proofs.lemmas.List.Sorted.{IsPermutation-refl, IsPermutation-cons, IsPermutation-trans, IsPermutation-middle, IsPermutation-sym}
-use Rattle.std.proofs.lemmas.List.Sums.{sum_by-cons, sum_by-append}
-use Rattle.row_codec.specs.declared.values.Value.{Value}
-use Rattle.row_codec.specs.declared.values.Value.TheVariants.{Wide}
-use Rattle.row_codec.specs.RowBytes.{row_bytes}
-use Rattle.group_rows.specs.Keyed.{keys_in}
-use Rattle.group_rows.specs.Laws.{AreApart, IsKeyOrder}
-use Rattle.group_rows.specs.Partials.{Partial, Shape, combine, combined_by, key_of}
+use Rattle.std.proofs.lemmas.List.Sums.{sum_by-cons}
+use Rattle.group_rows.specs.Keyed.{IsExactOrder, KeyOrder}
+use Rattle.group_rows.specs.Partials.{Grouping, Partial, combine, combined_by, key_of}
+use Rattle.group_rows.specs.Tables.{HaveDistinctKeys}
 use Rattle.group_rows.proofs.Each.{is_each, keys_each}
-use Rattle.group_rows.proofs.Joining.{combines}
+use Rattle.group_rows.proofs.Merging.{combines}
 use Rattle.group_rows.proofs.Keys.{same_true, sorted_insert, stands}
 use Rattle.group_rows.proofs.Tables.{any_order}
-use Rattle.group_rows.proofs.Weighing.{row_long, size}
 
-module _ (order : List ℕ → List ℕ → Ordering) (is_order : IsKeyOrder order) where
-  pub ordered_stay : (shape : Shape) (partials : List Partial) → IsStrictlySortedBy order (map key_of partials) → combined_by order shape partials ≡ partials
-  ordered_stay shape partials sorted = is_each key_of (combine shape) (combines shape) order is_order partials partials sorted (λ q. refl)
+module _ (order : KeyOrder) (is_order : IsExactOrder order) where
+  pub ordered_stay : (grouping : Grouping) (partials : List Partial) → IsStrictlySortedBy order (map key_of partials) → combined_by order grouping partials ≡ partials
+  ordered_stay grouping partials sorted = is_each key_of (combine grouping) (combines grouping) order is_order partials partials sorted (λ q. refl)
 
   -- a partial result at its place
   abbrev place : Partial → List Partial → List Partial
@@ -75,12 +71,12 @@ module _ (order : List ℕ → List ℕ → Ordering) (is_order : IsKeyOrder ord
   off_all k [] all = refl
   off_all k (y ∷ ks) all = let first : bytes_eq k y ≡ false = all.0 in rw first (off_all k ks all.1)
 
-  in_order : (ps : List Partial) → AreApart ps → IsStrictlySortedBy order (map key_of (sorted_list ps))
+  in_order : (ps : List Partial) → HaveDistinctKeys ps → IsStrictlySortedBy order (map key_of (sorted_list ps))
   unfolding IsStrictlySortedBy IsDistinct
-  in_order [] apart = tt
-  in_order (p ∷ ps) apart =
-      let off : stands p.key (map key_of (sorted_list ps)) ≡ false = stands_sorted p.key ps ∙ off_all p.key (map key_of ps) apart.0 in
-      subst (IsStrictlySortedBy order) (sym (placed_keys p (sorted_list ps) off)) (sorted_insert order is_order (map key_of (sorted_list ps)) p.key (in_order ps apart.1))
+  in_order [] distinct = tt
+  in_order (p ∷ ps) distinct =
+      let off : stands p.key (map key_of (sorted_list ps)) ≡ false = stands_sorted p.key ps ∙ off_all p.key (map key_of ps) distinct.0 in
+      subst (IsStrictlySortedBy order) (sym (placed_keys p (sorted_list ps) off)) (sorted_insert order is_order (map key_of (sorted_list ps)) p.key (in_order ps distinct.1))
     where
       stands_place : (o : Ordering) (q : List ℕ) (p x : Partial) (xs more : List Partial) → stands q (map key_of more) ≡ (bytes_eq q p.key || stands q (map key_of xs))
           → stands q (map key_of (match_ordering o (p ∷ x ∷ xs) (p ∷ x ∷ xs) (x ∷ more))) ≡ (bytes_eq q p.key || (bytes_eq q x.key || stands q (map key_of xs)))
@@ -101,9 +97,9 @@ module _ (order : List ℕ → List ℕ → Ordering) (is_order : IsKeyOrder ord
       stands_sorted q [] = refl
       stands_sorted q (p ∷ ps) = place_stands q p (sorted_list ps) ∙ ap (λ (b : Bool). bytes_eq q p.key || b) (stands_sorted q ps)
 
-  pub apart_stay : (shape : Shape) (partials : List Partial) → AreApart partials → IsPermutation partials (combined_by order shape partials)
-  apart_stay shape ps apart =
-      let same : combined_by order shape ps ≡ sorted_list ps = sym (any_order order is_order shape ps (sorted_list ps) (permuted ps)) ∙ ordered_stay shape (sorted_list ps) (in_order ps apart) in
+  pub distinct_stay : (grouping : Grouping) (partials : List Partial) → HaveDistinctKeys partials → IsPermutation partials (combined_by order grouping partials)
+  distinct_stay grouping ps distinct =
+      let same : combined_by order grouping ps ≡ sorted_list ps = sym (any_order order is_order grouping ps (sorted_list ps) (permuted ps)) ∙ ordered_stay grouping (sorted_list ps) (in_order ps distinct) in
       subst (IsPermutation ps) (sym same) (permuted ps)
 
   -- ---- weights
@@ -125,15 +121,7 @@ module _ (order : List ℕ → List ℕ → Ordering) (is_order : IsKeyOrder ord
     by_keys [] = refl
     by_keys (p ∷ ps) = sum_by-cons (λ p. weight p.key) p ps ∙ ap (λ (n : ℕ). weight p.key + n) (by_keys ps) ∙ sym (sum_by-cons weight p.key (map key_of ps))
 
-    pub weigh_no_more : (shape : Shape) (ps : List Partial) → sum_by (λ p. weight p.key) (combined_by order shape ps) ≤ sum_by (λ p. weight p.key) ps
-    weigh_no_more shape ps =
-        let keys = ap (sum_by weight) (keys_each key_of (combine shape) (combines shape) order is_order ps) in
-        omega (arith, by_keys (combined_by order shape ps), keys, fold_weighs ps [])
-
-pub wide_sizes : (ns : List ℤ) → sum_by size (map Wide ns) ≡ 16 * length ns
-wide_sizes [] = refl
-wide_sizes (n ∷ ns) = sum_by-cons size (Wide n) (map Wide ns) ∙ omega (arith, wide_sizes ns)
-
-pub stay_as_long : (values : List Value) (ms ns : List ℤ) → length ms ≡ length ns → length (row_bytes (values ++ map Wide ms)) ≡ length (row_bytes (values ++ map Wide ns))
-stay_as_long values ms ns same =
-    omega (arith, same, row_long (values ++ map Wide ms), row_long (values ++ map Wide ns), sum_by-append size values (map Wide ms), sum_by-append size values (map Wide ns), wide_sizes ms, wide_sizes ns)
+    pub weigh_no_more : (grouping : Grouping) (ps : List Partial) → sum_by (λ p. weight p.key) (combined_by order grouping ps) ≤ sum_by (λ p. weight p.key) ps
+    weigh_no_more grouping ps =
+        let keys = ap (sum_by weight) (keys_each key_of (combine grouping) (combines grouping) order is_order ps) in
+        omega (arith, by_keys (combined_by order grouping ps), keys, fold_weighs ps [])

@@ -1,8 +1,8 @@
 -- Keys in order, each once: which they are decides the list.
-use Rattle.std.proofs.Common.{◌≡◌, ◌⊎◌, inl, inr, ℕ, ◌<◌, ◌≤◌, Bool, true, false, cond, ◌||◌, List, [], ◌∷◌, ◌++◌, map, length, refl, ap, ap₂, sym, ◌∙◌, subst, arith, rules, true≢false}
-use Rattle.std.specs.Prelude.{All, fold}
+use Rattle.std.proofs.Common.{◌≡◌, inl, inr, ℕ, Bool, true, false, ◌||◌, List, [], ◌∷◌, ◌++◌, refl, ap, ap₂, sym, ◌∙◌, true≢false}
+use Rattle.std.specs.Prelude.{fold}
 use Rattle.std.specs.BTreeSet.{insert_key}
-use Rattle.std.specs.Cmp.{IsTotalOrder, tied_itself}
+use Rattle.std.specs.Cmp.{tied_itself}
 use Rattle.std.specs.List.{AllByRecursion, list_any}
 use Rattle.std.specs.List.Sorted.{IsStrictlySortedBy}
 use Rattle.std.specs.Ordering.{match_ordering, ordering_reverse}
@@ -13,8 +13,7 @@ use Rattle.std.proofs.lemmas.Bool.{cases_Bool}
 use Rattle.std.proofs.lemmas.List.Elements.{All-from_recursion, recursion_from_All}
 use Rattle.std.proofs.lemmas.Map.Views.{All-insert_key}
 use Rattle.std.proofs.lemmas.Slice.Eq.{bytes_eq-Decides}
-use Rattle.group_rows.specs.Keyed.{keys_in}
-use Rattle.group_rows.specs.Laws.{IsKeyOrder}
+use Rattle.group_rows.specs.Keyed.{IsExactOrder, KeyOrder, keys_in}
 
 pub same_true : (a b : List ℕ) → a ≡ b → bytes_eq a b ≡ true
 same_true a b same = (bytes_eq-Decides a b).1 same
@@ -46,7 +45,7 @@ or_swap false false = refl
 abbrev pub stands : List ℕ → List (List ℕ) → Bool
 stands q ks = list_any (λ k. bytes_eq q k) ks
 
-module _ (R : List ℕ → List ℕ → Ordering) (is_order : IsKeyOrder R) where
+module _ (R : KeyOrder) (is_order : IsExactOrder R) where
   flip : (a b : List ℕ) → R a b ≡ Greater → R b a ≡ Less
   flip a b is = is_order.total.antisymm b a ∙ ap ordering_reverse is
 

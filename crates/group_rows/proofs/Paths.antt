@@ -1,5 +1,5 @@
 -- Keys of one path, by the next number of their paths.
-use Rattle.std.proofs.Common.{◌≡◌, ◌≢◌, ◌⊎◌, inl, inr, ℕ, zero, suc, ◌+◌, ◌<◌, ◌≤◌, ◌==◌, Bool, true, false, cond, ◌&&◌, List, [], ◌∷◌, ◌++◌, length, take, get_or, refl, ap, ap₂, sym, ◌∙◌, subst, arith, rules, eqb, append-nil, add-one, eqb-true, length-append}
+use Rattle.std.proofs.Common.{◌≡◌, ℕ, zero, suc, ◌+◌, ◌<◌, ◌==◌, Bool, true, false, cond, ◌&&◌, List, [], ◌∷◌, ◌++◌, length, take, get_or, refl, ap, ap₂, sym, ◌∙◌, subst, arith, rules, append-nil, eqb-true, length-append}
 use Rattle.std.specs.Prelude.{All, filter, flat_map, not, nat_lt, slice_index_or}
 use Rattle.std.specs.List.{AllByRecursion, range_with_len}
 use Rattle.std.specs.List.Sorted.{IsStrictlySortedBy}
@@ -10,22 +10,20 @@ use Rattle.std.specs.Cmp.Lexicographic.{slice_cmp}
 use Rattle.std.specs.declared.cmp.Ordering.{Ordering}
 use Rattle.std.specs.declared.cmp.Ordering.TheVariants.{Less, Equal, Greater}
 use Rattle.std.specs.Ordering.{nat_cmp, ordering_then}
-use Rattle.std.proofs.lemmas.Bool.{cases_Bool}
 use Rattle.std.proofs.lemmas.Bool.Decides.{nat_tests}
 use Rattle.std.proofs.lemmas.List.Concat.{flat_map-append}
-use Rattle.std.proofs.lemmas.List.Elements.{All-filter, All-head, All-tail, filter_agree, filter_passes, recursion_from_All}
+use Rattle.std.proofs.lemmas.List.Elements.{All-filter, filter_passes, recursion_from_All}
 use Rattle.std.proofs.lemmas.List.FromFn.{get_or-map-range_with_len, length-map-range_with_len}
 use Rattle.std.proofs.lemmas.Map.Lookups.{exact_bytes}
 use borrow.Author.Tests.{ltb-true, ltb-false, lt-ltb}
 use Rattle.row_codec.specs.Order.{hash_of, nibble_of, path_of, path_order}
-use Rattle.group_rows.specs.Keyed.{keys_in, one_each}
-use Rattle.group_rows.specs.Laws.{IsKeyOrder}
-use Rattle.group_rows.specs.Partials.{Partial, Shape, combine, combined_by, combined_of, key_of}
-use Rattle.group_rows.specs.Splitting.{HasPath, PartsByPath, part_at}
-use Rattle.group_rows.proofs.Combining.{one_each_one}
+use Rattle.group_rows.specs.Keyed.{IsExactOrder, KeyOrder, keys_in}
+use Rattle.group_rows.specs.Partials.{Grouping, Partial, combine, combined_by, combined_of, key_of}
+use Rattle.group_rows.specs.Splitting.{HasPath, part_at}
+use Rattle.group_rows.proofs.Merged.{one_each_one}
 use Rattle.group_rows.proofs.Each.{is_each, keys_all, keys_each, split}
 use Rattle.group_rows.proofs.Keys.{keys_sorted}
-use Rattle.group_rows.proofs.Joining.{combines}
+use Rattle.group_rows.proofs.Merging.{combines}
 
 then_equal : (o p : Ordering) → ordering_then o p ≡ Equal → p ≡ Equal
 then_equal Less p is = absurd cc
@@ -38,13 +36,13 @@ path_total = search (comparing, rules)
 bytes_total : IsTotalOrder (slice_cmp nat_cmp)
 bytes_total = search (comparing, rules)
 
-pub path_is_order : IsKeyOrder path_order
+pub path_is_order : IsExactOrder path_order
 path_is_order = record {
   total = path_total;
   exact = λ a b is. exact_bytes a b (then_equal (slice_cmp nat_cmp (path_of a) (path_of b)) (slice_cmp nat_cmp a b) is);
 }
 
-pub bytes_is_order : IsKeyOrder (slice_cmp nat_cmp)
+pub bytes_is_order : IsExactOrder (slice_cmp nat_cmp)
 bytes_is_order = record { total = bytes_total; exact = exact_bytes }
 
 less_at : (xs ys : List ℕ) (i : ℕ) → i < length xs → i < length ys → take i xs ≡ take i ys → get_or xs i 0 < get_or ys i 0 → slice_cmp nat_cmp xs ys ≡ Less
@@ -97,28 +95,28 @@ lower_still n m = grind (arith, nat_tests)
 lower_last : (n m : ℕ) → (nat_lt n (suc m) && not (nat_lt n m)) ≡ (n == m)
 lower_last n m = grind (arith, nat_tests)
 
-module _ (shape : Shape) (path : List ℕ) (short : length path < 16) where
+module _ (grouping : Grouping) (path : List ℕ) (short : length path < 16) where
   up_to : (m : ℕ) (partials : List Partial) → HasPath path partials
-      → combined_of shape (filter (λ p. nat_lt (nibble_of (hash_of p.key) (length path)) m) partials) ≡ flat_map (λ n. combined_of shape (part_at (length path) partials n)) (range_with_len 0 m)
-  up_to zero partials has = ap (combined_of shape) (none partials) where
+      → combined_of grouping (filter (λ p. nat_lt (nibble_of (hash_of p.key) (length path)) m) partials) ≡ flat_map (λ n. combined_of grouping (part_at (length path) partials n)) (range_with_len 0 m)
+  up_to zero partials has = ap (combined_of grouping) (none partials) where
     none : (ps : List Partial) → filter (λ p. nat_lt (nibble_of (hash_of p.key) (length path)) 0) ps ≡ []
     none [] = refl
     none (p ∷ ps) = let off : nat_lt (nibble_of (hash_of p.key) (length path)) 0 ≡ false = grind (arith, nat_tests) in rw off (none ps)
   up_to (suc m) partials has =
       let below : List Partial = filter (λ p. nat_lt (nibble_of (hash_of p.key) (length path)) (suc m)) partials in
-      split key_of (combine shape) (combines shape) path_order path_is_order (λ k. take (length path) (path_of k) ≡ path) (λ k. nat_lt (nibble_of (hash_of k) (length path)) m)
+      split key_of (combine grouping) (combines grouping) path_order path_is_order (λ k. take (length path) (path_of k) ≡ path) (λ k. nat_lt (nibble_of (hash_of k) (length path)) m)
       (λ a b pa pb low high. path_less path a b short pa pb (omega (arith, ltb-true _ _ low, ltb-false _ _ high)))
       below (All-filter (λ p. nat_lt (nibble_of (hash_of p.key) (length path)) (suc m)) (λ p. take (length path) (path_of p.key) ≡ path) partials has)
-      ∙ ap₂ (λ (a b : List Partial). combined_of shape a ++ combined_of shape b)
+      ∙ ap₂ (λ (a b : List Partial). combined_of grouping a ++ combined_of grouping b)
       (filter_twice (λ p. nat_lt (nibble_of (hash_of p.key) (length path)) m) (λ p. nat_lt (nibble_of (hash_of p.key) (length path)) (suc m)) (λ p. nat_lt (nibble_of (hash_of p.key) (length path)) m) (λ p. lower_still (nibble_of (hash_of p.key) (length path)) m) partials)
       (filter_twice (λ p. not (nat_lt (nibble_of (hash_of p.key) (length path)) m)) (λ p. nat_lt (nibble_of (hash_of p.key) (length path)) (suc m)) (λ p. nibble_of (hash_of p.key) (length path) == m) (λ p. lower_last (nibble_of (hash_of p.key) (length path)) m) partials)
-      ∙ ap₂ (λ (a b : List Partial). a ++ b) (up_to m partials has) (sym (append-nil (combined_of shape (part_at (length path) partials m))))
-      ∙ sym (flat_map-append (λ n. combined_of shape (part_at (length path) partials n)) (range_with_len 0 m) (m ∷ []))
-      ∙ ap (flat_map (λ n. combined_of shape (part_at (length path) partials n))) (sym (range_more 0 m ∙ ap (λ (n : ℕ). range_with_len 0 m ++ n ∷ []) (omega arith)))
+      ∙ ap₂ (λ (a b : List Partial). a ++ b) (up_to m partials has) (sym (append-nil (combined_of grouping (part_at (length path) partials m))))
+      ∙ sym (flat_map-append (λ n. combined_of grouping (part_at (length path) partials n)) (range_with_len 0 m) (m ∷ []))
+      ∙ ap (flat_map (λ n. combined_of grouping (part_at (length path) partials n))) (sym (range_more 0 m ∙ ap (λ (n : ℕ). range_with_len 0 m ++ n ∷ []) (omega arith)))
 
-  pub by_path : (partials : List Partial) → HasPath path partials → combined_of shape partials ≡ flat_map (λ n. combined_of shape (part_at (length path) partials n)) (range_with_len 0 16)
+  pub by_path : (partials : List Partial) → HasPath path partials → combined_of grouping partials ≡ flat_map (λ n. combined_of grouping (part_at (length path) partials n)) (range_with_len 0 16)
   by_path partials has =
-      ap (combined_of shape) (sym (filter_all (λ p. nat_lt (nibble_of (hash_of p.key) (length path)) 16) (λ p. lt-ltb (nibble_of (hash_of p.key) (length path)) 16 (omega arith)) partials))
+      ap (combined_of grouping) (sym (filter_all (λ p. nat_lt (nibble_of (hash_of p.key) (length path)) 16) (λ p. lt-ltb (nibble_of (hash_of p.key) (length path)) 16 (omega arith)) partials))
       ∙ up_to 16 partials has
 
 -- a part has a path that is one longer
@@ -135,7 +133,7 @@ path_grows path n partials short has =
         ∙ ap₂ (λ (a : List ℕ) (b : ℕ). a ++ b ∷ []) below (digit_at key (length path) short ∙ digit))
 
 -- keys that two orders order alike
-module _ (R S : List ℕ → List ℕ → Ordering) (P : List ℕ → Type 0) (alike : (a b : List ℕ) → P a → P b → R a b ≡ S a b) where
+module _ (R S : KeyOrder) (P : List ℕ → Type 0) (alike : (a b : List ℕ) → P a → P b → R a b ≡ S a b) where
   alike_behind : (k : List ℕ) (ks : List (List ℕ)) → P k → AllByRecursion P ks → AllByRecursion (λ y. R k y ≡ Less) ks → AllByRecursion (λ y. S k y ≡ Less) ks
   alike_behind k [] here all less = tt
   alike_behind k (y ∷ ks) here all less = (sym (alike k y here all.0) ∙ less.0, alike_behind k ks here all.1 less.1)
@@ -145,14 +143,14 @@ module _ (R S : List ℕ → List ℕ → Ordering) (P : List ℕ → Type 0) (a
   sorted_alike [] all s = tt
   sorted_alike (k ∷ ks) all s = (alike_behind k ks all.0 all.1 s.0, sorted_alike ks all.1 s.1)
 
-pub one_path : (shape : Shape) (path : List ℕ) (partials : List Partial) → All (λ p. path_of p.key ≡ path) partials → combined_of shape partials ≡ combined_by (slice_cmp nat_cmp) shape partials
-one_path shape path partials one =
-    is_each key_of (combine shape) (combines shape) path_order path_is_order (combined_by (slice_cmp nat_cmp) shape partials) partials
-    (subst (IsStrictlySortedBy path_order) (sym (keys_each key_of (combine shape) (combines shape) (slice_cmp nat_cmp) bytes_is_order partials))
+pub one_path : (grouping : Grouping) (path : List ℕ) (partials : List Partial) → All (λ p. path_of p.key ≡ path) partials → combined_of grouping partials ≡ combined_by (slice_cmp nat_cmp) grouping partials
+one_path grouping path partials one =
+    is_each key_of (combine grouping) (combines grouping) path_order path_is_order (combined_by (slice_cmp nat_cmp) grouping partials) partials
+    (subst (IsStrictlySortedBy path_order) (sym (keys_each key_of (combine grouping) (combines grouping) (slice_cmp nat_cmp) bytes_is_order partials))
     (sorted_alike (slice_cmp nat_cmp) path_order (λ k. path_of k ≡ path)
     (λ a b pa pb. sym (ap (λ o. ordering_then o (slice_cmp nat_cmp a b)) (ap (λ (x : List ℕ). slice_cmp nat_cmp x (path_of b)) (pa ∙ sym pb) ∙ tied_itself bytes_total (path_of b))))
     (keys_in (slice_cmp nat_cmp) key_of partials)
     (recursion_from_All (λ k. path_of k ≡ path) (keys_in (slice_cmp nat_cmp) key_of partials)
-    (keys_all key_of (combine shape) (combines shape) (slice_cmp nat_cmp) bytes_is_order (λ k. path_of k ≡ path) partials one))
+    (keys_all key_of (combine grouping) (combines grouping) (slice_cmp nat_cmp) bytes_is_order (λ k. path_of k ≡ path) partials one))
     (keys_sorted (slice_cmp nat_cmp) bytes_is_order key_of partials)))
-    (λ q. one_each_one key_of (combine shape) (combines shape) (slice_cmp nat_cmp) bytes_is_order q partials)
+    (λ q. one_each_one key_of (combine grouping) (combines grouping) (slice_cmp nat_cmp) bytes_is_order q partials)

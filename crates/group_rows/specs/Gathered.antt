@@ -1,16 +1,14 @@
--- Partial results that no rows are named for: what they are combined to, number by number.
+-- Partial rows by themselves, of which no rows are known: what they combine to, number by number.
 use Rattle.std.specs.Prelude.{◌≡◌, ℕ, ◌<◌, ◌^◌, List, [], ◌∷◌, All, map, drop, get_or, length, ℤ, pos, FitsSigned, unsigned_abs}
 use Rattle.std.specs.Int.{w128, int_wrap}
 use Rattle.std.specs.List.{sum_by}
-use Rattle.std.specs.declared.cmp.Ordering.{Ordering}
 use Rattle.row_codec.specs.declared.values.Agg.{Agg}
 use Rattle.row_codec.specs.declared.values.Agg.TheVariants.{Count, Sum, Min, Max}
 use Rattle.group_rows.specs.Aggregates.{greatest, least, total}
-use Rattle.group_rows.specs.Keyed.{keys_in, with_key}
-use Rattle.group_rows.specs.Laws.{IsKeyOrder}
-use Rattle.group_rows.specs.Partials.{Partial, Shape, combined_by, key_of}
+use Rattle.group_rows.specs.Keyed.{IsExactOrder, KeyOrder, keys_in, with_key}
+use Rattle.group_rows.specs.Partials.{Grouping, Partial, combined_by, key_of}
 
--- results of an aggregate as one
+-- the numbers of an aggregate as one: their sum, the least or the greatest of them
 abbrev pub gathered : Agg → List ℤ → ℤ
 gathered Count ns = int_wrap w128 (total ns)
 gathered (Sum column) ns = int_wrap w128 (total ns)
@@ -21,29 +19,29 @@ gathered (Max column) ns = greatest ns
 abbrev pub heads : List (List ℤ) → List ℤ
 heads lists = map (λ ns. get_or ns 0 (pos 0)) lists
 
--- the results of all aggregates, each from its own place in the lists
+-- for each aggregate the numbers at its place in the lists, as one
 abbrev pub gathered_all : List Agg → List (List ℤ) → List ℤ
 gathered_all [] lists = []
 gathered_all (agg ∷ aggs) lists = gathered agg (heads lists) ∷ gathered_all aggs (map (drop 1) lists)
 
--- the partial results with a key as one
-abbrev pub gathered_in : Shape → List Partial → List ℕ → Partial
-gathered_in shape partials q = record {
+-- the partial rows with this key, as one
+abbrev pub gathered_in : Grouping → List Partial → List ℕ → Partial
+gathered_in grouping partials q = record {
   key = q;
-  numbers = gathered_all shape.aggs (map (λ p. p.numbers) (with_key key_of q partials));
+  numbers = gathered_all grouping.aggs (map (λ p. p.numbers) (with_key key_of q partials));
 }
 
--- a number for each aggregate, of 128 bits
-pub record IsPartial (shape : Shape) (p : Partial) : Type 0 where
-  pub many : length p.numbers ≡ length shape.aggs
+-- it has a number of 128 bits for each aggregate
+pub record IsPartial (grouping : Grouping) (p : Partial) : Type 0 where
+  pub many : length p.numbers ≡ length grouping.aggs
   pub wide : All (λ n. FitsSigned w128 n) p.numbers
 
--- combined, they are gathered key by key
+-- combining gathers the numbers of each key
 abbrev pub AreGathered : Type 0
 AreGathered =
-    (order : List ℕ → List ℕ → Ordering) → IsKeyOrder order → (shape : Shape) (partials : List Partial) → All (IsPartial shape) partials
-    → combined_by order shape partials ≡ map (gathered_in shape partials) (keys_in order key_of partials)
+    (order : KeyOrder) → IsExactOrder order → (grouping : Grouping) (partials : List Partial) → All (IsPartial grouping) partials
+    → combined_by order grouping partials ≡ map (gathered_in grouping partials) (keys_in order key_of partials)
 
--- where the absolute values have a sum below 2^127, a sum is the true one
-abbrev pub GatherTrue : Type 0
-GatherTrue = (column : ℕ) (ns : List ℤ) → sum_by unsigned_abs ns < 2 ^ 127 → gathered (Sum column) ns ≡ total ns
+-- a gathered sum is the true one where the absolute values add up to less than 2^127
+abbrev pub GatheredSumIsTrue : Type 0
+GatheredSumIsTrue = (column : ℕ) (ns : List ℤ) → sum_by unsigned_abs ns < 2 ^ 127 → gathered (Sum column) ns ≡ total ns

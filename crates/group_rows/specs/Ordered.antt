@@ -1,44 +1,32 @@
--- A table in order, of which the first entries alone may be kept.
-use Rattle.std.specs.Prelude.{◌≡◌, ℕ, ◌+◌, ◌*◌, List, [], ◌∷◌, ◌++◌, All, map, flat_map, take, length, ℤ}
-use Rattle.std.specs.List.Sorted.{IsStrictlySortedBy}
+-- A table in the order of its keys, of which it may be enough to keep the first entries.
+use Rattle.std.specs.Prelude.{◌≡◌, ℕ, List, [], ◌∷◌, ◌++◌, take}
 use Rattle.std.specs.Ordering.{match_ordering}
-use Rattle.std.specs.declared.cmp.Ordering.{Ordering}
 use Rattle.row_codec.specs.declared.values.Value.{Value}
-use Rattle.row_codec.specs.declared.values.Value.TheVariants.{Wide}
-use Rattle.row_codec.specs.RowBytes.{key_part, row_bytes}
-use Rattle.group_rows.specs.Laws.{IsKeyOrder}
-use Rattle.group_rows.specs.Partials.{Partial, Shape, combine, combined_by, groups_by, key_of}
-use Rattle.group_rows.specs.Rows.{IsKeyValue}
-use Rattle.group_rows.specs.Says.{Say}
+use Rattle.group_rows.specs.Keyed.{IsExactOrder, KeyOrder}
+use Rattle.group_rows.specs.Kept.{AreOrdered}
+use Rattle.group_rows.specs.Partials.{Grouping, Partial, combine, combined_by, groups_by}
+use Rattle.group_rows.specs.Standing.{StandFor}
 
-abbrev pub AreOrdered : (List ℕ → List ℕ → Ordering) → List Partial → Type 0
-AreOrdered order entries = IsStrictlySortedBy order (map key_of entries)
+-- a partial row put at its place: into the entry of its key, or between the lower and the higher ones
+abbrev pub put : KeyOrder → Grouping → Partial → List Partial → List Partial
+put order grouping p [] = p ∷ []
+put order grouping p (x ∷ xs) = match_ordering (order p.key x.key) (p ∷ x ∷ xs) (combine grouping x p ∷ xs) (x ∷ put order grouping p xs)
 
--- a partial result goes to its place, into the entry of its key where there is one
-abbrev pub put : (List ℕ → List ℕ → Ordering) → Shape → Partial → List Partial → List Partial
-put order shape p [] = p ∷ []
-put order shape p (x ∷ xs) = match_ordering (order p.key x.key) (p ∷ x ∷ xs) (combine shape x p ∷ xs) (x ∷ put order shape p xs)
-
--- and then they are what combining gives
+-- one more partial row is combined into a table in order by putting it at its place
 abbrev pub PutsInOrder : Type 0
 PutsInOrder =
-    (order : List ℕ → List ℕ → Ordering) → IsKeyOrder order → (shape : Shape) (entries : List Partial) (p : Partial) → AreOrdered order entries
-    → combined_by order shape (entries ++ p ∷ []) ≡ put order shape p entries
+    (order : KeyOrder) → IsExactOrder order → (grouping : Grouping) (entries : List Partial) (p : Partial) → AreOrdered order entries
+    → combined_by order grouping (entries ++ p ∷ []) ≡ put order grouping p entries
 
--- of the first so many, only those before are needed
+-- to keep the first so many, only the first so many before are needed
 abbrev pub FirstSuffice : Type 0
 FirstSuffice =
-    (order : List ℕ → List ℕ → Ordering) → IsKeyOrder order → (shape : Shape) (count : ℕ) (partials : List Partial) (p : Partial)
-    → take count (combined_by order shape (partials ++ p ∷ [])) ≡ take count (put order shape p (take count (combined_by order shape partials)))
+    (order : KeyOrder) → IsExactOrder order → (grouping : Grouping) (count : ℕ) (partials : List Partial) (p : Partial)
+    → take count (combined_by order grouping (partials ++ p ∷ []))
+    ≡ take count (put order grouping p (take count (combined_by order grouping partials)))
 
--- entries in order that say what was fed are the groups
+-- entries in order that stand for some rows are the groups of these rows
 abbrev pub OrderedAreGroups : Type 0
 OrderedAreGroups =
-    (order : List ℕ → List ℕ → Ordering) → IsKeyOrder order → (shape : Shape) (fed : List (List Value)) (entries : List Partial) → AreOrdered order entries
-    → Say order shape fed entries → entries ≡ groups_by order shape fed
-
--- a partial row is as long as its key's bytes and its numbers say
-abbrev pub LongByKey : Type 0
-LongByKey =
-    (values : List Value) (ns : List ℤ) → All IsKeyValue values
-    → length (row_bytes (values ++ map Wide ns)) + length values ≡ 4 + length (flat_map key_part values) + 16 * length ns
+    (order : KeyOrder) → IsExactOrder order → (grouping : Grouping) (fed : List (List Value)) (entries : List Partial) → AreOrdered order entries
+    → StandFor order grouping fed entries → entries ≡ groups_by order grouping fed
