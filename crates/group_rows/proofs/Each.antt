@@ -14,7 +14,7 @@ use Rattle.std.proofs.lemmas.List.Sorted.{IsPermutation-filter_both}
 use Rattle.std.proofs.lemmas.Map.Views.{All-insert_key}
 use Rattle.group_rows.specs.Keyed.{IsExactOrder, KeyOrder, keys_in, one_each, one_of}
 use Rattle.group_rows.proofs.Bags.{one_order}
-use Rattle.group_rows.proofs.Merged.{HasKey, IsMerge, merged, one_append, one_cons, one_each_one, one_key, one_some}
+use Rattle.group_rows.proofs.Merged.{HasKey, IsMerge, map_agree, merged, one_append, one_cons, one_each_one, one_key, one_some}
 use Rattle.group_rows.proofs.Keys.{keys_sorted, keys_stand, none_behind, same_keys, same_true, sorted_append, stands, true_same}
 
 weaker : {P Q : List ℕ → Type 0} → ((k : List ℕ) → P k → Q k) → (ks : List (List ℕ)) → AllByRecursion P ks → AllByRecursion Q ks
@@ -92,10 +92,6 @@ module _ {X : Type 0} (key : X → List ℕ) (merge : X → X → X) (laws : IsM
       ap₂ (λ (o : Option X) (ys : List X). cons_option o ys) first
       (filter_maps (λ q. one_of key merge q (z ∷ zs)) (λ q. one_of key merge q zs) (map key zs) others ∙ itself zs s.1)
 
-  agree : (f g : List ℕ → Option X) → ((q : List ℕ) → f q ≡ g q) → (ks : List (List ℕ)) → filter_map f ks ≡ filter_map g ks
-  agree f g same [] = refl
-  agree f g same (k ∷ ks) = ap₂ (λ (o : Option X) (ys : List X). cons_option o ys) (same k) (agree f g same ks)
-
   -- a list in order that has the same for each key is that list
   pub is_each : (zs xs : List X) → IsStrictlySortedBy R (map key zs) → ((q : List ℕ) → one_of key merge q zs ≡ one_of key merge q xs) → one_each R key merge xs ≡ zs
   is_each zs xs s same =
@@ -103,7 +99,7 @@ module _ {X : Type 0} (key : X → List ℕ) (merge : X → X → X) (laws : IsM
       same_keys R is_order (keys_in R key xs) (map key zs) (keys_sorted R is_order key xs) s
       (λ q. keys_stand R is_order key q xs ∙ sym (one_some key merge laws q xs) ∙ ap is_some (sym (same q)) ∙ one_some key merge laws q zs ∙ sym (stands_map q zs)) in
       ap (filter_map (λ q. one_of key merge q xs)) keys
-      ∙ agree (λ q. one_of key merge q xs) (λ q. one_of key merge q zs) (λ q. sym (same q)) (map key zs)
+      ∙ map_agree (λ q. one_of key merge q xs) (λ q. one_of key merge q zs) (λ q. sym (same q)) (map key zs)
       ∙ itself zs s
 
   pub fold_all : (P : List ℕ → Type 0) (xs : List X) (ks : List (List ℕ)) → All P ks → All (λ x. P (key x)) xs → All P (fold (λ keys x. insert_key R keys (key x)) ks xs)

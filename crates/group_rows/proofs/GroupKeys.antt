@@ -30,11 +30,11 @@ keys_of_groups order is_order grouping rows =
       ordered = subst (IsStrictlySortedBy order) (sym are) (keys_sorted order is_order (key_bytes grouping.keys) rows);
       exact = λ q. (
         (λ inside.
-        Contains-from_any true_same q (map (key_bytes grouping.keys) rows)
-        (sym (same q) ∙ list_any-from_Contains bytes_equiv q (keys_in order (key_bytes grouping.keys) rows) (subst (λ (ks : List (List ℕ)). Contains ks q) are inside))),
+            Contains-from_any true_same q (map (key_bytes grouping.keys) rows)
+            (sym (same q) ∙ list_any-from_Contains bytes_equiv q (keys_in order (key_bytes grouping.keys) rows) (subst (λ (ks : List (List ℕ)). Contains ks q) are inside))),
         (λ inside.
-        subst (λ (ks : List (List ℕ)). Contains ks q) (sym are)
-        (Contains-from_any true_same q (keys_in order (key_bytes grouping.keys) rows)
-        (same q ∙ list_any-from_Contains bytes_equiv q (map (key_bytes grouping.keys) rows) inside))),
+            subst (λ (ks : List (List ℕ)). Contains ks q) (sym are)
+            (Contains-from_any true_same q (keys_in order (key_bytes grouping.keys) rows)
+            (same q ∙ list_any-from_Contains bytes_equiv q (map (key_bytes grouping.keys) rows) inside))),
       );
     }

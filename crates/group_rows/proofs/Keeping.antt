@@ -15,7 +15,7 @@ use Rattle.group_rows.specs.Partials.{Grouping, Partial, combine, combined_by, k
 use Rattle.group_rows.specs.Tables.{HaveDistinctKeys}
 use Rattle.group_rows.proofs.Each.{is_each, keys_each}
 use Rattle.group_rows.proofs.Merging.{combines}
-use Rattle.group_rows.proofs.Keys.{same_true, sorted_insert, stands}
+use Rattle.group_rows.proofs.Keys.{or_turn, same_true, sorted_insert, stands}
 use Rattle.group_rows.proofs.Tables.{any_order}
 
 module _ (order : KeyOrder) (is_order : IsExactOrder order) where
@@ -82,12 +82,7 @@ module _ (order : KeyOrder) (is_order : IsExactOrder order) where
           → stands q (map key_of (match_ordering o (p ∷ x ∷ xs) (p ∷ x ∷ xs) (x ∷ more))) ≡ (bytes_eq q p.key || (bytes_eq q x.key || stands q (map key_of xs)))
       stands_place Less q p x xs more rest = refl
       stands_place Equal q p x xs more rest = refl
-      stands_place Greater q p x xs more rest = ap (λ (b : Bool). bytes_eq q x.key || b) rest ∙ turn (bytes_eq q x.key) (bytes_eq q p.key) (stands q (map key_of xs)) where
-        turn : (a b c : Bool) → (a || (b || c)) ≡ (b || (a || c))
-        turn true true c = refl
-        turn true false c = refl
-        turn false true c = refl
-        turn false false c = refl
+      stands_place Greater q p x xs more rest = ap (λ (b : Bool). bytes_eq q x.key || b) rest ∙ or_turn (bytes_eq q x.key) (bytes_eq q p.key) (stands q (map key_of xs))
 
       place_stands : (q : List ℕ) (p : Partial) (xs : List Partial) → stands q (map key_of (place p xs)) ≡ (bytes_eq q p.key || stands q (map key_of xs))
       place_stands q p [] = refl

@@ -25,7 +25,7 @@ or_twice : (b c : Bool) → (b || (b || c)) ≡ (b || c)
 or_twice true c = refl
 or_twice false c = refl
 
-or_turn : (a b c : Bool) → (a || (b || c)) ≡ (b || (a || c))
+pub or_turn : (a b c : Bool) → (a || (b || c)) ≡ (b || (a || c))
 or_turn true true c = refl
 or_turn true false c = refl
 or_turn false true c = refl

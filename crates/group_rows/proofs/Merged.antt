@@ -16,6 +16,11 @@ pub record IsMerge {X : Type 0} (key : X → List ℕ) (merge : X → X → X) :
   pub assoc : (x y z : X) → merge (merge x y) z ≡ merge x (merge y z)
   pub comm : (x y : X) → key x ≡ key y → merge x y ≡ merge y x
 
+-- two questions that agree on each key choose the same
+pub map_agree : {Y : Type 0} (f g : List ℕ → Option Y) → ((q : List ℕ) → f q ≡ g q) → (ks : List (List ℕ)) → filter_map f ks ≡ filter_map g ks
+map_agree f g same [] = refl
+map_agree f g same (k ∷ ks) = ap₂ (λ (o : Option _) (ys : List _). cons_option o ys) (same k) (map_agree f g same ks)
+
 module _ {X : Type 0} (key : X → List ℕ) (merge : X → X → X) (laws : IsMerge key merge) where
   -- two that may be none
   abbrev pub merged : Option X → Option X → Option X
@@ -75,10 +80,6 @@ module _ {X : Type 0} (key : X → List ℕ) (merge : X → X → X) (laws : IsM
   pub one_some : (q : List ℕ) (xs : List X) → is_some (one_of key merge q xs) ≡ list_any (λ x. bytes_eq q (key x)) xs
   one_some q [] = refl
   one_some q (x ∷ xs) = ap is_some (one_cons q x xs) ∙ some_step (bytes_eq q (key x)) x (one_of key merge q xs) ∙ ap (λ (b : Bool). bytes_eq q (key x) || b) (one_some q xs)
-
-  map_agree : {Y : Type 0} (f g : List ℕ → Option Y) → ((q : List ℕ) → f q ≡ g q) → (ks : List (List ℕ)) → filter_map f ks ≡ filter_map g ks
-  map_agree f g same [] = refl
-  map_agree f g same (k ∷ ks) = ap₂ (λ (o : Option _) (ys : List _). cons_option o ys) (same k) (map_agree f g same ks)
 
   -- ---- one element for each key of a list in order
   module _ (R : KeyOrder) (is_order : IsExactOrder R) where

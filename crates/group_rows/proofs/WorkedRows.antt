@@ -1,4 +1,4 @@
--- Worked rows: a 1, b 2, a 3, by the bytes of the key.
+-- Worked rows: b 2, a 1, a -3, grouped by the first column, in the order of the keys' bytes.
 use Rattle.std.proofs.Common.{◌≡◌, List, [], ◌∷◌, map, refl}
 use Rattle.std.specs.Prelude.{pos, negsuc}
 use Rattle.std.specs.Int.{int_wrap}

@@ -17,6 +17,7 @@ pub record HaveKeysOf (order : KeyOrder) (grouping : Grouping) (rows : List (Lis
   pub ordered : IsStrictlySortedBy order (map key_of (groups_by order grouping rows))
   pub exact : (q : List ℕ) → Contains (map key_of (groups_by order grouping rows)) q ↔ Contains (map (key_bytes grouping.keys) rows) q
 
+-- so are the keys of any rows' groups
 abbrev pub GroupPerKey : Type 0
 GroupPerKey =
     (order : KeyOrder) → IsExactOrder order → (grouping : Grouping) (rows : List (List Value))

@@ -34,7 +34,7 @@ pub fn law_gives_groups()
     ensures groups { GiveGroups }
 {}
 
-/// Combining takes partial rows in any order and in any parts.
+/// Partial rows may be combined in any order, and any part of them first.
 pub fn law_any_parts()
     ensures order { InAnyOrder }
     ensures parts { InAnyParts }

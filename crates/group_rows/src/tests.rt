@@ -34,7 +34,14 @@ fn numbers_combine_by_their_aggregates(rt: HostRuntime) -> Result<(), Fail> {
 #[test]
 fn a_row_adds_one_and_the_numbers_of_its_columns(rt: HostRuntime) -> Result<(), Fail> {
     let alloc = rt.alloc();
-    let aggs = [Agg::Count, Agg::Sum(1), Agg::Min(1), Agg::Max(1), Agg::Max(0), Agg::Min(2)];
+    let aggs = [
+        Agg::Count,
+        Agg::Sum(1),
+        Agg::Min(1),
+        Agg::Max(1),
+        Agg::Max(0),
+        Agg::Min(2),
+    ];
     let mut entry = [1, 2, 2, 2, 0, 0];
     let table = [(-3, [2, -1, -3, 2, 0, 0]), (9, [3, 8, -3, 9, 0, 0])];
     for (number, after) in table {
