@@ -1,0 +1,47 @@
+-- A table and streams stand for the rows that were fed, after each step.
+use Rattle.std.proofs.Common.{◌≡◌, List, [], ◌∷◌, ◌++◌, map, refl, ap, sym, ◌∙◌, subst, append_assoc}
+use Rattle.std.specs.Prelude.{All}
+use Rattle.std.specs.List.Sorted.{IsPermutation}
+use Rattle.std.proofs.lemmas.List.{map-append}
+use Rattle.std.proofs.lemmas.List.Elements.{All-push}
+use Rattle.std.proofs.lemmas.List.Sorted.{IsPermutation-append_right, IsPermutation-to_front}
+use Rattle.row_codec.specs.declared.values.Value.{Value}
+use Rattle.row_codec.specs.Row.{IsValue}
+use Rattle.group_rows.specs.Combining.{AreValues}
+use Rattle.group_rows.specs.Keyed.{IsExactOrder, KeyOrder}
+use Rattle.group_rows.specs.Partials.{Grouping, Partial, combine, combined_by, key_of, partial_of}
+use Rattle.group_rows.specs.Standing.{KeepsStanding, StandFor}
+use Rattle.group_rows.proofs.Merged.{in_parts}
+use Rattle.group_rows.proofs.Giving.{gives}
+use Rattle.group_rows.proofs.Merging.{combines}
+use Rattle.group_rows.proofs.Tables.{any_order, into_entry}
+
+module _ (order : KeyOrder) (is_order : IsExactOrder order) (grouping : Grouping) where
+  parts : (xs ys : List Partial) → combined_by order grouping (combined_by order grouping xs ++ ys) ≡ combined_by order grouping (xs ++ ys)
+  parts xs ys = in_parts key_of (combine grouping) (combines grouping) order is_order xs ys
+
+  -- what is combined to the same stays so with others behind
+  pub with_others : (xs ys zs : List Partial) → combined_by order grouping xs ≡ combined_by order grouping ys → combined_by order grouping (xs ++ zs) ≡ combined_by order grouping (ys ++ zs)
+  with_others xs ys zs same = sym (parts xs zs) ∙ ap (λ (ps : List Partial). combined_by order grouping (ps ++ zs)) same ∙ parts ys zs
+
+  row_more : (fed : List (List Value)) (row : List Value) (entries streams : List Partial) → AreValues fed → All IsValue row → StandFor order grouping fed (entries ++ streams)
+      → StandFor order grouping (fed ++ row ∷ []) (entries ++ partial_of grouping row ∷ streams)
+  row_more fed row entries streams values good stand =
+      let p : Partial = partial_of grouping row in
+      any_order order is_order grouping ((entries ++ streams) ++ p ∷ []) (entries ++ p ∷ streams)
+      (subst (λ (xs : List Partial). IsPermutation xs (entries ++ p ∷ streams)) (sym (append_assoc entries streams (p ∷ [])))
+      (IsPermutation-append_right entries (streams ++ p ∷ []) (p ∷ streams) (IsPermutation-to_front streams p)))
+      ∙ with_others (entries ++ streams) (map (partial_of grouping) fed) (p ∷ []) (stand ∙ sym (gives order is_order grouping fed values))
+      ∙ ap (combined_by order grouping) (sym (map-append (partial_of grouping) fed (row ∷ [])))
+      ∙ gives order is_order grouping (fed ++ row ∷ []) (All-push (λ r. All IsValue r) fed row values good)
+
+  pub keeps_standing : KeepsStanding order grouping
+  keeps_standing = record {
+    none = refl;
+    into_entry = λ fed row entries streams at entry values good there same stand.
+        (into_entry order is_order grouping entries streams at entry (partial_of grouping row) there same).combined ∙ row_more fed row entries streams values good stand;
+    behind = λ fed row entries streams values good stand.
+        ap (combined_by order grouping) (append_assoc entries (partial_of grouping row ∷ []) streams) ∙ row_more fed row entries streams values good stand;
+    moved = λ fed old new same stand. any_order order is_order grouping old new same ∙ stand;
+    combined = λ fed some others stand. parts some others ∙ stand;
+  }
