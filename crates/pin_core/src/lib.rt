@@ -2,18 +2,20 @@
 #![tactic(auto)]
 
 mod alloc;
+mod asking;
+#[cfg(test)]
+mod checks;
+mod clients;
+mod conf;
 mod create;
 mod destroy;
 mod evict;
 mod extract;
 mod finish;
 mod finish_read;
+mod growing;
 mod here;
 mod jobs;
-mod asking;
-mod clients;
-mod conf;
-mod growing;
 mod kept;
 mod leavings;
 mod lending;
@@ -28,10 +30,13 @@ mod repin;
 mod room;
 mod run;
 mod start;
+#[cfg(test)]
+mod tests;
 mod unpin;
 
 pub use finish::Wrote;
 pub use jobs::{ReadJob, WriteJob};
+
 mod readers;
 mod sessions;
 mod setup;

@@ -1,0 +1,55 @@
+//! What calls need of sessions and clients.
+ghost use Rattle.std.specs.Prelude.{◌≡◌, ◌≤◌, IsSome, IsTrue};
+ghost use Rattle.std.specs.FinMap.{get};
+ghost use Rattle.index_list.specs.Listing.{stands_in};
+ghost use Rattle.reservation_tree.specs.Tracker.{unused};
+ghost use Rattle.session_table.specs.Seats.{seat_of, trackers_of};
+ghost use Rattle.pool_model.specs.Owning.{IsClientOf};
+ghost use Rattle.pool_model.specs.Sums.{HasRoom, charge_of};
+ghost use Rattle.pin_core.specs.StateOf.{state_of};
+
+use crate::pool::PoolState;
+use reservation_tree::TrackerId;
+use session_table::{MAX_SESSIONS, Member};
+
+impl<D: Drop> PoolState<D> {
+    /// Whether the session is live.
+    pub(crate) fn is_seat(&self, s: u32) -> bool
+        ensures live { IsTrue result → IsSome (get (state_of self.now).sessions s) }
+        ensures seated { IsTrue result → IsSome (seat_of self.now.seats s) }
+    {
+        s < MAX_SESSIONS && self.parts.seats.is_seated(s)
+    }
+
+    /// Whether the tracker is that of a client of the session.
+    pub(crate) fn is_client_of(&self, s: u32, t: TrackerId) -> bool
+        ensures { IsTrue result → IsClientOf (state_of self.now) s t }
+    {
+        s < MAX_SESSIONS
+            && self.parts.seats.is_seated(s)
+            && has(self.parts.seats.members(s), t.number())
+    }
+
+    /// Whether a client of the session can hold so many bytes more.
+    pub(crate) fn can_hold(&self, s: u32, t: TrackerId, bytes: u64) -> bool
+        ensures client { IsTrue result → IsClientOf (state_of self.now) s t }
+        ensures room { IsTrue result → HasRoom (state_of self.now) t bytes }
+    {
+        self.parts.laws();
+        self.is_client_of(s, t) && self.parts.has_room(t.number(), bytes)
+    }
+
+    /// Whether so many bytes of a client of the session are unused.
+    pub(crate) fn has_unused(&self, s: u32, t: TrackerId, bytes: u64) -> bool
+        ensures { IsTrue result → bytes ≤ unused (charge_of (state_of self.now)) (state_of self.now).trackers t }
+    {
+        self.is_client_of(s, t) && bytes <= self.parts.tree.unused(t)
+    }
+}
+
+// Whether a client with this tracker is one of these.
+fn has(members: &[Member], tracker: u32) -> bool
+    ensures { result ≡ stands_in tracker (trackers_of members.now) }
+{
+    members.iter().any(|member| member.tracker == tracker)
+}

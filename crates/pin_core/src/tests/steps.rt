@@ -1,0 +1,382 @@
+//! Single steps of a session and of a writer, each asked for first.
+
+use crate::{PinTurn, PoolConf, PoolState, ReadJob, RoomTurn, Want, WriteJob, Wrote};
+use block_arena::{Buf, Shell};
+use outside::{MemSlot, OpenGate};
+use reservation_tree::PoolErr;
+use scratch_dev::SlotShell;
+use std::alloc::Global;
+use std::process::Abort;
+use store_api::{Client, Loan, Page};
+
+/// A pool over slots in memory.
+pub(crate) type Pool = PoolState<MemSlot>;
+
+/// So many slots, of which each fails at the stores and loads that are listed.
+pub(crate) fn slots(rt: &impl Abort, alloc: Global, count: u32, fails: &[u64]) -> Vec<MemSlot> {
+    let mut slots = Vec::new(alloc);
+    for _ in 0..count {
+        let slot = MemSlot::new(alloc, fails).expect(rt, "a slot");
+        slots.push(slot).expect(rt, "a slot");
+    }
+    slots
+}
+
+/// A pool with so many blocks.
+#[tactic(auto, unfolding(pool_model::specs::Bytes::bytes_of))]
+pub(crate) fn open(
+    rt: &impl Abort,
+    alloc: Global,
+    blocks: u32,
+    first_name: u64,
+    slots: Vec<MemSlot>,
+) -> Pool {
+    assert!(rt; blocks >= 1);
+    assert!(rt; blocks <= 1024);
+    assert!(rt; slots.len() <= 1024);
+    let conf = PoolConf {
+        blocks,
+        block_len: 64,
+        first_name,
+    };
+    match PoolState::open(alloc, &conf, slots) {
+        Ok(pool) => pool,
+        Err(_) => panic!(rt; "no memory for a pool"),
+    }
+}
+
+/// A session with a limit in bytes, a quota of slots, and a least reservation.
+pub(crate) fn open_session(
+    rt: &impl Abort,
+    pool: &mut Pool,
+    limit: u64,
+    quota: u32,
+    least: u64,
+) -> Result<u32, PoolErr> {
+    assert!(rt; quota <= pool.spare());
+    pool.open_session(limit, quota, least)
+}
+
+/// A session that may reserve all memory, with a quota of slots.
+pub(crate) fn session(rt: &impl Abort, pool: &mut Pool, quota: u32) -> u32 {
+    match open_session(rt, pool, u64::MAX, quota, 0) {
+        Ok(s) => s,
+        Err(_) => panic!(rt; "no session"),
+    }
+}
+
+/// The limit of a session's query tracker.
+pub(crate) fn limit(rt: &impl Abort, pool: &Pool, s: u32) -> u64 {
+    assert!(rt; pool.is_seat(s));
+    let query = pool.tracker(s);
+    assert!(rt; pool.is_tracker(query));
+    pool.limit(query)
+}
+
+pub(crate) fn end_session(rt: &impl Abort, pool: &mut Pool, s: u32) {
+    assert!(rt; pool.is_seat(s));
+    assert!(rt; pool.has_no_client(s));
+    pool.end_session(s);
+}
+
+pub(crate) fn add_client(
+    rt: &impl Abort,
+    pool: &mut Pool,
+    s: u32,
+    limit: u64,
+) -> Result<Client, PoolErr> {
+    assert!(rt; pool.is_seat(s));
+    pool.add_client(s, limit)
+}
+
+/// A client with so much reservation.
+pub(crate) fn client(rt: &impl Abort, pool: &mut Pool, s: u32, bytes: u64) -> Client {
+    match add_client(rt, pool, s, u64::MAX) {
+        Ok(c) => {
+            assert_eq!(rt; increase(rt, pool, &c, bytes), Ok(()));
+            c
+        }
+        Err(_) => panic!(rt; "no client"),
+    }
+}
+
+pub(crate) fn end_client(rt: &impl Abort, pool: &mut Pool, c: Client) {
+    assert!(rt; pool.is_client(&c));
+    assert!(rt; pool.has_none(&c));
+    pool.end_client(c);
+}
+
+pub(crate) fn increase(
+    rt: &impl Abort,
+    pool: &mut Pool,
+    c: &Client,
+    bytes: u64,
+) -> Result<(), PoolErr> {
+    assert!(rt; pool.is_client(c));
+    pool.increase(c, bytes)
+}
+
+pub(crate) fn increase_to_fit(
+    rt: &impl Abort,
+    pool: &mut Pool,
+    c: &Client,
+    bytes: u64,
+) -> Result<(), PoolErr> {
+    assert!(rt; pool.is_client(c));
+    pool.increase_to_fit(c, bytes)
+}
+
+/// Gives back so much of a reservation that is neither charged nor held.
+pub(crate) fn decrease(rt: &impl Abort, pool: &mut Pool, c: &Client, bytes: u64) {
+    assert!(rt; pool.is_client(c));
+    assert!(rt; pool.has_left(c, bytes));
+    assert!(rt; pool.has_room(c, bytes));
+    pool.decrease_now(c, bytes);
+}
+
+pub(crate) fn move_reservation(
+    rt: &impl Abort,
+    pool: &mut Pool,
+    from: &Client,
+    to: &Client,
+    bytes: u64,
+) -> Result<(), PoolErr> {
+    assert!(rt; pool.is_client(from));
+    assert!(rt; pool.are_beside(from, to));
+    assert!(rt; pool.has_left(from, bytes));
+    assert!(rt; pool.has_room(from, bytes));
+    pool.move_now(from, to, bytes)
+}
+
+/// The bytes that are charged to a client.
+pub(crate) fn charge(rt: &impl Abort, pool: &Pool, c: &Client) -> u64 {
+    assert!(rt; pool.is_client(c));
+    pool.reservation(c.tracker())
+        .saturating_sub(pool.unused(c.tracker()))
+}
+
+pub(crate) fn ask(rt: &impl Abort, pool: &mut Pool, s: u32) -> u64 {
+    assert!(rt; pool.is_seat(s));
+    pool.ask(s)
+}
+
+pub(crate) fn start_write(rt: &impl Abort, pool: &mut Pool, who: u32) -> Option<WriteJob<MemSlot>> {
+    assert!(rt; who >= 1000);
+    assert!(rt; who < 1008);
+    pool.start_write(who)
+}
+
+/// Stores the blocks of a page that flies, and ends its write.
+pub(crate) fn write(rt: &impl Abort, pool: &mut Pool, mut job: WriteJob<MemSlot>) -> Wrote {
+    assert!(rt; pool.is_write_job(&job));
+    job.run(&OpenGate, 1000);
+    assert!(rt; pool.is_write_job(&job));
+    pool.finish_write(job)
+}
+
+/// Writes pages of the client until it has room for so many bytes.
+///
+/// # Errors
+///
+/// The number of a failure that is noted of the client.
+pub(crate) fn make_room(
+    rt: &impl Abort,
+    pool: &mut Pool,
+    since: u64,
+    c: &Client,
+    bytes: u64,
+) -> Result<(), u64> {
+    for _ in 0..64 {
+        let s = c.session();
+        assert!(rt; pool.is_client_in(s, c));
+        assert!(rt; pool.has_left(c, bytes));
+        match pool.room_turn(s, since, c, Want::Hold(bytes)) {
+            RoomTurn::Ready => return Ok(()),
+            RoomTurn::Refused { entry } => return Err(entry),
+            RoomTurn::Write(job) => {
+                write(rt, pool, job);
+            }
+            RoomTurn::Wait => panic!(rt; "a page flies"),
+        }
+    }
+    panic!(rt; "too many pages are written")
+}
+
+pub(crate) fn create_now(
+    rt: &impl Abort,
+    alloc: Global,
+    pool: &mut Pool,
+    c: &Client,
+    blocks: u32,
+) -> Result<(Page, Buf), (Shell, SlotShell<MemSlot>, PoolErr)> {
+    let shell = Shell::with(alloc, blocks).expect(rt, "a shell");
+    let slots = SlotShell::with(alloc, blocks).expect(rt, "a shell");
+    assert!(rt; pool.can_fill(c, &shell));
+    pool.create_now(c, shell, slots)
+}
+
+/// A new page of so many blocks, where its client has room for it after some writes.
+pub(crate) fn create(
+    rt: &impl Abort,
+    alloc: Global,
+    pool: &mut Pool,
+    c: &Client,
+    blocks: u32,
+) -> (Page, Buf) {
+    let since = ask(rt, pool, c.session());
+    let bytes = pool.length(blocks);
+    assert_eq!(rt; make_room(rt, pool, since, c, bytes), Ok(()));
+    match create_now(rt, alloc, pool, c, blocks) {
+        Ok(made) => made,
+        Err(_) => panic!(rt; "no name is left"),
+    }
+}
+
+/// The length of a page in bytes.
+pub(crate) fn page_len(rt: &impl Abort, pool: &Pool, p: &Page) -> u64 {
+    assert!(rt; pool.is_page(p));
+    pool.page_len(p)
+}
+
+/// A new page of so many blocks, left with this byte in front.
+pub(crate) fn left(
+    rt: &impl Abort,
+    alloc: Global,
+    pool: &mut Pool,
+    c: &Client,
+    blocks: u32,
+    byte: u8,
+) -> Page {
+    let (page, mut buf) = create(rt, alloc, pool, c, blocks);
+    put(rt, &mut buf, byte);
+    assert!(rt; unpin(rt, pool, &page, buf).is_ok());
+    page
+}
+
+/// Puts a byte in front of a buffer.
+pub(crate) fn put(rt: &impl Abort, buf: &mut Buf, byte: u8) {
+    assert!(rt; buf.len() >= 1);
+    buf.write_at(0, &[byte]);
+}
+
+/// The byte in front of a buffer.
+pub(crate) fn front(rt: &impl Abort, buf: &Buf) -> u8 {
+    assert!(rt; buf.len() >= 1);
+    let mut shown = [0];
+    buf.read_at(0, &mut shown);
+    shown[0]
+}
+
+pub(crate) fn pin_turn(
+    rt: &impl Abort,
+    pool: &mut Pool,
+    s: u32,
+    since: u64,
+    p: &Page,
+) -> PinTurn<MemSlot> {
+    assert!(rt; pool.can_pin(s, p));
+    pool.pin_turn(s, since, p)
+}
+
+/// Loads the blocks of a page, and ends its load.
+pub(crate) fn read(
+    rt: &impl Abort,
+    pool: &mut Pool,
+    since: u64,
+    mut job: ReadJob<MemSlot>,
+) -> Result<Buf, PoolErr> {
+    assert!(rt; pool.is_read_job(&job));
+    job.run(&OpenGate, 0);
+    assert!(rt; pool.is_read_job(&job));
+    pool.finish_read(since, job)
+}
+
+/// Pins a page of the session, after writes where its client has no room for it.
+pub(crate) fn pin(rt: &impl Abort, pool: &mut Pool, s: u32, p: &Page) -> Result<Buf, PoolErr> {
+    let since = ask(rt, pool, s);
+    for _ in 0..64 {
+        match pin_turn(rt, pool, s, since, p) {
+            PinTurn::Here(buf) => return Ok(buf),
+            PinTurn::Load(job) => return read(rt, pool, since, job),
+            PinTurn::Refused { entry } => return Err(PoolErr::WriteFault { entry }),
+            PinTurn::Write(job) => {
+                write(rt, pool, job);
+            }
+            PinTurn::Wait => panic!(rt; "a page flies"),
+        }
+    }
+    panic!(rt; "too many pages are written")
+}
+
+pub(crate) fn pin_again(rt: &impl Abort, pool: &mut Pool, p: &Page) {
+    assert!(rt; pool.is_pinned(p));
+    assert!(rt; pool.has_room_for(p));
+    pool.pin_again_now(p);
+}
+
+pub(crate) fn unpin_once(rt: &impl Abort, pool: &mut Pool, p: &Page) {
+    assert!(rt; pool.has_pin_to_spare(p));
+    pool.unpin_once(p);
+}
+
+pub(crate) fn unpin(
+    rt: &impl Abort,
+    pool: &mut Pool,
+    p: &Page,
+    buf: Buf,
+) -> Result<(), (Buf, PoolErr)> {
+    assert!(rt; pool.is_last_pin(p, &buf));
+    pool.unpin(p, buf)
+}
+
+pub(crate) fn extract(rt: &impl Abort, pool: &mut Pool, p: Page, buf: Buf) -> Loan {
+    assert!(rt; pool.is_last_pin(&p, &buf));
+    pool.extract(p, buf)
+}
+
+pub(crate) fn destroy_pinned(rt: &impl Abort, pool: &mut Pool, p: Page, buf: Buf) {
+    assert!(rt; pool.is_pinned_with(&p, &buf));
+    pool.destroy_pinned(p, buf);
+}
+
+pub(crate) fn destroy_unpinned(rt: &impl Abort, pool: &mut Pool, p: Page) -> Result<(), Page> {
+    assert!(rt; pool.is_unpinned(&p));
+    pool.destroy_unpinned(p)
+}
+
+/// Ends a page that nobody writes.
+pub(crate) fn destroy(rt: &impl Abort, pool: &mut Pool, p: Page) {
+    match destroy_unpinned(rt, pool, p) {
+        Ok(()) => {}
+        Err(_) => panic!(rt; "the page flies"),
+    }
+}
+
+pub(crate) fn alloc_loan(
+    rt: &impl Abort,
+    alloc: Global,
+    pool: &mut Pool,
+    c: &Client,
+    blocks: u32,
+) -> Loan {
+    let shell = Shell::with(alloc, blocks).expect(rt, "a shell");
+    assert!(rt; pool.can_fill(c, &shell));
+    pool.alloc_now(c, shell)
+}
+
+pub(crate) fn move_loan(rt: &impl Abort, pool: &mut Pool, loan: Loan, to: &Client) -> Loan {
+    assert!(rt; pool.is_loan(to.session(), &loan));
+    assert!(rt; pool.can_move_to(&loan, to));
+    pool.move_buffer_now(loan, to)
+}
+
+pub(crate) fn free(rt: &impl Abort, pool: &mut Pool, s: u32, loan: Loan) {
+    assert!(rt; pool.is_loan(s, &loan));
+    pool.free(loan);
+}
+
+/// Ends a pool without sessions, and tells how many slots came back.
+pub(crate) fn close(rt: &impl Abort, pool: Pool) -> usize {
+    assert!(rt; pool.has_no_session());
+    pool.close().len()
+}
