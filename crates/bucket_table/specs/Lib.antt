@@ -1,0 +1,3 @@
+pub mod Tables
+pub mod Regions
+pub mod Threads
