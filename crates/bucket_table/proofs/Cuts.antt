@@ -1,7 +1,7 @@
 -- Cutting a part out of bytes of which another part was written.
-use Rattle.std.proofs.Common.{◌≡◌, ℕ, zero, suc, ◌+◌, ◌-◌, ◌<◌, ◌≤◌, List, [], ◌∷◌, ◌++◌, take, drop, length, refl, ap, sym, ◌∙◌, arith, length-append, append_assoc, zero-add}
+use Rattle.std.proofs.Common.{◌≡◌, ℕ, zero, suc, ◌+◌, ◌-◌, ◌<◌, ◌≤◌, List, [], ◌∷◌, ◌++◌, take, drop, length, refl, ap, sym, ◌∙◌, arith, length-append, append_assoc, append-nil, zero-add}
 use Rattle.std.proofs.Math.Seq.{take-add}
-use Rattle.std.proofs.lemmas.List.{drop-drop, drop-take, take-take, take_at, take_all, drop_at, take-append-le, drop-append-le, length-take, length-take-le, length-drop}
+use Rattle.std.proofs.lemmas.List.{drop_all, drop-drop, drop-take, take-take, take_at, take_all, drop_at, take-append-le, drop-append-le, length-take, length-take-le, length-drop}
 use borrow.Rule.Slice.PartMut.{put_mid}
 use Rattle.block_arena.specs.Bytes.{written}
 use Rattle.bucket_table.specs.Regions.{cut}
@@ -119,3 +119,7 @@ shown_more piece bytes at done n front next =
 -- where all is shown, so is each part
 pub shown_part : (piece bytes : List ℕ) (at done n : ℕ) → done + n ≤ length piece → cut at (length piece) bytes ≡ piece → cut (at + done) n bytes ≡ take n (drop done piece)
 shown_part piece bytes at done n inside whole = sym (cut_cut at (length piece) done n bytes inside) ∙ ap (cut done n) whole
+
+-- all of it is written over
+pub written_all : (piece old : List ℕ) → length piece ≡ length old → written 0 piece old ≡ piece
+written_all piece old long = ap (λ (rest : List ℕ). piece ++ rest) (drop_all (0 + length piece) old (omega (arith, long))) ∙ append-nil piece

@@ -1,3 +1,12 @@
+pub mod Changed
 pub mod Cuts
+pub mod Emptied
+pub mod Heads
+pub mod Inserted
+pub mod LookedUp
 pub mod Marks
+pub mod Nodes
+pub mod TheRow
 pub mod Spelling
+pub mod Threaded
+pub mod Views

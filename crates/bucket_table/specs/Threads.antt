@@ -1,8 +1,8 @@
 -- How the rows of a table lie in its bytes. A node is four bytes of a link, and the row. A link or a head is one more
 -- than the place of a node, and 0 is none. About private fields; no public clause cites this.
-use Rattle.std.specs.Prelude.{◌≡◌, ℕ, zero, suc, ◌+◌, ◌-◌, ◌*◌, ◌<◌, ◌≤◌, ◌==◌, ◌^◌, List, [], ◌∷◌, length, take, drop, fold, max, set, if◌then◌else◌, ⊤}
-use Rattle.bucket_table.specs.Tables.{Node, used_by, IsFramed}
-use Rattle.bucket_table.specs.Regions.{cut, link_at}
+use Rattle.std.specs.Prelude.{◌≡◌, ℕ, zero, suc, ◌+◌, ◌-◌, ◌*◌, ◌<◌, ◌≤◌, ◌==◌, ◌^◌, List, [], ◌∷◌, length, take, drop, max, set, if◌then◌else◌, Option, Some, None, ⊤}
+use Rattle.bucket_table.specs.Tables.{Node, Table, used_by, IsFramed}
+use Rattle.bucket_table.specs.Regions.{Region, cut, link_at}
 
 -- the link to the newest of these nodes on a chain
 abbrev pub link_to : ℕ → List Node → ℕ
@@ -37,8 +37,10 @@ abbrev pub place_in : ℕ → List ℕ → ℕ
 place_in x [] = 0
 place_in x (y ∷ ys) = if y == x then 0 else suc (place_in x ys)
 
+-- the greatest of these numbers, and 0 where there is none
 abbrev pub greatest : List ℕ → ℕ
-greatest links = fold max 0 links
+greatest [] = 0
+greatest (x ∷ xs) = max x (greatest xs)
 
 -- the row of the node at this place, as its first four bytes count it
 abbrev pub row_at : List ℕ → ℕ → List ℕ
@@ -56,3 +58,29 @@ nodes_from (suc most) area links =
 -- the nodes of a table
 abbrev pub nodes_in : ℕ → List ℕ → List ℕ → List Node
 nodes_in heads links area = nodes_from (length area) area (links_in heads links)
+
+-- what the fields of a table say: its nodes stand threaded in its bytes
+pub record IsTable (heads used : ℕ) (links area : List ℕ) : Type 0 where
+  pub threaded : IsThreaded heads links area (nodes_in heads links area)
+  pub used_is : used ≡ used_by (nodes_in heads links area)
+  pub sized : length links ≡ 4 * heads
+  pub some : 0 < heads
+  pub few : 4 * heads < 2 ^ 32
+  pub short : length area < 2 ^ 32
+
+-- the node to which a link goes
+abbrev pub node_in : ℕ → Option ℕ
+node_in zero = None
+node_in (suc p) = Some p
+
+-- what contracts see of a table with so many chains, whose heads and whose nodes have these bytes
+abbrev pub table_of : ℕ → Region → Region → Table
+table_of heads links area = record {
+  page_blocks = area.blocks;
+  block_len = area.block_len;
+  heads = heads;
+  room = length area.bytes;
+  nodes = nodes_in heads links.bytes area.bytes;
+  head_loans = links.loans;
+  node_loans = area.loans;
+}

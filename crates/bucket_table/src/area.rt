@@ -1,5 +1,5 @@
 //! Several loans of one length, as one list of bytes.
-ghost use Rattle.std.specs.Prelude.{◌≡◌, ◌↔◌, ◌+◌, ◌*◌, ◌<◌, ◌≤◌, ◌/◌, ◌%◌, ◌^◌, length, true};
+ghost use Rattle.std.specs.Prelude.{◌≡◌, ◌↔◌, ◌+◌, ◌*◌, ◌<◌, ◌≤◌, ◌/◌, ◌%◌, ◌^◌, length, replicate, true};
 ghost use Rattle.block_arena.specs.Bytes.{written};
 ghost use Rattle.bucket_table.specs.Regions.{cut, with_bytes};
 
@@ -52,6 +52,25 @@ fn are_same(a: &[u8], b: &[u8]) -> bool
 }
 
 impl Area {
+    // How many bytes there are.
+    #[inline]
+    pub(crate) fn len(&self) -> usize
+        ensures value { result ≡ length self.now.bytes }
+        ensures short { result < 2 ^ 32 }
+    {
+        self.parts.len() * self.each.len()
+    }
+
+    // Makes every byte zero.
+    pub(crate) fn zero(&mut self)
+        ensures { self.new ≡ with_bytes (replicate (length self.old.bytes) 0) self.old }
+    {
+        for i in 0..self.parts.len() {
+            let part = &mut self.parts[i];
+            part.buf_mut().zero();
+        }
+    }
+
     // The bytes from a place on that lie in one block, and so many at most.
     #[inline]
     pub(crate) fn front(&self, at: usize, most: usize) -> &[u8]

@@ -21,7 +21,7 @@ front_of-requires c =
     let is = loan_inside inside.blocks inside.block.len inside.each.len c.args.at c.args.most loans c.self.invariant inside.each.some c.requires.some within in
     let loan = c.index-loan.result.now in
     let loan_is : loan ≡ get_or loans (c.args.at / inside.each.len) loan = c.index-loan.ensures ∙ ap (λ (i : ℕ). get_or loans i loan) c.part.ensures in
-    let buf = buffer_is inside.blocks inside.block.len inside.each.len c.args.at loans loan c.self.invariant is loan_is in
+    let buf = buffer_is inside.blocks inside.block.len inside.each.len (c.args.at / inside.each.len) loans loan c.self.invariant is loan_is in
     let below : c.args.at % inside.each.len < inside.each.len = omega (arith, c.place.ensures.value, c.place.ensures.below) in
     let few = block_few inside.blocks inside.block.len inside.each.len c.args.at c.self.invariant.each inside.block.some below in
     record {
