@@ -10,11 +10,11 @@ pub link_in_zeros : (n at : ℕ) → at + 4 ≤ n → link_at (replicate n 0) at
 link_in_zeros n at inside = ap (λ (bytes : List ℕ). number_in (take 4 bytes)) (drop-replicate at n 0) ∙ ap number_in (take-replicate 4 (n - at) 0 (omega (arith, inside)))
 
 -- no head links to a node
-pub empty_table : (heads n : ℕ) (area : List ℕ) → n ≡ 4 * heads → 0 < heads → 4 * heads < 2 ^ 32 → length area < 2 ^ 32 → IsTable heads 0 (replicate n 0) area × (nodes_in heads (replicate n 0) area ≡ [])
+pub empty_table : (heads n : ℕ) (area : List ℕ) → 4 * heads ≤ n → 0 < heads → 4 * heads < 2 ^ 32 → length area < 2 ^ 32 → IsTable heads 0 (replicate n 0) area × (nodes_in heads (replicate n 0) area ≡ [])
 empty_table heads n area sized some few short =
     let is : IsThreaded heads (replicate n 0) area [] = record {
       stand = tt;
       linked = λ k inside. link_in_zeros n (4 * k) (omega (arith, inside, sized));
       inside = omega arith;
     } in
-    table_is heads 0 (replicate n 0) area [] is refl (length-replicate n 0 ∙ sized) some few short
+    table_is heads 0 (replicate n 0) area [] is refl (let long = length-replicate {A = ℕ} n 0 in omega (arith, long, sized)) some few short

@@ -26,7 +26,7 @@ link_else k j link heads bytes inside other long =
       | inr above ↦ ap number_in (cut_behind (4 * k) (to_be_bytes w32 link) bytes within (4 * j) 4 (omega (arith, above, other)))
     ]
 
-module _ (heads used k : ℕ) (links area row : List ℕ) (nodes : List Node) (is : IsThreaded heads links area nodes) (used_is : used ≡ used_by nodes) (sized : length links ≡ 4 * heads) (inside : k < heads) (framed : IsFramed row) (short : length area < 2 ^ 32) (room : used + 4 + length row ≤ length area) where
+module _ (heads used k : ℕ) (links area row : List ℕ) (nodes : List Node) (is : IsThreaded heads links area nodes) (used_is : used ≡ used_by nodes) (sized : 4 * heads ≤ length links) (inside : k < heads) (framed : IsFramed row) (short : length area < 2 ^ 32) (room : used + 4 + length row ≤ length area) where
   abbrev pub linked_area : List ℕ
   linked_area = written used (to_be_bytes w32 (link_at links (4 * k))) area
 
@@ -73,7 +73,7 @@ module _ (heads used k : ℕ) (links area row : List ℕ) (nodes : List Node) (i
             (link_now (4 * k) (used + 1) links (omega (arith, link_room, short)) (omega (arith, inside, sized))
             ∙ ap (λ (p : ℕ). p + 1) used_is ∙ sym (link_here k (new_node k row nodes) nodes refl))
         | inr other ↦
-            link_else k j (used + 1) heads links inside other (omega (arith, sized)) ∙ is.linked j within
+            link_else k j (used + 1) heads links inside other sized ∙ is.linked j within
             ∙ sym (link_past j (new_node k row nodes) nodes (λ same. other (sym same)))
       ]
 
@@ -93,5 +93,5 @@ inserted heads used k links area row is inside framed room =
     let long = area_long heads used k links area row nodes is.threaded is.used_is is.sized inside framed is.short room in
     let links_same = links_long_now heads used k links area row nodes is.threaded is.used_is is.sized inside framed is.short room in
     let used_now : used + 4 + length row ≡ used_by (new_node k row nodes ∷ nodes) = ap (λ (p : ℕ). p + 4 + length row) is.used_is in
-    let table = table_is heads (used + 4 + length row) _ _ (new_node k row nodes ∷ nodes) threaded used_now (links_same ∙ is.sized) is.some is.few (omega (arith, long, is.short)) in
+    let table = table_is heads (used + 4 + length row) _ _ (new_node k row nodes ∷ nodes) threaded used_now (omega (arith, links_same, is.sized)) is.some is.few (omega (arith, long, is.short)) in
     (table.0, table.1, long)

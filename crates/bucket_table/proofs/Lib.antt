@@ -3,6 +3,7 @@ pub mod Cuts
 pub mod Emptied
 pub mod Heads
 pub mod Inserted
+pub mod Lent
 pub mod LookedUp
 pub mod Marks
 pub mod Nodes

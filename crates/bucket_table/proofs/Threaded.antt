@@ -101,7 +101,7 @@ nodes_are heads links area nodes is =
     (record { long = links_long heads links; each = λ k inside. link_among heads k links inside ∙ is.linked k inside })
 
 -- what the bytes of a table show, from how its nodes stand in them
-pub table_is : (heads used : ℕ) (links area : List ℕ) (nodes : List Node) → IsThreaded heads links area nodes → used ≡ used_by nodes → length links ≡ 4 * heads → 0 < heads → 4 * heads < 2 ^ 32 → length area < 2 ^ 32 → IsTable heads used links area × (nodes_in heads links area ≡ nodes)
+pub table_is : (heads used : ℕ) (links area : List ℕ) (nodes : List Node) → IsThreaded heads links area nodes → used ≡ used_by nodes → 4 * heads ≤ length links → 0 < heads → 4 * heads < 2 ^ 32 → length area < 2 ^ 32 → IsTable heads used links area × (nodes_in heads links area ≡ nodes)
 table_is heads used links area nodes is used_is sized some few short =
     let are : nodes_in heads links area ≡ nodes = nodes_are heads links area nodes is in (
       record {

@@ -20,9 +20,10 @@ pub record Lent : Type 0 where
   pub blocks : ℕ
   pub block_len : ℕ
 
--- a table: the blocks of each of its buffers and their length; how many chains it has; the length of its node area; its
--- rows; and its loans
+-- a table: its client; the blocks of each of its buffers and their length; how many chains it has; the length of its node
+-- area; its rows; and its loans
 pub record Table : Type 0 where
+  pub client : ℕ
   pub page_blocks : ℕ
   pub block_len : ℕ
   pub heads : ℕ

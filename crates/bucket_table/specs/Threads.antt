@@ -1,7 +1,7 @@
 -- How the rows of a table lie in its bytes. A node is four bytes of a link, and the row. A link or a head is one more
 -- than the place of a node, and 0 is none. About private fields; no public clause cites this.
 use Rattle.std.specs.Prelude.{◌≡◌, ℕ, zero, suc, ◌+◌, ◌-◌, ◌*◌, ◌<◌, ◌≤◌, ◌==◌, ◌^◌, List, [], ◌∷◌, length, take, drop, max, set, if◌then◌else◌, Option, Some, None, ⊤}
-use Rattle.bucket_table.specs.Tables.{Node, Table, used_by, IsFramed}
+use Rattle.bucket_table.specs.Tables.{Lent, Node, Table, used_by, IsFramed}
 use Rattle.bucket_table.specs.Regions.{Region, cut, link_at}
 
 -- the link to the newest of these nodes on a chain
@@ -63,7 +63,7 @@ nodes_in heads links area = nodes_from (length area) area (links_in heads links)
 pub record IsTable (heads used : ℕ) (links area : List ℕ) : Type 0 where
   pub threaded : IsThreaded heads links area (nodes_in heads links area)
   pub used_is : used ≡ used_by (nodes_in heads links area)
-  pub sized : length links ≡ 4 * heads
+  pub sized : 4 * heads ≤ length links
   pub some : 0 < heads
   pub few : 4 * heads < 2 ^ 32
   pub short : length area < 2 ^ 32
@@ -73,9 +73,15 @@ abbrev pub node_in : ℕ → Option ℕ
 node_in zero = None
 node_in (suc p) = Some p
 
+-- the client of the first of these loans
+abbrev pub client_in : List Lent → ℕ
+client_in [] = 0
+client_in (l ∷ loans) = l.client
+
 -- what contracts see of a table with so many chains, whose heads and whose nodes have these bytes
 abbrev pub table_of : ℕ → Region → Region → Table
 table_of heads links area = record {
+  client = client_in links.loans;
   page_blocks = area.blocks;
   block_len = area.block_len;
   heads = heads;
