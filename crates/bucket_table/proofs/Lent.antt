@@ -33,7 +33,7 @@ moved_own t y z l own same len = record {
   block_len = len ∙ own.block_len;
 }
 
-All-split : (P : Lent → Type 0) (a b : List Lent) → All P (a ++ b) → All P a × All P b
+pub All-split : (P : Lent → Type 0) (a b : List Lent) → All P (a ++ b) → All P a × All P b
 All-split P [] b all = (no_loans P, all)
 All-split P (l ∷ a) b all =
     let rest = All-split P a b (All-tail P l (a ++ b) all) in

@@ -42,15 +42,19 @@ pub record Lends (t : ℕ) (loans : List Lent) (less more : Holdings) : Type 0 w
   pub own : All (IsOwn t more) loans
   pub apart : AreApart loans
 
+-- these loans are the store's, and this client's
+pub record AreHeld (t : ℕ) (h : Holdings) (loans : List Lent) : Type 0 where
+  pub lives : IsSome (h.clients t)
+  pub own : All (IsOwn t h) loans
+  pub apart : AreApart loans
+
 -- all loans of a table
 abbrev pub loans_of : Table → List Lent
 loans_of table = table.head_loans ++ table.node_loans
 
 -- the table's loans are the store's, and its client's
-pub record IsTableOf (table : Table) (h : Holdings) : Type 0 where
-  pub lives : IsSome (h.clients table.client)
-  pub own : All (IsOwn table.client h) (loans_of table)
-  pub apart : AreApart (loans_of table)
+abbrev pub IsTableOf : Table → Holdings → Type 0
+IsTableOf table h = AreHeld table.client h (loans_of table)
 
 -- the bytes of one of a table's buffers
 abbrev pub buffer_len : Table → ℕ

@@ -61,6 +61,14 @@ impl Area {
         self.parts.len() * self.each.len()
     }
 
+    // How many loans there are.
+    #[inline]
+    pub(crate) fn count(&self) -> usize
+        ensures { result ≡ length self.now.loans }
+    {
+        self.parts.len()
+    }
+
     // Makes every byte zero.
     pub(crate) fn zero(&mut self)
         ensures { self.new ≡ with_bytes (replicate (length self.old.bytes) 0) self.old }
