@@ -1,7 +1,7 @@
 -- Loans that are a client's, when others come and go.
 use Rattle.std.proofs.Common.{◌≡◌, ◌≢◌, ℕ, ◌+◌, ◌*◌, ◌<◌, List, [], ◌∷◌, ◌++◌, get_or, length, Result, Ok, Err, IfErr, OnErr, refl, ap, sym, ◌∙◌, subst, arith}
 use Rattle.std.specs.Prelude.{All}
-use Rattle.std.proofs.lemmas.List.Elements.{All-cons, All-head}
+use Rattle.std.proofs.lemmas.List.Elements.{All-append, All-cons, All-head}
 use Rattle.reservation_tree.specs.declared.errors.PoolErr.{PoolErr}
 use Rattle.reservation_tree.specs.declared.errors.PoolErr.TheVariants.{NoReservation, ScratchFull, WriteFault, ReadFault, TooManyTrackers, NamesSpent, Memory}
 use Rattle.store_api.specs.Holdings.{Holdings}
@@ -10,7 +10,7 @@ use Rattle.store_api.specs.Signs.{Signs, Grows}
 use Rattle.store_api.proofs.Answered.{answered_before, answered_after}
 use Rattle.bucket_table.specs.Tables.{Lent}
 use Rattle.bucket_table.specs.Lending.{AreApart, AreHeld, IsApart, IsOwn, Lends, WasShort}
-use Rattle.bucket_table.proofs.Lent.{All-split, moved_own, returns_one}
+use Rattle.bucket_table.proofs.Lent.{All-split, apart-append, dead_apart, moved_own, returns_one}
 
 apart-split : (a b : List Lent) → AreApart (a ++ b) → AreApart a × AreApart b × All (λ l. IsApart l.number b) a
 apart-split [] b apart = (tt, apart, λ k d within. absurd (omega (arith, within)))
@@ -25,6 +25,16 @@ held_of t loans less more is = record { lives = is.is; own = is.own; apart = is.
 
 pub held_back : (t : ℕ) (a b : List Lent) (h : Holdings) → AreHeld t h (a ++ b) → AreHeld t h b
 held_back t a b h is = record { lives = is.lives; own = (All-split (IsOwn t h) a b is.own).1; apart = (apart-split a b is.apart).1 }
+
+-- where more come, the ones that were there stay
+pub held_more : (t : ℕ) (a b : List Lent) (h new : Holdings) → AreHeld t h a → Lends t b h new → AreHeld t new (a ++ b)
+held_more t a b h new is came =
+    let between : All (λ l. IsApart l.number a) b = λ k d within. dead_apart t h (get_or b k d).number a (came.fresh k d within) is.own in
+    let own : All (IsOwn t new) a = λ k d within. moved_own t h new (get_or a k d) (is.own k d within)
+    (came.others (get_or a k d).number (λ j e inside same. between j e inside k d within (sym same)))
+    (ap (λ (x : Holdings). x.block_len) came.rest)
+    in
+    record { lives = came.is; own = All-append (IsOwn t new) a b own came.own; apart = apart-append a b is.apart came.apart between }
 
 -- where the last ones go, the first stay
 pub held_front : (t : ℕ) (a b : List Lent) (h new : Holdings) → AreHeld t h (a ++ b) → Lends t b new h → AreHeld t new a

@@ -2,6 +2,7 @@ pub mod Changed
 pub mod Cuts
 pub mod Emptied
 pub mod Filled
+pub mod Grown
 pub mod Heads
 pub mod Held
 pub mod Inserted

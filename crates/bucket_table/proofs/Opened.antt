@@ -9,7 +9,7 @@ use Rattle.store_api.specs.Holdings.{Holdings, length_of}
 use Rattle.std.proofs.lemmas.List.{length-replicate}
 use Rattle.bucket_table.specs.Tables.{Lent, Table, with_nodes}
 use Rattle.bucket_table.specs.Filling.{Fills, FillsBoth, each_of}
-use Rattle.bucket_table.specs.Lending.{AreHeld, IsOpened, IsOwn, Lends}
+use Rattle.bucket_table.specs.Lending.{AreHeld, IsOpened, IsOwn, IsTableOf, Lends}
 use Rattle.bucket_table.specs.Regions.{Region}
 use Rattle.bucket_table.specs.Threads.{client_in, table_of}
 use Rattle.bucket_table.proofs.Held.{held_of}
@@ -91,6 +91,17 @@ module _ (t heads nodes blocks block_len : ℕ) (links area : Region) (x y : Hol
         room = bytes_long t nodes blocks block_len area is.between y is.second ∙ ap (λ (n : ℕ). nodes * n) each;
         nodes = refl;
       })
+
+  pub table_of_both : (chains : ℕ) → 0 < heads → block_len ≡ x.block_len → IsBlockCount blocks → IsTableOf (with_nodes [] (table_of chains links area)) y
+  table_of_both chains some len sized =
+      let own = (All-split (IsOwn t y) links.loans area.loans both_held.own).0 in
+      let many : length links.loans ≡ heads = ap length (loans_are t heads blocks block_len links x is.between is.first) ∙ is.first.many in
+      let client : client_in links.loans ≡ t = client_is t y links.loans (omega (arith, some, many)) own in
+      record {
+        held = subst (λ (k : ℕ). AreHeld k y (links.loans ++ area.loans)) (sym client) both_held;
+        sized = subst IsBlockCount (sym (ap (λ (r : Region). r.blocks) is.second.region)) sized;
+        block_len = ap (λ (r : Region). r.block_len) is.second.region ∙ len ∙ sym (ap (λ (h : Holdings). h.block_len) both_lends.rest);
+      }
 
 pub from_empty : (t heads nodes blocks block_len : ℕ) (a links b area : Region) (x y : Holdings) → a ≡ no_loans_of blocks block_len → b ≡ no_loans_of blocks block_len → FillsBoth t heads nodes a links b area x y → FillsBoth t heads nodes (no_loans_of blocks block_len) links (no_loans_of blocks block_len) area x y
 from_empty t heads nodes blocks block_len a links b area x y one two is =

@@ -2,6 +2,7 @@
 use Rattle.std.specs.Prelude.{◌≡◌, ◌≢◌, ℕ, ◌+◌, ◌*◌, ◌/◌, List, [], ◌∷◌, ◌++◌, All, IsSome, Option, Some, None, ⊤}
 use Rattle.reservation_tree.specs.declared.errors.PoolErr.{PoolErr}
 use Rattle.pool_model.specs.declared.call.Call.TheVariants as call
+use Rattle.store_api.specs.Conditions.{IsBlockCount}
 use Rattle.store_api.specs.Holdings.{Account, Holdings, account_of, length_of, loan_of, unused_of}
 use Rattle.store_api.specs.Signs.{Signs, WasAnswered}
 use Rattle.store_api.specs.Refusals.{MayRefuse}
@@ -53,8 +54,10 @@ abbrev pub loans_of : Table → List Lent
 loans_of table = table.head_loans ++ table.node_loans
 
 -- the table's loans are the store's, and its client's
-abbrev pub IsTableOf : Table → Holdings → Type 0
-IsTableOf table h = AreHeld table.client h (loans_of table)
+pub record IsTableOf (table : Table) (h : Holdings) : Type 0 where
+  pub held : AreHeld table.client h (loans_of table)
+  pub sized : IsBlockCount table.page_blocks
+  pub block_len : table.block_len ≡ h.block_len
 
 -- the bytes of one of a table's buffers
 abbrev pub buffer_len : Table → ℕ
@@ -74,3 +77,9 @@ pub record IsOpened (t blocks head_bufs node_bufs : ℕ) (h : Holdings) (table :
 pub record WasShort (t blocks : ℕ) (before after : Signs) (e : PoolErr) : Type 0 where
   pub cause : MayRefuse t (call.Alloc t blocks) before after e
   pub answered : WasAnswered e before after
+
+-- a table got one buffer of nodes more, which its client is charged for
+pub record Grew (was now : Table) (old new : Holdings) : Type 0 where
+  pub loan : Lent
+  pub table : now ≡ record was { room = was.room + buffer_len was; node_loans = was.node_loans ++ loan ∷ [] }
+  pub lends : Lends was.client (loan ∷ []) old new

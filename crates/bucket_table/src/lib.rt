@@ -9,6 +9,7 @@
 mod area;
 mod finding;
 mod full;
+mod growing;
 mod inserting;
 mod loans;
 mod numbers;

@@ -90,6 +90,7 @@ impl BucketTable {
         requires unused { (head_bufs + node_bufs) * length_of page_blocks (St.holds store.old) ≤ unused_of c.now.tracker (St.holds store.old) }
         ensures ok { IfOk result (IsOpened c.now.tracker page_blocks head_bufs node_bufs (St.holds store.old)) }
         ensures lends { IfOk result (λ table. Lends c.now.tracker (loans_of table) (St.holds store.old) (St.holds store.new)) }
+        ensures table { IfOk result (λ table. IsTableOf table (St.holds store.new)) }
         ensures err { OnErr result (Alike (St.holds store.old) (St.holds store.new)) }
         ensures cause { IfErr result (WasShort c.now.tracker page_blocks (St.signs store.old) (St.signs store.new)) }
         ensures grows { Grows (St.signs store.old) (St.signs store.new) }
@@ -130,6 +131,7 @@ impl BucketTable {
         requires unused { (head_bufs + node_bufs) * length_of page_blocks (St.holds store.old) ≤ unused_of c.now.tracker (St.holds store.old) }
         ensures ok { IfOk result (IsOpened c.now.tracker page_blocks head_bufs node_bufs (St.holds store.old)) }
         ensures lends { IfOk result (λ table. Lends c.now.tracker (loans_of table) (St.holds store.old) (St.holds store.new)) }
+        ensures table { IfOk result (λ table. IsTableOf table (St.holds store.new)) }
         ensures err { OnErr result (Alike (St.holds store.old) (St.holds store.new)) }
         ensures cause { IfErr result (WasShort c.now.tracker page_blocks (St.signs store.old) (St.signs store.new)) }
         ensures grows { Grows (St.signs store.old) (St.signs store.new) }
@@ -159,6 +161,7 @@ impl BucketTable {
         requires unused { (1 + node_bufs) * length_of page_blocks (St.holds store.old) ≤ unused_of c.now.tracker (St.holds store.old) }
         ensures ok { IfOk result (IsOpened c.now.tracker page_blocks 1 node_bufs (St.holds store.old)) }
         ensures lends { IfOk result (λ table. Lends c.now.tracker (loans_of table) (St.holds store.old) (St.holds store.new)) }
+        ensures table { IfOk result (λ table. IsTableOf table (St.holds store.new)) }
         ensures err { OnErr result (Alike (St.holds store.old) (St.holds store.new)) }
         ensures cause { IfErr result (WasShort c.now.tracker page_blocks (St.signs store.old) (St.signs store.new)) }
         ensures grows { Grows (St.signs store.old) (St.signs store.new) }

@@ -3,10 +3,10 @@ use Rattle.store_api.specs.Holdings.{Holdings}
 use Rattle.store_api.proofs.Growing.{grows_trans}
 use Rattle.bucket_table.specs.Tables.{Lent, Table}
 use Rattle.bucket_table.specs.Regions.{Region}
-use Rattle.bucket_table.specs.Lending.{Lends, WasShort, loans_of}
+use Rattle.bucket_table.specs.Lending.{IsTableOf, Lends, WasShort, loans_of}
 use Rattle.bucket_table.proofs.Held.{short_after}
 use Rattle.bucket_table.proofs.Lent.{lends_same}
-use Rattle.bucket_table.proofs.Opened.{both_held, both_lends, from_empty, opened}
+use Rattle.bucket_table.proofs.Opened.{both_held, both_lends, from_empty, opened, table_of_both}
 use Rattle.bucket_table.proofs.table.BucketTable.open_over.Goals as goal
 
 pub give_both-requires : goal.give_both-requires
@@ -25,6 +25,8 @@ returns-in-Ok g c =
     record {
       ok = opened t c.args.head_bufs c.args.node_bufs c.args.page_blocks c.args.block_len _ _ _ _ is c.over.result c.requires.some c.requires.block_len c.over.ensures;
       lends = subst (λ (table : Table). Lends t (loans_of table) old new) (sym c.over.ensures) (both_lends t c.args.head_bufs c.args.node_bufs c.args.page_blocks c.args.block_len _ _ _ _ is);
+      table = subst (λ (table : Table). IsTableOf table new) (sym c.over.ensures)
+      (table_of_both t c.args.head_bufs c.args.node_bufs c.args.page_blocks c.args.block_len _ _ _ _ is (length c.fill_both.new.heads.bytes / 4) c.requires.some c.requires.block_len c.requires.blocks);
       err = tt;
       cause = tt;
       grows = c.in-Ok.ensures.grows;
@@ -39,6 +41,7 @@ returns-in-Err g c =
     record {
       ok = tt;
       lends = tt;
+      table = tt;
       err = lends_same t _ _ _ _ (both_lends t some.0 some.1 c.args.page_blocks c.args.block_len _ _ _ _ is) (c.give_both.ensures.lends t (both_held t some.0 some.1 c.args.page_blocks c.args.block_len _ _ _ _ is));
       cause =
           subst (λ (n : ℕ). WasShort t n (g.St.Store.signs c.args.store.now) (g.St.Store.signs c.give_both.new.store) c.in-Err.e) blocks
