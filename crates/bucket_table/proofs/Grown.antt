@@ -4,10 +4,13 @@ use Rattle.std.proofs.lemmas.List.{length-replicate, take-append-le}
 use Rattle.store_api.specs.Holdings.{Holdings}
 use Rattle.bucket_table.specs.Tables.{Lent, Table, used_by}
 use Rattle.bucket_table.specs.Filling.{Fills, each_of}
-use Rattle.bucket_table.specs.Lending.{AreHeld, Grew, IsTableOf, Lends, loans_of}
+use Rattle.bucket_table.specs.Lending.{AreHeld, Grew, IsTableOf, Lends, bytes_of, loans_of}
 use Rattle.bucket_table.specs.Regions.{Region}
 use Rattle.bucket_table.specs.Threads.{IsTable, IsThreaded, client_in, nodes_in, table_of}
+use Rattle.store_api.specs.Alike.{Alike}
+use Rattle.bucket_table.specs.Tables.{with_nodes}
 use Rattle.bucket_table.proofs.Held.{held_more}
+use Rattle.bucket_table.proofs.Lent.{lends_same, lends_trans}
 use Rattle.bucket_table.proofs.Nodes.{nodes_same}
 use Rattle.bucket_table.proofs.Threaded.{table_is}
 
@@ -65,6 +68,7 @@ module _ (t heads used : ℕ) (links area area_new : Region) (old new : Holdings
           head_loans = links.loans;
           node_loans = loans i;
         };
+        bytes = (let whole = sym (ap bytes_of one.1) ∙ came.bytes in let e : one.0.blocks * one.0.block_len ≡ each_of area = omega (arith, whole) in e);
         lends = subst (λ (k : ℕ). Lends k (one.0 ∷ []) old new) (sym client) (subst (λ (more : List Lent). Lends t more old new) one.1 came.lends);
       }
 
@@ -77,3 +81,14 @@ grew_held was now old new is grew =
       sized = is.sized;
       block_len = is.block_len ∙ sym (ap (λ (h : Holdings). h.block_len) grew.lends.rest);
     })
+
+-- the same where it grew between
+pub grew_closed : (t : ℕ) (table grown now : Table) (old mid more new : Holdings) → table.client ≡ t → Grew table grown mid more → now ≡ with_nodes now.nodes grown → Lends t (loans_of table) old mid → Lends now.client (loans_of now) new more → Alike old new
+grew_closed t table grown now old mid more new client grew same lent back =
+    let came : Lends t (grew.loan ∷ []) mid more = subst (λ (k : ℕ). Lends k (grew.loan ∷ []) mid more) client grew.lends in
+    let all : Lends t (loans_of table ++ grew.loan ∷ []) old more = lends_trans t (loans_of table) (grew.loan ∷ []) old mid more lent came in
+    let there : Lends grown.client (loans_of grown) new more = subst (λ (x : Table). Lends x.client (loans_of x) new more) same back in
+    let loans : loans_of grown ≡ loans_of table ++ grew.loan ∷ [] = ap loans_of grew.table ∙ sym (append_assoc table.head_loans table.node_loans (grew.loan ∷ [])) in
+    let owner : grown.client ≡ t = ap (λ (x : Table). x.client) grew.table ∙ client in
+    lends_same t (loans_of table ++ grew.loan ∷ []) old more new all
+    (subst (λ (k : ℕ). Lends k (loans_of table ++ grew.loan ∷ []) new more) owner (subst (λ (ls : List Lent). Lends grown.client ls new more) loans there))

@@ -4,16 +4,17 @@ use Rattle.std.specs.Prelude.{All}
 use Rattle.std.proofs.Math.Nat.{mul-le-mul_left, mul-le-mul_right}
 use Rattle.std.proofs.lemmas.Bool.{cases_lt, false≢true, ne_eqb}
 use Rattle.std.proofs.lemmas.List.Elements.{All-head}
+use Rattle.store_api.specs.Alike.{Alike}
 use Rattle.store_api.specs.Conditions.{IsBlockCount}
 use Rattle.store_api.specs.Holdings.{Holdings, length_of}
 use Rattle.std.proofs.lemmas.List.{length-replicate}
 use Rattle.bucket_table.specs.Tables.{Lent, Table, with_nodes}
 use Rattle.bucket_table.specs.Filling.{Fills, FillsBoth, each_of}
-use Rattle.bucket_table.specs.Lending.{AreHeld, IsOpened, IsOwn, IsTableOf, Lends}
+use Rattle.bucket_table.specs.Lending.{AreHeld, bytes_of, loans_of, IsOpened, IsOwn, IsTableOf, Lends}
 use Rattle.bucket_table.specs.Regions.{Region}
 use Rattle.bucket_table.specs.Threads.{client_in, table_of}
 use Rattle.bucket_table.proofs.Held.{held_of}
-use Rattle.bucket_table.proofs.Lent.{All-split, lends_trans}
+use Rattle.bucket_table.proofs.Lent.{All-split, bytes-append, lends_same, lends_trans}
 
 pub some_blocks : (blocks : ℕ) → IsBlockCount blocks → 0 < blocks
 some_blocks zero is = absurd (false≢true is)
@@ -90,6 +91,13 @@ module _ (t heads nodes blocks block_len : ℕ) (links area : Region) (x y : Hol
         heads = ap (λ (n : ℕ). n / 4) (bytes_long t heads blocks block_len links x is.between is.first) ∙ ap (λ (n : ℕ). heads * n / 4) each;
         room = bytes_long t nodes blocks block_len area is.between y is.second ∙ ap (λ (n : ℕ). nodes * n) each;
         nodes = refl;
+        bytes =
+            bytes-append links.loans area.loans
+            ∙ ap (λ (loans : List Lent). bytes_of loans + bytes_of area.loans) (loans_are t heads blocks block_len links x is.between is.first)
+            ∙ ap (λ (loans : List Lent). bytes_of is.first.more + bytes_of loans) (loans_are t nodes blocks block_len area is.between y is.second)
+            ∙ ap (λ (n : ℕ). n + bytes_of is.second.more) is.first.bytes ∙ ap (λ (n : ℕ). heads * (blocks * block_len) + n) is.second.bytes
+            ∙ (let e : heads * (blocks * block_len) + nodes * (blocks * block_len) ≡ (heads + nodes) * (blocks * block_len) = omega arith in e)
+            ∙ ap (λ (n : ℕ). (heads + nodes) * n) each;
       })
 
   pub table_of_both : (chains : ℕ) → 0 < heads → block_len ≡ x.block_len → IsBlockCount blocks → IsTableOf (with_nodes [] (table_of chains links area)) y
@@ -107,3 +115,9 @@ pub from_empty : (t heads nodes blocks block_len : ℕ) (a links b area : Region
 from_empty t heads nodes blocks block_len a links b area x y one two is =
     subst (λ (r : Region). FillsBoth t heads nodes r links (no_loans_of blocks block_len) area x y) one
     (subst (λ (r : Region). FillsBoth t heads nodes a links r area x y) two is)
+
+-- what was lent to a table comes back when it ends, whatever its rows are then
+pub closed_again : (t : ℕ) (table now : Table) (old mid new : Holdings) → table.client ≡ t → now ≡ with_nodes now.nodes table → Lends t (loans_of table) old mid → Lends now.client (loans_of now) new mid → Alike old new
+closed_again t table now old mid new client same lent back =
+    lends_same t (loans_of table) old mid new lent
+    (subst (λ (k : ℕ). Lends k (loans_of table) new mid) client (subst (λ (x : Table). Lends x.client (loans_of x) new mid) same back))

@@ -71,6 +71,7 @@ pub record IsOpened (t blocks head_bufs node_bufs : ℕ) (h : Holdings) (table :
   pub heads : table.heads ≡ head_bufs * length_of blocks h / 4
   pub room : table.room ≡ node_bufs * length_of blocks h
   pub nodes : table.nodes ≡ []
+  pub bytes : bytes_of (loans_of table) ≡ (head_bufs + node_bufs) * length_of blocks h
 
 -- the store lent no buffer to this client, and this shows it: there was no memory, or a write of one of the client's
 -- pages failed
@@ -82,4 +83,5 @@ pub record WasShort (t blocks : ℕ) (before after : Signs) (e : PoolErr) : Type
 pub record Grew (was now : Table) (old new : Holdings) : Type 0 where
   pub loan : Lent
   pub table : now ≡ record was { room = was.room + buffer_len was; node_loans = was.node_loans ++ loan ∷ [] }
+  pub bytes : loan.blocks * loan.block_len ≡ buffer_len was
   pub lends : Lends was.client (loan ∷ []) old new

@@ -22,3 +22,6 @@ mod walking;
 
 pub use full::Full;
 pub use table::BucketTable;
+
+#[cfg(test)]
+mod tests;
