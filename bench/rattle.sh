@@ -13,6 +13,12 @@ mkdir -p "$copy/crates/bench_$name/src"
 for source in "$top/bench/$name"/*.rt.txt; do
     cp "$source" "$copy/crates/bench_$name/src/$(basename "$source" .txt)"
 done
+if [ -d "$top/bench/$name/proofs" ]; then
+    cp -r "$top/bench/$name/proofs" "$copy/crates/bench_$name/proofs"
+    find "$copy/crates/bench_$name/proofs" -name '*.txt' | while read -r file; do
+        mv "$file" "${file%.txt}"
+    done
+fi
 cat "$top/bench/$name/deps.txt" >> "$copy/crates.txt"
 cd "$copy/crates/bench_$name"
 rt run -- "$@"

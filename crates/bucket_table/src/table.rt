@@ -46,9 +46,9 @@ impl BucketTable {
         4 <= left && bytes <= left - 4
     }
 
-    // How many bytes the row of a node has. It lies in the node area.
+    /// How many bytes the row of a node has.
     #[inline]
-    pub(crate) fn row_len(&self, node: u32) -> usize
+    pub fn row_len(&self, node: u32) -> usize
         requires { HasNode node self.now.nodes }
         ensures value { result ≡ length (row_of node self.now.nodes) }
         ensures some { 4 ≤ result }
