@@ -59,9 +59,9 @@ module _ (heads used k : ℕ) (links area row : List ℕ) (nodes : List Node) (i
     chain = inside;
     framed = framed;
     link = subst (λ (p : ℕ). link_at (written (used + 4) row linked_area) p ≡ link_to k nodes) used_is
-    (ap number_in (cut_before (used + 4) row linked_area row_room used 4 (omega arith))
-    ∙ link_now used (link_at links (4 * k)) area (let below = link_below k heads area nodes is.stand in omega (arith, head_is, below, used_is, link_room, short)) link_room
-    ∙ head_is);
+        (ap number_in (cut_before (used + 4) row linked_area row_room used 4 (omega arith))
+        ∙ link_now used (link_at links (4 * k)) area (let below = link_below k heads area nodes is.stand in omega (arith, head_is, below, used_is, link_room, short)) link_room
+        ∙ head_is);
     row = subst (λ (p : ℕ). cut (p + 4) (length row) (written (used + 4) row linked_area) ≡ row) used_is (cut_written (used + 4) row linked_area row_room);
   }
 

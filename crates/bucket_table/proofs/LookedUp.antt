@@ -136,8 +136,8 @@ newer_is p heads area (n ∷ m ∷ older) are has other =
             | inr further ↦
                 let has_rest : HasNode p (m ∷ older) = has_past p n (m ∷ older) away has in
                 let before : p + 4 + length (row_of p (m ∷ older)) ≢ used_by (m ∷ older) = λ end.
-                    (let deep = node_inside p heads area older are.1.1 (has_past p m older further has_rest) in
-                    let len = row_len_past p m older further in omega (arith, deep, len, end, are.1.0.place)) in
+                (let deep = node_inside p heads area older are.1.1 (has_past p m older further has_rest) in
+                let len = row_len_past p m older further in omega (arith, deep, len, end, are.1.0.place)) in
                 let rest = newer_is p heads area (m ∷ older) are.1 has_rest before in
                 let width : p + 4 + length (row_of p (m ∷ older)) ≡ p + 4 + length (row_of p (n ∷ m ∷ older)) = ap (λ (k : ℕ). p + 4 + k) (sym past) in (
                   newer_past p n m older further ∙ rest.0 ∙ ap Some width,

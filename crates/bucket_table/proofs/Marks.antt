@@ -101,9 +101,9 @@ front_is buf block_len from place count block bl place_is fits block_is size =
     let inside : place + count ≤ length block = omega (arith, fits, size, bl) in (
       ap (λ (k : ℕ). length (take k (drop place block))) width ∙ length_cut place count block inside,
       ap (λ (k : ℕ). take k (drop place block)) width
-      ∙ ap (λ (k : ℕ). cut k count block) place_is
-      ∙ ap (λ (b : List ℕ). cut (from % block_len) count b) block_is
-      ∙ block_front buf block_len from count bl (omega (arith, fits, place_is)),
+          ∙ ap (λ (k : ℕ). cut k count block) place_is
+          ∙ ap (λ (b : List ℕ). cut (from % block_len) count b) block_is
+          ∙ block_front buf block_len from count bl (omega (arith, fits, place_is)),
     )
 
 pub loan_inside : (blocks block_len len at most : ℕ) (loans : List LoanToken) → AreParts blocks block_len len loans → 0 < len → 0 < most → at + most ≤ length (area_of loans) → at / len < length loans

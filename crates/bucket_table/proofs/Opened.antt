@@ -24,9 +24,15 @@ pub most_blocks : (blocks : ℕ) → IsBlockCount blocks → blocks ≤ 256
 most_blocks blocks is =
     elim (cases_lt 256 blocks) [
       | inl more ↦ absurd (false≢true (rw (
-        ne_eqb 1 blocks (λ same. omega (arith, same, more)), ne_eqb 2 blocks (λ same. omega (arith, same, more)), ne_eqb 4 blocks (λ same. omega (arith, same, more)),
-        ne_eqb 8 blocks (λ same. omega (arith, same, more)), ne_eqb 16 blocks (λ same. omega (arith, same, more)), ne_eqb 32 blocks (λ same. omega (arith, same, more)),
-        ne_eqb 64 blocks (λ same. omega (arith, same, more)), ne_eqb 128 blocks (λ same. omega (arith, same, more)), ne_eqb 256 blocks (λ same. omega (arith, same, more))
+        ne_eqb 1 blocks (λ same. omega (arith, same, more)),
+        ne_eqb 2 blocks (λ same. omega (arith, same, more)),
+        ne_eqb 4 blocks (λ same. omega (arith, same, more)),
+        ne_eqb 8 blocks (λ same. omega (arith, same, more)),
+        ne_eqb 16 blocks (λ same. omega (arith, same, more)),
+        ne_eqb 32 blocks (λ same. omega (arith, same, more)),
+        ne_eqb 64 blocks (λ same. omega (arith, same, more)),
+        ne_eqb 128 blocks (λ same. omega (arith, same, more)),
+        ne_eqb 256 blocks (λ same. omega (arith, same, more)),
       ) at is))
       | inr few ↦ few
     ]

@@ -138,7 +138,13 @@ impl BucketTable {
     {
         let block_len = store.block_len();
         BucketTable::open_over(
-            alloc, store, c, page_blocks, block_len, head_bufs, node_bufs,
+            alloc,
+            store,
+            c,
+            page_blocks,
+            block_len,
+            head_bufs,
+            node_bufs,
         )
     }
 

@@ -266,7 +266,11 @@ fn expect(
     store.close();
     let seen = answer?;
     for (i, row) in rows.iter().enumerate() {
-        assert_eq!(rt; seen.get(i).map(|shown| shown.as_slice()), Some(row.1), "step {i}");
+        assert_eq!(rt;
+            seen.get(i).map(|shown| shown.as_slice()),
+            Some(row.1),
+            "step {i}"
+        );
     }
     Ok(())
 }

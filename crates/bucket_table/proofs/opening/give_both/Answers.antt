@@ -10,7 +10,7 @@ pub give-requires-2 : goal.give-requires-2
 give-requires-2 g c = (
   c.requires.0,
   held_front c.requires.0 c.args.heads.loans c.args.nodes.loans (g.St.Store.holds c.args.store.now) (g.St.Store.holds c.give.new.store) c.requires.1
-  (c.give.ensures.lends c.requires.0 (held_back c.requires.0 c.args.heads.loans c.args.nodes.loans (g.St.Store.holds c.args.store.now) c.requires.1)),
+      (c.give.ensures.lends c.requires.0 (held_back c.requires.0 c.args.heads.loans c.args.nodes.loans (g.St.Store.holds c.args.store.now) c.requires.1)),
 )
 
 pub returns-clause-lends : goal.returns-clause-lends

@@ -37,7 +37,7 @@ returns-in_err-add-clause-err g c =
     any_err c.from_residual.result (
       i,
       subst (λ (r : Region). Fills t i c.args.self.now r old (g.St.Store.holds c.add.new.store)) (sym same)
-      (subst (λ (h : Holdings). Fills t i c.args.self.now c.loop-i.self old h) (sym held) c.loop-i.invariant.filled),
+          (subst (λ (h : Holdings). Fills t i c.args.self.now c.loop-i.self old h) (sym held) c.loop-i.invariant.filled),
     )
 
 pub returns-in_err-add-clause-cause : goal.returns-in_err-add-clause-cause

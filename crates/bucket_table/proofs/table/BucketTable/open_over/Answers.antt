@@ -26,7 +26,7 @@ returns-in-Ok g c =
       ok = opened t c.args.head_bufs c.args.node_bufs c.args.page_blocks c.args.block_len _ _ _ _ is c.over.result c.requires.some c.requires.block_len c.over.ensures;
       lends = subst (λ (table : Table). Lends t (loans_of table) old new) (sym c.over.ensures) (both_lends t c.args.head_bufs c.args.node_bufs c.args.page_blocks c.args.block_len _ _ _ _ is);
       table = subst (λ (table : Table). IsTableOf table new) (sym c.over.ensures)
-      (table_of_both t c.args.head_bufs c.args.node_bufs c.args.page_blocks c.args.block_len _ _ _ _ is (length c.fill_both.new.heads.bytes / 4) c.requires.some c.requires.block_len c.requires.blocks);
+          (table_of_both t c.args.head_bufs c.args.node_bufs c.args.page_blocks c.args.block_len _ _ _ _ is (length c.fill_both.new.heads.bytes / 4) c.requires.some c.requires.block_len c.requires.blocks);
       err = tt;
       cause = tt;
       grows = c.in-Ok.ensures.grows;
