@@ -1,12 +1,12 @@
 -- A row that is written over in part.
-use Rattle.std.proofs.Common.{◌≡◌, ◌≢◌, ℕ, ◌+◌, ◌-◌, ◌*◌, ◌^◌, ◌<◌, ◌≤◌, ◌==◌, List, [], ◌∷◌, take, drop, length, map, refl, ap, sym, ◌∙◌, subst, inl, inr, arith}
+use Rattle.std.proofs.Common.{◌≡◌, ◌≢◌, ℕ, ◌+◌, ◌≤◌, List, [], ◌∷◌, take, length, refl, ap, sym, ◌∙◌, subst, inl, inr, arith}
 use Rattle.std.proofs.lemmas.Bool.{cases_eq, eq-eqb, ne_eqb, false≢true}
 use Rattle.block_arena.specs.Bytes.{written}
 use Rattle.block_arena.proofs.Copies.{length-written}
 use Rattle.row_codec.specs.RowReading.{number_in}
-use Rattle.bucket_table.specs.Tables.{Node, used_by, IsFramed, from_node, HasNode, first_row, row_of, rewritten, with_row}
-use Rattle.bucket_table.specs.Regions.{cut, link_at}
-use Rattle.bucket_table.specs.Threads.{AreNodes, IsNode, IsTable, IsThreaded, link_to, nodes_in}
+use Rattle.bucket_table.specs.Tables.{Node, used_by, IsFramed, HasNode, first_row, row_of, rewritten, with_row}
+use Rattle.bucket_table.specs.Regions.{cut}
+use Rattle.bucket_table.specs.Threads.{AreNodes, IsTable, IsThreaded, link_to, nodes_in}
 use Rattle.bucket_table.proofs.Cuts.{cut_around, cut_before, cut_behind, take_written}
 use Rattle.bucket_table.proofs.Nodes.{from_here, from_past, has_past, link_here, link_past, node_inside, nodes_same}
 use Rattle.bucket_table.proofs.Threaded.{table_is}

@@ -1,7 +1,7 @@
 -- Cutting a part out of bytes of which another part was written.
-use Rattle.std.proofs.Common.{◌≡◌, ℕ, zero, suc, ◌+◌, ◌-◌, ◌<◌, ◌≤◌, List, [], ◌∷◌, ◌++◌, take, drop, length, refl, ap, sym, ◌∙◌, arith, length-append, append_assoc, append-nil, zero-add}
+use Rattle.std.proofs.Common.{◌≡◌, ℕ, suc, ◌+◌, ◌-◌, ◌≤◌, List, [], ◌∷◌, ◌++◌, take, drop, length, refl, ap, sym, ◌∙◌, arith, length-append, append_assoc, append-nil, zero-add}
 use Rattle.std.proofs.Math.Seq.{take-add}
-use Rattle.std.proofs.lemmas.List.{drop_all, drop-drop, drop-take, take-take, take_at, take_all, drop_at, take-append-le, drop-append-le, length-take, length-take-le, length-drop}
+use Rattle.std.proofs.lemmas.List.{drop_all, drop-drop, drop-take, take-take, take_at, drop_at, take-append-le, drop-append-le, length-take, length-take-le, length-drop}
 use borrow.Rule.Slice.PartMut.{put_mid}
 use Rattle.block_arena.specs.Bytes.{written}
 use Rattle.bucket_table.specs.Regions.{cut}

@@ -1,10 +1,9 @@
 -- Areas to which loans come, and from which they go, one after the other.
 use Rattle.std.proofs.Common.{◌≡◌, ℕ, ◌+◌, ◌*◌, ◌^◌, ◌<◌, ◌≤◌, List, Some, [], ◌∷◌, ◌++◌, map, take, replicate, length, IsSome, refl, ap, sym, ◌∙◌, subst, arith, append-nil, append_assoc, length-append}
-use Rattle.std.specs.Prelude.{All}
 use Rattle.std.specs.List.{concat}
 use Rattle.std.proofs.Math.Nat.{mul-le-mul_right}
 use Rattle.std.proofs.Math.Seq.{take-length}
-use Rattle.std.proofs.lemmas.List.{length-replicate, map-append, replicate-append-replicate, take_at, take-take}
+use Rattle.std.proofs.lemmas.List.{length-replicate, map-append, replicate-append-replicate, take-take}
 use Rattle.std.proofs.lemmas.List.Elements.{All-head, All-pop, All-push}
 use Rattle.block_arena.specs.Memory.{IsBufferOf}
 use Rattle.block_arena.proofs.Pieces.{concat-append}
@@ -12,10 +11,9 @@ use Rattle.store_api.specs.Holdings.{Account, Holdings, length_of, loan_of, unus
 use Rattle.store_api.specs.Tokens.{LoanToken}
 use Rattle.store_api.specs.Conditions.{IsLoan}
 use Rattle.bucket_table.specs.Tables.{Lent}
-use Rattle.bucket_table.specs.Lending.{AreHeld, IsOwn, Lends, bytes_of}
+use Rattle.bucket_table.specs.Lending.{AreHeld, IsOwn, bytes_of}
 use Rattle.bucket_table.specs.Regions.{AreParts, Region, area_of, lent, pieces}
 use Rattle.bucket_table.specs.Filling.{Fills, Shrinks, each_of, with_zeros}
-use Rattle.bucket_table.proofs.Held.{freed_last, held_front}
 use Rattle.bucket_table.proofs.Lent.{All-split, bytes-append, lends_none, lends_trans}
 
 -- ---- one loan behind the others

@@ -1,5 +1,5 @@
 -- Loans that are a client's, when others come and go.
-use Rattle.std.proofs.Common.{◌≡◌, ◌≢◌, ℕ, ◌+◌, ◌*◌, ◌<◌, List, [], ◌∷◌, ◌++◌, get_or, length, Result, Ok, Err, IfErr, OnErr, refl, ap, sym, ◌∙◌, subst, arith}
+use Rattle.std.proofs.Common.{◌≡◌, ◌≢◌, ℕ, List, [], ◌∷◌, ◌++◌, get_or, Result, Ok, Err, IfErr, OnErr, ap, sym, arith}
 use Rattle.std.specs.Prelude.{All}
 use Rattle.std.proofs.lemmas.List.Elements.{All-append, All-cons, All-head}
 use Rattle.reservation_tree.specs.declared.errors.PoolErr.{PoolErr}

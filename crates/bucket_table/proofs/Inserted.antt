@@ -1,5 +1,5 @@
 -- A node that comes in front of its chain.
-use Rattle.std.proofs.Common.{◌≡◌, ◌≢◌, ℕ, ◌+◌, ◌-◌, ◌*◌, ◌^◌, ◌<◌, ◌≤◌, List, [], ◌∷◌, take, drop, length, refl, ap, sym, ◌∙◌, subst, inl, inr, arith}
+use Rattle.std.proofs.Common.{◌≡◌, ◌≢◌, ℕ, ◌+◌, ◌*◌, ◌^◌, ◌<◌, ◌≤◌, List, ◌∷◌, take, length, refl, ap, sym, ◌∙◌, subst, inl, inr, arith}
 use Rattle.std.specs.Int.{w32, to_be_bytes}
 use Rattle.std.proofs.lemmas.Bool.{cases_eq, cases_lt}
 use Rattle.block_arena.specs.Bytes.{written}
@@ -7,7 +7,7 @@ use Rattle.block_arena.proofs.Copies.{length-written}
 use Rattle.row_codec.specs.RowReading.{number_in}
 use Rattle.bucket_table.specs.Tables.{Node, used_by, new_node, IsFramed}
 use Rattle.bucket_table.specs.Regions.{cut, link_at}
-use Rattle.bucket_table.specs.Threads.{AreNodes, IsNode, IsTable, IsThreaded, link_to, nodes_in}
+use Rattle.bucket_table.specs.Threads.{IsNode, IsTable, IsThreaded, link_to, nodes_in}
 use Rattle.bucket_table.proofs.Cuts.{cut_before, cut_behind, cut_written, take_written}
 use Rattle.bucket_table.proofs.Nodes.{link_below, link_here, link_past, nodes_same}
 use Rattle.bucket_table.proofs.Spelling.{link_back}

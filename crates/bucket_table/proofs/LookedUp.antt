@@ -1,12 +1,11 @@
 -- What links and lengths say of the nodes of a chain, and of nodes in the order in which they came.
-use Rattle.std.proofs.Common.{◌≡◌, ◌≢◌, ℕ, zero, suc, ◌+◌, ◌-◌, ◌*◌, ◌<◌, ◌≤◌, ◌==◌, List, [], ◌∷◌, take, drop, length, map, Option, Some, None, IsSome, refl, ap, sym, ◌∙◌, subst, inl, inr, arith, add-one}
+use Rattle.std.proofs.Common.{◌≡◌, ◌≢◌, ℕ, ◌+◌, ◌<◌, ◌≤◌, List, [], ◌∷◌, length, Option, Some, None, IsSome, refl, ap, sym, ◌∙◌, subst, inl, inr, arith, add-one}
 use Rattle.std.proofs.lemmas.Bool.{cases_eq, eq-eqb, ne_eqb, false≢true}
 use Rattle.std.proofs.lemmas.Option.{none-some}
 use Rattle.std.specs.Prelude.{slice_get}
-use Rattle.std.specs.List.{filter}
-use Rattle.bucket_table.specs.Tables.{Node, used_by, chain_of, newest_on, from_node, HasNode, first_row, row_of, next_among, next_on_chain, oldest, newer_than}
+use Rattle.bucket_table.specs.Tables.{Node, used_by, newest_on, HasNode, first_row, row_of, next_among, next_on_chain, oldest, newer_than}
 use Rattle.bucket_table.specs.Regions.{link_at}
-use Rattle.bucket_table.specs.Threads.{AreNodes, IsNode, link_to, node_in}
+use Rattle.bucket_table.specs.Threads.{AreNodes, link_to, node_in}
 use Rattle.bucket_table.proofs.Nodes.{from_here, from_past, has_past, link_here, link_past, node_inside}
 
 newest_here : (k : ℕ) (n : Node) (older : List Node) → n.chain ≡ k → newest_on k (n ∷ older) ≡ Some n.place

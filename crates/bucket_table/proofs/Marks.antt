@@ -1,10 +1,9 @@
 -- What is read and written in one of several loans, in the list of all their bytes.
-use Rattle.std.proofs.Common.{◌≡◌, ℕ, ◌+◌, ◌-◌, ◌*◌, ◌/◌, ◌%◌, ◌<◌, ◌≤◌, List, [], ◌∷◌, ◌++◌, map, set, replicate, get_or, length, take, drop, refl, ap, sym, ◌∙◌, subst, arith, slice_range}
-use Rattle.std.specs.Prelude.{All}
+use Rattle.std.proofs.Common.{◌≡◌, ℕ, ◌+◌, ◌-◌, ◌*◌, ◌/◌, ◌%◌, ◌<◌, ◌≤◌, List, [], ◌∷◌, ◌++◌, map, set, replicate, get_or, length, take, drop, ap, sym, ◌∙◌, subst, arith, slice_range}
 use Rattle.std.specs.List.{concat}
 use Rattle.std.proofs.lemmas.Nat.{div-add-mod'}
 use Rattle.std.proofs.Math.Nat.{div-lt_iff_lt-mul, mul-le-mul_right}
-use Rattle.std.proofs.lemmas.List.{get_or-map, get_or_default, length-map, map-set, set-get_or, length-set, length-replicate, replicate_more, take_more_set}
+use Rattle.std.proofs.lemmas.List.{get_or-map, length-map, map-set, set-get_or, length-set, length-replicate, replicate_more, take_more_set}
 use Rattle.std.proofs.lemmas.List.Elements.{All-map, All-set}
 use Rattle.block_arena.specs.Blocks.{AreBlocks}
 use Rattle.block_arena.specs.Bytes.{written}

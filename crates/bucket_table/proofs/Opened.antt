@@ -1,5 +1,5 @@
 -- A table as it is opened.
-use Rattle.std.proofs.Common.{◌≡◌, ◌≢◌, ℕ, zero, suc, ◌+◌, ◌*◌, ◌/◌, ◌^◌, ◌<◌, ◌≤◌, List, [], ◌∷◌, ◌++◌, replicate, length, refl, ap, sym, ◌∙◌, subst, inl, inr, arith}
+use Rattle.std.proofs.Common.{◌≡◌, ℕ, zero, suc, ◌+◌, ◌*◌, ◌/◌, ◌<◌, ◌≤◌, List, [], ◌∷◌, ◌++◌, replicate, length, refl, ap, sym, ◌∙◌, subst, inl, inr, arith}
 use Rattle.std.specs.Prelude.{All}
 use Rattle.std.proofs.Math.Nat.{mul-le-mul_left, mul-le-mul_right}
 use Rattle.std.proofs.lemmas.Bool.{cases_lt, false≢true, ne_eqb}
@@ -9,7 +9,7 @@ use Rattle.store_api.specs.Conditions.{IsBlockCount}
 use Rattle.store_api.specs.Holdings.{Holdings, length_of}
 use Rattle.std.proofs.lemmas.List.{length-replicate}
 use Rattle.bucket_table.specs.Tables.{Lent, Table, with_nodes}
-use Rattle.bucket_table.specs.Filling.{Fills, FillsBoth, each_of}
+use Rattle.bucket_table.specs.Filling.{Fills, FillsBoth}
 use Rattle.bucket_table.specs.Lending.{AreHeld, bytes_of, loans_of, IsOpened, IsOwn, IsTableOf, Lends}
 use Rattle.bucket_table.specs.Regions.{Region}
 use Rattle.bucket_table.specs.Threads.{client_in, table_of}

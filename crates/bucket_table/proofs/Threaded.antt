@@ -1,11 +1,11 @@
 -- The nodes that heads and links lead to are the ones that stand there.
-use Rattle.std.proofs.Common.{◌≡◌, ◌≢◌, ℕ, zero, suc, ◌+◌, ◌-◌, ◌*◌, ◌^◌, ◌<◌, ◌≤◌, ◌==◌, List, [], ◌∷◌, take, drop, set, get_or, length, refl, ap, sym, ◌∙◌, subst, inl, inr, arith}
+use Rattle.std.proofs.Common.{◌≡◌, ◌≢◌, ℕ, zero, suc, ◌+◌, ◌-◌, ◌*◌, ◌^◌, ◌<◌, ◌≤◌, List, [], ◌∷◌, take, drop, set, get_or, length, refl, ap, sym, ◌∙◌, subst, inl, inr, arith}
 use Rattle.std.proofs.lemmas.Bool.{cases_eq, ne_eqb}
 use Rattle.std.proofs.lemmas.List.{drop-drop, get_or-set_same, get_or-set_other, length-set}
 use Rattle.row_codec.specs.RowReading.{number_in}
 use Rattle.bucket_table.specs.Tables.{Node, used_by}
-use Rattle.bucket_table.specs.Regions.{cut, link_at}
-use Rattle.bucket_table.specs.Threads.{AreNodes, IsNode, IsTable, IsThreaded, greatest, link_to, links_in, nodes_from, nodes_in, place_in, row_at}
+use Rattle.bucket_table.specs.Regions.{link_at}
+use Rattle.bucket_table.specs.Threads.{AreNodes, IsTable, IsThreaded, greatest, link_to, links_in, nodes_from, nodes_in, place_in, row_at}
 use Rattle.bucket_table.proofs.Heads.{greatest_below, greatest_is, place_is}
 use Rattle.bucket_table.proofs.Nodes.{link_below, link_here, link_past, row_here}
 

@@ -1,6 +1,6 @@
 -- What contracts see of a table whose bytes changed.
 use Rattle.std.proofs.Common.{◌≡◌, ℕ, List, length, ap, sym, ◌∙◌, subst}
-use Rattle.bucket_table.specs.Tables.{Node, Table, with_nodes}
+use Rattle.bucket_table.specs.Tables.{Node, with_nodes}
 use Rattle.bucket_table.specs.Regions.{Region, with_bytes}
 use Rattle.bucket_table.specs.Threads.{IsTable, client_in, nodes_in, table_of}
 

@@ -1,5 +1,5 @@
 -- Loans that come to an area and go from it. About private fields; no public clause cites this.
-use Rattle.std.specs.Prelude.{◌≡◌, ℕ, ◌+◌, ◌*◌, List, [], ◌∷◌, ◌++◌, length, take, replicate}
+use Rattle.std.specs.Prelude.{◌≡◌, ℕ, ◌+◌, ◌*◌, List, ◌++◌, length, take, replicate}
 use Rattle.store_api.specs.Holdings.{Holdings}
 use Rattle.bucket_table.specs.Tables.{Lent}
 use Rattle.bucket_table.specs.Lending.{AreHeld, Lends, bytes_of}

@@ -1,9 +1,9 @@
 -- What a table has of a store, and what its calls change of the store. Lengths are in bytes.
-use Rattle.std.specs.Prelude.{◌≡◌, ◌≢◌, ℕ, ◌+◌, ◌*◌, ◌/◌, List, [], ◌∷◌, ◌++◌, All, IsSome, Option, Some, None, ⊤}
+use Rattle.std.specs.Prelude.{◌≡◌, ◌≢◌, ℕ, ◌+◌, ◌*◌, ◌/◌, List, [], ◌∷◌, ◌++◌, All, IsSome, None, ⊤}
 use Rattle.reservation_tree.specs.declared.errors.PoolErr.{PoolErr}
 use Rattle.pool_model.specs.declared.call.Call.TheVariants as call
 use Rattle.store_api.specs.Conditions.{IsBlockCount}
-use Rattle.store_api.specs.Holdings.{Account, Holdings, account_of, length_of, loan_of, unused_of}
+use Rattle.store_api.specs.Holdings.{Holdings, account_of, length_of, loan_of, unused_of}
 use Rattle.store_api.specs.Signs.{Signs, WasAnswered}
 use Rattle.store_api.specs.Refusals.{MayRefuse}
 use Rattle.bucket_table.specs.Tables.{Lent, Table}

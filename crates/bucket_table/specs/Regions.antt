@@ -1,5 +1,5 @@
 -- Several loans of one length, as one list of bytes. About private fields; no public clause cites this.
-use Rattle.std.specs.Prelude.{◌≡◌, ℕ, ◌+◌, ◌*◌, ◌<◌, ◌^◌, List, map, All, length, take, drop}
+use Rattle.std.specs.Prelude.{◌≡◌, ℕ, ◌*◌, ◌<◌, ◌^◌, List, map, All, length, take, drop}
 use Rattle.std.specs.List.{concat}
 use Rattle.block_arena.specs.Memory.{IsBufferOf}
 use Rattle.row_codec.specs.RowReading.{number_in}

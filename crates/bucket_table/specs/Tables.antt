@@ -1,6 +1,6 @@
 -- What contracts see of a table: its rows with the numbers of their nodes, the newest first. Lengths and places are in
 -- bytes.
-use Rattle.std.specs.Prelude.{◌≡◌, ℕ, ◌+◌, ◌*◌, ◌==◌, List, [], ◌∷◌, length, take, drop, map, slice_get, if◌then◌else◌, Option, Some, None, IsSome}
+use Rattle.std.specs.Prelude.{◌≡◌, ℕ, ◌+◌, ◌==◌, List, [], ◌∷◌, length, take, drop, map, slice_get, if◌then◌else◌, Option, Some, None, IsSome}
 use Rattle.std.specs.List.{filter}
 use Rattle.std.specs.Int.{w128, to_be_bytes}
 use Rattle.block_arena.specs.Bytes.{written}

@@ -1,6 +1,6 @@
 -- How the rows of a table lie in its bytes. A node is four bytes of a link, and the row. A link or a head is one more
 -- than the place of a node, and 0 is none. About private fields; no public clause cites this.
-use Rattle.std.specs.Prelude.{◌≡◌, ℕ, zero, suc, ◌+◌, ◌-◌, ◌*◌, ◌<◌, ◌≤◌, ◌==◌, ◌^◌, List, [], ◌∷◌, length, take, drop, max, set, if◌then◌else◌, Option, Some, None, ⊤}
+use Rattle.std.specs.Prelude.{◌≡◌, ℕ, zero, suc, ◌+◌, ◌-◌, ◌*◌, ◌<◌, ◌≤◌, ◌==◌, ◌^◌, List, [], ◌∷◌, length, drop, max, set, if◌then◌else◌, Option, Some, None, ⊤}
 use Rattle.bucket_table.specs.Tables.{Lent, Node, Table, used_by, IsFramed}
 use Rattle.bucket_table.specs.Regions.{Region, cut, link_at}
 

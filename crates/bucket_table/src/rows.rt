@@ -1,7 +1,6 @@
 //! The row of a node.
-ghost use Rattle.std.specs.Prelude.{◌≡◌, OnOk, OnErr};
+ghost use Rattle.std.specs.Prelude.{◌≡◌, length, OnOk};
 ghost use Rattle.bucket_table.specs.Tables.{HasNode, IsFramed, row_of, with_nodes, with_row};
-ghost use Rattle.std.specs.Prelude.{length};
 
 use crate::table::BucketTable;
 use reservation_tree::Memory;

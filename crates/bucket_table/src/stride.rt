@@ -1,5 +1,5 @@
 //! A length to divide by. By a power of two a place is divided without a division.
-ghost use Rattle.std.specs.Prelude.{◌≡◌, ◌^◌, ◌/◌, ◌%◌, ◌<◌, ◌≤◌, true};
+ghost use Rattle.std.specs.Prelude.{◌≡◌, ◌^◌, ◌/◌, ◌%◌, ◌<◌, true};
 
 /// A length, of which it is known whether it is a power of two.
 #[derive(Clone, Copy)]

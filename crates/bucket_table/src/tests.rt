@@ -1,7 +1,7 @@
 //! Tables over a store in memory, against worked rows. A block has 64 bytes.
 ghost use Rattle.std.specs.Prelude.{◌≡◌, ◌≤◌, ◌*◌, IfOk};
 ghost use Rattle.store_api.specs.Alike.{Alike, AlikeButClients};
-ghost use Rattle.store_api.specs.Conditions.{IsBlockCount, IsLiveClient};
+ghost use Rattle.store_api.specs.Conditions.{IsLiveClient};
 ghost use Rattle.store_api.specs.Holdings.{unused_of};
 ghost use Rattle.bucket_table.specs.Tables.{HasNode, IsFramed, with_nodes};
 

@@ -1,4 +1,4 @@
-use Rattle.std.proofs.Common.{◌≡◌, ◌≤◌, ◌<◌, ◌+◌, ◌-◌, ◌%◌, ◌/◌, min, ℕ, List, length, take, drop, ap, sym, ◌∙◌, arith}
+use Rattle.std.proofs.Common.{◌≤◌, ◌<◌, ◌+◌, ℕ, ap, sym, ◌∙◌, arith}
 use Rattle.block_arena.specs.Memory.{block_of}
 use Rattle.bucket_table.specs.Regions.{cut}
 use Rattle.bucket_table.proofs.Marks.{front_is}

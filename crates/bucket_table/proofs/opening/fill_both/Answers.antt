@@ -1,5 +1,4 @@
-use Rattle.std.proofs.Common.{◌≡◌, ℕ, ap, sym, ◌∙◌, subst}
-use Rattle.reservation_tree.specs.declared.errors.PoolErr.{PoolErr}
+use Rattle.std.proofs.Common.{ℕ, subst}
 use Rattle.store_api.proofs.Growing.{grows_trans}
 use Rattle.bucket_table.specs.Lending.{WasShort}
 use Rattle.bucket_table.proofs.Filled.{fills_none}

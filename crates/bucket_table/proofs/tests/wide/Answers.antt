@@ -1,6 +1,5 @@
 use Rattle.std.proofs.Common.{◌≡◌, ◌≤◌, ◌+◌, ◌*◌, ℕ, refl, ap, sym, ◌∙◌, subst, arith}
-use Rattle.store_api.specs.Alike.{Alike}
-use Rattle.store_api.specs.Holdings.{Account, Holdings, length_of, unused_of}
+use Rattle.store_api.specs.Holdings.{Account, Holdings, unused_of}
 use Rattle.bucket_table.specs.Tables.{Table}
 use Rattle.bucket_table.specs.Lending.{IsOpened, Lends, buffer_len, bytes_of, loans_of}
 use Rattle.bucket_table.proofs.Grown.{grew_closed}

@@ -1,4 +1,3 @@
-use Rattle.std.proofs.Common.{◌≡◌, ◌+◌, ◌*◌, ◌^◌, ◌<◌, length}
 use Rattle.store_api.specs.Signs.{Grows}
 use Rattle.bucket_table.specs.Filling.{Fills}
 use Rattle.bucket_table.proofs.area.Area.fill.Given as goal

@@ -1,6 +1,5 @@
-use Rattle.std.proofs.Common.{◌≡◌, ◌+◌, ◌*◌, ℕ, List, [], ◌∷◌, ◌++◌, map, take, length, refl, ap, sym, ◌∙◌, subst, arith, length-append}
+use Rattle.std.proofs.Common.{◌≡◌, ◌*◌, ℕ, [], ◌∷◌, ◌++◌, map, take, length, refl, ap, sym, ◌∙◌, subst, arith, length-append}
 use Rattle.std.proofs.lemmas.List.{map-append, take_at}
-use Rattle.store_api.specs.Tokens.{LoanToken}
 use Rattle.std.specs.Option.{option_to_list}
 use Rattle.bucket_table.specs.Lending.{AreHeld}
 use Rattle.bucket_table.specs.Regions.{area_of, lent}

@@ -1,6 +1,5 @@
-use Rattle.std.proofs.Common.{◌≡◌, ◌≤◌, ◌<◌, ◌+◌, ◌-◌, ◌*◌, ◌/◌, ◌%◌, ◌^◌, ℕ, List, length, take, drop, get_or, ap, sym, ◌∙◌, subst, arith}
+use Rattle.std.proofs.Common.{◌≡◌, ◌≤◌, ◌<◌, ◌+◌, ◌/◌, ◌%◌, ◌^◌, ℕ, length, get_or, ap, sym, ◌∙◌, arith}
 use Rattle.block_arena.specs.Memory.{Buffer}
-use Rattle.store_api.specs.Tokens.{LoanToken}
 use Rattle.bucket_table.specs.Regions.{area_of, cut}
 use Rattle.bucket_table.proofs.Marks.{area_len, block_few, block_inside, buffer_is, loan_inside, read_here}
 use Rattle.bucket_table.proofs.area.Area.front.Goals as goal

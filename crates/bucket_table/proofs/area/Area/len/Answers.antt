@@ -1,5 +1,4 @@
-use Rattle.std.proofs.Common.{◌≡◌, ◌*◌, ℕ, length, sym, ap, ◌∙◌}
-use Rattle.bucket_table.specs.Regions.{area_of}
+use Rattle.std.proofs.Common.{◌≡◌, length, sym, ◌∙◌}
 use Rattle.bucket_table.proofs.Marks.{area_len}
 use Rattle.bucket_table.proofs.area.Area.len.Goals as goal
 

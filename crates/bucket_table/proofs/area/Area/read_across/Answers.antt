@@ -1,5 +1,4 @@
-use Rattle.std.proofs.Common.{◌≡◌, ◌≤◌, ◌+◌, ◌-◌, ℕ, List, length, take, drop, ap, sym, ◌∙◌, arith}
-use Rattle.bucket_table.specs.Regions.{cut}
+use Rattle.std.proofs.Common.{◌≡◌, ◌≤◌, ◌+◌, ◌-◌, length, ap, ◌∙◌, arith}
 use Rattle.bucket_table.proofs.Cuts.{copied_more, copied_len}
 use Rattle.bucket_table.proofs.area.Area.read_across.Goals as goal
 

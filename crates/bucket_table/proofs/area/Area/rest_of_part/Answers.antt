@@ -1,4 +1,4 @@
-use Rattle.std.proofs.Common.{◌≡◌, ◌<◌, ◌^◌, length, arith}
+use Rattle.std.proofs.Common.{◌<◌, ◌^◌, length, arith}
 use Rattle.bucket_table.specs.Regions.{area_of}
 use Rattle.bucket_table.proofs.Marks.{area_len}
 use Rattle.bucket_table.proofs.area.Area.rest_of_part.Goals as goal

@@ -1,4 +1,4 @@
-use Rattle.std.proofs.Common.{rules, ap, ◌∙◌, List, ℕ}
+use Rattle.std.proofs.Common.{ap, ◌∙◌, List, ℕ}
 use Rattle.block_arena.specs.Bytes.{written}
 use Rattle.bucket_table.specs.Regions.{with_bytes}
 use Rattle.bucket_table.proofs.area.Area.set_wide.Goals as goal

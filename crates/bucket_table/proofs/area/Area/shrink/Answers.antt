@@ -1,4 +1,4 @@
-use Rattle.std.proofs.Common.{rules, ◌≤◌, ◌+◌, length, arith}
+use Rattle.std.proofs.Common.{arith}
 use Rattle.store_api.proofs.Growing.{grows_refl, grows_trans}
 use Rattle.bucket_table.proofs.Filled.{shrinks_more, shrinks_none}
 use Rattle.bucket_table.proofs.area.Area.shrink.Goals as goal

@@ -1,4 +1,4 @@
-use Rattle.std.proofs.Common.{◌≡◌, ◌≤◌, ◌+◌, ◌-◌, ℕ, List, length, take, drop, ap, sym, ◌∙◌, arith, slice_range}
+use Rattle.std.proofs.Common.{◌≤◌, ◌+◌, ℕ, List, length, ap, ◌∙◌, arith, slice_range}
 use Rattle.block_arena.specs.Bytes.{written}
 use Rattle.block_arena.proofs.Copies.{written_more}
 use Rattle.bucket_table.specs.Regions.{Region, with_bytes}

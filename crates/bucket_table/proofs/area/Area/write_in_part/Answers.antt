@@ -1,9 +1,9 @@
-use Rattle.std.proofs.Common.{◌≡◌, ◌≤◌, ◌<◌, ◌+◌, ◌-◌, ◌*◌, ◌/◌, ◌%◌, ℕ, List, length, map, set, get_or, ap, sym, ◌∙◌, subst, arith}
+use Rattle.std.proofs.Common.{◌≡◌, ◌≤◌, ◌+◌, ◌/◌, ◌%◌, ℕ, length, map, set, get_or, ap, ◌∙◌, arith}
 use Rattle.block_arena.specs.Bytes.{written}
 use Rattle.block_arena.specs.Memory.{Buffer, IsBufferOf, with_bytes}
-use Rattle.store_api.specs.Tokens.{LoanToken, with_buf}
+use Rattle.store_api.specs.Tokens.{with_buf}
 use Rattle.bucket_table.specs.Regions.{area_of, lent}
-use Rattle.bucket_table.proofs.Marks.{buffer_is, loan_inside, same_region, write_here, parts_now, lent_same, written_buffer}
+use Rattle.bucket_table.proofs.Marks.{buffer_is, loan_inside, same_region, write_here, lent_same, written_buffer}
 use Rattle.bucket_table.proofs.area.Area.write_in_part.Goals as goal
 
 pub index_mut-part-requires : goal.index_mut-part-requires

@@ -1,9 +1,8 @@
-use Rattle.std.proofs.Common.{◌≡◌, ◌<◌, ◌+◌, ℕ, List, length, map, set, get_or, take, replicate, refl, ap, sym, ◌∙◌, arith}
+use Rattle.std.proofs.Common.{◌≡◌, ◌<◌, length, replicate, ap, ◌∙◌, arith}
 use Rattle.std.proofs.lemmas.List.{length-set}
 use Rattle.block_arena.specs.Memory.{Buffer, with_bytes}
-use Rattle.store_api.specs.Tokens.{LoanToken, with_buf}
-use Rattle.bucket_table.specs.Regions.{lent}
-use Rattle.bucket_table.proofs.Marks.{all_zero, buffer_is, lent_same, parts_now, same_region, zeroed_buffer, zero_more}
+use Rattle.store_api.specs.Tokens.{with_buf}
+use Rattle.bucket_table.proofs.Marks.{all_zero, buffer_is, lent_same, parts_now, zeroed_buffer, zero_more}
 use Rattle.bucket_table.proofs.area.Area.zero.Goals as goal
 
 pub loop-i-preserved : goal.loop-i-preserved

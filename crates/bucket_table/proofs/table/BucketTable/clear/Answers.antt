@@ -1,4 +1,4 @@
-use Rattle.std.proofs.Common.{◌≡◌, ℕ, List, [], length, replicate, refl, sym, ◌∙◌}
+use Rattle.std.proofs.Common.{[], length, refl}
 use Rattle.bucket_table.proofs.Emptied.{empty_table}
 use Rattle.bucket_table.proofs.Views.{table_now, view_now}
 use Rattle.bucket_table.proofs.table.BucketTable.clear.Goals as goal

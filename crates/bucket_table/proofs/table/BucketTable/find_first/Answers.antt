@@ -1,4 +1,4 @@
-use Rattle.std.proofs.Common.{◌≡◌, ◌≤◌, ◌<◌, ◌+◌, ◌*◌, ◌%◌, ◌^◌, ℕ, length, ap, sym, ◌∙◌, arith}
+use Rattle.std.proofs.Common.{◌≡◌, ◌<◌, ◌*◌, ◌%◌, ℕ, ap, ◌∙◌, arith}
 use Rattle.bucket_table.specs.Tables.{newest_on}
 use Rattle.bucket_table.specs.Regions.{link_at}
 use Rattle.bucket_table.specs.Threads.{node_in, nodes_in}

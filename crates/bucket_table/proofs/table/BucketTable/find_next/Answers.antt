@@ -1,4 +1,4 @@
-use Rattle.std.proofs.Common.{◌≡◌, ◌≤◌, ◌<◌, ◌+◌, ℕ, length, ap, sym, ◌∙◌, arith}
+use Rattle.std.proofs.Common.{◌≡◌, ap, ◌∙◌, arith}
 use Rattle.bucket_table.specs.Tables.{HasNode, next_on_chain}
 use Rattle.bucket_table.specs.Threads.{node_in, nodes_in}
 use Rattle.bucket_table.proofs.LookedUp.{next_is}

@@ -1,4 +1,4 @@
-use Rattle.std.proofs.Common.{◌≡◌, ◌<◌, ℕ, sym, ◌∙◌, arith}
+use Rattle.std.proofs.Common.{◌<◌, sym, ◌∙◌, arith}
 use Rattle.bucket_table.specs.Tables.{used_by}
 use Rattle.bucket_table.specs.Threads.{nodes_in}
 use Rattle.bucket_table.proofs.LookedUp.{oldest_is, oldest_none}

@@ -1,6 +1,6 @@
-use Rattle.std.proofs.Common.{rules, ◌≡◌, ◌≤◌, ◌<◌, ◌+◌, ◌*◌, ◌^◌, ℕ, length, IsSome, ap, sym, ◌∙◌, subst, arith}
+use Rattle.std.proofs.Common.{rules, ◌≡◌, ◌≤◌, ◌<◌, ◌+◌, ◌*◌, ◌^◌, ℕ, length, IsSome, ap, sym, ◌∙◌, subst}
 use Rattle.store_api.specs.Conditions.{IsBlockCount}
-use Rattle.store_api.specs.Holdings.{Holdings, length_of, unused_of}
+use Rattle.store_api.specs.Holdings.{length_of, unused_of}
 use Rattle.bucket_table.specs.Tables.{Table}
 use Rattle.bucket_table.specs.Lending.{IsTableOf, WasShort}
 use Rattle.bucket_table.proofs.Held.{any_err}

@@ -1,8 +1,8 @@
-use Rattle.std.proofs.Common.{◌≡◌, ◌≤◌, ◌<◌, ◌+◌, ◌*◌, ◌%◌, ℕ, List, ◌∷◌, length, refl, ap, sym, ◌∙◌, subst, arith}
+use Rattle.std.proofs.Common.{◌≤◌, ◌<◌, ◌+◌, ◌*◌, ◌%◌, ℕ, List, ◌∷◌, length, ap, sym, ◌∙◌, subst, arith}
 use Rattle.std.specs.Int.{w32, to_be_bytes}
 use Rattle.std.proofs.lemmas.Bool.{false≢true}
 use Rattle.block_arena.specs.Bytes.{written}
-use Rattle.bucket_table.specs.Tables.{Node, HasNode, new_node, used_by}
+use Rattle.bucket_table.specs.Tables.{HasNode, new_node, used_by}
 use Rattle.bucket_table.specs.Regions.{Region, link_at, with_bytes}
 use Rattle.bucket_table.specs.Threads.{IsTable, nodes_in}
 use Rattle.bucket_table.proofs.Inserted.{inserted}

@@ -1,4 +1,4 @@
-use Rattle.std.proofs.Common.{◌≡◌, ◌≤◌, ◌<◌, ◌+◌, ◌^◌, ℕ, length, ap, sym, ◌∙◌, arith}
+use Rattle.std.proofs.Common.{◌≤◌, ◌+◌, length, ap, sym, ◌∙◌, arith}
 use Rattle.row_codec.specs.RowReading.{number_in}
 use Rattle.bucket_table.specs.Tables.{HasNode, row_of}
 use Rattle.bucket_table.specs.Threads.{nodes_in}

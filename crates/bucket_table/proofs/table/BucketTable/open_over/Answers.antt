@@ -1,7 +1,6 @@
-use Rattle.std.proofs.Common.{◌≡◌, ◌≤◌, ◌<◌, ◌+◌, ◌*◌, ◌/◌, ◌++◌, ℕ, List, length, ap, sym, ◌∙◌, subst, arith}
-use Rattle.store_api.specs.Holdings.{Holdings}
+use Rattle.std.proofs.Common.{◌≡◌, ◌/◌, ℕ, length, ap, sym, subst}
 use Rattle.store_api.proofs.Growing.{grows_trans}
-use Rattle.bucket_table.specs.Tables.{Lent, Table}
+use Rattle.bucket_table.specs.Tables.{Table}
 use Rattle.bucket_table.specs.Regions.{Region}
 use Rattle.bucket_table.specs.Lending.{IsTableOf, Lends, WasShort, loans_of}
 use Rattle.bucket_table.proofs.Held.{short_after}

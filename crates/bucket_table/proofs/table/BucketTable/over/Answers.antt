@@ -1,4 +1,4 @@
-use Rattle.std.proofs.Common.{◌≡◌, ◌≤◌, ◌<◌, ◌*◌, ◌/◌, ◌^◌, ℕ, List, length, replicate, ap, sym, ◌∙◌, subst, arith}
+use Rattle.std.proofs.Common.{◌≡◌, ◌/◌, ℕ, length, ap, ◌∙◌, arith}
 use Rattle.bucket_table.specs.Threads.{client_in}
 use Rattle.bucket_table.proofs.Emptied.{empty_over}
 use Rattle.bucket_table.proofs.table.BucketTable.over.Goals as goal

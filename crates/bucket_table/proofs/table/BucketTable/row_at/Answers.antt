@@ -1,9 +1,8 @@
-use Rattle.std.proofs.Common.{◌≡◌, ◌≤◌, ◌+◌, ℕ, List, length, drop, ap, sym, ◌∙◌, arith}
+use Rattle.std.proofs.Common.{◌≡◌, ◌+◌, ℕ, length, drop, ap, sym, ◌∙◌}
 use Rattle.std.proofs.lemmas.List.{take_at}
 use Rattle.bucket_table.specs.Tables.{HasNode, row_of}
 use Rattle.bucket_table.specs.Regions.{cut}
 use Rattle.bucket_table.specs.Threads.{nodes_in}
-use Rattle.bucket_table.proofs.Cuts.{length_cut}
 use Rattle.bucket_table.proofs.TheRow.{there}
 use Rattle.bucket_table.proofs.table.BucketTable.row_at.Goals as goal
 

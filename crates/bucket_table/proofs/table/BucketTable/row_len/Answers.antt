@@ -1,6 +1,5 @@
-use Rattle.std.proofs.Common.{◌≡◌, ◌≤◌, ◌<◌, ◌+◌, ◌^◌, ℕ, length, ap, sym, ◌∙◌, arith}
-use Rattle.bucket_table.specs.Tables.{HasNode, row_of, used_by}
-use Rattle.bucket_table.specs.Regions.{link_at}
+use Rattle.std.proofs.Common.{◌≡◌, ◌+◌, ℕ, length, ap, ◌∙◌, arith}
+use Rattle.bucket_table.specs.Tables.{HasNode, row_of}
 use Rattle.bucket_table.specs.Threads.{nodes_in}
 use Rattle.bucket_table.proofs.TheRow.{there}
 use Rattle.bucket_table.proofs.table.BucketTable.row_len.Goals as goal

@@ -1,9 +1,7 @@
-use Rattle.std.proofs.Common.{◌≡◌, ◌≤◌, ◌<◌, ◌+◌, ◌^◌, ℕ, List, length, refl, ap, sym, ◌∙◌, arith}
+use Rattle.std.proofs.Common.{◌≤◌, ◌+◌, length, refl, arith}
 use Rattle.std.specs.Int.{w128, to_be_bytes}
-use Rattle.block_arena.specs.Bytes.{written}
-use Rattle.bucket_table.specs.Tables.{HasNode, row_of, with_number, IsFramed}
-use Rattle.bucket_table.specs.Regions.{Region, with_bytes}
-use Rattle.bucket_table.specs.Threads.{IsTable, nodes_in}
+use Rattle.bucket_table.specs.Tables.{HasNode, row_of}
+use Rattle.bucket_table.specs.Threads.{nodes_in}
 use Rattle.bucket_table.proofs.Changed.{rewritten_table}
 use Rattle.bucket_table.proofs.TheRow.{number_framed, there}
 use Rattle.bucket_table.proofs.Views.{table_now, view_now}

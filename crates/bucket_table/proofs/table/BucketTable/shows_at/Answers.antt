@@ -1,4 +1,4 @@
-use Rattle.std.proofs.Common.{◌≡◌, ◌≤◌, ◌+◌, ℕ, List, length, ap, sym, ◌∙◌, arith}
+use Rattle.std.proofs.Common.{◌≡◌, ◌≤◌, ◌+◌, length, sym, ◌∙◌, arith}
 use Rattle.bucket_table.specs.Tables.{HasNode, row_of}
 use Rattle.bucket_table.specs.Threads.{nodes_in}
 use Rattle.bucket_table.proofs.TheRow.{part_there, there}

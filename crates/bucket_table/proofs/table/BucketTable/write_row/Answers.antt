@@ -1,4 +1,4 @@
-use Rattle.std.proofs.Common.{◌≡◌, ◌≤◌, ◌+◌, ℕ, List, length, refl, ap, sym, ◌∙◌, arith, add-zero}
+use Rattle.std.proofs.Common.{◌≡◌, ◌+◌, ℕ, length, refl, ap, sym, ◌∙◌, arith, add-zero}
 use Rattle.block_arena.specs.Bytes.{written}
 use Rattle.bucket_table.specs.Tables.{HasNode, row_of}
 use Rattle.bucket_table.specs.Regions.{with_bytes}
