@@ -1,7 +1,8 @@
 #!/bin/sh
 # Proves, builds and runs bench/NAME as a program of its own: sh bench/rattle.sh NAME [WORD..]
 # The repository is copied to a temporary folder, so that its crates.txt stays as it is. A bench's
-# sources end in .rt.txt, since the gate takes every .rt file for one of a crate.
+# sources end in .rt.txt and its proofs in .antt.txt, since the gate takes every .rt and .antt file for one of a
+# crate.
 set -eu
 name=$1
 shift
