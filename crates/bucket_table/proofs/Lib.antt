@@ -1,0 +1,17 @@
+pub mod Changed
+pub mod Cuts
+pub mod Emptied
+pub mod Filled
+pub mod Grown
+pub mod Heads
+pub mod Held
+pub mod Inserted
+pub mod Lent
+pub mod LookedUp
+pub mod Marks
+pub mod Nodes
+pub mod TheRow
+pub mod Opened
+pub mod Spelling
+pub mod Threaded
+pub mod Views

@@ -1,0 +1,5 @@
+pub mod Filling
+pub mod Lending
+pub mod Tables
+pub mod Regions
+pub mod Threads

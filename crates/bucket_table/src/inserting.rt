@@ -1,0 +1,44 @@
+//! Rows come, and all go.
+ghost use Rattle.std.specs.Prelude.{◌≡◌, ◌<◌, ◌+◌, ◌%◌, ◌↔◌, [], ◌∷◌, length, IsErr, IfOk, OnErr};
+ghost use Rattle.bucket_table.specs.Tables.{HasNode, IsFramed, new_node, used_by, with_nodes};
+
+use crate::full::Full;
+use crate::table::BucketTable;
+
+impl BucketTable {
+    /// Adds a row in front of the chain of this hash, and gives the number of its node. The first four bytes of the row
+    /// count those behind them, as they do in every encoded row. This takes no memory.
+    ///
+    /// # Errors
+    ///
+    /// `Full`: fewer than four bytes more than the row are left of the node area.
+    pub fn insert(&mut self, hash: u64, row: &[u8]) -> Result<u32, Full>
+        requires { IsFramed row.now }
+        ensures ok { IfOk result (λ node. self.new ≡ with_nodes (new_node (hash % self.old.heads) row.now self.old.nodes ∷ self.old.nodes) self.old) }
+        ensures place { IfOk result (λ node. node ≡ used_by self.old.nodes) }
+        ensures node { IfOk result (λ node. HasNode node self.new.nodes) }
+
+        ensures refused { IsErr result ↔ (self.old.room < used_by self.old.nodes + 4 + length row.now) }
+        ensures err { OnErr result (self.new ≡ self.old) }
+    {
+        if !self.has_room(row.len()) {
+            return Err(Full);
+        }
+        let node = self.used;
+        let head = 4 * self.chains.place(hash as usize);
+        let next = self.heads.link(head);
+        self.nodes.set_link(node, next);
+        self.nodes.write(node + 4, row);
+        self.heads.set_link(head, node as u32 + 1);
+        self.used = node + 4 + row.len();
+        Ok(node as u32)
+    }
+
+    /// Forgets all rows. The loans stay.
+    pub fn clear(&mut self)
+        ensures { self.new ≡ with_nodes [] self.old }
+    {
+        self.heads.zero();
+        self.used = 0;
+    }
+}

@@ -1,0 +1,27 @@
+//! A hash table whose memory is buffers of a store.
+//!
+//! Model: a list of rows with the numbers of their nodes, the newest first. Each row stands on one of the chains, by the
+//! hash with which it was inserted: its chain is the hash modulo the number of chains. A chain is that list without the
+//! rows of other chains.
+//! A node's number is the place of its first byte in the node area. It stays the same until the table is cleared.
+#![tactic(auto)]
+
+mod area;
+mod finding;
+mod full;
+mod growing;
+mod inserting;
+mod loans;
+mod numbers;
+mod opening;
+mod parts;
+mod rows;
+mod stride;
+mod table;
+mod walking;
+
+pub use full::Full;
+pub use table::BucketTable;
+
+#[cfg(test)]
+mod tests;

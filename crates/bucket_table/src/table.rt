@@ -1,0 +1,61 @@
+//! A table, and what it says of itself.
+ghost use Rattle.std.specs.Prelude.{◌≡◌, ◌<◌, ◌≤◌, ◌+◌, ◌↔◌, ◌^◌, length, true};
+ghost use Rattle.bucket_table.specs.Tables.{HasNode, row_of, used_by};
+
+use crate::area::Area;
+use crate::stride::Stride;
+use std::marker::Model;
+
+/// A hash table in loans of a store.
+///
+/// Nothing of it stands outside its loans but how many chains there are, and how much of the node area is used.
+pub struct BucketTable {
+    pub(crate) heads: Area,
+    pub(crate) nodes: Area,
+    pub(crate) used: usize,
+    pub(crate) chains: Stride,
+}
+
+impl Model for BucketTable {
+    ghost use Rattle.bucket_table.specs.Tables.{Table};
+    ghost use Rattle.bucket_table.specs.Threads.{IsTable, table_of};
+
+    ghost Value = { Table };
+
+    ghost view = { λ t. table_of t.chains.len t.heads t.nodes };
+
+    ghost invariant = { λ t. IsTable t.chains.len t.used t.heads.bytes t.nodes.bytes };
+}
+
+impl BucketTable {
+    /// How many chains there are.
+    #[inline]
+    pub fn heads(&self) -> usize
+        ensures value { result ≡ self.now.heads }
+        ensures some { 0 < result }
+    {
+        self.chains.len()
+    }
+
+    /// Whether the node area has room for a row of so many bytes.
+    #[inline]
+    pub fn has_room(&self, bytes: usize) -> bool
+        ensures { result ≡ true ↔ (used_by self.now.nodes + 4 + bytes ≤ self.now.room) }
+    {
+        let left = self.nodes.len() - self.used;
+        4 <= left && bytes <= left - 4
+    }
+
+    /// How many bytes the row of a node has.
+    #[inline]
+    pub fn row_len(&self, node: u32) -> usize
+        requires { HasNode node self.now.nodes }
+        ensures value { result ≡ length (row_of node self.now.nodes) }
+        ensures some { 4 ≤ result }
+        ensures inside { node + 4 + result ≤ used_by self.now.nodes }
+        ensures used { used_by self.now.nodes ≤ self.now.room }
+        ensures short { self.now.room < 2 ^ 32 }
+    {
+        self.nodes.link(node as usize + 4) as usize + 4
+    }
+}
