@@ -4,6 +4,6 @@ if command -v rt >/dev/null 2>&1; then
 elif [ -x /opt/rattle/bin/rt ]; then
     RT=/opt/rattle/bin/rt
 else
-    echo "spill: the command rt of the Rattle toolchain is not on the path" >&2
+    echo "spill: the command rt of the Rattle toolchain was not found: add the folder bin of the toolchain to PATH" >&2
     exit 127
 fi

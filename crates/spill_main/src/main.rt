@@ -1,14 +1,16 @@
 //! The program `spill`: the words of its command line, files as inputs, standard output as the
 //! report, and for people a sentence on standard error and the progress of a long input.
 //!
-//! Nothing is decided here: the top call answers the status, and this hands it files and standard
-//! output as they are. Each adapter counts its faults and claims nothing of what it holds.
+//! Only `help` and `--version` are answered here. Every command goes to the top call, which answers
+//! the status; this hands it files and standard output as they are. Each adapter counts its faults and
+//! claims nothing of what it holds.
 #![tactic(auto)]
 
 mod advice;
 mod files;
 mod output;
 mod progress;
+mod usage;
 mod watched;
 
 use files::{FileInputs, FileOutputs};
@@ -22,6 +24,9 @@ use std::process::ExitCode;
 use std::rt::{Clock, Env, Files};
 use std::{env, io};
 
+// The status where standard output failed under a text of the program's own.
+const OUTPUT_FAULT: u8 = 9;
+
 // The status where there was no memory for the words.
 const NO_MEMORY: u8 = 10;
 
@@ -30,25 +35,44 @@ fn main(rt: HostRuntime) -> ExitCode {
     ExitCode::from(run(&rt, shows_progress).unwrap_or(NO_MEMORY))
 }
 
-// Runs the command that the process was given, and answers its status.
+// Answers the words that the process was given, and gives the status.
 fn run<R: Files<File = File> + Clock + Env + Print + Eprint + AllocGlobal + Sync>(
     rt: &R,
     shows_progress: bool,
 ) -> Result<u8, AllocError> {
     let words = words(rt)?;
+    let status = match usage::about(words.as_slice()) {
+        Some(text) => status_of(rt.print(text)),
+        None => run_command(rt, words.as_slice(), shows_progress),
+    };
+    // A person who can't be told loses nothing: the status stands.
+    let _ = advice::advise(rt, status, words.as_slice());
+    Ok(status)
+}
+
+fn status_of(printed: io::Result<()>) -> u8 {
+    match printed {
+        Ok(()) => 0,
+        Err(_) => OUTPUT_FAULT,
+    }
+}
+
+// Hands the words, the files and standard output to the top call, and answers its status.
+fn run_command<R: Files<File = File> + Clock + Print + Eprint + AllocGlobal + Sync>(
+    rt: &R,
+    words: &[String],
+    shows_progress: bool,
+) -> u8 {
     let mut slots: Vec<MemSlot> = Vec::new(rt.alloc());
-    let status = spill_top(
+    spill_top(
         rt.alloc(),
-        words.as_slice(),
+        words,
         &mut FileInputs::new(rt, shows_progress),
         &mut FileOutputs::new(rt),
         &mut Output::new(io::writer(rt)),
         &mut slots,
         &OpenGate,
-    );
-    // A person who can't be told loses nothing: the status stands.
-    let _ = advice::advise(rt, status, words.as_slice());
-    Ok(status)
+    )
 }
 
 // The words behind the program's name. Where one of them is no text, a person is told, and there are
@@ -63,7 +87,7 @@ fn words<R: Env + Eprint + AllocGlobal>(rt: &R) -> Result<Vec<String>, AllocErro
         }
         Err(e) if e.kind() == io::ErrorKind::OutOfMemory => return Err(AllocError),
         Err(_) => {
-            let _ = eprintln!(rt; "spill: a word of the command is no text in UTF-8");
+            let _ = eprintln!(rt; "spill: an argument is not valid UTF-8");
         }
     }
     Ok(words)

@@ -2,6 +2,7 @@
 
 use crate::advice::advise;
 use crate::progress::Progress;
+use crate::usage::about;
 use std::alloc::{AllocError, Global};
 use std::cell::{Cell, RefCell};
 use std::fmt::Display;
@@ -81,21 +82,21 @@ fn progress_is_drawn_ten_times_a_second_and_cleared(rt: HostRuntime) -> Result<(
 }
 
 #[test]
-fn who_asks_for_help_is_told_of_no_mistake(rt: HostRuntime) -> Result<(), Fail> {
+fn each_status_but_0_has_a_sentence(rt: HostRuntime) -> Result<(), Fail> {
     let rows: [(u8, &[&str], &str); 5] = [
         (0, &["count", "in.csv", "k"], ""),
         (1, &[], "usage: "),
-        (1, &["--help"], "usage: "),
         (
             1,
             &["cuont", "in.csv"],
-            "spill: these words are no command\nusage: ",
+            "spill: unknown command, or wrong number of arguments\nusage: ",
         ),
         (
             3,
             &["count", "in.csv", "k"],
             "spill: in.csv could not be read: ",
         ),
+        (9, &["help"], "spill: writing to standard output failed"),
     ];
     for (status, words, begins) in rows {
         let desk = Desk::new(rt.alloc());
@@ -104,6 +105,27 @@ fn who_asks_for_help_is_told_of_no_mistake(rt: HostRuntime) -> Result<(), Fail> 
         let shown = desk.shown.try_borrow()?;
         assert!(rt; shown.as_str().starts_with(begins), "{status} {begins}");
         assert_eq!(rt; shown.as_str().is_empty(), begins.is_empty());
+    }
+    Ok(())
+}
+
+#[test]
+fn one_word_asks_for_help_or_the_version(rt: HostRuntime) -> Result<(), Fail> {
+    let rows: [(&[&str], Option<&str>); 8] = [
+        (&["help"], Some("usage: spill count FILE COLUMN\n")),
+        (&["--help"], Some("usage: spill count FILE COLUMN\n")),
+        (&["-h"], Some("usage: spill count FILE COLUMN\n")),
+        (&["--version"], Some("spill 0.1.0\n")),
+        (&[], None),
+        (&["count"], None),
+        (&["help", "count"], None),
+        (&["count", "--version", "k"], None),
+    ];
+    for (words, begins) in rows {
+        let words = owned(rt.alloc(), words)?;
+        let text = about(words.as_slice());
+        assert_eq!(rt; text.is_some(), begins.is_some());
+        assert!(rt; text.unwrap_or("").starts_with(begins.unwrap_or("")));
     }
     Ok(())
 }

@@ -1,0 +1,35 @@
+// What the program says of itself, on standard output.
+
+ghost use Rattle.std.specs.Prelude.{◌≡◌, OnSome, length};
+
+// Each command with an example. The script `spill` prints these lines out of this file while the
+// program isn't built.
+pub(crate) const USAGE: &str = "\
+usage: spill count FILE COLUMN
+       spill help
+       spill --version
+
+count FILE COLUMN   how often each value of a column occurs in a CSV file
+    spill count orders.csv city
+    spill count /dev/stdin city < orders.csv
+help                this text; also --help and -h
+    spill help
+--version           the name of the program and its version
+    spill --version
+";
+
+const VERSION: &str = "spill 0.1.0\n";
+
+// The text that a word asks for. It stands alone, so every command reaches the top call.
+pub(crate) fn about(words: &[String]) -> Option<&'static str>
+    ensures alone { OnSome result (length words.now ≡ 1) }
+{
+    let [word] = words else {
+        return None;
+    };
+    match word.as_str() {
+        "help" | "--help" | "-h" => Some(USAGE),
+        "--version" => Some(VERSION),
+        _ => None,
+    }
+}
