@@ -80,6 +80,14 @@ impl<S> PageTable<S> {
         self.rows.len() < self.room as usize
     }
 
+    /// How many pages may be live. Keys are below it.
+    #[inline]
+    pub fn room(&self) -> u32
+        ensures { result ≡ self.now.room }
+    {
+        self.room
+    }
+
     /// A new page, pinned once, under the next name.
     #[inline]
     pub fn add(&mut self, session: u32, client: u32, blocks: u32, mem: Mem, scratch: S) -> PageId

@@ -21,9 +21,9 @@ module _ (names : FinMap nat_cmp ℕ) (name key : ℕ) (is : get names key ≡ S
     | inr not_so ↦
         ap (λ (b : Bool). if b then n else key_below names name n) not_so
         ∙ elim (same_or_other key n) [
-            | inl same ↦ absurd (false≢true (sym not_so ∙ subst (λ (k : ℕ). has_name names name k ≡ true) same (named names name key is)))
-            | inr apart ↦ found_below n (omega (arith, lt, apart))
-          ]
+          | inl same ↦ absurd (false≢true (sym not_so ∙ subst (λ (k : ℕ). has_name names name k ≡ true) same (named names name key is)))
+          | inr apart ↦ found_below n (omega (arith, lt, apart))
+        ]
   ]
 
   pub key_is : (room : ℕ) → key < room → key_in names room name ≡ key

@@ -75,7 +75,7 @@ module _ {D : Type 0} where
           legal = more.legal;
           state = is ∙ more.state;
           holds = λ q page there. subst (λ (b : List ℕ). Holds slot v.arena.block_len b page)
-          (sym (content_grows o h e q (made (page_of v.pages q page)) (was_made slot o h v stands q page there) ∙ leaves q (content_of o h q))) (stands.holds q page there);
+              (sym (content_grows o h e q (made (page_of v.pages q page)) (was_made slot o h v stands q page there) ∙ leaves q (content_of o h q))) (stands.holds q page there);
         }
 
   none_needed : (blocks : ℕ) (k : Kept D) (free : ℕ) → IsKeptOf blocks (spot.Pinned 1) k → free < need_of k → (has_slots k ≡ false) × (free < blocks)

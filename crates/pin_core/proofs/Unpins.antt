@@ -233,7 +233,7 @@ module _ {D : Type 0} where
           pinned = ap place_in can.pinned;
           whole = can.buffer.whole ∙ sym (bytes_is v.arena.block_len x.blocks);
           slots = may_slots x.blocks (free_slots (state_of v) x.session) x.scratch (subst (λ p. IsKeptOf x.blocks p x.scratch) can.pinned at_x.kept)
-            (let same = free_is v is_kept.counted x.session in omega (arith, enough, same));
+              (let same = free_is v is_kept.counted x.session in omega (arith, enough, same));
         };
       }
 

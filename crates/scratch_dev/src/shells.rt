@@ -1,5 +1,5 @@
 //! Slots that belong together, and the room for them.
-ghost use Rattle.std.specs.Prelude.{◌≡◌, IfOk};
+ghost use Rattle.std.specs.Prelude.{◌≡◌, IfOk, length};
 
 use reservation_tree::Memory;
 use std::alloc::Global;
@@ -50,4 +50,14 @@ impl<D> Model for SlotRow<D> {
     ghost view = { λ row. row.slots.items };
 
     ghost invariant = { λ row. (vec_len row.slots < 2 ^ 32) × (length row.slots.items ≡ vec_len row.slots) };
+}
+
+impl<D> SlotRow<D> {
+    /// How many slots there are.
+    #[inline]
+    pub fn len(&self) -> usize
+        ensures { result ≡ length self.now }
+    {
+        self.slots.len()
+    }
 }

@@ -130,8 +130,7 @@ impl Row {
         }
     }
 
-    /// The members of a session.
-    #[cfg(test)]
+    #[inline]
     pub(crate) fn members(&self) -> &[Member]
         requires { IsSome self.now }
         ensures { result.now ≡ members_in self.now }

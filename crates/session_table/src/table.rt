@@ -3,7 +3,6 @@ ghost use Rattle.std.specs.Prelude.{◌≡◌, ◌↔◌, ◌<◌, ℕ, [], None
 ghost use Rattle.index_list.specs.Listing.{stands_in};
 ghost use Rattle.session_table.specs.Seats.{AreProper, changed, first_of, forgotten, lowest_vacant, members_of, noted, seat_of, trackers_of, vacant, with_member, with_seat, without_member, without_seat};
 
-#[cfg(test)]
 use crate::member::Member;
 use crate::row::Row;
 use reservation_tree::Memory;
@@ -147,8 +146,8 @@ impl SessionTable {
     }
 
     /// Whether a number has a session.
-    #[cfg(test)]
-    pub(crate) fn is_seated(&self, s: u32) -> bool
+    #[inline]
+    pub fn is_seated(&self, s: u32) -> bool
         requires { s < 240 }
         ensures { IsTrue result ↔ IsSome (seat_of self.now s) }
     {
@@ -156,8 +155,8 @@ impl SessionTable {
     }
 
     /// The clients of a session.
-    #[cfg(test)]
-    pub(crate) fn members(&self, s: u32) -> &[Member]
+    #[inline]
+    pub fn members(&self, s: u32) -> &[Member]
         requires { IsSome (seat_of self.now s) }
         ensures { result.now ≡ members_of self.now s }
     {

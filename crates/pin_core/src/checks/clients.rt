@@ -12,39 +12,37 @@ use crate::pool::PoolState;
 use reservation_tree::TrackerId;
 use session_table::{MAX_SESSIONS, Member};
 
-impl<D: Drop> PoolState<D> {
-    /// Whether the session is live.
-    pub(crate) fn is_seat(&self, s: u32) -> bool
-        ensures live { IsTrue result → IsSome (get (state_of self.now).sessions s) }
-        ensures seated { IsTrue result → IsSome (seat_of self.now.seats s) }
-    {
-        s < MAX_SESSIONS && self.parts.seats.is_seated(s)
-    }
+/// Whether the session is live.
+pub(crate) fn is_seat<D: Drop>(pool: &PoolState<D>, s: u32) -> bool
+    ensures live { IsTrue result → IsSome (get (state_of pool.now).sessions s) }
+    ensures seated { IsTrue result → IsSome (seat_of pool.now.seats s) }
+{
+    s < MAX_SESSIONS && pool.parts.seats.is_seated(s)
+}
 
-    /// Whether the tracker is that of a client of the session.
-    pub(crate) fn is_client_of(&self, s: u32, t: TrackerId) -> bool
-        ensures { IsTrue result → IsClientOf (state_of self.now) s t }
-    {
-        s < MAX_SESSIONS
-            && self.parts.seats.is_seated(s)
-            && has(self.parts.seats.members(s), t.number())
-    }
+/// Whether the tracker is that of a client of the session.
+pub(crate) fn is_client_of<D: Drop>(pool: &PoolState<D>, s: u32, t: TrackerId) -> bool
+    ensures { IsTrue result → IsClientOf (state_of pool.now) s t }
+{
+    s < MAX_SESSIONS
+        && pool.parts.seats.is_seated(s)
+        && has(pool.parts.seats.members(s), t.number())
+}
 
-    /// Whether a client of the session can hold so many bytes more.
-    pub(crate) fn can_hold(&self, s: u32, t: TrackerId, bytes: u64) -> bool
-        ensures client { IsTrue result → IsClientOf (state_of self.now) s t }
-        ensures room { IsTrue result → HasRoom (state_of self.now) t bytes }
-    {
-        self.parts.laws();
-        self.is_client_of(s, t) && self.parts.has_room(t.number(), bytes)
-    }
+/// Whether a client of the session can hold so many bytes more.
+pub(crate) fn can_hold<D: Drop>(pool: &PoolState<D>, s: u32, t: TrackerId, bytes: u64) -> bool
+    ensures client { IsTrue result → IsClientOf (state_of pool.now) s t }
+    ensures room { IsTrue result → HasRoom (state_of pool.now) t bytes }
+{
+    pool.parts.laws();
+    is_client_of(pool, s, t) && pool.parts.has_room(t.number(), bytes)
+}
 
-    /// Whether so many bytes of a client of the session are unused.
-    pub(crate) fn has_unused(&self, s: u32, t: TrackerId, bytes: u64) -> bool
-        ensures { IsTrue result → bytes ≤ unused (charge_of (state_of self.now)) (state_of self.now).trackers t }
-    {
-        self.is_client_of(s, t) && bytes <= self.parts.tree.unused(t)
-    }
+/// Whether so many bytes of a client of the session are unused.
+pub(crate) fn has_unused<D: Drop>(pool: &PoolState<D>, s: u32, t: TrackerId, bytes: u64) -> bool
+    ensures { IsTrue result → bytes ≤ unused (charge_of (state_of pool.now)) (state_of pool.now).trackers t }
+{
+    is_client_of(pool, s, t) && bytes <= pool.parts.tree.unused(t)
 }
 
 // Whether a client with this tracker is one of these.

@@ -8,42 +8,41 @@ ghost use Rattle.pin_core.specs.declared.kept.Kept.{Kept as Slots};
 ghost use Rattle.pin_core.specs.Sessions.{IsIdle, query_of};
 ghost use Rattle.pin_core.specs.StateOf.{state_of};
 
+use crate::checks::clients::{is_client_of, is_seat};
 use crate::kept::Kept;
 use crate::pool::PoolState;
 use page_table::PageTable;
 use reservation_tree::TrackerId;
 use session_table::{MAX_SESSIONS, SessionTable};
 
-impl<D: Drop> PoolState<D> {
-    /// Whether a client of the session has neither a page nor a loan.
-    pub(crate) fn is_idle(&self, s: u32, t: TrackerId) -> bool
-        ensures { IsTrue result → IsIdle (state_of self.now) t }
-    {
-        self.is_client_of(s, t) && self.has_nothing(t.number())
-    }
+/// Whether a client of the session has neither a page nor a loan.
+pub(crate) fn is_idle<D: Drop>(pool: &PoolState<D>, s: u32, t: TrackerId) -> bool
+    ensures { IsTrue result → IsIdle (state_of pool.now) t }
+{
+    is_client_of(pool, s, t) && has_nothing(pool, t.number())
+}
 
-    // Whether no page and no loan is this client's, by its charge and by the table.
-    fn has_nothing(&self, client: u32) -> bool
-        requires { IsLive (state_of self.now).trackers client }
-        ensures { IsTrue result → IsIdle (state_of self.now) client }
-    {
-        self.parts.laws();
-        self.parts.tree.used(TrackerId::of(client)) == 0 && has_no_page(&self.parts.pages, client)
-    }
+// Whether no page and no loan is this client's, by its charge and by the table.
+pub(crate) fn has_nothing<D: Drop>(pool: &PoolState<D>, client: u32) -> bool
+    requires { IsLive (state_of pool.now).trackers client }
+    ensures { IsTrue result → IsIdle (state_of pool.now) client }
+{
+    pool.parts.laws();
+    pool.parts.tree.used(TrackerId::of(client)) == 0 && has_no_page(&pool.parts.pages, client)
+}
 
-    /// Whether the session is live and has no client.
-    pub(crate) fn has_no_client(&self, s: u32) -> bool
-        ensures { IsTrue result → HasNoChild (state_of self.now).trackers (query_of (state_of self.now) s) }
-    {
-        self.is_seat(s) && self.parts.seats.members(s).len() == 0
-    }
+/// Whether the session is live and has no client.
+pub(crate) fn has_no_client<D: Drop>(pool: &PoolState<D>, s: u32) -> bool
+    ensures { IsTrue result → HasNoChild (state_of pool.now).trackers (query_of (state_of pool.now) s) }
+{
+    is_seat(pool, s) && pool.parts.seats.members(s).len() == 0
+}
 
-    /// Whether there is no session.
-    pub(crate) fn has_no_session(&self) -> bool
-        ensures { IsTrue result → (s : ℕ) → get (state_of self.now).sessions s ≡ None }
-    {
-        are_vacant(&self.parts.seats)
-    }
+/// Whether there is no session.
+pub(crate) fn has_no_session<D: Drop>(pool: &PoolState<D>) -> bool
+    ensures { IsTrue result → (s : ℕ) → get (state_of pool.now).sessions s ≡ None }
+{
+    are_vacant(&pool.parts.seats)
 }
 
 // Whether no page is this client's.

@@ -5,37 +5,36 @@ ghost use Rattle.pin_core.specs.Jobs.{IsReadJob, IsWriteJob};
 ghost use Rattle.pin_core.specs.Runs.{IsFit};
 ghost use Rattle.pin_core.specs.StateOf.{state_of};
 
+use crate::checks::pages::{entry_at, fits};
 use crate::jobs::{ReadJob, WriteJob};
 use crate::pool::PoolState;
 use page_table::Place;
 
-impl<D: Drop> PoolState<D> {
-    pub(crate) fn is_write_job(&self, job: &WriteJob<D>) -> bool
-        ensures job { IsTrue result → IsWriteJob (state_of self.now) job.now }
-        ensures fit { IsTrue result → IsFit job.now.buf job.now.row }
-    {
-        let Some(entry) = self.entry_at(job.id) else {
-            return false;
-        };
-        entry.place == Place::Flying(job.who)
-            && entry.client == job.client
-            && self.fits(entry.blocks, &job.buf)
-            && job.row.len() == entry.blocks as usize
-            && is_maker(job.who)
-    }
+pub(crate) fn is_write_job<D: Drop>(pool: &PoolState<D>, job: &WriteJob<D>) -> bool
+    ensures job { IsTrue result → IsWriteJob (state_of pool.now) job.now }
+    ensures fit { IsTrue result → IsFit job.now.buf job.now.row }
+{
+    let Some(entry) = entry_at(pool, job.id) else {
+        return false;
+    };
+    entry.place == Place::Flying(job.who)
+        && entry.client == job.client
+        && fits(pool, entry.blocks, &job.buf)
+        && job.row.len() == entry.blocks as usize
+        && is_maker(job.who)
+}
 
-    pub(crate) fn is_read_job(&self, job: &ReadJob<D>) -> bool
-        ensures job { IsTrue result → IsReadJob (state_of self.now) job.now }
-        ensures fit { IsTrue result → IsFit job.now.buf job.now.row }
-    {
-        let Some(entry) = self.entry_at(job.id) else {
-            return false;
-        };
-        entry.place == Place::Loading
-            && entry.client == job.client
-            && self.fits(entry.blocks, &job.buf)
-            && job.row.len() == entry.blocks as usize
-    }
+pub(crate) fn is_read_job<D: Drop>(pool: &PoolState<D>, job: &ReadJob<D>) -> bool
+    ensures job { IsTrue result → IsReadJob (state_of pool.now) job.now }
+    ensures fit { IsTrue result → IsFit job.now.buf job.now.row }
+{
+    let Some(entry) = entry_at(pool, job.id) else {
+        return false;
+    };
+    entry.place == Place::Loading
+        && entry.client == job.client
+        && fits(pool, entry.blocks, &job.buf)
+        && job.row.len() == entry.blocks as usize
 }
 
 /// Whether the number is a session's or a writer's.

@@ -10,6 +10,7 @@ ghost use Rattle.pool_model.specs.Sums.{length_of};
 ghost use Rattle.pin_core.specs.PinTurns.{CanPin};
 ghost use Rattle.pin_core.specs.Ending.{IsPinnedWith, IsUnpinned};
 
+use crate::checks::clients::{can_hold, has_unused};
 use crate::kept::Kept;
 use crate::lengths;
 use crate::pool::{PoolState, id_of};
@@ -18,117 +19,114 @@ use page_table::{Entry, PageId, Place};
 use reservation_tree::TrackerId;
 use store_api::Page;
 
-impl<D: Drop> PoolState<D> {
-    /// The page's entry, where the page is live.
-    pub(crate) fn entry_of(&self, p: &Page) -> Option<&Entry<Kept<D>>>
-        ensures { IfSome result (λ x. IsPage (state_of self.now) p.now × (page_at (state_of self.now) p.now.name ≡ page_of self.now.pages p.now.name x.now)) }
-    {
-        self.entry_at(id_of(p))
-    }
+/// The page's entry, where the page is live.
+pub(crate) fn entry_of<'a, D: Drop>(pool: &'a PoolState<D>, p: &Page) -> Option<&'a Entry<Kept<D>>>
+    ensures { IfSome result (λ x. IsPage (state_of pool.now) p.now × (page_at (state_of pool.now) p.now.name ≡ page_of pool.now.pages p.now.name x.now)) }
+{
+    entry_at(pool, id_of(p))
+}
 
-    /// The same by its name and key.
-    pub(crate) fn entry_at(&self, id: PageId) -> Option<&Entry<Kept<D>>>
-        ensures { IfSome result (λ x. (get (state_of self.now).pages id.name ≡ Some (page_of self.now.pages id.name x.now)) × (key_of self.now.pages id.name ≡ id.key)) }
-    {
-        self.parts.laws();
-        self.parts.pages.get(id)
-    }
+/// The same by its name and key.
+pub(crate) fn entry_at<'a, D: Drop>(pool: &'a PoolState<D>, id: PageId) -> Option<&'a Entry<Kept<D>>>
+    ensures { IfSome result (λ x. (get (state_of pool.now).pages id.name ≡ Some (page_of pool.now.pages id.name x.now)) × (key_of pool.now.pages id.name ≡ id.key)) }
+{
+    pool.parts.laws();
+    pool.parts.pages.get(id)
+}
 
-    /// Whether this is a buffer of so many blocks of the pool.
-    pub(crate) fn fits(&self, blocks: u32, buf: &Buf) -> bool
-        ensures { IsTrue result → IsBufferOf blocks (state_of self.now).block_len buf.now }
-    {
-        let len = self.parts.block_len;
-        if buf.len() == 0 {
-            return false;
-        }
-        buf.block(0).len() as u64 == u64::from(len)
-            && buf.len() as u64 == lengths::bytes(len, blocks)
+/// Whether this is a buffer of so many blocks of the pool.
+pub(crate) fn fits<D: Drop>(pool: &PoolState<D>, blocks: u32, buf: &Buf) -> bool
+    ensures { IsTrue result → IsBufferOf blocks (state_of pool.now).block_len buf.now }
+{
+    let len = pool.parts.block_len;
+    if buf.len() == 0 {
+        return false;
     }
+    buf.block(0).len() as u64 == u64::from(len) && buf.len() as u64 == lengths::bytes(len, blocks)
+}
 
-    pub(crate) fn is_page(&self, p: &Page) -> bool
-        ensures { IsTrue result → IsPage (state_of self.now) p.now }
-    {
-        self.entry_of(p).is_some()
-    }
+pub(crate) fn is_page<D: Drop>(pool: &PoolState<D>, p: &Page) -> bool
+    ensures { IsTrue result → IsPage (state_of pool.now) p.now }
+{
+    entry_of(pool, p).is_some()
+}
 
-    pub(crate) fn is_last_pin(&self, p: &Page, buf: &Buf) -> bool
-        ensures { IsTrue result → IsLastPin (state_of self.now) p.now buf.now }
-    {
-        let Some(entry) = self.entry_of(p) else {
-            return false;
-        };
-        entry.place == Place::Pinned(1) && self.fits(entry.blocks, buf)
-    }
+pub(crate) fn is_last_pin<D: Drop>(pool: &PoolState<D>, p: &Page, buf: &Buf) -> bool
+    ensures { IsTrue result → IsLastPin (state_of pool.now) p.now buf.now }
+{
+    let Some(entry) = entry_of(pool, p) else {
+        return false;
+    };
+    entry.place == Place::Pinned(1) && fits(pool, entry.blocks, buf)
+}
 
-    pub(crate) fn is_pinned(&self, p: &Page) -> bool
-        ensures { IsTrue result → IsPinned (state_of self.now) p.now }
-    {
-        let Some(entry) = self.entry_of(p) else {
-            return false;
-        };
-        pins(entry.place).is_some()
-    }
+pub(crate) fn is_pinned<D: Drop>(pool: &PoolState<D>, p: &Page) -> bool
+    ensures { IsTrue result → IsPinned (state_of pool.now) p.now }
+{
+    let Some(entry) = entry_of(pool, p) else {
+        return false;
+    };
+    pins(entry.place).is_some()
+}
 
-    pub(crate) fn is_pinned_with(&self, p: &Page, buf: &Buf) -> bool
-        ensures { IsTrue result → IsPinnedWith (state_of self.now) p.now buf.now }
-    {
-        let Some(entry) = self.entry_of(p) else {
-            return false;
-        };
-        self.is_pinned(p) && self.fits(entry.blocks, buf)
-    }
+pub(crate) fn is_pinned_with<D: Drop>(pool: &PoolState<D>, p: &Page, buf: &Buf) -> bool
+    ensures { IsTrue result → IsPinnedWith (state_of pool.now) p.now buf.now }
+{
+    let Some(entry) = entry_of(pool, p) else {
+        return false;
+    };
+    is_pinned(pool, p) && fits(pool, entry.blocks, buf)
+}
 
-    pub(crate) fn has_pin_to_spare(&self, p: &Page) -> bool
-        ensures { IsTrue result → HasPinToSpare (state_of self.now) p.now }
-    {
-        let Some(entry) = self.entry_of(p) else {
-            return false;
-        };
-        let Some(count) = pins(entry.place) else {
-            return false;
-        };
-        self.is_pinned(p) && count >= 2
-    }
+pub(crate) fn has_pin_to_spare<D: Drop>(pool: &PoolState<D>, p: &Page) -> bool
+    ensures { IsTrue result → HasPinToSpare (state_of pool.now) p.now }
+{
+    let Some(entry) = entry_of(pool, p) else {
+        return false;
+    };
+    let Some(count) = pins(entry.place) else {
+        return false;
+    };
+    is_pinned(pool, p) && count >= 2
+}
 
-    pub(crate) fn is_unpinned(&self, p: &Page) -> bool
-        ensures { IsTrue result → IsUnpinned (state_of self.now) p.now }
-    {
-        let Some(entry) = self.entry_of(p) else {
-            return false;
-        };
-        is_away(entry.place)
-    }
+pub(crate) fn is_unpinned<D: Drop>(pool: &PoolState<D>, p: &Page) -> bool
+    ensures { IsTrue result → IsUnpinned (state_of pool.now) p.now }
+{
+    let Some(entry) = entry_of(pool, p) else {
+        return false;
+    };
+    is_away(entry.place)
+}
 
-    /// The length of so many blocks of the pool.
-    pub(crate) fn length(&self, blocks: u32) -> u64
-        ensures { result ≡ length_of (state_of self.now) blocks }
-    {
-        lengths::bytes(self.parts.block_len, blocks)
-    }
+/// The length of so many blocks of the pool.
+pub(crate) fn length<D: Drop>(pool: &PoolState<D>, blocks: u32) -> u64
+    ensures { result ≡ length_of (state_of pool.now) blocks }
+{
+    lengths::bytes(pool.parts.block_len, blocks)
+}
 
-    /// Whether the page's client can hold its length once more.
-    pub(crate) fn has_room_for(&self, p: &Page) -> bool
-        ensures { IsTrue result → HasRoomFor (state_of self.now) p.now.name }
-    {
-        let Some(entry) = self.entry_of(p) else {
-            return false;
-        };
-        let bytes = self.length(entry.blocks);
-        self.can_hold(entry.session, TrackerId::of(entry.client), bytes)
-    }
+/// Whether the page's client can hold its length once more.
+pub(crate) fn has_room_for<D: Drop>(pool: &PoolState<D>, p: &Page) -> bool
+    ensures { IsTrue result → HasRoomFor (state_of pool.now) p.now.name }
+{
+    let Some(entry) = entry_of(pool, p) else {
+        return false;
+    };
+    let bytes = length(pool, entry.blocks);
+    can_hold(pool, entry.session, TrackerId::of(entry.client), bytes)
+}
 
-    pub(crate) fn can_pin(&self, s: u32, p: &Page) -> bool
-        ensures { IsTrue result → CanPin (state_of self.now) s p.now }
-    {
-        let Some(entry) = self.entry_of(p) else {
-            return false;
-        };
-        let bytes = self.length(entry.blocks);
-        entry.session == s
-            && self.is_unpinned(p)
-            && self.has_unused(s, TrackerId::of(entry.client), bytes)
-    }
+pub(crate) fn can_pin<D: Drop>(pool: &PoolState<D>, s: u32, p: &Page) -> bool
+    ensures { IsTrue result → CanPin (state_of pool.now) s p.now }
+{
+    let Some(entry) = entry_of(pool, p) else {
+        return false;
+    };
+    let bytes = length(pool, entry.blocks);
+    entry.session == s
+        && is_unpinned(pool, p)
+        && has_unused(pool, s, TrackerId::of(entry.client), bytes)
 }
 
 // How often a page in this place is pinned.

@@ -1,13 +1,14 @@
 //! Clean pages make room.
 
 use super::steps::{self, Pool};
+use crate::checks::pages::entry_of;
 use page_table::Place;
 use std::alloc::Global;
 use std::process::Abort;
 use store_api::{Client, Page};
 
 fn place(rt: &impl Abort, pool: &Pool, p: &Page) -> Place {
-    match pool.entry_of(p) {
+    match entry_of(pool, p) {
         Some(entry) => entry.place,
         None => panic!(rt; "the page is live"),
     }

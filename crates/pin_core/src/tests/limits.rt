@@ -1,6 +1,7 @@
 //! Where slots, trackers or names are spent.
 
 use super::steps;
+use crate::checks::pages::is_pinned;
 use reservation_tree::PoolErr;
 
 #[test]
@@ -20,7 +21,7 @@ fn a_page_is_left_once_slots_are_free(rt: HostRuntime) {
         Ok(()) => panic!(rt; "no slot is free"),
     };
     assert_eq!(rt; steps::front(&rt, &buf), 6);
-    assert!(rt; pool.is_pinned(&second));
+    assert!(rt; is_pinned(&pool, &second));
     assert_eq!(rt; steps::charge(&rt, &pool, &c), 64);
     steps::destroy(&rt, &mut pool, first);
     assert!(rt; steps::unpin(&rt, &mut pool, &second, buf).is_ok());

@@ -1,6 +1,7 @@
 //! Pages with several pins.
 
 use super::steps;
+use crate::checks::pages::{has_pin_to_spare, has_room_for, is_last_pin};
 
 #[test]
 fn each_pin_is_charged(rt: HostRuntime) {
@@ -12,12 +13,12 @@ fn each_pin_is_charged(rt: HostRuntime) {
     steps::pin_again(&rt, &mut pool, &page);
     steps::pin_again(&rt, &mut pool, &page);
     assert_eq!(rt; steps::charge(&rt, &pool, &c), 192);
-    assert!(rt; !pool.has_room_for(&page) && !pool.is_last_pin(&page, &buf));
+    assert!(rt; !has_room_for(&pool, &page) && !is_last_pin(&pool, &page, &buf));
     steps::unpin_once(&rt, &mut pool, &page);
     assert_eq!(rt; steps::charge(&rt, &pool, &c), 128);
     steps::unpin_once(&rt, &mut pool, &page);
     assert_eq!(rt; steps::charge(&rt, &pool, &c), 64);
-    assert!(rt; !pool.has_pin_to_spare(&page));
+    assert!(rt; !has_pin_to_spare(&pool, &page));
     assert!(rt; steps::unpin(&rt, &mut pool, &page, buf).is_ok());
     assert_eq!(rt; steps::charge(&rt, &pool, &c), 0);
     page.into_name();

@@ -1,14 +1,15 @@
 //! Reservations, and pools that close.
 
 use super::steps::{self, Pool};
+use crate::checks::tokens::is_client;
 use reservation_tree::{PoolErr, TrackerId};
 use std::process::Abort;
 use store_api::Client;
 
 // What two clients have reserved.
 fn reserved(rt: &impl Abort, pool: &Pool, a: &Client, b: &Client) -> (u64, u64) {
-    assert!(rt; pool.is_client(a));
-    assert!(rt; pool.is_client(b));
+    assert!(rt; is_client(pool, a));
+    assert!(rt; is_client(pool, b));
     (pool.reservation(a.tracker()), pool.reservation(b.tracker()))
 }
 

@@ -1,5 +1,16 @@
 //! Single steps of a session and of a writer, each asked for first.
 
+use crate::checks::clients::is_seat;
+use crate::checks::idle::{has_no_client, has_no_session};
+use crate::checks::jobs::{is_read_job, is_write_job};
+use crate::checks::loans::{can_move_to, is_loan};
+use crate::checks::pages::{
+    can_pin, has_pin_to_spare, has_room_for, is_last_pin, is_page, is_pinned, is_pinned_with,
+    is_unpinned, length,
+};
+use crate::checks::tokens::{
+    are_beside, can_fill, has_left, has_none, has_room, is_client, is_client_in, is_tracker,
+};
 use crate::{PinTurn, PoolConf, PoolState, ReadJob, RoomTurn, Want, WriteJob, Wrote};
 use block_arena::{Buf, Shell};
 use outside::{MemSlot, OpenGate};
@@ -67,15 +78,15 @@ pub(crate) fn session(rt: &impl Abort, pool: &mut Pool, quota: u32) -> u32 {
 
 /// The limit of a session's query tracker.
 pub(crate) fn limit(rt: &impl Abort, pool: &Pool, s: u32) -> u64 {
-    assert!(rt; pool.is_seat(s));
+    assert!(rt; is_seat(pool, s));
     let query = pool.tracker(s);
-    assert!(rt; pool.is_tracker(query));
+    assert!(rt; is_tracker(pool, query));
     pool.limit(query)
 }
 
 pub(crate) fn end_session(rt: &impl Abort, pool: &mut Pool, s: u32) {
-    assert!(rt; pool.is_seat(s));
-    assert!(rt; pool.has_no_client(s));
+    assert!(rt; is_seat(pool, s));
+    assert!(rt; has_no_client(pool, s));
     pool.end_session(s);
 }
 
@@ -85,7 +96,7 @@ pub(crate) fn add_client(
     s: u32,
     limit: u64,
 ) -> Result<Client, PoolErr> {
-    assert!(rt; pool.is_seat(s));
+    assert!(rt; is_seat(pool, s));
     pool.add_client(s, limit)
 }
 
@@ -101,8 +112,8 @@ pub(crate) fn client(rt: &impl Abort, pool: &mut Pool, s: u32, bytes: u64) -> Cl
 }
 
 pub(crate) fn end_client(rt: &impl Abort, pool: &mut Pool, c: Client) {
-    assert!(rt; pool.is_client(&c));
-    assert!(rt; pool.has_none(&c));
+    assert!(rt; is_client(pool, &c));
+    assert!(rt; has_none(pool, &c));
     pool.end_client(c);
 }
 
@@ -112,7 +123,7 @@ pub(crate) fn increase(
     c: &Client,
     bytes: u64,
 ) -> Result<(), PoolErr> {
-    assert!(rt; pool.is_client(c));
+    assert!(rt; is_client(pool, c));
     pool.increase(c, bytes)
 }
 
@@ -122,15 +133,15 @@ pub(crate) fn increase_to_fit(
     c: &Client,
     bytes: u64,
 ) -> Result<(), PoolErr> {
-    assert!(rt; pool.is_client(c));
+    assert!(rt; is_client(pool, c));
     pool.increase_to_fit(c, bytes)
 }
 
 /// Gives back so much of a reservation that is neither charged nor held.
 pub(crate) fn decrease(rt: &impl Abort, pool: &mut Pool, c: &Client, bytes: u64) {
-    assert!(rt; pool.is_client(c));
-    assert!(rt; pool.has_left(c, bytes));
-    assert!(rt; pool.has_room(c, bytes));
+    assert!(rt; is_client(pool, c));
+    assert!(rt; has_left(pool, c, bytes));
+    assert!(rt; has_room(pool, c, bytes));
     pool.decrease_now(c, bytes);
 }
 
@@ -141,22 +152,22 @@ pub(crate) fn move_reservation(
     to: &Client,
     bytes: u64,
 ) -> Result<(), PoolErr> {
-    assert!(rt; pool.is_client(from));
-    assert!(rt; pool.are_beside(from, to));
-    assert!(rt; pool.has_left(from, bytes));
-    assert!(rt; pool.has_room(from, bytes));
+    assert!(rt; is_client(pool, from));
+    assert!(rt; are_beside(pool, from, to));
+    assert!(rt; has_left(pool, from, bytes));
+    assert!(rt; has_room(pool, from, bytes));
     pool.move_now(from, to, bytes)
 }
 
 /// The bytes that are charged to a client.
 pub(crate) fn charge(rt: &impl Abort, pool: &Pool, c: &Client) -> u64 {
-    assert!(rt; pool.is_client(c));
+    assert!(rt; is_client(pool, c));
     pool.reservation(c.tracker())
         .saturating_sub(pool.unused(c.tracker()))
 }
 
 pub(crate) fn ask(rt: &impl Abort, pool: &mut Pool, s: u32) -> u64 {
-    assert!(rt; pool.is_seat(s));
+    assert!(rt; is_seat(pool, s));
     pool.ask(s)
 }
 
@@ -168,9 +179,9 @@ pub(crate) fn start_write(rt: &impl Abort, pool: &mut Pool, who: u32) -> Option<
 
 /// Stores the blocks of a page that flies, and ends its write.
 pub(crate) fn write(rt: &impl Abort, pool: &mut Pool, mut job: WriteJob<MemSlot>) -> Wrote {
-    assert!(rt; pool.is_write_job(&job));
+    assert!(rt; is_write_job(pool, &job));
     job.run(&OpenGate, 1000);
-    assert!(rt; pool.is_write_job(&job));
+    assert!(rt; is_write_job(pool, &job));
     pool.finish_write(job)
 }
 
@@ -188,8 +199,8 @@ pub(crate) fn make_room(
 ) -> Result<(), u64> {
     for _ in 0..64 {
         let s = c.session();
-        assert!(rt; pool.is_client_in(s, c));
-        assert!(rt; pool.has_left(c, bytes));
+        assert!(rt; is_client_in(pool, s, c));
+        assert!(rt; has_left(pool, c, bytes));
         match pool.room_turn(s, since, c, Want::Hold(bytes)) {
             RoomTurn::Ready => return Ok(()),
             RoomTurn::Refused { entry } => return Err(entry),
@@ -211,7 +222,7 @@ pub(crate) fn create_now(
 ) -> Result<(Page, Buf), (Shell, SlotShell<MemSlot>, PoolErr)> {
     let shell = Shell::with(alloc, blocks).expect(rt, "a shell");
     let slots = SlotShell::with(alloc, blocks).expect(rt, "a shell");
-    assert!(rt; pool.can_fill(c, &shell));
+    assert!(rt; can_fill(pool, c, &shell));
     pool.create_now(c, shell, slots)
 }
 
@@ -224,7 +235,7 @@ pub(crate) fn create(
     blocks: u32,
 ) -> (Page, Buf) {
     let since = ask(rt, pool, c.session());
-    let bytes = pool.length(blocks);
+    let bytes = length(pool, blocks);
     assert_eq!(rt; make_room(rt, pool, since, c, bytes), Ok(()));
     match create_now(rt, alloc, pool, c, blocks) {
         Ok(made) => made,
@@ -234,7 +245,7 @@ pub(crate) fn create(
 
 /// The length of a page in bytes.
 pub(crate) fn page_len(rt: &impl Abort, pool: &Pool, p: &Page) -> u64 {
-    assert!(rt; pool.is_page(p));
+    assert!(rt; is_page(pool, p));
     pool.page_len(p)
 }
 
@@ -274,7 +285,7 @@ pub(crate) fn pin_turn(
     since: u64,
     p: &Page,
 ) -> PinTurn<MemSlot> {
-    assert!(rt; pool.can_pin(s, p));
+    assert!(rt; can_pin(pool, s, p));
     pool.pin_turn(s, since, p)
 }
 
@@ -285,9 +296,9 @@ pub(crate) fn read(
     since: u64,
     mut job: ReadJob<MemSlot>,
 ) -> Result<Buf, PoolErr> {
-    assert!(rt; pool.is_read_job(&job));
+    assert!(rt; is_read_job(pool, &job));
     job.run(&OpenGate, 0);
-    assert!(rt; pool.is_read_job(&job));
+    assert!(rt; is_read_job(pool, &job));
     pool.finish_read(since, job)
 }
 
@@ -309,13 +320,13 @@ pub(crate) fn pin(rt: &impl Abort, pool: &mut Pool, s: u32, p: &Page) -> Result<
 }
 
 pub(crate) fn pin_again(rt: &impl Abort, pool: &mut Pool, p: &Page) {
-    assert!(rt; pool.is_pinned(p));
-    assert!(rt; pool.has_room_for(p));
+    assert!(rt; is_pinned(pool, p));
+    assert!(rt; has_room_for(pool, p));
     pool.pin_again_now(p);
 }
 
 pub(crate) fn unpin_once(rt: &impl Abort, pool: &mut Pool, p: &Page) {
-    assert!(rt; pool.has_pin_to_spare(p));
+    assert!(rt; has_pin_to_spare(pool, p));
     pool.unpin_once(p);
 }
 
@@ -325,22 +336,22 @@ pub(crate) fn unpin(
     p: &Page,
     buf: Buf,
 ) -> Result<(), (Buf, PoolErr)> {
-    assert!(rt; pool.is_last_pin(p, &buf));
+    assert!(rt; is_last_pin(pool, p, &buf));
     pool.unpin(p, buf)
 }
 
 pub(crate) fn extract(rt: &impl Abort, pool: &mut Pool, p: Page, buf: Buf) -> Loan {
-    assert!(rt; pool.is_last_pin(&p, &buf));
+    assert!(rt; is_last_pin(pool, &p, &buf));
     pool.extract(p, buf)
 }
 
 pub(crate) fn destroy_pinned(rt: &impl Abort, pool: &mut Pool, p: Page, buf: Buf) {
-    assert!(rt; pool.is_pinned_with(&p, &buf));
+    assert!(rt; is_pinned_with(pool, &p, &buf));
     pool.destroy_pinned(p, buf);
 }
 
 pub(crate) fn destroy_unpinned(rt: &impl Abort, pool: &mut Pool, p: Page) -> Result<(), Page> {
-    assert!(rt; pool.is_unpinned(&p));
+    assert!(rt; is_unpinned(pool, &p));
     pool.destroy_unpinned(p)
 }
 
@@ -360,23 +371,23 @@ pub(crate) fn alloc_loan(
     blocks: u32,
 ) -> Loan {
     let shell = Shell::with(alloc, blocks).expect(rt, "a shell");
-    assert!(rt; pool.can_fill(c, &shell));
+    assert!(rt; can_fill(pool, c, &shell));
     pool.alloc_now(c, shell)
 }
 
 pub(crate) fn move_loan(rt: &impl Abort, pool: &mut Pool, loan: Loan, to: &Client) -> Loan {
-    assert!(rt; pool.is_loan(to.session(), &loan));
-    assert!(rt; pool.can_move_to(&loan, to));
+    assert!(rt; is_loan(pool, to.session(), &loan));
+    assert!(rt; can_move_to(pool, &loan, to));
     pool.move_buffer_now(loan, to)
 }
 
 pub(crate) fn free(rt: &impl Abort, pool: &mut Pool, s: u32, loan: Loan) {
-    assert!(rt; pool.is_loan(s, &loan));
+    assert!(rt; is_loan(pool, s, &loan));
     pool.free(loan);
 }
 
 /// Ends a pool without sessions, and tells how many slots came back.
 pub(crate) fn close(rt: &impl Abort, pool: Pool) -> usize {
-    assert!(rt; pool.has_no_session());
+    assert!(rt; has_no_session(&pool));
     pool.close().len()
 }

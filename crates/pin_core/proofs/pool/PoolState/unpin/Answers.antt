@@ -11,9 +11,11 @@ unpin-requires-clause-ready g c =
     (unpin_can c.self.inside.parts c.args.self.now c.self.view_is c.id_of-id.result c.args.p.now c.id_of-id.ensures c.laws.ensures c.args.buf c.requires.last)
 
 pub invariant_of-self : goal.invariant_of-self
-invariant_of-self g c =
-    ((unpin_done c.self.inside.parts c.args.self.now c.id_of-id.result c.args.p.now c.args.buf c.self.view_is c.id_of-id.ensures c.self.invariant.0 c.laws.ensures c.requires.last
-    c.unpin.result c.unpin.new.self c.unpin.ensures.ok c.unpin.ensures.err c.unpin.ensures.refused).kept, c.self.invariant.1)
+invariant_of-self g c = (
+  (unpin_done c.self.inside.parts c.args.self.now c.id_of-id.result c.args.p.now c.args.buf c.self.view_is c.id_of-id.ensures c.self.invariant.0 c.laws.ensures c.requires.last
+      c.unpin.result c.unpin.new.self c.unpin.ensures.ok c.unpin.ensures.err c.unpin.ensures.refused).kept,
+  c.self.invariant.1,
+)
 
 pub returns-clause-enters : goal.returns-clause-enters
 returns-clause-enters g c =
