@@ -182,7 +182,7 @@ build() {
     total=$((total))
     look_at_machine
     find_proved
-    say "building the program (crates to prove: $((total - $(count $proved))) of $total); the first time this takes some minutes"
+    say "building the program (crates to prove: $((total - $(count $proved))) of $total); the first time this takes many minutes"
     while [ "$(count $proved)" -lt "$total" ]; do
         start_ready
         show
