@@ -15,14 +15,14 @@ pub struct PoolState<D> {
 }
 
 impl<D> Model for PoolState<D> {
-    ghost use Rattle.pin_core.specs.declared.parts.Parts.{Parts as All};
+    ghost use Rattle.pin_core.specs.declared.parts.Parts.{Parts as PoolParts};
     ghost use Rattle.std.specs.Coded.{codes};
     ghost use Rattle.reservation_tree.specs.Tree.{state_code};
     ghost use Rattle.page_table.specs.Pages.{pages_code};
     ghost use Rattle.buffer_transfer.specs.Buffers.{book_code};
     ghost use Rattle.pin_core.specs.Codes.{seats_code};
 
-    ghost Value = { All D };
+    ghost Value = { PoolParts D };
 
     ghost coded = { Prim.hlevel (codes, state_code, pages_code, book_code, seats_code, D.code) };
 
