@@ -27,7 +27,10 @@ pub(crate) fn entry_of<'a, D: Drop>(pool: &'a PoolState<D>, p: &Page) -> Option<
 }
 
 /// The same by its name and key.
-pub(crate) fn entry_at<'a, D: Drop>(pool: &'a PoolState<D>, id: PageId) -> Option<&'a Entry<Kept<D>>>
+pub(crate) fn entry_at<'a, D: Drop>(
+    pool: &'a PoolState<D>,
+    id: PageId,
+) -> Option<&'a Entry<Kept<D>>>
     ensures { IfSome result (λ x. (get (state_of pool.now).pages id.name ≡ Some (page_of pool.now.pages id.name x.now)) × (key_of pool.now.pages id.name ≡ id.key)) }
 {
     pool.parts.laws();
