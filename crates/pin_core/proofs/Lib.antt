@@ -96,6 +96,3 @@ pub mod Begun
 pub mod Opens
 pub mod OpenedPool
 pub mod Readings
-pub mod Checked
-pub mod CheckedClients
-pub mod CheckedIdle

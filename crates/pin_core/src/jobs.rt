@@ -15,23 +15,23 @@ use std::mem;
 
 /// A page that is written: its buffer, its slots, and who writes it.
 pub struct WriteJob<D> {
-    pub(crate) id: PageId,
-    pub(crate) who: u32,
-    pub(crate) client: u32,
-    pub(crate) buf: Buf,
-    pub(crate) row: SlotRow<D>,
+    pub id: PageId,
+    pub who: u32,
+    pub client: u32,
+    pub buf: Buf,
+    pub row: SlotRow<D>,
     /// Whether a store failed.
-    pub(crate) failed: bool,
+    pub failed: bool,
 }
 
 /// A page that is loaded: its buffer, and its slots.
 pub struct ReadJob<D> {
-    pub(crate) id: PageId,
-    pub(crate) client: u32,
-    pub(crate) buf: Buf,
-    pub(crate) row: SlotRow<D>,
+    pub id: PageId,
+    pub client: u32,
+    pub buf: Buf,
+    pub row: SlotRow<D>,
     /// Whether a load failed.
-    pub(crate) failed: bool,
+    pub failed: bool,
 }
 
 // A dirty page goes out with its buffer and its slots.

@@ -14,8 +14,6 @@
 
 mod alloc;
 mod asking;
-#[cfg(test)]
-mod checks;
 mod clients;
 mod conf;
 mod create;
@@ -44,8 +42,6 @@ mod run;
 mod sessions;
 mod setup;
 mod start;
-#[cfg(test)]
-mod tests;
 mod unpin;
 
 pub use conf::PoolConf;

@@ -15,24 +15,24 @@ use session_table::SessionTable;
 /// sessions, and how many entries its history has, up to the greatest u64.
 #[derive(Drop)]
 pub struct Parts<D> {
-    pub(crate) block_len: u32,
-    pub(crate) tree: Tree,
-    pub(crate) pages: PageTable<Kept<D>>,
-    pub(crate) lists: ClientLists,
-    pub(crate) clean: CleanList,
-    pub(crate) arena: Arena,
-    pub(crate) slots: SlotPool<D>,
-    pub(crate) buffers: BufferBook,
-    pub(crate) seats: SessionTable,
-    pub(crate) entries: u64,
+    pub block_len: u32,
+    pub tree: Tree,
+    pub pages: PageTable<Kept<D>>,
+    pub lists: ClientLists,
+    pub clean: CleanList,
+    pub arena: Arena,
+    pub slots: SlotPool<D>,
+    pub buffers: BufferBook,
+    pub seats: SessionTable,
+    pub entries: u64,
 }
 
 impl<D> Parts<D> {
     ghost use Rattle.pin_core.specs.Lawful.{Lawful};
 
-    // What each part keeps by itself.
+    /// What each part keeps by itself. It does nothing.
     #[inline]
-    pub(crate) fn laws(&self)
+    pub fn laws(&self)
         ensures { Lawful self.now }
     {
         self.pages.law_proper();

@@ -34,6 +34,22 @@ impl<D> Model for PoolState<D> {
     ghost invariant = { λ s. IsKept s.parts × (256 ≤ vec_capacity s.evicted) };
 }
 
+impl<D> PoolState<D> {
+    ghost use Rattle.pin_core.specs.Invariant.{IsKept};
+    ghost use Rattle.pin_core.specs.Lawful.{Lawful};
+
+    /// All that the pool has, to be read: a caller that holds no history finds by it whether a call may be
+    /// made.
+    pub fn parts(&self) -> &Parts<D>
+        ensures parts { result.now ≡ self.now }
+        ensures kept { IsKept self.now }
+        ensures laws { Lawful self.now }
+    {
+        self.parts.laws();
+        &self.parts
+    }
+}
+
 // The page by its name and key.
 #[inline]
 pub(crate) fn id_of(p: &Page) -> PageId

@@ -74,8 +74,8 @@ impl<D: Slot + Drop> PoolState<D> {
 }
 
 impl<D: Drop> Parts<D> {
-    // Whether the client can hold so many bytes more.
-    pub(crate) fn has_room(&self, client: u32, bytes: u64) -> bool
+    /// Whether the client can hold so many bytes more.
+    pub fn has_room(&self, client: u32, bytes: u64) -> bool
         requires kept { IsKept self.now }
         requires laws { Lawful self.now }
         requires client { IsClient self.now.tree.trackers client }

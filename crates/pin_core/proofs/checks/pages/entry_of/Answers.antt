@@ -1,5 +1,0 @@
-use Rattle.pin_core.proofs.Checked.{seen_maybe}
-use Rattle.pin_core.proofs.checks.pages.entry_of.Goals as goal
-
-pub returns : goal.returns
-returns g c = seen_maybe c.args.pool.now c.id_of.result c.args.p.now c.entry_at.result c.id_of.ensures c.entry_at.ensures

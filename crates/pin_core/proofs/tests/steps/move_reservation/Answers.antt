@@ -1,5 +1,0 @@
-use Rattle.std.proofs.Common.{refl}
-use Rattle.pin_core.proofs.tests.steps.move_reservation.Goals as goal
-
-pub move_now-requires-clause-client : goal.move_now-requires-clause-client
-move_now-requires-clause-client g c = λ _. c.if-assert.ensures refl

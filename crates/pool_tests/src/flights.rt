@@ -1,0 +1,185 @@
+//! Calls that may start a write or a load, each made of the pool and of the plain pool, and how jobs end.
+
+use crate::moves::{client, page};
+use crate::steps::{self, Pool};
+use crate::world::{Leaf, World, bytes_of};
+use block_arena::Buf;
+use outside::MemSlot;
+use page_table::Place;
+use pin_core::{PinTurn, ReadJob, RoomTurn, Want, WriteJob, Wrote};
+use reservation_tree::PoolErr;
+use std::process::Abort;
+
+/// What a call started.
+pub enum Started {
+    Nothing,
+    Write(WriteJob<MemSlot>),
+    Read(ReadJob<MemSlot>),
+}
+
+/// What a call that wants room is to do next, as the plain pool has it.
+#[derive(Clone, Copy, Debug, PartialEq, Eq)]
+enum Answer {
+    Ready,
+    Refused(u64),
+    Write(u64),
+    Wait,
+}
+
+// The first of the answers that applies to a client that wants so many bytes.
+fn answer_to(world: &World, t: u32, bytes: u64) -> Answer {
+    if world.has_room(t, bytes) {
+        return Answer::Ready;
+    }
+    if let Some(entry) = world.failures.get(&t) {
+        return Answer::Refused(*entry);
+    }
+    match world.newest_dirty(t) {
+        Some(name) => Answer::Write(name),
+        None => Answer::Wait,
+    }
+}
+
+fn flies(world: &mut World, job: WriteJob<MemSlot>) -> Started {
+    let name = job.id.name;
+    world.unqueue(name);
+    world.put(name, Place::Flying(job.who));
+    world.count(1);
+    Started::Write(job)
+}
+
+pub fn start_write(rt: &impl Abort, pool: &mut Pool, world: &mut World) -> Started {
+    let who = 1000u32.saturating_add(world.below(8) as u32);
+    match steps::start_write(rt, pool, who) {
+        None => {
+            assert!(rt; world.dirty.is_empty());
+            Started::Nothing
+        }
+        Some(job) => {
+            assert_eq!(rt; world.newest_dirty(job.client), Some(job.id.name));
+            flies(world, job)
+        }
+    }
+}
+
+pub fn make_room(rt: &impl Abort, pool: &mut Pool, world: &mut World, t: u32) -> Started {
+    let bytes = bytes_of(world.below(6) as u32);
+    if bytes > world.unused(t) {
+        return Started::Nothing;
+    }
+    let wanted = answer_to(world, t, bytes);
+    let want = match bytes % 128 {
+        0 => Want::Hold(bytes),
+        _ => Want::Shrink(bytes),
+    };
+    let c = client(world, t);
+    let turn = steps::room_turn(rt, pool, 0, &c, want);
+    c.into_tracker();
+    match turn {
+        RoomTurn::Ready => assert_eq!(rt; wanted, Answer::Ready),
+        RoomTurn::Refused { entry } => assert_eq!(rt; wanted, Answer::Refused(entry)),
+        RoomTurn::Wait => assert_eq!(rt; wanted, Answer::Wait),
+        RoomTurn::Write(job) => {
+            assert_eq!(rt; wanted, Answer::Write(job.id.name));
+            return flies(world, job);
+        }
+    }
+    Started::Nothing
+}
+
+// What a pin of a page that is neither pinned nor loading is to do next.
+fn answer_to_pin(world: &World, leaf: &Leaf) -> Answer {
+    match leaf.place {
+        Place::Flying(_) => Answer::Wait,
+        Place::Dirty => Answer::Ready,
+        _ => answer_to(world, leaf.client, bytes_of(leaf.blocks)),
+    }
+}
+
+pub fn pin(
+    rt: &impl Abort,
+    pool: &mut Pool,
+    world: &mut World,
+    name: u64,
+    leaf: Leaf,
+) -> Started {
+    let is_away = !matches!(leaf.place, Place::Pinned(_) | Place::Loading);
+    if !is_away || bytes_of(leaf.blocks) > world.unused(leaf.client) {
+        return Started::Nothing;
+    }
+    let wanted = answer_to_pin(world, &leaf);
+    let p = page(name, &leaf);
+    let turn = steps::pin_turn(rt, pool, leaf.session, 0, &p);
+    p.into_name();
+    match turn {
+        PinTurn::Refused { entry } => assert_eq!(rt; wanted, Answer::Refused(entry)),
+        PinTurn::Wait => assert_eq!(rt; wanted, Answer::Wait),
+        PinTurn::Here(buf) => {
+            assert_eq!(rt; (wanted, leaf.place == Place::Evicted), (Answer::Ready, false));
+            world.unqueue(name);
+            world.count(1);
+            shows(rt, world, name, &leaf, buf);
+        }
+        PinTurn::Write(job) => {
+            assert_eq!(rt; wanted, Answer::Write(job.id.name));
+            return flies(world, job);
+        }
+        PinTurn::Load(job) => {
+            assert_eq!(rt; (wanted, leaf.place), (Answer::Ready, Place::Evicted));
+            world.evict(leaf.blocks);
+            world.put(name, Place::Loading);
+            world.count(1);
+            return Started::Read(job);
+        }
+    }
+    Started::Nothing
+}
+
+// The page is pinned, and its buffer has the byte with which it was left.
+fn shows(rt: &impl Abort, world: &mut World, name: u64, leaf: &Leaf, buf: Buf) {
+    assert_eq!(rt; steps::front(rt, &buf), leaf.byte);
+    world.put(name, Place::Pinned(1));
+    world.hold(name, buf).expect(rt, "memory");
+}
+
+/// Ends what a call started.
+pub fn finish(rt: &impl Abort, pool: &mut Pool, world: &mut World, started: Started) {
+    match started {
+        Started::Nothing => {}
+        Started::Write(job) => finish_write(rt, pool, world, job),
+        Started::Read(job) => finish_read(rt, pool, world, job),
+    }
+}
+
+fn finish_write(rt: &impl Abort, pool: &mut Pool, world: &mut World, job: WriteJob<MemSlot>) {
+    let name = job.id.name;
+    let client = job.client;
+    let wrote = steps::write(rt, pool, job);
+    world.count(1);
+    if wrote == Wrote::Done(name) {
+        world.put(name, Place::Clean);
+        world.clean.push(name).expect(rt, "memory");
+    } else {
+        assert_eq!(rt; wrote, Wrote::Failed(name));
+        world.put(name, Place::Dirty);
+        world.dirty.push(name).expect(rt, "memory");
+        world.note(client).expect(rt, "memory");
+    }
+}
+
+fn finish_read(rt: &impl Abort, pool: &mut Pool, world: &mut World, job: ReadJob<MemSlot>) {
+    let name = job.id.name;
+    let Some(leaf) = world.pages.get(&name).copied() else {
+        panic!(rt; "the page is live");
+    };
+    let entry = world.entries;
+    world.count(1);
+    match steps::read(rt, pool, 0, job) {
+        Ok(buf) => shows(rt, world, name, &leaf, buf),
+        Err(refusal) => {
+            assert_eq!(rt; refusal, PoolErr::ReadFault { entry });
+            world.put(name, Place::Evicted);
+            world.note(leaf.client).expect(rt, "memory");
+        }
+    }
+}

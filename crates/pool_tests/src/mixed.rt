@@ -1,0 +1,157 @@
+//! Mixed calls of three sessions over slots that fail now and then.
+
+use crate::flights::{self, Started};
+use crate::moves;
+use crate::steps::{self, Pool};
+use crate::world::World;
+use page_table::PageId;
+use reservation_tree::TrackerId;
+use std::alloc::Global;
+use std::process::Abort;
+
+// The store or the load of a slot that fails, counted from 0.
+const FAILS: [u64; 12] = [3, 4, 9, 14, 15, 16, 25, 31, 32, 44, 58, 71];
+
+// The pool has what the plain pool has.
+fn compare(rt: &impl Abort, pool: &Pool, world: &World) {
+    let parts = pool.parts();
+    assert_eq!(rt; parts.entries, world.entries);
+    assert_eq!(rt; parts.arena.free(), world.free());
+    for (t, member) in world.clients.iter() {
+        let client = TrackerId::of(*t);
+        assert!(rt; parts.tree.is_live(client));
+        assert_eq!(rt; parts.tree.reservation(client), member.reservation);
+        assert_eq!(rt; parts.tree.used(client), world.charge(*t));
+    }
+    for (name, leaf) in world.pages.iter() {
+        let id = PageId {
+            name: *name,
+            key: leaf.key,
+        };
+        let place = parts.pages.get(id).map(|entry| entry.place);
+        assert_eq!(rt; place, Some(leaf.place), "page {name}");
+    }
+}
+
+// A call on sessions, clients and their reservations.
+fn call_of_client(rt: &impl Abort, pool: &mut Pool, world: &mut World, kind: usize) -> bool {
+    let s = world.below(3) as u32;
+    let Some(t) = world.some_client() else {
+        return moves::add_client(rt, pool, world, s);
+    };
+    match kind {
+        0 => moves::ask(rt, pool, world, s),
+        1 => moves::grow(rt, pool, world, t, false),
+        2 => moves::grow(rt, pool, world, t, true),
+        3 => moves::shrink(rt, pool, world, t),
+        4 => moves::add_client(rt, pool, world, s),
+        5 => moves::end_client(rt, pool, world, t),
+        6 => moves::begin_anew(rt, pool, world, s),
+        _ => match world.some_client() {
+            Some(to) => moves::hand(rt, pool, world, t, to),
+            None => false,
+        },
+    }
+}
+
+// A call on a client's new pages and loans.
+fn call_of_loan(
+    rt: &impl Abort,
+    alloc: Global,
+    pool: &mut Pool,
+    world: &mut World,
+    kind: usize,
+) -> bool {
+    let Some(t) = world.some_client() else {
+        return false;
+    };
+    match (kind, world.some_loan()) {
+        (8, _) => moves::create(rt, alloc, pool, world, t),
+        (9, _) => moves::alloc_loan(rt, alloc, pool, world, t),
+        (10, Some(number)) => moves::free(rt, pool, world, number),
+        (_, Some(number)) => moves::move_loan(rt, pool, world, number, t),
+        _ => false,
+    }
+}
+
+fn call_of_page(rt: &impl Abort, pool: &mut Pool, world: &mut World, kind: usize) -> bool {
+    let Some((name, leaf)) = world.some_page() else {
+        return false;
+    };
+    match kind {
+        12 => moves::unpin(rt, pool, world, name, leaf),
+        13 => moves::pin_again(rt, pool, world, name, leaf),
+        14 => moves::unpin_once(rt, pool, world, name, leaf),
+        15 => moves::extract(rt, pool, world, name, leaf),
+        _ => moves::destroy(rt, pool, world, name, leaf),
+    }
+}
+
+// Pages come and are unpinned more often than they are pinned again, extracted or destroyed.
+fn some_kind(world: &mut World) -> usize {
+    let kinds = [
+        0, 1, 1, 2, 3, 4, 5, 6, 7, 7, 7, 8, 8, 8, 9, 10, 11, 12, 12, 12, 12, 13, 14, 15, 16,
+    ];
+    let at = world.below(kinds.len() as u64) as usize;
+    kinds.get(at).copied().unwrap_or(0)
+}
+
+// So many calls that are done at once. How often each kind was made is counted.
+fn calls(
+    rt: &impl Abort,
+    alloc: Global,
+    pool: &mut Pool,
+    world: &mut World,
+    made: &mut [u32; 17],
+    count: u64,
+) {
+    for _ in 0..count {
+        let kind = some_kind(world);
+        let was_made = match kind {
+            0..=7 => call_of_client(rt, pool, world, kind),
+            8..=11 => call_of_loan(rt, alloc, pool, world, kind),
+            _ => call_of_page(rt, pool, world, kind),
+        };
+        if was_made && let Some(times) = made.get_mut(kind) {
+            *times = times.saturating_add(1);
+        }
+        compare(rt, pool, world);
+    }
+}
+
+fn start(rt: &impl Abort, pool: &mut Pool, world: &mut World) -> Started {
+    match (world.below(6), world.some_client(), world.some_page()) {
+        (0, _, _) => flights::start_write(rt, pool, world),
+        (1, Some(t), _) => flights::make_room(rt, pool, world, t),
+        (_, _, Some((name, leaf))) => flights::pin(rt, pool, world, name, leaf),
+        _ => Started::Nothing,
+    }
+}
+
+fn end(rt: &impl Abort, pool: &mut Pool, world: &mut World, started: Started) {
+    flights::finish(rt, pool, world, started);
+    compare(rt, pool, world);
+}
+
+#[test]
+fn mixed_calls_do_what_a_plain_pool_does(rt: HostRuntime) {
+    let slots = steps::slots(&rt, rt.alloc(), 24, &FAILS);
+    let mut pool = steps::open(&rt, rt.alloc(), 12, 0, slots);
+    let mut world = World::open(rt.alloc(), 24, 12, 8);
+    for s in 0..3u32 {
+        assert_eq!(rt; steps::session(&rt, &mut pool, 8), s);
+    }
+    let mut made = [0u32; 17];
+    for _ in 0..700u32 {
+        let first = start(&rt, &mut pool, &mut world);
+        let more = world.below(4);
+        calls(&rt, rt.alloc(), &mut pool, &mut world, &mut made, more);
+        let second = start(&rt, &mut pool, &mut world);
+        calls(&rt, rt.alloc(), &mut pool, &mut world, &mut made, 2);
+        end(&rt, &mut pool, &mut world, first);
+        end(&rt, &mut pool, &mut world, second);
+    }
+    for (kind, times) in made.into_iter().enumerate() {
+        assert!(rt; times >= 10, "{kind} {times}");
+    }
+}

@@ -1,0 +1,108 @@
+//! Pages that are written.
+
+use crate::steps::{self, Pool};
+use outside::MemSlot;
+use pin_core::{PinTurn, WriteJob, Wrote};
+use std::alloc::Global;
+use std::process::Abort;
+use store_api::{Client, Page};
+
+fn started(rt: &impl Abort, pool: &mut Pool) -> WriteJob<MemSlot> {
+    match steps::start_write(rt, pool, 1000) {
+        Some(job) => job,
+        None => panic!(rt; "a page is dirty"),
+    }
+}
+
+fn assert_none_starts(rt: &impl Abort, pool: &mut Pool) {
+    match steps::start_write(rt, pool, 1007) {
+        Some(_) => panic!(rt; "no page is dirty"),
+        None => {}
+    }
+}
+
+fn assert_waits(rt: &impl Abort, pool: &mut Pool, s: u32, p: &Page) {
+    match steps::pin_turn(rt, pool, s, 0, p) {
+        PinTurn::Wait => {}
+        _ => panic!(rt; "the page is written"),
+    }
+}
+
+// The byte in front of a page that is in memory, which is pinned now.
+fn pinned_here(rt: &impl Abort, pool: &mut Pool, s: u32, p: &Page) -> u8 {
+    match steps::pin_turn(rt, pool, s, 0, p) {
+        PinTurn::Here(buf) => steps::front(rt, &buf),
+        _ => panic!(rt; "the page is in memory"),
+    }
+}
+
+// How the write of a page of two blocks ends, where its slots fail at these calls. The page is to be
+// waited for until then, and has its bytes after it.
+fn written(rt: &impl Abort, alloc: Global, fails: &[u64]) -> Wrote {
+    let slots = steps::slots(rt, alloc, 2, fails);
+    let mut pool = steps::open(rt, alloc, 4, 10, slots);
+    let s = steps::session(rt, &mut pool, 2);
+    let c = steps::client(rt, &mut pool, s, 128);
+    assert_none_starts(rt, &mut pool);
+    let page = steps::left(rt, alloc, &mut pool, &c, 2, 7);
+    let job = started(rt, &mut pool);
+    assert_none_starts(rt, &mut pool);
+    assert_waits(rt, &mut pool, s, &page);
+    let wrote = steps::write(rt, &mut pool, job);
+    assert_eq!(rt; pinned_here(rt, &mut pool, s, &page), 7);
+    page.into_name();
+    c.into_tracker();
+    wrote
+}
+
+#[test]
+fn a_write_leaves_its_page_clean_or_dirty_again(rt: HostRuntime) {
+    let rows = [
+        ([].as_slice(), Wrote::Done(10)),
+        ([0].as_slice(), Wrote::Failed(10)),
+        ([1].as_slice(), Wrote::Done(10)),
+    ];
+    for (fails, wrote) in rows {
+        assert_eq!(rt; written(&rt, rt.alloc(), fails), wrote);
+    }
+}
+
+// The first client's page is out of memory, and the other client's newest page is dirty.
+fn evicted(
+    rt: &impl Abort,
+    alloc: Global,
+    pool: &mut Pool,
+    c: &Client,
+    other: &Client,
+) -> (Page, Page, Page) {
+    let page = steps::left(rt, alloc, pool, c, 1, 7);
+    let job = started(rt, pool);
+    assert_eq!(rt; steps::write(rt, pool, job), Wrote::Done(0));
+    let older = steps::left(rt, alloc, pool, other, 1, 8);
+    let newer = steps::left(rt, alloc, pool, other, 1, 9);
+    (page, older, newer)
+}
+
+#[test]
+fn a_pin_with_room_never_waits_for_another_clients_write(rt: HostRuntime) {
+    let slots = steps::slots(&rt, rt.alloc(), 3, &[]);
+    let mut pool = steps::open(&rt, rt.alloc(), 2, 0, slots);
+    let s = steps::session(&rt, &mut pool, 3);
+    let c = steps::client(&rt, &mut pool, s, 64);
+    let other = steps::client(&rt, &mut pool, s, 64);
+    let (page, older, newer) = evicted(&rt, rt.alloc(), &mut pool, &c, &other);
+    let flying = started(&rt, &mut pool);
+    match steps::pin_turn(&rt, &mut pool, s, 0, &page) {
+        PinTurn::Load(job) => match steps::read(&rt, &mut pool, 0, job) {
+            Ok(buf) => assert_eq!(rt; steps::front(&rt, &buf), 7),
+            Err(_) => panic!(rt; "no slot fails"),
+        },
+        _ => panic!(rt; "the page is out of memory, and there is room"),
+    }
+    assert_eq!(rt; steps::write(&rt, &mut pool, flying), Wrote::Done(2));
+    page.into_name();
+    older.into_name();
+    newer.into_name();
+    c.into_tracker();
+    other.into_tracker();
+}
