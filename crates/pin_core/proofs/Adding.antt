@@ -73,7 +73,7 @@ module _ {D : Type 0} where
 
     -- what a call leaves that was not refused
     pub record Added (limit t : ℕ) (new : Parts D) : Type 1 where
-      pub done : Done (client_entry s (query_of (state_of old) s) limit t ∷ []) old new
+      pub done : Done (client_entry s (query_of (state_of old) s) limit t ∷ []) [] [] old new
       pub client : IsClientOf (state_of new) s t
 
     pub added : (limit t : ℕ) → get v.tree.trackers t ≡ None → t < 4096 → (new : Parts D) → new ≡ joined s (query_in v.seats s) limit t v → Added limit t new
@@ -82,12 +82,12 @@ module _ {D : Type 0} where
         let named : query_in v.seats s ≡ seat.seat.query = query_there v s seat.seat seat.there in
         let made : joined s seat.seat.query limit t v ≡ new = sym (is ∙ ap (λ (q : ℕ). joined s q limit t v) named) in
         let query : seat.seat.query ≡ query_of (state_of old) s = sym (query_is v is_kept laws s seat.seat seat.there) ∙ ap (λ (z : Parts D). query_of (state_of z) s) same in
-        let one : Done (client_entry s seat.seat.query limit t ∷ []) v (joined s seat.seat.query limit t v) = joined_done v is_kept laws s seat.seat seat.there seat.low t limit fresh below in
+        let one : Done (client_entry s seat.seat.query limit t ∷ []) [] [] v (joined s seat.seat.query limit t v) = joined_done v is_kept laws s seat.seat seat.there seat.low t limit fresh below in
         record {
           done =
-              subst (λ (z : Parts D). Done (client_entry s (query_of (state_of old) s) limit t ∷ []) z new) same
-              (subst (λ (q : ℕ). Done (client_entry s q limit t ∷ []) v new) query
-              (subst (λ (z : Parts D). Done (client_entry s seat.seat.query limit t ∷ []) v z) made one));
+              subst (λ (z : Parts D). Done (client_entry s (query_of (state_of old) s) limit t ∷ []) [] [] z new) same
+              (subst (λ (q : ℕ). Done (client_entry s q limit t ∷ []) [] [] v new) query
+              (subst (λ (z : Parts D). Done (client_entry s seat.seat.query limit t ∷ []) [] [] v z) made one));
           client = subst (λ (z : Parts D). IsClientOf (state_of z) s t) made (record {
             session = session_in (with_member t seat.seat);
             opened = session_here (changed s (with_member t) v.seats) s (with_member t seat.seat) (changed_seat v.seats s (with_member t) seat.seat seat.there);

@@ -18,7 +18,7 @@ use Rattle.pin_core.specs.Coming.{CanHold, ReadyLend, lent, zeros, alloc_entry, 
 use Rattle.pin_core.proofs.Amounts.{rose}
 use Rattle.pin_core.proofs.Crowds.{buffer_room}
 use Rattle.pin_core.proofs.Holding.{less, holder_low, holder_live, holder_unused, holder_takes, gone, gone_done, len_still, book_still, holds_still}
-use Rattle.pin_core.proofs.Joined.{Done, done_more}
+use Rattle.pin_core.proofs.Entered.{Done, done_then}
 use Rattle.pin_core.proofs.Lends.{buffer_of, buffers_come, all_come, not_lent, small_put, Relends, relent_kept, relent_enters}
 use Rattle.pin_core.proofs.Listed.{bytes_plus}
 use Rattle.pin_core.proofs.Mapped.{mapped_put}
@@ -110,7 +110,7 @@ module _ {D : Type 0} where
               kept = lend_kept (with_room blocks v) g.kept c blocks still enough f unused_number;
               enters = lend_enters (with_room blocks v) g.kept c blocks still enough f unused_number;
             } in
-            let all = done_more (evictions c.session (names_gone blocks v)) (alloc_entry c f blocks ∷ []) [] [] v (with_room blocks v) (lent f c.tracker blocks (with_room blocks v)) first then in
+            let all = done_then (evictions c.session (names_gone blocks v)) (alloc_entry c f blocks ∷ []) [] [] v (with_room blocks v) (lent f c.tracker blocks (with_room blocks v)) first then in
             subst (λ (z : Parts D). IsAllocated v z c f blocks) (sym (new_is ∙ ap (lent f c.tracker blocks) is)) (record {
               kept = all.kept;
               enters = all.enters;

@@ -24,7 +24,7 @@ use Rattle.pin_core.proofs.SeatedClients.{HasSeat, has_seat, some_seat, page_ope
 use Rattle.pin_core.proofs.Queries.{quotas_kept, at_changed}
 
 module _ {D : Type 0} (v : Parts D) (is_kept : IsKept v) (laws : Lawful v) where
-  pub asked_done : (s : ℕ) (x : Seat) → seat_of v.seats s ≡ Some x → s < 240 → Done (record { maker = s; event = event.Ask } ∷ []) v (asked s v)
+  pub asked_done : (s : ℕ) (x : Seat) → seat_of v.seats s ≡ Some x → s < 240 → Done (record { maker = s; event = event.Ask } ∷ []) [] [] v (asked s v)
   asked_done s x is low = rearranged_done v.tree v.lists.is_open v.slots.quotas v.slots.spare (changed s forgotten v.seats) v (record { maker = s; event = event.Ask }) is_kept (record {
     charges = λ t. refl;
     opened = page_opened v is_kept laws;
@@ -51,9 +51,9 @@ module _ {D : Type 0} (v old : Parts D) (same : v ≡ old) (s : ℕ) (live : IsS
   pub seat_there : IsSome (seat_of v.seats s)
   seat_there = let x : (y : Session) × (get (sessions_in v.seats) s ≡ Some y) = found (get (sessions_in v.seats) s) live_now in some_seat v.seats s x.0 x.1
 
-  pub asked_answer : IsKept v → Lawful v → (new : Parts D) → new ≡ asked s v → Done (ask_entry s ∷ []) old new
+  pub asked_answer : IsKept v → Lawful v → (new : Parts D) → new ≡ asked s v → Done (ask_entry s ∷ []) [] [] old new
   asked_answer is_kept laws new is =
       let x : (y : Session) × (get (sessions_in v.seats) s ≡ Some y) = found (get (sessions_in v.seats) s) live_now in
       let seat : HasSeat v.seats s x.0 = has_seat v.seats laws.seats s x.0 x.1 in
-      subst (λ (z : Parts D). Done (ask_entry s ∷ []) z new) same
-      (subst (λ (z : Parts D). Done (ask_entry s ∷ []) v z) (sym is) (asked_done v is_kept laws s seat.seat seat.there seat.low))
+      subst (λ (z : Parts D). Done (ask_entry s ∷ []) [] [] z new) same
+      (subst (λ (z : Parts D). Done (ask_entry s ∷ []) [] [] v z) (sym is) (asked_done v is_kept laws s seat.seat seat.there seat.low))

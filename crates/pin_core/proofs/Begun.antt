@@ -74,8 +74,8 @@ module _ {D : Type 0} (v old : Parts D) (same : v ≡ old) where
       abbrev seat : Seat
       seat = record { query = t; quota = quota; members = [] }
 
-      first : Done (session_entry s limit quota t ∷ []) v mid
-      first = subst (λ (z : Parts D). Done (session_entry s limit quota t ∷ []) v z) (sym mid_is) (seated_done v is_kept laws s low vacant limit quota t fresh)
+      first : Done (session_entry s limit quota t ∷ []) [] [] v mid
+      first = subst (λ (z : Parts D). Done (session_entry s limit quota t ∷ []) [] [] v z) (sym mid_is) (seated_done v is_kept laws s low vacant limit quota t fresh)
 
       mid_there : seat_of mid.seats s ≡ Some seat
       mid_there = ap (λ (z : Parts D). seat_of z.seats s) mid_is ∙ opened_seat v.seats s t quota (let size = laws.seats.counted in omega (arith, size, low))
@@ -116,14 +116,14 @@ module _ {D : Type 0} (v old : Parts D) (same : v ≡ old) where
         named : t ≡ query_of (state_of new) s
         named = sym (ap (λ (o : Option Session). unwrap_or (option_map (λ x. x.query) o) 0) (session_here new.seats s seat new_there))
 
-        pub opened : Done (opening_entries s (query_of (state_of new) s) limit quota least) old new
+        pub opened : Done (opening_entries s (query_of (state_of new) s) limit quota least) [] [] old new
         opened =
-            let second : Done (increase_entry s t least ∷ []) mid new =
-            subst (λ (z : Parts D). Done (increase_entry s t least ∷ []) mid z) (sym is)
+            let second : Done (increase_entry s t least ∷ []) [] [] mid new =
+            subst (λ (z : Parts D). Done (increase_entry s t least ∷ []) [] [] mid z) (sym is)
             (grown_done mid first.kept mid_laws s low t least (inl (record { session = session_in seat; lives = session_here mid.seats s seat mid_there; is = refl })) (nothing _ fits)) in
-            subst (λ (z : Parts D). Done (opening_entries s (query_of (state_of new) s) limit quota least) z new) same
-            (subst (λ (q : ℕ). Done (opening_entries s q limit quota least) v new) named
-            (done_then (session_entry s limit quota t ∷ []) (increase_entry s t least ∷ []) v mid new first second))
+            subst (λ (z : Parts D). Done (opening_entries s (query_of (state_of new) s) limit quota least) [] [] z new) same
+            (subst (λ (q : ℕ). Done (opening_entries s q limit quota least) [] [] v new) named
+            (done_then (session_entry s limit quota t ∷ []) (increase_entry s t least ∷ []) [] [] v mid new first second))
 
       -- it was refused
       module _ (still : Parts D) (unchanged : still ≡ mid) where
@@ -131,12 +131,12 @@ module _ {D : Type 0} (v old : Parts D) (same : v ≡ old) where
         may_close = subst (λ (z : Parts D). CanUnseat z s t) (sym unchanged) (can_unseat mid first.kept mid_laws s seat mid_there low alone empty)
 
         module _ (new : Parts D) (is : new ≡ unseated s t still) where
-          closes : Done (reopening_entries s t limit quota) old new
+          closes : Done (reopening_entries s t limit quota) [] [] old new
           closes =
-              let second : Done (close_entry s t ∷ []) mid new =
-              subst (λ (z : Parts D). Done (close_entry s t ∷ []) mid z) (sym (is ∙ ap (unseated s t) unchanged)) (unseated_done mid first.kept mid_laws s seat mid_there low alone empty) in
-              subst (λ (z : Parts D). Done (reopening_entries s t limit quota) z new) same
-              (done_then (session_entry s limit quota t ∷ []) (close_entry s t ∷ []) v mid new first second)
+              let second : Done (close_entry s t ∷ []) [] [] mid new =
+              subst (λ (z : Parts D). Done (close_entry s t ∷ []) [] [] mid z) (sym (is ∙ ap (unseated s t) unchanged)) (unseated_done mid first.kept mid_laws s seat mid_there low alone empty) in
+              subst (λ (z : Parts D). Done (reopening_entries s t limit quota) [] [] z new) same
+              (done_then (session_entry s limit quota t ∷ []) (close_entry s t ∷ []) [] [] v mid new first second)
 
           pub closed_kept : IsKept new
           closed_kept = closes.kept

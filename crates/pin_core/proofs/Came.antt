@@ -123,7 +123,7 @@ module _ {D : Type 0} where
     abbrev event_made : Event
     event_made = record { maker = s; event = event.AddTracker t 0 limit (Some quota) }
 
-    pub seated_done : Done (record { maker = s; event = event.AddTracker t 0 limit (Some quota) } ∷ []) v (seated s limit quota t v)
+    pub seated_done : Done (record { maker = s; event = event.AddTracker t 0 limit (Some quota) } ∷ []) [] [] v (seated s limit quota t v)
     seated_done =
         rearranged_done (with_new t 0 limit v.tree) v.lists.is_open (set v.slots.quotas s (Some open_quota)) (v.slots.spare - quota) (with_seat s t quota v.seats) v event_made is_kept (record {
           charges = charge_came v.tree t (fresh_charge v is_kept t fresh);

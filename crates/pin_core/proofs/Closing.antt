@@ -98,7 +98,7 @@ module _ {D : Type 0} where
       held = λ client. absurd (not_client v is_kept laws s x is low alone client);
     }
 
-    pub fall_done : Done (decrease_entry s x.query (reservation_of v.tree.trackers x.query) ∷ []) v (shrunk x.query (reservation_of v.tree.trackers x.query) v)
+    pub fall_done : Done (decrease_entry s x.query (reservation_of v.tree.trackers x.query) ∷ []) [] [] v (shrunk x.query (reservation_of v.tree.trackers x.query) v)
     fall_done = shrunk_done v is_kept laws s low x.query (reservation_of v.tree.trackers x.query) (inl (record { session = session_in x; lives = session_here v.seats s x is; is = refl })) can_lose
 
     pub fallen_alone : HasNoChild (shrink (reservation_of v.tree.trackers x.query) x.query v.tree.trackers) x.query
@@ -142,8 +142,8 @@ module _ {D : Type 0} where
           fallen_is : shrunk seat.seat.query (reservation_of v.tree.trackers seat.seat.query) v ≡ mid
           fallen_is = ap (λ (k : ℕ). shrunk k (reservation_of v.tree.trackers k) v) query_same ∙ ap (λ (k : ℕ). shrunk q k v) (sym bytes_are) ∙ sym mid_is
 
-          first : Done (decrease_entry s seat.seat.query (reservation_of v.tree.trackers seat.seat.query) ∷ []) v mid
-          first = subst (λ (z : Parts D). Done (decrease_entry s seat.seat.query (reservation_of v.tree.trackers seat.seat.query) ∷ []) v z) fallen_is (fall_done v is_kept laws s seat.seat seat.there seat.low alone)
+          first : Done (decrease_entry s seat.seat.query (reservation_of v.tree.trackers seat.seat.query) ∷ []) [] [] v mid
+          first = subst (λ (z : Parts D). Done (decrease_entry s seat.seat.query (reservation_of v.tree.trackers seat.seat.query) ∷ []) [] [] v z) fallen_is (fall_done v is_kept laws s seat.seat seat.there seat.low alone)
 
           mid_there : seat_of mid.seats s ≡ Some seat.seat
           mid_there = ap (λ (z : Parts D). seat_of z.seats s) (sym fallen_is) ∙ seat.there
@@ -161,14 +161,14 @@ module _ {D : Type 0} where
             made : unseated s seat.seat.query mid ≡ new
             made = ap (λ (k : ℕ). unseated s k mid) query_same ∙ sym is
 
-            pub ended : Done (ending_entries (state_of old) s) old new
+            pub ended : Done (ending_entries (state_of old) s) [] [] old new
             ended =
-                let last : Done (close_entry s seat.seat.query ∷ []) mid new =
-                subst (λ (z : Parts D). Done (close_entry s seat.seat.query ∷ []) mid z) made (unseated_done mid first.kept mid_laws s seat.seat mid_there seat.low mid_alone mid_empty) in
-                let whole : Done (decrease_entry s seat.seat.query (reservation_of v.tree.trackers seat.seat.query) ∷ close_entry s seat.seat.query ∷ []) v new =
-                done_then (decrease_entry s seat.seat.query (reservation_of v.tree.trackers seat.seat.query) ∷ []) (close_entry s seat.seat.query ∷ []) v mid new first last in
-                subst (λ (z : Parts D). Done (ending_entries (state_of z) s) z new) same
-                (subst (λ (k : ℕ). Done (decrease_entry s k (reservation_of v.tree.trackers k) ∷ close_entry s k ∷ []) v new) (sym (query_is v is_kept laws s seat.seat seat.there)) whole)
+                let last : Done (close_entry s seat.seat.query ∷ []) [] [] mid new =
+                subst (λ (z : Parts D). Done (close_entry s seat.seat.query ∷ []) [] [] mid z) made (unseated_done mid first.kept mid_laws s seat.seat mid_there seat.low mid_alone mid_empty) in
+                let whole : Done (decrease_entry s seat.seat.query (reservation_of v.tree.trackers seat.seat.query) ∷ close_entry s seat.seat.query ∷ []) [] [] v new =
+                done_then (decrease_entry s seat.seat.query (reservation_of v.tree.trackers seat.seat.query) ∷ []) (close_entry s seat.seat.query ∷ []) [] [] v mid new first last in
+                subst (λ (z : Parts D). Done (ending_entries (state_of z) s) [] [] z new) same
+                (subst (λ (k : ℕ). Done (decrease_entry s k (reservation_of v.tree.trackers k) ∷ close_entry s k ∷ []) [] [] v new) (sym (query_is v is_kept laws s seat.seat seat.there)) whole)
 
             pub spare_then : spare_of new ≡ spare_of old + quota_in (state_of old) s
             spare_then =

@@ -15,7 +15,7 @@ use Rattle.pin_core.specs.Coming.{CanHold, ReadyCreate, created, zeros, create_e
 use Rattle.pin_core.proofs.Comes.{IsFreeKey}
 use Rattle.pin_core.proofs.Creates.{create_ready, create_kept, create_enters}
 use Rattle.pin_core.proofs.Holding.{gone, gone_done, len_still, next_still, holds_still}
-use Rattle.pin_core.proofs.Joined.{Done, done_more}
+use Rattle.pin_core.proofs.Entered.{Done, done_then}
 
 -- a token by its parts
 pub token_made : (p : PageToken) (id : PageId) (t t0 n : ℕ) → p ≡ record { name = id.name; key = id.key; client = t } → t ≡ t0 → id.name ≡ n → p ≡ record { name = n; key = p.key; client = t0 }
@@ -51,7 +51,7 @@ module _ {D : Type 0} where
               kept = create_kept (with_room blocks v) g.kept g.laws c blocks still enough id open_key low;
               enters = create_enters (with_room blocks v) g.kept g.laws c blocks still enough id open_key low;
             } in
-            let all = done_more (evictions c.session (names_gone blocks v)) (create_entry c id blocks ∷ []) [] [] v (with_room blocks v) (created id c.session c.tracker blocks (with_room blocks v)) first then in
+            let all = done_then (evictions c.session (names_gone blocks v)) (create_entry c id blocks ∷ []) [] [] v (with_room blocks v) (created id c.session c.tracker blocks (with_room blocks v)) first then in
             subst (λ (z : Parts D). IsCreated v z c id blocks) (sym (new_is ∙ ap (created id c.session c.tracker blocks) is)) (record { kept = all.kept; enters = all.enters; name = open_key.name ∙ next });
         zeroed = λ mid is buf buf_is. buf_is ∙ ap (zeros blocks) (ap (λ (z : Parts D). z.arena.block_len) is ∙ len_still v is_kept c blocks can laws);
       }

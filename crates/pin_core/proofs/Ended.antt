@@ -136,7 +136,7 @@ module _ {D : Type 0} (v : Parts D) (is_kept : IsKept v) (laws : Lawful v) (s : 
     abbrev event_made : Event
     event_made = record { maker = s; event = event.CloseTracker x.query }
 
-    pub unseated_done : Done (record { maker = s; event = event.CloseTracker x.query } ∷ []) v (unseated s x.query v)
+    pub unseated_done : Done (record { maker = s; event = event.CloseTracker x.query } ∷ []) [] [] v (unseated s x.query v)
     unseated_done =
         rearranged_done (without x.query v.tree) v.lists.is_open (set v.slots.quotas s None) (v.slots.spare + free_of v.slots s) (without_seat s v.seats) v event_made is_kept (record {
           charges = charge_went v.tree x.query (idle_charge v is_kept x.query not_client);

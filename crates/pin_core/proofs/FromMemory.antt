@@ -29,7 +29,7 @@ use Rattle.pin_core.proofs.Mapped.{put_again}
 use Rattle.pin_core.proofs.Queued.{dirty_changed, dirty_same, dirty_open, names_without}
 use Rattle.pin_core.proofs.OnLists.{on_list_live, clean_key_live, one_key, not_clean}
 use Rattle.pin_core.proofs.Charged.{own_is, room_unused}
-use Rattle.pin_core.proofs.Joined.{Done}
+use Rattle.pin_core.proofs.Entered.{Done}
 use Rattle.pin_core.proofs.Loaded.{bytes_most}
 use Rattle.pin_core.proofs.InMemory.{IsHere, dirty_here, clean_here}
 use Rattle.pin_core.proofs.Pinned.{Lists, in_code, here_ready, here_done, here_state}

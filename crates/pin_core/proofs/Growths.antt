@@ -62,13 +62,13 @@ module _ {D : Type 0} where
 
   module _ (v old : Parts D) (same : v ≡ old) (is_kept : IsKept v) (laws : Lawful v) (s t c bytes : ℕ) (named : t ≡ c) (client : IsClientOf (state_of old) s c)
       (spare : bytes ≤ unused (charge_of (state_of old)) old.tree.trackers c) (room : HasRoom (state_of old) c bytes) where
-    pub shrunk_answer : (new : Parts D) → new ≡ shrunk t bytes v → Done (decrease_entry s c bytes ∷ []) old new
+    pub shrunk_answer : (new : Parts D) → new ≡ shrunk t bytes v → Done (decrease_entry s c bytes ∷ []) [] [] old new
     shrunk_answer new is =
         let now : IsClientOf (state_of v) s c = subst (λ (z : Parts D). IsClientOf (state_of z) s c) (sym same) client in
         let spare_now : bytes ≤ unused (charge_of (state_of v)) v.tree.trackers c = subst (λ (z : Parts D). bytes ≤ unused (charge_of (state_of z)) z.tree.trackers c) (sym same) spare in
         let room_now : HasRoom (state_of v) c bytes = subst (λ (z : Parts D). HasRoom (state_of z) c bytes) (sym same) room in
-        subst (λ (z : Parts D). Done (decrease_entry s c bytes ∷ []) z new) same
-        (subst (λ (z : Parts D). Done (decrease_entry s c bytes ∷ []) v z) (sym (is ∙ ap (λ (k : ℕ). shrunk k bytes v) named))
+        subst (λ (z : Parts D). Done (decrease_entry s c bytes ∷ []) [] [] z new) same
+        (subst (λ (z : Parts D). Done (decrease_entry s c bytes ∷ []) [] [] v z) (sym (is ∙ ap (λ (k : ℕ). shrunk k bytes v) named))
         (shrunk_done v is_kept laws s (client_low v laws s c now) c bytes (inr now) (record { unused = spare_now; held = λ _. room_now })))
 
     pub transferred_answer : {A E : Type 0} (u to : ℕ) → u ≡ to → IsClientOf (state_of old) s to → (r : Result A E) (new : Parts D)

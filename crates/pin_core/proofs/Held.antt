@@ -23,6 +23,7 @@ use Rattle.pool_model.specs.Sums.{times_charged, times_held, once, page_bytes, p
 use Rattle.pool_model.specs.Orders.{is_dirty}
 use Rattle.pool_model.proofs.Weights.{only_none, only_when, only_not, one_time}
 use Rattle.pin_core.specs.declared.kept.Kept.{Kept}
+use Rattle.pin_core.specs.Ending.{is_flying}
 use Rattle.pin_core.specs.declared.parts.Parts.{Parts}
 use Rattle.pin_core.specs.StateOf.{page_of, pages_in, place_in, state_of}
 use Rattle.pin_core.specs.Invariant.{list_at, IsPlaced, IsKept}
@@ -32,10 +33,6 @@ use Rattle.pin_core.proofs.Queued.{name_is}
 use Rattle.pin_core.proofs.OnLists.{on_list_live}
 use Rattle.pin_core.proofs.Listed.{listed_total}
 use Rattle.pin_core.proofs.Known.{HasEntry, has_entry}
-
-abbrev pub is_flying : Place → Bool
-is_flying (Flying writer) = true
-is_flying _ = false
 
 along_sum : (lens nodes : List ℕ) → along lens nodes ≡ sum_by (λ k. get_or lens k 0) nodes
 along_sum lens [] = refl

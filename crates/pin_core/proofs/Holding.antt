@@ -28,7 +28,7 @@ use Rattle.pin_core.specs.Coming.{CanHold}
 use Rattle.pin_core.proofs.Charged.{room_unused}
 use Rattle.pin_core.proofs.CleanRoom.{finds_blocks, free_bytes_are}
 use Rattle.pin_core.proofs.EvictAll.{Evicted, all_rest, all_free, all_pages, room_kept}
-use Rattle.pin_core.proofs.Joined.{Done}
+use Rattle.pin_core.proofs.Entered.{Done}
 use Rattle.pin_core.proofs.Known.{known_now}
 use Rattle.pin_core.proofs.Lends.{session_low}
 use Rattle.pin_core.proofs.Listed.{bytes_plus}

@@ -107,7 +107,7 @@ module _ {D : Type 0} where
     state = same_state (state_of (joined s x.query limit t v)) (after (state_of v) event_made) refl refl refl (sessions_joined v.seats s t) refl refl
         (dirty_came v.pages v.lists t within (laws.whole.bare t which.Dirty was_closed)) refl refl refl
 
-    pub joined_done : Done (record { maker = s; event = event.AddTracker t x.query limit None } ∷ []) v (joined s x.query limit t v)
+    pub joined_done : Done (record { maker = s; event = event.AddTracker t x.query limit None } ∷ []) [] [] v (joined s x.query limit t v)
     joined_done =
         rearranged_done (with_new t x.query limit v.tree) (set v.lists.is_open t true) v.slots.quotas v.slots.spare (changed s (with_member t) v.seats) v event_made is_kept (record {
           charges = charge_came v.tree t (fresh_charge v is_kept t fresh);

@@ -87,7 +87,7 @@ module _ {D : Type 0} where
               ∙ hangs_is v.tree.trackers r.seat.query t r.tracker r.lives r.under;
         }
 
-    pub part_done : reservation_of v.tree.trackers t ≡ 0 → Done (close_entry s t ∷ []) v (parted s t v)
+    pub part_done : reservation_of v.tree.trackers t ≡ 0 → Done (close_entry s t ∷ []) [] [] v (parted s t v)
     part_done empty = parted_done v is_kept laws s r.seat r.there r.low t r.tracker r.lives r.under empty r.idle
 
     -- all of its reservation is unused
@@ -118,7 +118,7 @@ module _ {D : Type 0} where
     pub gives_fits : move_refusal (reservation_of v.tree.trackers t) t r.seat.query v.tree.trackers ≡ None
     gives_fits = handed_fits v.tree.trackers laws.tree t r.seat.query r.tracker r.lives r.under query_live (reservation_of v.tree.trackers t)
 
-    pub give_done : Done (move_entry s t r.seat.query (reservation_of v.tree.trackers t) ∷ []) v (transferred t r.seat.query (reservation_of v.tree.trackers t) v)
+    pub give_done : Done (move_entry s t r.seat.query (reservation_of v.tree.trackers t) ∷ []) [] [] v (transferred t r.seat.query (reservation_of v.tree.trackers t) v)
     give_done =
         transferred_done v is_kept laws s r.low t (reservation_of v.tree.trackers t) (inr client_of) r.seat.query
         (inl (record { session = session_in r.seat; lives = session_here v.seats s r.seat r.there; is = refl }))
@@ -170,8 +170,8 @@ module _ {D : Type 0} (v old : Parts D) (same : v ≡ old) (is_kept : IsKept v) 
       given_is : transferred c at_rest.seat.query (reservation_of v.tree.trackers c) v ≡ mid
       given_is = ap (λ (q : ℕ). transferred c q (reservation_of v.tree.trackers c) v) query_same ∙ ap (λ (k : ℕ). transferred c query k v) (sym bytes_are) ∙ sym mid_is
 
-      first : Done (move_entry n c at_rest.seat.query (reservation_of v.tree.trackers c) ∷ []) v mid
-      first = subst (λ (z : Parts D). Done (move_entry n c at_rest.seat.query (reservation_of v.tree.trackers c) ∷ []) v z) given_is (give_done v is_kept laws n c at_rest)
+      first : Done (move_entry n c at_rest.seat.query (reservation_of v.tree.trackers c) ∷ []) [] [] v mid
+      first = subst (λ (z : Parts D). Done (move_entry n c at_rest.seat.query (reservation_of v.tree.trackers c) ∷ []) [] [] v z) given_is (give_done v is_kept laws n c at_rest)
 
       mid_rests : Rests mid n c
       mid_rests = subst (λ (z : Parts D). Rests z n c) given_is (given_rests v is_kept laws n c at_rest)
@@ -182,13 +182,13 @@ module _ {D : Type 0} (v old : Parts D) (same : v ≡ old) (is_kept : IsKept v) 
       pub may_part : CanPart mid n c
       may_part = can_part mid first.kept mid_laws n c mid_rests mid_empty
 
-      pub ended : (new : Parts D) → new ≡ parted n c mid → Done (move_entry s t (query_of (state_of old) s) (reservation_of old.tree.trackers t) ∷ close_entry s t ∷ []) old new
+      pub ended : (new : Parts D) → new ≡ parted n c mid → Done (move_entry s t (query_of (state_of old) s) (reservation_of old.tree.trackers t) ∷ close_entry s t ∷ []) [] [] old new
       ended new is =
-          let second : Done (close_entry n c ∷ []) mid new = subst (λ (z : Parts D). Done (close_entry n c ∷ []) mid z) (sym is) (part_done mid first.kept mid_laws n c mid_rests mid_empty) in
-          let whole : Done (move_entry n c at_rest.seat.query (reservation_of v.tree.trackers c) ∷ close_entry n c ∷ []) v new =
-          done_then (move_entry n c at_rest.seat.query (reservation_of v.tree.trackers c) ∷ []) (close_entry n c ∷ []) v mid new first second in
+          let second : Done (close_entry n c ∷ []) [] [] mid new = subst (λ (z : Parts D). Done (close_entry n c ∷ []) [] [] mid z) (sym is) (part_done mid first.kept mid_laws n c mid_rests mid_empty) in
+          let whole : Done (move_entry n c at_rest.seat.query (reservation_of v.tree.trackers c) ∷ close_entry n c ∷ []) [] [] v new =
+          done_then (move_entry n c at_rest.seat.query (reservation_of v.tree.trackers c) ∷ []) (close_entry n c ∷ []) [] [] v mid new first second in
           let query_is_of : at_rest.seat.query ≡ query_of (state_of v) n = sym (query_is v is_kept laws n at_rest.seat at_rest.there) in
-          subst (λ (z : Parts D). Done (move_entry s t (query_of (state_of z) s) (reservation_of z.tree.trackers t) ∷ close_entry s t ∷ []) z new) same
-          (subst (λ (k : ℕ). Done (move_entry s k (query_of (state_of v) s) (reservation_of v.tree.trackers k) ∷ close_entry s k ∷ []) v new) c_is
-          (subst (λ (k : ℕ). Done (move_entry k c (query_of (state_of v) k) (reservation_of v.tree.trackers c) ∷ close_entry k c ∷ []) v new) n_is
-          (subst (λ (q : ℕ). Done (move_entry n c q (reservation_of v.tree.trackers c) ∷ close_entry n c ∷ []) v new) query_is_of whole)))
+          subst (λ (z : Parts D). Done (move_entry s t (query_of (state_of z) s) (reservation_of z.tree.trackers t) ∷ close_entry s t ∷ []) [] [] z new) same
+          (subst (λ (k : ℕ). Done (move_entry s k (query_of (state_of v) s) (reservation_of v.tree.trackers k) ∷ close_entry s k ∷ []) [] [] v new) c_is
+          (subst (λ (k : ℕ). Done (move_entry k c (query_of (state_of v) k) (reservation_of v.tree.trackers c) ∷ close_entry k c ∷ []) [] [] v new) n_is
+          (subst (λ (q : ℕ). Done (move_entry n c q (reservation_of v.tree.trackers c) ∷ close_entry n c ∷ []) [] [] v new) query_is_of whole)))

@@ -4,6 +4,7 @@ pub mod Histories
 pub mod Queued
 pub mod Listed
 pub mod Effects
+pub mod Entered
 pub mod Moving
 pub mod Amounts
 pub mod Places
@@ -42,7 +43,6 @@ pub mod Owned
 pub mod Relending
 pub mod Relent
 pub mod Loaded
-pub mod Joined
 pub mod LoadedOver
 pub mod LoadReady
 pub mod InMemory
@@ -74,7 +74,6 @@ pub mod Unread
 pub mod ReadReady
 pub mod ReadEnded
 pub mod Refused
-pub mod Entered
 pub mod Outlines
 pub mod Rearranged
 pub mod SeatedClients

@@ -32,7 +32,7 @@ use Rattle.pin_core.proofs.Effects.{same_state, load_effect}
 use Rattle.pin_core.proofs.Listed.{bytes_plus}
 use Rattle.pin_core.proofs.CleanRoom.{free_bytes_are}
 use Rattle.pin_core.proofs.Charged.{own_low, own_live, own_is, room_unused}
-use Rattle.pin_core.proofs.Joined.{Done}
+use Rattle.pin_core.proofs.Entered.{Done}
 
 pub bytes_mono : (len a b : ℕ) → a ≤ b → bytes_of len a ≤ bytes_of len b
 unfolding bytes_of

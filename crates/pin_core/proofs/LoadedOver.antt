@@ -32,7 +32,7 @@ use Rattle.pin_core.proofs.EvictAll.{Evicted, all_pages, all_free, room_kept}
 use Rattle.pin_core.proofs.CleanRoom.{finds_blocks}
 use Rattle.pin_core.proofs.Roomed.{keys_split, room_made}
 use Rattle.pin_core.proofs.Charged.{own_low, own_is}
-use Rattle.pin_core.proofs.Joined.{Done, done_more}
+use Rattle.pin_core.proofs.Entered.{Done, done_then}
 use Rattle.pin_core.proofs.Loaded.{load_ready, load_done}
 
 stands_front : (q : ℕ) (xs ys : List ℕ) → stands_in q xs ≡ true → stands_in q (xs ++ ys) ≡ true
@@ -133,7 +133,7 @@ module _ {D : Type 0} where
 
       pub over_done : Done (load_entries x.session id.name x.blocks v) (row_in x.scratch) [] v (loaded_over id x v)
       over_done =
-          done_more (evictions x.session (names_gone x.blocks v)) (record { maker = x.session; event = event.PinLoad id.name } ∷ []) (row_in x.scratch) [] v mid (loaded id x mid)
+          done_then (evictions x.session (names_gone x.blocks v)) (record { maker = x.session; event = event.PinLoad id.name } ∷ []) (row_in x.scratch) [] v mid (loaded id x mid)
           (evicted_done x.session (keys_gone x.blocks v) v mid gone) (load_done mid gone.kept gone.laws id x can_still enough)
 
     -- the slots that it takes along hold its content

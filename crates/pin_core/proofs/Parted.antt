@@ -125,7 +125,7 @@ module _ {D : Type 0} where
     abbrev event_made : Event
     event_made = record { maker = s; event = event.CloseTracker t }
 
-    pub parted_done : Done (record { maker = s; event = event.CloseTracker t } ∷ []) v (parted s t v)
+    pub parted_done : Done (record { maker = s; event = event.CloseTracker t } ∷ []) [] [] v (parted s t v)
     parted_done =
         rearranged_done (without t v.tree) (set v.lists.is_open t false) v.slots.quotas v.slots.spare (changed s (without_member t) v.seats) v event_made is_kept (record {
           charges = charge_went v.tree t no_charge;

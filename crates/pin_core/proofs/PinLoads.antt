@@ -31,7 +31,7 @@ use Rattle.pin_core.specs.PinSteps.{IsLoaded}
 use Rattle.pin_core.proofs.Found.{key_found}
 use Rattle.pin_core.proofs.Moved.{page_known}
 use Rattle.pin_core.proofs.EvictAll.{all_pages, all_free}
-use Rattle.pin_core.proofs.Joined.{Done}
+use Rattle.pin_core.proofs.Entered.{Done}
 use Rattle.pin_core.proofs.LoadedOver.{over_done, over_holds}
 use Rattle.pin_core.proofs.Goes.{makes_room}
 

@@ -30,7 +30,7 @@ use Rattle.pin_core.specs.Turns.{LacksRoom, IsStarted, IsWriting, TurnIs}
 use Rattle.pin_core.specs.PinTurns.{CanPin, CanPinHere, LacksRoomFor, IsContent, PinAnswer, pin_entries, pin_slots}
 use Rattle.pin_core.specs.PinSteps.{CanPinAt, IsAway, IsPinnedDirty, IsPinnedClean, IsLoaded, PinIs, bytes_at}
 use Rattle.pin_core.proofs.Found.{Found, found_page}
-use Rattle.pin_core.proofs.Joined.{Done}
+use Rattle.pin_core.proofs.Entered.{Done}
 use Rattle.pin_core.proofs.InMemory.{IsHere}
 use Rattle.pin_core.proofs.Pinned.{here_whole, here_content}
 use Rattle.pin_core.proofs.FromMemory.{held_dirty, is_dirty_here, dirty_done, held_clean, is_clean_here, clean_done}

@@ -35,7 +35,7 @@ use Rattle.pin_core.proofs.Moved.{Tells, page_known, quiet_quotas, told_kept, to
 use Rattle.pin_core.proofs.Amounts.{rose}
 use Rattle.pin_core.proofs.Effects.{same_state, here_effect}
 use Rattle.pin_core.proofs.Charged.{own_low, own_live}
-use Rattle.pin_core.proofs.Joined.{Done}
+use Rattle.pin_core.proofs.Entered.{Done}
 use Rattle.pin_core.proofs.Repins.{pinned_holds}
 use Rattle.pin_core.proofs.Loaded.{charged_none, charged_once}
 use Rattle.pin_core.proofs.InMemory.{held_mem, IsHere, home_kept}

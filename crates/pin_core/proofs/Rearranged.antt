@@ -73,7 +73,7 @@ module _ {D : Type 0} where
               (sym (content_grows o h e q (made (page_of v.pages q page)) (was_made slot o h v stands q page there) ∙ r.leaves q (content_of o h q))) (stands.holds q page there);
         }
 
-    pub rearranged_done : Done (e ∷ []) v (rearranged tree opens quotas spare seats v)
+    pub rearranged_done : Done (e ∷ []) [] [] v (rearranged tree opens quotas spare seats v)
     rearranged_done = record {
       kept = rearranged_kept;
       enters = λ slot. record {

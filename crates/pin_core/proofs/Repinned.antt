@@ -21,7 +21,7 @@ use Rattle.pin_core.specs.Changes.{entry_at}
 use Rattle.pin_core.specs.Pins.{IsPinned, HasRoomFor, CanRepin, ReadyAgain, ReadyOnce, pins_in, pinned_again, unpinned_once}
 use Rattle.pin_core.proofs.Found.{Found, found_page}
 use Rattle.pin_core.proofs.Charged.{own_live, own_is, room_unused, few_pins}
-use Rattle.pin_core.proofs.Joined.{Done}
+use Rattle.pin_core.proofs.Entered.{Done}
 use Rattle.pin_core.proofs.Repins.{again_done, once_done, covered}
 
 pub some_bytes : (len blocks : ℕ) → 0 < len → 0 < blocks → 0 < bytes_of len blocks

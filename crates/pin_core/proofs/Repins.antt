@@ -30,7 +30,7 @@ use Rattle.pin_core.proofs.Queued.{dirty_same}
 use Rattle.pin_core.proofs.Amounts.{fell, rose, charge_covers}
 use Rattle.pin_core.proofs.Effects.{same_state, again_effect, once_effect}
 use Rattle.pin_core.proofs.Charged.{own_low, has_pins}
-use Rattle.pin_core.proofs.Joined.{Done}
+use Rattle.pin_core.proofs.Entered.{Done}
 
 only_more : (b : Bool) (m n : ℕ) → only_if b (m + n) ≡ only_if b m + only_if b n
 only_more true m n = refl

@@ -38,7 +38,7 @@ module _ {D : Type 0} (v : Parts D) (is_kept : IsKept v) (laws : Lawful v) where
 
   -- reservations changed as this event tells
   retracked_done : (ts : Trackers) (e : Event) → SameOutline v.tree.trackers ts → state_of (retracked ts v) ≡ after (state_of v) e
-      → ((h : List Event) → MayFollow h (state_of v) e) → ((q : ℕ) (old : List ℕ) → left_in q e.event old ≡ old) → Done (e ∷ []) v (retracked ts v)
+      → ((h : List Event) → MayFollow h (state_of v) e) → ((q : ℕ) (old : List ℕ) → left_in q e.event old ≡ old) → Done (e ∷ []) [] [] v (retracked ts v)
   retracked_done ts e same state may leaves = rearranged_done (with_trackers ts v.tree) v.lists.is_open v.slots.quotas v.slots.spare v.seats v e is_kept (record {
     charges = λ t. refl;
     opened = page_opened v is_kept laws;
@@ -59,7 +59,7 @@ module _ {D : Type 0} (v : Parts D) (is_kept : IsKept v) (laws : Lawful v) where
     grows f is n fits = subst (λ (g : ℕ → ℕ). SameOutline v.tree.trackers (grow g n t v.tree.trackers)) (sym is)
         (grow_outline (state_of v) sound t n live (subst (λ (g : ℕ → ℕ). grow_refusal g n t v.tree.trackers ≡ None) is fits))
 
-    pub grown_done : grow_refusal (charge_in v.tree) bytes t v.tree.trackers ≡ None → Done (record { maker = s; event = event.Increase t bytes } ∷ []) v (grown t bytes v)
+    pub grown_done : grow_refusal (charge_in v.tree) bytes t v.tree.trackers ≡ None → Done (record { maker = s; event = event.Increase t bytes } ∷ []) [] [] v (grown t bytes v)
     grown_done fits =
         let same : charge_in v.tree ≡ charge_of (state_of v) = charges_are v is_kept in
         retracked_done (grow (charge_in v.tree) bytes t v.tree.trackers) (record { maker = s; event = event.Increase t bytes }) (grows (charge_in v.tree) same bytes fits)
@@ -68,7 +68,7 @@ module _ {D : Type 0} (v : Parts D) (is_kept : IsKept v) (laws : Lawful v) where
         (λ q old. refl)
 
     pub fit_done : grow_refusal (charge_in v.tree) (lacking (charge_in v.tree) bytes t v.tree.trackers) t v.tree.trackers ≡ None
-        → Done (record { maker = s; event = event.IncreaseToFit t bytes } ∷ []) v (grown_to_fit t bytes v)
+        → Done (record { maker = s; event = event.IncreaseToFit t bytes } ∷ []) [] [] v (grown_to_fit t bytes v)
     fit_done fits =
         let same : charge_in v.tree ≡ charge_of (state_of v) = charges_are v is_kept in
         retracked_done (grow (charge_in v.tree) (lacking (charge_in v.tree) bytes t v.tree.trackers) t v.tree.trackers) (record { maker = s; event = event.IncreaseToFit t bytes })
@@ -77,13 +77,13 @@ module _ {D : Type 0} (v : Parts D) (is_kept : IsKept v) (laws : Lawful v) where
         (λ h. record { makes = low; allows = record { own = own; fits = subst (λ (f : ℕ → ℕ). grow_refusal f (lacking f bytes t v.tree.trackers) t v.tree.trackers ≡ None) same fits } })
         (λ q old. refl)
 
-    pub shrunk_done : CanLose (state_of v) t bytes → Done (record { maker = s; event = event.Decrease t bytes } ∷ []) v (shrunk t bytes v)
+    pub shrunk_done : CanLose (state_of v) t bytes → Done (record { maker = s; event = event.Decrease t bytes } ∷ []) [] [] v (shrunk t bytes v)
     shrunk_done spare =
         retracked_done (shrink bytes t v.tree.trackers) (record { maker = s; event = event.Decrease t bytes }) (shrink_outline (state_of v) sound t bytes live spare.unused)
         refl (λ h. record { makes = low; allows = record { own = own; spare = spare } }) (λ q old. refl)
 
     pub transferred_done : (to : ℕ) → IsTrackerOf (state_of v) s to → CanLose (state_of v) t bytes → move_refusal bytes t to v.tree.trackers ≡ None
-        → Done (record { maker = s; event = event.MoveReservation t to bytes } ∷ []) v (transferred t to bytes v)
+        → Done (record { maker = s; event = event.MoveReservation t to bytes } ∷ []) [] [] v (transferred t to bytes v)
     transferred_done to own_to spare fits =
         let live_to : IsLive v.tree.trackers to = own_live (state_of v) sound s to own_to in
         retracked_done (move_to bytes t to v.tree.trackers) (record { maker = s; event = event.MoveReservation t to bytes })

@@ -31,13 +31,6 @@ has_seat seats s y is =
 pub seat_there : (seats : Seats) (s : ℕ) (y : Session) → get (sessions_in seats) s ≡ Some y → IsSome (seat_of seats s)
 seat_there seats s y is = let h : HasSeat seats s y = has_seat seats s y is in is_there (seat_of seats s) h.seat h.there
 
-pub seat_low : (seats : Seats) → AreProper seats → (s : ℕ) (y : Session) → get (sessions_in seats) s ≡ Some y → s < 240
-seat_low seats proper s y is =
-    let h : HasSeat seats s y = has_seat seats s y is in
-    let lt = seat_within seats s h.seat h.there in
-    let all = proper.counted in
-    omega (arith, lt, all)
-
 -- the failure that the table tells is the one that stands in the state
 pub failure_is : {D : Type 0} (v : Parts D) → AreProper v.seats → (s c : ℕ) → first_of (members_of v.seats s) c ≡ failure_of (state_of v) s c
 failure_is v proper s c =

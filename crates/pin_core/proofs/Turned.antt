@@ -22,12 +22,14 @@ use Rattle.pin_core.specs.Invariant.{IsKept}
 use Rattle.pin_core.specs.Lawful.{Lawful}
 use Rattle.pin_core.specs.Standing.{Enters}
 use Rattle.pin_core.specs.Turns.{LacksRoom, IsWriting, RoomAnswer, IsKnown, Lacks, TurnIs, room_entries, room_slots}
-use Rattle.pin_core.proofs.Held.{IsOnIt, on_it, held_is, flying_fit, is_flying}
+use Rattle.pin_core.specs.Ending.{is_flying}
+use Rattle.pin_core.proofs.Lends.{session_low}
+use Rattle.pin_core.proofs.Held.{IsOnIt, on_it, held_is, flying_fit}
 use Rattle.pin_core.proofs.Known.{known_now}
 use Rattle.pin_core.proofs.Listed.{head_stands}
 use Rattle.pin_core.proofs.Moved.{page_known}
 use Rattle.pin_core.proofs.Rooms.{none_dirty}
-use Rattle.pin_core.proofs.Seated.{seat_low, seat_there, failure_is}
+use Rattle.pin_core.proofs.Seated.{seat_there, failure_is}
 use Rattle.pin_core.proofs.Started.{Started, started, unchanged}
 
 flies_by : (at : Place) → is_flying at ≡ true → (writer : ℕ) × (at ≡ Flying writer)
@@ -99,7 +101,7 @@ module _ {D : Type 0} (v : Parts D) (is_kept : IsKept v) (laws : Lawful v) (sess
     turn_done (Refused entry) new is = as_it_was (Refused entry) new refl refl is.1 (λ slot. (lacks bytes (Some entry) is.0, refl))
     turn_done Wait new is = as_it_was Wait new refl refl is.2 (λ slot. (lacks bytes None is.0, writing bytes left is.0.full is.1, refl))
     turn_done (Write job) new is =
-        let s : Started v new session c job = started v is_kept laws session c (inl (seat_low v.seats laws.seats session owner.session owner.opened)) (λ low. owner) new job is.1 in
+        let s : Started v new session c job = started v is_kept laws session c (inl (session_low v is_kept session c owner)) (λ low. owner) new job is.1 in
         record { kept = s.kept; turn = λ slot. (lacks bytes None is.0, s.is slot); enters = s.enters }
 
 -- the same, where the parts and the client are known by equations

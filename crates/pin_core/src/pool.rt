@@ -42,8 +42,8 @@ impl<D> PoolState<D> {
     /// made.
     pub fn parts(&self) -> &Parts<D>
         ensures parts { result.now ≡ self.now }
-        ensures kept { IsKept self.now }
-        ensures laws { Lawful self.now }
+        ensures kept { IsKept result.now }
+        ensures laws { Lawful result.now }
     {
         self.parts.laws();
         &self.parts

@@ -9,6 +9,7 @@ use Rattle.page_table.specs.declared.page_id.PageId.{PageId}
 use Rattle.page_table.specs.Pages.{IsProper, if_named, entry_of}
 use Rattle.pool_model.specs.Bytes.{bytes_of}
 use Rattle.pool_model.specs.Makers.{IsSession, IsWriter}
+use Rattle.pool_model.specs.Sums.{length_of}
 use Rattle.pool_model.specs.State.{Flying, Loading, Page, Pinned, Place, page_at, pins_of, no_page}
 use Rattle.store_api.specs.Tokens.{PageToken}
 use Rattle.pin_core.specs.declared.kept.Kept.{Kept}
@@ -76,11 +77,11 @@ module _ {D : Type 0} where
   seen_maybe v id p (Some x) is known = seen_of v id p x.now is known
 
   pub fits_told : (v old : Parts D) → v ≡ old → IsKept v → (blocks : ℕ) (buf : Buffer) (all each from bytes : ℕ) → all ≡ length buf.bytes → all ≡ buf.blocks * buf.block_len → each ≡ buf.block_len
-      → from ≡ v.block_len → each ≡ from → bytes ≡ bytes_of v.block_len blocks → nat_eq all bytes ≡ true → IsBufferOf blocks old.arena.block_len buf
+      → from ≡ v.block_len → each ≡ from → bytes ≡ length_of (state_of old) blocks → nat_eq all bytes ≡ true → IsBufferOf blocks old.arena.block_len buf
   fits_told v old same is_kept blocks buf all each from bytes whole own len wanted len_is needed all_is =
       let sized = is_kept.sized in
       let each_is : buf.block_len ≡ v.arena.block_len = sym len ∙ len_is ∙ wanted ∙ sized.len in
-      let all_are : all ≡ bytes_of v.arena.block_len blocks = eqb-true all bytes all_is ∙ needed ∙ ap (λ (n : ℕ). bytes_of n blocks) sized.len in
+      let all_are : all ≡ bytes_of v.arena.block_len blocks = eqb-true all bytes all_is ∙ needed ∙ ap (λ (z : Parts D). bytes_of z.arena.block_len blocks) (sym same) in
       subst (λ (z : Parts D). IsBufferOf blocks z.arena.block_len buf) same (fitting blocks v.arena.block_len buf all sized.some each_is whole own all_are)
 
   module _ (v : Parts D) (p : PageToken) (x : Entry (Kept D)) (seen : Seen v p x) where

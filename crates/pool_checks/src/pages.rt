@@ -4,7 +4,7 @@ ghost use Rattle.std.specs.FinMap.{get};
 ghost use Rattle.block_arena.specs.Memory.{IsBufferOf};
 ghost use Rattle.pool_model.specs.State.{Loading, Pinned, page_at};
 ghost use Rattle.pin_core.specs.StateOf.{key_of, page_of, place_in, state_of};
-ghost use Rattle.pin_core.specs.Needs.{IsLastPin, IsPage};
+ghost use Rattle.pin_core.specs.Needs.{IsLastPin, IsPage, id_in};
 ghost use Rattle.pin_core.specs.Pins.{HasPinToSpare, HasRoomFor, IsPinned};
 ghost use Rattle.pool_model.specs.Sums.{length_of};
 ghost use Rattle.pin_core.specs.PinTurns.{CanPin};
@@ -17,15 +17,21 @@ use page_table::{Entry, PageId, Place};
 use reservation_tree::TrackerId;
 use store_api::Page;
 
+// The page by its name and key.
+fn id_of(p: &Page) -> PageId
+    ensures { result ≡ id_in p.now }
+{
+    PageId {
+        name: p.name(),
+        key: p.key(),
+    }
+}
+
 /// The page's entry, where the page is live.
 pub fn entry_of<'a, D: Drop>(pool: &'a PoolState<D>, p: &Page) -> Option<&'a Entry<Kept<D>>>
     ensures { IfSome result (λ x. IsPage (state_of pool.now) p.now × (page_at (state_of pool.now) p.now.name ≡ page_of pool.now.pages p.now.name x.now)) }
 {
-    let id = PageId {
-        name: p.name(),
-        key: p.key(),
-    };
-    entry_at(pool, id)
+    entry_at(pool, id_of(p))
 }
 
 /// The same by its name and key.
