@@ -1,3 +1,4 @@
 pub mod Checked
 pub mod CheckedClients
 pub mod CheckedIdle
+pub mod Followed

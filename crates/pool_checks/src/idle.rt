@@ -9,8 +9,8 @@ ghost use Rattle.pin_core.specs.Sessions.{IsIdle, query_of};
 ghost use Rattle.pin_core.specs.StateOf.{state_of};
 
 use crate::clients::{is_client_of, is_seat};
-use pin_core::{Kept, PoolState};
 use page_table::PageTable;
+use pin_core::{Kept, PoolState};
 use reservation_tree::TrackerId;
 use session_table::{MAX_SESSIONS, SessionTable};
 

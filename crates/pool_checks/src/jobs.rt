@@ -6,8 +6,8 @@ ghost use Rattle.pin_core.specs.Runs.{IsFit};
 ghost use Rattle.pin_core.specs.StateOf.{state_of};
 
 use crate::pages::{entry_at, fits};
-use pin_core::{PoolState, ReadJob, WriteJob};
 use page_table::Place;
+use pin_core::{PoolState, ReadJob, WriteJob};
 
 /// Whether the pool waits for this write.
 pub fn is_write_job<D: Drop>(pool: &PoolState<D>, job: &WriteJob<D>) -> bool

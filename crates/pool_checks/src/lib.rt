@@ -11,6 +11,8 @@ mod idle;
 mod jobs;
 mod loans;
 mod pages;
+#[cfg(test)]
+mod tests;
 mod tokens;
 
 pub use clients::{can_hold, has_unused, is_client_of, is_seat};

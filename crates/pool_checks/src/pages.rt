@@ -11,9 +11,9 @@ ghost use Rattle.pin_core.specs.PinTurns.{CanPin};
 ghost use Rattle.pin_core.specs.Ending.{IsPinnedWith, IsUnpinned};
 
 use crate::clients::{can_hold, has_unused};
-use pin_core::{Kept, PoolState};
 use block_arena::Buf;
 use page_table::{Entry, PageId, Place};
+use pin_core::{Kept, PoolState};
 use reservation_tree::TrackerId;
 use store_api::Page;
 
@@ -35,10 +35,7 @@ pub fn entry_of<'a, D: Drop>(pool: &'a PoolState<D>, p: &Page) -> Option<&'a Ent
 }
 
 /// The same by its name and key.
-pub fn entry_at<'a, D: Drop>(
-    pool: &'a PoolState<D>,
-    id: PageId,
-) -> Option<&'a Entry<Kept<D>>>
+pub fn entry_at<'a, D: Drop>(pool: &'a PoolState<D>, id: PageId) -> Option<&'a Entry<Kept<D>>>
     ensures { IfSome result (λ x. (get (state_of pool.now).pages id.name ≡ Some (page_of pool.now.pages id.name x.now)) × (key_of pool.now.pages id.name ≡ id.key)) }
 {
     let parts = pool.parts();

@@ -10,8 +10,8 @@ ghost use Rattle.pin_core.specs.StateOf.{state_of};
 use crate::clients::{can_hold, has_unused, is_client_of};
 use crate::idle::is_idle;
 use crate::pages::length;
-use pin_core::PoolState;
 use block_arena::Shell;
+use pin_core::PoolState;
 use reservation_tree::TrackerId;
 use store_api::Client;
 

@@ -1,6 +1,6 @@
 use Rattle.std.proofs.Common.{◌≡◌, ◌≤◌, ℕ, refl, arith}
 use Rattle.pool_model.specs.Bytes.{bytes_of}
-use Rattle.pool_tests.proofs.steps.open.Goals as goal
+use Rattle.pool_checks.proofs.tests.steps.open.Goals as goal
 
 few : (blocks : ℕ) → blocks ≤ 1024 → bytes_of 64 blocks ≤ 2147483648
 unfolding bytes_of

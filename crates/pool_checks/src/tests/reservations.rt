@@ -1,7 +1,7 @@
 //! Reservations, and pools that close.
 
-use crate::steps::{self, Pool};
-use pool_checks::is_client;
+use super::steps::{self, Pool};
+use crate::is_client;
 use reservation_tree::{PoolErr, TrackerId};
 use std::process::Abort;
 use store_api::Client;

@@ -3,13 +3,13 @@
 ghost use Rattle.std.specs.Prelude.{◌≡◌};
 ghost use Rattle.pin_core.specs.Jobs.{IsWriteJob};
 ghost use Rattle.pin_core.specs.StateOf.{state_of};
-ghost use Rattle.pool_tests.specs.Following.{HasCalled, HasStarted, Stands};
+ghost use Rattle.pool_checks.specs.Following.{HasCalled, HasStarted, Stands};
 
-use crate::steps;
+use super::steps;
+use crate::{can_fill, has_left, is_client, is_client_in, is_last_pin, is_seat, is_write_job};
 use block_arena::{Buf, Shell};
 use outside::{OpenGate, Slot};
 use pin_core::{PoolConf, PoolState, RoomTurn, Want, WriteJob, Wrote};
-use pool_checks::{can_fill, has_left, is_client, is_client_in, is_last_pin, is_seat, is_write_job};
 use pool_model::Call;
 use scratch_dev::SlotShell;
 use std::alloc::Global;
@@ -128,12 +128,7 @@ fn started<D: Slot + Drop>(
     }
 }
 
-fn unwritten<D: Slot + Drop>(
-    rt: &impl Abort,
-    pool: &mut PoolState<D>,
-    s: u32,
-    mut job: WriteJob<D>,
-)
+fn unwritten<D: Slot + Drop>(rt: &impl Abort, pool: &mut PoolState<D>, s: u32, mut job: WriteJob<D>)
     requires { HasStarted D.Slot pool.old s job }
     ensures { HasCalled D.Slot pool.new s }
 {
@@ -183,7 +178,10 @@ fn what_was_refused_is_entered(rt: HostRuntime) {
     unwritten(&rt, &mut pool, s, job);
     let before = pool.parts().entries;
     let failed = refused(&rt, &mut pool, s, &c, 64);
-    assert_eq!(rt; (failed, pool.parts().entries), (before.wrapping_sub(1), before.wrapping_add(1)));
+    assert_eq!(rt;
+        (failed, pool.parts().entries),
+        (before.wrapping_sub(1), before.wrapping_add(1))
+    );
     page.into_name();
     c.into_tracker();
 }

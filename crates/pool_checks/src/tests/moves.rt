@@ -1,8 +1,8 @@
 //! Calls that are done at once, each made of the pool and of the plain pool. A call whose conditions don't
 //! hold isn't made. Whether one was made is told.
 
-use crate::steps::{self, Pool};
-use crate::world::{Leaf, Lent, World, bytes_of};
+use super::steps::{self, Pool};
+use super::world::{Leaf, Lent, World, bytes_of};
 use page_table::Place;
 use reservation_tree::TrackerId;
 use std::alloc::Global;
@@ -76,7 +76,10 @@ pub fn hand(rt: &impl Abort, pool: &mut Pool, world: &mut World, t: u32, to: u32
     }
     let from = client(world, t);
     let other = client(world, to);
-    assert_eq!(rt; steps::move_reservation(rt, pool, &from, &other, bytes), Ok(()));
+    assert_eq!(rt;
+        steps::move_reservation(rt, pool, &from, &other, bytes),
+        Ok(())
+    );
     from.into_tracker();
     other.into_tracker();
     let less = world.reservation(t).saturating_sub(bytes);

@@ -50,6 +50,8 @@ pub struct World {
     /// The first failure of a client since its session's last call.
     pub failures: BTreeMap<u32, u64>,
     pub entries: u64,
+    /// How often each kind of call was made, and each answer came.
+    pub tallies: [u32; 25],
 }
 
 impl World {
@@ -68,6 +70,7 @@ impl World {
             clean: Vec::new(alloc),
             failures: BTreeMap::new(alloc),
             entries: 6,
+            tallies: [0; 25],
         }
     }
 
@@ -305,6 +308,12 @@ impl World {
             self.failures.insert(client, entry)?;
         }
         Ok(())
+    }
+
+    pub fn tally(&mut self, kind: usize) {
+        if let Some(times) = self.tallies.get_mut(kind) {
+            *times = times.saturating_add(1);
+        }
     }
 
     pub fn count(&mut self, entries: u64) {

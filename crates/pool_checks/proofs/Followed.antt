@@ -25,7 +25,7 @@ use Rattle.pin_core.specs.Returning.{EntersWhere, IsWritten, write_ends, write_e
 use Rattle.pin_core.specs.StateOf.{state_of}
 use Rattle.pin_core.specs.Standing.{Enters, StandsFor}
 use Rattle.pin_core.specs.Turns.{IsStarted, LacksRoom, start_entry}
-use Rattle.pool_tests.specs.Following.{HasCalled, HasStarted, Stands}
+use Rattle.pool_checks.specs.Following.{HasCalled, HasStarted, Stands}
 
 any_before : {X : Type 0} (p : X → Bool) (xs ys : List X) → T (list_any p xs) → T (list_any p (xs ++ ys))
 any_before p [] ys any = elim any [ ]

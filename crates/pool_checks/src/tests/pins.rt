@@ -1,7 +1,7 @@
 //! Pages with several pins.
 
-use crate::steps;
-use pool_checks::{has_pin_to_spare, has_room_for, is_last_pin};
+use super::steps;
+use crate::{has_pin_to_spare, has_room_for, is_last_pin};
 
 #[test]
 fn each_pin_is_charged(rt: HostRuntime) {

@@ -1,6 +1,6 @@
 //! Buffers that are no page's.
 
-use crate::steps::{self, Pool};
+use super::steps::{self, Pool};
 use std::process::Abort;
 use store_api::Client;
 

@@ -1,14 +1,31 @@
 //! Calls that may start a write or a load, each made of the pool and of the plain pool, and how jobs end.
 
-use crate::moves::{client, page};
-use crate::steps::{self, Pool};
-use crate::world::{Leaf, World, bytes_of};
+use super::moves::{client, page};
+use super::steps::{self, Pool};
+use super::world::{Leaf, World, bytes_of};
 use block_arena::Buf;
 use outside::MemSlot;
 use page_table::Place;
 use pin_core::{PinTurn, ReadJob, RoomTurn, Want, WriteJob, Wrote};
 use reservation_tree::PoolErr;
 use std::process::Abort;
+
+// Answers that are tallied, behind the seventeen kinds of calls that are done at once.
+const REFUSED: usize = 17;
+
+const WAITS: usize = 18;
+
+const HERE: usize = 19;
+
+const NONE_DIRTY: usize = 20;
+
+const WRITTEN: usize = 21;
+
+const UNWRITTEN: usize = 22;
+
+const READ: usize = 23;
+
+const UNREAD: usize = 24;
 
 /// What a call started.
 pub enum Started {
@@ -53,6 +70,7 @@ pub fn start_write(rt: &impl Abort, pool: &mut Pool, world: &mut World) -> Start
     match steps::start_write(rt, pool, who) {
         None => {
             assert!(rt; world.dirty.is_empty());
+            world.tally(NONE_DIRTY);
             Started::Nothing
         }
         Some(job) => {
@@ -77,8 +95,14 @@ pub fn make_room(rt: &impl Abort, pool: &mut Pool, world: &mut World, t: u32) ->
     c.into_tracker();
     match turn {
         RoomTurn::Ready => assert_eq!(rt; wanted, Answer::Ready),
-        RoomTurn::Refused { entry } => assert_eq!(rt; wanted, Answer::Refused(entry)),
-        RoomTurn::Wait => assert_eq!(rt; wanted, Answer::Wait),
+        RoomTurn::Refused { entry } => {
+            assert_eq!(rt; wanted, Answer::Refused(entry));
+            world.tally(REFUSED);
+        }
+        RoomTurn::Wait => {
+            assert_eq!(rt; wanted, Answer::Wait);
+            world.tally(WAITS);
+        }
         RoomTurn::Write(job) => {
             assert_eq!(rt; wanted, Answer::Write(job.id.name));
             return flies(world, job);
@@ -96,13 +120,7 @@ fn answer_to_pin(world: &World, leaf: &Leaf) -> Answer {
     }
 }
 
-pub fn pin(
-    rt: &impl Abort,
-    pool: &mut Pool,
-    world: &mut World,
-    name: u64,
-    leaf: Leaf,
-) -> Started {
+pub fn pin(rt: &impl Abort, pool: &mut Pool, world: &mut World, name: u64, leaf: Leaf) -> Started {
     let is_away = !matches!(leaf.place, Place::Pinned(_) | Place::Loading);
     if !is_away || bytes_of(leaf.blocks) > world.unused(leaf.client) {
         return Started::Nothing;
@@ -112,12 +130,22 @@ pub fn pin(
     let turn = steps::pin_turn(rt, pool, leaf.session, 0, &p);
     p.into_name();
     match turn {
-        PinTurn::Refused { entry } => assert_eq!(rt; wanted, Answer::Refused(entry)),
-        PinTurn::Wait => assert_eq!(rt; wanted, Answer::Wait),
+        PinTurn::Refused { entry } => {
+            assert_eq!(rt; wanted, Answer::Refused(entry));
+            world.tally(REFUSED);
+        }
+        PinTurn::Wait => {
+            assert_eq!(rt; wanted, Answer::Wait);
+            world.tally(WAITS);
+        }
         PinTurn::Here(buf) => {
-            assert_eq!(rt; (wanted, leaf.place == Place::Evicted), (Answer::Ready, false));
+            assert_eq!(rt;
+                (wanted, leaf.place == Place::Evicted),
+                (Answer::Ready, false)
+            );
             world.unqueue(name);
             world.count(1);
+            world.tally(HERE);
             shows(rt, world, name, &leaf, buf);
         }
         PinTurn::Write(job) => {
@@ -157,10 +185,12 @@ fn finish_write(rt: &impl Abort, pool: &mut Pool, world: &mut World, job: WriteJ
     let wrote = steps::write(rt, pool, job);
     world.count(1);
     if wrote == Wrote::Done(name) {
+        world.tally(WRITTEN);
         world.put(name, Place::Clean);
         world.clean.push(name).expect(rt, "memory");
     } else {
         assert_eq!(rt; wrote, Wrote::Failed(name));
+        world.tally(UNWRITTEN);
         world.put(name, Place::Dirty);
         world.dirty.push(name).expect(rt, "memory");
         world.note(client).expect(rt, "memory");
@@ -175,9 +205,13 @@ fn finish_read(rt: &impl Abort, pool: &mut Pool, world: &mut World, job: ReadJob
     let entry = world.entries;
     world.count(1);
     match steps::read(rt, pool, 0, job) {
-        Ok(buf) => shows(rt, world, name, &leaf, buf),
+        Ok(buf) => {
+            world.tally(READ);
+            shows(rt, world, name, &leaf, buf);
+        }
         Err(refusal) => {
             assert_eq!(rt; refusal, PoolErr::ReadFault { entry });
+            world.tally(UNREAD);
             world.put(name, Place::Evicted);
             world.note(leaf.client).expect(rt, "memory");
         }

@@ -1,14 +1,14 @@
 //! Single calls of a session and of a writer, each asked for first.
 
-use block_arena::{Buf, Shell};
-use outside::{MemSlot, OpenGate};
-use pin_core::{PinTurn, PoolConf, PoolState, ReadJob, RoomTurn, Want, WriteJob, Wrote};
-use pool_checks::{
+use crate::{
     are_beside, can_fill, can_move_to, can_pin, has_left, has_no_client, has_no_session, has_none,
     has_pin_to_spare, has_room, has_room_for, is_client, is_client_in, is_last_pin, is_loan,
     is_page, is_pinned, is_pinned_with, is_read_job, is_seat, is_tracker, is_unpinned,
     is_write_job, is_writer, length,
 };
+use block_arena::{Buf, Shell};
+use outside::{MemSlot, OpenGate};
+use pin_core::{PinTurn, PoolConf, PoolState, ReadJob, RoomTurn, Want, WriteJob, Wrote};
 use reservation_tree::PoolErr;
 use scratch_dev::SlotShell;
 use std::alloc::Global;
@@ -85,12 +85,7 @@ pub fn end_session(rt: &impl Abort, pool: &mut Pool, s: u32) {
     pool.end_session(s);
 }
 
-pub fn add_client(
-    rt: &impl Abort,
-    pool: &mut Pool,
-    s: u32,
-    limit: u64,
-) -> Result<Client, PoolErr> {
+pub fn add_client(rt: &impl Abort, pool: &mut Pool, s: u32, limit: u64) -> Result<Client, PoolErr> {
     assert!(rt; is_seat(pool, s));
     pool.add_client(s, limit)
 }
@@ -112,12 +107,7 @@ pub fn end_client(rt: &impl Abort, pool: &mut Pool, c: Client) {
     pool.end_client(c);
 }
 
-pub fn increase(
-    rt: &impl Abort,
-    pool: &mut Pool,
-    c: &Client,
-    bytes: u64,
-) -> Result<(), PoolErr> {
+pub fn increase(rt: &impl Abort, pool: &mut Pool, c: &Client, bytes: u64) -> Result<(), PoolErr> {
     assert!(rt; is_client(pool, c));
     pool.increase(c, bytes)
 }
@@ -335,12 +325,7 @@ pub fn unpin_once(rt: &impl Abort, pool: &mut Pool, p: &Page) {
     pool.unpin_once(p);
 }
 
-pub fn unpin(
-    rt: &impl Abort,
-    pool: &mut Pool,
-    p: &Page,
-    buf: Buf,
-) -> Result<(), (Buf, PoolErr)> {
+pub fn unpin(rt: &impl Abort, pool: &mut Pool, p: &Page, buf: Buf) -> Result<(), (Buf, PoolErr)> {
     assert!(rt; is_last_pin(pool, p, &buf));
     pool.unpin(p, buf)
 }

@@ -1,6 +1,6 @@
 //! Pages that are written.
 
-use crate::steps::{self, Pool};
+use super::steps::{self, Pool};
 use outside::MemSlot;
 use pin_core::{PinTurn, WriteJob, Wrote};
 use std::alloc::Global;

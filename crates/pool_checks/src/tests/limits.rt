@@ -1,7 +1,7 @@
 //! Where slots, trackers or names are spent.
 
-use crate::steps;
-use pool_checks::is_pinned;
+use super::steps;
+use crate::is_pinned;
 use reservation_tree::PoolErr;
 
 #[test]

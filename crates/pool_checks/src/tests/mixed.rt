@@ -1,9 +1,9 @@
 //! Mixed calls of three sessions over slots that fail now and then.
 
-use crate::flights::{self, Started};
-use crate::moves;
-use crate::steps::{self, Pool};
-use crate::world::World;
+use super::flights::{self, Started};
+use super::moves;
+use super::steps::{self, Pool};
+use super::world::World;
 use page_table::PageId;
 use reservation_tree::TrackerId;
 use std::alloc::Global;
@@ -90,21 +90,15 @@ fn call_of_page(rt: &impl Abort, pool: &mut Pool, world: &mut World, kind: usize
 // Pages come and are unpinned more often than they are pinned again, extracted or destroyed.
 fn some_kind(world: &mut World) -> usize {
     let kinds = [
-        0, 1, 1, 2, 3, 4, 5, 6, 7, 7, 7, 8, 8, 8, 9, 10, 11, 12, 12, 12, 12, 13, 14, 15, 16,
+        0, 1, 1, 2, 3, 4, 5, 6, 7, 7, 8, 8, 8, 8, 8, 8, 9, 10, 11, 11, 11, 12, 12, 12, 12, 12, 12,
+        12, 12, 12, 12, 13, 13, 14, 15, 16,
     ];
     let at = world.below(kinds.len() as u64) as usize;
     kinds.get(at).copied().unwrap_or(0)
 }
 
-// So many calls that are done at once. How often each kind was made is counted.
-fn calls(
-    rt: &impl Abort,
-    alloc: Global,
-    pool: &mut Pool,
-    world: &mut World,
-    made: &mut [u32; 17],
-    count: u64,
-) {
+// So many calls that are done at once.
+fn calls(rt: &impl Abort, alloc: Global, pool: &mut Pool, world: &mut World, count: u64) {
     for _ in 0..count {
         let kind = some_kind(world);
         let was_made = match kind {
@@ -112,8 +106,8 @@ fn calls(
             8..=11 => call_of_loan(rt, alloc, pool, world, kind),
             _ => call_of_page(rt, pool, world, kind),
         };
-        if was_made && let Some(times) = made.get_mut(kind) {
-            *times = times.saturating_add(1);
+        if was_made {
+            world.tally(kind);
         }
         compare(rt, pool, world);
     }
@@ -121,8 +115,8 @@ fn calls(
 
 fn start(rt: &impl Abort, pool: &mut Pool, world: &mut World) -> Started {
     match (world.below(6), world.some_client(), world.some_page()) {
-        (0, _, _) => flights::start_write(rt, pool, world),
-        (1, Some(t), _) => flights::make_room(rt, pool, world, t),
+        (0 | 1, _, _) => flights::start_write(rt, pool, world),
+        (2, Some(t), _) => flights::make_room(rt, pool, world, t),
         (_, _, Some((name, leaf))) => flights::pin(rt, pool, world, name, leaf),
         _ => Started::Nothing,
     }
@@ -135,23 +129,23 @@ fn end(rt: &impl Abort, pool: &mut Pool, world: &mut World, started: Started) {
 
 #[test]
 fn mixed_calls_do_what_a_plain_pool_does(rt: HostRuntime) {
-    let slots = steps::slots(&rt, rt.alloc(), 24, &FAILS);
+    let slots = steps::slots(&rt, rt.alloc(), 48, &FAILS);
     let mut pool = steps::open(&rt, rt.alloc(), 12, 0, slots);
-    let mut world = World::open(rt.alloc(), 24, 12, 8);
+    let mut world = World::open(rt.alloc(), 24, 12, 16);
     for s in 0..3u32 {
-        assert_eq!(rt; steps::session(&rt, &mut pool, 8), s);
+        assert_eq!(rt; steps::session(&rt, &mut pool, 16), s);
     }
-    let mut made = [0u32; 17];
-    for _ in 0..700u32 {
+    for _ in 0..1700u32 {
         let first = start(&rt, &mut pool, &mut world);
         let more = world.below(4);
-        calls(&rt, rt.alloc(), &mut pool, &mut world, &mut made, more);
+        calls(&rt, rt.alloc(), &mut pool, &mut world, more);
         let second = start(&rt, &mut pool, &mut world);
-        calls(&rt, rt.alloc(), &mut pool, &mut world, &mut made, 2);
+        calls(&rt, rt.alloc(), &mut pool, &mut world, 2);
         end(&rt, &mut pool, &mut world, first);
         end(&rt, &mut pool, &mut world, second);
     }
-    for (kind, times) in made.into_iter().enumerate() {
-        assert!(rt; times >= 10, "{kind} {times}");
+    // No kind of call and no answer is left out.
+    for (kind, times) in world.tallies.into_iter().enumerate() {
+        assert!(rt; times >= 3, "{kind} {times}");
     }
 }

@@ -1,6 +1,6 @@
 //! Pages that are loaded.
 
-use crate::steps::{self, Pool};
+use super::steps::{self, Pool};
 use reservation_tree::PoolErr;
 use std::process::Abort;
 use store_api::Page;

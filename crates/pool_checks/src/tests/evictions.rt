@@ -1,8 +1,8 @@
 //! Clean pages make room.
 
-use crate::steps::{self, Pool};
+use super::steps::{self, Pool};
+use crate::entry_of;
 use page_table::Place;
-use pool_checks::entry_of;
 use std::alloc::Global;
 use std::process::Abort;
 use store_api::{Client, Page};

@@ -1,0 +1,15 @@
+//! A pool over slots in memory: worked rows, and mixed calls beside a plain pool.
+
+mod evictions;
+mod flights;
+mod limits;
+mod loans;
+mod mixed;
+mod moves;
+mod pins;
+mod reads;
+mod refusals;
+mod reservations;
+mod steps;
+mod world;
+mod writes;
