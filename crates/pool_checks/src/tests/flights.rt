@@ -66,7 +66,7 @@ fn flies(world: &mut World, job: WriteJob<MemSlot>) -> Started {
 }
 
 pub fn start_write(rt: &impl Abort, pool: &mut Pool, world: &mut World) -> Started {
-    let who = 1000u32.saturating_add(world.below(8) as u32);
+    let who = 1000u32.saturating_add(world.below(8));
     match steps::start_write(rt, pool, who) {
         None => {
             assert!(rt; world.dirty.is_empty());
@@ -81,7 +81,7 @@ pub fn start_write(rt: &impl Abort, pool: &mut Pool, world: &mut World) -> Start
 }
 
 pub fn make_room(rt: &impl Abort, pool: &mut Pool, world: &mut World, t: u32) -> Started {
-    let bytes = bytes_of(world.below(6) as u32);
+    let bytes = bytes_of(world.below(6));
     if bytes > world.unused(t) {
         return Started::Nothing;
     }

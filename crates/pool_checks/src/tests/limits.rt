@@ -1,32 +1,44 @@
 //! Where slots, trackers or names are spent.
 
-use super::steps;
+use super::steps::{self, Pool};
 use crate::is_pinned;
+use block_arena::Buf;
 use reservation_tree::PoolErr;
+use std::alloc::Global;
+use std::process::Abort;
+use store_api::{Client, Page};
+
+// A page can't be left while another has the only slot. Its buffer comes back, and it stays pinned.
+fn refused(rt: &impl Abort, pool: &mut Pool, page: &Page, buf: Buf) -> Buf {
+    match steps::unpin(rt, pool, page, buf) {
+        Err((buf, refusal)) => {
+            assert_eq!(rt; refusal, PoolErr::ScratchFull { need: 1, free: 0 });
+            assert!(rt; is_pinned(pool, page));
+            assert_eq!(rt; steps::front(rt, &buf), 6);
+            buf
+        }
+        Ok(()) => panic!(rt; "no slot is free"),
+    }
+}
+
+// Once the other page is gone it can.
+fn left(rt: &impl Abort, pool: &mut Pool, c: &Client, page: Page, buf: Buf) {
+    steps::assert_charge(rt, pool, c, 64);
+    assert!(rt; steps::unpin(rt, pool, &page, buf).is_ok());
+    steps::assert_charge(rt, pool, c, 0);
+    page.into_name();
+}
 
 #[test]
 fn a_page_is_left_once_slots_are_free(rt: HostRuntime) {
     let slots = steps::slots(&rt, rt.alloc(), 4, &[]);
-    let mut pool = steps::open(&rt, rt.alloc(), 4, 0, slots);
-    let s = steps::session(&rt, &mut pool, 1);
-    let c = steps::client(&rt, &mut pool, s, 128);
+    let (mut pool, _s, c) = steps::setting(&rt, rt.alloc(), 4, slots, 1, 128);
     let (second, mut buf) = steps::create(&rt, rt.alloc(), &mut pool, &c, 1);
     let first = steps::left(&rt, rt.alloc(), &mut pool, &c, 1, 5);
     steps::put(&rt, &mut buf, 6);
-    let buf = match steps::unpin(&rt, &mut pool, &second, buf) {
-        Err((buf, refusal)) => {
-            assert_eq!(rt; refusal, PoolErr::ScratchFull { need: 1, free: 0 });
-            buf
-        }
-        Ok(()) => panic!(rt; "no slot is free"),
-    };
-    assert_eq!(rt; steps::front(&rt, &buf), 6);
-    assert!(rt; is_pinned(&pool, &second));
-    assert_eq!(rt; steps::charge(&rt, &pool, &c), 64);
+    let buf = refused(&rt, &mut pool, &second, buf);
     steps::destroy(&rt, &mut pool, first);
-    assert!(rt; steps::unpin(&rt, &mut pool, &second, buf).is_ok());
-    assert_eq!(rt; steps::charge(&rt, &pool, &c), 0);
-    second.into_name();
+    left(&rt, &mut pool, &c, second, buf);
     c.into_tracker();
 }
 
@@ -60,6 +72,16 @@ fn a_session_has_16_clients(rt: HostRuntime) {
     steps::client(&rt, &mut pool, s, 0).into_tracker();
 }
 
+// A page of two blocks can't be made, for want of a name.
+fn nameless(rt: &impl Abort, alloc: Global, pool: &mut Pool, c: &Client) {
+    match steps::create_now(rt, alloc, pool, c, 2) {
+        Err((shell, _slots, refusal)) => {
+            assert_eq!(rt; (shell.room(), refusal), (2, PoolErr::NamesSpent));
+        }
+        Ok(_) => panic!(rt; "the names are spent"),
+    }
+}
+
 #[test]
 fn the_last_number_is_no_page_s_name(rt: HostRuntime) {
     let slots = steps::slots(&rt, rt.alloc(), 4, &[]);
@@ -68,12 +90,7 @@ fn the_last_number_is_no_page_s_name(rt: HostRuntime) {
     let c = steps::client(&rt, &mut pool, s, 256);
     let (page, _buf) = steps::create(&rt, rt.alloc(), &mut pool, &c, 1);
     assert_eq!(rt; page.into_name(), u64::MAX - 1);
-    match steps::create_now(&rt, rt.alloc(), &mut pool, &c, 2) {
-        Err((shell, _slots, refusal)) => {
-            assert_eq!(rt; (shell.room(), refusal), (2, PoolErr::NamesSpent));
-        }
-        Ok(_) => panic!(rt; "the names are spent"),
-    }
-    assert_eq!(rt; steps::charge(&rt, &pool, &c), 64);
+    nameless(&rt, rt.alloc(), &mut pool, &c);
+    steps::assert_charge(&rt, &pool, &c, 64);
     c.into_tracker();
 }

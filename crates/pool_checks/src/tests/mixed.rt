@@ -3,7 +3,7 @@
 use super::flights::{self, Started};
 use super::moves;
 use super::steps::{self, Pool};
-use super::world::World;
+use super::world::{World, bytes_of};
 use page_table::PageId;
 use reservation_tree::TrackerId;
 use std::alloc::Global;
@@ -16,7 +16,7 @@ const FAILS: [u64; 12] = [3, 4, 9, 14, 15, 16, 25, 31, 32, 44, 58, 71];
 fn compare(rt: &impl Abort, pool: &Pool, world: &World) {
     let parts = pool.parts();
     assert_eq!(rt; parts.entries, world.entries);
-    assert_eq!(rt; parts.arena.free(), world.free());
+    assert_eq!(rt; bytes_of(parts.arena.free()), world.free());
     for (t, member) in world.clients.iter() {
         let client = TrackerId::of(*t);
         assert!(rt; parts.tree.is_live(client));
@@ -35,7 +35,7 @@ fn compare(rt: &impl Abort, pool: &Pool, world: &World) {
 
 // A call on sessions, clients and their reservations.
 fn call_of_client(rt: &impl Abort, pool: &mut Pool, world: &mut World, kind: usize) -> bool {
-    let s = world.below(3) as u32;
+    let s = world.below(3);
     let Some(t) = world.some_client() else {
         return moves::add_client(rt, pool, world, s);
     };
@@ -93,12 +93,12 @@ fn some_kind(world: &mut World) -> usize {
         0, 1, 1, 2, 3, 4, 5, 6, 7, 7, 8, 8, 8, 8, 8, 8, 9, 10, 11, 11, 11, 12, 12, 12, 12, 12, 12,
         12, 12, 12, 12, 13, 13, 14, 15, 16,
     ];
-    let at = world.below(kinds.len() as u64) as usize;
+    let at = world.place_in(kinds.len());
     kinds.get(at).copied().unwrap_or(0)
 }
 
 // So many calls that are done at once.
-fn calls(rt: &impl Abort, alloc: Global, pool: &mut Pool, world: &mut World, count: u64) {
+fn calls(rt: &impl Abort, alloc: Global, pool: &mut Pool, world: &mut World, count: u32) {
     for _ in 0..count {
         let kind = some_kind(world);
         let was_made = match kind {

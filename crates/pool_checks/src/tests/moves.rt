@@ -25,7 +25,7 @@ pub fn ask(rt: &impl Abort, pool: &mut Pool, world: &mut World, s: u32) -> bool 
 }
 
 pub fn grow(rt: &impl Abort, pool: &mut Pool, world: &mut World, t: u32, fits: bool) -> bool {
-    let bytes = bytes_of(world.below(6) as u32);
+    let bytes = bytes_of(world.below(6));
     let more = match fits {
         true => bytes.saturating_sub(world.unused(t)),
         false => bytes,
@@ -50,7 +50,7 @@ pub fn grow(rt: &impl Abort, pool: &mut Pool, world: &mut World, t: u32, fits: b
 }
 
 pub fn shrink(rt: &impl Abort, pool: &mut Pool, world: &mut World, t: u32) -> bool {
-    let bytes = bytes_of(world.below(4) as u32);
+    let bytes = bytes_of(world.below(4));
     if bytes > world.unused(t) || !world.has_room(t, bytes) {
         return false;
     }
@@ -67,7 +67,7 @@ pub fn shrink(rt: &impl Abort, pool: &mut Pool, world: &mut World, t: u32) -> bo
 }
 
 pub fn hand(rt: &impl Abort, pool: &mut Pool, world: &mut World, t: u32, to: u32) -> bool {
-    let bytes = bytes_of(world.below(4) as u32);
+    let bytes = bytes_of(world.below(4));
     if t == to || world.session_of(t) != world.session_of(to) {
         return false;
     }
@@ -125,7 +125,7 @@ pub fn begin_anew(rt: &impl Abort, pool: &mut Pool, world: &mut World, s: u32) -
 }
 
 pub fn create(rt: &impl Abort, alloc: Global, pool: &mut Pool, world: &mut World, t: u32) -> bool {
-    let blocks = 1u32.saturating_add(world.below(3) as u32);
+    let blocks = 1u32.saturating_add(world.below(3));
     if !world.has_room(t, bytes_of(blocks)) {
         return false;
     }
@@ -171,7 +171,7 @@ pub fn alloc_loan(
     world: &mut World,
     t: u32,
 ) -> bool {
-    let blocks = 1u32.saturating_add(world.below(2) as u32);
+    let blocks = 1u32.saturating_add(world.below(2));
     if !world.has_room(t, bytes_of(blocks)) {
         return false;
     }
@@ -226,7 +226,7 @@ pub fn unpin(rt: &impl Abort, pool: &mut Pool, world: &mut World, name: u64, lea
     let Some(mut buf) = world.buffers.remove(&name) else {
         return false;
     };
-    let byte = world.below(256) as u8;
+    let byte = world.byte();
     steps::put(rt, &mut buf, byte);
     let lacks = !leaf.has_slots && world.free_slots(leaf.session) < leaf.blocks;
     let p = page(name, &leaf);

@@ -101,6 +101,21 @@ pub fn client(rt: &impl Abort, pool: &mut Pool, s: u32, bytes: u64) -> Client {
     }
 }
 
+/// A pool, a session with this quota, and a client with so much reservation.
+pub fn setting(
+    rt: &impl Abort,
+    alloc: Global,
+    blocks: u32,
+    slots: Vec<MemSlot>,
+    quota: u32,
+    bytes: u64,
+) -> (Pool, u32, Client) {
+    let mut pool = open(rt, alloc, blocks, 0, slots);
+    let s = session(rt, &mut pool, quota);
+    let c = client(rt, &mut pool, s, bytes);
+    (pool, s, c)
+}
+
 pub fn end_client(rt: &impl Abort, pool: &mut Pool, c: Client) {
     assert!(rt; is_client(pool, &c));
     assert!(rt; has_none(pool, &c));
@@ -149,6 +164,10 @@ pub fn charge(rt: &impl Abort, pool: &Pool, c: &Client) -> u64 {
     assert!(rt; is_client(pool, c));
     pool.reservation(c.tracker())
         .saturating_sub(pool.unused(c.tracker()))
+}
+
+pub fn assert_charge(rt: &impl Abort, pool: &Pool, c: &Client, bytes: u64) {
+    assert_eq!(rt; charge(rt, pool, c), bytes);
 }
 
 pub fn ask(rt: &impl Abort, pool: &mut Pool, s: u32) -> u64 {

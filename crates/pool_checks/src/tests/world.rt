@@ -74,28 +74,52 @@ impl World {
         }
     }
 
-    /// A number below `count`, at random.
-    pub fn below(&mut self, count: u64) -> u64 {
+    // A number of 31 bits, at random.
+    fn random(&mut self) -> u64 {
         self.seed = self
             .seed
             .wrapping_mul(6364136223846793005)
             .wrapping_add(1442695040888963407);
-        (self.seed >> 33).checked_rem(count).unwrap_or(0)
+        self.seed >> 33
     }
 
-    /// Some client, and some page.
+    /// A number below `count`, at random.
+    pub fn below(&mut self, count: u32) -> u32 {
+        let most = u32::MAX;
+        u32::try_from(self.random())
+            .unwrap_or(most)
+            .checked_rem(count)
+            .unwrap_or(0)
+    }
+
+    pub fn byte(&mut self) -> u8 {
+        self.random().to_le_bytes()[0]
+    }
+
+    // A place in a list of so many.
+    pub fn place_in(&mut self, len: usize) -> usize {
+        usize::try_from(self.random())
+            .unwrap_or(0)
+            .checked_rem(len)
+            .unwrap_or(0)
+    }
+
+    /// Some client, some page, and some loan.
     pub fn some_client(&mut self) -> Option<u32> {
-        let at = self.below(self.clients.len() as u64) as usize;
+        let len = self.clients.len();
+        let at = self.place_in(len);
         self.clients.keys().nth(at).copied()
     }
 
     pub fn some_page(&mut self) -> Option<(u64, Leaf)> {
-        let at = self.below(self.pages.len() as u64) as usize;
+        let len = self.pages.len();
+        let at = self.place_in(len);
         self.pages.iter().nth(at).map(|(name, leaf)| (*name, *leaf))
     }
 
     pub fn some_loan(&mut self) -> Option<u32> {
-        let at = self.below(self.loans.len() as u64) as usize;
+        let len = self.loans.len();
+        let at = self.place_in(len);
         self.loans.keys().nth(at).copied()
     }
 
@@ -144,18 +168,18 @@ impl World {
         held.saturating_add(bytes) <= self.reservation(client)
     }
 
-    /// The blocks that no page in memory and no loan has.
-    pub fn free(&self) -> u32 {
-        let mut used = 0u32;
+    /// The bytes that no page in memory and no loan has.
+    pub fn free(&self) -> u64 {
+        let mut used = 0u64;
         for page in self.pages.values() {
             if page.place != Place::Evicted {
-                used = used.saturating_add(page.blocks);
+                used = used.saturating_add(bytes_of(page.blocks));
             }
         }
         for lent in self.loans.values() {
-            used = used.saturating_add((lent.buf.len() / 64) as u32);
+            used = used.saturating_add(lent.buf.len() as u64);
         }
-        self.blocks.saturating_sub(used)
+        bytes_of(self.blocks).saturating_sub(used)
     }
 
     /// The slots of a session's quota that no page of it has.
@@ -256,7 +280,7 @@ impl World {
     /// While too few blocks are free, the page that has been clean longest goes out of memory.
     pub fn evict(&mut self, blocks: u32) {
         for _ in 0..256u32 {
-            if self.free() >= blocks || self.clean.is_empty() {
+            if self.free() >= bytes_of(blocks) || self.clean.is_empty() {
                 return;
             }
             let name = self.clean.remove(0);

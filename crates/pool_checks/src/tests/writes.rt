@@ -83,23 +83,26 @@ fn evicted(
     (page, older, newer)
 }
 
-#[test]
-fn a_pin_with_room_never_waits_for_another_clients_write(rt: HostRuntime) {
-    let slots = steps::slots(&rt, rt.alloc(), 3, &[]);
-    let mut pool = steps::open(&rt, rt.alloc(), 2, 0, slots);
-    let s = steps::session(&rt, &mut pool, 3);
-    let c = steps::client(&rt, &mut pool, s, 64);
-    let other = steps::client(&rt, &mut pool, s, 64);
-    let (page, older, newer) = evicted(&rt, rt.alloc(), &mut pool, &c, &other);
-    let flying = started(&rt, &mut pool);
-    match steps::pin_turn(&rt, &mut pool, s, 0, &page) {
-        PinTurn::Load(job) => match steps::read(&rt, &mut pool, 0, job) {
-            Ok(buf) => assert_eq!(rt; steps::front(&rt, &buf), 7),
+// The first client's page is loaded, with a 7 in front, while another's is written.
+fn load_beside(rt: &impl Abort, pool: &mut Pool, s: u32, page: &Page) {
+    let flying = started(rt, pool);
+    match steps::pin_turn(rt, pool, s, 0, page) {
+        PinTurn::Load(job) => match steps::read(rt, pool, 0, job) {
+            Ok(buf) => assert_eq!(rt; steps::front(rt, &buf), 7),
             Err(_) => panic!(rt; "no slot fails"),
         },
         _ => panic!(rt; "the page is out of memory, and there is room"),
     }
-    assert_eq!(rt; steps::write(&rt, &mut pool, flying), Wrote::Done(2));
+    assert_eq!(rt; steps::write(rt, pool, flying), Wrote::Done(2));
+}
+
+#[test]
+fn a_pin_with_room_never_waits_for_another_clients_write(rt: HostRuntime) {
+    let slots = steps::slots(&rt, rt.alloc(), 3, &[]);
+    let (mut pool, s, c) = steps::setting(&rt, rt.alloc(), 2, slots, 3, 64);
+    let other = steps::client(&rt, &mut pool, s, 64);
+    let (page, older, newer) = evicted(&rt, rt.alloc(), &mut pool, &c, &other);
+    load_beside(&rt, &mut pool, s, &page);
     page.into_name();
     older.into_name();
     newer.into_name();
