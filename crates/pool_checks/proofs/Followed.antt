@@ -1,5 +1,5 @@
 -- What a caller knows of a history that it follows, as the history grows.
-use Rattle.std.proofs.Common.{◌≡◌, ◌⊎◌, ℕ, ◌<◌, Bool, true, false, ◌||◌, List, [], ◌∷◌, ◌++◌, Option, Some, None, Result, Ok, IfOk, ◌×◌, replicate, T, refl, ap, sym, ◌∙◌, subst, inl, inr, arith}
+use Rattle.std.proofs.Common.{◌≡◌, ◌⊎◌, ℕ, ◌<◌, Bool, true, false, ◌||◌, List, [], ◌∷◌, ◌++◌, Option, Some, None, replicate, T, refl, ap, sym, ◌∙◌, subst, inl, inr, arith}
 use Rattle.std.specs.FinMap.{get}
 use Rattle.std.specs.List.{list_any}
 use Rattle.std.specs.Option.{option_or, option_and_then}
@@ -25,10 +25,8 @@ use Rattle.pin_core.specs.Returning.{EntersWhere, IsWritten, write_ends, write_e
 use Rattle.pin_core.specs.StateOf.{state_of}
 use Rattle.pin_core.specs.Standing.{Enters, StandsFor}
 use Rattle.pin_core.specs.declared.conf.PoolConf.{PoolConf}
-use Rattle.pin_core.specs.declared.room.RoomTurn.{RoomTurn}
-use Rattle.pin_core.specs.declared.room.RoomTurn.TheVariants.{Refused, Write}
 use Rattle.pin_core.specs.Setup.{IsOpeningOf, OpensWith}
-use Rattle.pin_core.specs.Turns.{IsStarted, LacksRoom, RoomAnswer, room_entries, room_slots, start_entry}
+use Rattle.pin_core.specs.Turns.{IsStarted, LacksRoom, start_entry}
 use Rattle.pool_checks.specs.Following.{HasCalled, HasStarted, Stands}
 
 any_before : {X : Type 0} (p : X → Bool) (xs ys : List X) → T (list_any p xs) → T (list_any p (xs ++ ys))
@@ -73,15 +71,16 @@ pub small : OpensWith (record { blocks = 2; block_len = 64; first_name = 0 })
 unfolding bytes_of
 small = record { block_len = refl; some = omega arith; blocks = omega arith; memory = omega arith }
 
+failure_there : {A : Type 0} (f : Session → Option A) (o : Option Session) (x : Session) (entry : A) → o ≡ Some x → option_and_then f o ≡ Some entry → f x ≡ Some entry
+failure_there f o x entry is found = sym (ap (option_and_then f) is) ∙ found
+
 module _ {D : Type 0} {slot : Ghosts D} where
   -- any call that enters something
   pub entered : {events : List Event} {gone come : List D} {old new : Parts D} → Enters slot events gone come old new → Stands slot old → Stands slot new
   entered {events} e s = record { opening = s.opening; history = s.history ++ events; stands = e.stands s.opening s.history s.stands }
 
-  pub opens : {E : Type 0} {conf : PoolConf} {count : ℕ} (r : Result (Parts D) E) (pool : Parts D) → r ≡ Ok pool
-      → IfOk r (λ p. (o : Opening) → IsOpeningOf conf count o → StandsFor slot o [] p) → Stands slot pool
-  opens {E} {conf} {count} r pool is all =
-      let told : (o : Opening) → IsOpeningOf conf count o → StandsFor slot o [] pool = subst (λ (z : Result (Parts D) E). IfOk z (λ p. (o : Opening) → IsOpeningOf conf count o → StandsFor slot o [] p)) is all in
+  pub opened_stands : {conf : PoolConf} {count : ℕ} {pool : Parts D} → ((o : Opening) → IsOpeningOf conf count o → StandsFor slot o [] pool) → Stands slot pool
+  opened_stands {conf} {count} told =
       let o : Opening = record { blocks = conf.blocks; block_len = conf.block_len; first_name = conf.first_name; slots = count; faults = 0; stores = 0 } in
       record { opening = o; history = []; stands = told o (record { blocks = refl; block_len = refl; first_name = refl; slots = refl }) }
 
@@ -93,7 +92,8 @@ module _ {D : Type 0} {slot : Ghosts D} where
     asked = now_called was.history s;
   }
 
-  started : {s c : ℕ} {gone come : List D} {old new : Parts D} (job : WriteJob D) → Enters slot (start_entry s job.id.name ∷ []) gone come old new → IsStarted slot s c job old new
+  -- a session that wants room started a write
+  pub started : {s c : ℕ} {gone come : List D} {old new : Parts D} (job : WriteJob D) → Enters slot (start_entry s job.id.name ∷ []) gone come old new → IsStarted slot s c job old new
       → HasCalled slot old s → HasStarted slot new s job
   started {s} {c} job e is was = record {
     opening = was.opening;
@@ -102,13 +102,6 @@ module _ {D : Type 0} {slot : Ghosts D} where
     asked = still_called was.history (start_entry s job.id.name) s refl was.asked;
     content = is.content was.opening was.history was.stands ∙ sym (content_stays was.opening was.history s job.id.name);
   }
-
-  -- a session that wants room starts a write
-  pub turn_starts : {s c bytes : ℕ} {old new : Parts D} (turn : RoomTurn D) (job : WriteJob D) → turn ≡ Write job → RoomAnswer slot old new s c bytes turn
-      → Enters slot (room_entries s turn) (room_slots turn) [] old new → HasCalled slot old s → HasStarted slot new s job
-  turn_starts {s} {c} {bytes} {old} {new} turn job is answer enters was =
-      started job (subst (λ (z : RoomTurn D). Enters slot (room_entries s z) (room_slots z) [] old new) is enters)
-      (subst (RoomAnswer slot old new s c bytes) is answer).1 was
 
   -- a write that failed
   pub unwritten : {s len : ℕ} {come : List D} {old new : Parts D} (job done : WriteJob D) → done.id ≡ job.id → done.buf ≡ job.buf → done.failed ≡ true
@@ -124,9 +117,6 @@ module _ {D : Type 0} {slot : Ghosts D} where
         });
         asked = still_called was.history (write_entry done 0 1) s (write_opens_none done.failed done.id.name 0 1) was.asked;
       }
-
-  failure_there : {A : Type 0} (f : Session → Option A) (o : Option Session) (x : Session) (entry : A) → o ≡ Some x → option_and_then f o ≡ Some entry → f x ≡ Some entry
-  failure_there f o x entry is found = sym (ap (option_and_then f) is) ∙ found
 
   -- a client that gives back what it lacks is refused for the failure that is noted
   may_refuse : {v : Parts D} {s c bytes entry : ℕ} → s < 240 → HasCalled slot v s → IsClientOf (state_of v) s c → LacksRoom (state_of v) s c bytes (Some entry)
@@ -152,9 +142,9 @@ module _ {D : Type 0} {slot : Ghosts D} where
     };
   }
 
-  pub turn_refuses : {s c bytes : ℕ} {old new : Parts D} (turn : RoomTurn D) (entry t : ℕ) → turn ≡ Refused entry → t ≡ c → RoomAnswer slot old new s c bytes turn
+  -- where the pool says so, and has not changed
+  pub turn_refuses : {s bytes entry : ℕ} (c t : ℕ) {old new : Parts D} → t ≡ c → LacksRoom (state_of old) s c bytes (Some entry) → new ≡ old
       → s < 240 → HasCalled slot old s → IsClientOf (state_of old) s c → MayEnter slot new (refusal_of s (GiveBack t bytes) entry)
-  turn_refuses {s} {c} {bytes} {old} {new} turn entry t is named answer low was own =
-      let told : LacksRoom (state_of old) s c bytes (Some entry) × (new ≡ old) = subst (RoomAnswer slot old new s c bytes) is answer in
-      subst (λ (z : Parts D). MayEnter slot z (refusal_of s (GiveBack t bytes) entry)) (sym told.1)
-      (subst (λ (k : ℕ). MayEnter slot old (refusal_of s (GiveBack k bytes) entry)) (sym named) (may_refuse low was own told.0))
+  turn_refuses {s} {bytes} {entry} c t {old} named lacks same low was own =
+      subst (λ (z : Parts D). MayEnter slot z (refusal_of s (GiveBack t bytes) entry)) (sym same)
+      (subst (λ (k : ℕ). MayEnter slot old (refusal_of s (GiveBack k bytes) entry)) (sym named) (may_refuse low was own lacks))
