@@ -10,8 +10,11 @@ mod area;
 mod finding;
 mod full;
 mod growing;
+mod hashing;
 mod inserting;
+mod laws;
 mod loans;
+mod looking;
 mod numbers;
 mod opening;
 mod parts;
@@ -19,8 +22,11 @@ mod rows;
 mod stride;
 mod table;
 mod walking;
+mod widening;
 
 pub use full::Full;
+pub use hashing::RowHash;
+pub use laws::law_table_stays;
 pub use table::BucketTable;
 
 #[cfg(test)]
