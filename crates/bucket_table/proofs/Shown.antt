@@ -1,7 +1,7 @@
 -- Rows of a chain that show some bytes: what is left to look at, node after node.
 use Rattle.std.proofs.Common.{◌≡◌, ◌≢◌, ℕ, ◌+◌, ◌<◌, ◌≤◌, List, [], ◌∷◌, length, Option, Some, None, IfSome, IsSome, Bool, true, false, refl, ap, sym, ◌∙◌, subst, inl, inr, arith}
-use Rattle.std.specs.Prelude.{bytes_eq, slice_get}
-use Rattle.std.proofs.lemmas.Bool.{and_from, and_left, and_right, cases_eq, eq-eqb, ne_eqb, false_from_ne_true, false≢true}
+use Rattle.std.specs.Prelude.{bytes_eq, ◌==◌}
+use Rattle.std.proofs.lemmas.Bool.{and_from, and_left, and_right, cases_eq, eq-eqb, eqb-true, ne_eqb, false_from_ne_true, false≢true}
 use Rattle.std.proofs.lemmas.Slice.Eq.{bytes_eq-Decides}
 use Rattle.bucket_table.specs.Tables.{Node, from_node, HasNode, first_row, newest_on, next_among, next_on_chain, part_of, row_of}
 use Rattle.bucket_table.specs.Looking.{newest_showing, shows_on}
@@ -141,11 +141,19 @@ module _ (k at : ℕ) (bytes : List ℕ) where
             ap (newest_showing k at bytes) past ∙ is_shown p older on_older (ap (λ (ns : List Node). part_of at (length bytes) (first_row ns)) (sym past) ∙ shown)
       ]
 
--- no bytes are shown by every row
-pub none_sought : (k at : ℕ) (nodes : List Node) → newest_showing k at [] nodes ≡ newest_on k nodes
-none_sought k at [] = refl
-none_sought k at (n ∷ older) =
+-- ---- no bytes are shown by every row
+
+empty_is : (bytes : List ℕ) → (length bytes == 0) ≡ true → bytes ≡ []
+empty_is [] is = refl
+empty_is (b ∷ bytes) is = absurd (let none = eqb-true (length (b ∷ bytes)) 0 is in omega (arith, none))
+
+all_shown : (k at : ℕ) (nodes : List Node) → newest_showing k at [] nodes ≡ newest_on k nodes
+all_shown k at [] = refl
+all_shown k at (n ∷ older) =
     elim (cases_eq n.chain k) [
       | inl same ↦ showing_here k at [] n older (and_from _ _ (eq-eqb n.chain k same) refl) ∙ sym (newest_here k n older same)
-      | inr other ↦ showing_past k at [] n older (and_left _ _ (ne_eqb n.chain k other)) ∙ none_sought k at older ∙ sym (newest_past k n older other)
+      | inr other ↦ showing_past k at [] n older (and_left _ _ (ne_eqb n.chain k other)) ∙ all_shown k at older ∙ sym (newest_past k n older other)
     ]
+
+pub none_sought : (k at : ℕ) (bytes : List ℕ) (nodes : List Node) → (length bytes == 0) ≡ true → newest_showing k at bytes nodes ≡ newest_on k nodes
+none_sought k at bytes nodes none = ap (λ (bs : List ℕ). newest_showing k at bs nodes) (empty_is bytes none) ∙ all_shown k at nodes

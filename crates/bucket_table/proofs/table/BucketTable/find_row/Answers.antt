@@ -1,14 +1,15 @@
-use Rattle.std.proofs.Common.{◌≡◌, ◌≢◌, ◌%◌, ◌<◌, ℕ, List, [], Option, Some, length, ap, sym, ◌∙◌, subst, true, false}
+use Rattle.std.proofs.Common.{◌%◌, ◌<◌, ℕ, Option, Some, None, length, sym, ◌∙◌, subst}
 use Rattle.std.proofs.lemmas.Bool.{iff_false}
-use Rattle.std.proofs.lemmas.List.{length-zero}
-use Rattle.bucket_table.specs.Tables.{Table, next_on_chain, part_of, row_of}
-use Rattle.bucket_table.specs.Looking.{newest_showing}
+use Rattle.bucket_table.specs.Tables.{Table}
 use Rattle.bucket_table.specs.Threads.{AreNodes}
-use Rattle.bucket_table.proofs.Shown.{IsOn, Leaves, begins, goes_on, is_shown, none_sought, rest_from}
+use Rattle.bucket_table.proofs.Shown.{Leaves, begins, goes_on, is_shown, none_sought, rest_from}
 use Rattle.bucket_table.proofs.table.BucketTable.find_row.Goals as goal
 
 pub returns-then-is_empty-clause-value : goal.returns-then-is_empty-clause-value
-returns-then-is_empty-clause-value c = ?
+returns-then-is_empty-clause-value c =
+    let table = c.args.self.now in
+    let k = c.args.hash % table.heads in
+    c.find_first-next.ensures.value ∙ sym (none_sought k c.args.at c.args.bytes.now table.nodes (sym c.is_empty.ensures ∙ c.if-is_empty.true))
 
 pub loop-next-init : goal.loop-next-init
 loop-next-init c =
@@ -47,4 +48,8 @@ loop-next-preserved c =
     subst (λ (next : Option ℕ). Leaves k c.args.at c.args.bytes.now next table.nodes table.nodes) (sym c.look_at-look.ensures.next) (record { same = inv.same ∙ on.0.same; on = on.0.on })
 
 pub returns-clause-value : goal.returns-clause-value
-returns-clause-value c = ?
+returns-clause-value c =
+    let table = c.args.self.now in
+    let k = c.args.hash % table.heads in
+    let inv : Leaves k c.args.at c.args.bytes.now None table.nodes table.nodes = subst (λ (next : Option ℕ). Leaves k c.args.at c.args.bytes.now next table.nodes table.nodes) c.in_default.is c.loop-next.invariant in
+    sym inv.same
