@@ -15,5 +15,6 @@ pub mod TheRow
 pub mod Opened
 pub mod Shown
 pub mod Spelling
+pub mod Standing
 pub mod Threaded
 pub mod Views
