@@ -13,6 +13,7 @@ pub mod Marks
 pub mod Nodes
 pub mod TheRow
 pub mod Opened
+pub mod Rethreaded
 pub mod Shown
 pub mod Spelling
 pub mod Standing

@@ -2,6 +2,7 @@ pub mod Filling
 pub mod Lending
 pub mod Looking
 pub mod Regions
+pub mod Rethreading
 pub mod Staying
 pub mod Tables
 pub mod Threads

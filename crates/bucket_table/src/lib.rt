@@ -21,6 +21,7 @@ mod parts;
 mod rows;
 mod stride;
 mod table;
+mod threading;
 mod walking;
 mod widening;
 
