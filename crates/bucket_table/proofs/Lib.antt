@@ -1,6 +1,7 @@
 pub mod Beside
 pub mod Changed
 pub mod Cuts
+pub mod Doubled
 pub mod Emptied
 pub mod Filled
 pub mod Grown

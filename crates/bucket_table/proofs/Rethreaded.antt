@@ -9,11 +9,11 @@ use Rattle.bucket_table.specs.Tables.{Node, new_node, used_by}
 use Rattle.bucket_table.specs.Regions.{Region, cut, link_at, with_bytes}
 use Rattle.bucket_table.specs.Threads.{IsTable, nodes_in}
 use Rattle.bucket_table.specs.Widening.{rechained}
-use Rattle.bucket_table.specs.Rethreading.{HasRows, Rethreads}
+use Rattle.bucket_table.specs.Rethreading.{AreRows, HasRows, Rethreads}
 use Rattle.bucket_table.proofs.Cuts.{cut_behind}
 use Rattle.bucket_table.proofs.Emptied.{empty_table}
 use Rattle.bucket_table.proofs.Inserted.{inserted}
-use Rattle.bucket_table.proofs.Standing.{AreRows, IsNext, next_row, rows_kept, rows_of, walked_all}
+use Rattle.bucket_table.proofs.Standing.{IsNext, next_row, rows_kept, walked_all}
 
 used_same : (hash : List ℕ → ℕ) (heads : ℕ) (nodes : List Node) → used_by (map (rechained hash heads) nodes) ≡ used_by nodes
 used_same hash heads [] = refl
@@ -40,13 +40,12 @@ pub record Rethreading (hash : List ℕ → ℕ) (heads at : ℕ) (all : List No
   pub nodes : nodes_in heads links_now.bytes area_now.bytes ≡ map (rechained hash heads) (drop left all)
 
 -- the heads were made zero
-pub threads_none : (hash : List ℕ → ℕ) (heads was used most : ℕ) (links area links_now : Region) → HasRows was used most links area → 0 < heads → 4 * heads ≤ length links.bytes → 4 * heads < 2 ^ 32 → links_now ≡ with_bytes (replicate (length links.bytes) 0) links
-    → Rethreading hash heads 0 (nodes_in was links.bytes area.bytes) links area links_now area
-threads_none hash heads was used most links area links_now is some sized few zeros =
-    let all : List Node = nodes_in was links.bytes area.bytes in
+pub threads_none : (hash : List ℕ → ℕ) (heads used most : ℕ) (all : List Node) (links area links_now : Region) → HasRows all used most area.bytes → 0 < heads → 4 * heads ≤ length links.bytes → 4 * heads < 2 ^ 32 → links_now ≡ with_bytes (replicate (length links.bytes) 0) links
+    → Rethreading hash heads 0 all links area links_now area
+threads_none hash heads used most all links area links_now is some sized few zeros =
     let none : drop (length all) all ≡ [] = drop_all (length all) all (omega arith) in
     let bytes : links_now.bytes ≡ replicate (length links.bytes) 0 = ap (λ (r : Region). r.bytes) zeros in
-    let empty = empty_table heads (length links.bytes) area.bytes sized some few is.table.short in
+    let empty = empty_table heads (length links.bytes) area.bytes sized some few is.short in
     record {
       left = length all;
       few = omega arith;
@@ -54,37 +53,34 @@ threads_none hash heads was used most links area links_now is some sized few zer
       heads_same = zeros ∙ ap (λ (b : List ℕ). with_bytes b links) (sym bytes);
       rows_same = refl;
       long = refl;
-      rows = rows_of was area.bytes all is.table.threaded.stand;
+      rows = is.stand;
       table = subst (λ (b : List ℕ). IsTable heads 0 b area.bytes) (sym bytes) empty.0;
       nodes = ap (λ (b : List ℕ). nodes_in heads b area.bytes) bytes ∙ empty.1 ∙ sym (ap (map (rechained hash heads)) none);
     }
 
-module _ (hash : List ℕ → ℕ) (heads was used most at : ℕ) (links area links_now area_now : Region) (is : HasRows was used most links area) (now : Rethreading hash heads at (nodes_in was links.bytes area.bytes) links area links_now area_now) where
-  abbrev rows : List Node
-  rows = nodes_in was links.bytes area.bytes
-
-  pub still_ends : used_by rows ≤ length area_now.bytes
-  still_ends = omega (arith, is.table.threaded.inside, now.long)
+module _ (hash : List ℕ → ℕ) (heads used most at : ℕ) (all : List Node) (links area links_now area_now : Region) (is : HasRows all used most area.bytes) (now : Rethreading hash heads at all links area links_now area_now) where
+  pub still_ends : used_by all ≤ length area_now.bytes
+  still_ends = omega (arith, is.inside, is.used_is, now.long)
 
   -- while it isn't at the end, a row is ahead
-  pub ahead : at < used → IsNext area_now.bytes rows now.left at
-  ahead more = next_row area_now.bytes rows now.left at now.rows now.few now.is_at (omega (arith, more, is.table.used_is))
+  pub ahead : at < used → IsNext area_now.bytes all now.left at
+  ahead more = next_row area_now.bytes all now.left at now.rows now.few now.is_at (omega (arith, more, is.used_is))
 
   pub fits : (more : at < used) → length (ahead more).node.row ≤ most
   fits more = subst (λ (n : Node). length n.row ≤ most) (sym (ahead more).is_at) (is.fits (ahead more).before (ahead more).node (ahead more).within)
 
   -- and at the end all rows are on their new chains
-  pub threads_all : used ≤ at → Rethreads hash was heads used links area links_now area_now
+  pub threads_all : used ≤ at → Rethreads hash all heads used links area links_now area_now
   threads_all end =
-      let none : now.left ≡ 0 = walked_all area_now.bytes rows now.left at now.rows now.few now.is_at (omega (arith, end, is.table.used_is)) in
-      let all : drop now.left rows ≡ rows = ap (λ (k : ℕ). drop k rows) none in
-      let is_used : at ≡ used = now.is_at ∙ ap used_by all ∙ sym is.table.used_is in
+      let none : now.left ≡ 0 = walked_all area_now.bytes all now.left at now.rows now.few now.is_at (omega (arith, end, is.used_is)) in
+      let whole : drop now.left all ≡ all = ap (λ (k : ℕ). drop k all) none in
+      let is_used : at ≡ used = now.is_at ∙ ap used_by whole ∙ sym is.used_is in
       record {
-        heads = now.heads_same;
-        rows = now.rows_same;
+        heads_same = now.heads_same;
+        rows_same = now.rows_same;
         long = now.long;
         table = subst (λ (k : ℕ). IsTable heads k links_now.bytes area_now.bytes) is_used now.table;
-        nodes = now.nodes ∙ ap (map (rechained hash heads)) all;
+        nodes = now.nodes ∙ ap (map (rechained hash heads)) whole;
       }
 
 module _ (hash : List ℕ → ℕ) (heads at hashed : ℕ) (all : List Node) (links area a b c d : Region) (some : 0 < heads) (was : Rethreading hash heads at all links area a b) (next : IsNext b.bytes all was.left at) (hash_is : hashed ≡ hash next.node.row) (ends : used_by all ≤ length b.bytes)

@@ -1,25 +1,16 @@
 -- Rows that stand in bytes one behind the other, whatever links stand between them, and a walk over them from the oldest
 -- one on.
 use Rattle.std.proofs.Common.{◌≡◌, ℕ, zero, suc, ◌+◌, ◌<◌, ◌≤◌, List, [], ◌∷◌, drop, get_or, length, refl, ap, sym, ◌∙◌, subst, arith}
-use Rattle.std.specs.Prelude.{All, ⊤}
-use Rattle.std.proofs.lemmas.List.{drop_more}
+use Rattle.std.specs.Prelude.{All}
+use Rattle.std.proofs.lemmas.List.{drop_all, drop_more}
 use Rattle.std.proofs.lemmas.List.Elements.{All-cons}
 use Rattle.block_arena.specs.Bytes.{written}
 use Rattle.bucket_table.specs.Tables.{Node, IsFramed, used_by}
 use Rattle.bucket_table.specs.Regions.{cut, link_at}
+use Rattle.bucket_table.specs.Rethreading.{AreRows}
 use Rattle.bucket_table.specs.Threads.{AreNodes}
 use Rattle.bucket_table.proofs.Cuts.{cut_before, cut_behind}
 use Rattle.bucket_table.proofs.Nodes.{framed_head, framed_long}
-
--- the newest row stands behind the older ones
-pub record IsRow (area : List ℕ) (n : Node) (older : List Node) : Type 0 where
-  pub place : n.place ≡ used_by older
-  pub framed : IsFramed n.row
-  pub row : cut (n.place + 4) (length n.row) area ≡ n.row
-
-abbrev pub AreRows : List ℕ → List Node → Type 0
-AreRows area [] = ⊤
-AreRows area (n ∷ older) = IsRow area n older × AreRows area older
 
 pub rows_of : (heads : ℕ) (area : List ℕ) (nodes : List Node) → AreNodes heads area nodes → AreRows area nodes
 rows_of heads area [] are = tt
@@ -135,7 +126,32 @@ rows_kept p piece area (suc i) n (m ∷ nodes) older long inside cuts place are 
 
 -- ---- the longest row
 
-pub fits_more : (most now : ℕ) (area : List ℕ) (nodes : List Node) (left at : ℕ) → (is : IsNext area nodes left at) → most ≤ now → length is.node.row ≤ now → All (λ (n : Node). length n.row ≤ most) (drop left nodes) → All (λ (n : Node). length n.row ≤ now) (drop is.before nodes)
-fits_more most now area nodes left at is more fits all =
-    subst (All (λ (n : Node). length n.row ≤ now)) (sym is.cuts)
-    (All-cons (λ (n : Node). length n.row ≤ now) is.node (drop left nodes) fits (λ k d within. (let before = all k d within in omega (arith, before, more))))
+-- none of the rows that a walk has passed is longer than this
+pub record Passing (most at : ℕ) (nodes : List Node) : Type 0 where
+  pub left : ℕ
+  pub few : left ≤ length nodes
+  pub is_at : at ≡ used_by (drop left nodes)
+  pub fits : All (λ n. length n.row ≤ most) (drop left nodes)
+
+pub passes_none : (nodes : List Node) → Passing 0 0 nodes
+passes_none nodes =
+    let none : drop (length nodes) nodes ≡ [] = drop_all (length nodes) nodes (omega arith) in
+    record {
+      left = length nodes;
+      few = omega arith;
+      is_at = sym (ap used_by none);
+      fits = subst (All (λ n. length n.row ≤ 0)) (sym none) (λ k d within. absurd (omega (arith, within)));
+    }
+
+pub passes_one : (most now at : ℕ) (area : List ℕ) (nodes : List Node) → (was : Passing most at nodes) → (next : IsNext area nodes was.left at) → most ≤ now → length next.node.row ≤ now → Passing now (at + 4 + length next.node.row) nodes
+passes_one most now at area nodes was next more fits = record {
+  left = next.before;
+  few = omega (arith, next.within);
+  is_at = next.ends;
+  fits = subst (All (λ n. length n.row ≤ now)) (sym next.cuts)
+      (All-cons (λ n. length n.row ≤ now) next.node (drop was.left nodes) fits (λ k d within. (let before = was.fits k d within in omega (arith, before, more))));
+}
+
+pub passes_all : (most at : ℕ) (area : List ℕ) (nodes : List Node) → AreRows area nodes → Passing most at nodes → used_by nodes ≤ at → All (λ n. length n.row ≤ most) nodes
+passes_all most at area nodes are now end =
+    subst (λ (k : ℕ). All (λ n. length n.row ≤ most) (drop k nodes)) (walked_all area nodes now.left at are now.few now.is_at end) now.fits

@@ -1,8 +1,9 @@
 //! Rows are put on their chains.
-ghost use Rattle.std.specs.Prelude.{◌≡◌, ◌+◌, ◌*◌, ◌%◌, ◌^◌, ◌<◌, ◌≤◌, ℕ, length};
+ghost use Rattle.std.specs.Prelude.{◌≡◌, ◌+◌, ◌*◌, ◌%◌, ◌^◌, ◌<◌, ◌≤◌, List, length};
 ghost use Rattle.std.specs.Int.{w32, to_be_bytes};
 ghost use Rattle.block_arena.specs.Bytes.{written};
 ghost use Rattle.bucket_table.specs.Regions.{cut, link_at, with_bytes};
+ghost use Rattle.bucket_table.specs.Tables.{Node};
 ghost use Rattle.bucket_table.specs.Rethreading.{HasRows, Rethreads};
 
 use crate::area::Area;
@@ -57,10 +58,10 @@ pub(crate) fn rethread<H: RowHash>(
     hasher: &H,
     scratch: &mut [u8],
 )
-    requires rows { (was : ℕ) × HasRows was used (length scratch.old) heads.old nodes.old }
+    requires rows { (rows : List Node) × HasRows rows used (length scratch.old) nodes.old.bytes }
     requires heads { 4 * chains.len ≤ length heads.old.bytes }
     requires few { 4 * chains.len < 2 ^ 32 }
-    ensures { (was : ℕ) → HasRows was used (length scratch.old) heads.old nodes.old → Rethreads (H.hash hasher.now) was chains.len used heads.old nodes.old heads.new nodes.new }
+    ensures { (rows : List Node) → HasRows rows used (length scratch.old) nodes.old.bytes → Rethreads (H.hash hasher.now) rows chains.len used heads.old nodes.old heads.new nodes.new }
 {
     heads.zero();
     let mut node = 0;
