@@ -20,3 +20,4 @@ pub mod Spelling
 pub mod Standing
 pub mod Threaded
 pub mod Views
+pub mod Widened
