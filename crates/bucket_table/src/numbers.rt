@@ -19,11 +19,35 @@ pub(crate) fn spelled(bytes: &[u8]) -> u32
     u32::from_be_bytes(out)
 }
 
+// The number that sixteen bytes spell.
+#[inline]
+#[tactic(auto, using(crate::proofs::Spelling::number_of_16))]
+fn spelled_wide(bytes: &[u8]) -> u128
+    requires { length bytes.now ≡ 16 }
+    ensures { result ≡ number_in bytes.now }
+{
+    let mut out = [0; 16];
+    out.copy_from_slice(bytes);
+    u128::from_be_bytes(out)
+}
+
 impl Area {
     // The number of four bytes.
     #[inline]
-    #[tactic(auto, using(crate::proofs::Spelling::number_of_4))]
     pub(crate) fn link(&self, at: usize) -> u32
+        requires { at + 4 ≤ length self.now.bytes }
+        ensures { result ≡ link_at self.now.bytes at }
+    {
+        match self.piece(at, 4) {
+            Some(bytes) => spelled(bytes),
+            None => self.link_across(at),
+        }
+    }
+
+    // The same, of bytes that may lie in two blocks.
+    #[inline(never)]
+    #[tactic(auto, using(crate::proofs::Spelling::number_of_4))]
+    fn link_across(&self, at: usize) -> u32
         requires { at + 4 ≤ length self.now.bytes }
         ensures { result ≡ link_at self.now.bytes at }
     {
@@ -42,8 +66,20 @@ impl Area {
 
     // The number of sixteen bytes.
     #[inline]
-    #[tactic(auto, using(crate::proofs::Spelling::number_of_16))]
     pub(crate) fn wide(&self, at: usize) -> u128
+        requires { at + 16 ≤ length self.now.bytes }
+        ensures { result ≡ number_in (cut at 16 self.now.bytes) }
+    {
+        match self.piece(at, 16) {
+            Some(bytes) => spelled_wide(bytes),
+            None => self.wide_across(at),
+        }
+    }
+
+    // The same, of bytes that may lie in two blocks.
+    #[inline(never)]
+    #[tactic(auto, using(crate::proofs::Spelling::number_of_16))]
+    fn wide_across(&self, at: usize) -> u128
         requires { at + 16 ≤ length self.now.bytes }
         ensures { result ≡ number_in (cut at 16 self.now.bytes) }
     {
