@@ -188,7 +188,7 @@ impl Area {
     }
 
     // Writes bytes from a place on. They may lie in several loans.
-    #[inline]
+    #[inline(always)]
     pub(crate) fn write(&mut self, at: usize, bytes: &[u8])
         requires some { 0 < length bytes.now }
         requires inside { at + length bytes.now ≤ length self.old.bytes }
@@ -212,7 +212,7 @@ impl Area {
     }
 
     // Writes bytes that lie in one loan.
-    #[inline]
+    #[inline(always)]
     fn write_in_part(&mut self, at: usize, bytes: &[u8])
         requires some { 0 < length bytes.now }
         requires inside { at + length bytes.now ≤ length self.old.bytes }

@@ -48,10 +48,20 @@ impl BucketTable {
         let count = end.max(4).saturating_add(4);
         match self.nodes.piece(node as usize, count) {
             Some(front) => look_in(front, at, end, bytes),
-            None => Look {
-                next: self.find_next(node),
-                shows: self.shows_at(node, at, bytes),
-            },
+            None => self.look_across(node, at, bytes),
+        }
+    }
+
+    // The same, of a node that may lie in several blocks.
+    #[inline(never)]
+    fn look_across(&self, node: u32, at: usize, bytes: &[u8]) -> Look
+        requires { HasNode node self.now.nodes }
+        ensures next { result.next ≡ next_on_chain node self.now.nodes }
+        ensures shows { result.shows ≡ true ↔ (part_of at (length bytes.now) (row_of node self.now.nodes) ≡ bytes.now) }
+    {
+        Look {
+            next: self.find_next(node),
+            shows: self.shows_at(node, at, bytes),
         }
     }
 

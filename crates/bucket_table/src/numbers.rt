@@ -31,6 +31,19 @@ fn spelled_wide(bytes: &[u8]) -> u128
     u128::from_be_bytes(out)
 }
 
+// The sixteen bytes that spell a number, in two halves, which are turned round by one instruction each.
+#[inline]
+fn spelling_of(value: u128) -> [u8; 16]
+    ensures { result ≡ to_be_bytes w128 value }
+{
+    let high = ((value >> 64) as u64).to_be_bytes();
+    let low = ((value % (1 << 64)) as u64).to_be_bytes();
+    let mut out = [0; 16];
+    out[..8].copy_from_slice(&high);
+    out[8..].copy_from_slice(&low);
+    out
+}
+
 impl Area {
     // The number of four bytes.
     #[inline]
@@ -88,12 +101,11 @@ impl Area {
         u128::from_be_bytes(out)
     }
 
-    #[inline]
+    #[inline(always)]
     pub(crate) fn set_wide(&mut self, at: usize, value: u128)
         requires { at + 16 ≤ length self.old.bytes }
         ensures { self.new ≡ with_bytes (written at (to_be_bytes w128 value) self.old.bytes) self.old }
     {
-        let bytes = value.to_be_bytes();
-        self.write(at, &bytes);
+        self.write(at, &spelling_of(value));
     }
 }
