@@ -1,15 +1,18 @@
 -- A table that got more chains.
-use Rattle.std.proofs.Common.{◌≡◌, ◌≢◌, ℕ, ◌+◌, ◌*◌, ◌<◌, ◌≤◌, List, [], ◌∷◌, ◌++◌, map, length, refl, ap, sym, ◌∙◌, subst, arith}
+use Rattle.std.proofs.Common.{◌≡◌, ◌≢◌, ℕ, ◌+◌, ◌*◌, ◌<◌, ◌≤◌, List, [], ◌∷◌, ◌++◌, map, None, length, refl, ap, sym, ◌∙◌, subst, arith}
 use Rattle.std.specs.Prelude.{All}
-use Rattle.store_api.specs.Holdings.{Holdings}
-use Rattle.bucket_table.specs.Tables.{Lent, Node, Table}
+use Rattle.std.proofs.lemmas.List.Elements.{All-append}
+use Rattle.store_api.specs.Alike.{Alike}
+use Rattle.store_api.specs.Holdings.{Holdings, account_of, unused_of}
+use Rattle.bucket_table.specs.Tables.{Lent, Table, with_nodes}
 use Rattle.bucket_table.specs.Filling.{Doubles}
-use Rattle.bucket_table.specs.Lending.{AreHeld, IsTableOf, Lends, bytes_of}
+use Rattle.bucket_table.specs.Lending.{IsTableOf, Lends, bytes_of, loans_of}
 use Rattle.bucket_table.specs.Regions.{Region}
 use Rattle.bucket_table.specs.Rethreading.{HasRows, Rethreads}
 use Rattle.bucket_table.specs.Threads.{IsLaid, client_in, nodes_in, table_of}
 use Rattle.bucket_table.specs.Widening.{Widened, rechained}
-use Rattle.bucket_table.proofs.Held.{held_more, held_swap}
+use Rattle.bucket_table.proofs.Held.{held_more, held_of, held_swap}
+use Rattle.bucket_table.proofs.Lent.{All-split, bytes-append, lends_same, lends_trans}
 use Rattle.bucket_table.proofs.Standing.{rows_of}
 
 -- the rows of a table, for whoever moves them
@@ -71,6 +74,44 @@ module _ (t heads chains used : ℕ) (hash : List ℕ → ℕ) (links area links
     bytes = came.more ∙ sym came.bytes;
     lends = subst (λ (k : ℕ). Lends k came.fills.more old new) client came.fills.lends;
   }
+
+-- ---- what it was lent comes back when it ends
+
+loans_in_order : (a b c : List Lent) (P : Lent → Type 0) → All P ((a ++ c) ++ b) → All P ((a ++ b) ++ c)
+loans_in_order a b c P all =
+    let outer = All-split P (a ++ c) b all in
+    let inner = All-split P a c outer.0 in
+    All-append P (a ++ b) c (All-append P a b inner.0 outer.1) inner.1
+
+lends_swap : (t : ℕ) (a b c : List Lent) (x y : Holdings) → Lends t ((a ++ b) ++ c) x y → Lends t ((a ++ c) ++ b) x y
+lends_swap t a b c x y is =
+    let held = held_swap t a b c y (held_of t ((a ++ b) ++ c) x y is) in
+    let bytes : bytes_of ((a ++ b) ++ c) ≡ bytes_of ((a ++ c) ++ b) =
+    (let one = bytes-append (a ++ b) c in let two = bytes-append a b in let three = bytes-append (a ++ c) b in let four = bytes-append a c in omega (arith, one, two, three, four))
+    in
+    record {
+      rest = is.rest;
+      was = is.was;
+      is = is.is;
+      charged = is.charged ∙ ap (λ (n : ℕ). record (account_of t y) { unused = unused_of t y + n }) bytes;
+      clients = is.clients;
+      others = λ q apart. is.others q (loans_in_order a b c (λ l. l.number ≢ q) apart);
+      fresh = loans_in_order a c b (λ l. x.loans l.number ≡ None) is.fresh;
+      own = held.own;
+      apart = held.apart;
+    }
+
+-- a table that was opened, got rows and more chains, and other rows, and then ended
+pub widened_closed : (t : ℕ) (hash : List ℕ → ℕ) (table first wide last : Table) (old mid more new : Holdings) → table.client ≡ t → first ≡ with_nodes first.nodes table → Widened hash first wide mid more → last ≡ with_nodes last.nodes wide → Lends t (loans_of table) old mid → Lends last.client (loans_of last) new more → Alike old new
+widened_closed t hash table first wide last old mid more new client rows came same lent back =
+    let owner : first.client ≡ t = ap (λ (x : Table). x.client) rows ∙ client in
+    let lent_first : Lends t (loans_of first) old mid = subst (λ (loans : List Lent). Lends t loans old mid) (sym (ap loans_of rows)) lent in
+    let came_more : Lends t came.loans mid more = subst (λ (k : ℕ). Lends k came.loans mid more) owner came.lends in
+    let all : Lends t ((first.head_loans ++ came.loans) ++ first.node_loans) old more = lends_swap t first.head_loans first.node_loans came.loans old more (lends_trans t (loans_of first) came.loans old mid more lent_first came_more) in
+    let there : Lends wide.client (loans_of wide) new more = subst (λ (x : Table). Lends x.client (loans_of x) new more) same back in
+    let wide_owner : wide.client ≡ t = ap (λ (x : Table). x.client) came.table ∙ owner in
+    lends_same t ((first.head_loans ++ came.loans) ++ first.node_loans) old more new all
+    (subst (λ (k : ℕ). Lends k ((first.head_loans ++ came.loans) ++ first.node_loans) new more) wide_owner (subst (λ (ls : List Lent). Lends wide.client ls new more) (ap loans_of came.table) there))
 
 -- it is still one of its store
 pub widened_held : (hash : List ℕ → ℕ) (was now : Table) (old new : Holdings) → IsTableOf was old → Widened hash was now old new → IsTableOf now new
