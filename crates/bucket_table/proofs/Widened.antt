@@ -101,6 +101,24 @@ lends_swap t a b c x y is =
       apart = held.apart;
     }
 
+-- stores that hold the same number by number hold the same
+pub alike_same : (old new : Holdings) → Alike old new → new ≡ old
+alike_same old new is = λ i. record {
+  block_len = is.rest.block_len i;
+  session = is.rest.session i;
+  query = is.rest.query i;
+  limit = is.rest.limit i;
+  reservation = is.reservation i;
+  room = is.room i;
+  above = is.above i;
+  live_clients = is.rest.live_clients i;
+  clients = λ q. is.clients q i;
+  pages = λ q. is.rest.pages q i;
+  loans = λ q. is.rest.loans q i;
+  free_slots = is.rest.free_slots i;
+  told = is.rest.told i;
+}
+
 -- a table that was opened, got rows and more chains, and other rows, and then ended
 pub widened_closed : (t : ℕ) (hash : List ℕ → ℕ) (table first wide last : Table) (old mid more new : Holdings) → table.client ≡ t → first ≡ with_nodes first.nodes table → Widened hash first wide mid more → last ≡ with_nodes last.nodes wide → Lends t (loans_of table) old mid → Lends last.client (loans_of last) new more → Alike old new
 widened_closed t hash table first wide last old mid more new client rows came same lent back =
