@@ -35,10 +35,10 @@ beside_others table client old new others other is =
     let own = others.others table.client other in
     stays table old new others.block_len (subst IsSome (sym own.account) is.held.lives)
     (λ k d within.
-      (let l : Lent = get_or (loans_of table) k d in
-      let here : IsOwn table.client old l = is.held.own k d within in
-      let was : old.loans l.number ≡ Some (or_else no_loan (old.loans l.number)) = some_loan (old.loans l.number) here.lives in
-      (own.loans l.number (or_else no_loan (old.loans l.number)) here.held).1 was ∙ sym was)) is
+    (let l : Lent = get_or (loans_of table) k d in
+    let here : IsOwn table.client old l = is.held.own k d within in
+    let was : old.loans l.number ≡ Some (or_else no_loan (old.loans l.number)) = some_loan (old.loans l.number) here.lives in
+    (own.loans l.number (or_else no_loan (old.loans l.number)) here.held).1 was ∙ sym was)) is
 
 -- a live client of a store that lent and got back loans is still live
 lives_more : (t q : ℕ) (loans : List Lent) (less more : Holdings) → Lends t loans less more → IsSome (less.clients q) → IsSome (more.clients q)
@@ -59,7 +59,7 @@ pub beside_more : (table : Table) (t : ℕ) (more : List Lent) (old new : Holdin
 beside_more table t more old new came is =
     stays table old new (ap (λ (h : Holdings). h.block_len) came.rest) (lives_more t table.client more old new came is.held.lives)
     (λ k d within. came.others (get_or (loans_of table) k d).number
-      (λ j e inside same. false≢true (subst IsSome (came.fresh j e inside) (subst (λ (n : ℕ). IsSome (old.loans n)) (sym same) (is.held.own k d within).lives)))) is
+    (λ j e inside same. false≢true (subst IsSome (came.fresh j e inside) (subst (λ (n : ℕ). IsSome (old.loans n)) (sym same) (is.held.own k d within).lives)))) is
 
 pub beside_fewer : (table : Table) (t : ℕ) (gone : List Lent) (old new : Holdings) → Lends t gone new old → All (λ l. IsApart l.number gone) (loans_of table) → IsTableOf table old → IsTableOf table new
 beside_fewer table t gone old new went apart is =

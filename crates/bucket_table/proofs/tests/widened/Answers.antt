@@ -1,6 +1,6 @@
-use Rattle.std.proofs.Common.{◌≡◌, ◌≤◌, ◌<◌, ◌+◌, ◌*◌, ◌^◌, ℕ, List, ap, sym, ◌∙◌, subst, arith}
+use Rattle.std.proofs.Common.{◌≡◌, ◌≤◌, ◌<◌, ◌+◌, ◌*◌, ◌^◌, ℕ, ap, sym, ◌∙◌, subst, arith}
 use Rattle.store_api.specs.Holdings.{Account, Holdings, unused_of}
-use Rattle.bucket_table.specs.Tables.{Lent, Table, with_nodes}
+use Rattle.bucket_table.specs.Tables.{Table, with_nodes}
 use Rattle.bucket_table.specs.Lending.{IsOpened, Lends, bytes_of, loans_of}
 use Rattle.bucket_table.proofs.Opened.{closed_again}
 use Rattle.bucket_table.proofs.Widened.{alike_same, widened_closed}

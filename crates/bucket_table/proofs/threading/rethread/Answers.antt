@@ -1,4 +1,4 @@
-use Rattle.std.proofs.Common.{◌≡◌, ◌≤◌, ◌<◌, ◌+◌, ◌*◌, ◌%◌, ◌^◌, ℕ, List, length, refl, ap, sym, ◌∙◌, subst, arith}
+use Rattle.std.proofs.Common.{◌≡◌, ◌+◌, ℕ, length, refl, ap, ◌∙◌, subst, arith}
 use Rattle.bucket_table.specs.Regions.{cut}
 use Rattle.bucket_table.proofs.Rethreaded.{Rethreading, ahead, fits, still_ends, threads_all, threads_none, threads_one}
 use Rattle.bucket_table.proofs.threading.rethread.Goals as goal

@@ -1,8 +1,6 @@
-use Rattle.std.proofs.Common.{◌≡◌, ◌≤◌, ◌<◌, ◌+◌, ◌*◌, ◌^◌, ℕ, length, sym, ◌∙◌, arith}
+use Rattle.std.proofs.Common.{◌≡◌, length, sym, ◌∙◌, arith}
 use Rattle.std.proofs.lemmas.List.{length-map}
-use Rattle.store_api.specs.Holdings.{unused_of}
 use Rattle.store_api.proofs.Growing.{grows_trans}
-use Rattle.bucket_table.specs.Lending.{bytes_of}
 use Rattle.bucket_table.specs.Regions.{lent}
 use Rattle.bucket_table.proofs.Doubled.{alike_back, doubled, has_bytes, held_now, region_back}
 use Rattle.bucket_table.proofs.Held.{short_after}

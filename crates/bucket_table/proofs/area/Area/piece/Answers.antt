@@ -1,8 +1,7 @@
-use Rattle.std.proofs.Common.{◌≡◌, ◌≤◌, ◌<◌, ◌+◌, ◌/◌, ◌%◌, ℕ, zero, suc, ◌*◌, ◌^◌, List, IfSome, OnSome, Option, Some, None, length, get_or, ap, sym, ◌∙◌, arith}
+use Rattle.std.proofs.Common.{◌≡◌, ◌≤◌, ◌<◌, ◌+◌, ◌/◌, ◌%◌, ℕ, zero, suc, ◌*◌, List, IfSome, OnSome, Option, Some, None, length, get_or, ap, sym, ◌∙◌, arith}
 use Rattle.std.specs.Borrow.{Bor}
 use Rattle.block_arena.specs.Memory.{Buffer}
-use Rattle.store_api.specs.Tokens.{LoanToken}
-use Rattle.bucket_table.specs.Regions.{AreParts, area_of, cut}
+use Rattle.bucket_table.specs.Regions.{area_of, cut}
 use Rattle.bucket_table.proofs.Marks.{block_few, block_inside, buffer_is, loan_inside, read_here}
 use Rattle.bucket_table.proofs.area.Area.piece.Goals as goal
 
@@ -54,12 +53,12 @@ returns-clause-value c =
     let place = c.place.ensures.value in
     let below : at % inside.each.len < inside.each.len = omega (arith, place, c.place.ensures.below) in
     rw (← c.self.view_is) (some_also c.piece_of.result c.piece_of.ensures.value c.piece_of.ensures.one (λ bytes value one.
-      (let fits : c.args.count + at % inside.each.len % inside.block.len ≤ inside.block.len = rw place at one in
-      value
-      ∙ ap (λ (k : ℕ). cut k c.args.count c.buf.result.now.bytes) place
-      ∙ ap (λ (b : Buffer). cut (at % inside.each.len) c.args.count b.bytes) c.buf.ensures
-      ∙ read_here inside.blocks inside.block.len inside.each.len at loans loan c.self.invariant is loan_is c.args.count
-          (block_inside inside.blocks inside.block.len inside.each.len at c.args.count c.self.invariant.each inside.block.some below fits))))
+    (let fits : c.args.count + at % inside.each.len % inside.block.len ≤ inside.block.len = rw place at one in
+    value
+    ∙ ap (λ (k : ℕ). cut k c.args.count c.buf.result.now.bytes) place
+    ∙ ap (λ (b : Buffer). cut (at % inside.each.len) c.args.count b.bytes) c.buf.ensures
+    ∙ read_here inside.blocks inside.block.len inside.each.len at loans loan c.self.invariant is loan_is c.args.count
+    (block_inside inside.blocks inside.block.len inside.each.len at c.args.count c.self.invariant.each inside.block.some below fits))))
 
 pub returns-clause-short : goal.returns-clause-short
 returns-clause-short c =
@@ -71,7 +70,7 @@ returns-clause-short c =
     let place = c.place.ensures.value in
     let below : at % inside.each.len < inside.each.len = omega (arith, place, c.place.ensures.below) in
     on_some c.piece_of.result c.piece_of.ensures.one (λ one.
-      (let fits : c.args.count + at % inside.each.len % inside.block.len ≤ inside.block.len = rw place at one in
-      let within = block_inside inside.blocks inside.block.len inside.each.len at c.args.count c.self.invariant.each inside.block.some below fits in
-      let whole = one_of_many (length loans) inside.each.len (omega (arith, is)) in
-      omega (arith, within, whole, c.self.invariant.short)))
+    (let fits : c.args.count + at % inside.each.len % inside.block.len ≤ inside.block.len = rw place at one in
+    let within = block_inside inside.blocks inside.block.len inside.each.len at c.args.count c.self.invariant.each inside.block.some below fits in
+    let whole = one_of_many (length loans) inside.each.len (omega (arith, is)) in
+    omega (arith, within, whole, c.self.invariant.short)))

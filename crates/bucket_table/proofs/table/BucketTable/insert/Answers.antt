@@ -1,4 +1,4 @@
-use Rattle.std.proofs.Common.{◌≤◌, ◌<◌, ◌+◌, ◌*◌, ◌%◌, ℕ, List, ◌∷◌, length, ap, sym, ◌∙◌, subst, arith}
+use Rattle.std.proofs.Common.{◌≤◌, ◌<◌, ◌+◌, ◌%◌, ℕ, List, ◌∷◌, length, ap, sym, ◌∙◌, subst, arith}
 use Rattle.std.proofs.Math.Nat.{mod-lt}
 use Rattle.std.proofs.lemmas.Bool.{false≢true}
 use Rattle.block_arena.specs.Bytes.{written}

@@ -1,7 +1,7 @@
-use Rattle.std.proofs.Common.{◌≡◌, ◌≤◌, ◌<◌, ◌+◌, ℕ, ap, ◌∙◌, length, subst, arith}
+use Rattle.std.proofs.Common.{◌≡◌, ◌≤◌, ◌+◌, ℕ, ap, ◌∙◌, length, subst, arith}
 use Rattle.bucket_table.specs.Rethreading.{AreRows}
 use Rattle.bucket_table.specs.Tables.{Table, used_by}
-use Rattle.bucket_table.proofs.Standing.{IsNext, Passing, next_row, passes_all, passes_none, passes_one, rows_of}
+use Rattle.bucket_table.proofs.Standing.{Passing, next_row, passes_all, passes_none, passes_one, rows_of}
 use Rattle.bucket_table.proofs.table.BucketTable.longest_row.Goals as goal
 
 pub loop-node-init : goal.loop-node-init

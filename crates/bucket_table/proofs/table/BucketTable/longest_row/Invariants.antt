@@ -1,6 +1,5 @@
-use Rattle.std.proofs.Common.{◌≡◌, ◌≤◌, ◌-◌, ℕ, drop, length}
-use Rattle.std.specs.Prelude.{All}
-use Rattle.bucket_table.specs.Tables.{Node, used_by}
+use Rattle.std.proofs.Common.{◌-◌}
+use Rattle.bucket_table.specs.Tables.{used_by}
 use Rattle.bucket_table.proofs.Standing.{Passing}
 use Rattle.bucket_table.proofs.table.BucketTable.longest_row.Given as goal
 

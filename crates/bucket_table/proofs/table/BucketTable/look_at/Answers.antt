@@ -1,6 +1,5 @@
-use Rattle.std.proofs.Common.{◌≡◌, ◌≤◌, ◌<◌, ◌+◌, ◌^◌, ℕ, length, ap, sym, ◌∙◌, arith}
-use Rattle.bucket_table.specs.Tables.{HasNode, row_of}
-use Rattle.bucket_table.specs.Regions.{cut}
+use Rattle.std.proofs.Common.{◌≡◌, ◌≤◌, ◌<◌, ◌+◌, ◌^◌, length, ap, ◌∙◌, arith}
+use Rattle.bucket_table.specs.Tables.{HasNode}
 use Rattle.bucket_table.specs.Threads.{node_in, nodes_in}
 use Rattle.bucket_table.proofs.LookedUp.{next_is}
 use Rattle.bucket_table.proofs.TheRow.{front_link, front_shown, front_shows, there}

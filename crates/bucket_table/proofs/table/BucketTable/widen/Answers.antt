@@ -1,6 +1,5 @@
-use Rattle.std.proofs.Common.{◌≡◌, ◌≤◌, ◌*◌, ℕ, length, ap, sym, ◌∙◌, subst, arith}
+use Rattle.std.proofs.Common.{◌≡◌, ◌≤◌, ◌*◌, ℕ, length, ap, sym, ◌∙◌, subst}
 use Rattle.std.specs.Prelude.{All}
-use Rattle.bucket_table.specs.Tables.{Table}
 use Rattle.bucket_table.specs.Lending.{AreHeld, IsTableOf}
 use Rattle.bucket_table.specs.Threads.{client_in, nodes_in, table_of}
 use Rattle.bucket_table.proofs.Held.{held_start}
