@@ -19,12 +19,35 @@ apart-split (l ∷ a) b apart =
     let parts = All-split (λ m. m.number ≢ l.number) a b apart.0 in
     ((parts.0, rest.0), rest.1, All-cons (λ m. IsApart m.number b) l a parts.1 rest.2)
 
+-- seen from the others
+apart_turned : (a b : List Lent) → All (λ l. IsApart l.number b) a → All (λ l. IsApart l.number a) b
+apart_turned a b apart = λ k d within j e inside same. apart j e inside k d within (sym same)
+
 -- what was lent is held
 pub held_of : (t : ℕ) (loans : List Lent) (less more : Holdings) → Lends t loans less more → AreHeld t more loans
 held_of t loans less more is = record { lives = is.is; own = is.own; apart = is.apart }
 
 pub held_back : (t : ℕ) (a b : List Lent) (h : Holdings) → AreHeld t h (a ++ b) → AreHeld t h b
 held_back t a b h is = record { lives = is.lives; own = (All-split (IsOwn t h) a b is.own).1; apart = (apart-split a b is.apart).1 }
+
+pub held_start : (t : ℕ) (a b : List Lent) (h : Holdings) → AreHeld t h (a ++ b) → AreHeld t h a
+held_start t a b h is = record { lives = is.lives; own = (All-split (IsOwn t h) a b is.own).0; apart = (apart-split a b is.apart).0 }
+
+-- in another order
+pub held_swap : (t : ℕ) (a b c : List Lent) (h : Holdings) → AreHeld t h ((a ++ b) ++ c) → AreHeld t h ((a ++ c) ++ b)
+held_swap t a b c h is =
+    let own = All-split (IsOwn t h) (a ++ b) c is.own in
+    let own_front = All-split (IsOwn t h) a b own.0 in
+    let apart = apart-split (a ++ b) c is.apart in
+    let apart_front = apart-split a b apart.0 in
+    let from_c = All-split (λ l. IsApart l.number c) a b apart.2 in
+    let a_c = apart-append a c apart_front.0 apart.1 (apart_turned a c from_c.0) in
+    record {
+      lives = is.lives;
+      own = All-append (IsOwn t h) (a ++ c) b (All-append (IsOwn t h) a c own_front.0 own.1) own_front.1;
+      apart = apart-append (a ++ c) b a_c apart_front.1
+          (apart_turned (a ++ c) b (All-append (λ l. IsApart l.number b) a c apart_front.2 (apart_turned b c from_c.1)));
+    }
 
 -- where more come, the ones that were there stay
 pub held_more : (t : ℕ) (a b : List Lent) (h new : Holdings) → AreHeld t h a → Lends t b h new → AreHeld t new (a ++ b)

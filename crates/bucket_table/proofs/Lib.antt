@@ -1,5 +1,7 @@
+pub mod Beside
 pub mod Changed
 pub mod Cuts
+pub mod Doubled
 pub mod Emptied
 pub mod Filled
 pub mod Grown
@@ -12,6 +14,10 @@ pub mod Marks
 pub mod Nodes
 pub mod TheRow
 pub mod Opened
+pub mod Rethreaded
+pub mod Shown
 pub mod Spelling
+pub mod Standing
 pub mod Threaded
 pub mod Views
+pub mod Widened

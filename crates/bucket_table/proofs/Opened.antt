@@ -104,6 +104,7 @@ module _ (t heads nodes blocks block_len : ℕ) (links area : Region) (x y : Hol
             ∙ ap (λ (n : ℕ). n + bytes_of is.second.more) is.first.bytes ∙ ap (λ (n : ℕ). heads * (blocks * block_len) + n) is.second.bytes
             ∙ (let e : heads * (blocks * block_len) + nodes * (blocks * block_len) ≡ (heads + nodes) * (blocks * block_len) = omega arith in e)
             ∙ ap (λ (n : ℕ). (heads + nodes) * n) each;
+        head_bytes = ap bytes_of (loans_are t heads blocks block_len links x is.between is.first) ∙ is.first.bytes ∙ ap (λ (n : ℕ). heads * n) each;
       })
 
   pub table_of_both : (chains : ℕ) → 0 < heads → block_len ≡ x.block_len → IsBlockCount blocks → IsTableOf (with_nodes [] (table_of chains links area)) y

@@ -21,6 +21,12 @@ pub record Fills (t count : ℕ) (was now : Region) (old new : Holdings) : Type 
   pub bytes : bytes_of more ≡ count * each_of was
   pub lends : Lends t more old new
 
+-- as many loans came as there were, of as many bytes
+pub record Doubles (t : ℕ) (was now : Region) (old new : Holdings) : Type 0 where
+  pub fills : Fills t (length was.loans) was now old new
+  pub bytes : bytes_of was.loans ≡ length was.bytes
+  pub more : bytes_of fills.more ≡ length was.bytes
+
 -- the last loans went, with their bytes, and the others stay
 pub record Shrinks (was now : Region) (old new : Holdings) : Type 0 where
   pub gone : List Lent

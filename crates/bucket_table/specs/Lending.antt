@@ -72,6 +72,7 @@ pub record IsOpened (t blocks head_bufs node_bufs : ℕ) (h : Holdings) (table :
   pub room : table.room ≡ node_bufs * length_of blocks h
   pub nodes : table.nodes ≡ []
   pub bytes : bytes_of (loans_of table) ≡ (head_bufs + node_bufs) * length_of blocks h
+  pub head_bytes : bytes_of table.head_loans ≡ head_bufs * length_of blocks h
 
 -- the store lent no buffer to this client, and this shows it: there was no memory, or a write of one of the client's
 -- pages failed

@@ -68,6 +68,12 @@ pub record IsTable (heads used : ℕ) (links area : List ℕ) : Type 0 where
   pub few : 4 * heads < 2 ^ 32
   pub short : length area < 2 ^ 32
 
+-- the same, in two areas of loans of one length
+pub record IsLaid (heads used : ℕ) (links area : Region) : Type 0 where
+  pub table : IsTable heads used links.bytes area.bytes
+  pub blocks : links.blocks ≡ area.blocks
+  pub block_len : links.block_len ≡ area.block_len
+
 -- the node to which a link goes
 abbrev pub node_in : ℕ → Option ℕ
 node_in zero = None

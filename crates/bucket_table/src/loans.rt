@@ -1,10 +1,11 @@
 //! Loans come to an area, and go back to their store.
 ghost use Rattle.std.specs.Prelude.{◌≡◌, ◌+◌, ◌*◌, ◌^◌, ◌<◌, ◌≤◌, ℕ, [], length, IfErr, OnOk, OnErr};
+ghost use Rattle.store_api.specs.Alike.{Alike};
 ghost use Rattle.store_api.specs.Conditions.{IsBlockCount, IsLiveClient};
 ghost use Rattle.store_api.specs.Holdings.{length_of, unused_of};
 ghost use Rattle.store_api.specs.Signs.{Grows};
-ghost use Rattle.bucket_table.specs.Filling.{Fills, Shrinks, each_of};
-ghost use Rattle.bucket_table.specs.Lending.{AreHeld, Lends, WasShort};
+ghost use Rattle.bucket_table.specs.Filling.{Doubles, Fills, Shrinks, each_of};
+ghost use Rattle.bucket_table.specs.Lending.{AreHeld, Lends, WasShort, bytes_of};
 
 use crate::area::Area;
 use crate::stride::Stride;
@@ -100,6 +101,34 @@ impl Area {
     {
         while self.count() > keep {
             self.free_last(store);
+        }
+    }
+
+    // As many loans more as there are, or none.
+    pub(crate) fn double<St: Store>(
+        &mut self,
+        alloc: Global,
+        store: &mut St,
+        c: &Client,
+    ) -> Result<(), PoolErr>
+        requires held { AreHeld c.now.tracker (St.holds store.old) self.old.loans }
+        requires blocks { IsBlockCount self.old.blocks }
+        requires block_len { self.old.block_len ≡ (St.holds store.old).block_len }
+        requires unused { bytes_of self.old.loans ≤ unused_of c.now.tracker (St.holds store.old) }
+        requires short { 2 * bytes_of self.old.loans < 2 ^ 32 }
+        ensures ok { OnOk result (Doubles c.now.tracker self.old self.new (St.holds store.old) (St.holds store.new)) }
+        ensures err { OnErr result (self.new ≡ self.old) }
+        ensures held { OnErr result (Alike (St.holds store.old) (St.holds store.new)) }
+        ensures cause { IfErr result (WasShort c.now.tracker self.old.blocks (St.signs store.old) (St.signs store.new)) }
+        ensures grows { Grows (St.signs store.old) (St.signs store.new) }
+    {
+        let count = self.parts.len();
+        match self.fill(alloc, store, c, count as u32) {
+            Ok(()) => Ok(()),
+            Err(e) => {
+                self.shrink(store, count);
+                Err(e)
+            }
         }
     }
 

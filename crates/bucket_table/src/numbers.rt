@@ -7,11 +7,60 @@ ghost use Rattle.bucket_table.specs.Regions.{cut, link_at, with_bytes};
 
 use crate::area::Area;
 
+// The number that four bytes spell.
+#[inline]
+#[tactic(auto, using(crate::proofs::Spelling::number_of_4))]
+pub(crate) fn spelled(bytes: &[u8]) -> u32
+    requires { length bytes.now ≡ 4 }
+    ensures { result ≡ number_in bytes.now }
+{
+    let mut out = [0; 4];
+    out.copy_from_slice(bytes);
+    u32::from_be_bytes(out)
+}
+
+// The number that sixteen bytes spell.
+#[inline]
+#[tactic(auto, using(crate::proofs::Spelling::number_of_16))]
+fn spelled_wide(bytes: &[u8]) -> u128
+    requires { length bytes.now ≡ 16 }
+    ensures { result ≡ number_in bytes.now }
+{
+    let mut out = [0; 16];
+    out.copy_from_slice(bytes);
+    u128::from_be_bytes(out)
+}
+
+// The sixteen bytes that spell a number, in two halves, which are turned round by one instruction each.
+#[inline]
+fn spelling_of(value: u128) -> [u8; 16]
+    ensures { result ≡ to_be_bytes w128 value }
+{
+    let high = ((value >> 64) as u64).to_be_bytes();
+    let low = ((value % (1 << 64)) as u64).to_be_bytes();
+    let mut out = [0; 16];
+    out[..8].copy_from_slice(&high);
+    out[8..].copy_from_slice(&low);
+    out
+}
+
 impl Area {
     // The number of four bytes.
     #[inline]
-    #[tactic(auto, using(crate::proofs::Spelling::number_of_4))]
     pub(crate) fn link(&self, at: usize) -> u32
+        requires { at + 4 ≤ length self.now.bytes }
+        ensures { result ≡ link_at self.now.bytes at }
+    {
+        match self.piece(at, 4) {
+            Some(bytes) => spelled(bytes),
+            None => self.link_across(at),
+        }
+    }
+
+    // The same, of bytes that may lie in two blocks.
+    #[inline(never)]
+    #[tactic(auto, using(crate::proofs::Spelling::number_of_4))]
+    fn link_across(&self, at: usize) -> u32
         requires { at + 4 ≤ length self.now.bytes }
         ensures { result ≡ link_at self.now.bytes at }
     {
@@ -30,8 +79,20 @@ impl Area {
 
     // The number of sixteen bytes.
     #[inline]
-    #[tactic(auto, using(crate::proofs::Spelling::number_of_16))]
     pub(crate) fn wide(&self, at: usize) -> u128
+        requires { at + 16 ≤ length self.now.bytes }
+        ensures { result ≡ number_in (cut at 16 self.now.bytes) }
+    {
+        match self.piece(at, 16) {
+            Some(bytes) => spelled_wide(bytes),
+            None => self.wide_across(at),
+        }
+    }
+
+    // The same, of bytes that may lie in two blocks.
+    #[inline(never)]
+    #[tactic(auto, using(crate::proofs::Spelling::number_of_16))]
+    fn wide_across(&self, at: usize) -> u128
         requires { at + 16 ≤ length self.now.bytes }
         ensures { result ≡ number_in (cut at 16 self.now.bytes) }
     {
@@ -40,12 +101,11 @@ impl Area {
         u128::from_be_bytes(out)
     }
 
-    #[inline]
+    #[inline(always)]
     pub(crate) fn set_wide(&mut self, at: usize, value: u128)
         requires { at + 16 ≤ length self.old.bytes }
         ensures { self.new ≡ with_bytes (written at (to_be_bytes w128 value) self.old.bytes) self.old }
     {
-        let bytes = value.to_be_bytes();
-        self.write(at, &bytes);
+        self.write(at, &spelling_of(value));
     }
 }

@@ -58,6 +58,8 @@ impl BucketTable {
     fn over(heads: Area, nodes: Area) -> BucketTable
         requires zeros { heads.bytes ≡ replicate (length heads.bytes) 0 }
         requires some { 4 ≤ length heads.bytes }
+        requires blocks { heads.blocks ≡ nodes.blocks }
+        requires block_len { heads.block_len ≡ nodes.block_len }
         ensures { result ≡ with_nodes [] (table_of (length heads.bytes / 4) heads nodes) }
     {
         let chains = Stride::of(heads.len() / 4);

@@ -12,6 +12,24 @@ pub(crate) struct Stride {
     ghost power: { even ≡ true → len ≡ 2 ^ shift },
 }
 
+// The divisions stand in functions of their own, so that the callers' code stays short.
+#[inline(never)]
+fn quotient(at: usize, len: usize) -> usize
+    requires { 0 < len }
+    ensures { result ≡ at / len }
+{
+    at / len
+}
+
+#[inline(never)]
+fn remainder(at: usize, len: usize) -> usize
+    requires { 0 < len }
+    ensures value { result ≡ at % len }
+    ensures below { result < len }
+{
+    at % len
+}
+
 impl Stride {
     /// The length of `len` bytes.
     pub(crate) fn of(len: usize) -> Stride
@@ -40,7 +58,7 @@ impl Stride {
         if self.even {
             at >> self.shift
         } else {
-            at / self.len
+            quotient(at, self.len)
         }
     }
 
@@ -53,7 +71,7 @@ impl Stride {
         if self.even {
             at & (self.len - 1)
         } else {
-            at % self.len
+            remainder(at, self.len)
         }
     }
 }

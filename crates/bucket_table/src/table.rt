@@ -18,13 +18,13 @@ pub struct BucketTable {
 
 impl Model for BucketTable {
     ghost use Rattle.bucket_table.specs.Tables.{Table};
-    ghost use Rattle.bucket_table.specs.Threads.{IsTable, table_of};
+    ghost use Rattle.bucket_table.specs.Threads.{IsLaid, table_of};
 
     ghost Value = { Table };
 
     ghost view = { λ t. table_of t.chains.len t.heads t.nodes };
 
-    ghost invariant = { λ t. IsTable t.chains.len t.used t.heads.bytes t.nodes.bytes };
+    ghost invariant = { λ t. IsLaid t.chains.len t.used t.heads t.nodes };
 }
 
 impl BucketTable {

@@ -1,11 +1,11 @@
 //! Tables over a store in memory, against worked rows. A block has 64 bytes.
-ghost use Rattle.std.specs.Prelude.{◌≡◌, ◌≤◌, ◌*◌, IfOk};
+ghost use Rattle.std.specs.Prelude.{◌≡◌, ◌≤◌, ◌*◌, length, IfOk};
 ghost use Rattle.store_api.specs.Alike.{Alike, AlikeButClients};
 ghost use Rattle.store_api.specs.Conditions.{IsLiveClient};
 ghost use Rattle.store_api.specs.Holdings.{unused_of};
 ghost use Rattle.bucket_table.specs.Tables.{HasNode, IsFramed, with_nodes};
 
-use crate::BucketTable;
+use crate::{BucketTable, RowHash};
 use reservation_tree::PoolErr;
 use std::alloc::Global;
 use std::process::Abort;
@@ -29,7 +29,28 @@ enum Step {
     Raise(u64),
     // Whether five of these bytes stand behind the count of the newest row on a chain.
     Shows(u64, u8),
+    // The place of the newest node on a chain with five of these bytes behind its row's count.
+    Look(u64, u8),
     Clear,
+}
+
+// How many buffers a table has, and whether it gets more of them.
+#[derive(Clone, Copy)]
+enum Shape {
+    Narrow,
+    Wide,
+    Widened,
+}
+
+// The hash of a row is its length.
+struct ByLength;
+
+impl RowHash for ByLength {
+    ghost hash = { λ _ row. length row };
+
+    fn hash_row(&self, row: &[u8]) -> u64 {
+        row.len() as u64
+    }
 }
 
 // A row has its count and at least sixteen bytes behind it.
@@ -150,6 +171,10 @@ fn take_step(alloc: Global, table: &mut BucketTable, step: Step) -> Result<Shown
             Some(node) => one(alloc, u8::from(table.shows_at(node, 4, &[fill; 5]))),
             None => one(alloc, 0),
         },
+        Step::Look(hash, fill) => match table.find_row(hash, 4, &[fill; 5]) {
+            Some(node) => one(alloc, (node % 256) as u8),
+            None => Ok(Vec::new(alloc)),
+        },
         Step::Clear => {
             table.clear();
             Ok(Vec::new(alloc))
@@ -215,17 +240,54 @@ fn wide<St: Store>(
     }
 }
 
+// Rows that go in before a table gets more chains, with their lengths as hashes. All of them are on chain 4 of sixteen;
+// of 32 chains, the second is on chain 4 and the others on chain 20. The last one straddles two blocks.
+const FIRST: [Step; 4] = [
+    Step::Insert(20, 20, 1),
+    Step::Insert(36, 36, 2),
+    Step::Insert(20, 20, 3),
+    Step::Insert(52, 52, 4),
+];
+
+// What these steps show on a table of one buffer of heads and eight of nodes, each of one block, that got its first rows
+// on sixteen chains, and then has twice as many.
+fn widened<St: Store>(
+    store: &mut St,
+    alloc: Global,
+    c: &Client,
+    steps: &[Step],
+) -> Result<Vec<Shown>, PoolErr>
+    requires client { IsLiveClient c.now (St.holds store.old) }
+    requires unused { 17 * (St.holds store.old).block_len ≤ unused_of c.now.tracker (St.holds store.old) }
+    requires short { (St.holds store.old).block_len ≤ 65536 }
+    ensures { Alike (St.holds store.old) (St.holds store.new) }
+{
+    let mut table = BucketTable::open(alloc, store, c, 1, 8)?;
+    let _first = taken(alloc, &mut table, &FIRST);
+    match table.widen(alloc, store, c, &ByLength) {
+        Ok(()) => {
+            let seen = taken(alloc, &mut table, steps);
+            table.close(store);
+            seen
+        }
+        Err(e) => {
+            table.close(store);
+            Err(e)
+        }
+    }
+}
+
 // The same on a client of its own.
 fn run<St: Store>(
     store: &mut St,
     alloc: Global,
     steps: &[Step],
-    is_wide: bool,
+    shape: Shape,
 ) -> Result<Vec<Shown>, PoolErr>
     ensures { (St.holds store.new).live_clients ≡ (St.holds store.old).live_clients }
 {
     let c = store.add_client(u64::MAX)?;
-    let answer = reserved(store, alloc, &c, steps, is_wide);
+    let answer = reserved(store, alloc, &c, steps, shape);
     store.end_client(c);
     answer
 }
@@ -235,7 +297,7 @@ fn reserved<St: Store>(
     alloc: Global,
     c: &Client,
     steps: &[Step],
-    is_wide: bool,
+    shape: Shape,
 ) -> Result<Vec<Shown>, PoolErr>
     requires { IsLiveClient c.now (St.holds store.old) }
     ensures client { IsLiveClient c.now (St.holds store.new) }
@@ -243,10 +305,10 @@ fn reserved<St: Store>(
 {
     let block_len = store.block_len();
     store.reserve(c, 17 * u64::from(block_len))?;
-    if is_wide {
-        wide(store, alloc, c, steps)
-    } else {
-        narrow(store, alloc, c, steps)
+    match shape {
+        Shape::Narrow => narrow(store, alloc, c, steps),
+        Shape::Wide => wide(store, alloc, c, steps),
+        Shape::Widened => widened(store, alloc, c, steps),
     }
 }
 
@@ -255,14 +317,14 @@ fn expect(
     rt: &impl Abort,
     alloc: Global,
     rows: &[(Step, &[u8])],
-    is_wide: bool,
+    shape: Shape,
 ) -> Result<(), Fail> {
     let mut steps = Vec::new(alloc);
     for row in rows {
         steps.push(row.0)?;
     }
     let mut store = MemStore::open(alloc, 64, 1280, 1280)?;
-    let answer = run(&mut store, alloc, &steps, is_wide);
+    let answer = run(&mut store, alloc, &steps, shape);
     store.close();
     let seen = answer?;
     for (i, row) in rows.iter().enumerate() {
@@ -284,11 +346,11 @@ fn forty_two_rows_of_twenty_bytes_go_in_and_no_more(rt: HostRuntime) -> Result<(
     rows.push((Step::Insert(42, 20, 42), [0].as_slice()))?;
     // there are sixteen chains
     rows.push((Step::Find(3), [35, 19, 3].as_slice()))?;
-    expect(&rt, rt.alloc(), &rows, false)
+    expect(&rt, rt.alloc(), &rows, Shape::Narrow)
 }
 
 // Rows of several lengths come, are found, and are written over. Nodes straddle blocks and buffers.
-const MIXED: [(Step, &[u8]); 21] = [
+const MIXED: [(Step, &[u8]); 26] = [
     (Step::Find(7), &[]),
     (Step::Insert(7, 20, 1), &[1]),
     (Step::Insert(8, 50, 2), &[1]),
@@ -300,6 +362,12 @@ const MIXED: [(Step, &[u8]); 21] = [
     (Step::Walk, &[1, 2, 3, 4, 5]),
     (Step::Shows(8, 2), &[1]),
     (Step::Shows(8, 3), &[0]),
+    (Step::Look(7, 3), &[78]),
+    // this node straddles two blocks
+    (Step::Look(7, 5), &[189]),
+    (Step::Look(7, 1), &[0]),
+    (Step::Look(7, 2), &[]),
+    (Step::Look(8, 2), &[24]),
     (Step::Write(8, 9), &[1]),
     (Step::Write(9, 9), &[0]),
     (Step::Find(8), &[9]),
@@ -314,5 +382,19 @@ const MIXED: [(Step, &[u8]); 21] = [
 
 #[test]
 fn mixed_rows_are_found_where_they_straddle(rt: HostRuntime) -> Result<(), Fail> {
-    expect(&rt, rt.alloc(), &MIXED, true)
+    expect(&rt, rt.alloc(), &MIXED, Shape::Wide)
+}
+
+const ON_NEW_CHAINS: [(Step, &[u8]); 6] = [
+    (Step::Find(20), &[4, 3, 1]),
+    (Step::Find(4), &[2]),
+    (Step::Walk, &[1, 2, 3, 4]),
+    (Step::Look(20, 3), &[64]),
+    (Step::Insert(36, 20, 5), &[1]),
+    (Step::Find(4), &[5, 2]),
+];
+
+#[test]
+fn rows_come_to_their_new_chains_newest_first(rt: HostRuntime) -> Result<(), Fail> {
+    expect(&rt, rt.alloc(), &ON_NEW_CHAINS, Shape::Widened)
 }

@@ -4,4 +4,4 @@ use Rattle.bucket_table.specs.Regions.{with_bytes}
 use Rattle.bucket_table.proofs.area.Area.set_wide.Goals as goal
 
 pub returns : goal.returns
-returns c = c.write.ensures ∙ ap (λ (bytes : List ℕ). with_bytes (written c.args.at bytes c.args.self.now.bytes) c.args.self.now) c.to_be_bytes-bytes.ensures
+returns c = c.write.ensures ∙ ap (λ (bytes : List ℕ). with_bytes (written c.args.at bytes c.args.self.now.bytes) c.args.self.now) c.spelling_of.ensures

@@ -1,18 +1,18 @@
 use Rattle.std.proofs.Common.{[], length, refl}
 use Rattle.bucket_table.proofs.Emptied.{empty_table}
-use Rattle.bucket_table.proofs.Views.{table_now, view_now}
+use Rattle.bucket_table.proofs.Views.{laid_now, view_now}
 use Rattle.bucket_table.proofs.table.BucketTable.clear.Goals as goal
 
 pub invariant_of-self : goal.invariant_of-self
 invariant_of-self c =
     let t = c.self.inside in
-    let is = c.self.invariant in
+    let is = c.self.invariant.table in
     let now = empty_table t.chains.len (length t.heads.bytes) t.nodes.bytes is.sized is.some is.few is.short in
-    table_now t.chains.len t.heads t.nodes c.zero.new.self t.nodes _ t.nodes.bytes c.zero.ensures refl 0 now.0
+    laid_now t.chains.len t.heads t.nodes c.zero.new.self t.nodes _ t.nodes.bytes c.zero.ensures refl t.used 0 c.self.invariant now.0
 
 pub returns : goal.returns
 returns c =
     let t = c.self.inside in
-    let is = c.self.invariant in
+    let is = c.self.invariant.table in
     let now = empty_table t.chains.len (length t.heads.bytes) t.nodes.bytes is.sized is.some is.few is.short in
     rw (← c.self.view_is) (view_now t.chains.len t.heads t.nodes c.zero.new.self t.nodes _ t.nodes.bytes [] c.zero.ensures refl refl now.1)

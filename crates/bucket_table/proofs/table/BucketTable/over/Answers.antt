@@ -7,7 +7,11 @@ pub invariant_of-result : goal.invariant_of-result
 invariant_of-result c =
     let links = c.args.heads.bytes in
     let chains : c.of-chains.result.len ≡ length links / 4 = c.of-chains.ensures ∙ ap (λ (n : ℕ). n / 4) c.len.ensures.value in
-    (empty_over c.of-chains.result.len links c.args.nodes.bytes chains c.requires.zeros c.requires.some (omega (arith, c.len.ensures.value, c.len.ensures.short)) (omega (arith, c.len-nodes.ensures.value, c.len-nodes.ensures.short))).0
+    record {
+      table = (empty_over c.of-chains.result.len links c.args.nodes.bytes chains c.requires.zeros c.requires.some (omega (arith, c.len.ensures.value, c.len.ensures.short)) (omega (arith, c.len-nodes.ensures.value, c.len-nodes.ensures.short))).0;
+      blocks = c.requires.blocks;
+      block_len = c.requires.block_len;
+    }
 
 pub returns : goal.returns
 returns c =

@@ -4,7 +4,7 @@ use Rattle.bucket_table.specs.Tables.{HasNode, row_of}
 use Rattle.bucket_table.specs.Threads.{nodes_in}
 use Rattle.bucket_table.proofs.Changed.{rewritten_table}
 use Rattle.bucket_table.proofs.TheRow.{number_framed, there}
-use Rattle.bucket_table.proofs.Views.{table_now, view_now}
+use Rattle.bucket_table.proofs.Views.{laid_now, view_now}
 use Rattle.bucket_table.proofs.table.BucketTable.set_number_at.Goals as goal
 
 pub overflow_add-node-2 : goal.overflow_add-node-2
@@ -13,7 +13,7 @@ overflow_add-node-2 c =
     let nodes = nodes_in t.chains.len t.heads.bytes t.nodes.bytes in
     let has : HasNode c.args.node nodes = rw (← c.self.view_is) at c.requires.node in
     let wide : c.args.at + 16 ≤ length (row_of c.args.node nodes) = rw (← c.self.view_is) at c.requires.inside in
-    let is = there t.chains.len t.used c.args.node t.heads.bytes t.nodes.bytes c.self.invariant has in
+    let is = there t.chains.len t.used c.args.node t.heads.bytes t.nodes.bytes c.self.invariant.table has in
     omega (arith, is.ends, is.inside, is.short, wide)
 
 pub set_wide-requires : goal.set_wide-requires
@@ -22,7 +22,7 @@ set_wide-requires c =
     let nodes = nodes_in t.chains.len t.heads.bytes t.nodes.bytes in
     let has : HasNode c.args.node nodes = rw (← c.self.view_is) at c.requires.node in
     let wide : c.args.at + 16 ≤ length (row_of c.args.node nodes) = rw (← c.self.view_is) at c.requires.inside in
-    let is = there t.chains.len t.used c.args.node t.heads.bytes t.nodes.bytes c.self.invariant has in
+    let is = there t.chains.len t.used c.args.node t.heads.bytes t.nodes.bytes c.self.invariant.table has in
     omega (arith, is.ends, is.inside, wide)
 
 pub invariant_of-self : goal.invariant_of-self
@@ -32,10 +32,10 @@ invariant_of-self c =
     let nodes = nodes_in t.chains.len t.heads.bytes t.nodes.bytes in
     let has : HasNode p nodes = rw (← c.self.view_is) at c.requires.node in
     let wide : c.args.at + 16 ≤ length (row_of p nodes) = rw (← c.self.view_is) at c.requires.inside in
-    let is = there t.chains.len t.used p t.heads.bytes t.nodes.bytes c.self.invariant has in
+    let is = there t.chains.len t.used p t.heads.bytes t.nodes.bytes c.self.invariant.table has in
     let framed = number_framed c.args.at c.args.value (row_of p nodes) is.framed c.requires.behind wide in
-    let now = rewritten_table t.chains.len t.used p c.args.at t.heads.bytes t.nodes.bytes (to_be_bytes w128 c.args.value) _ c.self.invariant has refl wide framed in
-    table_now t.chains.len t.heads t.nodes t.heads c.set_wide.new.self t.heads.bytes _ refl c.set_wide.ensures t.used now.0
+    let now = rewritten_table t.chains.len t.used p c.args.at t.heads.bytes t.nodes.bytes (to_be_bytes w128 c.args.value) _ c.self.invariant.table has refl wide framed in
+    laid_now t.chains.len t.heads t.nodes t.heads c.set_wide.new.self t.heads.bytes _ refl c.set_wide.ensures t.used t.used c.self.invariant now.0
 
 pub returns : goal.returns
 returns c =
@@ -44,7 +44,7 @@ returns c =
     let nodes = nodes_in t.chains.len t.heads.bytes t.nodes.bytes in
     let has : HasNode p nodes = rw (← c.self.view_is) at c.requires.node in
     let wide : c.args.at + 16 ≤ length (row_of p nodes) = rw (← c.self.view_is) at c.requires.inside in
-    let is = there t.chains.len t.used p t.heads.bytes t.nodes.bytes c.self.invariant has in
+    let is = there t.chains.len t.used p t.heads.bytes t.nodes.bytes c.self.invariant.table has in
     let framed = number_framed c.args.at c.args.value (row_of p nodes) is.framed c.requires.behind wide in
-    let now = rewritten_table t.chains.len t.used p c.args.at t.heads.bytes t.nodes.bytes (to_be_bytes w128 c.args.value) _ c.self.invariant has refl wide framed in
+    let now = rewritten_table t.chains.len t.used p c.args.at t.heads.bytes t.nodes.bytes (to_be_bytes w128 c.args.value) _ c.self.invariant.table has refl wide framed in
     rw (← c.self.view_is) (view_now t.chains.len t.heads t.nodes t.heads c.set_wide.new.self t.heads.bytes _ _ refl c.set_wide.ensures now.2 now.1)
