@@ -1,0 +1,4 @@
+pub mod Told
+pub mod Making
+pub mod Standing
+pub mod Turning
