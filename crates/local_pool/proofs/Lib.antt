@@ -5,3 +5,6 @@ pub mod Still
 pub mod Written
 pub mod Waiting
 pub mod Turned
+pub mod Asked
+pub mod Making
+pub mod Roomed

@@ -6,7 +6,7 @@ ghost use Rattle.scratch_dev.specs.Rows.{faults_of};
 
 use outside::Slot;
 use pin_core::WriteJob;
-use pool_model::{Entry, Event};
+use pool_model::{Call, Entry, Event};
 use std::marker::Brand;
 use turn_table::{Adds, Solo};
 
@@ -63,6 +63,27 @@ pub(crate) fn enter_wrote<B: Before, D: Slot>(trail: &mut Solo<Entry>, job: &Wri
 fn enter_write<N: Adds<Entry>, B: Before, D: Slot>(trail: &mut Solo<Entry>, _job: &WriteJob<D>)
     requires named { N.entries ≡ write_entry _job.now B.sum (faults_of D.Slot _job.now.row) ∷ [] }
     ensures { trail.new ≡ trail.old ++ write_entry _job.now B.sum (faults_of D.Slot _job.now.row) ∷ [] }
+{
+    trail.tick::<N>();
+}
+
+// A call of the session was refused for this failure.
+#[inline]
+pub(crate) fn enter_refused(trail: &mut Solo<Entry>, session: u32, call: &Call, entry: u64)
+    ensures { trail.new ≡ trail.old ++ record { maker = session; event = event.Refused call.now entry } ∷ [] }
+{
+    enter_refusal::<Brand>(trail, session, call, entry);
+}
+
+#[inline]
+fn enter_refusal<N: Adds<Entry>>(
+    trail: &mut Solo<Entry>,
+    _session: u32,
+    _call: &Call,
+    _entry: u64,
+)
+    requires named { N.entries ≡ record { maker = _session; event = event.Refused _call.now _entry } ∷ [] }
+    ensures { trail.new ≡ trail.old ++ record { maker = _session; event = event.Refused _call.now _entry } ∷ [] }
 {
     trail.tick::<N>();
 }

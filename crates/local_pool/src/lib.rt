@@ -5,6 +5,7 @@
 //! Invariant: between calls no page is in a job.
 #![tactic(auto)]
 
+mod asking;
 mod entering;
 mod owned;
 mod turning;
