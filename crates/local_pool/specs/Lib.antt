@@ -2,3 +2,4 @@ pub mod Told
 pub mod Making
 pub mod Standing
 pub mod Turning
+pub mod Calling

@@ -35,6 +35,14 @@ fn enter_named<N: Adds<Entry>>(trail: &mut Solo<Entry>, _session: u32, _event: &
     trail.tick::<N>();
 }
 
+// These entries were entered, which `G` names.
+#[inline]
+pub(crate) fn enter_evictions<G: Adds<Entry>>(trail: &mut Solo<Entry>)
+    ensures { trail.new ≡ trail.old ++ G.entries }
+{
+    trail.tick::<G>();
+}
+
 // The session began to write the page of this job.
 #[inline]
 pub(crate) fn enter_started<D>(trail: &mut Solo<Entry>, session: u32, job: &WriteJob<D>)

@@ -6,8 +6,15 @@
 #![tactic(auto)]
 
 mod asking;
+mod coming;
 mod entering;
+mod leaving;
+mod looking;
 mod owned;
+mod pinning;
+mod pins;
+mod shrinking;
+mod trackers;
 mod turning;
 mod writing;
 

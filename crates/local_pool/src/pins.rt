@@ -1,0 +1,51 @@
+//! Pages are pinned once more, or once less, and loans change hands.
+ghost use Rattle.std.specs.Prelude.{◌≡◌, ◌≢◌, ◌≤◌, [], ◌∷◌, IsOk, IfOk, IfErr, OnOk};
+ghost use Rattle.pool_model.specs.declared.call.Call.TheVariants as call;
+ghost use Rattle.pool_model.specs.declared.event.Event.TheVariants as event;
+ghost use Rattle.store_api.specs.Holdings.{page_of, page_len, unused_of, loan_len};
+ghost use Rattle.store_api.specs.Conditions.{IsPage, IsLoan, IsLiveClient};
+ghost use Rattle.store_api.specs.Entries.{IsAsked};
+ghost use Rattle.store_api.specs.Refusals.{WasRefused};
+ghost use Rattle.local_pool.specs.Told.{held_of, signs_of};
+ghost use Rattle.local_pool.specs.Making.{Makes};
+
+use crate::owned::Alone;
+use outside::Slot;
+use reservation_tree::PoolErr;
+use store_api::{Client, Loan, Page};
+
+impl<D: Slot + Drop> Alone<D> {
+    // Pins a pinned page once more, once there is room.
+    pub(crate) fn pin_again(&mut self, p: &Page) -> Result<(), PoolErr>
+        requires page { IsPage p.now (held_of D.Slot self.old) }
+        requires pinned { 1 ≤ (page_of p.now.name (held_of D.Slot self.old)).pins }
+        requires unused { page_len p.now.name (held_of D.Slot self.old) ≤ unused_of p.now.client (held_of D.Slot self.old) }
+        ensures ok { OnOk result (Makes D.Slot (IsAsked p.now.client (held_of D.Slot self.old) (event.PinAgain p.now.name ∷ [])) self.old self.new) }
+        ensures err { IfErr result (WasRefused p.now.client (call.PinAgain p.now.name) (held_of D.Slot self.old) (held_of D.Slot self.new) (signs_of self.old) (signs_of self.new)) }
+    {
+        unreachable!()
+    }
+
+    // Ends one of several pins.
+    pub(crate) fn unpin_once(&mut self, p: &Page)
+        requires page { IsPage p.now (held_of D.Slot self.old) }
+        requires pinned { 2 ≤ (page_of p.now.name (held_of D.Slot self.old)).pins }
+        ensures { Makes D.Slot (λ events. events ≡ event.UnpinOnce p.now.name ∷ []) self.old self.new }
+    {
+        unreachable!()
+    }
+
+    // Charges a loan to another client, once that one has room.
+    pub(crate) fn move_buffer(&mut self, loan: Loan, to: &Client) -> Result<Loan, (Loan, PoolErr)>
+        requires loan { IsLoan loan (held_of D.Slot self.old) }
+        requires to { IsLiveClient to.now (held_of D.Slot self.old) }
+        requires apart { loan.client ≢ to.now.tracker }
+        requires unused { loan_len loan.number (held_of D.Slot self.old) ≤ unused_of to.now.tracker (held_of D.Slot self.old) }
+        ensures ok { OnOk result (Makes D.Slot (IsAsked to.now.tracker (held_of D.Slot self.old) (event.MoveBuffer loan.number to.now.tracker ∷ [])) self.old self.new) }
+        ensures moved { IfOk result (λ moved. moved ≡ record loan { client = to.now.tracker }) }
+        ensures back { IfErr result (λ e. e.0 ≡ loan) }
+        ensures err { IfErr result (λ e. WasRefused to.now.tracker (call.MoveBuffer loan.number to.now.tracker) (held_of D.Slot self.old) (held_of D.Slot self.new) (signs_of self.old) (signs_of self.new) e.1) }
+    {
+        unreachable!()
+    }
+}
