@@ -6,6 +6,7 @@
 #![tactic(auto)]
 
 mod asking;
+mod beginning;
 mod coming;
 mod entering;
 mod leaving;
@@ -18,5 +19,5 @@ mod trackers;
 mod turning;
 mod writing;
 
-pub use owned::Owned;
+pub use owned::{Alone, Owned};
 pub use turning::Turn;
