@@ -1,0 +1,139 @@
+-- What the pool has for the owner's query and clients, as the owner holds it, and why a growth or a move is refused.
+use Rattle.std.proofs.Common.{◌≡◌, ◌≢◌, ℕ, ◌+◌, ◌-◌, ◌≤◌, ◌==◌, Bool, true, false, if◌then◌else◌, List, [], ◌∷◌, ◌++◌, Option, Some, None, IsSome, IfSome, IfNone, is_some, option_map, unwrap_or, Result, Ok, Err, IsOk, refl, sym, ap, ◌∙◌, subst, arith}
+use Rattle.std.specs.FinMap.{get}
+use Rattle.outside.specs.declared.slot.Slot.{Ghosts}
+use Rattle.reservation_tree.specs.declared.errors.PoolErr.{PoolErr}
+use Rattle.reservation_tree.specs.Answer.{no_reservation, IsFrom}
+use Rattle.reservation_tree.specs.Change.{Refusal, grow_refusal}
+use Rattle.reservation_tree.specs.Change.{move_refusal as tree_move_refusal}
+use Rattle.reservation_tree.specs.Tracker.{Tracker, IsLive, no_tracker, limit_of, reservation_of}
+use Rattle.reservation_tree.specs.Total.{total}
+use Rattle.pool_model.specs.declared.event.Event.{Event}
+use Rattle.pool_model.specs.declared.event.Event.TheVariants.{AddTracker, CloseTracker, Increase, IncreaseToFit, Decrease, MoveReservation}
+use Rattle.pool_model.specs.declared.entry.Entry.{Entry}
+use Rattle.pool_model.specs.State.{Opening, Session, State}
+use Rattle.pool_model.specs.Sums.{charge_of, memory}
+use Rattle.pool_model.specs.Owning.{IsClientOf}
+use Rattle.pool_model.specs.Sound.{IsQuery}
+use Rattle.pool_model.specs.Legal.{state_after}
+use Rattle.store_api.specs.Holdings.{Account, Holdings, Room, or_else, no_account, account_of, unused_of as unused_in}
+use Rattle.store_api.specs.Changes.{shortfall}
+use Rattle.store_api.specs.Conditions.{FitsAccount, IsIdle}
+use Rattle.store_api.specs.Refusals.{reserve_refusal, move_refusal}
+use Rattle.own_entries.specs.OwnHoldings.{Outset, after_events, has_client, moved_between}
+use Rattle.own_entries.specs.HeldLaws.{own_holdings}
+use Rattle.own_entries.specs.LiveParts.{count_under}
+use Rattle.own_entries.proofs.AloneRefused.{legal_refuses_alone}
+use Rattle.own_entries.proofs.ByItself.{room_is}
+use Rattle.own_entries.proofs.Facts.{own_under}
+use Rattle.own_entries.proofs.Idle.{no_page, no_buffer}
+use Rattle.own_entries.proofs.Views.{account_is}
+use Rattle.pin_core.specs.StateOf.{state_of}
+use Rattle.pin_core.specs.Sessions.{IsSeat, query_of, client_count}
+use Rattle.pin_core.specs.Sessions.{IsIdle as HasNothing}
+use Rattle.pin_core.specs.Entering.{unused_of, growth_refusal, fit_refusal}
+use Rattle.local_pool.specs.declared.owned.Owned.{Owned}
+use Rattle.local_pool.specs.Told.{all_tell, held_of}
+use Rattle.local_pool.specs.Standing.{Stands}
+use Rattle.local_pool.proofs.Knowing.{Knows, knows, held_is, sound, owned, left_of}
+
+-- an error of the pool is the store's
+pub refused_so : (r : Option Refusal) (o : Option PoolErr) (e : PoolErr) → option_map no_reservation r ≡ o → IsFrom r e → o ≡ Some e
+refused_so None o e same from = absurd from
+refused_so (Some x) o e same from = sym same ∙ ap Some (sym from)
+
+-- and nothing refuses where the pool refuses nothing
+pub granted_so : (r : Option Refusal) (o : Option PoolErr) → option_map no_reservation r ≡ o → (IsSome r → ⊥) → o ≡ None
+granted_so None o same none = sym same
+granted_so (Some x) o same none = absurd (none refl)
+
+unrefused : (r : Option Refusal) → option_map no_reservation r ≡ None → r ≡ None
+unrefused None none = refl
+unrefused (Some x) none = let never : Some (no_reservation x) ≡ None = none in cc
+
+module _ {D : Type 0} (slot : Ghosts D) (own : Owned D) (is : Stands slot own) where
+  abbrev s : State
+  s = state_of own.pool
+
+  abbrev held : Holdings
+  held = held_of slot own
+
+  pub seat_lives : IsSeat s own.session
+  seat_lives = ap is_some (knows slot own is).lives
+
+  query_there : query_of s own.session ≡ (knows slot own is).session.query
+  query_there = ap (λ (o : Option Session). unwrap_or (option_map (λ x. x.query) o) 0) (knows slot own is).lives
+
+  pub query_is : query_of s own.session ≡ held.query
+  query_is = query_there ∙ sym (knows slot own is).told.tracker
+
+  pub query_lives : IsLive s.trackers (query_of s own.session)
+  query_lives =
+      let its : IsQuery s.trackers (knows slot own is).session.query = (sound slot own is).seated.seats own.session (knows slot own is).session (knows slot own is).lives in
+      subst (IsLive s.trackers) (sym query_there) (ap is_some its.lives)
+
+  pub room_here : unused_of s (query_of s own.session) ≡ held.room
+  room_here =
+      let k : Knows slot own = knows slot own is in
+      ap (unused_of s) query_there ∙ room_is (left_of own.trail) own.trail s (sound slot own is) (owned slot own is) own.session k.session k.lives held k.told
+
+  module _ (c : ℕ) (some : IsSome (held.clients c)) where
+    pub client_here : IsClientOf s own.session c
+    client_here = (knows slot own is).client c some
+
+    pub client_lives : IsLive s.trackers c
+    client_lives = ap is_some client_here.lives
+
+    account_here : account_of c held ≡ record { limit = client_here.tracker.limit; reservation = client_here.tracker.reservation; unused = client_here.tracker.reservation - charge_of s c }
+    account_here =
+        let k : Knows slot own = knows slot own is in
+        ap (or_else no_account) (k.told.clients c ∙ account_is k.session.query (charge_of s c) (get s.trackers c) client_here.tracker client_here.lives (own_under s (sound slot own is) own.session k.session k.lives c client_here))
+
+    pub limit_here : limit_of s.trackers c ≡ (account_of c held).limit
+    limit_here = ap (λ (o : Option Tracker). (unwrap_or o no_tracker).limit) client_here.lives ∙ sym (ap (λ (a : Account). a.limit) account_here)
+
+    pub reservation_here : reservation_of s.trackers c ≡ (account_of c held).reservation
+    reservation_here = ap (λ (o : Option Tracker). (unwrap_or o no_tracker).reservation) client_here.lives ∙ sym (ap (λ (a : Account). a.reservation) account_here)
+
+    pub within_limit : reservation_of s.trackers c ≤ limit_of s.trackers c
+    within_limit =
+        let fits : FitsAccount (account_of c held) held = (knows slot own is).fits.accounts c some in
+        let low : (account_of c held).reservation ≤ (account_of c held).limit = fits.reservation in
+        let limit = limit_here in
+        let has = reservation_here in
+        omega (arith, low, limit, has)
+
+    -- a growth is refused as the store's clauses say it
+    pub growth_refused : (bytes : ℕ) → option_map no_reservation (growth_refusal s c bytes) ≡ reserve_refusal c bytes held
+    growth_refused bytes =
+        let o : Opening = is.opening in
+        let k : Knows slot own = knows slot own is in
+        let alone : State → Holdings = λ z. own_holdings o (record { above = Room (memory z); told = all_tell slot own.pool }) own.trail own.session in
+        let there : get (state_after o own.trail).sessions own.session ≡ Some k.session = ap (λ (z : State). get z.sessions own.session) (sym is.stands.state) ∙ k.lives in
+        let here : IsSome ((alone s).clients c) → option_map no_reservation (growth_refusal s c bytes) ≡ reserve_refusal c bytes (alone s) =
+        subst (λ (z : State). IsSome ((alone z).clients c) → option_map no_reservation (growth_refusal z c bytes) ≡ reserve_refusal c bytes (alone z)) (sym is.stands.state)
+        (legal_refuses_alone o (all_tell slot own.pool) own.trail is.stands.legal own.session is.alone k.session there c bytes) in
+        subst (λ (h : Holdings). IsSome (h.clients c) → option_map no_reservation (growth_refusal s c bytes) ≡ reserve_refusal c bytes h) (held_is slot own is) here some
+
+    pub fit_refused : (bytes : ℕ) → option_map no_reservation (fit_refusal s c bytes) ≡ reserve_refusal c (shortfall c bytes held) held
+    fit_refused bytes =
+        ap (λ (n : ℕ). option_map no_reservation (growth_refusal s c (bytes - n))) ((knows slot own is).unused_is c some) ∙ growth_refused (shortfall c bytes held)
+
+    -- a move of which nothing refuses
+    pub move_granted : (to bytes : ℕ) → IsSome (held.clients to) → move_refusal c to bytes held ≡ None → tree_move_refusal bytes c to s.trackers ≡ None
+    move_granted to bytes some_to none = unrefused (tree_move_refusal bytes c to s.trackers) ((knows slot own is).refuses.move c to bytes some some_to ∙ none)
+
+    -- the owner's client has nothing in the pool either
+    pub has_nothing : IsIdle c held → HasNothing s c
+    has_nothing idle =
+        let k : Knows slot own = knows slot own is in
+        record {
+          pages = no_page (left_of own.trail) s (sound slot own is) (owned slot own is) own.session k.session k.lives held k.told c client_here idle;
+          buffers = no_buffer (left_of own.trail) s (sound slot own is) (owned slot own is) own.session k.session k.lives held k.told c client_here idle;
+        }
+
+  pub count_is : client_count s own.session ≡ held.live_clients
+  unfolding count_under
+  count_is =
+      let k : Knows slot own = knows slot own is in
+      ap (λ (q : ℕ). count_under q s.trackers) query_there ∙ sym k.told.live_clients
