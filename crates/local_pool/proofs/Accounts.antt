@@ -1,5 +1,6 @@
 -- What the pool has for the owner's query and clients, as the owner holds it, and why a growth or a move is refused.
 use Rattle.std.proofs.Common.{◌≡◌, ◌≢◌, ℕ, ◌+◌, ◌-◌, ◌≤◌, ◌==◌, Bool, true, false, if◌then◌else◌, List, [], ◌∷◌, ◌++◌, Option, Some, None, IsSome, IfSome, IfNone, is_some, option_map, unwrap_or, Result, Ok, Err, IsOk, refl, sym, ap, ◌∙◌, subst, arith}
+use Rattle.std.proofs.lemmas.List.{append_assoc}
 use Rattle.std.specs.FinMap.{get}
 use Rattle.outside.specs.declared.slot.Slot.{Ghosts}
 use Rattle.reservation_tree.specs.declared.errors.PoolErr.{PoolErr}
@@ -9,7 +10,7 @@ use Rattle.reservation_tree.specs.Change.{move_refusal as tree_move_refusal}
 use Rattle.reservation_tree.specs.Tracker.{Tracker, IsLive, no_tracker, limit_of, reservation_of}
 use Rattle.reservation_tree.specs.Total.{total}
 use Rattle.pool_model.specs.declared.event.Event.{Event}
-use Rattle.pool_model.specs.declared.event.Event.TheVariants.{AddTracker, CloseTracker, Increase, IncreaseToFit, Decrease, MoveReservation}
+use Rattle.pool_model.specs.declared.event.Event.TheVariants.{AddTracker, CloseTracker, Increase, IncreaseToFit, Decrease, MoveReservation, PinLoad, StartWrite}
 use Rattle.pool_model.specs.declared.entry.Entry.{Entry}
 use Rattle.pool_model.specs.State.{Opening, Session, State}
 use Rattle.pool_model.specs.Sums.{charge_of, memory}
@@ -17,7 +18,8 @@ use Rattle.pool_model.specs.Owning.{IsClientOf}
 use Rattle.pool_model.specs.Sound.{IsQuery}
 use Rattle.pool_model.specs.Legal.{state_after}
 use Rattle.store_api.specs.Holdings.{Account, Holdings, Room, or_else, no_account, account_of, unused_of as unused_in}
-use Rattle.store_api.specs.Changes.{shortfall}
+use Rattle.store_api.specs.Changes.{shortfall, after_end_client}
+use Rattle.store_api.specs.Entries.{by}
 use Rattle.store_api.specs.Conditions.{FitsAccount, IsIdle}
 use Rattle.store_api.specs.Refusals.{reserve_refusal, move_refusal}
 use Rattle.own_entries.specs.OwnHoldings.{Outset, after_events, has_client, moved_between}
@@ -25,16 +27,23 @@ use Rattle.own_entries.specs.HeldLaws.{own_holdings}
 use Rattle.own_entries.specs.LiveParts.{count_under}
 use Rattle.own_entries.proofs.AloneRefused.{legal_refuses_alone}
 use Rattle.own_entries.proofs.ByItself.{room_is}
+use Rattle.own_entries.proofs.Calls.{calls_tell}
 use Rattle.own_entries.proofs.Facts.{own_under}
 use Rattle.own_entries.proofs.Idle.{no_page, no_buffer}
 use Rattle.own_entries.proofs.Views.{account_is}
 use Rattle.pin_core.specs.StateOf.{state_of}
 use Rattle.pin_core.specs.Sessions.{IsSeat, query_of, client_count}
 use Rattle.pin_core.specs.Sessions.{IsIdle as HasNothing}
-use Rattle.pin_core.specs.Entering.{unused_of, growth_refusal, fit_refusal}
+use Rattle.pin_core.specs.Standing.{Enters}
+use Rattle.pin_core.specs.Entering.{unused_of, growth_refusal, fit_refusal, client_entry}
+use Rattle.pin_core.specs.Opening.{leaving_entries}
 use Rattle.local_pool.specs.declared.owned.Owned.{Owned}
 use Rattle.local_pool.specs.Told.{all_tell, held_of}
-use Rattle.local_pool.specs.Standing.{Stands}
+use Rattle.local_pool.specs.Making.{Goes, Makes, is_calm}
+use Rattle.local_pool.specs.Standing.{IsStill, Stands}
+use Rattle.local_pool.proofs.Growing.{goes, grown_by, makes}
+use Rattle.local_pool.proofs.Asked.{one_more, makes_one}
+use Rattle.local_pool.proofs.Still.{rests, still_run}
 use Rattle.local_pool.proofs.Knowing.{Knows, knows, held_is, sound, owned, left_of}
 
 -- an error of the pool is the store's
@@ -50,6 +59,41 @@ granted_so (Some x) o same none = absurd (none refl)
 unrefused : (r : Option Refusal) → option_map no_reservation r ≡ None → r ≡ None
 unrefused None none = refl
 unrefused (Some x) none = let never : Some (no_reservation x) ≡ None = none in cc
+
+-- events that raise, lower or move reservation
+abbrev pub is_of_bytes : Event → Bool
+is_of_bytes (Increase t bytes) = true
+is_of_bytes (IncreaseToFit t bytes) = true
+is_of_bytes (Decrease t bytes) = true
+is_of_bytes (MoveReservation from to bytes) = true
+is_of_bytes _ = false
+
+bytes_calm : (e : Event) → is_of_bytes e ≡ true → is_calm e ≡ true
+bytes_calm (AddTracker t parent limit quota) of = let never : false ≡ true = of in cc
+bytes_calm (CloseTracker t) of = let never : false ≡ true = of in cc
+bytes_calm _ of = refl
+
+bytes_rest : (e : Event) → is_of_bytes e ≡ true → rests e ≡ true
+bytes_rest (PinLoad p) of = let never : false ≡ true = of in cc
+bytes_rest (StartWrite p) of = let never : false ≡ true = of in cc
+bytes_rest _ of = refl
+
+either_live : (b : Bool) (u v : Holdings) → is_some u.free_slots ≡ true → is_some v.free_slots ≡ true → is_some (if b then u else v).free_slots ≡ true
+either_live true u v is_u is_v = is_u
+either_live false u v is_u is_v = is_v
+
+move_live : (a b : Bool) (from to bytes : ℕ) (h : Holdings) → is_some h.free_slots ≡ true → is_some (moved_between a b from to bytes h).free_slots ≡ true
+move_live true true from to bytes h live = either_live (from == to) h _ live live
+move_live true false from to bytes h live = live
+move_live false true from to bytes h live = live
+move_live false false from to bytes h live = live
+
+bytes_live : (e : Event) (h : Holdings) → is_of_bytes e ≡ true → is_some h.free_slots ≡ true → is_some (after_events h (e ∷ [])).free_slots ≡ true
+bytes_live (Increase t bytes) h of live = either_live (has_client t h) _ _ live live
+bytes_live (IncreaseToFit t bytes) h of live = either_live (has_client t h) _ _ live live
+bytes_live (Decrease t bytes) h of live = either_live (has_client t h) _ _ live live
+bytes_live (MoveReservation from to bytes) h of live = move_live (has_client from h) (has_client to h) from to bytes h live
+bytes_live _ h of live = let never : false ≡ true = of in cc
 
 module _ {D : Type 0} (slot : Ghosts D) (own : Owned D) (is : Stands slot own) where
   abbrev s : State
@@ -137,3 +181,63 @@ module _ {D : Type 0} (slot : Ghosts D) (own : Owned D) (is : Stands slot own) w
   count_is =
       let k : Knows slot own = knows slot own is in
       ap (λ (q : ℕ). count_under q s.trackers) query_there ∙ sym k.told.live_clients
+
+  -- fewer than 16, so one may come
+  pub fewer : (client_count s own.session ≡ 16 → ⊥) → held.live_clients + 1 ≤ 16
+  fewer free =
+      let few : held.live_clients ≤ 16 = is.few in
+      let apart : held.live_clients ≢ 16 = λ all. free (count_is ∙ all) in
+      omega (arith, few, apart)
+
+  pub all_come : client_count s own.session ≡ 16 → 16 ≤ held.live_clients
+  all_come full = let count = count_is in omega (arith, count, full)
+
+  pub not_all : 16 ≤ held.live_clients → client_count s own.session ≡ 16
+  not_all full = let count = count_is in let few : held.live_clients ≤ 16 = is.few in omega (arith, count, full, few)
+
+  -- one entry more that grows or moves reservation
+  pub reserved_so : (e : Event) → is_of_bytes e ≡ true → (new : Owned D) → Enters slot (record { maker = own.session; event = e } ∷ []) [] [] own.pool new.pool
+      → new.trail ≡ own.trail ++ record { maker = own.session; event = e } ∷ [] → new.session ≡ own.session → Stands slot new × Makes slot (λ events. events ≡ e ∷ []) own new
+  reserved_so e of new enters trail session =
+      let went : Goes slot (e ∷ []) own new = goes slot own new (e ∷ []) trail session enters in
+      let live : is_some (after_events held (e ∷ [])).free_slots ≡ true = bytes_live e held of is.live in
+      (one_more slot own new is e went (bytes_calm e of) (bytes_rest e of) live, makes_one slot own new is e went (bytes_calm e of) (bytes_rest e of) live refl)
+
+  -- a client came
+  pub came : (t q limit : ℕ) (new : Owned D) → q ≡ query_of s own.session → (client_count s own.session ≡ 16 → ⊥)
+      → Enters slot (client_entry own.session (query_of s own.session) limit t ∷ []) [] [] own.pool new.pool
+      → new.trail ≡ own.trail ++ record { maker = own.session; event = AddTracker t q limit None } ∷ [] → new.session ≡ own.session
+      → Stands slot new × Makes slot (λ events. events ≡ AddTracker t held.query limit None ∷ []) own new
+  came t q limit new same free enters trail session =
+      let e : Event = AddTracker t held.query limit None in
+      let entered : Enters slot (by own.session (e ∷ [])) [] [] own.pool new.pool = subst (λ (k : ℕ). Enters slot (client_entry own.session k limit t ∷ []) [] [] own.pool new.pool) query_is enters in
+      let grew : new.trail ≡ own.trail ++ by own.session (e ∷ []) = subst (λ (k : ℕ). new.trail ≡ own.trail ++ client_entry own.session k limit t ∷ []) (same ∙ query_is) trail in
+      let went : Goes slot (e ∷ []) own new = goes slot own new (e ∷ []) grew session entered in
+      let still : IsStill (state_of new.pool) = subst IsStill (sym went.state) (still_run own.session (e ∷ []) s (refl, tt) is.still) in
+      let stands : Stands slot new = grown_by slot own new (e ∷ []) went is (refl, tt) is.live (fewer free) still in
+      (stands, makes slot own new (e ∷ []) went is stands refl)
+
+  -- a client went
+  pub left : (c t q bytes : ℕ) (new : Owned D) (first : List Entry) → IsSome (held.clients c) → IsIdle c held → t ≡ c → q ≡ query_of s own.session → bytes ≡ reservation_of s.trackers c
+      → Enters slot (leaving_entries s own.session c) [] [] own.pool new.pool
+      → first ≡ own.trail ++ record { maker = own.session; event = MoveReservation t q bytes } ∷ []
+      → new.trail ≡ first ++ record { maker = own.session; event = CloseTracker t } ∷ [] → new.session ≡ own.session
+      → Stands slot new × Makes slot (λ events. events ≡ MoveReservation c held.query (account_of c held).reservation ∷ CloseTracker c ∷ []) own new
+  left c t q bytes new first some idle same_t same_q same_bytes enters trail_first trail session =
+      let m : ℕ = own.session in
+      let events : List Event = MoveReservation c held.query (account_of c held).reservation ∷ CloseTracker c ∷ [] in
+      let has : reservation_of s.trackers c ≡ (account_of c held).reservation = reservation_here c some in
+      let goes_away : ℕ → ℕ → ℕ → List Entry = λ who to n. record { maker = m; event = MoveReservation who to n } ∷ record { maker = m; event = CloseTracker who } ∷ [] in
+      let entered : Enters slot (by m events) [] [] own.pool new.pool =
+      subst (λ (k : ℕ). Enters slot (goes_away c k (account_of c held).reservation) [] [] own.pool new.pool) query_is (subst (λ (n : ℕ). Enters slot (goes_away c (query_of s m) n) [] [] own.pool new.pool) has enters) in
+      let two : new.trail ≡ own.trail ++ goes_away t q bytes =
+      trail ∙ ap (λ (h : List Entry). h ++ record { maker = m; event = CloseTracker t } ∷ []) trail_first ∙ append_assoc own.trail (record { maker = m; event = MoveReservation t q bytes } ∷ []) (record { maker = m; event = CloseTracker t } ∷ []) in
+      let grew : new.trail ≡ own.trail ++ by m events =
+      two ∙ ap (λ (who : ℕ). own.trail ++ goes_away who q bytes) same_t ∙ ap (λ (to : ℕ). own.trail ++ goes_away c to bytes) (same_q ∙ query_is) ∙ ap (λ (n : ℕ). own.trail ++ goes_away c held.query n) (same_bytes ∙ has) in
+      let went : Goes slot events own new = goes slot own new events grew session entered in
+      let ends : after_events held events ≡ after_end_client c held = (calls_tell m held).end_client c some (knows slot own is).fits.apart in
+      let few : (after_end_client c held).live_clients ≤ 16 = let now : held.live_clients ≤ 16 = is.few in omega (arith, now) in
+      let still : IsStill (state_of new.pool) = subst IsStill (sym went.state) (still_run m events s (refl, (refl, tt)) is.still) in
+      let stands : Stands slot new =
+      grown_by slot own new events went is (refl, (refl, tt)) (ap (λ (h : Holdings). is_some h.free_slots) ends ∙ is.live) (subst (λ (h : Holdings). h.live_clients ≤ 16) (sym ends) few) still in
+      (stands, makes slot own new events went is stands refl)
