@@ -204,14 +204,14 @@ module _ {D : Type 0} (slot : Ghosts D) (own : Owned D) (is : Stands slot own) w
       (one_more slot own new is e went (bytes_calm e of) (bytes_rest e of) live, makes_one slot own new is e went (bytes_calm e of) (bytes_rest e of) live refl)
 
   -- a client came
-  pub came : (t q limit : ℕ) (new : Owned D) → q ≡ query_of s own.session → (client_count s own.session ≡ 16 → ⊥)
+  pub came : (t u q limit : ℕ) (new : Owned D) → u ≡ t → q ≡ query_of s own.session → (client_count s own.session ≡ 16 → ⊥)
       → Enters slot (client_entry own.session (query_of s own.session) limit t ∷ []) [] [] own.pool new.pool
-      → new.trail ≡ own.trail ++ record { maker = own.session; event = AddTracker t q limit None } ∷ [] → new.session ≡ own.session
+      → new.trail ≡ own.trail ++ record { maker = own.session; event = AddTracker u q limit None } ∷ [] → new.session ≡ own.session
       → Stands slot new × Makes slot (λ events. events ≡ AddTracker t held.query limit None ∷ []) own new
-  came t q limit new same free enters trail session =
+  came t u q limit new same_t same_q free enters trail session =
       let e : Event = AddTracker t held.query limit None in
       let entered : Enters slot (by own.session (e ∷ [])) [] [] own.pool new.pool = subst (λ (k : ℕ). Enters slot (client_entry own.session k limit t ∷ []) [] [] own.pool new.pool) query_is enters in
-      let grew : new.trail ≡ own.trail ++ by own.session (e ∷ []) = subst (λ (k : ℕ). new.trail ≡ own.trail ++ client_entry own.session k limit t ∷ []) (same ∙ query_is) trail in
+      let grew : new.trail ≡ own.trail ++ by own.session (e ∷ []) = trail ∙ ap (λ (k : ℕ). own.trail ++ client_entry own.session q limit k ∷ []) same_t ∙ ap (λ (k : ℕ). own.trail ++ client_entry own.session k limit t ∷ []) (same_q ∙ query_is) in
       let went : Goes slot (e ∷ []) own new = goes slot own new (e ∷ []) grew session entered in
       let still : IsStill (state_of new.pool) = subst IsStill (sym went.state) (still_run own.session (e ∷ []) s (refl, tt) is.still) in
       let stands : Stands slot new = grown_by slot own new (e ∷ []) went is (refl, tt) is.live (fewer free) still in

@@ -14,7 +14,7 @@ use Rattle.pool_model.specs.Legal.{run, state_after, IsLegal}
 use Rattle.pool_model.specs.LookingBack.{opens, made_by, names_in, name_in}
 use Rattle.pool_model.proofs.OwnEntries.{made_more}
 use Rattle.pool_model.proofs.Names.{legal_names_are_new}
-use Rattle.store_api.specs.Holdings.{Above, Room, Holdings}
+use Rattle.store_api.specs.Holdings.{Above, Room, Holdings, loan_of}
 use Rattle.store_api.specs.Entries.{by}
 use Rattle.own_entries.specs.OwnHoldings.{Outset, step, after_events, holdings_of, has_client, has_several_pins, moved_between}
 use Rattle.own_entries.specs.AboveLaws.{AllBy}
@@ -65,6 +65,7 @@ calm_count (Increase t bytes) h calm = either_count (has_client t h) _ _ h.live_
 calm_count (IncreaseToFit t bytes) h calm = either_count (has_client t h) _ _ h.live_clients refl refl
 calm_count (Decrease t bytes) h calm = either_count (has_client t h) _ _ h.live_clients refl refl
 calm_count (MoveReservation from to bytes) h calm = move_count (has_client from h) (has_client to h) from to bytes h
+calm_count (MoveBuffer f to) h calm = either_count ((loan_of f h).client == to) h _ h.live_clients refl refl
 calm_count (UnpinOnce p) h calm = either_count (has_several_pins p h) _ _ h.live_clients refl refl
 calm_count _ h calm = refl
 
