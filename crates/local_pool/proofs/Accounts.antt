@@ -17,6 +17,7 @@ use Rattle.pool_model.specs.Sums.{charge_of, memory}
 use Rattle.pool_model.specs.Owning.{IsClientOf}
 use Rattle.pool_model.specs.Sound.{IsQuery}
 use Rattle.pool_model.specs.Legal.{state_after}
+use Rattle.store_api.specs.Tokens.{ClientToken}
 use Rattle.store_api.specs.Holdings.{Account, Holdings, Room, or_else, no_account, account_of, unused_of as unused_in}
 use Rattle.store_api.specs.Changes.{shortfall, after_end_client}
 use Rattle.store_api.specs.Entries.{by}
@@ -59,6 +60,20 @@ granted_so (Some x) o same none = absurd (none refl)
 unrefused : (r : Option Refusal) → option_map no_reservation r ≡ None → r ≡ None
 unrefused None none = refl
 unrefused (Some x) none = let never : Some (no_reservation x) ≡ None = none in cc
+
+-- what follows of a result where the store's clause tells the error, and where it tells none
+pub with_error : (o : Option PoolErr) (r : Result (Unit {0}) PoolErr) (e : PoolErr) → o ≡ Some e → r ≡ Err e → IfSome o (λ x. r ≡ Err x)
+with_error o r e is same = subst (λ (z : Option PoolErr). IfSome z (λ x. r ≡ Err x)) (sym is) same
+
+pub but_error : (o : Option PoolErr) (r : Result (Unit {0}) PoolErr) (e : PoolErr) → o ≡ Some e → IfNone o (IsOk r)
+but_error o r e is = subst (λ (z : Option PoolErr). IfNone z (IsOk r)) (sym is) tt
+
+pub no_error : (o : Option PoolErr) (r : Result (Unit {0}) PoolErr) → o ≡ None → IfSome o (λ x. r ≡ Err x)
+no_error o r is = subst (λ (z : Option PoolErr). IfSome z (λ x. r ≡ Err x)) (sym is) tt
+
+-- the token that was made anew is one of the session, with this tracker
+pub same_token : (k : ClientToken) (m t c : ℕ) → k ≡ record { session = m; tracker = t } → t ≡ c → k ≡ record { session = m; tracker = c }
+same_token k m t c made same = made ∙ ap (λ (n : ℕ). record { session = m; tracker = n }) same
 
 -- events that raise, lower or move reservation
 abbrev pub is_of_bytes : Event → Bool
@@ -202,6 +217,15 @@ module _ {D : Type 0} (slot : Ghosts D) (own : Owned D) (is : Stands slot own) w
       let went : Goes slot (e ∷ []) own new = goes slot own new (e ∷ []) trail session enters in
       let live : is_some (after_events held (e ∷ [])).free_slots ≡ true = bytes_live e held of is.live in
       (one_more slot own new is e went (bytes_calm e of) (bytes_rest e of) live, makes_one slot own new is e went (bytes_calm e of) (bytes_rest e of) live refl)
+
+  -- by the call of a client whose token was made anew
+  pub reserved_by : (mine : ClientToken) (t c : ℕ) → mine ≡ record { session = own.session; tracker = t } → t ≡ c → (e : ℕ → Event) → ((k : ℕ) → is_of_bytes (e k) ≡ true)
+      → (new : Owned D) → Enters slot (record { maker = mine.session; event = e mine.tracker } ∷ []) [] [] own.pool new.pool
+      → new.trail ≡ own.trail ++ record { maker = own.session; event = e t } ∷ [] → new.session ≡ own.session → Stands slot new × Makes slot (λ events. events ≡ e c ∷ []) own new
+  reserved_by mine t c made same e of new enters trail session =
+      reserved_so (e c) (of c) new
+      (subst (λ (k : ClientToken). Enters slot (record { maker = k.session; event = e k.tracker } ∷ []) [] [] own.pool new.pool) (same_token mine own.session t c made same) enters)
+      (trail ∙ ap (λ (k : ℕ). own.trail ++ record { maker = own.session; event = e k } ∷ []) same) session
 
   -- a client came
   pub came : (t u q limit : ℕ) (new : Owned D) → u ≡ t → q ≡ query_of s own.session → (client_count s own.session ≡ 16 → ⊥)
