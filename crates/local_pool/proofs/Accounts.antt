@@ -1,9 +1,11 @@
 -- What the pool has for the owner's query and clients, as the owner holds it, and why a growth or a move is refused.
-use Rattle.std.proofs.Common.{◌≡◌, ◌≢◌, ℕ, ◌+◌, ◌-◌, ◌≤◌, ◌==◌, Bool, true, false, if◌then◌else◌, List, [], ◌∷◌, ◌++◌, Option, Some, None, IsSome, IfSome, IfNone, is_some, option_map, unwrap_or, Result, Ok, Err, IsOk, refl, sym, ap, ◌∙◌, subst, arith}
+use Rattle.std.proofs.Common.{◌≡◌, ◌≢◌, ℕ, ◌+◌, ◌-◌, ◌<◌, ◌≤◌, ◌==◌, Bool, true, false, if◌then◌else◌, List, [], ◌∷◌, ◌++◌, Option, Some, None, IsSome, IfSome, IfNone, is_some, option_map, unwrap_or, Result, Ok, Err, IsOk, IsErr, OnOk, refl, sym, ap, ◌∙◌, subst, arith, le-leb}
+use Rattle.std.proofs.lemmas.Bool.{false≢true, lt-leb}
 use Rattle.std.proofs.lemmas.List.{append_assoc}
 use Rattle.std.specs.FinMap.{get}
 use Rattle.outside.specs.declared.slot.Slot.{Ghosts}
 use Rattle.reservation_tree.specs.declared.errors.PoolErr.{PoolErr}
+use Rattle.reservation_tree.specs.declared.errors.PoolErr.TheVariants.{NoReservation}
 use Rattle.reservation_tree.specs.Answer.{no_reservation, IsFrom}
 use Rattle.reservation_tree.specs.Change.{Refusal, grow_refusal}
 use Rattle.reservation_tree.specs.Change.{move_refusal as tree_move_refusal}
@@ -20,9 +22,9 @@ use Rattle.pool_model.specs.Legal.{state_after}
 use Rattle.store_api.specs.Tokens.{ClientToken}
 use Rattle.store_api.specs.Holdings.{Account, Holdings, Room, or_else, no_account, account_of, unused_of as unused_in}
 use Rattle.store_api.specs.Changes.{shortfall, after_end_client}
-use Rattle.store_api.specs.Entries.{by}
+use Rattle.store_api.specs.Entries.{by, IsAsked}
 use Rattle.store_api.specs.Conditions.{FitsAccount, IsIdle}
-use Rattle.store_api.specs.Refusals.{reserve_refusal, move_refusal}
+use Rattle.store_api.specs.Refusals.{client_room, unless_fits, reserve_refusal, move_refusal}
 use Rattle.own_entries.specs.OwnHoldings.{Outset, after_events, has_client, moved_between}
 use Rattle.own_entries.specs.HeldLaws.{own_holdings}
 use Rattle.own_entries.specs.LiveParts.{count_under}
@@ -36,7 +38,7 @@ use Rattle.pin_core.specs.StateOf.{state_of}
 use Rattle.pin_core.specs.Sessions.{IsSeat, query_of, client_count}
 use Rattle.pin_core.specs.Sessions.{IsIdle as HasNothing}
 use Rattle.pin_core.specs.Standing.{Enters}
-use Rattle.pin_core.specs.Entering.{unused_of, growth_refusal, fit_refusal, client_entry}
+use Rattle.pin_core.specs.Entering.{unused_of, growth_refusal, fit_refusal, client_entry, move_entry}
 use Rattle.pin_core.specs.Opening.{leaving_entries}
 use Rattle.local_pool.specs.declared.owned.Owned.{Owned}
 use Rattle.local_pool.specs.Told.{all_tell, held_of}
@@ -44,6 +46,7 @@ use Rattle.local_pool.specs.Making.{Goes, Makes, is_calm}
 use Rattle.local_pool.specs.Standing.{IsStill, Stands}
 use Rattle.local_pool.proofs.Growing.{goes, grown_by, makes}
 use Rattle.local_pool.proofs.Asked.{one_more, makes_one}
+use Rattle.local_pool.proofs.Making.{asked_last, makes_more}
 use Rattle.local_pool.proofs.Still.{rests, still_run}
 use Rattle.local_pool.proofs.Knowing.{Knows, knows, held_is, sound, owned, left_of}
 
@@ -70,6 +73,15 @@ but_error o r e is = subst (λ (z : Option PoolErr). IfNone z (IsOk r)) (sym is)
 
 pub no_error : (o : Option PoolErr) (r : Result (Unit {0}) PoolErr) → o ≡ None → IfSome o (λ x. r ≡ Err x)
 no_error o r is = subst (λ (z : Option PoolErr). IfSome z (λ x. r ≡ Err x)) (sym is) tt
+
+-- a call that nothing refuses answers Ok, and did what it does then
+pub unrefused_ok : (r : Result (Unit {0}) PoolErr) (o : Option Refusal) → (IsErr r → IsSome o) → o ≡ None → IsOk r
+unrefused_ok (Ok x) o refused none = refl
+unrefused_ok (Err e) o refused none = absurd (false≢true (ap is_some (sym none) ∙ refused refl))
+
+pub of_ok : (P : Type 0) (r : Result (Unit {0}) PoolErr) → IsOk r → OnOk r P → P
+of_ok P (Ok x) ok is = is
+of_ok P (Err e) ok is = absurd (false≢true ok)
 
 -- the token that was made anew is one of the session, with this tracker
 pub same_token : (k : ClientToken) (m t c : ℕ) → k ≡ record { session = m; tracker = t } → t ≡ c → k ≡ record { session = m; tracker = c }
@@ -110,6 +122,24 @@ bytes_live (Decrease t bytes) h of live = either_live (has_client t h) _ _ live 
 bytes_live (MoveReservation from to bytes) h of live = move_live (has_client from h) (has_client to h) from to bytes h live
 bytes_live _ h of live = let never : false ≡ true = of in cc
 
+-- a move to another client, by whether it has room
+apart_refusal : (from to bytes : ℕ) (h : Holdings) → (from == to) ≡ false → move_refusal from to bytes h ≡ unless_fits to bytes (client_room to h) None
+apart_refusal from to bytes h apart = ap (λ (b : Bool). if b then None else unless_fits to bytes (client_room to h) None) apart
+
+pub move_fits : (from to bytes room : ℕ) (h : Holdings) → (from == to) ≡ false → room ≡ client_room to h → bytes ≤ room → move_refusal from to bytes h ≡ None
+move_fits from to bytes room h apart is fits =
+    apart_refusal from to bytes h apart ∙ ap (λ (n : ℕ). unless_fits to bytes n None) (sym is) ∙ ap (λ (b : Bool). if b then None else Some (NoReservation to bytes room)) (le-leb bytes room fits)
+
+pub move_passes : (from to bytes room : ℕ) (h : Holdings) → (from == to) ≡ false → room ≡ client_room to h → room < bytes → move_refusal from to bytes h ≡ Some (NoReservation to bytes room)
+move_passes from to bytes room h apart is passes =
+    apart_refusal from to bytes h apart ∙ ap (λ (n : ℕ). unless_fits to bytes n None) (sym is) ∙ ap (λ (b : Bool). if b then None else Some (NoReservation to bytes room)) (lt-leb bytes room passes)
+
+-- a call that asked and wrote, and then made this entry
+pub asked_then : {D : Type 0} (slot : Ghosts D) (t : ℕ) (e : Event) (start now new : Owned D) → Makes slot (IsAsked t (held_of slot start) []) start now → Makes slot (λ events. events ≡ e ∷ []) now new
+    → Makes slot (IsAsked t (held_of slot start) (e ∷ [])) start new
+asked_then slot t e start now new asked last =
+    makes_more slot start now new asked last (subst (λ (es : List Event). IsAsked t (held_of slot start) (e ∷ []) (asked.events ++ es)) (sym last.is) (asked_last t (held_of slot start) asked.events (e ∷ []) asked.is))
+
 module _ {D : Type 0} (slot : Ghosts D) (own : Owned D) (is : Stands slot own) where
   abbrev s : State
   s = state_of own.pool
@@ -143,6 +173,9 @@ module _ {D : Type 0} (slot : Ghosts D) (own : Owned D) (is : Stands slot own) w
     pub client_lives : IsLive s.trackers c
     client_lives = ap is_some client_here.lives
 
+    pub unused_here : (bytes : ℕ) → bytes ≤ unused_in c held → bytes ≤ unused_of s c
+    unused_here bytes fits = subst (λ (n : ℕ). bytes ≤ n) (sym ((knows slot own is).unused_is c some)) fits
+
     account_here : account_of c held ≡ record { limit = client_here.tracker.limit; reservation = client_here.tracker.reservation; unused = client_here.tracker.reservation - charge_of s c }
     account_here =
         let k : Knows slot own = knows slot own is in
@@ -161,6 +194,9 @@ module _ {D : Type 0} (slot : Ghosts D) (own : Owned D) (is : Stands slot own) w
         let limit = limit_here in
         let has = reservation_here in
         omega (arith, low, limit, has)
+
+    pub room_is_here : limit_of s.trackers c - reservation_of s.trackers c ≡ client_room c held
+    room_is_here = ap (λ (n : ℕ). n - reservation_of s.trackers c) limit_here ∙ ap (λ (n : ℕ). (account_of c held).limit - n) reservation_here
 
     -- a growth is refused as the store's clauses say it
     pub growth_refused : (bytes : ℕ) → option_map no_reservation (growth_refusal s c bytes) ≡ reserve_refusal c bytes held
@@ -226,6 +262,15 @@ module _ {D : Type 0} (slot : Ghosts D) (own : Owned D) (is : Stands slot own) w
       reserved_so (e c) (of c) new
       (subst (λ (k : ClientToken). Enters slot (record { maker = k.session; event = e k.tracker } ∷ []) [] [] own.pool new.pool) (same_token mine own.session t c made same) enters)
       (trail ∙ ap (λ (k : ℕ). own.trail ++ record { maker = own.session; event = e k } ∷ []) same) session
+
+  pub moved_by : (mine other : ClientToken) (a b from to bytes : ℕ) → mine ≡ record { session = own.session; tracker = a } → other ≡ record { session = own.session; tracker = b } → a ≡ from → b ≡ to
+      → (new : Owned D) → Enters slot (move_entry mine.session mine.tracker other.tracker bytes ∷ []) [] [] own.pool new.pool
+      → new.trail ≡ own.trail ++ record { maker = own.session; event = MoveReservation a b bytes } ∷ [] → new.session ≡ own.session
+      → Stands slot new × Makes slot (λ events. events ≡ MoveReservation from to bytes ∷ []) own new
+  moved_by mine other a b from to bytes made made_other same same_to new enters trail session =
+      reserved_by mine a from made same (λ k. MoveReservation k to bytes) (λ k. refl) new
+      (subst (λ (k : ClientToken). Enters slot (move_entry mine.session mine.tracker k.tracker bytes ∷ []) [] [] own.pool new.pool) (same_token other own.session b to made_other same_to) enters)
+      (trail ∙ ap (λ (k : ℕ). own.trail ++ record { maker = own.session; event = MoveReservation a k bytes } ∷ []) same_to) session
 
   -- a client came
   pub came : (t u q limit : ℕ) (new : Owned D) → u ≡ t → q ≡ query_of s own.session → (client_count s own.session ≡ 16 → ⊥)
