@@ -1,5 +1,5 @@
 -- What the pool has for the owner's query and clients, as the owner holds it, and why a growth or a move is refused.
-use Rattle.std.proofs.Common.{◌≡◌, ◌≢◌, ℕ, ◌+◌, ◌-◌, ◌<◌, ◌≤◌, ◌==◌, Bool, true, false, if◌then◌else◌, List, [], ◌∷◌, ◌++◌, Option, Some, None, IsSome, IfSome, IfNone, is_some, option_map, unwrap_or, Result, Ok, Err, IsOk, IsErr, OnOk, refl, sym, ap, ◌∙◌, subst, arith, le-leb}
+use Rattle.std.proofs.Common.{◌≡◌, ◌≢◌, ℕ, ◌+◌, ◌-◌, ◌<◌, ◌≤◌, ◌==◌, Bool, true, false, if◌then◌else◌, List, [], ◌∷◌, ◌++◌, Option, Some, None, IsSome, IfSome, IfNone, is_some, option_map, unwrap_or, Result, Ok, Err, is_ok, IsOk, IsErr, OnOk, refl, sym, ap, ◌∙◌, subst, arith, le-leb}
 use Rattle.std.proofs.lemmas.Bool.{false≢true, lt-leb}
 use Rattle.std.proofs.lemmas.List.{append_assoc}
 use Rattle.std.specs.FinMap.{get}
@@ -73,6 +73,11 @@ but_error o r e is = subst (λ (z : Option PoolErr). IfNone z (IsOk r)) (sym is)
 
 pub no_error : (o : Option PoolErr) (r : Result (Unit {0}) PoolErr) → o ≡ None → IfSome o (λ x. r ≡ Err x)
 no_error o r is = subst (λ (z : Option PoolErr). IfSome z (λ x. r ≡ Err x)) (sym is) tt
+
+-- the clause tells no error of a call that answered Ok
+pub no_error_told : (o : Option PoolErr) (r : Result (Unit {0}) PoolErr) → IsOk r → IfSome o (λ x. r ≡ Err x) → o ≡ None
+no_error_told None r ok told = refl
+no_error_told (Some e) r ok told = absurd (false≢true (ap is_ok (sym told) ∙ ok))
 
 -- a call that nothing refuses answers Ok, and did what it does then
 pub unrefused_ok : (r : Result (Unit {0}) PoolErr) (o : Option Refusal) → (IsErr r → IsSome o) → o ≡ None → IsOk r
