@@ -51,12 +51,12 @@ use Rattle.local_pool.proofs.Still.{rests, still_run}
 use Rattle.local_pool.proofs.Knowing.{Knows, knows, held_is, sound, owned, left_of}
 
 -- an error of the pool is the store's
-pub refused_so : (r : Option Refusal) (o : Option PoolErr) (e : PoolErr) → option_map no_reservation r ≡ o → IsFrom r e → o ≡ Some e
+refused_so : (r : Option Refusal) (o : Option PoolErr) (e : PoolErr) → option_map no_reservation r ≡ o → IsFrom r e → o ≡ Some e
 refused_so None o e same from = absurd from
 refused_so (Some x) o e same from = sym same ∙ ap Some (sym from)
 
 -- and nothing refuses where the pool refuses nothing
-pub granted_so : (r : Option Refusal) (o : Option PoolErr) → option_map no_reservation r ≡ o → (IsSome r → ⊥) → o ≡ None
+granted_so : (r : Option Refusal) (o : Option PoolErr) → option_map no_reservation r ≡ o → (IsSome r → ⊥) → o ≡ None
 granted_so None o same none = sym same
 granted_so (Some x) o same none = absurd (none refl)
 
@@ -88,12 +88,8 @@ pub of_ok : (P : Type 0) (r : Result (Unit {0}) PoolErr) → IsOk r → OnOk r P
 of_ok P (Ok x) ok is = is
 of_ok P (Err e) ok is = absurd (false≢true ok)
 
--- the token that was made anew is one of the session, with this tracker
-pub same_token : (k : ClientToken) (m t c : ℕ) → k ≡ record { session = m; tracker = t } → t ≡ c → k ≡ record { session = m; tracker = c }
-same_token k m t c made same = made ∙ ap (λ (n : ℕ). record { session = m; tracker = n }) same
-
 -- events that raise, lower or move reservation
-abbrev pub is_of_bytes : Event → Bool
+abbrev is_of_bytes : Event → Bool
 is_of_bytes (Increase t bytes) = true
 is_of_bytes (IncreaseToFit t bytes) = true
 is_of_bytes (Decrease t bytes) = true
@@ -131,11 +127,11 @@ bytes_live _ h of live = let never : false ≡ true = of in cc
 apart_refusal : (from to bytes : ℕ) (h : Holdings) → (from == to) ≡ false → move_refusal from to bytes h ≡ unless_fits to bytes (client_room to h) None
 apart_refusal from to bytes h apart = ap (λ (b : Bool). if b then None else unless_fits to bytes (client_room to h) None) apart
 
-pub move_fits : (from to bytes room : ℕ) (h : Holdings) → (from == to) ≡ false → room ≡ client_room to h → bytes ≤ room → move_refusal from to bytes h ≡ None
+move_fits : (from to bytes room : ℕ) (h : Holdings) → (from == to) ≡ false → room ≡ client_room to h → bytes ≤ room → move_refusal from to bytes h ≡ None
 move_fits from to bytes room h apart is fits =
     apart_refusal from to bytes h apart ∙ ap (λ (n : ℕ). unless_fits to bytes n None) (sym is) ∙ ap (λ (b : Bool). if b then None else Some (NoReservation to bytes room)) (le-leb bytes room fits)
 
-pub move_passes : (from to bytes room : ℕ) (h : Holdings) → (from == to) ≡ false → room ≡ client_room to h → room < bytes → move_refusal from to bytes h ≡ Some (NoReservation to bytes room)
+move_passes : (from to bytes room : ℕ) (h : Holdings) → (from == to) ≡ false → room ≡ client_room to h → room < bytes → move_refusal from to bytes h ≡ Some (NoReservation to bytes room)
 move_passes from to bytes room h apart is passes =
     apart_refusal from to bytes h apart ∙ ap (λ (n : ℕ). unless_fits to bytes n None) (sym is) ∙ ap (λ (b : Bool). if b then None else Some (NoReservation to bytes room)) (lt-leb bytes room passes)
 
@@ -158,7 +154,7 @@ module _ {D : Type 0} (slot : Ghosts D) (own : Owned D) (is : Stands slot own) w
   query_there : query_of s own.session ≡ (knows slot own is).session.query
   query_there = ap (λ (o : Option Session). unwrap_or (option_map (λ x. x.query) o) 0) (knows slot own is).lives
 
-  pub query_is : query_of s own.session ≡ held.query
+  query_is : query_of s own.session ≡ held.query
   query_is = query_there ∙ sym (knows slot own is).told.tracker
 
   pub query_lives : IsLive s.trackers (query_of s own.session)
@@ -178,7 +174,7 @@ module _ {D : Type 0} (slot : Ghosts D) (own : Owned D) (is : Stands slot own) w
     pub client_lives : IsLive s.trackers c
     client_lives = ap is_some client_here.lives
 
-    pub unused_here : (bytes : ℕ) → bytes ≤ unused_in c held → bytes ≤ unused_of s c
+    unused_here : (bytes : ℕ) → bytes ≤ unused_in c held → bytes ≤ unused_of s c
     unused_here bytes fits = subst (λ (n : ℕ). bytes ≤ n) (sym ((knows slot own is).unused_is c some)) fits
 
     account_here : account_of c held ≡ record { limit = client_here.tracker.limit; reservation = client_here.tracker.reservation; unused = client_here.tracker.reservation - charge_of s c }
@@ -186,13 +182,13 @@ module _ {D : Type 0} (slot : Ghosts D) (own : Owned D) (is : Stands slot own) w
         let k : Knows slot own = knows slot own is in
         ap (or_else no_account) (k.told.clients c ∙ account_is k.session.query (charge_of s c) (get s.trackers c) client_here.tracker client_here.lives (own_under s (sound slot own is) own.session k.session k.lives c client_here))
 
-    pub limit_here : limit_of s.trackers c ≡ (account_of c held).limit
+    limit_here : limit_of s.trackers c ≡ (account_of c held).limit
     limit_here = ap (λ (o : Option Tracker). (unwrap_or o no_tracker).limit) client_here.lives ∙ sym (ap (λ (a : Account). a.limit) account_here)
 
-    pub reservation_here : reservation_of s.trackers c ≡ (account_of c held).reservation
+    reservation_here : reservation_of s.trackers c ≡ (account_of c held).reservation
     reservation_here = ap (λ (o : Option Tracker). (unwrap_or o no_tracker).reservation) client_here.lives ∙ sym (ap (λ (a : Account). a.reservation) account_here)
 
-    pub within_limit : reservation_of s.trackers c ≤ limit_of s.trackers c
+    within_limit : reservation_of s.trackers c ≤ limit_of s.trackers c
     within_limit =
         let fits : FitsAccount (account_of c held) held = (knows slot own is).fits.accounts c some in
         let low : (account_of c held).reservation ≤ (account_of c held).limit = fits.reservation in
@@ -200,11 +196,11 @@ module _ {D : Type 0} (slot : Ghosts D) (own : Owned D) (is : Stands slot own) w
         let has = reservation_here in
         omega (arith, low, limit, has)
 
-    pub room_is_here : limit_of s.trackers c - reservation_of s.trackers c ≡ client_room c held
+    room_is_here : limit_of s.trackers c - reservation_of s.trackers c ≡ client_room c held
     room_is_here = ap (λ (n : ℕ). n - reservation_of s.trackers c) limit_here ∙ ap (λ (n : ℕ). (account_of c held).limit - n) reservation_here
 
     -- a growth is refused as the store's clauses say it
-    pub growth_refused : (bytes : ℕ) → option_map no_reservation (growth_refusal s c bytes) ≡ reserve_refusal c bytes held
+    growth_refused : (bytes : ℕ) → option_map no_reservation (growth_refusal s c bytes) ≡ reserve_refusal c bytes held
     growth_refused bytes =
         let o : Opening = is.opening in
         let k : Knows slot own = knows slot own is in
@@ -215,12 +211,12 @@ module _ {D : Type 0} (slot : Ghosts D) (own : Owned D) (is : Stands slot own) w
         (legal_refuses_alone o (all_tell slot own.pool) own.trail is.stands.legal own.session is.alone k.session there c bytes) in
         subst (λ (h : Holdings). IsSome (h.clients c) → option_map no_reservation (growth_refusal s c bytes) ≡ reserve_refusal c bytes h) (held_is slot own is) here some
 
-    pub fit_refused : (bytes : ℕ) → option_map no_reservation (fit_refusal s c bytes) ≡ reserve_refusal c (shortfall c bytes held) held
+    fit_refused : (bytes : ℕ) → option_map no_reservation (fit_refusal s c bytes) ≡ reserve_refusal c (shortfall c bytes held) held
     fit_refused bytes =
         ap (λ (n : ℕ). option_map no_reservation (growth_refusal s c (bytes - n))) ((knows slot own is).unused_is c some) ∙ growth_refused (shortfall c bytes held)
 
     -- a move of which nothing refuses
-    pub move_granted : (to bytes : ℕ) → IsSome (held.clients to) → move_refusal c to bytes held ≡ None → tree_move_refusal bytes c to s.trackers ≡ None
+    move_granted : (to bytes : ℕ) → IsSome (held.clients to) → move_refusal c to bytes held ≡ None → tree_move_refusal bytes c to s.trackers ≡ None
     move_granted to bytes some_to none = unrefused (tree_move_refusal bytes c to s.trackers) ((knows slot own is).refuses.move c to bytes some some_to ∙ none)
 
     -- the owner's client has nothing in the pool either
@@ -232,14 +228,14 @@ module _ {D : Type 0} (slot : Ghosts D) (own : Owned D) (is : Stands slot own) w
           buffers = no_buffer (left_of own.trail) s (sound slot own is) (owned slot own is) own.session k.session k.lives held k.told c client_here idle;
         }
 
-  pub count_is : client_count s own.session ≡ held.live_clients
+  count_is : client_count s own.session ≡ held.live_clients
   unfolding count_under
   count_is =
       let k : Knows slot own = knows slot own is in
       ap (λ (q : ℕ). count_under q s.trackers) query_there ∙ sym k.told.live_clients
 
   -- fewer than 16, so one may come
-  pub fewer : (client_count s own.session ≡ 16 → ⊥) → held.live_clients + 1 ≤ 16
+  fewer : (client_count s own.session ≡ 16 → ⊥) → held.live_clients + 1 ≤ 16
   fewer free =
       let few : held.live_clients ≤ 16 = is.few in
       let apart : held.live_clients ≢ 16 = λ all. free (count_is ∙ all) in
@@ -252,30 +248,12 @@ module _ {D : Type 0} (slot : Ghosts D) (own : Owned D) (is : Stands slot own) w
   not_all full = let count = count_is in let few : held.live_clients ≤ 16 = is.few in omega (arith, count, full, few)
 
   -- one entry more that grows or moves reservation
-  pub reserved_so : (e : Event) → is_of_bytes e ≡ true → (new : Owned D) → Enters slot (record { maker = own.session; event = e } ∷ []) [] [] own.pool new.pool
+  reserved_so : (e : Event) → is_of_bytes e ≡ true → (new : Owned D) → Enters slot (record { maker = own.session; event = e } ∷ []) [] [] own.pool new.pool
       → new.trail ≡ own.trail ++ record { maker = own.session; event = e } ∷ [] → new.session ≡ own.session → Stands slot new × Makes slot (λ events. events ≡ e ∷ []) own new
   reserved_so e of new enters trail session =
       let went : Goes slot (e ∷ []) own new = goes slot own new (e ∷ []) trail session enters in
       let live : is_some (after_events held (e ∷ [])).free_slots ≡ true = bytes_live e held of is.live in
       (one_more slot own new is e went (bytes_calm e of) (bytes_rest e of) live, makes_one slot own new is e went (bytes_calm e of) (bytes_rest e of) live refl)
-
-  -- by the call of a client whose token was made anew
-  pub reserved_by : (mine : ClientToken) (t c : ℕ) → mine ≡ record { session = own.session; tracker = t } → t ≡ c → (e : ℕ → Event) → ((k : ℕ) → is_of_bytes (e k) ≡ true)
-      → (new : Owned D) → Enters slot (record { maker = mine.session; event = e mine.tracker } ∷ []) [] [] own.pool new.pool
-      → new.trail ≡ own.trail ++ record { maker = own.session; event = e t } ∷ [] → new.session ≡ own.session → Stands slot new × Makes slot (λ events. events ≡ e c ∷ []) own new
-  reserved_by mine t c made same e of new enters trail session =
-      reserved_so (e c) (of c) new
-      (subst (λ (k : ClientToken). Enters slot (record { maker = k.session; event = e k.tracker } ∷ []) [] [] own.pool new.pool) (same_token mine own.session t c made same) enters)
-      (trail ∙ ap (λ (k : ℕ). own.trail ++ record { maker = own.session; event = e k } ∷ []) same) session
-
-  pub moved_by : (mine other : ClientToken) (a b from to bytes : ℕ) → mine ≡ record { session = own.session; tracker = a } → other ≡ record { session = own.session; tracker = b } → a ≡ from → b ≡ to
-      → (new : Owned D) → Enters slot (move_entry mine.session mine.tracker other.tracker bytes ∷ []) [] [] own.pool new.pool
-      → new.trail ≡ own.trail ++ record { maker = own.session; event = MoveReservation a b bytes } ∷ [] → new.session ≡ own.session
-      → Stands slot new × Makes slot (λ events. events ≡ MoveReservation from to bytes ∷ []) own new
-  moved_by mine other a b from to bytes made made_other same same_to new enters trail session =
-      reserved_by mine a from made same (λ k. MoveReservation k to bytes) (λ k. refl) new
-      (subst (λ (k : ClientToken). Enters slot (move_entry mine.session mine.tracker k.tracker bytes ∷ []) [] [] own.pool new.pool) (same_token other own.session b to made_other same_to) enters)
-      (trail ∙ ap (λ (k : ℕ). own.trail ++ record { maker = own.session; event = MoveReservation a k bytes } ∷ []) same_to) session
 
   -- a client came
   pub came : (t u q limit : ℕ) (new : Owned D) → u ≡ t → q ≡ query_of s own.session → (client_count s own.session ≡ 16 → ⊥)
@@ -315,3 +293,104 @@ module _ {D : Type 0} (slot : Ghosts D) (own : Owned D) (is : Stands slot own) w
       let stands : Stands slot new =
       grown_by slot own new events went is (refl, (refl, tt)) (ap (λ (h : Holdings). is_some h.free_slots) ends ∙ is.live) (subst (λ (h : Holdings). h.live_clients ≤ 16) (sym ends) few) still in
       (stands, makes slot own new events went is stands refl)
+
+  -- what a call sees of the owner's value, by its contract
+  module _ (now : Owned D) (view : own ≡ now) where
+    pub lives_here : (c : ℕ) → IsSome ((held_of slot now).clients c) → IsSome (held.clients c)
+    lives_here c some = subst (λ (o : Owned D). IsSome ((held_of slot o).clients c)) (sym view) some
+
+    pub idle_here : (c : ℕ) → IsIdle c (held_of slot now) → IsIdle c held
+    idle_here c idle = subst (λ (o : Owned D). IsIdle c (held_of slot o)) (sym view) idle
+
+    -- a client whose token was made anew
+    module _ (mine : ClientToken) (t c : ℕ) (made : mine ≡ record { session = own.session; tracker = t }) (same : t ≡ c) where
+      pub token_is : mine ≡ record { session = own.session; tracker = c }
+      token_is = made ∙ ap (λ (n : ℕ). record { session = own.session; tracker = n }) same
+
+      pub reserved_by : (e : ℕ → Event) → ((k : ℕ) → is_of_bytes (e k) ≡ true) → (new : Owned D) → Enters slot (record { maker = mine.session; event = e mine.tracker } ∷ []) [] [] own.pool new.pool
+          → new.trail ≡ own.trail ++ record { maker = own.session; event = e t } ∷ [] → new.session ≡ own.session → Stands slot new × Makes slot (λ events. events ≡ e c ∷ []) now new
+      reserved_by e of new enters trail session =
+          let both : Stands slot new × Makes slot (λ events. events ≡ e c ∷ []) own new =
+          reserved_so (e c) (of c) new
+          (subst (λ (k : ClientToken). Enters slot (record { maker = k.session; event = e k.tracker } ∷ []) [] [] own.pool new.pool) token_is enters)
+          (trail ∙ ap (λ (k : ℕ). own.trail ++ record { maker = own.session; event = e k } ∷ []) same) session in
+          (both.0, subst (λ (o : Owned D). Makes slot (λ events. events ≡ e c ∷ []) o new) view both.1)
+
+      module _ (some : IsSome ((held_of slot now).clients c)) where
+        pub token_client : IsClientOf s mine.session mine.tracker
+        token_client = subst (λ (k : ClientToken). IsClientOf s k.session k.tracker) (sym token_is) (client_here c (lives_here c some))
+
+        pub token_unused : (bytes : ℕ) → bytes ≤ unused_in c (held_of slot now) → bytes ≤ unused_of s mine.tracker
+        token_unused bytes fits =
+            subst (λ (k : ClientToken). bytes ≤ unused_of s k.tracker) (sym token_is) (unused_here c (lives_here c some) bytes (subst (λ (o : Owned D). bytes ≤ unused_in c (held_of slot o)) (sym view) fits))
+
+        -- why it can't grow, if it can't
+        growth_told : (bytes : ℕ) → option_map no_reservation (growth_refusal s mine.tracker bytes) ≡ reserve_refusal c bytes (held_of slot now)
+        growth_told bytes =
+            ap (λ (k : ClientToken). option_map no_reservation (growth_refusal s k.tracker bytes)) token_is ∙ growth_refused c (lives_here c some) bytes ∙ ap (λ (o : Owned D). reserve_refusal c bytes (held_of slot o)) view
+
+        pub growth_error : (bytes : ℕ) (e : PoolErr) → IsFrom (growth_refusal s mine.tracker bytes) e → reserve_refusal c bytes (held_of slot now) ≡ Some e
+        growth_error bytes e from = refused_so (growth_refusal s mine.tracker bytes) (reserve_refusal c bytes (held_of slot now)) e (growth_told bytes) from
+
+        pub growth_free : (bytes : ℕ) → (IsSome (growth_refusal s mine.tracker bytes) → false ≡ true) → reserve_refusal c bytes (held_of slot now) ≡ None
+        growth_free bytes none = granted_so (growth_refusal s mine.tracker bytes) (reserve_refusal c bytes (held_of slot now)) (growth_told bytes) (λ is. false≢true (none is))
+
+        fit_told : (bytes : ℕ) → option_map no_reservation (fit_refusal s mine.tracker bytes) ≡ reserve_refusal c (shortfall c bytes (held_of slot now)) (held_of slot now)
+        fit_told bytes =
+            ap (λ (k : ClientToken). option_map no_reservation (fit_refusal s k.tracker bytes)) token_is ∙ fit_refused c (lives_here c some) bytes ∙ ap (λ (o : Owned D). reserve_refusal c (shortfall c bytes (held_of slot o)) (held_of slot o)) view
+
+        pub fit_error : (bytes : ℕ) (e : PoolErr) → IsFrom (fit_refusal s mine.tracker bytes) e → reserve_refusal c (shortfall c bytes (held_of slot now)) (held_of slot now) ≡ Some e
+        fit_error bytes e from = refused_so (fit_refusal s mine.tracker bytes) (reserve_refusal c (shortfall c bytes (held_of slot now)) (held_of slot now)) e (fit_told bytes) from
+
+        pub fit_free : (bytes : ℕ) → (IsSome (fit_refusal s mine.tracker bytes) → false ≡ true) → reserve_refusal c (shortfall c bytes (held_of slot now)) (held_of slot now) ≡ None
+        fit_free bytes none = granted_so (fit_refusal s mine.tracker bytes) (reserve_refusal c (shortfall c bytes (held_of slot now)) (held_of slot now)) (fit_told bytes) (λ is. false≢true (none is))
+
+      -- to another
+      module _ (other : ClientToken) (u to : ℕ) (made_other : other ≡ record { session = own.session; tracker = u }) (same_to : u ≡ to) where
+        other_is : other ≡ record { session = own.session; tracker = to }
+        other_is = made_other ∙ ap (λ (n : ℕ). record { session = own.session; tracker = n }) same_to
+
+        pub moved_by : (bytes : ℕ) (new : Owned D) → Enters slot (move_entry mine.session mine.tracker other.tracker bytes ∷ []) [] [] own.pool new.pool
+            → new.trail ≡ own.trail ++ record { maker = own.session; event = MoveReservation t u bytes } ∷ [] → new.session ≡ own.session
+            → Stands slot new × Makes slot (λ events. events ≡ MoveReservation c to bytes ∷ []) now new
+        moved_by bytes new enters trail session =
+            reserved_by (λ k. MoveReservation k to bytes) (λ k. refl) new
+            (subst (λ (k : ClientToken). Enters slot (move_entry mine.session mine.tracker k.tracker bytes ∷ []) [] [] own.pool new.pool) other_is enters)
+            (trail ∙ ap (λ (k : ℕ). own.trail ++ record { maker = own.session; event = MoveReservation t k bytes } ∷ []) same_to) session
+
+        pub other_client : IsSome ((held_of slot now).clients to) → IsClientOf s mine.session other.tracker
+        other_client some =
+            subst (λ (k : ClientToken). IsClientOf s k.session other.tracker) (sym made) (subst (λ (k : ClientToken). IsClientOf s own.session k.tracker) (sym other_is) (client_here to (lives_here to some)))
+
+        pub unrefused_here : IsSome ((held_of slot now).clients c) → IsSome ((held_of slot now).clients to) → (bytes : ℕ) → move_refusal c to bytes (held_of slot now) ≡ None
+            → tree_move_refusal bytes mine.tracker other.tracker s.trackers ≡ None
+        unrefused_here some some_to bytes none =
+            ap (λ (k : ClientToken). tree_move_refusal bytes k.tracker other.tracker s.trackers) token_is ∙ ap (λ (k : ClientToken). tree_move_refusal bytes c k.tracker s.trackers) other_is
+            ∙ move_granted c (lives_here c some) to bytes (lives_here to some_to) (subst (λ (o : Owned D). move_refusal c to bytes (held_of slot o) ≡ None) (sym view) none)
+
+    -- a client that is read
+    module _ (t c : ℕ) (same : t ≡ c) (some : IsSome ((held_of slot now).clients c)) where
+      pub read_lives : IsLive s.trackers t
+      read_lives = subst (IsLive s.trackers) (sym same) (client_lives c (lives_here c some))
+
+      -- and its limit and reservation
+      module _ (limit reservation : ℕ) (limit_is : limit ≡ limit_of s.trackers t) (reservation_is : reservation ≡ reservation_of s.trackers t) where
+        pub no_less : reservation ≤ limit
+        no_less =
+            let low : reservation_of s.trackers t ≤ limit_of s.trackers t = subst (λ (k : ℕ). reservation_of s.trackers k ≤ limit_of s.trackers k) (sym same) (within_limit c (lives_here c some)) in
+            omega (arith, low, limit_is, reservation_is)
+
+        read_room : limit - reservation ≡ client_room c (held_of slot now)
+        read_room =
+            ap (λ (n : ℕ). n - reservation) limit_is ∙ ap (λ (n : ℕ). limit_of s.trackers t - n) reservation_is ∙ ap (λ (k : ℕ). limit_of s.trackers k - reservation_of s.trackers k) same
+            ∙ room_is_here c (lives_here c some) ∙ ap (λ (o : Owned D). client_room c (held_of slot o)) view
+
+        module _ (u from : ℕ) (same_from : u ≡ from) (apart : false ≡ (u == t)) where
+          apart_here : (from == c) ≡ false
+          apart_here = ap (λ (k : ℕ). k == c) (sym same_from) ∙ ap (λ (k : ℕ). u == k) (sym same) ∙ sym apart
+
+          pub move_free : (bytes : ℕ) → bytes ≤ limit - reservation → move_refusal from c bytes (held_of slot now) ≡ None
+          move_free bytes fits = move_fits from c bytes (limit - reservation) (held_of slot now) apart_here read_room fits
+
+          pub move_error : (bytes : ℕ) → limit - reservation < bytes → move_refusal from c bytes (held_of slot now) ≡ Some (NoReservation c bytes (limit - reservation))
+          move_error bytes passes = move_passes from c bytes (limit - reservation) (held_of slot now) apart_here read_room passes
