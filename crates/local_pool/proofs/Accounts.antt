@@ -168,10 +168,10 @@ module _ {D : Type 0} (slot : Ghosts D) (own : Owned D) (is : Stands slot own) w
       ap (unused_of s) query_there ∙ room_is (left_of own.trail) own.trail s (sound slot own is) (owned slot own is) own.session k.session k.lives held k.told
 
   module _ (c : ℕ) (some : IsSome (held.clients c)) where
-    pub client_here : IsClientOf s own.session c
+    client_here : IsClientOf s own.session c
     client_here = (knows slot own is).client c some
 
-    pub client_lives : IsLive s.trackers c
+    client_lives : IsLive s.trackers c
     client_lives = ap is_some client_here.lives
 
     unused_here : (bytes : ℕ) → bytes ≤ unused_in c held → bytes ≤ unused_of s c
@@ -220,7 +220,7 @@ module _ {D : Type 0} (slot : Ghosts D) (own : Owned D) (is : Stands slot own) w
     move_granted to bytes some_to none = unrefused (tree_move_refusal bytes c to s.trackers) ((knows slot own is).refuses.move c to bytes some some_to ∙ none)
 
     -- the owner's client has nothing in the pool either
-    pub has_nothing : IsIdle c held → HasNothing s c
+    has_nothing : IsIdle c held → HasNothing s c
     has_nothing idle =
         let k : Knows slot own = knows slot own is in
         record {
@@ -270,7 +270,7 @@ module _ {D : Type 0} (slot : Ghosts D) (own : Owned D) (is : Stands slot own) w
       (stands, makes slot own new (e ∷ []) went is stands refl)
 
   -- a client went
-  pub left : (c t q bytes : ℕ) (new : Owned D) (first : List Entry) → IsSome (held.clients c) → IsIdle c held → t ≡ c → q ≡ query_of s own.session → bytes ≡ reservation_of s.trackers c
+  left : (c t q bytes : ℕ) (new : Owned D) (first : List Entry) → IsSome (held.clients c) → IsIdle c held → t ≡ c → q ≡ query_of s own.session → bytes ≡ reservation_of s.trackers c
       → Enters slot (leaving_entries s own.session c) [] [] own.pool new.pool
       → first ≡ own.trail ++ record { maker = own.session; event = MoveReservation t q bytes } ∷ []
       → new.trail ≡ first ++ record { maker = own.session; event = CloseTracker t } ∷ [] → new.session ≡ own.session
@@ -296,15 +296,15 @@ module _ {D : Type 0} (slot : Ghosts D) (own : Owned D) (is : Stands slot own) w
 
   -- what a call sees of the owner's value, by its contract
   module _ (now : Owned D) (view : own ≡ now) where
-    pub lives_here : (c : ℕ) → IsSome ((held_of slot now).clients c) → IsSome (held.clients c)
+    lives_here : (c : ℕ) → IsSome ((held_of slot now).clients c) → IsSome (held.clients c)
     lives_here c some = subst (λ (o : Owned D). IsSome ((held_of slot o).clients c)) (sym view) some
 
-    pub idle_here : (c : ℕ) → IsIdle c (held_of slot now) → IsIdle c held
+    idle_here : (c : ℕ) → IsIdle c (held_of slot now) → IsIdle c held
     idle_here c idle = subst (λ (o : Owned D). IsIdle c (held_of slot o)) (sym view) idle
 
     -- a client whose token was made anew
     module _ (mine : ClientToken) (t c : ℕ) (made : mine ≡ record { session = own.session; tracker = t }) (same : t ≡ c) where
-      pub token_is : mine ≡ record { session = own.session; tracker = c }
+      token_is : mine ≡ record { session = own.session; tracker = c }
       token_is = made ∙ ap (λ (n : ℕ). record { session = own.session; tracker = n }) same
 
       pub reserved_by : (e : ℕ → Event) → ((k : ℕ) → is_of_bytes (e k) ≡ true) → (new : Owned D) → Enters slot (record { maker = mine.session; event = e mine.tracker } ∷ []) [] [] own.pool new.pool
@@ -344,6 +344,21 @@ module _ {D : Type 0} (slot : Ghosts D) (own : Owned D) (is : Stands slot own) w
 
         pub fit_free : (bytes : ℕ) → (IsSome (fit_refusal s mine.tracker bytes) → false ≡ true) → reserve_refusal c (shortfall c bytes (held_of slot now)) (held_of slot now) ≡ None
         fit_free bytes none = granted_so (fit_refusal s mine.tracker bytes) (reserve_refusal c (shortfall c bytes (held_of slot now)) (held_of slot now)) (fit_told bytes) (λ is. false≢true (none is))
+
+        pub token_idle : IsIdle c (held_of slot now) → HasNothing s mine.tracker
+        token_idle idle = subst (λ (k : ClientToken). HasNothing s k.tracker) (sym token_is) (has_nothing c (lives_here c some) (idle_here c idle))
+
+        -- it went
+        pub went : IsIdle c (held_of slot now) → (u q bytes : ℕ) (new : Owned D) (first : List Entry) → u ≡ c → q ≡ query_of s own.session → bytes ≡ reservation_of s.trackers u
+            → Enters slot (leaving_entries s mine.session mine.tracker) [] [] own.pool new.pool
+            → first ≡ own.trail ++ record { maker = own.session; event = MoveReservation u q bytes } ∷ []
+            → new.trail ≡ first ++ record { maker = own.session; event = CloseTracker u } ∷ [] → new.session ≡ own.session
+            → Stands slot new × Makes slot (λ events. events ≡ MoveReservation c (held_of slot now).query (account_of c (held_of slot now)).reservation ∷ CloseTracker c ∷ []) now new
+        went idle u q bytes new first same_u same_q same_bytes enters trail_first trail session =
+            let both : Stands slot new × Makes slot (λ events. events ≡ MoveReservation c held.query (account_of c held).reservation ∷ CloseTracker c ∷ []) own new =
+            left c u q bytes new first (lives_here c some) (idle_here c idle) same_u same_q (same_bytes ∙ ap (reservation_of s.trackers) same_u)
+            (subst (λ (k : ClientToken). Enters slot (leaving_entries s k.session k.tracker) [] [] own.pool new.pool) token_is enters) trail_first trail session in
+            (both.0, subst (λ (o : Owned D). Makes slot (λ events. events ≡ MoveReservation c (held_of slot o).query (account_of c (held_of slot o)).reservation ∷ CloseTracker c ∷ []) o new) view both.1)
 
       -- to another
       module _ (other : ClientToken) (u to : ℕ) (made_other : other ≡ record { session = own.session; tracker = u }) (same_to : u ≡ to) where

@@ -1,4 +1,4 @@
-use Rattle.std.proofs.Common.{◌≡◌, ℕ, sym, ap, ◌∙◌, subst}
+use Rattle.std.proofs.Common.{sym, ap, ◌∙◌, subst}
 use Rattle.reservation_tree.specs.Tracker.{IsLive}
 use Rattle.pin_core.specs.StateOf.{state_of}
 use Rattle.pin_core.specs.Entering.{unused_of}

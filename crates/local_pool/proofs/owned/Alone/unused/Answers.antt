@@ -1,5 +1,4 @@
-use Rattle.std.proofs.Common.{◌≡◌, ℕ, IsSome, sym, ap, ◌∙◌, subst}
-use Rattle.reservation_tree.specs.Tracker.{IsLive}
+use Rattle.std.proofs.Common.{sym, ap, ◌∙◌, subst}
 use Rattle.pin_core.specs.StateOf.{state_of}
 use Rattle.pin_core.specs.Entering.{unused_of}
 use Rattle.store_api.specs.Holdings.{account_of}
@@ -8,13 +7,11 @@ use Rattle.store_api.specs.Conditions.{FitsAccount, IsLiveClient}
 use Rattle.local_pool.specs.declared.owned.Owned.{Owned}
 use Rattle.local_pool.specs.Told.{held_of}
 use Rattle.local_pool.proofs.Knowing.{knows}
-use Rattle.local_pool.proofs.Accounts.{client_lives}
+use Rattle.local_pool.proofs.Accounts.{read_lives}
 use Rattle.local_pool.proofs.owned.Alone.unused.Goals as goal
 
 pub unused-requires-after_bounds : goal.unused-requires-after_bounds
-unused-requires-after_bounds g c κs within =
-    subst (IsLive (state_of c.self.inside.own.pool).trackers) (sym c.tracker.ensures)
-    (client_lives g.D.Slot c.self.inside.own c.self.invariant c.args.c.now.tracker (subst (λ (o : Owned g.row.D.Denot). IsLiveClient c.args.c.now (held_of g.D.Slot o)) (sym c.self.view_is) c.requires))
+unused-requires-after_bounds g c κs within = read_lives g.D.Slot c.self.inside.own c.self.invariant c.args.self.now c.self.view_is c.tracker.result c.args.c.now.tracker c.tracker.ensures c.requires
 
 pub returns-clause-value : goal.returns-clause-value
 returns-clause-value g c =
