@@ -103,6 +103,7 @@ module _ {D : Type 0} (slot : Ghosts D) (own : Owned D) (q limit quota least : �
       whole = subst (λ (h : List Entry). made_by h own.session ≡ h) (sym trail) (first_made own.session q limit quota least);
       number = number;
       live = ap (λ (h : Holdings). is_some h.free_slots) held_first;
+      few = let none : (held_of slot own).live_clients ≡ 0 = ap (λ (h : Holdings). h.live_clients) held_first in omega (arith, none);
       still = λ p x there. let none : None ≡ Some x = sym (no_page p) ∙ there in cc;
     }
 

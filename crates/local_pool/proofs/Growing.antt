@@ -14,9 +14,9 @@ use Rattle.pool_model.specs.Legal.{run, state_after, IsLegal}
 use Rattle.pool_model.specs.LookingBack.{opens, made_by, names_in, name_in}
 use Rattle.pool_model.proofs.OwnEntries.{made_more}
 use Rattle.pool_model.proofs.Names.{legal_names_are_new}
-use Rattle.store_api.specs.Holdings.{Above, Room, Holdings}
+use Rattle.store_api.specs.Holdings.{Above, Room, Holdings, loan_of}
 use Rattle.store_api.specs.Entries.{by}
-use Rattle.own_entries.specs.OwnHoldings.{Outset, after_events, holdings_of}
+use Rattle.own_entries.specs.OwnHoldings.{Outset, step, after_events, holdings_of, has_client, has_several_pins, moved_between}
 use Rattle.own_entries.specs.AboveLaws.{AllBy}
 use Rattle.own_entries.proofs.Calls.{calls_run_on}
 use Rattle.pin_core.specs.declared.parts.Parts.{Parts}
@@ -35,9 +35,43 @@ by_append m (e ∷ a) b = ap (λ (es : List Entry). record { maker = m; event = 
 abbrev pub AllCalm : List Event → Type 0
 AllCalm events = AllByRecursion (λ e. is_calm e ≡ true) events
 
+-- no session is opened by these
+abbrev pub NoneOpens : List Event → Type 0
+NoneOpens events = AllByRecursion (λ e. opens e ≡ false) events
+
 calm_opens : (e : Event) → is_calm e ≡ true → opens e ≡ false
 calm_opens (AddTracker t parent limit quota) calm = let never : false ≡ true = calm in cc
 calm_opens _ calm = refl
+
+none_opens : (events : List Event) → AllCalm events → NoneOpens events
+none_opens [] calm = tt
+none_opens (e ∷ events) calm = (calm_opens e calm.0, none_opens events calm.1)
+
+-- nor does a client come or go with them
+either_count : (b : Bool) (u v : Holdings) (n : ℕ) → u.live_clients ≡ n → v.live_clients ≡ n → (if b then u else v).live_clients ≡ n
+either_count true u v n is_u is_v = is_u
+either_count false u v n is_u is_v = is_v
+
+move_count : (a b : Bool) (from to bytes : ℕ) (h : Holdings) → (moved_between a b from to bytes h).live_clients ≡ h.live_clients
+move_count true true from to bytes h = either_count (from == to) h _ h.live_clients refl refl
+move_count true false from to bytes h = refl
+move_count false true from to bytes h = refl
+move_count false false from to bytes h = refl
+
+calm_count : (e : Event) (h : Holdings) → is_calm e ≡ true → (step e h).live_clients ≡ h.live_clients
+calm_count (AddTracker t parent limit quota) h calm = let never : false ≡ true = calm in cc
+calm_count (CloseTracker t) h calm = let never : false ≡ true = calm in cc
+calm_count (Increase t bytes) h calm = either_count (has_client t h) _ _ h.live_clients refl refl
+calm_count (IncreaseToFit t bytes) h calm = either_count (has_client t h) _ _ h.live_clients refl refl
+calm_count (Decrease t bytes) h calm = either_count (has_client t h) _ _ h.live_clients refl refl
+calm_count (MoveReservation from to bytes) h calm = move_count (has_client from h) (has_client to h) from to bytes h
+calm_count (MoveBuffer f to) h calm = either_count ((loan_of f h).client == to) h _ h.live_clients refl refl
+calm_count (UnpinOnce p) h calm = either_count (has_several_pins p h) _ _ h.live_clients refl refl
+calm_count _ h calm = refl
+
+calm_counts : (events : List Event) (h : Holdings) → AllCalm events → (after_events h events).live_clients ≡ h.live_clients
+calm_counts [] h calm = refl
+calm_counts (e ∷ events) h calm = calm_counts events (step e h) calm.1 ∙ calm_count e h calm.0
 
 -- the trail is the owner's alone
 pub alone_more : (m : ℕ) (h : List Entry) (events : List Event) → AllBy m h → AllBy m (h ++ by m events)
@@ -46,13 +80,13 @@ alone_more m [] (e ∷ events) all = (refl, alone_more m [] events tt)
 alone_more m (d ∷ h) events all = (all.0, alone_more m h events all.1)
 
 -- and all of it is from its opening on
-pub whole_more : (m : ℕ) (h : List Entry) (events : List Event) → AllCalm events → made_by h m ≡ h → made_by (h ++ by m events) m ≡ h ++ by m events
-whole_more m h [] calm whole = ap (λ (es : List Entry). made_by es m) (append-nil h) ∙ whole ∙ sym (append-nil h)
-whole_more m h (e ∷ events) calm whole =
+pub whole_more : (m : ℕ) (h : List Entry) (events : List Event) → NoneOpens events → made_by h m ≡ h → made_by (h ++ by m events) m ≡ h ++ by m events
+whole_more m h [] none whole = ap (λ (es : List Entry). made_by es m) (append-nil h) ∙ whole ∙ sym (append-nil h)
+whole_more m h (e ∷ events) none whole =
     let d : Entry = record { maker = m; event = e } in
-    let one : made_by (h ++ d ∷ []) m ≡ h ++ d ∷ [] = made_more h d m refl (calm_opens e calm.0) ∙ ap (λ (es : List Entry). es ++ d ∷ []) whole in
+    let one : made_by (h ++ d ∷ []) m ≡ h ++ d ∷ [] = made_more h d m refl none.0 ∙ ap (λ (es : List Entry). es ++ d ∷ []) whole in
     let same : (h ++ d ∷ []) ++ by m events ≡ h ++ d ∷ by m events = append_assoc h (d ∷ []) (by m events) in
-    subst (λ (es : List Entry). made_by es m ≡ es) same (whole_more m (h ++ d ∷ []) events calm.1 one)
+    subst (λ (es : List Entry). made_by es m ≡ es) same (whole_more m (h ++ d ∷ []) events none.1 one)
 
 names_more : (a b : List Entry) → length (names_in (a ++ b)) ≡ length (names_in a) + length (names_in b)
 names_more a b = ap length (filter_map-append (λ (e : Entry). name_in e.event) a b) ∙ length-append (names_in a) (names_in b)
@@ -105,16 +139,21 @@ module _ {D : Type 0} (slot : Ghosts D) where
         ∙ calls_run_on (state_of old.pool).block_len old.session (outset_of slot old.pool) old.trail events
 
     -- what is kept between calls is kept
-    pub grown : Stands slot old → AllCalm events → is_some (after_events (held_of slot old) events).free_slots ≡ true → IsStill (state_of new.pool) → Stands slot new
-    grown was calm live still = record {
+    pub grown_by : Stands slot old → NoneOpens events → is_some (after_events (held_of slot old) events).free_slots ≡ true → (after_events (held_of slot old) events).live_clients ≤ 16 → IsStill (state_of new.pool) → Stands slot new
+    grown_by was none live few still = record {
       opening = was.opening;
       stands = went.stands was.opening was.stands;
       alone = subst (λ (h : List Entry). AllBy new.session h) (sym went.trail) (subst (λ (m : ℕ). AllBy m (old.trail ++ by old.session events)) (sym went.session) (alone_more old.session old.trail events was.alone));
-      whole = subst (λ (h : List Entry). made_by h new.session ≡ h) (sym went.trail) (subst (λ (m : ℕ). made_by (old.trail ++ by old.session events) m ≡ old.trail ++ by old.session events) (sym went.session) (whole_more old.session old.trail events calm was.whole));
+      whole = subst (λ (h : List Entry). made_by h new.session ≡ h) (sym went.trail) (subst (λ (m : ℕ). made_by (old.trail ++ by old.session events) m ≡ old.trail ++ by old.session events) (sym went.session) (whole_more old.session old.trail events none was.whole));
       number = subst (λ (m : ℕ). m < 240) (sym went.session) was.number;
       live = ap (λ (h : Holdings). is_some h.free_slots) goes_held ∙ live;
+      few = subst (λ (h : Holdings). h.live_clients ≤ 16) (sym goes_held) few;
       still = still;
     }
+
+    pub grown : Stands slot old → AllCalm events → is_some (after_events (held_of slot old) events).free_slots ≡ true → IsStill (state_of new.pool) → Stands slot new
+    grown was calm live still =
+        grown_by was (none_opens events calm) live (subst (λ (n : ℕ). n ≤ 16) (sym (calm_counts events (held_of slot old) calm)) was.few) still
 
     -- and the call made these events
     pub makes : {P : List Event → Type 0} → Stands slot old → Stands slot new → P events → Makes slot P old new

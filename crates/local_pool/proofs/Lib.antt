@@ -10,3 +10,4 @@ pub mod Making
 pub mod Roomed
 pub mod Begun
 pub mod Ended
+pub mod Accounts

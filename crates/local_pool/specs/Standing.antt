@@ -1,5 +1,5 @@
 -- What one owner's pool keeps true between calls.
-use Rattle.std.specs.Prelude.{◌≡◌, ◌≢◌, ℕ, ◌<◌, Bool, true, false, Some, is_some}
+use Rattle.std.specs.Prelude.{◌≡◌, ◌≢◌, ℕ, ◌<◌, ◌≤◌, Bool, true, false, Some, is_some}
 use Rattle.std.specs.FinMap.{get}
 use Rattle.outside.specs.declared.slot.Slot.{Ghosts}
 use Rattle.pool_model.specs.State.{Opening, Place, Flying, Loading, Page, Pages, State}
@@ -36,4 +36,5 @@ pub record Stands {D : Type 0} (slot : Ghosts D) (own : Owned D) : Type 0 where
   pub whole : made_by own.trail own.session ≡ own.trail
   pub number : own.session < 240
   pub live : is_some (held_of slot own).free_slots ≡ true
+  pub few : (held_of slot own).live_clients ≤ 16
   pub still : IsStill (state_of own.pool)

@@ -84,16 +84,17 @@ impl<D: Slot + Drop> Alone<D> {
         ensures refused { IfSome (move_refusal from.now.tracker to.now.tracker bytes (held_of D.Slot self.now)) (λ e. result ≡ Err e) }
         ensures granted { IfNone (move_refusal from.now.tracker to.now.tracker bytes (held_of D.Slot self.now)) (IsOk result) }
     {
-        if from.tracker() == to.tracker() {
+        let getter = to.tracker();
+        if from.tracker() == getter {
             return Ok(());
         }
         let pool = &self.own.pool;
-        let room = pool.limit(to.tracker()) - pool.reservation(to.tracker());
+        let room = pool.limit(getter) - pool.reservation(getter);
         if bytes <= room {
             return Ok(());
         }
         Err(PoolErr::NoReservation {
-            tracker: to.tracker(),
+            tracker: getter,
             wanted: bytes,
             room,
         })

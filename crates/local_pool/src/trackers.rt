@@ -27,8 +27,8 @@ impl<D: Slot + Drop> Alone<D> {
         ensures err { OnErr result (self.new ≡ self.old) }
     {
         let own = &mut self.own;
-        let c = own.pool.add_client(own.session, limit)?;
         let query = own.pool.tracker(own.session);
+        let c = own.pool.add_client(own.session, limit)?;
         enter(
             &mut own.trail,
             own.session,
