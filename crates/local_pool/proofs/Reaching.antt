@@ -1,5 +1,5 @@
 -- The pages and loans that the owner holds, as the pool has them.
-use Rattle.std.proofs.Common.{◌≡◌, ℕ, ◌*◌, ◌+◌, ◌≤◌, ◌<◌, List, [], ◌∷◌, ◌++◌, Option, Some, None, IsSome, is_some, unwrap_or, Bool, true, false, if◌then◌else◌, refl, sym, ap, ◌∙◌, subst, arith}
+use Rattle.std.proofs.Common.{◌≡◌, ◌≢◌, ℕ, ◌*◌, ◌+◌, ◌≤◌, ◌<◌, ◌==◌, List, [], ◌∷◌, ◌++◌, Option, Some, None, IsSome, is_some, unwrap_or, Bool, true, false, if◌then◌else◌, refl, sym, ap, ◌∙◌, subst, arith}
 use Rattle.std.specs.FinMap.{get}
 use Rattle.outside.specs.declared.slot.Slot.{Ghosts}
 use Rattle.reservation_tree.specs.Tracker.{reservation_of}
@@ -13,7 +13,7 @@ use Rattle.store_api.specs.Tokens.{ClientToken, PageToken, LoanToken}
 use Rattle.store_api.specs.Holdings.{Holdings, LivePage, LiveLoan, or_else, page_of, loan_of, page_len, loan_len}
 use Rattle.store_api.specs.Holdings.{no_page as no_live_page, no_loan}
 use Rattle.store_api.specs.Conditions.{IsPage as HoldsPage, IsLoan as HoldsLoan}
-use Rattle.store_api.specs.Changes.{after_unpin_once}
+use Rattle.store_api.specs.Changes.{after_unpin_once, with_loan, charged, released}
 use Rattle.store_api.specs.Entries.{by}
 use Rattle.own_entries.specs.OwnHoldings.{after_events, has_several_pins}
 use Rattle.own_entries.specs.LiveParts.{left_at}
@@ -24,7 +24,7 @@ use Rattle.pin_core.specs.StateOf.{state_of}
 use Rattle.pin_core.specs.Standing.{Enters}
 use Rattle.pin_core.specs.Needs.{IsPage}
 use Rattle.pin_core.specs.Pins.{IsPinned, HasPinToSpare, HasRoomFor}
-use Rattle.pin_core.specs.Lending.{IsLoan, CanMoveTo}
+use Rattle.pin_core.specs.Lending.{IsLoan, CanMoveTo, move_entry}
 use Rattle.local_pool.specs.declared.owned.Owned.{Owned}
 use Rattle.local_pool.specs.Told.{held_of}
 use Rattle.local_pool.specs.Making.{Goes}
@@ -41,13 +41,17 @@ pinned_so Loading some = absurd (omega (arith, some))
 pinned_so Clean some = absurd (omega (arith, some))
 pinned_so Evicted some = absurd (omega (arith, some))
 
--- the free slots stay where a pin ends
-slots_stay : (p : ℕ) (h : Holdings) (b : Bool) → is_some h.free_slots ≡ true → is_some (if b then after_unpin_once p h else h).free_slots ≡ true
-slots_stay p h true live = live
-slots_stay p h false live = live
+either_lives : (a b : Holdings) (c : Bool) → is_some a.free_slots ≡ true → is_some b.free_slots ≡ true → is_some (if c then a else b).free_slots ≡ true
+either_lives a b true one other = one
+either_lives a b false one other = other
 
+-- the session lives on where a pin ends, and where a loan moves
 pub once_live : (p : ℕ) (h : Holdings) → is_some h.free_slots ≡ true → is_some (after_events h (UnpinOnce p ∷ [])).free_slots ≡ true
-once_live p h live = slots_stay p h (has_several_pins p h) live
+once_live p h live = either_lives (after_unpin_once p h) h (has_several_pins p h) live live
+
+pub moved_live : (f t : ℕ) (h : Holdings) → is_some h.free_slots ≡ true → is_some (after_events h (MoveBuffer f t ∷ [])).free_slots ≡ true
+moved_live f t h live =
+    either_lives h (with_loan f (Some (record (loan_of f h) { client = t })) (charged t (loan_len f h) (released (loan_of f h).client (loan_len f h) h))) ((loan_of f h).client == t) live live
 
 module _ {D : Type 0} (slot : Ghosts D) (own : Owned D) (is : Stands slot own) where
   abbrev s : State
@@ -154,3 +158,12 @@ module _ {D : Type 0} (slot : Ghosts D) (own : Owned D) (is : Stands slot own) w
       own_to = (knows slot own is).client t live;
       room = λ apart. room_here t _ _ (sym loan_len_here) room;
     }
+
+    pub goes_moved : (t : ℕ) (mine : ClientToken) (f u : ℕ) → f ≡ l.number → u ≡ t → mine ≡ record { session = own.session; tracker = u } → l.client ≢ t
+        → (new : Owned D) → new.trail ≡ own.trail ++ by own.session (MoveBuffer f u ∷ []) → new.session ≡ own.session
+        → (l.client ≢ mine.tracker → Enters slot (move_entry mine l.number ∷ []) [] [] own.pool new.pool) → Goes slot (MoveBuffer l.number t ∷ []) own new
+    goes_moved t mine f u number tracker token apart new trail session enters =
+        let it : mine ≡ record { session = own.session; tracker = t } = token ∙ ap (λ (k : ℕ). record { session = own.session; tracker = k }) tracker in
+        goes slot own new (MoveBuffer l.number t ∷ [])
+        (trail ∙ ap (λ (k : ℕ). own.trail ++ by own.session (MoveBuffer k u ∷ [])) number ∙ ap (λ (k : ℕ). own.trail ++ by own.session (MoveBuffer l.number k ∷ [])) tracker) session
+        (subst (λ (c : ClientToken). l.client ≢ c.tracker → Enters slot (move_entry c l.number ∷ []) [] [] own.pool new.pool) it enters apart)

@@ -1,5 +1,5 @@
 //! Pages are pinned once more, or once less, and loans change hands.
-ghost use Rattle.std.specs.Prelude.{◌≡◌, ◌≢◌, ◌≤◌, [], ◌∷◌, IsOk, IfOk, IfErr, OnOk};
+ghost use Rattle.std.specs.Prelude.{◌≡◌, ◌≢◌, ◌≤◌, [], ◌∷◌, IsSome, IfOk, IfErr, OnOk};
 ghost use Rattle.pool_model.specs.declared.call.Call.TheVariants as call;
 ghost use Rattle.pool_model.specs.declared.event.Event.TheVariants as event;
 ghost use Rattle.pool_model.specs.Sums.{HasRoom};
@@ -38,10 +38,11 @@ impl<D: Slot + Drop> Alone<D> {
         Ok(())
     }
 
-    // The length of a page.
+    // The length of a page, whose client lives.
     fn page_len(&self, p: &Page) -> u64
-        requires page { IsPage p.now (held_of D.Slot self.now) }
-        ensures { result ≡ page_len p.now.name (held_of D.Slot self.now) }
+        requires { IsPage p.now (held_of D.Slot self.now) }
+        ensures len { result ≡ page_len p.now.name (held_of D.Slot self.now) }
+        ensures client { IsSome ((held_of D.Slot self.now).clients p.now.client) }
     {
         self.own.pool.page_len(p)
     }
