@@ -130,23 +130,21 @@ fn create_named<G: Adds<Entry>, D: Slot + Drop>(
     let mine = Client::of(own.session, client);
     let made = own.pool.create_now(&mine, shell, slots);
     mine.into_tracker();
-    match made {
-        Ok((page, buf)) => {
-            enter_evictions::<G>(&mut own.trail);
-            enter(
-                &mut own.trail,
-                own.session,
-                Event::Create {
-                    page: page.name(),
-                    client,
-                    blocks,
-                    key: page.key(),
-                },
-            );
-            Ok((page, buf))
-        }
-        Err((_, _, e)) => Err(e),
-    }
+    let Ok((page, buf)) = made else {
+        return Err(PoolErr::NamesSpent);
+    };
+    enter_evictions::<G>(&mut own.trail);
+    enter(
+        &mut own.trail,
+        own.session,
+        Event::Create {
+            page: page.name(),
+            client,
+            blocks,
+            key: page.key(),
+        },
+    );
+    Ok((page, buf))
 }
 
 // The same of a loan.
