@@ -1,7 +1,7 @@
 -- What a call made that asked first, and what comes while clean pages go.
 use Rattle.std.proofs.Common.{◌≡◌, ◌≢◌, ℕ, zero, suc, ◌+◌, ◌*◌, ◌≤◌, ◌<◌, List, [], ◌∷◌, ◌++◌, map, length, replicate, Result, Ok, Err, Option, Some, None, IsSome, is_some, Bool, true, false, IfOk, IfErr, All, refl, sym, ap, ◌∙◌, subst, arith, le-leb, inl, inr}
 use Rattle.std.proofs.lemmas.Bool.{leb-true, cases_lt, false≢true, ne_eqb}
-use Rattle.std.proofs.lemmas.List.{append_assoc, length-replicate}
+use Rattle.std.proofs.lemmas.List.{append_assoc, append-nil, length-replicate}
 use Rattle.std.proofs.lemmas.List.Elements.{All-from_recursion}
 use Rattle.std.specs.FinMap.{get}
 use Rattle.std.specs.List.{AllByRecursion}
@@ -24,11 +24,9 @@ use Rattle.store_api.specs.Tokens.{ClientToken, PageToken, LoanToken}
 use Rattle.store_api.specs.Holdings.{Holdings, length_of}
 use Rattle.store_api.specs.Conditions.{IsBlockCount, IsZeroed}
 use Rattle.store_api.specs.Entries.{by, IsEvict, IsAsked, IsTaken}
-use Rattle.store_api.specs.Refusals.{WasRefused}
+use Rattle.store_api.specs.Refusals.{WasRefused, MayRefuse}
 use Rattle.own_entries.specs.OwnHoldings.{after_events}
-use Rattle.own_entries.proofs.Calls.{asked_hold}
 use Rattle.own_entries.proofs.ByOthers.{none_there}
-use Rattle.own_entries.proofs.Views.{len_is}
 use Rattle.pin_core.specs.StateOf.{state_of}
 use Rattle.pin_core.specs.Standing.{Enters}
 use Rattle.pin_core.specs.Evictions.{evictions, names_gone}
@@ -41,7 +39,7 @@ use Rattle.local_pool.specs.Calling.{Evicts, evicts_for, IsFreshPage, IsFreshLoa
 use Rattle.local_pool.proofs.Growing.{by_append, goes, grown, makes}
 use Rattle.local_pool.proofs.Knowing.{knows, sound}
 use Rattle.local_pool.proofs.Still.{rests, still_run}
-use Rattle.local_pool.proofs.Making.{makes_more, makes_grows, makes_held, asked_last, asked_held, whose}
+use Rattle.local_pool.proofs.Making.{makes_more, makes_made, asked_last, asked_held}
 use Rattle.local_pool.proofs.Reaching.{len_here, room_here}
 
 some_blocks : (blocks : ℕ) → IsBlockCount blocks → 0 < blocks
@@ -177,3 +175,48 @@ module _ {D : Type 0} (slot : Ghosts D) where
     pub names_spent : s.next_name ≡ 18446744073709551615 → (signs_of own).spent ≡ true
     unfolding signs_of
     names_spent last = le-leb 18446744073709551615 s.next_name (omega (arith, last))
+
+  -- the page that came, or the refusal for want of a name
+  module _ (own new : Owned D) (is : Stands slot own) (t blocks : ℕ) where
+    abbrev Came : PageToken × Buffer → Type 0
+    Came made = Goes slot (evicts_for blocks own ++ Create made.0.name t blocks made.0.key ∷ []) own new
+
+    abbrev Spent : PoolErr → Type 0
+    Spent e = (e ≡ NamesSpent) × (new ≡ own) × ((state_of own.pool).next_name ≡ 18446744073709551615)
+
+    pub stands_created : (r : Result (PageToken × Buffer) PoolErr) → IfOk r Came → IfErr r Spent → Stands slot new
+    stands_created (Ok made) came spent = stands_evicting own new is blocks (Create made.0.name t blocks made.0.key) came refl refl is.live
+    stands_created (Err e) came spent = subst (Stands slot) (sym spent.1) is
+
+    pub makes_created : (r : Result (PageToken × Buffer) PoolErr) → IfOk r Came → IfOk r (λ made. Makes slot (Evicts (Create made.0.name t blocks made.0.key ∷ [])) own new)
+    makes_created (Ok made) came = makes_evicting own new is blocks (Create made.0.name t blocks made.0.key) came refl refl is.live
+    makes_created (Err e) came = tt
+
+    pub fresh_created : (r : Result (PageToken × Buffer) PoolErr) → IfOk r (λ made. made.0 ≡ record { name = (state_of own.pool).next_name; key = made.0.key; client = t })
+        → IfOk r (λ made. made.1 ≡ zeros blocks (state_of own.pool).block_len) → IfOk r (λ made. made.0.name < 18446744073709551615) → IfOk r (λ made. IsFreshPage t blocks made own (held_of slot own))
+    fresh_created (Ok made) page buf left = fresh_page own is t blocks made page buf left
+    fresh_created (Err e) page buf left = tt
+
+    pub spent_created : (r : Result (PageToken × Buffer) PoolErr) → IfErr r Spent → IfErr r (λ e. (e ≡ NamesSpent) × (new ≡ own) × ((signs_of own).spent ≡ true))
+    spent_created (Ok made) spent = tt
+    spent_created (Err e) spent = (spent.0, spent.1, names_spent own is t blocks spent.2)
+
+  -- a call was refused before it asked, since memory lacked
+  pub lacks_memory : (own : Owned D) (t : ℕ) (what : Call) → MayRefuse t what (signs_of own) (signs_of own) Memory → WasRefused t what (held_of slot own) (held_of slot own) (signs_of own) (signs_of own) Memory
+  unfolding signs_of
+  lacks_memory own t what may = record {
+    held = refl;
+    cause = may;
+    answered = tt;
+    entries = ([], ap Some (sym (append-nil own.trail)), ([], refl, refl));
+  }
+
+  -- or when it had asked, since names lacked
+  pub lacks_names : (start now : Owned D) (t u blocks : ℕ) → Makes slot (IsAsked t (held_of slot start) []) start now → (signs_of now).spent ≡ true
+      → WasRefused t (call.Create u blocks) (held_of slot start) (held_of slot now) (signs_of start) (signs_of now) NamesSpent
+  lacks_names start now t u blocks asked spent = record {
+    held = asked_held slot t start now asked;
+    cause = spent;
+    answered = spent;
+    entries = makes_made slot start now asked;
+  }
