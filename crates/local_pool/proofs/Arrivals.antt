@@ -1,15 +1,14 @@
 -- What a call made that asked first, and what comes while clean pages go.
 use Rattle.std.proofs.Common.{◌≡◌, ◌≢◌, ℕ, zero, suc, ◌+◌, ◌*◌, ◌≤◌, ◌<◌, List, [], ◌∷◌, ◌++◌, map, length, replicate, Result, Ok, Err, Option, Some, None, IsSome, is_some, Bool, true, false, IfOk, IfErr, All, refl, sym, ap, ◌∙◌, subst, arith, le-leb, inl, inr}
 use Rattle.std.proofs.lemmas.Bool.{leb-true, cases_lt, false≢true, ne_eqb}
-use Rattle.std.proofs.lemmas.List.{append_assoc, append-nil, length-replicate}
-use Rattle.std.proofs.lemmas.List.Elements.{All-from_recursion}
+use Rattle.std.proofs.lemmas.List.{append_assoc, length-replicate}
+use Rattle.std.proofs.lemmas.List.Elements.{All-from_recursion, All-head, All-tail, filter_map-append}
 use Rattle.std.specs.FinMap.{get}
 use Rattle.std.specs.List.{AllByRecursion}
 use Rattle.block_arena.specs.Memory.{Buffer}
 use Rattle.outside.specs.declared.slot.Slot.{Ghosts}
 use Rattle.reservation_tree.specs.declared.errors.PoolErr.{PoolErr}
-use Rattle.reservation_tree.specs.declared.errors.PoolErr.TheVariants.{NamesSpent, Memory}
-use Rattle.pool_model.specs.declared.call.Call.{Call}
+use Rattle.reservation_tree.specs.declared.errors.PoolErr.TheVariants.{NamesSpent}
 use Rattle.pool_model.specs.declared.call.Call.TheVariants as call
 use Rattle.pool_model.specs.declared.event.Event.{Event}
 use Rattle.pool_model.specs.declared.event.Event.TheVariants.{Evict, Create, Alloc}
@@ -18,13 +17,13 @@ use Rattle.pool_model.specs.Bytes.{bytes_of}
 use Rattle.pool_model.specs.State.{Opening, State}
 use Rattle.pool_model.specs.Sums.{HasRoom}
 use Rattle.pool_model.specs.Legal.{state_after}
-use Rattle.pool_model.specs.LookingBack.{names_in}
+use Rattle.pool_model.specs.LookingBack.{name_in, names_in}
 use Rattle.pool_model.proofs.Names.{legal_names_are_new}
 use Rattle.store_api.specs.Tokens.{ClientToken, PageToken, LoanToken}
 use Rattle.store_api.specs.Holdings.{Holdings, length_of}
 use Rattle.store_api.specs.Conditions.{IsBlockCount, IsZeroed}
 use Rattle.store_api.specs.Entries.{by, IsEvict, IsAsked, IsTaken}
-use Rattle.store_api.specs.Refusals.{WasRefused, MayRefuse}
+use Rattle.store_api.specs.Refusals.{WasRefused}
 use Rattle.own_entries.specs.OwnHoldings.{after_events}
 use Rattle.own_entries.proofs.ByOthers.{none_there}
 use Rattle.pin_core.specs.StateOf.{state_of}
@@ -76,6 +75,10 @@ all_evicts P one (p ∷ names) rest last = (one p, all_evicts P one names rest l
 are_evicts : (names : List ℕ) → AllByRecursion IsEvict (map Evict names)
 are_evicts [] = tt
 are_evicts (p ∷ names) = (tt, are_evicts names)
+
+all_front : {X : Type 0} (P : X → Type 0) (front rest : List X) → All P (front ++ rest) → AllByRecursion P front
+all_front P [] rest all = tt
+all_front P (x ∷ front) rest all = (All-head P x (front ++ rest) all, all_front P front rest (All-tail P x (front ++ rest) all))
 
 -- they leave what is held
 evicts_hold : (h : Holdings) (names : List ℕ) (rest : List Event) → after_events h (map Evict names ++ rest) ≡ after_events h rest
@@ -201,22 +204,45 @@ module _ {D : Type 0} (slot : Ghosts D) where
     spent_created (Ok made) spent = tt
     spent_created (Err e) spent = (spent.0, spent.1, names_spent own is t blocks spent.2)
 
-  -- a call was refused before it asked, since memory lacked
-  pub lacks_memory : (own : Owned D) (t : ℕ) (what : Call) → MayRefuse t what (signs_of own) (signs_of own) Memory → WasRefused t what (held_of slot own) (held_of slot own) (signs_of own) (signs_of own) Memory
+  -- what is fresh after a call asked was so before
+  pub fresh_before : (t blocks : ℕ) (made : PageToken × Buffer) (start now : Owned D) → Makes slot (IsAsked t (held_of slot start) []) start now → IsFreshPage t blocks made now (held_of slot now)
+      → IsFreshPage t blocks made start (held_of slot start)
   unfolding signs_of
-  lacks_memory own t what may = record {
-    held = refl;
-    cause = may;
-    answered = tt;
-    entries = ([], ap Some (sym (append-nil own.trail)), ([], refl, refl));
-  }
+  fresh_before t blocks made start now asked fresh =
+      let same : held_of slot now ≡ held_of slot start = asked_held slot t start now asked in
+      let more : List Entry = by start.session asked.events in
+      let all : names_in now.trail ≡ names_in start.trail ++ names_in more = ap names_in asked.trail ∙ filter_map-append (λ (e : Entry). name_in e.event) start.trail more in
+      record {
+        fresh = ap (λ (h : Holdings). h.pages made.0.name) (sym same) ∙ fresh.fresh;
+        client = fresh.client;
+        buffer = subst (λ (h : Holdings). IsZeroed blocks h made.1) same fresh.buffer;
+        unspent = λ spent. fresh.unspent (asked.spent spent);
+        above = All-from_recursion (λ q. q < made.0.name) (names_in start.trail)
+            (all_front (λ q. q < made.0.name) (names_in start.trail) (names_in more) (subst (All (λ q. q < made.0.name)) all fresh.above));
+      }
 
-  -- or when it had asked, since names lacked
-  pub lacks_names : (start now : Owned D) (t u blocks : ℕ) → Makes slot (IsAsked t (held_of slot start) []) start now → (signs_of now).spent ≡ true
-      → WasRefused t (call.Create u blocks) (held_of slot start) (held_of slot now) (signs_of start) (signs_of now) NamesSpent
-  lacks_names start now t u blocks asked spent = record {
-    held = asked_held slot t start now asked;
-    cause = spent;
-    answered = spent;
-    entries = makes_made slot start now asked;
-  }
+  -- a call asked, and then the page came, or names lacked
+  module _ (t blocks : ℕ) (start now new : Owned D) (asked : Makes slot (IsAsked t (held_of slot start) []) start now) where
+    pub taken_created : (r : Result (PageToken × Buffer) PoolErr) → IfOk r (λ made. Makes slot (Evicts (Create made.0.name t blocks made.0.key ∷ [])) now new)
+        → IfOk r (λ made. Makes slot (IsTaken t (held_of slot start) (Create made.0.name t blocks made.0.key ∷ [])) start new)
+    taken_created (Ok made) came = taken_then t (Create made.0.name t blocks made.0.key ∷ []) start now new asked came
+    taken_created (Err e) came = tt
+
+    pub fresh_taken : (r : Result (PageToken × Buffer) PoolErr) → IfOk r (λ made. IsFreshPage t blocks made now (held_of slot now)) → IfOk r (λ made. IsFreshPage t blocks made start (held_of slot start))
+    fresh_taken (Ok made) fresh = fresh_before t blocks made start now asked fresh
+    fresh_taken (Err e) fresh = tt
+
+    names_lack : (signs_of now).spent ≡ true → WasRefused t (call.Create t blocks) (held_of slot start) (held_of slot now) (signs_of start) (signs_of now) NamesSpent
+    names_lack spent = record {
+      held = asked_held slot t start now asked;
+      cause = spent;
+      answered = spent;
+      entries = makes_made slot start now asked;
+    }
+
+    pub refused_created : (r : Result (PageToken × Buffer) PoolErr) → IfErr r (λ e. (e ≡ NamesSpent) × (new ≡ now) × ((signs_of now).spent ≡ true))
+        → IfErr r (WasRefused t (call.Create t blocks) (held_of slot start) (held_of slot new) (signs_of start) (signs_of new))
+    refused_created (Ok made) spent = tt
+    refused_created (Err e) spent =
+        subst (λ (o : Owned D). WasRefused t (call.Create t blocks) (held_of slot start) (held_of slot o) (signs_of start) (signs_of o) e) (sym spent.1)
+        (subst (WasRefused t (call.Create t blocks) (held_of slot start) (held_of slot now) (signs_of start) (signs_of now)) (sym spent.0) (names_lack spent.2))
