@@ -30,7 +30,7 @@ impl<D: Slot + Drop> Alone<D> {
     {
         let page = p.name();
         let bytes = self.page_len(p);
-        let c = Client::of(0, p.client());
+        let c = Client::of(self.own.session, p.client());
         let result = self.make_room(&c, Want::Hold(bytes), &Call::PinAgain { page });
         c.into_tracker();
         result?;
