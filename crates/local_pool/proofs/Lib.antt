@@ -11,3 +11,5 @@ pub mod Roomed
 pub mod Begun
 pub mod Ended
 pub mod Accounts
+pub mod Reaching
+pub mod Arrivals

@@ -1,7 +1,9 @@
 -- What comes with calls.
-use Rattle.std.specs.Prelude.{◌≡◌, ◌≢◌, ℕ, ◌++◌, List, None, true, All}
+use Rattle.std.specs.Prelude.{◌≡◌, ◌≢◌, ℕ, ◌++◌, List, None, true, All, map}
 use Rattle.block_arena.specs.Memory.{Buffer}
 use Rattle.pool_model.specs.declared.event.Event.{Event}
+use Rattle.pool_model.specs.declared.event.Event.TheVariants.{Evict}
+use Rattle.pin_core.specs.Evictions.{names_gone}
 use Rattle.store_api.specs.Tokens.{ClientToken, PageToken, LoanToken}
 use Rattle.store_api.specs.Holdings.{Holdings}
 use Rattle.store_api.specs.Conditions.{IsIdle, IsZeroed}
@@ -12,6 +14,10 @@ use Rattle.local_pool.specs.Told.{signs_of}
 -- clean pages made room, and then it ended so
 abbrev pub Evicts : List Event → List Event → Type 0
 Evicts last events = (evicts : List Event) × All IsEvict evicts × (events ≡ evicts ++ last)
+
+-- the clean pages that go, so that so many blocks are free
+abbrev pub evicts_for : {D : Type 0} → ℕ → Owned D → List Event
+evicts_for blocks own = map Evict (names_gone blocks own.pool)
 
 -- a client that wasn't there
 pub record IsFresh (c : ClientToken) (h : Holdings) : Type 0 where
