@@ -8,3 +8,4 @@ pub mod Turned
 pub mod Asked
 pub mod Making
 pub mod Roomed
+pub mod Holding

@@ -3,3 +3,4 @@ pub mod Making
 pub mod Standing
 pub mod Turning
 pub mod Calling
+pub mod Leaving
