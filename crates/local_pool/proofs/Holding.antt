@@ -1,5 +1,5 @@
 -- What the pool has of pages and loans that the owner holds, and what is left of them.
-use Rattle.std.proofs.Common.{◌≡◌, ◌↔◌, ℕ, ◌+◌, ◌-◌, ◌<◌, ◌≤◌, List, [], ◌∷◌, ◌++◌, length, length-append, filter, Bool, true, false, if◌then◌else◌, Option, Some, None, IsSome, is_some, option_map, unwrap_or, refl, sym, ap, ◌∙◌, subst, arith}
+use Rattle.std.proofs.Common.{◌≡◌, ◌↔◌, ℕ, ◌+◌, ◌-◌, ◌<◌, ◌≤◌, List, [], ◌∷◌, ◌++◌, length, length-append, filter, Bool, true, false, if◌then◌else◌, Option, Some, None, IsSome, is_some, Result, Ok, Err, IsErr, IfErr, OnOk, OnErr, option_map, unwrap_or, refl, sym, ap, ◌∙◌, subst, arith}
 use Rattle.std.proofs.lemmas.Bool.{false≢true}
 use Rattle.std.proofs.lemmas.List.Elements.{filter-append}
 use Rattle.std.specs.FinMap.{get}
@@ -8,7 +8,7 @@ use Rattle.outside.specs.declared.slot.Slot.{Ghosts}
 use Rattle.reservation_tree.specs.declared.errors.PoolErr.{PoolErr}
 use Rattle.reservation_tree.specs.declared.errors.PoolErr.TheVariants.{ScratchFull}
 use Rattle.pool_model.specs.declared.event.Event.{Event}
-use Rattle.pool_model.specs.declared.event.Event.TheVariants.{UnpinRefused}
+use Rattle.pool_model.specs.declared.event.Event.TheVariants.{Unpin, UnpinRefused}
 use Rattle.pool_model.specs.declared.entry.Entry.{Entry}
 use Rattle.pool_model.specs.State.{Place, Pinned, Dirty, Flying, Loading, Clean, Evicted, Page, Session, State, page_at, no_page, pins_of}
 use Rattle.pool_model.specs.Sums.{free_slots, slots_of}
@@ -41,6 +41,7 @@ use Rattle.local_pool.specs.Standing.{Stands, is_moving}
 use Rattle.local_pool.specs.Leaving.{CanEnd}
 use Rattle.local_pool.proofs.Growing.{goes}
 use Rattle.local_pool.proofs.Knowing.{Knows, knows, sound, left_of}
+use Rattle.local_pool.proofs.Asked.{one_more, makes_one}
 use Rattle.local_pool.proofs.Making.{makes_held, makes_made}
 
 -- a session stays live where a page takes its slots, or gives them back
@@ -226,3 +227,32 @@ stays_pinned slot old new p buf e blocks free made back full cause =
 pub goes_whose : {D : Type 0} (slot : Ghosts D) (old new : Owned D) (e : Event) (maker : ℕ) → maker ≡ old.session → new.trail ≡ old.trail ++ by old.session (e ∷ []) → new.session ≡ old.session
     → Enters slot (by maker (e ∷ [])) [] [] old.pool new.pool → Goes slot (e ∷ []) old new
 goes_whose slot old new e maker whose trail session enters = goes slot old new (e ∷ []) trail session (subst (λ (m : ℕ). Enters slot (by m (e ∷ [])) [] [] old.pool new.pool) whose enters)
+
+-- an unpin, or its refusal
+module _ {D : Type 0} (slot : Ghosts D) (own new : Owned D) (is : Stands slot own) (p : PageToken) (buf : Buffer) (held : IsPage p (held_of slot own)) (once : (page_of p.name (held_of slot own)).pins ≡ 1) where
+  went_refused : Goes slot (UnpinRefused p.name ∷ []) own new → Makes slot (λ events. events ≡ UnpinRefused p.name ∷ []) own new
+  went_refused went = makes_one slot own new is (UnpinRefused p.name) went refl refl is.live refl
+
+  live_left : is_some (slots_taken (page_of p.name (held_of slot own)) (held_of slot own).free_slots) ≡ true
+  live_left = taken_live (page_of p.name (held_of slot own)) (held_of slot own).free_slots is.live
+
+  pub left_stands : {A E : Type 0} (r : Result A E) → OnOk r (Goes slot (Unpin p.name buf.bytes ∷ []) own new) → OnErr r (Goes slot (UnpinRefused p.name ∷ []) own new) → Stands slot new
+  left_stands (Ok x) ok err = one_more slot own new is (Unpin p.name buf.bytes) ok refl refl live_left
+  left_stands (Err e) ok err = one_more slot own new is (UnpinRefused p.name) err refl refl is.live
+
+  pub left_made : {A E : Type 0} (r : Result A E) → OnOk r (Goes slot (Unpin p.name buf.bytes ∷ []) own new) → OnOk r (Makes slot (λ events. events ≡ Unpin p.name buf.bytes ∷ []) own new)
+  left_made (Ok x) ok = makes_one slot own new is (Unpin p.name buf.bytes) ok refl refl live_left refl
+  left_made (Err e) ok = tt
+
+  pub left_refused : {A E : Type 0} (r : Result A E) → IsErr r ↔ PoolLacks (state_of own.pool) p.name → IsErr r ↔ LacksSlots (page_of p.name (held_of slot own)) (held_of slot own).free_slots
+  left_refused r refused =
+      let both = lacks_there slot own is p held once in
+      (λ err. both.1 (refused.0 err), λ lacks. refused.1 (both.0 lacks))
+
+  pub left_pinned : {A : Type 0} (r : Result A (Buffer × PoolErr)) → OnErr r (Goes slot (UnpinRefused p.name ∷ []) own new)
+      → IfErr r (λ e. e.1 ≡ ScratchFull (page_at (state_of own.pool) p.name).blocks (free_slots (state_of own.pool) (page_at (state_of own.pool) p.name).session)) → IfErr r (λ e. e.0 ≡ buf)
+      → IfErr r (StaysPinned p.name buf (held_of slot own) (held_of slot new) (signs_of own) (signs_of new))
+  left_pinned (Ok x) went cause back = tt
+  left_pinned (Err e) went cause back =
+      stays_pinned slot own new p.name buf e (page_at (state_of own.pool) p.name).blocks (free_slots (state_of own.pool) (page_at (state_of own.pool) p.name).session)
+      (went_refused went) back cause (full_there slot own is p held e.1 cause)
