@@ -9,3 +9,4 @@ pub mod Asked
 pub mod Making
 pub mod Roomed
 pub mod Holding
+pub mod Loaded

@@ -4,3 +4,4 @@ pub mod Standing
 pub mod Turning
 pub mod Calling
 pub mod Leaving
+pub mod Loading

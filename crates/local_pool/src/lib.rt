@@ -9,6 +9,7 @@ mod asking;
 mod coming;
 mod entering;
 mod leaving;
+mod loading;
 mod looking;
 mod owned;
 mod pinning;
