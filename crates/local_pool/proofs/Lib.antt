@@ -10,3 +10,8 @@ pub mod Making
 pub mod Roomed
 pub mod Holding
 pub mod Loaded
+pub mod Fetching
+pub mod Silent
+pub mod Pinned
+pub mod Fetched
+pub mod PinMade

@@ -5,3 +5,4 @@ pub mod Turning
 pub mod Calling
 pub mod Leaving
 pub mod Loading
+pub mod Pinning
