@@ -4,10 +4,10 @@ use Rattle.store_api.specs.Entries.{by}
 use Rattle.store_api.specs.Holdings.{page_len}
 use Rattle.local_pool.specs.declared.owned.Owned.{Owned}
 use Rattle.local_pool.specs.Told.{held_of}
+use Rattle.local_pool.specs.Pinning.{MustRefuse}
 use Rattle.local_pool.proofs.Turned.{can_write, stands_write, makes_write, left_write}
 use Rattle.local_pool.proofs.Pinned.{can_pin, waits_never, stands_here, makes_here, shows_here, must_refuse, client_lives, lacks_here, starts_here}
 use Rattle.local_pool.proofs.Fetched.{can_read, stands_read, makes_read, shows_read, stands_unread, makes_unread, must_fail}
-use Rattle.local_pool.proofs.PinMade.{was_unread}
 use Rattle.local_pool.proofs.pinning.step.Goals as goal
 
 pub pin_turn-requires-clause-can : goal.pin_turn-requires-clause-can
@@ -52,13 +52,28 @@ returns-in-Ok-clause-stands g c =
     stands_read g.D.Slot own c.requires.stands c.args.p.now c.requires.can c.in-Load.job went c.in-Load.ensures.turn.2 c.in-Load.ensures.turn.0 c.in-Load.ensures.enters entered refl c.read_back.new.own c.in-Ok.buf c.in-Ok.ensures.ok
 
 pub returns-in-Err-ReadFault-clause-turn : goal.returns-in-Err-ReadFault-clause-turn
-returns-in-Err-ReadFault-clause-turn g c = ?
+returns-in-Err-ReadFault-clause-turn g c =
+    let own : Owned g.row.D.Denot = c.args.own.now in
+    let went : Owned g.row.D.Denot = record { pool = c.pin_turn.new.self; trail = c.tick.new.self; session = own.session } in
+    let entered = c.tick.ensures ∙ ap (λ es. own.trail ++ es) c.requires.named in
+    let it = c.in-Load.ensures in
+    (must_fail g.D.Slot own c.requires.stands c.args.p.now c.requires.can c.in-Load.job went it.turn.2 it.turn.0 it.enters entered refl c.read_back.new.own c.in-Err-ReadFault.field-0 c.in-Err-ReadFault.ensures.err c.in-Err-ReadFault.entry c.in-Err-ReadFault.field-0-is c.requires.asked,
+    makes_unread g.D.Slot own c.requires.stands c.args.p.now c.requires.can c.in-Load.job went it.turn.2 it.turn.0 it.enters entered refl c.read_back.new.own c.in-Err-ReadFault.field-0 c.in-Err-ReadFault.ensures.err,
+    client_lives g.D.Slot own c.requires.stands c.args.p.now c.requires.can)
 
 pub returns-in-Err-ReadFault-clause-stands : goal.returns-in-Err-ReadFault-clause-stands
-returns-in-Err-ReadFault-clause-stands g c = ?
+returns-in-Err-ReadFault-clause-stands g c =
+    let own : Owned g.row.D.Denot = c.args.own.now in
+    let went : Owned g.row.D.Denot = record { pool = c.pin_turn.new.self; trail = c.tick.new.self; session = own.session } in
+    let entered = c.tick.ensures ∙ ap (λ es. own.trail ++ es) c.requires.named in
+    let it = c.in-Load.ensures in
+    stands_unread g.D.Slot own c.requires.stands c.args.p.now c.requires.can c.in-Load.job went it.turn.2 it.turn.0 it.enters entered refl c.read_back.new.own c.in-Err-ReadFault.field-0 c.in-Err-ReadFault.ensures.err
 
 pub returns-in-Refused-clause-turn : goal.returns-in-Refused-clause-turn
-returns-in-Refused-clause-turn g c = ?
+returns-in-Refused-clause-turn g c =
+    let own : Owned g.row.D.Denot = c.args.own.now in
+    let same : record own { pool = c.pin_turn.new.self } ≡ own = ap (λ v. record own { pool = v }) c.in-Refused.ensures.turn.1 in
+    (subst (MustRefuse c.args.p.now.client c.args.p.now.name c.in-Refused.entry) (sym same) (must_refuse g.D.Slot own c.requires.stands c.args.p.now c.requires.can c.in-Refused.entry c.requires.asked c.in-Refused.ensures.turn.0), same)
 
 pub write_out-requires-clause-can : goal.write_out-requires-clause-can
 write_out-requires-clause-can g c κs within =
