@@ -20,14 +20,16 @@ pub returns-in-Here-clause-turn : goal.returns-in-Here-clause-turn
 returns-in-Here-clause-turn g c =
     let own : Owned g.row.D.Denot = c.args.own.now in
     let new : Owned g.row.D.Denot = record { pool = c.pin_turn.new.self; trail = c.enter.new.trail; session = own.session } in
-    (makes_here g.D.Slot own c.requires.stands c.args.p.now c.requires.can new (c.enter.ensures ∙ ap (λ (p : ℕ). own.trail ++ by own.session (PinHere p ∷ [])) c.name.ensures) refl c.in-Here.ensures.enters,
+    let entered : new.trail ≡ own.trail ++ by own.session (PinHere c.args.p.now.name ∷ []) = subst (λ (p : ℕ). new.trail ≡ own.trail ++ by own.session (PinHere p ∷ [])) c.name.ensures c.enter.ensures in
+    (makes_here g.D.Slot own c.requires.stands c.args.p.now c.requires.can new entered refl c.in-Here.ensures.enters,
     shows_here g.D.Slot own c.requires.stands c.args.p.now c.requires.can c.in-Here.buf c.in-Here.ensures.turn.1)
 
 pub returns-in-Here-clause-stands : goal.returns-in-Here-clause-stands
 returns-in-Here-clause-stands g c =
     let own : Owned g.row.D.Denot = c.args.own.now in
     let new : Owned g.row.D.Denot = record { pool = c.pin_turn.new.self; trail = c.enter.new.trail; session = own.session } in
-    stands_here g.D.Slot own c.requires.stands c.args.p.now c.requires.can new (c.enter.ensures ∙ ap (λ (p : ℕ). own.trail ++ by own.session (PinHere p ∷ [])) c.name.ensures) refl c.in-Here.ensures.enters
+    let entered : new.trail ≡ own.trail ++ by own.session (PinHere c.args.p.now.name ∷ []) = subst (λ (p : ℕ). new.trail ≡ own.trail ++ by own.session (PinHere p ∷ [])) c.name.ensures c.enter.ensures in
+    stands_here g.D.Slot own c.requires.stands c.args.p.now c.requires.can new entered refl c.in-Here.ensures.enters
 
 pub read_back-requires-clause-can : goal.read_back-requires-clause-can
 read_back-requires-clause-can g c κs within =

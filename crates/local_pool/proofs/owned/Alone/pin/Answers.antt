@@ -12,35 +12,35 @@ use Rattle.local_pool.proofs.Making.{makes_so, makes_more, asked_none, asked_mor
 use Rattle.local_pool.proofs.PinMade.{pin_is, was_unread}
 use Rattle.local_pool.proofs.owned.Alone.pin.Goals as goal
 
-pub loop-entry-init : goal.loop-entry-init
-loop-entry-init g c =
+pub loop-buf-init : goal.loop-buf-init
+loop-buf-init g c =
     makes_so g.D.Slot c.args.self.now c.ask.new.self c.ask.ensures
     (subst (IsAsked c.args.p.now.client (held_of g.D.Slot c.args.self.now) []) (sym c.ask.ensures.is) (asked_none c.args.p.now.client (held_of g.D.Slot c.args.self.now)))
 
 pub pin_step-requires-clause-can : goal.pin_step-requires-clause-can
 pin_step-requires-clause-can g c κs within =
-    subst (CanBePinned c.args.p.now) (sym (asked_held g.D.Slot c.args.p.now.client c.args.self.now c.loop-entry.self c.loop-entry.invariant))
+    subst (CanBePinned c.args.p.now) (sym (asked_held g.D.Slot c.args.p.now.client c.args.self.now c.loop-buf.self c.loop-buf.invariant))
     (record { page = c.requires.page; rests = c.requires.rests; unused = c.requires.unused })
 
 pub pin_step-requires-clause-asked : goal.pin_step-requires-clause-asked
-pin_step-requires-clause-asked g c κs within = was_asked g.D.Slot c.args.p.now.client (held_of g.D.Slot c.args.self.now) c.args.self.now c.loop-entry.self c.loop-entry.invariant
+pin_step-requires-clause-asked g c κs within = was_asked g.D.Slot c.args.p.now.client (held_of g.D.Slot c.args.self.now) c.args.self.now c.loop-buf.self c.loop-buf.invariant
 
 pub returns-in-Pinned-clause-ok : goal.returns-in-Pinned-clause-ok
 returns-in-Pinned-clause-ok g c =
     let start : Owned g.row.D.Denot = c.args.self.now in
-    let asked : Makes g.D.Slot (IsAsked c.args.p.now.client (held_of g.D.Slot start) []) start c.loop-entry.self = c.loop-entry.invariant in
+    let asked : Makes g.D.Slot (IsAsked c.args.p.now.client (held_of g.D.Slot start) []) start c.loop-buf.self = c.loop-buf.invariant in
     let made = c.in-Pinned.ensures.0 in
-    makes_more g.D.Slot start c.loop-entry.self c.pin_step.new.self asked made (pin_is c.args.p.now.client (held_of g.D.Slot start) c.args.p.now.name asked.events made.events asked.is made.is)
+    makes_more g.D.Slot start c.loop-buf.self c.pin_step.new.self asked made (pin_is c.args.p.now.client (held_of g.D.Slot start) c.args.p.now.name asked.events made.events asked.is made.is)
 
 pub returns-in-Pinned-clause-bytes : goal.returns-in-Pinned-clause-bytes
 returns-in-Pinned-clause-bytes g c =
-    subst (λ (h : Holdings). ShowsLeft (page_of c.args.p.now.name h) h c.in-Pinned.buf) (asked_held g.D.Slot c.args.p.now.client c.args.self.now c.loop-entry.self c.loop-entry.invariant) c.in-Pinned.ensures.1
+    subst (λ (h : Holdings). ShowsLeft (page_of c.args.p.now.name h) h c.in-Pinned.buf) (asked_held g.D.Slot c.args.p.now.client c.args.self.now c.loop-buf.self c.loop-buf.invariant) c.in-Pinned.ensures.1
 
 pub returns-in-Refused-clause-err : goal.returns-in-Refused-clause-err
 returns-in-Refused-clause-err g c =
     let t : ℕ = c.args.p.now.client in
     let start : Owned g.row.D.Denot = c.args.self.now in
-    let asked : Makes g.D.Slot (IsAsked t (held_of g.D.Slot start) []) start c.pin_step.new.self = subst (Makes g.D.Slot (IsAsked t (held_of g.D.Slot start) []) start) (sym c.in-Refused.ensures.1) c.loop-entry.invariant in
+    let asked : Makes g.D.Slot (IsAsked t (held_of g.D.Slot start) []) start c.pin_step.new.self = subst (Makes g.D.Slot (IsAsked t (held_of g.D.Slot start) []) start) (sym c.in-Refused.ensures.1) c.loop-buf.invariant in
     was_refused g.D.Slot t c.in-Refused.entry (Pin c.args.p.now.name) start c.pin_step.new.self c.refuse_pin.new.self asked c.refuse_pin.ensures
     (c.in-Refused.ensures.0.rose start.trail (by start.session asked.events) asked.trail (asks_since g.D.Slot t (held_of g.D.Slot start) start c.pin_step.new.self asked))
 
@@ -48,24 +48,24 @@ pub returns-in-Failed-clause-err : goal.returns-in-Failed-clause-err
 returns-in-Failed-clause-err g c =
     let t : ℕ = c.args.p.now.client in
     let start : Owned g.row.D.Denot = c.args.self.now in
-    let asked : Makes g.D.Slot (IsAsked t (held_of g.D.Slot start) []) start c.loop-entry.self = c.loop-entry.invariant in
-    let failed = c.in-Failed.ensures.1.0 in
-    was_unread g.D.Slot t c.args.p.now.name c.in-Failed.entry start c.loop-entry.self c.pin_step.new.self c.refuse_pin.new.self asked failed c.refuse_pin.ensures
+    let asked : Makes g.D.Slot (IsAsked t (held_of g.D.Slot start) []) start c.loop-buf.self = c.loop-buf.invariant in
+    let failed = c.in-Failed.ensures.1 in
+    was_unread g.D.Slot t c.args.p.now.name c.in-Failed.entry start c.loop-buf.self c.pin_step.new.self c.refuse_pin-in-Failed.new.self asked failed c.refuse_pin-in-Failed.ensures
     c.in-Failed.ensures.0
     (record {
-      client = subst (λ (k : ℕ). IsSome ((held_of g.D.Slot start).clients k)) (sym c.requires.page.client) (subst (λ (h : Holdings). IsSome (h.clients t)) (asked_held g.D.Slot t start c.loop-entry.self asked) c.in-Failed.ensures.1.1);
+      client = subst (λ (k : ℕ). IsSome ((held_of g.D.Slot start).clients k)) (sym c.requires.page.client) (subst (λ (h : Holdings). IsSome (h.clients t)) (asked_held g.D.Slot t start c.loop-buf.self asked) c.in-Failed.ensures.2);
       unused = subst (λ (k : ℕ). page_len c.args.p.now.name (held_of g.D.Slot start) ≤ unused_of k (held_of g.D.Slot start)) (sym c.requires.page.client) c.requires.unused;
     })
 
-pub loop-entry-smaller : goal.loop-entry-smaller
-loop-entry-smaller g c = c.in-Wrote.ensures.1
+pub loop-buf-smaller : goal.loop-buf-smaller
+loop-buf-smaller g c = c.in-Wrote.ensures.1
 
-pub loop-entry-preserved : goal.loop-entry-preserved
-loop-entry-preserved g c =
+pub loop-buf-preserved : goal.loop-buf-preserved
+loop-buf-preserved g c =
     let t : ℕ = c.args.p.now.client in
     let start : Owned g.row.D.Denot = c.args.self.now in
-    let asked : Makes g.D.Slot (IsAsked t (held_of g.D.Slot start) []) start c.loop-entry.self = c.loop-entry.invariant in
-    let write : Makes g.D.Slot (IsWrite t (held_of g.D.Slot c.loop-entry.self)) c.loop-entry.self c.pin_step.new.self = c.in-Wrote.ensures.0 in
-    makes_more g.D.Slot start c.loop-entry.self c.pin_step.new.self asked write
+    let asked : Makes g.D.Slot (IsAsked t (held_of g.D.Slot start) []) start c.loop-buf.self = c.loop-buf.invariant in
+    let write : Makes g.D.Slot (IsWrite t (held_of g.D.Slot c.loop-buf.self)) c.loop-buf.self c.pin_step.new.self = c.in-Wrote.ensures.0 in
+    makes_more g.D.Slot start c.loop-buf.self c.pin_step.new.self asked write
     (asked_more t (held_of g.D.Slot start) asked.events write.events asked.is
-    (subst (λ (h : Holdings). IsWrite t h write.events) (asked_held g.D.Slot t start c.loop-entry.self asked) write.is))
+    (subst (λ (h : Holdings). IsWrite t h write.events) (asked_held g.D.Slot t start c.loop-buf.self asked) write.is))

@@ -7,9 +7,9 @@ use Rattle.local_pool.specs.Turning.{writes_left}
 use Rattle.local_pool.proofs.owned.Alone.pin.Given as goal
 
 -- the call asked and wrote
-abbrev pub invariant-loop-entry : goal.invariant-loop-entry
-invariant-loop-entry g l = Makes g.D.Slot (IsAsked l.p.client (held_of g.D.Slot l.fn.self) []) l.fn.self l.self
+abbrev pub invariant-loop-buf : goal.invariant-loop-buf
+invariant-loop-buf g l = Makes g.D.Slot (IsAsked l.p.client (held_of g.D.Slot l.fn.self) []) l.fn.self l.self
 
 -- each write leaves one less, or is the last
-abbrev pub decreases-loop-entry : goal.decreases-loop-entry
-decreases-loop-entry g l = writes_left l.self.session l.p.client (state_of l.self.pool)
+abbrev pub decreases-loop-buf : goal.decreases-loop-buf
+decreases-loop-buf g l = writes_left l.self.session l.p.client (state_of l.self.pool)
