@@ -1,5 +1,5 @@
 -- A turn of a pin loads the page.
-use Rattle.std.proofs.Common.{◌≡◌, ℕ, ◌+◌, ◌*◌, ◌<◌, ◌||◌, ◌&&◌, ◌==◌, Bool, true, false, cond, if◌then◌else◌, List, [], ◌∷◌, ◌++◌, length, filter, Option, Some, None, IsSome, is_some, option_map, unwrap_or, T, refl, sym, ap, ◌∙◌, subst, arith, inl, inr, eq-eqb}
+use Rattle.std.proofs.Common.{◌≡◌, ℕ, ◌+◌, ◌*◌, ◌||◌, ◌&&◌, ◌==◌, Bool, true, false, cond, if◌then◌else◌, List, [], ◌∷◌, ◌++◌, length, filter, Option, Some, None, is_some, option_map, T, refl, sym, ap, ◌∙◌, subst, arith, inr, eq-eqb}
 use Rattle.std.proofs.lemmas.Bool.{and_from}
 use Rattle.std.proofs.lemmas.List.{append_assoc}
 use Rattle.std.proofs.lemmas.List.Elements.{filter-append}
@@ -14,28 +14,22 @@ use Rattle.reservation_tree.specs.declared.errors.PoolErr.{PoolErr}
 use Rattle.reservation_tree.specs.declared.errors.PoolErr.TheVariants.{ReadFault}
 use Rattle.pool_model.specs.declared.call.Call.TheVariants.{Pin}
 use Rattle.pool_model.specs.declared.event.Event.{Event}
-use Rattle.pool_model.specs.declared.event.Event.TheVariants.{PinLoad, ReadOk, ReadFailed}
+use Rattle.pool_model.specs.declared.event.Event.TheVariants.{ReadOk, ReadFailed}
 use Rattle.pool_model.specs.declared.entry.Entry.{Entry}
 use Rattle.pool_model.specs.State.{Opening, Evicted, Page, Session, Sessions, State, shown, page_at}
-use Rattle.pool_model.specs.Bytes.{bytes_of}
-use Rattle.pool_model.specs.Sums.{length_of}
-use Rattle.pool_model.specs.Parts.{with_failures, keep_first, note_failure}
-use Rattle.pool_model.specs.OwnLaws.{IsContent}
+use Rattle.pool_model.specs.Parts.{with_failures, keep_first}
 use Rattle.pool_model.specs.Effects.{after}
-use Rattle.pool_model.specs.Legal.{run, state_after}
-use Rattle.pool_model.specs.LookingBack.{content_of, content_from, since, last_of, Numbered, numbered, is_ask, is_by, made_by}
+use Rattle.pool_model.specs.Legal.{run}
+use Rattle.pool_model.specs.LookingBack.{content_from, since, last_of, Numbered, numbered, is_ask, is_by, made_by}
 use Rattle.pool_model.specs.Failures.{fails_read, last_failed_read}
 use Rattle.pool_model.specs.MayFollow.{MayFollow}
 use Rattle.pool_model.proofs.Names.{counts_entries}
 use Rattle.pool_model.proofs.Keeping.{first_kept}
-use Rattle.pool_model.proofs.Resting.{legal_contents_are_told}
 use Rattle.pool_model.proofs.Windows.{numbered_more, since_more}
 use Rattle.store_api.specs.Tokens.{PageToken}
-use Rattle.store_api.specs.Holdings.{Holdings, page_of, page_len}
+use Rattle.store_api.specs.Holdings.{Holdings, page_of}
 use Rattle.store_api.specs.Conditions.{ShowsLeft}
 use Rattle.store_api.specs.Entries.{by}
-use Rattle.own_entries.proofs.Views.{len_is}
-use Rattle.pin_core.specs.declared.parts.Parts.{Parts}
 use Rattle.pin_core.specs.declared.jobs.ReadJob.{ReadJob}
 use Rattle.pin_core.specs.StateOf.{state_of}
 use Rattle.pin_core.specs.Standing.{StandsFor, Enters, AreHeld, slots_home}
@@ -46,7 +40,7 @@ use Rattle.pin_core.specs.PinTurns.{IsLoad}
 use Rattle.pin_core.specs.Refusing.{refusal_of}
 use Rattle.pin_core.specs.Turns.{failure_of}
 use Rattle.local_pool.specs.declared.owned.Owned.{Owned}
-use Rattle.local_pool.specs.Told.{silence, all_tell, held_of}
+use Rattle.local_pool.specs.Told.{silence, held_of}
 use Rattle.local_pool.specs.Making.{Goes, Makes}
 use Rattle.local_pool.specs.Standing.{Stands, IsStill}
 use Rattle.local_pool.specs.Turning.{has_asked}
@@ -55,9 +49,10 @@ use Rattle.local_pool.specs.Pinning.{CanBePinned, MustRefuse, IsPinned, IsFailed
 use Rattle.local_pool.proofs.Sized.{run_on, run_len}
 use Rattle.local_pool.proofs.Growing.{by_append, grown, makes}
 use Rattle.local_pool.proofs.Knowing.{knows}
+use Rattle.local_pool.proofs.Contents.{content_whole}
 use Rattle.local_pool.proofs.Asked.{rose}
-use Rattle.local_pool.proofs.Holding.{is_there, not_pinned}
-use Rattle.local_pool.proofs.Pinned.{client_lives, content_here, left_here, fits_here}
+use Rattle.local_pool.proofs.Holding.{is_there}
+use Rattle.local_pool.proofs.Pinned.{content_here, left_here, fits_here}
 use Rattle.local_pool.proofs.Silent.{none_silent, told_silence}
 use Rattle.local_pool.proofs.Fetching.{fetching, fetching_by, fetches, fetching_calm, fetching_holds, content_append, fetching_leaves, fetching_sessions, fetched_still, unfetched_still, fetching_alike}
 
@@ -154,10 +149,7 @@ module _ {D : Type 0} (slot : Ghosts D) (own : Owned D) (is : Stands slot own) (
 
   content_len : length (content_from p.name [] own.trail) ≡ x.blocks * s.block_len
   content_len =
-      let page = is_there slot own is p can.page in
-      let it : IsContent is.opening own.trail (state_after is.opening own.trail) p.name x =
-      legal_contents_are_told is.opening own.trail is.stands.legal p.name x (ap (λ (u : State). get u.pages p.name) (sym is.stands.state) ∙ page.page.lives) in
-      ap length (sym (content_here slot own is p can)) ∙ it.whole ∙ ap (λ (u : State). length_of u x.blocks) (sym is.stands.state) ∙ len_is s.block_len x.blocks
+      ap length (sym (content_here slot own is p can)) ∙ content_whole slot own.pool is.opening own.trail is.stands p.name (is_there slot own is p can.page).page.lives
 
   job_len : length job.buf.bytes ≡ x.blocks * s.block_len
   job_len =

@@ -1,5 +1,5 @@
 -- Clean pages go, and a load begins and ends: what these events do.
-use Rattle.std.proofs.Common.{◌≡◌, ℕ, ◌+◌, ◌<◌, Bool, true, List, [], ◌∷◌, ◌++◌, map, length, Option, Some, unwrap_or, All, refl, sym, ap, ◌∙◌, inl, inr}
+use Rattle.std.proofs.Common.{◌≡◌, ℕ, List, [], ◌∷◌, ◌++◌, map, Option, unwrap_or, All, refl, sym, ap, ◌∙◌, inl, inr}
 use Rattle.std.proofs.lemmas.List.{append_assoc}
 use Rattle.std.proofs.lemmas.List.Elements.{All-nil, All-cons}
 use Rattle.std.specs.FinMap.{get, insert}
@@ -7,11 +7,11 @@ use Rattle.reservation_tree.proofs.Maps.{get_same, get_other, same_or_other}
 use Rattle.pool_model.specs.declared.event.Event.{Event}
 use Rattle.pool_model.specs.declared.event.Event.TheVariants.{PinLoad, ReadOk, ReadFailed, Evict}
 use Rattle.pool_model.specs.declared.entry.Entry.{Entry}
-use Rattle.pool_model.specs.State.{Place, Evicted, Loading, Page, Pages, State, Sessions, page_at, no_page}
+use Rattle.pool_model.specs.State.{Place, Evicted, Loading, Page, Pages, State, page_at, no_page}
 use Rattle.pool_model.specs.Effects.{after}
 use Rattle.pool_model.specs.Legal.{run}
 use Rattle.pool_model.specs.LookingBack.{left_in, content_from}
-use Rattle.store_api.specs.Holdings.{Holdings, page_of, page_len}
+use Rattle.store_api.specs.Holdings.{Holdings}
 use Rattle.store_api.specs.Entries.{by, IsEvict}
 use Rattle.own_entries.specs.OwnHoldings.{after_events}
 use Rattle.pin_core.specs.Evictions.{evictions}

@@ -1,8 +1,7 @@
 -- What the pool has of pages and loans that the owner holds, and what is left of them.
-use Rattle.std.proofs.Common.{◌≡◌, ◌↔◌, ℕ, ◌+◌, ◌-◌, ◌<◌, ◌≤◌, List, [], ◌∷◌, ◌++◌, length, length-append, filter, Bool, true, false, if◌then◌else◌, Option, Some, None, IsSome, is_some, Result, Ok, Err, IsErr, IfErr, OnOk, OnErr, option_map, unwrap_or, refl, sym, ap, ◌∙◌, subst, arith}
+use Rattle.std.proofs.Common.{◌≡◌, ◌↔◌, ℕ, ◌+◌, ◌-◌, ◌<◌, ◌≤◌, List, [], ◌∷◌, ◌++◌, length, length-append, filter, true, false, if◌then◌else◌, Option, Some, None, is_some, Result, Ok, Err, IsErr, IfErr, OnOk, OnErr, option_map, unwrap_or, refl, sym, ap, ◌∙◌, subst, arith}
 use Rattle.std.proofs.lemmas.Bool.{false≢true}
 use Rattle.std.proofs.lemmas.List.Elements.{filter-append}
-use Rattle.std.specs.FinMap.{get}
 use Rattle.block_arena.specs.Memory.{Buffer, IsBufferOf}
 use Rattle.outside.specs.declared.slot.Slot.{Ghosts}
 use Rattle.reservation_tree.specs.declared.errors.PoolErr.{PoolErr}
@@ -30,7 +29,6 @@ use Rattle.pin_core.specs.StateOf.{state_of}
 use Rattle.pin_core.specs.Standing.{Enters}
 use Rattle.pin_core.specs.Needs.{IsLastPin}
 use Rattle.pin_core.specs.Needs.{IsPage as IsPoolPage}
-use Rattle.pin_core.specs.Pins.{IsPinned}
 use Rattle.pin_core.specs.Ending.{IsPinnedWith, IsUnpinned, is_flying}
 use Rattle.pin_core.specs.Lending.{IsLoan as IsPoolLoan}
 use Rattle.pin_core.specs.Unpinning.{LacksSlots as PoolLacks}

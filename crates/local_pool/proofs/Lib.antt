@@ -15,3 +15,4 @@ pub mod Silent
 pub mod Pinned
 pub mod Fetched
 pub mod PinMade
+pub mod Contents

@@ -1,8 +1,6 @@
 -- A page comes back from its load.
-use Rattle.std.proofs.Common.{◌≡◌, ◌↔◌, ℕ, ◌+◌, ◌*◌, ◌<◌, List, [], ◌∷◌, ◌++◌, map, length, Bool, true, false, Result, Ok, Err, IsErr, IfOk, IfErr, refl, sym, ap, ◌∙◌, subst, arith, inl}
+use Rattle.std.proofs.Common.{◌≡◌, ◌↔◌, ℕ, ◌+◌, ◌*◌, List, [], ◌∷◌, ◌++◌, map, length, Bool, true, false, Result, Ok, Err, IsErr, IfOk, IfErr, refl, sym, ap, ◌∙◌, subst, arith, inl}
 use Rattle.std.proofs.lemmas.Bool.{false≢true}
-use Rattle.std.specs.List.{sum_by}
-use Rattle.std.specs.FinMap.{get}
 use Rattle.outside.specs.declared.slot.Slot.{Ghosts}
 use Rattle.block_arena.specs.Memory.{Buffer, IsBufferOf}
 use Rattle.reservation_tree.specs.declared.errors.PoolErr.{PoolErr}
@@ -11,10 +9,7 @@ use Rattle.scratch_dev.specs.Rows.{faults_of}
 use Rattle.pool_model.specs.declared.event.Event.{Event}
 use Rattle.pool_model.specs.declared.event.Event.TheVariants.{ReadOk, ReadFailed}
 use Rattle.pool_model.specs.declared.entry.Entry.{Entry}
-use Rattle.pool_model.specs.State.{Opening, Page, Pinned, Loading, State, page_at}
-use Rattle.pool_model.specs.OwnLaws.{IsContent}
-use Rattle.pool_model.specs.Legal.{state_after}
-use Rattle.pool_model.proofs.Resting.{legal_contents_are_told}
+use Rattle.pool_model.specs.State.{Opening, Pinned, Loading, State, page_at}
 use Rattle.pool_model.specs.ScratchRows.{IsFault}
 use Rattle.pool_model.specs.Effects.{after}
 use Rattle.pool_model.specs.LookingBack.{content_of, content_from}
@@ -29,6 +24,7 @@ use Rattle.pin_core.specs.Returning.{IsRead as HoldsContent}
 use Rattle.local_pool.specs.declared.owned.Owned.{Owned}
 use Rattle.local_pool.specs.Told.{silence}
 use Rattle.local_pool.specs.Loading.{CanRead, Returns, IsRead, IsUnread}
+use Rattle.local_pool.proofs.Contents.{content_told}
 use Rattle.local_pool.proofs.Written.{same_silence}
 
 pub load_fits : {D : Type 0} (s : State) (job : ReadJob D) → IsReadJob s job → IsFit job.buf job.row
@@ -56,11 +52,7 @@ module _ {D : Type 0} (slot : Ghosts D) (old new : Owned D) (job ran : ReadJob D
 
   -- a page that is loading has slots, so its own unpins tell its content, whatever was there before
   told_here : (o : Opening) → StandsFor slot o old.trail old.pool → content_of o old.trail job.id.name ≡ content_from job.id.name [] old.trail
-  told_here o stood =
-      let x : Page = page_at s job.id.name in
-      let it : IsContent o old.trail (state_after o old.trail) job.id.name x =
-      legal_contents_are_told o old.trail stood.legal job.id.name x (ap (λ (t : State). get t.pages job.id.name) (sym stood.state) ∙ can.is.lives) in
-      it.left (it.rests (λ count pinned. let never : Loading ≡ Pinned count = sym can.is.loads ∙ pinned in cc)) []
+  told_here o stood = content_told slot old.pool o old.trail stood job.id.name can.is.lives (λ count pinned. let never : Loading ≡ Pinned count = sym can.is.loads ∙ pinned in cc)
 
   holds : ((len : ℕ) → (bytes : List ℕ) → AreHeld slot len job.row bytes → AreHeld slot len ran.row bytes) → (o : Opening) → StandsFor slot o old.trail old.pool → HoldsContent slot s.block_len ran o old.trail
   holds held o stood =

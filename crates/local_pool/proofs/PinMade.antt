@@ -1,11 +1,11 @@
 -- What a call that pins a page makes, from its ask on.
-use Rattle.std.proofs.Common.{◌≡◌, ℕ, ◌<◌, ◌≤◌, ◌&&◌, ◌||◌, Bool, true, List, [], ◌∷◌, ◌++◌, Some, IsSome, All, refl, sym, ap, ◌∙◌, subst, arith, inl, inr}
+use Rattle.std.proofs.Common.{◌≡◌, ℕ, ◌<◌, ◌&&◌, ◌||◌, Bool, true, List, [], ◌∷◌, ◌++◌, Some, refl, sym, ap, ◌∙◌, subst, arith, inl, inr}
 use Rattle.std.proofs.lemmas.List.{append_assoc}
 use Rattle.std.proofs.lemmas.List.Folds.{list_any-append}
 use Rattle.outside.specs.declared.slot.Slot.{Ghosts}
 use Rattle.reservation_tree.specs.declared.errors.PoolErr.TheVariants.{ReadFault}
 use Rattle.pool_model.specs.declared.call.Call.{Call}
-use Rattle.pool_model.specs.declared.call.Call.TheVariants.{Pin, PinAgain, Create, Alloc, GiveBack, MoveReservation, MoveBuffer}
+use Rattle.pool_model.specs.declared.call.Call.TheVariants.{Pin}
 use Rattle.pool_model.specs.declared.event.Event.{Event}
 use Rattle.pool_model.specs.declared.event.Event.TheVariants.{PinHere, PinLoad, ReadOk, ReadFailed, Refused}
 use Rattle.pool_model.specs.Failures.{is_own, is_for_own, failures_in, asks_in}
@@ -20,16 +20,22 @@ use Rattle.own_entries.proofs.Calls.{calls_tell}
 use Rattle.local_pool.specs.declared.owned.Owned.{Owned}
 use Rattle.local_pool.specs.Told.{held_of, signs_of}
 use Rattle.local_pool.specs.Making.{Makes}
-use Rattle.local_pool.specs.Turning.{Rose}
+use Rattle.local_pool.specs.Turning.{IsWrite, Rose}
 use Rattle.local_pool.specs.Pinning.{IsPinned, IsFailedRead, MustRefuse}
 use Rattle.local_pool.proofs.Growing.{by_append}
-use Rattle.local_pool.proofs.Making.{makes_held, makes_grows, makes_more, asked_last, asks_since, whose}
+use Rattle.local_pool.proofs.Making.{makes_held, makes_grows, makes_more, asked_last, asked_more, asked_held, asks_since, whose}
 
 pub pin_is : (t : ℕ) (h : Holdings) (p : ℕ) (events pin : List Event) → IsAsked t h [] events → IsPinned p pin → IsPin t h p (events ++ pin)
 pin_is t h p events pin asked (inl here) = inl (subst (λ (es : List Event). IsAsked t h (PinHere p ∷ []) (events ++ es)) (sym here) (asked_last t h events (PinHere p ∷ []) asked))
 pin_is t h p events pin asked (inr loaded) =
     let last : List Event = loaded.0 ++ PinLoad p ∷ ReadOk p ∷ [] in
     inr (loaded.0, loaded.1, subst (λ (es : List Event). IsAsked t h last (events ++ es)) (sym loaded.2) (asked_last t h events last asked))
+
+-- one write more
+pub asked_wrote : {D : Type 0} (slot : Ghosts D) (t : ℕ) (start now new : Owned D) → Makes slot (IsAsked t (held_of slot start) []) start now → Makes slot (IsWrite t (held_of slot now)) now new → Makes slot (IsAsked t (held_of slot start) []) start new
+asked_wrote slot t start now new asked write =
+    makes_more slot start now new asked write
+    (asked_more t (held_of slot start) asked.events write.events asked.is (subst (λ (h : Holdings). IsWrite t h write.events) (asked_held slot t start now asked) write.is))
 
 -- a failed load, and its refusal
 unread_is : (t : ℕ) (h : Holdings) (p entry : ℕ) (events read end : List Event) → IsAsked t h [] events → IsFailedRead p read → end ≡ Refused (Pin p) entry ∷ []

@@ -1,5 +1,5 @@
 -- A turn of a pin: the page is here, or its client lacks room for it.
-use Rattle.std.proofs.Common.{◌≡◌, ℕ, ◌+◌, ◌*◌, ◌==◌, ◌≤◌, Bool, true, false, List, [], ◌∷◌, ◌++◌, Option, Some, None, IsSome, is_some, refl, sym, ap, ◌∙◌, subst, inl, inr, ◌⊎◌, arith}
+use Rattle.std.proofs.Common.{◌≡◌, ℕ, ◌*◌, ◌==◌, ◌≤◌, true, List, [], ◌∷◌, ◌++◌, Option, Some, None, IsSome, is_some, refl, sym, ap, ◌∙◌, subst, inl, inr, ◌⊎◌, arith}
 use Rattle.std.proofs.lemmas.Bool.{false≢true}
 use Rattle.std.specs.FinMap.{get}
 use Rattle.outside.specs.declared.slot.Slot.{Ghosts}
@@ -7,21 +7,16 @@ use Rattle.block_arena.specs.Memory.{Buffer, IsBufferOf}
 use Rattle.reservation_tree.specs.Tracker.{unused}
 use Rattle.pool_model.specs.declared.call.Call.{Call}
 use Rattle.pool_model.specs.declared.call.Call.TheVariants.{Pin}
-use Rattle.pool_model.specs.declared.event.Event.{Event}
 use Rattle.pool_model.specs.declared.event.Event.TheVariants.{PinHere, Refused}
 use Rattle.pool_model.specs.declared.entry.Entry.{Entry}
-use Rattle.pool_model.specs.State.{Opening, Place, Pinned, Dirty, Flying, Loading, Clean, Evicted, Page, State, page_at}
+use Rattle.pool_model.specs.State.{Place, Pinned, Dirty, Flying, Loading, Clean, Evicted, Page, State, page_at}
 use Rattle.pool_model.specs.Sums.{charge_of, length_of}
 use Rattle.pool_model.specs.Owning.{IsClientOf}
-use Rattle.pool_model.specs.OwnLaws.{IsContent}
-use Rattle.pool_model.specs.Legal.{state_after}
 use Rattle.pool_model.specs.MayFollow.{MayFollow}
 use Rattle.pool_model.specs.LookingBack.{content_of, content_from}
-use Rattle.pool_model.proofs.Resting.{legal_contents_are_told}
 use Rattle.store_api.specs.Tokens.{PageToken}
 use Rattle.store_api.specs.Holdings.{Holdings, page_of, page_len, unused_of}
-use Rattle.store_api.specs.Conditions.{Fits, IsPage, ShowsLeft}
-use Rattle.store_api.specs.Entries.{by}
+use Rattle.store_api.specs.Conditions.{Fits, ShowsLeft}
 use Rattle.own_entries.specs.LiveParts.{left_at, charge_in}
 use Rattle.own_entries.proofs.Facts.{own_under}
 use Rattle.own_entries.proofs.Views.{len_is, account_is}
@@ -42,6 +37,7 @@ use Rattle.local_pool.specs.Turning.{CanRefuse, has_asked}
 use Rattle.local_pool.specs.Pinning.{CanBePinned, MustRefuse, IsPinned}
 use Rattle.local_pool.proofs.Growing.{goes}
 use Rattle.local_pool.proofs.Knowing.{Knows, knows, sound, owned, left_of}
+use Rattle.local_pool.proofs.Contents.{content_told}
 use Rattle.local_pool.proofs.Asked.{one_more, makes_one, rose, may_refuse}
 use Rattle.local_pool.proofs.Turned.{none_flies}
 use Rattle.local_pool.proofs.Holding.{is_there, not_pinned, not_loading, still_there}
@@ -98,10 +94,7 @@ module _ {D : Type 0} (slot : Ghosts D) (own : Owned D) (is : Stands slot own) (
   -- the content of a page that rests is what the owner left in it last
   pub content_here : content_of is.opening own.trail p.name ≡ content_from p.name [] own.trail
   content_here =
-      let page = is_there slot own is p can.page in
-      let it : IsContent is.opening own.trail (state_after is.opening own.trail) p.name x =
-      legal_contents_are_told is.opening own.trail is.stands.legal p.name x (ap (λ (t : State). get t.pages p.name) (sym is.stands.state) ∙ page.page.lives) in
-      it.left (it.rests (not_pinned slot own is p can.page can.rests)) []
+      content_told slot own.pool is.opening own.trail is.stands p.name (is_there slot own is p can.page).page.lives (not_pinned slot own is p can.page can.rests)
 
   pub left_here : (page_of p.name h).left ≡ content_from p.name [] own.trail
   left_here =

@@ -1,16 +1,15 @@
 -- Where all slots tell what they hold, those that go into a job do.
-use Rattle.std.proofs.Common.{◌≡◌, ℕ, zero, suc, ◌+◌, ◌<◌, ◌==◌, Bool, true, false, List, [], ◌∷◌, length, if◌then◌else◌, refl, sym, ap, ◌∙◌, arith}
+use Rattle.std.proofs.Common.{◌≡◌, ℕ, zero, suc, ◌+◌, Bool, true, false, List, [], ◌∷◌, if◌then◌else◌, refl, sym, ◌∙◌, arith}
 use Rattle.std.proofs.lemmas.Bool.{eqb-true}
 use Rattle.std.proofs.lemmas.List.Sums.{sum_by-cons}
 use Rattle.std.specs.List.{sum_by}
 use Rattle.outside.specs.declared.slot.Slot.{Ghosts}
-use Rattle.store_api.specs.Holdings.{Holdings}
 use Rattle.own_entries.proofs.Outsets.{outsets_stay}
 use Rattle.pin_core.specs.StateOf.{state_of}
 use Rattle.pin_core.specs.Standing.{slots_home}
 use Rattle.pin_core.specs.Runs.{AllTell}
 use Rattle.local_pool.specs.declared.owned.Owned.{Owned}
-use Rattle.local_pool.specs.Told.{silence, all_tell, outset_of, held_of}
+use Rattle.local_pool.specs.Told.{silence, outset_of, held_of}
 
 module _ {D : Type 0} (slot : Ghosts D) where
   abbrev unless : Bool → ℕ

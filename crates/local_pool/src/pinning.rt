@@ -69,8 +69,8 @@ impl<D: Slot + Drop> Alone<D> {
         }
     }
 
-    // The first that applies: the page is pinned; a failure refuses the call; the client's newest dirty page is
-    // written; the page is loaded.
+    // The first that applies: a dirty page is pinned; where the client has room, a clean one is pinned and an evicted
+    // one loaded; a failure refuses the call; the client's newest dirty page is written.
     fn pin_step(&mut self, p: &Page) -> PinStep
         requires can { CanBePinned p.now (held_of D.Slot self.old) }
         requires asked { has_asked self.old.trail ≡ true }

@@ -1,6 +1,6 @@
 use Rattle.std.proofs.Common.{refl}
 use Rattle.local_pool.specs.declared.owned.Owned.{Owned}
-use Rattle.local_pool.proofs.Loaded.{load_fits, still_reads, back_read, back_unread}
+use Rattle.local_pool.proofs.Loaded.{back_read, back_unread}
 use Rattle.local_pool.proofs.loading.read_named.Goals as goal
 
 pub returns-clause-ok : goal.returns-clause-ok

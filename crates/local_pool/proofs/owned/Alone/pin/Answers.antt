@@ -1,15 +1,14 @@
-use Rattle.std.proofs.Common.{◌≡◌, ℕ, ◌≤◌, [], ◌∷◌, IsSome, sym, ap, ◌∙◌, subst}
+use Rattle.std.proofs.Common.{ℕ, ◌≤◌, [], IsSome, sym, subst}
 use Rattle.pool_model.specs.declared.call.Call.TheVariants.{Pin}
 use Rattle.store_api.specs.Holdings.{Holdings, page_of, page_len, unused_of}
-use Rattle.store_api.specs.Conditions.{IsPage, ShowsLeft}
+use Rattle.store_api.specs.Conditions.{ShowsLeft}
 use Rattle.store_api.specs.Entries.{by, IsAsked}
 use Rattle.local_pool.specs.declared.owned.Owned.{Owned}
 use Rattle.local_pool.specs.Told.{held_of}
 use Rattle.local_pool.specs.Making.{Makes}
-use Rattle.local_pool.specs.Turning.{IsWrite}
 use Rattle.local_pool.specs.Pinning.{CanBePinned}
-use Rattle.local_pool.proofs.Making.{makes_so, makes_more, asked_none, asked_more, asked_held, was_asked, asks_since, was_refused}
-use Rattle.local_pool.proofs.PinMade.{pin_is, was_unread}
+use Rattle.local_pool.proofs.Making.{makes_so, makes_more, asked_none, asked_held, was_asked, asks_since, was_refused}
+use Rattle.local_pool.proofs.PinMade.{pin_is, asked_wrote, was_unread}
 use Rattle.local_pool.proofs.owned.Alone.pin.Goals as goal
 
 pub loop-buf-init : goal.loop-buf-init
@@ -61,11 +60,4 @@ pub loop-buf-smaller : goal.loop-buf-smaller
 loop-buf-smaller g c = c.in-Wrote.ensures.1
 
 pub loop-buf-preserved : goal.loop-buf-preserved
-loop-buf-preserved g c =
-    let t : ℕ = c.args.p.now.client in
-    let start : Owned g.row.D.Denot = c.args.self.now in
-    let asked : Makes g.D.Slot (IsAsked t (held_of g.D.Slot start) []) start c.loop-buf.self = c.loop-buf.invariant in
-    let write : Makes g.D.Slot (IsWrite t (held_of g.D.Slot c.loop-buf.self)) c.loop-buf.self c.pin_step.new.self = c.in-Wrote.ensures.0 in
-    makes_more g.D.Slot start c.loop-buf.self c.pin_step.new.self asked write
-    (asked_more t (held_of g.D.Slot start) asked.events write.events asked.is
-    (subst (λ (h : Holdings). IsWrite t h write.events) (asked_held g.D.Slot t start c.loop-buf.self asked) write.is))
+loop-buf-preserved g c = asked_wrote g.D.Slot c.args.p.now.client c.args.self.now c.loop-buf.self c.pin_step.new.self c.loop-buf.invariant c.in-Wrote.ensures.0
