@@ -12,10 +12,7 @@ use reservation_tree::PoolErr;
 use std::marker::Brand;
 
 // A page that is loading is read, and comes back: pinned with this buffer, or evicted again.
-pub(crate) fn read_back<D: Slot + Drop>(
-    own: &mut Owned<D>,
-    job: ReadJob<D>,
-) -> Result<Buf, PoolErr>
+pub(crate) fn read_back<D: Slot + Drop>(own: &mut Owned<D>, job: ReadJob<D>) -> Result<Buf, PoolErr>
     requires can { CanRead D.Slot job own.old }
     ensures ok { IfOk result (λ buf. IsRead D.Slot job buf own.old own.new) }
     ensures err { IfErr result (IsUnread D.Slot job own.old own.new) }

@@ -102,7 +102,11 @@ fn step<G: Adds<Entry>, D: Slot + Drop>(own: &mut Owned<D>, p: &Page) -> PinStep
 {
     match own.pool.pin_turn(own.session, 0, p) {
         PinTurn::Here(buf) => {
-            enter(&mut own.trail, own.session, Event::PinHere { page: p.name() });
+            enter(
+                &mut own.trail,
+                own.session,
+                Event::PinHere { page: p.name() },
+            );
             PinStep::Pinned(buf)
         }
         PinTurn::Load(job) => {

@@ -20,9 +20,10 @@ pub returns-in-Here-clause-turn : goal.returns-in-Here-clause-turn
 returns-in-Here-clause-turn g c =
     let own : Owned g.row.D.Denot = c.args.own.now in
     let new : Owned g.row.D.Denot = record { pool = c.pin_turn.new.self; trail = c.enter.new.trail; session = own.session } in
-    let entered : new.trail ≡ own.trail ++ by own.session (PinHere c.args.p.now.name ∷ []) = subst (λ (p : ℕ). new.trail ≡ own.trail ++ by own.session (PinHere p ∷ [])) c.name.ensures c.enter.ensures in
-    (makes_here g.D.Slot own c.requires.stands c.args.p.now c.requires.can new entered refl c.in-Here.ensures.enters,
-    shows_here g.D.Slot own c.requires.stands c.args.p.now c.requires.can c.in-Here.buf c.in-Here.ensures.turn.1)
+    let entered : new.trail ≡ own.trail ++ by own.session (PinHere c.args.p.now.name ∷ []) = subst (λ (p : ℕ). new.trail ≡ own.trail ++ by own.session (PinHere p ∷ [])) c.name.ensures c.enter.ensures in (
+      makes_here g.D.Slot own c.requires.stands c.args.p.now c.requires.can new entered refl c.in-Here.ensures.enters,
+      shows_here g.D.Slot own c.requires.stands c.args.p.now c.requires.can c.in-Here.buf c.in-Here.ensures.turn.1,
+    )
 
 pub returns-in-Here-clause-stands : goal.returns-in-Here-clause-stands
 returns-in-Here-clause-stands g c =
@@ -42,9 +43,10 @@ pub returns-in-Ok-clause-turn : goal.returns-in-Ok-clause-turn
 returns-in-Ok-clause-turn g c =
     let own : Owned g.row.D.Denot = c.args.own.now in
     let went : Owned g.row.D.Denot = record { pool = c.pin_turn.new.self; trail = c.tick.new.self; session = own.session } in
-    let entered = c.tick.ensures ∙ ap (λ es. own.trail ++ es) c.requires.named in
-    (makes_read g.D.Slot own c.requires.stands c.args.p.now c.requires.can c.in-Load.job went c.in-Load.ensures.turn.2 c.in-Load.ensures.turn.0 c.in-Load.ensures.enters entered refl c.read_back.new.own c.in-Ok.buf c.in-Ok.ensures.ok,
-    shows_read g.D.Slot own c.requires.stands c.args.p.now c.requires.can c.in-Load.job went c.in-Load.ensures.turn.2 c.in-Load.ensures.turn.0 c.in-Load.ensures.enters entered refl c.read_back.new.own c.in-Ok.buf c.in-Ok.ensures.ok)
+    let entered = c.tick.ensures ∙ ap (λ es. own.trail ++ es) c.requires.named in (
+      makes_read g.D.Slot own c.requires.stands c.args.p.now c.requires.can c.in-Load.job went c.in-Load.ensures.turn.2 c.in-Load.ensures.turn.0 c.in-Load.ensures.enters entered refl c.read_back.new.own c.in-Ok.buf c.in-Ok.ensures.ok,
+      shows_read g.D.Slot own c.requires.stands c.args.p.now c.requires.can c.in-Load.job went c.in-Load.ensures.turn.2 c.in-Load.ensures.turn.0 c.in-Load.ensures.enters entered refl c.read_back.new.own c.in-Ok.buf c.in-Ok.ensures.ok,
+    )
 
 pub returns-in-Ok-clause-stands : goal.returns-in-Ok-clause-stands
 returns-in-Ok-clause-stands g c =
@@ -58,10 +60,11 @@ returns-in-Err-ReadFault-clause-turn g c =
     let own : Owned g.row.D.Denot = c.args.own.now in
     let went : Owned g.row.D.Denot = record { pool = c.pin_turn.new.self; trail = c.tick.new.self; session = own.session } in
     let entered = c.tick.ensures ∙ ap (λ es. own.trail ++ es) c.requires.named in
-    let it = c.in-Load.ensures in
-    (must_fail g.D.Slot own c.requires.stands c.args.p.now c.requires.can c.in-Load.job went it.turn.2 it.turn.0 it.enters entered refl c.read_back.new.own c.in-Err-ReadFault.field-0 c.in-Err-ReadFault.ensures.err c.in-Err-ReadFault.entry c.in-Err-ReadFault.field-0-is c.requires.asked,
-    makes_unread g.D.Slot own c.requires.stands c.args.p.now c.requires.can c.in-Load.job went it.turn.2 it.turn.0 it.enters entered refl c.read_back.new.own c.in-Err-ReadFault.field-0 c.in-Err-ReadFault.ensures.err,
-    client_lives g.D.Slot own c.requires.stands c.args.p.now c.requires.can)
+    let it = c.in-Load.ensures in (
+      must_fail g.D.Slot own c.requires.stands c.args.p.now c.requires.can c.in-Load.job went it.turn.2 it.turn.0 it.enters entered refl c.read_back.new.own c.in-Err-ReadFault.field-0 c.in-Err-ReadFault.ensures.err c.in-Err-ReadFault.entry c.in-Err-ReadFault.field-0-is c.requires.asked,
+      makes_unread g.D.Slot own c.requires.stands c.args.p.now c.requires.can c.in-Load.job went it.turn.2 it.turn.0 it.enters entered refl c.read_back.new.own c.in-Err-ReadFault.field-0 c.in-Err-ReadFault.ensures.err,
+      client_lives g.D.Slot own c.requires.stands c.args.p.now c.requires.can,
+    )
 
 pub returns-in-Err-ReadFault-clause-stands : goal.returns-in-Err-ReadFault-clause-stands
 returns-in-Err-ReadFault-clause-stands g c =
@@ -93,9 +96,10 @@ returns-in-Write-clause-turn g c =
     let it = c.in-Write.ensures in
     let some = client_lives g.D.Slot own c.requires.stands c.args.p.now c.requires.can in
     let lacks = lacks_here g.D.Slot own c.requires.stands c.args.p.now c.requires.can None it.turn.0 in
-    let started = starts_here g.D.Slot own c.requires.stands c.args.p.now c.requires.can c.in-Write.job c.pin_turn.new.self it.turn.1 in
-    (makes_write g.D.Slot own c.requires.stands c.args.p.now.client (page_len c.args.p.now.name (held_of g.D.Slot own)) some c.in-Write.job c.pin_turn.new.self went lacks started it.enters refl c.enter_started.ensures refl c.write_out.new.own c.write_out.ensures.ends,
-    left_write g.D.Slot own c.requires.stands c.args.p.now.client (page_len c.args.p.now.name (held_of g.D.Slot own)) some c.in-Write.job c.pin_turn.new.self went lacks started it.enters refl c.enter_started.ensures refl c.write_out.new.own c.write_out.ensures.ends)
+    let started = starts_here g.D.Slot own c.requires.stands c.args.p.now c.requires.can c.in-Write.job c.pin_turn.new.self it.turn.1 in (
+      makes_write g.D.Slot own c.requires.stands c.args.p.now.client (page_len c.args.p.now.name (held_of g.D.Slot own)) some c.in-Write.job c.pin_turn.new.self went lacks started it.enters refl c.enter_started.ensures refl c.write_out.new.own c.write_out.ensures.ends,
+      left_write g.D.Slot own c.requires.stands c.args.p.now.client (page_len c.args.p.now.name (held_of g.D.Slot own)) some c.in-Write.job c.pin_turn.new.self went lacks started it.enters refl c.enter_started.ensures refl c.write_out.new.own c.write_out.ensures.ends,
+    )
 
 pub returns-in-Write-clause-stands : goal.returns-in-Write-clause-stands
 returns-in-Write-clause-stands g c =
