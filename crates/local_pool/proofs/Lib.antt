@@ -13,3 +13,11 @@ pub mod Ended
 pub mod Accounts
 pub mod Reaching
 pub mod Arrivals
+pub mod Holding
+pub mod Loaded
+pub mod Fetching
+pub mod Silent
+pub mod Pinned
+pub mod Fetched
+pub mod PinMade
+pub mod Contents

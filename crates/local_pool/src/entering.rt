@@ -1,11 +1,11 @@
 //! A trail grows, for contracts alone.
 ghost use Rattle.std.specs.Prelude.{◌≡◌, ◌++◌, ◌∷◌, [], ℕ};
 ghost use Rattle.pool_model.specs.declared.event.Event.TheVariants as event;
-ghost use Rattle.pin_core.specs.Returning.{write_entry};
+ghost use Rattle.pin_core.specs.Returning.{read_ends, write_entry};
 ghost use Rattle.scratch_dev.specs.Rows.{faults_of};
 
 use outside::Slot;
-use pin_core::WriteJob;
+use pin_core::{ReadJob, WriteJob};
 use pool_model::{Call, Entry, Event};
 use std::marker::Brand;
 use turn_table::{Adds, Solo};
@@ -71,6 +71,30 @@ pub(crate) fn enter_wrote<B: Before, D: Slot>(trail: &mut Solo<Entry>, job: &Wri
 fn enter_write<N: Adds<Entry>, B: Before, D: Slot>(trail: &mut Solo<Entry>, _job: &WriteJob<D>)
     requires named { N.entries ≡ write_entry _job.now B.sum (faults_of D.Slot _job.now.row) ∷ [] }
     ensures { trail.new ≡ trail.old ++ write_entry _job.now B.sum (faults_of D.Slot _job.now.row) ∷ [] }
+{
+    trail.tick::<N>();
+}
+
+// A job of the session that was run has ended.
+#[inline]
+pub(crate) fn enter_read<B: Before, D: Slot>(
+    trail: &mut Solo<Entry>,
+    session: u32,
+    job: &ReadJob<D>,
+)
+    ensures { trail.new ≡ trail.old ++ record { maker = session; event = read_ends job.now.failed job.now.id.name B.sum (faults_of D.Slot job.now.row) } ∷ [] }
+{
+    enter_load::<Brand, B, D>(trail, session, job);
+}
+
+#[inline]
+fn enter_load<N: Adds<Entry>, B: Before, D: Slot>(
+    trail: &mut Solo<Entry>,
+    _session: u32,
+    _job: &ReadJob<D>,
+)
+    requires named { N.entries ≡ record { maker = _session; event = read_ends _job.now.failed _job.now.id.name B.sum (faults_of D.Slot _job.now.row) } ∷ [] }
+    ensures { trail.new ≡ trail.old ++ record { maker = _session; event = read_ends _job.now.failed _job.now.id.name B.sum (faults_of D.Slot _job.now.row) } ∷ [] }
 {
     trail.tick::<N>();
 }

@@ -10,6 +10,7 @@ mod beginning;
 mod coming;
 mod entering;
 mod leaving;
+mod loading;
 mod looking;
 mod owned;
 mod pinning;
