@@ -42,10 +42,12 @@ asked_none t h = ([], tt, refl)
 
 pub asked_more : (t : ℕ) (h : Holdings) (events write : List Event) → IsAsked t h [] events → IsWrite t h write → IsAsked t h [] (events ++ write)
 asked_more t h events write asked is =
-    let both : List Event = asked.0 ++ StartWrite is.page ∷ is.end ∷ [] in
-    (both, writes_more t h asked.0 is.page is.end asked.1 is.own is.ended,
-    ap (λ (es : List Event). es ++ write) (asked.2 ∙ ap (λ (es : List Event). Ask ∷ es) (append-nil asked.0))
-    ∙ ap (λ (es : List Event). Ask ∷ (asked.0 ++ es)) is.are ∙ ap (λ (es : List Event). Ask ∷ es) (sym (append-nil both)))
+    let both : List Event = asked.0 ++ StartWrite is.page ∷ is.end ∷ [] in (
+      both,
+      writes_more t h asked.0 is.page is.end asked.1 is.own is.ended,
+      ap (λ (es : List Event). es ++ write) (asked.2 ∙ ap (λ (es : List Event). Ask ∷ es) (append-nil asked.0))
+          ∙ ap (λ (es : List Event). Ask ∷ (asked.0 ++ es)) is.are ∙ ap (λ (es : List Event). Ask ∷ es) (sym (append-nil both)),
+    )
 
 pub asked_last : (t : ℕ) (h : Holdings) (events last : List Event) → IsAsked t h [] events → IsAsked t h last (events ++ last)
 asked_last t h events last asked =

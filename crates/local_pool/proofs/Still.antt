@@ -34,7 +34,6 @@ end_still pages p still q x there = elim (same_or_other q p) [
   | inr other ↦ still q x (sym (removed_other pages p q other) ∙ there)
 ]
 
-
 -- slots leave pages where they are
 slots_still : (s : State) (p : ℕ) → IsStill s → AreStill (give_slots p s).pages
 slots_still s p still q x there = elim (same_or_other q p) [

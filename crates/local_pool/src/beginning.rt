@@ -101,10 +101,14 @@ fn begin<D: Slot + Drop>(
             quota: Some(quota),
         },
     );
-    enter(&mut trail, session, Event::Increase {
-        tracker,
-        bytes: least,
-    });
+    enter(
+        &mut trail,
+        session,
+        Event::Increase {
+            tracker,
+            bytes: least,
+        },
+    );
     Ok(Alone {
         own: Owned {
             pool,

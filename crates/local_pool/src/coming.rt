@@ -29,8 +29,8 @@ use store_api::{Client, Loan, Page};
 use turn_table::Adds;
 
 impl<D: Slot + Drop> Alone<D> {
-    // A new page of so many blocks, which have so many bytes, once there is room.
-    pub(crate) fn create(
+    /// A new page of so many blocks, which have so many bytes, once there is room.
+    pub fn create(
         &mut self,
         alloc: Global,
         c: &Client,
@@ -74,8 +74,8 @@ impl<D: Slot + Drop> Alone<D> {
         create_named::<Brand, D>(&mut self.own, c.tracker(), shell, slots)
     }
 
-    // A new loan of so many blocks, which have so many bytes, once there is room.
-    pub(crate) fn alloc(
+    /// A new loan of so many blocks, which have so many bytes, once there is room.
+    pub fn alloc(
         &mut self,
         alloc: Global,
         c: &Client,

@@ -108,12 +108,7 @@ pub(crate) fn enter_refused(trail: &mut Solo<Entry>, session: u32, call: &Call, 
 }
 
 #[inline]
-fn enter_refusal<N: Adds<Entry>>(
-    trail: &mut Solo<Entry>,
-    _session: u32,
-    _call: &Call,
-    _entry: u64,
-)
+fn enter_refusal<N: Adds<Entry>>(trail: &mut Solo<Entry>, _session: u32, _call: &Call, _entry: u64)
     requires named { N.entries ≡ record { maker = _session; event = event.Refused _call.now _entry } ∷ [] }
     ensures { trail.new ≡ trail.old ++ record { maker = _session; event = event.Refused _call.now _entry } ∷ [] }
 {

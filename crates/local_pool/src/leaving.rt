@@ -28,8 +28,8 @@ use store_api::{Loan, Page};
 use turn_table::Adds;
 
 impl<D: Slot + Drop> Alone<D> {
-    // Leaves these bytes in a page that is pinned once.
-    pub(crate) fn unpin(&mut self, p: &Page, buf: Buf) -> Result<(), (Buf, PoolErr)>
+    /// Leaves these bytes in a page that is pinned once.
+    pub fn unpin(&mut self, p: &Page, buf: Buf) -> Result<(), (Buf, PoolErr)>
         requires page { IsPage p.now (held_of D.Slot self.old) }
         requires pinned { (page_of p.now.name (held_of D.Slot self.old)).pins ≡ 1 }
         requires buffer { Fits (page_of p.now.name (held_of D.Slot self.old)).blocks (held_of D.Slot self.old) buf }
@@ -40,8 +40,8 @@ impl<D: Slot + Drop> Alone<D> {
         leave::<Brand, D>(&mut self.own, p, buf)
     }
 
-    // Ends a page that is pinned once, and makes its buffer a loan.
-    pub(crate) fn extract(&mut self, p: Page, buf: Buf) -> Loan
+    /// Ends a page that is pinned once, and makes its buffer a loan.
+    pub fn extract(&mut self, p: Page, buf: Buf) -> Loan
         requires page { IsPage p (held_of D.Slot self.old) }
         requires pinned { (page_of p.name (held_of D.Slot self.old)).pins ≡ 1 }
         requires buffer { Fits (page_of p.name (held_of D.Slot self.old)).blocks (held_of D.Slot self.old) buf }
@@ -58,8 +58,8 @@ impl<D: Slot + Drop> Alone<D> {
         loan
     }
 
-    // Ends a page.
-    pub(crate) fn destroy(&mut self, p: Page, buf: Option<Buf>)
+    /// Ends a page.
+    pub fn destroy(&mut self, p: Page, buf: Option<Buf>)
         requires page { IsPage p (held_of D.Slot self.old) }
         requires buffer { IsHeld p (held_of D.Slot self.old) buf }
         ensures { Makes D.Slot (λ events. events ≡ event.Destroy p.name ∷ []) self.old self.new }
@@ -70,8 +70,8 @@ impl<D: Slot + Drop> Alone<D> {
         enter(&mut own.trail, own.session, Event::Destroy { page });
     }
 
-    // Ends a loan.
-    pub(crate) fn free(&mut self, loan: Loan)
+    /// Ends a loan.
+    pub fn free(&mut self, loan: Loan)
         requires { IsLoan loan (held_of D.Slot self.old) }
         ensures { Makes D.Slot (λ events. events ≡ event.Free loan.number ∷ []) self.old self.new }
     {

@@ -10,8 +10,8 @@ use outside::Slot;
 use store_api::Client;
 
 impl<D: Slot + Drop> Alone<D> {
-    // How much of the query's reservation no client has.
-    pub(crate) fn room(&self) -> u64
+    /// How much of the query's reservation no client has.
+    pub fn room(&self) -> u64
         ensures value { result ≡ (held_of D.Slot self.now).room }
         ensures fits { FitsQuery (held_of D.Slot self.now) }
     {
@@ -19,8 +19,8 @@ impl<D: Slot + Drop> Alone<D> {
         own.pool.unused(own.pool.tracker(own.session))
     }
 
-    // What the client may still charge.
-    pub(crate) fn unused(&self, c: &Client) -> u64
+    /// What the client may still charge.
+    pub fn unused(&self, c: &Client) -> u64
         requires { IsLiveClient c.now (held_of D.Slot self.now) }
         ensures value { result ≡ unused_of c.now.tracker (held_of D.Slot self.now) }
         ensures fits { FitsAccount (account_of c.now.tracker (held_of D.Slot self.now)) (held_of D.Slot self.now) }
@@ -28,8 +28,8 @@ impl<D: Slot + Drop> Alone<D> {
         self.own.pool.unused(c.tracker())
     }
 
-    // Clients and queries that have nothing under them have their whole reservation unused.
-    pub(crate) fn law_whole(&self)
+    /// Clients and queries that have nothing under them have their whole reservation unused.
+    pub fn law_whole(&self)
         ensures { IsWholeIdle (held_of D.Slot self.now) }
     {
         let _own = &self.own;

@@ -43,8 +43,8 @@ pub(crate) enum PinStep {
 }
 
 impl<D: Slot + Drop> Alone<D> {
-    // Pins a page that rests: where it is, or once there is room for it, after a load where it isn't in memory.
-    pub(crate) fn pin(&mut self, p: &Page) -> Result<Buf, PoolErr>
+    /// Pins a page that rests: where it is, or once there is room for it, after a load where it isn't in memory.
+    pub fn pin(&mut self, p: &Page) -> Result<Buf, PoolErr>
         requires page { IsPage p.now (held_of D.Slot self.old) }
         requires rests { (page_of p.now.name (held_of D.Slot self.old)).pins ≡ 0 }
         requires unused { page_len p.now.name (held_of D.Slot self.old) ≤ unused_of p.now.client (held_of D.Slot self.old) }

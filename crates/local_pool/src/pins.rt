@@ -20,8 +20,8 @@ use reservation_tree::PoolErr;
 use store_api::{Client, Loan, Page};
 
 impl<D: Slot + Drop> Alone<D> {
-    // Pins a pinned page once more, once there is room.
-    pub(crate) fn pin_again(&mut self, p: &Page) -> Result<(), PoolErr>
+    /// Pins a pinned page once more, once there is room.
+    pub fn pin_again(&mut self, p: &Page) -> Result<(), PoolErr>
         requires page { IsPage p.now (held_of D.Slot self.old) }
         requires pinned { 1 ≤ (page_of p.now.name (held_of D.Slot self.old)).pins }
         requires unused { page_len p.now.name (held_of D.Slot self.old) ≤ unused_of p.now.client (held_of D.Slot self.old) }
@@ -63,8 +63,8 @@ impl<D: Slot + Drop> Alone<D> {
         );
     }
 
-    // Ends one of several pins.
-    pub(crate) fn unpin_once(&mut self, p: &Page)
+    /// Ends one of several pins.
+    pub fn unpin_once(&mut self, p: &Page)
         requires page { IsPage p.now (held_of D.Slot self.old) }
         requires pinned { 2 ≤ (page_of p.now.name (held_of D.Slot self.old)).pins }
         ensures { Makes D.Slot (λ events. events ≡ event.UnpinOnce p.now.name ∷ []) self.old self.new }
@@ -78,8 +78,8 @@ impl<D: Slot + Drop> Alone<D> {
         );
     }
 
-    // Charges a loan to another client, once that one has room.
-    pub(crate) fn move_buffer(&mut self, loan: Loan, to: &Client) -> Result<Loan, (Loan, PoolErr)>
+    /// Charges a loan to another client, once that one has room.
+    pub fn move_buffer(&mut self, loan: Loan, to: &Client) -> Result<Loan, (Loan, PoolErr)>
         requires loan { IsLoan loan (held_of D.Slot self.old) }
         requires to { IsLiveClient to.now (held_of D.Slot self.old) }
         requires apart { loan.client ≢ to.now.tracker }

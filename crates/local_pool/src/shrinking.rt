@@ -20,8 +20,8 @@ use reservation_tree::PoolErr;
 use store_api::Client;
 
 impl<D: Slot + Drop> Alone<D> {
-    // Lowers the client's reservation, once what it holds fits.
-    pub(crate) fn give_back(&mut self, c: &Client, bytes: u64) -> Result<(), PoolErr>
+    /// Lowers the client's reservation, once what it holds fits.
+    pub fn give_back(&mut self, c: &Client, bytes: u64) -> Result<(), PoolErr>
         requires client { IsLiveClient c.now (held_of D.Slot self.old) }
         requires unused { bytes ≤ unused_of c.now.tracker (held_of D.Slot self.old) }
         ensures ok { OnOk result (Makes D.Slot (IsAsked c.now.tracker (held_of D.Slot self.old) (event.Decrease c.now.tracker bytes ∷ [])) self.old self.new) }
@@ -45,11 +45,15 @@ impl<D: Slot + Drop> Alone<D> {
         let mine = Client::of(own.session, tracker);
         own.pool.decrease_now(&mine, bytes);
         mine.into_tracker();
-        enter(&mut own.trail, own.session, Event::Decrease { tracker, bytes });
+        enter(
+            &mut own.trail,
+            own.session,
+            Event::Decrease { tracker, bytes },
+        );
     }
 
-    // Moves unused reservation, once what the first client holds fits.
-    pub(crate) fn move_reservation(
+    /// Moves unused reservation, once what the first client holds fits.
+    pub fn move_reservation(
         &mut self,
         from: &Client,
         to: &Client,

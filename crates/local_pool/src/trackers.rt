@@ -18,8 +18,8 @@ use reservation_tree::PoolErr;
 use store_api::Client;
 
 impl<D: Slot + Drop> Alone<D> {
-    // A new client with this limit.
-    pub(crate) fn add_client(&mut self, limit: u64) -> Result<Client, PoolErr>
+    /// A new client with this limit.
+    pub fn add_client(&mut self, limit: u64) -> Result<Client, PoolErr>
         ensures ok { IfOk result (λ c. Makes D.Slot (λ events. events ≡ event.AddTracker c.tracker (held_of D.Slot self.old).query limit None ∷ []) self.old self.new) }
         ensures fresh { IfOk result (λ c. IsFresh c (held_of D.Slot self.old)) }
         ensures refused { IsErr result ↔ (16 ≤ (held_of D.Slot self.old).live_clients) }
@@ -42,8 +42,8 @@ impl<D: Slot + Drop> Alone<D> {
         Ok(c)
     }
 
-    // Ends a client that has no page and no loan.
-    pub(crate) fn end_client(&mut self, c: Client)
+    /// Ends a client that has no page and no loan.
+    pub fn end_client(&mut self, c: Client)
         requires client { IsLiveClient c (held_of D.Slot self.old) }
         requires idle { IsIdle c.tracker (held_of D.Slot self.old) }
         ensures { Makes D.Slot (λ events. events ≡ event.MoveReservation c.tracker (held_of D.Slot self.old).query (account_of c.tracker (held_of D.Slot self.old)).reservation ∷ event.CloseTracker c.tracker ∷ []) self.old self.new }
@@ -52,7 +52,8 @@ impl<D: Slot + Drop> Alone<D> {
         let tracker = c.tracker();
         let query = own.pool.tracker(own.session);
         let bytes = own.pool.reservation(tracker);
-        own.pool.end_client(Client::of(own.session, c.into_tracker()));
+        own.pool
+            .end_client(Client::of(own.session, c.into_tracker()));
         enter(
             &mut own.trail,
             own.session,
@@ -65,8 +66,8 @@ impl<D: Slot + Drop> Alone<D> {
         enter(&mut own.trail, own.session, Event::CloseTracker { tracker });
     }
 
-    // Raises the client's reservation.
-    pub(crate) fn reserve(&mut self, c: &Client, bytes: u64) -> Result<(), PoolErr>
+    /// Raises the client's reservation.
+    pub fn reserve(&mut self, c: &Client, bytes: u64) -> Result<(), PoolErr>
         requires client { IsLiveClient c.now (held_of D.Slot self.old) }
         ensures ok { OnOk result (Makes D.Slot (λ events. events ≡ event.Increase c.now.tracker bytes ∷ []) self.old self.new) }
         ensures refused { IfSome (reserve_refusal c.now.tracker bytes (held_of D.Slot self.old)) (λ e. result ≡ Err e) }
@@ -79,12 +80,16 @@ impl<D: Slot + Drop> Alone<D> {
         let result = own.pool.increase(&mine, bytes);
         mine.into_tracker();
         result?;
-        enter(&mut own.trail, own.session, Event::Increase { tracker, bytes });
+        enter(
+            &mut own.trail,
+            own.session,
+            Event::Increase { tracker, bytes },
+        );
         Ok(())
     }
 
-    // Raises the client's reservation until so many bytes are unused.
-    pub(crate) fn reserve_to_fit(&mut self, c: &Client, bytes: u64) -> Result<(), PoolErr>
+    /// Raises the client's reservation until so many bytes are unused.
+    pub fn reserve_to_fit(&mut self, c: &Client, bytes: u64) -> Result<(), PoolErr>
         requires client { IsLiveClient c.now (held_of D.Slot self.old) }
         ensures ok { OnOk result (Makes D.Slot (λ events. events ≡ event.IncreaseToFit c.now.tracker bytes ∷ []) self.old self.new) }
         ensures refused { IfSome (reserve_refusal c.now.tracker (shortfall c.now.tracker bytes (held_of D.Slot self.old)) (held_of D.Slot self.old)) (λ e. result ≡ Err e) }
@@ -97,7 +102,11 @@ impl<D: Slot + Drop> Alone<D> {
         let result = own.pool.increase_to_fit(&mine, bytes);
         mine.into_tracker();
         result?;
-        enter(&mut own.trail, own.session, Event::IncreaseToFit { tracker, bytes });
+        enter(
+            &mut own.trail,
+            own.session,
+            Event::IncreaseToFit { tracker, bytes },
+        );
         Ok(())
     }
 }

@@ -45,6 +45,7 @@ returns-clause-fresh g c =
     (record { fresh = it.fresh; under = it.apart; idle = it.idle; session = c.in_ok-c.ensures.client.0 ∙ sym (whose g.D.Slot c.self.inside.own) })
 
 pub returns-clause-refused : goal.returns-clause-refused
-returns-clause-refused g c =
-    ((λ never. absurd (false≢true never)),
-    (λ full. c.in_ok-c.ensures.refused.1 (not_all g.D.Slot c.self.inside.own c.self.invariant (subst (λ (o : Owned g.row.D.Denot). 16 ≤ (held_of g.D.Slot o).live_clients) (sym c.self.view_is) full))))
+returns-clause-refused g c = (
+  (λ never. absurd (false≢true never)),
+  (λ full. c.in_ok-c.ensures.refused.1 (not_all g.D.Slot c.self.inside.own c.self.invariant (subst (λ (o : Owned g.row.D.Denot). 16 ≤ (held_of g.D.Slot o).live_clients) (sym c.self.view_is) full))),
+)

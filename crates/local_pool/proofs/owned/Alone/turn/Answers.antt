@@ -60,7 +60,8 @@ returns g c =
           let some : IsSome ((held_of g.D.Slot c.self.inside.own).clients c.args.c.now.tracker) = subst (λ (o : Owned g.row.D.Denot). IsSome ((held_of g.D.Slot o).clients c.args.c.now.tracker)) (sym c.self.view_is) c.requires.client in
           let went : Owned g.row.D.Denot = record { pool = c.room_turn.new.self; trail = w.enter_started.new.trail; session = c.self.inside.own.session } in
           subst (λ i. TurnIs g.D.Slot c.args.c.now.tracker (amount_of c.args.want) c.match-room_turn.result c.self.inside.own i.own) (sym w.self-inside-is)
-          (subst (λ r. TurnIs g.D.Slot c.args.c.now.tracker (amount_of c.args.want) r c.self.inside.own w.write_out.new.own) (sym w.result-is)
-          (makes_write g.D.Slot c.self.inside.own c.self.invariant c.args.c.now.tracker (amount_of c.args.want) some w.in-Write.job c.room_turn.new.self went it.turn.0 it.turn.1 it.enters refl w.enter_started.ensures refl w.write_out.new.own w.write_out.ensures.ends,
-          left_write g.D.Slot c.self.inside.own c.self.invariant c.args.c.now.tracker (amount_of c.args.want) some w.in-Write.job c.room_turn.new.self went it.turn.0 it.turn.1 it.enters refl w.enter_started.ensures refl w.write_out.new.own w.write_out.ensures.ends))
+          (subst (λ r. TurnIs g.D.Slot c.args.c.now.tracker (amount_of c.args.want) r c.self.inside.own w.write_out.new.own) (sym w.result-is) (
+            makes_write g.D.Slot c.self.inside.own c.self.invariant c.args.c.now.tracker (amount_of c.args.want) some w.in-Write.job c.room_turn.new.self went it.turn.0 it.turn.1 it.enters refl w.enter_started.ensures refl w.write_out.new.own w.write_out.ensures.ends,
+            left_write g.D.Slot c.self.inside.own c.self.invariant c.args.c.now.tracker (amount_of c.args.want) some w.in-Write.job c.room_turn.new.self went it.turn.0 it.turn.1 it.enters refl w.enter_started.ensures refl w.write_out.new.own w.write_out.ensures.ends,
+          ))
     ])
