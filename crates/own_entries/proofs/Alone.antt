@@ -16,7 +16,7 @@ use Rattle.pool_model.specs.Sums.{charge_of}
 use Rattle.pool_model.specs.MayFollow.{Allows, MayFollow}
 use Rattle.pool_model.specs.Effects.{effect, after}
 use Rattle.pool_model.specs.Parts.{without_tracker, keep_first}
-use Rattle.pool_model.specs.Legal.{state_after}
+use Rattle.pool_model.specs.Legal.{state_after, IsLegal}
 use Rattle.pool_model.specs.Sound.{IsQuery, IsSound}
 use Rattle.pool_model.proofs.Weights.{total-single}
 use Rattle.pool_model.proofs.Seats.{some_is}
@@ -164,3 +164,7 @@ legal_alone_under_root o h legal m by_it x is =
     under_other 0 y.parent y.reservation (λ up. seat_apart s m x is t apart (it.all t y there up) (it.others by_it)) in
     total-single (λ _ y. share_of 0 y.parent y.reservation) s.trackers x.query its.tracker its.lives only
     ∙ ap (λ (p : Option ℕ). share_of 0 p its.tracker.reservation) its.under ∙ share_here 0 its.tracker.reservation ∙ sym (reservation_is s.trackers x.query its.tracker its.lives)
+
+-- no other maker has a session then
+pub legal_alone_sits : (o : Opening) (h : List Entry) → IsLegal o h → (m : ℕ) → AllBy m h → (n : ℕ) → n ≢ m → is_some (get (state_after o h).sessions n) ≡ false
+legal_alone_sits o h legal m by_it = (holds_after (Alone m) (alone_on m) o (first_alone m o) h legal).others by_it

@@ -77,7 +77,7 @@ module _ (left : ℕ → List ℕ) (before : List Entry) (s : State) (sound : Is
   room_is = unused_is left s.block_len s.trackers s.pages s.buffers m x.query x.quota h told its_high query_apart root_apart free 0
 
   -- a client's unused, as it is told
-  client_unused : (c : ℕ) → IsClientOf s m c → unused (charge_of s) s.trackers c ≡ unused_of c h
+  pub client_unused : (c : ℕ) → IsClientOf s m c → unused (charge_of s) s.trackers c ≡ unused_of c h
   client_unused c client =
       let mine : is_under x.query (get s.trackers c) ≡ true = own_under s sound m x is c client in
       let none : children_of s.trackers c ≡ 0 = children-none s.trackers c (no_child (memory s) s.trackers s.sessions sound.seated c (own_client s sound.seated m c client)) in

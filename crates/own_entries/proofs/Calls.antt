@@ -39,10 +39,10 @@ evicts_hold h [] rest are = refl
 evicts_hold h (e ∷ more) rest are =
     one_evicted h e (more ++ rest) (All-head IsEvict e more are) ∙ evicts_hold h more rest (All-tail IsEvict e more are)
 
-asked_hold : (who : ℕ) (h : Holdings) (last events : List Event) → IsAsked who h last events → after_events h events ≡ after_events h last
+pub asked_hold : (who : ℕ) (h : Holdings) (last events : List Event) → IsAsked who h last events → after_events h events ≡ after_events h last
 asked_hold who h last events asked = ap (after_events h) asked.2 ∙ writes_hold who h h asked.0 last asked.1
 
-taken_hold : (who : ℕ) (h : Holdings) (last events : List Event) → IsTaken who h last events → after_events h events ≡ after_events h last
+pub taken_hold : (who : ℕ) (h : Holdings) (last events : List Event) → IsTaken who h last events → after_events h events ≡ after_events h last
 taken_hold who h last events taken = asked_hold who h (taken.0 ++ last) events taken.2 ∙ evicts_hold h taken.0 last taken.1
 
 -- the tests on who is a client

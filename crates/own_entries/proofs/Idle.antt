@@ -77,7 +77,7 @@ is_no_child query (Some p) few same =
     let one : only_if (is_parent query (Some p)) 1 ≡ 1 = ap (λ (b : Bool). only_if b 1) own in
     absurd (omega (arith, few, one))
 
-none_under : (query : ℕ) (ts : Trackers) → count_under query ts ≡ 0 → HasNoChild ts query
+pub none_under : (query : ℕ) (ts : Trackers) → count_under query ts ≡ 0 → HasNoChild ts query
 unfolding count_under
 none_under query ts none c y is =
     let part : only_if (is_parent query y.parent) 1 ≤ total (λ _ z. only_if (is_parent query z.parent) 1) ts = weight-le-total (λ _ z. only_if (is_parent query z.parent) 1) ts c y is in

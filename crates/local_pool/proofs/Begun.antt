@@ -1,0 +1,174 @@
+-- One owner's pool begins.
+use Rattle.std.proofs.Common.{◌≡◌, ◌≢◌, ℕ, ◌+◌, ◌-◌, ◌<◌, ◌≤◌, ◌==◌, ◌&&◌, leb, Bool, true, false, if◌then◌else◌, List, [], ◌∷◌, ◌++◌, Option, Some, None, IsSome, is_some, ◌⊎◌, inl, inr, refl, sym, ap, ◌∙◌, subst, arith, le-leb}
+use Rattle.std.proofs.lemmas.Bool.{false≢true, leb-true, leb-false}
+use Rattle.std.specs.FinMap.{get, empty, get-empty}
+use Rattle.std.specs.Ordering.{nat_cmp}
+use Rattle.outside.specs.declared.slot.Slot.{Ghosts}
+use Rattle.reservation_tree.specs.declared.errors.PoolErr.{PoolErr}
+use Rattle.reservation_tree.specs.Tracker.{limit_of, reservation_of, room_of}
+use Rattle.reservation_tree.specs.Change.{new_root, root_alone, or_else}
+use Rattle.reservation_tree.specs.Answer.{IsFrom}
+use Rattle.reservation_tree.proofs.Outline.{limit_is, reservation_is}
+use Rattle.reservation_tree.proofs.Maps.{same_or_other, get_same}
+use Rattle.pin_core.specs.Sessions.{IsFull}
+use Rattle.pin_core.specs.Opening.{root_growth, least_refusal}
+use Rattle.pin_core.specs.Opening.{LacksLeast as LacksLeastHere}
+use Rattle.pool_model.specs.declared.event.Event.{Event}
+use Rattle.pool_model.specs.declared.event.Event.TheVariants.{AddTracker, Increase, CloseTracker}
+use Rattle.pool_model.specs.declared.entry.Entry.{Entry}
+use Rattle.pool_model.specs.Bytes.{bytes_of}
+use Rattle.pool_model.specs.State.{Opening, Page, Pages, Session, State, opened}
+use Rattle.pool_model.specs.Sums.{memory}
+use Rattle.pool_model.specs.Legal.{run, state_after, IsLegal}
+use Rattle.pool_model.specs.LookingBack.{made_by}
+use Rattle.pool_model.proofs.OwnEntries.{made_first, made_more}
+use Rattle.store_api.specs.Holdings.{Above, Room, Holdings}
+use Rattle.store_api.specs.Entries.{by}
+use Rattle.own_entries.specs.OwnHoldings.{Outset, holdings_of}
+use Rattle.own_entries.specs.AboveLaws.{AllBy}
+use Rattle.own_entries.specs.HeldLaws.{own_holdings}
+use Rattle.own_entries.proofs.Lives.{legal_lives_as_told}
+use Rattle.own_entries.proofs.Alone.{legal_alone_sits}
+use Rattle.pin_core.specs.declared.conf.PoolConf.{PoolConf}
+use Rattle.pin_core.specs.declared.parts.Parts.{Parts}
+use Rattle.pin_core.specs.StateOf.{state_of}
+use Rattle.pin_core.specs.Setup.{IsOpeningOf}
+use Rattle.pin_core.specs.Standing.{StandsFor, Enters}
+use Rattle.pin_core.specs.Opening.{spare_of, opening_entries, reopening_entries}
+use Rattle.local_pool.specs.declared.owned.Owned.{Owned}
+use Rattle.local_pool.specs.Told.{outset_of, held_of}
+use Rattle.local_pool.specs.Standing.{Stands, IsStill}
+use Rattle.local_pool.specs.Beginning.{memory_of, first_events, IsBegun, LacksLeast, IsLeastRefusal}
+use Rattle.local_pool.proofs.Sized.{run_len, run_memory}
+
+abbrev pub opening_of : PoolConf → ℕ → Opening
+opening_of conf count = record { blocks = conf.blocks; block_len = conf.block_len; first_name = conf.first_name; slots = count; faults = 0; stores = 0 }
+
+pub is_opening : (conf : PoolConf) (count : ℕ) → IsOpeningOf conf count (opening_of conf count)
+is_opening conf count = record { blocks = refl; block_len = refl; first_name = refl; slots = refl }
+
+pub none_when : {X : Type 0} (o : Option X) → is_some o ≡ false → o ≡ None
+none_when None is = refl
+none_when (Some x) is = let never : true ≡ false = is in absurd (false≢true (sym never))
+
+first_made : (m q limit quota least : ℕ) → made_by (by m (first_events q limit quota least)) m ≡ by m (first_events q limit quota least)
+first_made m q limit quota least =
+    let a : Entry = record { maker = m; event = AddTracker q 0 limit (Some quota) } in
+    let b : Entry = record { maker = m; event = Increase q least } in
+    made_more (a ∷ []) b m refl refl ∙ ap (λ (es : List Entry). es ++ b ∷ []) (made_first [] a m refl refl)
+
+abbrev first_outset : Outset
+first_outset = record { above = Room 0; told = true }
+
+module _ {D : Type 0} (slot : Ghosts D) (own : Owned D) (q limit quota least : ℕ) (trail : own.trail ≡ by own.session (first_events q limit quota least)) where
+  abbrev first_held : Holdings
+  first_held = holdings_of (state_of own.pool).block_len own.session (outset_of slot own.pool) (by own.session (first_events q limit quota least))
+
+  held_first : held_of slot own ≡ first_held
+  unfolding held_of
+  held_first = ap (holdings_of (state_of own.pool).block_len own.session (outset_of slot own.pool)) trail
+
+  pub first_query : (held_of slot own).query ≡ q
+  first_query = ap (λ (h : Holdings). h.query) held_first
+
+  module _ (conf : PoolConf) (o : Opening) (is : IsOpeningOf conf o.slots o) (stood : StandsFor slot o own.trail own.pool) where
+    len_first : (state_of own.pool).block_len ≡ conf.block_len
+    len_first = ap (λ (s : State). s.block_len) stood.state ∙ run_len (opened o) own.trail ∙ is.block_len
+
+    memory_first : memory (state_of own.pool) ≡ memory_of conf
+    memory_first = ap memory stood.state ∙ run_memory (opened o) own.trail ∙ ap (λ (len : ℕ). bytes_of len o.blocks) is.block_len ∙ ap (bytes_of conf.block_len) is.blocks
+
+    pub begun : IsBegun conf limit quota least (held_of slot own)
+    begun = record {
+      block_len = ap (λ (h : Holdings). h.block_len) held_first ∙ len_first;
+      most = ap (λ (h : Holdings). h.limit) held_first;
+      reservation = let r : (held_of slot own).reservation ≡ 0 + least = ap (λ (h : Holdings). h.reservation) held_first in omega (arith, r);
+      room = let r : (held_of slot own).room ≡ 0 + least = ap (λ (h : Holdings). h.room) held_first in omega (arith, r);
+      above = ap (λ (h : Holdings). h.above) held_first ∙ ap (λ (n : ℕ). Room (n - least)) memory_first;
+      live_clients = ap (λ (h : Holdings). h.live_clients) held_first;
+      clients = λ t. ap (λ (h : Holdings). h.clients t) held_first;
+      pages = λ p. ap (λ (h : Holdings). h.pages p) held_first;
+      loans = λ f. ap (λ (h : Holdings). h.loans f) held_first;
+      free_slots = ap (λ (h : Holdings). h.free_slots) held_first;
+    }
+
+    no_page : (p : ℕ) → get (state_of own.pool).pages p ≡ None
+    no_page p = ap (λ (s : State). get s.pages p) stood.state ∙ ap (λ (h : List Entry). get (state_after o h).pages p) trail ∙ get-empty nat_cmp p
+
+    pub stands_first : own.session < 240 → Stands slot own
+    stands_first number = record {
+      opening = o;
+      stands = stood;
+      alone = subst (AllBy own.session) (sym trail) (refl, (refl, tt));
+      whole = subst (λ (h : List Entry). made_by h own.session ≡ h) (sym trail) (first_made own.session q limit quota least);
+      number = number;
+      live = ap (λ (h : Holdings). is_some h.free_slots) held_first;
+      few = let none : (held_of slot own).live_clients ≡ 0 = ap (λ (h : Holdings). h.live_clients) held_first in omega (arith, none);
+      still = λ p x there. let none : None ≡ Some x = sym (no_page p) ∙ there in cc;
+    }
+
+-- a session that came sits
+pub sits_first : {D : Type 0} (slot : Ghosts D) (o : Opening) (m q limit quota least : ℕ) (v : Parts D) → StandsFor slot o (opening_entries m q limit quota least) v → is_some (get (state_of v).sessions m) ≡ true
+sits_first slot o m q limit quota least v stood =
+    ap (λ (s : State). is_some (get s.sessions m)) stood.state
+    ∙ legal_lives_as_told o first_outset (opening_entries m q limit quota least) stood.legal m
+    ∙ ap (λ (es : List Entry). is_some (holdings_of o.block_len m first_outset es).free_slots) (first_made m q limit quota least)
+
+-- a session that came and went leaves none
+module _ (o : Opening) (m q limit quota : ℕ) (legal : IsLegal o (reopening_entries m q limit quota)) where
+  gone_made : made_by (reopening_entries m q limit quota) m ≡ reopening_entries m q limit quota
+  gone_made =
+      let a : Entry = record { maker = m; event = AddTracker q 0 limit (Some quota) } in
+      let b : Entry = record { maker = m; event = CloseTracker q } in
+      made_more (a ∷ []) b m refl refl ∙ ap (λ (es : List Entry). es ++ b ∷ []) (made_first [] a m refl refl)
+
+  pub none_left : (n : ℕ) → get (state_after o (reopening_entries m q limit quota)).sessions n ≡ None
+  none_left n = none_when _ (elim (same_or_other n m) [
+    | inl here ↦
+        ap (λ (k : ℕ). is_some (get (state_after o (reopening_entries m q limit quota)).sessions k)) here
+        ∙ legal_lives_as_told o first_outset (reopening_entries m q limit quota) legal m
+        ∙ ap (λ (es : List Entry). is_some (holdings_of o.block_len m first_outset es).free_slots) gone_made
+    | inr other ↦ legal_alone_sits o (reopening_entries m q limit quota) legal m (refl, (refl, tt)) n other
+  ])
+
+module _ (conf : PoolConf) (count : ℕ) (s : State) (fresh : s ≡ opened (opening_of conf count)) where
+  root_limit : limit_of s.trackers 0 ≡ memory_of conf
+  root_limit = ap (λ (t : State). limit_of t.trackers 0) fresh ∙ limit_is (root_alone (memory_of conf)) 0 (new_root (memory_of conf)) (get_same empty 0 (new_root (memory_of conf)))
+
+  root_bare : reservation_of s.trackers 0 ≡ 0
+  root_bare = ap (λ (t : State). reservation_of t.trackers 0) fresh ∙ reservation_is (root_alone (memory_of conf)) 0 (new_root (memory_of conf)) (get_same empty 0 (new_root (memory_of conf)))
+
+  room_is : room_of s.trackers 0 ≡ memory_of conf
+  room_is = let a = root_limit in let b = root_bare in omega (arith, a, b)
+
+  growth_is : (least : ℕ) → root_growth s least ≡ least
+  growth_is least = let b = root_bare in omega (arith, b)
+
+  pub not_full : IsFull s → ⊥
+  not_full full =
+      let some : is_some (get s.sessions 0) ≡ true = full 0 (omega arith) in
+      let none : is_some (get s.sessions 0) ≡ false = ap (λ (t : State). is_some (get t.sessions 0)) fresh ∙ ap is_some (get-empty nat_cmp 0) in
+      false≢true (sym none ∙ some)
+
+  pub lacks : (limit least : ℕ) → LacksLeast conf limit least → LacksLeastHere s limit least
+  lacks limit least (inl few) = inl few
+  lacks limit least (inr few) = inr (let a = room_is in let b = growth_is least in omega (arith, a, b, few))
+
+  refusal_of : (t limit least n r : ℕ) (e : PoolErr) → n ≡ least → r ≡ memory_of conf
+      → IsFrom (or_else (if leb least limit then None else Some (record { tracker = t; wanted = least; room = limit })) (if leb n r then None else Some (record { tracker = 0; wanted = n; room = r }))) e
+      → IsLeastRefusal conf limit least e
+  refusal_of t limit least n r e wanted room from = elim (leb least limit) as (λ b. leb least limit ≡ b → IsFrom (or_else (if b then None else Some (record { tracker = t; wanted = least; room = limit })) (if leb n r then None else Some (record { tracker = 0; wanted = n; room = r }))) e → IsLeastRefusal conf limit least e) [
+    | true ↦ λ fits is. elim (leb n r) as (λ b. leb n r ≡ b → IsFrom (if b then None else Some (record { tracker = 0; wanted = n; room = r })) e → IsLeastRefusal conf limit least e) [
+      | true ↦ λ also is_none. absurd is_none
+      | false ↦ λ over_it is_it.
+          let below : r < n = leb-false n r over_it in
+          let within : least ≤ limit = leb-true least limit fits in
+          subst (IsLeastRefusal conf limit least) (sym is_it) (wanted, inr (within, omega (arith, below, wanted, room), refl, room))
+    ] refl is
+    | false ↦ λ over_it is.
+        let below : limit < least = leb-false least limit over_it in
+        subst (IsLeastRefusal conf limit least) (sym is) (refl, inl (below, refl))
+  ] refl from
+
+  pub cause_of : (t limit least : ℕ) (e : PoolErr) → IsFrom (least_refusal s t limit least) e → IsLeastRefusal conf limit least e
+  cause_of t limit least e from = refusal_of t limit least (root_growth s least) (room_of s.trackers 0) e (growth_is least) room_is from

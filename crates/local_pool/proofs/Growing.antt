@@ -1,0 +1,178 @@
+-- One owner's entries, one after the other.
+use Rattle.std.proofs.Common.{◌≡◌, ◌≤◌, ℕ, ◌+◌, ◌==◌, List, [], ◌∷◌, ◌++◌, map, length, length-append, leb, Bool, true, false, if◌then◌else◌, Option, is_some, refl, sym, ap, ◌∙◌, subst, arith, le-leb, ◌<◌}
+use Rattle.std.proofs.lemmas.Bool.{leb-true}
+use Rattle.std.proofs.lemmas.List.{append_assoc, append-nil}
+use Rattle.std.proofs.lemmas.List.Elements.{filter_map-append}
+use Rattle.std.specs.List.{AllByRecursion}
+use Rattle.outside.specs.declared.slot.Slot.{Ghosts}
+use Rattle.pool_model.specs.declared.event.Event.{Event}
+use Rattle.pool_model.specs.declared.event.Event.TheVariants.{Ask, AddTracker, CloseTracker, Increase, IncreaseToFit, Decrease, MoveReservation, UnpinOnce, Unpin, Extract, Destroy, MoveBuffer}
+use Rattle.pool_model.specs.declared.entry.Entry.{Entry}
+use Rattle.pool_model.specs.State.{Opening, State}
+use Rattle.pool_model.specs.Sums.{memory}
+use Rattle.pool_model.specs.Legal.{run, state_after, IsLegal}
+use Rattle.pool_model.specs.LookingBack.{opens, made_by, names_in, name_in}
+use Rattle.pool_model.proofs.OwnEntries.{made_more}
+use Rattle.pool_model.proofs.Names.{legal_names_are_new}
+use Rattle.store_api.specs.Holdings.{Above, Room, Holdings, loan_of}
+use Rattle.store_api.specs.Entries.{by}
+use Rattle.own_entries.specs.OwnHoldings.{Outset, step, after_events, holdings_of, has_client, has_several_pins, moved_between}
+use Rattle.own_entries.specs.AboveLaws.{AllBy}
+use Rattle.own_entries.proofs.Calls.{calls_run_on}
+use Rattle.pin_core.specs.declared.parts.Parts.{Parts}
+use Rattle.pin_core.specs.StateOf.{state_of}
+use Rattle.pin_core.specs.Standing.{StandsFor, Enters, slots_home}
+use Rattle.local_pool.specs.declared.owned.Owned.{Owned}
+use Rattle.local_pool.specs.Told.{silence, all_tell, outset_of, held_of, is_spent}
+use Rattle.local_pool.specs.Making.{Makes, Goes, is_calm}
+use Rattle.local_pool.specs.Standing.{IsStill, Stands}
+use Rattle.local_pool.proofs.Sized.{run_on, run_len, run_memory}
+
+pub by_append : (m : ℕ) (a b : List Event) → by m (a ++ b) ≡ by m a ++ by m b
+by_append m [] b = refl
+by_append m (e ∷ a) b = ap (λ (es : List Entry). record { maker = m; event = e } ∷ es) (by_append m a b)
+
+abbrev pub AllCalm : List Event → Type 0
+AllCalm events = AllByRecursion (λ e. is_calm e ≡ true) events
+
+-- no session is opened by these
+abbrev pub NoneOpens : List Event → Type 0
+NoneOpens events = AllByRecursion (λ e. opens e ≡ false) events
+
+calm_opens : (e : Event) → is_calm e ≡ true → opens e ≡ false
+calm_opens (AddTracker t parent limit quota) calm = let never : false ≡ true = calm in cc
+calm_opens _ calm = refl
+
+none_opens : (events : List Event) → AllCalm events → NoneOpens events
+none_opens [] calm = tt
+none_opens (e ∷ events) calm = (calm_opens e calm.0, none_opens events calm.1)
+
+-- nor does a client come or go with them
+either_count : (b : Bool) (u v : Holdings) (n : ℕ) → u.live_clients ≡ n → v.live_clients ≡ n → (if b then u else v).live_clients ≡ n
+either_count true u v n is_u is_v = is_u
+either_count false u v n is_u is_v = is_v
+
+move_count : (a b : Bool) (from to bytes : ℕ) (h : Holdings) → (moved_between a b from to bytes h).live_clients ≡ h.live_clients
+move_count true true from to bytes h = either_count (from == to) h _ h.live_clients refl refl
+move_count true false from to bytes h = refl
+move_count false true from to bytes h = refl
+move_count false false from to bytes h = refl
+
+calm_count : (e : Event) (h : Holdings) → is_calm e ≡ true → (step e h).live_clients ≡ h.live_clients
+calm_count (AddTracker t parent limit quota) h calm = let never : false ≡ true = calm in cc
+calm_count (CloseTracker t) h calm = let never : false ≡ true = calm in cc
+calm_count (Increase t bytes) h calm = either_count (has_client t h) _ _ h.live_clients refl refl
+calm_count (IncreaseToFit t bytes) h calm = either_count (has_client t h) _ _ h.live_clients refl refl
+calm_count (Decrease t bytes) h calm = either_count (has_client t h) _ _ h.live_clients refl refl
+calm_count (MoveReservation from to bytes) h calm = move_count (has_client from h) (has_client to h) from to bytes h
+calm_count (MoveBuffer f to) h calm = either_count ((loan_of f h).client == to) h _ h.live_clients refl refl
+calm_count (UnpinOnce p) h calm = either_count (has_several_pins p h) _ _ h.live_clients refl refl
+calm_count _ h calm = refl
+
+calm_counts : (events : List Event) (h : Holdings) → AllCalm events → (after_events h events).live_clients ≡ h.live_clients
+calm_counts [] h calm = refl
+calm_counts (e ∷ events) h calm = calm_counts events (step e h) calm.1 ∙ calm_count e h calm.0
+
+-- the trail is the owner's alone
+pub alone_more : (m : ℕ) (h : List Entry) (events : List Event) → AllBy m h → AllBy m (h ++ by m events)
+alone_more m [] [] all = tt
+alone_more m [] (e ∷ events) all = (refl, alone_more m [] events tt)
+alone_more m (d ∷ h) events all = (all.0, alone_more m h events all.1)
+
+-- and all of it is from its opening on
+pub whole_more : (m : ℕ) (h : List Entry) (events : List Event) → NoneOpens events → made_by h m ≡ h → made_by (h ++ by m events) m ≡ h ++ by m events
+whole_more m h [] none whole = ap (λ (es : List Entry). made_by es m) (append-nil h) ∙ whole ∙ sym (append-nil h)
+whole_more m h (e ∷ events) none whole =
+    let d : Entry = record { maker = m; event = e } in
+    let one : made_by (h ++ d ∷ []) m ≡ h ++ d ∷ [] = made_more h d m refl none.0 ∙ ap (λ (es : List Entry). es ++ d ∷ []) whole in
+    let same : (h ++ d ∷ []) ++ by m events ≡ h ++ d ∷ by m events = append_assoc h (d ∷ []) (by m events) in
+    subst (λ (es : List Entry). made_by es m ≡ es) same (whole_more m (h ++ d ∷ []) events none.1 one)
+
+names_more : (a b : List Entry) → length (names_in (a ++ b)) ≡ length (names_in a) + length (names_in b)
+names_more a b = ap length (filter_map-append (λ (e : Entry). name_in e.event) a b) ∙ length-append (names_in a) (names_in b)
+
+module _ {D : Type 0} (slot : Ghosts D) where
+  pub goes_nowhere : (old : Owned D) → Goes slot [] old old
+  goes_nowhere old = record { trail = sym (append-nil old.trail); session = refl; state = refl; stands = λ o stood. stood; told = refl }
+
+  -- a call of the pool that moves no slots
+  pub goes : (old new : Owned D) (events : List Event) → new.trail ≡ old.trail ++ by old.session events → new.session ≡ old.session
+      → Enters slot (by old.session events) [] [] old.pool new.pool → Goes slot events old new
+  goes old new events trail session enters = record {
+    trail = trail;
+    session = session;
+    state = enters.state;
+    stands = λ o stood. subst (λ (h : List Entry). StandsFor slot o h new.pool) (sym trail) (enters.stands o old.trail stood);
+    told =
+        let moved = enters.slots (silence slot) in
+        ap (λ (n : ℕ). n == 0) (omega (arith, moved));
+  }
+
+  pub goes_more : (x y z : Owned D) (a b : List Event) → Goes slot a x y → Goes slot b y z → Goes slot (a ++ b) x z
+  goes_more x y z a b first then_ = record {
+    trail = then_.trail ∙ ap (λ (h : List Entry). h ++ by y.session b) first.trail ∙ ap (λ (m : ℕ). (x.trail ++ by x.session a) ++ by m b) first.session
+        ∙ append_assoc x.trail (by x.session a) (by x.session b) ∙ ap (λ (h : List Entry). x.trail ++ h) (sym (by_append x.session a b));
+    session = then_.session ∙ first.session;
+    state = then_.state ∙ ap (λ (m : ℕ). run (state_of y.pool) (by m b)) first.session ∙ ap (λ (s : State). run s (by x.session b)) first.state
+        ∙ sym (run_on (state_of x.pool) (by x.session a) (by x.session b)) ∙ ap (run (state_of x.pool)) (sym (by_append x.session a b));
+    stands = λ o stood. then_.stands o (first.stands o stood);
+    told = then_.told ∙ first.told;
+  }
+
+  module _ (old new : Owned D) (events : List Event) (went : Goes slot events old new) where
+    pub goes_len : (state_of new.pool).block_len ≡ (state_of old.pool).block_len
+    goes_len = ap (λ (s : State). s.block_len) went.state ∙ run_len (state_of old.pool) (by old.session events)
+
+    pub goes_outset : outset_of slot new.pool ≡ outset_of slot old.pool
+    goes_outset =
+        let same : memory (state_of new.pool) ≡ memory (state_of old.pool) = ap memory went.state ∙ run_memory (state_of old.pool) (by old.session events) in
+        ap (λ (n : ℕ). record { above = Room n; told = all_tell slot new.pool }) same
+        ∙ ap (λ (b : Bool). record { above = Room (memory (state_of old.pool)); told = b }) went.told
+
+    pub goes_held : held_of slot new ≡ after_events (held_of slot old) events
+    unfolding held_of
+    goes_held =
+        ap (λ (n : ℕ). holdings_of n new.session (outset_of slot new.pool) new.trail) goes_len
+        ∙ ap (λ (m : ℕ). holdings_of (state_of old.pool).block_len m (outset_of slot new.pool) new.trail) went.session
+        ∙ ap (λ (u : Outset). holdings_of (state_of old.pool).block_len old.session u new.trail) goes_outset
+        ∙ ap (holdings_of (state_of old.pool).block_len old.session (outset_of slot old.pool)) went.trail
+        ∙ calls_run_on (state_of old.pool).block_len old.session (outset_of slot old.pool) old.trail events
+
+    -- what is kept between calls is kept
+    pub grown_by : Stands slot old → NoneOpens events → is_some (after_events (held_of slot old) events).free_slots ≡ true → (after_events (held_of slot old) events).live_clients ≤ 16 → IsStill (state_of new.pool) → Stands slot new
+    grown_by was none live few still = record {
+      opening = was.opening;
+      stands = went.stands was.opening was.stands;
+      alone = subst (λ (h : List Entry). AllBy new.session h) (sym went.trail) (subst (λ (m : ℕ). AllBy m (old.trail ++ by old.session events)) (sym went.session) (alone_more old.session old.trail events was.alone));
+      whole = subst (λ (h : List Entry). made_by h new.session ≡ h) (sym went.trail) (subst (λ (m : ℕ). made_by (old.trail ++ by old.session events) m ≡ old.trail ++ by old.session events) (sym went.session) (whole_more old.session old.trail events none was.whole));
+      number = subst (λ (m : ℕ). m < 240) (sym went.session) was.number;
+      live = ap (λ (h : Holdings). is_some h.free_slots) goes_held ∙ live;
+      few = subst (λ (h : Holdings). h.live_clients ≤ 16) (sym goes_held) few;
+      still = still;
+    }
+
+    pub grown : Stands slot old → AllCalm events → is_some (after_events (held_of slot old) events).free_slots ≡ true → IsStill (state_of new.pool) → Stands slot new
+    grown was calm live still =
+        grown_by was (none_opens events calm) live (subst (λ (n : ℕ). n ≤ 16) (sym (calm_counts events (held_of slot old) calm)) was.few) still
+
+    -- and the call made these events
+    pub makes : {P : List Event → Type 0} → Stands slot old → Stands slot new → P events → Makes slot P old new
+    makes was now is = record {
+      events = events;
+      is = is;
+      trail = went.trail;
+      session = went.session;
+      block_len = goes_len;
+      outset = goes_outset;
+      spent = λ before.
+          let o : Opening = was.opening in
+          let first : (state_of old.pool).next_name ≡ o.first_name + length (names_in old.trail) =
+          ap (λ (s : State). s.next_name) was.stands.state ∙ (legal_names_are_new o old.trail was.stands.legal).next in
+          let stood : StandsFor slot o new.trail new.pool = went.stands o was.stands in
+          let last : (state_of new.pool).next_name ≡ o.first_name + length (names_in new.trail) =
+          ap (λ (s : State). s.next_name) stood.state ∙ (legal_names_are_new o new.trail stood.legal).next in
+          let more : length (names_in new.trail) ≡ length (names_in old.trail) + length (names_in (by old.session events)) =
+          ap (λ (h : List Entry). length (names_in h)) went.trail ∙ names_more old.trail (by old.session events) in
+          let spent : 18446744073709551615 ≤ (state_of old.pool).next_name = leb-true 18446744073709551615 (state_of old.pool).next_name before in
+          le-leb 18446744073709551615 (state_of new.pool).next_name (omega (arith, first, last, more, spent));
+    }

@@ -1,0 +1,35 @@
+use Rattle.std.proofs.Common.{◌≡◌, ℕ, [], ◌∷◌, IsSome, sym, ap, ◌∙◌, subst}
+use Rattle.pool_model.specs.declared.event.Event.TheVariants.{Alloc}
+use Rattle.pool_model.specs.Sums.{HasRoom}
+use Rattle.pin_core.specs.StateOf.{state_of}
+use Rattle.store_api.specs.Holdings.{Holdings, length_of}
+use Rattle.local_pool.specs.declared.owned.Owned.{Owned}
+use Rattle.local_pool.specs.Told.{held_of}
+use Rattle.local_pool.specs.Making.{Makes}
+use Rattle.local_pool.specs.Calling.{Evicts, IsFreshLoan}
+use Rattle.local_pool.proofs.Making.{asked_held}
+use Rattle.local_pool.proofs.Arrivals.{taken_then}
+use Rattle.local_pool.proofs.owned.Alone.alloc.Goals as goal
+
+pub alloc_here-requires-clause-client : goal.alloc_here-requires-clause-client
+alloc_here-requires-clause-client g c κs within =
+    subst (λ (h : Holdings). IsSome (h.clients c.args.c.now.tracker)) (sym (asked_held g.D.Slot c.args.c.now.tracker c.args.self.now c.make_room.new.self c.in_ok-make_room.ensures.ok)) c.requires.client
+
+pub alloc_here-requires-clause-room : goal.alloc_here-requires-clause-room
+alloc_here-requires-clause-room g c κs within =
+    let start : Owned g.row.D.Denot = c.args.self.now in
+    let now : Owned g.row.D.Denot = c.make_room.new.self in
+    subst (HasRoom (state_of now.pool) c.args.c.now.tracker)
+    (c.requires.bytes ∙ ap (λ (n : ℕ). length_of n (held_of g.D.Slot start)) (sym c.in-Ok.ensures)
+    ∙ ap (length_of c.in-Ok.shell) (sym (asked_held g.D.Slot c.args.c.now.tracker start now c.in_ok-make_room.ensures.ok))) c.in_ok-make_room.ensures.room
+
+pub returns-clause-ok : goal.returns-clause-ok
+returns-clause-ok g c =
+    taken_then g.D.Slot c.args.c.now.tracker (Alloc c.alloc_here.result.number c.args.c.now.tracker c.args.blocks ∷ []) c.args.self.now c.make_room.new.self c.alloc_here.new.self c.in_ok-make_room.ensures.ok
+    (subst (λ (n : ℕ). Makes g.D.Slot (Evicts (Alloc c.alloc_here.result.number c.args.c.now.tracker n ∷ [])) c.make_room.new.self c.alloc_here.new.self) c.in-Ok.ensures c.alloc_here.ensures.made)
+
+pub returns-clause-loan : goal.returns-clause-loan
+returns-clause-loan g c =
+    let same : held_of g.D.Slot c.make_room.new.self ≡ held_of g.D.Slot c.args.self.now = asked_held g.D.Slot c.args.c.now.tracker c.args.self.now c.make_room.new.self c.in_ok-make_room.ensures.ok in
+    subst (λ (n : ℕ). IsFreshLoan c.args.c.now.tracker n c.alloc_here.result (held_of g.D.Slot c.args.self.now)) c.in-Ok.ensures
+    (subst (IsFreshLoan c.args.c.now.tracker c.in-Ok.shell c.alloc_here.result) same c.alloc_here.ensures.loan)

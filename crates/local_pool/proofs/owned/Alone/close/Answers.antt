@@ -1,0 +1,25 @@
+use Rattle.std.proofs.Common.{◌≡◌, ℕ, is_some, sym, ap, subst, arith}
+use Rattle.std.specs.List.{sum_by}
+use Rattle.pin_core.specs.Standing.{slots_home}
+use Rattle.local_pool.specs.declared.owned.Owned.{Owned}
+use Rattle.local_pool.specs.Told.{held_of}
+use Rattle.local_pool.proofs.Knowing.{knows}
+use Rattle.local_pool.proofs.Ended.{no_child, none_left}
+use Rattle.local_pool.proofs.owned.Alone.close.Goals as goal
+
+pub end_session-requires-clause-live : goal.end_session-requires-clause-live
+end_session-requires-clause-live g c κs within = ap is_some (knows g.D.Slot c.self.inside.own c.self.invariant).lives
+
+pub end_session-requires-clause-no_client : goal.end_session-requires-clause-no_client
+end_session-requires-clause-no_client g c κs within =
+    no_child g.D.Slot c.self.inside.own c.self.invariant (subst (λ (o : Owned g.row.D.Denot). (held_of g.D.Slot o).live_clients ≡ 0) (sym c.self.view_is) c.requires)
+
+pub close-requires-clause-ended : goal.close-requires-clause-ended
+close-requires-clause-ended g c κs within = none_left g.D.Slot c.self.inside.own c.self.invariant c.end_session.new.self c.end_session.ensures.enters
+
+pub returns : goal.returns
+returns g c measure =
+    let home = c.end_session.ensures.enters.slots measure in
+    let given = c.close.ensures.slots measure in
+    let same : sum_by measure c.close.result.items ≡ slots_home measure c.self.inside.own.pool = omega (arith, home, given) in
+    subst (λ (o : Owned g.row.D.Denot). sum_by measure c.close.result.items ≡ slots_home measure o.pool) c.self.view_is same

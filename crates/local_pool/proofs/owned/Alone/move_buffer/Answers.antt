@@ -1,0 +1,35 @@
+use Rattle.std.proofs.Common.{◌≡◌, ℕ, ◌*◌, [], ◌∷◌, IsSome, sym, ap, ◌∙◌, subst}
+use Rattle.block_arena.specs.Memory.{Buffer}
+use Rattle.pool_model.specs.declared.event.Event.TheVariants.{MoveBuffer}
+use Rattle.pool_model.specs.Sums.{HasRoom}
+use Rattle.pin_core.specs.StateOf.{state_of}
+use Rattle.store_api.specs.Holdings.{Holdings, loan_of, loan_len}
+use Rattle.store_api.specs.Conditions.{IsLoan}
+use Rattle.store_api.specs.Entries.{IsAsked}
+use Rattle.local_pool.specs.declared.owned.Owned.{Owned}
+use Rattle.local_pool.specs.Told.{held_of}
+use Rattle.local_pool.specs.Making.{Makes}
+use Rattle.local_pool.proofs.Making.{asked_held}
+use Rattle.local_pool.proofs.Arrivals.{asked_then}
+use Rattle.local_pool.proofs.owned.Alone.move_buffer.Goals as goal
+
+pub move_here-requires-clause-loan : goal.move_here-requires-clause-loan
+move_here-requires-clause-loan g c κs within =
+    subst (IsLoan c.args.loan) (sym (asked_held g.D.Slot c.args.to.now.tracker c.args.self.now c.make_room.new.self c.in_default.ensures.ok)) c.requires.loan
+
+pub move_here-requires-clause-to : goal.move_here-requires-clause-to
+move_here-requires-clause-to g c κs within =
+    subst (λ (h : Holdings). IsSome (h.clients c.args.to.now.tracker)) (sym (asked_held g.D.Slot c.args.to.now.tracker c.args.self.now c.make_room.new.self c.in_default.ensures.ok)) c.requires.to
+
+pub move_here-requires-clause-room : goal.move_here-requires-clause-room
+move_here-requires-clause-room g c κs within =
+    let same : held_of g.D.Slot c.make_room.new.self ≡ held_of g.D.Slot c.args.self.now = asked_held g.D.Slot c.args.to.now.tracker c.args.self.now c.make_room.new.self c.in_default.ensures.ok in
+    let blocks : ℕ = (loan_of c.args.loan.number (held_of g.D.Slot c.args.self.now)).blocks in
+    subst (HasRoom (state_of c.make_room.new.self.pool) c.args.to.now.tracker)
+    (c.len-bytes.ensures.whole ∙ ap (λ (b : Buffer). b.blocks * b.block_len) c.buf.ensures
+    ∙ ap (λ (n : ℕ). n * c.args.loan.buf.block_len) c.requires.loan.buffer.blocks ∙ ap (λ (n : ℕ). blocks * n) c.requires.loan.buffer.block_len
+    ∙ ap (loan_len c.args.loan.number) (sym same)) c.in_default.ensures.room
+
+pub returns-clause-ok : goal.returns-clause-ok
+returns-clause-ok g c =
+    asked_then g.D.Slot c.args.to.now.tracker (MoveBuffer c.args.loan.number c.args.to.now.tracker ∷ []) c.args.self.now c.make_room.new.self c.move_here.new.self c.in_default.ensures.ok c.move_here.ensures.makes

@@ -1,0 +1,38 @@
+use Rattle.std.proofs.Common.{rules, IsOk, [], ◌∷◌, refl}
+use Rattle.reservation_tree.specs.Change.{move_refusal}
+use Rattle.pin_core.specs.StateOf.{state_of}
+use Rattle.pin_core.specs.Standing.{Enters}
+use Rattle.pin_core.specs.Entering.{move_entry}
+use Rattle.local_pool.specs.declared.owned.Owned.{Owned}
+use Rattle.local_pool.proofs.Accounts.{token_client, token_unused, other_client, unrefused_here, moved_by, unrefused_ok, of_ok}
+use Rattle.local_pool.proofs.owned.Alone.pass_on.Goals as goal
+
+pub move_now-requires-clause-client : goal.move_now-requires-clause-client
+move_now-requires-clause-client g c κs within = token_client g.D.Slot c.self.inside.own c.self.invariant c.args.self.now c.self.view_is c.of-mine.result c.tracker-giver.result c.args.from.now.tracker c.of-mine.ensures c.tracker-giver.ensures c.requires.from
+
+pub move_now-requires-clause-to : goal.move_now-requires-clause-to
+move_now-requires-clause-to g c κs within = other_client g.D.Slot c.self.inside.own c.self.invariant c.args.self.now c.self.view_is c.of-mine.result c.tracker-giver.result c.args.from.now.tracker c.of-mine.ensures c.tracker-giver.ensures c.of-other.result c.tracker-getter.result c.args.to.now.tracker c.of-other.ensures c.tracker-getter.ensures c.requires.to
+
+pub move_now-requires-clause-unused : goal.move_now-requires-clause-unused
+move_now-requires-clause-unused g c κs within = token_unused g.D.Slot c.self.inside.own c.self.invariant c.args.self.now c.self.view_is c.of-mine.result c.tracker-giver.result c.args.from.now.tracker c.of-mine.ensures c.tracker-giver.ensures c.requires.from c.args.bytes c.requires.unused
+
+pub unwrap-requires : goal.unwrap-requires
+unwrap-requires g c =
+    unrefused_ok c.move_now.result (move_refusal c.args.bytes c.of-mine.result.tracker c.of-other.result.tracker (state_of c.self.inside.own.pool).trackers) c.move_now.ensures.refused.0
+    (unrefused_here g.D.Slot c.self.inside.own c.self.invariant c.args.self.now c.self.view_is c.of-mine.result c.tracker-giver.result c.args.from.now.tracker c.of-mine.ensures c.tracker-giver.ensures c.of-other.result c.tracker-getter.result c.args.to.now.tracker c.of-other.ensures c.tracker-getter.ensures c.requires.from c.requires.to c.args.bytes c.requires.granted)
+
+pub invariant_of-self : goal.invariant_of-self
+invariant_of-self g c =
+    let new : Owned g.row.D.Denot = record { pool = c.move_now.new.self; trail = c.enter.new.trail; session = c.self.inside.own.session } in
+    let ok : IsOk c.move_now.result = search rules in
+    (moved_by g.D.Slot c.self.inside.own c.self.invariant c.args.self.now c.self.view_is c.of-mine.result c.tracker-giver.result c.args.from.now.tracker c.of-mine.ensures c.tracker-giver.ensures c.of-other.result c.tracker-getter.result c.args.to.now.tracker c.of-other.ensures c.tracker-getter.ensures c.args.bytes new
+    (of_ok (Enters g.D.Slot (move_entry c.of-mine.result.session c.of-mine.result.tracker c.of-other.result.tracker c.args.bytes ∷ []) [] [] c.self.inside.own.pool new.pool) c.move_now.result ok c.move_now.ensures.ok)
+    c.enter.ensures refl).0
+
+pub returns : goal.returns
+returns g c =
+    let new : Owned g.row.D.Denot = record { pool = c.move_now.new.self; trail = c.enter.new.trail; session = c.self.inside.own.session } in
+    let ok : IsOk c.move_now.result = search rules in
+    (moved_by g.D.Slot c.self.inside.own c.self.invariant c.args.self.now c.self.view_is c.of-mine.result c.tracker-giver.result c.args.from.now.tracker c.of-mine.ensures c.tracker-giver.ensures c.of-other.result c.tracker-getter.result c.args.to.now.tracker c.of-other.ensures c.tracker-getter.ensures c.args.bytes new
+    (of_ok (Enters g.D.Slot (move_entry c.of-mine.result.session c.of-mine.result.tracker c.of-other.result.tracker c.args.bytes ∷ []) [] [] c.self.inside.own.pool new.pool) c.move_now.result ok c.move_now.ensures.ok)
+    c.enter.ensures refl).1

@@ -1,0 +1,41 @@
+use Rattle.std.proofs.Common.{◌≡◌, ◌≤◌, [], ◌∷◌, refl, sym, subst}
+use Rattle.pool_model.specs.declared.event.Event.TheVariants.{PinAgain}
+use Rattle.pool_model.specs.Sums.{HasRoom}
+use Rattle.pin_core.specs.StateOf.{state_of}
+use Rattle.store_api.specs.Holdings.{page_of, page_len}
+use Rattle.store_api.specs.Conditions.{IsPage}
+use Rattle.local_pool.specs.declared.owned.Owned.{Owned}
+use Rattle.local_pool.specs.Told.{held_of}
+use Rattle.local_pool.specs.Making.{Makes}
+use Rattle.local_pool.proofs.Asked.{one_more, makes_one}
+use Rattle.local_pool.proofs.Reaching.{pinned_here, page_room_here, goes_page}
+use Rattle.local_pool.proofs.owned.Alone.pin_again_here.Goals as goal
+
+pub pin_again_now-requires-clause-pinned : goal.pin_again_now-requires-clause-pinned
+pin_again_now-requires-clause-pinned g c κs within =
+    pinned_here g.D.Slot c.self.inside.own c.self.invariant c.args.p.now
+    (subst (λ (o : Owned g.row.D.Denot). IsPage c.args.p.now (held_of g.D.Slot o)) (sym c.self.view_is) c.requires.page)
+    (subst (λ (o : Owned g.row.D.Denot). 1 ≤ (page_of c.args.p.now.name (held_of g.D.Slot o)).pins) (sym c.self.view_is) c.requires.pinned)
+
+pub pin_again_now-requires-clause-room : goal.pin_again_now-requires-clause-room
+pin_again_now-requires-clause-room g c κs within =
+    page_room_here g.D.Slot c.self.inside.own c.self.invariant c.args.p.now
+    (subst (λ (o : Owned g.row.D.Denot). IsPage c.args.p.now (held_of g.D.Slot o)) (sym c.self.view_is) c.requires.page)
+    (subst (λ (o : Owned g.row.D.Denot). HasRoom (state_of o.pool) c.args.p.now.client (page_len c.args.p.now.name (held_of g.D.Slot o))) (sym c.self.view_is) c.requires.room)
+
+pub invariant_of-self : goal.invariant_of-self
+invariant_of-self g c =
+    let own : Owned g.row.D.Denot = c.self.inside.own in
+    let new : Owned g.row.D.Denot = record { pool = c.pin_again_now.new.self; trail = c.enter.new.trail; session = own.session } in
+    let page = subst (λ (o : Owned g.row.D.Denot). IsPage c.args.p.now (held_of g.D.Slot o)) (sym c.self.view_is) c.requires.page in
+    one_more g.D.Slot own new c.self.invariant (PinAgain c.args.p.now.name)
+    (goes_page g.D.Slot own c.self.invariant c.args.p.now page PinAgain c.name.result c.name.ensures new c.enter.ensures refl c.pin_again_now.ensures.enters) refl refl c.self.invariant.live
+
+pub returns : goal.returns
+returns g c =
+    let own : Owned g.row.D.Denot = c.self.inside.own in
+    let new : Owned g.row.D.Denot = record { pool = c.pin_again_now.new.self; trail = c.enter.new.trail; session = own.session } in
+    let page = subst (λ (o : Owned g.row.D.Denot). IsPage c.args.p.now (held_of g.D.Slot o)) (sym c.self.view_is) c.requires.page in
+    subst (λ (o : Owned g.row.D.Denot). Makes g.D.Slot (λ events. events ≡ PinAgain c.args.p.now.name ∷ []) o new) c.self.view_is
+    (makes_one g.D.Slot own new c.self.invariant (PinAgain c.args.p.now.name)
+    (goes_page g.D.Slot own c.self.invariant c.args.p.now page PinAgain c.name.result c.name.ensures new c.enter.ensures refl c.pin_again_now.ensures.enters) refl refl c.self.invariant.live refl)

@@ -1,0 +1,10 @@
+use Rattle.std.proofs.Common.{refl}
+use Rattle.local_pool.proofs.Written.{job_fits, comes_back, still_job}
+use Rattle.local_pool.proofs.writing.write_named.Goals as goal
+
+pub returns : goal.returns
+returns g c = record {
+  ends =
+      comes_back g.D.Slot c.args.own.now (record { pool = c.finish_write.new.self; trail = c.enter_wrote.new.trail; session = c.args.own.now.session }) c.args.job c.run.new.self
+      c.requires.can c.run.ensures.rest g.B.Before.sum c.requires.before c.run.ensures.held c.run.ensures.tells c.run.ensures.failed c.finish_write.ensures.enters c.enter_wrote.ensures refl;
+}

@@ -1,0 +1,41 @@
+-- What comes with calls.
+use Rattle.std.specs.Prelude.{◌≡◌, ◌≢◌, ℕ, ◌++◌, List, None, true, All, map}
+use Rattle.block_arena.specs.Memory.{Buffer}
+use Rattle.pool_model.specs.declared.event.Event.{Event}
+use Rattle.pool_model.specs.declared.event.Event.TheVariants.{Evict}
+use Rattle.pin_core.specs.Evictions.{names_gone}
+use Rattle.store_api.specs.Tokens.{ClientToken, PageToken, LoanToken}
+use Rattle.store_api.specs.Holdings.{Holdings}
+use Rattle.store_api.specs.Conditions.{IsIdle, IsZeroed}
+use Rattle.store_api.specs.Entries.{IsEvict, IsAboveNames}
+use Rattle.local_pool.specs.declared.owned.Owned.{Owned}
+use Rattle.local_pool.specs.Told.{signs_of}
+
+-- clean pages made room, and then it ended so
+abbrev pub Evicts : List Event → List Event → Type 0
+Evicts last events = (evicts : List Event) × All IsEvict evicts × (events ≡ evicts ++ last)
+
+-- the clean pages that go, so that so many blocks are free
+abbrev pub evicts_for : {D : Type 0} → ℕ → Owned D → List Event
+evicts_for blocks own = map Evict (names_gone blocks own.pool)
+
+-- a client that wasn't there
+pub record IsFresh (c : ClientToken) (h : Holdings) : Type 0 where
+  pub fresh : h.clients c.tracker ≡ None
+  pub under : c.tracker ≢ h.query
+  pub idle : IsIdle c.tracker h
+  pub session : c.session ≡ h.session
+
+-- a page that wasn't there, with a name above all, and its buffer of zeros
+pub record IsFreshPage {D : Type 0} (t blocks : ℕ) (made : PageToken × Buffer) (old : Owned D) (h : Holdings) : Type 0 where
+  pub fresh : h.pages made.0.name ≡ None
+  pub client : made.0.client ≡ t
+  pub buffer : IsZeroed blocks h made.1
+  pub unspent : (signs_of old).spent ≢ true
+  pub above : IsAboveNames made.0.name (signs_of old).trail
+
+-- a loan that wasn't there, with its buffer of zeros
+pub record IsFreshLoan (t blocks : ℕ) (loan : LoanToken) (h : Holdings) : Type 0 where
+  pub fresh : h.loans loan.number ≡ None
+  pub client : loan.client ≡ t
+  pub buffer : IsZeroed blocks h loan.buf

@@ -1,0 +1,44 @@
+-- What a pool of one owner holds, and what it shows.
+use Rattle.std.specs.Prelude.{ℕ, ◌==◌, leb, if◌then◌else◌, Bool, Some, filter, length}
+use Rattle.outside.specs.declared.slot.Slot.{Ghosts}
+use Rattle.pool_model.specs.State.{State}
+use Rattle.pool_model.specs.Sums.{memory}
+use Rattle.pool_model.specs.Failures.{is_own, is_for_own, failures_in}
+use Rattle.store_api.specs.Holdings.{Holdings, Room}
+use Rattle.store_api.specs.Signs.{Signs, refuses_unpin}
+use Rattle.own_entries.specs.OwnHoldings.{Outset, holdings_of}
+use Rattle.pin_core.specs.declared.parts.Parts.{Parts}
+use Rattle.pin_core.specs.StateOf.{state_of}
+use Rattle.pin_core.specs.Standing.{slots_home}
+use Rattle.local_pool.specs.declared.owned.Owned.{Owned}
+
+module _ {D : Type 0} (slot : Ghosts D) where
+  -- 1 for a slot that doesn't tell what it holds
+  abbrev pub silence : D → ℕ
+  silence d = if slot.tells d then 0 else 1
+
+  -- each slot tells what it holds
+  abbrev pub all_tell : Parts D → Bool
+  all_tell v = slots_home silence v == 0
+
+  -- its query is the root's one child, so all memory is above it
+  abbrev pub outset_of : Parts D → Outset
+  outset_of v = record { above = Room (memory (state_of v)); told = all_tell v }
+
+  -- what the owner holds, by its own entries
+  unfoldable pub held_of : Owned D → Holdings
+  held_of own = holdings_of (state_of own.pool).block_len own.session (outset_of own.pool) own.trail
+
+-- the greatest name is never given
+abbrev pub is_spent : State → Bool
+is_spent s = leb 18446744073709551615 s.next_name
+
+-- what only grows
+unfoldable pub signs_of : {D : Type 0} → Owned D → Signs
+signs_of own = record {
+  failures = failures_in (is_own own.session) own.trail;
+  failures_of = λ t. failures_in (is_for_own own.session t) own.trail;
+  refused_unpins = length (filter (λ e. refuses_unpin e.event) own.trail);
+  spent = is_spent (state_of own.pool);
+  trail = Some own.trail;
+}

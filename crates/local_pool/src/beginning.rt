@@ -1,0 +1,119 @@
+//! One owner's pool begins and ends.
+ghost use Rattle.std.specs.Prelude.{◌≡◌, ◌≤◌, ℕ, [], IsErr, IfOk, IfErr, vec_len};
+ghost use Rattle.std.specs.List.{sum_by};
+ghost use Rattle.pool_model.specs.State.{Opening};
+ghost use Rattle.pin_core.specs.Setup.{IsOpeningOf, OpensWith};
+ghost use Rattle.pin_core.specs.Standing.{StandsFor, slots_home};
+ghost use Rattle.pin_core.specs.Opening.{spare_of};
+ghost use Rattle.store_api.specs.Entries.{by};
+ghost use Rattle.local_pool.specs.Told.{held_of};
+ghost use Rattle.local_pool.specs.Beginning.{Begins, IsBegun, IsLeastRefusal, LacksLeast, first_events};
+
+use crate::entering::enter;
+use crate::owned::{Alone, Owned};
+use outside::Slot;
+use pin_core::{PoolConf, PoolState};
+use pool_model::{Entry, Event};
+use reservation_tree::{PoolErr, TrackerId};
+use std::alloc::Global;
+use turn_table::Solo;
+
+impl<D: Slot + Drop> Alone<D> {
+    /// A pool with these numbers and slots, whose owner may reserve up to `limit` bytes and has `least` of them, and
+    /// whose pages may take `quota` slots. Takes all the memory that it will ever use, but for pages and loans.
+    ///
+    /// # Errors
+    ///
+    /// `Memory`, or `NoReservation`: `least` passes the limit or all memory. The slots come back.
+    pub fn open(
+        alloc: Global,
+        conf: &PoolConf,
+        slots: Vec<D>,
+        limit: u64,
+        quota: u32,
+        least: u64,
+    ) -> Result<Alone<D>, (Vec<D>, PoolErr)>
+        requires conf { OpensWith conf.now }
+        requires slots { vec_len slots ≤ 1048576 }
+        requires quota { quota ≤ vec_len slots }
+        ensures ok { IfOk result (Begins D.Slot conf.now slots.items limit quota least) }
+        ensures refused { LacksLeast conf.now limit least → IsErr result }
+        ensures cause { IfErr result (λ e. IsLeastRefusal conf.now limit least e.1) }
+        ensures back { IfErr result (λ e. (measure : D → ℕ) → sum_by measure e.0.items ≡ sum_by measure slots.items) }
+    {
+        let trail = match Solo::open(alloc) {
+            Ok(trail) => trail,
+            Err(_) => return Err((slots, PoolErr::Memory)),
+        };
+        match PoolState::open(alloc, conf, slots) {
+            Ok(pool) => begin(pool, trail, conf, limit, quota, least),
+            Err((slots, _)) => Err((slots, PoolErr::Memory)),
+        }
+    }
+
+    /// Ends a pool that has no client, and gives back its slots.
+    pub fn close(self) -> Vec<D>
+        requires { (held_of D.Slot self).live_clients ≡ 0 }
+        ensures { (measure : D → ℕ) → sum_by measure result.items ≡ slots_home measure self.pool }
+    {
+        let Owned {
+            mut pool,
+            trail: _,
+            session,
+        } = self.own;
+        pool.end_session(session);
+        pool.close()
+    }
+}
+
+// The owner's session begins.
+fn begin<D: Slot + Drop>(
+    mut pool: PoolState<D>,
+    mut trail: Solo<Entry>,
+    _conf: &PoolConf,
+    limit: u64,
+    quota: u32,
+    least: u64,
+) -> Result<Alone<D>, (Vec<D>, PoolErr)>
+    requires conf { OpensWith _conf.now }
+    requires fresh { (o : Opening) → IsOpeningOf _conf.now (spare_of pool) o → StandsFor D.Slot o [] pool }
+    requires empty { trail ≡ [] }
+    requires quota { quota ≤ spare_of pool }
+    ensures ok { IfOk result (λ own. IsBegun _conf.now limit quota least (held_of D.Slot own)) }
+    ensures trail { IfOk result (λ own. own.trail ≡ by own.session (first_events (held_of D.Slot own).query limit quota least)) }
+    ensures slots { IfOk result (λ own. (measure : D → ℕ) → slots_home measure own.pool ≡ slots_home measure pool) }
+    ensures refused { LacksLeast _conf.now limit least → IsErr result }
+    ensures cause { IfErr result (λ e. IsLeastRefusal _conf.now limit least e.1) }
+    ensures back { IfErr result (λ e. (measure : D → ℕ) → sum_by measure e.0.items ≡ slots_home measure pool) }
+{
+    let session = match pool.open_session(limit, quota, least) {
+        Ok(session) => session,
+        Err(refusal) => return Err((pool.close(), refusal)),
+    };
+    let tracker = pool.tracker(session);
+    enter(
+        &mut trail,
+        session,
+        Event::AddTracker {
+            tracker,
+            parent: TrackerId::of(0),
+            limit,
+            quota: Some(quota),
+        },
+    );
+    enter(
+        &mut trail,
+        session,
+        Event::Increase {
+            tracker,
+            bytes: least,
+        },
+    );
+    Ok(Alone {
+        own: Owned {
+            pool,
+            trail,
+            session,
+        },
+    })
+}

@@ -1,0 +1,24 @@
+//! A pool with one owner, who writes and loads its pages itself and waits for nobody.
+//!
+//! Model: what the owner holds is told by its trail, the list of its own entries, for which the pool's value
+//! stands. No other maker has an entry in it.
+//! Invariant: between calls no page is in a job.
+#![tactic(auto)]
+
+mod asking;
+mod beginning;
+mod coming;
+mod entering;
+mod leaving;
+mod loading;
+mod looking;
+mod owned;
+mod pinning;
+mod pins;
+mod shrinking;
+mod trackers;
+mod turning;
+mod writing;
+
+pub use owned::{Alone, Owned};
+pub use turning::Turn;

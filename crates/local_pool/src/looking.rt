@@ -1,0 +1,37 @@
+//! What an owner sees of its reservations.
+ghost use Rattle.std.specs.Prelude.{◌≡◌};
+ghost use Rattle.store_api.specs.Holdings.{account_of, unused_of};
+ghost use Rattle.store_api.specs.Conditions.{FitsAccount, FitsQuery, IsLiveClient};
+ghost use Rattle.own_entries.specs.ClientLaws.{IsWholeIdle};
+ghost use Rattle.local_pool.specs.Told.{held_of};
+
+use crate::owned::Alone;
+use outside::Slot;
+use store_api::Client;
+
+impl<D: Slot + Drop> Alone<D> {
+    /// How much of the query's reservation no client has.
+    pub fn room(&self) -> u64
+        ensures value { result ≡ (held_of D.Slot self.now).room }
+        ensures fits { FitsQuery (held_of D.Slot self.now) }
+    {
+        let own = &self.own;
+        own.pool.unused(own.pool.tracker(own.session))
+    }
+
+    /// What the client may still charge.
+    pub fn unused(&self, c: &Client) -> u64
+        requires { IsLiveClient c.now (held_of D.Slot self.now) }
+        ensures value { result ≡ unused_of c.now.tracker (held_of D.Slot self.now) }
+        ensures fits { FitsAccount (account_of c.now.tracker (held_of D.Slot self.now)) (held_of D.Slot self.now) }
+    {
+        self.own.pool.unused(c.tracker())
+    }
+
+    /// Clients and queries that have nothing under them have their whole reservation unused.
+    pub fn law_whole(&self)
+        ensures { IsWholeIdle (held_of D.Slot self.now) }
+    {
+        let _own = &self.own;
+    }
+}

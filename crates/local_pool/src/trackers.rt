@@ -1,0 +1,112 @@
+//! Clients come and go, and reservations grow.
+ghost use Rattle.std.specs.Prelude.{◌≡◌, ◌≢◌, ◌↔◌, ◌≤◌, [], ◌∷◌, None, Err, IsErr, IsOk, IfOk, IfErr, IfSome, IfNone, OnOk, OnErr};
+ghost use Rattle.reservation_tree.specs.declared.errors.PoolErr.TheVariants as refusal;
+ghost use Rattle.pool_model.specs.declared.event.Event.TheVariants as event;
+ghost use Rattle.store_api.specs.Holdings.{account_of};
+ghost use Rattle.store_api.specs.Changes.{shortfall};
+ghost use Rattle.store_api.specs.Conditions.{IsLiveClient, IsIdle};
+ghost use Rattle.store_api.specs.Refusals.{reserve_refusal};
+ghost use Rattle.local_pool.specs.Told.{held_of};
+ghost use Rattle.local_pool.specs.Making.{Makes};
+ghost use Rattle.local_pool.specs.Calling.{IsFresh};
+
+use crate::entering::enter;
+use crate::owned::Alone;
+use outside::Slot;
+use pool_model::Event;
+use reservation_tree::PoolErr;
+use store_api::Client;
+
+impl<D: Slot + Drop> Alone<D> {
+    /// A new client with this limit.
+    pub fn add_client(&mut self, limit: u64) -> Result<Client, PoolErr>
+        ensures ok { IfOk result (λ c. Makes D.Slot (λ events. events ≡ event.AddTracker c.tracker (held_of D.Slot self.old).query limit None ∷ []) self.old self.new) }
+        ensures fresh { IfOk result (λ c. IsFresh c (held_of D.Slot self.old)) }
+        ensures refused { IsErr result ↔ (16 ≤ (held_of D.Slot self.old).live_clients) }
+        ensures cause { IfErr result (λ e. e ≡ refusal.TooManyTrackers 16) }
+        ensures err { OnErr result (self.new ≡ self.old) }
+    {
+        let own = &mut self.own;
+        let query = own.pool.tracker(own.session);
+        let c = own.pool.add_client(own.session, limit)?;
+        enter(
+            &mut own.trail,
+            own.session,
+            Event::AddTracker {
+                tracker: c.tracker(),
+                parent: query,
+                limit,
+                quota: None,
+            },
+        );
+        Ok(c)
+    }
+
+    /// Ends a client that has no page and no loan.
+    pub fn end_client(&mut self, c: Client)
+        requires client { IsLiveClient c (held_of D.Slot self.old) }
+        requires idle { IsIdle c.tracker (held_of D.Slot self.old) }
+        ensures { Makes D.Slot (λ events. events ≡ event.MoveReservation c.tracker (held_of D.Slot self.old).query (account_of c.tracker (held_of D.Slot self.old)).reservation ∷ event.CloseTracker c.tracker ∷ []) self.old self.new }
+    {
+        let own = &mut self.own;
+        let tracker = c.tracker();
+        let query = own.pool.tracker(own.session);
+        let bytes = own.pool.reservation(tracker);
+        own.pool
+            .end_client(Client::of(own.session, c.into_tracker()));
+        enter(
+            &mut own.trail,
+            own.session,
+            Event::MoveReservation {
+                from: tracker,
+                to: query,
+                bytes,
+            },
+        );
+        enter(&mut own.trail, own.session, Event::CloseTracker { tracker });
+    }
+
+    /// Raises the client's reservation.
+    pub fn reserve(&mut self, c: &Client, bytes: u64) -> Result<(), PoolErr>
+        requires client { IsLiveClient c.now (held_of D.Slot self.old) }
+        ensures ok { OnOk result (Makes D.Slot (λ events. events ≡ event.Increase c.now.tracker bytes ∷ []) self.old self.new) }
+        ensures refused { IfSome (reserve_refusal c.now.tracker bytes (held_of D.Slot self.old)) (λ e. result ≡ Err e) }
+        ensures granted { IfNone (reserve_refusal c.now.tracker bytes (held_of D.Slot self.old)) (IsOk result) }
+        ensures err { OnErr result (self.new ≡ self.old) }
+    {
+        let own = &mut self.own;
+        let tracker = c.tracker();
+        let mine = Client::of(own.session, tracker);
+        let result = own.pool.increase(&mine, bytes);
+        mine.into_tracker();
+        result?;
+        enter(
+            &mut own.trail,
+            own.session,
+            Event::Increase { tracker, bytes },
+        );
+        Ok(())
+    }
+
+    /// Raises the client's reservation until so many bytes are unused.
+    pub fn reserve_to_fit(&mut self, c: &Client, bytes: u64) -> Result<(), PoolErr>
+        requires client { IsLiveClient c.now (held_of D.Slot self.old) }
+        ensures ok { OnOk result (Makes D.Slot (λ events. events ≡ event.IncreaseToFit c.now.tracker bytes ∷ []) self.old self.new) }
+        ensures refused { IfSome (reserve_refusal c.now.tracker (shortfall c.now.tracker bytes (held_of D.Slot self.old)) (held_of D.Slot self.old)) (λ e. result ≡ Err e) }
+        ensures granted { IfNone (reserve_refusal c.now.tracker (shortfall c.now.tracker bytes (held_of D.Slot self.old)) (held_of D.Slot self.old)) (IsOk result) }
+        ensures err { OnErr result (self.new ≡ self.old) }
+    {
+        let own = &mut self.own;
+        let tracker = c.tracker();
+        let mine = Client::of(own.session, tracker);
+        let result = own.pool.increase_to_fit(&mine, bytes);
+        mine.into_tracker();
+        result?;
+        enter(
+            &mut own.trail,
+            own.session,
+            Event::IncreaseToFit { tracker, bytes },
+        );
+        Ok(())
+    }
+}
