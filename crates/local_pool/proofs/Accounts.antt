@@ -7,10 +7,9 @@ use Rattle.outside.specs.declared.slot.Slot.{Ghosts}
 use Rattle.reservation_tree.specs.declared.errors.PoolErr.{PoolErr}
 use Rattle.reservation_tree.specs.declared.errors.PoolErr.TheVariants.{NoReservation}
 use Rattle.reservation_tree.specs.Answer.{no_reservation, IsFrom}
-use Rattle.reservation_tree.specs.Change.{Refusal, grow_refusal}
+use Rattle.reservation_tree.specs.Change.{Refusal}
 use Rattle.reservation_tree.specs.Change.{move_refusal as tree_move_refusal}
 use Rattle.reservation_tree.specs.Tracker.{Tracker, IsLive, no_tracker, limit_of, reservation_of}
-use Rattle.reservation_tree.specs.Total.{total}
 use Rattle.pool_model.specs.declared.event.Event.{Event}
 use Rattle.pool_model.specs.declared.event.Event.TheVariants.{AddTracker, CloseTracker, Increase, IncreaseToFit, Decrease, MoveReservation, PinLoad, StartWrite}
 use Rattle.pool_model.specs.declared.entry.Entry.{Entry}
@@ -25,7 +24,7 @@ use Rattle.store_api.specs.Changes.{shortfall, after_end_client}
 use Rattle.store_api.specs.Entries.{by, IsAsked}
 use Rattle.store_api.specs.Conditions.{FitsAccount, IsIdle}
 use Rattle.store_api.specs.Refusals.{client_room, unless_fits, reserve_refusal, move_refusal}
-use Rattle.own_entries.specs.OwnHoldings.{Outset, after_events, has_client, moved_between}
+use Rattle.own_entries.specs.OwnHoldings.{after_events, has_client, moved_between}
 use Rattle.own_entries.specs.HeldLaws.{own_holdings}
 use Rattle.own_entries.specs.LiveParts.{count_under}
 use Rattle.own_entries.proofs.AloneRefused.{legal_refuses_alone}

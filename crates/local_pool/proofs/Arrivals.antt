@@ -1,5 +1,5 @@
 -- What a call made that asked first, and what comes while clean pages go.
-use Rattle.std.proofs.Common.{◌≡◌, ◌≢◌, ℕ, zero, suc, ◌+◌, ◌*◌, ◌≤◌, ◌<◌, List, [], ◌∷◌, ◌++◌, map, length, replicate, Result, Ok, Err, Option, Some, None, IsSome, is_some, Bool, true, false, IfOk, IfErr, All, refl, sym, ap, ◌∙◌, subst, arith, le-leb, inl, inr}
+use Rattle.std.proofs.Common.{◌≡◌, ℕ, zero, suc, ◌≤◌, ◌<◌, List, [], ◌∷◌, ◌++◌, map, replicate, Result, Ok, Err, None, IsSome, is_some, true, IfOk, IfErr, All, refl, sym, ap, ◌∙◌, subst, arith, le-leb, inl, inr}
 use Rattle.std.proofs.lemmas.Bool.{leb-true, cases_lt, false≢true, ne_eqb}
 use Rattle.std.proofs.lemmas.List.{append_assoc, length-replicate}
 use Rattle.std.proofs.lemmas.List.Elements.{All-from_recursion, All-head, All-tail, filter_map-append}
@@ -11,7 +11,7 @@ use Rattle.reservation_tree.specs.declared.errors.PoolErr.{PoolErr}
 use Rattle.reservation_tree.specs.declared.errors.PoolErr.TheVariants.{NamesSpent}
 use Rattle.pool_model.specs.declared.call.Call.TheVariants as call
 use Rattle.pool_model.specs.declared.event.Event.{Event}
-use Rattle.pool_model.specs.declared.event.Event.TheVariants.{Evict, Create, Alloc}
+use Rattle.pool_model.specs.declared.event.Event.TheVariants.{Evict, Create}
 use Rattle.pool_model.specs.declared.entry.Entry.{Entry}
 use Rattle.pool_model.specs.Bytes.{bytes_of}
 use Rattle.pool_model.specs.State.{Opening, State}
@@ -19,7 +19,7 @@ use Rattle.pool_model.specs.Sums.{HasRoom}
 use Rattle.pool_model.specs.Legal.{state_after}
 use Rattle.pool_model.specs.LookingBack.{name_in, names_in}
 use Rattle.pool_model.proofs.Names.{legal_names_are_new}
-use Rattle.store_api.specs.Tokens.{ClientToken, PageToken, LoanToken}
+use Rattle.store_api.specs.Tokens.{PageToken, LoanToken}
 use Rattle.store_api.specs.Holdings.{Holdings, length_of}
 use Rattle.store_api.specs.Conditions.{IsBlockCount, IsZeroed}
 use Rattle.store_api.specs.Entries.{by, IsEvict, IsAsked, IsTaken}

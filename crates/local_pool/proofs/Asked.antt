@@ -1,46 +1,41 @@
 -- A call begins, or is refused.
-use Rattle.std.proofs.Common.{◌≡◌, ◌≢◌, ℕ, ◌+◌, ◌*◌, ◌<◌, ◌≤◌, ◌==◌, ◌&&◌, ◌||◌, Bool, true, false, not, if◌then◌else◌, List, [], ◌∷◌, ◌++◌, length, filter, Option, Some, None, IsSome, is_some, option_map, unwrap_or, T, refl, sym, ap, ◌∙◌, subst, arith, inl, inr, ◌⊎◌}
+use Rattle.std.proofs.Common.{◌≡◌, ℕ, ◌+◌, ◌*◌, ◌<◌, ◌≤◌, ◌==◌, ◌&&◌, Bool, true, false, not, if◌then◌else◌, List, [], ◌∷◌, ◌++◌, length, filter, Option, Some, None, IsSome, is_some, option_map, unwrap_or, T, refl, sym, ap, ◌∙◌, subst, arith, inl, inr}
 use Rattle.std.proofs.lemmas.Bool.{false≢true, and_parts}
 use Rattle.std.specs.List.{list_any}
 use Rattle.std.specs.FinMap.{get}
 use Rattle.std.specs.Option.{option_and_then}
 use Rattle.outside.specs.declared.slot.Slot.{Ghosts}
-use Rattle.reservation_tree.proofs.Maps.{found}
 use Rattle.pool_model.specs.declared.call.Call.{Call}
 use Rattle.pool_model.specs.declared.call.Call.TheVariants.{Pin, PinAgain, Create, Alloc, GiveBack, MoveReservation, MoveBuffer}
 use Rattle.pool_model.specs.declared.event.Event.{Event}
-use Rattle.pool_model.specs.declared.event.Event.TheVariants.{Ask, Refused, ReadFailed, WriteFailed}
+use Rattle.pool_model.specs.declared.event.Event.TheVariants.{Refused}
 use Rattle.pool_model.specs.declared.entry.Entry.{Entry}
-use Rattle.pool_model.specs.Bytes.{bytes_of}
 use Rattle.pool_model.specs.State.{Opening, Place, Dirty, Flying, Clean, Evicted, Page, Buffer, Session, State, page_at, no_page}
 use Rattle.pool_model.specs.Sums.{HasRoom, length_of}
-use Rattle.pool_model.specs.Owning.{IsClientOf, IsPageOf}
 use Rattle.pool_model.specs.LookingBack.{is_ask, maker_of, Made}
 use Rattle.pool_model.specs.Failures.{is_own, is_for_own, failures_in, fails, failed_page, asks_in}
-use Rattle.pool_model.specs.Legal.{run, state_after, IsLegal}
-use Rattle.pool_model.specs.Refusals.{IsOwnCall, IsEnabled, client_of, MayRefuse}
+use Rattle.pool_model.specs.Legal.{state_after, IsLegal}
+use Rattle.pool_model.specs.Refusals.{IsOwnCall, IsEnabled, client_of}
 use Rattle.pool_model.specs.MayFollow.{MayFollow}
 use Rattle.pool_model.proofs.Rising.{kept_failures_rose, failures_grow}
 use Rattle.pool_model.proofs.Seats.{some_is}
-use Rattle.store_api.specs.Holdings.{Holdings, LivePage, LiveLoan, or_else, no_loan, page_of, loan_of, page_len, loan_len}
+use Rattle.store_api.specs.Holdings.{LivePage, LiveLoan, or_else, no_loan, page_len, loan_len}
 use Rattle.store_api.specs.Holdings.{IsPageOf as HoldsPage, no_page as no_live_page}
-use Rattle.store_api.specs.Entries.{by}
 use Rattle.own_entries.specs.OwnHoldings.{after_events}
 use Rattle.own_entries.proofs.Behind.{IsTold, IsLent}
 use Rattle.own_entries.proofs.Views.{len_is}
-use Rattle.pin_core.specs.declared.parts.Parts.{Parts}
 use Rattle.pin_core.specs.StateOf.{state_of}
-use Rattle.pin_core.specs.Standing.{StandsFor, Enters, slots_home}
+use Rattle.pin_core.specs.Standing.{StandsFor, slots_home}
 use Rattle.pin_core.specs.Returning.{EntersWhere}
 use Rattle.pin_core.specs.Refusing.{MayEnter, refusal_of}
 use Rattle.pin_core.specs.PinTurns.{IsStored}
-use Rattle.pin_core.specs.Turns.{LacksRoom, failure_of}
+use Rattle.pin_core.specs.Turns.{failure_of}
 use Rattle.local_pool.specs.declared.owned.Owned.{Owned}
 use Rattle.local_pool.specs.Told.{silence, held_of}
 use Rattle.local_pool.specs.Making.{Goes, Makes, is_calm}
 use Rattle.local_pool.specs.Standing.{Stands, IsStill}
-use Rattle.local_pool.specs.Turning.{Wants, IsStoredFor, CanRefuse, Rose, has_asked}
-use Rattle.local_pool.proofs.Growing.{goes, grown, makes}
+use Rattle.local_pool.specs.Turning.{Wants, IsStoredFor, CanRefuse, Rose}
+use Rattle.local_pool.proofs.Growing.{grown, makes}
 use Rattle.local_pool.proofs.Knowing.{Knows, knows, left_of}
 use Rattle.local_pool.proofs.Still.{rests, still_run}
 

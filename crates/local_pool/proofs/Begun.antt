@@ -1,5 +1,5 @@
 -- One owner's pool begins.
-use Rattle.std.proofs.Common.{◌≡◌, ◌≢◌, ℕ, ◌+◌, ◌-◌, ◌<◌, ◌≤◌, ◌==◌, ◌&&◌, leb, Bool, true, false, if◌then◌else◌, List, [], ◌∷◌, ◌++◌, Option, Some, None, IsSome, is_some, ◌⊎◌, inl, inr, refl, sym, ap, ◌∙◌, subst, arith, le-leb}
+use Rattle.std.proofs.Common.{◌≡◌, ℕ, ◌+◌, ◌-◌, ◌<◌, ◌≤◌, leb, true, false, if◌then◌else◌, List, [], ◌∷◌, ◌++◌, Option, Some, None, is_some, inl, inr, refl, sym, ap, ◌∙◌, subst, arith}
 use Rattle.std.proofs.lemmas.Bool.{false≢true, leb-true, leb-false}
 use Rattle.std.specs.FinMap.{get, empty, get-empty}
 use Rattle.std.specs.Ordering.{nat_cmp}
@@ -13,31 +13,29 @@ use Rattle.reservation_tree.proofs.Maps.{same_or_other, get_same}
 use Rattle.pin_core.specs.Sessions.{IsFull}
 use Rattle.pin_core.specs.Opening.{root_growth, least_refusal}
 use Rattle.pin_core.specs.Opening.{LacksLeast as LacksLeastHere}
-use Rattle.pool_model.specs.declared.event.Event.{Event}
 use Rattle.pool_model.specs.declared.event.Event.TheVariants.{AddTracker, Increase, CloseTracker}
 use Rattle.pool_model.specs.declared.entry.Entry.{Entry}
 use Rattle.pool_model.specs.Bytes.{bytes_of}
-use Rattle.pool_model.specs.State.{Opening, Page, Pages, Session, State, opened}
+use Rattle.pool_model.specs.State.{Opening, State, opened}
 use Rattle.pool_model.specs.Sums.{memory}
-use Rattle.pool_model.specs.Legal.{run, state_after, IsLegal}
+use Rattle.pool_model.specs.Legal.{state_after, IsLegal}
 use Rattle.pool_model.specs.LookingBack.{made_by}
 use Rattle.pool_model.proofs.OwnEntries.{made_first, made_more}
-use Rattle.store_api.specs.Holdings.{Above, Room, Holdings}
+use Rattle.store_api.specs.Holdings.{Room, Holdings}
 use Rattle.store_api.specs.Entries.{by}
 use Rattle.own_entries.specs.OwnHoldings.{Outset, holdings_of}
 use Rattle.own_entries.specs.AboveLaws.{AllBy}
-use Rattle.own_entries.specs.HeldLaws.{own_holdings}
 use Rattle.own_entries.proofs.Lives.{legal_lives_as_told}
 use Rattle.own_entries.proofs.Alone.{legal_alone_sits}
 use Rattle.pin_core.specs.declared.conf.PoolConf.{PoolConf}
 use Rattle.pin_core.specs.declared.parts.Parts.{Parts}
 use Rattle.pin_core.specs.StateOf.{state_of}
 use Rattle.pin_core.specs.Setup.{IsOpeningOf}
-use Rattle.pin_core.specs.Standing.{StandsFor, Enters}
-use Rattle.pin_core.specs.Opening.{spare_of, opening_entries, reopening_entries}
+use Rattle.pin_core.specs.Standing.{StandsFor}
+use Rattle.pin_core.specs.Opening.{opening_entries, reopening_entries}
 use Rattle.local_pool.specs.declared.owned.Owned.{Owned}
 use Rattle.local_pool.specs.Told.{outset_of, held_of}
-use Rattle.local_pool.specs.Standing.{Stands, IsStill}
+use Rattle.local_pool.specs.Standing.{Stands}
 use Rattle.local_pool.specs.Beginning.{memory_of, first_events, IsBegun, LacksLeast, IsLeastRefusal}
 use Rattle.local_pool.proofs.Sized.{run_len, run_memory}
 

@@ -1,5 +1,5 @@
 -- One owner's pool ends.
-use Rattle.std.proofs.Common.{◌≡◌, ◌≢◌, ℕ, Bool, true, false, if◌then◌else◌, List, [], ◌∷◌, ◌++◌, Option, Some, None, is_some, unwrap_or, option_map, inl, inr, refl, sym, ap, ◌∙◌, subst}
+use Rattle.std.proofs.Common.{◌≡◌, ℕ, Bool, false, if◌then◌else◌, List, [], ◌∷◌, ◌++◌, Option, None, is_some, unwrap_or, option_map, inl, inr, refl, sym, ap, ◌∙◌, subst}
 use Rattle.std.proofs.lemmas.List.{append_assoc}
 use Rattle.std.specs.FinMap.{get}
 use Rattle.outside.specs.declared.slot.Slot.{Ghosts}
@@ -7,16 +7,14 @@ use Rattle.reservation_tree.specs.Tracker.{HasNoChild, reservation_of}
 use Rattle.reservation_tree.proofs.Maps.{same_or_other}
 use Rattle.pool_model.specs.declared.event.Event.TheVariants.{Decrease, CloseTracker}
 use Rattle.pool_model.specs.declared.entry.Entry.{Entry}
-use Rattle.pool_model.specs.State.{Opening, Session, State}
-use Rattle.pool_model.specs.Legal.{state_after, IsLegal}
+use Rattle.pool_model.specs.State.{Session, State}
+use Rattle.pool_model.specs.Legal.{state_after}
 use Rattle.pool_model.specs.LookingBack.{made_by}
 use Rattle.pool_model.proofs.OwnEntries.{made_more}
-use Rattle.store_api.specs.Holdings.{Account, Holdings}
-use Rattle.store_api.specs.Entries.{by}
+use Rattle.store_api.specs.Holdings.{Holdings}
 use Rattle.store_api.specs.Changes.{after_give_back}
 use Rattle.own_entries.specs.OwnHoldings.{step, after_events, query_fallen, session_ended, client_ended, has_client, holdings_of}
 use Rattle.own_entries.specs.HeldLaws.{own_holdings}
-use Rattle.own_entries.specs.AboveLaws.{AllBy}
 use Rattle.own_entries.proofs.Calls.{calls_run_on}
 use Rattle.own_entries.proofs.Idle.{none_under}
 use Rattle.own_entries.proofs.Lives.{legal_lives_as_told}
@@ -30,7 +28,7 @@ use Rattle.local_pool.specs.declared.owned.Owned.{Owned}
 use Rattle.local_pool.specs.Told.{outset_of, held_of}
 use Rattle.local_pool.specs.Standing.{Stands}
 use Rattle.local_pool.proofs.Growing.{alone_more}
-use Rattle.local_pool.proofs.Knowing.{Knows, knows, held_is, opening_len}
+use Rattle.local_pool.proofs.Knowing.{Knows, knows, opening_len}
 use Rattle.local_pool.proofs.Begun.{none_when}
 
 module _ {D : Type 0} (slot : Ghosts D) (own : Owned D) (is : Stands slot own) where

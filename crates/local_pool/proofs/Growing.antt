@@ -1,29 +1,28 @@
 -- One owner's entries, one after the other.
-use Rattle.std.proofs.Common.{◌≡◌, ◌≤◌, ℕ, ◌+◌, ◌==◌, List, [], ◌∷◌, ◌++◌, map, length, length-append, leb, Bool, true, false, if◌then◌else◌, Option, is_some, refl, sym, ap, ◌∙◌, subst, arith, le-leb, ◌<◌}
+use Rattle.std.proofs.Common.{◌≡◌, ◌≤◌, ℕ, ◌+◌, ◌==◌, List, [], ◌∷◌, ◌++◌, length, length-append, Bool, true, false, if◌then◌else◌, is_some, refl, sym, ap, ◌∙◌, subst, arith, le-leb, ◌<◌}
 use Rattle.std.proofs.lemmas.Bool.{leb-true}
 use Rattle.std.proofs.lemmas.List.{append_assoc, append-nil}
 use Rattle.std.proofs.lemmas.List.Elements.{filter_map-append}
 use Rattle.std.specs.List.{AllByRecursion}
 use Rattle.outside.specs.declared.slot.Slot.{Ghosts}
 use Rattle.pool_model.specs.declared.event.Event.{Event}
-use Rattle.pool_model.specs.declared.event.Event.TheVariants.{Ask, AddTracker, CloseTracker, Increase, IncreaseToFit, Decrease, MoveReservation, UnpinOnce, Unpin, Extract, Destroy, MoveBuffer}
+use Rattle.pool_model.specs.declared.event.Event.TheVariants.{AddTracker, CloseTracker, Increase, IncreaseToFit, Decrease, MoveReservation, UnpinOnce, MoveBuffer}
 use Rattle.pool_model.specs.declared.entry.Entry.{Entry}
 use Rattle.pool_model.specs.State.{Opening, State}
 use Rattle.pool_model.specs.Sums.{memory}
-use Rattle.pool_model.specs.Legal.{run, state_after, IsLegal}
+use Rattle.pool_model.specs.Legal.{run}
 use Rattle.pool_model.specs.LookingBack.{opens, made_by, names_in, name_in}
 use Rattle.pool_model.proofs.OwnEntries.{made_more}
 use Rattle.pool_model.proofs.Names.{legal_names_are_new}
-use Rattle.store_api.specs.Holdings.{Above, Room, Holdings, loan_of}
+use Rattle.store_api.specs.Holdings.{Room, Holdings, loan_of}
 use Rattle.store_api.specs.Entries.{by}
 use Rattle.own_entries.specs.OwnHoldings.{Outset, step, after_events, holdings_of, has_client, has_several_pins, moved_between}
 use Rattle.own_entries.specs.AboveLaws.{AllBy}
 use Rattle.own_entries.proofs.Calls.{calls_run_on}
-use Rattle.pin_core.specs.declared.parts.Parts.{Parts}
 use Rattle.pin_core.specs.StateOf.{state_of}
-use Rattle.pin_core.specs.Standing.{StandsFor, Enters, slots_home}
+use Rattle.pin_core.specs.Standing.{StandsFor, Enters}
 use Rattle.local_pool.specs.declared.owned.Owned.{Owned}
-use Rattle.local_pool.specs.Told.{silence, all_tell, outset_of, held_of, is_spent}
+use Rattle.local_pool.specs.Told.{silence, all_tell, outset_of, held_of}
 use Rattle.local_pool.specs.Making.{Makes, Goes, is_calm}
 use Rattle.local_pool.specs.Standing.{IsStill, Stands}
 use Rattle.local_pool.proofs.Sized.{run_on, run_len, run_memory}

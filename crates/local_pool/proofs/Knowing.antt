@@ -1,12 +1,12 @@
 -- What is known of one owner's pool between calls.
-use Rattle.std.proofs.Common.{◌≡◌, ℕ, List, [], ◌∷◌, Bool, true, Option, Some, None, IsSome, is_some, refl, sym, ap, ◌∙◌, subst}
+use Rattle.std.proofs.Common.{◌≡◌, ℕ, List, [], true, Some, IsSome, is_some, sym, ap, ◌∙◌, subst}
 use Rattle.std.specs.FinMap.{get}
 use Rattle.reservation_tree.proofs.Maps.{found}
 use Rattle.outside.specs.declared.slot.Slot.{Ghosts}
 use Rattle.pool_model.specs.declared.entry.Entry.{Entry}
 use Rattle.pool_model.specs.State.{Opening, Session, State, opened}
-use Rattle.pool_model.specs.LookingBack.{content_from, made_by}
-use Rattle.pool_model.specs.Legal.{state_after, IsLegal}
+use Rattle.pool_model.specs.LookingBack.{content_from}
+use Rattle.pool_model.specs.Legal.{state_after}
 use Rattle.store_api.specs.Holdings.{Holdings, unused_of}
 use Rattle.own_entries.specs.OwnHoldings.{Outset, holdings_of}
 use Rattle.own_entries.specs.HeldLaws.{own_holdings}

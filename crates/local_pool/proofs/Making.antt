@@ -15,9 +15,9 @@ use Rattle.pool_model.specs.LookingBack.{is_ask, is_by}
 use Rattle.pool_model.specs.Failures.{is_own, is_for_own, failures_in, asks_in}
 use Rattle.pool_model.proofs.Rising.{failures_grow}
 use Rattle.store_api.specs.Holdings.{Holdings, IsPageOf}
-use Rattle.store_api.specs.Signs.{Signs, Grows, TellRefused, HasFailed, refuses_unpin}
-use Rattle.store_api.specs.Entries.{by, AreWrites, IsAsked, Made, IsRefusal}
-use Rattle.store_api.specs.Refusals.{MayRefuse, WasRefused, IsUntouched}
+use Rattle.store_api.specs.Signs.{Grows, TellRefused, refuses_unpin}
+use Rattle.store_api.specs.Entries.{by, AreWrites, IsAsked, Made}
+use Rattle.store_api.specs.Refusals.{WasRefused}
 use Rattle.own_entries.specs.OwnHoldings.{Outset, after_events, holdings_of}
 use Rattle.own_entries.proofs.Outsets.{outsets_stay}
 use Rattle.own_entries.proofs.Calls.{calls_run_on, asked_hold}

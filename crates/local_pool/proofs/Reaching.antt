@@ -1,14 +1,12 @@
 -- The pages and loans that the owner holds, as the pool has them.
-use Rattle.std.proofs.Common.{◌≡◌, ◌≢◌, ℕ, ◌*◌, ◌+◌, ◌≤◌, ◌<◌, ◌==◌, List, [], ◌∷◌, ◌++◌, Option, Some, None, IsSome, is_some, unwrap_or, Bool, true, false, if◌then◌else◌, refl, sym, ap, ◌∙◌, subst, arith}
-use Rattle.std.specs.FinMap.{get}
+use Rattle.std.proofs.Common.{◌≡◌, ◌≢◌, ℕ, ◌*◌, ◌≤◌, ◌==◌, [], ◌∷◌, ◌++◌, Option, Some, IsSome, is_some, unwrap_or, Bool, true, false, if◌then◌else◌, refl, sym, ap, ◌∙◌, subst, arith}
 use Rattle.outside.specs.declared.slot.Slot.{Ghosts}
-use Rattle.reservation_tree.specs.Tracker.{reservation_of}
 use Rattle.pool_model.specs.declared.event.Event.{Event}
 use Rattle.pool_model.specs.declared.event.Event.TheVariants.{UnpinOnce, MoveBuffer}
-use Rattle.pool_model.specs.State.{Place, Pinned, Dirty, Flying, Loading, Clean, Evicted, Page, Buffer, State, page_at, no_page, pins_of}
+use Rattle.pool_model.specs.State.{Place, Pinned, Dirty, Flying, Loading, Clean, Evicted, Page, State, page_at, no_page, pins_of}
 use Rattle.pool_model.specs.Parts.{pins_at}
 use Rattle.pool_model.specs.Owning.{IsClientOf}
-use Rattle.pool_model.specs.Sums.{HasRoom, held_by, length_of}
+use Rattle.pool_model.specs.Sums.{HasRoom, length_of}
 use Rattle.store_api.specs.Tokens.{ClientToken, PageToken, LoanToken}
 use Rattle.store_api.specs.Holdings.{Holdings, LivePage, LiveLoan, or_else, page_of, loan_of, page_len, loan_len}
 use Rattle.store_api.specs.Holdings.{no_page as no_live_page, no_loan}

@@ -1,5 +1,5 @@
 -- One turn of a call that wants room.
-use Rattle.std.proofs.Common.{◌≡◌, ◌≢◌, ℕ, ◌+◌, ◌<◌, ◌≤◌, ◌==◌, Bool, true, false, List, [], ◌∷◌, ◌++◌, Option, Some, None, IsSome, is_some, refl, sym, ap, ◌∙◌, subst, if◌then◌else◌, inl, inr, arith, eq-eqb}
+use Rattle.std.proofs.Common.{◌≡◌, ℕ, ◌+◌, ◌<◌, ◌==◌, Bool, true, List, [], ◌∷◌, ◌++◌, Option, Some, None, IsSome, is_some, refl, sym, ap, ◌∙◌, subst, if◌then◌else◌, inl, inr, arith, eq-eqb}
 use Rattle.std.proofs.lemmas.List.{append_assoc}
 use Rattle.std.proofs.lemmas.Bool.{false≢true}
 use Rattle.reservation_tree.proofs.Maps.{same_or_other}
@@ -9,12 +9,11 @@ use Rattle.outside.specs.declared.slot.Slot.{Ghosts}
 use Rattle.pool_model.specs.declared.event.Event.{Event}
 use Rattle.pool_model.specs.declared.event.Event.TheVariants.{StartWrite, WriteOk, WriteFailed}
 use Rattle.pool_model.specs.declared.entry.Entry.{Entry}
-use Rattle.pool_model.specs.State.{Opening, Place, Dirty, Pinned, Page, Session, State, page_at, pins_of}
+use Rattle.pool_model.specs.State.{Opening, Dirty, Pinned, Page, State, page_at, pins_of}
 use Rattle.pool_model.specs.Owning.{IsClientOf}
-use Rattle.pool_model.specs.Sums.{HasRoom}
 use Rattle.pool_model.specs.Effects.{after}
 use Rattle.pool_model.specs.Legal.{run, state_after}
-use Rattle.pool_model.specs.LookingBack.{content_of, content_from}
+use Rattle.pool_model.specs.LookingBack.{content_from}
 use Rattle.pool_model.specs.OwnLaws.{IsContent}
 use Rattle.pool_model.proofs.OwnEntries.{content_more}
 use Rattle.pool_model.proofs.Resting.{legal_contents_are_told}
@@ -28,13 +27,13 @@ use Rattle.pin_core.specs.declared.jobs.WriteJob.{WriteJob}
 use Rattle.pin_core.specs.StateOf.{state_of}
 use Rattle.pin_core.specs.Standing.{StandsFor, Enters, slots_home}
 use Rattle.pin_core.specs.Jobs.{IsWriteJob}
-use Rattle.pin_core.specs.Turns.{LacksRoom, IsStarted, IsWriting, failure_of, start_entry}
+use Rattle.pin_core.specs.Turns.{LacksRoom, IsStarted, IsWriting, start_entry}
 use Rattle.local_pool.specs.declared.owned.Owned.{Owned}
-use Rattle.local_pool.specs.Told.{silence, all_tell, held_of}
+use Rattle.local_pool.specs.Told.{silence, held_of}
 use Rattle.local_pool.specs.Making.{Goes, Makes}
 use Rattle.local_pool.specs.Standing.{Stands, IsStill, is_moving}
 use Rattle.local_pool.specs.Turning.{IsEnd, IsWrite, writes_left, Ends, CanWrite}
-use Rattle.local_pool.proofs.Growing.{AllCalm, grown, makes, goes_held}
+use Rattle.local_pool.proofs.Growing.{AllCalm, grown, makes}
 use Rattle.local_pool.proofs.Knowing.{Knows, knows, sound, owned}
 use Rattle.local_pool.proofs.Still.{out_still, written_still, unwritten_still}
 use Rattle.local_pool.proofs.Waiting.{IsDirtyOf, newest_is, out, written_left, unwritten_left}

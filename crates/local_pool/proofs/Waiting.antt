@@ -1,18 +1,15 @@
 -- A client's newest dirty page, and how many writes may come.
-use Rattle.std.proofs.Common.{◌≡◌, ◌≢◌, ℕ, zero, suc, ◌+◌, ◌<◌, ◌≤◌, ◌==◌, Bool, true, false, ◌&&◌, if◌then◌else◌, not, List, [], ◌∷◌, ◌++◌, length, filter, Option, Some, None, is_some, unwrap_or, refl, sym, ap, ◌∙◌, subst, arith, eq-eqb}
+use Rattle.std.proofs.Common.{◌≡◌, ℕ, ◌+◌, ◌<◌, ◌≤◌, ◌==◌, Bool, true, false, if◌then◌else◌, not, List, [], ◌∷◌, ◌++◌, length, Option, Some, None, is_some, unwrap_or, refl, sym, ap, ◌∙◌, subst, arith, eq-eqb}
 use Rattle.std.proofs.lemmas.Bool.{eqb-true, and_parts}
-use Rattle.std.specs.FinMap.{FinMap, get, insert}
-use Rattle.std.specs.Ordering.{nat_cmp}
+use Rattle.std.specs.FinMap.{get, insert}
 use Rattle.std.specs.Option.{option_or, option_and_then}
 use Rattle.reservation_tree.proofs.Maps.{get_same}
 use Rattle.outside.specs.declared.slot.Slot.{Ghosts}
 use Rattle.pool_model.specs.declared.event.Event.TheVariants.{StartWrite, WriteOk, WriteFailed}
-use Rattle.pool_model.specs.declared.entry.Entry.{Entry}
 use Rattle.pool_model.specs.State.{Place, Pinned, Dirty, Flying, Loading, Clean, Evicted, Page, Session, Sessions, State, page_at, no_page, dirty_of}
 use Rattle.pool_model.specs.Orders.{stands_in, is_dirty, dirty_for, AreQueues}
 use Rattle.pool_model.specs.Parts.{without, with_failures, keep_first}
 use Rattle.pool_model.specs.Effects.{after}
-use Rattle.pool_model.specs.Legal.{state_after}
 use Rattle.pool_model.proofs.Queues.{stands_new}
 use Rattle.pool_model.proofs.Lined.{legal_keeps_queues}
 use Rattle.pool_model.proofs.Keeping.{first_kept}

@@ -1,11 +1,9 @@
 -- A page comes back from its write.
-use Rattle.std.proofs.Common.{◌≡◌, ℕ, ◌+◌, ◌*◌, ◌<◌, List, [], ◌∷◌, ◌++◌, map, length, Bool, true, false, if◌then◌else◌, refl, sym, ap, ◌∙◌, subst, arith, inl, inr}
+use Rattle.std.proofs.Common.{◌≡◌, ℕ, ◌+◌, ◌*◌, List, [], ◌∷◌, ◌++◌, map, length, Bool, true, false, if◌then◌else◌, refl, sym, ap, ◌∙◌, subst, arith, inl}
 use Rattle.std.specs.List.{sum_by}
 use Rattle.std.proofs.lemmas.List.Sums.{sum_by-cons}
 use Rattle.outside.specs.declared.slot.Slot.{Ghosts}
-use Rattle.block_arena.specs.Memory.{Buffer, IsBufferOf}
 use Rattle.scratch_dev.specs.Rows.{faults_of}
-use Rattle.pool_model.specs.declared.event.Event.{Event}
 use Rattle.pool_model.specs.declared.entry.Entry.{Entry}
 use Rattle.pool_model.specs.State.{Opening, Page, Pinned, Flying, State, page_at}
 use Rattle.std.specs.FinMap.{get}
@@ -15,7 +13,6 @@ use Rattle.pool_model.proofs.Resting.{legal_contents_are_told}
 use Rattle.pool_model.specs.ScratchRows.{IsFault}
 use Rattle.pool_model.specs.Effects.{after}
 use Rattle.pool_model.specs.LookingBack.{content_of, content_from}
-use Rattle.store_api.specs.Entries.{by}
 use Rattle.pin_core.specs.declared.parts.Parts.{Parts}
 use Rattle.pin_core.specs.declared.jobs.WriteJob.{WriteJob}
 use Rattle.pin_core.specs.StateOf.{state_of}

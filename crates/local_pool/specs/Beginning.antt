@@ -1,5 +1,5 @@
 -- How one owner's pool begins, and why it doesn't.
-use Rattle.std.specs.Prelude.{◌≡◌, ◌⊎◌, ℕ, ◌-◌, ◌<◌, ◌≤◌, List, [], ◌∷◌, Bool, None, Some, length}
+use Rattle.std.specs.Prelude.{◌≡◌, ◌⊎◌, ℕ, ◌-◌, ◌<◌, ◌≤◌, List, [], ◌∷◌, None, Some}
 use Rattle.std.specs.List.{sum_by}
 use Rattle.std.specs.Bool.{⊤}
 use Rattle.outside.specs.declared.slot.Slot.{Ghosts}
@@ -13,7 +13,7 @@ use Rattle.store_api.specs.Entries.{by}
 use Rattle.pin_core.specs.declared.conf.PoolConf.{PoolConf}
 use Rattle.pin_core.specs.Standing.{slots_home}
 use Rattle.local_pool.specs.declared.owned.Owned.{Owned}
-use Rattle.local_pool.specs.Told.{silence, held_of}
+use Rattle.local_pool.specs.Told.{held_of}
 
 -- all memory of a pool that opens with these numbers
 abbrev pub memory_of : PoolConf → ℕ

@@ -1,5 +1,5 @@
 -- What the calls of one owner make: entries of its own, and nothing else.
-use Rattle.std.specs.Prelude.{◌≡◌, ◌++◌, List, [], Bool, true, false}
+use Rattle.std.specs.Prelude.{◌≡◌, ◌++◌, List, Bool, true, false}
 use Rattle.outside.specs.declared.slot.Slot.{Ghosts}
 use Rattle.pool_model.specs.declared.event.Event.{Event}
 use Rattle.pool_model.specs.declared.event.Event.TheVariants.{AddTracker, CloseTracker}

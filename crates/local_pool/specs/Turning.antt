@@ -14,7 +14,7 @@ use Rattle.pool_model.specs.declared.entry.Entry.{Entry}
 use Rattle.std.specs.List.{list_any}
 use Rattle.pin_core.specs.PinTurns.{IsStored}
 use Rattle.std.specs.Bool.{⊤}
-use Rattle.store_api.specs.Holdings.{Holdings, IsPageOf, length_of, page_of, page_len, loan_len}
+use Rattle.store_api.specs.Holdings.{Holdings, IsPageOf, length_of, page_len, loan_len}
 use Rattle.store_api.specs.Entries.{by}
 use Rattle.pin_core.specs.declared.jobs.WriteJob.{WriteJob}
 use Rattle.pin_core.specs.StateOf.{state_of}

@@ -1,4 +1,4 @@
-use Rattle.std.proofs.Common.{◌≡◌, ◌++◌, ℕ, List, [], ◌∷◌, Some, is_some, inr, refl, sym, ap, ◌∙◌, subst, arith}
+use Rattle.std.proofs.Common.{◌≡◌, ◌++◌, ℕ, List, [], ◌∷◌, Some, inr, sym, ap, ◌∙◌, subst, arith}
 use Rattle.std.specs.FinMap.{get}
 use Rattle.pool_model.specs.declared.entry.Entry.{Entry}
 use Rattle.pool_model.specs.declared.event.Event.TheVariants.{AddTracker, Increase}
@@ -9,7 +9,6 @@ use Rattle.pin_core.specs.Sessions.{query_of}
 use Rattle.pin_core.specs.Standing.{StandsFor}
 use Rattle.pin_core.specs.Opening.{spare_of}
 use Rattle.local_pool.specs.declared.owned.Owned.{Owned}
-use Rattle.local_pool.specs.Told.{held_of}
 use Rattle.local_pool.specs.Beginning.{first_events}
 use Rattle.local_pool.proofs.Begun.{opening_of, is_opening, not_full, lacks, cause_of, none_left, stands_first, begun, first_query, sits_first}
 use Rattle.local_pool.proofs.beginning.begin.Goals as goal

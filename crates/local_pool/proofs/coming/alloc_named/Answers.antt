@@ -1,4 +1,4 @@
-use Rattle.std.proofs.Common.{◌≡◌, ℕ, [], ◌∷◌, refl, ap, ◌∙◌, subst}
+use Rattle.std.proofs.Common.{ℕ, [], refl, ap, ◌∙◌, subst}
 use Rattle.pool_model.specs.declared.event.Event.TheVariants.{Alloc}
 use Rattle.store_api.specs.Tokens.{ClientToken}
 use Rattle.pin_core.specs.Standing.{Enters}

@@ -1,5 +1,5 @@
 use Rattle.std.proofs.Common.{refl}
-use Rattle.local_pool.proofs.Written.{job_fits, comes_back, still_job}
+use Rattle.local_pool.proofs.Written.{comes_back}
 use Rattle.local_pool.proofs.writing.write_named.Goals as goal
 
 pub returns : goal.returns

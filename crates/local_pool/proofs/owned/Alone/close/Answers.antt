@@ -1,4 +1,4 @@
-use Rattle.std.proofs.Common.{◌≡◌, ℕ, is_some, sym, ap, subst, arith}
+use Rattle.std.proofs.Common.{◌≡◌, is_some, sym, ap, subst, arith}
 use Rattle.std.specs.List.{sum_by}
 use Rattle.pin_core.specs.Standing.{slots_home}
 use Rattle.local_pool.specs.declared.owned.Owned.{Owned}

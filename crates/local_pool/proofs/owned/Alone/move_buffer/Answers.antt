@@ -5,10 +5,7 @@ use Rattle.pool_model.specs.Sums.{HasRoom}
 use Rattle.pin_core.specs.StateOf.{state_of}
 use Rattle.store_api.specs.Holdings.{Holdings, loan_of, loan_len}
 use Rattle.store_api.specs.Conditions.{IsLoan}
-use Rattle.store_api.specs.Entries.{IsAsked}
-use Rattle.local_pool.specs.declared.owned.Owned.{Owned}
 use Rattle.local_pool.specs.Told.{held_of}
-use Rattle.local_pool.specs.Making.{Makes}
 use Rattle.local_pool.proofs.Making.{asked_held}
 use Rattle.local_pool.proofs.Arrivals.{asked_then}
 use Rattle.local_pool.proofs.owned.Alone.move_buffer.Goals as goal

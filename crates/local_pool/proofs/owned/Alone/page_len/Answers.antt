@@ -1,4 +1,4 @@
-use Rattle.std.proofs.Common.{◌≡◌, IsSome, sym, ap, ◌∙◌, subst}
+use Rattle.std.proofs.Common.{IsSome, sym, ap, ◌∙◌, subst}
 use Rattle.store_api.specs.Holdings.{page_len}
 use Rattle.store_api.specs.Conditions.{IsPage}
 use Rattle.local_pool.specs.declared.owned.Owned.{Owned}

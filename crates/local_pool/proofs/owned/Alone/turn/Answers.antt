@@ -1,12 +1,11 @@
-use Rattle.std.proofs.Common.{◌≡◌, ◌≤◌, ◌<◌, Some, IsSome, sym, ap, subst, refl, ◌∙◌}
-use Rattle.pin_core.specs.Turns.{amount_of, IsWriting}
-use Rattle.store_api.specs.Holdings.{Holdings, unused_of}
+use Rattle.std.proofs.Common.{◌≤◌, IsSome, sym, ap, subst, refl}
+use Rattle.pin_core.specs.Turns.{amount_of}
+use Rattle.store_api.specs.Holdings.{unused_of}
 use Rattle.local_pool.specs.declared.owned.Owned.{Owned}
-use Rattle.local_pool.specs.declared.turning.Turn.{Turn}
 use Rattle.local_pool.specs.Told.{held_of}
 use Rattle.local_pool.specs.Standing.{Stands}
 use Rattle.local_pool.specs.Turning.{TurnIs}
-use Rattle.local_pool.proofs.Knowing.{Knows, knows}
+use Rattle.local_pool.proofs.Knowing.{knows}
 use Rattle.local_pool.proofs.Turned.{can_write, stands_write, makes_write, left_write, none_flies, same_stands}
 use Rattle.local_pool.proofs.owned.Alone.turn.Goals as goal
 use Rattle.local_pool.proofs.owned.Alone.turn.Goals.{in-Ready, in-Refused, in-Write}
