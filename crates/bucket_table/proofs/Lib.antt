@@ -1,3 +1,4 @@
+pub mod Beside
 pub mod Changed
 pub mod Cuts
 pub mod Emptied
@@ -12,6 +13,9 @@ pub mod Marks
 pub mod Nodes
 pub mod TheRow
 pub mod Opened
+pub mod Rethreaded
+pub mod Shown
 pub mod Spelling
+pub mod Standing
 pub mod Threaded
 pub mod Views

@@ -31,13 +31,16 @@ pub framed_long : (row : List ℕ) → IsFramed row → 4 ≤ length row
 framed_long row is = omega (arith, is)
 
 -- its first four bytes count the rest of it
-pub row_head : (heads : ℕ) (area : List ℕ) (n : Node) (older : List Node) → IsNode heads area n older → link_at area (n.place + 4) + 4 ≡ length n.row
-row_head heads area n older is =
-    let long : 4 ≤ length n.row = framed_long n.row is.framed in
-    let head : cut (n.place + 4) 4 area ≡ take 4 n.row =
-    sym (cut_cut (n.place + 4) (length n.row) 0 4 area (omega (arith, long)) ∙ ap (λ (k : ℕ). cut k 4 area) (add-zero (n.place + 4))) ∙ ap (take 4) is.row
+pub framed_head : (p : ℕ) (row area : List ℕ) → IsFramed row → cut (p + 4) (length row) area ≡ row → link_at area (p + 4) + 4 ≡ length row
+framed_head p row area framed is =
+    let long : 4 ≤ length row = framed_long row framed in
+    let head : cut (p + 4) 4 area ≡ take 4 row =
+    sym (cut_cut (p + 4) (length row) 0 4 area (omega (arith, long)) ∙ ap (λ (k : ℕ). cut k 4 area) (add-zero (p + 4))) ∙ ap (take 4) is
     in
-    ap (λ (bytes : List ℕ). number_in bytes + 4) head ∙ is.framed
+    ap (λ (bytes : List ℕ). number_in bytes + 4) head ∙ framed
+
+pub row_head : (heads : ℕ) (area : List ℕ) (n : Node) (older : List Node) → IsNode heads area n older → link_at area (n.place + 4) + 4 ≡ length n.row
+row_head heads area n older is = framed_head n.place n.row area is.framed is.row
 
 pub row_here : (heads : ℕ) (area : List ℕ) (n : Node) (older : List Node) → IsNode heads area n older → row_at area n.place ≡ n.row
 row_here heads area n older is = ap (λ (k : ℕ). cut (n.place + 4) k area) (row_head heads area n older is) ∙ is.row

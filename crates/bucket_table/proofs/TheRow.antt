@@ -1,5 +1,6 @@
 -- The row of a node of a table.
-use Rattle.std.proofs.Common.{◌≡◌, ◌≢◌, ℕ, ◌+◌, ◌^◌, ◌<◌, ◌≤◌, List, take, drop, length, Option, Some, None, IfSome, ap, sym, ◌∙◌, arith}
+use Rattle.std.proofs.Common.{◌≡◌, ◌≢◌, ℕ, ◌+◌, ◌^◌, ◌<◌, ◌≤◌, List, take, drop, length, Option, Some, None, IfSome, ap, sym, ◌∙◌, inl, inr, arith, add-zero}
+use Rattle.std.proofs.lemmas.Bool.{cases_lt}
 use Rattle.std.proofs.lemmas.List.{length-take, length-drop}
 use Rattle.std.specs.Int.{w128, to_be_bytes}
 use Rattle.block_arena.proofs.Copies.{length-written}
@@ -45,6 +46,36 @@ too_long at n row past some same =
   where
     length_take : (n : ℕ) (xs : List ℕ) → length (take n xs) ≤ length xs
     length_take n xs = omega (arith, length-take n xs)
+
+-- ---- its first bytes, where they reach far enough
+
+module _ (p at count end : ℕ) (row area front bytes : List ℕ) (is : IsThere p row area end) (front_is : front ≡ cut p count area) (head : 8 ≤ count) where
+  pub front_link : link_at front 0 ≡ link_at area p
+  front_link = ap (λ (xs : List ℕ). link_at xs 0) front_is ∙ ap number_in (cut_cut p count 0 4 area (omega (arith, head)) ∙ ap (λ (k : ℕ). cut k 4 area) (add-zero p))
+
+  front_len : link_at front 4 + 4 ≡ length row
+  front_len = ap (λ (xs : List ℕ). link_at xs 4 + 4) front_is ∙ ap (λ (xs : List ℕ). number_in xs + 4) (cut_cut p count 4 4 area (omega (arith, head))) ∙ is.head
+
+  module _ (some : 0 < length bytes) (reach : 4 + (at + length bytes) ≤ count) where
+    front_part : at + length bytes ≤ length row → part_of at (length bytes) row ≡ cut (4 + at) (length bytes) front
+    front_part inside =
+        part_there p at (length bytes) end row area is inside
+        ∙ ap (λ (k : ℕ). cut k (length bytes) area) (let e : p + 4 + at ≡ p + (4 + at) = omega arith in e)
+        ∙ sym (cut_cut p count (4 + at) (length bytes) area (omega (arith, reach)))
+        ∙ ap (cut (4 + at) (length bytes)) (sym front_is)
+
+    pub front_shows : ((at + length bytes ≤ link_at front 4 + 4) × (cut (4 + at) (length bytes) front ≡ bytes)) → part_of at (length bytes) row ≡ bytes
+    front_shows shown = front_part (omega (arith, shown.0, front_len)) ∙ shown.1
+
+    pub front_shown : part_of at (length bytes) row ≡ bytes → (at + length bytes ≤ link_at front 4 + 4) × (cut (4 + at) (length bytes) front ≡ bytes)
+    front_shown shown =
+        let inside : at + length bytes ≤ length row =
+        elim (cases_lt (length row) (at + length bytes)) [
+          | inl past ↦ absurd (too_long at (length bytes) row past some (ap length shown))
+          | inr within ↦ within
+        ]
+        in
+        (omega (arith, inside, front_len), sym (front_part inside) ∙ shown)
 
 -- ---- what is found has a node
 

@@ -1,5 +1,9 @@
 pub mod Filling
 pub mod Lending
-pub mod Tables
+pub mod Looking
 pub mod Regions
+pub mod Rethreading
+pub mod Staying
+pub mod Tables
 pub mod Threads
+pub mod Widening

@@ -1,5 +1,5 @@
 //! Several loans of one length, as one list of bytes.
-ghost use Rattle.std.specs.Prelude.{◌≡◌, ◌↔◌, ◌+◌, ◌*◌, ◌<◌, ◌≤◌, ◌/◌, ◌%◌, ◌^◌, length, replicate, true};
+ghost use Rattle.std.specs.Prelude.{◌≡◌, ◌↔◌, ◌+◌, ◌*◌, ◌<◌, ◌≤◌, ◌/◌, ◌%◌, ◌^◌, length, replicate, true, IfSome, OnSome};
 ghost use Rattle.block_arena.specs.Bytes.{written};
 ghost use Rattle.bucket_table.specs.Regions.{cut, with_bytes};
 
@@ -44,8 +44,25 @@ fn front_of(buf: &Buf, block: Stride, from: usize, most: usize) -> &[u8]
     &bytes[place..place + count]
 }
 
+// So many bytes of a buffer from a place on, where they lie in one block.
 #[inline]
-fn are_same(a: &[u8], b: &[u8]) -> bool
+fn piece_of(buf: &Buf, block: Stride, from: usize, count: usize) -> Option<&[u8]>
+    requires block { block.len ≡ buf.now.block_len }
+    requires inside { from / block.len < buf.now.blocks }
+    ensures value { IfSome result (λ bytes. bytes.now ≡ cut from count buf.now.bytes) }
+    ensures count { IfSome result (λ bytes. length bytes.now ≡ count) }
+    ensures one { OnSome result (count + from % block.len ≤ block.len) }
+{
+    let place = block.place(from);
+    if count > block.len() - place {
+        return None;
+    }
+    let bytes = buf.block(block.part(from));
+    Some(&bytes[place..place + count])
+}
+
+#[inline]
+pub(crate) fn are_same(a: &[u8], b: &[u8]) -> bool
     ensures { result ≡ true ↔ (a.now ≡ b.now) }
 {
     a == b
@@ -91,6 +108,18 @@ impl Area {
     {
         let loan = &self.parts[self.each.part(at)];
         front_of(loan.buf(), self.block, self.each.place(at), most)
+    }
+
+    // So many bytes from a place on, where they lie in one block.
+    #[inline]
+    pub(crate) fn piece(&self, at: usize, count: usize) -> Option<&[u8]>
+        requires inside { at < length self.now.bytes }
+        ensures value { IfSome result (λ bytes. bytes.now ≡ cut at count self.now.bytes) }
+        ensures count { IfSome result (λ bytes. length bytes.now ≡ count) }
+        ensures short { OnSome result (count < 2 ^ 32) }
+    {
+        let loan = &self.parts[self.each.part(at)];
+        piece_of(loan.buf(), self.block, self.each.place(at), count)
     }
 
     // Copies the bytes from a place on. They may lie in several blocks.

@@ -7,7 +7,7 @@ use crate::table::BucketTable;
 
 // The node to which a link goes.
 #[inline]
-fn node_of(link: u32) -> Option<u32>
+pub(crate) fn node_of(link: u32) -> Option<u32>
     ensures { result ≡ node_in link }
 {
     link.checked_sub(1)

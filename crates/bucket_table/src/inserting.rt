@@ -4,6 +4,7 @@ ghost use Rattle.bucket_table.specs.Tables.{HasNode, IsFramed, new_node, used_by
 
 use crate::full::Full;
 use crate::table::BucketTable;
+use crate::threading::thread;
 
 impl BucketTable {
     /// Adds a row in front of the chain of this hash, and gives the number of its node. The first four bytes of the row
@@ -25,11 +26,8 @@ impl BucketTable {
             return Err(Full);
         }
         let node = self.used;
-        let head = 4 * self.chains.place(hash as usize);
-        let next = self.heads.link(head);
-        self.nodes.set_link(node, next);
+        thread(&mut self.heads, &mut self.nodes, self.chains, node, hash);
         self.nodes.write(node + 4, row);
-        self.heads.set_link(head, node as u32 + 1);
         self.used = node + 4 + row.len();
         Ok(node as u32)
     }

@@ -10,17 +10,24 @@ mod area;
 mod finding;
 mod full;
 mod growing;
+mod hashing;
 mod inserting;
+mod laws;
 mod loans;
+mod looking;
 mod numbers;
 mod opening;
 mod parts;
 mod rows;
 mod stride;
 mod table;
+mod threading;
 mod walking;
+mod widening;
 
 pub use full::Full;
+pub use hashing::RowHash;
+pub use laws::law_table_stays;
 pub use table::BucketTable;
 
 #[cfg(test)]

@@ -7,6 +7,18 @@ ghost use Rattle.bucket_table.specs.Regions.{cut, link_at, with_bytes};
 
 use crate::area::Area;
 
+// The number that four bytes spell.
+#[inline]
+#[tactic(auto, using(crate::proofs::Spelling::number_of_4))]
+pub(crate) fn spelled(bytes: &[u8]) -> u32
+    requires { length bytes.now ≡ 4 }
+    ensures { result ≡ number_in bytes.now }
+{
+    let mut out = [0; 4];
+    out.copy_from_slice(bytes);
+    u32::from_be_bytes(out)
+}
+
 impl Area {
     // The number of four bytes.
     #[inline]

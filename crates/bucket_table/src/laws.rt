@@ -1,0 +1,11 @@
+//! Laws of tables: each is the contract of a function that does nothing.
+ghost use Rattle.bucket_table.specs.Staying.{StaysBesideFewer, StaysBesideMore, StaysBesideOthers, StaysBesidePages};
+
+/// A table stays one of its store beside whatever else of the store changes: another client's things, its own client's
+/// pages, and other loans of any client.
+pub fn law_table_stays()
+    ensures others { StaysBesideOthers }
+    ensures pages { StaysBesidePages }
+    ensures more { StaysBesideMore }
+    ensures fewer { StaysBesideFewer }
+{}
