@@ -1,0 +1,5 @@
+mod NodeLists
+mod Dealing
+mod Keeping
+mod Walking
+mod RowForms

@@ -1,0 +1,5 @@
+//! Groups of rows: counted in memory first, spilled by partitions.
+#![tactic(auto)]
+
+mod flushing;
+mod stored;
