@@ -1,5 +1,7 @@
-mod NodeLists
-mod Dealing
-mod Keeping
-mod Walking
-mod RowForms
+pub mod NodeLists
+pub mod Dealing
+pub mod Keeping
+pub mod Walking
+pub mod RowForms
+pub mod WideBytes
+pub mod Forms
