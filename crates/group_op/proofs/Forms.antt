@@ -129,7 +129,7 @@ module _ (back : RowBack) (shape : Shape) (ks : List Value) (ns : List ℤ) (kin
         spelled = ap row_bytes read_so;
       }
 
-  pub form_so : HasForm shape (row_bytes (ks ++ map Wide ns))
+  abbrev pub form_so : HasForm shape (row_bytes (ks ++ map Wide ns))
   form_so = record { values = ks; numbers = ns; spelled = refl; kinds_are = kinds; many = many; is_row = is; read = read_so }
 
 numbers_back : (ns : List ℤ) → map number_of (map Wide ns) ≡ ns

@@ -5,3 +5,7 @@ pub mod Walking
 pub mod RowForms
 pub mod WideBytes
 pub mod Forms
+pub mod Heads
+pub mod Same
+pub mod Rewriting
+pub mod Joins

@@ -1,16 +1,17 @@
 -- Partial rows as they are stored, in tables and on pages: the values of a key and a wide number for each aggregate, as
 -- one encoded row. Lengths are in bytes.
-use Rattle.std.specs.Prelude.{◌≡◌, ℕ, ◌+◌, ◌-◌, ◌*◌, ◌==◌, List, [], ◌∷◌, ◌++◌, length, map, filter, filter_map, slice_get, Option, Some, None}
+use Rattle.std.specs.Prelude.{◌≡◌, ℕ, ◌+◌, ◌-◌, ◌*◌, ◌==◌, List, [], ◌∷◌, ◌++◌, length, map, filter, filter_map, slice_get, take, ℤ, Option, Some, None}
 use Rattle.row_codec.specs.declared.values.Kind.{Kind}
 use Rattle.row_codec.specs.declared.values.Kind.TheVariants.{Wide}
 use Rattle.row_codec.specs.declared.values.Value.{Value}
+use Rattle.row_codec.specs.declared.values.Value.TheVariants as value
 use Rattle.row_codec.specs.Order.{hash_of, nibble_of}
 use Rattle.row_codec.specs.Row.{kinds_of}
 use Rattle.row_codec.specs.RowBytes.{row_bytes}
 use Rattle.row_codec.specs.RowLaws.{IsRow}
 use Rattle.row_codec.specs.RowReading.{row_at}
 use Rattle.store_api.specs.declared.shapes.Shape.{Shape}
-use Rattle.group_rows.specs.Partials.{Grouping, Partial, combined_of}
+use Rattle.group_rows.specs.Partials.{Grouping, Partial, combined_numbers, combined_of}
 use Rattle.group_rows.specs.Rows.{partial_in, partial_row}
 
 abbrev pub grouping_of : Shape → Grouping
@@ -51,6 +52,21 @@ head_len shape bytes = length bytes - 16 * length shape.aggs
 -- the partial row of a row
 abbrev pub own_bytes : Shape → List Value → List ℕ
 own_bytes shape row = row_bytes (partial_row (grouping_of shape) row)
+
+-- its key's values, and its numbers
+abbrev pub key_values_at : Shape → List ℕ → List Value
+key_values_at shape bytes = take (length shape.keys) (values_at shape bytes)
+
+abbrev pub numbers_at : Shape → List ℕ → List ℤ
+numbers_at shape bytes = (partial_at shape bytes).numbers
+
+-- the row of a key with these numbers
+abbrev pub with_numbers : Shape → List ℕ → List ℤ → List ℕ
+with_numbers shape bytes numbers = row_bytes (key_values_at shape bytes ++ map value.Wide numbers)
+
+-- two stored rows of one key as one
+abbrev pub joined : Shape → List ℕ → List ℕ → List ℕ
+joined shape entry row = with_numbers shape entry (combined_numbers shape.aggs (numbers_at shape entry) (numbers_at shape row))
 
 -- what some stored rows say
 abbrev pub partials_at : Shape → List (List ℕ) → List Partial

@@ -2,4 +2,5 @@
 #![tactic(auto)]
 
 mod flushing;
+mod joining;
 mod stored;
