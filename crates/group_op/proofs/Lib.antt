@@ -9,3 +9,5 @@ pub mod Heads
 pub mod Same
 pub mod Rewriting
 pub mod Joins
+pub mod Finding
+pub mod Entering

@@ -1,5 +1,5 @@
 -- What a grouping has, over what a store holds and shows. Lengths are in bytes.
-use Rattle.std.specs.Prelude.{◌≡◌, ◌≢◌, ℕ, ◌+◌, ◌*◌, ◌%◌, ◌≤◌, List, [], ◌∷◌, All, length, map, reverse, Some, ⊤}
+use Rattle.std.specs.Prelude.{◌≡◌, ◌≢◌, ℕ, ◌+◌, ◌*◌, ◌%◌, ◌≤◌, List, [], ◌∷◌, All, length, map, Some, ⊤}
 use Rattle.row_codec.specs.Order.{hash_of}
 use Rattle.store_api.specs.declared.shapes.Shape.{Shape}
 use Rattle.store_api.specs.Holdings.{Holdings, LiveLoan, account_of, length_of}
@@ -42,9 +42,9 @@ pub record IsHeld (t : ℕ) (s : State) : Type 0 where
   pub loans : (q : ℕ) (loan : LiveLoan) → s.held.loans q ≡ Some loan → IsApart q (loans_of s.table) → loan.client ≢ t
   pub room : 17 * page_len s + lent s ≤ (account_of t s.held).reservation
 
--- the rows of a table, the oldest first
+-- the rows of a table, the newest first
 abbrev pub rows_of : Table → List (List ℕ)
-rows_of table = reverse (map (λ n. n.row) table.nodes)
+rows_of table = map (λ n. n.row) table.nodes
 
 -- a node has a partial row that fits a page, and stands on the chain of its key
 pub record IsEntry (shape : Shape) (len heads : ℕ) (n : Node) : Type 0 where

@@ -3,4 +3,5 @@
 
 mod flushing;
 mod joining;
+mod putting;
 mod stored;
