@@ -7,3 +7,4 @@ pub mod Scratch
 pub mod Away
 mod Resting
 mod Called
+pub mod Coming

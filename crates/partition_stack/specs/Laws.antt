@@ -1,5 +1,5 @@
 -- What is so of partitions, as laws. Statements alone. Lengths are in bytes.
-use Rattle.std.specs.Prelude.{◌≡◌, ◌≢◌, ℕ, ◌+◌, ◌*◌, ◌≤◌, ◌==◌, List, length, sum_by, slice_get, if◌then◌else◌, Option, Some}
+use Rattle.std.specs.Prelude.{◌≡◌, ◌≢◌, ℕ, ◌+◌, ◌*◌, ◌≤◌, ◌==◌, List, [], ◌∷◌, ◌++◌, length, sum_by, slice_get, if◌then◌else◌, Option, Some, None, ⊤}
 use Rattle.std.specs.List.{concat}
 use Rattle.store_api.specs.Holdings.{Holdings, length_of}
 use Rattle.store_api.specs.Emitters.{OthersStay}
@@ -8,7 +8,7 @@ use Rattle.tuple_stream.specs.Streamed.{Streamed}
 use Rattle.tuple_stream.specs.Streams.{HasPageRoom}
 use Rattle.tuple_stream.specs.Families.{AllSized, AreShaped, Family, FamilySteps, ShowAll, TouchesAll, family, pages_in, slots_in}
 use Rattle.tuple_stream.specs.FamilyCalls.{shares}
-use Rattle.partition_stack.specs.Stack.{HasRoomFrom, IsStack, Stack, over}
+use Rattle.partition_stack.specs.Stack.{HasRoomFrom, IsStack, Stack, divided, over}
 use Rattle.partition_stack.specs.Changes.{ChangesAt, Owns}
 
 -- how many streams were begun to be spent
@@ -63,3 +63,24 @@ OthersLeaveOwned =
     (t lent : ℕ) (client : Option ℕ) (streams : List Streamed) (old new : Holdings) (before after : Signs)
     → client ≢ Some t → OthersStay client old new → Owns t lent (family streams old before)
     → StaysOwned t lent (family streams old before) (family streams new after)
+
+-- streams of a client before and after partitions came or went, none with rows
+pub record StayOwned (t lent : ℕ) (none : (ℕ → List (List ℕ)) → Type 0) (f g : Family) : Type 0 where
+  pub owns : Owns t lent f → Owns t lent g
+  pub rows : (rows : ℕ → List (List ℕ)) → none rows → ShowAll rows f → ShowAll rows g
+
+-- these partitions have no rows
+abbrev pub NoneFrom : ℕ → (ℕ → List (List ℕ)) → Type 0
+NoneFrom from rows = (i : ℕ) → from ≤ i → rows i ≡ []
+
+-- so it is where sixteen come on top
+abbrev pub SixteenCome : Type 0
+SixteenCome =
+    (t lent at level : ℕ) (p : Stack) (h : Holdings) (signs : Signs) → IsStack p
+    → StayOwned t lent (NoneFrom (length p.streams)) (over p h signs) (over (divided at level p) h signs)
+
+-- and where the top one goes, which has no pages
+abbrev pub TopGoes : Type 0
+TopGoes =
+    (t lent : ℕ) (front : List Streamed) (s : Streamed) (h : Holdings) (signs : Signs) → s.pages ≡ [] → s.pinned ≡ None
+    → StayOwned t lent (λ _. ⊤) (family (front ++ s ∷ []) h signs) (family front h signs)

@@ -1,5 +1,5 @@
 //! Laws of partitions: each is the contract of a function that does nothing.
-ghost use Rattle.partition_stack.specs.Laws.{AllFewInAll, FewPartitions, OthersLeaveOwned, OwnedStay, RoomForEach, RoomStays, SlotsSuffice};
+ghost use Rattle.partition_stack.specs.Laws.{AllFewInAll, FewPartitions, OthersLeaveOwned, OwnedStay, RoomForEach, RoomStays, SixteenCome, SlotsSuffice, TopGoes};
 
 use tuple_stream::law_few_pages;
 
@@ -18,6 +18,12 @@ pub fn law_room()
 pub fn law_owned()
     ensures own { OwnedStay }
     ensures others { OthersLeaveOwned }
+{}
+
+/// Partitions without rows may come on top, and go from there: what the client has and what the others show stays.
+pub fn law_top()
+    ensures come { SixteenCome }
+    ensures goes { TopGoes }
 {}
 
 /// How many pages partitions have together, by their rows; and with slots for one page more than there are, none is

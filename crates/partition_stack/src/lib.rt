@@ -15,5 +15,5 @@ mod laws;
 mod stack;
 mod streams;
 
-pub use laws::{law_few_partitions, law_owned, law_room, law_scratch};
+pub use laws::{law_few_partitions, law_owned, law_room, law_scratch, law_top};
 pub use stack::Partitions;
