@@ -11,3 +11,4 @@ pub mod Rewriting
 pub mod Joins
 pub mod Finding
 pub mod Entering
+pub mod Dividing
