@@ -12,3 +12,4 @@ pub mod Joins
 pub mod Finding
 pub mod Entering
 pub mod Dividing
+pub mod Feeding

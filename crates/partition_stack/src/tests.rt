@@ -82,3 +82,31 @@ fn spend<St: Store>(
         Ok(None)
     }
 }
+
+// Three rows go to two partitions, all pages rest, and the rows come out again: what `seen` tells of the first rows of
+// partitions 15, 15, 0 and 0, one after the other.
+fn deal<St: Store>(
+    parts: &mut Partitions,
+    store: &mut St,
+    alloc: Global,
+    c: &Client,
+    seen: &mut Vec<Option<u8>>,
+) -> Result<(), PoolErr>
+    requires client { IsLiveClient c.now (St.holds store.old) }
+    requires shaped { AreShaped c.now.tracker (over parts.old (St.holds store.old) (St.signs store.old)) }
+    requires sized { parts.old.page_blocks ≡ 1 }
+    ensures client { IsLiveClient c.now (St.holds store.new) }
+    ensures shaped { AreShaped c.now.tracker (over parts.new (St.holds store.new) (St.signs store.new)) }
+{
+    for (at, fill) in [(15, 7), (0, 8), (15, 9)] {
+        append(parts, store, alloc, c, at, fill)?;
+    }
+    parts.rest_from(store, c, 0)?;
+    for at in [15, 15, 0, 0] {
+        let row = spend(parts, store, alloc, c, at)?;
+        if seen.push(row).is_err() {
+            return Err(PoolErr::Memory);
+        }
+    }
+    Ok(())
+}
