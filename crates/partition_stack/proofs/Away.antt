@@ -7,23 +7,22 @@ use Rattle.std.proofs.lemmas.List.Elements.{All-nil}
 use Rattle.std.proofs.lemmas.List.Sums.{sum_by-append, sum_by-cons}
 use Rattle.std.proofs.lemmas.Option.{none-some, same_Some}
 use Rattle.pool_model.specs.declared.event.Event.{Event}
-use Rattle.store_api.specs.Tokens.{PageToken}
 use Rattle.store_api.specs.Holdings.{Holdings}
 use Rattle.store_api.specs.Signs.{Grows, Signs}
 use Rattle.store_api.proofs.Growing.{grows_refl, grows_trans}
 use Rattle.tuple_stream.specs.Streamed.{OpenPage, Streamed, len_in}
-use Rattle.tuple_stream.specs.Streams.{HasRows, IsApart, IsShaped}
+use Rattle.tuple_stream.specs.Streams.{IsApart}
 use Rattle.tuple_stream.specs.Touches.{held, slots_of}
 use Rattle.tuple_stream.specs.Trails.{EnteredEvents, creates_in}
 use Rattle.tuple_stream.specs.Steps.{Scene, scene}
 use Rattle.tuple_stream.specs.Spending.{Empties}
-use Rattle.tuple_stream.specs.Families.{AreShaped, Family, FamilySteps, GoesAll, IsOutside, ShowAll, TouchesAll, changed, family}
+use Rattle.tuple_stream.specs.Families.{AreShaped, Family, FamilySteps, GoesAll, IsOutside, TouchesAll, changed, family}
 use Rattle.tuple_stream.proofs.BuildingQuiet.{creates_join}
 use Rattle.tuple_stream.proofs.FamilyChains.{touches_both, touches_none}
 use Rattle.tuple_stream.proofs.FamilyStep.{goes_step}
 use Rattle.tuple_stream.proofs.PageLists.{at_end, still_at}
 use Rattle.tuple_stream.proofs.Sinces.{since_joined, since_now, since_so}
-use Rattle.partition_stack.specs.Changes.{EndsAll, Owns}
+use Rattle.partition_stack.specs.Changes.{EndsAll}
 use Rattle.partition_stack.proofs.ListPlaces.{front_or_behind}
 
 -- nothing is made

@@ -1,5 +1,5 @@
 -- What a call of one partition left of all.
-use Rattle.std.proofs.Common.{◌≡◌, ◌∙◌, ℕ, Bool, true, false, List, set, Option, Some, None, Result, Ok, Err, IfOk, OnErr, if◌then◌else◌, refl, ap, sym}
+use Rattle.std.proofs.Common.{◌≡◌, ◌∙◌, ℕ, Bool, true, false, List, set, Some, None, Result, Ok, Err, IfOk, OnErr, if◌then◌else◌, refl, ap, sym}
 use Rattle.std.specs.List.{slice_get}
 use Rattle.std.proofs.lemmas.Option.{same_Some}
 use Rattle.reservation_tree.specs.declared.errors.PoolErr.{PoolErr}

@@ -1,21 +1,19 @@
 -- Streams without rows come behind others, and one goes.
-use Rattle.std.proofs.Common.{◌≡◌, ◌≢◌, ◌∙◌, inl, inr, ℕ, zero, suc, ◌+◌, ◌-◌, ◌≤◌, List, [], ◌∷◌, ◌++◌, length, replicate, Option, Some, None, is_some, if◌then◌else◌, refl, ap, sym, subst, arith}
-use Rattle.std.specs.List.{All, slice_get, sum_by}
+use Rattle.std.proofs.Common.{◌≡◌, ◌≢◌, inl, inr, ℕ, zero, suc, ◌+◌, ◌-◌, ◌≤◌, List, [], ◌∷◌, ◌++◌, length, replicate, refl, sym, subst, arith}
+use Rattle.std.specs.List.{sum_by}
 use Rattle.std.proofs.lemmas.List.Elements.{All-nil}
 use Rattle.std.proofs.lemmas.List.Sums.{sum_by-append, sum_by-cons}
-use Rattle.std.proofs.lemmas.Option.{slice_get_within}
 use Rattle.store_api.specs.Conditions.{IsBlockCount}
-use Rattle.store_api.specs.Tokens.{PageToken}
 use Rattle.store_api.specs.Holdings.{Holdings}
 use Rattle.store_api.specs.Signs.{Signs}
 use Rattle.tuple_stream.specs.Streamed.{Streamed}
-use Rattle.tuple_stream.specs.Streams.{HasRows, IsApart, IsShaped}
+use Rattle.tuple_stream.specs.Streams.{HasRows, IsApart}
 use Rattle.tuple_stream.specs.Touches.{held}
 use Rattle.tuple_stream.specs.Families.{AreDisjoint, AreShaped, ShowAll, family}
 use Rattle.tuple_stream.proofs.Chosen.{all_placed}
 use Rattle.tuple_stream.proofs.Empty.{empty_shaped, empty_shows}
 use Rattle.tuple_stream.proofs.PageLists.{still_at}
-use Rattle.partition_stack.specs.Stack.{IsStack, empty, over}
+use Rattle.partition_stack.specs.Stack.{empty}
 use Rattle.partition_stack.specs.Changes.{Owns}
 use Rattle.partition_stack.specs.Laws.{SixteenCome, TopGoes}
 use Rattle.partition_stack.proofs.Away.{held_front, outside_whole}

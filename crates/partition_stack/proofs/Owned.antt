@@ -1,14 +1,14 @@
 -- A client's streams stay all that it has.
-use Rattle.std.proofs.Common.{◌≡◌, ◌≢◌, ◌∙◌, ℕ, ◌+◌, ◌*◌, List, length, Option, Some, None, IsSome, is_some, option_map, if◌then◌else◌, refl, ap, sym, subst, arith}
+use Rattle.std.proofs.Common.{◌≡◌, ◌∙◌, ℕ, ◌*◌, List, Option, Some, None, IsSome, is_some, option_map, if◌then◌else◌, refl, ap, sym, subst, arith}
 use Rattle.std.specs.List.{slice_get, sum_by}
 use Rattle.store_api.specs.Tokens.{PageToken}
 use Rattle.store_api.specs.Holdings.{Account, LivePage, Holdings, or_else, no_account, account_of, page_of, no_page, unused_of}
 use Rattle.store_api.specs.Emitters.{SameFor}
 use Rattle.store_api.specs.Signs.{Signs}
 use Rattle.tuple_stream.specs.Streamed.{Streamed}
-use Rattle.tuple_stream.specs.Streams.{HasRows, IsOwnPage}
-use Rattle.tuple_stream.specs.Touches.{held, with_unused}
-use Rattle.tuple_stream.specs.Families.{AreShaped, Family, TouchesAll, family, held_in}
+use Rattle.tuple_stream.specs.Streams.{IsOwnPage}
+use Rattle.tuple_stream.specs.Touches.{with_unused}
+use Rattle.tuple_stream.specs.Families.{family, held_in}
 use Rattle.tuple_stream.proofs.Chosen.{at_place}
 use Rattle.tuple_stream.proofs.Frames.{still_some}
 use Rattle.partition_stack.specs.Changes.{Owns}

@@ -1,5 +1,5 @@
 -- Room for pages of partitions of which the lower ones rest.
-use Rattle.std.proofs.Common.{◌≡◌, ◌≢◌, ◌∙◌, ℕ, zero, suc, ◌+◌, ◌-◌, ◌*◌, ◌<◌, ◌≤◌, List, [], ◌∷◌, length, Option, Some, None, IsSome, is_some, if◌then◌else◌, refl, ap, ap₂, sym, subst, inl, inr, arith}
+use Rattle.std.proofs.Common.{◌≡◌, ◌∙◌, ℕ, zero, suc, ◌+◌, ◌-◌, ◌*◌, ◌<◌, ◌≤◌, List, [], ◌∷◌, length, Option, Some, None, IsSome, is_some, if◌then◌else◌, refl, ap, sym, subst, inl, inr, arith}
 use Rattle.std.specs.List.{slice_get, sum_by}
 use Rattle.std.proofs.lemmas.Option.{none-some, same_Some}
 use Rattle.std.proofs.lemmas.List.Sums.{sum_by-cons}
@@ -8,9 +8,8 @@ use Rattle.store_api.specs.Signs.{Signs}
 use Rattle.tuple_stream.specs.Streamed.{OpenPage, Streamed, len_in}
 use Rattle.tuple_stream.specs.Streams.{HasPageRoom}
 use Rattle.tuple_stream.specs.Touches.{held}
-use Rattle.tuple_stream.specs.Families.{TouchesAll, held_in}
-use Rattle.partition_stack.specs.Stack.{HasRoomFrom, IsStack, RestBelow, Stack, over}
-use Rattle.partition_stack.specs.Changes.{ChangesAt}
+use Rattle.tuple_stream.specs.Families.{held_in}
+use Rattle.partition_stack.specs.Stack.{HasRoomFrom, IsStack, Stack, over}
 use Rattle.partition_stack.specs.Laws.{RoomForEach, RoomStays}
 
 less_none : (n : ℕ) → n - 0 ≡ n
@@ -94,15 +93,4 @@ room_stays t from at p q old new before after has above changes long touches =
           let most : (length p.streams - from) * length_of p.page_blocks old ≤ unused_of t new + held_in (over q new after) = omega (arith, room, kept) in
           subst (λ (n : ℕ). (length q.streams - from) * n ≤ unused_of t new + held_in (over q new after)) (sym blocks)
           (subst (λ (n : ℕ). (n - from) * length_of p.page_blocks old ≤ unused_of t new + held_in (over q new after)) (sym long) most);
-    }
-
--- where so much is unused, there is room for a page of one block of each
-pub room_of_all : (t room : ℕ) (p : Stack) (h : Holdings) (signs : Signs) → p.page_blocks ≡ 1 → room ≡ length p.streams * h.block_len → room ≤ unused_of t h → HasRoomFrom t 0 p h signs
-room_of_all t room p h signs one is enough =
-    record {
-      rests = λ i s there below. absurd (omega (arith, below));
-      room =
-          let len : length_of p.page_blocks h ≡ h.block_len = ap (λ (n : ℕ). n * h.block_len) one ∙ (let same : 1 * h.block_len ≡ h.block_len = omega arith in same) in
-          let all : (length p.streams - 0) * length_of p.page_blocks h ≡ length p.streams * h.block_len = ap₂ (λ (a b : ℕ). a * b) (less_none (length p.streams)) len in
-          omega (arith, all, is, enough);
     }

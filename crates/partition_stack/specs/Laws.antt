@@ -6,7 +6,7 @@ use Rattle.store_api.specs.Emitters.{OthersStay}
 use Rattle.store_api.specs.Signs.{Signs}
 use Rattle.tuple_stream.specs.Streamed.{Streamed}
 use Rattle.tuple_stream.specs.Streams.{HasPageRoom}
-use Rattle.tuple_stream.specs.Families.{AllSized, AreShaped, Family, FamilySteps, ShowAll, TouchesAll, family, pages_in, slots_in}
+use Rattle.tuple_stream.specs.Families.{AllSized, AreShaped, Family, ShowAll, TouchesAll, family, pages_in, slots_in}
 use Rattle.tuple_stream.specs.FamilyCalls.{shares}
 use Rattle.partition_stack.specs.Stack.{HasRoomFrom, IsStack, Stack, divided, over}
 use Rattle.partition_stack.specs.Changes.{ChangesAt, Owns}

@@ -1,4 +1,4 @@
-use Rattle.std.proofs.Common.{rules, [], ◌∷◌, ◌++◌, List, length, refl, ap, subst}
+use Rattle.std.proofs.Common.{rules, [], ◌∷◌, ◌++◌, List, length, ap, subst}
 use Rattle.tuple_stream.specs.Streamed.{Streamed}
 use Rattle.tuple_stream.specs.Steps.{scene}
 use Rattle.tuple_stream.specs.Families.{AreShaped, family}

@@ -1,6 +1,3 @@
-use Rattle.std.proofs.Common.{◌≡◌, ℕ, ◌<◌, None, Some}
-use Rattle.std.specs.List.{slice_get}
-use Rattle.tuple_stream.specs.Streamed.{Streamed}
 use Rattle.tuple_stream.specs.Families.{family}
 use Rattle.tuple_stream.specs.FamilyCalls.{RestsSome}
 use Rattle.partition_stack.proofs.streams.rest_streams.Given as goal

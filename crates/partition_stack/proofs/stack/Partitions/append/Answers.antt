@@ -1,4 +1,4 @@
-use Rattle.std.proofs.Common.{rules, ◌≡◌, ◌<◌, ◌≤◌, ℕ, Some, length, refl, ap, ◌∙◌, sym, subst, arith}
+use Rattle.std.proofs.Common.{◌≡◌, ◌<◌, ◌≤◌, ℕ, Some, length, refl, ap, subst, arith}
 use Rattle.std.specs.List.{slice_get}
 use Rattle.std.proofs.lemmas.Option.{slice_get_read}
 use Rattle.store_api.specs.Holdings.{length_of}
@@ -84,4 +84,3 @@ returns-clause-full g c =
     let at : slice_get c.self.inside.streams.items c.args.at ≡ Some c.index_mut.result.now = slice_get_read c.self.inside.streams.items (length c.self.inside.streams.items) c.args.at c.index_mut.result.now refl inside c.index_mut.ensures.value in
     let cause = rw c.in-Pool.is at c.in-Err.ensures.cause in
     rw (← c.self.view_is) (subst (λ (n : ℕ). IsFull n (g.St.Store.holds c.append.new.store).free_slots c.in-Pool.e) (c.self.invariant.each c.args.at c.index_mut.result.now at) cause.full)
-

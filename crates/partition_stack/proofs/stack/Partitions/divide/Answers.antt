@@ -1,7 +1,7 @@
-use Rattle.std.proofs.Common.{rules, ◌≡◌, ◌+◌, ◌<◌, ◌++◌, ℕ, List, length, replicate, set, Some, refl, ap, ap₂, ◌∙◌, sym, subst, arith}
+use Rattle.std.proofs.Common.{◌≡◌, ◌+◌, ◌++◌, ℕ, List, length, replicate, set, Some, ap, ap₂, ◌∙◌, sym, subst, arith}
 use Rattle.std.specs.List.{slice_get}
 use Rattle.tuple_stream.specs.Streamed.{Streamed}
-use Rattle.partition_stack.specs.Stack.{IsStack, Stack, divided, empty}
+use Rattle.partition_stack.specs.Stack.{IsStack}
 use Rattle.partition_stack.proofs.Stacking.{divided_is_stack, sixteen_levels}
 use Rattle.partition_stack.proofs.stack.Partitions.divide.Goals as goal
 

@@ -1,4 +1,4 @@
-use Rattle.std.proofs.Common.{rules, ◌≡◌, ◌+◌, ◌-◌, ℕ, List, ◌∷◌, [], ◌++◌, length, take, ap, ◌∙◌, sym, subst, arith, length-append}
+use Rattle.std.proofs.Common.{◌≡◌, ◌+◌, ℕ, List, ◌∷◌, [], length, take, ap, ◌∙◌, sym, subst, arith, length-append}
 use Rattle.partition_stack.specs.Stack.{IsStack}
 use Rattle.partition_stack.proofs.Stacking.{front_taken, popped_is_stack}
 use Rattle.partition_stack.proofs.stack.Partitions.pop.Goals as goal

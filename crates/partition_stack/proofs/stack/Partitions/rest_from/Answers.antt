@@ -1,4 +1,4 @@
-use Rattle.std.proofs.Common.{rules, ◌≡◌, refl, ap, ◌∙◌, sym, subst}
+use Rattle.std.proofs.Common.{refl}
 use Rattle.partition_stack.proofs.Stacking.{rested_is_stack}
 use Rattle.partition_stack.proofs.stack.Partitions.rest_from.Goals as goal
 

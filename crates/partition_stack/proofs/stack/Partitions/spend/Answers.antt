@@ -1,12 +1,9 @@
-use Rattle.std.proofs.Common.{rules, ◌≡◌, ◌<◌, ◌≤◌, ℕ, Some, length, refl, ap, ◌∙◌, sym, subst, arith}
+use Rattle.std.proofs.Common.{◌≡◌, ◌<◌, ℕ, Some, length, refl, subst}
 use Rattle.std.specs.List.{slice_get}
 use Rattle.std.proofs.lemmas.Option.{slice_get_read}
-use Rattle.store_api.specs.Holdings.{length_of}
-use Rattle.tuple_stream.specs.Streamed.{len_in}
 use Rattle.tuple_stream.specs.Touches.{IsFull}
 use Rattle.tuple_stream.specs.Steps.{scene}
 use Rattle.tuple_stream.specs.Families.{AreShaped, family}
-use Rattle.reservation_tree.specs.declared.errors.PoolErr.{PoolErr}
 use Rattle.std.proofs.lemmas.Result.{IfErr-weaker, IfOk-weaker}
 use Rattle.partition_stack.proofs.Stacking.{changed_is_stack}
 use Rattle.partition_stack.proofs.Room.{room_for_each}
@@ -59,4 +56,3 @@ returns-clause-full g c =
     let at : slice_get c.self.inside.streams.items c.args.at ≡ Some c.index_mut.result.now = slice_get_read c.self.inside.streams.items (length c.self.inside.streams.items) c.args.at c.index_mut.result.now refl inside c.index_mut.ensures.value in
     rw (← c.self.view_is)
     (IfErr-weaker c.spend_into.result _ _ (λ e cause. subst (λ (n : ℕ). IsFull n (g.St.Store.holds c.spend_into.new.store).free_slots e) (c.self.invariant.each c.args.at c.index_mut.result.now at) cause.full) c.spend_into.ensures.cause)
-
