@@ -30,34 +30,11 @@ use Rattle.group_op.specs.Held.{AreEntries, IsEntry, IsHeld, Leaves, StandBehind
 use Rattle.group_op.specs.Putting.{HasFlushed, HasPut, Lacks, Works}
 use Rattle.group_op.specs.Stored.{IsPartialRow, SameGroups, dealt, grouping_of, joined, key_at, partial_at, partials_at}
 use Rattle.group_op.proofs.Finding.{entry_of, entry_row}
+use Rattle.group_op.proofs.Keeping.{works_nodes}
 use Rattle.group_op.proofs.Joins.{IsJoined, joins}
 use Rattle.group_op.proofs.RowForms.{partial_is_framed}
 use Rattle.group_op.proofs.Rewriting.{NodeAt, node_at, rewritten_at, with_own}
 use Rattle.group_op.proofs.Same.{same_back, same_into, same_order, same_refl, same_trans}
-
--- ---- other nodes in a table
-
-pub nodes_held : (t : ℕ) (nodes : List Node) (table : Table) (p : Stack) (h : Holdings) (signs : Signs) → IsHeld t (state table p h signs) → IsHeld t (state (with_nodes nodes table) p h signs)
-nodes_held t nodes table p h signs held =
-    record {
-      owns = held.owns;
-      table = record { held = held.table.held; sized = held.table.sized; block_len = held.table.block_len };
-      client = held.client;
-      blocks = held.blocks;
-      loans = held.loans;
-      room = held.room;
-    }
-
-pub works_nodes : (t : ℕ) (shape : Shape) (a : State) (nodes : List Node) (table : Table) (q : Stack) (new : Holdings) (after : Signs) → Works t shape a (state table q new after) → AreEntries shape (length_of q.page_blocks new) (with_nodes nodes table) → Works t shape a (state (with_nodes nodes table) q new after)
-works_nodes t shape a nodes table q new after works entries =
-    record {
-      held = nodes_held t nodes table q new after works.held;
-      entries = entries;
-      leaves = record { others = works.leaves.others; grows = works.leaves.grows; room = works.leaves.room };
-      blocks = works.blocks;
-      levels = works.levels;
-      many = works.many;
-    }
 
 same_all : (t : ℕ) (h : Holdings) → OthersStay (Some t) h h
 same_all t h =

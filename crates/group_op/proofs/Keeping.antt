@@ -15,7 +15,7 @@ use Rattle.tuple_stream.specs.Touches.{with_unused}
 use Rattle.tuple_stream.specs.Families.{AreShaped, Family, FamilySteps, IsOutside, TouchesAll, held_in}
 use Rattle.tuple_stream.proofs.Chosen.{all_placed, at_place}
 use Rattle.tuple_stream.proofs.Frames.{still_some}
-use Rattle.bucket_table.specs.Tables.{Table, with_nodes}
+use Rattle.bucket_table.specs.Tables.{Node, Table, with_nodes}
 use Rattle.bucket_table.specs.Lending.{IsTableOf}
 use Rattle.bucket_table.proofs.Beside.{beside_pages}
 use Rattle.partition_stack.specs.Stack.{HasRoomFrom, RestBelow, Stack, over}
@@ -109,9 +109,10 @@ works_touched t shape table p q old new before after held entries steps blocks l
       many = steps.long;
     }
 
--- a table without rows is the store's as it was with them
-pub emptied_held : (t : ℕ) (table : Table) (p : Stack) (h : Holdings) (signs : Signs) → IsHeld t (state table p h signs) → IsHeld t (state (with_nodes [] table) p h signs)
-emptied_held t table p h signs held =
+-- ---- other nodes in a table
+
+pub nodes_held : (t : ℕ) (nodes : List Node) (table : Table) (p : Stack) (h : Holdings) (signs : Signs) → IsHeld t (state table p h signs) → IsHeld t (state (with_nodes nodes table) p h signs)
+nodes_held t nodes table p h signs held =
     record {
       owns = held.owns;
       table = record { held = held.table.held; sized = held.table.sized; block_len = held.table.block_len };
@@ -121,19 +122,19 @@ emptied_held t table p h signs held =
       room = held.room;
     }
 
-pub emptied_entries : (shape : Shape) (len : ℕ) (table : Table) → AreEntries shape len table → AreEntries shape len (with_nodes [] table)
-emptied_entries shape len table entries = record { each = All-nil _; behind = tt; roomy = entries.roomy }
-
-pub works_emptied : (t : ℕ) (shape : Shape) (a : State) (table : Table) (q : Stack) (new : Holdings) (after : Signs) → Works t shape a (state table q new after) → Works t shape a (state (with_nodes [] table) q new after)
-works_emptied t shape a table q new after works =
+pub works_nodes : (t : ℕ) (shape : Shape) (a : State) (nodes : List Node) (table : Table) (q : Stack) (new : Holdings) (after : Signs) → Works t shape a (state table q new after) → AreEntries shape (length_of q.page_blocks new) (with_nodes nodes table) → Works t shape a (state (with_nodes nodes table) q new after)
+works_nodes t shape a nodes table q new after works entries =
     record {
-      held = emptied_held t table q new after works.held;
-      entries = emptied_entries shape (length_of q.page_blocks new) table works.entries;
+      held = nodes_held t nodes table q new after works.held;
+      entries = entries;
       leaves = record { others = works.leaves.others; grows = works.leaves.grows; room = works.leaves.room };
       blocks = works.blocks;
       levels = works.levels;
       many = works.many;
     }
+
+pub emptied_entries : (shape : Shape) (len : ℕ) (table : Table) → AreEntries shape len table → AreEntries shape len (with_nodes [] table)
+emptied_entries shape len table entries = record { each = All-nil _; behind = tt; roomy = entries.roomy }
 
 room_in : (many from len unused in_held lent reservation : ℕ) → many ≤ from + 17 → 17 * len + lent ≤ reservation → unused + in_held + lent ≡ reservation → (many - from) * len ≤ unused + in_held
 room_in many from len unused in_held lent reservation few room even =

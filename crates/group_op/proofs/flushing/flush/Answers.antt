@@ -1,4 +1,4 @@
-use Rattle.std.proofs.Common.{rules, ◌≡◌, ◌+◌, ◌-◌, ◌*◌, ◌≤◌, ℕ, length, Some, refl, ap, sym, ◌∙◌, subst, arith}
+use Rattle.std.proofs.Common.{rules, ◌≡◌, ◌+◌, ◌-◌, ◌*◌, ◌≤◌, ℕ, [], length, Some, refl, ap, sym, ◌∙◌, subst, arith}
 use Rattle.store_api.specs.Holdings.{length_of}
 use Rattle.store_api.specs.Signs.{WasAnswered}
 use Rattle.store_api.proofs.Answered.{answered_before}
@@ -8,7 +8,7 @@ use Rattle.group_op.proofs.NodeLists.{left_from}
 use Rattle.partition_stack.specs.Stack.{over}
 use Rattle.group_op.specs.Stored.{IsPartialRow, place_of}
 use Rattle.group_op.specs.Held.{IsEntry}
-use Rattle.group_op.proofs.Keeping.{emptied_entries, emptied_held, room_of_fan, works_emptied, works_touched}
+use Rattle.group_op.proofs.Keeping.{emptied_entries, works_nodes, works_touched}
 use Rattle.group_op.proofs.Walking.{HasWalked, entry_is, fan_kept, has_node, less, row_is, walked_all, walked_more, walked_none}
 use Rattle.group_op.proofs.flushing.flush.Goals as goal
 
@@ -97,7 +97,5 @@ returns-clause-ok g c =
 pub returns-clause-works : goal.returns-clause-works
 returns-clause-works g c =
     let walked = c.loop-next.invariant in
-    rw c.clear.ensures
-    (works_emptied _ _ _ c.args.table.now c.loop-next.parts _ _
-    (works_touched c.args.c.now.tracker c.args.shape.now c.args.table.now c.args.parts.now c.loop-next.parts _ _ _ _ c.requires.held c.requires.entries walked.feeds.steps walked.blocks walked.levels))
-
+    let works = works_touched c.args.c.now.tracker c.args.shape.now c.args.table.now c.args.parts.now c.loop-next.parts _ _ _ _ c.requires.held c.requires.entries walked.feeds.steps walked.blocks walked.levels in
+    rw c.clear.ensures (works_nodes _ _ _ [] c.args.table.now c.loop-next.parts _ _ works (emptied_entries _ _ c.args.table.now works.entries))

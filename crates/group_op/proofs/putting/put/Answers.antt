@@ -3,7 +3,8 @@ use Rattle.bucket_table.specs.Tables.{Node, Table, new_node, row_of, used_by, wi
 use Rattle.group_op.specs.Held.{page_len, state}
 use Rattle.group_op.specs.Putting.{HasPut, Works}
 use Rattle.group_op.specs.Stored.{joined}
-use Rattle.group_op.proofs.Entering.{entries_joined, entries_new, four_long, put_flushed, put_found, put_new, works_len, works_nodes, works_none}
+use Rattle.group_op.proofs.Entering.{entries_joined, entries_new, four_long, put_flushed, put_found, put_new, works_len, works_none}
+use Rattle.group_op.proofs.Keeping.{works_nodes}
 use Rattle.group_op.proofs.Finding.{entry_row}
 use Rattle.group_op.proofs.RowForms.{partial_is_framed}
 use Rattle.group_op.proofs.putting.put.Goals as goal
