@@ -14,8 +14,8 @@ fn sum(a: i128, b: i128) -> i128
     a.wrapping_add(b)
 }
 
-/// Two numbers of an aggregate combined.
-fn combined(agg: Agg, a: i128, b: i128) -> i128
+/// Two numbers of an aggregate combined. Sums wrap modulo 2^128.
+pub fn combined(agg: Agg, a: i128, b: i128) -> i128
     ensures { result ≡ combined_number agg a b }
 {
     match agg {
@@ -37,8 +37,9 @@ fn number(row: &[Value], column: usize) -> i128
     }
 }
 
-/// What a row has for an aggregate.
-fn own(agg: Agg, row: &[Value]) -> i128
+/// What a row has for an aggregate: 1 for a count, the number in its column for the others, or 0 where the column has
+/// a text or is outside of the row.
+pub fn own(agg: Agg, row: &[Value]) -> i128
     ensures { result ≡ own_number agg row.now }
 {
     match agg {

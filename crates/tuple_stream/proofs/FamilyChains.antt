@@ -20,7 +20,7 @@ use Rattle.tuple_stream.proofs.Sinces.{since_joined, since_now, since_so}
 
 -- ---- over none
 
-touches_none : (t : ℕ) (f : Family) → TouchesAll t f f
+pub touches_none : (t : ℕ) (f : Family) → TouchesAll t f f
 touches_none t f =
     record {
       block_len = refl;
@@ -71,7 +71,7 @@ account_twice (Some account) mid new first second lives one two =
     two (subst (λ (o : Option Account). IsSome o) (sym one) refl) ∙ ap (option_map (with_unused second)) one
 
 module _ (a b c : Family) where
-  touches_both : (t : ℕ) → TouchesAll t a b → TouchesAll t b c → TouchesAll t a c
+  pub touches_both : (t : ℕ) → TouchesAll t a b → TouchesAll t b c → TouchesAll t a c
   touches_both t one two =
       record {
         block_len = two.block_len ∙ one.block_len;

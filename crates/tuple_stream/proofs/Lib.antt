@@ -1,11 +1,11 @@
 pub mod Beside
 pub mod Chains
 pub mod Sinces
-mod BuildingQuiet
+pub mod BuildingQuiet
 pub mod PinsFirst
 mod ReadingEvents
 mod Told
-mod Chosen
+pub mod Chosen
 mod Filling
 mod LastPage
 mod NewPage
@@ -14,7 +14,7 @@ mod NewRows
 mod NewTouches
 mod OpenPages
 mod Packing
-mod PageLists
+pub mod PageLists
 mod Pinned
 mod Pinning
 mod Resting
@@ -45,7 +45,7 @@ mod SpentRows
 pub mod Frames
 pub mod Ends
 pub mod SpendAll
-mod OnePlace
+pub mod OnePlace
 mod FamilyBeside
 pub mod FamilyStep
 pub mod FamilyChains

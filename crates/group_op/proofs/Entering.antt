@@ -1,0 +1,206 @@
+-- A partial row is in the table, one way or another.
+use Rattle.std.proofs.Common.{◌≡◌, ◌≢◌, ◌∙◌, ℕ, ◌+◌, ◌-◌, ◌*◌, ◌%◌, ◌<◌, ◌≤◌, zero, suc, Bool, true, false, List, [], ◌∷◌, ◌++◌, length, map, set, reverse, Option, Some, None, option_map, refl, ap, ap₂, sym, subst, arith, append-nil, length-append}
+use Rattle.std.specs.Prelude.{All, slice_get}
+use Rattle.std.specs.List.{AllByRecursion, IsDistinct}
+use Rattle.std.proofs.lemmas.Map.Keys.{IsDistinct-cons}
+use Rattle.std.specs.Str.{bytes_eq}
+use Rattle.std.proofs.lemmas.List.{length-map, length-set, map-set, length-reverse}
+use Rattle.std.proofs.lemmas.List.Elements.{All-cons, All-head, All-nil, All-set, All-tail}
+use Rattle.std.proofs.lemmas.List.Sorted.{All-permutation, IsPermutation-map, IsPermutation-reverse}
+use Rattle.std.proofs.lemmas.Option.{none-some, same_Some, slice_get-map}
+use Rattle.row_codec.specs.Order.{hash_of, path_order}
+use Rattle.row_codec.specs.RowLaws.{RowBack}
+use Rattle.store_api.specs.declared.shapes.Shape.{Shape}
+use Rattle.store_api.specs.Emitters.{OthersStay}
+use Rattle.store_api.specs.Holdings.{Holdings, length_of}
+use Rattle.store_api.specs.Shapes.{IsShape}
+use Rattle.store_api.specs.Signs.{Signs}
+use Rattle.store_api.proofs.Growing.{grows_refl}
+use Rattle.tuple_stream.specs.Families.{AreShaped}
+use Rattle.tuple_stream.specs.FamilyCalls.{FeedsAll}
+use Rattle.tuple_stream.proofs.FamilyWords.{feeds_none}
+use Rattle.bucket_table.specs.Tables.{HasNode, Node, Table, new_node, row_of, used_by, with_nodes, with_row}
+use Rattle.partition_stack.specs.Stack.{Stack, over}
+use Rattle.group_rows.specs.Partials.{Partial, combine, key_of}
+use Rattle.group_rows.specs.Tables.{HaveDistinctKeys}
+use Rattle.group_rows.proofs.Keys.{true_same}
+use Rattle.group_rows.proofs.Paths.{path_is_order}
+use Rattle.group_rows.proofs.Tables.{into_entry}
+use Rattle.group_op.specs.Held.{AreEntries, IsEntry, IsHeld, Leaves, StandBehind, State, page_len, rows_of, state, streams_of}
+use Rattle.group_op.specs.Putting.{HasFlushed, HasPut, Lacks, Works}
+use Rattle.group_op.specs.Stored.{IsPartialRow, SameGroups, dealt, grouping_of, joined, key_at, partial_at, partials_at}
+use Rattle.group_op.proofs.Finding.{entry_of, entry_row}
+use Rattle.group_op.proofs.Keeping.{works_nodes}
+use Rattle.group_op.proofs.Joins.{IsJoined, joins}
+use Rattle.group_op.proofs.RowForms.{partial_is_framed}
+use Rattle.group_op.proofs.Rewriting.{NodeAt, node_at, rewritten_at, with_own}
+use Rattle.group_op.proofs.Same.{same_back, same_into, same_order, same_refl, same_trans}
+
+same_all : (t : ℕ) (h : Holdings) → OthersStay (Some t) h h
+same_all t h =
+    record {
+      block_len = refl;
+      session = refl;
+      query = refl;
+      limit = refl;
+      live_clients = refl;
+      told = refl;
+      reservation = omega arith;
+      others = λ u other. record { account = refl; pages = λ q page client. ((λ lives. lives), (λ lives. lives)); loans = λ q loan client. ((λ lives. lives), (λ lives. lives)) };
+      alone = λ none. absurd cc;
+    }
+
+pub works_none : (t : ℕ) (shape : Shape) (table : Table) (p : Stack) (h : Holdings) (signs : Signs) → IsHeld t (state table p h signs) → AreEntries shape (length_of p.page_blocks h) table → Works t shape (state table p h signs) (state table p h signs)
+works_none t shape table p h signs held entries =
+    record {
+      held = held;
+      entries = entries;
+      leaves = record { others = same_all t h; grows = grows_refl signs; room = omega arith };
+      blocks = refl;
+      levels = refl;
+      many = refl;
+    }
+
+-- ---- a new entry
+
+pub entries_new : (shape : Shape) (len hash : ℕ) (row : List ℕ) (table : Table) → AreEntries shape len table → IsPartialRow shape row → length row ≤ len → hash ≡ hash_of (key_at shape row) → AreEntries shape len (with_nodes (new_node (hash % table.heads) row table.nodes ∷ table.nodes) table)
+entries_new shape len hash row table entries p short is =
+    record {
+      each = All-cons (IsEntry shape len table.heads) (new_node (hash % table.heads) row table.nodes) table.nodes (record { row = p; short = short; chain = ap (λ (h : ℕ). h % table.heads) is }) entries.each;
+      behind = (refl, entries.behind);
+      roomy = entries.roomy;
+    }
+
+-- ---- the entry of its key
+
+stand_set : (nodes : List Node) (i : ℕ) (n : Node) (row : List ℕ) → slice_get nodes i ≡ Some n → length row ≡ length n.row → StandBehind nodes → StandBehind (set nodes i (with_own row n)) × (used_by (set nodes i (with_own row n)) ≡ used_by nodes)
+stand_set [] i n row there long stand = absurd (none-some n there)
+stand_set (x ∷ xs) zero n row there long stand =
+    let same : x ≡ n = same_Some x n there in
+    let place : n.place ≡ used_by xs = ap (λ (m : Node). m.place) (sym same) ∙ stand.0 in
+    let was : x.place ≡ used_by xs = stand.0 in
+    let rows : length x.row ≡ length n.row = ap (λ (m : Node). length m.row) same in
+    ((place, stand.1), omega (arith, place, was, rows, long))
+stand_set (x ∷ xs) (suc i) n row there long stand =
+    let rest = stand_set xs i n row there long stand.1 in
+    ((stand.0 ∙ sym rest.1, rest.0), refl)
+
+module _ (back : RowBack) (shape : Shape) (len node : ℕ) (table : Table) (row : List ℕ) (is : IsShape shape) (entries : AreEntries shape len table) (has : HasNode node table.nodes) (p : IsPartialRow shape row) (key : key_at shape (row_of node table.nodes) ≡ key_at shape row) where
+  entry : (at : NodeAt node table.nodes) × IsEntry shape len table.heads at.node
+  entry = entry_of shape len node table entries has
+
+  now : List ℕ
+  now = joined shape (row_of node table.nodes) row
+
+  are : IsJoined shape (row_of node table.nodes) row (joined shape (row_of node table.nodes) row)
+  are = joins back shape (row_of node table.nodes) row is (entry_row shape len node table entries has) p
+
+  nodes_are : with_row node (joined shape (row_of node table.nodes) row) table.nodes ≡ set table.nodes entry.0.index (with_own (joined shape (row_of node table.nodes) row) entry.0.node)
+  nodes_are = rewritten_at node (joined shape (row_of node table.nodes) row) table.nodes entries.behind entry.0
+
+  entry_now : IsEntry shape len table.heads (with_own (joined shape (row_of node table.nodes) row) entry.0.node)
+  entry_now =
+      record {
+        row = are.partial;
+        short = let long = are.long in let same = ap length entry.0.row in let short = entry.1.short in omega (arith, long, same, short);
+        chain = entry.1.chain ∙ ap (λ (k : List ℕ). hash_of k % table.heads) (ap (key_at shape) (sym entry.0.row) ∙ sym are.key);
+      }
+
+  pub entries_joined : AreEntries shape len (with_nodes (with_row node (joined shape (row_of node table.nodes) row) table.nodes) table)
+  entries_joined =
+      let long : length (joined shape (row_of node table.nodes) row) ≡ length entry.0.node.row = are.long ∙ ap length entry.0.row in
+      record {
+        each = subst (All (IsEntry shape len table.heads)) (sym nodes_are) (All-set (IsEntry shape len table.heads) table.nodes entry.0.index (with_own (joined shape (row_of node table.nodes) row) entry.0.node) entry_now entries.each);
+        behind = subst StandBehind (sym nodes_are) (stand_set table.nodes entry.0.index entry.0.node (joined shape (row_of node table.nodes) row) entry.0.there long entries.behind).0;
+        roomy = entries.roomy;
+      }
+
+  rows_are : map (λ n. n.row) (with_row node (joined shape (row_of node table.nodes) row) table.nodes) ≡ set (rows_of table) entry.0.index (joined shape (row_of node table.nodes) row)
+  rows_are = ap (map (λ (n : Node). n.row)) nodes_are ∙ map-set (λ (n : Node). n.row) table.nodes entry.0.index (with_own (joined shape (row_of node table.nodes) row) entry.0.node)
+
+  partials_are : partials_at shape (map (λ n. n.row) (with_row node (joined shape (row_of node table.nodes) row) table.nodes)) ≡ set (partials_at shape (rows_of table)) entry.0.index (combine (grouping_of shape) (partial_at shape (row_of node table.nodes)) (partial_at shape row))
+  partials_are =
+      ap (partials_at shape) rows_are ∙ map-set (partial_at shape) (rows_of table) entry.0.index (joined shape (row_of node table.nodes) row)
+      ∙ ap (set (partials_at shape (rows_of table)) entry.0.index) are.says_so
+
+  there : slice_get (partials_at shape (rows_of table)) entry.0.index ≡ Some (partial_at shape (row_of node table.nodes))
+  there =
+      slice_get-map (partial_at shape) (rows_of table) entry.0.index
+      ∙ ap (option_map (partial_at shape)) (slice_get-map (λ (n : Node). n.row) table.nodes entry.0.index ∙ ap (option_map (λ (n : Node). n.row)) entry.0.there)
+      ∙ ap (λ (r : List ℕ). Some (partial_at shape r)) (sym entry.0.row)
+
+  pub put_found : (t level base : ℕ) (parts : Stack) (h : Holdings) (signs : Signs) → AreShaped t (over parts h signs) → HasPut t shape level base row (state table parts h signs) (state (with_nodes (with_row node (joined shape (row_of node table.nodes) row) table.nodes) table) parts h signs)
+  put_found t level base parts h signs shaped =
+      record {
+        gone = [];
+        formed = All-nil (IsPartialRow shape);
+        feeds = feeds_none t (over parts h signs) shaped;
+        same =
+            subst (SameGroups (grouping_of shape) (partials_at shape (row ∷ rows_of table)))
+            (sym (ap (partials_at shape) (append-nil (map (λ (n : Node). n.row) (with_row node (joined shape (row_of node table.nodes) row) table.nodes))) ∙ partials_are))
+            (same_into (grouping_of shape) (partials_at shape (rows_of table)) entry.0.index (partial_at shape (row_of node table.nodes)) (partial_at shape row) there key);
+        distinct = λ apart. subst HaveDistinctKeys (sym partials_are)
+            ((into_entry path_order path_is_order (grouping_of shape) (partials_at shape (rows_of table)) [] entry.0.index (partial_at shape (row_of node table.nodes)) (partial_at shape row) there key).distinct apart);
+        fewer = let rows = ap length rows_are in let long = length-set (rows_of table) entry.0.index (joined shape (row_of node table.nodes) row) in omega (arith, rows, long);
+      }
+
+-- ---- a new one
+
+apart_false : (a b : List ℕ) → a ≢ b → bytes_eq a b ≡ false
+apart_false a b apart = go (bytes_eq a b) refl where
+  go : (c : Bool) → bytes_eq a b ≡ c → c ≡ false
+  go true is = absurd (apart (true_same a b is))
+  go false is = refl
+
+one_apart : (shape : Shape) (row : List ℕ) (nodes : List Node) → All (λ n. key_at shape n.row ≢ key_at shape row) nodes → AllByRecursion (λ q. bytes_eq (key_of (partial_at shape row)) q ≡ false) (map key_of (map (partial_at shape) (map (λ n. n.row) nodes)))
+one_apart shape row [] lacks = tt
+one_apart shape row (n ∷ nodes) lacks = (
+  apart_false (key_at shape row) (key_at shape n.row) (λ same. All-head (λ n. key_at shape n.row ≢ key_at shape row) n nodes lacks (sym same)),
+  one_apart shape row nodes (All-tail (λ n. key_at shape n.row ≢ key_at shape row) n nodes lacks),
+)
+
+rows_formed : (shape : Shape) (len heads : ℕ) (nodes : List Node) → All (IsEntry shape len heads) nodes → All (IsPartialRow shape) (map (λ n. n.row) nodes)
+rows_formed shape len heads [] each = All-nil (IsPartialRow shape)
+rows_formed shape len heads (n ∷ nodes) each =
+    All-cons (IsPartialRow shape) n.row (map (λ (m : Node). m.row) nodes) (All-head (IsEntry shape len heads) n nodes each).row (rows_formed shape len heads nodes (All-tail (IsEntry shape len heads) n nodes each))
+
+none_distinct : IsDistinct bytes_eq []
+unfolding IsDistinct
+none_distinct = tt
+
+pub put_new : (t : ℕ) (shape : Shape) (level base hash : ℕ) (row : List ℕ) (table : Table) (parts : Stack) (h : Holdings) (signs : Signs) → AreShaped t (over parts h signs) → Lacks shape (key_at shape row) table → HasPut t shape level base row (state table parts h signs) (state (with_nodes (new_node (hash % table.heads) row table.nodes ∷ table.nodes) table) parts h signs)
+put_new t shape level base hash row table parts h signs shaped lacks =
+    record {
+      gone = [];
+      formed = All-nil (IsPartialRow shape);
+      feeds = feeds_none t (over parts h signs) shaped;
+      same =
+          subst (SameGroups (grouping_of shape) (partials_at shape (row ∷ rows_of table))) (sym (ap (partials_at shape) (append-nil (row ∷ rows_of table))))
+          (same_refl (grouping_of shape) (partials_at shape (row ∷ rows_of table)));
+      distinct = λ apart. IsDistinct-cons bytes_eq (key_of (partial_at shape row)) (map key_of (partials_at shape (rows_of table))) (one_apart shape row table.nodes lacks) apart;
+      fewer = omega arith;
+    }
+
+-- ---- a new one in an empty table
+
+pub put_flushed : (t : ℕ) (shape : Shape) (level base hash : ℕ) (row : List ℕ) (a : State) (table : Table) (parts : Stack) (h : Holdings) (signs : Signs) → AreEntries shape (page_len a) a.table → HasFlushed t shape level base a (state table parts h signs) → HasPut t shape level base row a (state (with_nodes (new_node (hash % table.heads) row table.nodes ∷ table.nodes) table) parts h signs)
+put_flushed t shape level base hash row a table parts h signs entries flushed =
+    let none : table.nodes ≡ [] = ap (λ (x : Table). x.nodes) flushed.table in
+    let rows : map (λ n. n.row) (new_node (hash % table.heads) row table.nodes ∷ table.nodes) ≡ row ∷ [] = ap (λ (ms : List Node). row ∷ map (λ (n : Node). n.row) ms) none in
+    record {
+      gone = reverse (rows_of a.table);
+      formed = All-permutation (IsPartialRow shape) (rows_of a.table) (reverse (rows_of a.table)) (IsPermutation-reverse (rows_of a.table)) (rows_formed shape (page_len a) a.table.heads a.table.nodes entries.each);
+      feeds = flushed.feeds;
+      same =
+          subst (λ (rs : List (List ℕ)). SameGroups (grouping_of shape) (partials_at shape (row ∷ rows_of a.table)) (partials_at shape (rs ++ reverse (rows_of a.table)))) (sym rows)
+          (same_back (grouping_of shape) (partial_at shape row ∷ []) (partials_at shape (rows_of a.table)) (partials_at shape (reverse (rows_of a.table)))
+          (same_order (grouping_of shape) (partials_at shape (rows_of a.table)) (partials_at shape (reverse (rows_of a.table))) (IsPermutation-map (partial_at shape) (rows_of a.table) (reverse (rows_of a.table)) (IsPermutation-reverse (rows_of a.table)))));
+      distinct = λ apart. subst (λ (rs : List (List ℕ)). HaveDistinctKeys (partials_at shape rs)) (sym rows) (IsDistinct-cons bytes_eq (key_of (partial_at shape row)) [] tt none_distinct);
+      fewer = let one = ap length rows in let long = length-reverse (rows_of a.table) in omega (arith, one, long);
+    }
+
+pub works_len : (t : ℕ) (shape : Shape) (a b : State) → Works t shape a b → page_len b ≡ page_len a
+works_len t shape a b works = ap (λ (n : ℕ). n * b.held.block_len) works.blocks ∙ ap (λ (n : ℕ). a.parts.page_blocks * n) works.leaves.others.block_len
+
+pub four_long : (shape : Shape) (row : List ℕ) → IsPartialRow shape row → 4 ≤ length row
+four_long shape row p = let framed = partial_is_framed shape row p in omega (arith, framed)

@@ -1,0 +1,153 @@
+-- What a grouping has stays its own while its streams are called.
+use Rattle.std.proofs.Common.{◌≡◌, ◌≢◌, ◌∙◌, ◌↔◌, ℕ, ◌+◌, ◌-◌, ◌*◌, ◌≤◌, List, [], length, Option, Some, None, IsSome, option_map, refl, ap, sym, subst, arith}
+use Rattle.std.specs.List.{slice_get}
+use Rattle.std.proofs.Math.Nat.{mul-le-mul_right}
+use Rattle.std.proofs.lemmas.List.Elements.{All-nil}
+use Rattle.pool_model.specs.declared.event.Event.{Event}
+use Rattle.store_api.specs.Tokens.{PageToken}
+use Rattle.store_api.specs.Holdings.{Account, Holdings, LiveLoan, LivePage, or_else, no_account, no_page, account_of, length_of, page_of, unused_of}
+use Rattle.store_api.specs.Emitters.{OthersStay, SameFor}
+use Rattle.store_api.specs.Signs.{Grows, Signs}
+use Rattle.store_api.specs.declared.shapes.Shape.{Shape}
+use Rattle.tuple_stream.specs.Streamed.{Streamed}
+use Rattle.tuple_stream.specs.Streams.{IsApart, IsOwnPage}
+use Rattle.tuple_stream.specs.Touches.{with_unused}
+use Rattle.tuple_stream.specs.Families.{AreShaped, Family, FamilySteps, IsOutside, TouchesAll, held_in}
+use Rattle.tuple_stream.proofs.Chosen.{all_placed, at_place}
+use Rattle.tuple_stream.proofs.Frames.{still_some}
+use Rattle.bucket_table.specs.Tables.{Node, Table, with_nodes}
+use Rattle.bucket_table.specs.Lending.{IsTableOf}
+use Rattle.bucket_table.proofs.Beside.{beside_pages}
+use Rattle.partition_stack.specs.Stack.{HasRoomFrom, RestBelow, Stack, over}
+use Rattle.partition_stack.specs.Changes.{Owns}
+use Rattle.partition_stack.proofs.Owned.{owned_stay}
+use Rattle.group_op.specs.Held.{AreEntries, IsHeld, Leaves, State, lent, page_len, state, streams_of}
+use Rattle.group_op.specs.Putting.{IsFan, Works}
+
+account_reservation : (o : Option Account) (n : ℕ) → (or_else no_account (option_map (with_unused n) o)).reservation ≡ (or_else no_account o).reservation
+account_reservation None n = refl
+account_reservation (Some account) n = refl
+
+-- a page of another client is none of theirs
+outside_of_other : (t u q : ℕ) (f : Family) (page : LivePage) → AreShaped t f → u ≢ t → f.held.pages q ≡ Some page → page.client ≡ u → IsOutside q f.streams
+outside_of_other t u q f page shaped other lives client = λ i s there.
+    all_placed (λ p. p.name ≢ q) s.pages (λ k p at. λ same.
+    let own = at_place (IsOwnPage t s.page_blocks f.held) s.pages k p (shaped.each i s there).own at in
+    let one : page_of q f.held ≡ page = ap (or_else no_page) lives in
+    other (sym client ∙ sym (ap (λ (r : LivePage). r.client) one) ∙ ap (λ (n : ℕ). (page_of n f.held).client) (sym same) ∙ own.page.client ∙ own.client))
+
+module _ (t : ℕ) (f g : Family) (was : AreShaped t f) (is : AreShaped t g) (touches : TouchesAll t f g) where
+  pub same_reservation : IsSome (f.held.clients t) → (account_of t g.held).reservation ≡ (account_of t f.held).reservation
+  same_reservation lives = ap (λ (o : Option Account). (or_else no_account o).reservation) (touches.account lives) ∙ account_reservation (f.held.clients t) (unused_of t g.held)
+
+  pub others_stay : OthersStay (Some t) f.held g.held
+  others_stay =
+      record {
+        block_len = touches.block_len;
+        session = touches.session;
+        query = touches.query;
+        limit = touches.limit;
+        live_clients = touches.live_clients;
+        told = touches.told;
+        reservation = let same = touches.reservation in omega (arith, same);
+        others = λ u other.
+            let apart : u ≢ t = λ same. other (ap Some (sym same)) in
+            record {
+              account = touches.clients u apart;
+              pages = λ q page client. (
+                (λ lives. (touches.back q (subst (λ (o : Option LivePage). IsSome o) (sym lives) refl) (outside_of_other t u q g page is apart lives client)).0 ∙ lives),
+                (λ lives. (touches.pages q (subst (λ (o : Option LivePage). IsSome o) (sym lives) refl) (outside_of_other t u q f page was apart lives client)).0 ∙ lives),
+              );
+              loans = λ q loan client. (
+                (λ lives. sym (ap (λ (loans : ℕ → Option LiveLoan). loans q) touches.loans) ∙ lives),
+                (λ lives. ap (λ (loans : ℕ → Option LiveLoan). loans q) touches.loans ∙ lives),
+              );
+            };
+        alone = λ none. absurd cc;
+      }
+
+module _ (t : ℕ) (table : Table) (p q : Stack) (old new : Holdings) (before after : Signs) (held : IsHeld t (state table p old before)) (touches : TouchesAll t (over p old before) (over q new after)) (is : AreShaped t (over q new after)) (blocks : q.page_blocks ≡ p.page_blocks) where
+  same_len : length_of q.page_blocks new ≡ length_of p.page_blocks old
+  same_len = ap (λ (n : ℕ). n * new.block_len) blocks ∙ ap (λ (n : ℕ). p.page_blocks * n) touches.block_len
+
+  client_lives : IsSome (new.clients t)
+  client_lives = subst (λ (o : Option Account). IsSome o) (sym (touches.account held.owns.lives)) (still_some (old.clients t) (unused_of t new) held.owns.lives)
+
+  pub held_touched : IsHeld t (state table q new after)
+  held_touched =
+      record {
+        owns = owned_stay t (lent (state table p old before)) (over p old before) (over q new after) held.owns touches is;
+        table = beside_pages table old new touches.block_len touches.loans (subst (λ (k : ℕ). IsSome (new.clients k)) (sym held.client) client_lives) held.table;
+        client = held.client;
+        blocks = held.blocks ∙ sym blocks;
+        loans = λ k loan lives apart. held.loans k loan (sym (ap (λ (loans : ℕ → Option LiveLoan). loans k) touches.loans) ∙ lives) apart;
+        room =
+            let same = same_reservation t (over p old before) (over q new after) held.owns.shaped is touches held.owns.lives in
+            let room = held.room in
+            omega (arith, same, room, ap (λ (n : ℕ). 17 * n) same_len);
+      }
+
+  pub leaves_touched : Grows before after → Leaves t (state table p old before) (state table q new after)
+  leaves_touched grows =
+      record {
+        others = others_stay t (over p old before) (over q new after) held.owns.shaped is touches;
+        grows = grows;
+        room =
+            let same = same_reservation t (over p old before) (over q new after) held.owns.shaped is touches held.owns.lives in
+            let room = touches.room in
+            omega (arith, same, room);
+      }
+
+pub works_touched : {laid : List Event → Type 0} (t : ℕ) (shape : Shape) (table : Table) (p q : Stack) (old new : Holdings) (before after : Signs) → IsHeld t (state table p old before) → AreEntries shape (length_of p.page_blocks old) table → FamilySteps laid t (over p old before) (over q new after) → q.page_blocks ≡ p.page_blocks → q.levels ≡ p.levels → Works t shape (state table p old before) (state table q new after)
+works_touched t shape table p q old new before after held entries steps blocks levels =
+    record {
+      held = held_touched t table p q old new before after held steps.touches steps.shaped blocks;
+      entries = subst (λ (n : ℕ). AreEntries shape n table) (sym (same_len t table p q old new before after held steps.touches steps.shaped blocks)) entries;
+      leaves = leaves_touched t table p q old new before after held steps.touches steps.shaped blocks steps.grows;
+      blocks = blocks;
+      levels = levels;
+      many = steps.long;
+    }
+
+-- ---- other nodes in a table
+
+pub nodes_held : (t : ℕ) (nodes : List Node) (table : Table) (p : Stack) (h : Holdings) (signs : Signs) → IsHeld t (state table p h signs) → IsHeld t (state (with_nodes nodes table) p h signs)
+nodes_held t nodes table p h signs held =
+    record {
+      owns = held.owns;
+      table = record { held = held.table.held; sized = held.table.sized; block_len = held.table.block_len };
+      client = held.client;
+      blocks = held.blocks;
+      loans = held.loans;
+      room = held.room;
+    }
+
+pub works_nodes : (t : ℕ) (shape : Shape) (a : State) (nodes : List Node) (table : Table) (q : Stack) (new : Holdings) (after : Signs) → Works t shape a (state table q new after) → AreEntries shape (length_of q.page_blocks new) (with_nodes nodes table) → Works t shape a (state (with_nodes nodes table) q new after)
+works_nodes t shape a nodes table q new after works entries =
+    record {
+      held = nodes_held t nodes table q new after works.held;
+      entries = entries;
+      leaves = record { others = works.leaves.others; grows = works.leaves.grows; room = works.leaves.room };
+      blocks = works.blocks;
+      levels = works.levels;
+      many = works.many;
+    }
+
+pub emptied_entries : (shape : Shape) (len : ℕ) (table : Table) → AreEntries shape len table → AreEntries shape len (with_nodes [] table)
+emptied_entries shape len table entries = record { each = All-nil _; behind = tt; roomy = entries.roomy }
+
+room_in : (many from len unused in_held lent reservation : ℕ) → many ≤ from + 17 → 17 * len + lent ≤ reservation → unused + in_held + lent ≡ reservation → (many - from) * len ≤ unused + in_held
+room_in many from len unused in_held lent reservation few room even =
+    let most : (many - from) * len ≤ 17 * len = mul-le-mul_right len (let small : many - from ≤ 17 = omega (arith, few) in small) in
+    omega (arith, most, room, even)
+
+-- partitions on top have room
+pub room_of_fan : (t level base from : ℕ) (table : Table) (p : Stack) (h : Holdings) (signs : Signs) → IsHeld t (state table p h signs) → IsFan level base from p → HasRoomFrom t from p h signs
+room_of_fan t level base from table p h signs held fan =
+    record {
+      rests = fan.rests;
+      room =
+          let many = fan.sixteen in
+          let near = fan.near in
+          room_in (length p.streams) from (length_of p.page_blocks h) (unused_of t h) (held_in (over p h signs)) (lent (state table p h signs)) (account_of t h).reservation (omega (arith, many, near)) held.room held.owns.even;
+    }

@@ -1,0 +1,15 @@
+pub mod NodeLists
+pub mod Dealing
+pub mod Keeping
+pub mod Walking
+pub mod RowForms
+pub mod WideBytes
+pub mod Forms
+pub mod Heads
+pub mod Same
+pub mod Rewriting
+pub mod Joins
+pub mod Finding
+pub mod Entering
+pub mod Dividing
+pub mod Feeding

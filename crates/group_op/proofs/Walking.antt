@@ -1,0 +1,124 @@
+-- The rows of a table go to partitions one after the other, the oldest first.
+use Rattle.std.proofs.Common.{◌≡◌, ◌≢◌, ◌∙◌, ℕ, ◌+◌, ◌-◌, ◌<◌, ◌≤◌, List, [], ◌∷◌, ◌++◌, length, map, reverse, Option, Some, None, IsSome, refl, ap, sym, subst, arith, append_assoc, append-nil}
+use Rattle.std.specs.Prelude.{All}
+use Rattle.std.specs.List.{slice_get}
+use Rattle.std.proofs.lemmas.List.{reverse-append}
+use Rattle.store_api.specs.Holdings.{Holdings}
+use Rattle.store_api.specs.Signs.{Signs}
+use Rattle.store_api.specs.declared.shapes.Shape.{Shape}
+use Rattle.tuple_stream.specs.Families.{AreShaped, Family}
+use Rattle.tuple_stream.specs.FamilyCalls.{AllAtEnd, Feeds, FeedsAll}
+use Rattle.tuple_stream.proofs.FamilyWords.{feeds_more, feeds_none}
+use Rattle.tuple_stream.proofs.Chosen.{at_place}
+use Rattle.bucket_table.specs.Tables.{HasNode, Node, from_node, newer_than, oldest, row_of}
+use Rattle.partition_stack.specs.Stack.{Stack, over}
+use Rattle.partition_stack.specs.Changes.{ChangesAt}
+use Rattle.group_op.specs.Held.{StandBehind}
+use Rattle.group_op.specs.Putting.{IsFan}
+use Rattle.group_op.specs.Stored.{dealt, place_of}
+use Rattle.group_op.proofs.Dealing.{dealt_more}
+use Rattle.group_op.proofs.NodeLists.{Ends, ends, from_there, left_from, nearer, newer_there, none_left, row_there}
+
+-- the rows of some nodes, the oldest first
+abbrev pub rows_in : List Node → List (List ℕ)
+rows_in nodes = reverse (map (λ n. n.row) nodes)
+
+rows_more : (n : Node) (older : List Node) → rows_in (n ∷ older) ≡ rows_in older ++ n.row ∷ []
+rows_more n older = reverse-append (n.row ∷ []) (map (λ m. m.row) older)
+
+middle : (front older : List Node) (n : Node) → slice_get (front ++ n ∷ older) (length front) ≡ Some n
+middle [] older n = refl
+middle (m ∷ front) older n = middle front older n
+
+-- the rows of the older nodes went, and one of the newer ones is next
+pub record HasWalked (t : ℕ) (shape : Shape) (level base from : ℕ) (nodes : List Node) (next : Option ℕ) (f : Family) (p q : Stack) (h : Holdings) (signs : Signs) : Type 0 where
+  pub newer : List Node
+  pub older : List Node
+  pub split : nodes ≡ newer ++ older
+  pub next_is : next ≡ oldest newer
+  pub feeds : FeedsAll t (dealt shape level base (rows_in older)) f (over q h signs)
+  pub fan : IsFan level base from q
+  pub blocks : q.page_blocks ≡ p.page_blocks
+  pub levels : q.levels ≡ p.levels
+
+pub walked_none : (t : ℕ) (shape : Shape) (level base from : ℕ) (nodes : List Node) (p : Stack) (h : Holdings) (signs : Signs) → AreShaped t (over p h signs) → IsFan level base from p → HasWalked t shape level base from nodes (oldest nodes) (over p h signs) p p h signs
+walked_none t shape level base from nodes p h signs shaped fan =
+    record {
+      newer = nodes;
+      older = [];
+      split = sym (append-nil nodes);
+      next_is = refl;
+      feeds = feeds_none t (over p h signs) shaped;
+      fan = fan;
+      blocks = refl;
+      levels = refl;
+    }
+
+pub fan_kept : (level base from at : ℕ) (p q : Stack) → IsFan level base from p → base ≤ at → ChangesAt at p q → length q.streams ≡ length p.streams → IsFan level base from q
+fan_kept level base from at p q fan above changes long =
+    record {
+      level_is = fan.level_is;
+      sixteen = long ∙ fan.sixteen;
+      above = fan.above;
+      near = fan.near;
+      low = fan.low;
+      rests = λ i s there below. fan.rests i s (sym (changes.others i (λ same. let under = fan.above in omega (arith, same, above, below, under))) ∙ there) below;
+    }
+
+module _ (t : ℕ) (shape : Shape) (level base from : ℕ) (nodes : List Node) (node : ℕ) (f : Family) (p q : Stack) (h : Holdings) (signs : Signs) (stand : StandBehind nodes) (walked : HasWalked t shape level base from nodes (Some node) f p q h signs) where
+  pub last : Ends walked.newer node
+  last = ends walked.newer node (sym walked.next_is)
+
+  nodes_are : nodes ≡ last.front ++ last.last ∷ walked.older
+  nodes_are = walked.split ∙ ap (λ (ms : List Node). ms ++ walked.older) last.split ∙ append_assoc last.front (last.last ∷ []) walked.older
+
+  stand_so : StandBehind (last.front ++ last.last ∷ walked.older)
+  stand_so = subst StandBehind nodes_are stand
+
+  -- the row at the node
+  pub row_is : row_of node nodes ≡ last.last.row
+  row_is = ap (λ (k : ℕ). row_of k nodes) (sym last.place) ∙ ap (row_of last.last.place) nodes_are ∙ row_there last.front walked.older last.last stand_so
+
+  -- it stands there
+  pub has_node : HasNode node nodes
+  has_node =
+      subst (λ (ms : List Node). IsSome (slice_get ms 0)) (sym (ap (λ (k : ℕ). from_node k nodes) (sym last.place) ∙ ap (from_node last.last.place) nodes_are ∙ from_there last.front walked.older last.last stand_so)) refl
+
+  -- and what holds of each node holds of it
+  pub entry_is : (P : Node → Type 0) → All P nodes → P last.last
+  entry_is P all = at_place P (last.front ++ last.last ∷ walked.older) (length last.front) last.last (subst (All P) nodes_are all) (middle last.front walked.older last.last)
+
+  next_one : newer_than node nodes ≡ oldest last.front
+  next_one = ap (λ (k : ℕ). newer_than k nodes) (sym last.place) ∙ ap (newer_than last.last.place) nodes_are ∙ newer_there last.front walked.older last.last stand_so
+
+  pub less : left_from nodes (newer_than node nodes) < left_from nodes (Some node)
+  less =
+      let way = nearer last.front walked.older last.last stand_so in
+      let now : left_from nodes (newer_than node nodes) ≡ left_from (last.front ++ last.last ∷ walked.older) (oldest last.front) = ap (left_from nodes) next_one ∙ ap (λ (ms : List Node). left_from ms (oldest last.front)) nodes_are in
+      let was : left_from nodes (Some node) ≡ left_from (last.front ++ last.last ∷ walked.older) (Some last.last.place) = ap (λ (k : ℕ). left_from nodes (Some k)) (sym last.place) ∙ ap (λ (ms : List Node). left_from ms (Some last.last.place)) nodes_are in
+      omega (arith, way, now, was)
+
+  pub walked_more : (r : Stack) (new : Holdings) (after : Signs) (row : List ℕ) → row ≡ row_of node nodes → Feeds t (place_of shape level base row) (row ∷ []) (over q h signs) (over r new after) → (AllAtEnd (over q h signs) → AllAtEnd (over r new after)) → ChangesAt (place_of shape level base row) q r
+      → HasWalked t shape level base from nodes (newer_than node nodes) f p r new after
+  walked_more r new after row is feeds ends changes =
+      record {
+        newer = last.front;
+        older = last.last ∷ walked.older;
+        split = nodes_are;
+        next_is = next_one;
+        feeds =
+            let same : row ≡ last.last.row = is ∙ row_is in
+            let rows : rows_in walked.older ++ row ∷ [] ≡ rows_in (last.last ∷ walked.older) = ap (λ (x : List ℕ). rows_in walked.older ++ x ∷ []) same ∙ sym (rows_more last.last walked.older) in
+            subst (λ (rs : List (List ℕ)). FeedsAll t (dealt shape level base rs) f (over r new after)) rows
+            (feeds_more t (place_of shape level base row) (dealt shape level base (rows_in walked.older)) (dealt shape level base (rows_in walked.older ++ row ∷ [])) (row ∷ []) f (over q h signs) (over r new after) walked.feeds feeds ends
+            (dealt_more shape level base (rows_in walked.older) row));
+        fan = fan_kept level base from (place_of shape level base row) q r walked.fan (omega arith) changes feeds.steps.long;
+        blocks = changes.blocks ∙ walked.blocks;
+        levels = changes.levels ∙ walked.levels;
+      }
+
+pub walked_all : (t : ℕ) (shape : Shape) (level base from : ℕ) (nodes : List Node) (next : Option ℕ) (f : Family) (p q : Stack) (h : Holdings) (signs : Signs) → HasWalked t shape level base from nodes next f p q h signs → next ≡ None → FeedsAll t (dealt shape level base (rows_in nodes)) f (over q h signs)
+walked_all t shape level base from nodes next f p q h signs walked end =
+    let none : walked.newer ≡ [] = none_left walked.newer (sym walked.next_is ∙ end) in
+    let all : walked.older ≡ nodes = sym (walked.split ∙ ap (λ (ms : List Node). ms ++ walked.older) none) in
+    subst (λ (ms : List Node). FeedsAll t (dealt shape level base (rows_in ms)) f (over q h signs)) all walked.feeds

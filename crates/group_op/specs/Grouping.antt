@@ -1,0 +1,2 @@
+-- What a grouping is, and what it keeps. Lengths are in bytes.
+use Rattle.std.specs.Prelude.{◌≡◌, ℕ}

@@ -1,0 +1,4 @@
+pub mod Stored
+pub mod Held
+pub mod Putting
+pub mod Grouping

@@ -1,0 +1,96 @@
+//! The rows of a table go to partitions.
+ghost use Rattle.std.specs.Prelude.{◌≡◌, ℕ, ◌+◌, ◌<◌, ◌≤◌, length, OnOk, IfErr};
+ghost use Rattle.store_api.specs.Conditions.{IsLiveClient};
+ghost use Rattle.store_api.specs.Holdings.{length_of};
+ghost use Rattle.store_api.specs.Signs.{WasAnswered};
+ghost use Rattle.tuple_stream.specs.Families.{AreShaped};
+ghost use Rattle.tuple_stream.specs.FamilyCalls.{AllAtEnd, Feeds};
+ghost use Rattle.tuple_stream.specs.Steps.{came};
+ghost use Rattle.tuple_stream.specs.Touches.{IsFull};
+ghost use Rattle.partition_stack.specs.Stack.{HasRoomFrom, RestBelow, over};
+ghost use Rattle.partition_stack.specs.Changes.{ChangesAt};
+ghost use Rattle.group_op.specs.Held.{AreEntries, IsHeld, page_len, state};
+ghost use Rattle.group_op.specs.Putting.{HasFlushed, IsFan, Works};
+ghost use Rattle.group_op.specs.Stored.{IsPartialRow, place_of};
+
+use crate::stored::key_of_partial;
+use bucket_table::BucketTable;
+use partition_stack::Partitions;
+use reservation_tree::PoolErr;
+use row_codec::{hash64, nibble};
+use std::alloc::Global;
+use store_api::{Client, Shape, Store};
+
+// Where rows go: to the sixteen partitions of a level, of which the lowest stands at `base`. Those below `from` rest.
+#[derive(Clone, Copy)]
+pub(crate) struct Fan {
+    pub(crate) level: u32,
+    pub(crate) base: usize,
+    pub(crate) from: usize,
+}
+
+// Memory that each row takes again.
+#[derive(Drop)]
+pub(crate) struct Spare {
+    pub(crate) row: Vec<u8>,
+    pub(crate) key: Vec<u8>,
+}
+
+// Moves all rows of the table to their partitions, the oldest first.
+pub(crate) fn flush<St: Store>(
+    alloc: Global,
+    store: &mut St,
+    c: &Client,
+    shape: &Shape,
+    table: &mut BucketTable,
+    parts: &mut Partitions,
+    fan: Fan,
+    spare: &mut Spare,
+) -> Result<(), PoolErr>
+    requires held { IsHeld c.now.tracker (state table.old parts.old (St.holds store.old) (St.signs store.old)) }
+    requires entries { AreEntries shape.now (page_len (state table.old parts.old (St.holds store.old) (St.signs store.old))) table.old }
+    requires fan { IsFan fan.level fan.base fan.from parts.old }
+    ensures ok { OnOk result (HasFlushed c.now.tracker shape.now fan.level fan.base (state table.old parts.old (St.holds store.old) (St.signs store.old)) (state table.new parts.new (St.holds store.new) (St.signs store.new))) }
+    ensures works { Works c.now.tracker shape.now (state table.old parts.old (St.holds store.old) (St.signs store.old)) (state table.new parts.new (St.holds store.new) (St.signs store.new)) }
+    ensures fan { IsFan fan.level fan.base fan.from parts.new }
+    ensures cause { IfErr result (λ e. WasAnswered e (St.signs store.old) (St.signs store.new)) }
+    ensures full { IfErr result (IsFull parts.old.page_blocks (St.holds store.new).free_slots) }
+{
+    let mut next = table.first_node();
+    while let Some(node) = next {
+        table.row_at(node, &mut spare.row)?;
+        send(alloc, store, c, shape, parts, fan, spare)?;
+        next = table.next_node(node);
+    }
+    table.clear();
+    Ok(())
+}
+
+// Appends the row in the spare memory to its partition.
+fn send<St: Store>(
+    alloc: Global,
+    store: &mut St,
+    c: &Client,
+    shape: &Shape,
+    parts: &mut Partitions,
+    fan: Fan,
+    spare: &mut Spare,
+) -> Result<(), PoolErr>
+    requires client { IsLiveClient c.now (St.holds store.old) }
+    requires shaped { AreShaped c.now.tracker (over parts.old (St.holds store.old) (St.signs store.old)) }
+    requires room { HasRoomFrom c.now.tracker fan.from parts.old (St.holds store.old) (St.signs store.old) }
+    requires fan { IsFan fan.level fan.base fan.from parts.old }
+    requires row { IsPartialRow shape.now spare.old.row.items }
+    requires short { length spare.old.row.items ≤ length_of parts.old.page_blocks (St.holds store.old) }
+    ensures went { Feeds c.now.tracker (place_of shape.now fan.level fan.base spare.old.row.items) (came result spare.old.row.items) (over parts.old (St.holds store.old) (St.signs store.old)) (over parts.new (St.holds store.new) (St.signs store.new)) }
+    ensures at_end { OnOk result (AllAtEnd (over parts.old (St.holds store.old) (St.signs store.old)) → AllAtEnd (over parts.new (St.holds store.new) (St.signs store.new))) }
+    ensures changes { ChangesAt (place_of shape.now fan.level fan.base spare.old.row.items) parts.old parts.new }
+    ensures cause { IfErr result (λ e. WasAnswered e (St.signs store.old) (St.signs store.new)) }
+    ensures full { IfErr result (IsFull parts.old.page_blocks (St.holds store.new).free_slots) }
+{
+    let Ok(true) = key_of_partial(&spare.row, shape, &mut spare.key) else {
+        return Err(PoolErr::Memory);
+    };
+    let at = fan.base + (15 - nibble(hash64(&spare.key), fan.level) as usize);
+    parts.append(alloc, store, c, at, &spare.row)
+}

@@ -1,0 +1,86 @@
+//! A partial row goes into a table.
+ghost use Rattle.std.specs.Prelude.{◌≡◌, ℕ, ◌+◌, ◌%◌, ◌≤◌, ◌∷◌, length, All, IfNone, IfSome, IfErr, OnOk};
+ghost use Rattle.row_codec.specs.Order.{hash_of};
+ghost use Rattle.store_api.specs.Shapes.{IsShape};
+ghost use Rattle.store_api.specs.Signs.{WasAnswered};
+ghost use Rattle.tuple_stream.specs.Touches.{IsFull};
+ghost use Rattle.bucket_table.specs.Tables.{HasNode, IsFramed, new_node, row_of, used_by, with_nodes};
+ghost use Rattle.group_op.specs.Held.{AreEntries, IsHeld, page_len, state};
+ghost use Rattle.group_op.specs.Putting.{HasPut, IsFan, Lacks, Works};
+ghost use Rattle.group_op.specs.Stored.{IsPartialRow, key_at};
+
+use crate::flushing::{Fan, Spare, flush};
+use crate::joining::add_numbers;
+use bucket_table::BucketTable;
+use partition_stack::Partitions;
+use reservation_tree::PoolErr;
+use row_codec::law_row_back;
+use std::alloc::Global;
+use store_api::{Client, Shape, Store};
+
+// The entry of a partial row's key.
+fn find(table: &BucketTable, hash: u64, row: &[u8], shape: &Shape) -> Option<u32>
+    requires shape { IsShape shape.now }
+    requires entries { (len : ℕ) × AreEntries shape.now len table.now }
+    requires row { IsPartialRow shape.now row.now }
+    requires hash { hash ≡ hash_of (key_at shape.now row.now) }
+    ensures node { IfSome result (λ node. HasNode node table.now.nodes) }
+    ensures key { IfSome result (λ node. key_at shape.now (row_of node table.now.nodes) ≡ key_at shape.now row.now) }
+    ensures none { IfNone result (Lacks shape.now (key_at shape.now row.now) table.now) }
+{
+    law_row_back();
+    let head = row.len() - 16 * shape.aggs.as_slice().len();
+    table.find_row(hash, 0, &row[..head])
+}
+
+// Puts a partial row into the table: into the entry of its key, or as a new one. Where there is no room for it, the rows
+// of the table go to their partitions first.
+pub(crate) fn put<St: Store>(
+    alloc: Global,
+    store: &mut St,
+    c: &Client,
+    shape: &Shape,
+    table: &mut BucketTable,
+    parts: &mut Partitions,
+    fan: Fan,
+    row: &[u8],
+    hash: u64,
+    spare: &mut Spare,
+) -> Result<(), PoolErr>
+    requires held { IsHeld c.now.tracker (state table.old parts.old (St.holds store.old) (St.signs store.old)) }
+    requires entries { AreEntries shape.now (page_len (state table.old parts.old (St.holds store.old) (St.signs store.old))) table.old }
+    requires fan { IsFan fan.level fan.base fan.from parts.old }
+    requires shape { IsShape shape.now }
+    requires row { IsPartialRow shape.now row.now }
+    requires short { length row.now ≤ page_len (state table.old parts.old (St.holds store.old) (St.signs store.old)) }
+    requires hash { hash ≡ hash_of (key_at shape.now row.now) }
+    ensures ok { OnOk result (HasPut c.now.tracker shape.now fan.level fan.base row.now (state table.old parts.old (St.holds store.old) (St.signs store.old)) (state table.new parts.new (St.holds store.new) (St.signs store.new))) }
+    ensures works { Works c.now.tracker shape.now (state table.old parts.old (St.holds store.old) (St.signs store.old)) (state table.new parts.new (St.holds store.new) (St.signs store.new)) }
+    ensures fan { IsFan fan.level fan.base fan.from parts.new }
+    ensures cause { IfErr result (λ e. WasAnswered e (St.signs store.old) (St.signs store.new)) }
+    ensures full { IfErr result (IsFull parts.old.page_blocks (St.holds store.new).free_slots) }
+{
+    if let Some(node) = find(table, hash, row, shape) {
+        law_row_back();
+        add_numbers(table, node, row, shape);
+        return Ok(());
+    }
+    if table.has_room(row.len()) {
+        add_entry(table, hash, row);
+        return Ok(());
+    }
+    flush(alloc, store, c, shape, table, parts, fan, spare)?;
+    add_entry(table, hash, row);
+    Ok(())
+}
+
+// Adds an entry, for which there is room.
+fn add_entry(table: &mut BucketTable, hash: u64, row: &[u8])
+    requires row { IsFramed row.now }
+    requires room { used_by table.old.nodes + 4 + length row.now ≤ table.old.room }
+    ensures { table.new ≡ with_nodes (new_node (hash % table.old.heads) row.now table.old.nodes ∷ table.old.nodes) table.old }
+{
+    let Ok(_node) = table.insert(hash, row) else {
+        unreachable!()
+    };
+}

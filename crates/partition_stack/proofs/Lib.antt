@@ -1,0 +1,10 @@
+pub mod ListPlaces
+pub mod Stacking
+pub mod Room
+pub mod Agreeing
+pub mod Owned
+pub mod Scratch
+pub mod Away
+mod Resting
+mod Called
+pub mod Coming

@@ -1,0 +1,40 @@
+-- Elements of lists by their places.
+use Rattle.std.proofs.Common.{◌≡◌, ◌⊎◌, inl, inr, ℕ, zero, suc, ◌-◌, ◌≤◌, List, [], ◌∷◌, ◌++◌, length, replicate, set, Some, refl, ap, sym, ◌∙◌, arith}
+use Rattle.std.specs.List.{slice_get}
+use Rattle.std.proofs.lemmas.List.{get_or-replicate, length-replicate}
+use Rattle.std.proofs.lemmas.Option.{get_or_from_slice_get, none-some, same_Some, slice_get_within}
+
+less_none : (n : ℕ) → n - 0 ≡ n
+less_none n = omega arith
+
+less_suc : (n m : ℕ) → suc n - suc m ≡ n - m
+less_suc n m = omega arith
+
+module _ {X : Type 0} where
+  -- all are the one that was repeated
+  pub of_replicate : (n : ℕ) (x : X) (i : ℕ) (y : X) → slice_get (replicate n x) i ≡ Some y → y ≡ x
+  of_replicate n x i y at =
+      let inside = slice_get_within (replicate n x) i y at in
+      let long = length-replicate n x in
+      sym (get_or_from_slice_get (replicate n x) i y x at) ∙ get_or-replicate n i x x (omega (arith, inside, long))
+
+  -- an element stands in the front list or in the one behind it
+  pub front_or_behind : (xs ys : List X) (i : ℕ) (z : X) → slice_get (xs ++ ys) i ≡ Some z → (slice_get xs i ≡ Some z) ⊎ ((length xs ≤ i) × (slice_get ys (i - length xs) ≡ Some z))
+  front_or_behind [] ys i z at = inr (omega arith, ap (slice_get ys) (less_none i) ∙ at)
+  front_or_behind (x ∷ xs) ys zero z at = inl at
+  front_or_behind (x ∷ xs) ys (suc i) z at =
+      elim (front_or_behind xs ys i z at) [
+        | inl there ↦ inl there
+        | inr behind ↦ inr (omega (arith, behind.0), ap (slice_get ys) (less_suc i (length xs)) ∙ behind.1)
+      ]
+
+  pub in_front : (xs ys : List X) (i : ℕ) (z : X) → slice_get xs i ≡ Some z → slice_get (xs ++ ys) i ≡ Some z
+  in_front [] ys i z at = absurd (none-some z at)
+  in_front (x ∷ xs) ys zero z at = at
+  in_front (x ∷ xs) ys (suc i) z at = in_front xs ys i z at
+
+  -- an element put where it stands
+  pub set_same : (xs : List X) (i : ℕ) (x : X) → slice_get xs i ≡ Some x → set xs i x ≡ xs
+  set_same [] i x at = refl
+  set_same (y ∷ xs) zero x at = ap (λ (z : X). z ∷ xs) (sym (same_Some y x at))
+  set_same (y ∷ xs) (suc i) x at = ap (λ (zs : List X). y ∷ zs) (set_same xs i x at)

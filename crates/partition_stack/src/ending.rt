@@ -1,0 +1,24 @@
+//! All partitions go.
+ghost use Rattle.std.specs.Prelude.{[]};
+ghost use Rattle.tuple_stream.specs.Families.{AreShaped, family};
+ghost use Rattle.partition_stack.specs.Stack.{over};
+ghost use Rattle.partition_stack.specs.Changes.{EndsAll};
+
+use crate::stack::Partitions;
+use crate::streams::end_streams;
+use store_api::{Client, Store};
+
+impl Partitions {
+    /// Destroys all pages, and with them the rows, and ends the stack. This takes no memory.
+    pub fn end<St: Store>(self, store: &mut St, c: &Client)
+        requires { AreShaped c.now.tracker (over self (St.holds store.old) (St.signs store.old)) }
+        ensures { EndsAll c.now.tracker (over self (St.holds store.old) (St.signs store.old)) (family [] (St.holds store.new) (St.signs store.new)) }
+    {
+        let Partitions {
+            page_blocks: _,
+            streams,
+            levels: _,
+        } = self;
+        end_streams(store, c, streams);
+    }
+}
