@@ -13,3 +13,4 @@ pub mod Finding
 pub mod Entering
 pub mod Dividing
 pub mod Feeding
+pub mod KeyReading

@@ -88,7 +88,7 @@ fn send<St: Store>(
     ensures cause { IfErr result (λ e. WasAnswered e (St.signs store.old) (St.signs store.new)) }
     ensures full { IfErr result (IsFull parts.old.page_blocks (St.holds store.new).free_slots) }
 {
-    let Ok(true) = key_of_partial(&spare.row, shape, &mut spare.key) else {
+    let Ok(true) = key_of_partial(alloc, &spare.row, shape, &mut spare.key) else {
         return Err(PoolErr::Memory);
     };
     let at = fan.base + (15 - nibble(hash64(&spare.key), fan.level) as usize);
