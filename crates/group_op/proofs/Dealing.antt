@@ -1,5 +1,5 @@
 -- One more row goes to its partition.
-use Rattle.std.proofs.Common.{◌≡◌, ◌∙◌, ℕ, ◌+◌, ◌-◌, ◌==◌, List, [], ◌∷◌, ◌++◌, Bool, true, false, filter, cond, if◌then◌else◌, refl, ap, sym, inl, inr, append-nil, append_assoc, ne_eqb, eq-eqb}
+use Rattle.std.proofs.Common.{◌≡◌, ◌∙◌, ℕ, ◌==◌, List, [], ◌∷◌, ◌++◌, Bool, true, false, cond, if◌then◌else◌, refl, ap, sym, inl, inr, append-nil, append_assoc, ne_eqb, eq-eqb}
 use Rattle.std.proofs.lemmas.Bool.{cases_eq}
 use Rattle.std.proofs.lemmas.List.Elements.{filter-append}
 use Rattle.store_api.specs.declared.shapes.Shape.{Shape}

@@ -1,10 +1,10 @@
 -- A partial row is in the table, one way or another.
-use Rattle.std.proofs.Common.{◌≡◌, ◌≢◌, ◌∙◌, ℕ, ◌+◌, ◌-◌, ◌*◌, ◌%◌, ◌<◌, ◌≤◌, zero, suc, Bool, true, false, List, [], ◌∷◌, ◌++◌, length, map, set, reverse, Option, Some, None, option_map, refl, ap, ap₂, sym, subst, arith, append-nil, length-append}
+use Rattle.std.proofs.Common.{◌≡◌, ◌≢◌, ◌∙◌, ℕ, ◌*◌, ◌%◌, ◌≤◌, zero, suc, Bool, true, false, List, [], ◌∷◌, ◌++◌, length, map, set, reverse, Some, option_map, refl, ap, sym, subst, arith, append-nil}
 use Rattle.std.specs.Prelude.{All, slice_get}
 use Rattle.std.specs.List.{AllByRecursion, IsDistinct}
 use Rattle.std.proofs.lemmas.Map.Keys.{IsDistinct-cons}
 use Rattle.std.specs.Str.{bytes_eq}
-use Rattle.std.proofs.lemmas.List.{length-map, length-set, map-set, length-reverse}
+use Rattle.std.proofs.lemmas.List.{length-set, map-set, length-reverse}
 use Rattle.std.proofs.lemmas.List.Elements.{All-cons, All-head, All-nil, All-set, All-tail}
 use Rattle.std.proofs.lemmas.List.Sorted.{All-permutation, IsPermutation-map, IsPermutation-reverse}
 use Rattle.std.proofs.lemmas.Option.{none-some, same_Some, slice_get-map}
@@ -17,24 +17,22 @@ use Rattle.store_api.specs.Shapes.{IsShape}
 use Rattle.store_api.specs.Signs.{Signs}
 use Rattle.store_api.proofs.Growing.{grows_refl}
 use Rattle.tuple_stream.specs.Families.{AreShaped}
-use Rattle.tuple_stream.specs.FamilyCalls.{FeedsAll}
 use Rattle.tuple_stream.proofs.FamilyWords.{feeds_none}
 use Rattle.bucket_table.specs.Tables.{HasNode, Node, Table, new_node, row_of, used_by, with_nodes, with_row}
 use Rattle.partition_stack.specs.Stack.{Stack, over}
-use Rattle.group_rows.specs.Partials.{Partial, combine, key_of}
+use Rattle.group_rows.specs.Partials.{combine, key_of}
 use Rattle.group_rows.specs.Tables.{HaveDistinctKeys}
 use Rattle.group_rows.proofs.Keys.{true_same}
 use Rattle.group_rows.proofs.Paths.{path_is_order}
 use Rattle.group_rows.proofs.Tables.{into_entry}
-use Rattle.group_op.specs.Held.{AreEntries, IsEntry, IsHeld, Leaves, StandBehind, State, page_len, rows_of, state, streams_of}
+use Rattle.group_op.specs.Held.{AreEntries, IsEntry, IsHeld, StandBehind, State, page_len, rows_of, state}
 use Rattle.group_op.specs.Putting.{HasFlushed, HasPut, Lacks, Works}
-use Rattle.group_op.specs.Stored.{IsPartialRow, SameGroups, dealt, grouping_of, joined, key_at, partial_at, partials_at}
+use Rattle.group_op.specs.Stored.{IsPartialRow, SameGroups, grouping_of, joined, key_at, partial_at, partials_at}
 use Rattle.group_op.proofs.Finding.{entry_of, entry_row}
-use Rattle.group_op.proofs.Keeping.{works_nodes}
 use Rattle.group_op.proofs.Joins.{IsJoined, joins}
 use Rattle.group_op.proofs.RowForms.{partial_is_framed}
-use Rattle.group_op.proofs.Rewriting.{NodeAt, node_at, rewritten_at, with_own}
-use Rattle.group_op.proofs.Same.{same_back, same_into, same_order, same_refl, same_trans}
+use Rattle.group_op.proofs.Rewriting.{NodeAt, rewritten_at, with_own}
+use Rattle.group_op.proofs.Same.{same_back, same_into, same_order, same_refl}
 
 same_all : (t : ℕ) (h : Holdings) → OthersStay (Some t) h h
 same_all t h =

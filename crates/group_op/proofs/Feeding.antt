@@ -1,5 +1,5 @@
 -- A row that is put into the table is fed.
-use Rattle.std.proofs.Common.{◌≡◌, ◌∙◌, ℕ, List, [], ◌∷◌, ◌++◌, map, refl, ap, sym, subst, append_assoc, append-nil}
+use Rattle.std.proofs.Common.{◌≡◌, ◌∙◌, ℕ, List, [], ◌∷◌, ◌++◌, ap, sym, subst, append_assoc, append-nil}
 use Rattle.std.specs.Prelude.{All}
 use Rattle.std.specs.List.Sorted.{IsPermutation}
 use Rattle.std.proofs.lemmas.List.{map-append}
@@ -14,7 +14,7 @@ use Rattle.group_rows.specs.Standing.{StandFor}
 use Rattle.group_rows.proofs.Paths.{path_is_order}
 use Rattle.group_rows.proofs.Standing.{keeps_standing}
 use Rattle.group_op.specs.Stored.{SameGroups, grouping_of, partial_at, partials_at}
-use Rattle.group_op.proofs.Same.{same_order, same_trans, same_sym}
+use Rattle.group_op.proofs.Same.{same_order}
 
 -- the entries, and the rows of the partitions before and behind; and what was put
 pub fed_stands : (shape : Shape) (fed : List (List Value)) (row : List Value) (bytes : List ℕ) (entries now gone streams streams_now : List (List ℕ))

@@ -1,6 +1,6 @@
 -- The entry of a key is found by the bytes before its numbers.
-use Rattle.std.proofs.Common.{◌≡◌, ◌≢◌, ◌∙◌, ℕ, ◌+◌, ◌-◌, ◌*◌, ◌%◌, ◌<◌, ◌≤◌, ◌==◌, ◌&&◌, Bool, true, false, cond, zero, suc, List, [], ◌∷◌, length, map, take, drop, filter, Option, Some, None, refl, ap, ap₂, sym, subst, inl, inr, arith, eq-eqb, ne_eqb}
-use Rattle.std.specs.Prelude.{All, IfNone, IfSome, slice_get, bytes_eq}
+use Rattle.std.proofs.Common.{◌≡◌, ◌≢◌, ◌∙◌, ℕ, ◌%◌, Bool, true, false, cond, zero, suc, List, [], ◌∷◌, length, map, take, filter, Option, Some, None, refl, ap, sym, subst, arith, eq-eqb}
+use Rattle.std.specs.Prelude.{IfNone, IfSome, slice_get}
 use Rattle.std.proofs.lemmas.Bool.{false≢true}
 use Rattle.std.proofs.lemmas.List.{length-take-le}
 use Rattle.std.proofs.lemmas.Option.{none-some, same_Some}
@@ -10,7 +10,7 @@ use Rattle.store_api.specs.declared.shapes.Shape.{Shape}
 use Rattle.store_api.specs.Shapes.{IsShape}
 use Rattle.bucket_table.specs.Looking.{newest_showing, shows_on}
 use Rattle.bucket_table.specs.Tables.{HasNode, Node, Table, part_of, row_of}
-use Rattle.group_rows.proofs.Keys.{same_true, true_same}
+use Rattle.group_rows.proofs.Keys.{same_true}
 use Rattle.tuple_stream.proofs.Chosen.{all_placed, at_place}
 use Rattle.group_op.specs.Held.{AreEntries, IsEntry}
 use Rattle.group_op.specs.Putting.{Lacks}

@@ -1,8 +1,7 @@
 -- A partial row's values: those of the key, and numbers.
-use Rattle.std.proofs.Common.{◌≡◌, ◌≢◌, ◌∙◌, ℕ, zero, suc, ◌+◌, ◌-◌, ◌*◌, ◌<◌, ◌≤◌, ◌^◌, List, [], ◌∷◌, ◌++◌, length, map, take, drop, Option, Some, None, refl, ap, ap₂, sym, subst, arith, append_assoc, append-nil, length-append}
-use Rattle.std.specs.Prelude.{ℤ, pos, All, FitsSigned, flat_map, filter_map, slice_get}
-use Rattle.std.specs.List.{cons_option}
-use Rattle.std.specs.Int.{w32, w128, to_be_bytes}
+use Rattle.std.proofs.Common.{◌≡◌, ◌∙◌, ℕ, suc, ◌+◌, ◌*◌, List, [], ◌∷◌, ◌++◌, length, map, take, drop, refl, ap, ap₂, sym, subst, arith, append_assoc, append-nil, length-append}
+use Rattle.std.specs.Prelude.{ℤ, flat_map, slice_get}
+use Rattle.std.specs.Int.{w32, to_be_bytes}
 use Rattle.std.proofs.Math.Seq.{take-append_seam, drop-append_seam}
 use Rattle.std.proofs.lemmas.Grind.{flat_map-append}
 use Rattle.std.proofs.lemmas.List.{length-map, map-append}
@@ -18,7 +17,6 @@ use Rattle.row_codec.specs.RowLaws.{IsRow, RowBack}
 use Rattle.row_codec.specs.RowReading.{row_at}
 use Rattle.store_api.specs.declared.shapes.Shape.{Shape}
 use Rattle.group_rows.specs.Aggregates.{number_of}
-use Rattle.group_rows.specs.Partials.{Grouping, Partial}
 use Rattle.group_rows.specs.Rows.{partial_in}
 use Rattle.group_op.specs.Stored.{IsPartialRow, grouping_of, key_kinds, partial_at, partial_kinds, values_at, values_read}
 use Rattle.group_op.proofs.WideBytes.{all_long, all_wide, wide_fields}

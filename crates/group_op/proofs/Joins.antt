@@ -1,16 +1,15 @@
 -- Numbers of a stored row are added to those of another of its key, one after the other.
-use Rattle.std.proofs.Common.{◌≡◌, ◌≢◌, ◌∙◌, ℕ, zero, suc, ◌+◌, ◌-◌, ◌*◌, ◌<◌, ◌≤◌, ◌^◌, List, [], ◌∷◌, ◌++◌, length, map, set, get_or, take, drop, Option, Some, refl, ap, ap₂, sym, subst, arith, length-append}
+use Rattle.std.proofs.Common.{◌≡◌, ◌∙◌, ℕ, suc, ◌+◌, ◌*◌, ◌<◌, ◌^◌, List, [], ◌∷◌, ◌++◌, length, map, set, get_or, take, drop, Option, refl, ap, ap₂, sym, subst, arith, length-append}
 use Rattle.std.specs.Prelude.{ℤ, ◌+ℤ◌, Bool, true, false, cond, int_lt, pos, All, FitsSigned, flat_map}
-use Rattle.std.specs.Int.{w32, w128, to_be_bytes, cast_signed, cast_unsigned, int_min, int_max}
+use Rattle.std.specs.Int.{w128, cast_signed, cast_unsigned, int_min, int_max}
 use Rattle.std.proofs.lemmas.Int.{SFits-int_wrap}
 use Rattle.row_codec.specs.declared.values.Agg.TheVariants.{Count, Sum, Min, Max}
-use Rattle.std.proofs.Math.Seq.{take-append_seam, drop-append_seam}
+use Rattle.std.proofs.Math.Seq.{take-append_seam}
 use Rattle.std.proofs.lemmas.Grind.{flat_map-append}
-use Rattle.std.proofs.lemmas.List.{length-map, length-set, take-take}
+use Rattle.std.proofs.lemmas.List.{length-map, length-set}
 use Rattle.std.proofs.lemmas.List.Elements.{All-append, All-cons, All-head, All-set, All-tail, All-nil}
 use Rattle.block_arena.specs.Bytes.{written}
 use Rattle.row_codec.specs.declared.values.Agg.{Agg}
-use Rattle.row_codec.specs.declared.values.Kind.TheVariants as kind
 use Rattle.row_codec.specs.declared.values.Value.{Value}
 use Rattle.row_codec.specs.declared.values.Value.TheVariants.{Wide}
 use Rattle.row_codec.specs.Row.{IsValue, kind_of, kinds_of}
@@ -23,9 +22,9 @@ use Rattle.bucket_table.specs.Tables.{part_of, with_number}
 use Rattle.group_rows.specs.Aggregates.{combined_number, number_of}
 use Rattle.group_rows.specs.Partials.{Partial, combine, combined_numbers}
 use Rattle.group_rows.proofs.Entries.{half, half_all, half_long, half_more}
-use Rattle.group_op.specs.Stored.{IsPartialRow, grouping_of, head_len, joined, key_at, key_kinds, key_values_at, numbers_at, partial_at, values_at, values_read, with_numbers}
-use Rattle.group_op.proofs.Forms.{HasForm, bytes_are, fields_of, form_so, has_form, head_long, head_of, partial_so, read_so, says}
-use Rattle.group_op.proofs.Heads.{fields_fit, four_in, full_keys, good_numbers, good_values, head_is, heads_long, whole_long}
+use Rattle.group_op.specs.Stored.{IsPartialRow, grouping_of, head_len, joined, key_at, key_kinds, key_values_at, numbers_at, partial_at, values_read, with_numbers}
+use Rattle.group_op.proofs.Forms.{bytes_are, fields_of, form_so, has_form, head_of, partial_so, says}
+use Rattle.group_op.proofs.Heads.{fields_fit, full_keys, good_numbers, good_values, head_is, heads_long, whole_long}
 use Rattle.group_op.proofs.WideBytes.{all_long, all_wide, get_wide, put_wide, wide_bytes, wide_fields}
 
 -- a wide number is read back

@@ -1,27 +1,22 @@
 -- What a grouping has stays its own while its streams are called.
-use Rattle.std.proofs.Common.{◌≡◌, ◌≢◌, ◌∙◌, ◌↔◌, ℕ, ◌+◌, ◌-◌, ◌*◌, ◌≤◌, List, [], length, Option, Some, None, IsSome, option_map, refl, ap, sym, subst, arith}
-use Rattle.std.specs.List.{slice_get}
+use Rattle.std.proofs.Common.{◌≡◌, ◌≢◌, ◌∙◌, ℕ, ◌+◌, ◌-◌, ◌*◌, ◌≤◌, List, [], length, Option, Some, None, IsSome, option_map, refl, ap, sym, subst, arith}
 use Rattle.std.proofs.Math.Nat.{mul-le-mul_right}
 use Rattle.std.proofs.lemmas.List.Elements.{All-nil}
 use Rattle.pool_model.specs.declared.event.Event.{Event}
-use Rattle.store_api.specs.Tokens.{PageToken}
 use Rattle.store_api.specs.Holdings.{Account, Holdings, LiveLoan, LivePage, or_else, no_account, no_page, account_of, length_of, page_of, unused_of}
-use Rattle.store_api.specs.Emitters.{OthersStay, SameFor}
+use Rattle.store_api.specs.Emitters.{OthersStay}
 use Rattle.store_api.specs.Signs.{Grows, Signs}
 use Rattle.store_api.specs.declared.shapes.Shape.{Shape}
-use Rattle.tuple_stream.specs.Streamed.{Streamed}
-use Rattle.tuple_stream.specs.Streams.{IsApart, IsOwnPage}
+use Rattle.tuple_stream.specs.Streams.{IsOwnPage}
 use Rattle.tuple_stream.specs.Touches.{with_unused}
 use Rattle.tuple_stream.specs.Families.{AreShaped, Family, FamilySteps, IsOutside, TouchesAll, held_in}
 use Rattle.tuple_stream.proofs.Chosen.{all_placed, at_place}
 use Rattle.tuple_stream.proofs.Frames.{still_some}
 use Rattle.bucket_table.specs.Tables.{Node, Table, with_nodes}
-use Rattle.bucket_table.specs.Lending.{IsTableOf}
 use Rattle.bucket_table.proofs.Beside.{beside_pages}
-use Rattle.partition_stack.specs.Stack.{HasRoomFrom, RestBelow, Stack, over}
-use Rattle.partition_stack.specs.Changes.{Owns}
+use Rattle.partition_stack.specs.Stack.{HasRoomFrom, Stack, over}
 use Rattle.partition_stack.proofs.Owned.{owned_stay}
-use Rattle.group_op.specs.Held.{AreEntries, IsHeld, Leaves, State, lent, page_len, state, streams_of}
+use Rattle.group_op.specs.Held.{AreEntries, IsHeld, Leaves, State, lent, state}
 use Rattle.group_op.specs.Putting.{IsFan, Works}
 
 account_reservation : (o : Option Account) (n : ℕ) → (or_else no_account (option_map (with_unused n) o)).reservation ≡ (or_else no_account o).reservation

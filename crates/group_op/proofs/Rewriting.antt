@@ -1,9 +1,9 @@
 -- The row of a node is written anew.
-use Rattle.std.proofs.Common.{◌≡◌, ◌≢◌, ◌∙◌, ℕ, zero, suc, ◌+◌, ◌<◌, ◌≤◌, ◌==◌, List, [], ◌∷◌, length, map, set, Option, Some, None, IsSome, refl, ap, ap₂, sym, subst, inl, inr, arith, eq-eqb, ne_eqb}
-use Rattle.std.specs.Prelude.{All, slice_get}
+use Rattle.std.proofs.Common.{◌≡◌, ◌≢◌, ◌∙◌, ℕ, zero, suc, ◌<◌, ◌≤◌, List, [], ◌∷◌, set, Some, refl, ap, ap₂, subst, inl, inr, arith, eq-eqb, ne_eqb}
+use Rattle.std.specs.Prelude.{slice_get}
 use Rattle.std.proofs.lemmas.Bool.{cases_eq}
 use Rattle.std.proofs.lemmas.Option.{none-some, same_Some}
-use Rattle.bucket_table.specs.Tables.{HasNode, Node, first_row, from_node, rewritten, row_of, used_by, with_row}
+use Rattle.bucket_table.specs.Tables.{HasNode, Node, rewritten, row_of, used_by, with_row}
 use Rattle.bucket_table.proofs.LookedUp.{has_here, has_more}
 use Rattle.partition_stack.proofs.ListPlaces.{set_same}
 use Rattle.group_op.specs.Held.{StandBehind}

@@ -1,5 +1,5 @@
 -- Wide numbers one behind the other, read and written where they stand.
-use Rattle.std.proofs.Common.{◌≡◌, ◌∙◌, ℕ, zero, suc, ◌+◌, ◌*◌, ◌<◌, ◌≤◌, List, [], ◌∷◌, ◌++◌, length, take, drop, set, get_or, map, refl, ap, ap₂, sym, subst, arith, append_assoc, length-append}
+use Rattle.std.proofs.Common.{◌≡◌, ◌∙◌, ℕ, zero, suc, ◌+◌, ◌*◌, ◌<◌, List, [], ◌∷◌, ◌++◌, length, take, drop, set, get_or, map, refl, ap, ap₂, sym, arith, append_assoc, length-append}
 use Rattle.std.specs.Prelude.{ℤ, pos, flat_map}
 use Rattle.std.specs.Int.{w128, to_be_bytes, cast_unsigned}
 use Rattle.std.proofs.Math.Seq.{take-append_seam, drop-append_seam, drop-append-add}
@@ -35,8 +35,8 @@ pub put_wide : (pre : List ℕ) (ns : List ℤ) (k at : ℕ) (z : ℤ) → k < l
 put_wide pre [] k at z inside is = absurd (omega (arith, inside))
 put_wide pre (n ∷ ns) zero at z inside is =
     ap₂ (λ (a b : List ℕ). a ++ (wide_bytes z ++ b))
-      (front_cut pre (wide_bytes n) (all_wide ns) at (omega (arith, is)))
-      (back_cut pre (wide_bytes n) (all_wide ns) (at + length (wide_bytes z)) (let a = wide_long z in let b = wide_long n in omega (arith, is, a, b)))
+    (front_cut pre (wide_bytes n) (all_wide ns) at (omega (arith, is)))
+    (back_cut pre (wide_bytes n) (all_wide ns) (at + length (wide_bytes z)) (let a = wide_long z in let b = wide_long n in omega (arith, is, a, b)))
 put_wide pre (n ∷ ns) (suc k) at z inside is =
     let long : length (pre ++ wide_bytes n) ≡ length pre + 16 = length-append pre (wide_bytes n) in
     ap (written at (wide_bytes z)) (sym (append_assoc pre (wide_bytes n) (all_wide ns)))

@@ -1,4 +1,3 @@
 pub mod Stored
 pub mod Held
 pub mod Putting
-pub mod Grouping

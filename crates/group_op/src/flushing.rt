@@ -21,23 +21,34 @@ use row_codec::{hash64, nibble};
 use std::alloc::Global;
 use store_api::{Client, Shape, Store};
 
-// Where rows go: to the sixteen partitions of a level, of which the lowest stands at `base`. Those below `from` rest.
+/// Where rows go: to the sixteen partitions of a level, by the nibble of their key's hash at that level, of which the
+/// lowest stands at `base`.
 #[derive(Clone, Copy)]
-pub(crate) struct Fan {
-    pub(crate) level: u32,
-    pub(crate) base: usize,
-    pub(crate) from: usize,
+pub struct Fan {
+    /// The level, below 16.
+    pub level: u32,
+    /// The place of the lowest of the sixteen.
+    pub base: usize,
+    /// The partitions below this place have no pinned page.
+    pub from: usize,
 }
 
-// Memory that each row takes again.
+/// Memory that each row takes again.
 #[derive(Drop)]
-pub(crate) struct Spare {
-    pub(crate) row: Vec<u8>,
-    pub(crate) key: Vec<u8>,
+pub struct Spare {
+    /// A row's bytes.
+    pub row: Vec<u8>,
+    /// The bytes of its key.
+    pub key: Vec<u8>,
 }
 
-// Moves all rows of the table to their partitions, the oldest first.
-pub(crate) fn flush<St: Store>(
+/// Moves all rows of the table to their partitions, the oldest first, and clears the table.
+///
+/// # Errors
+///
+/// The store answered so in this call, or there was no memory. The table has all its rows; some of them may stand in
+/// their partitions too, so a caller ends the grouping.
+pub fn flush<St: Store>(
     alloc: Global,
     store: &mut St,
     c: &Client,

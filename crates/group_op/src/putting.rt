@@ -33,9 +33,15 @@ fn find(table: &BucketTable, hash: u64, row: &[u8], shape: &Shape) -> Option<u32
     table.find_row(hash, 0, &row[..head])
 }
 
-// Puts a partial row into the table: into the entry of its key, or as a new one. Where there is no room for it, the rows
-// of the table go to their partitions first.
-pub(crate) fn put<St: Store>(
+/// Puts a partial row into the table: into the entry of its key, or as a new one. Where there is no room for it, the rows
+/// of the table go to their partitions first. It takes no memory where the table has room.
+///
+/// `hash` is that of the key's bytes.
+///
+/// # Errors
+///
+/// As for [`flush`].
+pub fn put<St: Store>(
     alloc: Global,
     store: &mut St,
     c: &Client,

@@ -1,4 +1,4 @@
-use Rattle.std.proofs.Common.{rules, ◌≡◌, ◌+◌, ◌-◌, ◌*◌, ◌≤◌, ℕ, [], length, Some, refl, ap, sym, ◌∙◌, subst, arith}
+use Rattle.std.proofs.Common.{rules, ◌≡◌, ◌*◌, ℕ, [], length, Some, ap, sym, ◌∙◌, subst, arith}
 use Rattle.store_api.specs.Holdings.{length_of}
 use Rattle.store_api.specs.Signs.{WasAnswered}
 use Rattle.store_api.proofs.Answered.{answered_before}
@@ -6,7 +6,7 @@ use Rattle.tuple_stream.proofs.FamilyChains.{lays_both}
 use Rattle.bucket_table.specs.Tables.{newer_than}
 use Rattle.group_op.proofs.NodeLists.{left_from}
 use Rattle.partition_stack.specs.Stack.{over}
-use Rattle.group_op.specs.Stored.{IsPartialRow, place_of}
+use Rattle.group_op.specs.Stored.{IsPartialRow}
 use Rattle.group_op.specs.Held.{IsEntry}
 use Rattle.group_op.proofs.Keeping.{emptied_entries, works_nodes, works_touched}
 use Rattle.group_op.proofs.Walking.{HasWalked, entry_is, fan_kept, has_node, less, row_is, walked_all, walked_more, walked_none}

@@ -1,4 +1,4 @@
-use Rattle.std.proofs.Common.{rules, ◌≡◌, ◌+◌, ◌-◌, ◌≤◌, refl, ap, sym, subst, arith}
+use Rattle.std.proofs.Common.{sym, subst, arith}
 use Rattle.tuple_stream.specs.PageRows.{IsOneRow}
 use Rattle.group_op.proofs.Dealing.{feeds_nothing}
 use Rattle.group_op.proofs.RowForms.{partial_is_one}

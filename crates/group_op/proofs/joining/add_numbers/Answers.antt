@@ -1,4 +1,4 @@
-use Rattle.std.proofs.Common.{rules, ◌≡◌, ◌+◌, ◌-◌, ◌*◌, ◌<◌, ◌≤◌, ℕ, ℤ, List, length, pos, get_or, refl, ap, ap₂, sym, ◌∙◌, subst, arith}
+use Rattle.std.proofs.Common.{rules, ◌≡◌, ◌+◌, ◌-◌, ◌*◌, ◌<◌, ℕ, ℤ, List, length, pos, get_or, ap, ap₂, sym, ◌∙◌, subst, arith}
 use Rattle.std.specs.Prelude.{FitsSigned}
 use Rattle.std.specs.Int.{w128, cast_signed, cast_unsigned}
 use Rattle.std.proofs.lemmas.Int.{to_z-of_z}
@@ -25,7 +25,7 @@ pub loop-k-init : goal.loop-k-init
 loop-k-init c =
     record {
       table = sym (ap (λ (row : List ℕ). with_nodes (with_row c.args.node row c.args.table.now.nodes) c.args.table.now) (none_joined c.law_row_back.ensures.law c.args.shape.now (row_of c.args.node c.args.table.now.nodes) c.args.row.now c.requires.shape c.requires.entry c.requires.row c.requires.key)
-      ∙ ap (λ (nodes : List Node). with_nodes nodes c.args.table.now) (row_again c.args.node c.args.table.now.nodes c.requires.behind c.requires.node));
+          ∙ ap (λ (nodes : List Node). with_nodes nodes c.args.table.now) (row_again c.args.node c.args.table.now.nodes c.requires.behind c.requires.node));
       fit = none_fit c.law_row_back.ensures.law c.args.shape.now (row_of c.args.node c.args.table.now.nodes) c.args.row.now c.requires.shape c.requires.entry c.requires.row c.requires.key;
     }
 

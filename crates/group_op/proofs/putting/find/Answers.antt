@@ -1,4 +1,4 @@
-use Rattle.std.proofs.Common.{rules, ◌≡◌, ◌+◌, ◌-◌, ◌*◌, ◌≤◌, ℕ, length, take, refl, ap, sym, ◌∙◌, subst, arith}
+use Rattle.std.proofs.Common.{◌≡◌, ◌-◌, ◌*◌, ℕ, length, take, ap, sym, ◌∙◌, arith}
 use Rattle.group_op.specs.Stored.{head_len}
 use Rattle.group_op.proofs.Finding.{found_key, found_none, if_none, if_some}
 use Rattle.group_op.proofs.Joins.{room_in_row}

@@ -1,8 +1,6 @@
-use Rattle.std.proofs.Common.{rules, ◌≡◌, ◌+◌, ◌*◌, ◌%◌, ◌≤◌, ◌∷◌, [], ℕ, List, length, refl, ap, sym, ◌∙◌, subst, arith}
-use Rattle.bucket_table.specs.Tables.{Node, Table, new_node, row_of, used_by, with_nodes, with_row}
+use Rattle.std.proofs.Common.{◌≡◌, ◌≤◌, ℕ, length, ap, sym, subst, arith}
+use Rattle.bucket_table.specs.Tables.{Table, used_by}
 use Rattle.group_op.specs.Held.{page_len, state}
-use Rattle.group_op.specs.Putting.{HasPut, Works}
-use Rattle.group_op.specs.Stored.{joined}
 use Rattle.group_op.proofs.Entering.{entries_joined, entries_new, four_long, put_flushed, put_found, put_new, works_len, works_none}
 use Rattle.group_op.proofs.Keeping.{works_nodes}
 use Rattle.group_op.proofs.Finding.{entry_row}
@@ -68,4 +66,3 @@ returns-clause-works g c =
     rw c.add_entry-2.ensures
     (works_nodes c.args.c.now.tracker c.args.shape.now _ _ c.flush.new.table c.flush.new.parts (g.St.Store.holds c.flush.new.store) (g.St.Store.signs c.flush.new.store) works
     (entries_new c.args.shape.now _ c.args.hash c.args.row.now c.flush.new.table works.entries c.requires.row (subst (λ (n : ℕ). length c.args.row.now ≤ n) (sym len) c.requires.short) c.requires.hash))
-
