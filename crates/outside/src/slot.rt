@@ -7,7 +7,7 @@ ghost use Rattle.outside.specs.Slots.{told_block, ShowsHeld, CountsStore};
 use crate::stream::Failed;
 
 /// A place on scratch that holds one block at a time.
-pub trait Slot: Send {
+pub trait Slot {
     // Whether the slot tells at all what it holds. This never changes.
     ghost tells: { Self → Bool };
 

@@ -1,10 +1,11 @@
 -- Growths, falls and moves of reservation leave all but clients and the query's own numbers.
-use Rattle.std.proofs.Common.{◌≡◌, ◌≢◌, ℕ, Result, Ok, Err, OnOk, OnErr, refl, sym, ◌∙◌, subst, ne_eqb}
+use Rattle.std.proofs.Common.{◌≡◌, ◌≢◌, ℕ, Option, Some, None, Result, Ok, Err, OnOk, OnErr, IfSome, IfNone, refl, sym, ◌∙◌, subst, ne_eqb}
 use Rattle.reservation_tree.specs.declared.errors.PoolErr.{PoolErr}
+use Rattle.pool_model.specs.declared.call.Call.{Call}
 use Rattle.store_api.specs.Holdings.{Holdings, account_of}
 use Rattle.store_api.specs.Changes.{with_account, raised, lowered, after_reserve, after_give_back, after_move_reservation}
 use Rattle.store_api.specs.Signs.{Signs}
-use Rattle.store_api.specs.Refusals.{IsUntouched}
+use Rattle.store_api.specs.Refusals.{IsUntouched, WasRefused}
 use Rattle.store_api.specs.Alike.{AlikeButClients}
 
 -- where nothing was called
@@ -48,3 +49,12 @@ module _ (a b : Holdings) where
   pub reserved_alike : (result : Result Unit PoolErr) (t bytes : ℕ) (before after : Signs) → OnOk result (b ≡ after_reserve t bytes a) → OnErr result (IsUntouched a b before after) → AlikeButClients a b
   reserved_alike (Ok done) t bytes before after ok err = grown_alike t bytes ok
   reserved_alike (Err e) t bytes before after ok err = subst (λ (h : Holdings). AlikeButClients a h) (sym err.held) (alike a)
+
+  -- what changed nothing
+  pub kept_alike : b ≡ a → AlikeButClients a b
+  kept_alike is = subst (λ (h : Holdings). AlikeButClients a h) (sym is) (alike a)
+
+  -- a move that was refused, beforehand or later
+  pub unmoved_alike : (refusal : Option PoolErr) (result : Result Unit PoolErr) (e : PoolErr) (t : ℕ) (what : Call) (before after : Signs) → IfSome refusal (λ x. (result ≡ Err x) × IsUntouched a b before after) → IfNone refusal (WasRefused t what a b before after e) → AlikeButClients a b
+  unmoved_alike None result e t what before after refused was = kept_alike was.held
+  unmoved_alike (Some x) result e t what before after refused was = kept_alike refused.1.held

@@ -2,6 +2,7 @@
 //!
 //! A caller that holds a page, a loan or a buffer can't use `?`: it gives that back to the store first.
 ghost use Rattle.std.specs.Prelude.{◌≡◌, ◌≢◌, ◌↔◌, ℕ, ◌≤◌, [], ◌∷◌, true, None, IsErr, IfOk, IfErr, OnOk, OnErr, IfSome, IfNone, IsOk, IsSome, Err};
+ghost use Rattle.block_arena.specs.Blocks.{IsBlockLen};
 ghost use Rattle.reservation_tree.specs.declared.errors.PoolErr.TheVariants as refusal;
 ghost use Rattle.pool_model.specs.declared.call.Call.TheVariants as call;
 ghost use Rattle.pool_model.specs.declared.event.Event.TheVariants as event;
@@ -33,6 +34,7 @@ pub trait Store {
         ensures value { result ≡ (holds self.now).block_len }
         ensures least { 64 ≤ result }
         ensures most { result ≤ 65536 }
+        ensures power { IsBlockLen result }
         ensures counted { CountsRefused (signs self.now).trail (signs self.now).refused_unpins };
 
     /// How much of the query's reservation no client has, in bytes.

@@ -6,7 +6,7 @@ use Rattle.store_api.specs.Alike.{AlikeButClients}
 use Rattle.store_api.specs.Walks.{StoppedRound}
 use Rattle.store_api.proofs.Stopping.{stopped_before}
 use Rattle.store_api.proofs.Unfit.{shift_stops}
-use Rattle.store_api.proofs.Reserved.{alike_on, moved_alike, fallen_alike, reserved_alike}
+use Rattle.store_api.proofs.Reserved.{alike_on, moved_alike, fallen_alike, reserved_alike, kept_alike, unmoved_alike}
 use Rattle.store_api.proofs.every_call.reserve_round.Goals as goal
 
 pub returns-in_err-move_reservation-clause-cause : goal.returns-in_err-move_reservation-clause-cause
@@ -32,3 +32,22 @@ returns-clause-rest g c =
     let fallen : AlikeButClients h2 h3 = fallen_alike h2 h3 _ _ c.in_ok-give_back.ensures.ok in
     let last : AlikeButClients h3 h4 = reserved_alike h3 h4 c.reserve_to_fit.result _ _ _ _ c.reserve_to_fit.ensures.ok c.reserve_to_fit.ensures.err in
     alike_on h0 h1 h4 grown (alike_on h1 h2 h4 moved (alike_on h2 h3 h4 fallen last))
+
+pub returns-in_err-move_reservation-clause-rest : goal.returns-in_err-move_reservation-clause-rest
+returns-in_err-move_reservation-clause-rest g c =
+    let h0 : Holdings = g.St.Store.holds c.args.store.now in
+    let h1 : Holdings = g.St.Store.holds c.reserve.new.self in
+    let h2 : Holdings = g.St.Store.holds c.move_reservation.new.self in
+    let grown : AlikeButClients h0 h1 = reserved_alike h0 h1 (Ok tt) _ _ (g.St.Store.signs c.args.store.now) (g.St.Store.signs c.args.store.now) c.in_ok-reserve.ensures.ok tt in
+    let unmoved : AlikeButClients h1 h2 = unmoved_alike h1 h2 _ _ c.in_err-move_reservation.field-0.0 _ _ _ _ c.in_err-move_reservation.ensures.refused c.in_err-move_reservation.ensures.err in
+    alike_on h0 h1 h2 grown unmoved
+
+pub returns-in_err-give_back-clause-rest : goal.returns-in_err-give_back-clause-rest
+returns-in_err-give_back-clause-rest g c =
+    let h0 : Holdings = g.St.Store.holds c.args.store.now in
+    let h1 : Holdings = g.St.Store.holds c.reserve.new.self in
+    let h2 : Holdings = g.St.Store.holds c.move_reservation.new.self in
+    let h3 : Holdings = g.St.Store.holds c.give_back.new.self in
+    let grown : AlikeButClients h0 h1 = reserved_alike h0 h1 (Ok tt) _ _ (g.St.Store.signs c.args.store.now) (g.St.Store.signs c.args.store.now) c.in_ok-reserve.ensures.ok tt in
+    let moved : AlikeButClients h1 h2 = moved_alike h1 h2 _ _ _ c.requires.apart c.in_ok-move_reservation.ensures.ok in
+    alike_on h0 h1 h3 grown (alike_on h1 h2 h3 moved (kept_alike h2 h3 c.in_err-give_back.ensures.err.held))
