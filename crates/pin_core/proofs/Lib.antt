@@ -60,6 +60,7 @@ pub mod Holding
 pub mod Allocs
 pub mod Comes
 pub mod Creates
+pub mod Counting
 pub mod Created
 pub mod Goes
 pub mod PinLoads

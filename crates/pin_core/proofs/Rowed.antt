@@ -56,6 +56,9 @@ module _ {D : Type 0} (slot : Ghosts D) where
     stays : (i : ℕ) (d : D) → i < length before → Stays (slice_index_or before i d) (slice_index_or now i d)
     stays i d lt = at_slot (λ i. IsLoaded slot (shown i)) Stays (λ i r a b is. record { held = is.held; tells = is.tells }) (λ d. record { held = refl; tells = refl }) r before now walked i d lt
 
+    pub loaded_stores : length now ≡ length before → map slot.stores now ≡ map slot.stores before
+    loaded_stores same = same_map slot.stores before now same (λ i d lt. at_slot (λ i. IsLoaded slot (shown i)) (λ a b. slot.stores b ≡ slot.stores a) (λ i r a b is. is.stores) (λ d. refl) r before now walked i d lt)
+
     pub loaded_tells : length now ≡ length before → map slot.tells now ≡ map slot.tells before
     loaded_tells same = same_map slot.tells before now same (λ i d lt. (stays i d lt).tells)
 

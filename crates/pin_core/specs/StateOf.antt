@@ -1,5 +1,5 @@
 -- The state of the model for which the parts stand, as a function of them.
-use Rattle.std.specs.Prelude.{ℕ, suc, zero, ◌==◌, Bool, true, false, cond, if◌then◌else◌, List, map, Some, None, get_or, length}
+use Rattle.std.specs.Prelude.{ℕ, suc, zero, ◌==◌, Bool, false, cond, if◌then◌else◌, List, map, Some, None, get_or, length}
 use Rattle.std.specs.Ordering.{nat_cmp}
 use Rattle.std.specs.FinMap.{FinMap, get, insert, empty, entries, from_entries}
 use Rattle.page_table.specs.declared.entry.Place.{Place as Spot}

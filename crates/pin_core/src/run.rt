@@ -1,7 +1,7 @@
 //! Jobs store and load their blocks, outside the pool's value.
-ghost use Rattle.std.specs.Prelude.{◌≡◌, ◌≤◌, ℕ, List, true, false, length, map};
+ghost use Rattle.std.specs.Prelude.{◌≡◌, ◌≤◌, ℕ, List, true, false, if◌then◌else◌, length, map};
 ghost use Rattle.pool_model.specs.ScratchRows.{IsFault};
-ghost use Rattle.scratch_dev.specs.Rows.{faults_of};
+ghost use Rattle.scratch_dev.specs.Rows.{faults_of, CountsStores};
 ghost use Rattle.pin_core.specs.Standing.{AreHeld};
 ghost use Rattle.pin_core.specs.Runs.{AllTell, IsFit, after_loads, after_stores};
 
@@ -17,6 +17,9 @@ impl<D: Slot> WriteJob<D> {
         ensures len { length self.new.row ≡ length self.old.row }
         ensures held { self.new.failed ≡ false → AreHeld D.Slot self.old.buf.block_len self.new.row self.old.buf.bytes }
         ensures tells { map D.Slot.tells self.new.row ≡ map D.Slot.tells self.old.row }
+
+        // Each slot counts a store, unless one failed.
+        ensures stores { CountsStores D.Slot (if self.new.failed then 0 else length self.old.row) self.old.row self.new.row }
 
         // The sum of the slots' counts of faults never falls, and rises with a failure.
         ensures never_falls { faults_of D.Slot self.old.row ≤ faults_of D.Slot self.new.row }
@@ -40,6 +43,7 @@ impl<D: Slot> ReadJob<D> {
         ensures shows { self.new.failed ≡ false → AllTell D.Slot self.old.row → (bytes : List ℕ) → length bytes ≡ length self.old.buf.bytes → AreHeld D.Slot self.old.buf.block_len self.old.row bytes → self.new.buf.bytes ≡ bytes }
         ensures held { (len : ℕ) → (bytes : List ℕ) → AreHeld D.Slot len self.old.row bytes → AreHeld D.Slot len self.new.row bytes }
         ensures tells { map D.Slot.tells self.new.row ≡ map D.Slot.tells self.old.row }
+        ensures stores { map D.Slot.stores self.new.row ≡ map D.Slot.stores self.old.row }
 
         // The sum of the slots' counts of faults never falls, and rises with a failure.
         ensures never_falls { faults_of D.Slot self.old.row ≤ faults_of D.Slot self.new.row }

@@ -1,7 +1,7 @@
 -- What storing and loading do to the slots of a row, first slot first.
-use Rattle.std.specs.Prelude.{◌≡◌, ℕ, ◌+◌, ◌<◌, ◌≤◌, List, Result, Ok, Err, OnOk, OnErr, length, drop, slice_index_or}
+use Rattle.std.specs.Prelude.{◌≡◌, ℕ, ◌+◌, ◌<◌, ◌≤◌, leb, if◌then◌else◌, List, Option, Some, None, Result, Ok, Err, OnOk, OnErr, length, drop, slice_index_or}
 use Rattle.std.specs.List.{sum_by}
-use Rattle.outside.specs.Counts.{Rose}
+use Rattle.outside.specs.Counts.{Rose, last_count}
 use Rattle.outside.specs.Slots.{told_block, ShowsHeld, CountsStore}
 use Rattle.outside.specs.declared.stream.Failed.{Failed}
 use Rattle.outside.specs.declared.slot.Slot.{Ghosts}
@@ -9,6 +9,16 @@ use Rattle.outside.specs.declared.slot.Slot.{Ghosts}
 -- how one call on a slot ended
 abbrev pub Ended : Type 0
 Ended = Result (Unit {0}) Failed
+
+-- the stores of a slot, by its count
+abbrev pub stores_in : Option ℕ → ℕ
+stores_in None = 0
+stores_in (Some count) = count
+
+-- 1 where a slot doesn't count its stores, or its count stands at its last value
+abbrev pub uncounted_in : Option ℕ → ℕ
+uncounted_in None = 1
+uncounted_in (Some count) = if leb last_count count then 1 else 0
 
 module _ {D : Type 0} (slot : Ghosts D) where
   -- a store of the block, that ended so, made of the slot `before` the slot `now`
@@ -31,6 +41,17 @@ module _ {D : Type 0} (slot : Ghosts D) where
   -- the counts of faults of a row, together
   abbrev pub faults_of : List D → ℕ
   faults_of row = sum_by slot.faults row
+
+  -- the stores of a slot, and 1 where it doesn't count them to the end
+  abbrev pub stores_at : D → ℕ
+  stores_at d = stores_in (slot.stores d)
+  abbrev pub uncounted : D → ℕ
+  uncounted d = uncounted_in (slot.stores d)
+
+  -- the slots count so many stores more, where all count them still; and none counts that didn't before
+  pub record CountsStores (more : ℕ) (before now : List D) : Type 0 where
+    pub short : sum_by uncounted before ≤ sum_by uncounted now
+    pub stores : sum_by uncounted now ≡ 0 → sum_by stores_at before + more ≤ sum_by stores_at now
 
 module _ {D : Type 0} (Call : ℕ → Ended → D → D → Type 0) where
   -- the calls on the first n slots went well

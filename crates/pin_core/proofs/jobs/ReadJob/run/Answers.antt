@@ -2,7 +2,7 @@ use Rattle.std.proofs.Common.{◌*◌, ◌+◌, ℕ, ap, sym, ◌∙◌, subst}
 use Rattle.std.specs.List.{slice_range}
 use Rattle.block_arena.specs.Memory.{Buffer, block_of}
 use Rattle.scratch_dev.specs.Rows.{IsLoaded, Walked}
-use Rattle.pin_core.proofs.Rowed.{loaded_tells, still_held, load_shows}
+use Rattle.pin_core.proofs.Rowed.{loaded_stores, loaded_tells, still_held, load_shows}
 use Rattle.pin_core.proofs.jobs.ReadJob.run.Goals as goal
 
 pub returns-clause-shows : goal.returns-clause-shows
@@ -16,3 +16,6 @@ returns-clause-held g c = still_held g.D.Slot (λ i. block_of c.load_all.new.buf
 
 pub returns-clause-tells : goal.returns-clause-tells
 returns-clause-tells g c = loaded_tells g.D.Slot (λ i. block_of c.load_all.new.buf i) c.load_all.result c.args.self.now.row c.load_all.new.row c.load_all.ensures.slots c.load_all.ensures.len
+
+pub returns-clause-stores : goal.returns-clause-stores
+returns-clause-stores g c = loaded_stores g.D.Slot (λ i. block_of c.load_all.new.buf i) c.load_all.result c.args.self.now.row c.load_all.new.row c.load_all.ensures.slots c.load_all.ensures.len

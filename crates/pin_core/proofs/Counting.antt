@@ -1,0 +1,83 @@
+-- What a walk of stores over a row does to its slots' counts of stores.
+use Rattle.std.proofs.Common.{◌≡◌, ℕ, suc, ◌+◌, ◌*◌, ◌<◌, ◌≤◌, leb, Bool, true, false, if◌then◌else◌, List, [], ◌∷◌, length, Option, Some, None, Ok, Err, refl, ap, sym, ◌∙◌, subst, inl, inr, arith}
+use Rattle.std.specs.List.{sum_by, slice_index_or}
+use Rattle.std.specs.Result.{is_err}
+use Rattle.std.proofs.lemmas.Option.{none-some}
+use Rattle.std.proofs.lemmas.List.Sums.{sum_by-cons}
+use Rattle.std.proofs.lemmas.Bool.{cases_Bool, leb-false, lt-leb}
+use Rattle.outside.specs.Counts.{last_count}
+use Rattle.outside.specs.Slots.{CountsStore}
+use Rattle.outside.specs.declared.slot.Slot.{Ghosts}
+use Rattle.scratch_dev.specs.Rows.{Ended, IsStored, Walked, stores_in, uncounted_in, stores_at, uncounted, CountsStores}
+use Rattle.pin_core.proofs.Rowed.{at_slot}
+
+-- one slot counts so many stores more, where it counts them still
+record Counts (n : ℕ) (a b : Option ℕ) : Type 0 where
+  short : uncounted_in a ≤ uncounted_in b
+  more : uncounted_in b ≡ 0 → stores_in a + n ≤ stores_in b
+
+-- a count at its last value, and one below it
+at_last : (n : ℕ) → leb last_count n ≡ true → uncounted_in (Some n) ≡ 1
+at_last n last = ap (λ (b : Bool). if b then 1 else 0) last
+
+below_last : (n : ℕ) → leb last_count n ≡ false → uncounted_in (Some n) ≡ 0
+below_last n below = ap (λ (b : Bool). if b then 1 else 0) below
+
+-- a count that doesn't fall, and rises below its last value
+rises : (before now n : ℕ) → before ≤ now → (now < last_count → before + n ≤ now) → Counts n (Some before) (Some now)
+rises before now n at_least more = elim (cases_Bool (leb last_count now)) [
+  | inl last ↦ elim (cases_Bool (leb last_count before)) [
+    | inl too ↦ record { short = omega (arith, at_last now last, at_last before too); more = λ zero. absurd (omega (arith, zero, at_last now last)) }
+    | inr less ↦ record { short = omega (arith, at_last now last, below_last before less); more = λ zero. absurd (omega (arith, zero, at_last now last)) }
+  ]
+  | inr below ↦
+      let under : now < last_count = leb-false last_count now below in
+      let too : leb last_count before ≡ false = lt-leb last_count before (omega (arith, at_least, under)) in
+      record { short = omega (arith, below_last now below, below_last before too); more = λ zero. more under }
+]
+
+-- one store that ended so
+one_store : (a b : Option ℕ) (ended : Ended) → CountsStore a b ended → Counts (if is_err ended then 0 else 1) a b
+one_store None None ended is = let one : uncounted_in None ≡ 1 = refl in record { short = omega (arith, one); more = λ zero. absurd (omega (arith, zero, one)) }
+one_store None (Some now) ended is = absurd (none-some now (sym is))
+one_store (Some before) None ended is = absurd is
+one_store (Some before) (Some now) (Ok u) is = rises before now 1 is.0 (λ below. let more : before < now = is.1 below in omega (arith, more))
+one_store (Some before) (Some now) (Err e) is = rises before now 0 is (λ below. omega (arith, is))
+
+module _ {D : Type 0} (slot : Ghosts D) where
+  -- what each slot counts more, the row counts in all
+  row_counts : (n : ℕ) (before now : List D) → length now ≡ length before → ((i : ℕ) (d : D) → i < length before → Counts n (slot.stores (slice_index_or before i d)) (slot.stores (slice_index_or now i d))) → CountsStores slot (length before * n) before now
+  row_counts n [] [] same each = record { short = omega arith; stores = λ zero. omega arith }
+  row_counts n [] (y ∷ ys) same each = absurd (omega (arith, same))
+  row_counts n (x ∷ xs) [] same each = absurd (omega (arith, same))
+  row_counts n (x ∷ xs) (y ∷ ys) same each =
+      let rest : CountsStores slot (length xs * n) xs ys = row_counts n xs ys (omega (arith, same)) (λ i d lt. each (suc i) d (omega (arith, lt))) in
+      let here : Counts n (slot.stores x) (slot.stores y) = each 0 x (omega arith) in
+      let short_x = sum_by-cons (uncounted slot) x xs in
+      let short_y = sum_by-cons (uncounted slot) y ys in
+      let stores_x = sum_by-cons (stores_at slot) x xs in
+      let stores_y = sum_by-cons (stores_at slot) y ys in
+      record {
+        short = omega (arith, rest.short, here.short, short_x, short_y);
+        stores = λ zero.
+            let first : uncounted_in (slot.stores y) ≡ 0 = omega (arith, zero, short_y) in
+            let later : sum_by (uncounted slot) ys ≡ 0 = omega (arith, zero, short_y) in
+            omega (arith, rest.stores later, here.more first, stores_x, stores_y);
+      }
+
+  -- a slot that no store met counts as many
+  unmet : (a : Option ℕ) → Counts 0 a a
+  unmet a = record { short = omega arith; more = λ zero. omega arith }
+
+  weaker : (n : ℕ) (a b : Option ℕ) → Counts n a b → Counts 0 a b
+  weaker n a b c = record { short = c.short; more = λ zero. omega (arith, c.more zero) }
+
+  module _ (block : ℕ → List ℕ) (before now : List D) (same : length now ≡ length before) where
+    pub stores_counted : (ended : Ended) → Walked (λ i. IsStored slot (block i)) ended before now → CountsStores slot (if is_err ended then 0 else length before) before now
+    stores_counted (Ok u) walked =
+        subst (λ (n : ℕ). CountsStores slot n before now) (omega arith)
+        (row_counts 1 before now same (λ i d lt. one_store _ _ (Ok tt) (walked i d lt).stores))
+    stores_counted (Err e) walked =
+        subst (λ (n : ℕ). CountsStores slot n before now) (omega arith)
+        (row_counts 0 before now same
+        (λ i d lt. at_slot (λ i. IsStored slot (block i)) (λ a b. Counts 0 (slot.stores a) (slot.stores b)) (λ i r a b is. weaker _ _ _ (one_store _ _ r is.stores)) (λ d. unmet (slot.stores d)) (Err e) before now walked i d lt))
