@@ -1,3 +1,4 @@
 pub mod Stored
 pub mod Held
 pub mod Putting
+pub mod Emission
