@@ -7,6 +7,7 @@
 #![tactic(auto)]
 
 mod flushing;
+mod growing;
 mod joining;
 mod putting;
 mod stored;
