@@ -52,6 +52,7 @@ leaves_then t a b c first second =
     record {
       others = others_then (Some t) a.held b.held c.held first.others second.others;
       grows = grows_trans a.signs b.signs c.signs first.grows second.grows;
+      reserved = let one = first.reserved in let two = second.reserved in omega (arith, one, two);
       room = let one = first.room in let two = second.room in omega (arith, one, two);
     }
 

@@ -65,7 +65,7 @@ works_none t shape table p h signs held entries =
     record {
       held = held;
       entries = entries;
-      leaves = record { others = same_all t h; grows = grows_refl signs; room = omega arith };
+      leaves = record { others = same_all t h; grows = grows_refl signs; reserved = omega arith; room = omega arith };
       blocks = refl;
       levels = refl;
       many = refl;

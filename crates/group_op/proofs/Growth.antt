@@ -49,7 +49,7 @@ pub record Turns (t : ℕ) (old new : Holdings) : Type 0 where
   pub went : (q : ℕ) (loan : LiveLoan) → loan.client ≢ t → old.loans q ≡ Some loan → new.loans q ≡ Some loan
 
 module _ (t : ℕ) (old new : Holdings) (turns : Turns t old new) where
-  others_turned : OthersStay (Some t) old new
+  pub others_turned : OthersStay (Some t) old new
   others_turned =
       record {
         block_len = turns.block_len;
@@ -74,7 +74,7 @@ module _ (t : ℕ) (old new : Holdings) (turns : Turns t old new) where
       }
 
   module _ (p : Stack) (before after : Signs) where
-    owns_turned : (had has : ℕ) → Owns t had (over p old before) → unused_of t new + has + (account_of t old).reservation ≡ unused_of t old + had + (account_of t new).reservation → Owns t has (over p new after)
+    pub owns_turned : (had has : ℕ) → Owns t had (over p old before) → unused_of t new + has + (account_of t old).reservation ≡ unused_of t old + had + (account_of t new).reservation → Owns t has (over p new after)
     owns_turned had has owns moved =
         record {
           lives = turns.lives;
@@ -123,17 +123,17 @@ module _ (t len : ℕ) (old new : Holdings) (lives : IsSome (old.clients t)) (is
 
 -- ---- the state in between
 
-page_lens : (p : Stack) (old new : Holdings) → new.block_len ≡ old.block_len → length_of p.page_blocks new ≡ length_of p.page_blocks old
+pub page_lens : (p : Stack) (old new : Holdings) → new.block_len ≡ old.block_len → length_of p.page_blocks new ≡ length_of p.page_blocks old
 page_lens p old new same = ap (λ (n : ℕ). p.page_blocks * n) same
 
 works_turned : (t : ℕ) (shape : Shape) (table now : Table) (p : Stack) (old new : Holdings) (before after : Signs) → Turns t old new → Grows before after
-    → old.room + (account_of t old).reservation ≤ new.room + (account_of t new).reservation
+    → (account_of t old).reservation ≤ (account_of t new).reservation → old.room + (account_of t old).reservation ≤ new.room + (account_of t new).reservation
     → IsHeld t (state now p new after) → AreEntries shape (length_of p.page_blocks old) now → Works t shape (state table p old before) (state now p new after)
-works_turned t shape table now p old new before after turns grows room held entries =
+works_turned t shape table now p old new before after turns grows reserved room held entries =
     record {
       held = held;
       entries = subst (λ (n : ℕ). AreEntries shape n now) (sym (page_lens p old new turns.block_len)) entries;
-      leaves = record { others = others_turned t old new turns; grows = grows; room = room };
+      leaves = record { others = others_turned t old new turns; grows = grows; reserved = reserved; room = room };
       blocks = refl;
       levels = refl;
       many = refl;
@@ -172,7 +172,7 @@ module _ (t : ℕ) (table : Table) (p : Stack) (old new : Holdings) (before afte
   works_reserved shape grows entries =
       let more = reserved_more t (length_of p.page_blocks old) old new held.owns.lives is in
       let room : new.room ≡ old.room - length_of p.page_blocks old = ap (λ (h : Holdings). h.room) is in
-      works_turned t shape table table p old new before after turned grows (omega (arith, more, room)) held_reserved entries
+      works_turned t shape table table p old new before after turned grows (omega (arith, more)) (omega (arith, more, room)) held_reserved entries
 
 -- ---- lent
 
@@ -180,16 +180,12 @@ loan_client : (o : Option LiveLoan) (loan : LiveLoan) → o ≡ Some loan → (o
 loan_client None loan is = absurd (none-some loan is)
 loan_client (Some found) loan is = ap (λ (l : LiveLoan). l.client) (same_Some found loan is)
 
-module _ (t : ℕ) (loan : Lent) (old new : Holdings) (lends : Lends t (loan ∷ []) old new) where
-  not_lent : (q : ℕ) (other : LiveLoan) → other.client ≢ t → new.loans q ≡ Some other → q ≢ loan.number
-  not_lent q other apart there same =
-      let own : IsOwn t new loan = All-head (IsOwn t new) loan [] lends.own in
-      apart (sym (loan_client (new.loans q) other there) ∙ ap (λ (n : ℕ). (loan_of n new).client) same ∙ own.held)
+apart_of : (P : Lent → Type 0) (q : ℕ) (loans : List Lent) → ((l : Lent) → P l → l.number ≢ q) → All P loans → IsApart q loans
+apart_of P q [] other all = All-nil (λ l. l.number ≢ q)
+apart_of P q (l ∷ loans) other all = All-cons (λ l. l.number ≢ q) l loans (other l (All-head P l loans all)) (apart_of P q loans other (All-tail P l loans all))
 
-  apart_from : (q : ℕ) → q ≢ loan.number → IsApart q (loan ∷ [])
-  apart_from q other = All-cons (λ l. l.number ≢ q) loan [] (λ same. other (sym same)) (All-nil (λ l. l.number ≢ q))
-
-  turns_lent : Turns t old new
+module _ (t : ℕ) (loans : List Lent) (old new : Holdings) (lends : Lends t loans old new) where
+  pub turns_lent : Turns t old new
   turns_lent =
       record {
         block_len = ap (λ (h : Holdings). h.block_len) lends.rest;
@@ -202,21 +198,21 @@ module _ (t : ℕ) (loan : Lent) (old new : Holdings) (lends : Lends t (loan ∷
         reservation = let now = ap (λ (h : Holdings). h.reservation) lends.rest in omega (arith, now);
         lives = lends.is;
         clients = lends.clients;
-        came = λ q other apart there. sym (lends.others q (apart_from q (not_lent q other apart there))) ∙ there;
+        came = λ q other apart there.
+            sym (lends.others q (apart_of (IsOwn t new) q loans (λ l own same.
+            apart (sym (loan_client (new.loans q) other there) ∙ sym (ap (λ (n : ℕ). (loan_of n new).client) same) ∙ own.held)) lends.own)) ∙ there;
         went = λ q other apart there.
-            elim (cases_eq q loan.number) [
-              | inl same ↦ absurd (none-some other (sym (All-head (λ l. old.loans l.number ≡ None) loan [] lends.fresh) ∙ ap (λ (n : ℕ). old.loans n) (sym same) ∙ there))
-              | inr differs ↦ lends.others q (apart_from q differs) ∙ there
-            ];
+            lends.others q (apart_of (λ l. old.loans l.number ≡ None) q loans (λ l fresh same.
+            none-some other (sym fresh ∙ ap (λ (n : ℕ). old.loans n) same ∙ there)) lends.fresh) ∙ there;
       }
 
-  lent_reservation : (account_of t new).reservation ≡ (account_of t old).reservation
+  pub lent_reservation : (account_of t new).reservation ≡ (account_of t old).reservation
   lent_reservation = sym (ap (λ (a : Account). a.reservation) lends.charged)
 
-  lent_unused : unused_of t old ≡ unused_of t new + bytes_of (loan ∷ [])
+  pub lent_unused : unused_of t old ≡ unused_of t new + bytes_of loans
   lent_unused = ap (λ (a : Account). a.unused) lends.charged
 
-  lent_room : new.room ≡ old.room
+  pub lent_room : new.room ≡ old.room
   lent_room = ap (λ (h : Holdings). h.room) lends.rest
 
 apart_front : (q : ℕ) (xs ys : List Lent) → IsApart q (xs ++ ys) → IsApart q xs
@@ -232,7 +228,7 @@ module _ (t : ℕ) (table now : Table) (p : Stack) (old new : Holdings) (before 
   lends_now = subst (λ (k : ℕ). Lends k (grew.loan ∷ []) old new) held.client grew.lends
 
   turned_lent : Turns t old new
-  turned_lent = turns_lent t grew.loan old new lends_now
+  turned_lent = turns_lent t (grew.loan ∷ []) old new lends_now
 
   loans_now : loans_of now ≡ loans_of table ++ grew.loan ∷ []
   loans_now = ap loans_of grew.table ∙ sym (append_assoc table.head_loans table.node_loans (grew.loan ∷ []))
@@ -252,8 +248,8 @@ module _ (t : ℕ) (table now : Table) (p : Stack) (old new : Holdings) (before 
   pub held_grown : IsHeld t (state now p new after)
   held_grown =
       let more = lent_now in
-      let own = lent_reservation t grew.loan old new lends_now in
-      let unused = lent_unused t grew.loan old new lends_now in
+      let own = lent_reservation t (grew.loan ∷ []) old new lends_now in
+      let unused = lent_unused t (grew.loan ∷ []) old new lends_now in
       let one = one_len in
       record {
         owns = owns_turned t old new turned_lent p before after (lent (state table p old before)) (lent (state now p new after)) held.owns (omega (arith, more, own, unused, one));
@@ -275,9 +271,9 @@ module _ (t : ℕ) (table now : Table) (p : Stack) (old new : Holdings) (before 
 
   pub works_grown : (shape : Shape) → Grows before after → AreEntries shape (length_of p.page_blocks old) table → Works t shape (state table p old before) (state now p new after)
   works_grown shape grows entries =
-      let own = lent_reservation t grew.loan old new lends_now in
-      let room = lent_room t grew.loan old new lends_now in
-      works_turned t shape table now p old new before after turned_lent grows (omega (arith, own, room)) held_grown (entries_grown shape (length_of p.page_blocks old) entries)
+      let own = lent_reservation t (grew.loan ∷ []) old new lends_now in
+      let room = lent_room t (grew.loan ∷ []) old new lends_now in
+      works_turned t shape table now p old new before after turned_lent grows (omega (arith, own)) (omega (arith, own, room)) held_grown (entries_grown shape (length_of p.page_blocks old) entries)
 
 -- ---- the whole of it
 
@@ -309,7 +305,7 @@ grown_refused t shape table p old new before after held entries same grows enter
       works = record {
         held = record { owns = record { lives = held.owns.lives; shaped = record { each = held.owns.shaped.each; apart = held.owns.shaped.apart }; only = held.owns.only; even = held.owns.even }; table = held.table; client = held.client; blocks = held.blocks; loans = held.loans; room = held.room };
         entries = entries;
-        leaves = record { others = (works_none t shape table p old before held entries).leaves.others; grows = grows; room = omega arith };
+        leaves = record { others = (works_none t shape table p old before held entries).leaves.others; grows = grows; reserved = omega arith; room = omega arith };
         blocks = refl;
         levels = refl;
         many = refl;
