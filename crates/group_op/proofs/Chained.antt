@@ -3,10 +3,11 @@ use Rattle.std.proofs.Common.{◌≡◌, ◌∙◌, ℕ, Option, Some, arith}
 use Rattle.store_api.specs.Alike.{Alike}
 use Rattle.store_api.specs.Emitters.{OthersStay, SameFor}
 use Rattle.store_api.specs.Holdings.{Holdings}
+use Rattle.store_api.specs.Signs.{Signs}
 use Rattle.store_api.specs.declared.shapes.Shape.{Shape}
 use Rattle.store_api.proofs.Growing.{grows_trans}
 use Rattle.store_api.proofs.Reserved.{alike_on}
-use Rattle.group_op.specs.Held.{Leaves, State}
+use Rattle.group_op.specs.Held.{Leaves, LeavesOthers, State}
 use Rattle.group_op.specs.Putting.{Works}
 
 same_then : (t : ℕ) (a b c : Holdings) → SameFor t a b → SameFor t b c → SameFor t a c
@@ -47,14 +48,17 @@ others_then client a b c first second =
       alone = λ none. alike_then a b c (first.alone none) (second.alone none);
     }
 
-pub leaves_then : (t : ℕ) (a b c : State) → Leaves t a b → Leaves t b c → Leaves t a c
-leaves_then t a b c first second =
+pub leaves_both : (t : ℕ) (a b c : Holdings) (first second third : Signs) → LeavesOthers t a b first second → LeavesOthers t b c second third → LeavesOthers t a c first third
+leaves_both t a b c first second third one two =
     record {
-      others = others_then (Some t) a.held b.held c.held first.others second.others;
-      grows = grows_trans a.signs b.signs c.signs first.grows second.grows;
-      reserved = let one = first.reserved in let two = second.reserved in omega (arith, one, two);
-      room = let one = first.room in let two = second.room in omega (arith, one, two);
+      others = others_then (Some t) a b c one.others two.others;
+      grows = grows_trans first second third one.grows two.grows;
+      reserved = let early = one.reserved in let late = two.reserved in omega (arith, early, late);
+      room = let early = one.room in let late = two.room in omega (arith, early, late);
     }
+
+pub leaves_then : (t : ℕ) (a b c : State) → Leaves t a b → Leaves t b c → Leaves t a c
+leaves_then t a b c one two = leaves_both t a.held b.held c.held a.signs b.signs c.signs one two
 
 pub works_then : (t : ℕ) (shape : Shape) (a b c : State) → Works t shape a b → Works t shape b c → Works t shape a c
 works_then t shape a b c first second =

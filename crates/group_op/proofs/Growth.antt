@@ -176,11 +176,11 @@ module _ (t : ℕ) (table : Table) (p : Stack) (old new : Holdings) (before afte
 
 -- ---- lent
 
-loan_client : (o : Option LiveLoan) (loan : LiveLoan) → o ≡ Some loan → (or_else no_loan o).client ≡ loan.client
+pub loan_client : (o : Option LiveLoan) (loan : LiveLoan) → o ≡ Some loan → (or_else no_loan o).client ≡ loan.client
 loan_client None loan is = absurd (none-some loan is)
 loan_client (Some found) loan is = ap (λ (l : LiveLoan). l.client) (same_Some found loan is)
 
-apart_of : (P : Lent → Type 0) (q : ℕ) (loans : List Lent) → ((l : Lent) → P l → l.number ≢ q) → All P loans → IsApart q loans
+pub apart_of : (P : Lent → Type 0) (q : ℕ) (loans : List Lent) → ((l : Lent) → P l → l.number ≢ q) → All P loans → IsApart q loans
 apart_of P q [] other all = All-nil (λ l. l.number ≢ q)
 apart_of P q (l ∷ loans) other all = All-cons (λ l. l.number ≢ q) l loans (other l (All-head P l loans all)) (apart_of P q loans other (All-tail P l loans all))
 

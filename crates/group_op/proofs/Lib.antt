@@ -19,3 +19,4 @@ pub mod Deals
 pub mod Growth
 pub mod Opened
 pub mod Kept
+pub mod Ended

@@ -50,6 +50,7 @@ impl GroupOp {
         ensures leaves { LeavesOthers self.old.client.tracker (St.holds store.old) (St.holds store.new) (St.signs store.old) (St.signs store.new) }
         ensures cause { IfErr result (CameOfStore self.old.parts.page_blocks (St.holds store.new) (St.signs store.old) (St.signs store.new)) }
     {
+        let _len = store.block_len();
         if spell(row, &self.shape, &mut self.fed).is_err() {
             return Err(OpErr::Pool(PoolErr::Memory));
         }

@@ -6,6 +6,7 @@
 //! table to the sixteen partitions of a level.
 #![tactic(auto)]
 
+mod ending;
 mod feeding;
 mod flushing;
 mod growing;

@@ -1,0 +1,53 @@
+use Rattle.std.proofs.Common.{◌≡◌, ◌∙◌, ℕ, Option, Some, None, ap, sym, subst}
+use Rattle.store_api.specs.Conditions.{IsIdle}
+use Rattle.store_api.specs.Holdings.{Holdings}
+use Rattle.store_api.specs.Signs.{Signs}
+use Rattle.bucket_table.specs.Tables.{Table}
+use Rattle.group_op.specs.Held.{LeavesOthers, lent, state}
+use Rattle.group_op.specs.Operator.{IsOperator, Operator, operator}
+use Rattle.group_op.proofs.Ended.{ended_idle, ended_leaves, freed_all, freed_idle}
+use Rattle.group_op.proofs.operator.GroupOp.end.Goals as goal
+
+pub returns-in-Some-clause-idle : goal.returns-in-Some-clause-idle
+returns-in-Some-clause-idle g c =
+    let me = c.self.inside in
+    let h : Holdings = g.St.Store.holds c.args.store.now in
+    let s : Signs = g.St.Store.signs c.args.store.now in
+    let is : IsOperator (operator me.client me.shape me.parts (Some c.in-Some.table)) h s =
+    subst (λ (o : Operator). IsOperator o h s) (sym c.self.view_is ∙ ap (λ (x : Option Table). operator me.client me.shape me.parts x) c.in-Some.is) c.requires in
+    let held = is.has.0 in
+    subst (λ (t : ℕ). IsIdle t (g.St.Store.holds c.close.new.store)) (ap (λ (o : Operator). o.client.tracker) c.self.view_is)
+    (freed_idle me.client.tracker (lent (state c.in-Some.table me.parts h s)) me.parts h (g.St.Store.holds c.end.new.store) s (g.St.Store.signs c.end.new.store) held.owns c.end.ensures
+    c.in-Some.table (g.St.Store.holds c.close.new.store) s (g.St.Store.signs c.close.new.store) held.client held.loans c.close.ensures.lends)
+
+pub returns-in-Some-clause-leaves : goal.returns-in-Some-clause-leaves
+returns-in-Some-clause-leaves g c =
+    let me = c.self.inside in
+    let h : Holdings = g.St.Store.holds c.args.store.now in
+    let s : Signs = g.St.Store.signs c.args.store.now in
+    let is : IsOperator (operator me.client me.shape me.parts (Some c.in-Some.table)) h s =
+    subst (λ (o : Operator). IsOperator o h s) (sym c.self.view_is ∙ ap (λ (x : Option Table). operator me.client me.shape me.parts x) c.in-Some.is) c.requires in
+    let held = is.has.0 in
+    subst (λ (t : ℕ). LeavesOthers t h (g.St.Store.holds c.close.new.store) s (g.St.Store.signs c.close.new.store)) (ap (λ (o : Operator). o.client.tracker) c.self.view_is)
+    (freed_all me.client.tracker (lent (state c.in-Some.table me.parts h s)) me.parts h (g.St.Store.holds c.end.new.store) s (g.St.Store.signs c.end.new.store) held.owns c.end.ensures
+    c.in-Some.table (g.St.Store.holds c.close.new.store) s (g.St.Store.signs c.close.new.store) held.client held.loans c.close.ensures.lends c.close.ensures.grows)
+
+pub returns-in_default-clause-idle : goal.returns-in_default-clause-idle
+returns-in_default-clause-idle g c =
+    let me = c.self.inside in
+    let h : Holdings = g.St.Store.holds c.args.store.now in
+    let s : Signs = g.St.Store.signs c.args.store.now in
+    let is : IsOperator (operator me.client me.shape me.parts None) h s =
+    subst (λ (o : Operator). IsOperator o h s) (sym c.self.view_is ∙ ap (λ (x : Option Table). operator me.client me.shape me.parts x) c.in_default.is) c.requires in
+    subst (λ (t : ℕ). IsIdle t (g.St.Store.holds c.end.new.store)) (ap (λ (o : Operator). o.client.tracker) c.self.view_is)
+    (ended_idle me.client.tracker 0 me.parts h (g.St.Store.holds c.end.new.store) s (g.St.Store.signs c.end.new.store) is.has.0 c.end.ensures is.has.1)
+
+pub returns-in_default-clause-leaves : goal.returns-in_default-clause-leaves
+returns-in_default-clause-leaves g c =
+    let me = c.self.inside in
+    let h : Holdings = g.St.Store.holds c.args.store.now in
+    let s : Signs = g.St.Store.signs c.args.store.now in
+    let is : IsOperator (operator me.client me.shape me.parts None) h s =
+    subst (λ (o : Operator). IsOperator o h s) (sym c.self.view_is ∙ ap (λ (x : Option Table). operator me.client me.shape me.parts x) c.in_default.is) c.requires in
+    subst (λ (t : ℕ). LeavesOthers t h (g.St.Store.holds c.end.new.store) s (g.St.Store.signs c.end.new.store)) (ap (λ (o : Operator). o.client.tracker) c.self.view_is)
+    (ended_leaves me.client.tracker 0 me.parts h (g.St.Store.holds c.end.new.store) s (g.St.Store.signs c.end.new.store) is.has.0 c.end.ensures)

@@ -1,0 +1,32 @@
+//! A grouping ends.
+ghost use Rattle.std.specs.Prelude.{◌≡◌};
+ghost use Rattle.group_op.specs.Held.{LeavesOthers};
+ghost use Rattle.group_op.specs.Operator.{IsOperator};
+ghost use Rattle.store_api.specs.Conditions.{IsIdle};
+
+use crate::operator::GroupOp;
+use store_api::{Client, Store};
+
+impl GroupOp {
+    /// Ends the grouping, and gives its client back, which has no page and no loan from then on. This takes no memory.
+    pub fn end<St: Store>(self, store: &mut St) -> Client
+        requires { IsOperator self (St.holds store.old) (St.signs store.old) }
+        ensures client { result ≡ self.client }
+        ensures idle { IsIdle self.client.tracker (St.holds store.new) }
+        ensures leaves { LeavesOthers self.client.tracker (St.holds store.old) (St.holds store.new) (St.signs store.old) (St.signs store.new) }
+    {
+        let GroupOp {
+            client,
+            shape: _,
+            parts,
+            table,
+            fed: _,
+            moved: _,
+        } = self;
+        parts.end(store, &client);
+        if let Some(table) = table {
+            table.close(store);
+        }
+        client
+    }
+}
