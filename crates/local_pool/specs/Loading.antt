@@ -18,6 +18,7 @@ use Rattle.pin_core.specs.Jobs.{IsReadJob}
 use Rattle.pin_core.specs.Runs.{AllTell}
 use Rattle.local_pool.specs.declared.owned.Owned.{Owned}
 use Rattle.local_pool.specs.Told.{silence}
+use Rattle.local_pool.specs.Counting.{Counted, all_failures, tally_in, tally_with}
 
 module _ {D : Type 0} (slot : Ghosts D) where
   -- the job is to load a page of the owner, from slots that hold what it left there last
@@ -34,6 +35,8 @@ module _ {D : Type 0} (slot : Ghosts D) where
     pub state : state_of new.pool ≡ run (state_of old.pool) (by old.session (end ∷ []))
     pub stands : (o : Opening) → StandsFor slot o old.trail old.pool → StandsFor slot o new.trail new.pool
     pub silence : slots_home (silence slot) new.pool ≡ slots_home (silence slot) old.pool + sum_by (silence slot) row
+    pub opened : new.opened ≡ old.opened
+    pub counted : Counted (all_failures (by old.session (end ∷ []))) 0 (tally_with slot old.pool row) (tally_in slot new.pool)
 
   -- the page is pinned with its buffer, which shows what was left, where the slots tell it
   pub record IsRead (job : ReadJob D) (buf : Buffer) (old new : Owned D) : Type 0 where

@@ -23,6 +23,7 @@ use Rattle.pin_core.specs.Jobs.{IsWriteJob}
 use Rattle.pin_core.specs.Turns.{failure_of, LacksRoom}
 use Rattle.local_pool.specs.declared.owned.Owned.{Owned}
 use Rattle.local_pool.specs.Told.{silence, held_of}
+use Rattle.local_pool.specs.Counting.{Counted, all_failures, tally_in, tally_with}
 use Rattle.local_pool.specs.Making.{Makes}
 use Rattle.local_pool.specs.declared.turning.Turn.{Turn}
 use Rattle.local_pool.specs.declared.turning.Turn.TheVariants.{Ready, Refused, Wrote}
@@ -33,6 +34,11 @@ abbrev pub IsEnd : ℕ → Event → Type 0
 IsEnd p (WriteOk q) = q ≡ p
 IsEnd p (WriteFailed q before now) = q ≡ p
 IsEnd p _ = ⊥
+
+-- so many blocks were stored, where the write ended well
+abbrev pub stored_with : ℕ → Event → ℕ
+stored_with blocks (WriteOk p) = blocks
+stored_with blocks _ = 0
 
 -- a page of the client was written, or a store of it failed
 pub record IsWrite (t : ℕ) (h : Holdings) (events : List Event) : Type 0 where
@@ -80,6 +86,8 @@ module _ {D : Type 0} (slot : Ghosts D) where
     pub state : state_of new.pool ≡ run (state_of old.pool) (by old.session (end ∷ []))
     pub stands : (o : Opening) → StandsFor slot o old.trail old.pool → StandsFor slot o new.trail new.pool
     pub silence : slots_home (silence slot) new.pool ≡ slots_home (silence slot) old.pool + sum_by (silence slot) job.row
+    pub opened : new.opened ≡ old.opened
+    pub counted : Counted (all_failures (by old.session (end ∷ []))) (stored_with (length job.row) end) (tally_with slot old.pool job.row) (tally_in slot new.pool)
 
   -- the job is to write a page of the owner, with the page's content
   pub record CanWrite (job : WriteJob D) (own : Owned D) : Type 0 where

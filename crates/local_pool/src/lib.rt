@@ -16,9 +16,11 @@ mod owned;
 mod pinning;
 mod pins;
 mod shrinking;
+mod tally;
 mod trackers;
 mod turning;
 mod writing;
 
 pub use owned::{Alone, Owned};
+pub use tally::Tally;
 pub use turning::Turn;

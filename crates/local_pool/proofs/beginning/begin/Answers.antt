@@ -58,7 +58,7 @@ invariant_of-result g c =
     let o : Opening = opening_of c.args._conf.now (spare_of c.args.pool) in
     let fresh : StandsFor g.D.Slot o [] c.args.pool = c.requires.fresh o (is_opening c.args._conf.now (spare_of c.args.pool)) in
     let q : ℕ = query_of (state_of c.open_session.new.self) c.in-Ok.session in
-    let own : Owned g.row.D.Denot = record { pool = c.open_session.new.self; trail = c.enter-2.new.trail; session = c.in-Ok.session } in
+    let own : Owned g.row.D.Denot = record { pool = c.open_session.new.self; trail = c.enter-2.new.trail; session = c.in-Ok.session; opened = c.in-Ok.opened } in
     let trail : own.trail ≡ by own.session (first_events q c.args.limit c.args.quota c.args.least) =
     trail_is c.args.trail c.enter.new.trail c.enter-2.new.trail c.in-Ok.session c.tracker-tracker.result q c.of.result c.args.limit c.args.quota c.args.least c.requires.empty c.tracker-tracker.ensures c.of.ensures c.enter.ensures c.enter-2.ensures in
     stands_first g.D.Slot own q c.args.limit c.args.quota c.args.least trail c.args._conf.now o (is_opening c.args._conf.now (spare_of c.args.pool))
@@ -69,7 +69,7 @@ returns-clause-ok g c =
     let o : Opening = opening_of c.args._conf.now (spare_of c.args.pool) in
     let fresh : StandsFor g.D.Slot o [] c.args.pool = c.requires.fresh o (is_opening c.args._conf.now (spare_of c.args.pool)) in
     let q : ℕ = query_of (state_of c.open_session.new.self) c.in-Ok.session in
-    let own : Owned g.row.D.Denot = record { pool = c.open_session.new.self; trail = c.enter-2.new.trail; session = c.in-Ok.session } in
+    let own : Owned g.row.D.Denot = record { pool = c.open_session.new.self; trail = c.enter-2.new.trail; session = c.in-Ok.session; opened = c.in-Ok.opened } in
     let trail : own.trail ≡ by own.session (first_events q c.args.limit c.args.quota c.args.least) =
     trail_is c.args.trail c.enter.new.trail c.enter-2.new.trail c.in-Ok.session c.tracker-tracker.result q c.of.result c.args.limit c.args.quota c.args.least c.requires.empty c.tracker-tracker.ensures c.of.ensures c.enter.ensures c.enter-2.ensures in
     begun g.D.Slot own q c.args.limit c.args.quota c.args.least trail c.args._conf.now o (is_opening c.args._conf.now (spare_of c.args.pool))
@@ -78,7 +78,7 @@ returns-clause-ok g c =
 pub returns-clause-trail : goal.returns-clause-trail
 returns-clause-trail g c =
     let q : ℕ = query_of (state_of c.open_session.new.self) c.in-Ok.session in
-    let own : Owned g.row.D.Denot = record { pool = c.open_session.new.self; trail = c.enter-2.new.trail; session = c.in-Ok.session } in
+    let own : Owned g.row.D.Denot = record { pool = c.open_session.new.self; trail = c.enter-2.new.trail; session = c.in-Ok.session; opened = c.in-Ok.opened } in
     let trail : own.trail ≡ by own.session (first_events q c.args.limit c.args.quota c.args.least) =
     trail_is c.args.trail c.enter.new.trail c.enter-2.new.trail c.in-Ok.session c.tracker-tracker.result q c.of.result c.args.limit c.args.quota c.args.least c.requires.empty c.tracker-tracker.ensures c.of.ensures c.enter.ensures c.enter-2.ensures in
     trail ∙ ap (λ (k : ℕ). by own.session (first_events k c.args.limit c.args.quota c.args.least)) (sym (first_query g.D.Slot own q c.args.limit c.args.quota c.args.least trail))
