@@ -11,7 +11,7 @@ use Rattle.reservation_tree.specs.Change.{Refusal}
 use Rattle.reservation_tree.specs.Change.{move_refusal as tree_move_refusal}
 use Rattle.reservation_tree.specs.Tracker.{Tracker, IsLive, no_tracker, limit_of, reservation_of}
 use Rattle.pool_model.specs.declared.event.Event.{Event}
-use Rattle.pool_model.specs.declared.event.Event.TheVariants.{AddTracker, CloseTracker, Increase, IncreaseToFit, Decrease, MoveReservation, PinLoad, StartWrite}
+use Rattle.pool_model.specs.declared.event.Event.TheVariants.{AddTracker, CloseTracker, Increase, IncreaseToFit, Decrease, MoveReservation, PinLoad, StartWrite, ReadOk, ReadFailed, WriteOk, WriteFailed}
 use Rattle.pool_model.specs.declared.entry.Entry.{Entry}
 use Rattle.pool_model.specs.State.{Opening, Session, State}
 use Rattle.pool_model.specs.Sums.{charge_of, memory}
@@ -102,8 +102,12 @@ bytes_calm (CloseTracker t) of = let never : false ≡ true = of in cc
 bytes_calm _ of = refl
 
 bytes_rest : (e : Event) → is_of_bytes e ≡ true → rests e ≡ true
-bytes_rest (PinLoad p) of = let never : false ≡ true = of in cc
-bytes_rest (StartWrite p) of = let never : false ≡ true = of in cc
+bytes_rest (PinLoad p) of = of
+bytes_rest (ReadOk p) of = of
+bytes_rest (ReadFailed p before now) of = of
+bytes_rest (StartWrite p) of = of
+bytes_rest (WriteOk p) of = of
+bytes_rest (WriteFailed p before now) of = of
 bytes_rest _ of = refl
 
 either_live : (b : Bool) (u v : Holdings) → is_some u.free_slots ≡ true → is_some v.free_slots ≡ true → is_some (if b then u else v).free_slots ≡ true
