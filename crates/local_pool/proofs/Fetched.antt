@@ -194,7 +194,7 @@ module _ {D : Type 0} (slot : Ghosts D) (own : Owned D) (is : Stands slot own) (
         slots = λ rest. absurd (fetching_moves (names_gone x.blocks own.pool) p.name (end ∷ []) rest);
         told =
             let out = enters.slots (silence slot) in
-            let back : slots_home (silence slot) new.pool ≡ slots_home (silence slot) went.pool + sum_by (silence slot) job.row = ret.silence in
+            let back : slots_home (silence slot) new.pool ≡ slots_home (silence slot) went.pool + sum_by (silence slot) job.row = ret.counted.silent in
             let same : slots_home (silence slot) new.pool ≡ slots_home (silence slot) own.pool = omega (arith, out, back) in
             ap (λ (n : ℕ). n == 0) same;
       }

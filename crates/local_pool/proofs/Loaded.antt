@@ -80,7 +80,6 @@ module _ {D : Type 0} (slot : Ghosts D) (old new : Owned D) (job ran : ReadJob D
           opened = ap (λ f. f.1) session;
           state = it.state ∙ ap (after s) entry_is;
           stands = λ o stood. subst (λ (h : List Entry). StandsFor slot o h new.pool) (ap (λ (e : Entry). old.trail ++ e ∷ []) entry_is ∙ sym trail) (it.stands o old.trail stood (holds held o stood));
-          silence = it.slots (silence slot) ∙ ap (λ (n : ℕ). slots_home (silence slot) old.pool + n) (same_silence slot ran.row job.row tells);
           counted =
               subst (Counted (all_failures (by old.session (end ∷ []))) 0 (tally_with slot old.pool job.row))
               (tally_same slot (λ measure. slots_home measure old.pool + sum_by measure ran.row) (λ measure. slots_home measure new.pool) (λ measure. sym (it.slots measure))) counts;

@@ -144,7 +144,7 @@ module _ {D : Type 0} (slot : Ghosts D) (own : Owned D) (is : Stands slot own) w
         slots = λ rest. let never : false ≡ true = rest.0 in absurd (false≢true never);
         told =
             let out = enters.slots (silence slot) in
-            let back : slots_home (silence slot) new.pool ≡ slots_home (silence slot) pool + sum_by (silence slot) job.row = ends.silence ∙ ap (λ (v : Parts D). slots_home (silence slot) v + sum_by (silence slot) job.row) pool_is in
+            let back : slots_home (silence slot) new.pool ≡ slots_home (silence slot) pool + sum_by (silence slot) job.row = ends.counted.silent ∙ ap (λ (v : Parts D). slots_home (silence slot) v + sum_by (silence slot) job.row) pool_is in
             let same : slots_home (silence slot) new.pool ≡ slots_home (silence slot) own.pool = omega (arith, out, back) in
             ap (λ (n : ℕ). n == 0) same;
       }

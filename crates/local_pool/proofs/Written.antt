@@ -101,7 +101,6 @@ module _ {D : Type 0} (slot : Ghosts D) where
       opened = ap (λ f. f.1) session;
       state = enters.state ∙ ap (after (state_of old.pool)) (entry_is before now);
       stands = λ o stood. subst (λ (h : List Entry). StandsFor slot o h new.pool) (sym trail) (enters.stands o old.trail stood (is_written held o stood));
-      silence = enters.slots (silence slot) ∙ ap (λ (n : ℕ). slots_home (silence slot) old.pool + n) (same_silence ran.row job.row tells);
       counted =
           subst (Counted (all_failures (by old.session (write_ends ran.failed ran.id.name before now ∷ []))) (stored_with (length job.row) (write_ends ran.failed ran.id.name before now)) (tally_with slot old.pool job.row))
           (tally_same slot (λ measure. slots_home measure old.pool + sum_by measure ran.row) (λ measure. slots_home measure new.pool) (λ measure. sym (enters.slots measure))) counts;
