@@ -10,7 +10,6 @@ use Rattle.pool_model.specs.declared.event.Event.TheVariants.{AddTracker, CloseT
 use Rattle.pool_model.specs.declared.entry.Entry.{Entry}
 use Rattle.pool_model.specs.State.{Opening, State}
 use Rattle.pool_model.specs.Sums.{memory}
-use Rattle.pool_model.specs.Legal.{run}
 use Rattle.pool_model.specs.LookingBack.{opens, made_by, names_in, name_in}
 use Rattle.pool_model.proofs.OwnEntries.{made_more}
 use Rattle.pool_model.proofs.Names.{legal_names_are_new}

@@ -24,8 +24,7 @@ use Rattle.pin_core.specs.Jobs.{IsReadJob}
 use Rattle.pin_core.specs.Returning.{EntersWhere, read_ends, read_entry}
 use Rattle.pin_core.specs.Returning.{IsRead as HoldsContent}
 use Rattle.local_pool.specs.declared.owned.Owned.{Owned}
-use Rattle.local_pool.specs.Told.{silence}
-use Rattle.local_pool.specs.Counting.{Counted, all_failures, tally_by, tally_in, tally_with}
+use Rattle.local_pool.specs.Counting.{Counted, all_failures, tally_by, tally_with}
 use Rattle.local_pool.specs.Loading.{CanRead, Returns, IsRead, IsUnread}
 use Rattle.local_pool.proofs.Contents.{content_told}
 use Rattle.local_pool.proofs.Written.{same_silence}

@@ -6,12 +6,12 @@ use Rattle.std.specs.Bool.{⊤}
 use Rattle.pool_model.specs.declared.event.Event.{Event}
 use Rattle.pool_model.specs.declared.event.Event.TheVariants.{WriteOk}
 use Rattle.pool_model.specs.declared.entry.Entry.{Entry}
-use Rattle.pool_model.specs.State.{Opening, State, opened}
+use Rattle.pool_model.specs.State.{Opening, State}
 use Rattle.pool_model.specs.LookingBack.{Made, maker_of}
 use Rattle.pool_model.specs.HistoryLaws.{made}
 use Rattle.pool_model.specs.MayFollow.{Allows, MayFollow}
 use Rattle.pool_model.specs.Effects.{after}
-use Rattle.pool_model.specs.Legal.{IsLegal, state_after}
+use Rattle.pool_model.specs.Legal.{IsLegal}
 use Rattle.pool_model.specs.Sound.{IsSound}
 use Rattle.pool_model.proofs.Made.{TellsPages, tells_on, still_made, legal_tells}
 use Rattle.pool_model.proofs.Fronts.{holds_after}

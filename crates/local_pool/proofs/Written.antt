@@ -23,7 +23,7 @@ use Rattle.pin_core.specs.Jobs.{IsWriteJob}
 use Rattle.pin_core.specs.Returning.{EntersWhere, IsWritten, write_ends, write_entry}
 use Rattle.local_pool.specs.declared.owned.Owned.{Owned}
 use Rattle.local_pool.specs.Told.{silence}
-use Rattle.local_pool.specs.Counting.{Counted, all_failures, tally_by, tally_in, tally_with}
+use Rattle.local_pool.specs.Counting.{Counted, all_failures, tally_by, tally_with}
 use Rattle.local_pool.specs.Turning.{IsEnd, Ends, CanWrite, stored_with}
 use Rattle.local_pool.proofs.Counting.{fixed, tally_same, came_back, fault_rises}
 
