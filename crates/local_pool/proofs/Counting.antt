@@ -3,15 +3,14 @@ use Rattle.std.proofs.Common.{◌≡◌, ℕ, ◌+◌, ◌<◌, ◌≤◌, List,
 use Rattle.std.proofs.lemmas.List.Elements.{filter-append}
 use Rattle.std.proofs.lemmas.List.Sums.{sum_by-cons, sum_by-append}
 use Rattle.std.specs.List.{sum_by, AllByRecursion}
-use Rattle.outside.specs.Counts.{last_count}
 use Rattle.outside.specs.declared.slot.Slot.{Ghosts}
 use Rattle.scratch_dev.specs.Rows.{stores_in, uncounted_in, stores_at, uncounted, faults_of, CountsStores}
 use Rattle.pool_model.specs.declared.event.Event.{Event}
 use Rattle.pool_model.specs.declared.event.Event.TheVariants.{ReadFailed, WriteOk, WriteFailed}
 use Rattle.pool_model.specs.declared.entry.Entry.{Entry}
 use Rattle.pool_model.specs.Failures.{fails}
-use Rattle.pool_model.specs.ScratchRows.{IsFault}
 use Rattle.store_api.specs.Entries.{by}
+use Rattle.pin_core.specs.Runs.{stuck, CountsFaults}
 use Rattle.local_pool.specs.declared.owned.Owned.{Owned}
 use Rattle.local_pool.specs.declared.tally.Tally.{Tally}
 use Rattle.local_pool.specs.Told.{silence}
@@ -24,19 +23,22 @@ fixed own = (own.session, own.opened)
 
 -- nothing happened
 pub uncounted_yet : (t : Tally) → Counted 0 0 t t
-uncounted_yet t = record { never_fall = omega arith; failed = λ below. omega arith; stores = λ all. omega arith; short = omega arith; silent = refl; slots = refl }
+uncounted_yet t = record { never_fall = omega arith; failed = λ free. omega arith; stays = omega arith; stores = λ all. omega arith; short = omega arith; silent = refl; slots = refl }
 
 pub counted_more : (f g b d : ℕ) (x y z : Tally) → Counted f b x y → Counted g d y z → Counted (f + g) (b + d) x z
 counted_more f g b d x y z one two =
     let fall = one.never_fall in
     let fall_too = two.never_fall in
     let short = one.short in
-    let short_too = two.short in record {
+    let short_too = two.short in
+    let stays = one.stays in
+    let stays_too = two.stays in record {
       never_fall = omega (arith, fall, fall_too);
-      failed = λ below.
-          let later = two.failed below in
-          let first = one.failed (omega (arith, below, fall_too)) in
+      failed = λ free.
+          let later = two.failed free in
+          let first = one.failed (omega (arith, free, stays_too)) in
           omega (arith, first, later);
+      stays = omega (arith, stays, stays_too);
       stores = λ all.
           let later = two.stores all in
           let first = one.stores (omega (arith, all, short_too)) in
@@ -51,12 +53,7 @@ counted_as f g b d x y failures blocks it = subst (λ (n : ℕ). Counted g n x y
 
 -- the same sums are the same tally
 pub tally_same : {D : Type 0} (slot : Ghosts D) (f g : (D → ℕ) → ℕ) → ((measure : D → ℕ) → f measure ≡ g measure) → tally_by slot f ≡ tally_by slot g
-tally_same slot f g same =
-    ap (λ (n : ℕ). record { faults = n; stores = f (stores_at slot); uncounted = f (uncounted slot); silent = f (silence slot); slots = f (λ d. 1) }) (same slot.faults)
-    ∙ ap (λ (n : ℕ). record { faults = g slot.faults; stores = n; uncounted = f (uncounted slot); silent = f (silence slot); slots = f (λ d. 1) }) (same (stores_at slot))
-    ∙ ap (λ (n : ℕ). record { faults = g slot.faults; stores = g (stores_at slot); uncounted = n; silent = f (silence slot); slots = f (λ d. 1) }) (same (uncounted slot))
-    ∙ ap (λ (n : ℕ). record { faults = g slot.faults; stores = g (stores_at slot); uncounted = g (uncounted slot); silent = n; slots = f (λ d. 1) }) (same (silence slot))
-    ∙ ap (λ (n : ℕ). record { faults = g slot.faults; stores = g (stores_at slot); uncounted = g (uncounted slot); silent = g (silence slot); slots = n }) (same (λ d. 1))
+tally_same slot f g same = λ i. tally_by slot (λ measure. same measure i)
 
 ones : {D : Type 0} (xs : List D) → sum_by (λ d. 1) xs ≡ length xs
 ones [] = refl
@@ -64,11 +61,6 @@ ones (x ∷ xs) =
     let first = sum_by-cons (λ d. 1) x xs in
     let rest = ones xs in
     omega (arith, first, rest)
-
--- a fault raises the count below its last value
-pub fault_rises : (before now : ℕ) → IsFault before now → now < last_count → before + 1 ≤ now
-fault_rises before now (inl more) below = omega (arith, more)
-fault_rises before now (inr last) below = absurd (omega (arith, last.0, last.1, below))
 
 -- slots with the same counts of stores
 map_sum : {D : Type 0} (f : D → Option ℕ) (g : Option ℕ → ℕ) (xs : List D) → sum_by (λ d. g (f d)) xs ≡ sum_by g (map f xs)
@@ -83,13 +75,15 @@ same_stores slot before now same =
 
 -- the slots of a job came back, beside those that were home
 pub came_back : {D : Type 0} (slot : Ghosts D) (home : (D → ℕ) → ℕ) (before now : List D) (failures blocks : ℕ)
-    → faults_of slot before ≤ faults_of slot now → (faults_of slot now < last_count → faults_of slot before + failures ≤ faults_of slot now)
-    → CountsStores slot blocks before now → sum_by (silence slot) now ≡ sum_by (silence slot) before → length now ≡ length before
+    → faults_of slot before ≤ faults_of slot now → CountsFaults slot failures before now → CountsStores slot blocks before now
+    → sum_by (silence slot) now ≡ sum_by (silence slot) before → length now ≡ length before
     → Counted failures blocks (tally_by slot (λ measure. home measure + sum_by measure before)) (tally_by slot (λ measure. home measure + sum_by measure now))
-came_back slot home before now failures blocks fall failed stores silent len =
-    let short = stores.short in record {
+came_back slot home before now failures blocks fall faults stores silent len =
+    let short = stores.short in
+    let stays = faults.stays in record {
       never_fall = omega (arith, fall);
-      failed = λ below. let more = failed (omega (arith, below)) in omega (arith, more);
+      failed = λ free. let more = faults.faults (omega (arith, free)) in omega (arith, more);
+      stays = omega (arith, stays);
       stores = λ all. let more = stores.stores (omega (arith, all)) in omega (arith, more);
       short = omega (arith, short);
       silent = ap (λ (n : ℕ). home (silence slot) + n) silent;

@@ -1,12 +1,11 @@
 -- A page comes back from its load.
-use Rattle.std.proofs.Common.{◌≡◌, ◌↔◌, ℕ, ◌+◌, ◌*◌, ◌<◌, ◌≤◌, List, [], ◌∷◌, ◌++◌, map, length, Bool, true, false, Result, Ok, Err, IsErr, IfOk, IfErr, refl, sym, ap, ◌∙◌, subst, arith, inl}
+use Rattle.std.proofs.Common.{◌≡◌, ◌↔◌, ℕ, ◌+◌, ◌*◌, ◌<◌, ◌≤◌, List, [], ◌∷◌, ◌++◌, map, length, Bool, true, false, if◌then◌else◌, Result, Ok, Err, IsErr, IfOk, IfErr, refl, sym, ap, ◌∙◌, subst, arith, inl}
 use Rattle.std.proofs.lemmas.Bool.{false≢true}
 use Rattle.outside.specs.declared.slot.Slot.{Ghosts}
 use Rattle.block_arena.specs.Memory.{Buffer, IsBufferOf}
 use Rattle.reservation_tree.specs.declared.errors.PoolErr.{PoolErr}
 use Rattle.reservation_tree.specs.declared.errors.PoolErr.TheVariants.{ReadFault}
 use Rattle.std.specs.List.{sum_by}
-use Rattle.outside.specs.Counts.{last_count}
 use Rattle.scratch_dev.specs.Rows.{faults_of}
 use Rattle.pool_model.specs.declared.event.Event.{Event}
 use Rattle.pool_model.specs.declared.event.Event.TheVariants.{ReadOk, ReadFailed}
@@ -19,7 +18,7 @@ use Rattle.store_api.specs.Entries.{by}
 use Rattle.pin_core.specs.declared.jobs.ReadJob.{ReadJob}
 use Rattle.pin_core.specs.StateOf.{state_of}
 use Rattle.pin_core.specs.Standing.{StandsFor, AreHeld, slots_home}
-use Rattle.pin_core.specs.Runs.{AllTell, IsFit, after_loads}
+use Rattle.pin_core.specs.Runs.{AllTell, CountsFaults, IsFit, after_loads}
 use Rattle.pin_core.specs.Jobs.{IsReadJob}
 use Rattle.pin_core.specs.Returning.{EntersWhere, read_ends, read_entry}
 use Rattle.pin_core.specs.Returning.{IsRead as HoldsContent}
@@ -28,7 +27,7 @@ use Rattle.local_pool.specs.Counting.{Counted, all_failures, tally_by, tally_wit
 use Rattle.local_pool.specs.Loading.{CanRead, Returns, IsRead, IsUnread}
 use Rattle.local_pool.proofs.Contents.{content_told}
 use Rattle.local_pool.proofs.Written.{same_silence}
-use Rattle.local_pool.proofs.Counting.{fixed, tally_same, same_stores, came_back, fault_rises}
+use Rattle.local_pool.proofs.Counting.{fixed, tally_same, same_stores, came_back}
 
 pub load_fits : {D : Type 0} (s : State) (job : ReadJob D) → IsReadJob s job → IsFit job.buf job.row
 load_fits s job is = record {
@@ -86,10 +85,10 @@ module _ {D : Type 0} (slot : Ghosts D) (old new : Owned D) (job ran : ReadJob D
 
     -- what the slots of the job count more
     row_counts : (failures : ℕ) → length ran.row ≡ length job.row → faults_of slot job.row ≤ faults_of slot ran.row
-        → (faults_of slot ran.row < last_count → faults_of slot job.row + failures ≤ faults_of slot ran.row) → map slot.stores ran.row ≡ map slot.stores job.row
+        → CountsFaults slot failures job.row ran.row → map slot.stores ran.row ≡ map slot.stores job.row
         → Counted failures 0 (tally_with slot old.pool job.row) (tally_by slot (λ measure. slots_home measure old.pool + sum_by measure ran.row))
-    row_counts failures len fall failed stores =
-        came_back slot (λ measure. slots_home measure old.pool) job.row ran.row failures 0 fall failed (same_stores slot job.row ran.row (sym stores)) (same_silence slot ran.row job.row tells) len
+    row_counts failures len fall faults stores =
+        came_back slot (λ measure. slots_home measure old.pool) job.row ran.row failures 0 fall faults (same_stores slot job.row ran.row (sym stores)) (same_silence slot ran.row job.row tells) len
 
     module _ (sum : ℕ) (trail : new.trail ≡ old.trail ++ record { maker = old.session; event = read_ends ran.failed ran.id.name sum (faults_of slot ran.row) } ∷ []) where
       -- without a failure the sums stand nowhere
@@ -119,17 +118,17 @@ module _ {D : Type 0} (slot : Ghosts D) (old new : Owned D) (job ran : ReadJob D
             cause = cause;
           }
 
-      pub back_read : length ran.row ≡ length job.row → faults_of slot job.row ≤ faults_of slot ran.row → map slot.stores ran.row ≡ map slot.stores job.row → length ran.buf.bytes ≡ length job.buf.bytes
+      pub back_read : length ran.row ≡ length job.row → faults_of slot job.row ≤ faults_of slot ran.row → CountsFaults slot (if ran.failed then 1 else 0) job.row ran.row → map slot.stores ran.row ≡ map slot.stores job.row → length ran.buf.bytes ≡ length job.buf.bytes
           → (ran.failed ≡ false → AllTell slot job.row → (bytes : List ℕ) → length bytes ≡ length job.buf.bytes → AreHeld slot job.buf.block_len job.row bytes → ran.buf.bytes ≡ bytes)
           → (r : Result Buffer PoolErr) → IfOk r (λ buf. buf ≡ ran.buf) → IsErr r ↔ (ran.failed ≡ true) → IfOk r (λ buf. IsRead slot job buf old new)
-      back_read row fall stores len shows (Err e) ok refused = tt
-      back_read row fall stores len shows (Ok buf) ok refused =
+      back_read row fall faults stores len shows (Err e) ok refused = tt
+      back_read row fall faults stores len shows (Ok buf) ok refused =
           let whole : ran.failed ≡ false = elim ran.failed as (λ b. ran.failed ≡ b → b ≡ false) [ true ↦ λ bad. absurd (false≢true (refused.1 bad)) | false ↦ λ well. refl ] refl in
-          came_read (row_counts 0 row fall (λ below. omega (arith, fall)) stores) len shows whole buf ok
+          came_read (row_counts 0 row fall (subst (λ (b : Bool). CountsFaults slot (if b then 1 else 0) job.row ran.row) whole faults) stores) len shows whole buf ok
 
-      pub back_unread : length ran.row ≡ length job.row → faults_of slot job.row ≤ faults_of slot ran.row → map slot.stores ran.row ≡ map slot.stores job.row → (ran.failed ≡ true → IsFault (faults_of slot job.row) (faults_of slot ran.row)) → sum ≡ faults_of slot job.row
+      pub back_unread : length ran.row ≡ length job.row → faults_of slot job.row ≤ faults_of slot ran.row → CountsFaults slot (if ran.failed then 1 else 0) job.row ran.row → map slot.stores ran.row ≡ map slot.stores job.row → (ran.failed ≡ true → IsFault (faults_of slot job.row) (faults_of slot ran.row)) → sum ≡ faults_of slot job.row
           → (r : Result Buffer PoolErr) → IsErr r ↔ (ran.failed ≡ true) → IfErr r (λ e. e ≡ ReadFault s.entries) → IfErr r (IsUnread slot job old new)
-      back_unread row fall stores failed is (Ok buf) refused cause = tt
-      back_unread row fall stores failed is (Err e) refused cause =
+      back_unread row fall faults stores failed is (Ok buf) refused cause = tt
+      back_unread row fall faults stores failed is (Err e) refused cause =
           let bad : ran.failed ≡ true = refused.0 refl in
-          came_unread (row_counts 1 row fall (fault_rises (faults_of slot job.row) (faults_of slot ran.row) (failed bad)) stores) (subst (λ (n : ℕ). IsFault n (faults_of slot ran.row)) (sym is) (failed bad)) bad e cause
+          came_unread (row_counts 1 row fall (subst (λ (b : Bool). CountsFaults slot (if b then 1 else 0) job.row ran.row) bad faults) stores) (subst (λ (n : ℕ). IsFault n (faults_of slot ran.row)) (sym is) (failed bad)) bad e cause

@@ -18,14 +18,14 @@ use Rattle.pin_core.specs.declared.parts.Parts.{Parts}
 use Rattle.pin_core.specs.declared.jobs.WriteJob.{WriteJob}
 use Rattle.pin_core.specs.StateOf.{state_of}
 use Rattle.pin_core.specs.Standing.{StandsFor, AreHeld, slots_home}
-use Rattle.pin_core.specs.Runs.{IsFit, after_stores}
+use Rattle.pin_core.specs.Runs.{CountsFaults, IsFit, after_stores}
 use Rattle.pin_core.specs.Jobs.{IsWriteJob}
 use Rattle.pin_core.specs.Returning.{EntersWhere, IsWritten, write_ends, write_entry}
 use Rattle.local_pool.specs.declared.owned.Owned.{Owned}
 use Rattle.local_pool.specs.Told.{silence}
 use Rattle.local_pool.specs.Counting.{Counted, all_failures, tally_by, tally_with}
 use Rattle.local_pool.specs.Turning.{IsEnd, Ends, CanWrite, stored_with}
-use Rattle.local_pool.proofs.Counting.{fixed, tally_same, came_back, fault_rises}
+use Rattle.local_pool.proofs.Counting.{fixed, tally_same, came_back}
 
 pub job_fits : {D : Type 0} (s : State) (job : WriteJob D) → IsWriteJob s job → IsFit job.buf job.row
 job_fits s job is = record {
@@ -108,13 +108,13 @@ module _ {D : Type 0} (slot : Ghosts D) where
 
     -- a failure raised the count, and a store was counted for each slot otherwise
     row_counts : (b : Bool) (before now : ℕ) → map slot.tells ran.row ≡ map slot.tells job.row → length ran.row ≡ length job.row
-        → faults_of slot job.row ≤ faults_of slot ran.row → (b ≡ true → IsFault (faults_of slot job.row) (faults_of slot ran.row)) → CountsStores slot (if b then 0 else length job.row) job.row ran.row
+        → faults_of slot job.row ≤ faults_of slot ran.row → CountsFaults slot (if b then 1 else 0) job.row ran.row → CountsStores slot (if b then 0 else length job.row) job.row ran.row
         → Counted (all_failures (by old.session (write_ends b ran.id.name before now ∷ []))) (stored_with (length job.row) (write_ends b ran.id.name before now))
         (tally_with slot old.pool job.row) (tally_by slot (λ measure. slots_home measure old.pool + sum_by measure ran.row))
-    row_counts true before now tells len fall failed stores =
-        came_back slot (λ measure. slots_home measure old.pool) job.row ran.row 1 0 fall (fault_rises (faults_of slot job.row) (faults_of slot ran.row) (failed refl)) stores (same_silence ran.row job.row tells) len
-    row_counts false before now tells len fall failed stores =
-        came_back slot (λ measure. slots_home measure old.pool) job.row ran.row 0 (length job.row) fall (λ below. omega (arith, fall)) stores (same_silence ran.row job.row tells) len
+    row_counts true before now tells len fall faults stores =
+        came_back slot (λ measure. slots_home measure old.pool) job.row ran.row 1 0 fall faults stores (same_silence ran.row job.row tells) len
+    row_counts false before now tells len fall faults stores =
+        came_back slot (λ measure. slots_home measure old.pool) job.row ran.row 0 (length job.row) fall faults stores (same_silence ran.row job.row tells) len
 
     -- without a failure the sums stand nowhere
     any_sums : (before now : ℕ) → ran.failed ≡ false → write_entry ran before now ≡ write_entry ran 0 1
@@ -126,16 +126,17 @@ module _ {D : Type 0} (slot : Ghosts D) where
         → length ran.row ≡ length job.row
         → faults_of slot job.row ≤ faults_of slot ran.row
         → (ran.failed ≡ true → IsFault (faults_of slot job.row) (faults_of slot ran.row))
+        → CountsFaults slot (if ran.failed then 1 else 0) job.row ran.row
         → CountsStores slot (if ran.failed then 0 else length job.row) job.row ran.row
         → ((before now : ℕ) → IsFault before now → EntersWhere slot (IsWritten slot (state_of old.pool).block_len ran) (write_entry ran before now) ran.row old.pool new.pool)
         → new.trail ≡ old.trail ++ write_entry ran sum (faults_of slot ran.row) ∷ []
         → fixed new ≡ fixed old
         → Ends slot job old new
-    comes_back sum is held tells len fall failed stores enters trail session = elim ran.failed as (λ b. ran.failed ≡ b → Ends slot job old new) [
+    comes_back sum is held tells len fall failed faults stores enters trail session = elim ran.failed as (λ b. ran.failed ≡ b → Ends slot job old new) [
       | true ↦ λ bad.
           let fault : IsFault sum (faults_of slot ran.row) = subst (λ (n : ℕ). IsFault n (faults_of slot ran.row)) (sym is) (failed bad) in
-          ended sum (faults_of slot ran.row) fault held tells (enters sum (faults_of slot ran.row) fault) trail session (row_counts ran.failed sum (faults_of slot ran.row) tells len fall failed stores)
+          ended sum (faults_of slot ran.row) fault held tells (enters sum (faults_of slot ran.row) fault) trail session (row_counts ran.failed sum (faults_of slot ran.row) tells len fall faults stores)
       | false ↦ λ whole.
           let fault : IsFault 0 1 = inl (omega arith) in
-          ended 0 1 fault held tells (enters 0 1 fault) (trail ∙ ap (λ (e : Entry). old.trail ++ e ∷ []) (any_sums sum (faults_of slot ran.row) whole)) session (row_counts ran.failed 0 1 tells len fall failed stores)
+          ended 0 1 fault held tells (enters 0 1 fault) (trail ∙ ap (λ (e : Entry). old.trail ++ e ∷ []) (any_sums sum (faults_of slot ran.row) whole)) session (row_counts ran.failed 0 1 tells len fall faults stores)
     ] refl

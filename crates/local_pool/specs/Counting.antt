@@ -1,7 +1,6 @@
 -- What the slots of a pool count together, and what entries make of that.
-use Rattle.std.specs.Prelude.{◌≡◌, ℕ, ◌+◌, ◌<◌, ◌≤◌, List, [], ◌∷◌, Option, Some, None, true}
+use Rattle.std.specs.Prelude.{◌≡◌, ℕ, ◌+◌, ◌≤◌, List, [], ◌∷◌, Option, Some, None, true}
 use Rattle.std.specs.List.{sum_by}
-use Rattle.outside.specs.Counts.{last_count}
 use Rattle.outside.specs.declared.slot.Slot.{Ghosts}
 use Rattle.scratch_dev.specs.Rows.{stores_at, uncounted}
 use Rattle.pool_model.specs.declared.event.Event.{Event}
@@ -11,6 +10,7 @@ use Rattle.pool_model.specs.LookingBack.{Made, maker_of}
 use Rattle.pool_model.specs.Failures.{failures_in}
 use Rattle.pin_core.specs.declared.parts.Parts.{Parts}
 use Rattle.pin_core.specs.Standing.{slots_home}
+use Rattle.pin_core.specs.Runs.{stuck}
 use Rattle.local_pool.specs.declared.owned.Owned.{Owned}
 use Rattle.local_pool.specs.declared.tally.Tally.{Tally}
 use Rattle.local_pool.specs.Told.{silence}
@@ -33,11 +33,13 @@ stored_by h _ = 0
 abbrev pub written_blocks : List Entry → ℕ
 written_blocks h = sum_by (λ e. stored_by h e.event) h
 
--- the faults never fell, and rose with each failure, below the last value; where all slots count their stores still,
--- they stored so many blocks more; none counts its stores that didn't; as many are there, and as many tell what they hold
+-- the faults never fell, and rose with each failure where no count of them stands at its last value; where all slots
+-- count their stores still, they stored so many blocks more; a count that stood at its last value does still; and as
+-- many slots are there, of which as many tell what they hold
 pub record Counted (failures blocks : ℕ) (before now : Tally) : Type 0 where
   pub never_fall : before.faults ≤ now.faults
-  pub failed : now.faults < last_count → before.faults + failures ≤ now.faults
+  pub failed : now.stuck ≡ 0 → before.faults + failures ≤ now.faults
+  pub stays : before.stuck ≤ now.stuck
   pub stores : now.uncounted ≡ 0 → before.stores + blocks ≤ now.stores
   pub short : before.uncounted ≤ now.uncounted
   pub silent : now.silent ≡ before.silent
@@ -52,7 +54,7 @@ pub record SumsHold {D : Type 0} (own : Owned D) (now : Tally) : Type 0 where
 module _ {D : Type 0} (slot : Ghosts D) where
   -- what slots count together, over which measures are summed so
   abbrev pub tally_by : ((D → ℕ) → ℕ) → Tally
-  tally_by sum = record { faults = sum slot.faults; stores = sum (stores_at slot); uncounted = sum (uncounted slot); silent = sum (silence slot); slots = sum (λ d. 1) }
+  tally_by sum = record { faults = sum slot.faults; stuck = sum (stuck slot); stores = sum (stores_at slot); uncounted = sum (uncounted slot); silent = sum (silence slot); slots = sum (λ d. 1) }
 
   -- these slots; those of a pool that are in no job; and the same with those of a job, as it took them
   abbrev pub tally_of : List D → Tally

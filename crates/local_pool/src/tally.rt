@@ -11,6 +11,8 @@ use turn_table::{Adds, Solo};
 pub struct Tally {
     /// Their faults.
     pub faults: u64,
+    /// How many counts of faults stand at their last value.
+    pub stuck: u64,
     /// Their stores, as far as they count them.
     pub stores: u64,
     /// How many of them don't count their stores, or stand at the last value.
