@@ -1,5 +1,5 @@
 -- What a walk of stores over a row does to its slots' counts of stores.
-use Rattle.std.proofs.Common.{◌≡◌, ℕ, zero, suc, ◌+◌, ◌*◌, ◌<◌, ◌≤◌, leb, Bool, true, false, if◌then◌else◌, List, [], ◌∷◌, length, Option, Some, None, Ok, Err, refl, ap, sym, ◌∙◌, subst, inl, inr, arith}
+use Rattle.std.proofs.Common.{◌≡◌, ℕ, zero, suc, ◌+◌, ◌*◌, ◌<◌, ◌≤◌, leb, Bool, true, false, if◌then◌else◌, List, [], ◌∷◌, length, Option, Some, None, Ok, Err, refl, ap, sym, subst, inl, inr, arith}
 use Rattle.std.specs.List.{sum_by, slice_index_or}
 use Rattle.std.specs.Result.{is_err}
 use Rattle.std.proofs.lemmas.Option.{none-some}

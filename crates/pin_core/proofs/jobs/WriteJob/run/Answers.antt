@@ -1,6 +1,4 @@
 use Rattle.block_arena.specs.Memory.{block_of}
-use Rattle.std.proofs.Common.{ℕ, Bool, if◌then◌else◌, length, sym, subst}
-use Rattle.scratch_dev.specs.Rows.{CountsStores}
 use Rattle.pin_core.proofs.Counting.{stores_counted, stores_failed}
 use Rattle.pin_core.proofs.Rowed.{stored_tells}
 use Rattle.pin_core.proofs.jobs.WriteJob.run.Goals as goal
