@@ -3,6 +3,7 @@ pub mod Changed
 pub mod Cuts
 pub mod Doubled
 pub mod Emptied
+pub mod Entered
 pub mod Filled
 pub mod Grown
 pub mod Heads

@@ -85,12 +85,12 @@ module _ (t heads nodes blocks block_len : ℕ) (links area : Region) (x y : Hol
   pub both_held : AreHeld t y (links.loans ++ area.loans)
   both_held = held_of t (links.loans ++ area.loans) x y both_lends
 
-  pub opened : (table : Table) → 0 < heads → block_len ≡ x.block_len → table ≡ with_nodes [] (table_of (length links.bytes / 4) links area) → IsOpened t blocks heads nodes x table
+  pub opened : (table : Table) → 0 < heads → block_len ≡ x.block_len → table ≡ with_nodes [] (table_of (length links.bytes / 4) links area) → IsOpened t blocks heads nodes x y table
   opened table some len table_is =
       let own = (All-split (IsOwn t y) links.loans area.loans both_held.own).0 in
       let many : length links.loans ≡ heads = ap length (loans_are t heads blocks block_len links x is.between is.first) ∙ is.first.many in
       let each : blocks * block_len ≡ length_of blocks x = ap (λ (n : ℕ). blocks * n) len in
-      subst (IsOpened t blocks heads nodes x) (sym table_is) (record {
+      subst (IsOpened t blocks heads nodes x y) (sym table_is) (record {
         client = client_is t y links.loans (omega (arith, some, many)) own;
         page_blocks = ap (λ (r : Region). r.blocks) is.second.region;
         block_len = ap (λ (r : Region). r.block_len) is.second.region ∙ len;
@@ -105,6 +105,7 @@ module _ (t heads nodes blocks block_len : ℕ) (links area : Region) (x y : Hol
             ∙ (let e : heads * (blocks * block_len) + nodes * (blocks * block_len) ≡ (heads + nodes) * (blocks * block_len) = omega arith in e)
             ∙ ap (λ (n : ℕ). (heads + nodes) * n) each;
         head_bytes = ap bytes_of (loans_are t heads blocks block_len links x is.between is.first) ∙ is.first.bytes ∙ ap (λ (n : ℕ). heads * n) each;
+        lends = both_lends;
       })
 
   pub table_of_both : (chains : ℕ) → 0 < heads → block_len ≡ x.block_len → IsBlockCount blocks → IsTableOf (with_nodes [] (table_of chains links area)) y

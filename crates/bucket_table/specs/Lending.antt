@@ -63,16 +63,18 @@ pub record IsTableOf (table : Table) (h : Holdings) : Type 0 where
 abbrev pub buffer_len : Table → ℕ
 buffer_len table = table.page_blocks * table.block_len
 
--- a table without rows, of this client, with so many buffers of heads and of nodes of this many blocks each
-pub record IsOpened (t blocks head_bufs node_bufs : ℕ) (h : Holdings) (table : Table) : Type 0 where
+-- a table without rows, of this client, with so many buffers of heads and of nodes of this many blocks each, which were
+-- lent to it
+pub record IsOpened (t blocks head_bufs node_bufs : ℕ) (old new : Holdings) (table : Table) : Type 0 where
   pub client : table.client ≡ t
   pub page_blocks : table.page_blocks ≡ blocks
-  pub block_len : table.block_len ≡ h.block_len
-  pub heads : table.heads ≡ head_bufs * length_of blocks h / 4
-  pub room : table.room ≡ node_bufs * length_of blocks h
+  pub block_len : table.block_len ≡ old.block_len
+  pub heads : table.heads ≡ head_bufs * length_of blocks old / 4
+  pub room : table.room ≡ node_bufs * length_of blocks old
   pub nodes : table.nodes ≡ []
-  pub bytes : bytes_of (loans_of table) ≡ (head_bufs + node_bufs) * length_of blocks h
-  pub head_bytes : bytes_of table.head_loans ≡ head_bufs * length_of blocks h
+  pub bytes : bytes_of (loans_of table) ≡ (head_bufs + node_bufs) * length_of blocks old
+  pub head_bytes : bytes_of table.head_loans ≡ head_bufs * length_of blocks old
+  pub lends : Lends t (loans_of table) old new
 
 -- the store lent no buffer to this client, and this shows it: there was no memory, or a write of one of the client's
 -- pages failed

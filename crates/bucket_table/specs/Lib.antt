@@ -1,3 +1,4 @@
+pub mod Entering
 pub mod Filling
 pub mod Lending
 pub mod Looking

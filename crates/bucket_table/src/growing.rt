@@ -2,6 +2,7 @@
 ghost use Rattle.std.specs.Prelude.{◌≡◌, ◌+◌, ◌^◌, ◌<◌, ◌≤◌, IfErr, OnOk, OnErr};
 ghost use Rattle.store_api.specs.Holdings.{unused_of};
 ghost use Rattle.store_api.specs.Signs.{Grows};
+ghost use Rattle.bucket_table.specs.Entering.{EnteredLoans};
 ghost use Rattle.bucket_table.specs.Lending.{Grew, IsTableOf, WasShort, buffer_len};
 
 use crate::table::BucketTable;
@@ -31,6 +32,7 @@ impl BucketTable {
         ensures table { IsTableOf self.new (St.holds store.new) }
         ensures cause { IfErr result (WasShort self.old.client self.old.page_blocks (St.signs store.old) (St.signs store.new)) }
         ensures grows { Grows (St.signs store.old) (St.signs store.new) }
+        ensures entries { EnteredLoans (St.signs store.old).trail (St.signs store.new).trail }
     {
         self.nodes.add(alloc, store, c)?;
         Ok(())

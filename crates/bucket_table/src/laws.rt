@@ -1,4 +1,5 @@
 //! Laws of tables: each is the contract of a function that does nothing.
+ghost use Rattle.bucket_table.specs.Entering.{LoansLeavePages};
 ghost use Rattle.bucket_table.specs.Staying.{StaysBesideFewer, StaysBesideMore, StaysBesideOthers, StaysBesidePages};
 
 /// A table stays one of its store beside whatever else of the store changes: another client's things, its own client's
@@ -8,4 +9,10 @@ pub fn law_table_stays()
     ensures pages { StaysBesidePages }
     ensures more { StaysBesideMore }
     ensures fewer { StaysBesideFewer }
+{}
+
+/// Entries of loans leave all pages as they are, and make none.
+#[tactic(auto, using(crate::proofs::Entered::loans_leave_pages))]
+pub fn law_loans_leave_pages()
+    ensures { LoansLeavePages }
 {}

@@ -27,7 +27,7 @@ mod widening;
 
 pub use full::Full;
 pub use hashing::RowHash;
-pub use laws::law_table_stays;
+pub use laws::{law_loans_leave_pages, law_table_stays};
 pub use table::BucketTable;
 
 #[cfg(test)]

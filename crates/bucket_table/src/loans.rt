@@ -5,6 +5,7 @@ ghost use Rattle.store_api.specs.Conditions.{IsBlockCount, IsLiveClient};
 ghost use Rattle.store_api.specs.Holdings.{length_of, unused_of};
 ghost use Rattle.store_api.specs.Signs.{Grows};
 ghost use Rattle.bucket_table.specs.Filling.{Doubles, Fills, Shrinks, each_of};
+ghost use Rattle.bucket_table.specs.Entering.{EnteredLoans};
 ghost use Rattle.bucket_table.specs.Lending.{AreHeld, Lends, WasShort, bytes_of};
 
 use crate::area::Area;
@@ -44,6 +45,7 @@ impl Area {
         ensures held { OnErr result (St.holds store.new ≡ St.holds store.old) }
         ensures cause { IfErr result (WasShort c.now.tracker self.old.blocks (St.signs store.old) (St.signs store.new)) }
         ensures grows { Grows (St.signs store.old) (St.signs store.new) }
+        ensures entries { EnteredLoans (St.signs store.old).trail (St.signs store.new).trail }
     {
         if self.parts.reserve(1).is_err() {
             return Err(PoolErr::Memory);
@@ -70,6 +72,7 @@ impl Area {
         ensures err { OnErr result ((some : ℕ) × Fills c.now.tracker some self.old self.new (St.holds store.old) (St.holds store.new)) }
         ensures cause { IfErr result (WasShort c.now.tracker self.old.blocks (St.signs store.old) (St.signs store.new)) }
         ensures grows { Grows (St.signs store.old) (St.signs store.new) }
+        ensures entries { EnteredLoans (St.signs store.old).trail (St.signs store.new).trail }
     {
         for _i in 0..count {
             self.add(alloc, store, c)?;
@@ -84,6 +87,7 @@ impl Area {
         ensures went { Shrinks self.old self.new (St.holds store.old) (St.holds store.new) }
         ensures one { length self.new.loans + 1 ≡ length self.old.loans }
         ensures grows { Grows (St.signs store.old) (St.signs store.new) }
+        ensures entries { EnteredLoans (St.signs store.old).trail (St.signs store.new).trail }
     {
         let Some(loan) = self.parts.pop() else {
             unreachable!()
@@ -98,6 +102,7 @@ impl Area {
         ensures went { Shrinks self.old self.new (St.holds store.old) (St.holds store.new) }
         ensures stay { length self.new.loans ≡ keep }
         ensures grows { Grows (St.signs store.old) (St.signs store.new) }
+        ensures entries { EnteredLoans (St.signs store.old).trail (St.signs store.new).trail }
     {
         while self.count() > keep {
             self.free_last(store);
@@ -121,6 +126,7 @@ impl Area {
         ensures held { OnErr result (Alike (St.holds store.old) (St.holds store.new)) }
         ensures cause { IfErr result (WasShort c.now.tracker self.old.blocks (St.signs store.old) (St.signs store.new)) }
         ensures grows { Grows (St.signs store.old) (St.signs store.new) }
+        ensures entries { EnteredLoans (St.signs store.old).trail (St.signs store.new).trail }
     {
         let count = self.parts.len();
         match self.fill(alloc, store, c, count as u32) {
@@ -137,6 +143,7 @@ impl Area {
         requires { (t : ℕ) × AreHeld t (St.holds store.old) self.loans }
         ensures lends { (t : ℕ) → AreHeld t (St.holds store.old) self.loans → Lends t self.loans (St.holds store.new) (St.holds store.old) }
         ensures grows { Grows (St.signs store.old) (St.signs store.new) }
+        ensures entries { EnteredLoans (St.signs store.old).trail (St.signs store.new).trail }
     {
         self.shrink(store, 0);
         let Area {

@@ -5,6 +5,7 @@ ghost use Rattle.store_api.specs.Conditions.{IsBlockCount, IsLiveClient};
 ghost use Rattle.store_api.specs.Holdings.{length_of, unused_of};
 ghost use Rattle.store_api.specs.Signs.{Grows};
 ghost use Rattle.bucket_table.specs.Filling.{FillsBoth, each_of};
+ghost use Rattle.bucket_table.specs.Entering.{EnteredLoans};
 ghost use Rattle.bucket_table.specs.Lending.{AreHeld, IsOpened, IsTableOf, Lends, WasShort, loans_of};
 ghost use Rattle.bucket_table.specs.Threads.{table_of};
 ghost use Rattle.bucket_table.specs.Tables.{with_nodes};
@@ -28,9 +29,8 @@ fn fill_both<St: Store>(
 ) -> Result<(), PoolErr>
     requires client { IsLiveClient c.now (St.holds store.old) }
     requires blocks { IsBlockCount heads.old.blocks }
-    requires same_blocks { nodes.old.blocks ≡ heads.old.blocks }
+    requires same { (nodes.old.blocks ≡ heads.old.blocks) × (nodes.old.block_len ≡ heads.old.block_len) }
     requires block_len { heads.old.block_len ≡ (St.holds store.old).block_len }
-    requires same_len { nodes.old.block_len ≡ heads.old.block_len }
     requires unused { (head_bufs + node_bufs) * each_of heads.old ≤ unused_of c.now.tracker (St.holds store.old) }
     requires short_heads { length heads.old.bytes + head_bufs * each_of heads.old < 2 ^ 32 }
     requires short_nodes { length nodes.old.bytes + node_bufs * each_of heads.old < 2 ^ 32 }
@@ -38,6 +38,7 @@ fn fill_both<St: Store>(
     ensures err { OnErr result ((some : ℕ) × (others : ℕ) × FillsBoth c.now.tracker some others heads.old heads.new nodes.old nodes.new (St.holds store.old) (St.holds store.new)) }
     ensures cause { IfErr result (WasShort c.now.tracker heads.old.blocks (St.signs store.old) (St.signs store.new)) }
     ensures grows { Grows (St.signs store.old) (St.signs store.new) }
+    ensures entries { EnteredLoans (St.signs store.old).trail (St.signs store.new).trail }
 {
     heads.fill(alloc, store, c, head_bufs)?;
     nodes.fill(alloc, store, c, node_bufs)
@@ -48,6 +49,7 @@ fn give_both<St: Store>(store: &mut St, heads: Area, nodes: Area)
     requires { (t : ℕ) × AreHeld t (St.holds store.old) (heads.loans ++ nodes.loans) }
     ensures lends { (t : ℕ) → AreHeld t (St.holds store.old) (heads.loans ++ nodes.loans) → Lends t (heads.loans ++ nodes.loans) (St.holds store.new) (St.holds store.old) }
     ensures grows { Grows (St.signs store.old) (St.signs store.new) }
+    ensures entries { EnteredLoans (St.signs store.old).trail (St.signs store.new).trail }
 {
     nodes.give(store);
     heads.give(store);
@@ -72,44 +74,6 @@ impl BucketTable {
         }
     }
 
-    // As `open_wide`, over a store with this block length.
-    fn open_over<St: Store>(
-        alloc: Global,
-        store: &mut St,
-        c: &Client,
-        page_blocks: u32,
-        block_len: u32,
-        head_bufs: u32,
-        node_bufs: u32,
-    ) -> Result<BucketTable, PoolErr>
-        requires client { IsLiveClient c.now (St.holds store.old) }
-        requires blocks { IsBlockCount page_blocks }
-        requires block_len { block_len ≡ (St.holds store.old).block_len }
-        requires least { 64 ≤ block_len }
-        requires some { 0 < head_bufs }
-        requires heads { head_bufs * length_of page_blocks (St.holds store.old) ≤ 2 ^ 28 }
-        requires nodes { node_bufs * length_of page_blocks (St.holds store.old) < 2 ^ 32 }
-        requires unused { (head_bufs + node_bufs) * length_of page_blocks (St.holds store.old) ≤ unused_of c.now.tracker (St.holds store.old) }
-        ensures ok { IfOk result (IsOpened c.now.tracker page_blocks head_bufs node_bufs (St.holds store.old)) }
-        ensures lends { IfOk result (λ table. Lends c.now.tracker (loans_of table) (St.holds store.old) (St.holds store.new)) }
-        ensures table { IfOk result (λ table. IsTableOf table (St.holds store.new)) }
-        ensures err { OnErr result (Alike (St.holds store.old) (St.holds store.new)) }
-        ensures cause { IfErr result (WasShort c.now.tracker page_blocks (St.signs store.old) (St.signs store.new)) }
-        ensures grows { Grows (St.signs store.old) (St.signs store.new) }
-    {
-        let mut heads = Area::empty(alloc, page_blocks, block_len);
-        let mut nodes = Area::empty(alloc, page_blocks, block_len);
-        match fill_both(
-            alloc, store, c, &mut heads, head_bufs, &mut nodes, node_bufs,
-        ) {
-            Ok(()) => Ok(BucketTable::over(heads, nodes)),
-            Err(e) => {
-                give_both(store, heads, nodes);
-                Err(e)
-            }
-        }
-    }
-
     /// A table without rows, in so many buffers of heads and of nodes, each of `page_blocks` blocks, a power of two up
     /// to 256. A buffer of heads has a chain for each four of its bytes.
     ///
@@ -131,23 +95,25 @@ impl BucketTable {
         requires heads { head_bufs * length_of page_blocks (St.holds store.old) ≤ 2 ^ 28 }
         requires nodes { node_bufs * length_of page_blocks (St.holds store.old) < 2 ^ 32 }
         requires unused { (head_bufs + node_bufs) * length_of page_blocks (St.holds store.old) ≤ unused_of c.now.tracker (St.holds store.old) }
-        ensures ok { IfOk result (IsOpened c.now.tracker page_blocks head_bufs node_bufs (St.holds store.old)) }
-        ensures lends { IfOk result (λ table. Lends c.now.tracker (loans_of table) (St.holds store.old) (St.holds store.new)) }
+        ensures ok { IfOk result (IsOpened c.now.tracker page_blocks head_bufs node_bufs (St.holds store.old) (St.holds store.new)) }
         ensures table { IfOk result (λ table. IsTableOf table (St.holds store.new)) }
         ensures err { OnErr result (Alike (St.holds store.old) (St.holds store.new)) }
         ensures cause { IfErr result (WasShort c.now.tracker page_blocks (St.signs store.old) (St.signs store.new)) }
         ensures grows { Grows (St.signs store.old) (St.signs store.new) }
+        ensures entries { EnteredLoans (St.signs store.old).trail (St.signs store.new).trail }
     {
         let block_len = store.block_len();
-        BucketTable::open_over(
-            alloc,
-            store,
-            c,
-            page_blocks,
-            block_len,
-            head_bufs,
-            node_bufs,
-        )
+        let mut heads = Area::empty(alloc, page_blocks, block_len);
+        let mut nodes = Area::empty(alloc, page_blocks, block_len);
+        match fill_both(
+            alloc, store, c, &mut heads, head_bufs, &mut nodes, node_bufs,
+        ) {
+            Ok(()) => Ok(BucketTable::over(heads, nodes)),
+            Err(e) => {
+                give_both(store, heads, nodes);
+                Err(e)
+            }
+        }
     }
 
     /// A table without rows, in one buffer of heads and 1 to 16 of nodes, each of `page_blocks` blocks, a power of two
@@ -167,15 +133,16 @@ impl BucketTable {
         requires blocks { IsBlockCount page_blocks }
         requires few { node_bufs ≤ 16 }
         requires unused { (1 + node_bufs) * length_of page_blocks (St.holds store.old) ≤ unused_of c.now.tracker (St.holds store.old) }
-        ensures ok { IfOk result (IsOpened c.now.tracker page_blocks 1 node_bufs (St.holds store.old)) }
-        ensures lends { IfOk result (λ table. Lends c.now.tracker (loans_of table) (St.holds store.old) (St.holds store.new)) }
+        ensures ok { IfOk result (IsOpened c.now.tracker page_blocks 1 node_bufs (St.holds store.old) (St.holds store.new)) }
         ensures table { IfOk result (λ table. IsTableOf table (St.holds store.new)) }
         ensures err { OnErr result (Alike (St.holds store.old) (St.holds store.new)) }
         ensures cause { IfErr result (WasShort c.now.tracker page_blocks (St.signs store.old) (St.signs store.new)) }
         ensures grows { Grows (St.signs store.old) (St.signs store.new) }
+        ensures entries { EnteredLoans (St.signs store.old).trail (St.signs store.new).trail }
     {
-        let block_len = store.block_len();
-        BucketTable::open_over(alloc, store, c, page_blocks, block_len, 1, node_bufs)
+        // It tells that blocks are short, so that a u32 numbers the bytes of sixteen buffers.
+        let _block_len = store.block_len();
+        BucketTable::open_wide(alloc, store, c, page_blocks, 1, node_bufs)
     }
 
     /// Ends a table, and frees its loans. This takes no memory.
@@ -183,6 +150,7 @@ impl BucketTable {
         requires { IsTableOf self (St.holds store.old) }
         ensures lends { Lends self.client (loans_of self) (St.holds store.new) (St.holds store.old) }
         ensures grows { Grows (St.signs store.old) (St.signs store.new) }
+        ensures entries { EnteredLoans (St.signs store.old).trail (St.signs store.new).trail }
     {
         let BucketTable {
             heads,

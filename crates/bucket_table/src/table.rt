@@ -37,6 +37,15 @@ impl BucketTable {
         self.chains.len()
     }
 
+    /// The length of the node area, in bytes.
+    #[inline]
+    pub fn room(&self) -> usize
+        ensures value { result ≡ self.now.room }
+        ensures short { result < 2 ^ 32 }
+    {
+        self.nodes.len()
+    }
+
     /// Whether the node area has room for a row of so many bytes.
     #[inline]
     pub fn has_room(&self, bytes: usize) -> bool

@@ -3,6 +3,7 @@ ghost use Rattle.std.specs.Prelude.{◌≡◌, ◌*◌, ◌^◌, ◌<◌, ◌≤
 ghost use Rattle.store_api.specs.Alike.{Alike};
 ghost use Rattle.store_api.specs.Holdings.{unused_of};
 ghost use Rattle.store_api.specs.Signs.{Grows};
+ghost use Rattle.bucket_table.specs.Entering.{EnteredLoans};
 ghost use Rattle.bucket_table.specs.Lending.{IsTableOf, WasShort, bytes_of};
 ghost use Rattle.bucket_table.specs.Widening.{Widened};
 
@@ -53,6 +54,7 @@ impl BucketTable {
         ensures table { IsTableOf self.new (St.holds store.new) }
         ensures cause { IfErr result (WasShort self.old.client self.old.page_blocks (St.signs store.old) (St.signs store.new)) }
         ensures grows { Grows (St.signs store.old) (St.signs store.new) }
+        ensures entries { EnteredLoans (St.signs store.old).trail (St.signs store.new).trail }
     {
         let longest = self.longest_row();
         let Ok(mut scratch) = vec![in alloc; 0; longest] else {

@@ -1,5 +1,5 @@
 -- A partial row is in the table, one way or another.
-use Rattle.std.proofs.Common.{◌≡◌, ◌≢◌, ◌∙◌, ℕ, ◌*◌, ◌%◌, ◌≤◌, zero, suc, Bool, true, false, List, [], ◌∷◌, ◌++◌, length, map, set, reverse, Some, option_map, refl, ap, sym, subst, arith, append-nil}
+use Rattle.std.proofs.Common.{◌≡◌, ◌≢◌, ◌∙◌, ℕ, ◌*◌, ◌%◌, ◌≤◌, zero, suc, Bool, true, false, List, [], ◌∷◌, ◌++◌, length, map, set, reverse, Some, Result, Ok, Err, OnOk, IfErr, option_map, refl, ap, sym, subst, arith, append-nil}
 use Rattle.std.specs.Prelude.{All, slice_get}
 use Rattle.std.specs.List.{AllByRecursion, IsDistinct}
 use Rattle.std.proofs.lemmas.Map.Keys.{IsDistinct-cons}
@@ -14,7 +14,9 @@ use Rattle.store_api.specs.declared.shapes.Shape.{Shape}
 use Rattle.store_api.specs.Emitters.{OthersStay}
 use Rattle.store_api.specs.Holdings.{Holdings, length_of}
 use Rattle.store_api.specs.Shapes.{IsShape}
-use Rattle.store_api.specs.Signs.{Signs}
+use Rattle.store_api.specs.Signs.{Grows, Signs, WasAnswered}
+use Rattle.store_api.proofs.Answered.{answered_before}
+use Rattle.reservation_tree.specs.declared.errors.PoolErr.{PoolErr}
 use Rattle.store_api.proofs.Growing.{grows_refl}
 use Rattle.tuple_stream.specs.Families.{AreShaped}
 use Rattle.tuple_stream.proofs.FamilyWords.{feeds_none}
@@ -25,14 +27,24 @@ use Rattle.group_rows.specs.Tables.{HaveDistinctKeys}
 use Rattle.group_rows.proofs.Keys.{true_same}
 use Rattle.group_rows.proofs.Paths.{path_is_order}
 use Rattle.group_rows.proofs.Tables.{into_entry}
-use Rattle.group_op.specs.Held.{AreEntries, IsEntry, IsHeld, StandBehind, State, page_len, rows_of, state}
-use Rattle.group_op.specs.Putting.{HasFlushed, HasPut, Lacks, Works}
-use Rattle.group_op.specs.Stored.{IsPartialRow, SameGroups, grouping_of, joined, key_at, partial_at, partials_at}
+use Rattle.group_op.specs.Held.{AreEntries, IsEntry, IsHeld, StandBehind, State, page_len, rows_of, state, streams_of}
+use Rattle.group_op.specs.Putting.{Deals, HasFlushed, HasMoved, HasPut, Lacks, Works}
+use Rattle.group_op.specs.Stored.{IsPartialRow, SameGroups, dealt, grouping_of, joined, key_at, partial_at, partials_at}
+use Rattle.group_op.proofs.Deals.{deals_as, deals_fed, deals_then}
 use Rattle.group_op.proofs.Finding.{entry_of, entry_row}
 use Rattle.group_op.proofs.Joins.{IsJoined, joins}
 use Rattle.group_op.proofs.RowForms.{partial_is_framed}
 use Rattle.group_op.proofs.Rewriting.{NodeAt, rewritten_at, with_own}
 use Rattle.group_op.proofs.Same.{same_back, same_into, same_order, same_refl}
+
+-- what follows of an answer
+pub so_ok : (P Q : Type 0) (result : Result Unit PoolErr) → (P → Q) → OnOk result P → OnOk result Q
+so_ok P Q (Ok done) so p = so p
+so_ok P Q (Err e) so p = tt
+
+pub cause_after : (a b c : Signs) (result : Result Unit PoolErr) → Grows a b → IfErr result (λ e. WasAnswered e b c) → IfErr result (λ e. WasAnswered e a c)
+cause_after a b c (Ok done) grows was = tt
+cause_after a b c (Err e) grows was = answered_before e a b c grows was
 
 same_all : (t : ℕ) (h : Holdings) → OthersStay (Some t) h h
 same_all t h =
@@ -53,7 +65,7 @@ works_none t shape table p h signs held entries =
     record {
       held = held;
       entries = entries;
-      leaves = record { others = same_all t h; grows = grows_refl signs; room = omega arith };
+      leaves = record { others = same_all t h; grows = grows_refl signs; reserved = omega arith; room = omega arith };
       blocks = refl;
       levels = refl;
       many = refl;
@@ -127,12 +139,12 @@ module _ (back : RowBack) (shape : Shape) (len node : ℕ) (table : Table) (row 
       ∙ ap (option_map (partial_at shape)) (slice_get-map (λ (n : Node). n.row) table.nodes entry.0.index ∙ ap (option_map (λ (n : Node). n.row)) entry.0.there)
       ∙ ap (λ (r : List ℕ). Some (partial_at shape r)) (sym entry.0.row)
 
-  pub put_found : (t level base : ℕ) (parts : Stack) (h : Holdings) (signs : Signs) → AreShaped t (over parts h signs) → HasPut t shape level base row (state table parts h signs) (state (with_nodes (with_row node (joined shape (row_of node table.nodes) row) table.nodes) table) parts h signs)
+  pub put_found : (t level base : ℕ) (parts : Stack) (h : Holdings) (signs : Signs) → AreShaped t (over parts h signs) → HasPut shape level base row (state table parts h signs) (state (with_nodes (with_row node (joined shape (row_of node table.nodes) row) table.nodes) table) parts h signs)
   put_found t level base parts h signs shaped =
       record {
         gone = [];
         formed = All-nil (IsPartialRow shape);
-        feeds = feeds_none t (over parts h signs) shaped;
+        deals = deals_fed t (λ i. []) (over parts h signs) (over parts h signs) (feeds_none t (over parts h signs) shaped);
         same =
             subst (SameGroups (grouping_of shape) (partials_at shape (row ∷ rows_of table)))
             (sym (ap (partials_at shape) (append-nil (map (λ (n : Node). n.row) (with_row node (joined shape (row_of node table.nodes) row) table.nodes))) ∙ partials_are))
@@ -157,7 +169,7 @@ one_apart shape row (n ∷ nodes) lacks = (
   one_apart shape row nodes (All-tail (λ n. key_at shape n.row ≢ key_at shape row) n nodes lacks),
 )
 
-rows_formed : (shape : Shape) (len heads : ℕ) (nodes : List Node) → All (IsEntry shape len heads) nodes → All (IsPartialRow shape) (map (λ n. n.row) nodes)
+pub rows_formed : (shape : Shape) (len heads : ℕ) (nodes : List Node) → All (IsEntry shape len heads) nodes → All (IsPartialRow shape) (map (λ n. n.row) nodes)
 rows_formed shape len heads [] each = All-nil (IsPartialRow shape)
 rows_formed shape len heads (n ∷ nodes) each =
     All-cons (IsPartialRow shape) n.row (map (λ (m : Node). m.row) nodes) (All-head (IsEntry shape len heads) n nodes each).row (rows_formed shape len heads nodes (All-tail (IsEntry shape len heads) n nodes each))
@@ -166,35 +178,64 @@ none_distinct : IsDistinct bytes_eq []
 unfolding IsDistinct
 none_distinct = tt
 
-pub put_new : (t : ℕ) (shape : Shape) (level base hash : ℕ) (row : List ℕ) (table : Table) (parts : Stack) (h : Holdings) (signs : Signs) → AreShaped t (over parts h signs) → Lacks shape (key_at shape row) table → HasPut t shape level base row (state table parts h signs) (state (with_nodes (new_node (hash % table.heads) row table.nodes ∷ table.nodes) table) parts h signs)
-put_new t shape level base hash row table parts h signs shaped lacks =
+pub nodes_moved : (t : ℕ) (shape : Shape) (level base : ℕ) (a b : State) → b.table.nodes ≡ a.table.nodes → Deals (λ i. []) (streams_of a) (streams_of b) → HasMoved shape level base a b
+nodes_moved t shape level base a b same deals =
+    let rows : rows_of b.table ≡ rows_of a.table = ap (map (λ (n : Node). n.row)) same in
     record {
       gone = [];
       formed = All-nil (IsPartialRow shape);
-      feeds = feeds_none t (over parts h signs) shaped;
+      deals = deals;
       same =
-          subst (SameGroups (grouping_of shape) (partials_at shape (row ∷ rows_of table))) (sym (ap (partials_at shape) (append-nil (row ∷ rows_of table))))
-          (same_refl (grouping_of shape) (partials_at shape (row ∷ rows_of table)));
-      distinct = λ apart. IsDistinct-cons bytes_eq (key_of (partial_at shape row)) (map key_of (partials_at shape (rows_of table))) (one_apart shape row table.nodes lacks) apart;
-      fewer = omega arith;
+          subst (λ (rs : List (List ℕ)). SameGroups (grouping_of shape) (partials_at shape (rows_of a.table)) (partials_at shape rs)) (sym (append-nil (rows_of b.table) ∙ rows))
+          (same_refl (grouping_of shape) (partials_at shape (rows_of a.table)));
+      distinct = subst (λ (rs : List (List ℕ)). HaveDistinctKeys (partials_at shape (rows_of a.table)) → HaveDistinctKeys (partials_at shape rs)) (sym rows) (λ apart. apart);
+      lacks = λ key lacks. subst (All (λ (n : Node). key_at shape n.row ≢ key)) (sym same) lacks;
+      fewer = let long = ap length rows in omega (arith, long);
     }
 
--- ---- a new one in an empty table
-
-pub put_flushed : (t : ℕ) (shape : Shape) (level base hash : ℕ) (row : List ℕ) (a : State) (table : Table) (parts : Stack) (h : Holdings) (signs : Signs) → AreEntries shape (page_len a) a.table → HasFlushed t shape level base a (state table parts h signs) → HasPut t shape level base row a (state (with_nodes (new_node (hash % table.heads) row table.nodes ∷ table.nodes) table) parts h signs)
-put_flushed t shape level base hash row a table parts h signs entries flushed =
-    let none : table.nodes ≡ [] = ap (λ (x : Table). x.nodes) flushed.table in
-    let rows : map (λ n. n.row) (new_node (hash % table.heads) row table.nodes ∷ table.nodes) ≡ row ∷ [] = ap (λ (ms : List Node). row ∷ map (λ (n : Node). n.row) ms) none in
+-- they all went
+pub flushed_moved : (t : ℕ) (shape : Shape) (level base : ℕ) (a b : State) → All (IsPartialRow shape) (rows_of a.table) → HasFlushed t shape level base a b → HasMoved shape level base a b
+flushed_moved t shape level base a b formed flushed =
+    let none : b.table.nodes ≡ [] = ap (λ (x : Table). x.nodes) flushed.table in
+    let rows : rows_of b.table ≡ [] = ap (map (λ (n : Node). n.row)) none in
+    let out : List (List ℕ) = reverse (rows_of a.table) in
     record {
       gone = reverse (rows_of a.table);
-      formed = All-permutation (IsPartialRow shape) (rows_of a.table) (reverse (rows_of a.table)) (IsPermutation-reverse (rows_of a.table)) (rows_formed shape (page_len a) a.table.heads a.table.nodes entries.each);
-      feeds = flushed.feeds;
+      formed = All-permutation (IsPartialRow shape) (rows_of a.table) (reverse (rows_of a.table)) (IsPermutation-reverse (rows_of a.table)) formed;
+      deals = deals_fed t (dealt shape level base (reverse (rows_of a.table))) (streams_of a) (streams_of b) flushed.feeds;
       same =
-          subst (λ (rs : List (List ℕ)). SameGroups (grouping_of shape) (partials_at shape (row ∷ rows_of a.table)) (partials_at shape (rs ++ reverse (rows_of a.table)))) (sym rows)
-          (same_back (grouping_of shape) (partial_at shape row ∷ []) (partials_at shape (rows_of a.table)) (partials_at shape (reverse (rows_of a.table)))
-          (same_order (grouping_of shape) (partials_at shape (rows_of a.table)) (partials_at shape (reverse (rows_of a.table))) (IsPermutation-map (partial_at shape) (rows_of a.table) (reverse (rows_of a.table)) (IsPermutation-reverse (rows_of a.table)))));
-      distinct = λ apart. subst (λ (rs : List (List ℕ)). HaveDistinctKeys (partials_at shape rs)) (sym rows) (IsDistinct-cons bytes_eq (key_of (partial_at shape row)) [] tt none_distinct);
+          subst (λ (rs : List (List ℕ)). SameGroups (grouping_of shape) (partials_at shape (rows_of a.table)) (partials_at shape (rs ++ reverse (rows_of a.table)))) (sym rows)
+          (same_order (grouping_of shape) (partials_at shape (rows_of a.table)) (partials_at shape (reverse (rows_of a.table))) (IsPermutation-map (partial_at shape) (rows_of a.table) (reverse (rows_of a.table)) (IsPermutation-reverse (rows_of a.table))));
+      distinct = λ apart. subst (λ (rs : List (List ℕ)). HaveDistinctKeys (partials_at shape rs)) (sym rows) none_distinct;
+      lacks = λ key lacks. subst (All (λ (n : Node). key_at shape n.row ≢ key)) (sym none) (All-nil (λ n. key_at shape n.row ≢ key));
       fewer = let one = ap length rows in let long = length-reverse (rows_of a.table) in omega (arith, one, long);
+    }
+
+-- one move after a growth
+pub moved_then : (t : ℕ) (shape : Shape) (level base : ℕ) (a b c : State) → b.table.nodes ≡ a.table.nodes → Deals (λ i. []) (streams_of a) (streams_of b) → HasMoved shape level base b c → HasMoved shape level base a c
+moved_then t shape level base a b c same deals moved =
+    let rows : rows_of b.table ≡ rows_of a.table = ap (map (λ (n : Node). n.row)) same in
+    record {
+      gone = moved.gone;
+      formed = moved.formed;
+      deals = deals_as (λ i. [] ++ dealt shape level base moved.gone i) (dealt shape level base moved.gone) (streams_of a) (streams_of c) (λ i. refl) (deals_then (λ i. []) (dealt shape level base moved.gone) (streams_of a) (streams_of b) (streams_of c) deals moved.deals);
+      same = subst (λ (rs : List (List ℕ)). SameGroups (grouping_of shape) (partials_at shape rs) (partials_at shape (rows_of c.table ++ moved.gone))) rows moved.same;
+      distinct = subst (λ (rs : List (List ℕ)). HaveDistinctKeys (partials_at shape rs) → HaveDistinctKeys (partials_at shape (rows_of c.table))) rows moved.distinct;
+      lacks = λ key lacks. moved.lacks key (subst (All (λ (n : Node). key_at shape n.row ≢ key)) (sym same) lacks);
+      fewer = let long = ap length rows in let fewer = moved.fewer in omega (arith, long, fewer);
+    }
+
+-- and a new entry
+pub put_moved : (shape : Shape) (level base hash : ℕ) (row : List ℕ) (a : State) (table : Table) (parts : Stack) (h : Holdings) (signs : Signs) → Lacks shape (key_at shape row) a.table → HasMoved shape level base a (state table parts h signs)
+    → HasPut shape level base row a (state (with_nodes (new_node (hash % table.heads) row table.nodes ∷ table.nodes) table) parts h signs)
+put_moved shape level base hash row a table parts h signs lacks moved =
+    record {
+      gone = moved.gone;
+      formed = moved.formed;
+      deals = moved.deals;
+      same = same_back (grouping_of shape) (partial_at shape row ∷ []) (partials_at shape (rows_of a.table)) (partials_at shape (rows_of table ++ moved.gone)) moved.same;
+      distinct = λ apart. IsDistinct-cons bytes_eq (key_of (partial_at shape row)) (map key_of (partials_at shape (rows_of table))) (one_apart shape row table.nodes (moved.lacks (key_at shape row) lacks)) (moved.distinct apart);
+      fewer = let fewer = moved.fewer in omega (arith, fewer);
     }
 
 pub works_len : (t : ℕ) (shape : Shape) (a b : State) → Works t shape a b → page_len b ≡ page_len a

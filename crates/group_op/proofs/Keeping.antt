@@ -87,6 +87,7 @@ module _ (t : ℕ) (table : Table) (p q : Stack) (old new : Holdings) (before af
       record {
         others = others_stay t (over p old before) (over q new after) held.owns.shaped is touches;
         grows = grows;
+        reserved = let same = same_reservation t (over p old before) (over q new after) held.owns.shaped is touches held.owns.lives in omega (arith, same);
         room =
             let same = same_reservation t (over p old before) (over q new after) held.owns.shaped is touches held.owns.lives in
             let room = touches.room in
@@ -122,7 +123,7 @@ works_nodes t shape a nodes table q new after works entries =
     record {
       held = nodes_held t nodes table q new after works.held;
       entries = entries;
-      leaves = record { others = works.leaves.others; grows = works.leaves.grows; room = works.leaves.room };
+      leaves = record { others = works.leaves.others; grows = works.leaves.grows; reserved = works.leaves.reserved; room = works.leaves.room };
       blocks = works.blocks;
       levels = works.levels;
       many = works.many;

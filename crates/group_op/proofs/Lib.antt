@@ -12,5 +12,10 @@ pub mod Joins
 pub mod Finding
 pub mod Entering
 pub mod Dividing
-pub mod Feeding
+pub mod Fed
 pub mod KeyReading
+pub mod Chained
+pub mod Deals
+pub mod Growth
+pub mod Opened
+pub mod Kept

@@ -63,8 +63,13 @@ pub record AreEntries (shape : Shape) (len : ℕ) (table : Table) : Type 0 where
   pub behind : StandBehind table.nodes
   pub roomy : 2 * len ≤ table.room
 
--- calls changed nothing of other clients; the query has with the client's reservation at least what it had
-pub record Leaves (t : ℕ) (a b : State) : Type 0 where
-  pub others : OthersStay (Some t) a.held b.held
-  pub grows : Grows a.signs b.signs
-  pub room : a.held.room + (account_of t a.held).reservation ≤ b.held.room + (account_of t b.held).reservation
+-- calls changed nothing of other clients; what the client reserves didn't fall, and the query has with it at least what it
+-- had
+pub record LeavesOthers (t : ℕ) (old new : Holdings) (before after : Signs) : Type 0 where
+  pub others : OthersStay (Some t) old new
+  pub grows : Grows before after
+  pub reserved : (account_of t old).reservation ≤ (account_of t new).reservation
+  pub room : old.room + (account_of t old).reservation ≤ new.room + (account_of t new).reservation
+
+abbrev pub Leaves : ℕ → State → State → Type 0
+Leaves t a b = LeavesOthers t a.held b.held a.signs b.signs

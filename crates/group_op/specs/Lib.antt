@@ -1,3 +1,5 @@
 pub mod Stored
 pub mod Held
 pub mod Putting
+pub mod Emission
+pub mod Operator

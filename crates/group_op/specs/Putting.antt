@@ -1,7 +1,10 @@
 -- A partial row goes into a table, or those of the table to partitions. `a` is before the call and `b` behind it.
-use Rattle.std.specs.Prelude.{◌≡◌, ◌≢◌, ℕ, ◌+◌, ◌<◌, ◌≤◌, List, [], ◌∷◌, ◌++◌, All, length, reverse}
+use Rattle.std.specs.Prelude.{◌≡◌, ◌≢◌, ℕ, ◌+◌, ◌<◌, ◌≤◌, List, [], ◌∷◌, ◌++◌, All, Option, length, reverse}
+use Rattle.pool_model.specs.declared.entry.Entry.{Entry}
 use Rattle.store_api.specs.declared.shapes.Shape.{Shape}
-use Rattle.tuple_stream.specs.FamilyCalls.{FeedsAll}
+use Rattle.tuple_stream.specs.Families.{Family, ShowAll}
+use Rattle.tuple_stream.specs.FamilyCalls.{AllAtEnd, AllWhole, AreSure, FeedsAll, HaveLaid}
+use Rattle.tuple_stream.specs.Trails.{EnteredEvents}
 use Rattle.group_rows.specs.Tables.{HaveDistinctKeys}
 use Rattle.bucket_table.specs.Tables.{Table, with_nodes}
 use Rattle.partition_stack.specs.Stack.{RestBelow, Stack}
@@ -26,20 +29,44 @@ pub record Works (t : ℕ) (shape : Shape) (a b : State) : Type 0 where
   pub levels : b.parts.levels ≡ a.parts.levels
   pub many : length b.parts.streams ≡ length a.parts.streams
 
--- these rows went to the partitions of a level, and of the others and these the table has what it had and this row
-pub record HasPut (t : ℕ) (shape : Shape) (level base : ℕ) (row : List ℕ) (a b : State) : Type 0 where
+-- no row of the table has this key
+abbrev pub Lacks : Shape → List ℕ → Table → Type 0
+Lacks shape key table = All (λ n. key_at shape n.row ≢ key) table.nodes
+
+-- rows were dealt to streams, whatever else the store was asked in between
+pub record Deals (more : ℕ → List (List ℕ)) (f g : Family) : Type 0 where
+  pub told : g.held.told ≡ f.held.told
+  pub at_end : AllAtEnd f → AllAtEnd g
+  pub whole : AllWhole f → AllWhole g
+  pub rows : (rows : ℕ → List (List ℕ)) → AreSure f → ShowAll rows f → ShowAll (λ i. rows i ++ more i) g
+  pub laid : (start : Option (List Entry)) → AllAtEnd f → EnteredEvents (HaveLaid f) start f.signs.trail → EnteredEvents (HaveLaid g) start g.signs.trail
+
+-- these rows of the table went to the partitions of a level, and it has the others
+pub record HasMoved (shape : Shape) (level base : ℕ) (a b : State) : Type 0 where
   pub gone : List (List ℕ)
   pub formed : All (IsPartialRow shape) gone
-  pub feeds : FeedsAll t (dealt shape level base gone) (streams_of a) (streams_of b)
+  pub deals : Deals (dealt shape level base gone) (streams_of a) (streams_of b)
+  pub same : SameGroups (grouping_of shape) (partials_at shape (rows_of a.table)) (partials_at shape (rows_of b.table ++ gone))
+  pub distinct : HaveDistinctKeys (partials_at shape (rows_of a.table)) → HaveDistinctKeys (partials_at shape (rows_of b.table))
+  pub lacks : (key : List ℕ) → Lacks shape key a.table → Lacks shape key b.table
+  pub fewer : length (rows_of b.table) + length gone ≤ length (rows_of a.table)
+
+-- these rows went to the partitions of a level, and of the others and these the table has what it had and this row
+pub record HasPut (shape : Shape) (level base : ℕ) (row : List ℕ) (a b : State) : Type 0 where
+  pub gone : List (List ℕ)
+  pub formed : All (IsPartialRow shape) gone
+  pub deals : Deals (dealt shape level base gone) (streams_of a) (streams_of b)
   pub same : SameGroups (grouping_of shape) (partials_at shape (row ∷ rows_of a.table)) (partials_at shape (rows_of b.table ++ gone))
   pub distinct : HaveDistinctKeys (partials_at shape (rows_of a.table)) → HaveDistinctKeys (partials_at shape (rows_of b.table))
   pub fewer : length (rows_of b.table) + length gone ≤ length (rows_of a.table) + 1
+
+-- the table got more memory, and has the rows that it had
+pub record HasGrown (t : ℕ) (shape : Shape) (a b : State) : Type 0 where
+  pub nodes : b.table.nodes ≡ a.table.nodes
+  pub works : Works t shape a b
+  pub deals : Deals (λ i. []) (streams_of a) (streams_of b)
 
 -- all rows of the table went to the partitions of a level
 pub record HasFlushed (t : ℕ) (shape : Shape) (level base : ℕ) (a b : State) : Type 0 where
   pub table : b.table ≡ with_nodes [] a.table
   pub feeds : FeedsAll t (dealt shape level base (reverse (rows_of a.table))) (streams_of a) (streams_of b)
-
--- no row of the table has this key
-abbrev pub Lacks : Shape → List ℕ → Table → Type 0
-Lacks shape key table = All (λ n. key_at shape n.row ≢ key) table.nodes

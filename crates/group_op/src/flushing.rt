@@ -42,6 +42,15 @@ pub struct Spare {
     pub key: Vec<u8>,
 }
 
+impl Spare {
+    pub(crate) fn new(alloc: Global) -> Spare {
+        Spare {
+            row: Vec::new(alloc),
+            key: Vec::new(alloc),
+        }
+    }
+}
+
 /// Moves all rows of the table to their partitions, the oldest first, and clears the table.
 ///
 /// # Errors

@@ -6,10 +6,15 @@
 //! table to the sixteen partitions of a level.
 #![tactic(auto)]
 
+mod feeding;
 mod flushing;
+mod growing;
 mod joining;
+mod operator;
 mod putting;
+mod spelling;
 mod stored;
 
 pub use flushing::{Fan, Spare, flush};
+pub use operator::GroupOp;
 pub use putting::put;

@@ -6,10 +6,11 @@ ghost use Rattle.store_api.specs.Signs.{WasAnswered};
 ghost use Rattle.tuple_stream.specs.Touches.{IsFull};
 ghost use Rattle.bucket_table.specs.Tables.{HasNode, IsFramed, new_node, row_of, used_by, with_nodes};
 ghost use Rattle.group_op.specs.Held.{AreEntries, IsHeld, page_len, state};
-ghost use Rattle.group_op.specs.Putting.{HasPut, IsFan, Lacks, Works};
+ghost use Rattle.group_op.specs.Putting.{HasMoved, HasPut, IsFan, Lacks, Works};
 ghost use Rattle.group_op.specs.Stored.{IsPartialRow, key_at};
 
 use crate::flushing::{Fan, Spare, flush};
+use crate::growing::grow;
 use crate::joining::add_numbers;
 use bucket_table::BucketTable;
 use partition_stack::Partitions;
@@ -33,8 +34,9 @@ fn find(table: &BucketTable, hash: u64, row: &[u8], shape: &Shape) -> Option<u32
     table.find_row(hash, 0, &row[..head])
 }
 
-/// Puts a partial row into the table: into the entry of its key, or as a new one. Where there is no room for it, the rows
-/// of the table go to their partitions first. It takes no memory where the table has room.
+/// Puts a partial row into the table: into the entry of its key, or as a new one. Where there is no room for it, the table
+/// grows by a page, if the client may reserve one more; else the rows of the table go to their partitions first. It takes no
+/// memory where the table has room.
 ///
 /// `hash` is that of the key's bytes.
 ///
@@ -60,7 +62,7 @@ pub fn put<St: Store>(
     requires row { IsPartialRow shape.now row.now }
     requires short { length row.now ≤ page_len (state table.old parts.old (St.holds store.old) (St.signs store.old)) }
     requires hash { hash ≡ hash_of (key_at shape.now row.now) }
-    ensures ok { OnOk result (HasPut c.now.tracker shape.now fan.level fan.base row.now (state table.old parts.old (St.holds store.old) (St.signs store.old)) (state table.new parts.new (St.holds store.new) (St.signs store.new))) }
+    ensures ok { OnOk result (HasPut shape.now fan.level fan.base row.now (state table.old parts.old (St.holds store.old) (St.signs store.old)) (state table.new parts.new (St.holds store.new) (St.signs store.new))) }
     ensures works { Works c.now.tracker shape.now (state table.old parts.old (St.holds store.old) (St.signs store.old)) (state table.new parts.new (St.holds store.new) (St.signs store.new)) }
     ensures fan { IsFan fan.level fan.base fan.from parts.new }
     ensures cause { IfErr result (λ e. WasAnswered e (St.signs store.old) (St.signs store.new)) }
@@ -71,13 +73,43 @@ pub fn put<St: Store>(
         add_numbers(table, node, row, shape);
         return Ok(());
     }
-    if table.has_room(row.len()) {
-        add_entry(table, hash, row);
-        return Ok(());
-    }
-    flush(alloc, store, c, shape, table, parts, fan, spare)?;
+    make_room(alloc, store, c, shape, table, parts, fan, row.len(), spare)?;
     add_entry(table, hash, row);
     Ok(())
+}
+
+// There is room for an entry of so many bytes: the table has it, or grows, or its rows go to their partitions.
+fn make_room<St: Store>(
+    alloc: Global,
+    store: &mut St,
+    c: &Client,
+    shape: &Shape,
+    table: &mut BucketTable,
+    parts: &mut Partitions,
+    fan: Fan,
+    len: usize,
+    spare: &mut Spare,
+) -> Result<(), PoolErr>
+    requires held { IsHeld c.now.tracker (state table.old parts.old (St.holds store.old) (St.signs store.old)) }
+    requires entries { AreEntries shape.now (page_len (state table.old parts.old (St.holds store.old) (St.signs store.old))) table.old }
+    requires fan { IsFan fan.level fan.base fan.from parts.old }
+    requires some { 4 ≤ len }
+    requires short { len ≤ page_len (state table.old parts.old (St.holds store.old) (St.signs store.old)) }
+    ensures ok { OnOk result (HasMoved shape.now fan.level fan.base (state table.old parts.old (St.holds store.old) (St.signs store.old)) (state table.new parts.new (St.holds store.new) (St.signs store.new))) }
+    ensures room { OnOk result (used_by table.new.nodes + 4 + len ≤ table.new.room) }
+    ensures works { Works c.now.tracker shape.now (state table.old parts.old (St.holds store.old) (St.signs store.old)) (state table.new parts.new (St.holds store.new) (St.signs store.new)) }
+    ensures fan { IsFan fan.level fan.base fan.from parts.new }
+    ensures cause { IfErr result (λ e. WasAnswered e (St.signs store.old) (St.signs store.new)) }
+    ensures full { IfErr result (IsFull parts.old.page_blocks (St.holds store.new).free_slots) }
+{
+    if table.has_room(len) {
+        return Ok(());
+    }
+    grow(alloc, store, c, shape, table, parts);
+    if table.has_room(len) {
+        return Ok(());
+    }
+    flush(alloc, store, c, shape, table, parts, fan, spare)
 }
 
 // Adds an entry, for which there is room.

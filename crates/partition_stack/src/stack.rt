@@ -48,6 +48,13 @@ impl Partitions {
         })
     }
 
+    /// How many blocks a page has.
+    pub fn page_blocks(&self) -> u32
+        ensures { result ≡ self.now.page_blocks }
+    {
+        self.page_blocks
+    }
+
     /// How many partitions there are.
     pub fn len(&self) -> usize
         ensures { result ≡ length self.now.streams }

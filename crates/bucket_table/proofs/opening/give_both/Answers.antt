@@ -1,4 +1,5 @@
 use Rattle.store_api.proofs.Growing.{grows_trans}
+use Rattle.bucket_table.proofs.Entered.{loans_more}
 use Rattle.bucket_table.proofs.Held.{held_back, held_front}
 use Rattle.bucket_table.proofs.Lent.{lends_trans}
 use Rattle.bucket_table.proofs.opening.give_both.Goals as goal
@@ -24,3 +25,6 @@ returns-clause-lends g c = λ t is.
 
 pub returns-clause-grows : goal.returns-clause-grows
 returns-clause-grows g c = grows_trans _ _ _ c.give.ensures.grows c.give-2.ensures.grows
+
+pub returns-clause-entries : goal.returns-clause-entries
+returns-clause-entries g c = loans_more _ _ _ c.give.ensures.entries c.give-2.ensures.entries

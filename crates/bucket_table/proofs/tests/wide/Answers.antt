@@ -6,18 +6,18 @@ use Rattle.bucket_table.proofs.Grown.{grew_closed}
 use Rattle.bucket_table.proofs.Opened.{closed_again}
 use Rattle.bucket_table.proofs.tests.wide.Goals as goal
 
-has_unused : (t : ℕ) (table : Table) (old new : Holdings) → IsOpened t 2 2 1 old table → Lends t (loans_of table) old new → 17 * old.block_len ≤ unused_of t old → buffer_len table ≤ unused_of table.client new
-has_unused t table old new is lent enough =
+has_unused : (t : ℕ) (table : Table) (old new : Holdings) → IsOpened t 2 2 1 old new table → 17 * old.block_len ≤ unused_of t old → buffer_len table ≤ unused_of table.client new
+has_unused t table old new is enough =
     let len : buffer_len table ≡ 2 * old.block_len = ap (λ (n : ℕ). n * table.block_len) is.page_blocks ∙ ap (λ (n : ℕ). 2 * n) is.block_len in
-    let spent : unused_of t old ≡ unused_of t new + bytes_of (loans_of table) = ap (λ (a : Account). a.unused) lent.charged in
+    let spent : unused_of t old ≡ unused_of t new + bytes_of (loans_of table) = ap (λ (a : Account). a.unused) is.lends.charged in
     subst (λ (k : ℕ). buffer_len table ≤ unused_of k new) (sym is.client) (omega (arith, len, spent, is.bytes, enough))
 
 pub grow-requires-clause-unused : goal.grow-requires-clause-unused
-grow-requires-clause-unused g c = has_unused c.args.c.now.tracker c.in_ok-table.table _ _ c.in_ok-table.ensures.ok c.in_ok-table.ensures.lends c.requires.unused
+grow-requires-clause-unused g c = has_unused c.args.c.now.tracker c.in_ok-table.table _ _ c.in_ok-table.ensures.ok c.requires.unused
 
 pub returns-in-Ok : goal.returns-in-Ok
 returns-in-Ok g c =
-    grew_closed c.args.c.now.tracker c.in_ok-table.table c.grow.new.self c.taken-seen.new.table _ _ _ _ c.in_ok-table.ensures.ok.client c.in-Ok.ensures.ok c.taken-seen.ensures c.in_ok-table.ensures.lends c.close.ensures.lends
+    grew_closed c.args.c.now.tracker c.in_ok-table.table c.grow.new.self c.taken-seen.new.table _ _ _ _ c.in_ok-table.ensures.ok.client c.in-Ok.ensures.ok c.taken-seen.ensures c.in_ok-table.ensures.ok.lends c.close.ensures.lends
 
 pub returns-in-Err : goal.returns-in-Err
 returns-in-Err g c =
@@ -27,4 +27,4 @@ returns-in-Err g c =
     subst (λ (h : Holdings). Lends table.client (loans_of table) new h) c.in-Err.ensures.held
     (subst (λ (x : Table). Lends x.client (loans_of x) new (g.St.Store.holds c.grow.new.store)) c.in-Err.ensures.err c.close-in-Err.ensures.lends)
     in
-    closed_again c.args.c.now.tracker table table _ _ _ c.in_ok-table.ensures.ok.client refl c.in_ok-table.ensures.lends back
+    closed_again c.args.c.now.tracker table table _ _ _ c.in_ok-table.ensures.ok.client refl c.in_ok-table.ensures.ok.lends back

@@ -4,6 +4,7 @@ use Rattle.block_arena.specs.Memory.{IsBufferOf}
 use Rattle.store_api.specs.Holdings.{length_of, unused_of}
 use Rattle.store_api.specs.Tokens.{LoanToken}
 use Rattle.bucket_table.specs.Regions.{AreParts, area_of, lent}
+use Rattle.bucket_table.proofs.Entered.{lent_entered, refused_entered}
 use Rattle.bucket_table.proofs.Filled.{area_more, parts_more}
 use Rattle.bucket_table.proofs.Lent.{lends_one}
 use Rattle.bucket_table.proofs.Marks.{area_len}
@@ -54,3 +55,9 @@ returns-clause-ok g c =
       bytes = bytes;
       lends = lends_one c.args.c.now.tracker t.blocks (lent loan) h _ c.requires.client made.fresh made.client blocks_are len_is room made.holdings;
     })
+
+pub returns-in_err-loan-clause-entries : goal.returns-in_err-loan-clause-entries
+returns-in_err-loan-clause-entries g c = refused_entered _ _ _ _ _ _ (g.St.Store.signs c.args.store.now) (g.St.Store.signs c.alloc.new.self) c.in_err-loan.ensures.err
+
+pub returns-clause-entries : goal.returns-clause-entries
+returns-clause-entries g c = lent_entered _ _ _ _ _ _ (g.St.Store.signs c.args.store.now) (g.St.Store.signs c.alloc.new.self) c.in_ok-loan.ensures.entries

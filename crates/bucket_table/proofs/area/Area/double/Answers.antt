@@ -3,6 +3,7 @@ use Rattle.std.proofs.lemmas.List.{length-map}
 use Rattle.store_api.proofs.Growing.{grows_trans}
 use Rattle.bucket_table.specs.Regions.{lent}
 use Rattle.bucket_table.proofs.Doubled.{alike_back, doubled, has_bytes, held_now, region_back}
+use Rattle.bucket_table.proofs.Entered.{loans_more}
 use Rattle.bucket_table.proofs.Held.{short_after}
 use Rattle.bucket_table.proofs.area.Area.double.Goals as goal
 
@@ -58,3 +59,6 @@ returns-in-Err-clause-cause g c = short_after c.in-Err.e c.args.c.now.tracker c.
 
 pub returns-in-Err-clause-grows : goal.returns-in-Err-clause-grows
 returns-in-Err-clause-grows g c = grows_trans _ _ _ c.in-Err.ensures.grows c.shrink.ensures.grows
+
+pub returns-in-Err-clause-entries : goal.returns-in-Err-clause-entries
+returns-in-Err-clause-entries g c = loans_more _ _ _ c.in-Err.ensures.entries c.shrink.ensures.entries

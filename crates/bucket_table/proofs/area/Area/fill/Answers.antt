@@ -5,6 +5,7 @@ use Rattle.store_api.proofs.Growing.{grows_refl, grows_trans}
 use Rattle.bucket_table.specs.Filling.{Fills}
 use Rattle.bucket_table.specs.Lending.{WasShort}
 use Rattle.bucket_table.specs.Regions.{Region}
+use Rattle.bucket_table.proofs.Entered.{loans_more, loans_none}
 use Rattle.bucket_table.proofs.Filled.{fills_more, fills_none, has_space}
 use Rattle.bucket_table.proofs.Held.{any_err, short_before}
 use Rattle.bucket_table.proofs.area.Area.fill.Goals as goal
@@ -13,6 +14,7 @@ pub loop-i-init : goal.loop-i-init
 loop-i-init g c = record {
   filled = fills_none c.args.c.now.tracker c.args.self.now (g.St.Store.holds c.args.store.now) c.requires.client;
   grows = grows_refl (g.St.Store.signs c.args.store.now);
+  entries = loans_none (g.St.Store.signs c.args.store.now).trail;
 }
 
 pub add-requires : goal.add-requires
@@ -53,10 +55,14 @@ returns-in_err-add-clause-cause g c =
 pub returns-in_err-add-clause-grows : goal.returns-in_err-add-clause-grows
 returns-in_err-add-clause-grows g c = grows_trans _ _ _ c.loop-i.invariant.grows c.in_err-add.ensures.grows
 
+pub returns-in_err-add-clause-entries : goal.returns-in_err-add-clause-entries
+returns-in_err-add-clause-entries g c = loans_more _ _ _ c.loop-i.invariant.entries c.in_err-add.ensures.entries
+
 pub loop-i-preserved : goal.loop-i-preserved
 loop-i-preserved g c = record {
   filled = fills_more c.args.c.now.tracker c.loop-i._i _ _ _ _ _ _ c.loop-i.invariant.filled c.in_ok-add.ensures.ok;
   grows = grows_trans _ _ _ c.loop-i.invariant.grows c.in_ok-add.ensures.grows;
+  entries = loans_more _ _ _ c.loop-i.invariant.entries c.in_ok-add.ensures.entries;
 }
 
 pub returns : goal.returns
@@ -68,4 +74,5 @@ returns g c =
       err = tt;
       cause = tt;
       grows = inv.grows;
+      entries = inv.entries;
     }

@@ -3,6 +3,7 @@ use Rattle.std.proofs.lemmas.List.{map-append, take_at}
 use Rattle.std.specs.Option.{option_to_list}
 use Rattle.bucket_table.specs.Lending.{AreHeld}
 use Rattle.bucket_table.specs.Regions.{area_of, lent}
+use Rattle.bucket_table.proofs.Entered.{freed_entered}
 use Rattle.bucket_table.proofs.Filled.{area_more, last_loan, parts_less}
 use Rattle.bucket_table.proofs.Held.{freed_last, held_front}
 use Rattle.bucket_table.proofs.area.Area.free_last.Goals as goal
@@ -49,3 +50,6 @@ returns-clause-went g c =
       held = λ k is. held_front k (map lent rest) (lent loan ∷ []) h new (subst (AreHeld k h) loans is) (freed k is);
       lends = λ k is. freed k is;
     })
+
+pub returns-clause-entries : goal.returns-clause-entries
+returns-clause-entries g c = freed_entered _ _ (g.St.Store.signs c.args.store.now) (g.St.Store.signs c.free.new.self) c.free.ensures.entries

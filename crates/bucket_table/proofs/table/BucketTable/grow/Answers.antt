@@ -43,7 +43,7 @@ returns g c =
     let client : client_in t.heads.loans ≡ c.args.c.now.tracker = sym (rw (← c.self.view_is) at c.requires.client) in
     let grew_so = grew c.args.c.now.tracker t.chains.len t.used t.heads t.nodes c.add.new.self old _ c.self.invariant.table c.in_ok-add.ensures.ok (rw (← c.self.view_is) at c.requires.short) client in
     let was : IsTableOf (table_of t.chains.len t.heads t.nodes) old = rw (← c.self.view_is) at c.requires.table in
-    rw (← c.self.view_is) (record { ok = grew_so; err = tt; held = tt; table = grew_held _ _ old _ was grew_so; cause = tt; grows = c.in_ok-add.ensures.grows })
+    rw (← c.self.view_is) (record { ok = grew_so; err = tt; held = tt; table = grew_held _ _ old _ was grew_so; cause = tt; grows = c.in_ok-add.ensures.grows; entries = c.in_ok-add.ensures.entries })
 
 pub returns-in_err-add-clause-err : goal.returns-in_err-add-clause-err
 returns-in_err-add-clause-err g c =

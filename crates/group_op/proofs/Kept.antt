@@ -1,0 +1,97 @@
+-- What a grouping keeps of the rows that were fed, over one more of them.
+use Rattle.std.proofs.Common.{◌≡◌, ◌∙◌, ℕ, ◌+◌, ◌*◌, ◌≤◌, ◌==◌, List, [], ◌∷◌, ◌++◌, length, Bool, true, false, Option, Some, Result, Ok, Err, OnOk, refl, ap, sym, subst, inr, arith, append-nil, length-append}
+use Rattle.std.specs.Prelude.{All, filter}
+use Rattle.std.specs.List.Sorted.{IsPermutation}
+use Rattle.std.proofs.lemmas.List.Elements.{All-append, All-cons, All-filter, All-nil}
+use Rattle.std.proofs.lemmas.Bool.{eqb-true}
+use Rattle.std.proofs.lemmas.List.Sorted.{length_permutation}
+use Rattle.reservation_tree.specs.declared.errors.PoolErr.{PoolErr}
+use Rattle.pool_model.specs.declared.entry.Entry.{Entry}
+use Rattle.row_codec.specs.declared.values.Value.{Value}
+use Rattle.row_codec.specs.Row.{IsValue}
+use Rattle.store_api.specs.Conditions.{IsBlockCount}
+use Rattle.group_rows.specs.Tables.{HaveDistinctKeys}
+use Rattle.store_api.specs.Holdings.{Holdings, account_of, length_of}
+use Rattle.store_api.specs.Signs.{Signs}
+use Rattle.store_api.specs.Tokens.{ClientToken}
+use Rattle.store_api.specs.declared.shapes.Shape.{Shape}
+use Rattle.tuple_stream.specs.FamilyCalls.{shares}
+use Rattle.bucket_table.specs.Tables.{Table}
+use Rattle.partition_stack.specs.Stack.{Stack, over}
+use Rattle.group_op.specs.Held.{State, rows_of, state, streams_of}
+use Rattle.group_op.specs.Operator.{HasOpened, IsOperator, Keeps, Spells, entries_in, operator}
+use Rattle.group_op.specs.Putting.{Deals, HasPut, Works}
+use Rattle.group_op.specs.Stored.{IsPartialRow, SameGroups, dealt, grouping_of, partials_at, place_of}
+use Rattle.group_op.proofs.Deals.{deals_as, deals_then}
+use Rattle.group_op.proofs.Dividing.{more_shares}
+use Rattle.group_op.proofs.Fed.{fed_stands}
+
+go : (shape : Shape) (i : ℕ) (r : List ℕ) (rows : List (List ℕ)) (b : Bool) → (place_of shape 0 0 r == i) ≡ b → All (λ x. place_of shape 0 0 x ≡ i) (dealt shape 0 0 rows i) → All (λ x. place_of shape 0 0 x ≡ i) (dealt shape 0 0 (r ∷ rows) i)
+go shape i r rows true is rest = rw is (All-cons (λ x. place_of shape 0 0 x ≡ i) r (dealt shape 0 0 rows i) (eqb-true (place_of shape 0 0 r) i is) rest)
+go shape i r rows false is rest = rw is rest
+
+-- those that are dealt to a place are of that place
+placed_there : (shape : Shape) (i : ℕ) (rows : List (List ℕ)) → All (λ r. place_of shape 0 0 r ≡ i) (dealt shape 0 0 rows i)
+placed_there shape i [] = All-nil (λ r. place_of shape 0 0 r ≡ i)
+placed_there shape i (r ∷ rows) = go shape i r rows (place_of shape 0 0 r == i) refl (placed_there shape i rows)
+
+module _ (c : ClientToken) (shape : Shape) (start : Option (List Entry)) (fed : List (List Value)) (row : List Value) (bytes : List ℕ) (was : Option Table) (own now : Table) (p q : Stack) (h0 h1 h2 : Holdings) (s0 s1 s2 : Signs)
+    (opened : HasOpened shape was own (state own p h0 s0) (state own p h1 s1)) (put : HasPut shape 0 0 bytes (state own p h1 s1) (state now q h2 s2)) (spells : Spells shape bytes row) (keeps : Keeps start fed (operator c shape p was) h0 s0) where
+  deals : Deals (dealt shape 0 0 put.gone) (over p h0 s0) (over q h2 s2)
+  deals =
+      deals_as (λ i. [] ++ dealt shape 0 0 put.gone i) (dealt shape 0 0 put.gone) (over p h0 s0) (over q h2 s2) (λ i. refl)
+      (deals_then (λ i. []) (dealt shape 0 0 put.gone) (over p h0 s0) (over p h1 s1) (over q h2 s2) opened.deals put.deals)
+
+  abbrev rows_now : ℕ → List (List ℕ)
+  rows_now i = keeps.rows i ++ dealt shape 0 0 put.gone i
+
+  moved : IsPermutation (shares 16 rows_now) (shares 16 keeps.rows ++ put.gone)
+  moved = more_shares shape 0 keeps.rows put.gone
+
+  same : SameGroups (grouping_of shape) (partials_at shape (bytes ∷ entries_in was)) (partials_at shape (rows_of now ++ put.gone))
+  same = subst (λ (rs : List (List ℕ)). SameGroups (grouping_of shape) (partials_at shape (bytes ∷ rs)) (partials_at shape (rows_of now ++ put.gone))) opened.rows put.same
+
+  pub keeps_fed : Keeps start (fed ++ row ∷ []) (operator c shape q (Some now)) h2 s2
+  keeps_fed =
+      record {
+        rows = rows_now;
+        shows = deals.rows keeps.rows (inr keeps.at_end) keeps.shows;
+        formed = λ i. All-append (IsPartialRow shape) (keeps.rows i) (dealt shape 0 0 put.gone i) (keeps.formed i) (All-filter (λ r. place_of shape 0 0 r == i) (IsPartialRow shape) put.gone put.formed);
+        placed = λ i. All-append (λ r. place_of shape 0 0 r ≡ i) (keeps.rows i) (dealt shape 0 0 put.gone i) (keeps.placed i) (placed_there shape i put.gone);
+        values = All-append (λ r. All IsValue r) fed (row ∷ []) keeps.values (All-cons (λ r. All IsValue r) row [] spells.values (All-nil (λ r. All IsValue r)));
+        stand = fed_stands shape fed row bytes (entries_in was) (rows_of now) put.gone (shares 16 keeps.rows) (shares 16 rows_now) keeps.values spells.values spells.says same moved keeps.stand;
+        distinct = put.distinct (subst (λ (rs : List (List ℕ)). HaveDistinctKeys (partials_at shape rs)) (sym opened.rows) keeps.distinct);
+        few =
+            let long = ap length opened.rows in
+            let few = keeps.few in
+            let fewer = put.fewer in
+            let shares_long = length_permutation (shares 16 rows_now) (shares 16 keeps.rows ++ put.gone) moved in
+            let both = length-append (shares 16 keeps.rows) put.gone in
+            let all = length-append fed (row ∷ []) in
+            omega (arith, long, few, fewer, shares_long, both, all);
+        at_end = deals.at_end keeps.at_end;
+        whole = deals.whole keeps.whole;
+        laid = deals.laid start keeps.at_end keeps.laid;
+      }
+
+pub keeps_put : (c : ClientToken) (shape : Shape) (bytes : List ℕ) (was : Option Table) (own now : Table) (p q : Stack) (h0 h1 h2 : Holdings) (s0 s1 s2 : Signs) (r : Result Unit PoolErr)
+    → HasOpened shape was own (state own p h0 s0) (state own p h1 s1) → OnOk r (HasPut shape 0 0 bytes (state own p h1 s1) (state now q h2 s2))
+    → OnOk r ((start : Option (List Entry)) (rows : List (List Value)) (row : List Value) → Spells shape bytes row → Keeps start rows (operator c shape p was) h0 s0 → Keeps start (rows ++ row ∷ []) (operator c shape q (Some now)) h2 s2)
+keeps_put c shape bytes was own now p q h0 h1 h2 s0 s1 s2 (Ok done) opened put = λ start rows row spells keeps. keeps_fed c shape start rows row bytes was own now p q h0 h1 h2 s0 s1 s2 opened put spells keeps
+keeps_put c shape bytes was own now p q h0 h1 h2 s0 s1 s2 (Err e) opened put = tt
+
+-- the grouping is one over its store still
+pub operator_works : (c : ClientToken) (shape : Shape) (was : Option Table) (own now : Table) (p q : Stack) (h0 h1 h2 : Holdings) (s0 s1 s2 : Signs) → IsOperator (operator c shape p was) h0 s0 → h1.block_len ≡ h0.block_len
+    → (account_of c.tracker h0).reservation ≤ (account_of c.tracker h1).reservation → Works c.tracker shape (state own p h1 s1) (state now q h2 s2) → IsOperator (operator c shape q (Some now)) h2 s2
+operator_works c shape was own now p q h0 h1 h2 s0 s1 s2 is len reserved works =
+    record {
+      shape = is.shape;
+      sized = subst IsBlockCount (sym works.blocks) is.sized;
+      client = works.held.owns.lives;
+      least =
+          let page : length_of q.page_blocks h2 ≡ length_of p.page_blocks h0 = ap (λ (n : ℕ). n * h2.block_len) works.blocks ∙ ap (λ (n : ℕ). p.page_blocks * n) (works.leaves.others.block_len ∙ len) in
+          let least = is.least in
+          let more = works.leaves.reserved in
+          omega (arith, least, more, reserved, ap (λ (n : ℕ). 20 * n) page);
+      has = (works.held, works.entries);
+    }

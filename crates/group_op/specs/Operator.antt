@@ -1,0 +1,120 @@
+-- A grouping over a store: what it has, and what it keeps of the rows that were fed. Lengths are in bytes.
+use Rattle.std.specs.Prelude.{◌≡◌, ◌≢◌, ℕ, ◌+◌, ◌*◌, ◌≤◌, List, [], ◌++◌, All, length, Option, Some, None}
+use Rattle.pool_model.specs.declared.entry.Entry.{Entry}
+use Rattle.row_codec.specs.declared.values.Value.{Value}
+use Rattle.row_codec.specs.Order.{path_order}
+use Rattle.row_codec.specs.RowBytes.{row_bytes}
+use Rattle.row_codec.specs.Row.{IsValue, kinds_of}
+use Rattle.store_api.specs.declared.shapes.Shape.{Shape}
+use Rattle.store_api.specs.Conditions.{IsBlockCount, IsLiveClient}
+use Rattle.store_api.specs.Holdings.{Holdings, LiveLoan, account_of, length_of, unused_of}
+use Rattle.store_api.specs.Shapes.{IsShape}
+use Rattle.store_api.specs.Emitters.{OthersStay}
+use Rattle.store_api.specs.declared.op_err.OpErr.{OpErr}
+use Rattle.store_api.specs.declared.op_err.OpErr.TheVariants.{Pool, Sink}
+use Rattle.store_api.specs.Signs.{Grows, Signs, WasAnswered}
+use Rattle.tuple_stream.specs.Touches.{IsFull}
+use Rattle.store_api.specs.Tokens.{ClientToken}
+use Rattle.tuple_stream.specs.Trails.{EnteredEvents}
+use Rattle.tuple_stream.specs.Families.{ShowAll}
+use Rattle.tuple_stream.specs.FamilyCalls.{AllAtEnd, AllWhole, HaveLaid, shares}
+use Rattle.group_rows.specs.Combining.{AreValues}
+use Rattle.group_rows.specs.Standing.{StandFor}
+use Rattle.group_rows.specs.Tables.{HaveDistinctKeys}
+use Rattle.bucket_table.specs.Tables.{Table}
+use Rattle.partition_stack.specs.Stack.{Stack, first_sixteen, over}
+use Rattle.partition_stack.specs.Changes.{Owns}
+use Rattle.group_op.specs.Held.{AreEntries, IsHeld, State, page_len, rows_of, state, streams_of}
+use Rattle.group_op.specs.Putting.{Deals}
+use Rattle.group_op.specs.Stored.{IsPartialRow, grouping_of, partial_at, partials_at, place_of}
+use Rattle.group_rows.specs.Partials.{partial_of}
+
+-- its client, the shape of its rows, its partitions, and its table once it has one
+pub record Operator : Type 0 where
+  pub client : ClientToken
+  pub shape : Shape
+  pub parts : Stack
+  pub table : Option Table
+
+abbrev pub operator : ClientToken → Shape → Stack → Option Table → Operator
+operator c shape parts table = record { client = c; shape = shape; parts = parts; table = table }
+
+-- a grouping of which nothing was called yet
+abbrev pub started : ClientToken → ℕ → Shape → Operator
+started c blocks shape = operator c shape (first_sixteen blocks) None
+
+-- the length of its pages
+abbrev pub page_of : Operator → Holdings → ℕ
+page_of op h = length_of op.parts.page_blocks h
+
+-- the client has no loan
+abbrev pub HasNoLoan : ℕ → Holdings → Type 0
+HasNoLoan t h = (q : ℕ) (loan : LiveLoan) → h.loans q ≡ Some loan → loan.client ≢ t
+
+-- its client has its table and its partitions and nothing else; before there is a table, nothing is charged
+abbrev pub HasTable : ClientToken → Shape → Stack → Option Table → Holdings → Signs → Type 0
+HasTable c shape parts None h signs = Owns c.tracker 0 (over parts h signs) × HasNoLoan c.tracker h × (unused_of c.tracker h ≡ (account_of c.tracker h).reservation)
+HasTable c shape parts (Some table) h signs = IsHeld c.tracker (state table parts h signs) × AreEntries shape (length_of parts.page_blocks h) table
+
+-- the grouping is one over this store, with twenty pages reserved
+pub record IsOperator (op : Operator) (h : Holdings) (signs : Signs) : Type 0 where
+  pub shape : IsShape op.shape
+  pub sized : IsBlockCount op.parts.page_blocks
+  pub client : IsLiveClient op.client h
+  pub least : 20 * page_of op h ≤ (account_of op.client.tracker h).reservation
+  pub has : HasTable op.client op.shape op.parts op.table h signs
+
+-- a row that may be fed: of the shape's kinds, with room in a page for itself and sixteen bytes an aggregate
+pub record MayBeFed (op : Operator) (h : Holdings) (row : List Value) : Type 0 where
+  pub kinds : kinds_of row ≡ op.shape.kinds
+  pub short : length (row_bytes row) + 16 * length op.shape.aggs ≤ page_of op h
+
+-- the rows of its table
+abbrev pub entries_in : Option Table → List (List ℕ)
+entries_in None = []
+entries_in (Some table) = rows_of table
+
+-- what it keeps of the rows that were fed since its store's trail stood at `start`: partial rows in its table and in
+-- sixteen partitions, each in the one of its path's first nibble. Combined, they are the groups of these rows
+pub record Keeps (start : Option (List Entry)) (fed : List (List Value)) (op : Operator) (h : Holdings) (signs : Signs) : Type 0 where
+  pub rows : ℕ → List (List ℕ)
+  pub shows : ShowAll rows (over op.parts h signs)
+  pub formed : (i : ℕ) → All (IsPartialRow op.shape) (rows i)
+  pub placed : (i : ℕ) → All (λ row. place_of op.shape 0 0 row ≡ i) (rows i)
+  pub values : AreValues fed
+  pub stand : StandFor path_order (grouping_of op.shape) fed (partials_at op.shape (entries_in op.table) ++ partials_at op.shape (shares 16 rows))
+  pub distinct : HaveDistinctKeys (partials_at op.shape (entries_in op.table))
+  pub few : length (entries_in op.table) + length (shares 16 rows) ≤ length fed
+
+  -- all pages that rest were left once, by entries since then that end no page and pin none again
+  pub at_end : AllAtEnd (over op.parts h signs)
+  pub whole : AllWhole (over op.parts h signs)
+  pub laid : EnteredEvents (HaveLaid (over op.parts h signs)) start signs.trail
+
+-- sixteen partitions of the first level, as long as rows are fed
+pub record IsFeeding (op : Operator) : Type 0 where
+  pub sixteen : length op.parts.streams ≡ 16
+
+-- the grouping is the same one, with as many partitions of the same levels
+pub record IsSame (old new : Operator) : Type 0 where
+  pub client : new.client ≡ old.client
+  pub shape : new.shape ≡ old.shape
+  pub blocks : new.parts.page_blocks ≡ old.parts.page_blocks
+  pub levels : new.parts.levels ≡ old.parts.levels
+  pub many : length new.parts.streams ≡ length old.parts.streams
+
+-- the store answered so in between; want of slots is told with the blocks of a page
+abbrev pub CameOfStore : ℕ → Holdings → Signs → Signs → OpErr → Type 0
+CameOfStore blocks h before after (Pool e) = WasAnswered e before after × IsFull blocks h.free_slots e
+CameOfStore blocks h before after Sink = ⊥
+
+-- the bytes say what a row of values says by itself
+pub record Spells (shape : Shape) (bytes : List ℕ) (row : List Value) : Type 0 where
+  pub values : All IsValue row
+  pub says : partial_at shape bytes ≡ partial_of (grouping_of shape) row
+
+-- the table is the one that was there, or a new one without rows. `a` is before the call and `b` behind it
+pub record HasOpened (shape : Shape) (was : Option Table) (table : Table) (a b : State) : Type 0 where
+  pub rows : rows_of table ≡ entries_in was
+  pub entries : AreEntries shape (page_len b) table
+  pub deals : Deals (λ i. []) (streams_of a) (streams_of b)

@@ -1,0 +1,128 @@
+//! Rows are fed to a grouping.
+ghost use Rattle.std.specs.Prelude.{◌≡◌, ◌≤◌, ◌++◌, ◌∷◌, [], List, None, Option, length, IfErr, IfOk, OnErr, OnOk};
+ghost use Rattle.pool_model.specs.declared.entry.Entry.{Entry};
+ghost use Rattle.row_codec.specs.declared.values.Value.{Value};
+ghost use Rattle.store_api.specs.Holdings.{length_of};
+ghost use Rattle.store_api.specs.Signs.{WasAnswered};
+ghost use Rattle.tuple_stream.specs.Touches.{IsFull};
+ghost use Rattle.group_op.specs.Held.{IsHeld, LeavesOthers, state};
+ghost use Rattle.group_op.specs.Operator.{CameOfStore, HasOpened, IsFeeding, IsOperator, IsSame, Keeps, MayBeFed, Spells, operator};
+ghost use Rattle.group_op.specs.Stored.{IsPartialRow, key_at};
+
+use crate::flushing::{Fan, Spare};
+use crate::operator::GroupOp;
+use crate::putting::put;
+use crate::spelling::spell;
+use bucket_table::BucketTable;
+use partition_stack::Partitions;
+use reservation_tree::PoolErr;
+use row_codec::{Value, hash64};
+use std::alloc::Global;
+use std::mem;
+use store_api::{Client, OpErr, Shape, Store};
+
+// While rows are fed they go to the sixteen partitions of the first level.
+const FIRST: Fan = Fan {
+    level: 0,
+    base: 0,
+    from: 0,
+};
+
+impl GroupOp {
+    /// Takes a row. It is spelled once, into memory that the next one takes again; where the table has its key, or room for
+    /// it, nothing is allocated.
+    ///
+    /// # Errors
+    ///
+    /// `Pool`: the store answered so in this call, or there was no memory. From then on the grouping can only end.
+    pub fn feed<St: Store>(
+        &mut self,
+        alloc: Global,
+        store: &mut St,
+        row: &[Value],
+    ) -> Result<(), OpErr>
+        requires op { IsOperator self.old (St.holds store.old) (St.signs store.old) }
+        requires feeding { IsFeeding self.old }
+        requires row { MayBeFed self.old (St.holds store.old) row.now }
+        ensures keeps { OnOk result ((start : Option (List Entry)) → (fed : List (List Value)) → Keeps start fed self.old (St.holds store.old) (St.signs store.old) → Keeps start (fed ++ row.now ∷ []) self.new (St.holds store.new) (St.signs store.new)) }
+        ensures op { IsOperator self.new (St.holds store.new) (St.signs store.new) }
+        ensures same { IsSame self.old self.new }
+        ensures leaves { LeavesOthers self.old.client.tracker (St.holds store.old) (St.holds store.new) (St.signs store.old) (St.signs store.new) }
+        ensures cause { IfErr result (CameOfStore self.old.parts.page_blocks (St.holds store.new) (St.signs store.old) (St.signs store.new)) }
+    {
+        if spell(row, &self.shape, &mut self.fed).is_err() {
+            return Err(OpErr::Pool(PoolErr::Memory));
+        }
+        match feed_row(
+            alloc,
+            store,
+            &self.client,
+            &self.shape,
+            &mut self.table,
+            &mut self.parts,
+            &self.fed,
+            &mut self.moved,
+        ) {
+            Ok(()) => Ok(()),
+            Err(e) => Err(OpErr::Pool(e)),
+        }
+    }
+}
+
+// Puts the partial row of the row that is fed into the table, which comes with the first row.
+fn feed_row<St: Store>(
+    alloc: Global,
+    store: &mut St,
+    c: &Client,
+    shape: &Shape,
+    table: &mut Option<BucketTable>,
+    parts: &mut Partitions,
+    fed: &Spare,
+    moved: &mut Spare,
+) -> Result<(), PoolErr>
+    requires op { IsOperator (operator c.now shape.now parts.old table.old) (St.holds store.old) (St.signs store.old) }
+    requires feeding { IsFeeding (operator c.now shape.now parts.old table.old) }
+    requires row { IsPartialRow shape.now fed.now.row.items }
+    requires short { length fed.now.row.items ≤ length_of parts.old.page_blocks (St.holds store.old) }
+    requires key { fed.now.key.items ≡ key_at shape.now fed.now.row.items }
+    ensures keeps { OnOk result ((start : Option (List Entry)) → (rows : List (List Value)) → (row : List Value) → Spells shape.now fed.now.row.items row → Keeps start rows (operator c.now shape.now parts.old table.old) (St.holds store.old) (St.signs store.old) → Keeps start (rows ++ row ∷ []) (operator c.now shape.now parts.new table.new) (St.holds store.new) (St.signs store.new)) }
+    ensures op { IsOperator (operator c.now shape.now parts.new table.new) (St.holds store.new) (St.signs store.new) }
+    ensures same { IsSame (operator c.now shape.now parts.old table.old) (operator c.now shape.now parts.new table.new) }
+    ensures leaves { LeavesOthers c.now.tracker (St.holds store.old) (St.holds store.new) (St.signs store.old) (St.signs store.new) }
+    ensures cause { IfErr result (λ e. WasAnswered e (St.signs store.old) (St.signs store.new)) }
+    ensures full { IfErr result (IsFull parts.old.page_blocks (St.holds store.new).free_slots) }
+{
+    let hash = hash64(&fed.key);
+    let mut own = table_or_new(alloc, store, c, shape, parts, table.take())?;
+    let result = put(
+        alloc, store, c, shape, &mut own, parts, FIRST, &fed.row, hash, moved,
+    );
+    // The place is empty, since the table was taken out above.
+    if let Some(other) = mem::replace(table, Some(own)) {
+        other.close(store);
+    }
+    result
+}
+
+// The table, or a new one where there is none: a page of heads and two of rows.
+fn table_or_new<St: Store>(
+    alloc: Global,
+    store: &mut St,
+    c: &Client,
+    _shape: &Shape,
+    parts: &Partitions,
+    table: Option<BucketTable>,
+) -> Result<BucketTable, PoolErr>
+    requires { IsOperator (operator c.now _shape.now parts.now table) (St.holds store.old) (St.signs store.old) }
+    ensures has { IfOk result (λ own. HasOpened _shape.now table own (state own parts.now (St.holds store.old) (St.signs store.old)) (state own parts.now (St.holds store.new) (St.signs store.new))) }
+    ensures held { IfOk result (λ own. IsHeld c.now.tracker (state own parts.now (St.holds store.new) (St.signs store.new))) }
+    ensures none { OnErr result (IsOperator (operator c.now _shape.now parts.now None) (St.holds store.new) (St.signs store.new)) }
+    ensures leaves { LeavesOthers c.now.tracker (St.holds store.old) (St.holds store.new) (St.signs store.old) (St.signs store.new) }
+    ensures cause { IfErr result (λ e. WasAnswered e (St.signs store.old) (St.signs store.new)) }
+    ensures full { IfErr result (IsFull parts.now.page_blocks (St.holds store.new).free_slots) }
+{
+    if let Some(own) = table {
+        return Ok(own);
+    }
+    BucketTable::open(alloc, store, c, parts.page_blocks(), 2)
+}
