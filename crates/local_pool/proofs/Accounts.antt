@@ -11,7 +11,7 @@ use Rattle.reservation_tree.specs.Change.{Refusal}
 use Rattle.reservation_tree.specs.Change.{move_refusal as tree_move_refusal}
 use Rattle.reservation_tree.specs.Tracker.{Tracker, IsLive, no_tracker, limit_of, reservation_of}
 use Rattle.pool_model.specs.declared.event.Event.{Event}
-use Rattle.pool_model.specs.declared.event.Event.TheVariants.{AddTracker, CloseTracker, Increase, IncreaseToFit, Decrease, MoveReservation, PinLoad, StartWrite}
+use Rattle.pool_model.specs.declared.event.Event.TheVariants.{AddTracker, CloseTracker, Increase, IncreaseToFit, Decrease, MoveReservation, PinLoad, StartWrite, ReadOk, ReadFailed, WriteOk, WriteFailed}
 use Rattle.pool_model.specs.declared.entry.Entry.{Entry}
 use Rattle.pool_model.specs.State.{Opening, Session, State}
 use Rattle.pool_model.specs.Sums.{charge_of, memory}
@@ -41,13 +41,14 @@ use Rattle.pin_core.specs.Entering.{unused_of, growth_refusal, fit_refusal, clie
 use Rattle.pin_core.specs.Opening.{leaving_entries}
 use Rattle.local_pool.specs.declared.owned.Owned.{Owned}
 use Rattle.local_pool.specs.Told.{all_tell, held_of}
-use Rattle.local_pool.specs.Making.{Goes, Makes, is_calm}
+use Rattle.local_pool.specs.Making.{Goes, Makes, is_calm, rests}
 use Rattle.local_pool.specs.Standing.{IsStill, Stands}
-use Rattle.local_pool.proofs.Growing.{goes, grown_by, makes}
+use Rattle.local_pool.proofs.Growing.{goes, grown_by, makes, sums_rest}
 use Rattle.local_pool.proofs.Asked.{one_more, makes_one}
 use Rattle.local_pool.proofs.Making.{asked_last, makes_more}
-use Rattle.local_pool.proofs.Still.{rests, still_run}
+use Rattle.local_pool.proofs.Still.{still_run}
 use Rattle.local_pool.proofs.Knowing.{Knows, knows, held_is, sound, owned, left_of}
+use Rattle.local_pool.proofs.Counting.{fixed}
 
 -- an error of the pool is the store's
 refused_so : (r : Option Refusal) (o : Option PoolErr) (e : PoolErr) → option_map no_reservation r ≡ o → IsFrom r e → o ≡ Some e
@@ -101,8 +102,12 @@ bytes_calm (CloseTracker t) of = let never : false ≡ true = of in cc
 bytes_calm _ of = refl
 
 bytes_rest : (e : Event) → is_of_bytes e ≡ true → rests e ≡ true
-bytes_rest (PinLoad p) of = let never : false ≡ true = of in cc
-bytes_rest (StartWrite p) of = let never : false ≡ true = of in cc
+bytes_rest (PinLoad p) of = of
+bytes_rest (ReadOk p) of = of
+bytes_rest (ReadFailed p before now) of = of
+bytes_rest (StartWrite p) of = of
+bytes_rest (WriteOk p) of = of
+bytes_rest (WriteFailed p before now) of = of
 bytes_rest _ of = refl
 
 either_live : (b : Bool) (u v : Holdings) → is_some u.free_slots ≡ true → is_some v.free_slots ≡ true → is_some (if b then u else v).free_slots ≡ true
@@ -248,7 +253,7 @@ module _ {D : Type 0} (slot : Ghosts D) (own : Owned D) (is : Stands slot own) w
 
   -- one entry more that grows or moves reservation
   reserved_so : (e : Event) → is_of_bytes e ≡ true → (new : Owned D) → Enters slot (record { maker = own.session; event = e } ∷ []) [] [] own.pool new.pool
-      → new.trail ≡ own.trail ++ record { maker = own.session; event = e } ∷ [] → new.session ≡ own.session → Stands slot new × Makes slot (λ events. events ≡ e ∷ []) own new
+      → new.trail ≡ own.trail ++ record { maker = own.session; event = e } ∷ [] → fixed new ≡ fixed own → Stands slot new × Makes slot (λ events. events ≡ e ∷ []) own new
   reserved_so e of new enters trail session =
       let went : Goes slot (e ∷ []) own new = goes slot own new (e ∷ []) trail session enters in
       let live : is_some (after_events held (e ∷ [])).free_slots ≡ true = bytes_live e held of is.live in
@@ -257,7 +262,7 @@ module _ {D : Type 0} (slot : Ghosts D) (own : Owned D) (is : Stands slot own) w
   -- a client came
   pub came : (t u q limit : ℕ) (new : Owned D) → u ≡ t → q ≡ query_of s own.session → (client_count s own.session ≡ 16 → ⊥)
       → Enters slot (client_entry own.session (query_of s own.session) limit t ∷ []) [] [] own.pool new.pool
-      → new.trail ≡ own.trail ++ record { maker = own.session; event = AddTracker u q limit None } ∷ [] → new.session ≡ own.session
+      → new.trail ≡ own.trail ++ record { maker = own.session; event = AddTracker u q limit None } ∷ [] → fixed new ≡ fixed own
       → Stands slot new × Makes slot (λ events. events ≡ AddTracker t held.query limit None ∷ []) own new
   came t u q limit new same_t same_q free enters trail session =
       let e : Event = AddTracker t held.query limit None in
@@ -265,14 +270,14 @@ module _ {D : Type 0} (slot : Ghosts D) (own : Owned D) (is : Stands slot own) w
       let grew : new.trail ≡ own.trail ++ by own.session (e ∷ []) = trail ∙ ap (λ (k : ℕ). own.trail ++ client_entry own.session q limit k ∷ []) same_t ∙ ap (λ (k : ℕ). own.trail ++ client_entry own.session k limit t ∷ []) (same_q ∙ query_is) in
       let went : Goes slot (e ∷ []) own new = goes slot own new (e ∷ []) grew session entered in
       let still : IsStill (state_of new.pool) = subst IsStill (sym went.state) (still_run own.session (e ∷ []) s (refl, tt) is.still) in
-      let stands : Stands slot new = grown_by slot own new (e ∷ []) went is (refl, tt) is.live (fewer free) still in
+      let stands : Stands slot new = grown_by slot own new (e ∷ []) went is (refl, tt) is.live (fewer free) still (sums_rest slot own new (e ∷ []) went is (refl, tt)) in
       (stands, makes slot own new (e ∷ []) went is stands refl)
 
   -- a client went
   left : (c t q bytes : ℕ) (new : Owned D) (first : List Entry) → IsSome (held.clients c) → IsIdle c held → t ≡ c → q ≡ query_of s own.session → bytes ≡ reservation_of s.trackers c
       → Enters slot (leaving_entries s own.session c) [] [] own.pool new.pool
       → first ≡ own.trail ++ record { maker = own.session; event = MoveReservation t q bytes } ∷ []
-      → new.trail ≡ first ++ record { maker = own.session; event = CloseTracker t } ∷ [] → new.session ≡ own.session
+      → new.trail ≡ first ++ record { maker = own.session; event = CloseTracker t } ∷ [] → fixed new ≡ fixed own
       → Stands slot new × Makes slot (λ events. events ≡ MoveReservation c held.query (account_of c held).reservation ∷ CloseTracker c ∷ []) own new
   left c t q bytes new first some idle same_t same_q same_bytes enters trail_first trail session =
       let m : ℕ = own.session in
@@ -290,7 +295,7 @@ module _ {D : Type 0} (slot : Ghosts D) (own : Owned D) (is : Stands slot own) w
       let few : (after_end_client c held).live_clients ≤ 16 = let now : held.live_clients ≤ 16 = is.few in omega (arith, now) in
       let still : IsStill (state_of new.pool) = subst IsStill (sym went.state) (still_run m events s (refl, (refl, tt)) is.still) in
       let stands : Stands slot new =
-      grown_by slot own new events went is (refl, (refl, tt)) (ap (λ (h : Holdings). is_some h.free_slots) ends ∙ is.live) (subst (λ (h : Holdings). h.live_clients ≤ 16) (sym ends) few) still in
+      grown_by slot own new events went is (refl, (refl, tt)) (ap (λ (h : Holdings). is_some h.free_slots) ends ∙ is.live) (subst (λ (h : Holdings). h.live_clients ≤ 16) (sym ends) few) still (sums_rest slot own new events went is (refl, (refl, tt))) in
       (stands, makes slot own new events went is stands refl)
 
   -- what a call sees of the owner's value, by its contract
@@ -307,7 +312,7 @@ module _ {D : Type 0} (slot : Ghosts D) (own : Owned D) (is : Stands slot own) w
       token_is = made ∙ ap (λ (n : ℕ). record { session = own.session; tracker = n }) same
 
       pub reserved_by : (e : ℕ → Event) → ((k : ℕ) → is_of_bytes (e k) ≡ true) → (new : Owned D) → Enters slot (record { maker = mine.session; event = e mine.tracker } ∷ []) [] [] own.pool new.pool
-          → new.trail ≡ own.trail ++ record { maker = own.session; event = e t } ∷ [] → new.session ≡ own.session → Stands slot new × Makes slot (λ events. events ≡ e c ∷ []) now new
+          → new.trail ≡ own.trail ++ record { maker = own.session; event = e t } ∷ [] → fixed new ≡ fixed own → Stands slot new × Makes slot (λ events. events ≡ e c ∷ []) now new
       reserved_by e of new enters trail session =
           let both : Stands slot new × Makes slot (λ events. events ≡ e c ∷ []) own new =
           reserved_so (e c) (of c) new
@@ -351,7 +356,7 @@ module _ {D : Type 0} (slot : Ghosts D) (own : Owned D) (is : Stands slot own) w
         pub went : IsIdle c (held_of slot now) → (u q bytes : ℕ) (new : Owned D) (first : List Entry) → u ≡ c → q ≡ query_of s own.session → bytes ≡ reservation_of s.trackers u
             → Enters slot (leaving_entries s mine.session mine.tracker) [] [] own.pool new.pool
             → first ≡ own.trail ++ record { maker = own.session; event = MoveReservation u q bytes } ∷ []
-            → new.trail ≡ first ++ record { maker = own.session; event = CloseTracker u } ∷ [] → new.session ≡ own.session
+            → new.trail ≡ first ++ record { maker = own.session; event = CloseTracker u } ∷ [] → fixed new ≡ fixed own
             → Stands slot new × Makes slot (λ events. events ≡ MoveReservation c (held_of slot now).query (account_of c (held_of slot now)).reservation ∷ CloseTracker c ∷ []) now new
         went idle u q bytes new first same_u same_q same_bytes enters trail_first trail session =
             let both : Stands slot new × Makes slot (λ events. events ≡ MoveReservation c held.query (account_of c held).reservation ∷ CloseTracker c ∷ []) own new =
@@ -365,7 +370,7 @@ module _ {D : Type 0} (slot : Ghosts D) (own : Owned D) (is : Stands slot own) w
         other_is = made_other ∙ ap (λ (n : ℕ). record { session = own.session; tracker = n }) same_to
 
         pub moved_by : (bytes : ℕ) (new : Owned D) → Enters slot (move_entry mine.session mine.tracker other.tracker bytes ∷ []) [] [] own.pool new.pool
-            → new.trail ≡ own.trail ++ record { maker = own.session; event = MoveReservation t u bytes } ∷ [] → new.session ≡ own.session
+            → new.trail ≡ own.trail ++ record { maker = own.session; event = MoveReservation t u bytes } ∷ [] → fixed new ≡ fixed own
             → Stands slot new × Makes slot (λ events. events ≡ MoveReservation c to bytes ∷ []) now new
         moved_by bytes new enters trail session =
             reserved_by (λ k. MoveReservation k to bytes) (λ k. refl) new

@@ -32,14 +32,15 @@ use Rattle.pin_core.specs.Evictions.{evictions, names_gone}
 use Rattle.pin_core.specs.Coming.{CanHold, zeros}
 use Rattle.local_pool.specs.declared.owned.Owned.{Owned}
 use Rattle.local_pool.specs.Told.{held_of, signs_of}
-use Rattle.local_pool.specs.Making.{Goes, Makes, is_calm}
+use Rattle.local_pool.specs.Making.{Goes, Makes, is_calm, rests}
 use Rattle.local_pool.specs.Standing.{IsStill, Stands}
 use Rattle.local_pool.specs.Calling.{Evicts, evicts_for, IsFreshPage, IsFreshLoan}
-use Rattle.local_pool.proofs.Growing.{by_append, goes, grown, makes}
+use Rattle.local_pool.proofs.Growing.{by_append, goes, grown, makes, sums_rest}
 use Rattle.local_pool.proofs.Knowing.{knows, sound}
-use Rattle.local_pool.proofs.Still.{rests, still_run}
+use Rattle.local_pool.proofs.Still.{still_run}
 use Rattle.local_pool.proofs.Making.{makes_more, makes_made, asked_last, asked_held}
 use Rattle.local_pool.proofs.Reaching.{len_here, room_here}
+use Rattle.local_pool.proofs.Counting.{fixed}
 
 some_blocks : (blocks : ℕ) → IsBlockCount blocks → 0 < blocks
 some_blocks zero is = absurd (false≢true is)
@@ -102,7 +103,7 @@ module _ {D : Type 0} (slot : Ghosts D) where
 
   -- a call of the pool that evicts clean pages first
   pub goes_evicting : (own new : Owned D) (blocks : ℕ) (e entered : Event) (mid gone : List Entry) → gone ≡ by own.session (evicts_for blocks own) → mid ≡ own.trail ++ gone
-      → new.trail ≡ mid ++ by own.session (entered ∷ []) → entered ≡ e → new.session ≡ own.session
+      → new.trail ≡ mid ++ by own.session (entered ∷ []) → entered ≡ e → fixed new ≡ fixed own
       → Enters slot (evictions own.session (names_gone blocks own.pool) ++ record { maker = own.session; event = e } ∷ []) [] [] own.pool new.pool → Goes slot (evicts_for blocks own ++ e ∷ []) own new
   goes_evicting own new blocks e entered mid gone names first trail same session enters =
       let m : ℕ = own.session in
@@ -123,6 +124,7 @@ module _ {D : Type 0} (slot : Ghosts D) where
         grown slot own new (evicts_for blocks own ++ e ∷ []) went is (all_evicts (λ x. is_calm x ≡ true) (λ p. refl) names (e ∷ []) (calm, tt))
         (ap (λ (h : Holdings). is_some h.free_slots) (evicts_hold (held_of slot own) names (e ∷ [])) ∙ live)
         (subst IsStill (sym went.state) (still_run own.session (evicts_for blocks own ++ e ∷ []) (state_of own.pool) (all_evicts (λ x. rests x ≡ true) (λ p. refl) names (e ∷ []) (rest, tt)) is.still))
+        (sums_rest slot own new (evicts_for blocks own ++ e ∷ []) went is (all_evicts (λ x. rests x ≡ true) (λ p. refl) names (e ∷ []) (rest, tt)))
 
     pub makes_evicting : Makes slot (Evicts (e ∷ [])) own new
     makes_evicting =

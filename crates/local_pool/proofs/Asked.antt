@@ -32,17 +32,18 @@ use Rattle.pin_core.specs.PinTurns.{IsStored}
 use Rattle.pin_core.specs.Turns.{failure_of}
 use Rattle.local_pool.specs.declared.owned.Owned.{Owned}
 use Rattle.local_pool.specs.Told.{silence, held_of}
-use Rattle.local_pool.specs.Making.{Goes, Makes, is_calm}
+use Rattle.local_pool.specs.Making.{Goes, Makes, is_calm, rests}
 use Rattle.local_pool.specs.Standing.{Stands, IsStill}
 use Rattle.local_pool.specs.Turning.{Wants, IsStoredFor, CanRefuse, Rose}
-use Rattle.local_pool.proofs.Growing.{grown, makes}
+use Rattle.local_pool.proofs.Growing.{grown, makes, sums_rest}
 use Rattle.local_pool.proofs.Knowing.{Knows, knows, left_of}
-use Rattle.local_pool.proofs.Still.{rests, still_run}
+use Rattle.local_pool.proofs.Still.{still_run}
+use Rattle.local_pool.proofs.Counting.{fixed}
 
 module _ {D : Type 0} (slot : Ghosts D) (own new : Owned D) (is : Stands slot own) (e : Event) (went : Goes slot (e ∷ []) own new) (calm : is_calm e ≡ true) (rest : rests e ≡ true) where
   -- one entry more, after which nothing is in a job
   pub one_more : is_some (after_events (held_of slot own) (e ∷ [])).free_slots ≡ true → Stands slot new
-  one_more live = grown slot own new (e ∷ []) went is (calm, tt) live (subst IsStill (sym went.state) (still_run own.session (e ∷ []) (state_of own.pool) (rest, tt) is.still))
+  one_more live = grown slot own new (e ∷ []) went is (calm, tt) live (subst IsStill (sym went.state) (still_run own.session (e ∷ []) (state_of own.pool) (rest, tt) is.still)) (sums_rest slot own new (e ∷ []) went is (rest, tt))
 
   pub makes_one : {P : List Event → Type 0} → is_some (after_events (held_of slot own) (e ∷ [])).free_slots ≡ true → P (e ∷ []) → Makes slot P own new
   makes_one live holds = makes slot own new (e ∷ []) went is (one_more live) holds
@@ -237,10 +238,12 @@ module _ {D : Type 0} (slot : Ghosts D) (own : Owned D) (is : Stands slot own) w
     may_enter = record { opening = is.opening; history = own.trail; stands = is.stands; may = may_refuse }
 
     pub goes_refused : (new : Owned D) → EntersWhere slot (λ o h. MayFollow h s (refusal_of own.session call entry)) (refusal_of own.session call entry) [] own.pool new.pool
-        → new.trail ≡ own.trail ++ refusal_of own.session call entry ∷ [] → new.session ≡ own.session → Goes slot (Refused call entry ∷ []) own new
+        → new.trail ≡ own.trail ++ refusal_of own.session call entry ∷ [] → fixed new ≡ fixed own → Goes slot (Refused call entry ∷ []) own new
     goes_refused new enters trail session = record {
       trail = trail;
-      session = session;
+      session = ap (λ f. f.0) session;
+      opened = ap (λ f. f.1) session;
+      slots = λ rest measure. let moved = enters.slots measure in omega (arith, moved);
       state = enters.state;
       stands = λ o stood. subst (λ (h : List Entry). StandsFor slot o h new.pool) (sym trail) (enters.stands o own.trail stood may_refuse);
       told =

@@ -40,21 +40,24 @@ use Rattle.pin_core.specs.PinTurns.{IsLoad}
 use Rattle.pin_core.specs.Refusing.{refusal_of}
 use Rattle.pin_core.specs.Turns.{failure_of}
 use Rattle.local_pool.specs.declared.owned.Owned.{Owned}
+use Rattle.local_pool.specs.declared.tally.Tally.{Tally}
 use Rattle.local_pool.specs.Told.{silence, held_of}
+use Rattle.local_pool.specs.Counting.{Counted, SumsHold, all_failures, tally_in}
 use Rattle.local_pool.specs.Making.{Goes, Makes}
 use Rattle.local_pool.specs.Standing.{Stands, IsStill}
 use Rattle.local_pool.specs.Turning.{has_asked}
 use Rattle.local_pool.specs.Loading.{CanRead, Returns, IsRead, IsUnread}
 use Rattle.local_pool.specs.Pinning.{CanBePinned, MustRefuse, IsPinned, IsFailedRead}
 use Rattle.local_pool.proofs.Sized.{run_on, run_len}
-use Rattle.local_pool.proofs.Growing.{by_append, grown, makes}
+use Rattle.local_pool.proofs.Growing.{by_append, grown, makes, sums_by}
+use Rattle.local_pool.proofs.Counting.{fixed, tally_same, plain_then, is_stored_by, unstored}
 use Rattle.local_pool.proofs.Knowing.{knows}
 use Rattle.local_pool.proofs.Contents.{content_whole}
 use Rattle.local_pool.proofs.Asked.{rose}
 use Rattle.local_pool.proofs.Holding.{is_there}
 use Rattle.local_pool.proofs.Pinned.{content_here, left_here, fits_here}
 use Rattle.local_pool.proofs.Silent.{none_silent, told_silence}
-use Rattle.local_pool.proofs.Fetching.{fetching, fetching_by, fetches, fetching_calm, fetching_holds, content_append, fetching_leaves, fetching_sessions, fetched_still, unfetched_still, fetching_alike}
+use Rattle.local_pool.proofs.Fetching.{fetching, fetching_by, fetches, fetching_calm, fetching_holds, fetching_moves, fetching_plain, content_append, fetching_leaves, fetching_sessions, fetched_still, unfetched_still, fetching_alike}
 
 last_is_last : {X : Type 0} (o : Option X) (xs : List X) (y : X) → last_of o (xs ++ y ∷ []) ≡ Some y
 last_is_last o [] y = refl
@@ -102,7 +105,10 @@ failure_kept s m c p before now session lives whose client =
 module _ {D : Type 0} (slot : Ghosts D) (own : Owned D) (is : Stands slot own) (p : PageToken) (can : CanBePinned p (held_of slot own)) (job : ReadJob D) (went : Owned D)
     (load : IsLoad slot p job own.pool went.pool) (evicted : (page_at (state_of own.pool) p.name).place ≡ Evicted)
     (enters : Enters slot (load_entries own.session p.name (page_at (state_of own.pool) p.name).blocks own.pool) job.row [] own.pool went.pool)
-    (entered : went.trail ≡ own.trail ++ load_entries own.session p.name (page_at (state_of own.pool) p.name).blocks own.pool) (session : went.session ≡ own.session) where
+    (entered : went.trail ≡ own.trail ++ load_entries own.session p.name (page_at (state_of own.pool) p.name).blocks own.pool) (fixed_is : fixed went ≡ fixed own) where
+  session : went.session ≡ own.session
+  session = ap (λ f. f.0) fixed_is
+
   abbrev s : State
   s = state_of own.pool
 
@@ -184,12 +190,24 @@ module _ {D : Type 0} (slot : Ghosts D) (own : Owned D) (is : Stands slot own) (
             ret.state ∙ ap (λ (m : ℕ). run t (by m (end ∷ []))) session ∙ ap (λ (u : State). run u (by own.session (end ∷ []))) went_state
             ∙ sym (run_on s (by own.session front) (by own.session (end ∷ []))) ∙ ap (run s) (sym (by_append own.session front (end ∷ [])));
         stands = λ o stood. ret.stands o (went_stands o stood);
+        opened = ret.opened ∙ ap (λ f. f.1) fixed_is;
+        slots = λ rest. absurd (fetching_moves (names_gone x.blocks own.pool) p.name (end ∷ []) rest);
         told =
             let out = enters.slots (silence slot) in
-            let back : slots_home (silence slot) new.pool ≡ slots_home (silence slot) went.pool + sum_by (silence slot) job.row = ret.silence in
+            let back : slots_home (silence slot) new.pool ≡ slots_home (silence slot) went.pool + sum_by (silence slot) job.row = ret.counted.silent in
             let same : slots_home (silence slot) new.pool ≡ slots_home (silence slot) own.pool = omega (arith, out, back) in
             ap (λ (n : ℕ). n == 0) same;
       }
+
+      -- the slots that were in the job are counted as it took them
+      sums_back : is_stored_by end ≡ false → SumsHold new (tally_in slot new.pool)
+      sums_back none =
+          let parts = plain_then new.trail own.session front (end ∷ []) (fetching_plain (names_gone x.blocks own.pool) p.name) (by_append own.session front (end ∷ [])) in
+          sums_by slot own new (front ++ end ∷ []) goes_back is (all_failures (by own.session (end ∷ []))) 0 parts.0 (parts.1 ∙ unstored new.trail own.session end none)
+          (subst (λ (m : ℕ). Counted (all_failures (by m (end ∷ []))) 0 (tally_in slot own.pool) (tally_in slot new.pool)) session
+          (subst (λ (y : Tally). Counted (all_failures (by went.session (end ∷ []))) 0 y (tally_in slot new.pool))
+          (tally_same slot (λ measure. slots_home measure went.pool + sum_by measure job.row) (λ measure. slots_home measure own.pool) (λ measure. let out = enters.slots measure in omega (arith, out)))
+          ret.counted))
 
     module _ (buf : Buffer) (read : IsRead slot job buf went new) where
       ret : Returns slot (ReadOk p.name) job.row went new
@@ -200,7 +218,7 @@ module _ {D : Type 0} (slot : Ghosts D) (own : Owned D) (is : Stands slot own) (
           let gone = goes_back (ReadOk p.name) ret in
           grown slot own new (front ++ ReadOk p.name ∷ []) gone is (fetching_calm (names_gone x.blocks own.pool) p.name (ReadOk p.name ∷ []) (refl, tt))
           (ap (λ (g : Holdings). is_some g.free_slots) (fetching_holds (names_gone x.blocks own.pool) p.name (ReadOk p.name ∷ []) (held_of slot own)) ∙ is.live)
-          (subst IsStill (sym gone.state) (fetched_still own.session (names_gone x.blocks own.pool) p.name s is.still))
+          (subst IsStill (sym gone.state) (fetched_still own.session (names_gone x.blocks own.pool) p.name s is.still)) (sums_back (ReadOk p.name) ret refl)
 
       pub makes_read : Makes slot (IsPinned p.name) own new
       makes_read =
@@ -227,7 +245,7 @@ module _ {D : Type 0} (slot : Ghosts D) (own : Owned D) (is : Stands slot own) (
           let gone = goes_back end unread in
           grown slot own new (front ++ end ∷ []) gone is (fetching_calm (names_gone x.blocks own.pool) p.name (end ∷ []) (refl, tt))
           (ap (λ (g : Holdings). is_some g.free_slots) (fetching_holds (names_gone x.blocks own.pool) p.name (end ∷ []) (held_of slot own)) ∙ is.live)
-          (subst IsStill (sym gone.state) (unfetched_still own.session (names_gone x.blocks own.pool) p.name read.before read.now s is.still))
+          (subst IsStill (sym gone.state) (unfetched_still own.session (names_gone x.blocks own.pool) p.name read.before read.now s is.still)) (sums_back end unread refl)
 
       pub makes_unread : Makes slot (IsFailedRead p.name) own new
       makes_unread =

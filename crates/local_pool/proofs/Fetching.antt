@@ -1,7 +1,9 @@
 -- Clean pages go, and a load begins and ends: what these events do.
-use Rattle.std.proofs.Common.{◌≡◌, ℕ, List, [], ◌∷◌, ◌++◌, map, Option, unwrap_or, All, refl, sym, ap, ◌∙◌, inl, inr}
+use Rattle.std.proofs.Common.{◌≡◌, ℕ, List, [], ◌∷◌, ◌++◌, map, true, Option, unwrap_or, All, refl, sym, ap, ◌∙◌, inl, inr}
 use Rattle.std.proofs.lemmas.List.{append_assoc}
 use Rattle.std.proofs.lemmas.List.Elements.{All-nil, All-cons}
+use Rattle.std.proofs.lemmas.Bool.{false≢true}
+use Rattle.std.specs.List.{AllByRecursion}
 use Rattle.std.specs.FinMap.{get, insert}
 use Rattle.reservation_tree.proofs.Maps.{get_same, get_other, same_or_other}
 use Rattle.pool_model.specs.declared.event.Event.{Event}
@@ -17,6 +19,8 @@ use Rattle.own_entries.specs.OwnHoldings.{after_events}
 use Rattle.pin_core.specs.Evictions.{evictions}
 use Rattle.local_pool.specs.Standing.{IsStill}
 use Rattle.local_pool.specs.Calling.{Evicts}
+use Rattle.local_pool.specs.Making.{rests}
+use Rattle.local_pool.proofs.Counting.{ArePlain}
 use Rattle.local_pool.proofs.Growing.{AllCalm}
 use Rattle.local_pool.proofs.Still.{still_on, out_still, read_still, unread_still}
 
@@ -38,6 +42,15 @@ fetches names p last = (map (λ n. Evict n) names, all_evict names, append_assoc
 pub fetching_calm : (names : List ℕ) (p : ℕ) (last : List Event) → AllCalm last → AllCalm (fetching names p ++ last)
 fetching_calm [] p last calm = (refl, calm)
 fetching_calm (n ∷ names) p last calm = (refl, fetching_calm names p last calm)
+
+-- none of them is a failure or a write, though a load begins
+pub fetching_plain : (names : List ℕ) (p : ℕ) → ArePlain (fetching names p)
+fetching_plain [] p = (refl, tt)
+fetching_plain (n ∷ names) p = (refl, fetching_plain names p)
+
+pub fetching_moves : (names : List ℕ) (p : ℕ) (last : List Event) → AllByRecursion (λ e. rests e ≡ true) (fetching names p ++ last) → ⊥
+fetching_moves [] p last rest = false≢true rest.0
+fetching_moves (n ∷ names) p last rest = fetching_moves names p last rest.1
 
 pub fetching_holds : (names : List ℕ) (p : ℕ) (last : List Event) (h : Holdings) → after_events h (fetching names p ++ last) ≡ after_events h (PinLoad p ∷ last)
 fetching_holds [] p last h = refl

@@ -3,14 +3,13 @@ use Rattle.std.proofs.Common.{◌≡◌, ◌≤◌, ℕ, ◌+◌, ◌==◌, List
 use Rattle.std.proofs.lemmas.Bool.{leb-true}
 use Rattle.std.proofs.lemmas.List.{append_assoc, append-nil}
 use Rattle.std.proofs.lemmas.List.Elements.{filter_map-append}
-use Rattle.std.specs.List.{AllByRecursion}
+use Rattle.std.specs.List.{AllByRecursion, sum_by}
 use Rattle.outside.specs.declared.slot.Slot.{Ghosts}
 use Rattle.pool_model.specs.declared.event.Event.{Event}
 use Rattle.pool_model.specs.declared.event.Event.TheVariants.{AddTracker, CloseTracker, Increase, IncreaseToFit, Decrease, MoveReservation, UnpinOnce, MoveBuffer}
 use Rattle.pool_model.specs.declared.entry.Entry.{Entry}
 use Rattle.pool_model.specs.State.{Opening, State}
 use Rattle.pool_model.specs.Sums.{memory}
-use Rattle.pool_model.specs.Legal.{run}
 use Rattle.pool_model.specs.LookingBack.{opens, made_by, names_in, name_in}
 use Rattle.pool_model.proofs.OwnEntries.{made_more}
 use Rattle.pool_model.proofs.Names.{legal_names_are_new}
@@ -20,12 +19,15 @@ use Rattle.own_entries.specs.OwnHoldings.{Outset, step, after_events, holdings_o
 use Rattle.own_entries.specs.AboveLaws.{AllBy}
 use Rattle.own_entries.proofs.Calls.{calls_run_on}
 use Rattle.pin_core.specs.StateOf.{state_of}
-use Rattle.pin_core.specs.Standing.{StandsFor, Enters}
+use Rattle.pin_core.specs.Standing.{StandsFor, Enters, slots_home}
 use Rattle.local_pool.specs.declared.owned.Owned.{Owned}
 use Rattle.local_pool.specs.Told.{silence, all_tell, outset_of, held_of}
-use Rattle.local_pool.specs.Making.{Makes, Goes, is_calm}
+use Rattle.local_pool.specs.Counting.{Counted, SumsHold, all_failures, stored_by, tally_in, written_blocks}
+use Rattle.local_pool.specs.Making.{Makes, Goes, is_calm, rests}
 use Rattle.local_pool.specs.Standing.{IsStill, Stands}
-use Rattle.local_pool.proofs.Sized.{run_on, run_len, run_memory}
+use Rattle.local_pool.proofs.Sized.{run_len, run_memory}
+use Rattle.local_pool.proofs.Counting.{fixed, uncounted_yet, counted_more, counted_as, tally_same, failures_append, rest_plain, plain_failures, plain_stores}
+use Rattle.local_pool.proofs.Stored.{written_more}
 
 pub by_append : (m : ℕ) (a b : List Event) → by m (a ++ b) ≡ by m a ++ by m b
 by_append m [] b = refl
@@ -91,31 +93,19 @@ names_more : (a b : List Entry) → length (names_in (a ++ b)) ≡ length (names
 names_more a b = ap length (filter_map-append (λ (e : Entry). name_in e.event) a b) ∙ length-append (names_in a) (names_in b)
 
 module _ {D : Type 0} (slot : Ghosts D) where
-  pub goes_nowhere : (old : Owned D) → Goes slot [] old old
-  goes_nowhere old = record { trail = sym (append-nil old.trail); session = refl; state = refl; stands = λ o stood. stood; told = refl }
-
   -- a call of the pool that moves no slots
-  pub goes : (old new : Owned D) (events : List Event) → new.trail ≡ old.trail ++ by old.session events → new.session ≡ old.session
+  pub goes : (old new : Owned D) (events : List Event) → new.trail ≡ old.trail ++ by old.session events → fixed new ≡ fixed old
       → Enters slot (by old.session events) [] [] old.pool new.pool → Goes slot events old new
-  goes old new events trail session enters = record {
+  goes old new events trail same enters = record {
     trail = trail;
-    session = session;
+    session = ap (λ f. f.0) same;
+    opened = ap (λ f. f.1) same;
+    slots = λ rest measure. let moved = enters.slots measure in omega (arith, moved);
     state = enters.state;
     stands = λ o stood. subst (λ (h : List Entry). StandsFor slot o h new.pool) (sym trail) (enters.stands o old.trail stood);
     told =
         let moved = enters.slots (silence slot) in
         ap (λ (n : ℕ). n == 0) (omega (arith, moved));
-  }
-
-  pub goes_more : (x y z : Owned D) (a b : List Event) → Goes slot a x y → Goes slot b y z → Goes slot (a ++ b) x z
-  goes_more x y z a b first then_ = record {
-    trail = then_.trail ∙ ap (λ (h : List Entry). h ++ by y.session b) first.trail ∙ ap (λ (m : ℕ). (x.trail ++ by x.session a) ++ by m b) first.session
-        ∙ append_assoc x.trail (by x.session a) (by x.session b) ∙ ap (λ (h : List Entry). x.trail ++ h) (sym (by_append x.session a b));
-    session = then_.session ∙ first.session;
-    state = then_.state ∙ ap (λ (m : ℕ). run (state_of y.pool) (by m b)) first.session ∙ ap (λ (s : State). run s (by x.session b)) first.state
-        ∙ sym (run_on (state_of x.pool) (by x.session a) (by x.session b)) ∙ ap (run (state_of x.pool)) (sym (by_append x.session a b));
-    stands = λ o stood. then_.stands o (first.stands o stood);
-    told = then_.told ∙ first.told;
   }
 
   module _ (old new : Owned D) (events : List Event) (went : Goes slot events old new) where
@@ -137,9 +127,37 @@ module _ {D : Type 0} (slot : Ghosts D) where
         ∙ ap (holdings_of (state_of old.pool).block_len old.session (outset_of slot old.pool)) went.trail
         ∙ calls_run_on (state_of old.pool).block_len old.session (outset_of slot old.pool) old.trail events
 
+    -- the sums hold where the slots count as the events have it
+    pub sums_by : Stands slot old → (failures blocks : ℕ) → all_failures (by old.session events) ≡ failures → sum_by (λ e. stored_by new.trail e.event) (by old.session events) ≡ blocks
+        → Counted failures blocks (tally_in slot old.pool) (tally_in slot new.pool) → SumsHold new (tally_in slot new.pool)
+    sums_by was failures blocks fail_so store_so more =
+        let es : List Entry = by old.session events in
+        let failed : all_failures old.trail + failures ≡ all_failures new.trail =
+        let both = failures_append old.trail es in
+        let same : all_failures new.trail ≡ all_failures (old.trail ++ es) = ap all_failures went.trail in
+        omega (arith, both, same, fail_so) in
+        let stored : written_blocks old.trail + blocks ≡ written_blocks new.trail =
+        let both = written_more was.opening old.trail es was.stands.legal in
+        let last : sum_by (λ e. stored_by (old.trail ++ es) e.event) es ≡ blocks = ap (λ (h : List Entry). sum_by (λ e. stored_by h e.event) es) (sym went.trail) ∙ store_so in
+        let same : written_blocks new.trail ≡ written_blocks (old.trail ++ es) = ap written_blocks went.trail in
+        omega (arith, both, same, last) in
+        record {
+          first = was.sums.first;
+          opened = went.opened ∙ was.sums.opened;
+          counted =
+              counted_as (all_failures old.trail + failures) (all_failures new.trail) (written_blocks old.trail + blocks) (written_blocks new.trail) was.sums.first (tally_in slot new.pool) failed stored
+              (counted_more (all_failures old.trail) failures (written_blocks old.trail) blocks was.sums.first (tally_in slot old.pool) (tally_in slot new.pool) was.sums.counted more);
+        }
+
+    -- as they do where no job began or ended
+    pub sums_rest : Stands slot old → AllByRecursion (λ e. rests e ≡ true) events → SumsHold new (tally_in slot new.pool)
+    sums_rest was rest =
+        sums_by was 0 0 (plain_failures old.session events (rest_plain events rest)) (plain_stores new.trail old.session events (rest_plain events rest))
+        (subst (Counted 0 0 (tally_in slot old.pool)) (tally_same slot (λ measure. slots_home measure old.pool) (λ measure. slots_home measure new.pool) (λ measure. sym (went.slots rest measure))) (uncounted_yet (tally_in slot old.pool)))
+
     -- what is kept between calls is kept
-    pub grown_by : Stands slot old → NoneOpens events → is_some (after_events (held_of slot old) events).free_slots ≡ true → (after_events (held_of slot old) events).live_clients ≤ 16 → IsStill (state_of new.pool) → Stands slot new
-    grown_by was none live few still = record {
+    pub grown_by : Stands slot old → NoneOpens events → is_some (after_events (held_of slot old) events).free_slots ≡ true → (after_events (held_of slot old) events).live_clients ≤ 16 → IsStill (state_of new.pool) → SumsHold new (tally_in slot new.pool) → Stands slot new
+    grown_by was none live few still sums = record {
       opening = was.opening;
       stands = went.stands was.opening was.stands;
       alone = subst (λ (h : List Entry). AllBy new.session h) (sym went.trail) (subst (λ (m : ℕ). AllBy m (old.trail ++ by old.session events)) (sym went.session) (alone_more old.session old.trail events was.alone));
@@ -148,11 +166,12 @@ module _ {D : Type 0} (slot : Ghosts D) where
       live = ap (λ (h : Holdings). is_some h.free_slots) goes_held ∙ live;
       few = subst (λ (h : Holdings). h.live_clients ≤ 16) (sym goes_held) few;
       still = still;
+      sums = sums;
     }
 
-    pub grown : Stands slot old → AllCalm events → is_some (after_events (held_of slot old) events).free_slots ≡ true → IsStill (state_of new.pool) → Stands slot new
-    grown was calm live still =
-        grown_by was (none_opens events calm) live (subst (λ (n : ℕ). n ≤ 16) (sym (calm_counts events (held_of slot old) calm)) was.few) still
+    pub grown : Stands slot old → AllCalm events → is_some (after_events (held_of slot old) events).free_slots ≡ true → IsStill (state_of new.pool) → SumsHold new (tally_in slot new.pool) → Stands slot new
+    grown was calm live still sums =
+        grown_by was (none_opens events calm) live (subst (λ (n : ℕ). n ≤ 16) (sym (calm_counts events (held_of slot old) calm)) was.few) still sums
 
     -- and the call made these events
     pub makes : {P : List Event → Type 0} → Stands slot old → Stands slot new → P events → Makes slot P old new

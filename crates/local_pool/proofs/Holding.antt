@@ -41,6 +41,7 @@ use Rattle.local_pool.proofs.Growing.{goes}
 use Rattle.local_pool.proofs.Knowing.{Knows, knows, sound, left_of}
 use Rattle.local_pool.proofs.Asked.{one_more, makes_one}
 use Rattle.local_pool.proofs.Making.{makes_held, makes_made}
+use Rattle.local_pool.proofs.Counting.{fixed}
 
 -- a session stays live where a page takes its slots, or gives them back
 pub taken_live : (page : LivePage) (free : Option ℕ) → is_some free ≡ true → is_some (slots_taken page free) ≡ true
@@ -222,7 +223,7 @@ stays_pinned slot old new p buf e blocks free made back full cause =
     }
 
 -- a call of the pool whose entry is made by whom a page belongs to
-pub goes_whose : {D : Type 0} (slot : Ghosts D) (old new : Owned D) (e : Event) (maker : ℕ) → maker ≡ old.session → new.trail ≡ old.trail ++ by old.session (e ∷ []) → new.session ≡ old.session
+pub goes_whose : {D : Type 0} (slot : Ghosts D) (old new : Owned D) (e : Event) (maker : ℕ) → maker ≡ old.session → new.trail ≡ old.trail ++ by old.session (e ∷ []) → fixed new ≡ fixed old
     → Enters slot (by maker (e ∷ [])) [] [] old.pool new.pool → Goes slot (e ∷ []) old new
 goes_whose slot old new e maker whose trail session enters = goes slot old new (e ∷ []) trail session (subst (λ (m : ℕ). Enters slot (by m (e ∷ [])) [] [] old.pool new.pool) whose enters)
 

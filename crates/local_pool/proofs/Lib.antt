@@ -1,4 +1,6 @@
 pub mod Sized
+pub mod Counting
+pub mod Stored
 pub mod Growing
 pub mod Knowing
 pub mod Still

@@ -41,6 +41,7 @@ use Rattle.local_pool.proofs.Contents.{content_told}
 use Rattle.local_pool.proofs.Asked.{one_more, makes_one, rose, may_refuse}
 use Rattle.local_pool.proofs.Turned.{none_flies}
 use Rattle.local_pool.proofs.Holding.{is_there, not_pinned, not_loading, still_there}
+use Rattle.local_pool.proofs.Counting.{fixed}
 
 -- what was left shows but while the page is pinned
 left_shows : (place : Place) (left : List ℕ) → ((count : ℕ) → place ≡ Pinned count → ⊥) → left_at place left ≡ left
@@ -113,7 +114,7 @@ module _ {D : Type 0} (slot : Ghosts D) (own : Owned D) (is : Stands slot own) (
   }
 
   -- the page is pinned where it is
-  module _ (new : Owned D) (trail : new.trail ≡ own.trail ++ record { maker = own.session; event = PinHere p.name } ∷ []) (session : new.session ≡ own.session)
+  module _ (new : Owned D) (trail : new.trail ≡ own.trail ++ record { maker = own.session; event = PinHere p.name } ∷ []) (session : fixed new ≡ fixed own)
       (enters : Enters slot (record { maker = own.session; event = PinHere p.name } ∷ []) [] [] own.pool new.pool) where
     went_here : Goes slot (PinHere p.name ∷ []) own new
     went_here = goes slot own new (PinHere p.name ∷ []) trail session enters
@@ -159,11 +160,13 @@ module _ {D : Type 0} (slot : Ghosts D) (own new : Owned D) (is : Stands slot ow
   may_refuse_it = record { opening = is.opening; history = own.trail; stands = is.stands; may = may }
 
   module _ (enters : EntersWhere slot (λ o h. MayFollow h (state_of own.pool) (refusal_of own.session call entry)) (refusal_of own.session call entry) [] own.pool new.pool)
-      (trail : new.trail ≡ own.trail ++ refusal_of own.session call entry ∷ []) (session : new.session ≡ own.session) where
+      (trail : new.trail ≡ own.trail ++ refusal_of own.session call entry ∷ []) (session : fixed new ≡ fixed own) where
     went_refused : Goes slot (Refused call entry ∷ []) own new
     went_refused = record {
       trail = trail;
-      session = session;
+      session = ap (λ f. f.0) session;
+      opened = ap (λ f. f.1) session;
+      slots = λ rest measure. let moved = enters.slots measure in omega (arith, moved);
       state = enters.state;
       stands = λ o stood. subst (λ (h : List Entry). StandsFor slot o h new.pool) (sym trail) (enters.stands o own.trail stood may);
       told =

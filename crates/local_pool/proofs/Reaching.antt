@@ -29,6 +29,7 @@ use Rattle.local_pool.specs.Making.{Goes}
 use Rattle.local_pool.specs.Standing.{Stands}
 use Rattle.local_pool.proofs.Growing.{goes}
 use Rattle.local_pool.proofs.Knowing.{Knows, knows, sound, owned, left_of}
+use Rattle.local_pool.proofs.Counting.{fixed}
 
 -- a page that is told with pins is pinned as often
 pub pinned_so : (place : Place) → 1 ≤ pins_of place → place ≡ Pinned (pins_of place)
@@ -109,7 +110,7 @@ module _ {D : Type 0} (slot : Ghosts D) (own : Owned D) (is : Stands slot own) w
     page_room_here room = subst (λ (t : ℕ). HasRoom s t (length_of s (page_at s p.name).blocks)) (sym client_here) (room_here p.client _ _ (sym page_len_here) room)
 
     -- an entry of the page's session is the owner's
-    pub goes_page : (event : ℕ → Event) (name : ℕ) → name ≡ p.name → (new : Owned D) → new.trail ≡ own.trail ++ by own.session (event name ∷ []) → new.session ≡ own.session
+    pub goes_page : (event : ℕ → Event) (name : ℕ) → name ≡ p.name → (new : Owned D) → new.trail ≡ own.trail ++ by own.session (event name ∷ []) → fixed new ≡ fixed own
         → Enters slot (record { maker = (page_at s p.name).session; event = event p.name } ∷ []) [] [] own.pool new.pool → Goes slot (event p.name ∷ []) own new
     goes_page event name same new trail session enters =
         goes slot own new (event p.name ∷ []) (subst (λ (q : ℕ). new.trail ≡ own.trail ++ by own.session (event q ∷ [])) same trail) session
@@ -158,7 +159,7 @@ module _ {D : Type 0} (slot : Ghosts D) (own : Owned D) (is : Stands slot own) w
     }
 
     pub goes_moved : (t : ℕ) (mine : ClientToken) (f u : ℕ) → f ≡ l.number → u ≡ t → mine ≡ record { session = own.session; tracker = u } → l.client ≢ t
-        → (new : Owned D) → new.trail ≡ own.trail ++ by own.session (MoveBuffer f u ∷ []) → new.session ≡ own.session
+        → (new : Owned D) → new.trail ≡ own.trail ++ by own.session (MoveBuffer f u ∷ []) → fixed new ≡ fixed own
         → (l.client ≢ mine.tracker → Enters slot (move_entry mine l.number ∷ []) [] [] own.pool new.pool) → Goes slot (MoveBuffer l.number t ∷ []) own new
     goes_moved t mine f u number tracker token apart new trail session enters =
         let it : mine ≡ record { session = own.session; tracker = t } = token ∙ ap (λ (k : ℕ). record { session = own.session; tracker = k }) tracker in

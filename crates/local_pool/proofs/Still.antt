@@ -1,5 +1,5 @@
 -- Pages come to rest again.
-use Rattle.std.proofs.Common.{◌≡◌, ℕ, List, [], ◌∷◌, Bool, true, false, Option, Some, None, unwrap_or, refl, sym, ap, ◌∙◌, subst, inl, inr}
+use Rattle.std.proofs.Common.{◌≡◌, ℕ, List, [], ◌∷◌, true, false, Option, Some, None, unwrap_or, refl, sym, ap, ◌∙◌, subst, inl, inr}
 use Rattle.std.specs.FinMap.{get, insert, remove}
 use Rattle.std.specs.List.{AllByRecursion}
 use Rattle.reservation_tree.proofs.Maps.{get_same, get_other, removed_same, removed_other, same_or_other}
@@ -14,12 +14,7 @@ use Rattle.pool_model.proofs.Frames.{entries_leave_rest}
 use Rattle.pool_model.proofs.Seats.{some_is}
 use Rattle.store_api.specs.Entries.{by}
 use Rattle.local_pool.specs.Standing.{is_moving, AreStill, IsStill, IsStillBut}
-
--- no page goes into a job with it
-abbrev pub rests : Event → Bool
-rests (PinLoad p) = false
-rests (StartWrite p) = false
-rests _ = true
+use Rattle.local_pool.specs.Making.{rests}
 
 put_still : (pages : Pages) (p : ℕ) (w : Page) → is_moving w.place ≡ false → AreStill pages → AreStill (insert pages p w)
 put_still pages p w rest still q x there = elim (same_or_other q p) [
@@ -54,16 +49,16 @@ still_on m (AddTracker t parent limit None) s rest still = still
 still_on m (Create p client blocks key) s rest still = put_still s.pages p _ refl still
 still_on m (PinHere p) s rest still = put_still s.pages p _ refl still
 still_on m (PinLoad p) s rest still = let never : false ≡ true = rest in cc
-still_on m (ReadOk p) s rest still = put_still s.pages p _ refl still
-still_on m (ReadFailed p before now) s rest still = put_still s.pages p _ refl still
+still_on m (ReadOk p) s rest still = let never : false ≡ true = rest in cc
+still_on m (ReadFailed p before now) s rest still = let never : false ≡ true = rest in cc
 still_on m (PinAgain p) s rest still = put_still s.pages p _ refl still
 still_on m (UnpinOnce p) s rest still = put_still s.pages p _ refl still
 still_on m (Unpin p content) s rest still = put_still _ p _ refl (slots_still s p still)
 still_on m (Extract p f) s rest still = end_still s.pages p still
 still_on m (Destroy p) s rest still = end_still s.pages p still
 still_on m (StartWrite p) s rest still = let never : false ≡ true = rest in cc
-still_on m (WriteOk p) s rest still = put_still s.pages p _ refl still
-still_on m (WriteFailed p before now) s rest still = put_still s.pages p _ refl still
+still_on m (WriteOk p) s rest still = let never : false ≡ true = rest in cc
+still_on m (WriteFailed p before now) s rest still = let never : false ≡ true = rest in cc
 still_on m (Evict p) s rest still = put_still s.pages p _ refl still
 still_on m _ s rest still = still
 

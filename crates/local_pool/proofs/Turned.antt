@@ -1,5 +1,5 @@
 -- One turn of a call that wants room.
-use Rattle.std.proofs.Common.{◌≡◌, ℕ, ◌+◌, ◌<◌, ◌==◌, Bool, true, List, [], ◌∷◌, ◌++◌, Option, Some, None, IsSome, is_some, refl, sym, ap, ◌∙◌, subst, if◌then◌else◌, inl, inr, arith, eq-eqb}
+use Rattle.std.proofs.Common.{◌≡◌, ℕ, ◌+◌, ◌<◌, ◌==◌, Bool, true, false, List, [], ◌∷◌, ◌++◌, length, Option, Some, None, IsSome, is_some, refl, sym, ap, ◌∙◌, subst, if◌then◌else◌, inl, inr, arith, eq-eqb}
 use Rattle.std.proofs.lemmas.List.{append_assoc}
 use Rattle.std.proofs.lemmas.Bool.{false≢true}
 use Rattle.reservation_tree.proofs.Maps.{same_or_other}
@@ -13,7 +13,9 @@ use Rattle.pool_model.specs.State.{Opening, Dirty, Pinned, Page, State, page_at,
 use Rattle.pool_model.specs.Owning.{IsClientOf}
 use Rattle.pool_model.specs.Effects.{after}
 use Rattle.pool_model.specs.Legal.{run, state_after}
-use Rattle.pool_model.specs.LookingBack.{content_from}
+use Rattle.pool_model.specs.LookingBack.{content_from, maker_of}
+use Rattle.pool_model.specs.HistoryLaws.{made as made_of}
+use Rattle.pool_model.proofs.Made.{legal_tells, still_made}
 use Rattle.pool_model.specs.OwnLaws.{IsContent}
 use Rattle.pool_model.proofs.OwnEntries.{content_more}
 use Rattle.pool_model.proofs.Resting.{legal_contents_are_told}
@@ -29,14 +31,17 @@ use Rattle.pin_core.specs.Standing.{StandsFor, Enters, slots_home}
 use Rattle.pin_core.specs.Jobs.{IsWriteJob}
 use Rattle.pin_core.specs.Turns.{LacksRoom, IsStarted, IsWriting, start_entry}
 use Rattle.local_pool.specs.declared.owned.Owned.{Owned}
+use Rattle.local_pool.specs.declared.tally.Tally.{Tally}
 use Rattle.local_pool.specs.Told.{silence, held_of}
+use Rattle.local_pool.specs.Counting.{Counted, SumsHold, all_failures, blocks_of, stored_by, tally_in, tally_with}
 use Rattle.local_pool.specs.Making.{Goes, Makes}
 use Rattle.local_pool.specs.Standing.{Stands, IsStill, is_moving}
-use Rattle.local_pool.specs.Turning.{IsEnd, IsWrite, writes_left, Ends, CanWrite}
-use Rattle.local_pool.proofs.Growing.{AllCalm, grown, makes}
+use Rattle.local_pool.specs.Turning.{IsEnd, IsWrite, writes_left, Ends, CanWrite, stored_with}
+use Rattle.local_pool.proofs.Growing.{AllCalm, grown, makes, sums_by}
 use Rattle.local_pool.proofs.Knowing.{Knows, knows, sound, owned}
 use Rattle.local_pool.proofs.Still.{out_still, written_still, unwritten_still}
 use Rattle.local_pool.proofs.Waiting.{IsDirtyOf, newest_is, out, written_left, unwritten_left}
+use Rattle.local_pool.proofs.Counting.{fixed, tally_same}
 
 end_holds : (p : ℕ) (end : Event) (h : Holdings) → IsEnd p end → after_events h (StartWrite p ∷ end ∷ []) ≡ h
 end_holds p (WriteOk q) h is = refl
@@ -63,6 +68,13 @@ end_left s m c p (WriteOk q) is good bad = subst (λ (r : ℕ). writes_left m c 
 end_left s m c p (WriteFailed q before now) is good bad = subst (λ (r : ℕ). writes_left m c (run s (by m (StartWrite p ∷ WriteFailed r before now ∷ []))) < writes_left m c s) (sym is) (bad before now)
 end_left s m c p _ is good bad = absurd is
 
+-- what the end of a write stored, as the trail tells of the page
+stored_end : (h : List Entry) (m p blocks : ℕ) (end : Event) → IsEnd p end → blocks_of (maker_of h p) ≡ blocks
+    → sum_by (λ e. stored_by h e.event) (by m (StartWrite p ∷ end ∷ [])) ≡ stored_with blocks end
+stored_end h m p blocks (WriteOk q) is same = let here : blocks_of (maker_of h q) ≡ blocks = ap (λ (r : ℕ). blocks_of (maker_of h r)) is ∙ same in omega (arith, here)
+stored_end h m p blocks (WriteFailed q before now) is same = refl
+stored_end h m p blocks _ is same = absurd is
+
 module _ {D : Type 0} (slot : Ghosts D) (own : Owned D) (is : Stands slot own) where
   -- a page of one of its clients is the owner's
   pub owner_is : (c p : ℕ) (x : Page) → IsSome ((held_of slot own).clients c) → get (state_of own.pool).pages p ≡ Some x → x.client ≡ c → x.session ≡ own.session
@@ -88,7 +100,10 @@ module _ {D : Type 0} (slot : Ghosts D) (own : Owned D) (is : Stands slot own) w
   module _ (c amount : ℕ) (some : IsSome ((held_of slot own).clients c)) (job : WriteJob D) (pool : Parts D) (went : Owned D)
       (lacks : LacksRoom (state_of own.pool) own.session c amount None) (started : IsStarted slot own.session c job own.pool pool)
       (enters : Enters slot (start_entry own.session job.id.name ∷ []) job.row [] own.pool pool)
-      (pool_is : went.pool ≡ pool) (trail_is : went.trail ≡ own.trail ++ record { maker = own.session; event = StartWrite job.id.name } ∷ []) (session_is : went.session ≡ own.session) where
+      (pool_is : went.pool ≡ pool) (trail_is : went.trail ≡ own.trail ++ record { maker = own.session; event = StartWrite job.id.name } ∷ []) (fixed_is : fixed went ≡ fixed own) where
+    session_is : went.session ≡ own.session
+    session_is = ap (λ f. f.0) fixed_is
+
     waits : IsDirtyOf (state_of own.pool) c job.id.name
     waits = newest_is slot own is c job.id.name started.older started.newest
 
@@ -125,17 +140,44 @@ module _ {D : Type 0} (slot : Ghosts D) (own : Owned D) (is : Stands slot own) w
             ends.state ∙ ap (λ (m : ℕ). run (state_of went.pool) (by m (ends.end ∷ []))) session_is ∙ ap (λ (v : Parts D). run (state_of v) (by own.session (ends.end ∷ []))) pool_is
             ∙ ap (λ (s : State). run s (by own.session (ends.end ∷ []))) enters.state;
         stands = λ o stood. ends.stands o (subst (λ (v : Parts D). StandsFor slot o went.trail v) (sym pool_is) (subst (λ (h : List Entry). StandsFor slot o h pool) (sym trail_is) (enters.stands o own.trail stood)));
+        opened = ends.opened ∙ ap (λ f. f.1) fixed_is;
+        slots = λ rest. let never : false ≡ true = rest.0 in absurd (false≢true never);
         told =
             let out = enters.slots (silence slot) in
-            let back : slots_home (silence slot) new.pool ≡ slots_home (silence slot) pool + sum_by (silence slot) job.row = ends.silence ∙ ap (λ (v : Parts D). slots_home (silence slot) v + sum_by (silence slot) job.row) pool_is in
+            let back : slots_home (silence slot) new.pool ≡ slots_home (silence slot) pool + sum_by (silence slot) job.row = ends.counted.silent ∙ ap (λ (v : Parts D). slots_home (silence slot) v + sum_by (silence slot) job.row) pool_is in
             let same : slots_home (silence slot) new.pool ≡ slots_home (silence slot) own.pool = omega (arith, out, back) in
             ap (λ (n : ℕ). n == 0) same;
       }
 
+      -- the slots that were in the job are counted as it took them
+      started_tally : tally_with slot went.pool job.row ≡ tally_in slot own.pool
+      started_tally =
+          ap (λ (v : Parts D). tally_with slot v job.row) pool_is
+          ∙ tally_same slot (λ measure. slots_home measure pool + sum_by measure job.row) (λ measure. slots_home measure own.pool) (λ measure. let out = enters.slots measure in omega (arith, out))
+
+      -- the page has as many slots as blocks
+      was_made : blocks_of (maker_of new.trail job.id.name) ≡ length job.row
+      was_made =
+          let o : Opening = is.opening in
+          let stood : StandsFor slot o (own.trail ++ start_entry own.session job.id.name ∷ []) pool = enters.stands o own.trail is.stands in
+          let x : Page = page_at (state_of pool) job.id.name in
+          let known : maker_of (own.trail ++ start_entry own.session job.id.name ∷ []) job.id.name ≡ Some (made_of x) =
+          (legal_tells o (own.trail ++ start_entry own.session job.id.name ∷ []) stood.legal).as_made job.id.name x (ap (λ (s : State). get s.pages job.id.name) (sym stood.state) ∙ started.is.lives) in
+          let grew : new.trail ≡ (own.trail ++ start_entry own.session job.id.name ∷ []) ++ by went.session (ends.end ∷ []) = ends.trail ∙ ap (λ (h : List Entry). h ++ by went.session (ends.end ∷ [])) trail_is in
+          ap (λ (h : List Entry). blocks_of (maker_of h job.id.name)) grew
+          ∙ ap blocks_of (still_made (own.trail ++ start_entry own.session job.id.name ∷ []) (by went.session (ends.end ∷ [])) job.id.name (made_of x) known) ∙ sym started.is.slots
+
+      sums_write : SumsHold new (tally_in slot new.pool)
+      sums_write =
+          sums_by slot own new made goes_write is (all_failures (by own.session (ends.end ∷ []))) (stored_with (length job.row) ends.end) refl
+          (stored_end new.trail own.session job.id.name (length job.row) ends.end ends.ended was_made)
+          (subst (λ (m : ℕ). Counted (all_failures (by m (ends.end ∷ []))) (stored_with (length job.row) ends.end) (tally_in slot own.pool) (tally_in slot new.pool)) session_is
+          (subst (λ (t : Tally). Counted (all_failures (by went.session (ends.end ∷ []))) (stored_with (length job.row) ends.end) t (tally_in slot new.pool)) started_tally ends.counted))
+
       pub stands_write : Stands slot new
       stands_write =
           grown slot own new made goes_write is (end_calm job.id.name ends.end ends.ended) (ap (λ (h : Holdings). is_some h.free_slots) (end_holds job.id.name ends.end (held_of slot own) ends.ended) ∙ is.live)
-          (subst IsStill (sym goes_write.state) (end_still (state_of own.pool) own.session job.id.name ends.end ends.ended is.still))
+          (subst IsStill (sym goes_write.state) (end_still (state_of own.pool) own.session job.id.name ends.end ends.ended is.still)) sums_write
 
       pub makes_write : Makes slot (IsWrite c (held_of slot own)) own new
       makes_write = makes slot own new made goes_write is stands_write (record {

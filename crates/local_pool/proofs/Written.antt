@@ -1,9 +1,9 @@
 -- A page comes back from its write.
-use Rattle.std.proofs.Common.{◌≡◌, ℕ, ◌+◌, ◌*◌, List, [], ◌∷◌, ◌++◌, map, length, Bool, true, false, if◌then◌else◌, refl, sym, ap, ◌∙◌, subst, arith, inl}
+use Rattle.std.proofs.Common.{◌≡◌, ℕ, ◌+◌, ◌*◌, ◌≤◌, List, [], ◌∷◌, ◌++◌, map, length, Bool, true, false, if◌then◌else◌, refl, sym, ap, ◌∙◌, subst, arith, inl}
 use Rattle.std.specs.List.{sum_by}
 use Rattle.std.proofs.lemmas.List.Sums.{sum_by-cons}
 use Rattle.outside.specs.declared.slot.Slot.{Ghosts}
-use Rattle.scratch_dev.specs.Rows.{faults_of}
+use Rattle.scratch_dev.specs.Rows.{faults_of, CountsStores}
 use Rattle.pool_model.specs.declared.entry.Entry.{Entry}
 use Rattle.pool_model.specs.State.{Opening, Page, Pinned, Flying, State, page_at}
 use Rattle.std.specs.FinMap.{get}
@@ -13,16 +13,19 @@ use Rattle.pool_model.proofs.Resting.{legal_contents_are_told}
 use Rattle.pool_model.specs.ScratchRows.{IsFault}
 use Rattle.pool_model.specs.Effects.{after}
 use Rattle.pool_model.specs.LookingBack.{content_of, content_from}
+use Rattle.store_api.specs.Entries.{by}
 use Rattle.pin_core.specs.declared.parts.Parts.{Parts}
 use Rattle.pin_core.specs.declared.jobs.WriteJob.{WriteJob}
 use Rattle.pin_core.specs.StateOf.{state_of}
 use Rattle.pin_core.specs.Standing.{StandsFor, AreHeld, slots_home}
-use Rattle.pin_core.specs.Runs.{IsFit, after_stores}
+use Rattle.pin_core.specs.Runs.{CountsFaults, IsFit, after_stores}
 use Rattle.pin_core.specs.Jobs.{IsWriteJob}
 use Rattle.pin_core.specs.Returning.{EntersWhere, IsWritten, write_ends, write_entry}
 use Rattle.local_pool.specs.declared.owned.Owned.{Owned}
 use Rattle.local_pool.specs.Told.{silence}
-use Rattle.local_pool.specs.Turning.{IsEnd, Ends, CanWrite}
+use Rattle.local_pool.specs.Counting.{Counted, all_failures, tally_by, tally_with}
+use Rattle.local_pool.specs.Turning.{IsEnd, Ends, CanWrite, stored_with}
+use Rattle.local_pool.proofs.Counting.{fixed, tally_same, came_back}
 
 pub job_fits : {D : Type 0} (s : State) (job : WriteJob D) → IsWriteJob s job → IsFit job.buf job.row
 job_fits s job is = record {
@@ -86,17 +89,32 @@ module _ {D : Type 0} (slot : Ghosts D) where
         → map slot.tells ran.row ≡ map slot.tells job.row
         → EntersWhere slot (IsWritten slot (state_of old.pool).block_len ran) (write_entry ran before now) ran.row old.pool new.pool
         → new.trail ≡ old.trail ++ write_entry ran before now ∷ []
-        → new.session ≡ old.session
+        → fixed new ≡ fixed old
+        → Counted (all_failures (by old.session (write_ends ran.failed ran.id.name before now ∷ []))) (stored_with (length job.row) (write_ends ran.failed ran.id.name before now))
+        (tally_with slot old.pool job.row) (tally_by slot (λ measure. slots_home measure old.pool + sum_by measure ran.row))
         → Ends slot job old new
-    ended before now fault held tells enters trail session = record {
+    ended before now fault held tells enters trail session counts = record {
       end = write_ends ran.failed ran.id.name before now;
       ended = subst (λ (p : ℕ). IsEnd p (write_ends ran.failed ran.id.name before now)) name_is (is_end ran.failed before now);
       trail = trail ∙ ap (λ (e : Entry). old.trail ++ e ∷ []) (entry_is before now);
-      session = session;
+      session = ap (λ f. f.0) session;
+      opened = ap (λ f. f.1) session;
       state = enters.state ∙ ap (after (state_of old.pool)) (entry_is before now);
       stands = λ o stood. subst (λ (h : List Entry). StandsFor slot o h new.pool) (sym trail) (enters.stands o old.trail stood (is_written held o stood));
-      silence = enters.slots (silence slot) ∙ ap (λ (n : ℕ). slots_home (silence slot) old.pool + n) (same_silence ran.row job.row tells);
+      counted =
+          subst (Counted (all_failures (by old.session (write_ends ran.failed ran.id.name before now ∷ []))) (stored_with (length job.row) (write_ends ran.failed ran.id.name before now)) (tally_with slot old.pool job.row))
+          (tally_same slot (λ measure. slots_home measure old.pool + sum_by measure ran.row) (λ measure. slots_home measure new.pool) (λ measure. sym (enters.slots measure))) counts;
     }
+
+    -- a failure raised the count, and a store was counted for each slot otherwise
+    row_counts : (b : Bool) (before now : ℕ) → map slot.tells ran.row ≡ map slot.tells job.row → length ran.row ≡ length job.row
+        → faults_of slot job.row ≤ faults_of slot ran.row → CountsFaults slot (if b then 1 else 0) job.row ran.row → CountsStores slot (if b then 0 else length job.row) job.row ran.row
+        → Counted (all_failures (by old.session (write_ends b ran.id.name before now ∷ []))) (stored_with (length job.row) (write_ends b ran.id.name before now))
+        (tally_with slot old.pool job.row) (tally_by slot (λ measure. slots_home measure old.pool + sum_by measure ran.row))
+    row_counts true before now tells len fall faults stores =
+        came_back slot (λ measure. slots_home measure old.pool) job.row ran.row 1 0 fall faults stores (same_silence ran.row job.row tells) len
+    row_counts false before now tells len fall faults stores =
+        came_back slot (λ measure. slots_home measure old.pool) job.row ran.row 0 (length job.row) fall faults stores (same_silence ran.row job.row tells) len
 
     -- without a failure the sums stand nowhere
     any_sums : (before now : ℕ) → ran.failed ≡ false → write_entry ran before now ≡ write_entry ran 0 1
@@ -105,16 +123,20 @@ module _ {D : Type 0} (slot : Ghosts D) where
     pub comes_back : (sum : ℕ) → sum ≡ faults_of slot job.row
         → (ran.failed ≡ false → AreHeld slot job.buf.block_len ran.row job.buf.bytes)
         → map slot.tells ran.row ≡ map slot.tells job.row
+        → length ran.row ≡ length job.row
+        → faults_of slot job.row ≤ faults_of slot ran.row
         → (ran.failed ≡ true → IsFault (faults_of slot job.row) (faults_of slot ran.row))
+        → CountsFaults slot (if ran.failed then 1 else 0) job.row ran.row
+        → CountsStores slot (if ran.failed then 0 else length job.row) job.row ran.row
         → ((before now : ℕ) → IsFault before now → EntersWhere slot (IsWritten slot (state_of old.pool).block_len ran) (write_entry ran before now) ran.row old.pool new.pool)
         → new.trail ≡ old.trail ++ write_entry ran sum (faults_of slot ran.row) ∷ []
-        → new.session ≡ old.session
+        → fixed new ≡ fixed old
         → Ends slot job old new
-    comes_back sum is held tells failed enters trail session = elim ran.failed as (λ b. ran.failed ≡ b → Ends slot job old new) [
+    comes_back sum is held tells len fall failed faults stores enters trail session = elim ran.failed as (λ b. ran.failed ≡ b → Ends slot job old new) [
       | true ↦ λ bad.
           let fault : IsFault sum (faults_of slot ran.row) = subst (λ (n : ℕ). IsFault n (faults_of slot ran.row)) (sym is) (failed bad) in
-          ended sum (faults_of slot ran.row) fault held tells (enters sum (faults_of slot ran.row) fault) trail session
+          ended sum (faults_of slot ran.row) fault held tells (enters sum (faults_of slot ran.row) fault) trail session (row_counts ran.failed sum (faults_of slot ran.row) tells len fall faults stores)
       | false ↦ λ whole.
           let fault : IsFault 0 1 = inl (omega arith) in
-          ended 0 1 fault held tells (enters 0 1 fault) (trail ∙ ap (λ (e : Entry). old.trail ++ e ∷ []) (any_sums sum (faults_of slot ran.row) whole)) session
+          ended 0 1 fault held tells (enters 0 1 fault) (trail ∙ ap (λ (e : Entry). old.trail ++ e ∷ []) (any_sums sum (faults_of slot ran.row) whole)) session (row_counts ran.failed 0 1 tells len fall faults stores)
     ] refl

@@ -1,4 +1,5 @@
 pub mod Told
+pub mod Counting
 pub mod Making
 pub mod Standing
 pub mod Turning

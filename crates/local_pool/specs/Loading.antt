@@ -1,6 +1,5 @@
 -- A page that is loaded comes back.
-use Rattle.std.specs.Prelude.{◌≡◌, ℕ, ◌+◌, ◌++◌, List, [], ◌∷◌, length}
-use Rattle.std.specs.List.{sum_by}
+use Rattle.std.specs.Prelude.{◌≡◌, ℕ, ◌++◌, List, [], ◌∷◌, length}
 use Rattle.outside.specs.declared.slot.Slot.{Ghosts}
 use Rattle.block_arena.specs.Memory.{Buffer, IsBufferOf}
 use Rattle.reservation_tree.specs.declared.errors.PoolErr.{PoolErr}
@@ -13,11 +12,11 @@ use Rattle.pool_model.specs.LookingBack.{content_from}
 use Rattle.store_api.specs.Entries.{by}
 use Rattle.pin_core.specs.declared.jobs.ReadJob.{ReadJob}
 use Rattle.pin_core.specs.StateOf.{state_of}
-use Rattle.pin_core.specs.Standing.{StandsFor, AreHeld, slots_home}
+use Rattle.pin_core.specs.Standing.{StandsFor, AreHeld}
 use Rattle.pin_core.specs.Jobs.{IsReadJob}
 use Rattle.pin_core.specs.Runs.{AllTell}
 use Rattle.local_pool.specs.declared.owned.Owned.{Owned}
-use Rattle.local_pool.specs.Told.{silence}
+use Rattle.local_pool.specs.Counting.{Counted, all_failures, tally_in, tally_with}
 
 module _ {D : Type 0} (slot : Ghosts D) where
   -- the job is to load a page of the owner, from slots that hold what it left there last
@@ -27,13 +26,14 @@ module _ {D : Type 0} (slot : Ghosts D) where
     pub held : AreHeld slot (state_of own.pool).block_len job.row (content_from job.id.name [] own.trail)
     pub whole : length (content_from job.id.name [] own.trail) ≡ length job.buf.bytes
 
-  -- a page came back by this event of the owner; its slots came back too, and tell as they did
+  -- a page came back by this event of the owner; its slots came back too, and count what the event says
   pub record Returns (end : Event) (row : List D) (old new : Owned D) : Type 0 where
     pub trail : new.trail ≡ old.trail ++ by old.session (end ∷ [])
     pub session : new.session ≡ old.session
     pub state : state_of new.pool ≡ run (state_of old.pool) (by old.session (end ∷ []))
     pub stands : (o : Opening) → StandsFor slot o old.trail old.pool → StandsFor slot o new.trail new.pool
-    pub silence : slots_home (silence slot) new.pool ≡ slots_home (silence slot) old.pool + sum_by (silence slot) row
+    pub opened : new.opened ≡ old.opened
+    pub counted : Counted (all_failures (by old.session (end ∷ []))) 0 (tally_with slot old.pool row) (tally_in slot new.pool)
 
   -- the page is pinned with its buffer, which shows what was left, where the slots tell it
   pub record IsRead (job : ReadJob D) (buf : Buffer) (old new : Owned D) : Type 0 where

@@ -9,6 +9,7 @@ use Rattle.pin_core.specs.StateOf.{state_of}
 use Rattle.pin_core.specs.Standing.{StandsFor}
 use Rattle.local_pool.specs.declared.owned.Owned.{Owned}
 use Rattle.local_pool.specs.Told.{held_of}
+use Rattle.local_pool.specs.Counting.{SumsHold, tally_in}
 
 -- the page is in a job
 abbrev pub is_moving : Place → Bool
@@ -38,3 +39,4 @@ pub record Stands {D : Type 0} (slot : Ghosts D) (own : Owned D) : Type 0 where
   pub live : is_some (held_of slot own).free_slots ≡ true
   pub few : (held_of slot own).live_clients ≤ 16
   pub still : IsStill (state_of own.pool)
+  pub sums : SumsHold own (tally_in slot own.pool)

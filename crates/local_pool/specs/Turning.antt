@@ -1,6 +1,5 @@
 -- One turn of a call that wants room.
 use Rattle.std.specs.Prelude.{◌≡◌, ℕ, ◌+◌, ◌++◌, List, [], ◌∷◌, Some, IsSome, ◌<◌, length, is_some, if◌then◌else◌, Bool, true}
-use Rattle.std.specs.List.{sum_by}
 use Rattle.outside.specs.declared.slot.Slot.{Ghosts}
 use Rattle.pool_model.specs.declared.call.Call.{Call}
 use Rattle.pool_model.specs.declared.call.Call.TheVariants.{Pin, PinAgain, Create, Alloc, GiveBack, MoveReservation, MoveBuffer}
@@ -18,11 +17,12 @@ use Rattle.store_api.specs.Holdings.{Holdings, IsPageOf, length_of, page_len, lo
 use Rattle.store_api.specs.Entries.{by}
 use Rattle.pin_core.specs.declared.jobs.WriteJob.{WriteJob}
 use Rattle.pin_core.specs.StateOf.{state_of}
-use Rattle.pin_core.specs.Standing.{StandsFor, slots_home}
+use Rattle.pin_core.specs.Standing.{StandsFor}
 use Rattle.pin_core.specs.Jobs.{IsWriteJob}
 use Rattle.pin_core.specs.Turns.{failure_of, LacksRoom}
 use Rattle.local_pool.specs.declared.owned.Owned.{Owned}
-use Rattle.local_pool.specs.Told.{silence, held_of}
+use Rattle.local_pool.specs.Told.{held_of}
+use Rattle.local_pool.specs.Counting.{Counted, all_failures, tally_in, tally_with}
 use Rattle.local_pool.specs.Making.{Makes}
 use Rattle.local_pool.specs.declared.turning.Turn.{Turn}
 use Rattle.local_pool.specs.declared.turning.Turn.TheVariants.{Ready, Refused, Wrote}
@@ -33,6 +33,11 @@ abbrev pub IsEnd : ℕ → Event → Type 0
 IsEnd p (WriteOk q) = q ≡ p
 IsEnd p (WriteFailed q before now) = q ≡ p
 IsEnd p _ = ⊥
+
+-- so many blocks were stored, where the write ended well
+abbrev pub stored_with : ℕ → Event → ℕ
+stored_with blocks (WriteOk p) = blocks
+stored_with blocks _ = 0
 
 -- a page of the client was written, or a store of it failed
 pub record IsWrite (t : ℕ) (h : Holdings) (events : List Event) : Type 0 where
@@ -71,7 +76,7 @@ abbrev pub has_asked : List Entry → Bool
 has_asked h = list_any (λ e. is_ask e.event) h
 
 module _ {D : Type 0} (slot : Ghosts D) where
-  -- a page that flew came back, by an entry of the owner; its slots came back too, and tell as they did
+  -- a page that flew came back, by an entry of the owner; its slots came back too, and count what the entry says
   pub record Ends (job : WriteJob D) (old new : Owned D) : Type 0 where
     pub end : Event
     pub ended : IsEnd job.id.name end
@@ -79,7 +84,8 @@ module _ {D : Type 0} (slot : Ghosts D) where
     pub session : new.session ≡ old.session
     pub state : state_of new.pool ≡ run (state_of old.pool) (by old.session (end ∷ []))
     pub stands : (o : Opening) → StandsFor slot o old.trail old.pool → StandsFor slot o new.trail new.pool
-    pub silence : slots_home (silence slot) new.pool ≡ slots_home (silence slot) old.pool + sum_by (silence slot) job.row
+    pub opened : new.opened ≡ old.opened
+    pub counted : Counted (all_failures (by old.session (end ∷ []))) (stored_with (length job.row) end) (tally_with slot old.pool job.row) (tally_in slot new.pool)
 
   -- the job is to write a page of the owner, with the page's content
   pub record CanWrite (job : WriteJob D) (own : Owned D) : Type 0 where

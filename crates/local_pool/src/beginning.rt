@@ -1,5 +1,5 @@
 //! One owner's pool begins and ends.
-ghost use Rattle.std.specs.Prelude.{◌≡◌, ◌≤◌, ℕ, [], IsErr, IfOk, IfErr, vec_len};
+ghost use Rattle.std.specs.Prelude.{◌≡◌, ◌≤◌, ℕ, [], ◌∷◌, IsErr, IfOk, IfErr, vec_len};
 ghost use Rattle.std.specs.List.{sum_by};
 ghost use Rattle.pool_model.specs.State.{Opening};
 ghost use Rattle.pin_core.specs.Setup.{IsOpeningOf, OpensWith};
@@ -7,10 +7,12 @@ ghost use Rattle.pin_core.specs.Standing.{StandsFor, slots_home};
 ghost use Rattle.pin_core.specs.Opening.{spare_of};
 ghost use Rattle.store_api.specs.Entries.{by};
 ghost use Rattle.local_pool.specs.Told.{held_of};
+ghost use Rattle.local_pool.specs.Counting.{SumsHold, tally_in, tally_of};
 ghost use Rattle.local_pool.specs.Beginning.{Begins, IsBegun, IsLeastRefusal, LacksLeast, first_events};
 
 use crate::entering::enter;
 use crate::owned::{Alone, Owned};
+use crate::tally::{Tally, count};
 use outside::Slot;
 use pin_core::{PoolConf, PoolState};
 use pool_model::{Entry, Event};
@@ -41,12 +43,14 @@ impl<D: Slot + Drop> Alone<D> {
         ensures cause { IfErr result (λ e. IsLeastRefusal conf.now limit least e.1) }
         ensures back { IfErr result (λ e. (measure : D → ℕ) → sum_by measure e.0.items ≡ sum_by measure slots.items) }
     {
-        let trail = match Solo::open(alloc) {
-            Ok(trail) => trail,
-            Err(_) => return Err((slots, PoolErr::Memory)),
+        let Ok(trail) = Solo::open(alloc) else {
+            return Err((slots, PoolErr::Memory));
+        };
+        let Ok(opened) = Solo::open(alloc) else {
+            return Err((slots, PoolErr::Memory));
         };
         match PoolState::open(alloc, conf, slots) {
-            Ok(pool) => begin(pool, trail, conf, limit, quota, least),
+            Ok(pool) => begin(pool, trail, opened, conf, limit, quota, least),
             Err((slots, _)) => Err((slots, PoolErr::Memory)),
         }
     }
@@ -54,12 +58,14 @@ impl<D: Slot + Drop> Alone<D> {
     /// Ends a pool that has no client, and gives back its slots.
     pub fn close(self) -> Vec<D>
         requires { (held_of D.Slot self).live_clients ≡ 0 }
-        ensures { (measure : D → ℕ) → sum_by measure result.items ≡ slots_home measure self.pool }
+        ensures slots { (measure : D → ℕ) → sum_by measure result.items ≡ slots_home measure self.pool }
+        ensures sums { SumsHold self (tally_of D.Slot result.items) }
     {
         let Owned {
             mut pool,
             trail: _,
             session,
+            opened: _,
         } = self.own;
         pool.end_session(session);
         pool.close()
@@ -70,6 +76,7 @@ impl<D: Slot + Drop> Alone<D> {
 fn begin<D: Slot + Drop>(
     mut pool: PoolState<D>,
     mut trail: Solo<Entry>,
+    mut opened: Solo<Tally>,
     _conf: &PoolConf,
     limit: u64,
     quota: u32,
@@ -77,15 +84,17 @@ fn begin<D: Slot + Drop>(
 ) -> Result<Alone<D>, (Vec<D>, PoolErr)>
     requires conf { OpensWith _conf.now }
     requires fresh { (o : Opening) → IsOpeningOf _conf.now (spare_of pool) o → StandsFor D.Slot o [] pool }
-    requires empty { trail ≡ [] }
+    requires empty { (trail ≡ []) × (opened ≡ []) }
     requires quota { quota ≤ spare_of pool }
     ensures ok { IfOk result (λ own. IsBegun _conf.now limit quota least (held_of D.Slot own)) }
     ensures trail { IfOk result (λ own. own.trail ≡ by own.session (first_events (held_of D.Slot own).query limit quota least)) }
     ensures slots { IfOk result (λ own. (measure : D → ℕ) → slots_home measure own.pool ≡ slots_home measure pool) }
+    ensures opened { IfOk result (λ own. own.opened ≡ tally_in D.Slot pool ∷ []) }
     ensures refused { LacksLeast _conf.now limit least → IsErr result }
     ensures cause { IfErr result (λ e. IsLeastRefusal _conf.now limit least e.1) }
     ensures back { IfErr result (λ e. (measure : D → ℕ) → sum_by measure e.0.items ≡ slots_home measure pool) }
 {
+    count(&mut opened, &pool);
     let session = match pool.open_session(limit, quota, least) {
         Ok(session) => session,
         Err(refusal) => return Err((pool.close(), refusal)),
@@ -114,6 +123,7 @@ fn begin<D: Slot + Drop>(
             pool,
             trail,
             session,
+            opened,
         },
     })
 }

@@ -2,7 +2,8 @@
 //!
 //! Model: what the owner holds is told by its trail, the list of its own entries, for which the pool's value
 //! stands. No other maker has an entry in it.
-//! Invariant: between calls no page is in a job.
+//! Invariant: between calls no page is in a job, and the slots count what the trail tells beside what they counted
+//! when the pool opened.
 #![tactic(auto)]
 
 mod asking;
@@ -16,9 +17,11 @@ mod owned;
 mod pinning;
 mod pins;
 mod shrinking;
+mod tally;
 mod trackers;
 mod turning;
 mod writing;
 
 pub use owned::{Alone, Owned};
+pub use tally::Tally;
 pub use turning::Turn;

@@ -1,16 +1,19 @@
 //! What one owner has.
+use crate::tally::Tally;
 use outside::Slot;
 use pin_core::PoolState;
 use pool_model::Entry;
 use std::marker::Model;
 use turn_table::Solo;
 
-/// A pool's value, the trail for which it stands, and the number of the owner's session.
+/// A pool's value, the trail for which it stands, the number of the owner's session, and what the slots counted
+/// together when the pool opened.
 #[derive(Drop)]
 pub struct Owned<D> {
     pub(crate) pool: PoolState<D>,
     pub(crate) trail: Solo<Entry>,
     pub(crate) session: u32,
+    pub(crate) opened: Solo<Tally>,
 }
 
 /// The same, while no call is under way.

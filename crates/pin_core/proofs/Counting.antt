@@ -1,14 +1,16 @@
 -- What a walk of stores over a row does to its slots' counts of stores.
-use Rattle.std.proofs.Common.{◌≡◌, ℕ, suc, ◌+◌, ◌*◌, ◌<◌, ◌≤◌, leb, Bool, true, false, if◌then◌else◌, List, [], ◌∷◌, length, Option, Some, None, Ok, Err, refl, ap, sym, ◌∙◌, subst, inl, inr, arith}
+use Rattle.std.proofs.Common.{◌≡◌, ℕ, zero, suc, ◌+◌, ◌*◌, ◌<◌, ◌≤◌, leb, Bool, true, false, if◌then◌else◌, List, [], ◌∷◌, length, Option, Some, None, Ok, Err, refl, ap, sym, subst, inl, inr, arith}
 use Rattle.std.specs.List.{sum_by, slice_index_or}
 use Rattle.std.specs.Result.{is_err}
 use Rattle.std.proofs.lemmas.Option.{none-some}
 use Rattle.std.proofs.lemmas.List.Sums.{sum_by-cons}
 use Rattle.std.proofs.lemmas.Bool.{cases_Bool, leb-false, lt-leb}
-use Rattle.outside.specs.Counts.{last_count}
+use Rattle.outside.specs.Counts.{Rose, last_count}
 use Rattle.outside.specs.Slots.{CountsStore}
 use Rattle.outside.specs.declared.slot.Slot.{Ghosts}
-use Rattle.scratch_dev.specs.Rows.{Ended, IsStored, Walked, stores_in, uncounted_in, stores_at, uncounted, CountsStores}
+use Rattle.outside.specs.declared.stream.Failed.{Failed}
+use Rattle.scratch_dev.specs.Rows.{Ended, IsStored, IsLoaded, Walked, FailedAt, stores_in, uncounted_in, stores_at, uncounted, CountsStores}
+use Rattle.pin_core.specs.Runs.{stuck, CountsFaults}
 use Rattle.pin_core.proofs.Rowed.{at_slot}
 
 -- one slot counts so many stores more, where it counts them still
@@ -81,3 +83,65 @@ module _ {D : Type 0} (slot : Ghosts D) where
         subst (λ (n : ℕ). CountsStores slot n before now) (omega arith)
         (row_counts 0 before now same
         (λ i d lt. at_slot (λ i. IsStored slot (block i)) (λ a b. Counts 0 (slot.stores a) (slot.stores b)) (λ i r a b is. weaker _ _ _ (one_store _ _ r is.stores)) (λ d. unmet (slot.stores d)) (Err e) before now walked i d lt))
+
+-- a count of faults that didn't fall, and one that rose
+unfallen : (before now : ℕ) → before ≤ now → Counts 0 (Some before) (Some now)
+unfallen before now at_least = rises before now 0 at_least (λ below. omega (arith, at_least))
+
+risen : (before now : ℕ) → before ≤ now → Rose before now → Counts 1 (Some before) (Some now)
+risen before now at_least rose = rises before now 1 at_least (λ below. let more : before < now = rose below in omega (arith, more))
+
+module _ {D : Type 0} (slot : Ghosts D) where
+  -- a slot and others count so many faults more
+  first_and_rest : (m n : ℕ) (x y : D) (xs ys : List D) → Counts m (Some (slot.faults x)) (Some (slot.faults y)) → CountsFaults slot n xs ys → CountsFaults slot (m + n) (x ∷ xs) (y ∷ ys)
+  first_and_rest m n x y xs ys here rest =
+      let short : stuck slot x ≤ stuck slot y = here.short in
+      let more : stuck slot y ≡ 0 → slot.faults x + m ≤ slot.faults y = here.more in
+      let stuck_x = sum_by-cons (stuck slot) x xs in
+      let stuck_y = sum_by-cons (stuck slot) y ys in
+      let faults_x = sum_by-cons slot.faults x xs in
+      let faults_y = sum_by-cons slot.faults y ys in
+      let later = rest.stays in
+      record {
+        stays = omega (arith, short, later, stuck_x, stuck_y);
+        faults = λ zero.
+            let one = more (omega (arith, zero, stuck_y)) in
+            let others = rest.faults (omega (arith, zero, stuck_y)) in
+            omega (arith, one, others, faults_x, faults_y);
+      }
+
+  -- each slot's count is no less
+  none_fell : (before now : List D) → length now ≡ length before → ((i : ℕ) (d : D) → i < length before → slot.faults (slice_index_or before i d) ≤ slot.faults (slice_index_or now i d)) → CountsFaults slot 0 before now
+  none_fell [] [] same each = record { stays = omega arith; faults = λ zero. omega arith }
+  none_fell [] (y ∷ ys) same each = absurd (omega (arith, same))
+  none_fell (x ∷ xs) [] same each = absurd (omega (arith, same))
+  none_fell (x ∷ xs) (y ∷ ys) same each =
+      first_and_rest 0 0 x y xs ys (unfallen _ _ (each 0 x (omega arith))) (none_fell xs ys (omega (arith, same)) (λ i d lt. each (suc i) d (omega (arith, lt))))
+
+  -- and one of them rose
+  one_rose : (i : ℕ) (before now : List D) → length now ≡ length before → i < length before
+      → ((j : ℕ) (d : D) → j < length before → slot.faults (slice_index_or before j d) ≤ slot.faults (slice_index_or now j d))
+      → ((d : D) → Rose (slot.faults (slice_index_or before i d)) (slot.faults (slice_index_or now i d))) → CountsFaults slot 1 before now
+  one_rose i [] now same inside each rose = absurd (omega (arith, inside))
+  one_rose i (x ∷ xs) [] same inside each rose = absurd (omega (arith, same))
+  one_rose zero (x ∷ xs) (y ∷ ys) same inside each rose =
+      first_and_rest 1 0 x y xs ys (risen _ _ (each 0 x (omega arith)) (rose x)) (none_fell xs ys (omega (arith, same)) (λ j d lt. each (suc j) d (omega (arith, lt))))
+  one_rose (suc i) (x ∷ xs) (y ∷ ys) same inside each rose =
+      first_and_rest 0 1 x y xs ys (unfallen _ _ (each 0 x (omega arith)))
+      (one_rose i xs ys (omega (arith, same)) (omega (arith, inside)) (λ j d lt. each (suc j) d (omega (arith, lt))) rose)
+
+  -- a walk of calls, each of which raises a count where it fails
+  module _ (Call : ℕ → Ended → D → D → Type 0) (falls : (i : ℕ) (r : Ended) (a b : D) → Call i r a b → slot.faults a ≤ slot.faults b) (fails : (i : ℕ) (e : Failed) (a b : D) → Call i (Err e) a b → Rose (slot.faults a) (slot.faults b))
+      (before now : List D) (same : length now ≡ length before) where
+    walk_counted : (ended : Ended) → Walked Call ended before now → CountsFaults slot (if is_err ended then 1 else 0) before now
+    walk_counted (Ok u) walked = none_fell before now same (at_slot Call (λ a b. slot.faults a ≤ slot.faults b) falls (λ d. omega arith) (Ok u) before now walked)
+    walk_counted (Err e) walked =
+        let f : FailedAt Call walked.0 e before now = walked.1 in
+        one_rose walked.0 before now same f.inside (at_slot Call (λ a b. slot.faults a ≤ slot.faults b) falls (λ d. omega arith) (Err e) before now walked) (λ d. fails walked.0 e _ _ (f.here d))
+
+  module _ (block : ℕ → List ℕ) (before now : List D) (same : length now ≡ length before) (ended : Ended) where
+    pub stores_failed : Walked (λ i. IsStored slot (block i)) ended before now → CountsFaults slot (if is_err ended then 1 else 0) before now
+    stores_failed = walk_counted (λ i. IsStored slot (block i)) (λ i r a b is. is.never_falls) (λ i e a b is. is.failed) before now same ended
+
+    pub loads_failed : Walked (λ i. IsLoaded slot (block i)) ended before now → CountsFaults slot (if is_err ended then 1 else 0) before now
+    loads_failed = walk_counted (λ i. IsLoaded slot (block i)) (λ i r a b is. is.never_falls) (λ i e a b is. is.failed) before now same ended

@@ -3,7 +3,7 @@ ghost use Rattle.std.specs.Prelude.{◌≡◌, ◌≤◌, ℕ, List, true, false
 ghost use Rattle.pool_model.specs.ScratchRows.{IsFault};
 ghost use Rattle.scratch_dev.specs.Rows.{faults_of, CountsStores};
 ghost use Rattle.pin_core.specs.Standing.{AreHeld};
-ghost use Rattle.pin_core.specs.Runs.{AllTell, IsFit, after_loads, after_stores};
+ghost use Rattle.pin_core.specs.Runs.{AllTell, CountsFaults, IsFit, after_loads, after_stores};
 
 use crate::jobs::{ReadJob, WriteJob};
 use outside::{Gate, Point, Slot};
@@ -21,7 +21,9 @@ impl<D: Slot> WriteJob<D> {
         // Each slot counts a store, unless one failed.
         ensures stores { CountsStores D.Slot (if self.new.failed then 0 else length self.old.row) self.old.row self.new.row }
 
-        // The sum of the slots' counts of faults never falls, and rises with a failure.
+        // The sum of the slots' counts of faults never falls. It rises with a failure where none of them stands at its
+        // last value, and where the sum itself is less than that.
+        ensures faults { CountsFaults D.Slot (if self.new.failed then 1 else 0) self.old.row self.new.row }
         ensures never_falls { faults_of D.Slot self.old.row ≤ faults_of D.Slot self.new.row }
         ensures failed { self.new.failed ≡ true → IsFault (faults_of D.Slot self.old.row) (faults_of D.Slot self.new.row) }
     {
@@ -45,7 +47,9 @@ impl<D: Slot> ReadJob<D> {
         ensures tells { map D.Slot.tells self.new.row ≡ map D.Slot.tells self.old.row }
         ensures stores { map D.Slot.stores self.new.row ≡ map D.Slot.stores self.old.row }
 
-        // The sum of the slots' counts of faults never falls, and rises with a failure.
+        // The sum of the slots' counts of faults never falls. It rises with a failure where none of them stands at its
+        // last value, and where the sum itself is less than that.
+        ensures faults { CountsFaults D.Slot (if self.new.failed then 1 else 0) self.old.row self.new.row }
         ensures never_falls { faults_of D.Slot self.old.row ≤ faults_of D.Slot self.new.row }
         ensures failed { self.new.failed ≡ true → IsFault (faults_of D.Slot self.old.row) (faults_of D.Slot self.new.row) }
     {

@@ -3,6 +3,8 @@ use Rattle.std.specs.List.{sum_by}
 use Rattle.pin_core.specs.Standing.{slots_home}
 use Rattle.local_pool.specs.declared.owned.Owned.{Owned}
 use Rattle.local_pool.specs.Told.{held_of}
+use Rattle.local_pool.specs.Counting.{SumsHold, tally_in, tally_of}
+use Rattle.local_pool.proofs.Counting.{tally_same}
 use Rattle.local_pool.proofs.Knowing.{knows}
 use Rattle.local_pool.proofs.Ended.{no_child, none_left}
 use Rattle.local_pool.proofs.owned.Alone.close.Goals as goal
@@ -17,9 +19,17 @@ end_session-requires-clause-no_client g c =
 pub close-requires : goal.close-requires
 close-requires g c = record { ended = none_left g.D.Slot c.self.inside.own c.self.invariant c.end_session.new.self c.end_session.ensures.enters }
 
-pub returns : goal.returns
-returns g c measure =
+pub returns-clause-slots : goal.returns-clause-slots
+returns-clause-slots g c measure =
     let home = c.end_session.ensures.enters.slots measure in
     let given = c.close.ensures.slots measure in
     let same : sum_by measure c.close.result.items ≡ slots_home measure c.self.inside.own.pool = omega (arith, home, given) in
     subst (λ (o : Owned g.row.D.Denot). sum_by measure c.close.result.items ≡ slots_home measure o.pool) c.self.view_is same
+
+pub returns-clause-sums : goal.returns-clause-sums
+returns-clause-sums g c =
+    let own : Owned g.row.D.Denot = c.self.inside.own in
+    let same : tally_in g.D.Slot own.pool ≡ tally_of g.D.Slot c.close.result.items =
+    tally_same g.D.Slot (λ measure. slots_home measure own.pool) (λ measure. sum_by measure c.close.result.items)
+    (λ measure. let home = c.end_session.ensures.enters.slots measure in let given = c.close.ensures.slots measure in omega (arith, home, given)) in
+    subst (λ (o : Owned g.row.D.Denot). SumsHold o (tally_of g.D.Slot c.close.result.items)) c.self.view_is (subst (SumsHold own) same c.self.invariant.sums)

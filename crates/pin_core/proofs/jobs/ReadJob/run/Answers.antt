@@ -2,6 +2,7 @@ use Rattle.std.proofs.Common.{◌*◌, ◌+◌, ℕ, ap, sym, ◌∙◌, subst}
 use Rattle.std.specs.List.{slice_range}
 use Rattle.block_arena.specs.Memory.{Buffer, block_of}
 use Rattle.scratch_dev.specs.Rows.{IsLoaded, Walked}
+use Rattle.pin_core.proofs.Counting.{loads_failed}
 use Rattle.pin_core.proofs.Rowed.{loaded_stores, loaded_tells, still_held, load_shows}
 use Rattle.pin_core.proofs.jobs.ReadJob.run.Goals as goal
 
@@ -19,3 +20,7 @@ returns-clause-tells g c = loaded_tells g.D.Slot (λ i. block_of c.load_all.new.
 
 pub returns-clause-stores : goal.returns-clause-stores
 returns-clause-stores g c = loaded_stores g.D.Slot (λ i. block_of c.load_all.new.buf i) c.load_all.result c.args.self.now.row c.load_all.new.row c.load_all.ensures.slots c.load_all.ensures.len
+
+pub returns-clause-faults : goal.returns-clause-faults
+returns-clause-faults g c =
+    rw c.is_err-self.ensures.value (loads_failed g.D.Slot (λ i. block_of c.load_all.new.buf i) c.args.self.now.row c.load_all.new.row c.load_all.ensures.len c.load_all.result c.load_all.ensures.slots)
