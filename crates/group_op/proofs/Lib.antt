@@ -14,3 +14,6 @@ pub mod Entering
 pub mod Dividing
 pub mod Feeding
 pub mod KeyReading
+pub mod Emitting
+pub mod Saying
+pub mod Gathered

@@ -2,3 +2,4 @@ pub mod Stored
 pub mod Held
 pub mod Putting
 pub mod Emission
+pub mod InOrder

@@ -6,8 +6,10 @@
 //! table to the sixteen partitions of a level.
 #![tactic(auto)]
 
+mod emission;
 mod flushing;
 mod joining;
+mod ordering;
 mod putting;
 mod stored;
 
