@@ -17,3 +17,4 @@ pub mod KeyReading
 pub mod Emitting
 pub mod Saying
 pub mod Gathered
+pub mod NodeOrder

@@ -25,8 +25,8 @@ pub(crate) fn places_in_order(
     let mut keyed = keyed_places(alloc, shape, table)?;
     keyed.sort_unstable();
     let mut places = Vec::new(alloc);
-    for (_key, place) in &keyed {
-        places.push(*place)?;
+    for entry in &keyed {
+        places.push(entry.1)?;
     }
     Ok(places)
 }
