@@ -18,3 +18,4 @@ pub mod Emitting
 pub mod Saying
 pub mod Gathered
 pub mod NodeOrder
+pub mod OwnBytes

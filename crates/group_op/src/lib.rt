@@ -11,6 +11,7 @@ mod flushing;
 mod joining;
 mod ordering;
 mod putting;
+mod spelling;
 mod stored;
 
 pub use flushing::{Fan, Spare, flush};
