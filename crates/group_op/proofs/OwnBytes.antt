@@ -116,10 +116,11 @@ map_twice : (row : List Value) (aggs : List Agg) → map (λ agg. Wide (own_numb
 map_twice row [] = refl
 map_twice row (agg ∷ aggs) = ap (λ (vs : List Value). Wide (own_number agg row) ∷ vs) (map_twice row aggs)
 
-module _ (back : RowBack) (shape : Shape) (row : List Value) (is : IsShape shape) (kinds : kinds_of row ≡ shape.kinds) (short : length (row_bytes row) + 16 * length shape.aggs < 2 ^ 32) where
-  pub own_long : length (own_bytes shape row) ≤ length (row_bytes row) + 16 * length shape.aggs
-  own_long = fits_weight (grouping_of shape) row is.distinct
+-- it is at most as long as the row and sixteen bytes an aggregate
+pub own_long : (shape : Shape) (row : List Value) → IsShape shape → length (own_bytes shape row) ≤ length (row_bytes row) + 16 * length shape.aggs
+own_long shape row is = fits_weight (grouping_of shape) row is.distinct
 
+module _ (back : RowBack) (shape : Shape) (row : List Value) (is : IsShape shape) (kinds : kinds_of row ≡ shape.kinds) (short : length (row_bytes row) + 16 * length shape.aggs < 2 ^ 32) where
   row_are : partial_row (grouping_of shape) row ≡ values_in shape.keys row ++ map Wide (map (λ agg. own_number agg row) shape.aggs)
   row_are = ap (λ (vs : List Value). values_in shape.keys row ++ vs) (map_twice row shape.aggs)
 
@@ -138,7 +139,7 @@ module _ (back : RowBack) (shape : Shape) (row : List Value) (is : IsShape shape
   fits =
       let body = flat_map field_bytes (partial_row (grouping_of shape) row) in
       let long = length-append (to_be_bytes w32 (length body)) body in
-      let few = own_long in
+      let few = own_long shape row is in
       omega (arith, long, few, short)
 
   many : length (map (λ agg. own_number agg row) shape.aggs) ≡ length shape.aggs

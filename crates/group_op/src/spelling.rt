@@ -6,7 +6,8 @@ ghost use Rattle.row_codec.specs.Row.{IsValue, kinds_of};
 ghost use Rattle.row_codec.specs.RowBytes.{field_bytes, row_bytes, values_in};
 ghost use Rattle.store_api.specs.Shapes.{IsShape};
 ghost use Rattle.group_rows.specs.Aggregates.{own_number};
-ghost use Rattle.group_op.specs.Stored.{IsPartialRow, own_bytes};
+ghost use Rattle.group_rows.specs.Partials.{partial_of};
+ghost use Rattle.group_op.specs.Stored.{IsPartialRow, grouping_of, own_bytes, partial_at};
 
 use group_rows::own;
 use row_codec::{Agg, Memory, Value, law_row_back};
@@ -19,6 +20,7 @@ pub(crate) fn spell_own(row: &[Value], shape: &Shape, out: &mut Vec<u8>) -> Resu
     requires short { length (row_bytes row.now) + 16 * length shape.now.aggs < 2 ^ 32 }
     ensures row { OnOk result (out.new.items ≡ own_bytes shape.now row.now) }
     ensures formed { OnOk result (IsPartialRow shape.now out.new.items) }
+    ensures says { OnOk result (partial_at shape.now out.new.items ≡ partial_of (grouping_of shape.now) row.now) }
 {
     law_row_back();
     out.clear();
