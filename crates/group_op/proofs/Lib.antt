@@ -20,3 +20,8 @@ pub mod Growth
 pub mod Opened
 pub mod Kept
 pub mod Ended
+pub mod Emitting
+pub mod Saying
+pub mod Gathered
+pub mod NodeOrder
+pub mod OwnBytes

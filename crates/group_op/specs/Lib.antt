@@ -3,3 +3,5 @@ pub mod Held
 pub mod Putting
 pub mod Emission
 pub mod Operator
+pub mod InOrder
+pub mod Finishing

@@ -12,7 +12,7 @@ ghost use Rattle.group_op.specs.Stored.{IsPartialRow, key_at};
 use crate::flushing::{Fan, Spare};
 use crate::operator::GroupOp;
 use crate::putting::put;
-use crate::spelling::spell;
+use crate::own_row::spell;
 use bucket_table::BucketTable;
 use partition_stack::Partitions;
 use reservation_tree::PoolErr;

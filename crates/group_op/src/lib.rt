@@ -6,12 +6,15 @@
 //! table to the sixteen partitions of a level.
 #![tactic(auto)]
 
+mod emission;
 mod ending;
 mod feeding;
 mod flushing;
 mod growing;
 mod joining;
 mod operator;
+mod ordering;
+mod own_row;
 mod putting;
 mod spelling;
 mod stored;

@@ -1,0 +1,97 @@
+-- Partitions are read from the top, each through a table. `a` is before a call and `b` behind it.
+use Rattle.std.specs.Prelude.{◌≡◌, ◌≢◌, ℕ, zero, suc, ◌+◌, ◌<◌, ◌≤◌, Bool, true, false, List, [], ◌∷◌, ◌++◌, All, length, slice_get, set, replicate, Option, Some, None, ⊤}
+use Rattle.row_codec.specs.declared.values.Value.{Value}
+use Rattle.row_codec.specs.Row.{kinds_of}
+use Rattle.row_codec.specs.RowLaws.{IsRow}
+use Rattle.store_api.specs.declared.shapes.Shape.{Shape}
+use Rattle.store_api.specs.Emitters.{HasClient, SameFor}
+use Rattle.store_api.specs.Holdings.{Holdings, account_of}
+use Rattle.store_api.specs.Signs.{Grows}
+use Rattle.tuple_stream.specs.Families.{AllClosed, ShowAll}
+use Rattle.bucket_table.specs.Tables.{Table}
+use Rattle.partition_stack.specs.Stack.{RestBelow, Stack}
+use Rattle.group_rows.specs.Partials.{Partial, combined_of}
+use Rattle.group_rows.specs.Splitting.{HasPath}
+use Rattle.group_rows.specs.Tables.{HaveDistinctKeys}
+use Rattle.group_op.specs.Emission.{Emitted}
+use Rattle.group_op.specs.Held.{AreEntries, IsHeld, Leaves, State, page_len, rows_of, streams_of}
+use Rattle.group_op.specs.Putting.{IsFan}
+use Rattle.group_op.specs.Stored.{IsPartialRow, SameGroups, dealt, grouping_of, partial_kinds, partials_at}
+
+-- what the first so many partitions say, the highest one first, each combined by itself
+abbrev pub said_down : Shape → ℕ → (ℕ → List (List ℕ)) → List Partial
+said_down shape zero rows = []
+said_down shape (suc n) rows = combined_of (grouping_of shape) (partials_at shape (rows n)) ++ said_down shape n rows
+
+-- the rows of a partition: their keys have one path, as long as its level
+pub record IsPart (shape : Shape) (level : ℕ) (rows : List (List ℕ)) : Type 0 where
+  pub formed : All (IsPartialRow shape) rows
+  pub path : List ℕ
+  pub long : length path ≡ level
+  pub has : HasPath path (partials_at shape rows)
+
+-- the partitions have these rows
+pub record Stacked (shape : Shape) (rows : ℕ → List (List ℕ)) (b : State) : Type 0 where
+  pub told : b.held.told ≡ true
+  pub shows : ShowAll rows (streams_of b)
+  pub parts : (i level : ℕ) → slice_get b.parts.levels i ≡ Some level → IsPart shape level (rows i)
+
+-- between two partitions: the table is empty, and no page is pinned
+pub record IsBetween (b : State) : Type 0 where
+  pub empty : b.table.nodes ≡ []
+  pub closed : AllClosed (streams_of b)
+
+-- whatever the call answers
+pub record Serves (t : ℕ) (shape : Shape) (a b : State) : Type 0 where
+  pub held : IsHeld t b
+  pub entries : AreEntries shape (page_len b) b.table
+  pub leaves : Leaves t a b
+  pub blocks : b.parts.page_blocks ≡ a.parts.page_blocks
+
+-- the top partition is being read, and it was divided, or not yet
+abbrev pub IsRead : Bool → ℕ → ℕ → Stack → Stack → Type 0
+IsRead false at level old now = (length now.streams ≡ at + 1) × (now.levels ≡ old.levels) × RestBelow at now
+IsRead true at level old now = IsFan level (at + 1) at now × (now.levels ≡ set old.levels at (level + 1) ++ replicate 16 (level + 1))
+
+-- some rows of the top partition are combined in the table and in the partitions above it, and the others are there still
+pub record HasRead (shape : Shape) (at level : ℕ) (divided : Bool) (rows : ℕ → List (List ℕ)) (some rest : List (List ℕ)) (b : State) : Type 0 where
+  pub gone : List (List ℕ)
+  pub now : ℕ → List (List ℕ)
+  pub shows : ShowAll now (streams_of b)
+  pub below : (i : ℕ) → i < at → now i ≡ rows i
+  pub here : now at ≡ rest
+  pub above : (i : ℕ) → at < i → now i ≡ dealt shape level (at + 1) gone i
+  pub formed : All (IsPartialRow shape) gone
+  pub undivided : divided ≡ false → gone ≡ []
+  pub same : SameGroups (grouping_of shape) (partials_at shape some) (partials_at shape (rows_of b.table ++ gone))
+  pub distinct : HaveDistinctKeys (partials_at shape (rows_of b.table))
+
+-- an emitter admits each row that says a partial row of the shape
+abbrev pub AdmitsKinds : Shape → (List Value → Type 0) → Type 0
+AdmitsKinds shape admits = (row : List Value) → IsRow row → kinds_of row ≡ partial_kinds shape → admits row
+
+-- the emitter is another client's, or nobody's, and lives
+pub record IsBeside (t : ℕ) (client : Option ℕ) (h : Holdings) : Type 0 where
+  pub apart : client ≢ Some t
+  pub lives : HasClient client h
+
+-- the first groups were handed on, and the others are there still
+pub record Advances (shape : Shape) (was now : List (List Value) → Type 0) (rows : ℕ → List (List ℕ)) (a b : State) : Type 0 where
+  pub left : ℕ → List (List ℕ)
+  pub stacked : Stacked shape left b
+  pub done : List Partial
+  pub split : said_down shape (length a.parts.streams) rows ≡ done ++ said_down shape (length b.parts.streams) left
+  pub emitted : Emitted shape was now done
+
+-- calls changed nothing of clients but this one and the emitter's
+pub record LeavesBeside (t : ℕ) (client : Option ℕ) (a b : State) : Type 0 where
+  pub block_len : b.held.block_len ≡ a.held.block_len
+  pub session : b.held.session ≡ a.held.session
+  pub query : b.held.query ≡ a.held.query
+  pub limit : b.held.limit ≡ a.held.limit
+  pub live_clients : b.held.live_clients ≡ a.held.live_clients
+  pub told : b.held.told ≡ a.held.told
+  pub reservation : a.held.reservation ≤ b.held.reservation
+  pub others : (u : ℕ) → u ≢ t → client ≢ Some u → SameFor u a.held b.held
+  pub reserved : (account_of t a.held).reservation ≤ (account_of t b.held).reservation
+  pub grows : Grows a.signs b.signs
