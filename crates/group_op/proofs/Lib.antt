@@ -25,3 +25,4 @@ pub mod Saying
 pub mod Gathered
 pub mod NodeOrder
 pub mod OwnBytes
+pub mod TakeMore

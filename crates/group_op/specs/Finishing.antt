@@ -1,5 +1,5 @@
 -- Partitions are read from the top, each through a table. `a` is before a call and `b` behind it.
-use Rattle.std.specs.Prelude.{◌≡◌, ◌≢◌, ℕ, zero, suc, ◌+◌, ◌<◌, ◌≤◌, Bool, true, false, List, [], ◌∷◌, ◌++◌, All, length, slice_get, set, replicate, Option, Some, None, ⊤}
+use Rattle.std.specs.Prelude.{◌≡◌, ◌≢◌, ◌↔◌, ℕ, zero, suc, ◌+◌, ◌<◌, ◌≤◌, Bool, true, false, List, [], ◌∷◌, ◌++◌, All, length, slice_get, set, replicate, Option, Some, None, ⊤}
 use Rattle.row_codec.specs.declared.values.Value.{Value}
 use Rattle.row_codec.specs.Row.{kinds_of}
 use Rattle.row_codec.specs.RowLaws.{IsRow}
@@ -95,3 +95,11 @@ pub record LeavesBeside (t : ℕ) (client : Option ℕ) (a b : State) : Type 0 w
   pub others : (u : ℕ) → u ≢ t → client ≢ Some u → SameFor u a.held b.held
   pub reserved : (account_of t a.held).reservation ≤ (account_of t b.held).reservation
   pub grows : Grows a.signs b.signs
+
+-- an emitter that stands over its store still, and took the same rows or more
+pub record StandsStill (admits_old admits : List Value → Type 0) (client_old client : Option ℕ) (faults_old faults : ℕ) (was now : List (List Value) → Type 0) (h : Holdings) : Type 0 where
+  pub admits_same : (row : List Value) → admits_old row ↔ admits row
+  pub client_same : client ≡ client_old
+  pub lives : HasClient client_old h
+  pub never_falls : faults_old ≤ faults
+  pub took : (rows : List (List Value)) → was rows → (more : List (List Value)) × now (rows ++ more)

@@ -6,9 +6,11 @@
 //! table to the sixteen partitions of a level.
 #![tactic(auto)]
 
+mod absorbing;
 mod emission;
 mod ending;
 mod feeding;
+mod finishing;
 mod flushing;
 mod growing;
 mod joining;

@@ -40,9 +40,16 @@ fn law_value(value: &Value)
     ensures { IsValue value.now }
 {
     match value {
-        Value::Int(_) | Value::Wide(_) => {}
-        Value::Text(text) => {
-            let _bytes = text.as_slice();
+        Value::Int(number) => {
+            let _number = *number;
+        }
+        Value::Text(text) => law_bytes(text.as_slice()),
+        Value::Wide(number) => {
+            let _number = *number;
         }
     }
 }
+
+fn law_bytes(_bytes: &[u8])
+    ensures { All (λ byte. byte < 256) _bytes.now }
+{}

@@ -1,7 +1,7 @@
 //! A stack of partitions, and how it grows and shrinks.
 ghost use Rattle.std.specs.Prelude.{◌≡◌, ◌+◌, ◌<◌, ◌++◌, ◌∷◌, [], length, slice_get, take, Some, IfOk, IfSome, OnOk, OnErr};
 ghost use Rattle.store_api.specs.Conditions.{IsBlockCount};
-ghost use Rattle.partition_stack.specs.Stack.{divided, first_sixteen};
+ghost use Rattle.partition_stack.specs.Stack.{IsPlaced, divided, first_sixteen};
 
 use crate::streams::push_sixteen;
 use reservation_tree::Memory;
@@ -62,10 +62,11 @@ impl Partitions {
         self.streams.len()
     }
 
-    /// The level of a partition.
+    /// The level of a partition, from 1 to 16.
     pub fn level(&self, at: usize) -> u32
         requires { at < length self.now.streams }
-        ensures { slice_get self.now.levels at ≡ Some result }
+        ensures value { slice_get self.now.levels at ≡ Some result }
+        ensures placed { IsPlaced at result }
     {
         self.levels[at]
     }
