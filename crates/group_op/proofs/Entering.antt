@@ -1,5 +1,5 @@
 -- A partial row is in the table, one way or another.
-use Rattle.std.proofs.Common.{◌≡◌, ◌≢◌, ◌∙◌, ℕ, ◌*◌, ◌%◌, ◌≤◌, zero, suc, Bool, true, false, List, [], ◌∷◌, ◌++◌, length, map, set, reverse, Some, Result, Ok, Err, OnOk, IfErr, option_map, refl, ap, sym, subst, arith, append-nil}
+use Rattle.std.proofs.Common.{◌≡◌, ◌≢◌, ◌∙◌, ℕ, ◌+◌, ◌*◌, ◌%◌, ◌≤◌, zero, suc, Bool, true, false, List, [], ◌∷◌, ◌++◌, length, map, set, reverse, Some, Result, Ok, Err, OnOk, IfErr, option_map, refl, ap, sym, subst, arith, append-nil}
 use Rattle.std.specs.Prelude.{All, slice_get}
 use Rattle.std.specs.List.{AllByRecursion, IsDistinct}
 use Rattle.std.proofs.lemmas.Map.Keys.{IsDistinct-cons}
@@ -28,7 +28,7 @@ use Rattle.group_rows.proofs.Keys.{true_same}
 use Rattle.group_rows.proofs.Paths.{path_is_order}
 use Rattle.group_rows.proofs.Tables.{into_entry}
 use Rattle.group_op.specs.Held.{AreEntries, IsEntry, IsHeld, StandBehind, State, page_len, rows_of, state, streams_of}
-use Rattle.group_op.specs.Putting.{Deals, HasFlushed, HasMoved, HasPut, Lacks, Works}
+use Rattle.group_op.specs.Putting.{Deals, HasFlushed, HasGrown, HasPut, HasPutHere, Lacks, Works}
 use Rattle.group_op.specs.Stored.{IsPartialRow, SameGroups, dealt, grouping_of, joined, key_at, partial_at, partials_at}
 use Rattle.group_op.proofs.Deals.{deals_as, deals_fed, deals_then}
 use Rattle.group_op.proofs.Finding.{entry_of, entry_row}
@@ -139,15 +139,12 @@ module _ (back : RowBack) (shape : Shape) (len node : ℕ) (table : Table) (row 
       ∙ ap (option_map (partial_at shape)) (slice_get-map (λ (n : Node). n.row) table.nodes entry.0.index ∙ ap (option_map (λ (n : Node). n.row)) entry.0.there)
       ∙ ap (λ (r : List ℕ). Some (partial_at shape r)) (sym entry.0.row)
 
-  pub put_found : (t level base : ℕ) (parts : Stack) (h : Holdings) (signs : Signs) → AreShaped t (over parts h signs) → HasPut shape level base row (state table parts h signs) (state (with_nodes (with_row node (joined shape (row_of node table.nodes) row) table.nodes) table) parts h signs)
-  put_found t level base parts h signs shaped =
+  pub here_found : (t : ℕ) (parts : Stack) (h : Holdings) (signs : Signs) → AreShaped t (over parts h signs) → HasPutHere shape row (state table parts h signs) (state (with_nodes (with_row node (joined shape (row_of node table.nodes) row) table.nodes) table) parts h signs)
+  here_found t parts h signs shaped =
       record {
-        gone = [];
-        formed = All-nil (IsPartialRow shape);
         deals = deals_fed t (λ i. []) (over parts h signs) (over parts h signs) (feeds_none t (over parts h signs) shaped);
         same =
-            subst (SameGroups (grouping_of shape) (partials_at shape (row ∷ rows_of table)))
-            (sym (ap (partials_at shape) (append-nil (map (λ (n : Node). n.row) (with_row node (joined shape (row_of node table.nodes) row) table.nodes))) ∙ partials_are))
+            subst (SameGroups (grouping_of shape) (partials_at shape (row ∷ rows_of table))) (sym partials_are)
             (same_into (grouping_of shape) (partials_at shape (rows_of table)) entry.0.index (partial_at shape (row_of node table.nodes)) (partial_at shape row) there key);
         distinct = λ apart. subst HaveDistinctKeys (sym partials_are)
             ((into_entry path_order path_is_order (grouping_of shape) (partials_at shape (rows_of table)) [] entry.0.index (partial_at shape (row_of node table.nodes)) (partial_at shape row) there key).distinct apart);
@@ -178,20 +175,44 @@ none_distinct : IsDistinct bytes_eq []
 unfolding IsDistinct
 none_distinct = tt
 
-pub nodes_moved : (t : ℕ) (shape : Shape) (level base : ℕ) (a b : State) → b.table.nodes ≡ a.table.nodes → Deals (λ i. []) (streams_of a) (streams_of b) → HasMoved shape level base a b
-nodes_moved t shape level base a b same deals =
-    let rows : rows_of b.table ≡ rows_of a.table = ap (map (λ (n : Node). n.row)) same in
+-- a table with the same nodes has a new one
+pub here_new : (shape : Shape) (hash : ℕ) (row : List ℕ) (a : State) (table : Table) (parts : Stack) (h : Holdings) (signs : Signs) → table.nodes ≡ a.table.nodes → Deals (λ i. []) (streams_of a) (over parts h signs) → Lacks shape (key_at shape row) a.table
+    → HasPutHere shape row a (state (with_nodes (new_node (hash % table.heads) row table.nodes ∷ table.nodes) table) parts h signs)
+here_new shape hash row a table parts h signs same deals lacks =
+    let rows : rows_of table ≡ rows_of a.table = ap (map (λ (n : Node). n.row)) same in
+    record {
+      deals = deals;
+      same =
+          subst (λ (rs : List (List ℕ)). SameGroups (grouping_of shape) (partials_at shape (row ∷ rows_of a.table)) (partials_at shape (row ∷ rs))) (sym rows)
+          (same_refl (grouping_of shape) (partials_at shape (row ∷ rows_of a.table)));
+      distinct = λ apart.
+          subst (λ (rs : List (List ℕ)). HaveDistinctKeys (partials_at shape (row ∷ rs))) (sym rows)
+          (IsDistinct-cons bytes_eq (key_of (partial_at shape row)) (map key_of (partials_at shape (rows_of a.table))) (one_apart shape row a.table.nodes lacks) apart);
+      fewer = let long = ap length rows in omega (arith, long);
+    }
+
+-- no row went to partitions
+pub put_of_here : (shape : Shape) (level base : ℕ) (row : List ℕ) (a b : State) → HasPutHere shape row a b → HasPut shape level base row a b
+put_of_here shape level base row a b here =
     record {
       gone = [];
       formed = All-nil (IsPartialRow shape);
-      deals = deals;
+      deals = here.deals;
       same =
-          subst (λ (rs : List (List ℕ)). SameGroups (grouping_of shape) (partials_at shape (rows_of a.table)) (partials_at shape rs)) (sym (append-nil (rows_of b.table) ∙ rows))
-          (same_refl (grouping_of shape) (partials_at shape (rows_of a.table)));
-      distinct = subst (λ (rs : List (List ℕ)). HaveDistinctKeys (partials_at shape (rows_of a.table)) → HaveDistinctKeys (partials_at shape rs)) (sym rows) (λ apart. apart);
-      lacks = λ key lacks. subst (All (λ (n : Node). key_at shape n.row ≢ key)) (sym same) lacks;
-      fewer = let long = ap length rows in omega (arith, long);
+          subst (λ (rs : List (List ℕ)). SameGroups (grouping_of shape) (partials_at shape (row ∷ rows_of a.table)) (partials_at shape rs)) (sym (append-nil (rows_of b.table))) here.same;
+      distinct = here.distinct;
+      fewer = let fewer = here.fewer in omega (arith, fewer);
     }
+
+-- these rows of the table went to the partitions of a level, and it has the others
+pub record HasMoved (shape : Shape) (level base : ℕ) (a b : State) : Type 0 where
+  pub gone : List (List ℕ)
+  pub formed : All (IsPartialRow shape) gone
+  pub deals : Deals (dealt shape level base gone) (streams_of a) (streams_of b)
+  pub same : SameGroups (grouping_of shape) (partials_at shape (rows_of a.table)) (partials_at shape (rows_of b.table ++ gone))
+  pub distinct : HaveDistinctKeys (partials_at shape (rows_of a.table)) → HaveDistinctKeys (partials_at shape (rows_of b.table))
+  pub lacks : (key : List ℕ) → Lacks shape key a.table → Lacks shape key b.table
+  pub fewer : length (rows_of b.table) + length gone ≤ length (rows_of a.table)
 
 -- they all went
 pub flushed_moved : (t : ℕ) (shape : Shape) (level base : ℕ) (a b : State) → All (IsPartialRow shape) (rows_of a.table) → HasFlushed t shape level base a b → HasMoved shape level base a b
@@ -237,6 +258,13 @@ put_moved shape level base hash row a table parts h signs lacks moved =
       distinct = λ apart. IsDistinct-cons bytes_eq (key_of (partial_at shape row)) (map key_of (partials_at shape (rows_of table))) (one_apart shape row table.nodes (moved.lacks (key_at shape row) lacks)) (moved.distinct apart);
       fewer = let fewer = moved.fewer in omega (arith, fewer);
     }
+
+-- after a growth
+pub put_grown : (shape : Shape) (level base hash : ℕ) (row : List ℕ) (t : ℕ) (a m : State) (table : Table) (parts : Stack) (h : Holdings) (signs : Signs) → HasGrown t shape a m → Lacks shape (key_at shape row) m.table → HasMoved shape level base m (state table parts h signs)
+    → HasPut shape level base row a (state (with_nodes (new_node (hash % table.heads) row table.nodes ∷ table.nodes) table) parts h signs)
+put_grown shape level base hash row t a m table parts h signs grown lacks moved =
+    put_moved shape level base hash row a table parts h signs (subst (All (λ (n : Node). key_at shape n.row ≢ key_at shape row)) grown.nodes lacks)
+    (moved_then t shape level base a m (state table parts h signs) grown.nodes grown.deals moved)
 
 pub works_len : (t : ℕ) (shape : Shape) (a b : State) → Works t shape a b → page_len b ≡ page_len a
 works_len t shape a b works = ap (λ (n : ℕ). n * b.held.block_len) works.blocks ∙ ap (λ (n : ℕ). a.parts.page_blocks * n) works.leaves.others.block_len

@@ -41,16 +41,6 @@ pub record Deals (more : ℕ → List (List ℕ)) (f g : Family) : Type 0 where
   pub rows : (rows : ℕ → List (List ℕ)) → AreSure f → ShowAll rows f → ShowAll (λ i. rows i ++ more i) g
   pub laid : (start : Option (List Entry)) → AllAtEnd f → EnteredEvents (HaveLaid f) start f.signs.trail → EnteredEvents (HaveLaid g) start g.signs.trail
 
--- these rows of the table went to the partitions of a level, and it has the others
-pub record HasMoved (shape : Shape) (level base : ℕ) (a b : State) : Type 0 where
-  pub gone : List (List ℕ)
-  pub formed : All (IsPartialRow shape) gone
-  pub deals : Deals (dealt shape level base gone) (streams_of a) (streams_of b)
-  pub same : SameGroups (grouping_of shape) (partials_at shape (rows_of a.table)) (partials_at shape (rows_of b.table ++ gone))
-  pub distinct : HaveDistinctKeys (partials_at shape (rows_of a.table)) → HaveDistinctKeys (partials_at shape (rows_of b.table))
-  pub lacks : (key : List ℕ) → Lacks shape key a.table → Lacks shape key b.table
-  pub fewer : length (rows_of b.table) + length gone ≤ length (rows_of a.table)
-
 -- these rows went to the partitions of a level, and of the others and these the table has what it had and this row
 pub record HasPut (shape : Shape) (level base : ℕ) (row : List ℕ) (a b : State) : Type 0 where
   pub gone : List (List ℕ)
@@ -59,6 +49,13 @@ pub record HasPut (shape : Shape) (level base : ℕ) (row : List ℕ) (a b : Sta
   pub same : SameGroups (grouping_of shape) (partials_at shape (row ∷ rows_of a.table)) (partials_at shape (rows_of b.table ++ gone))
   pub distinct : HaveDistinctKeys (partials_at shape (rows_of a.table)) → HaveDistinctKeys (partials_at shape (rows_of b.table))
   pub fewer : length (rows_of b.table) + length gone ≤ length (rows_of a.table) + 1
+
+-- the table has what it had and this row, and no row went to partitions
+pub record HasPutHere (shape : Shape) (row : List ℕ) (a b : State) : Type 0 where
+  pub deals : Deals (λ i. []) (streams_of a) (streams_of b)
+  pub same : SameGroups (grouping_of shape) (partials_at shape (row ∷ rows_of a.table)) (partials_at shape (rows_of b.table))
+  pub distinct : HaveDistinctKeys (partials_at shape (rows_of a.table)) → HaveDistinctKeys (partials_at shape (rows_of b.table))
+  pub fewer : length (rows_of b.table) ≤ length (rows_of a.table) + 1
 
 -- the table got more memory, and has the rows that it had
 pub record HasGrown (t : ℕ) (shape : Shape) (a b : State) : Type 0 where

@@ -1,12 +1,12 @@
 //! A partial row goes into a table.
-ghost use Rattle.std.specs.Prelude.{◌≡◌, ℕ, ◌+◌, ◌%◌, ◌≤◌, ◌∷◌, length, All, IfNone, IfSome, IfErr, OnOk};
+ghost use Rattle.std.specs.Prelude.{◌≡◌, true, false, ℕ, ◌+◌, ◌%◌, ◌≤◌, ◌∷◌, length, All, IfNone, IfSome, IfErr, OnOk};
 ghost use Rattle.row_codec.specs.Order.{hash_of};
 ghost use Rattle.store_api.specs.Shapes.{IsShape};
 ghost use Rattle.store_api.specs.Signs.{WasAnswered};
 ghost use Rattle.tuple_stream.specs.Touches.{IsFull};
 ghost use Rattle.bucket_table.specs.Tables.{HasNode, IsFramed, new_node, row_of, used_by, with_nodes};
 ghost use Rattle.group_op.specs.Held.{AreEntries, IsHeld, page_len, state};
-ghost use Rattle.group_op.specs.Putting.{HasMoved, HasPut, IsFan, Lacks, Works};
+ghost use Rattle.group_op.specs.Putting.{HasGrown, HasPut, HasPutHere, IsFan, Lacks, Works};
 ghost use Rattle.group_op.specs.Stored.{IsPartialRow, key_at};
 
 use crate::flushing::{Fan, Spare, flush};
@@ -68,48 +68,51 @@ pub fn put<St: Store>(
     ensures cause { IfErr result (λ e. WasAnswered e (St.signs store.old) (St.signs store.new)) }
     ensures full { IfErr result (IsFull parts.old.page_blocks (St.holds store.new).free_slots) }
 {
-    if let Some(node) = find(table, hash, row, shape) {
-        law_row_back();
-        add_numbers(table, node, row, shape);
+    if put_here(alloc, store, c, shape, table, parts, row, hash) {
         return Ok(());
     }
-    make_room(alloc, store, c, shape, table, parts, fan, row.len(), spare)?;
+    flush(alloc, store, c, shape, table, parts, fan, spare)?;
     add_entry(table, hash, row);
     Ok(())
 }
 
-// There is room for an entry of so many bytes: the table has it, or grows, or its rows go to their partitions.
-fn make_room<St: Store>(
+// Puts a partial row into the table, which grows if it has no room: whether there was room then.
+pub(crate) fn put_here<St: Store>(
     alloc: Global,
     store: &mut St,
     c: &Client,
     shape: &Shape,
     table: &mut BucketTable,
-    parts: &mut Partitions,
-    fan: Fan,
-    len: usize,
-    spare: &mut Spare,
-) -> Result<(), PoolErr>
-    requires held { IsHeld c.now.tracker (state table.old parts.old (St.holds store.old) (St.signs store.old)) }
-    requires entries { AreEntries shape.now (page_len (state table.old parts.old (St.holds store.old) (St.signs store.old))) table.old }
-    requires fan { IsFan fan.level fan.base fan.from parts.old }
-    requires some { 4 ≤ len }
-    requires short { len ≤ page_len (state table.old parts.old (St.holds store.old) (St.signs store.old)) }
-    ensures ok { OnOk result (HasMoved shape.now fan.level fan.base (state table.old parts.old (St.holds store.old) (St.signs store.old)) (state table.new parts.new (St.holds store.new) (St.signs store.new))) }
-    ensures room { OnOk result (used_by table.new.nodes + 4 + len ≤ table.new.room) }
-    ensures works { Works c.now.tracker shape.now (state table.old parts.old (St.holds store.old) (St.signs store.old)) (state table.new parts.new (St.holds store.new) (St.signs store.new)) }
-    ensures fan { IsFan fan.level fan.base fan.from parts.new }
-    ensures cause { IfErr result (λ e. WasAnswered e (St.signs store.old) (St.signs store.new)) }
-    ensures full { IfErr result (IsFull parts.old.page_blocks (St.holds store.new).free_slots) }
+    parts: &Partitions,
+    row: &[u8],
+    hash: u64,
+) -> bool
+    requires held { IsHeld c.now.tracker (state table.old parts.now (St.holds store.old) (St.signs store.old)) }
+    requires entries { AreEntries shape.now (page_len (state table.old parts.now (St.holds store.old) (St.signs store.old))) table.old }
+    requires shape { IsShape shape.now }
+    requires row { IsPartialRow shape.now row.now }
+    requires short { length row.now ≤ page_len (state table.old parts.now (St.holds store.old) (St.signs store.old)) }
+    requires hash { hash ≡ hash_of (key_at shape.now row.now) }
+    ensures put { result ≡ true → HasPutHere shape.now row.now (state table.old parts.now (St.holds store.old) (St.signs store.old)) (state table.new parts.now (St.holds store.new) (St.signs store.new)) }
+    ensures grown { result ≡ false → HasGrown c.now.tracker shape.now (state table.old parts.now (St.holds store.old) (St.signs store.old)) (state table.new parts.now (St.holds store.new) (St.signs store.new)) }
+    ensures lacks { result ≡ false → Lacks shape.now (key_at shape.now row.now) table.new }
+    ensures works { Works c.now.tracker shape.now (state table.old parts.now (St.holds store.old) (St.signs store.old)) (state table.new parts.now (St.holds store.new) (St.signs store.new)) }
 {
-    if table.has_room(len) {
-        return Ok(());
+    if let Some(node) = find(table, hash, row, shape) {
+        law_row_back();
+        add_numbers(table, node, row, shape);
+        return true;
+    }
+    if table.has_room(row.len()) {
+        add_entry(table, hash, row);
+        return true;
     }
     grow(alloc, store, c, shape, table, parts);
-    if table.has_room(len) {
-        return Ok(());
+    if !table.has_room(row.len()) {
+        return false;
     }
-    flush(alloc, store, c, shape, table, parts, fan, spare)
+    add_entry(table, hash, row);
+    true
 }
 
 // Adds an entry, for which there is room.

@@ -1,45 +1,54 @@
-use Rattle.std.proofs.Common.{◌≡◌, ◌≤◌, ℕ, length, ap, sym, subst, arith}
+use Rattle.std.proofs.Common.{◌≡◌, ◌≤◌, ℕ, Err, length, ap, sym, subst, arith, rules}
+use Rattle.store_api.proofs.Answered.{answered_before}
 use Rattle.bucket_table.specs.Tables.{Table, used_by}
-use Rattle.group_op.specs.Held.{page_len, state}
-use Rattle.group_op.proofs.Entering.{entries_joined, entries_new, four_long, put_found, put_moved, works_len, works_none}
+use Rattle.group_op.specs.Held.{State, page_len, state}
+use Rattle.group_op.specs.Putting.{HasGrown}
+use Rattle.group_op.proofs.Chained.{works_then}
+use Rattle.group_op.proofs.Entering.{entries_new, flushed_moved, four_long, put_grown, rows_formed, works_len}
 use Rattle.group_op.proofs.Keeping.{works_nodes}
-use Rattle.group_op.proofs.Finding.{entry_row}
 use Rattle.group_op.proofs.RowForms.{partial_is_framed}
 use Rattle.group_op.proofs.putting.put.Goals as goal
 
-pub add_numbers-requires-clause-entry : goal.add_numbers-requires-clause-entry
-add_numbers-requires-clause-entry g c =
-    entry_row c.args.shape.now _ c.in-Some.node c.args.table.now c.requires.entries c.in-Some.ensures.node
+pub returns-in_err-flush-clause-works : goal.returns-in_err-flush-clause-works
+returns-in_err-flush-clause-works g c = works_then c.args.c.now.tracker c.args.shape.now _ _ _ c.put_here.ensures.works c.flush.ensures.works
 
-pub returns-in-Some-clause-ok : goal.returns-in-Some-clause-ok
-returns-in-Some-clause-ok g c =
-    rw c.add_numbers.ensures
-    (put_found c.law_row_back.ensures.law c.args.shape.now _ c.in-Some.node c.args.table.now c.args.row.now c.requires.shape c.requires.entries c.in-Some.ensures.node c.requires.row c.in-Some.ensures.key
-    c.args.c.now.tracker c.args.fan.level c.args.fan.base c.args.parts.now (g.St.Store.holds c.args.store.now) (g.St.Store.signs c.args.store.now) c.requires.held.owns.shaped)
-
-pub returns-in-Some-clause-works : goal.returns-in-Some-clause-works
-returns-in-Some-clause-works g c =
-    rw c.add_numbers.ensures
-    (works_nodes c.args.c.now.tracker c.args.shape.now _ _ c.args.table.now c.args.parts.now (g.St.Store.holds c.args.store.now) (g.St.Store.signs c.args.store.now)
-    (works_none c.args.c.now.tracker c.args.shape.now c.args.table.now c.args.parts.now (g.St.Store.holds c.args.store.now) (g.St.Store.signs c.args.store.now) c.requires.held c.requires.entries)
-    (entries_joined c.law_row_back.ensures.law c.args.shape.now _ c.in-Some.node c.args.table.now c.args.row.now c.requires.shape c.requires.entries c.in-Some.ensures.node c.requires.row c.in-Some.ensures.key))
+pub returns-in_err-flush-clause-cause : goal.returns-in_err-flush-clause-cause
+returns-in_err-flush-clause-cause g c =
+    let same : c.from_residual.result ≡ Err c.in_err-flush.field-0.0 = search rules in
+    rw same (answered_before c.in_err-flush.field-0.0 (g.St.Store.signs c.args.store.now) (g.St.Store.signs c.put_here.new.store) (g.St.Store.signs c.flush.new.store) c.put_here.ensures.works.leaves.grows c.in_err-flush.ensures.cause)
 
 pub add_entry-requires-clause-row : goal.add_entry-requires-clause-row
-add_entry-requires-clause-row g c =
-    partial_is_framed c.args.shape.now c.args.row.now c.requires.row
+add_entry-requires-clause-row g c = partial_is_framed c.args.shape.now c.args.row.now c.requires.row
 
-pub make_room-requires-clause-some : goal.make_room-requires-clause-some
-make_room-requires-clause-some g c = four_long c.args.shape.now c.args.row.now c.requires.row
+pub add_entry-requires-clause-room : goal.add_entry-requires-clause-room
+add_entry-requires-clause-room g c =
+    let t : ℕ = c.args.c.now.tracker in
+    let table = c.in_ok-flush.ensures.ok.table in
+    let none : used_by c.flush.new.table.nodes ≡ 0 = ap (λ (x : Table). used_by x.nodes) table in
+    let room : c.flush.new.table.room ≡ c.put_here.new.table.room = ap (λ (x : Table). x.room) table in
+    let roomy = c.put_here.ensures.works.entries.roomy in
+    let len : page_len (state c.put_here.new.table c.args.parts.now (g.St.Store.holds c.put_here.new.store) (g.St.Store.signs c.put_here.new.store)) ≡ page_len (state c.args.table.now c.args.parts.now (g.St.Store.holds c.args.store.now) (g.St.Store.signs c.args.store.now)) = works_len t c.args.shape.now _ _ c.put_here.ensures.works in
+    let short = c.requires.short in
+    let four = four_long c.args.shape.now c.args.row.now c.requires.row in
+    omega (arith, none, room, roomy, len, short, four)
 
 pub returns-clause-ok : goal.returns-clause-ok
 returns-clause-ok g c =
+    let t : ℕ = c.args.c.now.tracker in
+    let shape = c.args.shape.now in
+    let a : State = state c.args.table.now c.args.parts.now (g.St.Store.holds c.args.store.now) (g.St.Store.signs c.args.store.now) in
+    let m : State = state c.put_here.new.table c.args.parts.now (g.St.Store.holds c.put_here.new.store) (g.St.Store.signs c.put_here.new.store) in
+    let b : State = state c.flush.new.table c.flush.new.parts (g.St.Store.holds c.flush.new.store) (g.St.Store.signs c.flush.new.store) in
+    let grown : HasGrown t shape a m = c.put_here.ensures.grown c.if-put_here.false in
     rw c.add_entry.ensures
-    (put_moved c.args.shape.now c.args.fan.level c.args.fan.base c.args.hash c.args.row.now (state c.args.table.now c.args.parts.now (g.St.Store.holds c.args.store.now) (g.St.Store.signs c.args.store.now)) c.make_room.new.table c.make_room.new.parts (g.St.Store.holds c.make_room.new.store) (g.St.Store.signs c.make_room.new.store) c.in_default.ensures.none c.in_ok-make_room.ensures.ok)
+    (put_grown shape c.args.fan.level c.args.fan.base c.args.hash c.args.row.now t a m c.flush.new.table c.flush.new.parts (g.St.Store.holds c.flush.new.store) (g.St.Store.signs c.flush.new.store) grown (c.put_here.ensures.lacks c.if-put_here.false)
+    (flushed_moved t shape c.args.fan.level c.args.fan.base m b (rows_formed shape _ m.table.heads m.table.nodes grown.works.entries.each) c.in_ok-flush.ensures.ok))
 
 pub returns-clause-works : goal.returns-clause-works
 returns-clause-works g c =
-    let works = c.in_ok-make_room.ensures.works in
-    let len : page_len (state c.make_room.new.table c.make_room.new.parts (g.St.Store.holds c.make_room.new.store) (g.St.Store.signs c.make_room.new.store)) ≡ page_len (state c.args.table.now c.args.parts.now (g.St.Store.holds c.args.store.now) (g.St.Store.signs c.args.store.now)) = works_len c.args.c.now.tracker c.args.shape.now _ _ works in
+    let t : ℕ = c.args.c.now.tracker in
+    let works = works_then t c.args.shape.now _ _ _ c.put_here.ensures.works c.in_ok-flush.ensures.works in
+    let len : page_len (state c.flush.new.table c.flush.new.parts (g.St.Store.holds c.flush.new.store) (g.St.Store.signs c.flush.new.store)) ≡ page_len (state c.args.table.now c.args.parts.now (g.St.Store.holds c.args.store.now) (g.St.Store.signs c.args.store.now)) = works_len t c.args.shape.now _ _ works in
     rw c.add_entry.ensures
-    (works_nodes c.args.c.now.tracker c.args.shape.now _ _ c.make_room.new.table c.make_room.new.parts (g.St.Store.holds c.make_room.new.store) (g.St.Store.signs c.make_room.new.store) works
-    (entries_new c.args.shape.now _ c.args.hash c.args.row.now c.make_room.new.table works.entries c.requires.row (subst (λ (n : ℕ). length c.args.row.now ≤ n) (sym len) c.requires.short) c.requires.hash))
+    (works_nodes t c.args.shape.now _ _ c.flush.new.table c.flush.new.parts (g.St.Store.holds c.flush.new.store) (g.St.Store.signs c.flush.new.store) works
+    (entries_new c.args.shape.now _ c.args.hash c.args.row.now c.flush.new.table works.entries c.requires.row (subst (λ (n : ℕ). length c.args.row.now ≤ n) (sym len) c.requires.short) c.requires.hash))
