@@ -204,6 +204,10 @@ put_of_here shape level base row a b here =
       fewer = let fewer = here.fewer in omega (arith, fewer);
     }
 
+pub here_gone : (shape : Shape) (level base : ℕ) (row : List ℕ) (a b : State) (here : HasPutHere shape row a b) → (put_of_here shape level base row a b here).gone ≡ []
+unfolding put_of_here
+here_gone shape level base row a b here = refl
+
 -- these rows of the table went to the partitions of a level, and it has the others
 pub record HasMoved (shape : Shape) (level base : ℕ) (a b : State) : Type 0 where
   pub gone : List (List ℕ)

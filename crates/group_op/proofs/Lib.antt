@@ -26,3 +26,5 @@ pub mod Gathered
 pub mod NodeOrder
 pub mod OwnBytes
 pub mod TakeMore
+pub mod Absorbed
+pub mod Serving

@@ -1,45 +1,133 @@
 //! The rows of the top partition go through the table.
-ghost use Rattle.std.specs.Prelude.{◌≡◌, ◌+◌, ◌<◌, ℕ, List, [], Some, IfErr, IfOk, length, slice_get};
+ghost use Rattle.std.specs.Prelude.{◌≡◌, ◌+◌, ◌<◌, ◌≤◌, ◌++◌, ◌∷◌, ℕ, List, [], Some, true, IfErr, IfOk, OnOk, length, slice_get};
+ghost use Rattle.reservation_tree.specs.declared.errors.PoolErr.TheVariants as refusal;
+ghost use Rattle.row_codec.specs.Order.{hash_of};
+ghost use Rattle.store_api.specs.Holdings.{length_of};
 ghost use Rattle.store_api.specs.Shapes.{IsShape};
 ghost use Rattle.store_api.specs.Signs.{WasAnswered};
 ghost use Rattle.tuple_stream.specs.Touches.{IsFull};
-ghost use Rattle.partition_stack.specs.Stack.{IsPlaced};
+ghost use Rattle.partition_stack.specs.Stack.{IsPlaced, Stack};
 ghost use Rattle.group_op.specs.Finishing.{HasRead, IsBetween, IsRead, Serves, Stacked};
 ghost use Rattle.group_op.specs.Held.{AreEntries, IsHeld, page_len, state};
+ghost use Rattle.group_op.specs.Stored.{IsPartialRow, key_at};
 
-use crate::flushing::Spare;
+use crate::flushing::{Fan, Spare};
+use crate::putting::{put, put_here};
+use crate::stored::key_of_partial;
 use bucket_table::BucketTable;
 use partition_stack::Partitions;
 use reservation_tree::PoolErr;
+use row_codec::hash64;
 use std::alloc::Global;
 use store_api::{Client, Shape, Store};
 
 // Spends the top partition, at this place and of this level, into the table, and into sixteen partitions above it once the
 // table is full and can't grow: whether it was divided so.
 pub(crate) fn absorb<St: Store>(
-    _alloc: Global,
-    _store: &mut St,
-    _c: &Client,
-    _shape: &Shape,
-    _table: &mut BucketTable,
-    _parts: &mut Partitions,
-    _at: usize,
-    _level: u32,
-    _fed: &mut Spare,
-    _moved: &mut Spare,
+    alloc: Global,
+    store: &mut St,
+    c: &Client,
+    shape: &Shape,
+    table: &mut BucketTable,
+    parts: &mut Partitions,
+    at: usize,
+    level: u32,
+    fed: &mut Spare,
+    moved: &mut Spare,
 ) -> Result<bool, PoolErr>
-    requires held { IsHeld _c.now.tracker (state _table.old _parts.old (St.holds _store.old) (St.signs _store.old)) }
-    requires entries { AreEntries _shape.now (page_len (state _table.old _parts.old (St.holds _store.old) (St.signs _store.old))) _table.old }
-    requires shape { IsShape _shape.now }
-    requires between { IsBetween (state _table.old _parts.old (St.holds _store.old) (St.signs _store.old)) }
-    requires top { length _parts.old.streams ≡ _at + 1 }
-    requires level { slice_get _parts.old.levels _at ≡ Some _level }
-    requires deep { (_level < 16) × IsPlaced _at _level }
-    ensures rows { IfOk result (λ divided. (rows : ℕ → List (List ℕ)) → Stacked _shape.now rows (state _table.old _parts.old (St.holds _store.old) (St.signs _store.old)) → HasRead _shape.now _at _level divided rows (rows _at) [] (state _table.new _parts.new (St.holds _store.new) (St.signs _store.new))) }
-    ensures read { IfOk result (λ divided. IsRead divided _at _level _parts.old _parts.new) }
-    ensures serves { Serves _c.now.tracker _shape.now (state _table.old _parts.old (St.holds _store.old) (St.signs _store.old)) (state _table.new _parts.new (St.holds _store.new) (St.signs _store.new)) }
-    ensures cause { IfErr result (λ e. WasAnswered e (St.signs _store.old) (St.signs _store.new)) }
-    ensures full { IfErr result (IsFull _parts.old.page_blocks (St.holds _store.new).free_slots) }
+    requires held { IsHeld c.now.tracker (state table.old parts.old (St.holds store.old) (St.signs store.old)) }
+    requires entries { AreEntries shape.now (page_len (state table.old parts.old (St.holds store.old) (St.signs store.old))) table.old }
+    requires shape { IsShape shape.now }
+    requires between { IsBetween (state table.old parts.old (St.holds store.old) (St.signs store.old)) }
+    requires top { length parts.old.streams ≡ at + 1 }
+    requires level { slice_get parts.old.levels at ≡ Some level }
+    requires deep { (level < 16) × IsPlaced at level }
+    ensures rows { IfOk result (λ divided. (rows : ℕ → List (List ℕ)) → Stacked shape.now rows (state table.old parts.old (St.holds store.old) (St.signs store.old)) → HasRead shape.now at level divided rows (rows at) [] (state table.new parts.new (St.holds store.new) (St.signs store.new))) }
+    ensures read { IfOk result (λ divided. IsRead divided at level parts.old parts.new) }
+    ensures serves { Serves c.now.tracker shape.now (state table.old parts.old (St.holds store.old) (St.signs store.old)) (state table.new parts.new (St.holds store.new) (St.signs store.new)) }
+    ensures cause { IfErr result (λ e. WasAnswered e (St.signs store.old) (St.signs store.new)) }
+    ensures full { IfErr result (IsFull parts.old.page_blocks (St.holds store.new).free_slots) }
 {
-    Err(PoolErr::Memory)
+    let mut divided = false;
+    while parts.spend(store, c, at, &mut fed.row)? {
+        divided = take_in(
+            alloc, store, c, shape, table, parts, at, level, divided, fed, moved,
+        )?;
+    }
+    Ok(divided)
+}
+
+// Puts a row of the top partition into the table, or divides the partition: whether it is divided from then on. A row that is
+// no partial row, as a page may show that doesn't tell what it held, is answered by `Memory`.
+fn take_in<St: Store>(
+    alloc: Global,
+    store: &mut St,
+    c: &Client,
+    shape: &Shape,
+    table: &mut BucketTable,
+    parts: &mut Partitions,
+    at: usize,
+    level: u32,
+    divided: bool,
+    fed: &mut Spare,
+    moved: &mut Spare,
+) -> Result<bool, PoolErr>
+    requires held { IsHeld c.now.tracker (state table.old parts.old (St.holds store.old) (St.signs store.old)) }
+    requires entries { AreEntries shape.now (page_len (state table.old parts.old (St.holds store.old) (St.signs store.old))) table.old }
+    requires shape { IsShape shape.now }
+    requires deep { (level < 16) × IsPlaced at level }
+    requires read { (was : Stack) × (slice_get was.levels at ≡ Some level) × IsRead divided at level was parts.old }
+    ensures rows { IfOk result (λ now. (rows : ℕ → List (List ℕ)) → (some : List (List ℕ)) → (rest : List (List ℕ)) → (St.holds store.old).told ≡ true → HasRead shape.now at level divided rows some rest (state table.old parts.old (St.holds store.old) (St.signs store.old)) → HasRead shape.now at level now rows (some ++ fed.old.row.items ∷ []) rest (state table.new parts.new (St.holds store.new) (St.signs store.new))) }
+    ensures read { IfOk result (λ now. (was : Stack) → IsRead divided at level was parts.old → IsRead now at level was parts.new) }
+    ensures serves { Serves c.now.tracker shape.now (state table.old parts.old (St.holds store.old) (St.signs store.old)) (state table.new parts.new (St.holds store.new) (St.signs store.new)) }
+    ensures cause { IfErr result (λ e. WasAnswered e (St.signs store.old) (St.signs store.new)) }
+    ensures full { IfErr result (IsFull parts.old.page_blocks (St.holds store.new).free_slots) }
+{
+    let hash = key_of(alloc, store, shape, parts, fed)?;
+    let fan = Fan {
+        level,
+        base: at + 1,
+        from: at,
+    };
+    if divided {
+        put(
+            alloc, store, c, shape, table, parts, fan, &fed.row, hash, moved,
+        )?;
+        return Ok(true);
+    }
+    if put_here(alloc, store, c, shape, table, parts, &fed.row, hash) {
+        return Ok(false);
+    }
+    parts.law_stack();
+    if parts.divide(alloc, at, level).is_err() {
+        return Err(PoolErr::Memory);
+    }
+    put(
+        alloc, store, c, shape, table, parts, fan, &fed.row, hash, moved,
+    )?;
+    Ok(true)
+}
+
+// The hash of the key of a row that was read, which is a partial row that fits a page.
+fn key_of<St: Store>(
+    alloc: Global,
+    store: &St,
+    shape: &Shape,
+    parts: &Partitions,
+    fed: &mut Spare,
+) -> Result<u64, PoolErr>
+    ensures row { fed.new.row.items ≡ fed.old.row.items }
+    ensures formed { OnOk result (IsPartialRow shape.now fed.old.row.items) }
+    ensures short { OnOk result (length fed.old.row.items ≤ length_of parts.now.page_blocks (St.holds store.now)) }
+    ensures hash { IfOk result (λ hash. hash ≡ hash_of (key_at shape.now fed.old.row.items)) }
+    ensures cause { IfErr result (λ e. e ≡ refusal.Memory) }
+{
+    let len = u64::from(parts.page_blocks()) * u64::from(store.block_len());
+    if fed.row.len() as u64 > len {
+        return Err(PoolErr::Memory);
+    }
+    let Ok(true) = key_of_partial(alloc, &fed.row, shape, &mut fed.key) else {
+        return Err(PoolErr::Memory);
+    };
+    Ok(hash64(&fed.key))
 }

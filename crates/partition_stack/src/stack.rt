@@ -1,7 +1,7 @@
 //! A stack of partitions, and how it grows and shrinks.
 ghost use Rattle.std.specs.Prelude.{◌≡◌, ◌+◌, ◌<◌, ◌++◌, ◌∷◌, [], length, slice_get, take, Some, IfOk, IfSome, OnOk, OnErr};
 ghost use Rattle.store_api.specs.Conditions.{IsBlockCount};
-ghost use Rattle.partition_stack.specs.Stack.{IsPlaced, divided, first_sixteen};
+ghost use Rattle.partition_stack.specs.Stack.{IsPlaced, IsStack, divided, first_sixteen};
 
 use crate::streams::push_sixteen;
 use reservation_tree::Memory;
@@ -53,6 +53,13 @@ impl Partitions {
         ensures { result ≡ self.now.page_blocks }
     {
         self.page_blocks
+    }
+
+    /// What always holds of a stack, as a law.
+    pub fn law_stack(&self)
+        ensures { IsStack self.now }
+    {
+        let _levels = &self.levels;
     }
 
     /// How many partitions there are.

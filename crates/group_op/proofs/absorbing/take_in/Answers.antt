@@ -1,0 +1,104 @@
+use Rattle.std.proofs.Common.{◌≡◌, ◌∙◌, ◌+◌, ◌<◌, ℕ, Bool, true, false, List, [], ◌∷◌, ◌++◌, Err, ap, sym, subst, arith, rules}
+use Rattle.std.proofs.lemmas.Bool.{false≢true}
+use Rattle.store_api.specs.Holdings.{Holdings}
+use Rattle.store_api.specs.Signs.{Signs}
+use Rattle.store_api.proofs.Answered.{answered_before}
+use Rattle.partition_stack.specs.Stack.{Stack, divided}
+use Rattle.group_op.specs.Finishing.{HasRead, IsRead, Serves}
+use Rattle.group_op.specs.Held.{IsHeld, State, lent, state}
+use Rattle.group_op.specs.Putting.{HasGrown, HasPut, HasPutHere, IsFan}
+use Rattle.group_op.proofs.Absorbed.{read_divided, read_grown, read_more}
+use Rattle.group_op.proofs.Entering.{here_gone, put_of_here}
+use Rattle.group_op.proofs.Serving.{fan_divided, held_divided, serves_divided, serves_of, serves_then, unless_err}
+use Rattle.group_op.proofs.absorbing.take_in.Goals as goal
+
+pub returns-then-divided-clause-rows : goal.returns-then-divided-clause-rows
+returns-then-divided-clause-rows g c = λ rows some rest told read.
+    let shape = c.args.shape.now in
+    let a : State = state c.args.table.now c.args.parts.now (g.St.Store.holds c.args.store.now) (g.St.Store.signs c.args.store.now) in
+    let b : State = state c.put.new.table c.put.new.parts (g.St.Store.holds c.put.new.store) (g.St.Store.signs c.put.new.store) in
+    let row : c.deref.result.now ≡ c.args.fed.now.row.items = c.deref.ensures.value ∙ c.key_of.ensures.row in
+    let put : HasPut shape c.args.level (c.args.at + 1) c.args.fed.now.row.items a b = subst (λ (r : List ℕ). HasPut shape c.args.level (c.args.at + 1) r a b) row c.in_ok-put.ensures.ok in
+    read_more shape c.args.at c.args.level true rows some rest c.args.fed.now.row.items a b (subst (λ (d : Bool). HasRead shape c.args.at c.args.level d rows some rest a) c.if-divided.true read) told put (λ is. absurd (false≢true (sym is)))
+
+pub returns-then-put_here-clause-rows : goal.returns-then-put_here-clause-rows
+returns-then-put_here-clause-rows g c = λ rows some rest told read.
+    let shape = c.args.shape.now in
+    let a : State = state c.args.table.now c.args.parts.now (g.St.Store.holds c.args.store.now) (g.St.Store.signs c.args.store.now) in
+    let b : State = state c.put_here.new.table c.args.parts.now (g.St.Store.holds c.put_here.new.store) (g.St.Store.signs c.put_here.new.store) in
+    let row : c.deref-2.result.now ≡ c.args.fed.now.row.items = c.deref-2.ensures.value ∙ c.key_of.ensures.row in
+    let here : HasPutHere shape c.args.fed.now.row.items a b = subst (λ (r : List ℕ). HasPutHere shape r a b) row (c.put_here.ensures.put c.if-put_here.true) in
+    read_more shape c.args.at c.args.level false rows some rest c.args.fed.now.row.items a b (subst (λ (d : Bool). HasRead shape c.args.at c.args.level d rows some rest a) c.if-divided.false read) told
+    (put_of_here shape c.args.level (c.args.at + 1) c.args.fed.now.row.items a b here) (λ is. here_gone shape c.args.level (c.args.at + 1) c.args.fed.now.row.items a b here)
+
+pub put-requires-2-clause-held : goal.put-requires-2-clause-held
+put-requires-2-clause-held g c =
+    let made = unless_err c.divide.result (sym c.is_err.ensures.value ∙ c.if-is_err.false) c.divide.ensures.ok in
+    let h : Holdings = g.St.Store.holds c.put_here.new.store in
+    let s : Signs = g.St.Store.signs c.put_here.new.store in
+    subst (λ (p : Stack). IsHeld c.args.c.now.tracker (state c.put_here.new.table p h s)) (sym made)
+    (held_divided c.args.c.now.tracker c.args.shape.now c.args.at c.args.level c.put_here.new.table c.args.parts.now h s c.law_stack.ensures c.put_here.ensures.works.held)
+
+pub put-requires-2-clause-fan : goal.put-requires-2-clause-fan
+put-requires-2-clause-fan g c =
+    let made = unless_err c.divide.result (sym c.is_err.ensures.value ∙ c.if-is_err.false) c.divide.ensures.ok in
+    let was : Stack = c.requires.read.0 in
+    let read : IsRead false c.args.at c.args.level was c.args.parts.now = subst (λ (d : Bool). IsRead d c.args.at c.args.level was c.args.parts.now) c.if-divided.false c.requires.read.2 in
+    subst (IsFan c.args.level (c.args.at + 1) c.args.at) (sym made)
+    (fan_divided c.args.c.now.tracker c.args.shape.now c.args.at c.args.level c.put_here.new.table c.args.parts.now (g.St.Store.holds c.put_here.new.store) (g.St.Store.signs c.put_here.new.store) c.law_stack.ensures read.0 c.requires.deep.0 c.requires.deep.1 read.2)
+
+pub returns-in_err-put-2-clause-serves : goal.returns-in_err-put-2-clause-serves
+returns-in_err-put-2-clause-serves g c =
+    let t : ℕ = c.args.c.now.tracker in
+    let shape = c.args.shape.now in
+    let made = unless_err c.divide.result (sym c.is_err.ensures.value ∙ c.if-is_err.false) c.divide.ensures.ok in
+    let h : Holdings = g.St.Store.holds c.put_here.new.store in
+    let s : Signs = g.St.Store.signs c.put_here.new.store in
+    let a : State = state c.args.table.now c.args.parts.now (g.St.Store.holds c.args.store.now) (g.St.Store.signs c.args.store.now) in
+    let m : State = state c.put_here.new.table c.args.parts.now h s in
+    let n : State = state c.put_here.new.table c.divide.new.self h s in
+    let b : State = state c.put-2.new.table c.put-2.new.parts (g.St.Store.holds c.put-2.new.store) (g.St.Store.signs c.put-2.new.store) in
+    let works = c.put_here.ensures.works in
+    let mid : Serves t shape m n = subst (λ (p : Stack). Serves t shape m (state c.put_here.new.table p h s)) (sym made) (serves_divided t shape c.args.at c.args.level c.put_here.new.table c.args.parts.now h s c.law_stack.ensures works.held works.entries) in
+    serves_then t shape a m b (serves_of t shape a m works) (serves_then t shape m n b mid (serves_of t shape n b c.put-2.ensures.works))
+
+pub returns-in_err-put-2-clause-cause : goal.returns-in_err-put-2-clause-cause
+returns-in_err-put-2-clause-cause g c =
+    let same : c.from_residual-in_err-put-2.result ≡ Err c.in_err-put-2.field-0.0 = search rules in
+    rw same (answered_before c.in_err-put-2.field-0.0 (g.St.Store.signs c.args.store.now) (g.St.Store.signs c.put_here.new.store) (g.St.Store.signs c.put-2.new.store) c.put_here.ensures.works.leaves.grows c.in_err-put-2.ensures.cause)
+
+pub returns-clause-rows : goal.returns-clause-rows
+returns-clause-rows g c = λ rows some rest told read.
+    let t : ℕ = c.args.c.now.tracker in
+    let shape = c.args.shape.now in
+    let made = unless_err c.divide.result (sym c.is_err.ensures.value ∙ c.if-is_err.false) c.divide.ensures.ok in
+    let h : Holdings = g.St.Store.holds c.put_here.new.store in
+    let s : Signs = g.St.Store.signs c.put_here.new.store in
+    let a : State = state c.args.table.now c.args.parts.now (g.St.Store.holds c.args.store.now) (g.St.Store.signs c.args.store.now) in
+    let m : State = state c.put_here.new.table c.args.parts.now h s in
+    let n : State = state c.put_here.new.table c.divide.new.self h s in
+    let b : State = state c.put-2.new.table c.put-2.new.parts (g.St.Store.holds c.put-2.new.store) (g.St.Store.signs c.put-2.new.store) in
+    let grown : HasGrown t shape a m = c.put_here.ensures.grown c.if-put_here.false in
+    let was : Stack = c.requires.read.0 in
+    let place : IsRead false c.args.at c.args.level was c.args.parts.now = subst (λ (d : Bool). IsRead d c.args.at c.args.level was c.args.parts.now) c.if-divided.false c.requires.read.2 in
+    let row : c.deref-3.result.now ≡ c.args.fed.now.row.items = c.deref-3.ensures.value ∙ c.key_of.ensures.row in
+    let put : HasPut shape c.args.level (c.args.at + 1) c.args.fed.now.row.items n b = subst (λ (r : List ℕ). HasPut shape c.args.level (c.args.at + 1) r n b) row c.in_ok-put-2.ensures.ok in
+    let first : HasRead shape c.args.at c.args.level false rows some rest m = read_grown shape t c.args.at c.args.level false rows some rest a m (subst (λ (d : Bool). HasRead shape c.args.at c.args.level d rows some rest a) c.if-divided.false read) told grown in
+    let second : HasRead shape c.args.at c.args.level true rows some rest n = subst (λ (p : Stack). HasRead shape c.args.at c.args.level true rows some rest (state c.put_here.new.table p h s)) (sym made)
+    (read_divided shape t c.args.at c.args.level (lent m) rows some rest c.put_here.new.table c.args.parts.now h s c.law_stack.ensures place.0 first) in
+    read_more shape c.args.at c.args.level true rows some rest c.args.fed.now.row.items n b second (grown.deals.told ∙ told) put (λ is. absurd (false≢true (sym is)))
+
+pub returns-clause-serves : goal.returns-clause-serves
+returns-clause-serves g c =
+    let t : ℕ = c.args.c.now.tracker in
+    let shape = c.args.shape.now in
+    let made = unless_err c.divide.result (sym c.is_err.ensures.value ∙ c.if-is_err.false) c.divide.ensures.ok in
+    let h : Holdings = g.St.Store.holds c.put_here.new.store in
+    let s : Signs = g.St.Store.signs c.put_here.new.store in
+    let a : State = state c.args.table.now c.args.parts.now (g.St.Store.holds c.args.store.now) (g.St.Store.signs c.args.store.now) in
+    let m : State = state c.put_here.new.table c.args.parts.now h s in
+    let n : State = state c.put_here.new.table c.divide.new.self h s in
+    let b : State = state c.put-2.new.table c.put-2.new.parts (g.St.Store.holds c.put-2.new.store) (g.St.Store.signs c.put-2.new.store) in
+    let works = c.put_here.ensures.works in
+    let mid : Serves t shape m n = subst (λ (p : Stack). Serves t shape m (state c.put_here.new.table p h s)) (sym made) (serves_divided t shape c.args.at c.args.level c.put_here.new.table c.args.parts.now h s c.law_stack.ensures works.held works.entries) in
+    serves_then t shape a m b (serves_of t shape a m works) (serves_then t shape m n b mid (serves_of t shape n b c.put-2.ensures.works))
