@@ -1,5 +1,5 @@
 -- What a grouping has stays its own while its streams are called.
-use Rattle.std.proofs.Common.{◌≡◌, ◌≢◌, ◌∙◌, ℕ, ◌+◌, ◌-◌, ◌*◌, ◌≤◌, List, [], length, Option, Some, None, IsSome, option_map, refl, ap, sym, subst, arith}
+use Rattle.std.proofs.Common.{◌≡◌, ◌≢◌, ◌∙◌, ℕ, ◌+◌, ◌-◌, ◌*◌, ◌≤◌, Bool, true, false, List, [], length, Option, Some, None, IsSome, option_map, refl, ap, sym, subst, arith}
 use Rattle.std.proofs.Math.Nat.{mul-le-mul_right}
 use Rattle.std.proofs.lemmas.List.Elements.{All-nil}
 use Rattle.pool_model.specs.declared.event.Event.{Event}
@@ -17,6 +17,7 @@ use Rattle.bucket_table.proofs.Beside.{beside_pages}
 use Rattle.partition_stack.specs.Stack.{HasRoomFrom, Stack, over}
 use Rattle.partition_stack.proofs.Owned.{owned_stay}
 use Rattle.group_op.specs.Held.{AreEntries, IsHeld, Leaves, State, lent, state}
+use Rattle.group_op.specs.Finishing.{IsRead}
 use Rattle.group_op.specs.Putting.{IsFan, Works}
 
 account_reservation : (o : Option Account) (n : ℕ) → (or_else no_account (option_map (with_unused n) o)).reservation ≡ (or_else no_account o).reservation
@@ -132,7 +133,7 @@ works_nodes t shape a nodes table q new after works entries =
 pub emptied_entries : (shape : Shape) (len : ℕ) (table : Table) → AreEntries shape len table → AreEntries shape len (with_nodes [] table)
 emptied_entries shape len table entries = record { each = All-nil _; behind = tt; roomy = entries.roomy }
 
-room_in : (many from len unused in_held lent reservation : ℕ) → many ≤ from + 17 → 17 * len + lent ≤ reservation → unused + in_held + lent ≡ reservation → (many - from) * len ≤ unused + in_held
+pub room_in : (many from len unused in_held lent reservation : ℕ) → many ≤ from + 17 → 17 * len + lent ≤ reservation → unused + in_held + lent ≡ reservation → (many - from) * len ≤ unused + in_held
 room_in many from len unused in_held lent reservation few room even =
     let most : (many - from) * len ≤ 17 * len = mul-le-mul_right len (let small : many - from ≤ 17 = omega (arith, few) in small) in
     omega (arith, most, room, even)
@@ -146,4 +147,15 @@ room_of_fan t level base from table p h signs held fan =
           let many = fan.sixteen in
           let near = fan.near in
           room_in (length p.streams) from (length_of p.page_blocks h) (unused_of t h) (held_in (over p h signs)) (lent (state table p h signs)) (account_of t h).reservation (omega (arith, many, near)) held.room held.owns.even;
+    }
+
+-- and so has the top one, divided or not
+pub room_of_read : (t at level : ℕ) (d : Bool) (table : Table) (was p : Stack) (h : Holdings) (signs : Signs) → IsHeld t (state table p h signs) → IsRead d at level was p → HasRoomFrom t at p h signs
+room_of_read t at level true table was p h signs held place = room_of_fan t level (at + 1) at table p h signs held place.0
+room_of_read t at level false table was p h signs held place =
+    record {
+      rests = place.2;
+      room =
+          let many = place.0 in
+          room_in (length p.streams) at (length_of p.page_blocks h) (unused_of t h) (held_in (over p h signs)) (lent (state table p h signs)) (account_of t h).reservation (omega (arith, many)) held.room held.owns.even;
     }

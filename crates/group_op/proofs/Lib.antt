@@ -28,3 +28,4 @@ pub mod OwnBytes
 pub mod TakeMore
 pub mod Absorbed
 pub mod Serving
+pub mod Absorbs

@@ -49,10 +49,15 @@ pub(crate) fn absorb<St: Store>(
     ensures full { IfErr result (IsFull parts.old.page_blocks (St.holds store.new).free_slots) }
 {
     let mut divided = false;
-    while parts.spend(store, c, at, &mut fed.row)? {
+    let mut left = parts.rows(at);
+    while left > 0 {
+        if !parts.spend(store, c, at, &mut fed.row)? {
+            return Ok(divided);
+        }
         divided = take_in(
             alloc, store, c, shape, table, parts, at, level, divided, fed, moved,
         )?;
+        left -= 1;
     }
     Ok(divided)
 }
