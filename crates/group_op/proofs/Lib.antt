@@ -19,3 +19,4 @@ pub mod Saying
 pub mod Gathered
 pub mod NodeOrder
 pub mod OwnBytes
+pub mod KeyWalking

@@ -3,3 +3,4 @@ pub mod Held
 pub mod Putting
 pub mod Emission
 pub mod InOrder
+pub mod KeyParts

@@ -9,6 +9,7 @@
 mod emission;
 mod flushing;
 mod joining;
+mod keying;
 mod ordering;
 mod putting;
 mod spelling;

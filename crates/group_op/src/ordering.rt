@@ -6,7 +6,7 @@ ghost use Rattle.group_op.specs.Held.{AreEntries, rows_of};
 ghost use Rattle.group_op.specs.InOrder.{AreInOrder};
 ghost use Rattle.group_op.specs.Stored.{key_at, partials_at};
 
-use crate::stored::key_of_partial;
+use crate::keying::key_of_partial;
 use bucket_table::BucketTable;
 use row_codec::{Memory, PathKey};
 use std::alloc::Global;
@@ -48,7 +48,7 @@ fn keyed_places(
         let Ok(()) = table.row_at(node, &mut row) else {
             return Err(Memory);
         };
-        if !key_of_partial(alloc, &row, shape, &mut key)? {
+        if !key_of_partial(&row, shape, &mut key)? {
             unreachable!()
         }
         keyed.push((PathKey::of(alloc, &key)?, node))?;
