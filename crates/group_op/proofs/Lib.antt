@@ -20,3 +20,4 @@ pub mod Gathered
 pub mod NodeOrder
 pub mod OwnBytes
 pub mod KeyWalking
+pub mod ReadingBack

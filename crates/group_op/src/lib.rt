@@ -12,6 +12,7 @@ mod joining;
 mod keying;
 mod ordering;
 mod putting;
+mod reading;
 mod spelling;
 mod stored;
 

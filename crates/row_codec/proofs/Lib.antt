@@ -1,4 +1,4 @@
-mod Fields
+pub mod Fields
 mod KeyParts
 mod Lengths
 pub mod Numbers

@@ -8,10 +8,13 @@ use Rattle.group_rows.specs.Partials.{Partial}
 use Rattle.group_op.specs.Emission.{Emitted, EmittedFront, Says}
 use Rattle.group_op.specs.InOrder.{said_at}
 use Rattle.group_op.specs.Stored.{partial_at}
-use Rattle.group_op.proofs.Emitting.{came_behind, emitted_behind, emitted_none, front_behind, stood_more, stood_none}
+use Rattle.group_op.proofs.Emitting.{came_behind, emitted_behind, emitted_none, front_behind, front_none, stood_more, stood_none}
 use Rattle.group_op.proofs.Finding.{entry_row}
 use Rattle.group_op.proofs.Saying.{all_one, said_more, said_split, said_there}
 use Rattle.group_op.proofs.emission.emit_places.Goals as goal
+
+pub returns-in_default-clause-err : goal.returns-in_default-clause-err
+returns-in_default-clause-err g c = front_none _ _ _
 
 pub loop-place-init : goal.loop-place-init
 loop-place-init g c =
