@@ -3,7 +3,6 @@ use Rattle.std.proofs.Common.{◌≡◌, ◌∙◌, ℕ, zero, suc, ◌+◌, ◌
 use Rattle.std.specs.Prelude.{ℤ, All, Bool, true, false, flat_map, filter_map, get_or, nat_le, option_map, option_and_then, slice_get}
 use Rattle.std.specs.List.{cons_option}
 use Rattle.std.specs.Int.{w32, w64, w128, to_be_bytes, cast_signed}
-use Rattle.std.proofs.Math.Seq.{take-append_seam}
 use Rattle.std.proofs.lemmas.List.{drop-drop, drop_all, length-drop, length-map}
 use Rattle.std.proofs.lemmas.List.Elements.{All-append, All-cons, All-nil, filter_map-append}
 use Rattle.std.proofs.lemmas.Option.{same_Some}
@@ -203,8 +202,7 @@ module _ (back : RowBack) (shape : Shape) (row : List ℕ) where
       let body : List ℕ = flat_map field_bytes (form.values ++ map Wide form.numbers) in
       let split : body ≡ flat_map field_bytes form.values ++ all_wide form.numbers = flat_map-append field_bytes form.values (map Wide form.numbers) ∙ ap (λ (bytes : List ℕ). flat_map field_bytes form.values ++ bytes) (wide_fields form.numbers) in
       let long = ap length split ∙ length-append (flat_map field_bytes form.values) (all_wide form.numbers) in
-      let fits = form.is_row.fits in
-      (
+      let fits = form.is_row.fits in (
         body,
         form.spelled,
         body_some (form.values ++ map Wide form.numbers) form.is_row.some,

@@ -114,7 +114,13 @@ fn read_place(
     let Ok(()) = table.row_at(place, &mut spare.row) else {
         return Err(Memory);
     };
-    if !decode_into(alloc, kinds, &spare.row, &mut spare.values, &mut spare.texts)? {
+    if !decode_into(
+        alloc,
+        kinds,
+        &spare.row,
+        &mut spare.values,
+        &mut spare.texts,
+    )? {
         return Err(Memory);
     }
     Ok(())

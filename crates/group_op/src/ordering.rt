@@ -74,11 +74,7 @@ fn pathed_places(
 }
 
 // The same nodes in the same order, by their whole keys.
-fn places_by_key(
-    alloc: Global,
-    shape: &Shape,
-    table: &BucketTable,
-) -> Result<Vec<u32>, Memory>
+fn places_by_key(alloc: Global, shape: &Shape, table: &BucketTable) -> Result<Vec<u32>, Memory>
     requires entries { (len : ℕ) × AreEntries shape.now len table.now }
     requires distinct { HaveDistinctKeys (partials_at shape.now (rows_of table.now)) }
     ensures { IfOk result (λ places. AreInOrder shape.now table.now places.items) }

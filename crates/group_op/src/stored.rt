@@ -1,6 +1,6 @@
 //! The kinds of a partial row.
-ghost use Rattle.std.specs.Prelude.{◌≡◌, ◌<◌, ◌^◌, [], ◌∷◌, ◌++◌, length, flat_map, filter_map, slice_get, take, drop, true, IfOk, IfSome, IfNone, OnOk};
-ghost use Rattle.group_op.specs.Stored.{IsPartialRow, key_at, key_kinds, partial_kinds, values_at};
+ghost use Rattle.std.specs.Prelude.{◌≡◌, [], ◌∷◌, ◌++◌, filter_map, slice_get, IfOk, OnOk};
+ghost use Rattle.group_op.specs.Stored.{key_kinds, partial_kinds};
 
 use row_codec::{Kind, Memory};
 use std::alloc::Global;

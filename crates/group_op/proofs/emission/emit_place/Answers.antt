@@ -1,4 +1,4 @@
-use Rattle.std.proofs.Common.{rules, ◌≡◌, sym, ◌∙◌, subst, List, []}
+use Rattle.std.proofs.Common.{◌≡◌, sym, ◌∙◌, subst, List, []}
 use Rattle.std.proofs.lemmas.List.Elements.{All-head}
 use Rattle.bucket_table.specs.Tables.{row_of}
 use Rattle.row_codec.specs.declared.values.Value.{Value}

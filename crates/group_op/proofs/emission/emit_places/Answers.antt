@@ -1,4 +1,4 @@
-use Rattle.std.proofs.Common.{rules, ◌≡◌, ℕ, suc, [], ◌∷◌, ◌++◌, ◌≤◌, length, take, drop, ap, sym, ◌∙◌, subst, arith, List}
+use Rattle.std.proofs.Common.{rules, suc, [], ◌∷◌, ◌++◌, ◌≤◌, length, drop, sym, subst, List}
 use Rattle.std.specs.Prelude.{slice_index_or}
 use Rattle.std.proofs.lemmas.List.{take_all}
 use Rattle.row_codec.specs.declared.values.Value.{Value}
@@ -67,7 +67,7 @@ pub loop-place-preserved : goal.loop-place-preserved
 loop-place-preserved g c =
     record {
       emitted = subst (Emitted c.args.shape.now _ _) (sym (said_more c.args.shape.now c.args.table.now.nodes c.args.places.now c.loop-place.place-index c.loop-place-test.true))
-        (emitted_behind _ _ _ _ _ c.loop-place.invariant.emitted _ c.in_ok-emit_place.ensures.ok);
+          (emitted_behind _ _ _ _ _ c.loop-place.invariant.emitted _ c.in_ok-emit_place.ensures.ok);
       stood = stood_more _ _ _ _ _ _ _ _ _ _ _ _ _ _ _ c.loop-place.invariant.stood c.emit_place.ensures.stood;
     }
 

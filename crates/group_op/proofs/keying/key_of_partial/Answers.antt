@@ -1,4 +1,4 @@
-use Rattle.std.proofs.Common.{◌≡◌, ◌∙◌, ◌*◌, ℕ, length, ap, sym, eq-eqb, eqb-true}
+use Rattle.std.proofs.Common.{◌≡◌, ◌∙◌, ◌*◌, length, ap, sym, eq-eqb, eqb-true}
 use Rattle.row_codec.proofs.ReadBack.{from_places}
 use Rattle.group_op.specs.KeyParts.{left_behind}
 use Rattle.group_op.proofs.KeyWalking.{found_of, key_here, many_here, not_none, row_here}

@@ -1,6 +1,5 @@
-use Rattle.std.proofs.Common.{◌≡◌, Some, None, rules}
+use Rattle.std.proofs.Common.{rules}
 use Rattle.std.proofs.lemmas.Option.{slice_get_past}
-use Rattle.group_op.specs.KeyParts.{cut_at}
 use Rattle.group_op.proofs.KeyWalking.{column_more, column_past, column_stops, there_or}
 use Rattle.group_op.proofs.keying.push_column.Goals as goal
 
