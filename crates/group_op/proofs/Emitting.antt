@@ -1,11 +1,10 @@
 -- Rows that an emitter took, one list behind another.
-use Rattle.std.proofs.Common.{◌≡◌, ◌⊎◌, ◌↔◌, inl, inr, ℕ, ◌<◌, ◌≤◌, List, [], ◌∷◌, ◌++◌, Option, Some, None, refl, ap, sym, ◌∙◌, subst, arith, append_assoc, append-nil, Result, Ok, Err, OnOk, OnErr}
-use Rattle.std.specs.Prelude.{All}
+use Rattle.std.proofs.Common.{◌≡◌, ◌⊎◌, inl, inr, ℕ, ◌<◌, ◌≤◌, List, [], ◌∷◌, ◌++◌, Option, refl, ap, sym, ◌∙◌, subst, arith, append_assoc, append-nil, Result, Ok, Err, IfOk, OnOk, OnErr}
 use Rattle.row_codec.specs.declared.values.Value.{Value}
 use Rattle.store_api.specs.declared.op_err.OpErr.{OpErr}
 use Rattle.store_api.specs.declared.op_err.OpErr.TheVariants.{Pool, Sink}
 use Rattle.store_api.specs.declared.shapes.Shape.{Shape}
-use Rattle.store_api.specs.Alike.{Alike, AlikeButClients}
+use Rattle.store_api.specs.Alike.{Alike}
 use Rattle.store_api.specs.Emitters.{CameOf, HasClient, OthersStay, SameFor}
 use Rattle.store_api.specs.Holdings.{Holdings}
 use Rattle.store_api.specs.Signs.{Grows, Signs}
@@ -13,7 +12,7 @@ use Rattle.store_api.proofs.Answered.{answered_before}
 use Rattle.store_api.proofs.Growing.{grows_refl, grows_trans}
 use Rattle.store_api.proofs.Untouched.{others_stay}
 use Rattle.group_rows.specs.Partials.{Partial}
-use Rattle.group_op.specs.Emission.{AdmitsAll, CameInFront, Emitted, EmittedFront, SayAll, Says, Stood}
+use Rattle.group_op.specs.Emission.{Emitted, EmittedFront, SayAll, Says, Stood}
 use Rattle.group_op.specs.Stored.{IsPartialRow, partial_at, values_at}
 
 -- the values of a partial row say it
@@ -143,3 +142,7 @@ on_ok (Err e) more holds = holds
 pub on_err : {A E P Q : Type 0} (r : Result A E) → (P → Q) → OnErr r P → OnErr r Q
 on_err (Ok x) more holds = holds
 on_err (Err e) more holds = more holds
+
+pub if_ok : {A E : Type 0} {P Q : A → Type 0} (r : Result A E) → ((x : A) → P x → Q x) → IfOk r P → IfOk r Q
+if_ok (Ok x) more holds = more x holds
+if_ok (Err e) more holds = holds

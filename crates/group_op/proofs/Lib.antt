@@ -29,3 +29,5 @@ pub mod TakeMore
 pub mod Absorbed
 pub mod Serving
 pub mod Absorbs
+pub mod KeyWalking
+pub mod ReadingBack

@@ -1,5 +1,5 @@
 -- Nodes with their keys, in order.
-use Rattle.std.proofs.Common.{◌≡◌, ◌∙◌, ℕ, suc, ◌+◌, ◌<◌, Bool, true, false, List, [], ◌∷◌, ◌++◌, length, map, reverse, take, get_or, refl, ap, ap₂, sym, subst, arith, append_assoc, true≢false}
+use Rattle.std.proofs.Common.{◌≡◌, ◌∙◌, ℕ, suc, ◌+◌, ◌<◌, false, List, [], ◌∷◌, ◌++◌, length, map, reverse, take, get_or, refl, ap, ap₂, sym, subst, arith, append_assoc, true≢false}
 use Rattle.std.specs.Prelude.{All, slice_index_or}
 use Rattle.std.specs.List.{IsDistinct}
 use Rattle.std.specs.List.Sorted.{IsPermutation, IsSorted, IsStrictlySortedBy}
@@ -12,7 +12,11 @@ use Rattle.std.proofs.lemmas.List.{get_or-map, length-map, map-append}
 use Rattle.std.proofs.lemmas.List.Elements.{All-cons, All-head, All-nil, All-tail}
 use Rattle.std.proofs.lemmas.List.Sorted.{All-permutation, IsPermutation-map, IsPermutation-reverse, IsPermutation-trans}
 use Rattle.std.proofs.lemmas.Map.Keys.{IsDistinct-IsPermutation, apart_from_distinct, sorted_from_all_adjacent}
+use Rattle.std.specs.Cmp.{nat_cmp_is}
+use Rattle.std.specs.Cmp.Lexicographic.{slice_cmp}
+use Rattle.row_codec.specs.KeyInside.{path_number}
 use Rattle.row_codec.specs.Order.{path_order}
+use Rattle.row_codec.proofs.PathNumber.{path_number_order}
 use Rattle.store_api.specs.declared.shapes.Shape.{Shape}
 use Rattle.bucket_table.specs.Tables.{HasNode, Node, Table, row_of}
 use Rattle.group_rows.specs.Partials.{Partial, key_of}
@@ -23,7 +27,7 @@ use Rattle.group_rows.proofs.Keys.{same_true}
 use Rattle.group_rows.proofs.Paths.{path_is_order}
 use Rattle.group_rows.proofs.Tables.{any_order, bytes_equiv}
 use Rattle.group_op.specs.Held.{StandBehind, rows_of}
-use Rattle.group_op.specs.InOrder.{AreInOrder, said_at}
+use Rattle.group_op.specs.InOrder.{AreInOrder, Rises, said_at}
 use Rattle.group_op.specs.Stored.{grouping_of, key_at, partial_at, partials_at}
 use Rattle.group_op.proofs.NodeLists.{from_there, row_there}
 
@@ -127,6 +131,49 @@ module _ (shape : Shape) (table : Table) (stand : StandBehind table.nodes) where
       (IsDistinct-IsPermutation bytes_eq bytes_equiv.symm (map key_of (partials_at shape (rows_of table))) (map key_of (said_at shape table.nodes (map (λ (e : List ℕ × ℕ). e.1) es)))
       (IsPermutation-map key_of (partials_at shape (rows_of table)) (said_at shape table.nodes (map (λ (e : List ℕ × ℕ). e.1) es)) says) distinct) in
       in_order (map (λ (e : List ℕ × ℕ). e.1) es) places (subst (IsStrictlySortedBy path_order) (sym keys) (ascend es sorted apart))
+
+module _ (shape : Shape) (table : Table) (stand : StandBehind table.nodes) where
+  -- a place with the path of its key
+  abbrev IsPathed : ℕ × ℕ → Type 0
+  IsPathed e = e.0 ≡ path_number (key_at shape (row_of e.1 table.nodes))
+
+  abbrev its_key : ℕ × ℕ → List ℕ
+  its_key e = key_at shape (row_of e.1 table.nodes)
+
+  path_less : (a b : List ℕ) → path_number a < path_number b → path_order a b ≡ Less
+  path_less a b less = ap (λ o. ordering_then o (slice_cmp nat_cmp a b)) (sym (path_number_order a b) ∙ sym (nat_cmp_is (path_number a) (path_number b) Less less))
+
+  all_keys : (es : List (ℕ × ℕ)) → map key_of (said_at shape table.nodes (map (λ (e : ℕ × ℕ). e.1) es)) ≡ map its_key es
+  all_keys [] = refl
+  all_keys (e ∷ es) = ap (λ (ks : List (List ℕ)). its_key e ∷ ks) (all_keys es)
+
+  path_places : (ms : List Node) → map (λ (e : ℕ × ℕ). e.1) (map (λ n. (path_number (key_at shape n.row), n.place)) ms) ≡ map (λ n. n.place) ms
+  path_places [] = refl
+  path_places (m ∷ ms) = ap (λ (ps : List ℕ). m.place ∷ ps) (path_places ms)
+
+  path_ascend : (es : List (ℕ × ℕ)) → All IsPathed es → Rises es → IsStrictlySortedBy path_order (map its_key es)
+  path_ascend es all rise =
+      sorted_from_all_adjacent path_is_order.total (map its_key es) [] (λ k inside.
+      let long : length (map its_key es) ≡ length es = length-map es its_key in
+      let here : get_or (map its_key es) k [] ≡ its_key (get_or es k (0, 0)) = get_or-map its_key es k (0, 0) [] (omega (arith, inside, long)) in
+      let next : get_or (map its_key es) (k + 1) [] ≡ its_key (get_or es (k + 1) (0, 0)) = get_or-map its_key es (k + 1) (0, 0) [] (omega (arith, inside, long)) in
+      let a : (get_or es k (0, 0)).0 ≡ path_number (its_key (get_or es k (0, 0))) = all k (0, 0) (omega (arith, inside, long)) in
+      let b : (get_or es (k + 1) (0, 0)).0 ≡ path_number (its_key (get_or es (k + 1) (0, 0))) = all (k + 1) (0, 0) (omega (arith, inside, long)) in
+      let less : (get_or es k (0, 0)).0 < (get_or es (k + 1) (0, 0)).0 = rise k (omega (arith, inside, long)) in
+      ap₂ path_order here next ∙ path_less (its_key (get_or es k (0, 0))) (its_key (get_or es (k + 1) (0, 0))) (omega (arith, a, b, less)))
+
+  -- sorted by path, where no two paths are one
+  pub path_in_order : (es : List (ℕ × ℕ)) → IsPermutation (reverse (map (λ n. (path_number (key_at shape n.row), n.place)) table.nodes)) es → Rises es → AreInOrder shape table (map (λ (e : ℕ × ℕ). e.1) es)
+  path_in_order es moved rise =
+      let plain : IsPermutation (map (λ n. (path_number (key_at shape n.row), n.place)) table.nodes) es =
+      IsPermutation-trans (map (λ n. (path_number (key_at shape n.row), n.place)) table.nodes) (reverse (map (λ n. (path_number (key_at shape n.row), n.place)) table.nodes)) es (IsPermutation-reverse (map (λ n. (path_number (key_at shape n.row), n.place)) table.nodes)) moved in
+      let all : All IsPathed es =
+      All-permutation IsPathed (map (λ n. (path_number (key_at shape n.row), n.place)) table.nodes) es plain
+      (all_map (IsThere table.nodes) IsPathed (λ n. (path_number (key_at shape n.row), n.place)) (λ n is. ap (λ (r : List ℕ). path_number (key_at shape r)) (sym is.row)) table.nodes (all_there shape table stand)) in
+      let places : IsPermutation (map (λ n. n.place) table.nodes) (map (λ (e : ℕ × ℕ). e.1) es) =
+      subst (λ (ps : List ℕ). IsPermutation ps (map (λ (e : ℕ × ℕ). e.1) es)) (path_places table.nodes)
+      (IsPermutation-map (λ (e : ℕ × ℕ). e.1) (map (λ n. (path_number (key_at shape n.row), n.place)) table.nodes) es plain) in
+      in_order shape table stand (map (λ (e : ℕ × ℕ). e.1) es) places (subst (IsStrictlySortedBy path_order) (sym (all_keys es)) (path_ascend es all rise))
 
 -- one more is taken over
 pub seconds_more : {X : Type 0} (es : List (X × ℕ)) (i : ℕ) (d : X × ℕ) → i < length es → map (λ (e : X × ℕ). e.1) (take (i + 1) es) ≡ map (λ (e : X × ℕ). e.1) (take i es) ++ (slice_index_or es i d).1 ∷ []

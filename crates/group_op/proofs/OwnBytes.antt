@@ -1,5 +1,5 @@
 -- The partial row of a row, value by value.
-use Rattle.std.proofs.Common.{◌≡◌, ◌≢◌, ◌∙◌, ℕ, zero, suc, ◌+◌, ◌-◌, ◌*◌, ◌<◌, ◌≤◌, ◌^◌, List, [], ◌∷◌, ◌++◌, length, map, take, drop, Option, Some, None, option_map, refl, ap, ap₂, sym, subst, arith, append_assoc, append-nil, length-append}
+use Rattle.std.proofs.Common.{◌≡◌, ◌∙◌, ℕ, zero, suc, ◌+◌, ◌-◌, ◌*◌, ◌<◌, ◌≤◌, ◌^◌, List, [], ◌∷◌, ◌++◌, length, map, take, drop, Option, Some, None, option_map, refl, ap, ap₂, sym, subst, arith, append_assoc, append-nil, length-append}
 use Rattle.std.specs.Prelude.{ℤ, All, flat_map, filter_map, slice_get, slice_index_or}
 use Rattle.std.specs.Int.{w32, to_be_bytes}
 use Rattle.std.specs.List.{cons_option}
@@ -19,10 +19,10 @@ use Rattle.store_api.specs.declared.shapes.Shape.{Shape}
 use Rattle.store_api.specs.Shapes.{IsKeyColumn, IsShape}
 use Rattle.group_rows.specs.Aggregates.{own_number}
 use Rattle.group_rows.specs.Partials.{partial_of}
-use Rattle.group_rows.specs.Rows.{HasKeyColumns, partial_in, partial_row}
+use Rattle.group_rows.specs.Rows.{partial_in, partial_row}
 use Rattle.group_rows.proofs.Lengths.{fits_weight}
 use Rattle.group_rows.proofs.RowsBack.{reads_back}
-use Rattle.group_op.specs.Stored.{IsPartialRow, grouping_of, key_at, key_kinds, own_bytes, partial_at, values_at}
+use Rattle.group_op.specs.Stored.{IsPartialRow, grouping_of, key_kinds, own_bytes, partial_at, values_at}
 use Rattle.group_op.proofs.Forms.{partial_so, read_so}
 use Rattle.group_op.proofs.Heads.{field_fits, full_keys}
 
@@ -77,8 +77,7 @@ framed_so shape row a b c four is_b is_c =
     ∙ ap (λ (bytes : List ℕ). a ++ bytes) (sym (flat_map-append field_bytes (values_in shape.keys row) (map (λ agg. Wide (own_number agg row)) shape.aggs))) in
     let long : length c ≡ 4 + length body = (let same = ap length both in let all = length-append a body in omega (arith, same, all, four)) in
     let rest : drop 4 c ≡ body = ap (drop 4) both ∙ ap (λ (n : ℕ). drop n (a ++ body)) (sym four) ∙ drop-append_seam a body in
-    let less : length c - 4 ≡ length body = omega (arith, long) in
-    (
+    let less : length c - 4 ≡ length body = omega (arith, long) in (
       ap (λ (n : ℕ). to_be_bytes w32 n ++ drop 4 c) less ∙ ap (λ (bytes : List ℕ). to_be_bytes w32 (length body) ++ bytes) rest,
       long ∙ sym (length-append (to_be_bytes w32 (length body)) body),
     )

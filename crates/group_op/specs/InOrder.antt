@@ -1,5 +1,5 @@
 -- The nodes of a table in the order of their keys.
-use Rattle.std.specs.Prelude.{◌≡◌, ℕ, List, All, map}
+use Rattle.std.specs.Prelude.{◌≡◌, ℕ, ◌+◌, ◌<◌, List, All, length, map, slice_index_or}
 use Rattle.store_api.specs.declared.shapes.Shape.{Shape}
 use Rattle.bucket_table.specs.Tables.{HasNode, Node, Table, row_of}
 use Rattle.group_rows.specs.Partials.{Partial, combined_of}
@@ -18,3 +18,7 @@ groups_in shape table = combined_of (grouping_of shape) (partials_at shape (rows
 pub record AreInOrder (shape : Shape) (table : Table) (places : List ℕ) : Type 0 where
   pub each : All (λ place. HasNode place table.nodes) places
   pub say : said_at shape table.nodes places ≡ groups_in shape table
+
+-- each first number is below the next one
+abbrev pub Rises : List (ℕ × ℕ) → Type 0
+Rises es = (k : ℕ) → k + 1 < length es → (slice_index_or es k (0, 0)).0 < (slice_index_or es (k + 1) (0, 0)).0

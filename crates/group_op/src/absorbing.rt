@@ -13,7 +13,7 @@ ghost use Rattle.group_op.specs.Stored.{IsPartialRow, key_at};
 
 use crate::flushing::{Fan, Spare};
 use crate::putting::{put, put_here};
-use crate::stored::key_of_partial;
+use crate::keying::key_of_partial;
 use bucket_table::BucketTable;
 use partition_stack::Partitions;
 use reservation_tree::PoolErr;
@@ -131,7 +131,7 @@ fn key_of<St: Store>(
     if fed.row.len() as u64 > len {
         return Err(PoolErr::Memory);
     }
-    let Ok(true) = key_of_partial(alloc, &fed.row, shape, &mut fed.key) else {
+    let Ok(true) = key_of_partial(&fed.row, shape, &mut fed.key) else {
         return Err(PoolErr::Memory);
     };
     Ok(hash64(&fed.key))

@@ -1,30 +1,23 @@
 //! The rows of a table go to an emitter, in the order of their keys.
 ghost use Rattle.std.specs.Prelude.{◌≡◌, ℕ, [], ◌∷◌, All, IfErr, List, OnErr, OnOk};
 ghost use Rattle.row_codec.specs.declared.values.Value.{Value};
+ghost use Rattle.row_codec.specs.RowReading.{row_at};
 ghost use Rattle.store_api.specs.Emitters.{CameOf, HasClient};
 ghost use Rattle.bucket_table.specs.Tables.{HasNode, row_of};
 ghost use Rattle.group_rows.specs.Tables.{HaveDistinctKeys};
 ghost use Rattle.group_op.specs.Emission.{AdmitsAll, Emitted, EmittedFront, Stood};
 ghost use Rattle.group_op.specs.Held.{AreEntries, rows_of};
 ghost use Rattle.group_op.specs.InOrder.{groups_in, said_at};
-ghost use Rattle.group_op.specs.Stored.{IsPartialRow, partial_at, partials_at, values_at};
+ghost use Rattle.group_op.specs.Stored.{IsPartialRow, partial_at, partial_kinds, partials_at, values_read};
 
 use crate::ordering::places_in_order;
-use crate::stored::values_of;
+use crate::reading::{Reading, decode_into};
+use crate::stored::kinds_of;
 use bucket_table::BucketTable;
 use reservation_tree::PoolErr;
-use row_codec::{Memory, Value};
+use row_codec::{Kind, Memory};
 use std::alloc::Global;
 use store_api::{Emit, OpErr, Shape, Store};
-
-// Memory that each row takes again.
-#[derive(Drop)]
-struct Reading {
-    // A row's bytes.
-    row: Vec<u8>,
-    // Its values.
-    values: Vec<Value>,
-}
 
 // Hands the rows of the table on, one for each key, in the order of the keys.
 pub(crate) fn emit_table<St: Store, E: Emit<St>>(
@@ -69,12 +62,12 @@ fn emit_places<St: Store, E: Emit<St>>(
     ensures cause { IfErr result (CameOf (E.faults emit.old) (E.faults emit.new) (St.signs store.old) (St.signs store.new)) }
     ensures stood { Stood (E.admits emit.old) (E.admits emit.new) (E.client emit.old) (E.client emit.new) (E.faults emit.old) (E.faults emit.new) (St.holds store.old) (St.holds store.new) (St.signs store.old) (St.signs store.new) }
 {
-    let mut spare = Reading {
-        row: Vec::new(alloc),
-        values: Vec::new(alloc),
+    let Ok(kinds) = kinds_of(alloc, shape) else {
+        return Err(OpErr::Pool(PoolErr::Memory));
     };
+    let mut spare = Reading::new(alloc);
     for place in places {
-        emit_place(alloc, store, emit, shape, table, *place, &mut spare)?;
+        emit_place(alloc, store, emit, shape, table, *place, &kinds, &mut spare)?;
     }
     Ok(())
 }
@@ -87,8 +80,10 @@ fn emit_place<St: Store, E: Emit<St>>(
     shape: &Shape,
     table: &BucketTable,
     place: u32,
+    kinds: &[Kind],
     spare: &mut Reading,
 ) -> Result<(), OpErr>
+    requires kinds { kinds.now ≡ partial_kinds shape.now }
     requires node { HasNode place table.now.nodes }
     requires formed { IsPartialRow shape.now (row_of place table.now.nodes) }
     requires admits { AdmitsAll shape.now (E.admits emit.old) (partial_at shape.now (row_of place table.now.nodes) ∷ []) }
@@ -99,30 +94,34 @@ fn emit_place<St: Store, E: Emit<St>>(
     ensures cause { IfErr result (CameOf (E.faults emit.old) (E.faults emit.new) (St.signs store.old) (St.signs store.new)) }
     ensures stood { Stood (E.admits emit.old) (E.admits emit.new) (E.client emit.old) (E.client emit.new) (E.faults emit.old) (E.faults emit.new) (St.holds store.old) (St.holds store.new) (St.signs store.old) (St.signs store.new) }
 {
-    let Ok(()) = read_place(alloc, shape, table, place, spare) else {
+    let Ok(()) = read_place(alloc, table, place, kinds, spare) else {
         return Err(OpErr::Pool(PoolErr::Memory));
     };
     emit.row(store, &spare.values)
 }
 
-// Reads the values of a row.
+// Reads the values of a row of these kinds.
 fn read_place(
     alloc: Global,
-    shape: &Shape,
     table: &BucketTable,
     place: u32,
+    kinds: &[Kind],
     spare: &mut Reading,
 ) -> Result<(), Memory>
-    requires node { HasNode place table.now.nodes }
-    requires formed { IsPartialRow shape.now (row_of place table.now.nodes) }
-    ensures { OnOk result (spare.new.values.items ≡ values_at shape.now (row_of place table.now.nodes)) }
+    requires { HasNode place table.now.nodes }
+    ensures { OnOk result (spare.new.values.items ≡ values_read (row_at kinds.now (row_of place table.now.nodes))) }
 {
     let Ok(()) = table.row_at(place, &mut spare.row) else {
         return Err(Memory);
     };
-    let Some(values) = values_of(alloc, &spare.row, shape)? else {
+    if !decode_into(
+        alloc,
+        kinds,
+        &spare.row,
+        &mut spare.values,
+        &mut spare.texts,
+    )? {
         return Err(Memory);
-    };
-    spare.values = values;
+    }
     Ok(())
 }

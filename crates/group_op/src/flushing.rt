@@ -1,5 +1,5 @@
 //! The rows of a table go to partitions.
-ghost use Rattle.std.specs.Prelude.{◌≡◌, ℕ, ◌+◌, ◌<◌, ◌≤◌, length, OnOk, IfErr};
+ghost use Rattle.std.specs.Prelude.{◌+◌, ◌<◌, ◌≤◌, length, OnOk, IfErr};
 ghost use Rattle.store_api.specs.Conditions.{IsLiveClient};
 ghost use Rattle.store_api.specs.Holdings.{length_of};
 ghost use Rattle.store_api.specs.Signs.{WasAnswered};
@@ -7,13 +7,13 @@ ghost use Rattle.tuple_stream.specs.Families.{AreShaped};
 ghost use Rattle.tuple_stream.specs.FamilyCalls.{AllAtEnd, Feeds};
 ghost use Rattle.tuple_stream.specs.Steps.{came};
 ghost use Rattle.tuple_stream.specs.Touches.{IsFull};
-ghost use Rattle.partition_stack.specs.Stack.{HasRoomFrom, RestBelow, over};
+ghost use Rattle.partition_stack.specs.Stack.{HasRoomFrom, over};
 ghost use Rattle.partition_stack.specs.Changes.{ChangesAt};
 ghost use Rattle.group_op.specs.Held.{AreEntries, IsHeld, page_len, state};
 ghost use Rattle.group_op.specs.Putting.{HasFlushed, IsFan, Works};
 ghost use Rattle.group_op.specs.Stored.{IsPartialRow, place_of};
 
-use crate::stored::key_of_partial;
+use crate::keying::key_of_partial;
 use bucket_table::BucketTable;
 use partition_stack::Partitions;
 use reservation_tree::PoolErr;
@@ -108,7 +108,7 @@ fn send<St: Store>(
     ensures cause { IfErr result (λ e. WasAnswered e (St.signs store.old) (St.signs store.new)) }
     ensures full { IfErr result (IsFull parts.old.page_blocks (St.holds store.new).free_slots) }
 {
-    let Ok(true) = key_of_partial(alloc, &spare.row, shape, &mut spare.key) else {
+    let Ok(true) = key_of_partial(&spare.row, shape, &mut spare.key) else {
         return Err(PoolErr::Memory);
     };
     let at = fan.base + (15 - nibble(hash64(&spare.key), fan.level) as usize);

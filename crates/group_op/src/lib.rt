@@ -2,8 +2,8 @@
 //!
 //! Model: a partial row stands as an encoded row, its key's values and then one number an aggregate. The rows in a table and
 //! in the partitions together, combined key by key, are those that were put, in any order and in any parts.
-//! What is here is what each movement of partial rows keeps: into the entry of their key, as a new entry, and from the
-//! table to the sixteen partitions of a level.
+//! What is here is what each movement of partial rows keeps: into the entry of their key, as a new entry, from the
+//! table to the sixteen partitions of a level, and from the table to an emitter, in the order of the keys.
 #![tactic(auto)]
 
 mod absorbing;
@@ -14,10 +14,12 @@ mod finishing;
 mod flushing;
 mod growing;
 mod joining;
+mod keying;
 mod operator;
 mod ordering;
 mod own_row;
 mod putting;
+mod reading;
 mod spelling;
 mod stored;
 

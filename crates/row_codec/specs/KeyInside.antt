@@ -1,4 +1,4 @@
--- The number that a key keeps beside its bytes. Nothing that a caller sees speaks of it.
+-- The path of a key as one number, which a key that is kept has beside its bytes.
 use Rattle.std.specs.Prelude.{ℕ, ◌+◌, ◌*◌, List, fold}
 use Rattle.row_codec.specs.Order.{path_of}
 

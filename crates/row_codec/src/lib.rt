@@ -21,7 +21,7 @@ mod values;
 pub use byte_list::Bytes;
 pub use keys::key_bytes;
 pub use laws::law_row_back;
-pub use order::{hash64, nibble, path_cmp};
+pub use order::{hash64, nibble, path_cmp, path_number};
 pub use path_key::PathKey;
 pub use reading::decode_row;
 pub use shortage::Memory;

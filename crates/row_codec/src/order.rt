@@ -33,10 +33,11 @@ pub fn nibble(hash: u64, level: u32) -> u32
     ((hash >> (4 * level)) % 16) as u32
 }
 
-/// The nibbles of a key's hash turned round, so that level 0 is the most significant.
+/// The path of a key as one number: the nibbles of its hash turned round, so that level 0 is the
+/// most significant.
 #[inline]
 #[tactic(auto, unfolding(crate::specs::Order::path_of))]
-pub(crate) fn path_number(key: &[u8]) -> u64
+pub fn path_number(key: &[u8]) -> u64
     ensures number { result ≡ path_number key.now }
 {
     let hash = hash64(key);

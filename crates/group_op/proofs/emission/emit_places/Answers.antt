@@ -1,4 +1,4 @@
-use Rattle.std.proofs.Common.{rules, ◌≡◌, ℕ, suc, [], ◌∷◌, ◌++◌, ◌≤◌, length, take, drop, ap, sym, ◌∙◌, subst, arith, List}
+use Rattle.std.proofs.Common.{rules, suc, [], ◌∷◌, ◌++◌, ◌≤◌, length, drop, sym, subst, List}
 use Rattle.std.specs.Prelude.{slice_index_or}
 use Rattle.std.proofs.lemmas.List.{take_all}
 use Rattle.row_codec.specs.declared.values.Value.{Value}
@@ -8,10 +8,13 @@ use Rattle.group_rows.specs.Partials.{Partial}
 use Rattle.group_op.specs.Emission.{Emitted, EmittedFront, Says}
 use Rattle.group_op.specs.InOrder.{said_at}
 use Rattle.group_op.specs.Stored.{partial_at}
-use Rattle.group_op.proofs.Emitting.{came_behind, emitted_behind, emitted_none, front_behind, stood_more, stood_none}
+use Rattle.group_op.proofs.Emitting.{came_behind, emitted_behind, emitted_none, front_behind, front_none, stood_more, stood_none}
 use Rattle.group_op.proofs.Finding.{entry_row}
 use Rattle.group_op.proofs.Saying.{all_one, said_more, said_split, said_there}
 use Rattle.group_op.proofs.emission.emit_places.Goals as goal
+
+pub returns-in_default-clause-err : goal.returns-in_default-clause-err
+returns-in_default-clause-err g c = front_none _ _ _
 
 pub loop-place-init : goal.loop-place-init
 loop-place-init g c =
@@ -64,7 +67,7 @@ pub loop-place-preserved : goal.loop-place-preserved
 loop-place-preserved g c =
     record {
       emitted = subst (Emitted c.args.shape.now _ _) (sym (said_more c.args.shape.now c.args.table.now.nodes c.args.places.now c.loop-place.place-index c.loop-place-test.true))
-        (emitted_behind _ _ _ _ _ c.loop-place.invariant.emitted _ c.in_ok-emit_place.ensures.ok);
+          (emitted_behind _ _ _ _ _ c.loop-place.invariant.emitted _ c.in_ok-emit_place.ensures.ok);
       stood = stood_more _ _ _ _ _ _ _ _ _ _ _ _ _ _ _ c.loop-place.invariant.stood c.emit_place.ensures.stood;
     }
 

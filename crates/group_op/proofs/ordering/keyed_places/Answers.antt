@@ -1,8 +1,8 @@
-use Rattle.std.proofs.Common.{rules, ◌≡◌, ℕ, ◌∷◌, [], ◌++◌, Some, true≢false, ap, ap₂, sym, ◌∙◌, subst, arith, List}
-use Rattle.bucket_table.specs.Tables.{HasNode, Node, row_of, newer_than}
+use Rattle.std.proofs.Common.{◌≡◌, ℕ, Some, true≢false, ap, ap₂, sym, ◌∙◌, subst, arith, List}
+use Rattle.bucket_table.specs.Tables.{newer_than}
 use Rattle.group_op.specs.Stored.{IsPartialRow, key_at}
 use Rattle.group_op.proofs.Finding.{entry_row}
-use Rattle.group_op.proofs.Gathered.{HasGone, gone_all, gone_has, gone_less, gone_more, gone_none, gone_place, gone_row, last}
+use Rattle.group_op.proofs.Gathered.{HasGone, gone_all, gone_has, gone_less, gone_more, gone_place, gone_row, last}
 use Rattle.group_op.proofs.NodeLists.{left_from}
 use Rattle.group_op.proofs.ordering.keyed_places.Goals as goal
 

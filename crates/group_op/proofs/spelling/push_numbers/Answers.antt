@@ -1,7 +1,7 @@
-use Rattle.std.proofs.Common.{◌≡◌, ◌++◌, ◌≤◌, length, map, ap, sym, subst, ◌∙◌, rules, SFits}
+use Rattle.std.proofs.Common.{◌++◌, map, ap, ◌∙◌, rules, SFits}
 use Rattle.std.specs.Int.{w128}
 use Rattle.std.proofs.lemmas.Int.{to_z-of_z}
-use Rattle.std.specs.Prelude.{flat_map, slice_index_or}
+use Rattle.std.specs.Prelude.{flat_map}
 use Rattle.std.proofs.lemmas.List.{take_all}
 use Rattle.row_codec.specs.declared.values.Agg.TheVariants.{Count}
 use Rattle.row_codec.specs.declared.values.Value.TheVariants.{Wide}

@@ -1,4 +1,4 @@
-use Rattle.std.proofs.Common.{◌≡◌, ◌∙◌, ◌++◌, ◌-◌, ◌<◌, ◌^◌, ℕ, List, [], ◌∷◌, length, map, drop, ap, sym, subst, arith, append_assoc}
+use Rattle.std.proofs.Common.{◌≡◌, ◌∙◌, ◌++◌, ◌<◌, ℕ, List, [], ◌∷◌, length, map, ap, sym, subst, arith}
 use Rattle.std.specs.Prelude.{All, flat_map}
 use Rattle.row_codec.specs.declared.values.Agg.{Agg}
 use Rattle.row_codec.specs.declared.values.Value.TheVariants.{Wide}
