@@ -12,6 +12,7 @@ pub mod InBlocks
 pub mod InLoans
 pub mod Inserted
 pub mod Lent
+pub mod Lengths
 pub mod LookedUp
 pub mod Marks
 pub mod Nodes
