@@ -27,6 +27,8 @@ enum Step {
     Write(u64, u8),
     // Raises the number behind the count of the newest row on a chain: its last byte, or 0 where there is none.
     Raise(u64),
+    // Adds two to that number: 1, or 0 where there is none.
+    Add(u64),
     // Whether five of these bytes stand behind the count of the newest row on a chain.
     Shows(u64, u8),
     // The place of the newest node on a chain with five of these bytes behind its row's count.
@@ -145,6 +147,16 @@ fn raise_at(table: &mut BucketTable, node: u32) -> u8
     (number % 256) as u8
 }
 
+// Adds two to that number by one call, where the row has one.
+fn add_at(table: &mut BucketTable, node: u32)
+    requires { HasNode node table.old.nodes }
+    ensures { table.new ≡ with_nodes table.new.nodes table.old }
+{
+    if table.row_len(node) >= 20 {
+        table.change_number_at(node, 4, |number| number.wrapping_add(2));
+    }
+}
+
 // What one step shows.
 fn take_step(alloc: Global, table: &mut BucketTable, step: Step) -> Result<Shown, PoolErr>
     ensures { table.new ≡ with_nodes table.new.nodes table.old }
@@ -165,6 +177,13 @@ fn take_step(alloc: Global, table: &mut BucketTable, step: Step) -> Result<Shown
         },
         Step::Raise(hash) => match table.find_first(hash) {
             Some(node) => one(alloc, raise_at(table, node)),
+            None => one(alloc, 0),
+        },
+        Step::Add(hash) => match table.find_first(hash) {
+            Some(node) => {
+                add_at(table, node);
+                one(alloc, 1)
+            }
             None => one(alloc, 0),
         },
         Step::Shows(hash, fill) => match table.find_first(hash) {
@@ -385,13 +404,17 @@ fn mixed_rows_are_found_where_they_straddle(rt: HostRuntime) -> Result<(), Fail>
     expect(&rt, rt.alloc(), &MIXED, Shape::Wide)
 }
 
-const ON_NEW_CHAINS: [(Step, &[u8]); 6] = [
+const ON_NEW_CHAINS: [(Step, &[u8]); 9] = [
     (Step::Find(20), &[4, 3, 1]),
     (Step::Find(4), &[2]),
     (Step::Walk, &[1, 2, 3, 4]),
     (Step::Look(20, 3), &[64]),
-    (Step::Insert(36, 20, 5), &[1]),
+    (Step::Insert(36, 25, 5), &[1]),
     (Step::Find(4), &[5, 2]),
+    // this node's number straddles two blocks
+    (Step::Insert(5, 20, 7), &[1]),
+    (Step::Add(5), &[1]),
+    (Step::Raise(5), &[10]),
 ];
 
 #[test]
