@@ -1,8 +1,8 @@
 -- What is written in one block of a buffer, in the list of the bytes of all its blocks.
-use Rattle.std.proofs.Common.{◌≡◌, ℕ, ◌+◌, ◌-◌, ◌*◌, ◌/◌, ◌%◌, ◌<◌, ◌≤◌, List, ◌++◌, take, drop, length, refl, ap, sym, ◌∙◌, arith, slice_range}
+use Rattle.std.proofs.Common.{◌≡◌, ℕ, ◌+◌, ◌-◌, ◌*◌, ◌/◌, ◌%◌, ◌<◌, ◌≤◌, List, ◌++◌, take, drop, length, refl, ap, sym, ◌∙◌, arith}
 use Rattle.std.proofs.lemmas.Nat.{div-add-mod'}
 use Rattle.std.proofs.lemmas.List.{drop-drop, length-drop, length-take, take-append-drop}
-use Rattle.block_arena.specs.Bytes.{fitted, written}
+use Rattle.block_arena.specs.Bytes.{written}
 use Rattle.block_arena.specs.Memory.{Buffer, block_of, with_block, with_bytes}
 use Rattle.block_arena.proofs.Copies.{length-written}
 use Rattle.block_arena.proofs.Pieces.{fitted_whole}

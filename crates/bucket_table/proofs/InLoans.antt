@@ -11,9 +11,9 @@ pub record Wrote (blocks block_len len at index : ℕ) (loans : List LoanToken) 
   pub parts : AreParts blocks block_len len (set loans index (with_buf loan buf))
   pub region :
       (
-        let now : Region = record { blocks = blocks; block_len = block_len; loans = map lent (set loans index (with_buf loan buf)); bytes = area_of (set loans index (with_buf loan buf)) } in
-        let wrote : Region = record { blocks = blocks; block_len = block_len; loans = map lent loans; bytes = written at piece (area_of loans) } in
-        now ≡ wrote
+      let now : Region = record { blocks = blocks; block_len = block_len; loans = map lent (set loans index (with_buf loan buf)); bytes = area_of (set loans index (with_buf loan buf)) } in
+      let wrote : Region = record { blocks = blocks; block_len = block_len; loans = map lent loans; bytes = written at piece (area_of loans) } in
+      now ≡ wrote
       )
 
 -- so many bytes from a place on lie in one block of a loan

@@ -1,5 +1,5 @@
 -- The lengths of blocks and of buffers are powers of two.
-use Rattle.std.proofs.Common.{◌≡◌, ℕ, ◌+◌, ◌*◌, ◌^◌, ◌==◌, List, [], ◌∷◌, map, IsTrue, ap, sym, ◌∙◌, inl, inr}
+use Rattle.std.proofs.Common.{ℕ, ◌+◌, ◌*◌, ◌^◌, ◌==◌, List, [], ◌∷◌, map, IsTrue, ap, sym, ◌∙◌, inl, inr}
 use Rattle.std.proofs.lemmas.Nat.{pow-add}
 use Rattle.std.specs.Int.{IsPowerOfTwo}
 use Rattle.std.specs.List.{list_any}
@@ -27,8 +27,7 @@ block_power len is = power_of_two len is
 pub buffer_power : (blocks len : ℕ) → IsBlockCount blocks → IsBlockLen len → IsPowerOfTwo (blocks * len)
 buffer_power blocks len sized is =
     let many = count_power blocks sized in
-    let each = power_of_two len is in
-    (
+    let each = power_of_two len is in (
       many.0 + each.0,
       ap (λ (n : ℕ). n * len) many.1 ∙ ap (λ (n : ℕ). 2 ^ many.0 * n) each.1 ∙ sym (pow-add 2 many.0 each.0),
     )

@@ -1,4 +1,4 @@
-use Rattle.std.proofs.Common.{◌≡◌, ◌≤◌, ◌+◌, ◌%◌, ℕ, List, length, refl, sym, subst, arith}
+use Rattle.std.proofs.Common.{◌≤◌, ◌+◌, ◌%◌, ℕ, List, length, refl, sym, subst, arith}
 use Rattle.std.specs.Int.{w128, to_be_bytes}
 use Rattle.row_codec.specs.RowReading.{number_in}
 use Rattle.bucket_table.specs.Regions.{area_of}
@@ -39,8 +39,7 @@ returns g c =
     let within : c.args.at + 16 ≤ length (area_of t.parts.items) = rw (← c.self.view_is) at c.requires.inside in
     let one : 16 + c.args.at % t.each.len % t.block.len ≤ t.block.len = rw (c.self.invariant.each) (rw (← c.self.view_is) at c.requires.one) in
     let is = in_loan t.blocks t.block.len t.each.len c.args.at c.part.result c.place.result 16 t.parts.items c.index_mut-part.result.now c.buf_mut.result.now c.self.invariant t.block.some (omega arith) within c.part.ensures c.place.ensures.value c.place.ensures.below c.index_mut-part.ensures.value c.buf_mut.ensures.value one in
-    rw (← c.self.view_is)
-    (
+    rw (← c.self.view_is) (
       c.change_in.ensures.0,
       subst (λ (bytes : List ℕ). goal.F-post g c.args.change (number_in bytes) c.change_in.ensures.0) is.same c.change_in.ensures.1,
       (is.wrote (to_be_bytes w128 c.change_in.ensures.0) c.change_in.new.buf refl c.change_in.ensures.2).region,

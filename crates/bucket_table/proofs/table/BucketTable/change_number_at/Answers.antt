@@ -1,4 +1,4 @@
-use Rattle.std.proofs.Common.{◌≡◌, ◌≤◌, ◌+◌, ℕ, List, length, refl, sym, subst, arith}
+use Rattle.std.proofs.Common.{◌≤◌, ◌+◌, ℕ, List, length, refl, sym, subst, arith}
 use Rattle.std.specs.Int.{w128, to_be_bytes}
 use Rattle.row_codec.specs.RowReading.{number_in}
 use Rattle.bucket_table.specs.Tables.{HasNode, row_of}
@@ -55,8 +55,7 @@ returns g c =
     let framed = number_framed c.args.at number (row_of p nodes) is.framed c.requires.behind wide in
     let now = rewritten_table t.chains.len t.used p c.args.at t.heads.bytes t.nodes.bytes (to_be_bytes w128 number) _ c.self.invariant.table has refl wide framed in
     let part = part_there p c.args.at 16 _ _ t.nodes.bytes is wide in
-    rw (← c.self.view_is)
-    (
+    rw (← c.self.view_is) (
       number,
       subst (λ (bytes : List ℕ). goal.F-post g c.args.change (number_in bytes) number) (sym part) c.change_wide.ensures.1,
       view_now t.chains.len t.heads t.nodes t.heads c.change_wide.new.self t.heads.bytes _ _ refl c.change_wide.ensures.2 now.2 now.1,
