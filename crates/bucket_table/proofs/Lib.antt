@@ -8,8 +8,11 @@ pub mod Filled
 pub mod Grown
 pub mod Heads
 pub mod Held
+pub mod InBlocks
+pub mod InLoans
 pub mod Inserted
 pub mod Lent
+pub mod Lengths
 pub mod LookedUp
 pub mod Marks
 pub mod Nodes

@@ -7,6 +7,7 @@
 #![tactic(auto)]
 
 mod area;
+mod chains;
 mod finding;
 mod full;
 mod growing;

@@ -1,5 +1,6 @@
 //! Loans come to an area, and go back to their store.
 ghost use Rattle.std.specs.Prelude.{◌≡◌, ◌+◌, ◌*◌, ◌^◌, ◌<◌, ◌≤◌, ℕ, [], length, IfErr, OnOk, OnErr};
+ghost use Rattle.block_arena.specs.Blocks.{IsBlockLen};
 ghost use Rattle.store_api.specs.Alike.{Alike};
 ghost use Rattle.store_api.specs.Conditions.{IsBlockCount, IsLiveClient};
 ghost use Rattle.store_api.specs.Holdings.{length_of, unused_of};
@@ -17,7 +18,8 @@ use store_api::{Client, Store};
 impl Area {
     // No loans yet. Each will have so many blocks of this length.
     pub(crate) fn empty(alloc: Global, blocks: u32, block_len: u32) -> Area
-        requires { 0 < blocks * block_len }
+        requires blocks { IsBlockCount blocks }
+        requires block_len { IsBlockLen block_len }
         ensures { result ≡ record { blocks = blocks; block_len = block_len; loans = []; bytes = [] } }
     {
         Area {

@@ -11,7 +11,7 @@ ghost use Rattle.bucket_table.specs.Threads.{table_of};
 ghost use Rattle.bucket_table.specs.Tables.{with_nodes};
 
 use crate::area::Area;
-use crate::stride::Stride;
+use crate::chains::Chains;
 use crate::table::BucketTable;
 use reservation_tree::PoolErr;
 use std::alloc::Global;
@@ -64,7 +64,7 @@ impl BucketTable {
         requires block_len { heads.block_len ≡ nodes.block_len }
         ensures { result ≡ with_nodes [] (table_of (length heads.bytes / 4) heads nodes) }
     {
-        let chains = Stride::of(heads.len() / 4);
+        let chains = Chains::of(heads.len() / 4);
         let _nodes = nodes.len();
         BucketTable {
             heads,

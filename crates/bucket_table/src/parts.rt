@@ -1,5 +1,5 @@
 //! Parts of a row, where they stand. A look takes no memory and copies nothing but sixteen bytes.
-ghost use Rattle.std.specs.Prelude.{◌≡◌, ◌+◌, ◌≤◌, ◌↔◌, true, length};
+ghost use Rattle.std.specs.Prelude.{◌≡◌, ◌+◌, ◌≤◌, ◌↔◌, ℕ, true, length};
 ghost use Rattle.row_codec.specs.RowReading.{number_in};
 ghost use Rattle.bucket_table.specs.Tables.{HasNode, part_of, row_of, with_nodes, with_number, with_row};
 
@@ -42,5 +42,17 @@ impl BucketTable {
         ensures { self.new ≡ with_nodes (with_row node (with_number at value (row_of node self.old.nodes)) self.old.nodes) self.old }
     {
         self.nodes.set_wide(node as usize + 4 + at, value);
+    }
+
+    /// Makes of the number that sixteen bytes of the row of a node spell, from a place in it on, what a call gives of it.
+    #[inline]
+    pub fn change_number_at<F: FnOnce(u128) -> u128>(&mut self, node: u32, at: usize, change: F)
+        requires node { HasNode node self.old.nodes }
+        requires behind { 4 ≤ at }
+        requires inside { at + 16 ≤ length (row_of node self.old.nodes) }
+        requires call { F.pre change (number_in (part_of at 16 (row_of node self.old.nodes))) }
+        ensures { (number : ℕ) × F.post change (number_in (part_of at 16 (row_of node self.old.nodes))) number × (self.new ≡ with_nodes (with_row node (with_number at number (row_of node self.old.nodes)) self.old.nodes) self.old) }
+    {
+        self.nodes.change_wide(node as usize + 4 + at, change);
     }
 }

@@ -1,44 +1,27 @@
-//! A length to divide by. By a power of two a place is divided without a division.
-ghost use Rattle.std.specs.Prelude.{◌≡◌, ◌^◌, ◌/◌, ◌%◌, ◌<◌, true};
+//! A length to divide by, a power of two, so that a place is divided without a division.
+ghost use Rattle.std.specs.Prelude.{◌≡◌, ◌^◌, ◌/◌, ◌%◌, ◌<◌};
+ghost use Rattle.std.specs.Int.{IsPowerOfTwo};
 
-/// A length, of which it is known whether it is a power of two.
+/// A length that is a power of two.
 #[derive(Clone, Copy)]
 pub(crate) struct Stride {
     len: usize,
     shift: u32,
-    even: bool,
     ghost some: { 0 < len },
     ghost below: { shift < 64 },
-    ghost power: { even ≡ true → len ≡ 2 ^ shift },
-}
-
-// The divisions stand in functions of their own, so that the callers' code stays short.
-#[inline(never)]
-fn quotient(at: usize, len: usize) -> usize
-    requires { 0 < len }
-    ensures { result ≡ at / len }
-{
-    at / len
-}
-
-#[inline(never)]
-fn remainder(at: usize, len: usize) -> usize
-    requires { 0 < len }
-    ensures value { result ≡ at % len }
-    ensures below { result < len }
-{
-    at % len
+    ghost power: { len ≡ 2 ^ shift },
 }
 
 impl Stride {
     /// The length of `len` bytes.
     pub(crate) fn of(len: usize) -> Stride
-        requires { 0 < len }
+        requires { IsPowerOfTwo len }
         ensures { result.len ≡ len }
     {
-        let shift = len.ilog2();
-        let even = len == 1 << shift;
-        Stride { len, shift, even }
+        Stride {
+            len,
+            shift: len.ilog2(),
+        }
     }
 
     /// The length.
@@ -55,11 +38,7 @@ impl Stride {
     pub(crate) fn part(self, at: usize) -> usize
         ensures { result ≡ at / self.len }
     {
-        if self.even {
-            at >> self.shift
-        } else {
-            quotient(at, self.len)
-        }
+        at >> self.shift
     }
 
     /// The place of `at` behind the last whole length.
@@ -68,10 +47,6 @@ impl Stride {
         ensures value { result ≡ at % self.len }
         ensures below { result < self.len }
     {
-        if self.even {
-            at & (self.len - 1)
-        } else {
-            remainder(at, self.len)
-        }
+        at & (self.len - 1)
     }
 }

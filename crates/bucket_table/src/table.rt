@@ -3,7 +3,7 @@ ghost use Rattle.std.specs.Prelude.{◌≡◌, ◌<◌, ◌≤◌, ◌+◌, ◌�
 ghost use Rattle.bucket_table.specs.Tables.{HasNode, row_of, used_by};
 
 use crate::area::Area;
-use crate::stride::Stride;
+use crate::chains::Chains;
 use std::marker::Model;
 
 /// A hash table in loans of a store.
@@ -13,7 +13,7 @@ pub struct BucketTable {
     pub(crate) heads: Area,
     pub(crate) nodes: Area,
     pub(crate) used: usize,
-    pub(crate) chains: Stride,
+    pub(crate) chains: Chains,
 }
 
 impl Model for BucketTable {

@@ -6,7 +6,7 @@ ghost use Rattle.store_api.specs.Holdings.{unused_of};
 ghost use Rattle.bucket_table.specs.Tables.{HasNode, IsFramed, with_nodes};
 
 use crate::{BucketTable, RowHash};
-use reservation_tree::PoolErr;
+use reservation_tree::{Memory, PoolErr};
 use std::alloc::Global;
 use std::process::Abort;
 use std::test::Fail;
@@ -26,7 +26,7 @@ enum Step {
     // Fills the newest row on a chain with this byte: 1, or 0 where there is none.
     Write(u64, u8),
     // Raises the number behind the count of the newest row on a chain: its last byte, or 0 where there is none.
-    Raise(u64),
+    Raise(u64, u8),
     // Whether five of these bytes stand behind the count of the newest row on a chain.
     Shows(u64, u8),
     // The place of the newest node on a chain with five of these bytes behind its row's count.
@@ -54,16 +54,12 @@ impl RowHash for ByLength {
 }
 
 // A row has its count and at least sixteen bytes behind it.
-fn row_of(alloc: Global, len: u8, fill: u8) -> Result<Vec<u8>, PoolErr>
+fn row_of(alloc: Global, len: u8, fill: u8) -> Result<Vec<u8>, Memory>
     ensures { IfOk result (λ row. IsFramed row.items) }
 {
     let len = len.max(20);
-    let Ok(mut row) = Vec::from_slice(alloc, &[0, 0, 0, len - 4]) else {
-        return Err(PoolErr::Memory);
-    };
-    if row.resize(usize::from(len), fill).is_err() {
-        return Err(PoolErr::Memory);
-    }
+    let mut row = Vec::from_slice(alloc, &[0, 0, 0, len - 4])?;
+    row.resize(usize::from(len), fill)?;
     Ok(row)
 }
 
@@ -73,17 +69,18 @@ fn glimpse(
     node: u32,
     row: &mut Vec<u8>,
     shown: &mut Vec<u8>,
-) -> Result<(), PoolErr>
+) -> Result<(), Memory>
     requires { HasNode node table.now.nodes }
 {
-    if table.row_at(node, row).is_err() || shown.push(row.last().copied().unwrap_or(0)).is_err() {
-        return Err(PoolErr::Memory);
+    table.row_at(node, row)?;
+    if shown.push(row.last().copied().unwrap_or(0)).is_err() {
+        return Err(Memory);
     }
     Ok(())
 }
 
 // The rows on a chain, the newest first, and a hundred at most.
-fn found(alloc: Global, table: &BucketTable, hash: u64) -> Result<Shown, PoolErr> {
+fn found(alloc: Global, table: &BucketTable, hash: u64) -> Result<Shown, Memory> {
     let mut shown = Vec::new(alloc);
     let mut row = Vec::new(alloc);
     let mut next = table.find_first(hash);
@@ -96,7 +93,7 @@ fn found(alloc: Global, table: &BucketTable, hash: u64) -> Result<Shown, PoolErr
 }
 
 // All rows, the oldest first, and a hundred at most.
-fn walked(alloc: Global, table: &BucketTable) -> Result<Shown, PoolErr> {
+fn walked(alloc: Global, table: &BucketTable) -> Result<Shown, Memory> {
     let mut shown = Vec::new(alloc);
     let mut row = Vec::new(alloc);
     let mut next = table.first_node();
@@ -109,22 +106,17 @@ fn walked(alloc: Global, table: &BucketTable) -> Result<Shown, PoolErr> {
 }
 
 // One byte of a step's own.
-fn one(alloc: Global, byte: u8) -> Result<Shown, PoolErr> {
-    let Ok(shown) = Vec::from_slice(alloc, &[byte]) else {
-        return Err(PoolErr::Memory);
-    };
-    Ok(shown)
+fn one(alloc: Global, byte: u8) -> Result<Shown, Memory> {
+    Ok(Vec::from_slice(alloc, &[byte])?)
 }
 
 // Fills the row of a node with a byte.
-fn write_at(alloc: Global, table: &mut BucketTable, node: u32, fill: u8) -> Result<(), PoolErr>
+fn write_at(alloc: Global, table: &mut BucketTable, node: u32, fill: u8) -> Result<(), Memory>
     requires { HasNode node table.old.nodes }
     ensures { table.new ≡ with_nodes table.new.nodes table.old }
 {
     let mut old = Vec::new(alloc);
-    if table.row_at(node, &mut old).is_err() {
-        return Err(PoolErr::Memory);
-    }
+    table.row_at(node, &mut old)?;
     let row = row_of(alloc, old.len().min(255) as u8, fill)?;
     if row.len() == old.len() {
         table.write_row(node, &row);
@@ -132,21 +124,25 @@ fn write_at(alloc: Global, table: &mut BucketTable, node: u32, fill: u8) -> Resu
     Ok(())
 }
 
-// Raises the number behind the count of a row, where the row has one: its last byte.
-fn raise_at(table: &mut BucketTable, node: u32) -> u8
+// Raises the number behind the count of a row, where it has one, and by more than one in one call: its last byte.
+fn raise_at(table: &mut BucketTable, node: u32, by: u8) -> u8
     requires { HasNode node table.old.nodes }
     ensures { table.new ≡ with_nodes table.new.nodes table.old }
 {
     if table.row_len(node) < 20 {
         return 0;
     }
-    let number = table.number_at(node, 4).wrapping_add(1);
-    table.set_number_at(node, 4, number);
+    let number = table.number_at(node, 4).wrapping_add(u128::from(by));
+    if by == 1 {
+        table.set_number_at(node, 4, number);
+    } else {
+        table.change_number_at(node, 4, |old| old.wrapping_add(u128::from(by)));
+    }
     (number % 256) as u8
 }
 
 // What one step shows.
-fn take_step(alloc: Global, table: &mut BucketTable, step: Step) -> Result<Shown, PoolErr>
+fn take_step(alloc: Global, table: &mut BucketTable, step: Step) -> Result<Shown, Memory>
     ensures { table.new ≡ with_nodes table.new.nodes table.old }
 {
     match step {
@@ -163,8 +159,8 @@ fn take_step(alloc: Global, table: &mut BucketTable, step: Step) -> Result<Shown
             }
             None => one(alloc, 0),
         },
-        Step::Raise(hash) => match table.find_first(hash) {
-            Some(node) => one(alloc, raise_at(table, node)),
+        Step::Raise(hash, by) => match table.find_first(hash) {
+            Some(node) => one(alloc, raise_at(table, node, by)),
             None => one(alloc, 0),
         },
         Step::Shows(hash, fill) => match table.find_first(hash) {
@@ -372,8 +368,8 @@ const MIXED: [(Step, &[u8]); 26] = [
     (Step::Write(9, 9), &[0]),
     (Step::Find(8), &[9]),
     (Step::Walk, &[1, 9, 3, 4, 5]),
-    (Step::Raise(7), &[6]),
-    (Step::Raise(7), &[7]),
+    (Step::Raise(7, 1), &[6]),
+    (Step::Raise(7, 1), &[7]),
     (Step::Insert(8, 90, 6), &[0]),
     (Step::Clear, &[]),
     (Step::Walk, &[]),
@@ -385,13 +381,17 @@ fn mixed_rows_are_found_where_they_straddle(rt: HostRuntime) -> Result<(), Fail>
     expect(&rt, rt.alloc(), &MIXED, Shape::Wide)
 }
 
-const ON_NEW_CHAINS: [(Step, &[u8]); 6] = [
+const ON_NEW_CHAINS: [(Step, &[u8]); 9] = [
     (Step::Find(20), &[4, 3, 1]),
     (Step::Find(4), &[2]),
     (Step::Walk, &[1, 2, 3, 4]),
     (Step::Look(20, 3), &[64]),
-    (Step::Insert(36, 20, 5), &[1]),
+    (Step::Insert(36, 25, 5), &[1]),
     (Step::Find(4), &[5, 2]),
+    // this node's number straddles two blocks
+    (Step::Insert(5, 20, 7), &[1]),
+    (Step::Raise(5, 2), &[9]),
+    (Step::Raise(5, 1), &[10]),
 ];
 
 #[test]

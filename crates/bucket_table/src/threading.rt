@@ -7,12 +7,12 @@ ghost use Rattle.bucket_table.specs.Tables.{Node};
 ghost use Rattle.bucket_table.specs.Rethreading.{HasRows, Rethreads};
 
 use crate::area::Area;
+use crate::chains::Chains;
 use crate::hashing::RowHash;
-use crate::stride::Stride;
 
 // Puts a node in front of the chain of this hash.
 #[inline]
-pub(crate) fn thread(heads: &mut Area, nodes: &mut Area, chains: Stride, node: usize, hash: u64)
+pub(crate) fn thread(heads: &mut Area, nodes: &mut Area, chains: Chains, node: usize, hash: u64)
     requires heads { 4 * chains.len ≤ length heads.old.bytes }
     requires few { 4 * chains.len < 2 ^ 32 }
     requires inside { node + 4 ≤ length nodes.old.bytes }
@@ -53,7 +53,7 @@ fn hash_of_row<H: RowHash>(
 pub(crate) fn rethread<H: RowHash>(
     heads: &mut Area,
     nodes: &mut Area,
-    chains: Stride,
+    chains: Chains,
     used: usize,
     hasher: &H,
     scratch: &mut [u8],

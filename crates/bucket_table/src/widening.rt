@@ -7,8 +7,8 @@ ghost use Rattle.bucket_table.specs.Entering.{EnteredLoans};
 ghost use Rattle.bucket_table.specs.Lending.{IsTableOf, WasShort, bytes_of};
 ghost use Rattle.bucket_table.specs.Widening.{Widened};
 
+use crate::chains::Chains;
 use crate::hashing::RowHash;
-use crate::stride::Stride;
 use crate::table::BucketTable;
 use crate::threading::rethread;
 use reservation_tree::PoolErr;
@@ -61,7 +61,7 @@ impl BucketTable {
             return Err(PoolErr::Memory);
         };
         self.heads.double(alloc, store, c)?;
-        let chains = Stride::of(2 * self.chains.len());
+        let chains = Chains::of(2 * self.chains.len());
         rethread(
             &mut self.heads,
             &mut self.nodes,

@@ -1,5 +1,5 @@
 use Rattle.std.proofs.lemmas.Nat.{and_mask}
 use Rattle.bucket_table.proofs.stride.Stride.place.Goals as goal
 
-pub returns-then-self-clause-value : goal.returns-then-self-clause-value
-returns-then-self-clause-value c = rw (c.args.self.power c.if-self.true) (and_mask c.args.at c.args.self.shift)
+pub returns-clause-value : goal.returns-clause-value
+returns-clause-value c = rw c.args.self.power (and_mask c.args.at c.args.self.shift)
