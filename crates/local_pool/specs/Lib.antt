@@ -1,5 +1,6 @@
 pub mod Told
 pub mod Making
+pub mod Refusing
 pub mod Standing
 pub mod Turning
 pub mod Calling
@@ -7,3 +8,4 @@ pub mod Beginning
 pub mod Leaving
 pub mod Loading
 pub mod Pinning
+pub mod Laws

@@ -11,6 +11,7 @@ mod coming;
 mod entering;
 mod leaving;
 mod loading;
+mod local;
 mod looking;
 mod owned;
 mod pinning;
@@ -20,5 +21,6 @@ mod trackers;
 mod turning;
 mod writing;
 
+pub use local::LocalPool;
 pub use owned::{Alone, Owned};
 pub use turning::Turn;

@@ -13,13 +13,15 @@ use Rattle.local_pool.specs.Beginning.{first_events}
 use Rattle.local_pool.proofs.Begun.{opening_of, is_opening, not_full, lacks, cause_of, none_left, stands_first, begun, first_query, sits_first}
 use Rattle.local_pool.proofs.beginning.begin.Goals as goal
 
-pub close-requires-clause-ended : goal.close-requires-clause-ended
-close-requires-clause-ended g c κs within =
-    let o : Opening = opening_of c.args._conf.now (spare_of c.args.pool) in
-    let fresh : StandsFor g.D.Slot o [] c.args.pool = c.requires.fresh o (is_opening c.args._conf.now (spare_of c.args.pool)) in
-    let closed = c.in-Err.ensures.err (not_full c.args._conf.now (spare_of c.args.pool) (state_of c.args.pool) fresh.state) in
-    let stood = closed.enters.stands o [] fresh in
-    λ s. ap (λ (t : State). get t.sessions s) stood.state ∙ none_left o closed.maker closed.tracker c.args.limit c.args.quota stood.legal s
+pub close-requires : goal.close-requires
+close-requires g c = record {
+  ended =
+      let o : Opening = opening_of c.args._conf.now (spare_of c.args.pool) in
+      let fresh : StandsFor g.D.Slot o [] c.args.pool = c.requires.fresh o (is_opening c.args._conf.now (spare_of c.args.pool)) in
+      let closed = c.in-Err.ensures.err (not_full c.args._conf.now (spare_of c.args.pool) (state_of c.args.pool) fresh.state) in
+      let stood = closed.enters.stands o [] fresh in
+      λ s. ap (λ (t : State). get t.sessions s) stood.state ∙ none_left o closed.maker closed.tracker c.args.limit c.args.quota stood.legal s;
+}
 
 pub returns-in-Err-clause-cause : goal.returns-in-Err-clause-cause
 returns-in-Err-clause-cause g c =
@@ -37,8 +39,8 @@ returns-in-Err-clause-back g c measure =
     let given = c.close.ensures.slots measure in
     omega (arith, home, given)
 
-pub tracker-tracker-requires-after_bounds : goal.tracker-tracker-requires-after_bounds
-tracker-tracker-requires-after_bounds g c κs within =
+pub tracker-tracker-requires : goal.tracker-tracker-requires
+tracker-tracker-requires g c =
     let o : Opening = opening_of c.args._conf.now (spare_of c.args.pool) in
     let fresh : StandsFor g.D.Slot o [] c.args.pool = c.requires.fresh o (is_opening c.args._conf.now (spare_of c.args.pool)) in
     sits_first g.D.Slot o c.in-Ok.session (query_of (state_of c.open_session.new.self) c.in-Ok.session) c.args.limit c.args.quota c.args.least c.open_session.new.self (c.in-Ok.ensures.ok.stands o [] fresh)

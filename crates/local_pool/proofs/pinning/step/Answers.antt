@@ -10,8 +10,8 @@ use Rattle.local_pool.proofs.Pinned.{can_pin, waits_never, stands_here, makes_he
 use Rattle.local_pool.proofs.Fetched.{can_read, stands_read, makes_read, shows_read, stands_unread, makes_unread, must_fail}
 use Rattle.local_pool.proofs.pinning.step.Goals as goal
 
-pub pin_turn-requires-clause-can : goal.pin_turn-requires-clause-can
-pin_turn-requires-clause-can g c κs within = can_pin g.D.Slot c.args.own.now c.requires.stands c.args.p.now c.requires.can
+pub pin_turn-requires : goal.pin_turn-requires
+pin_turn-requires g c = record { can = can_pin g.D.Slot c.args.own.now c.requires.stands c.args.p.now c.requires.can }
 
 pub unreachable-requires-in-Wait : goal.unreachable-requires-in-Wait
 unreachable-requires-in-Wait g c = waits_never g.D.Slot c.args.own.now c.requires.stands c.args.p.now c.requires.can c.in-Wait.ensures.turn.0
@@ -32,12 +32,14 @@ returns-in-Here-clause-stands g c =
     let entered : new.trail ≡ own.trail ++ by own.session (PinHere c.args.p.now.name ∷ []) = subst (λ (p : ℕ). new.trail ≡ own.trail ++ by own.session (PinHere p ∷ [])) c.name.ensures c.enter.ensures in
     stands_here g.D.Slot own c.requires.stands c.args.p.now c.requires.can new entered refl c.in-Here.ensures.enters
 
-pub read_back-requires-clause-can : goal.read_back-requires-clause-can
-read_back-requires-clause-can g c κs within =
-    let own : Owned g.row.D.Denot = c.args.own.now in
-    let went : Owned g.row.D.Denot = record { pool = c.pin_turn.new.self; trail = c.tick.new.self; session = own.session } in
-    can_read g.D.Slot own c.requires.stands c.args.p.now c.requires.can c.in-Load.job went c.in-Load.ensures.turn.2 c.in-Load.ensures.turn.0 c.in-Load.ensures.enters
-    (c.tick.ensures ∙ ap (λ es. own.trail ++ es) c.requires.named) refl
+pub read_back-requires : goal.read_back-requires
+read_back-requires g c = record {
+  can =
+      let own : Owned g.row.D.Denot = c.args.own.now in
+      let went : Owned g.row.D.Denot = record { pool = c.pin_turn.new.self; trail = c.tick.new.self; session = own.session } in
+      can_read g.D.Slot own c.requires.stands c.args.p.now c.requires.can c.in-Load.job went c.in-Load.ensures.turn.2 c.in-Load.ensures.turn.0 c.in-Load.ensures.enters
+      (c.tick.ensures ∙ ap (λ es. own.trail ++ es) c.requires.named) refl;
+}
 
 pub returns-in-Ok-clause-turn : goal.returns-in-Ok-clause-turn
 returns-in-Ok-clause-turn g c =
@@ -80,14 +82,16 @@ returns-in-Refused-clause-turn g c =
     let same : record own { pool = c.pin_turn.new.self } ≡ own = ap (λ v. record own { pool = v }) c.in-Refused.ensures.turn.1 in
     (subst (MustRefuse c.args.p.now.client c.args.p.now.name c.in-Refused.entry) (sym same) (must_refuse g.D.Slot own c.requires.stands c.args.p.now c.requires.can c.in-Refused.entry c.requires.asked c.in-Refused.ensures.turn.0), same)
 
-pub write_out-requires-clause-can : goal.write_out-requires-clause-can
-write_out-requires-clause-can g c κs within =
-    let own : Owned g.row.D.Denot = c.args.own.now in
-    let went : Owned g.row.D.Denot = record { pool = c.pin_turn.new.self; trail = c.enter_started.new.trail; session = own.session } in
-    let it = c.in-Write.ensures in
-    can_write g.D.Slot own c.requires.stands c.args.p.now.client (page_len c.args.p.now.name (held_of g.D.Slot own)) (client_lives g.D.Slot own c.requires.stands c.args.p.now c.requires.can)
-    c.in-Write.job c.pin_turn.new.self went (lacks_here g.D.Slot own c.requires.stands c.args.p.now c.requires.can None it.turn.0)
-    (starts_here g.D.Slot own c.requires.stands c.args.p.now c.requires.can c.in-Write.job c.pin_turn.new.self it.turn.1) it.enters refl c.enter_started.ensures refl
+pub write_out-requires : goal.write_out-requires
+write_out-requires g c = record {
+  can =
+      let own : Owned g.row.D.Denot = c.args.own.now in
+      let went : Owned g.row.D.Denot = record { pool = c.pin_turn.new.self; trail = c.enter_started.new.trail; session = own.session } in
+      let it = c.in-Write.ensures in
+      can_write g.D.Slot own c.requires.stands c.args.p.now.client (page_len c.args.p.now.name (held_of g.D.Slot own)) (client_lives g.D.Slot own c.requires.stands c.args.p.now c.requires.can)
+      c.in-Write.job c.pin_turn.new.self went (lacks_here g.D.Slot own c.requires.stands c.args.p.now c.requires.can None it.turn.0)
+      (starts_here g.D.Slot own c.requires.stands c.args.p.now c.requires.can c.in-Write.job c.pin_turn.new.self it.turn.1) it.enters refl c.enter_started.ensures refl;
+}
 
 pub returns-in-Write-clause-turn : goal.returns-in-Write-clause-turn
 returns-in-Write-clause-turn g c =

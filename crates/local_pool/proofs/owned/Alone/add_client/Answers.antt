@@ -11,11 +11,11 @@ use Rattle.local_pool.proofs.Making.{whose}
 use Rattle.local_pool.proofs.Accounts.{seat_lives, came, all_come, not_all}
 use Rattle.local_pool.proofs.owned.Alone.add_client.Goals as goal
 
-pub tracker-query-requires-after_bounds : goal.tracker-query-requires-after_bounds
-tracker-query-requires-after_bounds g c κs within = seat_lives g.D.Slot c.self.inside.own c.self.invariant
+pub tracker-query-requires : goal.tracker-query-requires
+tracker-query-requires g c = seat_lives g.D.Slot c.self.inside.own c.self.invariant
 
-pub add_client-requires-clause-live : goal.add_client-requires-clause-live
-add_client-requires-clause-live g c κs within = seat_lives g.D.Slot c.self.inside.own c.self.invariant
+pub add_client-requires : goal.add_client-requires
+add_client-requires g c = record { live = seat_lives g.D.Slot c.self.inside.own c.self.invariant }
 
 pub returns-in_err-c-clause-refused : goal.returns-in_err-c-clause-refused
 returns-in_err-c-clause-refused g c =

@@ -12,11 +12,11 @@ use Rattle.local_pool.proofs.Arrivals.{taken_then}
 use Rattle.local_pool.proofs.owned.Alone.alloc.Goals as goal
 
 pub alloc_here-requires-clause-client : goal.alloc_here-requires-clause-client
-alloc_here-requires-clause-client g c κs within =
+alloc_here-requires-clause-client g c =
     subst (λ (h : Holdings). IsSome (h.clients c.args.c.now.tracker)) (sym (asked_held g.D.Slot c.args.c.now.tracker c.args.self.now c.make_room.new.self c.in_ok-make_room.ensures.ok)) c.requires.client
 
 pub alloc_here-requires-clause-room : goal.alloc_here-requires-clause-room
-alloc_here-requires-clause-room g c κs within =
+alloc_here-requires-clause-room g c =
     let start : Owned g.row.D.Denot = c.args.self.now in
     let now : Owned g.row.D.Denot = c.make_room.new.self in
     subst (HasRoom (state_of now.pool) c.args.c.now.tracker)

@@ -11,7 +11,7 @@ use Rattle.local_pool.proofs.Arrivals.{may_hold, stands_evicting, makes_evicting
 use Rattle.local_pool.proofs.owned.Alone.alloc_here.Goals as goal
 
 pub alloc_named-requires-clause-can : goal.alloc_named-requires-clause-can
-alloc_named-requires-clause-can g c κs within =
+alloc_named-requires-clause-can g c =
     may_hold g.D.Slot c.self.inside.own c.self.invariant c.args.c.now.tracker c.args.shell c.tracker.result c.tracker.ensures
     (subst (λ (o : Owned g.row.D.Denot). IsSome ((held_of g.D.Slot o).clients c.args.c.now.tracker)) (sym c.self.view_is) c.requires.client) c.requires.blocks
     (subst (λ (o : Owned g.row.D.Denot). HasRoom (state_of o.pool) c.args.c.now.tracker (length_of c.args.shell (held_of g.D.Slot o))) (sym c.self.view_is) c.requires.room)

@@ -7,8 +7,8 @@ use Rattle.local_pool.proofs.Knowing.{knows}
 use Rattle.local_pool.proofs.Asked.{one_more, makes_one}
 use Rattle.local_pool.proofs.owned.Alone.ask.Goals as goal
 
-pub ask-requires-clause-live : goal.ask-requires-clause-live
-ask-requires-clause-live g c κs within = ap is_some (knows g.D.Slot c.self.inside.own c.self.invariant).lives
+pub ask-requires : goal.ask-requires
+ask-requires g c = record { live = ap is_some (knows g.D.Slot c.self.inside.own c.self.invariant).lives }
 
 pub invariant_of-self : goal.invariant_of-self
 invariant_of-self g c =

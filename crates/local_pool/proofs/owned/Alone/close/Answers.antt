@@ -8,14 +8,14 @@ use Rattle.local_pool.proofs.Ended.{no_child, none_left}
 use Rattle.local_pool.proofs.owned.Alone.close.Goals as goal
 
 pub end_session-requires-clause-live : goal.end_session-requires-clause-live
-end_session-requires-clause-live g c κs within = ap is_some (knows g.D.Slot c.self.inside.own c.self.invariant).lives
+end_session-requires-clause-live g c = ap is_some (knows g.D.Slot c.self.inside.own c.self.invariant).lives
 
 pub end_session-requires-clause-no_client : goal.end_session-requires-clause-no_client
-end_session-requires-clause-no_client g c κs within =
+end_session-requires-clause-no_client g c =
     no_child g.D.Slot c.self.inside.own c.self.invariant (subst (λ (o : Owned g.row.D.Denot). (held_of g.D.Slot o).live_clients ≡ 0) (sym c.self.view_is) c.requires)
 
-pub close-requires-clause-ended : goal.close-requires-clause-ended
-close-requires-clause-ended g c κs within = none_left g.D.Slot c.self.inside.own c.self.invariant c.end_session.new.self c.end_session.ensures.enters
+pub close-requires : goal.close-requires
+close-requires g c = record { ended = none_left g.D.Slot c.self.inside.own c.self.invariant c.end_session.new.self c.end_session.ensures.enters }
 
 pub returns : goal.returns
 returns g c measure =

@@ -10,10 +10,12 @@ use Rattle.local_pool.proofs.Asked.{one_more, makes_one}
 use Rattle.local_pool.proofs.Holding.{can_end, is_there, given_live, goes_whose}
 use Rattle.local_pool.proofs.owned.Alone.destroy.Goals as goal
 
-pub end_page-requires-clause-can : goal.end_page-requires-clause-can
-end_page-requires-clause-can g c κs within =
-    can_end g.D.Slot c.self.inside.own c.self.invariant c.args.p (subst (λ (o : Owned g.row.D.Denot). IsPage c.args.p (held_of g.D.Slot o)) (sym c.self.view_is) c.requires.page) c.args.buf
-    (subst (λ (o : Owned g.row.D.Denot). IsHeld c.args.p (held_of g.D.Slot o) c.args.buf) (sym c.self.view_is) c.requires.buffer)
+pub end_page-requires : goal.end_page-requires
+end_page-requires g c = record {
+  can =
+      can_end g.D.Slot c.self.inside.own c.self.invariant c.args.p (subst (λ (o : Owned g.row.D.Denot). IsPage c.args.p (held_of g.D.Slot o)) (sym c.self.view_is) c.requires.page) c.args.buf
+      (subst (λ (o : Owned g.row.D.Denot). IsHeld c.args.p (held_of g.D.Slot o) c.args.buf) (sym c.self.view_is) c.requires.buffer);
+}
 
 pub invariant_of-self : goal.invariant_of-self
 invariant_of-self g c =

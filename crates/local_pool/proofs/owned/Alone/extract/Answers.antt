@@ -12,11 +12,13 @@ use Rattle.local_pool.proofs.Asked.{one_more, makes_one}
 use Rattle.local_pool.proofs.Holding.{last_pin, is_there, given_live, goes_whose}
 use Rattle.local_pool.proofs.owned.Alone.extract.Goals as goal
 
-pub extract-loan-requires-clause-last : goal.extract-loan-requires-clause-last
-extract-loan-requires-clause-last g c κs within =
-    last_pin g.D.Slot c.self.inside.own c.self.invariant c.args.p (subst (λ (o : Owned g.row.D.Denot). IsPage c.args.p (held_of g.D.Slot o)) (sym c.self.view_is) c.requires.page) c.args.buf
-    (subst (λ (o : Owned g.row.D.Denot). (page_of c.args.p.name (held_of g.D.Slot o)).pins ≡ 1) (sym c.self.view_is) c.requires.pinned)
-    (subst (λ (o : Owned g.row.D.Denot). Fits (page_of c.args.p.name (held_of g.D.Slot o)).blocks (held_of g.D.Slot o) c.args.buf) (sym c.self.view_is) c.requires.buffer)
+pub extract-loan-requires : goal.extract-loan-requires
+extract-loan-requires g c = record {
+  last =
+      last_pin g.D.Slot c.self.inside.own c.self.invariant c.args.p (subst (λ (o : Owned g.row.D.Denot). IsPage c.args.p (held_of g.D.Slot o)) (sym c.self.view_is) c.requires.page) c.args.buf
+      (subst (λ (o : Owned g.row.D.Denot). (page_of c.args.p.name (held_of g.D.Slot o)).pins ≡ 1) (sym c.self.view_is) c.requires.pinned)
+      (subst (λ (o : Owned g.row.D.Denot). Fits (page_of c.args.p.name (held_of g.D.Slot o)).blocks (held_of g.D.Slot o) c.args.buf) (sym c.self.view_is) c.requires.buffer);
+}
 
 pub invariant_of-self : goal.invariant_of-self
 invariant_of-self g c =

@@ -10,9 +10,11 @@ use Rattle.local_pool.proofs.Asked.{one_more, makes_one}
 use Rattle.local_pool.proofs.Holding.{loan_there, loan_client}
 use Rattle.local_pool.proofs.owned.Alone.free.Goals as goal
 
-pub free-requires-clause-loan : goal.free-requires-clause-loan
-free-requires-clause-loan g c κs within =
-    loan_there g.D.Slot c.self.inside.own c.self.invariant c.args.loan (subst (λ (o : Owned g.row.D.Denot). IsLoan c.args.loan (held_of g.D.Slot o)) (sym c.self.view_is) c.requires)
+pub free-requires : goal.free-requires
+free-requires g c = record {
+  loan =
+      loan_there g.D.Slot c.self.inside.own c.self.invariant c.args.loan (subst (λ (o : Owned g.row.D.Denot). IsLoan c.args.loan (held_of g.D.Slot o)) (sym c.self.view_is) c.requires);
+}
 
 pub invariant_of-self : goal.invariant_of-self
 invariant_of-self g c =

@@ -7,11 +7,11 @@ use Rattle.local_pool.proofs.Accounts.{asked_then}
 use Rattle.local_pool.proofs.owned.Alone.give_back.Goals as goal
 
 pub give_up-requires-clause-client : goal.give_up-requires-clause-client
-give_up-requires-clause-client g c κs within =
+give_up-requires-clause-client g c =
     subst (IsLiveClient c.args.c.now) (sym (asked_held g.D.Slot c.args.c.now.tracker c.args.self.now c.make_room.new.self c.in_ok-make_room.ensures.ok)) c.requires.client
 
 pub give_up-requires-clause-unused : goal.give_up-requires-clause-unused
-give_up-requires-clause-unused g c κs within =
+give_up-requires-clause-unused g c =
     subst (λ (h : Holdings). c.args.bytes ≤ unused_of c.args.c.now.tracker h) (sym (asked_held g.D.Slot c.args.c.now.tracker c.args.self.now c.make_room.new.self c.in_ok-make_room.ensures.ok)) c.requires.unused
 
 pub returns-clause-ok : goal.returns-clause-ok

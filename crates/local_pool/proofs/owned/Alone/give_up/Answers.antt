@@ -5,10 +5,10 @@ use Rattle.local_pool.proofs.Accounts.{token_client, token_unused, reserved_by}
 use Rattle.local_pool.proofs.owned.Alone.give_up.Goals as goal
 
 pub decrease_now-requires-clause-client : goal.decrease_now-requires-clause-client
-decrease_now-requires-clause-client g c κs within = token_client g.D.Slot c.self.inside.own c.self.invariant c.args.self.now c.self.view_is c.of-mine.result c.tracker-tracker.result c.args.c.now.tracker c.of-mine.ensures c.tracker-tracker.ensures c.requires.client
+decrease_now-requires-clause-client g c = token_client g.D.Slot c.self.inside.own c.self.invariant c.args.self.now c.self.view_is c.of-mine.result c.tracker-tracker.result c.args.c.now.tracker c.of-mine.ensures c.tracker-tracker.ensures c.requires.client
 
 pub decrease_now-requires-clause-unused : goal.decrease_now-requires-clause-unused
-decrease_now-requires-clause-unused g c κs within = token_unused g.D.Slot c.self.inside.own c.self.invariant c.args.self.now c.self.view_is c.of-mine.result c.tracker-tracker.result c.args.c.now.tracker c.of-mine.ensures c.tracker-tracker.ensures c.requires.client c.args.bytes c.requires.unused
+decrease_now-requires-clause-unused g c = token_unused g.D.Slot c.self.inside.own c.self.invariant c.args.self.now c.self.view_is c.of-mine.result c.tracker-tracker.result c.args.c.now.tracker c.of-mine.ensures c.tracker-tracker.ensures c.requires.client c.args.bytes c.requires.unused
 
 pub invariant_of-self : goal.invariant_of-self
 invariant_of-self g c =

@@ -19,11 +19,11 @@ loop-entry-init g c =
     (subst (IsAsked c.args.c.now.tracker (held_of g.D.Slot c.args.self.now) []) (sym c.ask.ensures.is) (asked_none c.args.c.now.tracker (held_of g.D.Slot c.args.self.now)))
 
 pub turn-requires-clause-client : goal.turn-requires-clause-client
-turn-requires-clause-client g c κs within =
+turn-requires-clause-client g c =
     subst (IsLiveClient c.args.c.now) (sym (asked_held g.D.Slot c.args.c.now.tracker c.args.self.now c.loop-entry.self c.loop-entry.invariant)) c.requires.client
 
 pub turn-requires-clause-unused : goal.turn-requires-clause-unused
-turn-requires-clause-unused g c κs within =
+turn-requires-clause-unused g c =
     subst (λ (h : Holdings). amount_of c.args.want ≤ unused_of c.args.c.now.tracker h) (sym (asked_held g.D.Slot c.args.c.now.tracker c.args.self.now c.loop-entry.self c.loop-entry.invariant)) c.requires.unused
 
 pub returns-in-Ready-clause-ok : goal.returns-in-Ready-clause-ok
@@ -34,17 +34,19 @@ pub returns-in-Ready-clause-room : goal.returns-in-Ready-clause-room
 returns-in-Ready-clause-room g c =
     subst (λ (o : Owned g.row.D.Denot). HasRoom (state_of o.pool) c.args.c.now.tracker (amount_of c.args.want)) (sym c.in-Ready.ensures.1) c.in-Ready.ensures.0
 
-pub refuse-requires-clause-can : goal.refuse-requires-clause-can
-refuse-requires-clause-can g c κs within =
-    let now : Owned g.row.D.Denot = c.loop-entry.self in
-    let same : held_of g.D.Slot now ≡ held_of g.D.Slot c.args.self.now = asked_held g.D.Slot c.args.c.now.tracker c.args.self.now now c.loop-entry.invariant in
-    subst (CanRefuse g.D.Slot c.args.c.now.tracker (amount_of c.args.want) c.args.call.now c.in-Refused.entry) (sym c.in-Refused.ensures.1) (record {
-      wants = subst (λ (h : Holdings). Wants c.args.c.now.tracker (amount_of c.args.want) h c.args.call.now) (sym same) c.requires.wants;
-      live = subst (IsLiveClient c.args.c.now) (sym same) c.requires.client;
-      lacks = c.in-Refused.ensures.0;
-      stored = stored_for (state_of now.pool) c.args.call.now c.requires.turn;
-      asked = was_asked g.D.Slot c.args.c.now.tracker (held_of g.D.Slot c.args.self.now) c.args.self.now now c.loop-entry.invariant;
-    })
+pub refuse-requires : goal.refuse-requires
+refuse-requires g c = record {
+  can =
+      let now : Owned g.row.D.Denot = c.loop-entry.self in
+      let same : held_of g.D.Slot now ≡ held_of g.D.Slot c.args.self.now = asked_held g.D.Slot c.args.c.now.tracker c.args.self.now now c.loop-entry.invariant in
+      subst (CanRefuse g.D.Slot c.args.c.now.tracker (amount_of c.args.want) c.args.call.now c.in-Refused.entry) (sym c.in-Refused.ensures.1) (record {
+        wants = subst (λ (h : Holdings). Wants c.args.c.now.tracker (amount_of c.args.want) h c.args.call.now) (sym same) c.requires.wants;
+        live = subst (IsLiveClient c.args.c.now) (sym same) c.requires.client;
+        lacks = c.in-Refused.ensures.0;
+        stored = stored_for (state_of now.pool) c.args.call.now c.requires.turn;
+        asked = was_asked g.D.Slot c.args.c.now.tracker (held_of g.D.Slot c.args.self.now) c.args.self.now now c.loop-entry.invariant;
+      });
+}
 
 pub returns-in-Refused-clause-err : goal.returns-in-Refused-clause-err
 returns-in-Refused-clause-err g c =

@@ -6,11 +6,11 @@ use Rattle.local_pool.specs.Told.{held_of}
 use Rattle.local_pool.proofs.Accounts.{read_lives, no_less, move_free, move_error, no_error, with_error, but_error}
 use Rattle.local_pool.proofs.owned.Alone.may_move.Goals as goal
 
-pub limit-requires-after_bounds : goal.limit-requires-after_bounds
-limit-requires-after_bounds g c κs within = read_lives g.D.Slot c.self.inside.own c.self.invariant c.args.self.now c.self.view_is c.tracker-getter.result c.args.to.now.tracker c.tracker-getter.ensures c.requires.to
+pub limit-requires : goal.limit-requires
+limit-requires g c = read_lives g.D.Slot c.self.inside.own c.self.invariant c.args.self.now c.self.view_is c.tracker-getter.result c.args.to.now.tracker c.tracker-getter.ensures c.requires.to
 
-pub reservation-requires-after_bounds : goal.reservation-requires-after_bounds
-reservation-requires-after_bounds g c κs within = read_lives g.D.Slot c.self.inside.own c.self.invariant c.args.self.now c.self.view_is c.tracker-getter.result c.args.to.now.tracker c.tracker-getter.ensures c.requires.to
+pub reservation-requires : goal.reservation-requires
+reservation-requires g c = read_lives g.D.Slot c.self.inside.own c.self.invariant c.args.self.now c.self.view_is c.tracker-getter.result c.args.to.now.tracker c.tracker-getter.ensures c.requires.to
 
 pub overflow_sub-room : goal.overflow_sub-room
 overflow_sub-room g c = no_less g.D.Slot c.self.inside.own c.self.invariant c.args.self.now c.self.view_is c.tracker-getter.result c.args.to.now.tracker c.tracker-getter.ensures c.requires.to c.limit.result c.reservation.result c.limit.ensures c.reservation.ensures

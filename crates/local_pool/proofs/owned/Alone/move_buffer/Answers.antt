@@ -11,15 +11,15 @@ use Rattle.local_pool.proofs.Arrivals.{asked_then}
 use Rattle.local_pool.proofs.owned.Alone.move_buffer.Goals as goal
 
 pub move_here-requires-clause-loan : goal.move_here-requires-clause-loan
-move_here-requires-clause-loan g c κs within =
+move_here-requires-clause-loan g c =
     subst (IsLoan c.args.loan) (sym (asked_held g.D.Slot c.args.to.now.tracker c.args.self.now c.make_room.new.self c.in_default.ensures.ok)) c.requires.loan
 
 pub move_here-requires-clause-to : goal.move_here-requires-clause-to
-move_here-requires-clause-to g c κs within =
+move_here-requires-clause-to g c =
     subst (λ (h : Holdings). IsSome (h.clients c.args.to.now.tracker)) (sym (asked_held g.D.Slot c.args.to.now.tracker c.args.self.now c.make_room.new.self c.in_default.ensures.ok)) c.requires.to
 
 pub move_here-requires-clause-room : goal.move_here-requires-clause-room
-move_here-requires-clause-room g c κs within =
+move_here-requires-clause-room g c =
     let same : held_of g.D.Slot c.make_room.new.self ≡ held_of g.D.Slot c.args.self.now = asked_held g.D.Slot c.args.to.now.tracker c.args.self.now c.make_room.new.self c.in_default.ensures.ok in
     let blocks : ℕ = (loan_of c.args.loan.number (held_of g.D.Slot c.args.self.now)).blocks in
     subst (HasRoom (state_of c.make_room.new.self.pool) c.args.to.now.tracker)

@@ -13,12 +13,12 @@ use Rattle.local_pool.proofs.Reaching.{loan_here, may_move, goes_moved, moved_li
 use Rattle.local_pool.proofs.owned.Alone.move_here.Goals as goal
 
 pub move_buffer_now-moved-requires-clause-loan : goal.move_buffer_now-moved-requires-clause-loan
-move_buffer_now-moved-requires-clause-loan g c κs within =
+move_buffer_now-moved-requires-clause-loan g c =
     loan_here g.D.Slot c.self.inside.own c.self.invariant c.args.loan
     (subst (λ (o : Owned g.row.D.Denot). IsLoan c.args.loan (held_of g.D.Slot o)) (sym c.self.view_is) c.requires.loan)
 
 pub move_buffer_now-moved-requires-clause-to : goal.move_buffer_now-moved-requires-clause-to
-move_buffer_now-moved-requires-clause-to g c κs within =
+move_buffer_now-moved-requires-clause-to g c =
     subst (CanMoveTo (state_of c.self.inside.own.pool) c.args.loan) (sym (c.of-mine.ensures ∙ ap (λ (t : ℕ). record { session = c.self.inside.own.session; tracker = t }) c.tracker-to.ensures))
     (may_move g.D.Slot c.self.inside.own c.self.invariant c.args.loan
     (subst (λ (o : Owned g.row.D.Denot). IsLoan c.args.loan (held_of g.D.Slot o)) (sym c.self.view_is) c.requires.loan) c.args.to.now.tracker

@@ -9,19 +9,19 @@ use Rattle.local_pool.proofs.Accounts.{asked_then, no_error_told}
 use Rattle.local_pool.proofs.owned.Alone.move_reservation.Goals as goal
 
 pub pass_on-requires-clause-from : goal.pass_on-requires-clause-from
-pass_on-requires-clause-from g c κs within =
+pass_on-requires-clause-from g c =
     subst (IsLiveClient c.args.from.now) (sym (asked_held g.D.Slot c.args.from.now.tracker c.args.self.now c.make_room.new.self c.in_ok-make_room.ensures.ok)) c.requires.from
 
 pub pass_on-requires-clause-to : goal.pass_on-requires-clause-to
-pass_on-requires-clause-to g c κs within =
+pass_on-requires-clause-to g c =
     subst (IsLiveClient c.args.to.now) (sym (asked_held g.D.Slot c.args.from.now.tracker c.args.self.now c.make_room.new.self c.in_ok-make_room.ensures.ok)) c.requires.to
 
 pub pass_on-requires-clause-unused : goal.pass_on-requires-clause-unused
-pass_on-requires-clause-unused g c κs within =
+pass_on-requires-clause-unused g c =
     subst (λ (h : Holdings). c.args.bytes ≤ unused_of c.args.from.now.tracker h) (sym (asked_held g.D.Slot c.args.from.now.tracker c.args.self.now c.make_room.new.self c.in_ok-make_room.ensures.ok)) c.requires.unused
 
 pub pass_on-requires-clause-granted : goal.pass_on-requires-clause-granted
-pass_on-requires-clause-granted g c κs within =
+pass_on-requires-clause-granted g c =
     subst (λ (h : Holdings). move_refusal c.args.from.now.tracker c.args.to.now.tracker c.args.bytes h ≡ None) (sym (asked_held g.D.Slot c.args.from.now.tracker c.args.self.now c.make_room.new.self c.in_ok-make_room.ensures.ok))
     (no_error_told (move_refusal c.args.from.now.tracker c.args.to.now.tracker c.args.bytes (held_of g.D.Slot c.args.self.now)) (Ok tt) refl c.in_ok-may_move.ensures.refused)
 

@@ -6,8 +6,8 @@ use Rattle.local_pool.specs.Told.{held_of}
 use Rattle.local_pool.proofs.Reaching.{page_here, page_len_here, client_lives}
 use Rattle.local_pool.proofs.owned.Alone.page_len.Goals as goal
 
-pub page_len-requires-after_bounds : goal.page_len-requires-after_bounds
-page_len-requires-after_bounds g c κs within =
+pub page_len-requires : goal.page_len-requires
+page_len-requires g c =
     page_here g.D.Slot c.self.inside.own c.self.invariant c.args.p.now
     (subst (λ (o : Owned g.row.D.Denot). IsPage c.args.p.now (held_of g.D.Slot o)) (sym c.self.view_is) c.requires)
 

@@ -8,13 +8,13 @@ use Rattle.local_pool.proofs.Accounts.{token_client, token_unused, other_client,
 use Rattle.local_pool.proofs.owned.Alone.pass_on.Goals as goal
 
 pub move_now-requires-clause-client : goal.move_now-requires-clause-client
-move_now-requires-clause-client g c κs within = token_client g.D.Slot c.self.inside.own c.self.invariant c.args.self.now c.self.view_is c.of-mine.result c.tracker-giver.result c.args.from.now.tracker c.of-mine.ensures c.tracker-giver.ensures c.requires.from
+move_now-requires-clause-client g c = token_client g.D.Slot c.self.inside.own c.self.invariant c.args.self.now c.self.view_is c.of-mine.result c.tracker-giver.result c.args.from.now.tracker c.of-mine.ensures c.tracker-giver.ensures c.requires.from
 
 pub move_now-requires-clause-to : goal.move_now-requires-clause-to
-move_now-requires-clause-to g c κs within = other_client g.D.Slot c.self.inside.own c.self.invariant c.args.self.now c.self.view_is c.of-mine.result c.tracker-giver.result c.args.from.now.tracker c.of-mine.ensures c.tracker-giver.ensures c.of-other.result c.tracker-getter.result c.args.to.now.tracker c.of-other.ensures c.tracker-getter.ensures c.requires.to
+move_now-requires-clause-to g c = other_client g.D.Slot c.self.inside.own c.self.invariant c.args.self.now c.self.view_is c.of-mine.result c.tracker-giver.result c.args.from.now.tracker c.of-mine.ensures c.tracker-giver.ensures c.of-other.result c.tracker-getter.result c.args.to.now.tracker c.of-other.ensures c.tracker-getter.ensures c.requires.to
 
 pub move_now-requires-clause-unused : goal.move_now-requires-clause-unused
-move_now-requires-clause-unused g c κs within = token_unused g.D.Slot c.self.inside.own c.self.invariant c.args.self.now c.self.view_is c.of-mine.result c.tracker-giver.result c.args.from.now.tracker c.of-mine.ensures c.tracker-giver.ensures c.requires.from c.args.bytes c.requires.unused
+move_now-requires-clause-unused g c = token_unused g.D.Slot c.self.inside.own c.self.invariant c.args.self.now c.self.view_is c.of-mine.result c.tracker-giver.result c.args.from.now.tracker c.of-mine.ensures c.tracker-giver.ensures c.requires.from c.args.bytes c.requires.unused
 
 pub unwrap-requires : goal.unwrap-requires
 unwrap-requires g c =

@@ -17,12 +17,12 @@ loop-buf-init g c =
     (subst (IsAsked c.args.p.now.client (held_of g.D.Slot c.args.self.now) []) (sym c.ask.ensures.is) (asked_none c.args.p.now.client (held_of g.D.Slot c.args.self.now)))
 
 pub pin_step-requires-clause-can : goal.pin_step-requires-clause-can
-pin_step-requires-clause-can g c κs within =
+pin_step-requires-clause-can g c =
     subst (CanBePinned c.args.p.now) (sym (asked_held g.D.Slot c.args.p.now.client c.args.self.now c.loop-buf.self c.loop-buf.invariant))
     (record { page = c.requires.page; rests = c.requires.rests; unused = c.requires.unused })
 
 pub pin_step-requires-clause-asked : goal.pin_step-requires-clause-asked
-pin_step-requires-clause-asked g c κs within = was_asked g.D.Slot c.args.p.now.client (held_of g.D.Slot c.args.self.now) c.args.self.now c.loop-buf.self c.loop-buf.invariant
+pin_step-requires-clause-asked g c = was_asked g.D.Slot c.args.p.now.client (held_of g.D.Slot c.args.self.now) c.args.self.now c.loop-buf.self c.loop-buf.invariant
 
 pub returns-in-Pinned-clause-ok : goal.returns-in-Pinned-clause-ok
 returns-in-Pinned-clause-ok g c =

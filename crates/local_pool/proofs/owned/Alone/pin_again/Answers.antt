@@ -14,15 +14,15 @@ use Rattle.local_pool.proofs.Arrivals.{asked_then}
 use Rattle.local_pool.proofs.owned.Alone.pin_again.Goals as goal
 
 pub pin_again_here-requires-clause-page : goal.pin_again_here-requires-clause-page
-pin_again_here-requires-clause-page g c κs within =
+pin_again_here-requires-clause-page g c =
     subst (IsPage c.args.p.now) (sym (asked_held g.D.Slot c.of-c.result.tracker c.args.self.now c.make_room-result.new.self c.in_ok-result.ensures.ok)) c.requires.page
 
 pub pin_again_here-requires-clause-pinned : goal.pin_again_here-requires-clause-pinned
-pin_again_here-requires-clause-pinned g c κs within =
+pin_again_here-requires-clause-pinned g c =
     subst (λ (h : Holdings). 1 ≤ (page_of c.args.p.now.name h).pins) (sym (asked_held g.D.Slot c.of-c.result.tracker c.args.self.now c.make_room-result.new.self c.in_ok-result.ensures.ok)) c.requires.pinned
 
 pub pin_again_here-requires-clause-room : goal.pin_again_here-requires-clause-room
-pin_again_here-requires-clause-room g c κs within =
+pin_again_here-requires-clause-room g c =
     let now : Owned g.row.D.Denot = c.make_room-result.new.self in
     let same : held_of g.D.Slot now ≡ held_of g.D.Slot c.args.self.now = asked_held g.D.Slot c.of-c.result.tracker c.args.self.now now c.in_ok-result.ensures.ok in
     subst (HasRoom (state_of now.pool) c.args.p.now.client) (c.page_len-bytes.ensures.len ∙ ap (page_len c.args.p.now.name) (sym same))

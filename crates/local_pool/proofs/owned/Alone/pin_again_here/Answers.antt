@@ -12,13 +12,13 @@ use Rattle.local_pool.proofs.Reaching.{pinned_here, page_room_here, goes_page}
 use Rattle.local_pool.proofs.owned.Alone.pin_again_here.Goals as goal
 
 pub pin_again_now-requires-clause-pinned : goal.pin_again_now-requires-clause-pinned
-pin_again_now-requires-clause-pinned g c κs within =
+pin_again_now-requires-clause-pinned g c =
     pinned_here g.D.Slot c.self.inside.own c.self.invariant c.args.p.now
     (subst (λ (o : Owned g.row.D.Denot). IsPage c.args.p.now (held_of g.D.Slot o)) (sym c.self.view_is) c.requires.page)
     (subst (λ (o : Owned g.row.D.Denot). 1 ≤ (page_of c.args.p.now.name (held_of g.D.Slot o)).pins) (sym c.self.view_is) c.requires.pinned)
 
 pub pin_again_now-requires-clause-room : goal.pin_again_now-requires-clause-room
-pin_again_now-requires-clause-room g c κs within =
+pin_again_now-requires-clause-room g c =
     page_room_here g.D.Slot c.self.inside.own c.self.invariant c.args.p.now
     (subst (λ (o : Owned g.row.D.Denot). IsPage c.args.p.now (held_of g.D.Slot o)) (sym c.self.view_is) c.requires.page)
     (subst (λ (o : Owned g.row.D.Denot). HasRoom (state_of o.pool) c.args.p.now.client (page_len c.args.p.now.name (held_of g.D.Slot o))) (sym c.self.view_is) c.requires.room)

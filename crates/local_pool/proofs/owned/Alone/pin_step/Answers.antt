@@ -6,10 +6,10 @@ use Rattle.local_pool.specs.Pinning.{CanBePinned, PinIs}
 use Rattle.local_pool.proofs.owned.Alone.pin_step.Goals as goal
 
 pub step-requires-clause-can : goal.step-requires-clause-can
-step-requires-clause-can g c κs within = subst (λ (o : Owned g.row.D.Denot). CanBePinned c.args.p.now (held_of g.D.Slot o)) (sym c.self.view_is) c.requires.can
+step-requires-clause-can g c = subst (λ (o : Owned g.row.D.Denot). CanBePinned c.args.p.now (held_of g.D.Slot o)) (sym c.self.view_is) c.requires.can
 
 pub step-requires-clause-asked : goal.step-requires-clause-asked
-step-requires-clause-asked g c κs within = subst (λ (o : Owned g.row.D.Denot). has_asked o.trail ≡ true) (sym c.self.view_is) c.requires.asked
+step-requires-clause-asked g c = subst (λ (o : Owned g.row.D.Denot). has_asked o.trail ≡ true) (sym c.self.view_is) c.requires.asked
 
 pub invariant_of-self : goal.invariant_of-self
 invariant_of-self g c = c.step.ensures.stands

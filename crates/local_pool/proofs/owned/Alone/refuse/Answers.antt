@@ -8,10 +8,12 @@ use Rattle.local_pool.specs.Turning.{CanRefuse, Rose}
 use Rattle.local_pool.proofs.Asked.{one_more, makes_one, rose, may_enter, goes_refused}
 use Rattle.local_pool.proofs.owned.Alone.refuse.Goals as goal
 
-pub refuse-requires-clause-may : goal.refuse-requires-clause-may
-refuse-requires-clause-may g c κs within =
-    may_enter g.D.Slot c.self.inside.own c.self.invariant c.args._c.now.tracker (amount_of c.args._want) c.args.entry c.args.call.now
-    (subst (CanRefuse g.D.Slot c.args._c.now.tracker (amount_of c.args._want) c.args.call.now c.args.entry) (sym c.self.view_is) c.requires.can)
+pub refuse-requires : goal.refuse-requires
+refuse-requires g c = record {
+  may =
+      may_enter g.D.Slot c.self.inside.own c.self.invariant c.args._c.now.tracker (amount_of c.args._want) c.args.entry c.args.call.now
+      (subst (CanRefuse g.D.Slot c.args._c.now.tracker (amount_of c.args._want) c.args.call.now c.args.entry) (sym c.self.view_is) c.requires.can);
+}
 
 pub invariant_of-self : goal.invariant_of-self
 invariant_of-self g c =

@@ -9,12 +9,14 @@ use Rattle.local_pool.specs.Making.{Makes}
 use Rattle.local_pool.proofs.Pinned.{may_refuse_it, stands_refused, makes_refused}
 use Rattle.local_pool.proofs.owned.Alone.refuse_pin.Goals as goal
 
-pub refuse-requires-clause-may : goal.refuse-requires-clause-may
-refuse-requires-clause-may g c κs within =
-    let own : Owned g.row.D.Denot = c.self.inside.own in
-    may_refuse_it g.D.Slot own own c.self.invariant (Pin c.name.result) c.args.entry
-    (subst (λ (p : ℕ). MayFollow own.trail (state_of own.pool) (refusal_of own.session (Pin p) c.args.entry)) (sym c.name.ensures)
-    (subst (λ (o : Owned g.row.D.Denot). MayFollow o.trail (state_of o.pool) (refusal_of o.session (Pin c.args.p.now.name) c.args.entry)) (sym c.self.view_is) c.requires.may))
+pub refuse-requires : goal.refuse-requires
+refuse-requires g c = record {
+  may =
+      let own : Owned g.row.D.Denot = c.self.inside.own in
+      may_refuse_it g.D.Slot own own c.self.invariant (Pin c.name.result) c.args.entry
+      (subst (λ (p : ℕ). MayFollow own.trail (state_of own.pool) (refusal_of own.session (Pin p) c.args.entry)) (sym c.name.ensures)
+      (subst (λ (o : Owned g.row.D.Denot). MayFollow o.trail (state_of o.pool) (refusal_of o.session (Pin c.args.p.now.name) c.args.entry)) (sym c.self.view_is) c.requires.may));
+}
 
 pub invariant_of-self : goal.invariant_of-self
 invariant_of-self g c =

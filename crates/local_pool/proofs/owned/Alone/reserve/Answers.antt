@@ -6,8 +6,8 @@ use Rattle.local_pool.specs.Told.{held_of}
 use Rattle.local_pool.proofs.Accounts.{token_client, growth_error, growth_free, reserved_by, with_error, but_error, no_error}
 use Rattle.local_pool.proofs.owned.Alone.reserve.Goals as goal
 
-pub increase-result-requires-clause-client : goal.increase-result-requires-clause-client
-increase-result-requires-clause-client g c κs within = token_client g.D.Slot c.self.inside.own c.self.invariant c.args.self.now c.self.view_is c.of-mine.result c.tracker-tracker.result c.args.c.now.tracker c.of-mine.ensures c.tracker-tracker.ensures c.requires.client
+pub increase-result-requires : goal.increase-result-requires
+increase-result-requires g c = record { client = token_client g.D.Slot c.self.inside.own c.self.invariant c.args.self.now c.self.view_is c.of-mine.result c.tracker-tracker.result c.args.c.now.tracker c.of-mine.ensures c.tracker-tracker.ensures c.requires.client }
 
 pub returns-in_err-result-clause-refused : goal.returns-in_err-result-clause-refused
 returns-in_err-result-clause-refused g c =

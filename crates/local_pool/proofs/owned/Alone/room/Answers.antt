@@ -9,11 +9,11 @@ use Rattle.local_pool.proofs.Knowing.{knows}
 use Rattle.local_pool.proofs.Accounts.{seat_lives, query_lives, room_here}
 use Rattle.local_pool.proofs.owned.Alone.room.Goals as goal
 
-pub tracker-requires-after_bounds : goal.tracker-requires-after_bounds
-tracker-requires-after_bounds g c κs within = seat_lives g.D.Slot c.self.inside.own c.self.invariant
+pub tracker-requires : goal.tracker-requires
+tracker-requires g c = seat_lives g.D.Slot c.self.inside.own c.self.invariant
 
-pub unused-requires-after_bounds : goal.unused-requires-after_bounds
-unused-requires-after_bounds g c κs within = subst (IsLive (state_of c.self.inside.own.pool).trackers) (sym c.tracker.ensures) (query_lives g.D.Slot c.self.inside.own c.self.invariant)
+pub unused-requires : goal.unused-requires
+unused-requires g c = subst (IsLive (state_of c.self.inside.own.pool).trackers) (sym c.tracker.ensures) (query_lives g.D.Slot c.self.inside.own c.self.invariant)
 
 pub returns-clause-value : goal.returns-clause-value
 returns-clause-value g c =

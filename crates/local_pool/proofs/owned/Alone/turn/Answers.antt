@@ -11,22 +11,24 @@ use Rattle.local_pool.proofs.owned.Alone.turn.Goals as goal
 use Rattle.local_pool.proofs.owned.Alone.turn.Goals.{in-Ready, in-Refused, in-Write}
 
 pub room_turn-requires-clause-client : goal.room_turn-requires-clause-client
-room_turn-requires-clause-client g c κs within =
+room_turn-requires-clause-client g c =
     (knows g.D.Slot c.self.inside.own c.self.invariant).client c.args.c.now.tracker (subst (λ (o : Owned g.row.D.Denot). IsSome ((held_of g.D.Slot o).clients c.args.c.now.tracker)) (sym c.self.view_is) c.requires.client)
 
 pub room_turn-requires-clause-unused : goal.room_turn-requires-clause-unused
-room_turn-requires-clause-unused g c κs within =
+room_turn-requires-clause-unused g c =
     let some : IsSome ((held_of g.D.Slot c.self.inside.own).clients c.args.c.now.tracker) = subst (λ (o : Owned g.row.D.Denot). IsSome ((held_of g.D.Slot o).clients c.args.c.now.tracker)) (sym c.self.view_is) c.requires.client in
     let fits : amount_of c.args.want ≤ unused_of c.args.c.now.tracker (held_of g.D.Slot c.self.inside.own) = subst (λ (o : Owned g.row.D.Denot). amount_of c.args.want ≤ unused_of c.args.c.now.tracker (held_of g.D.Slot o)) (sym c.self.view_is) c.requires.unused in
     subst (λ n. amount_of c.args.want ≤ n) (sym ((knows g.D.Slot c.self.inside.own c.self.invariant).unused_is c.args.c.now.tracker some)) fits
 
-pub write_out-requires-clause-can : goal.write_out-requires-clause-can
-write_out-requires-clause-can g c κs within =
-    let it = c.in-Write.ensures in
-    can_write g.D.Slot c.self.inside.own c.self.invariant c.args.c.now.tracker (amount_of c.args.want)
-    (subst (λ (o : Owned g.row.D.Denot). IsSome ((held_of g.D.Slot o).clients c.args.c.now.tracker)) (sym c.self.view_is) c.requires.client)
-    c.in-Write.job c.room_turn.new.self (record { pool = c.room_turn.new.self; trail = c.enter_started.new.trail; session = c.self.inside.own.session })
-    it.turn.0 it.turn.1 it.enters refl c.enter_started.ensures refl
+pub write_out-requires : goal.write_out-requires
+write_out-requires g c = record {
+  can =
+      let it = c.in-Write.ensures in
+      can_write g.D.Slot c.self.inside.own c.self.invariant c.args.c.now.tracker (amount_of c.args.want)
+      (subst (λ (o : Owned g.row.D.Denot). IsSome ((held_of g.D.Slot o).clients c.args.c.now.tracker)) (sym c.self.view_is) c.requires.client)
+      c.in-Write.job c.room_turn.new.self (record { pool = c.room_turn.new.self; trail = c.enter_started.new.trail; session = c.self.inside.own.session })
+      it.turn.0 it.turn.1 it.enters refl c.enter_started.ensures refl;
+}
 
 pub unreachable-requires : goal.unreachable-requires
 unreachable-requires g c = none_flies g.D.Slot c.self.inside.own c.self.invariant c.args.c.now.tracker c.in-Wait.ensures.turn.1

@@ -9,11 +9,13 @@ use Rattle.local_pool.proofs.Asked.{one_more, makes_one}
 use Rattle.local_pool.proofs.Reaching.{spare_here, goes_page, once_live}
 use Rattle.local_pool.proofs.owned.Alone.unpin_once.Goals as goal
 
-pub unpin_once-requires-clause-several : goal.unpin_once-requires-clause-several
-unpin_once-requires-clause-several g c κs within =
-    spare_here g.D.Slot c.self.inside.own c.self.invariant c.args.p.now
-    (subst (λ (o : Owned g.row.D.Denot). IsPage c.args.p.now (held_of g.D.Slot o)) (sym c.self.view_is) c.requires.page)
-    (subst (λ (o : Owned g.row.D.Denot). 2 ≤ (page_of c.args.p.now.name (held_of g.D.Slot o)).pins) (sym c.self.view_is) c.requires.pinned)
+pub unpin_once-requires : goal.unpin_once-requires
+unpin_once-requires g c = record {
+  several =
+      spare_here g.D.Slot c.self.inside.own c.self.invariant c.args.p.now
+      (subst (λ (o : Owned g.row.D.Denot). IsPage c.args.p.now (held_of g.D.Slot o)) (sym c.self.view_is) c.requires.page)
+      (subst (λ (o : Owned g.row.D.Denot). 2 ≤ (page_of c.args.p.now.name (held_of g.D.Slot o)).pins) (sym c.self.view_is) c.requires.pinned);
+}
 
 pub invariant_of-self : goal.invariant_of-self
 invariant_of-self g c =

@@ -10,8 +10,8 @@ use Rattle.local_pool.proofs.Knowing.{knows}
 use Rattle.local_pool.proofs.Accounts.{read_lives}
 use Rattle.local_pool.proofs.owned.Alone.unused.Goals as goal
 
-pub unused-requires-after_bounds : goal.unused-requires-after_bounds
-unused-requires-after_bounds g c κs within = read_lives g.D.Slot c.self.inside.own c.self.invariant c.args.self.now c.self.view_is c.tracker.result c.args.c.now.tracker c.tracker.ensures c.requires
+pub unused-requires : goal.unused-requires
+unused-requires g c = read_lives g.D.Slot c.self.inside.own c.self.invariant c.args.self.now c.self.view_is c.tracker.result c.args.c.now.tracker c.tracker.ensures c.requires
 
 pub returns-clause-value : goal.returns-clause-value
 returns-clause-value g c =
