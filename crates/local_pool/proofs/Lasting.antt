@@ -11,7 +11,7 @@ use Rattle.store_api.specs.Tokens.{ClientToken, PageToken, LoanToken}
 use Rattle.store_api.specs.Holdings.{Holdings}
 use Rattle.store_api.specs.Conditions.{IsNewClient, IsNewPage, IsNewLoan}
 use Rattle.store_api.specs.Entries.{IsTaken}
-use Rattle.store_api.specs.Signs.{Grows}
+use Rattle.store_api.specs.Signs.{Grows, CountsRefused}
 use Rattle.store_api.specs.Refusals.{IsUntouched, StaysPinned}
 use Rattle.store_api.proofs.Growing.{grows_refl}
 use Rattle.own_entries.specs.OwnHoldings.{after_events}
@@ -24,6 +24,10 @@ use Rattle.local_pool.specs.Making.{Makes}
 use Rattle.local_pool.specs.Calling.{IsFresh, IsFreshPage, IsFreshLoan}
 use Rattle.local_pool.specs.Refusing.{Refuses}
 use Rattle.local_pool.proofs.Making.{makes_held, makes_grows}
+
+pub counted : {D : Type 0} (own : Owned D) → CountsRefused (signs_of own).trail (signs_of own).refused_unpins
+unfolding signs_of
+counted own = refl
 
 module _ {A E : Type 0} where
   pub ok_so : {P Q : A → Type 0} (r : Result A E) → IfOk r P → ((x : A) → P x → Q x) → IfOk r Q
