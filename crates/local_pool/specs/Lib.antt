@@ -1,4 +1,5 @@
 pub mod Told
+pub mod Agreeing
 pub mod Making
 pub mod Refusing
 pub mod Standing

@@ -6,12 +6,13 @@ ghost use Rattle.pin_core.specs.Setup.{OpensWith};
 ghost use Rattle.pin_core.specs.Standing.{slots_home};
 ghost use Rattle.own_entries.specs.ClientLaws.{IsWholeIdle};
 ghost use Rattle.local_pool.specs.Told.{held_of};
+ghost use Rattle.local_pool.specs.Agreeing.{AgreesWith};
 ghost use Rattle.local_pool.specs.Beginning.{Begins, IsLeastRefusal, LacksLeast};
 
 use crate::owned::Alone;
 use block_arena::Buf;
 use outside::Slot;
-use pin_core::PoolConf;
+use pin_core::{PoolConf, PoolState};
 use reservation_tree::PoolErr;
 use std::alloc::Global;
 use store_api::{Client, Loan, Page, Store};
@@ -58,6 +59,21 @@ impl<D: Slot + Drop> LocalPool<D> {
             alone,
             block_len: conf.block_len,
         })
+    }
+
+    /// The pool's value. What the owner holds is what the value has for the owner's session.
+    pub fn value(&self) -> &PoolState<D>
+        ensures value { result.now ≡ self.now.alone.pool }
+        ensures held { AgreesWith D.Slot self.now.alone }
+    {
+        self.alone.value()
+    }
+
+    /// The number of the owner's session.
+    pub fn session(&self) -> u32
+        ensures { result ≡ self.now.alone.session }
+    {
+        self.alone.session()
     }
 
     /// Ends a pool that has no client, and gives back its slots.
