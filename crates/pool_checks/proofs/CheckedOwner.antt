@@ -1,9 +1,11 @@
 -- What a pool has for its one owner is what the owner holds.
-use Rattle.std.proofs.Common.{◌≡◌, ◌≢◌, ℕ, ◌*◌, ◌==◌, List, [], Bool, true, Option, Some, None, IsSome, if◌then◌else◌, refl, sym, ap, ◌∙◌, subst, eq-eqb, is_some}
+use Rattle.std.proofs.Common.{◌≡◌, ◌≢◌, ℕ, ◌*◌, ◌==◌, List, [], Bool, true, false, ne_eqb, Option, Some, None, IsSome, if◌then◌else◌, refl, sym, ap, ◌∙◌, subst, eq-eqb, is_some, unwrap_or, option_map}
 use Rattle.std.specs.FinMap.{get}
 use Rattle.outside.specs.declared.slot.Slot.{Ghosts}
 use Rattle.block_arena.specs.Memory.{Buffer, IsBufferOf}
-use Rattle.reservation_tree.specs.Tracker.{Tracker}
+use Rattle.reservation_tree.specs.Tracker.{Tracker, Trackers, HasNoChild}
+use Rattle.reservation_tree.proofs.Sums.{total-none}
+use Rattle.pool_model.specs.Bytes.{only_if}
 use Rattle.reservation_tree.proofs.Maps.{found}
 use Rattle.pool_model.specs.Owning.{IsClientOf}
 use Rattle.pool_model.specs.State.{Page, Session, State, pins_of}
@@ -13,11 +15,12 @@ use Rattle.pool_model.proofs.Seats.{some_is}
 use Rattle.store_api.specs.Tokens.{PageToken, LoanToken}
 use Rattle.store_api.specs.Holdings.{Holdings, LivePage, LiveLoan, or_else, no_loan, page_of}
 use Rattle.store_api.specs.Conditions.{IsIdle, IsLoan, IsPage}
-use Rattle.own_entries.specs.LiveParts.{Tells, is_parent, is_under, left_at, live_account, live_page, live_loan, charge_in}
+use Rattle.own_entries.specs.LiveParts.{Tells, is_parent, is_under, left_at, live_account, live_page, live_loan, charge_in, count_under}
 use Rattle.own_entries.proofs.Behind.{IsTold, IsLent, told_page, told_loan}
 use Rattle.pin_core.specs.StateOf.{state_of}
 use Rattle.pin_core.specs.Lending.{IsLoan as IsLoanOf}
 use Rattle.pin_core.specs.Sessions.{IsIdle as IsIdleIn}
+use Rattle.pin_core.specs.Sessions.{query_of}
 use Rattle.local_pool.specs.declared.owned.Owned.{Owned}
 use Rattle.local_pool.specs.Told.{held_of}
 use Rattle.local_pool.specs.Agreeing.{AgreesWith}
@@ -28,6 +31,15 @@ under_here query o y is under = ap (is_under query) is ∙ ap (is_parent query) 
 account_there : (query charge : ℕ) (o : Option Tracker) → is_under query o ≡ true → IsSome (live_account query charge o)
 account_there query charge None mine = mine
 account_there query charge (Some y) mine = ap (λ (b : Bool). is_some (if b then Some (record { limit = y.limit; reservation = y.reservation; unused = y.reservation - charge }) else None)) mine
+
+parent_isnt : (query : ℕ) (o : Option ℕ) → (o ≡ Some query → ⊥) → is_parent query o ≡ false
+parent_isnt query None apart = refl
+parent_isnt query (Some p) apart = ne_eqb p query (λ same. apart (ap Some same))
+
+-- where a tracker has no child, none is counted under it
+none_counted : (query : ℕ) (ts : Trackers) → HasNoChild ts query → count_under query ts ≡ 0
+unfolding count_under
+none_counted query ts none = total-none (λ _ y. only_if (is_parent query y.parent) 1) ts (λ c y is. ap (λ (b : Bool). only_if b 1) (parent_isnt query y.parent (none c y is)))
 
 -- a page, as it reads
 abbrev pub reading : Page → List ℕ → LivePage
@@ -66,6 +78,11 @@ module _ {D : Type 0} (slot : Ghosts D) (own : Owned D) (agrees : AgreesWith slo
         key = ap (λ (o : Option LivePage). (page_of p.name (record h { pages = λ q. o })).key) is ∙ key;
         client = ap (λ (o : Option LivePage). (page_of p.name (record h { pages = λ q. o })).client) is ∙ client;
       }
+
+  pub none_held : HasNoChild s.trackers (query_of s own.session) → h.live_clients ≡ 0
+  none_held none =
+      let query : query_of s own.session ≡ agrees.session.query = ap (λ (o : Option Session). unwrap_or (option_map (λ x. x.query) o) 0) agrees.lives in
+      agrees.tells.live_clients ∙ none_counted agrees.session.query s.trackers (subst (HasNoChild s.trackers) query none)
 
   pub idle_held : (t : ℕ) → IsIdleIn s t → IsIdle t h
   idle_held t idle = record {

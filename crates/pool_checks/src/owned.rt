@@ -7,7 +7,7 @@ ghost use Rattle.store_api.specs.Conditions.{Fits, IsIdle, IsLiveClient, IsLoan,
 ghost use Rattle.local_pool.specs.Told.{held_of};
 
 use crate::clients::is_client_of;
-use crate::idle::is_idle;
+use crate::idle::{has_no_client, is_idle};
 use crate::loans::is_loan;
 use crate::pages::{entry_of, fits};
 use block_arena::Buf;
@@ -28,6 +28,13 @@ pub fn holds_none<D: Slot + Drop>(pool: &LocalPool<D>, c: &Client) -> bool
     ensures { IsTrue result → IsIdle c.now.tracker (held_of D.Slot pool.now.alone) }
 {
     is_idle(pool.value(), pool.session(), c.tracker())
+}
+
+/// Whether the owner has no client.
+pub fn holds_no_client<D: Slot + Drop>(pool: &LocalPool<D>) -> bool
+    ensures { IsTrue result → (held_of D.Slot pool.now.alone).live_clients ≡ 0 }
+{
+    has_no_client(pool.value(), pool.session())
 }
 
 /// How often a page is pinned, and how many blocks it has, where it is the owner's, and live.
