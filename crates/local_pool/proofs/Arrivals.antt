@@ -23,7 +23,6 @@ use Rattle.store_api.specs.Tokens.{PageToken, LoanToken}
 use Rattle.store_api.specs.Holdings.{Holdings, length_of}
 use Rattle.store_api.specs.Conditions.{IsBlockCount, IsZeroed}
 use Rattle.store_api.specs.Entries.{by, IsEvict, IsAsked, IsTaken}
-use Rattle.store_api.specs.Refusals.{WasRefused}
 use Rattle.own_entries.specs.OwnHoldings.{after_events}
 use Rattle.own_entries.proofs.ByOthers.{none_there}
 use Rattle.pin_core.specs.StateOf.{state_of}
@@ -33,12 +32,13 @@ use Rattle.pin_core.specs.Coming.{CanHold, zeros}
 use Rattle.local_pool.specs.declared.owned.Owned.{Owned}
 use Rattle.local_pool.specs.Told.{held_of, signs_of}
 use Rattle.local_pool.specs.Making.{Goes, Makes, is_calm, rests}
+use Rattle.local_pool.specs.Refusing.{Refuses}
 use Rattle.local_pool.specs.Standing.{IsStill, Stands}
 use Rattle.local_pool.specs.Calling.{Evicts, evicts_for, IsFreshPage, IsFreshLoan}
 use Rattle.local_pool.proofs.Growing.{by_append, goes, grown, makes, sums_rest}
 use Rattle.local_pool.proofs.Knowing.{knows, sound}
 use Rattle.local_pool.proofs.Still.{still_run}
-use Rattle.local_pool.proofs.Making.{makes_more, makes_made, asked_last, asked_held}
+use Rattle.local_pool.proofs.Making.{makes_more, makes_grows, makes_made, asked_last, asked_held}
 use Rattle.local_pool.proofs.Reaching.{len_here, room_here}
 use Rattle.local_pool.proofs.Counting.{fixed}
 
@@ -234,17 +234,17 @@ module _ {D : Type 0} (slot : Ghosts D) where
     fresh_taken (Ok made) fresh = fresh_before t blocks made start now asked fresh
     fresh_taken (Err e) fresh = tt
 
-    names_lack : (signs_of now).spent ≡ true → WasRefused t (call.Create t blocks) (held_of slot start) (held_of slot now) (signs_of start) (signs_of now) NamesSpent
+    names_lack : (signs_of now).spent ≡ true → Refuses slot t (call.Create t blocks) start now NamesSpent
     names_lack spent = record {
-      held = asked_held slot t start now asked;
-      cause = spent;
-      answered = spent;
-      entries = makes_made slot start now asked;
+      was = record {
+        held = asked_held slot t start now asked;
+        cause = spent;
+        answered = spent;
+        entries = makes_made slot start now asked;
+      };
+      grows = makes_grows slot start now asked;
     }
 
-    pub refused_created : (r : Result (PageToken × Buffer) PoolErr) → IfErr r (λ e. (e ≡ NamesSpent) × (new ≡ now) × ((signs_of now).spent ≡ true))
-        → IfErr r (WasRefused t (call.Create t blocks) (held_of slot start) (held_of slot new) (signs_of start) (signs_of new))
+    pub refused_created : (r : Result (PageToken × Buffer) PoolErr) → IfErr r (λ e. (e ≡ NamesSpent) × (new ≡ now) × ((signs_of now).spent ≡ true)) → IfErr r (Refuses slot t (call.Create t blocks) start new)
     refused_created (Ok made) spent = tt
-    refused_created (Err e) spent =
-        subst (λ (o : Owned D). WasRefused t (call.Create t blocks) (held_of slot start) (held_of slot o) (signs_of start) (signs_of o) e) (sym spent.1)
-        (subst (WasRefused t (call.Create t blocks) (held_of slot start) (held_of slot now) (signs_of start) (signs_of now)) (sym spent.0) (names_lack spent.2))
+    refused_created (Err e) spent = subst (λ (o : Owned D). Refuses slot t (call.Create t blocks) start o e) (sym spent.1) (subst (Refuses slot t (call.Create t blocks) start now) (sym spent.0) (names_lack spent.2))

@@ -20,7 +20,7 @@ use Rattle.store_api.specs.Holdings.{no_page as no_live_page, no_loan}
 use Rattle.store_api.specs.Changes.{slots_taken, slots_given}
 use Rattle.store_api.specs.Conditions.{Fits, IsHeld, IsPage, IsLoan}
 use Rattle.store_api.specs.Refusals.{LacksSlots, IsScratchFull, StaysPinned}
-use Rattle.store_api.specs.Signs.{refuses_unpin, WasAnswered}
+use Rattle.store_api.specs.Signs.{Grows, refuses_unpin, WasAnswered}
 use Rattle.store_api.specs.Entries.{by}
 use Rattle.own_entries.specs.OwnHoldings.{after_events}
 use Rattle.own_entries.specs.LiveParts.{left_at}
@@ -40,7 +40,7 @@ use Rattle.local_pool.specs.Leaving.{CanEnd}
 use Rattle.local_pool.proofs.Growing.{goes}
 use Rattle.local_pool.proofs.Knowing.{Knows, knows, sound, left_of}
 use Rattle.local_pool.proofs.Asked.{one_more, makes_one}
-use Rattle.local_pool.proofs.Making.{makes_held, makes_made}
+use Rattle.local_pool.proofs.Making.{makes_held, makes_grows, makes_made}
 use Rattle.local_pool.proofs.Counting.{fixed}
 
 -- a session stays live where a page takes its slots, or gives them back
@@ -242,6 +242,10 @@ module _ {D : Type 0} (slot : Ghosts D) (own new : Owned D) (is : Stands slot ow
   pub left_made : {A E : Type 0} (r : Result A E) → OnOk r (Goes slot (Unpin p.name buf.bytes ∷ []) own new) → OnOk r (Makes slot (λ events. events ≡ Unpin p.name buf.bytes ∷ []) own new)
   left_made (Ok x) ok = makes_one slot own new is (Unpin p.name buf.bytes) ok refl refl live_left refl
   left_made (Err e) ok = tt
+
+  pub left_grows : {A E : Type 0} (r : Result A E) → OnOk r (Goes slot (Unpin p.name buf.bytes ∷ []) own new) → OnErr r (Goes slot (UnpinRefused p.name ∷ []) own new) → Grows (signs_of own) (signs_of new)
+  left_grows {E = E} (Ok x) ok err = makes_grows slot own new (left_made {E = E} (Ok x) ok)
+  left_grows (Err e) ok err = makes_grows slot own new (went_refused err)
 
   pub left_refused : {A E : Type 0} (r : Result A E) → IsErr r ↔ PoolLacks (state_of own.pool) p.name → IsErr r ↔ LacksSlots (page_of p.name (held_of slot own)) (held_of slot own).free_slots
   left_refused r refused =

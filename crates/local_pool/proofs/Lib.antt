@@ -9,6 +9,7 @@ pub mod Waiting
 pub mod Turned
 pub mod Asked
 pub mod Making
+pub mod Lasting
 pub mod Roomed
 pub mod Begun
 pub mod Ended

@@ -17,7 +17,6 @@ use Rattle.pool_model.proofs.Rising.{failures_grow}
 use Rattle.store_api.specs.Holdings.{Holdings, IsPageOf}
 use Rattle.store_api.specs.Signs.{Grows, TellRefused, refuses_unpin}
 use Rattle.store_api.specs.Entries.{by, AreWrites, IsAsked, Made}
-use Rattle.store_api.specs.Refusals.{WasRefused}
 use Rattle.own_entries.specs.OwnHoldings.{Outset, after_events, holdings_of}
 use Rattle.own_entries.proofs.Outsets.{outsets_stay}
 use Rattle.own_entries.proofs.Calls.{calls_run_on, asked_hold}
@@ -25,6 +24,7 @@ use Rattle.pin_core.specs.StateOf.{state_of}
 use Rattle.local_pool.specs.declared.owned.Owned.{Owned}
 use Rattle.local_pool.specs.Told.{outset_of, held_of, signs_of}
 use Rattle.local_pool.specs.Making.{Makes}
+use Rattle.local_pool.specs.Refusing.{Refuses}
 use Rattle.local_pool.specs.Turning.{IsEnd, IsWrite, Rose, has_asked}
 use Rattle.local_pool.proofs.Growing.{by_append}
 
@@ -138,7 +138,7 @@ module _ {D : Type 0} (slot : Ghosts D) where
   -- and then it was refused
   pub was_refused : (t entry : ℕ) (call : Call) (start now new : Owned D) → (asked : Makes slot (IsAsked t (held_of slot start) []) start now)
       → Makes slot (λ events. events ≡ Refused call entry ∷ []) now new → Rose t start.trail now
-      → WasRefused t call (held_of slot start) (held_of slot new) (signs_of start) (signs_of new) (WriteFault entry)
+      → Refuses slot t call start new (WriteFault entry)
   unfolding signs_of makes_more
   was_refused t entry call start now new asked last rose =
       let all : Makes slot (IsAsked t (held_of slot start) (Refused call entry ∷ [])) start new =
@@ -152,11 +152,14 @@ module _ {D : Type 0} (slot : Ghosts D) where
       let first : failures_in (is_own start.session) start.trail < failures_in (is_own now.session) now.trail = subst (λ (m : ℕ). failures_in (is_own m) start.trail < failures_in (is_own now.session) now.trail) asked.session rose.in_all in
       omega (arith, grew, first) in
       record {
-        held = makes_held start new all ∙ asked_hold t (held_of slot start) (Refused call entry ∷ []) all.events all.is;
-        cause = more_for;
-        answered = record {
-          rose = more_all;
-          told = (by start.session all.events, ap Some all.trail, tell_refused start.session entry call asked.events all.events (ap (λ (es : List Event). asked.events ++ es) last.is));
+        was = record {
+          held = makes_held start new all ∙ asked_hold t (held_of slot start) (Refused call entry ∷ []) all.events all.is;
+          cause = more_for;
+          answered = record {
+            rose = more_all;
+            told = (by start.session all.events, ap Some all.trail, tell_refused start.session entry call asked.events all.events (ap (λ (es : List Event). asked.events ++ es) last.is));
+          };
+          entries = (by start.session all.events, ap Some all.trail, (all.events, ap (λ (m : ℕ). by m all.events) (sym (whose slot start)), all.is));
         };
-        entries = (by start.session all.events, ap Some all.trail, (all.events, ap (λ (m : ℕ). by m all.events) (sym (whose slot start)), all.is));
+        grows = makes_grows start new all;
       }

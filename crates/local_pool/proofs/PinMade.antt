@@ -14,12 +14,12 @@ use Rattle.pool_model.specs.declared.entry.Entry.{Entry}
 use Rattle.store_api.specs.Holdings.{Holdings}
 use Rattle.store_api.specs.Signs.{TellRefused}
 use Rattle.store_api.specs.Entries.{by, IsAsked, IsPin, IsFailedLoad}
-use Rattle.store_api.specs.Refusals.{WasRefused}
 use Rattle.own_entries.specs.CallLaws.{CanBeCharged}
 use Rattle.own_entries.proofs.Calls.{calls_tell}
 use Rattle.local_pool.specs.declared.owned.Owned.{Owned}
 use Rattle.local_pool.specs.Told.{held_of, signs_of}
 use Rattle.local_pool.specs.Making.{Makes}
+use Rattle.local_pool.specs.Refusing.{Refuses}
 use Rattle.local_pool.specs.Turning.{IsWrite, Rose}
 use Rattle.local_pool.specs.Pinning.{IsPinned, IsFailedRead, MustRefuse}
 use Rattle.local_pool.proofs.Growing.{by_append}
@@ -79,7 +79,7 @@ module _ {D : Type 0} (slot : Ghosts D) (t p entry : ℕ) (start now mid new : O
   all_are = subst (IsFailedLoad t (held_of slot start) p entry) (sym all.is) (unread_is t (held_of slot start) p entry asked.events failed.events last.events asked.is failed.is last.is)
 
   -- the load failed, and the call was refused for it
-  pub was_unread : WasRefused t (Pin p) (held_of slot start) (held_of slot new) (signs_of start) (signs_of new) (ReadFault entry)
+  pub was_unread : Refuses slot t (Pin p) start new (ReadFault entry)
   unfolding signs_of
   was_unread =
       let rose : Rose t start.trail mid = since_asked in
@@ -93,13 +93,16 @@ module _ {D : Type 0} (slot : Ghosts D) (t p entry : ℕ) (start now mid new : O
       let first : failures_in (is_own start.session) start.trail < failures_in (is_own mid.session) mid.trail = subst (λ (m : ℕ). failures_in (is_own m) start.trail < failures_in (is_own mid.session) mid.trail) read.session rose.in_all in
       omega (arith, grew, first) in
       record {
-        held =
-            makes_held slot start new all
-            ∙ (calls_tell t (held_of slot start)).refused (Pin p) (ReadFault entry) all.events (λ q same. subst (λ (r : ℕ). CanBeCharged r (held_of slot start)) (ap pinned_name same) can) all_are;
-        cause = more_for;
-        answered = record {
-          rose = more_all;
-          told = (by start.session all.events, ap Some all.trail, subst (λ (es : List Event). TellRefused entry (by start.session es)) (sym all.is) (tell_last start.session entry (Pin p) (asked.events ++ failed.events) last.events last.is));
+        was = record {
+          held =
+              makes_held slot start new all
+              ∙ (calls_tell t (held_of slot start)).refused (Pin p) (ReadFault entry) all.events (λ q same. subst (λ (r : ℕ). CanBeCharged r (held_of slot start)) (ap pinned_name same) can) all_are;
+          cause = more_for;
+          answered = record {
+            rose = more_all;
+            told = (by start.session all.events, ap Some all.trail, subst (λ (es : List Event). TellRefused entry (by start.session es)) (sym all.is) (tell_last start.session entry (Pin p) (asked.events ++ failed.events) last.events last.is));
+          };
+          entries = (by start.session all.events, ap Some all.trail, (all.events, ap (λ (m : ℕ). by m all.events) (sym (whose slot start)), all_are));
         };
-        entries = (by start.session all.events, ap Some all.trail, (all.events, ap (λ (m : ℕ). by m all.events) (sym (whose slot start)), all_are));
+        grows = makes_grows slot start new all;
       }

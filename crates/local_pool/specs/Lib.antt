@@ -1,6 +1,8 @@
 pub mod Told
 pub mod Counting
+pub mod Agreeing
 pub mod Making
+pub mod Refusing
 pub mod Standing
 pub mod Turning
 pub mod Calling
@@ -8,3 +10,4 @@ pub mod Beginning
 pub mod Leaving
 pub mod Loading
 pub mod Pinning
+pub mod Laws

@@ -9,9 +9,9 @@ ghost use Rattle.pin_core.specs.Turns.{amount_of};
 ghost use Rattle.store_api.specs.Holdings.{unused_of};
 ghost use Rattle.store_api.specs.Conditions.{IsLiveClient};
 ghost use Rattle.store_api.specs.Entries.{IsAsked};
-ghost use Rattle.store_api.specs.Refusals.{WasRefused};
-ghost use Rattle.local_pool.specs.Told.{held_of, signs_of};
+ghost use Rattle.local_pool.specs.Told.{held_of};
 ghost use Rattle.local_pool.specs.Making.{Makes};
+ghost use Rattle.local_pool.specs.Refusing.{Refuses};
 ghost use Rattle.local_pool.specs.Turning.{CanRefuse, IsRoomCall, Rose, Wants};
 
 use crate::entering::{enter, enter_refused};
@@ -53,7 +53,7 @@ impl<D: Slot + Drop> Alone<D> {
         requires turn { IsRoomCall call.now }
         ensures ok { OnOk result (Makes D.Slot (IsAsked c.now.tracker (held_of D.Slot self.old) []) self.old self.new) }
         ensures room { OnOk result (HasRoom (state_of self.new.pool) c.now.tracker (amount_of want)) }
-        ensures err { IfErr result (WasRefused c.now.tracker call.now (held_of D.Slot self.old) (held_of D.Slot self.new) (signs_of self.old) (signs_of self.new)) }
+        ensures err { IfErr result (Refuses D.Slot c.now.tracker call.now self.old self.new) }
     {
         self.ask();
         loop {

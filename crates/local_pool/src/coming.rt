@@ -10,9 +10,9 @@ ghost use Rattle.pin_core.specs.Coming.{CanHold, zeros};
 ghost use Rattle.store_api.specs.Holdings.{length_of, unused_of};
 ghost use Rattle.store_api.specs.Conditions.{IsBlockCount, IsLiveClient};
 ghost use Rattle.store_api.specs.Entries.{IsTaken, by};
-ghost use Rattle.store_api.specs.Refusals.{WasRefused};
 ghost use Rattle.local_pool.specs.Told.{held_of, signs_of};
 ghost use Rattle.local_pool.specs.Making.{Goes, Makes};
+ghost use Rattle.local_pool.specs.Refusing.{Refuses};
 ghost use Rattle.local_pool.specs.Calling.{Evicts, evicts_for, IsFreshLoan, IsFreshPage};
 
 use crate::entering::{enter, enter_evictions};
@@ -43,7 +43,7 @@ impl<D: Slot + Drop> Alone<D> {
         requires unused { bytes ≤ unused_of c.now.tracker (held_of D.Slot self.old) }
         ensures ok { IfOk result (λ made. Makes D.Slot (IsTaken c.now.tracker (held_of D.Slot self.old) (event.Create made.0.name c.now.tracker blocks made.0.key ∷ [])) self.old self.new) }
         ensures page { IfOk result (λ made. IsFreshPage c.now.tracker blocks made self.old (held_of D.Slot self.old)) }
-        ensures err { IfErr result (WasRefused c.now.tracker (call.Create c.now.tracker blocks) (held_of D.Slot self.old) (held_of D.Slot self.new) (signs_of self.old) (signs_of self.new)) }
+        ensures err { IfErr result (Refuses D.Slot c.now.tracker (call.Create c.now.tracker blocks) self.old self.new) }
     {
         let Ok(shell) = Shell::with(alloc, blocks) else {
             return Err(PoolErr::Memory);
@@ -88,7 +88,7 @@ impl<D: Slot + Drop> Alone<D> {
         requires unused { bytes ≤ unused_of c.now.tracker (held_of D.Slot self.old) }
         ensures ok { IfOk result (λ loan. Makes D.Slot (IsTaken c.now.tracker (held_of D.Slot self.old) (event.Alloc loan.number c.now.tracker blocks ∷ [])) self.old self.new) }
         ensures loan { IfOk result (λ loan. IsFreshLoan c.now.tracker blocks loan (held_of D.Slot self.old)) }
-        ensures err { IfErr result (WasRefused c.now.tracker (call.Alloc c.now.tracker blocks) (held_of D.Slot self.old) (held_of D.Slot self.new) (signs_of self.old) (signs_of self.new)) }
+        ensures err { IfErr result (Refuses D.Slot c.now.tracker (call.Alloc c.now.tracker blocks) self.old self.new) }
     {
         let Ok(shell) = Shell::with(alloc, blocks) else {
             return Err(PoolErr::Memory);

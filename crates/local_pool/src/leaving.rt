@@ -12,6 +12,7 @@ ghost use Rattle.pin_core.specs.Unpinning.{LacksSlots as PoolLacks};
 ghost use Rattle.store_api.specs.Holdings.{page_of};
 ghost use Rattle.store_api.specs.Conditions.{Fits, IsHeld, IsLoan, IsPage};
 ghost use Rattle.store_api.specs.Refusals.{LacksSlots, StaysPinned};
+ghost use Rattle.store_api.specs.Signs.{Grows};
 ghost use Rattle.local_pool.specs.Told.{held_of, signs_of};
 ghost use Rattle.local_pool.specs.Making.{Goes, Makes};
 ghost use Rattle.local_pool.specs.Leaving.{CanEnd};
@@ -36,6 +37,7 @@ impl<D: Slot + Drop> Alone<D> {
         ensures ok { OnOk result (Makes D.Slot (λ events. events ≡ event.Unpin p.now.name buf.bytes ∷ []) self.old self.new) }
         ensures refused { IsErr result ↔ LacksSlots (page_of p.now.name (held_of D.Slot self.old)) (held_of D.Slot self.old).free_slots }
         ensures err { IfErr result (StaysPinned p.now.name buf (held_of D.Slot self.old) (held_of D.Slot self.new) (signs_of self.old) (signs_of self.new)) }
+        ensures grows { Grows (signs_of self.old) (signs_of self.new) }
     {
         leave::<Brand, D>(&mut self.own, p, buf)
     }

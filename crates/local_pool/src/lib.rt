@@ -12,6 +12,7 @@ mod coming;
 mod entering;
 mod leaving;
 mod loading;
+mod local;
 mod looking;
 mod owned;
 mod pinning;
@@ -22,6 +23,7 @@ mod trackers;
 mod turning;
 mod writing;
 
+pub use local::LocalPool;
 pub use owned::{Alone, Owned};
 pub use tally::Tally;
 pub use turning::Turn;

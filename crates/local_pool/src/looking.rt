@@ -1,12 +1,14 @@
-//! What an owner sees of its reservations.
+//! What an owner sees of its pool.
 ghost use Rattle.std.specs.Prelude.{◌≡◌};
 ghost use Rattle.store_api.specs.Holdings.{account_of, unused_of};
 ghost use Rattle.store_api.specs.Conditions.{FitsAccount, FitsQuery, IsLiveClient};
 ghost use Rattle.own_entries.specs.ClientLaws.{IsWholeIdle};
 ghost use Rattle.local_pool.specs.Told.{held_of};
+ghost use Rattle.local_pool.specs.Agreeing.{AgreesWith};
 
 use crate::owned::Alone;
 use outside::Slot;
+use pin_core::PoolState;
 use store_api::Client;
 
 impl<D: Slot + Drop> Alone<D> {
@@ -26,6 +28,21 @@ impl<D: Slot + Drop> Alone<D> {
         ensures fits { FitsAccount (account_of c.now.tracker (held_of D.Slot self.now)) (held_of D.Slot self.now) }
     {
         self.own.pool.unused(c.tracker())
+    }
+
+    /// The pool's value. What the owner holds is what the value has for the owner's session.
+    pub fn value(&self) -> &PoolState<D>
+        ensures value { result.now ≡ self.now.pool }
+        ensures held { AgreesWith D.Slot self.now }
+    {
+        &self.own.pool
+    }
+
+    /// The number of the owner's session.
+    pub fn session(&self) -> u32
+        ensures { result ≡ self.now.session }
+    {
+        self.own.session
     }
 
     /// Clients and queries that have nothing under them have their whole reservation unused.

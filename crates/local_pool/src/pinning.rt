@@ -10,9 +10,9 @@ ghost use Rattle.pin_core.specs.Refusing.{refusal_of};
 ghost use Rattle.store_api.specs.Holdings.{page_of, page_len, unused_of};
 ghost use Rattle.store_api.specs.Conditions.{IsPage, ShowsLeft};
 ghost use Rattle.store_api.specs.Entries.{IsPin};
-ghost use Rattle.store_api.specs.Refusals.{WasRefused};
-ghost use Rattle.local_pool.specs.Told.{held_of, signs_of};
+ghost use Rattle.local_pool.specs.Told.{held_of};
 ghost use Rattle.local_pool.specs.Making.{Makes};
+ghost use Rattle.local_pool.specs.Refusing.{Refuses};
 ghost use Rattle.local_pool.specs.Standing.{Stands};
 ghost use Rattle.local_pool.specs.Turning.{has_asked};
 ghost use Rattle.local_pool.specs.Pinning.{CanBePinned, PinIs};
@@ -50,7 +50,7 @@ impl<D: Slot + Drop> Alone<D> {
         requires unused { page_len p.now.name (held_of D.Slot self.old) ≤ unused_of p.now.client (held_of D.Slot self.old) }
         ensures ok { OnOk result (Makes D.Slot (IsPin p.now.client (held_of D.Slot self.old) p.now.name) self.old self.new) }
         ensures bytes { IfOk result (ShowsLeft (page_of p.now.name (held_of D.Slot self.old)) (held_of D.Slot self.old)) }
-        ensures err { IfErr result (WasRefused p.now.client (call.Pin p.now.name) (held_of D.Slot self.old) (held_of D.Slot self.new) (signs_of self.old) (signs_of self.new)) }
+        ensures err { IfErr result (Refuses D.Slot p.now.client (call.Pin p.now.name) self.old self.new) }
     {
         self.ask();
         loop {

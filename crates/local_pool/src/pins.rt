@@ -7,9 +7,9 @@ ghost use Rattle.pin_core.specs.StateOf.{state_of};
 ghost use Rattle.store_api.specs.Holdings.{page_of, page_len, unused_of, loan_len};
 ghost use Rattle.store_api.specs.Conditions.{IsPage, IsLoan, IsLiveClient};
 ghost use Rattle.store_api.specs.Entries.{IsAsked};
-ghost use Rattle.store_api.specs.Refusals.{WasRefused};
-ghost use Rattle.local_pool.specs.Told.{held_of, signs_of};
+ghost use Rattle.local_pool.specs.Told.{held_of};
 ghost use Rattle.local_pool.specs.Making.{Makes};
+ghost use Rattle.local_pool.specs.Refusing.{Refuses};
 
 use crate::entering::enter;
 use crate::owned::Alone;
@@ -26,7 +26,7 @@ impl<D: Slot + Drop> Alone<D> {
         requires pinned { 1 ≤ (page_of p.now.name (held_of D.Slot self.old)).pins }
         requires unused { page_len p.now.name (held_of D.Slot self.old) ≤ unused_of p.now.client (held_of D.Slot self.old) }
         ensures ok { OnOk result (Makes D.Slot (IsAsked p.now.client (held_of D.Slot self.old) (event.PinAgain p.now.name ∷ [])) self.old self.new) }
-        ensures err { IfErr result (WasRefused p.now.client (call.PinAgain p.now.name) (held_of D.Slot self.old) (held_of D.Slot self.new) (signs_of self.old) (signs_of self.new)) }
+        ensures err { IfErr result (Refuses D.Slot p.now.client (call.PinAgain p.now.name) self.old self.new) }
     {
         let page = p.name();
         let bytes = self.page_len(p);
@@ -87,7 +87,7 @@ impl<D: Slot + Drop> Alone<D> {
         ensures ok { OnOk result (Makes D.Slot (IsAsked to.now.tracker (held_of D.Slot self.old) (event.MoveBuffer loan.number to.now.tracker ∷ [])) self.old self.new) }
         ensures moved { IfOk result (λ moved. moved ≡ record loan { client = to.now.tracker }) }
         ensures back { IfErr result (λ e. e.0 ≡ loan) }
-        ensures err { IfErr result (λ e. WasRefused to.now.tracker (call.MoveBuffer loan.number to.now.tracker) (held_of D.Slot self.old) (held_of D.Slot self.new) (signs_of self.old) (signs_of self.new) e.1) }
+        ensures err { IfErr result (λ e. Refuses D.Slot to.now.tracker (call.MoveBuffer loan.number to.now.tracker) self.old self.new e.1) }
     {
         let bytes = loan.buf().len() as u64;
         let call = Call::MoveBuffer {

@@ -46,7 +46,8 @@ impl<D: Slot + Drop> Alone<D> {
     pub fn end_client(&mut self, c: Client)
         requires client { IsLiveClient c (held_of D.Slot self.old) }
         requires idle { IsIdle c.tracker (held_of D.Slot self.old) }
-        ensures { Makes D.Slot (λ events. events ≡ event.MoveReservation c.tracker (held_of D.Slot self.old).query (account_of c.tracker (held_of D.Slot self.old)).reservation ∷ event.CloseTracker c.tracker ∷ []) self.old self.new }
+        ensures makes { Makes D.Slot (λ events. events ≡ event.MoveReservation c.tracker (held_of D.Slot self.old).query (account_of c.tracker (held_of D.Slot self.old)).reservation ∷ event.CloseTracker c.tracker ∷ []) self.old self.new }
+        ensures apart { (held_of D.Slot self.old).clients (held_of D.Slot self.old).query ≡ None }
     {
         let own = &mut self.own;
         let tracker = c.tracker();

@@ -10,6 +10,7 @@ mod clients;
 mod idle;
 mod jobs;
 mod loans;
+mod owned;
 mod pages;
 #[cfg(test)]
 mod tests;
@@ -19,6 +20,10 @@ pub use clients::{can_hold, has_unused, is_client_of, is_seat};
 pub use idle::{has_no_client, has_no_session, is_idle};
 pub use jobs::{is_maker, is_read_job, is_write_job, is_writer};
 pub use loans::{can_move_to, is_loan};
+pub use owned::{
+    has_blocks, has_page_unused, held_page, holds_client, holds_loan, holds_no_client,
+    holds_none, is_buffer_of,
+};
 pub use pages::{
     can_pin, entry_at, entry_of, fits, has_pin_to_spare, has_room_for, is_last_pin, is_page,
     is_pinned, is_pinned_with, is_unpinned, length,

@@ -4,9 +4,10 @@ use Rattle.store_api.specs.Holdings.{page_of}
 use Rattle.store_api.specs.Conditions.{Fits, IsPage}
 use Rattle.local_pool.specs.declared.owned.Owned.{Owned}
 use Rattle.store_api.specs.Refusals.{LacksSlots, StaysPinned}
+use Rattle.store_api.specs.Signs.{Grows}
 use Rattle.local_pool.specs.Told.{held_of, signs_of}
 use Rattle.local_pool.specs.Making.{Makes}
-use Rattle.local_pool.proofs.Holding.{last_pin, is_there, left_stands, left_made, left_refused, left_pinned}
+use Rattle.local_pool.proofs.Holding.{last_pin, is_there, left_stands, left_made, left_grows, left_refused, left_pinned}
 use Rattle.local_pool.proofs.owned.Alone.unpin.Goals as goal
 
 pub leave-requires-clause-last : goal.leave-requires-clause-last
@@ -49,3 +50,11 @@ returns-clause-err g c =
     (subst (λ (o : Owned g.row.D.Denot). IsPage c.args.p.now (held_of g.D.Slot o)) (sym c.self.view_is) c.requires.page)
     (subst (λ (o : Owned g.row.D.Denot). (page_of c.args.p.now.name (held_of g.D.Slot o)).pins ≡ 1) (sym c.self.view_is) c.requires.pinned)
     c.leave.result c.leave.ensures.err c.leave.ensures.cause c.leave.ensures.back)
+
+pub returns-clause-grows : goal.returns-clause-grows
+returns-clause-grows g c =
+    subst (λ (o : Owned g.row.D.Denot). Grows (signs_of o) (signs_of c.leave.new.own)) c.self.view_is
+    (left_grows g.D.Slot c.self.inside.own c.leave.new.own c.self.invariant c.args.p.now c.args.buf
+    (subst (λ (o : Owned g.row.D.Denot). IsPage c.args.p.now (held_of g.D.Slot o)) (sym c.self.view_is) c.requires.page)
+    (subst (λ (o : Owned g.row.D.Denot). (page_of c.args.p.now.name (held_of g.D.Slot o)).pins ≡ 1) (sym c.self.view_is) c.requires.pinned)
+    c.leave.result c.leave.ensures.ok c.leave.ensures.err)

@@ -1,0 +1,10 @@
+use Rattle.std.proofs.Common.{subst}
+use Rattle.local_pool.specs.declared.owned.Owned.{Owned}
+use Rattle.local_pool.specs.Agreeing.{AgreesWith}
+use Rattle.local_pool.proofs.Knowing.{Knows, knows}
+use Rattle.local_pool.proofs.owned.Alone.value.Goals as goal
+
+pub returns-clause-held : goal.returns-clause-held
+returns-clause-held g c =
+    let known : Knows g.D.Slot c.self.inside.own = knows g.D.Slot c.self.inside.own c.self.invariant in
+    subst (AgreesWith g.D.Slot) c.self.view_is (record { session = known.session; lives = known.lives; tells = known.told })

@@ -1,0 +1,227 @@
+//! The pool of one owner as a store.
+ghost use Rattle.std.specs.Prelude.{◌≡◌, ◌≤◌, ℕ, IsErr, IfOk, IfErr, vec_len};
+ghost use Rattle.std.specs.List.{sum_by};
+ghost use Rattle.block_arena.specs.Blocks.{IsBlockLen};
+ghost use Rattle.pin_core.specs.Setup.{OpensWith};
+ghost use Rattle.pin_core.specs.Standing.{slots_home};
+ghost use Rattle.own_entries.specs.ClientLaws.{IsWholeIdle};
+ghost use Rattle.local_pool.specs.Told.{held_of};
+ghost use Rattle.local_pool.specs.Agreeing.{AgreesWith};
+ghost use Rattle.local_pool.specs.Beginning.{Begins, IsLeastRefusal, LacksLeast};
+
+use crate::owned::Alone;
+use block_arena::Buf;
+use outside::Slot;
+use pin_core::{PoolConf, PoolState};
+use reservation_tree::PoolErr;
+use std::alloc::Global;
+use store_api::{Client, Loan, Page, Store};
+
+/// A pool with one owner, as a store.
+///
+/// What a law of stores says of it whatever was called before stands beside it, since a law can't
+/// use the invariant of [`Alone`].
+#[derive(Drop)]
+pub struct LocalPool<D: Slot> {
+    pub(crate) alone: Alone<D>,
+    pub(crate) block_len: u32,
+    ghost len: { block_len ≡ (held_of D.Slot alone).block_len },
+    ghost power: { IsBlockLen block_len },
+    ghost whole: { IsWholeIdle (held_of D.Slot alone) },
+}
+
+impl<D: Slot + Drop> LocalPool<D> {
+    /// A pool with these numbers and slots, whose owner may reserve up to `limit` bytes and has `least` of them, and
+    /// whose pages may take `quota` slots. Takes all the memory that it will ever use, but for pages and loans.
+    ///
+    /// # Errors
+    ///
+    /// `Memory`, or `NoReservation`: `least` passes the limit or all memory. The slots come back.
+    pub fn open(
+        alloc: Global,
+        conf: &PoolConf,
+        slots: Vec<D>,
+        limit: u64,
+        quota: u32,
+        least: u64,
+    ) -> Result<LocalPool<D>, (Vec<D>, PoolErr)>
+        requires conf { OpensWith conf.now }
+        requires slots { vec_len slots ≤ 1048576 }
+        requires quota { quota ≤ vec_len slots }
+        ensures ok { IfOk result (λ pool. Begins D.Slot conf.now slots.items limit quota least pool.alone) }
+        ensures refused { LacksLeast conf.now limit least → IsErr result }
+        ensures cause { IfErr result (λ e. IsLeastRefusal conf.now limit least e.1) }
+        ensures back { IfErr result (λ e. (measure : D → ℕ) → sum_by measure e.0.items ≡ sum_by measure slots.items) }
+    {
+        let alone = Alone::open(alloc, conf, slots, limit, quota, least)?;
+        alone.law_whole();
+        Ok(LocalPool {
+            alone,
+            block_len: conf.block_len,
+        })
+    }
+
+    /// The pool's value. What the owner holds is what the value has for the owner's session.
+    pub fn value(&self) -> &PoolState<D>
+        ensures value { result.now ≡ self.now.alone.pool }
+        ensures held { AgreesWith D.Slot self.now.alone }
+    {
+        self.alone.value()
+    }
+
+    /// The number of the owner's session.
+    pub fn session(&self) -> u32
+        ensures { result ≡ self.now.alone.session }
+    {
+        self.alone.session()
+    }
+
+    /// Ends a pool that has no client, and gives back its slots.
+    pub fn close(self) -> Vec<D>
+        requires { (held_of D.Slot self.alone).live_clients ≡ 0 }
+        ensures { (measure : D → ℕ) → sum_by measure result.items ≡ slots_home measure self.alone.pool }
+    {
+        self.alone.close()
+    }
+}
+
+impl<D: Slot + Drop> Store for LocalPool<D> {
+    ghost use Rattle.local_pool.specs.Told.{signs_of};
+    ghost use Rattle.local_pool.specs.Laws.{tells_left};
+
+    ghost holds = { λ s. held_of D.Slot s.alone };
+
+    ghost signs = { λ s. signs_of s.alone };
+
+    ghost tells_left = { λ st. tells_left D.Slot st.alone };
+
+    ghost idle_unused = { λ st t some idle. st.whole.clients t some idle };
+
+    ghost idle_room = { λ st none. st.whole.query none };
+
+    fn block_len(&self) -> u32 {
+        self.block_len
+    }
+
+    fn room(&self) -> u64 {
+        self.alone.room()
+    }
+
+    fn unused(&self, c: &Client) -> u64 {
+        self.alone.unused(c)
+    }
+
+    fn add_client(&mut self, limit: u64) -> Result<Client, PoolErr> {
+        let alone = &mut self.alone;
+        let result = alone.add_client(limit);
+        alone.law_whole();
+        result
+    }
+
+    fn end_client(&mut self, c: Client) {
+        let alone = &mut self.alone;
+        alone.end_client(c);
+        alone.law_whole();
+    }
+
+    fn reserve(&mut self, c: &Client, bytes: u64) -> Result<(), PoolErr> {
+        let alone = &mut self.alone;
+        let result = alone.reserve(c, bytes);
+        alone.law_whole();
+        result
+    }
+
+    fn reserve_to_fit(&mut self, c: &Client, bytes: u64) -> Result<(), PoolErr> {
+        let alone = &mut self.alone;
+        let result = alone.reserve_to_fit(c, bytes);
+        alone.law_whole();
+        result
+    }
+
+    fn give_back(&mut self, c: &Client, bytes: u64) -> Result<(), PoolErr> {
+        let alone = &mut self.alone;
+        let result = alone.give_back(c, bytes);
+        alone.law_whole();
+        result
+    }
+
+    fn move_reservation(&mut self, from: &Client, to: &Client, bytes: u64) -> Result<(), PoolErr> {
+        let alone = &mut self.alone;
+        let result = alone.move_reservation(from, to, bytes);
+        alone.law_whole();
+        result
+    }
+
+    fn create(&mut self, alloc: Global, c: &Client, blocks: u32) -> Result<(Page, Buf), PoolErr> {
+        let bytes = u64::from(blocks) * u64::from(self.block_len);
+        let alone = &mut self.alone;
+        let result = alone.create(alloc, c, blocks, bytes);
+        alone.law_whole();
+        result
+    }
+
+    fn pin(&mut self, p: &Page) -> Result<Buf, PoolErr> {
+        let alone = &mut self.alone;
+        let result = alone.pin(p);
+        alone.law_whole();
+        result
+    }
+
+    fn pin_again(&mut self, p: &Page) -> Result<(), PoolErr> {
+        let alone = &mut self.alone;
+        let result = alone.pin_again(p);
+        alone.law_whole();
+        result
+    }
+
+    fn unpin_once(&mut self, p: &Page) {
+        let alone = &mut self.alone;
+        alone.unpin_once(p);
+        alone.law_whole();
+    }
+
+    fn unpin(&mut self, p: &Page, buf: Buf) -> Result<(), (Buf, PoolErr)> {
+        let alone = &mut self.alone;
+        let result = alone.unpin(p, buf);
+        alone.law_whole();
+        result
+    }
+
+    fn extract(&mut self, p: Page, buf: Buf) -> Loan {
+        let alone = &mut self.alone;
+        let loan = alone.extract(p, buf);
+        alone.law_whole();
+        loan
+    }
+
+    fn destroy(&mut self, p: Page, buf: Option<Buf>) {
+        let alone = &mut self.alone;
+        alone.destroy(p, buf);
+        alone.law_whole();
+    }
+
+    fn alloc(&mut self, alloc: Global, c: &Client, blocks: u32) -> Result<Loan, PoolErr> {
+        let bytes = u64::from(blocks) * u64::from(self.block_len);
+        let alone = &mut self.alone;
+        let result = alone.alloc(alloc, c, blocks, bytes);
+        alone.law_whole();
+        result
+    }
+
+    fn free(&mut self, loan: Loan) {
+        let alone = &mut self.alone;
+        alone.free(loan);
+        alone.law_whole();
+    }
+
+    // To its own client a loan doesn't move, so nothing is entered.
+    fn move_buffer(&mut self, loan: Loan, to: &Client) -> Result<Loan, (Loan, PoolErr)> {
+        if loan.client() == to.tracker() {
+            return Ok(loan);
+        }
+        let alone = &mut self.alone;
+        let result = alone.move_buffer(loan, to);
+        alone.law_whole();
+        result
+    }
+}

@@ -1,0 +1,170 @@
+//! What serves any store, over the pool of one owner: a walk over every call, and rows on pages.
+ghost use Rattle.std.specs.Prelude.{◌≡◌, IfOk};
+ghost use Rattle.store_api.specs.Conditions.{IsLiveClient};
+ghost use Rattle.store_api.specs.Alike.{AlikeButClients};
+ghost use Rattle.tuple_stream.specs.PageRows.{IsOneRow};
+ghost use Rattle.tuple_stream.specs.Streams.{HasPageRoom, IsShaped};
+ghost use Rattle.tuple_stream.specs.Touches.{Touches};
+
+use super::owner::{self, Own};
+use super::steps;
+use page_table::Place;
+use reservation_tree::PoolErr;
+use std::alloc::Global;
+use std::process::Abort;
+use std::test::Fail;
+use store_api::{Client, Page, Store, Walked, walk};
+use tuple_stream::{At, Stream, StreamErr};
+
+const WALKED: Walked = Walked {
+    pinned: 7,
+    moved: 9,
+    fresh: 0,
+};
+
+#[test]
+fn a_walk_with_room_for_all_writes_nothing(rt: HostRuntime) {
+    let slots = steps::slots(&rt, rt.alloc(), 8, &[]);
+    let mut pool = owner::open(&rt, rt.alloc(), 20, 0, slots, 1280);
+    assert_eq!(rt; walk(&mut pool, rt.alloc()), Ok(WALKED));
+    assert_eq!(rt; owner::close(&rt, pool), (0, 0));
+}
+
+// The page is pinned again, once its client has reservation for it, and ends.
+fn come_back(rt: &impl Abort, pool: &mut Own, c: &Client, page: Page, byte: u8) {
+    assert_eq!(rt; owner::reserve(rt, pool, c, 64), Ok(()));
+    let buf = owner::pin(rt, pool, c, &page).expect(rt, "the page");
+    assert_eq!(rt; owner::shown(rt, &buf), byte);
+    owner::destroy_pinned(rt, pool, page, buf);
+    assert_eq!(rt; owner::give_back(rt, pool, c, 64), Ok(()));
+}
+
+#[test]
+fn a_walk_evicts_the_pages_of_another_client_which_come_back(rt: HostRuntime) {
+    let slots = steps::slots(&rt, rt.alloc(), 8, &[]);
+    let mut pool = owner::open(&rt, rt.alloc(), 4, 0, slots, 256);
+    let c = owner::client(&rt, &mut pool, 64);
+    let first = owner::left(&rt, rt.alloc(), &mut pool, &c, 10);
+    let second = owner::left(&rt, rt.alloc(), &mut pool, &c, 11);
+    let third = owner::left(&rt, rt.alloc(), &mut pool, &c, 12);
+    let fourth = owner::left(&rt, rt.alloc(), &mut pool, &c, 13);
+    assert_eq!(rt; owner::give_back(&rt, &mut pool, &c, 64), Ok(()));
+    assert_eq!(rt; owner::free_blocks(&pool), 0);
+    assert_eq!(rt; walk(&mut pool, rt.alloc()), Ok(WALKED));
+    assert_eq!(rt; owner::place(&rt, &pool, &first), Place::Evicted);
+    come_back(&rt, &mut pool, &c, first, 10);
+    come_back(&rt, &mut pool, &c, second, 11);
+    come_back(&rt, &mut pool, &c, third, 12);
+    come_back(&rt, &mut pool, &c, fourth, 13);
+    owner::end_client(&rt, &mut pool, c);
+    // Each of the four pages was written once.
+    assert_eq!(rt; owner::close(&rt, pool), (4, 0));
+}
+
+// A row has its count and sixteen bytes behind it.
+fn row_of(alloc: Global, fill: u8) -> Result<Vec<u8>, StreamErr>
+    ensures { IfOk result (λ row. IsOneRow row.items) }
+{
+    let Ok(mut row) = Vec::from_slice(alloc, &[0, 0, 0, 16]) else {
+        return Err(StreamErr::Pool(PoolErr::Memory));
+    };
+    if row.resize(20, fill).is_err() {
+        return Err(StreamErr::Pool(PoolErr::Memory));
+    }
+    Ok(row)
+}
+
+// Seven rows come on a new stream.
+fn fill<St: Store>(
+    stream: &mut Stream,
+    store: &mut St,
+    alloc: Global,
+    c: &Client,
+) -> Result<(), StreamErr>
+    requires client { IsLiveClient c.now (St.holds store.old) }
+    requires stream { IsShaped c.now.tracker stream.old (St.holds store.old) }
+    requires room { HasPageRoom c.now.tracker stream.old (St.holds store.old) }
+    ensures stream { IsShaped c.now.tracker stream.new (St.holds store.new) }
+    ensures sized { stream.new.page_blocks ≡ stream.old.page_blocks }
+    ensures touches { Touches c.now.tracker stream.old stream.new (St.holds store.old) (St.holds store.new) }
+{
+    for fill in 1..8 {
+        let row = row_of(alloc, fill)?;
+        stream.append(alloc, store, c, &row)?;
+    }
+    Ok(())
+}
+
+// The last bytes of all rows, one after the other, as they are read.
+fn read<St: Store>(
+    stream: &mut Stream,
+    store: &mut St,
+    alloc: Global,
+    c: &Client,
+) -> Result<Vec<u8>, StreamErr>
+    requires client { IsLiveClient c.now (St.holds store.old) }
+    requires stream { IsShaped c.now.tracker stream.old (St.holds store.old) }
+    requires room { HasPageRoom c.now.tracker stream.old (St.holds store.old) }
+    ensures stream { IsShaped c.now.tracker stream.new (St.holds store.new) }
+    ensures sized { stream.new.page_blocks ≡ stream.old.page_blocks }
+    ensures touches { Touches c.now.tracker stream.old stream.new (St.holds store.old) (St.holds store.new) }
+{
+    let mut seen = Vec::new(alloc);
+    let mut place = At::first();
+    for _ in 0..8 {
+        if let Some(row) = stream.next_keep(alloc, store, c, &mut place)? {
+            if seen.push(row.last().copied().unwrap_or(0)).is_err() {
+                return Err(StreamErr::Pool(PoolErr::Memory));
+            }
+        }
+    }
+    Ok(seen)
+}
+
+// Rows come and are read, on pages of a client that has one page's length. How many pages they take.
+fn rows_by<St: Store>(store: &mut St, alloc: Global, c: &Client) -> Result<(Vec<u8>, usize), StreamErr>
+    requires { IsLiveClient c.now (St.holds store.old) }
+    ensures client { IsLiveClient c.now (St.holds store.new) }
+    ensures rest { AlikeButClients (St.holds store.old) (St.holds store.new) }
+{
+    store.reserve(c, u64::from(store.block_len()))?;
+    let mut stream = Stream::new(alloc, 1);
+    let filled = fill(&mut stream, store, alloc, c);
+    let seen = match filled {
+        Ok(()) => read(&mut stream, store, alloc, c),
+        Err(e) => Err(e),
+    };
+    let pages = stream.pages();
+    stream.drop_all(store);
+    stream.end();
+    Ok((seen?, pages))
+}
+
+// The same on a client of its own.
+fn rows_on_pages<St: Store>(store: &mut St, alloc: Global) -> Result<(Vec<u8>, usize), StreamErr>
+    ensures { (St.holds store.new).live_clients ≡ (St.holds store.old).live_clients }
+{
+    let c = store.add_client(u64::MAX)?;
+    let answer = rows_by(store, alloc, &c);
+    store.end_client(c);
+    answer
+}
+
+// How many stores seven rows took, in a pool of so many blocks.
+fn expect_rows(rt: &impl Abort, alloc: Global, blocks: u32, bytes: u64) -> Result<u64, Fail> {
+    let slots = steps::slots(rt, alloc, 8, &[]);
+    let mut pool = owner::open(rt, alloc, blocks, 0, slots, bytes);
+    let (seen, pages) = rows_on_pages(&mut pool, alloc)?;
+    assert_eq!(rt; seen.as_slice(), [1, 2, 3, 4, 5, 6, 7].as_slice());
+    assert_eq!(rt; pages, 3);
+    Ok(owner::close(rt, pool).0)
+}
+
+#[test]
+fn seven_rows_stand_on_three_pages(rt: HostRuntime) -> Result<(), Fail> {
+    // A client that has one page's length unused writes each page before it pins the next one, however much memory
+    // there is: the first two twice, since a page that was read rests dirty again.
+    assert_eq!(rt; expect_rows(&rt, rt.alloc(), 20, 1280)?, 5);
+    assert_eq!(rt; expect_rows(&rt, rt.alloc(), 1, 64)?, 5);
+    Ok(())
+}
