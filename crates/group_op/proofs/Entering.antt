@@ -171,7 +171,7 @@ rows_formed shape len heads [] each = All-nil (IsPartialRow shape)
 rows_formed shape len heads (n ∷ nodes) each =
     All-cons (IsPartialRow shape) n.row (map (λ (m : Node). m.row) nodes) (All-head (IsEntry shape len heads) n nodes each).row (rows_formed shape len heads nodes (All-tail (IsEntry shape len heads) n nodes each))
 
-none_distinct : IsDistinct bytes_eq []
+pub none_distinct : IsDistinct bytes_eq []
 unfolding IsDistinct
 none_distinct = tt
 
