@@ -133,7 +133,11 @@ fn walked<St: Store>(
 }
 
 // Rows come and are read, on pages of a client that has one page's length. How many pages they take.
-fn rows_by<St: Store>(store: &mut St, alloc: Global, c: &Client) -> Result<(Vec<u8>, usize), StreamErr>
+fn rows_by<St: Store>(
+    store: &mut St,
+    alloc: Global,
+    c: &Client,
+) -> Result<(Vec<u8>, usize), StreamErr>
     requires { IsLiveClient c.now (St.holds store.old) }
     ensures client { IsLiveClient c.now (St.holds store.new) }
     ensures rest { AlikeButClients (St.holds store.old) (St.holds store.new) }
