@@ -7,6 +7,7 @@ ghost use Rattle.pin_core.specs.Standing.{slots_home};
 ghost use Rattle.own_entries.specs.ClientLaws.{IsWholeIdle};
 ghost use Rattle.local_pool.specs.Told.{held_of};
 ghost use Rattle.local_pool.specs.Agreeing.{AgreesWith};
+ghost use Rattle.local_pool.specs.Counting.{SumsHold, tally_of};
 ghost use Rattle.local_pool.specs.Beginning.{Begins, IsLeastRefusal, LacksLeast};
 
 use crate::owned::Alone;
@@ -79,7 +80,8 @@ impl<D: Slot + Drop> LocalPool<D> {
     /// Ends a pool that has no client, and gives back its slots.
     pub fn close(self) -> Vec<D>
         requires { (held_of D.Slot self.alone).live_clients ≡ 0 }
-        ensures { (measure : D → ℕ) → sum_by measure result.items ≡ slots_home measure self.alone.pool }
+        ensures slots { (measure : D → ℕ) → sum_by measure result.items ≡ slots_home measure self.alone.pool }
+        ensures sums { SumsHold self.alone (tally_of D.Slot result.items) }
     {
         self.alone.close()
     }

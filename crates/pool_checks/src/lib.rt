@@ -21,8 +21,8 @@ pub use idle::{has_no_client, has_no_session, is_idle};
 pub use jobs::{is_maker, is_read_job, is_write_job, is_writer};
 pub use loans::{can_move_to, is_loan};
 pub use owned::{
-    has_blocks, has_page_unused, held_page, holds_client, holds_loan, holds_no_client,
-    holds_none, is_buffer_of,
+    has_blocks, has_page_unused, held_page, holds_client, holds_loan, holds_no_client, holds_none,
+    is_buffer_of,
 };
 pub use pages::{
     can_pin, entry_at, entry_of, fits, has_pin_to_spare, has_room_for, is_last_pin, is_page,

@@ -1,7 +1,6 @@
 //! Worked rows over the pool of one owner.
 
-use super::owner;
-use super::steps;
+use super::{owner, steps};
 use page_table::Place;
 use reservation_tree::PoolErr;
 use std::alloc::Global;
@@ -100,9 +99,15 @@ fn a_loan_is_charged_to_whom_it_is_moved(rt: HostRuntime) {
     // To its own client nothing is entered.
     let loan = owner::hand_over(&rt, &mut pool, loan, &a);
     assert_eq!(rt; owner::entries(&pool), entries);
-    assert_eq!(rt; (owner::charge(&rt, &pool, &a), owner::charge(&rt, &pool, &b)), (64, 0));
+    assert_eq!(rt;
+        (owner::charge(&rt, &pool, &a), owner::charge(&rt, &pool, &b)),
+        (64, 0)
+    );
     let loan = owner::hand_over(&rt, &mut pool, loan, &b);
-    assert_eq!(rt; (owner::charge(&rt, &pool, &a), owner::charge(&rt, &pool, &b)), (0, 64));
+    assert_eq!(rt;
+        (owner::charge(&rt, &pool, &a), owner::charge(&rt, &pool, &b)),
+        (0, 64)
+    );
     assert_eq!(rt; steps::front(&rt, loan.buf()), 7);
     owner::free(&rt, &mut pool, loan);
     assert_eq!(rt; owner::charge(&rt, &pool, &b), 0);

@@ -32,7 +32,10 @@ struct Stage {
 }
 
 fn assert_at(rt: &impl Abort, pool: &Own, c: &Client, entries: u64, charge: u64) {
-    assert_eq!(rt; (owner::entries(pool), owner::charge(rt, pool, c)), (entries, charge));
+    assert_eq!(rt;
+        (owner::entries(pool), owner::charge(rt, pool, c)),
+        (entries, charge)
+    );
 }
 
 fn assert_places(rt: &impl Abort, s: &Stage, first: Place, second: Place) {
@@ -46,7 +49,13 @@ fn assert_places(rt: &impl Abort, s: &Stage, first: Place, second: Place) {
     }
 }
 
-fn created(rt: &impl Abort, alloc: Global, pool: &mut Own, c: &Client, entries: u64) -> (Page, Buf) {
+fn created(
+    rt: &impl Abort,
+    alloc: Global,
+    pool: &mut Own,
+    c: &Client,
+    entries: u64,
+) -> (Page, Buf) {
     let made = owner::create(rt, alloc, pool, c).expect(rt, "a page");
     assert_eq!(rt; owner::entries(pool), entries);
     made
@@ -182,7 +191,14 @@ fn what_is_dirty_is_written_before_reservation_is_given_back(rt: HostRuntime) {
 
 #[test]
 fn each_pin_of_a_page_is_charged(rt: HostRuntime) {
-    let mut pool = owner::open(&rt, rt.alloc(), 4, 0, slots_but(&rt, rt.alloc(), 0, &[]), 256);
+    let mut pool = owner::open(
+        &rt,
+        rt.alloc(),
+        4,
+        0,
+        slots_but(&rt, rt.alloc(), 0, &[]),
+        256,
+    );
     let c = owner::client(&rt, &mut pool, 192);
     let (page, buf) = created(&rt, rt.alloc(), &mut pool, &c, 6);
     assert_eq!(rt; owner::pin_again(&rt, &mut pool, &c, &page), Ok(()));

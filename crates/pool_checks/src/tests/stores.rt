@@ -3,6 +3,7 @@ ghost use Rattle.std.specs.Prelude.{◌≡◌, IfOk};
 ghost use Rattle.store_api.specs.Conditions.{IsLiveClient};
 ghost use Rattle.store_api.specs.Alike.{AlikeButClients};
 ghost use Rattle.tuple_stream.specs.PageRows.{IsOneRow};
+ghost use Rattle.tuple_stream.specs.Places.{IsWithin};
 ghost use Rattle.tuple_stream.specs.Streams.{HasPageRoom, IsShaped};
 ghost use Rattle.tuple_stream.specs.Touches.{Touches};
 
@@ -74,33 +75,42 @@ fn row_of(alloc: Global, fill: u8) -> Result<Vec<u8>, StreamErr>
     Ok(row)
 }
 
-// Seven rows come on a new stream.
-fn fill<St: Store>(
+// One of seven rows comes, and then each is read: the byte that fills it.
+fn take_step<St: Store>(
     stream: &mut Stream,
     store: &mut St,
     alloc: Global,
     c: &Client,
-) -> Result<(), StreamErr>
+    place: &mut At,
+    step: u8,
+) -> Result<Option<u8>, StreamErr>
     requires client { IsLiveClient c.now (St.holds store.old) }
     requires stream { IsShaped c.now.tracker stream.old (St.holds store.old) }
     requires room { HasPageRoom c.now.tracker stream.old (St.holds store.old) }
+    requires place { IsWithin place.old stream.old }
+    ensures place { IsWithin place.new stream.new }
     ensures stream { IsShaped c.now.tracker stream.new (St.holds store.new) }
     ensures sized { stream.new.page_blocks ≡ stream.old.page_blocks }
     ensures touches { Touches c.now.tracker stream.old stream.new (St.holds store.old) (St.holds store.new) }
 {
-    for fill in 1..8 {
-        let row = row_of(alloc, fill)?;
+    if step < 7 {
+        let row = row_of(alloc, step)?;
         stream.append(alloc, store, c, &row)?;
+        return Ok(None);
     }
-    Ok(())
+    match stream.next_keep(alloc, store, c, place)? {
+        Some(row) => Ok(row.last().copied()),
+        None => Ok(None),
+    }
 }
 
-// The last bytes of all rows, one after the other, as they are read.
-fn read<St: Store>(
+// The bytes that fill the rows, as they are read.
+fn walked<St: Store>(
     stream: &mut Stream,
     store: &mut St,
     alloc: Global,
     c: &Client,
+    steps: &[u8],
 ) -> Result<Vec<u8>, StreamErr>
     requires client { IsLiveClient c.now (St.holds store.old) }
     requires stream { IsShaped c.now.tracker stream.old (St.holds store.old) }
@@ -111,9 +121,10 @@ fn read<St: Store>(
 {
     let mut seen = Vec::new(alloc);
     let mut place = At::first();
-    for _ in 0..8 {
-        if let Some(row) = stream.next_keep(alloc, store, c, &mut place)? {
-            if seen.push(row.last().copied().unwrap_or(0)).is_err() {
+    for s in steps {
+        let shown = take_step(stream, store, alloc, c, &mut place, *s)?;
+        if let Some(byte) = shown {
+            if seen.push(byte).is_err() {
                 return Err(StreamErr::Pool(PoolErr::Memory));
             }
         }
@@ -122,18 +133,19 @@ fn read<St: Store>(
 }
 
 // Rows come and are read, on pages of a client that has one page's length. How many pages they take.
-fn rows_by<St: Store>(store: &mut St, alloc: Global, c: &Client) -> Result<(Vec<u8>, usize), StreamErr>
+fn rows_by<St: Store>(
+    store: &mut St,
+    alloc: Global,
+    c: &Client,
+) -> Result<(Vec<u8>, usize), StreamErr>
     requires { IsLiveClient c.now (St.holds store.old) }
     ensures client { IsLiveClient c.now (St.holds store.new) }
     ensures rest { AlikeButClients (St.holds store.old) (St.holds store.new) }
 {
     store.reserve(c, u64::from(store.block_len()))?;
     let mut stream = Stream::new(alloc, 1);
-    let filled = fill(&mut stream, store, alloc, c);
-    let seen = match filled {
-        Ok(()) => read(&mut stream, store, alloc, c),
-        Err(e) => Err(e),
-    };
+    let steps = [0, 1, 2, 3, 4, 5, 6, 7, 8, 9, 10, 11, 12, 13, 14];
+    let seen = walked(&mut stream, store, alloc, c, &steps);
     let pages = stream.pages();
     stream.drop_all(store);
     stream.end();
@@ -155,7 +167,7 @@ fn expect_rows(rt: &impl Abort, alloc: Global, blocks: u32, bytes: u64) -> Resul
     let slots = steps::slots(rt, alloc, 8, &[]);
     let mut pool = owner::open(rt, alloc, blocks, 0, slots, bytes);
     let (seen, pages) = rows_on_pages(&mut pool, alloc)?;
-    assert_eq!(rt; seen.as_slice(), [1, 2, 3, 4, 5, 6, 7].as_slice());
+    assert_eq!(rt; seen.as_slice(), [0, 1, 2, 3, 4, 5, 6].as_slice());
     assert_eq!(rt; pages, 3);
     Ok(owner::close(rt, pool).0)
 }

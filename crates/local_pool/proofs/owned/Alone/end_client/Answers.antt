@@ -1,5 +1,7 @@
-use Rattle.std.proofs.Common.{refl}
+use Rattle.std.proofs.Common.{◌≡◌, None, refl, subst}
 use Rattle.local_pool.specs.declared.owned.Owned.{Owned}
+use Rattle.local_pool.specs.Told.{held_of}
+use Rattle.local_pool.proofs.Knowing.{knows}
 use Rattle.local_pool.proofs.Accounts.{seat_lives, read_lives, token_client, token_idle, went}
 use Rattle.local_pool.proofs.owned.Alone.end_client.Goals as goal
 
@@ -21,8 +23,11 @@ invariant_of-self g c =
     (went g.D.Slot c.self.inside.own c.self.invariant c.args.self.now c.self.view_is c.of.result c.into_tracker.result c.args.c.tracker c.of.ensures c.into_tracker.ensures c.requires.client
     c.requires.idle c.tracker-tracker.result c.tracker-query.result c.reservation-bytes.result new c.enter.new.trail c.tracker-tracker.ensures c.tracker-query.ensures c.reservation-bytes.ensures c.end_client.ensures.enters c.enter.ensures c.enter-2.ensures refl).0
 
-pub returns : goal.returns
-returns g c =
+pub returns-clause-makes : goal.returns-clause-makes
+returns-clause-makes g c =
     let new : Owned g.row.D.Denot = record { pool = c.end_client.new.self; trail = c.enter-2.new.trail; session = c.self.inside.own.session; opened = c.self.inside.own.opened } in
     (went g.D.Slot c.self.inside.own c.self.invariant c.args.self.now c.self.view_is c.of.result c.into_tracker.result c.args.c.tracker c.of.ensures c.into_tracker.ensures c.requires.client
     c.requires.idle c.tracker-tracker.result c.tracker-query.result c.reservation-bytes.result new c.enter.new.trail c.tracker-tracker.ensures c.tracker-query.ensures c.reservation-bytes.ensures c.end_client.ensures.enters c.enter.ensures c.enter-2.ensures refl).1
+
+pub returns-clause-apart : goal.returns-clause-apart
+returns-clause-apart g c = subst (λ (o : Owned g.row.D.Denot). (held_of g.D.Slot o).clients (held_of g.D.Slot o).query ≡ None) c.self.view_is (knows g.D.Slot c.self.inside.own c.self.invariant).fits.apart

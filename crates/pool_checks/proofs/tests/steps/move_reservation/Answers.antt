@@ -2,4 +2,4 @@ use Rattle.std.proofs.Common.{refl}
 use Rattle.pool_checks.proofs.tests.steps.move_reservation.Goals as goal
 
 pub move_now-requires-clause-client : goal.move_now-requires-clause-client
-move_now-requires-clause-client g c = λ _. c.if-assert.ensures refl
+move_now-requires-clause-client g c = c.if-assert.ensures refl

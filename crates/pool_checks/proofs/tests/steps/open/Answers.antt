@@ -7,7 +7,7 @@ unfolding bytes_of
 few blocks le = omega (arith, le)
 
 pub open-requires-clause-conf : goal.open-requires-clause-conf
-open-requires-clause-conf g c = λ _.
+open-requires-clause-conf g c =
     let some = c.if-assert.false in
     let le = c.if-assert-2.false in
     record { block_len = refl; some = omega (arith, some); blocks = omega (arith, le); memory = few c.args.blocks (omega (arith, le)) }
