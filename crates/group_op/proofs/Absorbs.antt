@@ -101,6 +101,27 @@ no_length : (xs : List (List ℕ)) → length xs ≡ 0 → xs ≡ []
 no_length [] none = refl
 no_length (x ∷ xs) none = absurd (omega (arith, none))
 
+-- the same streams over the same store
+pub read_over : (shape : Shape) (at level : ℕ) (d : Bool) (rows : ℕ → List (List ℕ)) (some rest : List (List ℕ)) (table : Table) (p q : Stack) (old new : Holdings) (before after : Signs) → over q new after ≡ over p old before
+    → HasRead shape at level d rows some rest (state table p old before) → HasRead shape at level d rows some rest (state table q new after)
+read_over shape at level d rows some rest table p q old new before after is read =
+    record {
+      gone = read.gone;
+      now = read.now;
+      shows = subst (ShowAll read.now) (sym is) read.shows;
+      below = read.below;
+      here = read.here;
+      above = read.above;
+      formed = read.formed;
+      undivided = read.undivided;
+      same = read.same;
+      distinct = read.distinct;
+    }
+
+top_there : (d : Bool) (at level : ℕ) (was p : Stack) → IsRead d at level was p → IsSome (slice_get p.streams at)
+top_there false at level was p place = let many = place.0 in slice_get_there p.streams at (omega (arith, many))
+top_there true at level was p place = let many = place.0.sixteen in slice_get_there p.streams at (omega (arith, many))
+
 -- ---- one call of the top partition
 
 module _ (t : ℕ) (shape : Shape) (at level : ℕ) (d : Bool) (left : ℕ) (a : State) (table : Table) (p q : Stack) (old new : Holdings) (before after : Signs) (absorbs : Absorbs t shape at level d left a (state table p old before)) where
@@ -132,6 +153,13 @@ module _ (t : ℕ) (shape : Shape) (at level : ℕ) (d : Bool) (left : ℕ) (a :
       subst (λ (xs : List (List ℕ)). HasRead shape at level d rows xs [] (state table p old before)) (sym (split ∙ ap (λ (ys : List (List ℕ)). some ++ ys) is ∙ append-nil some))
       (subst (λ (ys : List (List ℕ)). HasRead shape at level d rows some ys (state table p old before)) is read)
 
+  -- whether there was a row
+  pub spent_row : (found : Bool) (row : List ℕ) → SpendsAt t at (if found then Some row else None) (over p old before) (over q new after) → found ≡ true → SpendsIn t at row (over p old before) (over q new after)
+  spent_row found row spends is = subst (λ (b : Bool). SpendsAt t at (if b then Some row else None) (over p old before) (over q new after)) is spends
+
+  pub spent_none : (found : Bool) (row : List ℕ) → SpendsAt t at (if found then Some row else None) (over p old before) (over q new after) → found ≡ false → SpendsAt t at None (over p old before) (over q new after)
+  spent_none found row spends is = subst (λ (b : Bool). SpendsAt t at (if b then Some row else None) (over p old before) (over q new after)) is spends
+
   -- no row was there
   pub ended_rows : ((s : Streamed) → slice_get p.streams at ≡ Some s → s.count ≡ 0) → (rows : ℕ → List (List ℕ)) → Stacked shape rows a → (inside : IsSome (slice_get p.streams at)) → HasRead shape at level d rows (rows at) [] (state table p old before)
   ended_rows none rows stacked inside =
@@ -139,6 +167,13 @@ module _ (t : ℕ) (shape : Shape) (at level : ℕ) (d : Bool) (left : ℕ) (a :
       let there = is_there (slice_get p.streams at) inside in
       let counted : length has.rest ≡ 0 = sym (ap length (has.read.here)) ∙ sym (has.read.shows at there.0 there.1).counted ∙ none there.0 there.1 in
       no_more rows has.some has.rest has.split has.read (no_length has.rest counted)
+
+  pub none_rows : SpendsAt t at None (over p old before) (over q new after) → (rows : ℕ → List (List ℕ)) → Stacked shape rows a → HasRead shape at level d rows (rows at) [] (state table q new after)
+  none_rows none rows stacked =
+      read_over shape at level d rows (rows at) [] table p q old new before after none.1 (ended_rows none.0 rows stacked (top_there d at level a.parts p absorbs.place))
+
+  pub none_place : SpendsAt t at None (over p old before) (over q new after) → ChangesAt at p q → IsRead d at level a.parts q
+  none_place none changes = place_called changes (ap (λ (f : Family). length f.streams) none.1)
 
   -- a row was taken out, and then taken in
   pub more_absorbs : (row : List ℕ) → SpendsIn t at row (over p old before) (over q new after) → ChangesAt at p q
