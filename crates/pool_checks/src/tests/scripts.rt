@@ -166,18 +166,21 @@ fn give_back_one(rt: &impl Abort, s: Stage, buf: Buf) {
         fourth,
         fifth,
     } = s;
-    owner::leave(rt, &mut pool, &third.0, third.1, 0x33);
+    let (third, third_buf) = third;
+    let (fourth, _fourth_buf) = fourth;
+    let (fifth, _fifth_buf) = fifth;
+    owner::leave(rt, &mut pool, &third, third_buf, 0x33);
     assert_at(rt, &pool, &c, 26, 192);
     assert_eq!(rt; owner::give_back(rt, &mut pool, &c, 64), Ok(()));
     assert_at(rt, &pool, &c, 30, 192);
     assert_eq!(rt; owner::reservations(rt, &pool, &c), [192, 192, 192]);
-    assert_eq!(rt; owner::place(rt, &pool, &third.0), Place::Clean);
+    assert_eq!(rt; owner::place(rt, &pool, &third), Place::Clean);
     owner::shown(rt, &buf);
     first.into_name();
     second.into_name();
-    third.0.into_name();
-    fourth.0.into_name();
-    fifth.0.into_name();
+    third.into_name();
+    fourth.into_name();
+    fifth.into_name();
     c.into_tracker();
 }
 
