@@ -7,6 +7,11 @@ pub mod WideBytes
 pub mod Forms
 pub mod Heads
 pub mod Same
+pub mod Passes
+pub mod Puts
+pub mod KeptRows
+pub mod Lasts
+pub mod Oks
 pub mod Rewriting
 pub mod Joins
 pub mod Finding

@@ -8,8 +8,11 @@
 
 mod flushing;
 mod joining;
+mod lowest;
 mod putting;
+mod scanning;
 mod stored;
 
 pub use flushing::{Fan, Spare, flush};
 pub use putting::put;
+pub use scanning::leaf_by_scan;
