@@ -12,6 +12,12 @@ pub mod Puts
 pub mod KeptRows
 pub mod Lasts
 pub mod Oks
+pub mod Emitting
+pub mod KeptList
+pub mod Readings
+pub mod Agreeing
+pub mod ScanFrames
+pub mod Scans
 pub mod Rewriting
 pub mod Joins
 pub mod Finding

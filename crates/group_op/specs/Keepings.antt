@@ -1,5 +1,5 @@
 -- Partial rows that are kept in ascending order of their keys' bytes. About inner calls; no public clause cites this.
-use Rattle.std.specs.Prelude.{◌≡◌, ℕ, List, [], ◌∷◌, All, filter, map, take, Bool, true, if◌then◌else◌, Option, Some, None}
+use Rattle.std.specs.Prelude.{◌≡◌, ℕ, List, All, filter, map, take, Bool, true, if◌then◌else◌, Option, Some, None}
 use Rattle.std.specs.Cmp.Lexicographic.{slice_cmp}
 use Rattle.std.specs.Ordering.{is_gt, nat_cmp}
 use Rattle.store_api.specs.declared.shapes.Shape.{Shape}
@@ -36,11 +36,10 @@ lowest_above room grouping last partials = take room (combined_by (slice_cmp nat
 abbrev pub taken_in : ℕ → Grouping → Option (List ℕ) → Partial → List Partial → List Partial
 taken_in room grouping last p kept = if is_above last p.key then take room (put (slice_cmp nat_cmp) grouping p kept) else kept
 
--- the key of the last of these entries
-abbrev pub last_of : List Entry → Option (List ℕ)
-last_of [] = None
-last_of (e ∷ []) = Some e.key.items
-last_of (e ∷ x ∷ xs) = last_of (x ∷ xs)
+-- the key of an entry, if there is one
+abbrev pub key_in : Option Entry → Option (List ℕ)
+key_in None = None
+key_in (Some e) = Some e.key.items
 
 -- of rows that reading may show the lowest groups above a key were kept
 pub record HasKept (shape : Shape) (room : ℕ) (last : Option (List ℕ)) (entries : List Entry) (s : Streamed) (h : Holdings) : Type 0 where

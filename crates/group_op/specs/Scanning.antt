@@ -17,8 +17,8 @@ use Rattle.group_rows.specs.Partials.{Partial, combined_by}
 use Rattle.group_op.specs.Stored.{grouping_of, partials_at}
 
 -- the groups of stored rows, in the order of their keys' bytes
-abbrev pub groups_in : Shape → List (List ℕ) → List Partial
-groups_in shape rows = combined_by (slice_cmp nat_cmp) (grouping_of shape) (partials_at shape rows)
+abbrev pub groups_by_bytes : Shape → List (List ℕ) → List Partial
+groups_by_bytes shape rows = combined_by (slice_cmp nat_cmp) (grouping_of shape) (partials_at shape rows)
 
 -- reading may show these rows: where pins are told, they are the stream's
 abbrev pub MayShow : Streamed → Holdings → List (List ℕ) → Type 0

@@ -1,5 +1,5 @@
 //! The groups of a stream of partial rows, where their table has room for a part of them only.
-ghost use Rattle.std.specs.Prelude.{◌≡◌, ◌≤◌, ◌<◌, ℕ, List, [], ◌∷◌, All, length, true, option_map, IfErr, OnOk, OnErr};
+ghost use Rattle.std.specs.Prelude.{◌≡◌, ◌≤◌, ◌<◌, ℕ, List, [], ◌∷◌, All, length, true, IfErr, OnOk, OnErr};
 ghost use Rattle.std.specs.Cmp.Lexicographic.{slice_cmp};
 ghost use Rattle.std.specs.Ordering.{nat_cmp};
 ghost use Rattle.row_codec.specs.declared.values.Value.{Value};
@@ -9,10 +9,10 @@ ghost use Rattle.store_api.specs.Signs.{WasAnswered};
 ghost use Rattle.tuple_stream.specs.Steps.{Reads, scene};
 ghost use Rattle.tuple_stream.specs.Streams.{HasRows};
 ghost use Rattle.group_op.specs.Emission.{AdmitsAll, Emitted, EmittedFront, Says, Stood};
-ghost use Rattle.group_op.specs.Keepings.{HasKept, IsKept, is_above, kept_in, last_of, taken_in};
+ghost use Rattle.group_op.specs.Keepings.{HasKept, IsKept, is_above, kept_in, key_in, taken_in};
 ghost use Rattle.group_rows.specs.Kept.{AreOrdered};
 ghost use Rattle.group_op.specs.Stored.{IsPartialRow, grouping_of, partial_at};
-ghost use Rattle.group_op.specs.Scanning.{IsBeside, IsReadable, MayShow, ReadBeside, StaysEmitter, WentOn, groups_in};
+ghost use Rattle.group_op.specs.Scanning.{IsBeside, IsReadable, MayShow, ReadBeside, StaysEmitter, WentOn, groups_by_bytes};
 
 use crate::lowest::{Entry, keep};
 use crate::stored::{key_of_partial, values_of};
@@ -43,9 +43,9 @@ pub fn leaf_by_scan<St: Store, E: Emit<St>>(
     requires some { 0 < room }
     requires emitter { IsBeside c.now.tracker (E.client emit.old) (St.holds store.old) }
     requires stands { (taken : List (List Value)) × E.took emit.old (St.holds store.old) taken }
-    requires admits { (read : List (List ℕ)) → MayShow rows.old (St.holds store.old) read → AdmitsAll shape.now (E.admits emit.old) (groups_in shape.now read) }
-    ensures ok { OnOk result ((read : List (List ℕ)) → (St.holds store.old).told ≡ true → HasRows read rows.old (St.holds store.old) → Emitted shape.now (E.took emit.old (St.holds store.old)) (E.took emit.new (St.holds store.new)) (groups_in shape.now read)) }
-    ensures err { OnErr result ((read : List (List ℕ)) → (St.holds store.old).told ≡ true → HasRows read rows.old (St.holds store.old) → EmittedFront shape.now (E.took emit.old (St.holds store.old)) (E.took emit.new (St.holds store.new)) (groups_in shape.now read)) }
+    requires admits { (read : List (List ℕ)) → MayShow rows.old (St.holds store.old) read → AdmitsAll shape.now (E.admits emit.old) (groups_by_bytes shape.now read) }
+    ensures ok { OnOk result ((read : List (List ℕ)) → (St.holds store.old).told ≡ true → HasRows read rows.old (St.holds store.old) → Emitted shape.now (E.took emit.old (St.holds store.old)) (E.took emit.new (St.holds store.new)) (groups_by_bytes shape.now read)) }
+    ensures err { OnErr result ((read : List (List ℕ)) → (St.holds store.old).told ≡ true → HasRows read rows.old (St.holds store.old) → EmittedFront shape.now (E.took emit.old (St.holds store.old)) (E.took emit.new (St.holds store.new)) (groups_by_bytes shape.now read)) }
     ensures stands { WentOn (E.took emit.old (St.holds store.old)) (E.took emit.new (St.holds store.new)) }
     ensures cause { IfErr result (CameOf (E.faults emit.old) (E.faults emit.new) (St.signs store.old) (St.signs store.new)) }
     ensures stream { ReadBeside c.now.tracker (E.client emit.old) rows.old rows.new (St.holds store.old) (St.holds store.new) }
@@ -63,19 +63,9 @@ pub fn leaf_by_scan<St: Store, E: Emit<St>>(
             return Ok(());
         }
         left = left.saturating_sub(entries.len() as u64);
-        last = last_key(&mut entries);
+        last = entries.pop();
     }
     Ok(())
-}
-
-// The key of the last entry.
-fn last_key(entries: &mut Vec<Entry>) -> Option<Vec<u8>>
-    ensures { option_map (λ key. key.items) result ≡ last_of entries.old.items }
-{
-    let Some(Entry { key, row: _ }) = entries.pop() else {
-        return None;
-    };
-    Some(key)
 }
 
 // Keeps the lowest groups above a key, in order: at most `room` of them.
@@ -86,12 +76,12 @@ fn keep_lowest<St: Store>(
     rows: &mut Stream,
     shape: &Shape,
     room: usize,
-    last: &Option<Vec<u8>>,
+    last: &Option<Entry>,
     entries: &mut Vec<Entry>,
 ) -> Result<(), PoolErr>
     requires stream { IsReadable c.now rows.old (St.holds store.old) }
     requires shape { IsShape shape.now }
-    ensures kept { OnOk result (HasKept shape.now room (option_map (λ key. key.items) last.now) entries.new.items rows.old (St.holds store.old)) }
+    ensures kept { OnOk result (HasKept shape.now room (key_in last.now) entries.new.items rows.old (St.holds store.old)) }
     ensures went { Reads c.now.tracker (scene rows.old (St.holds store.old) (St.signs store.old)) (scene rows.new (St.holds store.new) (St.signs store.new)) }
     ensures same { rows.new ≡ record rows.old { pinned = rows.new.pinned } }
     ensures cause { IfErr result (λ e. WasAnswered e (St.signs store.old) (St.signs store.new)) }
@@ -114,7 +104,7 @@ fn take_in(
     spare: &mut Entry,
     shape: &Shape,
     room: usize,
-    last: &Option<Vec<u8>>,
+    last: &Option<Entry>,
 ) -> Result<(), Memory>
     requires shape { IsShape shape.now }
     requires each { All (IsKept shape.now) entries.old.items }
@@ -122,7 +112,7 @@ fn take_in(
     requires few { length entries.old.items ≤ room }
     ensures row { OnOk result (IsPartialRow shape.now spare.old.row.items) }
     ensures each { OnOk result (All (IsKept shape.now) entries.new.items) }
-    ensures taken { OnOk result (kept_in shape.now entries.new.items ≡ taken_in room (grouping_of shape.now) (option_map (λ key. key.items) last.now) (partial_at shape.now spare.old.row.items) (kept_in shape.now entries.old.items)) }
+    ensures taken { OnOk result (kept_in shape.now entries.new.items ≡ taken_in room (grouping_of shape.now) (key_in last.now) (partial_at shape.now spare.old.row.items) (kept_in shape.now entries.old.items)) }
 {
     let Ok(true) = key_of_partial(alloc, &spare.row, shape, &mut spare.key) else {
         return Err(Memory);
@@ -135,11 +125,11 @@ fn take_in(
 }
 
 // Whether a key is above the last one.
-fn passes(last: &Option<Vec<u8>>, key: &[u8]) -> bool
-    ensures { result ≡ is_above (option_map (λ key. key.items) last.now) key.now }
+fn passes(last: &Option<Entry>, key: &[u8]) -> bool
+    ensures { result ≡ is_above (key_in last.now) key.now }
 {
     match last {
-        Some(last) => key.cmp(last.as_slice()).is_gt(),
+        Some(last) => key.cmp(last.key.as_slice()).is_gt(),
         None => true,
     }
 }
@@ -161,8 +151,8 @@ fn hand_on<St: Store, E: Emit<St>>(
     ensures cause { IfErr result (CameOf (E.faults emit.old) (E.faults emit.new) (St.signs store.old) (St.signs store.new)) }
     ensures stood { Stood (E.admits emit.old) (E.admits emit.new) (E.client emit.old) (E.client emit.new) (E.faults emit.old) (E.faults emit.new) (St.holds store.old) (St.holds store.new) (St.signs store.old) (St.signs store.new) }
 {
-    for at in 0..entries.len() {
-        hand_row(alloc, store, shape, &entries[at].row, emit)?;
+    for entry in entries {
+        hand_row(alloc, store, shape, &entry.row, emit)?;
     }
     Ok(())
 }
