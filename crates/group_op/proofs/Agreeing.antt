@@ -9,7 +9,7 @@ use Rattle.tuple_stream.specs.Streamed.{Streamed, bytes_of, open_bytes, page_row
 use Rattle.tuple_stream.specs.Streams.{HasRows, IsFilled, IsOwnPage, IsPacked, IsShaped, start_of, unspent}
 use Rattle.tuple_stream.proofs.Chosen.{at_place, all_placed, map_agrees}
 
-module _ {u : ℕ} {b : Streamed} {old new : Holdings} (is : IsShaped u b old) (block_len : new.block_len ≡ old.block_len) (stays : (k : ℕ) (p : PageToken) → slice_get b.pages k ≡ Some p → new.pages p.name ≡ old.pages p.name) where
+module _ (u : ℕ) (b : Streamed) (old new : Holdings) (is : IsShaped u b old) (block_len : new.block_len ≡ old.block_len) (stays : (k : ℕ) (p : PageToken) → slice_get b.pages k ≡ Some p → new.pages p.name ≡ old.pages p.name) where
   own_was : (k : ℕ) (p : PageToken) → slice_get b.pages k ≡ Some p → IsOwnPage u b.page_blocks old p
   own_was k p there = at_place (IsOwnPage u b.page_blocks old) b.pages k p is.own there
 

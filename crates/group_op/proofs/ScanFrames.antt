@@ -15,7 +15,9 @@ use Rattle.tuple_stream.specs.Touches.{held, with_unused}
 use Rattle.tuple_stream.proofs.Chosen.{all_placed, at_place}
 use Rattle.tuple_stream.proofs.Frames.{still_some}
 use Rattle.tuple_stream.proofs.ReadRow.{still_shows}
-use Rattle.group_op.specs.Emission.{Stood}
+use Rattle.store_api.specs.declared.shapes.Shape.{Shape}
+use Rattle.group_rows.specs.Partials.{Partial}
+use Rattle.group_op.specs.Emission.{Emitted, EmittedFront, Stood}
 use Rattle.group_op.specs.Scanning.{IsReadable, IsSameQuery, ReadBeside, StaysEmitter, WentOn}
 use Rattle.group_op.proofs.Agreeing.{agreed_rows, agreed_shape}
 
@@ -163,9 +165,9 @@ stood_beside t client s old new free is stay =
     let unused : unused_of t new ≡ unused_of t old = ap (λ (o : Option Account). (or_else no_account o).unused) same.account in
     let holds : held s new ≡ held s old = ap (λ (n : ℕ). if is_some s.pinned then s.page_blocks * n else 0) stay.block_len in
     record {
-      shape = agreed_shape is stay.block_len stays;
+      shape = agreed_shape t s old new is stay.block_len stays;
       same = refl;
-      rows = λ rows told has. agreed_rows is stay.block_len stays rows has;
+      rows = λ rows told has. agreed_rows t s old new is stay.block_len stays rows has;
       unused = omega (arith, unused, holds);
       account = λ lives. same.account ∙ unused_again (old.clients t) ∙ ap (λ (n : ℕ). option_map (with_unused n) (old.clients t)) (sym unused);
       pages = λ q page own apart. same.pages q page own;
@@ -221,6 +223,12 @@ went_trans was mid now one two = λ taken took.
     let first = one taken took in
     let second = two (taken ++ first.0) first.1 in
     (first.0 ++ second.0, subst now (append_assoc taken first.0 second.0) second.1)
+
+pub went_emitted : {shape : Shape} {was now : List (List Value) → Type 0} {partials : List Partial} → Emitted shape was now partials → WentOn was now
+went_emitted emitted = λ taken took. (emitted.rows, emitted.came taken took)
+
+pub went_front : {shape : Shape} {was now : List (List Value) → Type 0} {partials : List Partial} → EmittedFront shape was now partials → WentOn was now
+went_front front = λ taken took. let came = front taken took in (came.rows, came.came)
 
 pub record Stays (c : ClientToken) (s0 s : Streamed) (h0 h : Holdings) (before after : Signs) (admits0 admits : List Value → Type 0) (client0 client : Option ℕ) (f0 f : ℕ) (took0 took : List (List Value) → Type 0) : Type 0 where
   pub beside : ReadBeside c.tracker client0 s0 s h0 h

@@ -1,11 +1,12 @@
 -- What was handed on pass after pass.
 use Rattle.std.proofs.Common.{◌≡◌, ◌∙◌, ℕ, zero, suc, ◌+◌, ◌-◌, ◌≤◌, ◌<◌, Bool, true, List, [], ◌∷◌, ◌++◌, length, map, take, drop, Option, Some, None, refl, ap, ap₂, sym, subst, arith, append-nil, append_assoc, length-append}
-use Rattle.std.specs.Prelude.{All, filter, min}
+use Rattle.std.specs.Prelude.{All, filter, min, IsSome}
+use Rattle.std.specs.Option.{option_to_list}
 use Rattle.std.specs.Cmp.Lexicographic.{slice_cmp}
 use Rattle.std.specs.Ordering.{is_gt, nat_cmp}
 use Rattle.std.specs.List.Sorted.{IsStrictlySortedBy}
 use Rattle.std.proofs.lemmas.List.{length-map, length-take, map-append, take-append-drop, take_all}
-use Rattle.std.proofs.lemmas.List.Elements.{All-append, All-filter, All-take}
+use Rattle.std.proofs.lemmas.List.Elements.{All-filter, All-head, All-tail, All-take}
 use Rattle.row_codec.specs.declared.values.Value.{Value}
 use Rattle.store_api.specs.declared.shapes.Shape.{Shape}
 use Rattle.store_api.specs.Holdings.{Holdings}
@@ -144,3 +145,14 @@ kept_admitted shape room last entries t client s0 s h0 h admits0 admits has besi
     All-take P room (all_above last (groups_by_bytes shape has.read)) (All-filter (λ p. is_above last p.key) P (groups_by_bytes shape has.read) (all has.read shown)) in
     let these : All P (kept_in shape entries) = subst (All P) (sym (has.kept ∙ lowest_are shape room last has.read)) lowest in
     λ k d inside row says. same row (these k d inside row says)
+
+last_one : (P : Entry → Type 0) (front : List Entry) (e : Entry) → All P (front ++ e ∷ []) → P e
+last_one P [] e all = All-head P e [] all
+last_one P (x ∷ front) e all = last_one P front e (All-tail P x (front ++ e ∷ []) all)
+
+pub handed_popped : (shape : Shape) (last : Option (List ℕ)) (left : ℕ) (took0 took : List (List Value) → Type 0) (rows : List (List ℕ)) → HasHanded shape last left took0 took rows → (room : ℕ) (entries : List Entry) → kept_in shape entries ≡ take room (all_above last (groups_by_bytes shape rows))
+    → (now : List (List Value) → Type 0) (front : List Entry) (o : Option Entry) (less : ℕ) → IsSome o → entries ≡ front ++ option_to_list o → All (IsKept shape) entries → less ≡ left - length entries → Emitted shape took now (kept_in shape entries)
+    → HasHanded shape (key_in o) less took0 now rows
+handed_popped shape last left took0 took rows so room entries kept now front None less some all each fewer emitted = absurd cc
+handed_popped shape last left took0 took rows so room entries kept now front (Some e) less some all each fewer emitted =
+    handed_more shape last left took0 took rows so room entries kept now front e less all (last_one (IsKept shape) front e (subst (All (IsKept shape)) all each)) fewer emitted
