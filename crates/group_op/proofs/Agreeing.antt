@@ -1,11 +1,10 @@
 -- A stream over two states of a store that agree on its pages.
-use Rattle.std.proofs.Common.{◌≡◌, ℕ, ◌+◌, ◌*◌, ◌<◌, ◌==◌, if◌then◌else◌, List, ◌++◌, drop, length, Option, Some, IsSome, ap, sym, ◌∙◌, subst}
+use Rattle.std.proofs.Common.{◌≡◌, ℕ, ◌*◌, ◌<◌, ◌==◌, if◌then◌else◌, List, length, Option, Some, IsSome, ap, sym, ◌∙◌, subst}
 use Rattle.std.specs.Prelude.{All, slice_get}
-use Rattle.std.proofs.lemmas.List.Elements.{All-drop}
 use Rattle.std.proofs.lemmas.Option.{IfSome_then}
 use Rattle.store_api.specs.Tokens.{PageToken}
 use Rattle.store_api.specs.Holdings.{LivePage, Holdings, or_else, no_page, page_of}
-use Rattle.tuple_stream.specs.Streamed.{Streamed, bytes_of, open_bytes, page_rows, rows_by_page, rows_of, joined}
+use Rattle.tuple_stream.specs.Streamed.{Streamed, bytes_of, open_bytes, page_rows, rows_by_page, joined}
 use Rattle.tuple_stream.specs.Streams.{HasRows, IsFilled, IsOwnPage, IsPacked, IsShaped, start_of, unspent}
 use Rattle.tuple_stream.proofs.Chosen.{at_place, all_placed, map_agrees}
 

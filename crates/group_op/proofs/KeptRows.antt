@@ -1,5 +1,5 @@
 -- Kept rows with one more taken in.
-use Rattle.std.proofs.Common.{◌≡◌, ◌≢◌, ◌∙◌, ℕ, zero, suc, ◌+◌, ◌≤◌, ◌<◌, List, [], ◌∷◌, ◌++◌, length, map, take, drop, refl, ap, ap₂, sym, subst, arith, slice_set, slice_index_or}
+use Rattle.std.proofs.Common.{◌≡◌, ◌≢◌, ◌∙◌, ℕ, zero, suc, ◌≤◌, ◌<◌, List, [], ◌∷◌, ◌++◌, length, map, take, drop, refl, ap, ap₂, sym, subst, arith, slice_set, slice_index_or}
 use Rattle.std.specs.Prelude.{All, insert}
 use Rattle.std.specs.Cmp.Lexicographic.{slice_cmp}
 use Rattle.std.specs.List.{HoldsAt}
@@ -13,10 +13,10 @@ use Rattle.std.proofs.lemmas.List.Elements.{All-append, All-cons, All-drop, All-
 use Rattle.row_codec.specs.RowLaws.{RowBack}
 use Rattle.store_api.specs.declared.shapes.Shape.{Shape}
 use Rattle.store_api.specs.Shapes.{IsShape}
-use Rattle.group_rows.specs.Keyed.{IsExactOrder, KeyOrder}
+use Rattle.group_rows.specs.Keyed.{KeyOrder}
 use Rattle.group_rows.specs.Kept.{AreOrdered}
 use Rattle.group_rows.specs.Ordered.{put}
-use Rattle.group_rows.specs.Partials.{Grouping, Partial, combine, key_of}
+use Rattle.group_rows.specs.Partials.{Partial, combine, key_of}
 use Rattle.group_rows.proofs.Paths.{bytes_is_order}
 use Rattle.group_op.specs.declared.lowest.Entry.{Entry}
 use Rattle.group_op.specs.Keepings.{IsKept, kept_in}

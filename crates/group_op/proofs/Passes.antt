@@ -1,5 +1,5 @@
 -- Partial rows are gone through pass after pass: what each keeps are the lowest groups above those before.
-use Rattle.std.proofs.Common.{◌≡◌, ◌∙◌, inl, inr, ℕ, zero, suc, ◌+◌, ◌≤◌, ◌<◌, Bool, true, false, List, [], ◌∷◌, ◌++◌, length, map, take, drop, Option, Some, None, refl, ap, ap₂, sym, subst, arith, true≢false, append-nil, append_assoc, length-append}
+use Rattle.std.proofs.Common.{◌≡◌, ◌∙◌, inl, inr, ℕ, Bool, true, false, List, [], ◌∷◌, ◌++◌, map, refl, ap, ap₂, sym, subst, true≢false}
 use Rattle.std.specs.Prelude.{All, filter, not, ◌⊎◌}
 use Rattle.std.specs.List.{AllByRecursion}
 use Rattle.std.specs.List.Sorted.{IsStrictlySortedBy}
@@ -7,14 +7,11 @@ use Rattle.std.specs.Ordering.{is_gt, ordering_reverse}
 use Rattle.std.specs.Cmp.{tied_itself}
 use Rattle.std.specs.declared.cmp.Ordering.{Ordering}
 use Rattle.std.specs.declared.cmp.Ordering.TheVariants.{Less, Equal, Greater}
-use Rattle.std.proofs.lemmas.List.{take-append-drop, length-take-le}
-use Rattle.std.proofs.lemmas.List.Elements.{All-append, All-cons, All-filter, All-from_recursion, All-head, All-nil, All-tail, All-take, filter-append, filter_passes}
-use Rattle.group_rows.specs.Keyed.{IsExactOrder, KeyOrder, keys_in}
+use Rattle.std.proofs.lemmas.List.Elements.{All-cons, All-head, All-nil, All-tail, filter-append, filter_passes}
+use Rattle.group_rows.specs.Keyed.{IsExactOrder, KeyOrder}
 use Rattle.group_rows.specs.Kept.{AreOrdered}
-use Rattle.group_rows.specs.Ordered.{put}
 use Rattle.group_rows.specs.Partials.{Grouping, Partial, combine, combined_by, key_of}
 use Rattle.group_rows.proofs.Each.{keys_all, keys_each, split}
-use Rattle.group_rows.proofs.InOrder.{first_suffice}
 use Rattle.group_rows.proofs.Merging.{combines}
 
 -- a list of which all pass, or none

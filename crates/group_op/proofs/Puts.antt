@@ -1,15 +1,13 @@
 -- A partial row is put at its place among kept ones.
-use Rattle.std.proofs.Common.{◌≡◌, ◌≢◌, ◌∙◌, ℕ, zero, suc, ◌+◌, ◌≤◌, ◌<◌, List, [], ◌∷◌, ◌++◌, length, map, take, drop, refl, ap, sym, subst, arith, Bool, true, false, true≢false}
+use Rattle.std.proofs.Common.{◌≡◌, ◌≢◌, ◌∙◌, ℕ, zero, suc, ◌+◌, ◌<◌, List, [], ◌∷◌, length, map, take, refl, ap, sym, subst, arith, true, false, true≢false}
 use Rattle.std.specs.Prelude.{All, slice_index_or}
-use Rattle.std.specs.List.{AllByRecursion, HoldsAt}
+use Rattle.std.specs.List.{AllByRecursion}
 use Rattle.std.specs.List.Sorted.{IsStrictlySortedBy}
-use Rattle.std.specs.Ordering.{is_gt, match_ordering, ordering_reverse}
+use Rattle.std.specs.Ordering.{is_gt, ordering_reverse}
 use Rattle.std.specs.declared.cmp.Ordering.{Ordering}
 use Rattle.std.specs.declared.cmp.Ordering.TheVariants.{Less, Equal, Greater}
-use Rattle.std.proofs.lemmas.List.Elements.{All-cons, All-head, All-nil, All-tail}
+use Rattle.std.proofs.lemmas.List.Elements.{All-cons, All-nil}
 use Rattle.group_rows.specs.Keyed.{IsExactOrder, KeyOrder}
-use Rattle.group_rows.specs.Ordered.{put}
-use Rattle.group_rows.specs.Partials.{Grouping, Partial, combine}
 
 -- a key above an entry is above those before it
 module _ (order : KeyOrder) (is_order : IsExactOrder order) {X : Type 0} (key : X → List ℕ) where

@@ -1,11 +1,10 @@
 -- What one pass over a stream keeps.
-use Rattle.std.proofs.Common.{◌≡◌, ◌≢◌, ◌∙◌, ℕ, zero, suc, ◌≤◌, ◌<◌, Bool, true, false, cond, List, [], ◌∷◌, ◌++◌, length, map, take, Option, Some, None, refl, ap, sym, subst, arith, append-nil, inl, inr}
-use Rattle.std.specs.Prelude.{All, filter, if◌then◌else◌, min}
+use Rattle.std.proofs.Common.{◌≡◌, ◌∙◌, ℕ, zero, suc, ◌≤◌, Bool, true, false, List, [], ◌∷◌, ◌++◌, length, map, take, Option, Some, None, refl, ap, sym, subst, arith, append-nil}
+use Rattle.std.specs.Prelude.{All, filter, if◌then◌else◌}
 use Rattle.std.specs.Cmp.Lexicographic.{slice_cmp}
 use Rattle.std.specs.Ordering.{nat_cmp}
 use Rattle.std.specs.List.{AllByRecursion}
 use Rattle.std.specs.List.Sorted.{IsStrictlySortedBy}
-use Rattle.std.proofs.lemmas.Bool.{cases_Bool}
 use Rattle.std.proofs.lemmas.List.{length-map, length-take, map-append, take-map}
 use Rattle.std.proofs.lemmas.List.Elements.{filter-append}
 use Rattle.store_api.specs.declared.shapes.Shape.{Shape}
@@ -14,7 +13,7 @@ use Rattle.tuple_stream.specs.Reading.{HasRead, Keeps, ReadsRow}
 use Rattle.tuple_stream.specs.Steps.{Reads, Scene, Shaped}
 use Rattle.tuple_stream.proofs.ReadAll.{read_first, read_more, read_none}
 use Rattle.group_rows.specs.Kept.{AreOrdered}
-use Rattle.group_rows.specs.Keyed.{IsExactOrder, KeyOrder}
+use Rattle.group_rows.specs.Keyed.{KeyOrder}
 use Rattle.group_rows.specs.Ordered.{put}
 use Rattle.group_rows.specs.Partials.{Grouping, Partial, combine, combined_by, key_of}
 use Rattle.group_rows.proofs.Each.{keys_each}

@@ -1,16 +1,16 @@
 -- What stays while a stream is read and rows go to an emitter.
-use Rattle.std.proofs.Common.{◌≡◌, ◌≢◌, ◌↔◌, ◌⊎◌, ◌∙◌, inl, inr, ℕ, ◌+◌, ◌*◌, ◌≤◌, List, [], ◌∷◌, ◌++◌, Option, Some, None, IsSome, refl, ap, sym, subst, arith, append-nil, append_assoc, if◌then◌else◌, true}
+use Rattle.std.proofs.Common.{◌≡◌, ◌≢◌, ◌⊎◌, ◌∙◌, inl, inr, ℕ, ◌+◌, ◌*◌, ◌≤◌, List, [], ◌++◌, Option, Some, None, IsSome, refl, ap, sym, subst, arith, append-nil, append_assoc, if◌then◌else◌}
 use Rattle.std.specs.Prelude.{is_some, option_map, slice_get}
 use Rattle.row_codec.specs.declared.values.Value.{Value}
 use Rattle.store_api.specs.Emitters.{HasClient, OthersStay, SameFor, SameOwn}
 use Rattle.store_api.specs.Holdings.{Account, Holdings, LiveLoan, LivePage, no_account, no_page, or_else, page_of, unused_of}
-use Rattle.store_api.specs.Signs.{Grows, Signs}
+use Rattle.store_api.specs.Signs.{Signs}
 use Rattle.store_api.specs.Tokens.{ClientToken, PageToken}
 use Rattle.store_api.proofs.Growing.{grows_refl, grows_trans}
 use Rattle.store_api.proofs.Puts.{there}
 use Rattle.tuple_stream.specs.Steps.{Reads, scene}
 use Rattle.tuple_stream.specs.Streamed.{OpenPage, Streamed, len_in}
-use Rattle.tuple_stream.specs.Streams.{HasPageRoom, HasRows, IsApart, IsOwnPage, IsShaped}
+use Rattle.tuple_stream.specs.Streams.{IsApart, IsOwnPage, IsShaped}
 use Rattle.tuple_stream.specs.Touches.{held, with_unused}
 use Rattle.tuple_stream.proofs.Chosen.{all_placed, at_place}
 use Rattle.tuple_stream.proofs.Frames.{still_some}

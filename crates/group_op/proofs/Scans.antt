@@ -1,10 +1,9 @@
 -- What was handed on pass after pass.
-use Rattle.std.proofs.Common.{◌≡◌, ◌∙◌, ℕ, zero, suc, ◌+◌, ◌-◌, ◌≤◌, ◌<◌, Bool, true, List, [], ◌∷◌, ◌++◌, length, map, take, drop, Option, Some, None, refl, ap, ap₂, sym, subst, arith, append-nil, append_assoc, length-append}
-use Rattle.std.specs.Prelude.{All, filter, min, IsSome}
+use Rattle.std.proofs.Common.{◌≡◌, ◌∙◌, ℕ, ◌+◌, ◌-◌, ◌≤◌, ◌<◌, true, List, [], ◌∷◌, ◌++◌, length, take, drop, Option, Some, None, refl, ap, sym, subst, arith, append-nil, append_assoc, length-append}
+use Rattle.std.specs.Prelude.{All, filter, IsSome}
 use Rattle.std.specs.Option.{option_to_list}
 use Rattle.std.specs.Cmp.Lexicographic.{slice_cmp}
-use Rattle.std.specs.Ordering.{is_gt, nat_cmp}
-use Rattle.std.specs.List.Sorted.{IsStrictlySortedBy}
+use Rattle.std.specs.Ordering.{nat_cmp}
 use Rattle.std.proofs.lemmas.List.{length-map, length-take, map-append, take-append-drop, take_all}
 use Rattle.std.proofs.lemmas.List.Elements.{All-filter, All-head, All-tail, All-take}
 use Rattle.row_codec.specs.declared.values.Value.{Value}
@@ -13,13 +12,13 @@ use Rattle.store_api.specs.Holdings.{Holdings}
 use Rattle.tuple_stream.specs.Streamed.{Streamed}
 use Rattle.tuple_stream.specs.Streams.{HasRows}
 use Rattle.group_rows.specs.Kept.{AreOrdered}
-use Rattle.group_rows.specs.Partials.{Grouping, Partial, combined_by}
+use Rattle.group_rows.specs.Partials.{Partial, combined_by}
 use Rattle.group_rows.proofs.Paths.{bytes_is_order}
 use Rattle.group_rows.proofs.Tables.{no_more}
 use Rattle.group_op.specs.declared.lowest.Entry.{Entry}
 use Rattle.group_op.specs.Emission.{AdmitsAll, Emitted, EmittedFront, Says}
 use Rattle.group_op.specs.Keepings.{HasKept, IsKept, all_above, is_above, key_in, kept_in, lowest_above}
-use Rattle.group_op.specs.Scanning.{MayShow, ReadBeside, WentOn, groups_by_bytes}
+use Rattle.group_op.specs.Scanning.{MayShow, ReadBeside, groups_by_bytes}
 use Rattle.group_op.specs.Stored.{grouping_of, partial_at, partials_at}
 use Rattle.group_op.proofs.Emitting.{emitted_behind, emitted_none, front_behind, front_none}
 use Rattle.group_op.proofs.Passes.{behind_entry, groups_above}

@@ -4,3 +4,4 @@ pub mod Putting
 pub mod Emission
 pub mod Scanning
 pub mod Keepings
+pub mod Leaving

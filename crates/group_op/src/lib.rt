@@ -12,6 +12,8 @@ mod lowest;
 mod putting;
 mod scanning;
 mod stored;
+#[cfg(test)]
+mod tests;
 
 pub use flushing::{Fan, Spare, flush};
 pub use putting::put;

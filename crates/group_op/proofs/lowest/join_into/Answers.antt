@@ -1,4 +1,4 @@
-use Rattle.std.proofs.Common.{rules, ◌≡◌, ◌+◌, ◌-◌, ◌*◌, ◌<◌, ℕ, ℤ, List, length, pos, get_or, ap, ap₂, sym, ◌∙◌, subst, arith}
+use Rattle.std.proofs.Common.{rules, ◌≡◌, ◌+◌, ◌-◌, ◌*◌, ◌<◌, ℕ, ℤ, List, length, pos, get_or, ap, ap₂, sym, ◌∙◌, arith}
 use Rattle.std.specs.Prelude.{FitsSigned}
 use Rattle.std.specs.Int.{w128, cast_signed, cast_unsigned}
 use Rattle.std.proofs.lemmas.Int.{to_z-of_z}
@@ -9,7 +9,7 @@ use Rattle.bucket_table.specs.Tables.{part_of, with_number}
 use Rattle.group_rows.specs.Aggregates.{combined_number}
 use Rattle.group_rows.proofs.Entries.{half}
 use Rattle.group_op.specs.Stored.{head_len, numbers_at}
-use Rattle.group_op.proofs.Joins.{all_joined, entry_number, half_joined, half_room, next_fit, next_joined, none_fit, none_joined, room_in_row, row_number}
+use Rattle.group_op.proofs.Joins.{all_joined, entry_number, half_room, next_fit, next_joined, none_fit, none_joined, room_in_row, row_number}
 use Rattle.group_op.proofs.lowest.join_into.Goals as goal
 
 pub overflow_sub-head : goal.overflow_sub-head

@@ -1,4 +1,4 @@
-use Rattle.std.proofs.Common.{rules, ◌≡◌, ◌≢◌, ◌∙◌, ◌<◌, ◌≤◌, slice_index_or, ap₂, length, take, ap, sym, arith, subst, List, map}
+use Rattle.std.proofs.Common.{rules, ◌≡◌, ◌≢◌, ◌∙◌, ◌<◌, ◌≤◌, slice_index_or, ap₂, length, take, ap, sym, subst, List, map}
 use Rattle.std.specs.List.Sorted.{IsStrictlySortedBy}
 use Rattle.group_op.specs.declared.lowest.Entry.{Entry}
 use Rattle.std.specs.Prelude.{All}

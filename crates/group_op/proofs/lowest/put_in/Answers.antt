@@ -1,7 +1,5 @@
 use Rattle.std.proofs.Common.{rules, suc, ◌≡◌, ◌≢◌, ◌≤◌, ◌∙◌, ◌+◌, ◌++◌, ◌∷◌, [], List, length, take, ap, ap₂, ℕ, sym, arith, length-append}
-use Rattle.std.specs.Prelude.{OnOk, insert}
-use Rattle.std.proofs.lemmas.List.{take_all}
-use Rattle.std.proofs.lemmas.List.Edits.{length-insert}
+use Rattle.std.specs.Prelude.{insert}
 use Rattle.group_op.specs.declared.lowest.Entry.{Entry}
 use Rattle.group_op.proofs.Oks.{on_ok}
 use Rattle.group_op.proofs.Lasts.{before_last}

@@ -1,7 +1,6 @@
 use Rattle.std.proofs.Common.{◌≡◌, ◌∙◌, refl, arith, ◌+◌, ◌-◌, length}
 use Rattle.std.specs.Int.{w128, to_be_bytes}
 use Rattle.block_arena.proofs.Copies.{put_is_written}
-use Rattle.group_op.proofs.Passes.{behind_entry, groups_above}
 use Rattle.group_op.proofs.lowest.set_wide_at.Goals as goal
 
 pub returns : goal.returns

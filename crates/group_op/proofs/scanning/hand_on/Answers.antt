@@ -1,4 +1,4 @@
-use Rattle.std.proofs.Common.{rules, ◌≡◌, ℕ, suc, [], ◌∷◌, ◌++◌, ◌≤◌, length, take, drop, ap, sym, ◌∙◌, subst, arith, List}
+use Rattle.std.proofs.Common.{rules, ◌≡◌, ℕ, suc, [], ◌∷◌, ◌++◌, ◌≤◌, length, drop, ap, sym, ◌∙◌, subst, List}
 use Rattle.std.specs.Prelude.{slice_index_or}
 use Rattle.std.proofs.lemmas.List.{take_all}
 use Rattle.row_codec.specs.declared.values.Value.{Value}

@@ -1,4 +1,4 @@
-use Rattle.std.proofs.Common.{rules, ◌≡◌, sym, ◌∙◌, subst}
+use Rattle.std.proofs.Common.{rules, ◌≡◌, sym, subst}
 use Rattle.group_op.specs.Emission.{Says}
 use Rattle.group_op.specs.Stored.{partial_at, values_at}
 use Rattle.group_op.proofs.Emitting.{emitted_one, front_none, front_one, says_read}

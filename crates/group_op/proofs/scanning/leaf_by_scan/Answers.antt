@@ -1,4 +1,4 @@
-use Rattle.std.proofs.Common.{rules, ◌≡◌, ◌∙◌, ℕ, ◌<◌, ◌-◌, List, ◌++◌, true, length, take, refl, ap, sym, subst, arith}
+use Rattle.std.proofs.Common.{rules, ◌≡◌, ◌∙◌, ℕ, ◌<◌, ◌-◌, List, ◌++◌, true, length, take, sym, subst, arith}
 use Rattle.std.specs.Prelude.{IsSome}
 use Rattle.row_codec.specs.declared.values.Value.{Value}
 use Rattle.store_api.specs.Emitters.{CameOf}
