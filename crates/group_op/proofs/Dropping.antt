@@ -1,6 +1,6 @@
 -- What a client has beside a stream, while calls of the stream go on. For tests.
-use Rattle.std.proofs.Common.{◌≡◌, ◌≢◌, ◌∙◌, ℕ, List, [], ◌∷◌, Option, Some, IsSome, refl, ap, sym, subst, arith}
-use Rattle.std.specs.Prelude.{All, eqb}
+use Rattle.std.proofs.Common.{◌≡◌, ◌≢◌, ◌∙◌, ℕ, [], ◌∷◌, Option, IsSome, refl, ap, sym, subst, arith}
+use Rattle.std.specs.Prelude.{eqb}
 use Rattle.std.specs.List.{IsDistinct}
 use Rattle.std.proofs.lemmas.Map.Keys.{IsDistinct-cons}
 use Rattle.std.proofs.lemmas.List.Elements.{All-cons, All-nil}

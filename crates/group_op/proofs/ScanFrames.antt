@@ -159,9 +159,9 @@ pub stood_beside : (t : ℕ) (client : Option ℕ) (s : Streamed) (old new : Hol
 stood_beside t client s old new free is stay =
     let same : SameFor t old new = stay.others t free in
     let stays : (k : ℕ) (p : PageToken) → slice_get s.pages k ≡ Some p → new.pages p.name ≡ old.pages p.name = λ k p at.
-        let own = at_place (IsOwnPage t s.page_blocks old) s.pages k p is.own at in
-        let lives : old.pages p.name ≡ Some (page_of p.name old) = there no_page (old.pages p.name) own.page.lives in
-        (same.pages p.name (page_of p.name old) (own.page.client ∙ own.client)).1 lives ∙ sym lives in
+    let own = at_place (IsOwnPage t s.page_blocks old) s.pages k p is.own at in
+    let lives : old.pages p.name ≡ Some (page_of p.name old) = there no_page (old.pages p.name) own.page.lives in
+    (same.pages p.name (page_of p.name old) (own.page.client ∙ own.client)).1 lives ∙ sym lives in
     let unused : unused_of t new ≡ unused_of t old = ap (λ (o : Option Account). (or_else no_account o).unused) same.account in
     let holds : held s new ≡ held s old = ap (λ (n : ℕ). if is_some s.pinned then s.page_blocks * n else 0) stay.block_len in
     record {

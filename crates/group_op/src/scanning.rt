@@ -3,14 +3,14 @@ ghost use Rattle.std.specs.Prelude.{◌≡◌, ◌≤◌, ◌<◌, ℕ, List, []
 ghost use Rattle.std.specs.Cmp.Lexicographic.{slice_cmp};
 ghost use Rattle.std.specs.Ordering.{nat_cmp};
 ghost use Rattle.row_codec.specs.declared.values.Value.{Value};
-ghost use Rattle.store_api.specs.Emitters.{CameOf, HasClient, OthersStay};
+ghost use Rattle.store_api.specs.Emitters.{CameOf, HasClient};
 ghost use Rattle.store_api.specs.Shapes.{IsShape};
 ghost use Rattle.store_api.specs.Signs.{WasAnswered};
 ghost use Rattle.tuple_stream.specs.Steps.{Reads, scene};
 ghost use Rattle.tuple_stream.specs.Streams.{HasRows};
+ghost use Rattle.group_rows.specs.Kept.{AreOrdered};
 ghost use Rattle.group_op.specs.Emission.{AdmitsAll, Emitted, EmittedFront, Says, Stood};
 ghost use Rattle.group_op.specs.Keepings.{HasKept, IsKept, is_above, kept_in, key_in, taken_in};
-ghost use Rattle.group_rows.specs.Kept.{AreOrdered};
 ghost use Rattle.group_op.specs.Stored.{IsPartialRow, grouping_of, partial_at};
 ghost use Rattle.group_op.specs.Scanning.{IsBeside, IsReadable, MayShow, ReadBeside, StaysEmitter, WentOn, groups_by_bytes};
 
@@ -22,13 +22,13 @@ use std::alloc::Global;
 use store_api::{Client, Emit, OpErr, Shape, Store};
 use tuple_stream::{At, Stream};
 
-/// Hands the groups of a stream's partial rows on in ascending order of their keys' bytes, and keeps at most `room` of them at a
-/// time: the stream is read as often as needed, and stays. What a page shows that is no partial row is answered by `Memory`.
+/// Hands the groups of a stream's partial rows on in ascending order of their keys' bytes, and keeps at most `room` of
+/// them at a time: the stream is read as often as needed, and its rows stay. Which page is pinned may have changed.
 ///
 /// # Errors
 ///
 /// `Pool`: the store answered so in this call, or there was no memory, or a page shows no partial row where one must be.
-/// `Sink`: a fault came. Groups may have been handed on; the page that is pinned may be another one.
+/// `Sink`: a fault came. In both cases the first groups may have been handed on.
 pub fn leaf_by_scan<St: Store, E: Emit<St>>(
     alloc: Global,
     store: &mut St,
@@ -177,8 +177,6 @@ fn hand_row<St: Store, E: Emit<St>>(
     let Ok(found) = values_of(alloc, row, shape) else {
         return Err(OpErr::Pool(PoolErr::Memory));
     };
-    let Some(values) = found else {
-        unreachable!()
-    };
+    let Some(values) = found else { unreachable!() };
     emit.row(store, &values)
 }

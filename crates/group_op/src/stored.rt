@@ -31,7 +31,11 @@ pub(crate) fn key_of_partial(
 }
 
 // The values of a partial row, where the bytes are one.
-pub(crate) fn values_of(alloc: Global, row: &[u8], shape: &Shape) -> Result<Option<Vec<Value>>, Memory>
+pub(crate) fn values_of(
+    alloc: Global,
+    row: &[u8],
+    shape: &Shape,
+) -> Result<Option<Vec<Value>>, Memory>
     ensures row { IfOk result (λ found. IfSome found (λ values. IsPartialRow shape.now row.now)) }
     ensures values { IfOk result (λ found. IfSome found (λ values. values.items ≡ values_at shape.now row.now)) }
     ensures none { IfOk result (λ found. IfNone found (IsPartialRow shape.now row.now → ⊥)) }

@@ -4,7 +4,6 @@ ghost use Rattle.std.proofs.Common.{zero-le};
 ghost use Rattle.store_api.specs.Conditions.{IsIdle, IsLiveClient};
 ghost use Rattle.store_api.specs.Shapes.{IsShape};
 ghost use Rattle.tuple_stream.specs.PageRows.{IsOneRow};
-ghost use Rattle.tuple_stream.specs.Streams.{IsShaped};
 ghost use Rattle.tuple_stream.specs.Touches.{Touches};
 ghost use Rattle.group_op.specs.Scanning.{IsReadable};
 ghost use Rattle.group_op.specs.Leaving.{Leaves};

@@ -37,5 +37,5 @@ loop-low-preserved c =
       short = omega (arith, half, short);
       below = c.loop-low.invariant.below;
       next = λ within d. not_gt (by_bytes c.args.key.now (slice_index_or c.args.entries.now mid d).key.items)
-      (ap (λ (e : Entry). is_gt (by_bytes c.args.key.now e.key.items)) (same_at c.args.entries.now mid d c.index-entries-mid.result inside) ∙ there);
+          (ap (λ (e : Entry). is_gt (by_bytes c.args.key.now e.key.items)) (same_at c.args.entries.now mid d c.index-entries-mid.result inside) ∙ there);
     }

@@ -63,7 +63,7 @@ loop-entry-preserved g c =
     let one = subst (λ (bytes : List ℕ). Emitted shape (g.E.Emit.took c.loop-entry.emit (g.St.Store.holds c.loop-entry.store)) (g.E.Emit.took c.hand_row.new.emit (g.St.Store.holds c.hand_row.new.store)) (partial_at shape bytes ∷ [])) row_so c.in_ok-hand_row.ensures.ok in
     record {
       emitted = subst (Emitted shape _ _) (sym (kept_more shape c.args.entries.now c.loop-entry.entry-index c.entry-item.result c.loop-entry-test.true))
-        (emitted_behind _ _ _ _ _ c.loop-entry.invariant.emitted _ one);
+          (emitted_behind _ _ _ _ _ c.loop-entry.invariant.emitted _ one);
       stood = stood_more _ _ _ _ _ _ _ _ _ _ _ _ _ _ _ c.loop-entry.invariant.stood c.hand_row.ensures.stood;
     }
 

@@ -1,5 +1,3 @@
-use Rattle.std.proofs.Common.{rules}
-use Rattle.group_op.specs.Scanning.{IsReadable}
 use Rattle.tuple_stream.proofs.Chains.{has_room_kept, touches_refl, touches_trans}
 use Rattle.tuple_stream.proofs.Frames.{client_kept}
 use Rattle.group_op.proofs.tests.fill.Goals as goal

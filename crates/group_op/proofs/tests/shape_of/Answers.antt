@@ -1,6 +1,5 @@
-use Rattle.std.proofs.Common.{◌≡◌, ◌∙◌, ℕ, List, [], ◌∷◌, sym, subst}
+use Rattle.std.proofs.Common.{◌∙◌, ℕ, List, [], ◌∷◌, sym, subst}
 use Rattle.row_codec.specs.declared.values.Agg.{Agg}
-use Rattle.row_codec.specs.declared.values.Agg.TheVariants.{Count}
 use Rattle.row_codec.specs.declared.values.Kind.{Kind}
 use Rattle.row_codec.specs.declared.values.Kind.TheVariants.{Text}
 use Rattle.store_api.specs.Shapes.{IsShape}

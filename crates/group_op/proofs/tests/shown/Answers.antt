@@ -1,6 +1,4 @@
-use Rattle.std.proofs.Common.{rules}
 use Rattle.group_op.proofs.Dropping.{beside_leaves, leaves_trans, touched_leaves}
-use Rattle.group_op.proofs.ScanFrames.{still_readable}
 use Rattle.group_op.proofs.tests.shown.Goals as goal
 
 pub returns-in_err-leaf_by_scan-clause-leaves : goal.returns-in_err-leaf_by_scan-clause-leaves
