@@ -90,6 +90,7 @@ pub(crate) fn keep(
     alloc: Global,
     entries: &mut Vec<Entry>,
     spare: &mut Entry,
+    unused: &mut Vec<Entry>,
     shape: &Shape,
     room: usize,
 ) -> Result<(), Memory>
@@ -107,7 +108,7 @@ pub(crate) fn keep(
         join_into(&mut entries[at].row, &spare.row, shape);
         return Ok(());
     }
-    put_in(alloc, entries, spare, at, room)
+    put_in(alloc, entries, spare, unused, at, room)
 }
 
 // Whether the entry at a place, if there is one, has a key.
@@ -123,11 +124,13 @@ fn has_key(entries: &[Entry], at: usize, key: &[u8]) -> bool
     }
 }
 
-// Puts the spare row at its place among the entries. Of more than `room` the last goes, and its memory is the spare one's.
+// Puts the spare row at its place among the entries. Of more than `room` the last goes, and its memory is the spare one's;
+// else that of an unused entry is, if there is one.
 fn put_in(
     alloc: Global,
     entries: &mut Vec<Entry>,
     spare: &mut Entry,
+    unused: &mut Vec<Entry>,
     at: usize,
     room: usize,
 ) -> Result<(), Memory>
@@ -136,7 +139,11 @@ fn put_in(
     ensures { OnOk result (entries.new.items ≡ take room (insert entries.old.items at spare.old)) }
 {
     if entries.len() < room {
-        let row = mem::replace(spare, Entry::new(alloc));
+        let next = match unused.pop() {
+            Some(entry) => entry,
+            None => Entry::new(alloc),
+        };
+        let row = mem::replace(spare, next);
         return add(entries, at, row);
     }
     if at == room {

@@ -19,6 +19,7 @@ use crate::stored::{key_of_partial, values_of};
 use reservation_tree::PoolErr;
 use row_codec::Memory;
 use std::alloc::Global;
+use std::mem;
 use store_api::{Client, Emit, OpErr, Shape, Store};
 use tuple_stream::{At, Stream};
 
@@ -53,11 +54,24 @@ pub fn leaf_by_scan<St: Store, E: Emit<St>>(
 {
     let room = room as usize;
     let mut entries = Vec::new(alloc);
+    let mut unused = Vec::new(alloc);
     let mut last = None;
     // There are no more groups than rows.
     let mut left = rows.rows();
     while left > 0 {
-        keep_lowest(alloc, store, c, rows, shape, room, &last, &mut entries)?;
+        // The memory of the entries that were handed on is taken again.
+        mem::swap(&mut entries, &mut unused);
+        keep_lowest(
+            alloc,
+            store,
+            c,
+            rows,
+            shape,
+            room,
+            &last,
+            &mut entries,
+            &mut unused,
+        )?;
         hand_on(alloc, store, shape, &entries, emit)?;
         if entries.len() < room {
             return Ok(());
@@ -78,6 +92,7 @@ fn keep_lowest<St: Store>(
     room: usize,
     last: &Option<Entry>,
     entries: &mut Vec<Entry>,
+    unused: &mut Vec<Entry>,
 ) -> Result<(), PoolErr>
     requires stream { IsReadable c.now rows.old (St.holds store.old) }
     requires shape { IsShape shape.now }
@@ -90,7 +105,7 @@ fn keep_lowest<St: Store>(
     let mut spare = Entry::new(alloc);
     let mut place = At::first();
     while rows.keep_into(store, c, &mut place, &mut spare.row)? {
-        let Ok(()) = take_in(alloc, entries, &mut spare, shape, room, last) else {
+        let Ok(()) = take_in(alloc, entries, &mut spare, unused, shape, room, last) else {
             return Err(PoolErr::Memory);
         };
     }
@@ -102,6 +117,7 @@ fn take_in(
     alloc: Global,
     entries: &mut Vec<Entry>,
     spare: &mut Entry,
+    unused: &mut Vec<Entry>,
     shape: &Shape,
     room: usize,
     last: &Option<Entry>,
@@ -118,7 +134,7 @@ fn take_in(
         return Err(Memory);
     };
     if passes(last, &spare.key) {
-        keep(alloc, entries, spare, shape, room)
+        keep(alloc, entries, spare, unused, shape, room)
     } else {
         Ok(())
     }
