@@ -138,7 +138,7 @@ narrow_kinds kinds (c ∷ cs) are vs is =
     narrow_more first.0 (filter_map (slice_get kinds) cs) first.2 (λ ws same. narrow_kinds kinds cs (All-tail (IsKeyColumn kinds) c cs are) ws same) vs
     (is ∙ ap (λ (o : Option Kind). cons_option o (filter_map (slice_get kinds) cs)) first.1)
 
-field_fits : (vs : List Value) (i : ℕ) (v : Value) → slice_get vs i ≡ Some v → length (field_bytes v) ≤ length (fields_of vs)
+pub field_fits : (vs : List Value) (i : ℕ) (v : Value) → slice_get vs i ≡ Some v → length (field_bytes v) ≤ length (fields_of vs)
 field_fits [] i v at = absurd (none-some v at)
 field_fits (w ∷ vs) zero v at = let long = length-append (field_bytes w) (fields_of vs) in let same : length (field_bytes w) ≡ length (field_bytes v) = ap (λ (x : Value). length (field_bytes x)) (same_Some w v at) in omega (arith, long, same)
 field_fits (w ∷ vs) (suc i) v at = let long = length-append (field_bytes w) (fields_of vs) in let rest = field_fits vs i v at in omega (arith, long, rest)

@@ -26,3 +26,10 @@ pub mod Entering
 pub mod Dividing
 pub mod Feeding
 pub mod KeyReading
+pub mod Emitting
+pub mod Saying
+pub mod Gathered
+pub mod NodeOrder
+pub mod OwnBytes
+pub mod KeyWalking
+pub mod ReadingBack

@@ -39,7 +39,7 @@ field_some (Int z) = omega arith
 field_some (Text text) = let long = length-append (to_be_bytes w32 (length text)) text in omega (arith, long)
 field_some (Wide z) = omega arith
 
-body_some : (vs : List Value) → 0 < length vs → 0 < length (flat_map field_bytes vs)
+pub body_some : (vs : List Value) → 0 < length vs → 0 < length (flat_map field_bytes vs)
 body_some [] some = absurd (omega (arith, some))
 body_some (v ∷ vs) some = let long = length-append (field_bytes v) (flat_map field_bytes vs) in let first = field_some v in omega (arith, long, first)
 

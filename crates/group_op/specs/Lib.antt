@@ -5,3 +5,5 @@ pub mod Emission
 pub mod Scanning
 pub mod Keepings
 pub mod Leaving
+pub mod InOrder
+pub mod KeyParts

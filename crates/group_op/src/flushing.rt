@@ -13,7 +13,7 @@ ghost use Rattle.group_op.specs.Held.{AreEntries, IsHeld, page_len, state};
 ghost use Rattle.group_op.specs.Putting.{HasFlushed, IsFan, Works};
 ghost use Rattle.group_op.specs.Stored.{IsPartialRow, place_of};
 
-use crate::stored::key_of_partial;
+use crate::keying::key_of_partial;
 use bucket_table::BucketTable;
 use partition_stack::Partitions;
 use reservation_tree::PoolErr;
@@ -99,7 +99,7 @@ fn send<St: Store>(
     ensures cause { IfErr result (λ e. WasAnswered e (St.signs store.old) (St.signs store.new)) }
     ensures full { IfErr result (IsFull parts.old.page_blocks (St.holds store.new).free_slots) }
 {
-    let Ok(true) = key_of_partial(alloc, &spare.row, shape, &mut spare.key) else {
+    let Ok(true) = key_of_partial(&spare.row, shape, &mut spare.key) else {
         return Err(PoolErr::Memory);
     };
     let at = fan.base + (15 - nibble(hash64(&spare.key), fan.level) as usize);

@@ -7,11 +7,16 @@
 //! so many are kept at a time.
 #![tactic(auto)]
 
+mod emission;
 mod flushing;
 mod joining;
+mod keying;
 mod lowest;
+mod ordering;
 mod putting;
+mod reading;
 mod scanning;
+mod spelling;
 mod stored;
 #[cfg(test)]
 mod tests;

@@ -11,13 +11,15 @@ ghost use Rattle.tuple_stream.specs.Streams.{HasRows};
 ghost use Rattle.group_rows.specs.Kept.{AreOrdered};
 ghost use Rattle.group_op.specs.Emission.{AdmitsAll, Emitted, EmittedFront, Says, Stood};
 ghost use Rattle.group_op.specs.Keepings.{HasKept, IsKept, is_above, kept_in, key_in, taken_in};
-ghost use Rattle.group_op.specs.Stored.{IsPartialRow, grouping_of, partial_at};
+ghost use Rattle.group_op.specs.Stored.{IsPartialRow, grouping_of, partial_at, partial_kinds};
 ghost use Rattle.group_op.specs.Scanning.{IsBeside, IsReadable, MayShow, ReadBeside, StaysEmitter, WentOn, groups_by_bytes};
 
+use crate::keying::key_of_partial;
 use crate::lowest::{Entry, keep};
-use crate::stored::{key_of_partial, values_of};
+use crate::reading::{Reading, decode_into};
+use crate::stored::kinds_of;
 use reservation_tree::PoolErr;
-use row_codec::Memory;
+use row_codec::{Kind, Memory};
 use std::alloc::Global;
 use std::mem;
 use store_api::{Client, Emit, OpErr, Shape, Store};
@@ -130,7 +132,7 @@ fn take_in(
     ensures each { OnOk result (All (IsKept shape.now) entries.new.items) }
     ensures taken { OnOk result (kept_in shape.now entries.new.items ≡ taken_in room (grouping_of shape.now) (key_in last.now) (partial_at shape.now spare.old.row.items) (kept_in shape.now entries.old.items)) }
 {
-    let Ok(true) = key_of_partial(alloc, &spare.row, shape, &mut spare.key) else {
+    let Ok(true) = key_of_partial(&spare.row, shape, &mut spare.key) else {
         return Err(Memory);
     };
     if passes(last, &spare.key) {
@@ -167,8 +169,12 @@ fn hand_on<St: Store, E: Emit<St>>(
     ensures cause { IfErr result (CameOf (E.faults emit.old) (E.faults emit.new) (St.signs store.old) (St.signs store.new)) }
     ensures stood { Stood (E.admits emit.old) (E.admits emit.new) (E.client emit.old) (E.client emit.new) (E.faults emit.old) (E.faults emit.new) (St.holds store.old) (St.holds store.new) (St.signs store.old) (St.signs store.new) }
 {
+    let Ok(kinds) = kinds_of(alloc, shape) else {
+        return Err(OpErr::Pool(PoolErr::Memory));
+    };
+    let mut spare = Reading::new(alloc);
     for entry in entries {
-        hand_row(alloc, store, shape, &entry.row, emit)?;
+        hand_row(alloc, store, shape, &entry.row, &kinds, &mut spare, emit)?;
     }
     Ok(())
 }
@@ -179,8 +185,11 @@ fn hand_row<St: Store, E: Emit<St>>(
     store: &mut St,
     shape: &Shape,
     row: &[u8],
+    kinds: &[Kind],
+    spare: &mut Reading,
     emit: &mut E,
 ) -> Result<(), OpErr>
+    requires kinds { kinds.now ≡ partial_kinds shape.now }
     requires row { IsPartialRow shape.now row.now }
     requires client { HasClient (E.client emit.old) (St.holds store.old) }
     requires stands { (taken : List (List Value)) × E.took emit.old (St.holds store.old) taken }
@@ -190,9 +199,8 @@ fn hand_row<St: Store, E: Emit<St>>(
     ensures cause { IfErr result (CameOf (E.faults emit.old) (E.faults emit.new) (St.signs store.old) (St.signs store.new)) }
     ensures stood { Stood (E.admits emit.old) (E.admits emit.new) (E.client emit.old) (E.client emit.new) (E.faults emit.old) (E.faults emit.new) (St.holds store.old) (St.holds store.new) (St.signs store.old) (St.signs store.new) }
 {
-    let Ok(found) = values_of(alloc, row, shape) else {
+    let Ok(true) = decode_into(alloc, kinds, row, &mut spare.values, &mut spare.texts) else {
         return Err(OpErr::Pool(PoolErr::Memory));
     };
-    let Some(values) = found else { unreachable!() };
-    emit.row(store, &values)
+    emit.row(store, &spare.values)
 }

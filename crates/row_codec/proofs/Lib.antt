@@ -1,8 +1,8 @@
-mod Fields
+pub mod Fields
 mod KeyParts
 mod Lengths
-mod Numbers
+pub mod Numbers
 mod PathNumber
-mod ReadBack
-mod SpelledBack
+pub mod ReadBack
+pub mod SpelledBack
 mod Turned

@@ -77,7 +77,7 @@ pub record Framed (bytes : List ℕ) (parts : List ℕ × List ℕ) : Type 0 whe
   pub spelled : framed parts.0 ++ parts.1 ≡ bytes
   pub fits : length parts.0 < 2 ^ 32
 
-framed_parts : (bytes : List ℕ) (parts : List ℕ × List ℕ) → AreBytes bytes → framed_at bytes ≡ Some parts → Framed bytes parts
+pub framed_parts : (bytes : List ℕ) (parts : List ℕ × List ℕ) → AreBytes bytes → framed_at bytes ≡ Some parts → Framed bytes parts
 framed_parts bytes parts small e =
     let outer = then_some (λ (head, rest). front (number_in head) rest) (front 4 bytes) parts e in
     let cut = front_parts 4 bytes outer.0 outer.1 in
@@ -134,7 +134,7 @@ text_spells bytes parts small cut =
       is_value = all_bytes parts.0 (hind_bytes (to_be_bytes w32 (length parts.0)) parts.0 framed_small);
     }
 
-field_spells : (k : Kind) (bytes : List ℕ) (field : Value × List ℕ) → AreBytes bytes → field_at k bytes ≡ Some field → Spells k bytes field
+pub field_spells : (k : Kind) (bytes : List ℕ) (field : Value × List ℕ) → AreBytes bytes → field_at k bytes ≡ Some field → Spells k bytes field
 field_spells kind.Int bytes field small e =
     let read = map_some (λ (head, rest). (Int (cast_signed w64 (number_in head)), rest)) (front 8 bytes) field e in
     subst (Spells kind.Int bytes) read.2 (int_spells bytes read.0 small (front_parts 8 bytes read.0 read.1))

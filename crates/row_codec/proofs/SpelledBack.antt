@@ -18,13 +18,13 @@ use Rattle.row_codec.specs.RowLaws.{RowBack}
 use Rattle.row_codec.proofs.Numbers.{read_back}
 
 -- bytes that stand before others are at the front
-front_back : (bytes behind : List ℕ) → front (length bytes) (bytes ++ behind) ≡ Some (bytes, behind)
+pub front_back : (bytes behind : List ℕ) → front (length bytes) (bytes ++ behind) ≡ Some (bytes, behind)
 front_back bytes behind =
     let enough : length bytes ≤ length (bytes ++ behind) = omega (arith, length-append bytes behind) in
     rw (le-leb (length bytes) (length (bytes ++ behind)) enough, take-append_seam bytes behind, drop-append_seam bytes behind)
 
 -- a number is read where it was spelled
-number_back : (count n : ℕ) → n < 256 ^ count → number_in (bytes_high_first count n) ≡ n
+pub number_back : (count n : ℕ) → n < 256 ^ count → number_in (bytes_high_first count n) ≡ n
 number_back count n fits = omega (arith, read_back count 0 n, mod-eq_of_lt fits)
 
 framed_back : (inside behind : List ℕ) → length inside < 2 ^ 32 → framed_at (framed inside ++ behind) ≡ Some (inside, behind)
@@ -46,7 +46,7 @@ wide_back z behind fits =
     ∙ ap (λ y. Some (Wide y, behind)) (to_z-of_z w128 z fits)
 
 -- a field is read where it was spelled
-field_back : (v : Value) (behind : List ℕ) → IsValue v → length (field_bytes v) < 2 ^ 32 → field_at (kind_of v) (field_bytes v ++ behind) ≡ Some (v, behind)
+pub field_back : (v : Value) (behind : List ℕ) → IsValue v → length (field_bytes v) < 2 ^ 32 → field_at (kind_of v) (field_bytes v ++ behind) ≡ Some (v, behind)
 field_back (Int z) behind is fits = int_back z behind is
 field_back (Text text) behind is fits = ap (λ o. option_map (λ (inside, rest). (Text inside, rest)) o) (framed_back text behind (omega arith))
 field_back (Wide z) behind is fits = wide_back z behind is

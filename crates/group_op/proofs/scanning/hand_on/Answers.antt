@@ -8,9 +8,15 @@ use Rattle.group_op.specs.Emission.{Emitted, EmittedFront, Says}
 use Rattle.group_op.specs.declared.lowest.Entry.{Entry}
 use Rattle.group_op.specs.Keepings.{kept_in}
 use Rattle.group_op.specs.Stored.{partial_at}
-use Rattle.group_op.proofs.Emitting.{came_behind, emitted_behind, emitted_none, front_behind, stood_more, stood_none}
+use Rattle.group_op.proofs.Emitting.{came_behind, emitted_behind, emitted_none, front_behind, front_none, stood_more, stood_none}
 use Rattle.group_op.proofs.KeptList.{kept_more, kept_split, kept_there}
 use Rattle.group_op.proofs.scanning.hand_on.Goals as goal
+
+pub returns-in_default-clause-err : goal.returns-in_default-clause-err
+returns-in_default-clause-err g c = front_none _ _ _
+
+pub returns-in_default-clause-stood : goal.returns-in_default-clause-stood
+returns-in_default-clause-stood g c = stood_none _ _ _ _ _ c.requires.client
 
 pub loop-entry-init : goal.loop-entry-init
 loop-entry-init g c =
