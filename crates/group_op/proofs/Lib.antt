@@ -26,7 +26,6 @@ pub mod Entering
 pub mod Dividing
 pub mod Feeding
 pub mod KeyReading
-pub mod Emitting
 pub mod Saying
 pub mod Gathered
 pub mod NodeOrder
