@@ -7,6 +7,18 @@ pub mod WideBytes
 pub mod Forms
 pub mod Heads
 pub mod Same
+pub mod Passes
+pub mod Puts
+pub mod KeptRows
+pub mod Lasts
+pub mod Oks
+pub mod Emitting
+pub mod KeptList
+pub mod Readings
+pub mod Agreeing
+pub mod ScanFrames
+pub mod Scans
+mod Dropping
 pub mod Rewriting
 pub mod Joins
 pub mod Finding
@@ -20,7 +32,6 @@ pub mod Growth
 pub mod Opened
 pub mod Kept
 pub mod Ended
-pub mod Emitting
 pub mod Saying
 pub mod Gathered
 pub mod NodeOrder

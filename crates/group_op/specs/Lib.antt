@@ -3,6 +3,9 @@ pub mod Held
 pub mod Putting
 pub mod Emission
 pub mod Operator
+pub mod Scanning
+pub mod Keepings
+pub mod Leaving
 pub mod InOrder
 pub mod Finishing
 pub mod KeyParts

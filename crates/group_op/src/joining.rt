@@ -13,7 +13,7 @@ use store_api::Shape;
 
 // The number that sixteen bytes of a row spell.
 #[tactic(auto, using(bucket_table::proofs::Spelling::number_of_16))]
-fn wide_at(row: &[u8], at: usize) -> u128
+pub(crate) fn wide_at(row: &[u8], at: usize) -> u128
     requires { at + 16 ≤ length row.now }
     ensures { result ≡ number_in (take 16 (drop at row.now)) }
 {

@@ -2,8 +2,9 @@
 //!
 //! Model: a partial row stands as an encoded row, its key's values and then one number an aggregate. The rows in a table and
 //! in the partitions together, combined key by key, are those that were put, in any order and in any parts.
-//! What is here is what each movement of partial rows keeps: into the entry of their key, as a new entry, from the
-//! table to the sixteen partitions of a level, and from the table to an emitter, in the order of the keys.
+//! A row that is fed goes into a table: into the entry of its key, or as a new one. A table that is full grows as long as its
+//! client may reserve more; then its rows go to sixteen partitions. Once no more rows are fed, partition after partition is
+//! read through the table, and its groups go to an emitter in the order of their paths and keys.
 #![tactic(auto)]
 
 mod absorbing;
@@ -16,13 +17,18 @@ mod growing;
 mod joining;
 mod keying;
 mod operator;
+mod lowest;
 mod ordering;
 mod own_row;
 mod putting;
 mod reading;
+mod scanning;
 mod spelling;
 mod stored;
+#[cfg(test)]
+mod tests;
 
 pub use flushing::{Fan, Spare, flush};
 pub use operator::GroupOp;
 pub use putting::put;
+pub use scanning::leaf_by_scan;

@@ -1,0 +1,71 @@
+-- The groups of a stream of partial rows, handed on in ascending order of their keys' bytes. `s` and `old` are the stream
+-- and what its store holds before, `now` and `new` behind.
+use Rattle.std.specs.Prelude.{◌≡◌, ◌≢◌, ◌↔◌, ℕ, ◌+◌, ◌≤◌, List, ◌++◌, Option, Some, IsSome, option_map, true}
+use Rattle.std.specs.Cmp.Lexicographic.{slice_cmp}
+use Rattle.std.specs.Ordering.{nat_cmp}
+use Rattle.row_codec.specs.declared.values.Value.{Value}
+use Rattle.store_api.specs.declared.shapes.Shape.{Shape}
+use Rattle.store_api.specs.Conditions.{IsLiveClient}
+use Rattle.store_api.specs.Emitters.{HasClient, SameFor}
+use Rattle.store_api.specs.Holdings.{Holdings, LiveLoan, LivePage, unused_of}
+use Rattle.store_api.specs.Signs.{Grows, Signs}
+use Rattle.store_api.specs.Tokens.{ClientToken}
+use Rattle.tuple_stream.specs.Streamed.{Streamed}
+use Rattle.tuple_stream.specs.Streams.{HasPageRoom, HasRows, IsApart, IsShaped}
+use Rattle.tuple_stream.specs.Touches.{held, with_unused}
+use Rattle.group_rows.specs.Partials.{Partial, combined_by}
+use Rattle.group_op.specs.Stored.{grouping_of, partials_at}
+
+-- the groups of stored rows, in the order of their keys' bytes
+abbrev pub groups_by_bytes : Shape → List (List ℕ) → List Partial
+groups_by_bytes shape rows = combined_by (slice_cmp nat_cmp) (grouping_of shape) (partials_at shape rows)
+
+-- reading may show these rows: where pins are told, they are the stream's
+abbrev pub MayShow : Streamed → Holdings → List (List ℕ) → Type 0
+MayShow s h read = (rows : List (List ℕ)) → h.told ≡ true → HasRows rows s h → read ≡ rows
+
+-- a stream of a live client, which has room for one of its pages
+pub record IsReadable (c : ClientToken) (s : Streamed) (h : Holdings) : Type 0 where
+  pub client : IsLiveClient c h
+  pub shape : IsShaped c.tracker s h
+  pub room : HasPageRoom c.tracker s h
+
+-- an emitter's client is another one than this, and live
+pub record IsBeside (t : ℕ) (client : Option ℕ) (h : Holdings) : Type 0 where
+  pub apart : client ≢ Some t
+  pub lives : HasClient client h
+
+-- of the query itself only its reservation may have risen
+pub record IsSameQuery (old new : Holdings) : Type 0 where
+  pub block_len : new.block_len ≡ old.block_len
+  pub session : new.session ≡ old.session
+  pub query : new.query ≡ old.query
+  pub limit : new.limit ≡ old.limit
+  pub live_clients : new.live_clients ≡ old.live_clients
+  pub told : new.told ≡ old.told
+  pub reservation : old.reservation ≤ new.reservation
+
+-- a client's stream was read while rows went to an emitter: of its client only the pinned page and the unused bytes
+-- changed, and of all others only what is the emitter's client's
+pub record ReadBeside (t : ℕ) (client : Option ℕ) (s now : Streamed) (old new : Holdings) : Type 0 where
+  pub shape : IsShaped t now new
+  pub same : now ≡ record s { pinned = now.pinned }
+  pub rows : (rows : List (List ℕ)) → old.told ≡ true → HasRows rows s old → HasRows rows now new
+  pub unused : unused_of t new + held now new ≡ unused_of t old + held s old
+  pub account : IsSome (old.clients t) → new.clients t ≡ option_map (with_unused (unused_of t new)) (old.clients t)
+  pub pages : (q : ℕ) (page : LivePage) → page.client ≡ t → IsApart q s.pages → (new.pages q ≡ Some page) ↔ (old.pages q ≡ Some page)
+  pub loans : (q : ℕ) (loan : LiveLoan) → loan.client ≡ t → (new.loans q ≡ Some loan) ↔ (old.loans q ≡ Some loan)
+  pub others : (u : ℕ) → u ≢ t → client ≢ Some u → SameFor u old new
+  pub query : IsSameQuery old new
+
+-- an emitter is what it was and its client lives, and nothing that only grows fell
+pub record StaysEmitter (admits_old admits : List Value → Type 0) (client_old client : Option ℕ) (faults_old faults : ℕ) (new : Holdings) (before after : Signs) : Type 0 where
+  pub admits_same : (row : List Value) → admits_old row ↔ admits row
+  pub client_same : client ≡ client_old
+  pub lives : HasClient client_old new
+  pub never_falls : faults_old ≤ faults
+  pub grows : Grows before after
+
+-- rows came behind what was taken, whichever they are
+abbrev pub WentOn : (List (List Value) → Type 0) → (List (List Value) → Type 0) → Type 0
+WentOn was now = (taken : List (List Value)) → was taken → (rows : List (List Value)) × now (taken ++ rows)
