@@ -26,3 +26,4 @@ pub mod Gathered
 pub mod NodeOrder
 pub mod OwnBytes
 pub mod TakeMore
+pub mod Sixteen
