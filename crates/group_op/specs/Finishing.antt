@@ -13,7 +13,7 @@ use Rattle.partition_stack.specs.Stack.{RestBelow, Stack}
 use Rattle.group_rows.specs.Partials.{Partial, combined_of}
 use Rattle.group_rows.specs.Splitting.{HasPath}
 use Rattle.group_rows.specs.Tables.{HaveDistinctKeys}
-use Rattle.group_op.specs.Emission.{Emitted}
+use Rattle.group_op.specs.Emission.{Emitted, WentOn}
 use Rattle.group_op.specs.Held.{AreEntries, IsHeld, Leaves, State, page_len, rows_of, streams_of}
 use Rattle.group_op.specs.Putting.{IsFan}
 use Rattle.group_op.specs.Stored.{IsPartialRow, SameGroups, dealt, grouping_of, partial_kinds, partials_at}
@@ -66,10 +66,6 @@ pub record HasRead (shape : Shape) (at level : ℕ) (divided : Bool) (rows : ℕ
   pub same : SameGroups (grouping_of shape) (partials_at shape some) (partials_at shape (rows_of b.table ++ gone))
   pub distinct : HaveDistinctKeys (partials_at shape (rows_of b.table))
 
--- an emitter admits each row that says a partial row of the shape
-abbrev pub AdmitsKinds : Shape → (List Value → Type 0) → Type 0
-AdmitsKinds shape admits = (row : List Value) → IsRow row → kinds_of row ≡ partial_kinds shape → admits row
-
 -- the emitter is another client's, or nobody's, and lives
 pub record IsBeside (t : ℕ) (client : Option ℕ) (h : Holdings) : Type 0 where
   pub apart : client ≢ Some t
@@ -102,4 +98,4 @@ pub record StandsStill (admits_old admits : List Value → Type 0) (client_old c
   pub client_same : client ≡ client_old
   pub lives : HasClient client_old h
   pub never_falls : faults_old ≤ faults
-  pub took : (rows : List (List Value)) → was rows → (more : List (List Value)) × now (rows ++ more)
+  pub took : WentOn was now

@@ -4,8 +4,8 @@ ghost use Rattle.row_codec.specs.declared.values.Value.{Value};
 ghost use Rattle.store_api.specs.Emitters.{CameOf};
 ghost use Rattle.store_api.specs.Shapes.{IsShape};
 ghost use Rattle.partition_stack.specs.Stack.{weight};
-ghost use Rattle.group_op.specs.Emission.{EmittedFront};
-ghost use Rattle.group_op.specs.Finishing.{AdmitsKinds, Advances, IsBeside, IsBetween, LeavesBeside, Stacked, StandsStill, said_down};
+ghost use Rattle.group_op.specs.Emission.{AdmitsKinds, EmittedFront};
+ghost use Rattle.group_op.specs.Finishing.{Advances, IsBeside, IsBetween, LeavesBeside, Stacked, StandsStill, said_down};
 ghost use Rattle.group_op.specs.Held.{AreEntries, IsHeld, page_len, state};
 
 use crate::flushing::Spare;
