@@ -27,3 +27,4 @@ pub mod NodeOrder
 pub mod OwnBytes
 pub mod TakeMore
 pub mod Sixteen
+pub mod Divided

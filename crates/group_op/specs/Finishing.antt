@@ -1,8 +1,6 @@
 -- Partitions are read from the top, each through a table. `a` is before a call and `b` behind it.
-use Rattle.std.specs.Prelude.{◌≡◌, ◌≢◌, ◌↔◌, ℕ, zero, suc, ◌+◌, ◌<◌, ◌≤◌, Bool, true, false, List, [], ◌∷◌, ◌++◌, All, length, slice_get, set, replicate, Option, Some, None, ⊤}
+use Rattle.std.specs.Prelude.{◌≡◌, ◌≢◌, ◌↔◌, ℕ, zero, suc, ◌+◌, ◌<◌, ◌≤◌, Bool, true, false, List, [], ◌∷◌, ◌++◌, All, length, slice_get, set, replicate, take, Option, Some, None, ⊤}
 use Rattle.row_codec.specs.declared.values.Value.{Value}
-use Rattle.row_codec.specs.Row.{kinds_of}
-use Rattle.row_codec.specs.RowLaws.{IsRow}
 use Rattle.store_api.specs.declared.shapes.Shape.{Shape}
 use Rattle.store_api.specs.Emitters.{HasClient, SameFor}
 use Rattle.store_api.specs.Holdings.{Holdings, account_of}
@@ -16,7 +14,7 @@ use Rattle.group_rows.specs.Tables.{HaveDistinctKeys}
 use Rattle.group_op.specs.Emission.{Emitted, WentOn}
 use Rattle.group_op.specs.Held.{AreEntries, IsHeld, Leaves, State, page_len, rows_of, streams_of}
 use Rattle.group_op.specs.Putting.{IsFan}
-use Rattle.group_op.specs.Stored.{IsPartialRow, SameGroups, dealt, grouping_of, partial_kinds, partials_at}
+use Rattle.group_op.specs.Stored.{IsPartialRow, SameGroups, dealt, grouping_of, partials_at, place_of}
 
 -- what the first so many partitions say, the highest one first, each combined by itself
 abbrev pub said_down : Shape → ℕ → (ℕ → List (List ℕ)) → List Partial
@@ -34,6 +32,7 @@ pub record IsPart (shape : Shape) (level : ℕ) (rows : List (List ℕ)) : Type 
 pub record Stacked (shape : Shape) (rows : ℕ → List (List ℕ)) (b : State) : Type 0 where
   pub told : b.held.told ≡ true
   pub shows : ShowAll rows (streams_of b)
+  pub levelled : length b.parts.levels ≡ length b.parts.streams
   pub parts : (i level : ℕ) → slice_get b.parts.levels i ≡ Some level → IsPart shape level (rows i)
 
 -- between two partitions: the table is empty, and no page is pinned
@@ -65,6 +64,12 @@ pub record HasRead (shape : Shape) (at level : ℕ) (divided : Bool) (rows : ℕ
   pub undivided : divided ≡ false → gone ≡ []
   pub same : SameGroups (grouping_of shape) (partials_at shape some) (partials_at shape (rows_of b.table ++ gone))
   pub distinct : HaveDistinctKeys (partials_at shape (rows_of b.table))
+
+-- the rows of the top partition are in sixteen above it, and nothing is lost
+pub record HasDivided (shape : Shape) (at : ℕ) (rows : ℕ → List (List ℕ)) (b : State) : Type 0 where
+  pub left : ℕ → List (List ℕ)
+  pub stacked : Stacked shape left b
+  pub same : said_down shape (at + 1) rows ≡ said_down shape (length b.parts.streams) left
 
 -- the emitter is another client's, or nobody's, and lives
 pub record IsBeside (t : ℕ) (client : Option ℕ) (h : Holdings) : Type 0 where
@@ -99,3 +104,21 @@ pub record StandsStill (admits_old admits : List Value → Type 0) (client_old c
   pub lives : HasClient client_old h
   pub never_falls : faults_old ≤ faults
   pub took : WentOn was now
+
+-- whatever a call with an emitter answers
+pub record ServesBeside (t : ℕ) (client : Option ℕ) (shape : Shape) (a b : State) : Type 0 where
+  pub held : IsHeld t b
+  pub entries : AreEntries shape (page_len b) b.table
+  pub leaves : LeavesBeside t client a b
+
+-- the top partition, at this place, went
+pub record HasPopped (at : ℕ) (old new : Stack) : Type 0 where
+  pub many : length new.streams ≡ at
+  pub levels : new.levels ≡ take at old.levels
+
+-- partial rows in sixteen partitions, each in the one of its path's first nibble
+pub record ShowsFirst (shape : Shape) (rows : ℕ → List (List ℕ)) (b : State) : Type 0 where
+  pub told : b.held.told ≡ true
+  pub shows : ShowAll rows (streams_of b)
+  pub formed : (i : ℕ) → All (IsPartialRow shape) (rows i)
+  pub placed : (i : ℕ) → All (λ row. place_of shape 0 0 row ≡ i) (rows i)
