@@ -28,3 +28,5 @@ pub mod OwnBytes
 pub mod TakeMore
 pub mod Sixteen
 pub mod Divided
+pub mod Besides
+pub mod HandedOn
