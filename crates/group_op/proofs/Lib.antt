@@ -30,3 +30,4 @@ pub mod Sixteen
 pub mod Divided
 pub mod Besides
 pub mod HandedOn
+pub mod Advancing
