@@ -35,7 +35,7 @@ use Rattle.group_op.proofs.Keeping.{held_touched, leaves_touched}
 
 -- ---- what calls leave
 
-pub beside_own : (t : ℕ) (client : Option ℕ) (a b : State) → Leaves t a b → LeavesBeside t client a b
+pub beside_own : (t : ℕ) (client : Option ℕ) (a b : State) → Leaves t a b → LeavesBeside t client a.held b.held a.signs b.signs
 beside_own t client a b leaves =
     record {
       block_len = leaves.others.block_len;
@@ -56,7 +56,7 @@ beside_own t client a b leaves =
 account_same : (t : ℕ) (old new : Holdings) → SameFor t old new → account_of t new ≡ account_of t old
 account_same t old new same = ap (or_else no_account) same.account
 
-pub beside_emit : (t : ℕ) (client : Option ℕ) (a b : State) → client ≢ Some t → OthersStay client a.held b.held → Grows a.signs b.signs → LeavesBeside t client a b
+pub beside_emit : (t : ℕ) (client : Option ℕ) (a b : State) → client ≢ Some t → OthersStay client a.held b.held → Grows a.signs b.signs → LeavesBeside t client a.held b.held a.signs b.signs
 beside_emit t client a b apart others grows =
     record {
       block_len = others.block_len;
@@ -71,7 +71,7 @@ beside_emit t client a b apart others grows =
       grows = grows;
     }
 
-pub beside_then : (t : ℕ) (client : Option ℕ) (a b c : State) → LeavesBeside t client a b → LeavesBeside t client b c → LeavesBeside t client a c
+pub beside_then : (t : ℕ) (client : Option ℕ) (a b c : State) → LeavesBeside t client a.held b.held a.signs b.signs → LeavesBeside t client b.held c.held b.signs c.signs → LeavesBeside t client a.held c.held a.signs c.signs
 beside_then t client a b c one two =
     record {
       block_len = two.block_len ∙ one.block_len;
@@ -87,10 +87,10 @@ beside_then t client a b c one two =
     }
 
 pub serves_own : (t : ℕ) (client : Option ℕ) (shape : Shape) (a b : State) → Serves t shape a b → ServesBeside t client shape a b
-serves_own t client shape a b serves = record { held = serves.held; entries = serves.entries; leaves = beside_own t client a b serves.leaves }
+serves_own t client shape a b serves = record { held = serves.held; entries = serves.entries; leaves = beside_own t client a b serves.leaves; blocks = serves.blocks }
 
 pub serves_then : (t : ℕ) (client : Option ℕ) (shape : Shape) (a b c : State) → ServesBeside t client shape a b → ServesBeside t client shape b c → ServesBeside t client shape a c
-serves_then t client shape a b c one two = record { held = two.held; entries = two.entries; leaves = beside_then t client a b c one.leaves two.leaves }
+serves_then t client shape a b c one two = record { held = two.held; entries = two.entries; leaves = beside_then t client a b c one.leaves two.leaves; blocks = two.blocks ∙ one.blocks }
 
 -- ---- an emission leaves what the grouping has
 
@@ -122,6 +122,7 @@ module _ (t : ℕ) (client : Option ℕ) (shape : Shape) (table : Table) (p : St
           held = held_beside;
           entries = subst (λ (n : ℕ). AreEntries shape n table) (sym lens) entries;
           leaves = beside_emit t client (state table p old before) (state table p new after) apart others grows;
+          blocks = refl;
         }
 
 -- ---- an emitter that stands

@@ -62,6 +62,7 @@ module _ (t : ℕ) (client : Option ℕ) (shape : Shape) (at : ℕ) (table : Tab
         held = held_popped t (with_nodes [] table) p q s h1 s1 b emptied split blocks empties gone;
         entries = subst (λ (n : ℕ). AreEntries shape n (with_nodes [] table)) (sym lens) (emptied_entries shape (length_of p.page_blocks h1) table first.entries);
         leaves = beside_own t client (state table p h1 s1) (state (with_nodes [] table) q b.held b.signs) leaves;
+        blocks = blocks;
       }
 
   pub serves_handed : (now : Table) → now ≡ with_nodes [] table → ServesBeside t client shape (state table p h0 s0) (state now q b.held b.signs)

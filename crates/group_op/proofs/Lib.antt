@@ -31,3 +31,4 @@ pub mod Divided
 pub mod Besides
 pub mod HandedOn
 pub mod Advancing
+pub mod Settled

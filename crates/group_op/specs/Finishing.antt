@@ -4,7 +4,7 @@ use Rattle.row_codec.specs.declared.values.Value.{Value}
 use Rattle.store_api.specs.declared.shapes.Shape.{Shape}
 use Rattle.store_api.specs.Emitters.{HasClient, SameFor}
 use Rattle.store_api.specs.Holdings.{Holdings, account_of}
-use Rattle.store_api.specs.Signs.{Grows}
+use Rattle.store_api.specs.Signs.{Grows, Signs}
 use Rattle.tuple_stream.specs.Families.{AllClosed, ShowAll}
 use Rattle.bucket_table.specs.Tables.{Table}
 use Rattle.partition_stack.specs.Stack.{RestBelow, Stack}
@@ -14,7 +14,7 @@ use Rattle.group_rows.specs.Tables.{HaveDistinctKeys}
 use Rattle.group_op.specs.Emission.{Emitted, WentOn}
 use Rattle.group_op.specs.Held.{AreEntries, IsHeld, Leaves, State, page_len, rows_of, streams_of}
 use Rattle.group_op.specs.Putting.{IsFan}
-use Rattle.group_op.specs.Stored.{IsPartialRow, SameGroups, dealt, grouping_of, partials_at, place_of}
+use Rattle.group_op.specs.Stored.{IsPartialRow, SameGroups, dealt, grouping_of, partials_at}
 
 -- what the first so many partitions say, the highest one first, each combined by itself
 abbrev pub said_down : Shape → ℕ → (ℕ → List (List ℕ)) → List Partial
@@ -85,17 +85,17 @@ pub record Advances (shape : Shape) (was now : List (List Value) → Type 0) (ro
   pub emitted : Emitted shape was now done
 
 -- calls changed nothing of clients but this one and the emitter's
-pub record LeavesBeside (t : ℕ) (client : Option ℕ) (a b : State) : Type 0 where
-  pub block_len : b.held.block_len ≡ a.held.block_len
-  pub session : b.held.session ≡ a.held.session
-  pub query : b.held.query ≡ a.held.query
-  pub limit : b.held.limit ≡ a.held.limit
-  pub live_clients : b.held.live_clients ≡ a.held.live_clients
-  pub told : b.held.told ≡ a.held.told
-  pub reservation : a.held.reservation ≤ b.held.reservation
-  pub others : (u : ℕ) → u ≢ t → client ≢ Some u → SameFor u a.held b.held
-  pub reserved : (account_of t a.held).reservation ≤ (account_of t b.held).reservation
-  pub grows : Grows a.signs b.signs
+pub record LeavesBeside (t : ℕ) (client : Option ℕ) (old new : Holdings) (before after : Signs) : Type 0 where
+  pub block_len : new.block_len ≡ old.block_len
+  pub session : new.session ≡ old.session
+  pub query : new.query ≡ old.query
+  pub limit : new.limit ≡ old.limit
+  pub live_clients : new.live_clients ≡ old.live_clients
+  pub told : new.told ≡ old.told
+  pub reservation : old.reservation ≤ new.reservation
+  pub others : (u : ℕ) → u ≢ t → client ≢ Some u → SameFor u old new
+  pub reserved : (account_of t old).reservation ≤ (account_of t new).reservation
+  pub grows : Grows before after
 
 -- an emitter that stands over its store still, and took the same rows or more
 pub record StandsStill (admits_old admits : List Value → Type 0) (client_old client : Option ℕ) (faults_old faults : ℕ) (was now : List (List Value) → Type 0) (h : Holdings) : Type 0 where
@@ -109,16 +109,10 @@ pub record StandsStill (admits_old admits : List Value → Type 0) (client_old c
 pub record ServesBeside (t : ℕ) (client : Option ℕ) (shape : Shape) (a b : State) : Type 0 where
   pub held : IsHeld t b
   pub entries : AreEntries shape (page_len b) b.table
-  pub leaves : LeavesBeside t client a b
+  pub leaves : LeavesBeside t client a.held b.held a.signs b.signs
+  pub blocks : b.parts.page_blocks ≡ a.parts.page_blocks
 
 -- the top partition, at this place, went
 pub record HasPopped (at : ℕ) (old new : Stack) : Type 0 where
   pub many : length new.streams ≡ at
   pub levels : new.levels ≡ take at old.levels
-
--- partial rows in sixteen partitions, each in the one of its path's first nibble
-pub record ShowsFirst (shape : Shape) (rows : ℕ → List (List ℕ)) (b : State) : Type 0 where
-  pub told : b.held.told ≡ true
-  pub shows : ShowAll rows (streams_of b)
-  pub formed : (i : ℕ) → All (IsPartialRow shape) (rows i)
-  pub placed : (i : ℕ) → All (λ row. place_of shape 0 0 row ≡ i) (rows i)

@@ -5,3 +5,4 @@ pub mod Emission
 pub mod Operator
 pub mod InOrder
 pub mod Finishing
+pub mod Finished

@@ -13,6 +13,7 @@ mod feeding;
 mod finishing;
 mod flushing;
 mod growing;
+mod handing;
 mod joining;
 mod operator;
 mod ordering;
