@@ -31,6 +31,7 @@ use Rattle.group_op.specs.Emission.{Stood, WentOn}
 use Rattle.group_op.specs.Finishing.{IsBeside, LeavesBeside, Serves, ServesBeside, StandsStill}
 use Rattle.group_op.specs.Held.{AreEntries, IsHeld, Leaves, LeavesOthers, State, lent, state, streams_of}
 use Rattle.group_op.proofs.Chained.{same_then}
+use Rattle.group_op.proofs.Opened.{had_leaves}
 use Rattle.group_op.proofs.Keeping.{held_touched, leaves_touched}
 
 -- ---- what calls leave
@@ -91,6 +92,10 @@ serves_own t client shape a b serves = record { held = serves.held; entries = se
 
 pub serves_then : (t : ℕ) (client : Option ℕ) (shape : Shape) (a b c : State) → ServesBeside t client shape a b → ServesBeside t client shape b c → ServesBeside t client shape a c
 serves_then t client shape a b c one two = record { held = two.held; entries = two.entries; leaves = beside_then t client a b c one.leaves two.leaves; blocks = two.blocks ∙ one.blocks }
+
+-- nothing was called
+pub serves_none : (t : ℕ) (client : Option ℕ) (shape : Shape) (a : State) → IsHeld t a → AreEntries shape (length_of a.parts.page_blocks a.held) a.table → ServesBeside t client shape a a
+serves_none t client shape a held entries = record { held = held; entries = entries; leaves = beside_own t client a a (had_leaves t a.held a.signs); blocks = refl }
 
 -- ---- an emission leaves what the grouping has
 
@@ -180,6 +185,14 @@ module _ (admits0 admits1 admits2 : List Value → Type 0) (client0 client1 clie
         never_falls = let x = one.never_falls in let y = two.never_falls in omega (arith, x, y);
         took = went_then was mid now one.took two.took;
       }
+
+pub stands_none : (admits : List Value → Type 0) (client : Option ℕ) (faults : ℕ) (was : List (List Value) → Type 0) (h : Holdings) → HasClient client h → StandsStill admits admits client client faults faults was was h
+stands_none admits client faults was h lives =
+    record { admits_same = λ row. (λ is. is, λ is. is); client_same = refl; lives = lives; never_falls = omega arith; took = went_none was was (λ rows took. took) }
+
+-- a call of the emitter that stands
+pub serves_more : (t : ℕ) (client now : Option ℕ) (shape : Shape) (a b c : State) → now ≡ client → ServesBeside t client shape a b → ServesBeside t now shape b c → ServesBeside t client shape a c
+serves_more t client now shape a b c same one two = serves_then t client shape a b c one (subst (λ (o : Option ℕ). ServesBeside t o shape b c) same two)
 
 -- it is beside the grouping still
 pub beside_stood : (t : ℕ) (admits_old admits : List Value → Type 0) (client_old client : Option ℕ) (faults_old faults : ℕ) (old new : Holdings) (before after : Signs) → IsBeside t client_old old → Stood admits_old admits client_old client faults_old faults old new before after → IsBeside t client new

@@ -72,7 +72,7 @@ fn empty_parts<St: Store, E: Emit<St>>(
     ensures emitter { StandsStill (E.admits emit.old) (E.admits emit.new) (E.client emit.old) (E.client emit.new) (E.faults emit.old) (E.faults emit.new) (E.took emit.old (St.holds store.old)) (E.took emit.new (St.holds store.new)) (St.holds store.new) }
     ensures cause { IfErr result (CameOf (E.faults emit.old) (E.faults emit.new) (St.signs store.old) (St.signs store.new)) }
 {
-    while parts.len() > 0 {
+    'down: while parts.len() > 0 {
         advance(alloc, store, c, shape, table, parts, emit, fed, moved)?;
     }
     Ok(())
