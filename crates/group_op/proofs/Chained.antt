@@ -10,7 +10,7 @@ use Rattle.store_api.proofs.Reserved.{alike_on}
 use Rattle.group_op.specs.Held.{Leaves, LeavesOthers, State}
 use Rattle.group_op.specs.Putting.{Works}
 
-same_then : (t : ℕ) (a b c : Holdings) → SameFor t a b → SameFor t b c → SameFor t a c
+pub same_then : (t : ℕ) (a b c : Holdings) → SameFor t a b → SameFor t b c → SameFor t a c
 same_then t a b c first second =
     record {
       account = second.account ∙ first.account;

@@ -1,9 +1,10 @@
 -- What a grouping keeps of the rows that were fed, over one more of them.
-use Rattle.std.proofs.Common.{◌≡◌, ◌∙◌, ℕ, ◌+◌, ◌*◌, ◌≤◌, ◌==◌, List, [], ◌∷◌, ◌++◌, length, Bool, true, false, Option, Some, Result, Ok, Err, OnOk, refl, ap, sym, subst, inr, arith, append-nil, length-append}
+use Rattle.std.proofs.Common.{◌≡◌, ◌∙◌, ℕ, ◌+◌, ◌*◌, ◌≤◌, ◌==◌, List, [], ◌∷◌, ◌++◌, length, Bool, true, false, Option, Some, None, Result, Ok, Err, OnOk, refl, ap, sym, subst, inr, arith, append-nil, length-append}
 use Rattle.std.specs.Prelude.{All, filter}
 use Rattle.std.specs.List.Sorted.{IsPermutation}
 use Rattle.std.proofs.lemmas.List.Elements.{All-append, All-cons, All-filter, All-nil}
 use Rattle.std.proofs.lemmas.Bool.{eqb-true}
+use Rattle.std.proofs.lemmas.Option.{none-some}
 use Rattle.std.proofs.lemmas.List.Sorted.{length_permutation}
 use Rattle.reservation_tree.specs.declared.errors.PoolErr.{PoolErr}
 use Rattle.pool_model.specs.declared.entry.Entry.{Entry}
@@ -31,7 +32,7 @@ go shape i r rows true is rest = rw is (All-cons (λ x. place_of shape 0 0 x ≡
 go shape i r rows false is rest = rw is rest
 
 -- those that are dealt to a place are of that place
-placed_there : (shape : Shape) (i : ℕ) (rows : List (List ℕ)) → All (λ r. place_of shape 0 0 r ≡ i) (dealt shape 0 0 rows i)
+pub placed_there : (shape : Shape) (i : ℕ) (rows : List (List ℕ)) → All (λ r. place_of shape 0 0 r ≡ i) (dealt shape 0 0 rows i)
 placed_there shape i [] = All-nil (λ r. place_of shape 0 0 r ≡ i)
 placed_there shape i (r ∷ rows) = go shape i r rows (place_of shape 0 0 r == i) refl (placed_there shape i rows)
 
@@ -61,6 +62,7 @@ module _ (c : ClientToken) (shape : Shape) (start : Option (List Entry)) (fed : 
         values = All-append (λ r. All IsValue r) fed (row ∷ []) keeps.values (All-cons (λ r. All IsValue r) row [] spells.values (All-nil (λ r. All IsValue r)));
         stand = fed_stands shape fed row bytes (entries_in was) (rows_of now) put.gone (shares 16 keeps.rows) (shares 16 rows_now) keeps.values spells.values spells.says same moved keeps.stand;
         distinct = put.distinct (subst (λ (rs : List (List ℕ)). HaveDistinctKeys (partials_at shape rs)) (sym opened.rows) keeps.distinct);
+        fresh = λ none. absurd (none-some now (sym none));
         few =
             let long = ap length opened.rows in
             let few = keeps.few in

@@ -42,3 +42,9 @@ pub mod Serving
 pub mod Absorbs
 pub mod KeyWalking
 pub mod ReadingBack
+pub mod Sixteen
+pub mod Divided
+pub mod Besides
+pub mod HandedOn
+pub mod Advancing
+pub mod Settled

@@ -118,6 +118,12 @@ module _ (shape : Shape) (table : Table) (stand : StandBehind table.nodes) where
       ∙ less_so (get_or es k ([], 0)).0 (get_or es (k + 1) ([], 0)).0 (nat_cmp (get_or es (k + 1) ([], 0)).1 (get_or es k ([], 0)).1) (path_order (get_or es (k + 1) ([], 0)).0 (get_or es k ([], 0)).0) refl
       (sorted k ([], 0) (omega arith) (omega (arith, inside, long))) differ)
 
+  -- each of them is one of a node
+  pub sorted_nodes : (es : List (List ℕ × ℕ)) → IsPermutation (reverse (map (λ n. (key_at shape n.row, n.place)) table.nodes)) es → All (λ place. HasNode place table.nodes) (map (λ (e : List ℕ × ℕ). e.1) es)
+  sorted_nodes es moved =
+      All-permutation (λ place. HasNode place table.nodes) (map (λ n. n.place) table.nodes) (map (λ (e : List ℕ × ℕ). e.1) es) (places_moved es moved)
+      (all_map (IsThere table.nodes) (λ place. HasNode place table.nodes) (λ n. n.place) (λ n is. is.has) table.nodes all_there)
+
   -- sorted by key, where the keys are distinct
   pub sorted_in_order : (es : List (List ℕ × ℕ)) → HaveDistinctKeys (partials_at shape (rows_of table)) → IsPermutation (reverse (map (λ n. (key_at shape n.row, n.place)) table.nodes)) es → IsSorted (λ x y. ordering_then (path_order x.0 y.0) (nat_cmp x.1 y.1)) es → AreInOrder shape table (map (λ (e : List ℕ × ℕ). e.1) es)
   sorted_in_order es distinct moved sorted =

@@ -28,6 +28,14 @@ SayAll shape (p ∷ partials) (row ∷ rows) = Says shape p row × SayAll shape 
 abbrev pub AdmitsAll : Shape → (List Value → Type 0) → List Partial → Type 0
 AdmitsAll shape admits partials = All (λ p. (row : List Value) → Says shape p row → admits row) partials
 
+-- an emitter admits each row that says a partial row of the shape
+abbrev pub AdmitsKinds : Shape → (List Value → Type 0) → Type 0
+AdmitsKinds shape admits = (row : List Value) → IsRow row → kinds_of row ≡ partial_kinds shape → admits row
+
+-- rows came behind what was taken, whichever they are
+abbrev pub WentOn : (List (List Value) → Type 0) → (List (List Value) → Type 0) → Type 0
+WentOn was now = (taken : List (List Value)) → was taken → (rows : List (List Value)) × now (taken ++ rows)
+
 -- rows that say these came behind what was taken
 pub record Emitted (shape : Shape) (was now : List (List Value) → Type 0) (partials : List Partial) : Type 0 where
   pub rows : List (List Value)

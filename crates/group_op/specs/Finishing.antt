@@ -1,22 +1,20 @@
 -- Partitions are read from the top, each through a table. `a` is before a call and `b` behind it.
-use Rattle.std.specs.Prelude.{◌≡◌, ◌≢◌, ◌↔◌, ℕ, zero, suc, ◌+◌, ◌<◌, ◌≤◌, Bool, true, false, List, [], ◌∷◌, ◌++◌, All, length, slice_get, set, replicate, Option, Some, None, ⊤}
+use Rattle.std.specs.Prelude.{◌≡◌, ◌≢◌, ◌↔◌, ℕ, zero, suc, ◌+◌, ◌<◌, ◌≤◌, Bool, true, false, List, [], ◌∷◌, ◌++◌, All, length, slice_get, set, replicate, take, Option, Some, None, ⊤}
 use Rattle.row_codec.specs.declared.values.Value.{Value}
-use Rattle.row_codec.specs.Row.{kinds_of}
-use Rattle.row_codec.specs.RowLaws.{IsRow}
 use Rattle.store_api.specs.declared.shapes.Shape.{Shape}
 use Rattle.store_api.specs.Emitters.{HasClient, SameFor}
 use Rattle.store_api.specs.Holdings.{Holdings, account_of}
-use Rattle.store_api.specs.Signs.{Grows}
+use Rattle.store_api.specs.Signs.{Grows, Signs}
 use Rattle.tuple_stream.specs.Families.{AllClosed, ShowAll}
 use Rattle.bucket_table.specs.Tables.{Table}
 use Rattle.partition_stack.specs.Stack.{RestBelow, Stack}
 use Rattle.group_rows.specs.Partials.{Partial, combined_of}
 use Rattle.group_rows.specs.Splitting.{HasPath}
 use Rattle.group_rows.specs.Tables.{HaveDistinctKeys}
-use Rattle.group_op.specs.Emission.{Emitted}
+use Rattle.group_op.specs.Emission.{Emitted, WentOn}
 use Rattle.group_op.specs.Held.{AreEntries, IsHeld, Leaves, State, page_len, rows_of, streams_of}
 use Rattle.group_op.specs.Putting.{IsFan}
-use Rattle.group_op.specs.Stored.{IsPartialRow, SameGroups, dealt, grouping_of, partial_kinds, partials_at}
+use Rattle.group_op.specs.Stored.{IsPartialRow, SameGroups, dealt, grouping_of, partials_at}
 
 -- what the first so many partitions say, the highest one first, each combined by itself
 abbrev pub said_down : Shape → ℕ → (ℕ → List (List ℕ)) → List Partial
@@ -34,6 +32,7 @@ pub record IsPart (shape : Shape) (level : ℕ) (rows : List (List ℕ)) : Type 
 pub record Stacked (shape : Shape) (rows : ℕ → List (List ℕ)) (b : State) : Type 0 where
   pub told : b.held.told ≡ true
   pub shows : ShowAll rows (streams_of b)
+  pub levelled : length b.parts.levels ≡ length b.parts.streams
   pub parts : (i level : ℕ) → slice_get b.parts.levels i ≡ Some level → IsPart shape level (rows i)
 
 -- between two partitions: the table is empty, and no page is pinned
@@ -66,9 +65,11 @@ pub record HasRead (shape : Shape) (at level : ℕ) (divided : Bool) (rows : ℕ
   pub same : SameGroups (grouping_of shape) (partials_at shape some) (partials_at shape (rows_of b.table ++ gone))
   pub distinct : HaveDistinctKeys (partials_at shape (rows_of b.table))
 
--- an emitter admits each row that says a partial row of the shape
-abbrev pub AdmitsKinds : Shape → (List Value → Type 0) → Type 0
-AdmitsKinds shape admits = (row : List Value) → IsRow row → kinds_of row ≡ partial_kinds shape → admits row
+-- the rows of the top partition are in sixteen above it, and nothing is lost
+pub record HasDivided (shape : Shape) (at : ℕ) (rows : ℕ → List (List ℕ)) (b : State) : Type 0 where
+  pub left : ℕ → List (List ℕ)
+  pub stacked : Stacked shape left b
+  pub same : said_down shape (at + 1) rows ≡ said_down shape (length b.parts.streams) left
 
 -- the emitter is another client's, or nobody's, and lives
 pub record IsBeside (t : ℕ) (client : Option ℕ) (h : Holdings) : Type 0 where
@@ -84,17 +85,17 @@ pub record Advances (shape : Shape) (was now : List (List Value) → Type 0) (ro
   pub emitted : Emitted shape was now done
 
 -- calls changed nothing of clients but this one and the emitter's
-pub record LeavesBeside (t : ℕ) (client : Option ℕ) (a b : State) : Type 0 where
-  pub block_len : b.held.block_len ≡ a.held.block_len
-  pub session : b.held.session ≡ a.held.session
-  pub query : b.held.query ≡ a.held.query
-  pub limit : b.held.limit ≡ a.held.limit
-  pub live_clients : b.held.live_clients ≡ a.held.live_clients
-  pub told : b.held.told ≡ a.held.told
-  pub reservation : a.held.reservation ≤ b.held.reservation
-  pub others : (u : ℕ) → u ≢ t → client ≢ Some u → SameFor u a.held b.held
-  pub reserved : (account_of t a.held).reservation ≤ (account_of t b.held).reservation
-  pub grows : Grows a.signs b.signs
+pub record LeavesBeside (t : ℕ) (client : Option ℕ) (old new : Holdings) (before after : Signs) : Type 0 where
+  pub block_len : new.block_len ≡ old.block_len
+  pub session : new.session ≡ old.session
+  pub query : new.query ≡ old.query
+  pub limit : new.limit ≡ old.limit
+  pub live_clients : new.live_clients ≡ old.live_clients
+  pub told : new.told ≡ old.told
+  pub reservation : old.reservation ≤ new.reservation
+  pub others : (u : ℕ) → u ≢ t → client ≢ Some u → SameFor u old new
+  pub reserved : (account_of t old).reservation ≤ (account_of t new).reservation
+  pub grows : Grows before after
 
 -- an emitter that stands over its store still, and took the same rows or more
 pub record StandsStill (admits_old admits : List Value → Type 0) (client_old client : Option ℕ) (faults_old faults : ℕ) (was now : List (List Value) → Type 0) (h : Holdings) : Type 0 where
@@ -102,4 +103,16 @@ pub record StandsStill (admits_old admits : List Value → Type 0) (client_old c
   pub client_same : client ≡ client_old
   pub lives : HasClient client_old h
   pub never_falls : faults_old ≤ faults
-  pub took : (rows : List (List Value)) → was rows → (more : List (List Value)) × now (rows ++ more)
+  pub took : WentOn was now
+
+-- whatever a call with an emitter answers
+pub record ServesBeside (t : ℕ) (client : Option ℕ) (shape : Shape) (a b : State) : Type 0 where
+  pub held : IsHeld t b
+  pub entries : AreEntries shape (page_len b) b.table
+  pub leaves : LeavesBeside t client a.held b.held a.signs b.signs
+  pub blocks : b.parts.page_blocks ≡ a.parts.page_blocks
+
+-- the top partition, at this place, went
+pub record HasPopped (at : ℕ) (old new : Stack) : Type 0 where
+  pub many : length new.streams ≡ at
+  pub levels : new.levels ≡ take at old.levels

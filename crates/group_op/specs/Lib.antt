@@ -9,3 +9,4 @@ pub mod Leaving
 pub mod InOrder
 pub mod Finishing
 pub mod KeyParts
+pub mod Finished

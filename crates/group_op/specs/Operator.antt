@@ -1,5 +1,5 @@
 -- A grouping over a store: what it has, and what it keeps of the rows that were fed. Lengths are in bytes.
-use Rattle.std.specs.Prelude.{◌≡◌, ◌≢◌, ℕ, ◌+◌, ◌*◌, ◌≤◌, List, [], ◌++◌, All, length, Option, Some, None}
+use Rattle.std.specs.Prelude.{◌≡◌, ◌≢◌, ℕ, ◌+◌, ◌*◌, ◌≤◌, List, [], ◌++◌, All, length, replicate, Option, Some, None}
 use Rattle.pool_model.specs.declared.entry.Entry.{Entry}
 use Rattle.row_codec.specs.declared.values.Value.{Value}
 use Rattle.row_codec.specs.Order.{path_order}
@@ -84,6 +84,7 @@ pub record Keeps (start : Option (List Entry)) (fed : List (List Value)) (op : O
   pub values : AreValues fed
   pub stand : StandFor path_order (grouping_of op.shape) fed (partials_at op.shape (entries_in op.table) ++ partials_at op.shape (shares 16 rows))
   pub distinct : HaveDistinctKeys (partials_at op.shape (entries_in op.table))
+  pub fresh : op.table ≡ None → fed ≡ []
   pub few : length (entries_in op.table) + length (shares 16 rows) ≤ length fed
 
   -- all pages that rest were left once, by entries since then that end no page and pin none again
@@ -94,6 +95,7 @@ pub record Keeps (start : Option (List Entry)) (fed : List (List Value)) (op : O
 -- sixteen partitions of the first level, as long as rows are fed
 pub record IsFeeding (op : Operator) : Type 0 where
   pub sixteen : length op.parts.streams ≡ 16
+  pub first : op.parts.levels ≡ replicate 16 1
 
 -- the grouping is the same one, with as many partitions of the same levels
 pub record IsSame (old new : Operator) : Type 0 where

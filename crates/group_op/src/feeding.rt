@@ -9,7 +9,7 @@ ghost use Rattle.group_op.specs.Held.{IsHeld, LeavesOthers, state};
 ghost use Rattle.group_op.specs.Operator.{CameOfStore, HasOpened, IsFeeding, IsOperator, IsSame, Keeps, MayBeFed, Spells, operator};
 ghost use Rattle.group_op.specs.Stored.{IsPartialRow, key_at};
 
-use crate::flushing::{Fan, Spare};
+use crate::flushing::{FIRST, Spare};
 use crate::operator::GroupOp;
 use crate::putting::put;
 use crate::own_row::spell;
@@ -20,13 +20,6 @@ use row_codec::{Value, hash64};
 use std::alloc::Global;
 use std::mem;
 use store_api::{Client, OpErr, Shape, Store};
-
-// While rows are fed they go to the sixteen partitions of the first level.
-const FIRST: Fan = Fan {
-    level: 0,
-    base: 0,
-    from: 0,
-};
 
 impl GroupOp {
     /// Takes a row. It is spelled once, into memory that the next one takes again; where the table has its key, or room for

@@ -1,48 +1,163 @@
 //! The groups of all rows that were fed are handed on.
-ghost use Rattle.std.specs.Prelude.{◌≡◌, ◌<◌, ◌≤◌, ℕ, List, IfErr, OnErr, OnOk, length};
+ghost use Rattle.std.specs.Prelude.{◌≡◌, ◌+◌, ◌<◌, ℕ, [], List, Some, true, false, IfErr, IfOk, OnErr, OnOk, length, slice_get};
 ghost use Rattle.row_codec.specs.declared.values.Value.{Value};
 ghost use Rattle.store_api.specs.Emitters.{CameOf};
 ghost use Rattle.store_api.specs.Shapes.{IsShape};
-ghost use Rattle.partition_stack.specs.Stack.{weight};
-ghost use Rattle.group_op.specs.Emission.{EmittedFront};
-ghost use Rattle.group_op.specs.Finishing.{AdmitsKinds, Advances, IsBeside, IsBetween, LeavesBeside, Stacked, StandsStill, said_down};
+ghost use Rattle.store_api.specs.Signs.{WasAnswered};
+ghost use Rattle.partition_stack.specs.Stack.{IsPlaced, RestBelow, weight};
+ghost use Rattle.group_rows.specs.Partials.{combined_of};
+ghost use Rattle.group_op.specs.Emission.{AdmitsKinds, Emitted, EmittedFront};
+ghost use Rattle.group_op.specs.Finishing.{Advances, HasDivided, HasPopped, HasRead, IsBeside, IsBetween, IsRead, Serves, ServesBeside, Stacked, StandsStill, said_down};
 ghost use Rattle.group_op.specs.Held.{AreEntries, IsHeld, page_len, state};
+ghost use Rattle.group_op.specs.Stored.{grouping_of, partials_at};
+ghost use Rattle.tuple_stream.specs.Families.{ShowAll};
+ghost use Rattle.group_op.specs.Held.{streams_of};
 
-use crate::flushing::Spare;
+use crate::absorbing::absorb;
+use crate::emission::emit_table;
+use crate::flushing::{Fan, Spare, flush};
 use bucket_table::BucketTable;
 use partition_stack::Partitions;
 use reservation_tree::PoolErr;
 use std::alloc::Global;
 use store_api::{Client, Emit, OpErr, Shape, Store};
 
-// The groups of the top partition are handed on, or its rows go to sixteen partitions above it.
-pub(crate) fn advance<St: Store, E: Emit<St>>(
+// The rows of the top partition go to the table; and where it was full, they and the table's go to sixteen partitions above:
+// whether they did.
+fn spend_top<St: Store>(
+    alloc: Global,
+    store: &mut St,
+    c: &Client,
+    shape: &Shape,
+    table: &mut BucketTable,
+    parts: &mut Partitions,
+    at: usize,
+    level: u32,
+    fed: &mut Spare,
+    moved: &mut Spare,
+) -> Result<bool, PoolErr>
+    requires held { IsHeld c.now.tracker (state table.old parts.old (St.holds store.old) (St.signs store.old)) }
+    requires entries { AreEntries shape.now (page_len (state table.old parts.old (St.holds store.old) (St.signs store.old))) table.old }
+    requires shape { IsShape shape.now }
+    requires between { IsBetween (state table.old parts.old (St.holds store.old) (St.signs store.old)) }
+    requires top { length parts.old.streams ≡ at + 1 }
+    requires level { slice_get parts.old.levels at ≡ Some level }
+    requires deep { (level < 16) × IsPlaced at level }
+    ensures whole { IfOk result (λ divided. divided ≡ false → IsRead false at level parts.old parts.new × ((rows : ℕ → List (List ℕ)) → Stacked shape.now rows (state table.old parts.old (St.holds store.old) (St.signs store.old)) → HasRead shape.now at level false rows (rows at) [] (state table.new parts.new (St.holds store.new) (St.signs store.new)))) }
+    ensures divided { IfOk result (λ divided. divided ≡ true → IsBetween (state table.new parts.new (St.holds store.new) (St.signs store.new)) × (weight parts.new < weight parts.old) × ((rows : ℕ → List (List ℕ)) → Stacked shape.now rows (state table.old parts.old (St.holds store.old) (St.signs store.old)) → HasDivided shape.now at rows (state table.new parts.new (St.holds store.new) (St.signs store.new)))) }
+    ensures serves { Serves c.now.tracker shape.now (state table.old parts.old (St.holds store.old) (St.signs store.old)) (state table.new parts.new (St.holds store.new) (St.signs store.new)) }
+    ensures cause { IfErr result (λ e. WasAnswered e (St.signs store.old) (St.signs store.new)) }
+{
+    if !absorb(alloc, store, c, shape, table, parts, at, level, fed, moved)? {
+        return Ok(false);
+    }
+    let fan = Fan {
+        level,
+        base: at + 1,
+        from: at,
+    };
+    flush(alloc, store, c, shape, table, parts, fan, moved)?;
+    parts.rest_from(store, c, at)?;
+    Ok(true)
+}
+
+// The groups in the table are handed on, and the top partition, of which they are, goes.
+fn hand_on<St: Store, E: Emit<St>>(
+    alloc: Global,
+    store: &mut St,
+    c: &Client,
+    shape: &Shape,
+    table: &mut BucketTable,
+    parts: &mut Partitions,
+    emit: &mut E,
+    _at: usize,
+) -> Result<(), OpErr>
+    requires held { IsHeld c.now.tracker (state table.old parts.old (St.holds store.old) (St.signs store.old)) }
+    requires entries { AreEntries shape.now (page_len (state table.old parts.old (St.holds store.old) (St.signs store.old))) table.old }
+    requires top { length parts.old.streams ≡ _at + 1 }
+    requires rests { RestBelow _at parts.old }
+    requires emitter { IsBeside c.now.tracker (E.client emit.old) (St.holds store.old) }
+    requires admits { AdmitsKinds shape.now (E.admits emit.old) }
+    requires stands { (rows : List (List Value)) × E.took emit.old (St.holds store.old) rows }
+    ensures ok { OnOk result ((rows : ℕ → List (List ℕ)) → (level : ℕ) → HasRead shape.now _at level false rows (rows _at) [] (state table.old parts.old (St.holds store.old) (St.signs store.old)) → ShowAll rows (streams_of (state table.new parts.new (St.holds store.new) (St.signs store.new))) × Emitted shape.now (E.took emit.old (St.holds store.old)) (E.took emit.new (St.holds store.new)) (combined_of (grouping_of shape.now) (partials_at shape.now (rows _at)))) }
+    ensures err { OnErr result ((rows : ℕ → List (List ℕ)) → (level : ℕ) → HasRead shape.now _at level false rows (rows _at) [] (state table.old parts.old (St.holds store.old) (St.signs store.old)) → EmittedFront shape.now (E.took emit.old (St.holds store.old)) (E.took emit.new (St.holds store.new)) (combined_of (grouping_of shape.now) (partials_at shape.now (rows _at)))) }
+    ensures popped { OnOk result (IsBetween (state table.new parts.new (St.holds store.new) (St.signs store.new)) × HasPopped _at parts.old parts.new) }
+    ensures serves { ServesBeside c.now.tracker (E.client emit.old) shape.now (state table.old parts.old (St.holds store.old) (St.signs store.old)) (state table.new parts.new (St.holds store.new) (St.signs store.new)) }
+    ensures emitter { StandsStill (E.admits emit.old) (E.admits emit.new) (E.client emit.old) (E.client emit.new) (E.faults emit.old) (E.faults emit.new) (E.took emit.old (St.holds store.old)) (E.took emit.new (St.holds store.new)) (St.holds store.new) }
+    ensures cause { IfErr result (CameOf (E.faults emit.old) (E.faults emit.new) (St.signs store.old) (St.signs store.new)) }
+{
+    emit_table(alloc, store, emit, shape, table)?;
+    table.clear();
+    let mut top = parts.pop();
+    top.drop_all(store);
+    top.end();
+    Ok(())
+}
+
+// The groups of a partition of the last level are handed on, and it goes.
+fn leaf<St: Store, E: Emit<St>>(
     _alloc: Global,
     _store: &mut St,
     _c: &Client,
     _shape: &Shape,
-    _table: &mut BucketTable,
+    _table: &BucketTable,
     _parts: &mut Partitions,
     _emit: &mut E,
-    _fed: &mut Spare,
-    _moved: &mut Spare,
+    _at: usize,
 ) -> Result<(), OpErr>
-    requires held { IsHeld _c.now.tracker (state _table.old _parts.old (St.holds _store.old) (St.signs _store.old)) }
-    requires entries { AreEntries _shape.now (page_len (state _table.old _parts.old (St.holds _store.old) (St.signs _store.old))) _table.old }
+    requires held { IsHeld _c.now.tracker (state _table.now _parts.old (St.holds _store.old) (St.signs _store.old)) }
+    requires entries { AreEntries _shape.now (page_len (state _table.now _parts.old (St.holds _store.old) (St.signs _store.old))) _table.now }
     requires shape { IsShape _shape.now }
-    requires between { IsBetween (state _table.old _parts.old (St.holds _store.old) (St.signs _store.old)) }
-    requires some { 0 < length _parts.old.streams }
+    requires between { IsBetween (state _table.now _parts.old (St.holds _store.old) (St.signs _store.old)) }
+    requires top { length _parts.old.streams ≡ _at + 1 }
+    requires level { slice_get _parts.old.levels _at ≡ Some 16 }
     requires emitter { IsBeside _c.now.tracker (E.client _emit.old) (St.holds _store.old) }
     requires admits { AdmitsKinds _shape.now (E.admits _emit.old) }
     requires stands { (rows : List (List Value)) × E.took _emit.old (St.holds _store.old) rows }
-    ensures ok { OnOk result (IsBetween (state _table.new _parts.new (St.holds _store.new) (St.signs _store.new)) × ((rows : ℕ → List (List ℕ)) → Stacked _shape.now rows (state _table.old _parts.old (St.holds _store.old) (St.signs _store.old)) → Advances _shape.now (E.took _emit.old (St.holds _store.old)) (E.took _emit.new (St.holds _store.new)) rows (state _table.old _parts.old (St.holds _store.old) (St.signs _store.old)) (state _table.new _parts.new (St.holds _store.new) (St.signs _store.new)))) }
-    ensures err { OnErr result ((rows : ℕ → List (List ℕ)) → Stacked _shape.now rows (state _table.old _parts.old (St.holds _store.old) (St.signs _store.old)) → EmittedFront _shape.now (E.took _emit.old (St.holds _store.old)) (E.took _emit.new (St.holds _store.new)) (said_down _shape.now (length _parts.old.streams) rows)) }
-    ensures less { OnOk result (weight _parts.new < weight _parts.old) }
-    ensures held { IsHeld _c.now.tracker (state _table.new _parts.new (St.holds _store.new) (St.signs _store.new)) }
-    ensures entries { AreEntries _shape.now (page_len (state _table.new _parts.new (St.holds _store.new) (St.signs _store.new))) _table.new }
+    ensures ok { OnOk result ((rows : ℕ → List (List ℕ)) → Stacked _shape.now rows (state _table.now _parts.old (St.holds _store.old) (St.signs _store.old)) → ShowAll rows (streams_of (state _table.now _parts.new (St.holds _store.new) (St.signs _store.new))) × Emitted _shape.now (E.took _emit.old (St.holds _store.old)) (E.took _emit.new (St.holds _store.new)) (combined_of (grouping_of _shape.now) (partials_at _shape.now (rows _at)))) }
+    ensures err { OnErr result ((rows : ℕ → List (List ℕ)) → Stacked _shape.now rows (state _table.now _parts.old (St.holds _store.old) (St.signs _store.old)) → EmittedFront _shape.now (E.took _emit.old (St.holds _store.old)) (E.took _emit.new (St.holds _store.new)) (combined_of (grouping_of _shape.now) (partials_at _shape.now (rows _at)))) }
+    ensures popped { OnOk result (IsBetween (state _table.now _parts.new (St.holds _store.new) (St.signs _store.new)) × HasPopped _at _parts.old _parts.new) }
+    ensures serves { ServesBeside _c.now.tracker (E.client _emit.old) _shape.now (state _table.now _parts.old (St.holds _store.old) (St.signs _store.old)) (state _table.now _parts.new (St.holds _store.new) (St.signs _store.new)) }
     ensures emitter { StandsStill (E.admits _emit.old) (E.admits _emit.new) (E.client _emit.old) (E.client _emit.new) (E.faults _emit.old) (E.faults _emit.new) (E.took _emit.old (St.holds _store.old)) (E.took _emit.new (St.holds _store.new)) (St.holds _store.new) }
-    ensures leaves { LeavesBeside _c.now.tracker (E.client _emit.old) (state _table.old _parts.old (St.holds _store.old) (St.signs _store.old)) (state _table.new _parts.new (St.holds _store.new) (St.signs _store.new)) }
     ensures cause { IfErr result (CameOf (E.faults _emit.old) (E.faults _emit.new) (St.signs _store.old) (St.signs _store.new)) }
 {
     Err(OpErr::Pool(PoolErr::Memory))
+}
+
+// The groups of the top partition are handed on, or its rows go to sixteen partitions above it.
+pub(crate) fn advance<St: Store, E: Emit<St>>(
+    alloc: Global,
+    store: &mut St,
+    c: &Client,
+    shape: &Shape,
+    table: &mut BucketTable,
+    parts: &mut Partitions,
+    emit: &mut E,
+    fed: &mut Spare,
+    moved: &mut Spare,
+) -> Result<(), OpErr>
+    requires held { IsHeld c.now.tracker (state table.old parts.old (St.holds store.old) (St.signs store.old)) }
+    requires entries { AreEntries shape.now (page_len (state table.old parts.old (St.holds store.old) (St.signs store.old))) table.old }
+    requires shape { IsShape shape.now }
+    requires between { IsBetween (state table.old parts.old (St.holds store.old) (St.signs store.old)) }
+    requires some { 0 < length parts.old.streams }
+    requires emitter { IsBeside c.now.tracker (E.client emit.old) (St.holds store.old) }
+    requires admits { AdmitsKinds shape.now (E.admits emit.old) }
+    requires stands { (rows : List (List Value)) × E.took emit.old (St.holds store.old) rows }
+    ensures ok { OnOk result (IsBetween (state table.new parts.new (St.holds store.new) (St.signs store.new)) × ((rows : ℕ → List (List ℕ)) → Stacked shape.now rows (state table.old parts.old (St.holds store.old) (St.signs store.old)) → Advances shape.now (E.took emit.old (St.holds store.old)) (E.took emit.new (St.holds store.new)) rows (state table.old parts.old (St.holds store.old) (St.signs store.old)) (state table.new parts.new (St.holds store.new) (St.signs store.new)))) }
+    ensures err { OnErr result ((rows : ℕ → List (List ℕ)) → Stacked shape.now rows (state table.old parts.old (St.holds store.old) (St.signs store.old)) → EmittedFront shape.now (E.took emit.old (St.holds store.old)) (E.took emit.new (St.holds store.new)) (said_down shape.now (length parts.old.streams) rows)) }
+    ensures less { OnOk result (weight parts.new < weight parts.old) }
+    ensures serves { ServesBeside c.now.tracker (E.client emit.old) shape.now (state table.old parts.old (St.holds store.old) (St.signs store.old)) (state table.new parts.new (St.holds store.new) (St.signs store.new)) }
+    ensures emitter { StandsStill (E.admits emit.old) (E.admits emit.new) (E.client emit.old) (E.client emit.new) (E.faults emit.old) (E.faults emit.new) (E.took emit.old (St.holds store.old)) (E.took emit.new (St.holds store.new)) (St.holds store.new) }
+    ensures cause { IfErr result (CameOf (E.faults emit.old) (E.faults emit.new) (St.signs store.old) (St.signs store.new)) }
+{
+    let at = parts.len() - 1;
+    let level = parts.level(at);
+    if level == 16 {
+        return leaf(alloc, store, c, shape, table, parts, emit, at);
+    }
+    if spend_top(alloc, store, c, shape, table, parts, at, level, fed, moved)? {
+        return Ok(());
+    }
+    hand_on(alloc, store, c, shape, table, parts, emit, at)
 }

@@ -33,6 +33,13 @@ pub struct Fan {
     pub from: usize,
 }
 
+// While rows are fed they go to the sixteen partitions of the first level.
+pub(crate) const FIRST: Fan = Fan {
+    level: 0,
+    base: 0,
+    from: 0,
+};
+
 /// Memory that each row takes again.
 #[derive(Drop)]
 pub struct Spare {

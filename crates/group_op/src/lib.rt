@@ -14,6 +14,7 @@ mod feeding;
 mod finishing;
 mod flushing;
 mod growing;
+mod handing;
 mod joining;
 mod keying;
 mod operator;

@@ -1,0 +1,107 @@
+use Rattle.std.proofs.Common.{rules, ◌≡◌, ◌∙◌, ◌+◌, ◌-◌, ◌++◌, ◌∷◌, [], ℕ, List, false, length, take, ap, sym, subst, arith, append-nil}
+use Rattle.row_codec.specs.declared.values.Value.{Value}
+use Rattle.store_api.specs.Emitters.{CameOf}
+use Rattle.bucket_table.specs.Tables.{Table}
+use Rattle.group_op.specs.Emission.{EmittedFront}
+use Rattle.group_op.specs.Finishing.{HasRead, IsRead, Stacked, said_down}
+use Rattle.group_op.specs.Held.{state}
+use Rattle.group_op.proofs.Advancing.{advances_divided, advances_popped, came_later, front_popped, front_same, ok_both}
+use Rattle.group_op.proofs.Besides.{beside_stands, own_same, serves_own, serves_then, stands_own, stands_then}
+use Rattle.group_op.proofs.Divided.{less_popped}
+use Rattle.group_op.proofs.Emitting.{came_behind, on_err, on_ok}
+use Rattle.group_op.proofs.finishing.advance.Goals as goal
+
+pub returns-then-level-eq16-clause-ok : goal.returns-then-level-eq16-clause-ok
+returns-then-level-eq16-clause-ok g c =
+    let some = c.requires.some in
+    let len = c.len-at.ensures in
+    let top : length c.args.parts.now.streams ≡ c.len-at.result - 1 + 1 = omega (arith, some, len) in
+    ok_both c.leaf.result
+    (λ came popped. (popped.0, λ rows stacked. advances_popped c.args.shape.now (c.len-at.result - 1) rows (state c.args.table.now c.args.parts.now (g.St.Store.holds c.args.store.now) (g.St.Store.signs c.args.store.now)) (state c.args.table.now c.leaf.new._parts (g.St.Store.holds c.leaf.new._store) (g.St.Store.signs c.leaf.new._store)) top (g.E.Emit.took c.args.emit.now (g.St.Store.holds c.args.store.now)) (g.E.Emit.took c.args.emit.now (g.St.Store.holds c.args.store.now)) (g.E.Emit.took c.leaf.new._emit (g.St.Store.holds c.leaf.new._store)) (λ taken took. took) stacked c.leaf.ensures.serves.leaves.told popped.1 (came rows stacked).0 (came rows stacked).1))
+    c.leaf.ensures.ok c.leaf.ensures.popped
+
+pub returns-then-level-eq16-clause-err : goal.returns-then-level-eq16-clause-err
+returns-then-level-eq16-clause-err g c =
+    let some = c.requires.some in
+    let len = c.len-at.ensures in
+    let top : length c.args.parts.now.streams ≡ c.len-at.result - 1 + 1 = omega (arith, some, len) in
+    on_err c.leaf.result
+    (λ front rows stacked. front_popped c.args.shape.now (c.len-at.result - 1) rows (state c.args.table.now c.args.parts.now (g.St.Store.holds c.args.store.now) (g.St.Store.signs c.args.store.now)) (state c.args.table.now c.leaf.new._parts (g.St.Store.holds c.leaf.new._store) (g.St.Store.signs c.leaf.new._store)) top (g.E.Emit.took c.args.emit.now (g.St.Store.holds c.args.store.now)) (g.E.Emit.took c.args.emit.now (g.St.Store.holds c.args.store.now)) (g.E.Emit.took c.leaf.new._emit (g.St.Store.holds c.leaf.new._store)) (λ taken took. took) (front rows stacked))
+    c.leaf.ensures.err
+
+pub returns-then-level-eq16-clause-less : goal.returns-then-level-eq16-clause-less
+returns-then-level-eq16-clause-less g c =
+    on_ok c.leaf.result (λ popped. less_popped c.args.parts.now.levels c.leaf.new._parts.levels (c.len-at.result - 1) c.level-level.result c.level-level.ensures.value popped.1.levels) c.leaf.ensures.popped
+
+pub returns-in_err-spend_top-clause-err : goal.returns-in_err-spend_top-clause-err
+returns-in_err-spend_top-clause-err g c =
+    let front : (rows : ℕ → List (List ℕ)) → Stacked c.args.shape.now rows (state c.args.table.now c.args.parts.now (g.St.Store.holds c.args.store.now) (g.St.Store.signs c.args.store.now)) → EmittedFront c.args.shape.now (g.E.Emit.took c.args.emit.now (g.St.Store.holds c.args.store.now)) (g.E.Emit.took c.args.emit.now (g.St.Store.holds c.spend_top.new.store)) (said_down c.args.shape.now (length c.args.parts.now.streams) rows) =
+    λ rows stacked. front_same c.args.shape.now (g.E.Emit.took c.args.emit.now (g.St.Store.holds c.args.store.now)) (g.E.Emit.took c.args.emit.now (g.St.Store.holds c.spend_top.new.store)) _ (λ taken took. g.met.E.Emit.asks_own c.args.emit.now (g.St.Store.holds c.args.store.now) (g.St.Store.holds c.spend_top.new.store) taken (own_same c.args.c.now.tracker _ (state c.args.table.now c.args.parts.now (g.St.Store.holds c.args.store.now) (g.St.Store.signs c.args.store.now)) (state c.spend_top.new.table c.spend_top.new.parts (g.St.Store.holds c.spend_top.new.store) (g.St.Store.signs c.spend_top.new.store)) c.requires.emitter.apart c.spend_top.ensures.serves.leaves) took) in
+    search (rules, front)
+
+pub returns-in_err-spend_top-clause-serves : goal.returns-in_err-spend_top-clause-serves
+returns-in_err-spend_top-clause-serves g c = serves_own _ _ _ _ _ c.spend_top.ensures.serves
+
+pub returns-in_err-spend_top-clause-emitter : goal.returns-in_err-spend_top-clause-emitter
+returns-in_err-spend_top-clause-emitter g c = stands_own _ _ _ _ _ c.args.c.now.tracker (state c.args.table.now c.args.parts.now (g.St.Store.holds c.args.store.now) (g.St.Store.signs c.args.store.now)) (state c.spend_top.new.table c.spend_top.new.parts (g.St.Store.holds c.spend_top.new.store) (g.St.Store.signs c.spend_top.new.store)) c.requires.emitter c.spend_top.ensures.serves.leaves (λ taken took. g.met.E.Emit.asks_own c.args.emit.now (g.St.Store.holds c.args.store.now) (g.St.Store.holds c.spend_top.new.store) taken (own_same c.args.c.now.tracker _ (state c.args.table.now c.args.parts.now (g.St.Store.holds c.args.store.now) (g.St.Store.signs c.args.store.now)) (state c.spend_top.new.table c.spend_top.new.parts (g.St.Store.holds c.spend_top.new.store) (g.St.Store.signs c.spend_top.new.store)) c.requires.emitter.apart c.spend_top.ensures.serves.leaves) took)
+
+pub returns-then-branch-clause-ok : goal.returns-then-branch-clause-ok
+returns-then-branch-clause-ok g c =
+    let some = c.requires.some in
+    let len = c.len-at.ensures in
+    let top : length c.args.parts.now.streams ≡ c.len-at.result - 1 + 1 = omega (arith, some, len) in
+    let divided = c.in_ok-spend_top.ensures.divided c.if-branch.true in
+    (divided.0, λ rows stacked. advances_divided c.args.shape.now (c.len-at.result - 1) rows (state c.args.table.now c.args.parts.now (g.St.Store.holds c.args.store.now) (g.St.Store.signs c.args.store.now)) (state c.spend_top.new.table c.spend_top.new.parts (g.St.Store.holds c.spend_top.new.store) (g.St.Store.signs c.spend_top.new.store)) top (g.E.Emit.took c.args.emit.now (g.St.Store.holds c.args.store.now)) (g.E.Emit.took c.args.emit.now (g.St.Store.holds c.spend_top.new.store)) (λ taken took. g.met.E.Emit.asks_own c.args.emit.now (g.St.Store.holds c.args.store.now) (g.St.Store.holds c.spend_top.new.store) taken (own_same c.args.c.now.tracker _ (state c.args.table.now c.args.parts.now (g.St.Store.holds c.args.store.now) (g.St.Store.signs c.args.store.now)) (state c.spend_top.new.table c.spend_top.new.parts (g.St.Store.holds c.spend_top.new.store) (g.St.Store.signs c.spend_top.new.store)) c.requires.emitter.apart c.spend_top.ensures.serves.leaves) took) (divided.2 rows stacked))
+
+pub returns-then-branch-clause-serves : goal.returns-then-branch-clause-serves
+returns-then-branch-clause-serves g c = serves_own _ _ _ _ _ c.spend_top.ensures.serves
+
+pub returns-then-branch-clause-emitter : goal.returns-then-branch-clause-emitter
+returns-then-branch-clause-emitter g c = stands_own _ _ _ _ _ c.args.c.now.tracker (state c.args.table.now c.args.parts.now (g.St.Store.holds c.args.store.now) (g.St.Store.signs c.args.store.now)) (state c.spend_top.new.table c.spend_top.new.parts (g.St.Store.holds c.spend_top.new.store) (g.St.Store.signs c.spend_top.new.store)) c.requires.emitter c.spend_top.ensures.serves.leaves (λ taken took. g.met.E.Emit.asks_own c.args.emit.now (g.St.Store.holds c.args.store.now) (g.St.Store.holds c.spend_top.new.store) taken (own_same c.args.c.now.tracker _ (state c.args.table.now c.args.parts.now (g.St.Store.holds c.args.store.now) (g.St.Store.signs c.args.store.now)) (state c.spend_top.new.table c.spend_top.new.parts (g.St.Store.holds c.spend_top.new.store) (g.St.Store.signs c.spend_top.new.store)) c.requires.emitter.apart c.spend_top.ensures.serves.leaves) took)
+
+pub hand_on-requires-clause-stands : goal.hand_on-requires-clause-stands
+hand_on-requires-clause-stands g c =
+    (c.requires.stands.0, g.met.E.Emit.asks_own c.args.emit.now (g.St.Store.holds c.args.store.now) (g.St.Store.holds c.spend_top.new.store) c.requires.stands.0 (own_same c.args.c.now.tracker _ (state c.args.table.now c.args.parts.now (g.St.Store.holds c.args.store.now) (g.St.Store.signs c.args.store.now)) (state c.spend_top.new.table c.spend_top.new.parts (g.St.Store.holds c.spend_top.new.store) (g.St.Store.signs c.spend_top.new.store)) c.requires.emitter.apart c.spend_top.ensures.serves.leaves) c.requires.stands.1)
+
+pub returns-clause-ok : goal.returns-clause-ok
+returns-clause-ok g c =
+    let some = c.requires.some in
+    let len = c.len-at.ensures in
+    let top : length c.args.parts.now.streams ≡ c.len-at.result - 1 + 1 = omega (arith, some, len) in
+    let whole = c.in_ok-spend_top.ensures.whole c.if-branch.false in
+    ok_both c.hand_on.result
+    (λ came popped. (
+      popped.0,
+      λ rows stacked.
+          let both = came rows c.level-level.result (whole.1 rows stacked) in
+          advances_popped c.args.shape.now (c.len-at.result - 1) rows (state c.args.table.now c.args.parts.now (g.St.Store.holds c.args.store.now) (g.St.Store.signs c.args.store.now)) (state c.hand_on.new.table c.hand_on.new.parts (g.St.Store.holds c.hand_on.new.store) (g.St.Store.signs c.hand_on.new.store)) top (g.E.Emit.took c.args.emit.now (g.St.Store.holds c.args.store.now)) (g.E.Emit.took c.args.emit.now (g.St.Store.holds c.spend_top.new.store)) (g.E.Emit.took c.hand_on.new.emit (g.St.Store.holds c.hand_on.new.store)) (λ taken took. g.met.E.Emit.asks_own c.args.emit.now (g.St.Store.holds c.args.store.now) (g.St.Store.holds c.spend_top.new.store) taken (own_same c.args.c.now.tracker _ (state c.args.table.now c.args.parts.now (g.St.Store.holds c.args.store.now) (g.St.Store.signs c.args.store.now)) (state c.spend_top.new.table c.spend_top.new.parts (g.St.Store.holds c.spend_top.new.store) (g.St.Store.signs c.spend_top.new.store)) c.requires.emitter.apart c.spend_top.ensures.serves.leaves) took) stacked
+          (c.hand_on.ensures.serves.leaves.told ∙ c.spend_top.ensures.serves.leaves.others.told)
+          (record { many = popped.1.many; levels = popped.1.levels ∙ ap (take (c.len-at.result - 1)) whole.0.1 })
+          both.0 both.1,
+    ))
+    c.hand_on.ensures.ok c.hand_on.ensures.popped
+
+pub returns-clause-err : goal.returns-clause-err
+returns-clause-err g c =
+    let some = c.requires.some in
+    let len = c.len-at.ensures in
+    let top : length c.args.parts.now.streams ≡ c.len-at.result - 1 + 1 = omega (arith, some, len) in
+    let whole = c.in_ok-spend_top.ensures.whole c.if-branch.false in
+    on_err c.hand_on.result
+    (λ front rows stacked. front_popped c.args.shape.now (c.len-at.result - 1) rows (state c.args.table.now c.args.parts.now (g.St.Store.holds c.args.store.now) (g.St.Store.signs c.args.store.now)) (state c.hand_on.new.table c.hand_on.new.parts (g.St.Store.holds c.hand_on.new.store) (g.St.Store.signs c.hand_on.new.store)) top (g.E.Emit.took c.args.emit.now (g.St.Store.holds c.args.store.now)) (g.E.Emit.took c.args.emit.now (g.St.Store.holds c.spend_top.new.store)) (g.E.Emit.took c.hand_on.new.emit (g.St.Store.holds c.hand_on.new.store)) (λ taken took. g.met.E.Emit.asks_own c.args.emit.now (g.St.Store.holds c.args.store.now) (g.St.Store.holds c.spend_top.new.store) taken (own_same c.args.c.now.tracker _ (state c.args.table.now c.args.parts.now (g.St.Store.holds c.args.store.now) (g.St.Store.signs c.args.store.now)) (state c.spend_top.new.table c.spend_top.new.parts (g.St.Store.holds c.spend_top.new.store) (g.St.Store.signs c.spend_top.new.store)) c.requires.emitter.apart c.spend_top.ensures.serves.leaves) took) (front rows c.level-level.result (whole.1 rows stacked)))
+    c.hand_on.ensures.err
+
+pub returns-clause-less : goal.returns-clause-less
+returns-clause-less g c =
+    let whole = c.in_ok-spend_top.ensures.whole c.if-branch.false in
+    on_ok c.hand_on.result (λ popped. less_popped c.args.parts.now.levels c.hand_on.new.parts.levels (c.len-at.result - 1) c.level-level.result c.level-level.ensures.value (popped.1.levels ∙ ap (take (c.len-at.result - 1)) whole.0.1)) c.hand_on.ensures.popped
+
+pub returns-clause-serves : goal.returns-clause-serves
+returns-clause-serves g c = serves_then _ _ _ _ _ _ (serves_own _ _ _ _ _ c.spend_top.ensures.serves) c.hand_on.ensures.serves
+
+pub returns-clause-emitter : goal.returns-clause-emitter
+returns-clause-emitter g c =
+    stands_then _ _ _ _ _ _ _ _ _ _ _ _ _ _ (stands_own _ _ _ _ _ c.args.c.now.tracker (state c.args.table.now c.args.parts.now (g.St.Store.holds c.args.store.now) (g.St.Store.signs c.args.store.now)) (state c.spend_top.new.table c.spend_top.new.parts (g.St.Store.holds c.spend_top.new.store) (g.St.Store.signs c.spend_top.new.store)) c.requires.emitter c.spend_top.ensures.serves.leaves (λ taken took. g.met.E.Emit.asks_own c.args.emit.now (g.St.Store.holds c.args.store.now) (g.St.Store.holds c.spend_top.new.store) taken (own_same c.args.c.now.tracker _ (state c.args.table.now c.args.parts.now (g.St.Store.holds c.args.store.now) (g.St.Store.signs c.args.store.now)) (state c.spend_top.new.table c.spend_top.new.parts (g.St.Store.holds c.spend_top.new.store) (g.St.Store.signs c.spend_top.new.store)) c.requires.emitter.apart c.spend_top.ensures.serves.leaves) took)) c.hand_on.ensures.emitter
+
+pub returns-clause-cause : goal.returns-clause-cause
+returns-clause-cause g c = came_later c.hand_on.result _ _ _ _ _ _ (omega arith) c.spend_top.ensures.serves.leaves.grows c.hand_on.ensures.cause

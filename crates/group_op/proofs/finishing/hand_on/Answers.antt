@@ -1,0 +1,78 @@
+use Rattle.std.proofs.Common.{rules, false, ◌≡◌, ◌∙◌, ◌++◌, ◌∷◌, [], ℕ, List, length, take, ap, sym, subst}
+use Rattle.std.specs.Prelude.{slice_get}
+use Rattle.row_codec.specs.declared.values.Value.{Value}
+use Rattle.store_api.specs.Emitters.{HasClient}
+use Rattle.tuple_stream.specs.Streamed.{Streamed}
+use Rattle.tuple_stream.proofs.PageLists.{at_end}
+use Rattle.bucket_table.specs.Tables.{Table}
+use Rattle.group_op.specs.Emission.{Emitted, EmittedFront}
+use Rattle.group_rows.specs.Partials.{combined_of}
+use Rattle.group_op.specs.Finishing.{HasRead}
+use Rattle.group_op.specs.Held.{state}
+use Rattle.group_op.specs.Stored.{grouping_of, partials_at}
+use Rattle.group_op.proofs.Besides.{beside_stood, closed_popped, leaves_popped, own_same, serves_emit, stands_emit, stands_own, stands_then}
+use Rattle.group_op.proofs.HandedOn.{emitted_on, groups_read, popped_long, serves_handed, shows_handed}
+use Rattle.group_op.proofs.finishing.hand_on.Goals as goal
+
+pub returns-in_err-emit_table-clause-err : goal.returns-in_err-emit_table-clause-err
+returns-in_err-emit_table-clause-err g c =
+    let front : (rows : ℕ → List (List ℕ)) (level : ℕ) → HasRead c.args.shape.now c.args._at level false rows (rows c.args._at) [] (state c.args.table.now c.args.parts.now (g.St.Store.holds c.args.store.now) (g.St.Store.signs c.args.store.now)) → EmittedFront c.args.shape.now (g.E.Emit.took c.args.emit.now (g.St.Store.holds c.args.store.now)) (g.E.Emit.took c.emit_table.new.emit (g.St.Store.holds c.emit_table.new.store)) (combined_of (grouping_of c.args.shape.now) (partials_at c.args.shape.now (rows c.args._at))) =
+    λ rows level read. subst (EmittedFront c.args.shape.now _ _) (groups_read c.args.shape.now c.args._at level rows _ read) (c.in_err-emit_table.ensures.err read.distinct) in
+    search (rules, front)
+
+pub returns-in_err-emit_table-clause-serves : goal.returns-in_err-emit_table-clause-serves
+returns-in_err-emit_table-clause-serves g c =
+    let stood = c.emit_table.ensures.stood in
+    serves_emit c.args.c.now.tracker _ c.args.shape.now c.args.table.now c.args.parts.now _ _ _ _ c.requires.emitter.apart stood.others c.requires.held stood.grows c.requires.entries
+
+pub drop_all-requires : goal.drop_all-requires
+drop_all-requires g c =
+    let stood = c.emit_table.ensures.stood in
+    let serves = serves_emit c.args.c.now.tracker _ c.args.shape.now c.args.table.now c.args.parts.now _ _ _ _ c.requires.emitter.apart stood.others c.requires.held stood.grows c.requires.entries in
+    (c.args.c.now.tracker, serves.held.owns.shaped.each (length c.pop-top.new.self.streams) c.pop-top.result (ap (λ (ss : List Streamed). slice_get ss (length c.pop-top.new.self.streams)) c.pop-top.ensures.streams ∙ at_end c.pop-top.new.self.streams c.pop-top.result))
+
+pub returns-clause-serves : goal.returns-clause-serves
+returns-clause-serves g c =
+    let stood = c.emit_table.ensures.stood in
+    let serves = serves_emit c.args.c.now.tracker _ c.args.shape.now c.args.table.now c.args.parts.now _ _ _ _ c.requires.emitter.apart stood.others c.requires.held stood.grows c.requires.entries in
+    let shape = serves.held.owns.shaped.each (length c.pop-top.new.self.streams) c.pop-top.result (ap (λ (ss : List Streamed). slice_get ss (length c.pop-top.new.self.streams)) c.pop-top.ensures.streams ∙ at_end c.pop-top.new.self.streams c.pop-top.result) in
+    serves_handed c.args.c.now.tracker _ c.args.shape.now c.args._at c.args.table.now c.args.parts.now c.pop-top.new.self c.pop-top.result _ _ _ _ _ c.requires.held c.requires.entries c.requires.emitter.apart stood.others stood.grows
+    c.pop-top.ensures.streams c.pop-top.ensures.blocks (c.drop_all.ensures.went c.args.c.now.tracker shape) c.drop_all.ensures.value c.clear.new.self c.clear.ensures
+
+pub returns-clause-popped : goal.returns-clause-popped
+returns-clause-popped g c =
+    let many = popped_long c.args.parts.now c.pop-top.new.self c.pop-top.result c.args._at c.pop-top.ensures.streams c.requires.top in
+    (
+      record {
+        empty = ap (λ (x : Table). x.nodes) c.clear.ensures;
+        closed = closed_popped c.args._at c.args.parts.now c.pop-top.new.self c.pop-top.result (g.St.Store.holds c.drop_all.new.store) (g.St.Store.signs c.drop_all.new.store) c.pop-top.ensures.streams many c.requires.rests;
+      },
+      record { many = many; levels = c.pop-top.ensures.levels ∙ ap (λ (n : ℕ). take n c.args.parts.now.levels) many },
+    )
+
+pub returns-clause-emitter : goal.returns-clause-emitter
+returns-clause-emitter g c =
+    let stood = c.emit_table.ensures.stood in
+    let serves = serves_emit c.args.c.now.tracker _ c.args.shape.now c.args.table.now c.args.parts.now _ _ _ _ c.requires.emitter.apart stood.others c.requires.held stood.grows c.requires.entries in
+    let shape = serves.held.owns.shaped.each (length c.pop-top.new.self.streams) c.pop-top.result (ap (λ (ss : List Streamed). slice_get ss (length c.pop-top.new.self.streams)) c.pop-top.ensures.streams ∙ at_end c.pop-top.new.self.streams c.pop-top.result) in
+    let leaves = leaves_popped c.args.c.now.tracker c.args.table.now c.args.parts.now c.pop-top.new.self c.pop-top.result _ _ _ serves.held c.pop-top.ensures.streams c.pop-top.ensures.blocks (c.drop_all.ensures.went c.args.c.now.tracker shape) c.drop_all.ensures.value in
+    let beside = beside_stood c.args.c.now.tracker _ _ _ _ _ _ _ _ _ _ c.requires.emitter stood in
+    stands_then _ _ _ _ _ _ _ _ _ _ _ _ _ _ (stands_emit _ _ _ _ _ _ _ _ _ _ _ _ stood c.emit_table.ensures.took)
+    (stands_own _ _ _ _ _ c.args.c.now.tracker (state c.args.table.now c.args.parts.now (g.St.Store.holds c.emit_table.new.store) (g.St.Store.signs c.emit_table.new.store)) (state c.args.table.now c.pop-top.new.self (g.St.Store.holds c.drop_all.new.store) (g.St.Store.signs c.drop_all.new.store)) beside leaves
+    (λ rows took. g.met.E.Emit.asks_own c.emit_table.new.emit (g.St.Store.holds c.emit_table.new.store) (g.St.Store.holds c.drop_all.new.store) rows (own_same c.args.c.now.tracker _ (state c.args.table.now c.args.parts.now (g.St.Store.holds c.emit_table.new.store) (g.St.Store.signs c.emit_table.new.store)) (state c.args.table.now c.pop-top.new.self (g.St.Store.holds c.drop_all.new.store) (g.St.Store.signs c.drop_all.new.store)) beside.apart leaves) took))
+
+pub returns-clause-ok : goal.returns-clause-ok
+returns-clause-ok g c =
+    let stood = c.emit_table.ensures.stood in
+    let serves = serves_emit c.args.c.now.tracker _ c.args.shape.now c.args.table.now c.args.parts.now _ _ _ _ c.requires.emitter.apart stood.others c.requires.held stood.grows c.requires.entries in
+    let shape = serves.held.owns.shaped.each (length c.pop-top.new.self.streams) c.pop-top.result (ap (λ (ss : List Streamed). slice_get ss (length c.pop-top.new.self.streams)) c.pop-top.ensures.streams ∙ at_end c.pop-top.new.self.streams c.pop-top.result) in
+    let leaves = leaves_popped c.args.c.now.tracker c.args.table.now c.args.parts.now c.pop-top.new.self c.pop-top.result _ _ _ serves.held c.pop-top.ensures.streams c.pop-top.ensures.blocks (c.drop_all.ensures.went c.args.c.now.tracker shape) c.drop_all.ensures.value in
+    let beside = beside_stood c.args.c.now.tracker _ _ _ _ _ _ _ _ _ _ c.requires.emitter stood in
+    λ rows level read.
+        (
+          shows_handed c.args.c.now.tracker _ c.args.shape.now c.args._at c.args.table.now c.args.parts.now c.pop-top.new.self c.pop-top.result _ _ _ _ _ c.requires.held c.requires.entries c.requires.emitter.apart stood.others stood.grows
+          c.pop-top.ensures.streams c.pop-top.ensures.blocks (c.drop_all.ensures.went c.args.c.now.tracker shape) c.drop_all.ensures.value level rows c.requires.top read,
+          emitted_on c.args.shape.now _ (g.E.Emit.took c.emit_table.new.emit (g.St.Store.holds c.emit_table.new.store)) _ _
+          (λ rows took. g.met.E.Emit.asks_own c.emit_table.new.emit (g.St.Store.holds c.emit_table.new.store) (g.St.Store.holds c.drop_all.new.store) rows (own_same c.args.c.now.tracker _ (state c.args.table.now c.args.parts.now (g.St.Store.holds c.emit_table.new.store) (g.St.Store.signs c.emit_table.new.store)) (state c.args.table.now c.pop-top.new.self (g.St.Store.holds c.drop_all.new.store) (g.St.Store.signs c.drop_all.new.store)) beside.apart leaves) took)
+          (subst (Emitted c.args.shape.now _ _) (groups_read c.args.shape.now c.args._at level rows _ read) (c.in_ok-emit_table.ensures.ok read.distinct)),
+        )

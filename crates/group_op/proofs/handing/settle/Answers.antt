@@ -1,0 +1,38 @@
+use Rattle.std.proofs.Common.{◌≡◌, ◌∙◌, ℕ, length, ap, sym, arith}
+use Rattle.std.proofs.lemmas.Option.{slice_get_within}
+use Rattle.bucket_table.specs.Tables.{Table}
+use Rattle.partition_stack.specs.Stack.{Stack}
+use Rattle.group_op.specs.Finishing.{Serves}
+use Rattle.group_op.specs.Held.{State}
+use Rattle.group_op.specs.Putting.{Works}
+use Rattle.group_op.proofs.Divided.{serves_works}
+use Rattle.group_op.proofs.Emitting.{on_ok}
+use Rattle.group_op.proofs.Keeping.{works_touched}
+use Rattle.group_op.proofs.Settled.{answered_later, has_settled, serves_of}
+use Rattle.group_op.proofs.handing.settle.Goals as goal
+
+pub returns-clause-between : goal.returns-clause-between
+returns-clause-between g c =
+    on_ok c.rest_from.result
+    (λ rests. record {
+      empty = ap (λ (x : Table). x.nodes) c.in_ok-flush.ensures.ok.table;
+      closed = λ i s there. rests.closed i s there (let inside = slice_get_within c.rest_from.new.self.streams i s there in let long = rests.steps.long in omega (arith, inside, long));
+    })
+    c.rest_from.ensures.ok
+
+pub returns-clause-ok : goal.returns-clause-ok
+returns-clause-ok g c =
+    on_ok c.rest_from.result
+    (λ rests rows shows.
+        has_settled c.args.c.now.tracker c.args.shape.now _ rows _ c.flush.new.table c.flush.new.parts c.rest_from.new.self _ _ _ _ shows c.requires.sixteen c.requires.first c.requires.entries c.in_ok-flush.ensures.ok c.flush.ensures.works _ rests
+        (ap (λ (p : Stack). p.levels) c.rest_from.ensures.kept))
+    c.rest_from.ensures.ok
+
+pub returns-clause-serves : goal.returns-clause-serves
+returns-clause-serves g c =
+    let works = c.flush.ensures.works in
+    serves_works _ _ _ _ _ (serves_of _ _ _ _ works)
+    (works_touched c.args.c.now.tracker c.args.shape.now c.flush.new.table c.flush.new.parts c.rest_from.new.self _ _ _ _ works.held works.entries c.rest_from.ensures.went (ap (λ (p : Stack). p.page_blocks) c.rest_from.ensures.kept) (ap (λ (p : Stack). p.levels) c.rest_from.ensures.kept))
+
+pub returns-clause-cause : goal.returns-clause-cause
+returns-clause-cause g c = answered_later c.rest_from.result _ _ _ c.flush.ensures.works.leaves.grows c.rest_from.ensures.cause
