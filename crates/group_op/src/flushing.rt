@@ -1,5 +1,5 @@
 //! The rows of a table go to partitions.
-ghost use Rattle.std.specs.Prelude.{◌≡◌, ℕ, ◌+◌, ◌<◌, ◌≤◌, length, OnOk, IfErr};
+ghost use Rattle.std.specs.Prelude.{◌+◌, ◌<◌, ◌≤◌, length, OnOk, IfErr};
 ghost use Rattle.store_api.specs.Conditions.{IsLiveClient};
 ghost use Rattle.store_api.specs.Holdings.{length_of};
 ghost use Rattle.store_api.specs.Signs.{WasAnswered};
@@ -7,7 +7,7 @@ ghost use Rattle.tuple_stream.specs.Families.{AreShaped};
 ghost use Rattle.tuple_stream.specs.FamilyCalls.{AllAtEnd, Feeds};
 ghost use Rattle.tuple_stream.specs.Steps.{came};
 ghost use Rattle.tuple_stream.specs.Touches.{IsFull};
-ghost use Rattle.partition_stack.specs.Stack.{HasRoomFrom, RestBelow, over};
+ghost use Rattle.partition_stack.specs.Stack.{HasRoomFrom, over};
 ghost use Rattle.partition_stack.specs.Changes.{ChangesAt};
 ghost use Rattle.group_op.specs.Held.{AreEntries, IsHeld, page_len, state};
 ghost use Rattle.group_op.specs.Putting.{HasFlushed, IsFan, Works};

@@ -1,5 +1,5 @@
 //! All groups are handed on.
-ghost use Rattle.std.specs.Prelude.{◌≡◌, ℕ, List, Option, Some, None, true, replicate, IfErr, OnErr, OnOk, length};
+ghost use Rattle.std.specs.Prelude.{◌≡◌, ℕ, List, Option, Some, true, replicate, IfErr, OnErr, OnOk, length};
 ghost use Rattle.pool_model.specs.declared.entry.Entry.{Entry};
 ghost use Rattle.row_codec.specs.declared.values.Value.{Value};
 ghost use Rattle.row_codec.specs.Order.{path_order};
@@ -102,9 +102,7 @@ fn finish_parts<St: Store, E: Emit<St>>(
     ensures cause { IfErr result (CameOf (E.faults emit.old) (E.faults emit.new) (St.signs store.old) (St.signs store.new)) }
 {
     settle(alloc, store, c, shape, table, parts, moved)?;
-    empty_parts(
-        alloc, store, c, shape, table, parts, emit, fed, moved,
-    )
+    empty_parts(alloc, store, c, shape, table, parts, emit, fed, moved)
 }
 
 // The same of a grouping that may have no table yet: then nothing was fed.
@@ -134,9 +132,7 @@ fn finish_op<St: Store, E: Emit<St>>(
     let Some(mut own) = table.take() else {
         return Ok(());
     };
-    let result = finish_parts(
-        alloc, store, c, shape, &mut own, parts, emit, fed, moved,
-    );
+    let result = finish_parts(alloc, store, c, shape, &mut own, parts, emit, fed, moved);
     // The place is empty, since the table was taken out above.
     if let Some(other) = mem::replace(table, Some(own)) {
         other.close(store);

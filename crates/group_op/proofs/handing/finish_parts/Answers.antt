@@ -29,16 +29,16 @@ pub returns-clause-ok : goal.returns-clause-ok
 returns-clause-ok g c =
     on_ok c.empty_parts.result
     (λ emitted rows shows.
-        let settled = c.in_ok-settle.ensures.ok rows shows in
-        subst (Emitted c.args.shape.now (g.E.Emit.took c.args.emit.now (g.St.Store.holds c.args.store.now)) (g.E.Emit.took c.empty_parts.new.emit (g.St.Store.holds c.empty_parts.new.store))) (sym settled.same) (emitted_behind c.args.shape.now (g.E.Emit.took c.args.emit.now (g.St.Store.holds c.args.store.now)) (g.E.Emit.took c.args.emit.now (g.St.Store.holds c.settle.new.store)) (g.E.Emit.took c.empty_parts.new.emit (g.St.Store.holds c.empty_parts.new.store)) [] (emitted_same c.args.shape.now (g.E.Emit.took c.args.emit.now (g.St.Store.holds c.args.store.now)) (g.E.Emit.took c.args.emit.now (g.St.Store.holds c.settle.new.store)) (λ taken took. g.met.E.Emit.asks_own c.args.emit.now (g.St.Store.holds c.args.store.now) (g.St.Store.holds c.settle.new.store) taken (own_same c.args.c.now.tracker _ (state c.args.table.now c.args.parts.now (g.St.Store.holds c.args.store.now) (g.St.Store.signs c.args.store.now)) (state c.settle.new.table c.settle.new.parts (g.St.Store.holds c.settle.new.store) (g.St.Store.signs c.settle.new.store)) c.requires.emitter.apart c.settle.ensures.serves.leaves) took)) _ (emitted settled.left settled.stacked)))
+    let settled = c.in_ok-settle.ensures.ok rows shows in
+    subst (Emitted c.args.shape.now (g.E.Emit.took c.args.emit.now (g.St.Store.holds c.args.store.now)) (g.E.Emit.took c.empty_parts.new.emit (g.St.Store.holds c.empty_parts.new.store))) (sym settled.same) (emitted_behind c.args.shape.now (g.E.Emit.took c.args.emit.now (g.St.Store.holds c.args.store.now)) (g.E.Emit.took c.args.emit.now (g.St.Store.holds c.settle.new.store)) (g.E.Emit.took c.empty_parts.new.emit (g.St.Store.holds c.empty_parts.new.store)) [] (emitted_same c.args.shape.now (g.E.Emit.took c.args.emit.now (g.St.Store.holds c.args.store.now)) (g.E.Emit.took c.args.emit.now (g.St.Store.holds c.settle.new.store)) (λ taken took. g.met.E.Emit.asks_own c.args.emit.now (g.St.Store.holds c.args.store.now) (g.St.Store.holds c.settle.new.store) taken (own_same c.args.c.now.tracker _ (state c.args.table.now c.args.parts.now (g.St.Store.holds c.args.store.now) (g.St.Store.signs c.args.store.now)) (state c.settle.new.table c.settle.new.parts (g.St.Store.holds c.settle.new.store) (g.St.Store.signs c.settle.new.store)) c.requires.emitter.apart c.settle.ensures.serves.leaves) took)) _ (emitted settled.left settled.stacked)))
     c.empty_parts.ensures.ok
 
 pub returns-clause-err : goal.returns-clause-err
 returns-clause-err g c =
     on_err c.empty_parts.result
     (λ front rows shows.
-        let settled = c.in_ok-settle.ensures.ok rows shows in
-        front_behind c.args.shape.now (g.E.Emit.took c.args.emit.now (g.St.Store.holds c.args.store.now)) (g.E.Emit.took c.args.emit.now (g.St.Store.holds c.settle.new.store)) (g.E.Emit.took c.empty_parts.new.emit (g.St.Store.holds c.empty_parts.new.store)) [] (emitted_same c.args.shape.now (g.E.Emit.took c.args.emit.now (g.St.Store.holds c.args.store.now)) (g.E.Emit.took c.args.emit.now (g.St.Store.holds c.settle.new.store)) (λ taken took. g.met.E.Emit.asks_own c.args.emit.now (g.St.Store.holds c.args.store.now) (g.St.Store.holds c.settle.new.store) taken (own_same c.args.c.now.tracker _ (state c.args.table.now c.args.parts.now (g.St.Store.holds c.args.store.now) (g.St.Store.signs c.args.store.now)) (state c.settle.new.table c.settle.new.parts (g.St.Store.holds c.settle.new.store) (g.St.Store.signs c.settle.new.store)) c.requires.emitter.apart c.settle.ensures.serves.leaves) took)) _ [] (groups_of_all c.args.shape.now rows (state c.args.table.now c.args.parts.now (g.St.Store.holds c.args.store.now) (g.St.Store.signs c.args.store.now))) (settled.same ∙ sym (append-nil _)) (front settled.left settled.stacked))
+    let settled = c.in_ok-settle.ensures.ok rows shows in
+    front_behind c.args.shape.now (g.E.Emit.took c.args.emit.now (g.St.Store.holds c.args.store.now)) (g.E.Emit.took c.args.emit.now (g.St.Store.holds c.settle.new.store)) (g.E.Emit.took c.empty_parts.new.emit (g.St.Store.holds c.empty_parts.new.store)) [] (emitted_same c.args.shape.now (g.E.Emit.took c.args.emit.now (g.St.Store.holds c.args.store.now)) (g.E.Emit.took c.args.emit.now (g.St.Store.holds c.settle.new.store)) (λ taken took. g.met.E.Emit.asks_own c.args.emit.now (g.St.Store.holds c.args.store.now) (g.St.Store.holds c.settle.new.store) taken (own_same c.args.c.now.tracker _ (state c.args.table.now c.args.parts.now (g.St.Store.holds c.args.store.now) (g.St.Store.signs c.args.store.now)) (state c.settle.new.table c.settle.new.parts (g.St.Store.holds c.settle.new.store) (g.St.Store.signs c.settle.new.store)) c.requires.emitter.apart c.settle.ensures.serves.leaves) took)) _ [] (groups_of_all c.args.shape.now rows (state c.args.table.now c.args.parts.now (g.St.Store.holds c.args.store.now) (g.St.Store.signs c.args.store.now))) (settled.same ∙ sym (append-nil _)) (front settled.left settled.stacked))
     c.empty_parts.ensures.err
 
 pub returns-clause-serves : goal.returns-clause-serves

@@ -27,9 +27,9 @@ returns-clause-nodes c =
 pub returns-clause-order : goal.returns-clause-order
 returns-clause-order c =
     λ distinct.
-        let all : c.loop-entry.places.items ≡ map (λ e. e.1) c.sort_unstable.new.self.items =
-        c.loop-entry.invariant ∙ ap (map (λ e. e.1)) (take_all c.loop-entry.entry-index c.deref-entry-items.result.now c.loop-entry-test.false ∙ c.deref-entry-items.ensures.value) in
-        let moved : IsPermutation (reverse (map (λ n. (key_at c.args.shape.now n.row, n.place)) c.args.table.now.nodes)) c.sort_unstable.new.self.items =
-        subst (λ es. IsPermutation es c.sort_unstable.new.self.items) c.in_ok-keyed.ensures c.sort_unstable.ensures.permutation in
-        subst (AreInOrder c.args.shape.now c.args.table.now) (sym all)
-        (sorted_in_order c.args.shape.now c.args.table.now c.requires.entries.1.behind c.sort_unstable.new.self.items distinct moved c.sort_unstable.ensures.sorted)
+    let all : c.loop-entry.places.items ≡ map (λ e. e.1) c.sort_unstable.new.self.items =
+    c.loop-entry.invariant ∙ ap (map (λ e. e.1)) (take_all c.loop-entry.entry-index c.deref-entry-items.result.now c.loop-entry-test.false ∙ c.deref-entry-items.ensures.value) in
+    let moved : IsPermutation (reverse (map (λ n. (key_at c.args.shape.now n.row, n.place)) c.args.table.now.nodes)) c.sort_unstable.new.self.items =
+    subst (λ es. IsPermutation es c.sort_unstable.new.self.items) c.in_ok-keyed.ensures c.sort_unstable.ensures.permutation in
+    subst (AreInOrder c.args.shape.now c.args.table.now) (sym all)
+    (sorted_in_order c.args.shape.now c.args.table.now c.requires.entries.1.behind c.sort_unstable.new.self.items distinct moved c.sort_unstable.ensures.sorted)
