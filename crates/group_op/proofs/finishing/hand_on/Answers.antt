@@ -1,7 +1,5 @@
-use Rattle.std.proofs.Common.{rules, false, ◌≡◌, ◌∙◌, ◌++◌, ◌∷◌, [], ℕ, List, length, take, ap, sym, subst}
+use Rattle.std.proofs.Common.{rules, false, ◌∙◌, [], ℕ, List, length, take, ap, subst}
 use Rattle.std.specs.Prelude.{slice_get}
-use Rattle.row_codec.specs.declared.values.Value.{Value}
-use Rattle.store_api.specs.Emitters.{HasClient}
 use Rattle.tuple_stream.specs.Streamed.{Streamed}
 use Rattle.tuple_stream.proofs.PageLists.{at_end}
 use Rattle.bucket_table.specs.Tables.{Table}

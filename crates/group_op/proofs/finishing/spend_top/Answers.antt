@@ -1,13 +1,12 @@
-use Rattle.std.proofs.Common.{rules, ◌≡◌, ◌∙◌, ◌+◌, ℕ, List, [], length, true, ap, sym, arith}
+use Rattle.std.proofs.Common.{rules, ◌≡◌, ◌∙◌, [], true, ap, arith}
 use Rattle.std.proofs.lemmas.Option.{slice_get_within}
 use Rattle.store_api.specs.Signs.{WasAnswered}
 use Rattle.store_api.proofs.Answered.{answered_before}
 use Rattle.store_api.proofs.Growing.{grows_trans}
 use Rattle.bucket_table.specs.Tables.{Table}
-use Rattle.partition_stack.specs.Stack.{Stack, over}
-use Rattle.group_op.specs.Finishing.{HasRead, IsRead, Serves, Stacked}
-use Rattle.group_op.specs.Held.{State, state}
-use Rattle.group_op.specs.Putting.{Works}
+use Rattle.partition_stack.specs.Stack.{Stack}
+use Rattle.group_op.specs.Finishing.{HasRead, IsRead}
+use Rattle.group_op.specs.Held.{state}
 use Rattle.group_op.proofs.Divided.{has_divided, less_divided, serves_works}
 use Rattle.group_op.proofs.Keeping.{works_touched}
 use Rattle.group_op.proofs.finishing.spend_top.Goals as goal

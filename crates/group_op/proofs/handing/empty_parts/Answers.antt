@@ -1,5 +1,4 @@
-use Rattle.std.proofs.Common.{rules, ◌≡◌, ◌∙◌, ◌<◌, ◌≤◌, ◌++◌, ◌∷◌, [], ℕ, List, length, ap, sym, subst, arith}
-use Rattle.row_codec.specs.declared.values.Value.{Value}
+use Rattle.std.proofs.Common.{rules, ◌++◌, ℕ, List, length, arith}
 use Rattle.store_api.specs.Emitters.{CameOf}
 use Rattle.group_op.specs.Emission.{EmittedFront}
 use Rattle.group_op.specs.Finishing.{Stacked, said_down}

@@ -1,6 +1,4 @@
-use Rattle.std.proofs.Common.{rules, ◌≡◌, ◌∙◌, ◌++◌, ◌∷◌, [], ℕ, List, length, ap, sym, subst, arith, append-nil}
-use Rattle.row_codec.specs.declared.values.Value.{Value}
-use Rattle.store_api.specs.Emitters.{CameOf}
+use Rattle.std.proofs.Common.{rules, ◌∙◌, [], ℕ, List, sym, subst, arith, append-nil}
 use Rattle.group_op.specs.Emission.{Emitted, EmittedFront}
 use Rattle.group_op.specs.Finished.{ShowsFirst, groups_of_all}
 use Rattle.group_op.specs.Held.{state}

@@ -1,10 +1,7 @@
-use Rattle.std.proofs.Common.{◌≡◌, ◌∙◌, ℕ, length, ap, sym, arith}
+use Rattle.std.proofs.Common.{ap, arith}
 use Rattle.std.proofs.lemmas.Option.{slice_get_within}
 use Rattle.bucket_table.specs.Tables.{Table}
 use Rattle.partition_stack.specs.Stack.{Stack}
-use Rattle.group_op.specs.Finishing.{Serves}
-use Rattle.group_op.specs.Held.{State}
-use Rattle.group_op.specs.Putting.{Works}
 use Rattle.group_op.proofs.Divided.{serves_works}
 use Rattle.group_op.proofs.Emitting.{on_ok}
 use Rattle.group_op.proofs.Keeping.{works_touched}

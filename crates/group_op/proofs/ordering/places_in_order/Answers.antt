@@ -1,5 +1,5 @@
-use Rattle.std.proofs.Common.{rules, ◌≡◌, ℕ, [], ◌∷◌, ◌++◌, ◌≤◌, length, map, reverse, take, ap, sym, ◌∙◌, subst, List}
-use Rattle.std.specs.Prelude.{All, slice_index_or}
+use Rattle.std.proofs.Common.{◌≡◌, ℕ, [], ◌∷◌, ◌++◌, map, reverse, take, ap, sym, ◌∙◌, subst, List}
+use Rattle.std.specs.Prelude.{All}
 use Rattle.bucket_table.specs.Tables.{HasNode}
 use Rattle.std.proofs.lemmas.List.{take_all}
 use Rattle.std.specs.List.Sorted.{IsPermutation}
