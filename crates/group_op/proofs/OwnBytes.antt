@@ -77,7 +77,8 @@ framed_so shape row a b c four is_b is_c =
     ∙ ap (λ (bytes : List ℕ). a ++ bytes) (sym (flat_map-append field_bytes (values_in shape.keys row) (map (λ agg. Wide (own_number agg row)) shape.aggs))) in
     let long : length c ≡ 4 + length body = (let same = ap length both in let all = length-append a body in omega (arith, same, all, four)) in
     let rest : drop 4 c ≡ body = ap (drop 4) both ∙ ap (λ (n : ℕ). drop n (a ++ body)) (sym four) ∙ drop-append_seam a body in
-    let less : length c - 4 ≡ length body = omega (arith, long) in (
+    let less : length c - 4 ≡ length body = omega (arith, long) in
+    (
       ap (λ (n : ℕ). to_be_bytes w32 n ++ drop 4 c) less ∙ ap (λ (bytes : List ℕ). to_be_bytes w32 (length body) ++ bytes) rest,
       long ∙ sym (length-append (to_be_bytes w32 (length body)) body),
     )

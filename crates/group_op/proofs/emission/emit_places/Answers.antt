@@ -64,7 +64,7 @@ pub loop-place-preserved : goal.loop-place-preserved
 loop-place-preserved g c =
     record {
       emitted = subst (Emitted c.args.shape.now _ _) (sym (said_more c.args.shape.now c.args.table.now.nodes c.args.places.now c.loop-place.place-index c.loop-place-test.true))
-          (emitted_behind _ _ _ _ _ c.loop-place.invariant.emitted _ c.in_ok-emit_place.ensures.ok);
+        (emitted_behind _ _ _ _ _ c.loop-place.invariant.emitted _ c.in_ok-emit_place.ensures.ok);
       stood = stood_more _ _ _ _ _ _ _ _ _ _ _ _ _ _ _ c.loop-place.invariant.stood c.emit_place.ensures.stood;
     }
 
