@@ -1,35 +1,31 @@
 -- Calls of a grouping and of an emitter beside it, one after the other.
-use Rattle.std.proofs.Common.{◌≡◌, ◌≢◌, ◌∙◌, ◌↔◌, ℕ, ◌+◌, ◌-◌, ◌*◌, ◌<◌, ◌≤◌, ◌==◌, List, [], ◌∷◌, ◌++◌, length, Option, Some, None, IsSome, if◌then◌else◌, refl, ap, sym, subst, inl, inr, arith, append-nil, append_assoc, ne_eqb}
+use Rattle.std.proofs.Common.{◌≡◌, ◌≢◌, ◌∙◌, ℕ, ◌*◌, ◌<◌, List, [], ◌∷◌, ◌++◌, length, Option, Some, None, IsSome, refl, ap, sym, subst, arith, append-nil, append_assoc, ne_eqb}
 use Rattle.std.specs.Prelude.{set, slice_get}
 use Rattle.std.proofs.Math.Seq.{set-append_seam}
-use Rattle.std.proofs.lemmas.Bool.{cases_eq}
-use Rattle.std.proofs.lemmas.Option.{none-some, slice_get_within}
+use Rattle.std.proofs.lemmas.Option.{slice_get_within}
 use Rattle.row_codec.specs.declared.values.Value.{Value}
 use Rattle.store_api.specs.Emitters.{HasClient, OthersStay, SameFor, SameOwn}
-use Rattle.store_api.specs.Holdings.{Account, Holdings, LiveLoan, account_of, length_of, no_account, or_else}
+use Rattle.store_api.specs.Holdings.{Account, Holdings, account_of, length_of, no_account, or_else}
 use Rattle.store_api.specs.Signs.{Grows, Signs}
 use Rattle.store_api.specs.declared.shapes.Shape.{Shape}
-use Rattle.store_api.proofs.Growing.{grows_refl, grows_trans}
+use Rattle.store_api.proofs.Growing.{grows_trans}
 use Rattle.tuple_stream.specs.Streamed.{Streamed}
 use Rattle.tuple_stream.specs.Streams.{HasRows}
 use Rattle.tuple_stream.specs.Spending.{Empties}
 use Rattle.tuple_stream.specs.Steps.{Scene, scene}
 use Rattle.tuple_stream.specs.Families.{AllClosed, AreShaped, Family, ShowAll, changed, family}
-use Rattle.tuple_stream.specs.FamilyCalls.{EmptiesIn, with_rows}
+use Rattle.tuple_stream.specs.FamilyCalls.{with_rows}
 use Rattle.tuple_stream.proofs.Empty.{empty, empty_shows}
 use Rattle.tuple_stream.proofs.FamilyWords.{empties_in}
 use Rattle.tuple_stream.proofs.PageLists.{at_end, still_at}
-use Rattle.bucket_table.specs.Lending.{IsApart, loans_of}
 use Rattle.bucket_table.specs.Tables.{Table}
 use Rattle.bucket_table.proofs.Beside.{beside_others}
-use Rattle.partition_stack.specs.Changes.{Owns}
 use Rattle.partition_stack.specs.Stack.{RestBelow, Stack, over}
 use Rattle.partition_stack.proofs.Away.{Left, none_left, one_left}
-use Rattle.partition_stack.proofs.Coming.{top_goes}
 use Rattle.partition_stack.proofs.Owned.{others_leave_owned}
 use Rattle.group_op.specs.Emission.{Stood, WentOn}
 use Rattle.group_op.specs.Finishing.{IsBeside, LeavesBeside, Serves, ServesBeside, StandsStill}
-use Rattle.group_op.specs.Held.{AreEntries, IsHeld, Leaves, LeavesOthers, State, lent, state, streams_of}
+use Rattle.group_op.specs.Held.{AreEntries, IsHeld, Leaves, State, lent, state}
 use Rattle.group_op.proofs.Chained.{same_then}
 use Rattle.group_op.proofs.Opened.{had_leaves}
 use Rattle.group_op.proofs.Keeping.{held_touched, leaves_touched}

@@ -1,8 +1,7 @@
 -- The top partition was divided: its rows, and those of the table, are in the sixteen above it.
-use Rattle.std.proofs.Common.{◌≡◌, ◌∙◌, inl, inr, ℕ, suc, ◌+◌, ◌-◌, ◌*◌, ◌^◌, ◌<◌, ◌≤◌, ◌==◌, true, List, [], ◌∷◌, ◌++◌, cond, Bool, length, replicate, reverse, set, get_or, take, Some, refl, ap, ap₂, sym, subst, arith, append-nil, append_assoc, length-append, ne_eqb, lit<, zero}
+use Rattle.std.proofs.Common.{◌≡◌, ◌∙◌, inl, inr, ℕ, suc, ◌+◌, ◌-◌, ◌*◌, ◌^◌, ◌<◌, ◌==◌, true, List, [], ◌∷◌, ◌++◌, cond, Bool, length, replicate, reverse, set, get_or, take, Some, refl, ap, ap₂, sym, subst, arith, append-nil, length-append, ne_eqb, lit<, zero}
 use Rattle.std.specs.Prelude.{All, map, slice_get}
 use Rattle.std.specs.List.{sum_by}
-use Rattle.std.specs.List.Sorted.{IsPermutation}
 use Rattle.std.proofs.Math.Nat.{pow-suc}
 use Rattle.std.proofs.lemmas.Bool.{cases_eq}
 use Rattle.std.proofs.lemmas.List.{length-replicate, length-set}
@@ -14,15 +13,13 @@ use Rattle.std.proofs.lemmas.Option.{get_or_from_slice_get, none-some, slice_get
 use Rattle.store_api.specs.Holdings.{Holdings}
 use Rattle.store_api.specs.Signs.{Signs}
 use Rattle.store_api.specs.declared.shapes.Shape.{Shape}
-use Rattle.tuple_stream.specs.Families.{ShowAll}
 use Rattle.tuple_stream.specs.FamilyCalls.{RestsSome}
-use Rattle.tuple_stream.proofs.OnePlace.{here, other}
+use Rattle.tuple_stream.proofs.OnePlace.{other}
 use Rattle.bucket_table.specs.Tables.{Node, Table}
-use Rattle.partition_stack.specs.Stack.{Stack, over, weight}
+use Rattle.partition_stack.specs.Stack.{Stack, over}
 use Rattle.partition_stack.proofs.ListPlaces.{front_or_behind, of_replicate}
-use Rattle.group_rows.specs.Partials.{Partial}
 use Rattle.group_op.specs.Finishing.{HasDivided, HasRead, IsPart, IsRead, Serves, Stacked, said_down}
-use Rattle.group_op.specs.Held.{AreEntries, IsEntry, State, rows_of, state, streams_of}
+use Rattle.group_op.specs.Held.{AreEntries, IsEntry, State, rows_of, state}
 use Rattle.group_op.specs.Putting.{HasFlushed, Works}
 use Rattle.group_op.specs.Stored.{IsPartialRow, SameGroups, dealt, grouping_of, partials_at, place_of}
 use Rattle.group_op.proofs.Chained.{leaves_then}

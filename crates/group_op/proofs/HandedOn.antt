@@ -1,6 +1,5 @@
 -- The groups of the top partition were handed on, and it went.
-use Rattle.std.proofs.Common.{◌≡◌, ◌≢◌, ◌∙◌, ℕ, ◌+◌, ◌*◌, ◌<◌, false, List, [], ◌∷◌, ◌++◌, length, take, Option, Some, refl, ap, sym, subst, arith, append-nil, length-append}
-use Rattle.std.specs.Prelude.{slice_get}
+use Rattle.std.proofs.Common.{◌≡◌, ◌≢◌, ◌∙◌, ℕ, ◌+◌, ◌*◌, ◌<◌, false, List, [], ◌∷◌, ◌++◌, length, Option, Some, refl, ap, sym, subst, arith, append-nil, length-append}
 use Rattle.std.proofs.lemmas.Option.{slice_get_within}
 use Rattle.row_codec.specs.declared.values.Value.{Value}
 use Rattle.store_api.specs.Emitters.{OthersStay}
@@ -16,8 +15,7 @@ use Rattle.tuple_stream.proofs.Empty.{empty}
 use Rattle.bucket_table.specs.Tables.{Table, with_nodes}
 use Rattle.partition_stack.specs.Stack.{Stack, over}
 use Rattle.group_rows.specs.Partials.{Partial, combined_of}
-use Rattle.group_rows.specs.Tables.{HaveDistinctKeys}
-use Rattle.group_op.specs.Emission.{CameInFront, Emitted, EmittedFront}
+use Rattle.group_op.specs.Emission.{Emitted, EmittedFront}
 use Rattle.group_op.specs.Finishing.{HasRead, ServesBeside}
 use Rattle.group_op.specs.Held.{AreEntries, IsHeld, State, rows_of, state}
 use Rattle.group_op.specs.InOrder.{groups_in}

@@ -1,5 +1,5 @@
 -- The rows of a table went to the sixteen partitions of the first level.
-use Rattle.std.proofs.Common.{◌≡◌, ◌∙◌, inl, ℕ, ◌+◌, ◌<◌, ◌==◌, true, List, [], ◌∷◌, ◌++◌, length, map, replicate, reverse, Some, Result, Ok, Err, OnOk, IfErr, refl, ap, sym, subst, arith}
+use Rattle.std.proofs.Common.{◌≡◌, ◌∙◌, inl, ℕ, ◌==◌, List, ◌++◌, length, replicate, reverse, Some, Result, Ok, Err, IfErr, ap, sym, subst, arith}
 use Rattle.std.specs.Prelude.{All, slice_get}
 use Rattle.std.specs.List.Sorted.{IsPermutation}
 use Rattle.std.proofs.lemmas.List.{length-replicate, map-append}
@@ -12,17 +12,16 @@ use Rattle.store_api.specs.Holdings.{Holdings}
 use Rattle.store_api.specs.Signs.{Grows, Signs, WasAnswered}
 use Rattle.store_api.specs.declared.shapes.Shape.{Shape}
 use Rattle.store_api.proofs.Answered.{answered_before}
-use Rattle.tuple_stream.specs.Families.{ShowAll}
 use Rattle.tuple_stream.specs.FamilyCalls.{RestsSome, shares}
 use Rattle.bucket_table.specs.Tables.{Table}
 use Rattle.partition_stack.specs.Stack.{Stack, over}
 use Rattle.partition_stack.proofs.ListPlaces.{of_replicate}
-use Rattle.group_rows.specs.Partials.{Partial, combined_of}
+use Rattle.group_rows.specs.Partials.{combined_of}
 use Rattle.group_rows.proofs.Paths.{path_is_order}
 use Rattle.group_rows.proofs.Tables.{any_order}
-use Rattle.group_op.specs.Finished.{HasSettled, ShowsFirst, groups_of_all}
+use Rattle.group_op.specs.Finished.{HasSettled, ShowsFirst}
 use Rattle.group_op.specs.Finishing.{IsPart, Serves, said_down}
-use Rattle.group_op.specs.Held.{AreEntries, State, rows_of, state, streams_of}
+use Rattle.group_op.specs.Held.{AreEntries, State, rows_of, state}
 use Rattle.group_op.specs.Putting.{HasFlushed, Works}
 use Rattle.group_op.specs.Stored.{IsPartialRow, dealt, grouping_of, partial_at, partials_at, place_of}
 use Rattle.group_op.proofs.Divided.{formed_back}

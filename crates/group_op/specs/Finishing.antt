@@ -1,12 +1,11 @@
 -- Partitions are read from the top, each through a table. `a` is before a call and `b` behind it.
-use Rattle.std.specs.Prelude.{◌≡◌, ◌≢◌, ◌↔◌, ℕ, zero, suc, ◌+◌, ◌<◌, ◌≤◌, Bool, true, false, List, [], ◌∷◌, ◌++◌, All, length, slice_get, set, replicate, take, Option, Some, None, ⊤}
+use Rattle.std.specs.Prelude.{◌≡◌, ◌≢◌, ◌↔◌, ℕ, zero, suc, ◌+◌, ◌<◌, ◌≤◌, Bool, true, false, List, [], ◌++◌, All, length, slice_get, set, replicate, take, Option, Some}
 use Rattle.row_codec.specs.declared.values.Value.{Value}
 use Rattle.store_api.specs.declared.shapes.Shape.{Shape}
 use Rattle.store_api.specs.Emitters.{HasClient, SameFor}
 use Rattle.store_api.specs.Holdings.{Holdings, account_of}
 use Rattle.store_api.specs.Signs.{Grows, Signs}
 use Rattle.tuple_stream.specs.Families.{AllClosed, ShowAll}
-use Rattle.bucket_table.specs.Tables.{Table}
 use Rattle.partition_stack.specs.Stack.{RestBelow, Stack}
 use Rattle.group_rows.specs.Partials.{Partial, combined_of}
 use Rattle.group_rows.specs.Splitting.{HasPath}

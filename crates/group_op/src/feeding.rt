@@ -11,8 +11,8 @@ ghost use Rattle.group_op.specs.Stored.{IsPartialRow, key_at};
 
 use crate::flushing::{FIRST, Spare};
 use crate::operator::GroupOp;
-use crate::putting::put;
 use crate::own_row::spell;
+use crate::putting::put;
 use bucket_table::BucketTable;
 use partition_stack::Partitions;
 use reservation_tree::PoolErr;

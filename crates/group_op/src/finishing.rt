@@ -4,14 +4,13 @@ ghost use Rattle.row_codec.specs.declared.values.Value.{Value};
 ghost use Rattle.store_api.specs.Emitters.{CameOf};
 ghost use Rattle.store_api.specs.Shapes.{IsShape};
 ghost use Rattle.store_api.specs.Signs.{WasAnswered};
+ghost use Rattle.tuple_stream.specs.Families.{ShowAll};
 ghost use Rattle.partition_stack.specs.Stack.{IsPlaced, RestBelow, weight};
 ghost use Rattle.group_rows.specs.Partials.{combined_of};
 ghost use Rattle.group_op.specs.Emission.{AdmitsKinds, Emitted, EmittedFront};
 ghost use Rattle.group_op.specs.Finishing.{Advances, HasDivided, HasPopped, HasRead, IsBeside, IsBetween, IsRead, Serves, ServesBeside, Stacked, StandsStill, said_down};
-ghost use Rattle.group_op.specs.Held.{AreEntries, IsHeld, page_len, state};
+ghost use Rattle.group_op.specs.Held.{AreEntries, IsHeld, page_len, state, streams_of};
 ghost use Rattle.group_op.specs.Stored.{grouping_of, partials_at};
-ghost use Rattle.tuple_stream.specs.Families.{ShowAll};
-ghost use Rattle.group_op.specs.Held.{streams_of};
 
 use crate::absorbing::absorb;
 use crate::emission::emit_table;

@@ -1,5 +1,5 @@
 //! All groups are handed on.
-ghost use Rattle.std.specs.Prelude.{◌≡◌, ℕ, List, Option, Some, None, true, replicate, IfErr, OnErr, OnOk, length};
+ghost use Rattle.std.specs.Prelude.{◌≡◌, ℕ, List, Option, Some, true, replicate, IfErr, OnErr, OnOk, length};
 ghost use Rattle.pool_model.specs.declared.entry.Entry.{Entry};
 ghost use Rattle.row_codec.specs.declared.values.Value.{Value};
 ghost use Rattle.row_codec.specs.Order.{path_order};
@@ -103,4 +103,79 @@ fn finish_parts<St: Store, E: Emit<St>>(
 {
     settle(alloc, store, c, shape, table, parts, moved)?;
     empty_parts(alloc, store, c, shape, table, parts, emit, fed, moved)
+}
+
+// The same of a grouping that may have no table yet: then nothing was fed.
+fn finish_op<St: Store, E: Emit<St>>(
+    alloc: Global,
+    store: &mut St,
+    c: &Client,
+    shape: &Shape,
+    table: &mut Option<BucketTable>,
+    parts: &mut Partitions,
+    emit: &mut E,
+    fed: &mut Spare,
+    moved: &mut Spare,
+) -> Result<(), OpErr>
+    requires op { IsOperator (operator c.now shape.now parts.old table.old) (St.holds store.old) (St.signs store.old) }
+    requires feeding { IsFeeding (operator c.now shape.now parts.old table.old) }
+    requires emitter { IsBeside c.now.tracker (E.client emit.old) (St.holds store.old) }
+    requires admits { AdmitsKinds shape.now (E.admits emit.old) }
+    requires stands { (rows : List (List Value)) × E.took emit.old (St.holds store.old) rows }
+    ensures ok { OnOk result ((start : Option (List Entry)) → (rows : List (List Value)) → Keeps start rows (operator c.now shape.now parts.old table.old) (St.holds store.old) (St.signs store.old) → (St.holds store.old).told ≡ true → Emitted shape.now (E.took emit.old (St.holds store.old)) (E.took emit.new (St.holds store.new)) (groups_by path_order (grouping_of shape.now) rows)) }
+    ensures err { OnErr result ((start : Option (List Entry)) → (rows : List (List Value)) → Keeps start rows (operator c.now shape.now parts.old table.old) (St.holds store.old) (St.signs store.old) → (St.holds store.old).told ≡ true → EmittedFront shape.now (E.took emit.old (St.holds store.old)) (E.took emit.new (St.holds store.new)) (groups_by path_order (grouping_of shape.now) rows)) }
+    ensures op { IsOperator (operator c.now shape.now parts.new table.new) (St.holds store.new) (St.signs store.new) }
+    ensures leaves { LeavesBeside c.now.tracker (E.client emit.old) (St.holds store.old) (St.holds store.new) (St.signs store.old) (St.signs store.new) }
+    ensures emitter { StandsStill (E.admits emit.old) (E.admits emit.new) (E.client emit.old) (E.client emit.new) (E.faults emit.old) (E.faults emit.new) (E.took emit.old (St.holds store.old)) (E.took emit.new (St.holds store.new)) (St.holds store.new) }
+    ensures cause { IfErr result (CameOf (E.faults emit.old) (E.faults emit.new) (St.signs store.old) (St.signs store.new)) }
+{
+    let Some(mut own) = table.take() else {
+        return Ok(());
+    };
+    let result = finish_parts(alloc, store, c, shape, &mut own, parts, emit, fed, moved);
+    // The place is empty, since the table was taken out above.
+    if let Some(other) = mem::replace(table, Some(own)) {
+        other.close(store);
+    }
+    result
+}
+
+impl GroupOp {
+    /// Hands the groups of all rows that were fed on, one row each, in the order of their keys' paths. The grouping can only
+    /// end from then on.
+    ///
+    /// # Errors
+    ///
+    /// `Pool`: the store answered so in this call, or there was no memory. `Sink`: a fault came. The first groups may have
+    /// been handed on.
+    pub fn finish<St: Store, E: Emit<St>>(
+        &mut self,
+        alloc: Global,
+        store: &mut St,
+        emit: &mut E,
+    ) -> Result<(), OpErr>
+        requires op { IsOperator self.old (St.holds store.old) (St.signs store.old) }
+        requires feeding { IsFeeding self.old }
+        requires emitter { IsBeside self.old.client.tracker (E.client emit.old) (St.holds store.old) }
+        requires admits { AdmitsKinds self.old.shape (E.admits emit.old) }
+        requires stands { (rows : List (List Value)) × E.took emit.old (St.holds store.old) rows }
+        ensures ok { OnOk result ((start : Option (List Entry)) → (fed : List (List Value)) → Keeps start fed self.old (St.holds store.old) (St.signs store.old) → (St.holds store.old).told ≡ true → Emitted self.old.shape (E.took emit.old (St.holds store.old)) (E.took emit.new (St.holds store.new)) (groups_by path_order (grouping_of self.old.shape) fed)) }
+        ensures err { OnErr result ((start : Option (List Entry)) → (fed : List (List Value)) → Keeps start fed self.old (St.holds store.old) (St.signs store.old) → (St.holds store.old).told ≡ true → EmittedFront self.old.shape (E.took emit.old (St.holds store.old)) (E.took emit.new (St.holds store.new)) (groups_by path_order (grouping_of self.old.shape) fed)) }
+        ensures op { IsOperator self.new (St.holds store.new) (St.signs store.new) }
+        ensures leaves { LeavesBeside self.old.client.tracker (E.client emit.old) (St.holds store.old) (St.holds store.new) (St.signs store.old) (St.signs store.new) }
+        ensures emitter { StandsStill (E.admits emit.old) (E.admits emit.new) (E.client emit.old) (E.client emit.new) (E.faults emit.old) (E.faults emit.new) (E.took emit.old (St.holds store.old)) (E.took emit.new (St.holds store.new)) (St.holds store.new) }
+        ensures cause { IfErr result (CameOf (E.faults emit.old) (E.faults emit.new) (St.signs store.old) (St.signs store.new)) }
+    {
+        finish_op(
+            alloc,
+            store,
+            &self.client,
+            &self.shape,
+            &mut self.table,
+            &mut self.parts,
+            emit,
+            &mut self.fed,
+            &mut self.moved,
+        )
+    }
 }

@@ -1,5 +1,5 @@
 -- What a pool has for its one owner is what the owner holds.
-use Rattle.std.proofs.Common.{◌≡◌, ◌≢◌, ℕ, ◌*◌, ◌==◌, List, [], Bool, true, false, ne_eqb, Option, Some, None, IsSome, if◌then◌else◌, refl, sym, ap, ◌∙◌, subst, eq-eqb, is_some, unwrap_or, option_map}
+use Rattle.std.proofs.Common.{◌≡◌, ◌≢◌, ℕ, ◌-◌, ◌*◌, ◌==◌, List, [], Bool, true, false, ne_eqb, Option, Some, None, IsSome, if◌then◌else◌, refl, sym, ap, ◌∙◌, subst, eq-eqb, is_some, unwrap_or, option_map}
 use Rattle.std.specs.FinMap.{get}
 use Rattle.outside.specs.declared.slot.Slot.{Ghosts}
 use Rattle.block_arena.specs.Memory.{Buffer, IsBufferOf}

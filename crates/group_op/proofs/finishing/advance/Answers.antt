@@ -1,14 +1,11 @@
-use Rattle.std.proofs.Common.{rules, ◌≡◌, ◌∙◌, ◌+◌, ◌-◌, ◌++◌, ◌∷◌, [], ℕ, List, false, length, take, ap, sym, subst, arith, append-nil}
-use Rattle.row_codec.specs.declared.values.Value.{Value}
-use Rattle.store_api.specs.Emitters.{CameOf}
-use Rattle.bucket_table.specs.Tables.{Table}
+use Rattle.std.proofs.Common.{rules, ◌≡◌, ◌∙◌, ◌+◌, ◌-◌, ℕ, List, length, take, ap, arith}
 use Rattle.group_op.specs.Emission.{EmittedFront}
-use Rattle.group_op.specs.Finishing.{HasRead, IsRead, Stacked, said_down}
+use Rattle.group_op.specs.Finishing.{Stacked, said_down}
 use Rattle.group_op.specs.Held.{state}
 use Rattle.group_op.proofs.Advancing.{advances_divided, advances_popped, came_later, front_popped, front_same, ok_both}
-use Rattle.group_op.proofs.Besides.{beside_stands, own_same, serves_own, serves_then, stands_own, stands_then}
+use Rattle.group_op.proofs.Besides.{own_same, serves_own, serves_then, stands_own, stands_then}
 use Rattle.group_op.proofs.Divided.{less_popped}
-use Rattle.group_op.proofs.Emitting.{came_behind, on_err, on_ok}
+use Rattle.group_op.proofs.Emitting.{on_err, on_ok}
 use Rattle.group_op.proofs.finishing.advance.Goals as goal
 
 pub returns-then-level-eq16-clause-ok : goal.returns-then-level-eq16-clause-ok

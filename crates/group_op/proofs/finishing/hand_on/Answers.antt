@@ -1,7 +1,5 @@
-use Rattle.std.proofs.Common.{rules, false, ◌≡◌, ◌∙◌, ◌++◌, ◌∷◌, [], ℕ, List, length, take, ap, sym, subst}
+use Rattle.std.proofs.Common.{rules, false, ◌∙◌, [], ℕ, List, length, take, ap, subst}
 use Rattle.std.specs.Prelude.{slice_get}
-use Rattle.row_codec.specs.declared.values.Value.{Value}
-use Rattle.store_api.specs.Emitters.{HasClient}
 use Rattle.tuple_stream.specs.Streamed.{Streamed}
 use Rattle.tuple_stream.proofs.PageLists.{at_end}
 use Rattle.bucket_table.specs.Tables.{Table}
@@ -41,8 +39,7 @@ returns-clause-serves g c =
 
 pub returns-clause-popped : goal.returns-clause-popped
 returns-clause-popped g c =
-    let many = popped_long c.args.parts.now c.pop-top.new.self c.pop-top.result c.args._at c.pop-top.ensures.streams c.requires.top in
-    (
+    let many = popped_long c.args.parts.now c.pop-top.new.self c.pop-top.result c.args._at c.pop-top.ensures.streams c.requires.top in (
       record {
         empty = ap (λ (x : Table). x.nodes) c.clear.ensures;
         closed = closed_popped c.args._at c.args.parts.now c.pop-top.new.self c.pop-top.result (g.St.Store.holds c.drop_all.new.store) (g.St.Store.signs c.drop_all.new.store) c.pop-top.ensures.streams many c.requires.rests;
@@ -68,11 +65,10 @@ returns-clause-ok g c =
     let shape = serves.held.owns.shaped.each (length c.pop-top.new.self.streams) c.pop-top.result (ap (λ (ss : List Streamed). slice_get ss (length c.pop-top.new.self.streams)) c.pop-top.ensures.streams ∙ at_end c.pop-top.new.self.streams c.pop-top.result) in
     let leaves = leaves_popped c.args.c.now.tracker c.args.table.now c.args.parts.now c.pop-top.new.self c.pop-top.result _ _ _ serves.held c.pop-top.ensures.streams c.pop-top.ensures.blocks (c.drop_all.ensures.went c.args.c.now.tracker shape) c.drop_all.ensures.value in
     let beside = beside_stood c.args.c.now.tracker _ _ _ _ _ _ _ _ _ _ c.requires.emitter stood in
-    λ rows level read.
-        (
-          shows_handed c.args.c.now.tracker _ c.args.shape.now c.args._at c.args.table.now c.args.parts.now c.pop-top.new.self c.pop-top.result _ _ _ _ _ c.requires.held c.requires.entries c.requires.emitter.apart stood.others stood.grows
+    λ rows level read. (
+      shows_handed c.args.c.now.tracker _ c.args.shape.now c.args._at c.args.table.now c.args.parts.now c.pop-top.new.self c.pop-top.result _ _ _ _ _ c.requires.held c.requires.entries c.requires.emitter.apart stood.others stood.grows
           c.pop-top.ensures.streams c.pop-top.ensures.blocks (c.drop_all.ensures.went c.args.c.now.tracker shape) c.drop_all.ensures.value level rows c.requires.top read,
-          emitted_on c.args.shape.now _ (g.E.Emit.took c.emit_table.new.emit (g.St.Store.holds c.emit_table.new.store)) _ _
+      emitted_on c.args.shape.now _ (g.E.Emit.took c.emit_table.new.emit (g.St.Store.holds c.emit_table.new.store)) _ _
           (λ rows took. g.met.E.Emit.asks_own c.emit_table.new.emit (g.St.Store.holds c.emit_table.new.store) (g.St.Store.holds c.drop_all.new.store) rows (own_same c.args.c.now.tracker _ (state c.args.table.now c.args.parts.now (g.St.Store.holds c.emit_table.new.store) (g.St.Store.signs c.emit_table.new.store)) (state c.args.table.now c.pop-top.new.self (g.St.Store.holds c.drop_all.new.store) (g.St.Store.signs c.drop_all.new.store)) beside.apart leaves) took)
           (subst (Emitted c.args.shape.now _ _) (groups_read c.args.shape.now c.args._at level rows _ read) (c.in_ok-emit_table.ensures.ok read.distinct)),
-        )
+    )

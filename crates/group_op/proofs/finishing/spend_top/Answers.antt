@@ -1,13 +1,12 @@
-use Rattle.std.proofs.Common.{rules, ◌≡◌, ◌∙◌, ◌+◌, ℕ, List, [], length, true, ap, sym, arith}
+use Rattle.std.proofs.Common.{rules, ◌≡◌, ◌∙◌, [], true, ap, arith}
 use Rattle.std.proofs.lemmas.Option.{slice_get_within}
 use Rattle.store_api.specs.Signs.{WasAnswered}
 use Rattle.store_api.proofs.Answered.{answered_before}
 use Rattle.store_api.proofs.Growing.{grows_trans}
 use Rattle.bucket_table.specs.Tables.{Table}
-use Rattle.partition_stack.specs.Stack.{Stack, over}
-use Rattle.group_op.specs.Finishing.{HasRead, IsRead, Serves, Stacked}
-use Rattle.group_op.specs.Held.{State, state}
-use Rattle.group_op.specs.Putting.{Works}
+use Rattle.partition_stack.specs.Stack.{Stack}
+use Rattle.group_op.specs.Finishing.{HasRead, IsRead}
+use Rattle.group_op.specs.Held.{state}
 use Rattle.group_op.proofs.Divided.{has_divided, less_divided, serves_works}
 use Rattle.group_op.proofs.Keeping.{works_touched}
 use Rattle.group_op.proofs.finishing.spend_top.Goals as goal
@@ -44,16 +43,15 @@ returns-clause-divided g c =
     let levels = ap (λ (p : Stack). p.levels) c.rest_from.ensures.kept in
     let yes : c.in_ok-absorb.field-0 ≡ true = search (rules, c.if-not-branch.false) in
     let read : IsRead true c.args.at c.args.level c.args.parts.now c.absorb.new._parts = rw yes at c.in_ok-absorb.ensures.read in
-    λ is.
-        (
-          record {
-            empty = ap (λ (x : Table). x.nodes) c.in_ok-flush.ensures.ok.table;
-            closed = λ i s there. c.in_ok-rest_from.ensures.ok.closed i s there (let inside = slice_get_within c.rest_from.new.self.streams i s there in let long = c.in_ok-rest_from.ensures.ok.steps.long in omega (arith, inside, long));
-          },
-          less_divided c.args.parts.now.levels c.rest_from.new.self.levels c.args.at c.args.level c.requires.level c.requires.deep.0 (levels ∙ c.flush.ensures.works.levels ∙ read.1),
-          λ rows stacked.
-              let has : HasRead c.args.shape.now c.args.at c.args.level true rows (rows c.args.at) [] (state c.absorb.new._table c.absorb.new._parts (g.St.Store.holds c.absorb.new._store) (g.St.Store.signs c.absorb.new._store)) =
-              rw yes at (c.in_ok-absorb.ensures.rows rows stacked) in
-              has_divided c.args.c.now.tracker c.args.shape.now c.args.at c.args.level _ rows _ _ c.flush.new.table c.flush.new.parts c.rest_from.new.self _ _ _ _ stacked c.requires.top c.requires.level c.requires.deep.0 has read
-              c.absorb.ensures.serves c.absorb.ensures.serves.entries c.in_ok-flush.ensures.ok c.flush.ensures.works _ c.in_ok-rest_from.ensures.ok levels,
-        )
+    λ is. (
+      record {
+        empty = ap (λ (x : Table). x.nodes) c.in_ok-flush.ensures.ok.table;
+        closed = λ i s there. c.in_ok-rest_from.ensures.ok.closed i s there (let inside = slice_get_within c.rest_from.new.self.streams i s there in let long = c.in_ok-rest_from.ensures.ok.steps.long in omega (arith, inside, long));
+      },
+      less_divided c.args.parts.now.levels c.rest_from.new.self.levels c.args.at c.args.level c.requires.level c.requires.deep.0 (levels ∙ c.flush.ensures.works.levels ∙ read.1),
+      λ rows stacked.
+          let has : HasRead c.args.shape.now c.args.at c.args.level true rows (rows c.args.at) [] (state c.absorb.new._table c.absorb.new._parts (g.St.Store.holds c.absorb.new._store) (g.St.Store.signs c.absorb.new._store)) =
+          rw yes at (c.in_ok-absorb.ensures.rows rows stacked) in
+          has_divided c.args.c.now.tracker c.args.shape.now c.args.at c.args.level _ rows _ _ c.flush.new.table c.flush.new.parts c.rest_from.new.self _ _ _ _ stacked c.requires.top c.requires.level c.requires.deep.0 has read
+          c.absorb.ensures.serves c.absorb.ensures.serves.entries c.in_ok-flush.ensures.ok c.flush.ensures.works _ c.in_ok-rest_from.ensures.ok levels,
+    )

@@ -1,5 +1,4 @@
-use Rattle.std.proofs.Common.{rules, ◌≡◌, ◌∙◌, ◌<◌, ◌≤◌, ◌++◌, ◌∷◌, [], ℕ, List, length, ap, sym, subst, arith}
-use Rattle.row_codec.specs.declared.values.Value.{Value}
+use Rattle.std.proofs.Common.{rules, ◌++◌, ℕ, List, length, arith}
 use Rattle.store_api.specs.Emitters.{CameOf}
 use Rattle.group_op.specs.Emission.{EmittedFront}
 use Rattle.group_op.specs.Finishing.{Stacked, said_down}
@@ -76,9 +75,9 @@ returns-in_err-advance-clause-cause g c =
 pub returns-clause-ok : goal.returns-clause-ok
 returns-clause-ok g c =
     λ rows stacked.
-        let end = c.down-test.false in
-        let len = c.len.ensures in
-        advances_all c.args.shape.now (g.E.Emit.took c.args.emit.now (g.St.Store.holds c.args.store.now)) (g.E.Emit.took c.down.emit (g.St.Store.holds c.down.store)) (g.E.Emit.took c.down.emit (g.St.Store.holds c.down.store)) rows (state c.args.table.now c.args.parts.now (g.St.Store.holds c.args.store.now) (g.St.Store.signs c.args.store.now)) (state c.down.table c.down.parts (g.St.Store.holds c.down.store) (g.St.Store.signs c.down.store)) (state c.down.table c.down.parts (g.St.Store.holds c.down.store) (g.St.Store.signs c.down.store)) (c.down.invariant.rows rows stacked) (omega (arith, end, len))
+    let end = c.down-test.false in
+    let len = c.len.ensures in
+    advances_all c.args.shape.now (g.E.Emit.took c.args.emit.now (g.St.Store.holds c.args.store.now)) (g.E.Emit.took c.down.emit (g.St.Store.holds c.down.store)) (g.E.Emit.took c.down.emit (g.St.Store.holds c.down.store)) rows (state c.args.table.now c.args.parts.now (g.St.Store.holds c.args.store.now) (g.St.Store.signs c.args.store.now)) (state c.down.table c.down.parts (g.St.Store.holds c.down.store) (g.St.Store.signs c.down.store)) (state c.down.table c.down.parts (g.St.Store.holds c.down.store) (g.St.Store.signs c.down.store)) (c.down.invariant.rows rows stacked) (omega (arith, end, len))
 
 pub returns-clause-serves : goal.returns-clause-serves
 returns-clause-serves g c = c.down.invariant.serves

@@ -1,10 +1,7 @@
-use Rattle.std.proofs.Common.{◌≡◌, ◌∙◌, ℕ, length, ap, sym, arith}
+use Rattle.std.proofs.Common.{ap, arith}
 use Rattle.std.proofs.lemmas.Option.{slice_get_within}
 use Rattle.bucket_table.specs.Tables.{Table}
 use Rattle.partition_stack.specs.Stack.{Stack}
-use Rattle.group_op.specs.Finishing.{Serves}
-use Rattle.group_op.specs.Held.{State}
-use Rattle.group_op.specs.Putting.{Works}
 use Rattle.group_op.proofs.Divided.{serves_works}
 use Rattle.group_op.proofs.Emitting.{on_ok}
 use Rattle.group_op.proofs.Keeping.{works_touched}
@@ -24,8 +21,8 @@ pub returns-clause-ok : goal.returns-clause-ok
 returns-clause-ok g c =
     on_ok c.rest_from.result
     (λ rests rows shows.
-        has_settled c.args.c.now.tracker c.args.shape.now _ rows _ c.flush.new.table c.flush.new.parts c.rest_from.new.self _ _ _ _ shows c.requires.sixteen c.requires.first c.requires.entries c.in_ok-flush.ensures.ok c.flush.ensures.works _ rests
-        (ap (λ (p : Stack). p.levels) c.rest_from.ensures.kept))
+    has_settled c.args.c.now.tracker c.args.shape.now _ rows _ c.flush.new.table c.flush.new.parts c.rest_from.new.self _ _ _ _ shows c.requires.sixteen c.requires.first c.requires.entries c.in_ok-flush.ensures.ok c.flush.ensures.works _ rests
+    (ap (λ (p : Stack). p.levels) c.rest_from.ensures.kept))
     c.rest_from.ensures.ok
 
 pub returns-clause-serves : goal.returns-clause-serves

@@ -1,0 +1,50 @@
+use Rattle.std.proofs.Common.{rules, ◌∙◌, [], ℕ, List, sym, subst, arith, append-nil}
+use Rattle.group_op.specs.Emission.{Emitted, EmittedFront}
+use Rattle.group_op.specs.Finished.{ShowsFirst, groups_of_all}
+use Rattle.group_op.specs.Held.{state}
+use Rattle.group_op.proofs.Advancing.{came_later, emitted_same, front_same}
+use Rattle.group_op.proofs.Besides.{own_same, serves_own, serves_then, stands_own, stands_then}
+use Rattle.group_op.proofs.Emitting.{emitted_behind, front_behind, on_err, on_ok}
+use Rattle.group_op.proofs.handing.finish_parts.Goals as goal
+
+pub returns-in_err-settle-clause-err : goal.returns-in_err-settle-clause-err
+returns-in_err-settle-clause-err g c =
+    let front : (rows : ℕ → List (List ℕ)) → ShowsFirst c.args.shape.now rows (state c.args.table.now c.args.parts.now (g.St.Store.holds c.args.store.now) (g.St.Store.signs c.args.store.now)) → EmittedFront c.args.shape.now (g.E.Emit.took c.args.emit.now (g.St.Store.holds c.args.store.now)) (g.E.Emit.took c.args.emit.now (g.St.Store.holds c.settle.new.store)) (groups_of_all c.args.shape.now rows (state c.args.table.now c.args.parts.now (g.St.Store.holds c.args.store.now) (g.St.Store.signs c.args.store.now))) =
+    λ rows shows. front_same c.args.shape.now (g.E.Emit.took c.args.emit.now (g.St.Store.holds c.args.store.now)) (g.E.Emit.took c.args.emit.now (g.St.Store.holds c.settle.new.store)) _ (λ taken took. g.met.E.Emit.asks_own c.args.emit.now (g.St.Store.holds c.args.store.now) (g.St.Store.holds c.settle.new.store) taken (own_same c.args.c.now.tracker _ (state c.args.table.now c.args.parts.now (g.St.Store.holds c.args.store.now) (g.St.Store.signs c.args.store.now)) (state c.settle.new.table c.settle.new.parts (g.St.Store.holds c.settle.new.store) (g.St.Store.signs c.settle.new.store)) c.requires.emitter.apart c.settle.ensures.serves.leaves) took) in
+    search (rules, front)
+
+pub returns-in_err-settle-clause-serves : goal.returns-in_err-settle-clause-serves
+returns-in_err-settle-clause-serves g c = serves_own _ _ _ _ _ c.settle.ensures.serves
+
+pub returns-in_err-settle-clause-emitter : goal.returns-in_err-settle-clause-emitter
+returns-in_err-settle-clause-emitter g c = stands_own _ _ _ _ _ c.args.c.now.tracker (state c.args.table.now c.args.parts.now (g.St.Store.holds c.args.store.now) (g.St.Store.signs c.args.store.now)) (state c.settle.new.table c.settle.new.parts (g.St.Store.holds c.settle.new.store) (g.St.Store.signs c.settle.new.store)) c.requires.emitter c.settle.ensures.serves.leaves (λ taken took. g.met.E.Emit.asks_own c.args.emit.now (g.St.Store.holds c.args.store.now) (g.St.Store.holds c.settle.new.store) taken (own_same c.args.c.now.tracker _ (state c.args.table.now c.args.parts.now (g.St.Store.holds c.args.store.now) (g.St.Store.signs c.args.store.now)) (state c.settle.new.table c.settle.new.parts (g.St.Store.holds c.settle.new.store) (g.St.Store.signs c.settle.new.store)) c.requires.emitter.apart c.settle.ensures.serves.leaves) took)
+
+pub empty_parts-requires-clause-stands : goal.empty_parts-requires-clause-stands
+empty_parts-requires-clause-stands g c =
+    (c.requires.stands.0, g.met.E.Emit.asks_own c.args.emit.now (g.St.Store.holds c.args.store.now) (g.St.Store.holds c.settle.new.store) c.requires.stands.0 (own_same c.args.c.now.tracker _ (state c.args.table.now c.args.parts.now (g.St.Store.holds c.args.store.now) (g.St.Store.signs c.args.store.now)) (state c.settle.new.table c.settle.new.parts (g.St.Store.holds c.settle.new.store) (g.St.Store.signs c.settle.new.store)) c.requires.emitter.apart c.settle.ensures.serves.leaves) c.requires.stands.1)
+
+pub returns-clause-ok : goal.returns-clause-ok
+returns-clause-ok g c =
+    on_ok c.empty_parts.result
+    (λ emitted rows shows.
+    let settled = c.in_ok-settle.ensures.ok rows shows in
+    subst (Emitted c.args.shape.now (g.E.Emit.took c.args.emit.now (g.St.Store.holds c.args.store.now)) (g.E.Emit.took c.empty_parts.new.emit (g.St.Store.holds c.empty_parts.new.store))) (sym settled.same) (emitted_behind c.args.shape.now (g.E.Emit.took c.args.emit.now (g.St.Store.holds c.args.store.now)) (g.E.Emit.took c.args.emit.now (g.St.Store.holds c.settle.new.store)) (g.E.Emit.took c.empty_parts.new.emit (g.St.Store.holds c.empty_parts.new.store)) [] (emitted_same c.args.shape.now (g.E.Emit.took c.args.emit.now (g.St.Store.holds c.args.store.now)) (g.E.Emit.took c.args.emit.now (g.St.Store.holds c.settle.new.store)) (λ taken took. g.met.E.Emit.asks_own c.args.emit.now (g.St.Store.holds c.args.store.now) (g.St.Store.holds c.settle.new.store) taken (own_same c.args.c.now.tracker _ (state c.args.table.now c.args.parts.now (g.St.Store.holds c.args.store.now) (g.St.Store.signs c.args.store.now)) (state c.settle.new.table c.settle.new.parts (g.St.Store.holds c.settle.new.store) (g.St.Store.signs c.settle.new.store)) c.requires.emitter.apart c.settle.ensures.serves.leaves) took)) _ (emitted settled.left settled.stacked)))
+    c.empty_parts.ensures.ok
+
+pub returns-clause-err : goal.returns-clause-err
+returns-clause-err g c =
+    on_err c.empty_parts.result
+    (λ front rows shows.
+    let settled = c.in_ok-settle.ensures.ok rows shows in
+    front_behind c.args.shape.now (g.E.Emit.took c.args.emit.now (g.St.Store.holds c.args.store.now)) (g.E.Emit.took c.args.emit.now (g.St.Store.holds c.settle.new.store)) (g.E.Emit.took c.empty_parts.new.emit (g.St.Store.holds c.empty_parts.new.store)) [] (emitted_same c.args.shape.now (g.E.Emit.took c.args.emit.now (g.St.Store.holds c.args.store.now)) (g.E.Emit.took c.args.emit.now (g.St.Store.holds c.settle.new.store)) (λ taken took. g.met.E.Emit.asks_own c.args.emit.now (g.St.Store.holds c.args.store.now) (g.St.Store.holds c.settle.new.store) taken (own_same c.args.c.now.tracker _ (state c.args.table.now c.args.parts.now (g.St.Store.holds c.args.store.now) (g.St.Store.signs c.args.store.now)) (state c.settle.new.table c.settle.new.parts (g.St.Store.holds c.settle.new.store) (g.St.Store.signs c.settle.new.store)) c.requires.emitter.apart c.settle.ensures.serves.leaves) took)) _ [] (groups_of_all c.args.shape.now rows (state c.args.table.now c.args.parts.now (g.St.Store.holds c.args.store.now) (g.St.Store.signs c.args.store.now))) (settled.same ∙ sym (append-nil _)) (front settled.left settled.stacked))
+    c.empty_parts.ensures.err
+
+pub returns-clause-serves : goal.returns-clause-serves
+returns-clause-serves g c = serves_then _ _ _ _ _ _ (serves_own _ _ _ _ _ c.settle.ensures.serves) c.empty_parts.ensures.serves
+
+pub returns-clause-emitter : goal.returns-clause-emitter
+returns-clause-emitter g c =
+    stands_then _ _ _ _ _ _ _ _ _ _ _ _ _ _ (stands_own _ _ _ _ _ c.args.c.now.tracker (state c.args.table.now c.args.parts.now (g.St.Store.holds c.args.store.now) (g.St.Store.signs c.args.store.now)) (state c.settle.new.table c.settle.new.parts (g.St.Store.holds c.settle.new.store) (g.St.Store.signs c.settle.new.store)) c.requires.emitter c.settle.ensures.serves.leaves (λ taken took. g.met.E.Emit.asks_own c.args.emit.now (g.St.Store.holds c.args.store.now) (g.St.Store.holds c.settle.new.store) taken (own_same c.args.c.now.tracker _ (state c.args.table.now c.args.parts.now (g.St.Store.holds c.args.store.now) (g.St.Store.signs c.args.store.now)) (state c.settle.new.table c.settle.new.parts (g.St.Store.holds c.settle.new.store) (g.St.Store.signs c.settle.new.store)) c.requires.emitter.apart c.settle.ensures.serves.leaves) took)) c.empty_parts.ensures.emitter
+
+pub returns-clause-cause : goal.returns-clause-cause
+returns-clause-cause g c = came_later c.empty_parts.result _ _ _ _ _ _ (omega arith) c.settle.ensures.serves.leaves.grows c.empty_parts.ensures.cause
