@@ -45,6 +45,7 @@ module _ {D : Type 0} (slot : Ghosts D) where
   -- the stores of a slot, and 1 where it doesn't count them to the end
   abbrev pub stores_at : D → ℕ
   stores_at d = stores_in (slot.stores d)
+
   abbrev pub uncounted : D → ℕ
   uncounted d = uncounted_in (slot.stores d)
 
