@@ -13,7 +13,7 @@ use Rattle.pool_model.specs.State.{Buffer as Lent}
 use Rattle.pool_model.specs.LookingBack.{content_from}
 use Rattle.pool_model.proofs.Seats.{some_is}
 use Rattle.store_api.specs.Tokens.{PageToken, LoanToken}
-use Rattle.store_api.specs.Holdings.{Holdings, LivePage, LiveLoan, or_else, no_loan, page_of}
+use Rattle.store_api.specs.Holdings.{Account, Holdings, LivePage, LiveLoan, or_else, no_loan, page_of}
 use Rattle.store_api.specs.Conditions.{IsIdle, IsLoan, IsPage}
 use Rattle.own_entries.specs.LiveParts.{Tells, is_parent, is_under, left_at, live_account, live_page, live_loan, charge_in, count_under}
 use Rattle.own_entries.proofs.Behind.{IsTold, IsLent, told_page, told_loan}
@@ -30,7 +30,7 @@ under_here query o y is under = ap (is_under query) is ∙ ap (is_parent query) 
 
 account_there : (query charge : ℕ) (o : Option Tracker) → is_under query o ≡ true → IsSome (live_account query charge o)
 account_there query charge None mine = mine
-account_there query charge (Some y) mine = ap (λ (b : Bool). is_some (if b then Some (record { limit = y.limit; reservation = y.reservation; unused = y.reservation - charge }) else None)) mine
+account_there query charge (Some y) mine = ap (λ (b : Bool). is_some {T = Account} (if b then Some (record { limit = y.limit; reservation = y.reservation; unused = y.reservation - charge }) else None)) mine
 
 parent_isnt : (query : ℕ) (o : Option ℕ) → (o ≡ Some query → ⊥) → is_parent query o ≡ false
 parent_isnt query None apart = refl
