@@ -10,3 +10,4 @@ pub mod InOrder
 pub mod Finishing
 pub mod KeyParts
 pub mod Finished
+pub mod Starting

@@ -17,8 +17,9 @@ mod growing;
 mod handing;
 mod joining;
 mod keying;
-mod operator;
+mod laws;
 mod lowest;
+mod operator;
 mod ordering;
 mod own_row;
 mod putting;
@@ -30,6 +31,7 @@ mod stored;
 mod tests;
 
 pub use flushing::{Fan, Spare, flush};
+pub use laws::law_starts;
 pub use operator::GroupOp;
 pub use putting::put;
 pub use scanning::leaf_by_scan;
