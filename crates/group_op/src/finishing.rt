@@ -7,8 +7,8 @@ ghost use Rattle.store_api.specs.Signs.{WasAnswered};
 ghost use Rattle.tuple_stream.specs.Families.{ShowAll};
 ghost use Rattle.partition_stack.specs.Stack.{IsPlaced, RestBelow, weight};
 ghost use Rattle.group_rows.specs.Partials.{combined_of};
-ghost use Rattle.group_op.specs.Emission.{AdmitsKinds, Emitted, EmittedFront};
-ghost use Rattle.group_op.specs.Finishing.{Advances, HasDivided, HasPopped, HasRead, IsBeside, IsBetween, IsRead, Serves, ServesBeside, Stacked, StandsStill, said_down};
+ghost use Rattle.group_op.specs.Emission.{AdmitsKinds, Emitted, EmittedFront, IsBeside};
+ghost use Rattle.group_op.specs.Finishing.{Advances, HasDivided, HasPopped, HasRead, IsBetween, IsRead, Serves, ServesBeside, Stacked, StandsStill, said_down};
 ghost use Rattle.group_op.specs.Held.{AreEntries, IsHeld, page_len, state, streams_of};
 ghost use Rattle.group_op.specs.Stored.{grouping_of, partials_at};
 
