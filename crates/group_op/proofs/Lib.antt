@@ -48,3 +48,4 @@ pub mod Besides
 pub mod HandedOn
 pub mod Advancing
 pub mod Settled
+pub mod TopRead
