@@ -1,25 +1,21 @@
 -- Rows of the top partition are combined, one after the other.
-use Rattle.std.proofs.Common.{◌≡◌, ◌≢◌, ◌∙◌, ℕ, ◌+◌, ◌-◌, ◌*◌, ◌<◌, ◌≤◌, ◌==◌, Bool, true, false, List, [], ◌∷◌, ◌++◌, length, map, drop, set, replicate, Option, Some, None, refl, ap, ap₂, sym, subst, inl, inr, arith, append-nil, append_assoc, length-append, ne_eqb, eq-eqb}
-use Rattle.std.specs.Prelude.{All, filter, slice_get}
+use Rattle.std.proofs.Common.{◌≡◌, ◌∙◌, ℕ, ◌+◌, ◌<◌, ◌==◌, Bool, true, false, List, [], ◌∷◌, ◌++◌, length, map, drop, refl, ap, ap₂, sym, subst, inl, arith, append-nil, append_assoc, ne_eqb, eq-eqb}
 use Rattle.std.specs.List.Sorted.{IsPermutation}
-use Rattle.std.proofs.lemmas.Bool.{false≢true, cases_eq}
+use Rattle.std.proofs.lemmas.Bool.{false≢true}
 use Rattle.std.proofs.lemmas.List.{map-append}
-use Rattle.std.proofs.lemmas.List.Elements.{All-append, All-nil}
-use Rattle.std.proofs.lemmas.List.Sorted.{IsPermutation-append_comm, IsPermutation-append_left, IsPermutation-append_right, IsPermutation-trans}
+use Rattle.std.proofs.lemmas.List.Elements.{All-append}
+use Rattle.std.proofs.lemmas.List.Sorted.{IsPermutation-append_comm, IsPermutation-append_right}
 use Rattle.store_api.specs.Holdings.{Holdings}
 use Rattle.store_api.specs.Signs.{Signs}
 use Rattle.store_api.specs.declared.shapes.Shape.{Shape}
-use Rattle.tuple_stream.specs.Families.{ShowAll}
 use Rattle.tuple_stream.specs.FamilyCalls.{SpendsIn, with_rows}
 use Rattle.tuple_stream.proofs.FamilyWords.{shown_as}
 use Rattle.bucket_table.specs.Tables.{Node, Table}
 use Rattle.group_rows.specs.Tables.{HaveDistinctKeys}
-use Rattle.partition_stack.specs.Changes.{ChangesAt}
-use Rattle.partition_stack.specs.Stack.{IsPlaced, IsStack, RestBelow, Stack, divided, over}
+use Rattle.partition_stack.specs.Stack.{IsStack, Stack, divided, over}
 use Rattle.partition_stack.proofs.Coming.{sixteen_come}
-use Rattle.partition_stack.proofs.ListPlaces.{front_or_behind}
 use Rattle.group_rows.specs.Partials.{Grouping, Partial}
-use Rattle.group_op.specs.Finishing.{HasRead, IsRead}
+use Rattle.group_op.specs.Finishing.{HasRead}
 use Rattle.group_op.specs.Held.{State, rows_of, state, streams_of}
 use Rattle.group_op.specs.Putting.{HasGrown, HasPut}
 use Rattle.group_op.specs.Stored.{IsPartialRow, SameGroups, dealt, grouping_of, partial_at, partials_at, place_of}

@@ -1,7 +1,7 @@
 -- The top partition is read, row after row.
-use Rattle.std.proofs.Common.{◌≡◌, ◌≢◌, ◌∙◌, ℕ, zero, suc, ◌+◌, ◌-◌, ◌<◌, ◌≤◌, Bool, true, false, if◌then◌else◌, List, [], ◌∷◌, ◌++◌, length, map, drop, Option, Some, None, IfSome, IsSome, refl, ap, sym, subst, inl, inr, arith, append-nil, append_assoc, leb}
-use Rattle.std.specs.Prelude.{All, slice_get}
-use Rattle.std.proofs.lemmas.Bool.{cases_Bool, leb-false, leb-true, le-leb, lt-leb}
+use Rattle.std.proofs.Common.{◌≡◌, ◌∙◌, ℕ, zero, suc, ◌+◌, ◌-◌, ◌<◌, ◌≤◌, Bool, true, false, if◌then◌else◌, List, [], ◌∷◌, ◌++◌, length, map, drop, Option, Some, None, IfSome, IsSome, refl, ap, sym, subst, arith, append-nil, append_assoc, leb}
+use Rattle.std.specs.Prelude.{slice_get}
+use Rattle.std.proofs.lemmas.Bool.{le-leb, lt-leb}
 use Rattle.std.proofs.lemmas.List.Elements.{All-nil}
 use Rattle.std.proofs.lemmas.Option.{slice_get_within}
 use Rattle.pool_model.specs.declared.event.Event.{Event}
@@ -14,14 +14,12 @@ use Rattle.tuple_stream.specs.Families.{Family, FamilySteps, ShowAll}
 use Rattle.tuple_stream.specs.FamilyCalls.{SpendsIn}
 use Rattle.bucket_table.specs.Tables.{Node, Table}
 use Rattle.partition_stack.specs.Changes.{ChangesAt, SpendsAt}
-use Rattle.partition_stack.specs.Stack.{HasRoomFrom, RestBelow, Stack, over}
+use Rattle.partition_stack.specs.Stack.{Stack, over}
 use Rattle.group_op.specs.Finishing.{HasRead, IsBetween, IsRead, Serves, Stacked}
 use Rattle.group_rows.specs.Tables.{HaveDistinctKeys}
-use Rattle.group_op.specs.Held.{AreEntries, IsHeld, State, page_len, rows_of, state, streams_of}
-use Rattle.group_op.specs.Putting.{IsFan}
+use Rattle.group_op.specs.Held.{AreEntries, IsHeld, State, page_len, rows_of, state}
 use Rattle.group_op.specs.Stored.{IsPartialRow, SameGroups, grouping_of, partials_at}
 use Rattle.group_op.proofs.Absorbed.{read_spent}
-use Rattle.group_op.proofs.Chained.{leaves_then}
 use Rattle.group_op.proofs.Entering.{none_distinct, works_none}
 use Rattle.group_op.proofs.Keeping.{works_touched}
 use Rattle.group_op.proofs.Same.{same_refl}

@@ -23,8 +23,8 @@ use Rattle.bucket_table.proofs.Beside.{beside_others}
 use Rattle.partition_stack.specs.Stack.{RestBelow, Stack, over}
 use Rattle.partition_stack.proofs.Away.{Left, none_left, one_left}
 use Rattle.partition_stack.proofs.Owned.{others_leave_owned}
-use Rattle.group_op.specs.Emission.{Stood, WentOn}
-use Rattle.group_op.specs.Finishing.{IsBeside, LeavesBeside, Serves, ServesBeside, StandsStill}
+use Rattle.group_op.specs.Emission.{IsBeside, Stood, WentOn}
+use Rattle.group_op.specs.Finishing.{LeavesBeside, Serves, ServesBeside, StandsStill}
 use Rattle.group_op.specs.Held.{AreEntries, IsHeld, Leaves, State, lent, state}
 use Rattle.group_op.proofs.Chained.{same_then}
 use Rattle.group_op.proofs.Opened.{had_leaves}

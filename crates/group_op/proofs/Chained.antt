@@ -1,5 +1,5 @@
 -- One step after another leaves what each of them leaves.
-use Rattle.std.proofs.Common.{◌≡◌, ◌∙◌, ℕ, Option, Some, arith}
+use Rattle.std.proofs.Common.{◌∙◌, ℕ, Option, Some, arith}
 use Rattle.store_api.specs.Alike.{Alike}
 use Rattle.store_api.specs.Emitters.{OthersStay, SameFor}
 use Rattle.store_api.specs.Holdings.{Holdings}

@@ -1,23 +1,18 @@
 -- A grouping ends: its pages go, and its table's loans come back.
-use Rattle.std.proofs.Common.{◌≡◌, ◌≢◌, ◌∙◌, ℕ, ◌+◌, ◌≤◌, List, [], Option, Some, None, IsSome, Result, refl, ap, sym, subst, inl, inr, arith, get_or}
-use Rattle.std.specs.Prelude.{All}
+use Rattle.std.proofs.Common.{◌≡◌, ◌≢◌, ◌∙◌, ℕ, List, [], Option, Some, None, IsSome, refl, ap, sym, subst, arith}
 use Rattle.std.proofs.lemmas.Option.{none-some}
 use Rattle.store_api.specs.Conditions.{IsIdle}
-use Rattle.store_api.specs.Emitters.{OthersStay}
 use Rattle.store_api.specs.Holdings.{Account, Holdings, LiveLoan, LivePage, account_of, loan_of, unused_of}
 use Rattle.store_api.specs.Signs.{Grows, Signs}
-use Rattle.store_api.specs.Tokens.{ClientToken}
-use Rattle.store_api.specs.declared.shapes.Shape.{Shape}
-use Rattle.store_api.proofs.Growing.{grows_trans}
 use Rattle.tuple_stream.proofs.Frames.{still_some}
-use Rattle.tuple_stream.specs.Families.{AreShaped, Family, TouchesAll, family}
+use Rattle.tuple_stream.specs.Families.{AreShaped, family}
 use Rattle.bucket_table.specs.Lending.{IsApart, IsOwn, IsTableOf, Lends, loans_of}
 use Rattle.bucket_table.specs.Tables.{Lent, Table}
 use Rattle.bucket_table.proofs.Beside.{beside_pages}
 use Rattle.partition_stack.specs.Changes.{EndsAll, Owns}
 use Rattle.partition_stack.specs.Stack.{Stack, over}
 use Rattle.group_op.specs.Held.{LeavesOthers}
-use Rattle.group_op.specs.Operator.{HasNoLoan, IsOperator, operator}
+use Rattle.group_op.specs.Operator.{HasNoLoan}
 use Rattle.group_op.proofs.Chained.{leaves_both}
 use Rattle.group_op.proofs.Growth.{Turns, apart_of, loan_client, others_turned}
 use Rattle.group_op.proofs.Keeping.{others_stay, same_reservation}

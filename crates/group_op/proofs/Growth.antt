@@ -1,8 +1,8 @@
 -- A table grows by a page that its client reserves.
-use Rattle.std.proofs.Common.{◌≡◌, ◌≢◌, ◌∙◌, ℕ, ◌+◌, ◌*◌, ◌-◌, ◌<◌, ◌≤◌, ◌==◌, Bool, true, false, if◌then◌else◌, List, [], ◌∷◌, ◌++◌, Option, Some, None, IsSome, is_some, Result, Ok, Err, OnOk, OnErr, refl, ap, sym, subst, inl, inr, arith, eq-eqb, ne_eqb, append_assoc}
-use Rattle.std.specs.Prelude.{All, slice_get}
+use Rattle.std.proofs.Common.{◌≡◌, ◌≢◌, ◌∙◌, ℕ, ◌+◌, ◌*◌, ◌-◌, ◌≤◌, true, false, if◌then◌else◌, List, [], ◌∷◌, ◌++◌, Option, Some, None, IsSome, is_some, Result, Ok, Err, OnOk, OnErr, refl, ap, sym, subst, arith, eq-eqb, ne_eqb, append_assoc}
+use Rattle.std.specs.Prelude.{All}
 use Rattle.std.specs.List.{sum_by}
-use Rattle.std.proofs.lemmas.Bool.{cases_eq, false≢true}
+use Rattle.std.proofs.lemmas.Bool.{false≢true}
 use Rattle.std.proofs.lemmas.List.Elements.{All-cons, All-head, All-nil, All-tail}
 use Rattle.std.proofs.lemmas.Option.{none-some, same_Some}
 use Rattle.reservation_tree.specs.declared.errors.PoolErr.{PoolErr}
@@ -11,14 +11,14 @@ use Rattle.store_api.specs.Changes.{after_reserve, raised}
 use Rattle.store_api.specs.Entries.{MadeThese}
 use Rattle.store_api.specs.Refusals.{IsUntouched}
 use Rattle.std.specs.Result.{is_err}
-use Rattle.store_api.specs.Emitters.{OthersStay, SameFor}
-use Rattle.store_api.specs.Holdings.{Account, Holdings, LiveLoan, LivePage, account_of, length_of, loan_of, no_account, no_loan, or_else, put, unused_of}
+use Rattle.store_api.specs.Emitters.{OthersStay}
+use Rattle.store_api.specs.Holdings.{Account, Holdings, LiveLoan, LivePage, account_of, length_of, loan_of, no_account, no_loan, or_else, unused_of}
 use Rattle.store_api.specs.Signs.{Grows, Signs}
 use Rattle.store_api.specs.declared.shapes.Shape.{Shape}
 use Rattle.tuple_stream.specs.Streamed.{Streamed}
 use Rattle.tuple_stream.specs.Trails.{EnteredEvents}
 use Rattle.tuple_stream.proofs.Sinces.{since_now, since_so, since_these}
-use Rattle.tuple_stream.specs.Families.{AreShaped, Family, family, held_in}
+use Rattle.tuple_stream.specs.Families.{AreShaped, held_in}
 use Rattle.bucket_table.specs.Entering.{EnteredLoans, IsOfLoans}
 use Rattle.bucket_table.specs.Tables.{Lent, Table}
 use Rattle.bucket_table.specs.Lending.{Grew, IsApart, IsOwn, IsTableOf, Lends, bytes_of, loans_of}
@@ -27,7 +27,7 @@ use Rattle.bucket_table.proofs.Lent.{bytes-append}
 use Rattle.partition_stack.specs.Changes.{Owns}
 use Rattle.partition_stack.specs.Stack.{Stack, over}
 use Rattle.partition_stack.proofs.Agreeing.{agreeing_shape}
-use Rattle.group_op.specs.Held.{AreEntries, IsHeld, Leaves, State, lent, page_len, state, streams_of}
+use Rattle.group_op.specs.Held.{AreEntries, IsHeld, State, lent, state, streams_of}
 use Rattle.group_op.specs.Putting.{HasGrown, Works}
 use Rattle.group_op.proofs.Deals.{AreApart, deals_as, deals_beside, deals_then, increase_apart, loans_apart, none_apart}
 use Rattle.group_op.proofs.Entering.{works_none}

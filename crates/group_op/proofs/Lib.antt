@@ -49,3 +49,4 @@ pub mod HandedOn
 pub mod Advancing
 pub mod Settled
 pub mod Started
+pub mod TopRead

@@ -1,15 +1,14 @@
 -- A table comes to a grouping that has none.
-use Rattle.std.proofs.Common.{◌≡◌, ◌∙◌, ℕ, ◌+◌, ◌*◌, ◌≤◌, List, [], map, Option, Some, None, IsSome, Result, Ok, Err, IfOk, IfErr, OnErr, refl, ap, sym, subst, arith}
+use Rattle.std.proofs.Common.{◌≡◌, ◌∙◌, ℕ, ◌*◌, [], map, Option, Some, None, IsSome, Result, Ok, Err, IfOk, IfErr, OnErr, refl, ap, sym, subst, arith}
 use Rattle.std.specs.Bool.{⊤}
 use Rattle.std.specs.List.{sum_by}
 use Rattle.std.specs.Prelude.{All, is_some, if◌then◌else◌}
 use Rattle.std.proofs.lemmas.List.Elements.{All-nil}
-use Rattle.std.proofs.lemmas.Option.{none-some}
 use Rattle.reservation_tree.specs.declared.errors.PoolErr.{PoolErr}
 use Rattle.reservation_tree.specs.declared.errors.PoolErr.TheVariants.{NoReservation, ScratchFull, WriteFault, ReadFault, TooManyTrackers, NamesSpent, Memory}
 use Rattle.store_api.specs.Alike.{Alike}
 use Rattle.store_api.specs.Emitters.{OthersStay}
-use Rattle.store_api.specs.Holdings.{Account, Holdings, LiveLoan, LivePage, account_of, length_of, no_account, or_else, unused_of}
+use Rattle.store_api.specs.Holdings.{Account, Holdings, account_of, length_of, no_account, or_else, unused_of}
 use Rattle.store_api.specs.Signs.{Grows, Signs, WasAnswered}
 use Rattle.store_api.specs.Tokens.{ClientToken}
 use Rattle.store_api.specs.declared.shapes.Shape.{Shape}
@@ -17,7 +16,6 @@ use Rattle.store_api.proofs.Growing.{grows_refl}
 use Rattle.store_api.proofs.Untouched.{others_stay}
 use Rattle.tuple_stream.specs.Streamed.{Streamed}
 use Rattle.tuple_stream.specs.Touches.{IsFull}
-use Rattle.tuple_stream.specs.Trails.{EnteredEvents}
 use Rattle.tuple_stream.proofs.FamilyWords.{feeds_none}
 use Rattle.tuple_stream.proofs.Sinces.{since_so}
 use Rattle.bucket_table.specs.Entering.{EnteredLoans, IsOfLoans}
@@ -25,7 +23,7 @@ use Rattle.bucket_table.specs.Lending.{IsOpened, IsTableOf, WasShort, loans_of}
 use Rattle.bucket_table.specs.Tables.{Node, Table}
 use Rattle.partition_stack.specs.Stack.{Stack, over}
 use Rattle.partition_stack.proofs.Agreeing.{agreeing_shape}
-use Rattle.group_op.specs.Held.{AreEntries, IsEntry, IsHeld, LeavesOthers, lent, state}
+use Rattle.group_op.specs.Held.{IsEntry, IsHeld, LeavesOthers, lent, state}
 use Rattle.group_op.specs.Operator.{HasOpened, IsOperator, operator}
 use Rattle.group_op.proofs.Deals.{AreApart, deals_beside, deals_fed, loans_apart}
 use Rattle.group_op.proofs.Growth.{Turns, lent_reservation, lent_room, lent_unused, others_turned, owns_turned, page_lens, turns_lent}

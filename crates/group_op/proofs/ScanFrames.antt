@@ -17,8 +17,8 @@ use Rattle.tuple_stream.proofs.Frames.{still_some}
 use Rattle.tuple_stream.proofs.ReadRow.{still_shows}
 use Rattle.store_api.specs.declared.shapes.Shape.{Shape}
 use Rattle.group_rows.specs.Partials.{Partial}
-use Rattle.group_op.specs.Emission.{Emitted, EmittedFront, Stood}
-use Rattle.group_op.specs.Scanning.{IsReadable, IsSameQuery, ReadBeside, StaysEmitter, WentOn}
+use Rattle.group_op.specs.Emission.{Emitted, EmittedFront, Stood, WentOn}
+use Rattle.group_op.specs.Scanning.{IsReadable, IsSameQuery, ReadBeside, StaysEmitter}
 use Rattle.group_op.proofs.Agreeing.{agreed_rows, agreed_shape}
 
 unused_again : (o : Option Account) → o ≡ option_map (with_unused (or_else no_account o).unused) o

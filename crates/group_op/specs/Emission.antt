@@ -1,5 +1,5 @@
 -- Partial rows go to an emitter as rows of values. `was` and `now` say what it took before and after.
-use Rattle.std.specs.Prelude.{◌≡◌, ◌↔◌, ℕ, ◌≤◌, List, [], ◌∷◌, ◌++◌, All, Option, ⊤}
+use Rattle.std.specs.Prelude.{◌≡◌, ◌≢◌, ◌↔◌, ℕ, ◌≤◌, List, [], ◌∷◌, ◌++◌, All, Option, Some, ⊤}
 use Rattle.row_codec.specs.declared.values.Value.{Value}
 use Rattle.row_codec.specs.Row.{kinds_of}
 use Rattle.row_codec.specs.RowLaws.{IsRow}
@@ -53,6 +53,11 @@ pub record CameInFront (shape : Shape) (taken : List (List Value)) (now : List (
 
 abbrev pub EmittedFront : Shape → (List (List Value) → Type 0) → (List (List Value) → Type 0) → List Partial → Type 0
 EmittedFront shape was now partials = (taken : List (List Value)) → was taken → CameInFront shape taken now partials
+
+-- an emitter's client is another one than this, or it has none, and it lives
+pub record IsBeside (t : ℕ) (client : Option ℕ) (h : Holdings) : Type 0 where
+  pub apart : client ≢ Some t
+  pub lives : HasClient client h
 
 -- an emitter and its store after some rows
 pub record Stood (admits_old admits : List Value → Type 0) (client_old client : Option ℕ) (faults_old faults : ℕ) (old new : Holdings) (before after : Signs) : Type 0 where

@@ -70,11 +70,6 @@ pub record HasDivided (shape : Shape) (at : ℕ) (rows : ℕ → List (List ℕ)
   pub stacked : Stacked shape left b
   pub same : said_down shape (at + 1) rows ≡ said_down shape (length b.parts.streams) left
 
--- the emitter is another client's, or nobody's, and lives
-pub record IsBeside (t : ℕ) (client : Option ℕ) (h : Holdings) : Type 0 where
-  pub apart : client ≢ Some t
-  pub lives : HasClient client h
-
 -- the first groups were handed on, and the others are there still
 pub record Advances (shape : Shape) (was now : List (List Value) → Type 0) (rows : ℕ → List (List ℕ)) (a b : State) : Type 0 where
   pub left : ℕ → List (List ℕ)

@@ -9,10 +9,9 @@ use Rattle.store_api.specs.declared.shapes.Shape.{Shape}
 use Rattle.store_api.specs.Conditions.{IsBlockCount, IsLiveClient}
 use Rattle.store_api.specs.Holdings.{Holdings, LiveLoan, account_of, length_of, unused_of}
 use Rattle.store_api.specs.Shapes.{IsShape}
-use Rattle.store_api.specs.Emitters.{OthersStay}
 use Rattle.store_api.specs.declared.op_err.OpErr.{OpErr}
 use Rattle.store_api.specs.declared.op_err.OpErr.TheVariants.{Pool, Sink}
-use Rattle.store_api.specs.Signs.{Grows, Signs, WasAnswered}
+use Rattle.store_api.specs.Signs.{Signs, WasAnswered}
 use Rattle.tuple_stream.specs.Touches.{IsFull}
 use Rattle.store_api.specs.Tokens.{ClientToken}
 use Rattle.tuple_stream.specs.Trails.{EnteredEvents}
@@ -86,7 +85,6 @@ pub record Keeps (start : Option (List Entry)) (fed : List (List Value)) (op : O
   pub distinct : HaveDistinctKeys (partials_at op.shape (entries_in op.table))
   pub fresh : op.table ≡ None → fed ≡ []
   pub few : length (entries_in op.table) + length (shares 16 rows) ≤ length fed
-
   -- all pages that rest were left once, by entries since then that end no page and pin none again
   pub at_end : AllAtEnd (over op.parts h signs)
   pub whole : AllWhole (over op.parts h signs)

@@ -1,6 +1,6 @@
 -- The groups of a stream of partial rows, handed on in ascending order of their keys' bytes. `s` and `old` are the stream
 -- and what its store holds before, `now` and `new` behind.
-use Rattle.std.specs.Prelude.{◌≡◌, ◌≢◌, ◌↔◌, ℕ, ◌+◌, ◌≤◌, List, ◌++◌, Option, Some, IsSome, option_map, true}
+use Rattle.std.specs.Prelude.{◌≡◌, ◌≢◌, ◌↔◌, ℕ, ◌+◌, ◌≤◌, List, Option, Some, IsSome, option_map, true}
 use Rattle.std.specs.Cmp.Lexicographic.{slice_cmp}
 use Rattle.std.specs.Ordering.{nat_cmp}
 use Rattle.row_codec.specs.declared.values.Value.{Value}
@@ -29,11 +29,6 @@ pub record IsReadable (c : ClientToken) (s : Streamed) (h : Holdings) : Type 0 w
   pub client : IsLiveClient c h
   pub shape : IsShaped c.tracker s h
   pub room : HasPageRoom c.tracker s h
-
--- an emitter's client is another one than this, and live
-pub record IsBeside (t : ℕ) (client : Option ℕ) (h : Holdings) : Type 0 where
-  pub apart : client ≢ Some t
-  pub lives : HasClient client h
 
 -- of the query itself only its reservation may have risen
 pub record IsSameQuery (old new : Holdings) : Type 0 where
@@ -65,7 +60,3 @@ pub record StaysEmitter (admits_old admits : List Value → Type 0) (client_old 
   pub lives : HasClient client_old new
   pub never_falls : faults_old ≤ faults
   pub grows : Grows before after
-
--- rows came behind what was taken, whichever they are
-abbrev pub WentOn : (List (List Value) → Type 0) → (List (List Value) → Type 0) → Type 0
-WentOn was now = (taken : List (List Value)) → was taken → (rows : List (List Value)) × now (taken ++ rows)

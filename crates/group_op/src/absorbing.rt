@@ -12,8 +12,8 @@ ghost use Rattle.group_op.specs.Held.{AreEntries, IsHeld, page_len, state};
 ghost use Rattle.group_op.specs.Stored.{IsPartialRow, key_at};
 
 use crate::flushing::{Fan, Spare};
-use crate::putting::{put, put_here};
 use crate::keying::key_of_partial;
+use crate::putting::{put, put_here};
 use bucket_table::BucketTable;
 use partition_stack::Partitions;
 use reservation_tree::PoolErr;

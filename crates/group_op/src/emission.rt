@@ -5,7 +5,7 @@ ghost use Rattle.row_codec.specs.RowReading.{row_at};
 ghost use Rattle.store_api.specs.Emitters.{CameOf, HasClient};
 ghost use Rattle.bucket_table.specs.Tables.{HasNode, row_of};
 ghost use Rattle.group_rows.specs.Tables.{HaveDistinctKeys};
-ghost use Rattle.group_op.specs.Emission.{AdmitsAll, Emitted, EmittedFront, Stood};
+ghost use Rattle.group_op.specs.Emission.{AdmitsAll, AdmitsKinds, Emitted, EmittedFront, Stood, WentOn};
 ghost use Rattle.group_op.specs.Held.{AreEntries, rows_of};
 ghost use Rattle.group_op.specs.InOrder.{groups_in, said_at};
 ghost use Rattle.group_op.specs.Stored.{IsPartialRow, partial_at, partial_kinds, partials_at, values_read};
@@ -19,7 +19,7 @@ use row_codec::{Kind, Memory};
 use std::alloc::Global;
 use store_api::{Emit, OpErr, Shape, Store};
 
-// Hands the rows of the table on, one for each key, in the order of the keys.
+// Hands the rows of the table on, one for each key, in the order of the keys where these are distinct.
 pub(crate) fn emit_table<St: Store, E: Emit<St>>(
     alloc: Global,
     store: &mut St,
@@ -28,12 +28,12 @@ pub(crate) fn emit_table<St: Store, E: Emit<St>>(
     table: &BucketTable,
 ) -> Result<(), OpErr>
     requires entries { (len : ℕ) × AreEntries shape.now len table.now }
-    requires distinct { HaveDistinctKeys (partials_at shape.now (rows_of table.now)) }
-    requires admits { AdmitsAll shape.now (E.admits emit.old) (groups_in shape.now table.now) }
+    requires admits { AdmitsKinds shape.now (E.admits emit.old) }
     requires client { HasClient (E.client emit.old) (St.holds store.old) }
     requires stands { (rows : List (List Value)) × E.took emit.old (St.holds store.old) rows }
-    ensures ok { OnOk result (Emitted shape.now (E.took emit.old (St.holds store.old)) (E.took emit.new (St.holds store.new)) (groups_in shape.now table.now)) }
-    ensures err { OnErr result (EmittedFront shape.now (E.took emit.old (St.holds store.old)) (E.took emit.new (St.holds store.new)) (groups_in shape.now table.now)) }
+    ensures ok { OnOk result (HaveDistinctKeys (partials_at shape.now (rows_of table.now)) → Emitted shape.now (E.took emit.old (St.holds store.old)) (E.took emit.new (St.holds store.new)) (groups_in shape.now table.now)) }
+    ensures err { OnErr result (HaveDistinctKeys (partials_at shape.now (rows_of table.now)) → EmittedFront shape.now (E.took emit.old (St.holds store.old)) (E.took emit.new (St.holds store.new)) (groups_in shape.now table.now)) }
+    ensures took { WentOn (E.took emit.old (St.holds store.old)) (E.took emit.new (St.holds store.new)) }
     ensures cause { IfErr result (CameOf (E.faults emit.old) (E.faults emit.new) (St.signs store.old) (St.signs store.new)) }
     ensures stood { Stood (E.admits emit.old) (E.admits emit.new) (E.client emit.old) (E.client emit.new) (E.faults emit.old) (E.faults emit.new) (St.holds store.old) (St.holds store.new) (St.signs store.old) (St.signs store.new) }
 {

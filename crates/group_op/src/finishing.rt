@@ -7,19 +7,23 @@ ghost use Rattle.store_api.specs.Signs.{WasAnswered};
 ghost use Rattle.tuple_stream.specs.Families.{ShowAll};
 ghost use Rattle.partition_stack.specs.Stack.{IsPlaced, RestBelow, weight};
 ghost use Rattle.group_rows.specs.Partials.{combined_of};
-ghost use Rattle.group_op.specs.Emission.{AdmitsKinds, Emitted, EmittedFront};
-ghost use Rattle.group_op.specs.Finishing.{Advances, HasDivided, HasPopped, HasRead, IsBeside, IsBetween, IsRead, Serves, ServesBeside, Stacked, StandsStill, said_down};
+ghost use Rattle.group_op.specs.Emission.{AdmitsKinds, Emitted, EmittedFront, IsBeside};
+ghost use Rattle.group_op.specs.Finishing.{Advances, HasDivided, HasPopped, HasRead, IsBetween, IsRead, Serves, ServesBeside, Stacked, StandsStill, said_down};
 ghost use Rattle.group_op.specs.Held.{AreEntries, IsHeld, page_len, state, streams_of};
 ghost use Rattle.group_op.specs.Stored.{grouping_of, partials_at};
 
 use crate::absorbing::absorb;
 use crate::emission::emit_table;
 use crate::flushing::{Fan, Spare, flush};
+use crate::scanning::leaf_by_scan;
 use bucket_table::BucketTable;
 use partition_stack::Partitions;
 use reservation_tree::PoolErr;
 use std::alloc::Global;
 use store_api::{Client, Emit, OpErr, Shape, Store};
+
+// The keys of one path are few: so many of their groups are kept at a time.
+const LEAF_GROUPS: u32 = 16;
 
 // The rows of the top partition go to the table; and where it was full, they and the table's go to sixteen partitions above:
 // whether they did.
@@ -93,34 +97,39 @@ fn hand_on<St: Store, E: Emit<St>>(
     Ok(())
 }
 
-// The groups of a partition of the last level are handed on, and it goes.
+// The groups of a partition of the last level are handed on, without the table, and it goes whatever comes of it.
 fn leaf<St: Store, E: Emit<St>>(
-    _alloc: Global,
-    _store: &mut St,
-    _c: &Client,
-    _shape: &Shape,
+    alloc: Global,
+    store: &mut St,
+    c: &Client,
+    shape: &Shape,
     _table: &BucketTable,
-    _parts: &mut Partitions,
-    _emit: &mut E,
+    parts: &mut Partitions,
+    emit: &mut E,
     _at: usize,
 ) -> Result<(), OpErr>
-    requires held { IsHeld _c.now.tracker (state _table.now _parts.old (St.holds _store.old) (St.signs _store.old)) }
-    requires entries { AreEntries _shape.now (page_len (state _table.now _parts.old (St.holds _store.old) (St.signs _store.old))) _table.now }
-    requires shape { IsShape _shape.now }
-    requires between { IsBetween (state _table.now _parts.old (St.holds _store.old) (St.signs _store.old)) }
-    requires top { length _parts.old.streams ≡ _at + 1 }
-    requires level { slice_get _parts.old.levels _at ≡ Some 16 }
-    requires emitter { IsBeside _c.now.tracker (E.client _emit.old) (St.holds _store.old) }
-    requires admits { AdmitsKinds _shape.now (E.admits _emit.old) }
-    requires stands { (rows : List (List Value)) × E.took _emit.old (St.holds _store.old) rows }
-    ensures ok { OnOk result ((rows : ℕ → List (List ℕ)) → Stacked _shape.now rows (state _table.now _parts.old (St.holds _store.old) (St.signs _store.old)) → ShowAll rows (streams_of (state _table.now _parts.new (St.holds _store.new) (St.signs _store.new))) × Emitted _shape.now (E.took _emit.old (St.holds _store.old)) (E.took _emit.new (St.holds _store.new)) (combined_of (grouping_of _shape.now) (partials_at _shape.now (rows _at)))) }
-    ensures err { OnErr result ((rows : ℕ → List (List ℕ)) → Stacked _shape.now rows (state _table.now _parts.old (St.holds _store.old) (St.signs _store.old)) → EmittedFront _shape.now (E.took _emit.old (St.holds _store.old)) (E.took _emit.new (St.holds _store.new)) (combined_of (grouping_of _shape.now) (partials_at _shape.now (rows _at)))) }
-    ensures popped { OnOk result (IsBetween (state _table.now _parts.new (St.holds _store.new) (St.signs _store.new)) × HasPopped _at _parts.old _parts.new) }
-    ensures serves { ServesBeside _c.now.tracker (E.client _emit.old) _shape.now (state _table.now _parts.old (St.holds _store.old) (St.signs _store.old)) (state _table.now _parts.new (St.holds _store.new) (St.signs _store.new)) }
-    ensures emitter { StandsStill (E.admits _emit.old) (E.admits _emit.new) (E.client _emit.old) (E.client _emit.new) (E.faults _emit.old) (E.faults _emit.new) (E.took _emit.old (St.holds _store.old)) (E.took _emit.new (St.holds _store.new)) (St.holds _store.new) }
-    ensures cause { IfErr result (CameOf (E.faults _emit.old) (E.faults _emit.new) (St.signs _store.old) (St.signs _store.new)) }
+    requires held { IsHeld c.now.tracker (state _table.now parts.old (St.holds store.old) (St.signs store.old)) }
+    requires entries { AreEntries shape.now (page_len (state _table.now parts.old (St.holds store.old) (St.signs store.old))) _table.now }
+    requires shape { IsShape shape.now }
+    requires between { IsBetween (state _table.now parts.old (St.holds store.old) (St.signs store.old)) }
+    requires top { length parts.old.streams ≡ _at + 1 }
+    requires level { slice_get parts.old.levels _at ≡ Some 16 }
+    requires emitter { IsBeside c.now.tracker (E.client emit.old) (St.holds store.old) }
+    requires admits { AdmitsKinds shape.now (E.admits emit.old) }
+    requires stands { (rows : List (List Value)) × E.took emit.old (St.holds store.old) rows }
+    ensures ok { OnOk result ((rows : ℕ → List (List ℕ)) → Stacked shape.now rows (state _table.now parts.old (St.holds store.old) (St.signs store.old)) → ShowAll rows (streams_of (state _table.now parts.new (St.holds store.new) (St.signs store.new))) × Emitted shape.now (E.took emit.old (St.holds store.old)) (E.took emit.new (St.holds store.new)) (combined_of (grouping_of shape.now) (partials_at shape.now (rows _at)))) }
+    ensures err { OnErr result ((rows : ℕ → List (List ℕ)) → Stacked shape.now rows (state _table.now parts.old (St.holds store.old) (St.signs store.old)) → EmittedFront shape.now (E.took emit.old (St.holds store.old)) (E.took emit.new (St.holds store.new)) (combined_of (grouping_of shape.now) (partials_at shape.now (rows _at)))) }
+    ensures popped { OnOk result (IsBetween (state _table.now parts.new (St.holds store.new) (St.signs store.new)) × HasPopped _at parts.old parts.new) }
+    ensures serves { ServesBeside c.now.tracker (E.client emit.old) shape.now (state _table.now parts.old (St.holds store.old) (St.signs store.old)) (state _table.now parts.new (St.holds store.new) (St.signs store.new)) }
+    ensures emitter { StandsStill (E.admits emit.old) (E.admits emit.new) (E.client emit.old) (E.client emit.new) (E.faults emit.old) (E.faults emit.new) (E.took emit.old (St.holds store.old)) (E.took emit.new (St.holds store.new)) (St.holds store.new) }
+    ensures cause { IfErr result (CameOf (E.faults emit.old) (E.faults emit.new) (St.signs store.old) (St.signs store.new)) }
 {
-    Err(OpErr::Pool(PoolErr::Memory))
+    parts.law_stack();
+    let mut top = parts.pop();
+    let result = leaf_by_scan(alloc, store, c, &mut top, shape, LEAF_GROUPS, emit);
+    top.drop_all(store);
+    top.end();
+    result
 }
 
 // The groups of the top partition are handed on, or its rows go to sixteen partitions above it.

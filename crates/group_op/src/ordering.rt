@@ -1,6 +1,7 @@
 //! The nodes of a table in the order of their keys.
-ghost use Rattle.std.specs.Prelude.{◌≡◌, ℕ, IfOk, map, reverse, true};
+ghost use Rattle.std.specs.Prelude.{◌≡◌, ℕ, All, IfOk, map, reverse, true};
 ghost use Rattle.row_codec.specs.KeyInside.{path_number};
+ghost use Rattle.bucket_table.specs.Tables.{HasNode};
 ghost use Rattle.group_rows.specs.Tables.{HaveDistinctKeys};
 ghost use Rattle.group_op.specs.Held.{AreEntries, rows_of};
 ghost use Rattle.group_op.specs.InOrder.{AreInOrder, Rises};
@@ -12,15 +13,16 @@ use row_codec::{Memory, PathKey, path_number};
 use std::alloc::Global;
 use store_api::Shape;
 
-// The nodes of the table by path, and those of one path by the bytes of their keys.
+// The nodes of the table by path, and those of one path by the bytes of their keys: in the order of their keys, where
+// these are distinct.
 pub(crate) fn places_in_order(
     alloc: Global,
     shape: &Shape,
     table: &BucketTable,
 ) -> Result<Vec<u32>, Memory>
     requires entries { (len : ℕ) × AreEntries shape.now len table.now }
-    requires distinct { HaveDistinctKeys (partials_at shape.now (rows_of table.now)) }
-    ensures { IfOk result (λ places. AreInOrder shape.now table.now places.items) }
+    ensures nodes { IfOk result (λ places. All (λ place. HasNode place table.now.nodes) places.items) }
+    ensures order { IfOk result (λ places. HaveDistinctKeys (partials_at shape.now (rows_of table.now)) → AreInOrder shape.now table.now places.items) }
 {
     let mut pathed = pathed_places(alloc, shape, table)?;
     pathed.sort_unstable();
@@ -76,8 +78,8 @@ fn pathed_places(
 // The same nodes in the same order, by their whole keys.
 fn places_by_key(alloc: Global, shape: &Shape, table: &BucketTable) -> Result<Vec<u32>, Memory>
     requires entries { (len : ℕ) × AreEntries shape.now len table.now }
-    requires distinct { HaveDistinctKeys (partials_at shape.now (rows_of table.now)) }
-    ensures { IfOk result (λ places. AreInOrder shape.now table.now places.items) }
+    ensures nodes { IfOk result (λ places. All (λ place. HasNode place table.now.nodes) places.items) }
+    ensures order { IfOk result (λ places. HaveDistinctKeys (partials_at shape.now (rows_of table.now)) → AreInOrder shape.now table.now places.items) }
 {
     let mut keyed = keyed_places(alloc, shape, table)?;
     keyed.sort_unstable();

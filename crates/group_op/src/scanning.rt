@@ -9,10 +9,10 @@ ghost use Rattle.store_api.specs.Signs.{WasAnswered};
 ghost use Rattle.tuple_stream.specs.Steps.{Reads, scene};
 ghost use Rattle.tuple_stream.specs.Streams.{HasRows};
 ghost use Rattle.group_rows.specs.Kept.{AreOrdered};
-ghost use Rattle.group_op.specs.Emission.{AdmitsAll, Emitted, EmittedFront, Says, Stood};
+ghost use Rattle.group_op.specs.Emission.{AdmitsAll, Emitted, EmittedFront, IsBeside, Says, Stood, WentOn};
 ghost use Rattle.group_op.specs.Keepings.{HasKept, IsKept, is_above, kept_in, key_in, taken_in};
 ghost use Rattle.group_op.specs.Stored.{IsPartialRow, grouping_of, partial_at, partial_kinds};
-ghost use Rattle.group_op.specs.Scanning.{IsBeside, IsReadable, MayShow, ReadBeside, StaysEmitter, WentOn, groups_by_bytes};
+ghost use Rattle.group_op.specs.Scanning.{IsReadable, MayShow, ReadBeside, StaysEmitter, groups_by_bytes};
 
 use crate::keying::key_of_partial;
 use crate::lowest::{Entry, keep};

@@ -1,10 +1,6 @@
-use Rattle.std.proofs.Common.{◌≡◌, ◌∙◌, ◌+◌, ◌<◌, ◌≤◌, ℕ, Bool, true, false, List, [], ◌∷◌, ◌++◌, Err, Some, IsSome, refl, ap, sym, subst, arith, rules}
-use Rattle.store_api.specs.Holdings.{Holdings}
-use Rattle.store_api.specs.Signs.{Signs}
+use Rattle.std.proofs.Common.{◌≡◌, Err, arith, rules}
 use Rattle.store_api.proofs.Answered.{answered_before}
-use Rattle.partition_stack.specs.Stack.{Stack}
-use Rattle.group_op.specs.Finishing.{IsRead, Serves}
-use Rattle.group_op.specs.Held.{IsHeld, State, state}
+use Rattle.group_op.specs.Held.{state}
 use Rattle.group_op.proofs.Absorbs.{all_rows, first_absorbs, more_absorbs, none_place, none_rows, place_called, serves_called, spent_none, spent_row}
 use Rattle.group_op.proofs.Keeping.{room_of_read}
 use Rattle.group_op.proofs.Serving.{serves_then}
@@ -57,9 +53,9 @@ take_in-requires-clause-read g c = (
   c.args.parts.now,
   c.requires.level,
   place_called c.args.c.now.tracker c.args.shape.now c.args.at c.args.level c.loop-left.divided c.loop-left.left (state c.args.table.now c.args.parts.now (g.St.Store.holds c.args.store.now) (g.St.Store.signs c.args.store.now)) c.loop-left.table c.loop-left.parts c.spend.new.self
-    (g.St.Store.holds c.loop-left.store) (g.St.Store.holds c.spend.new.store) (g.St.Store.signs c.loop-left.store) (g.St.Store.signs c.spend.new.store) c.loop-left.invariant
+      (g.St.Store.holds c.loop-left.store) (g.St.Store.holds c.spend.new.store) (g.St.Store.signs c.loop-left.store) (g.St.Store.signs c.spend.new.store) c.loop-left.invariant
       c.spend.ensures.changes (spent_row c.args.c.now.tracker c.args.shape.now c.args.at c.args.level c.loop-left.divided c.loop-left.left (state c.args.table.now c.args.parts.now (g.St.Store.holds c.args.store.now) (g.St.Store.signs c.args.store.now)) c.loop-left.table c.loop-left.parts c.spend.new.self
-    (g.St.Store.holds c.loop-left.store) (g.St.Store.holds c.spend.new.store) (g.St.Store.signs c.loop-left.store) (g.St.Store.signs c.spend.new.store) c.loop-left.invariant
+      (g.St.Store.holds c.loop-left.store) (g.St.Store.holds c.spend.new.store) (g.St.Store.signs c.loop-left.store) (g.St.Store.signs c.spend.new.store) c.loop-left.invariant
       c.in_ok-spend.field-0 c.spend.new.out.items c.in_ok-spend.ensures.ok c.if-not-branch.false).steps.long,
 )
 

@@ -1,9 +1,9 @@
-use Rattle.std.proofs.Common.{◌≡◌, ◌∙◌, ◌+◌, ◌<◌, ℕ, Bool, true, false, List, [], ◌∷◌, ◌++◌, Err, ap, sym, subst, arith, rules}
+use Rattle.std.proofs.Common.{◌≡◌, ◌∙◌, ◌+◌, ℕ, Bool, true, false, List, Err, sym, subst, rules}
 use Rattle.std.proofs.lemmas.Bool.{false≢true}
 use Rattle.store_api.specs.Holdings.{Holdings}
 use Rattle.store_api.specs.Signs.{Signs}
 use Rattle.store_api.proofs.Answered.{answered_before}
-use Rattle.partition_stack.specs.Stack.{Stack, divided}
+use Rattle.partition_stack.specs.Stack.{Stack}
 use Rattle.group_op.specs.Finishing.{HasRead, IsRead, Serves}
 use Rattle.group_op.specs.Held.{IsHeld, State, lent, state}
 use Rattle.group_op.specs.Putting.{HasGrown, HasPut, HasPutHere, IsFan}

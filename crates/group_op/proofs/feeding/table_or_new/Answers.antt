@@ -1,4 +1,4 @@
-use Rattle.std.proofs.Common.{◌≡◌, Option, Some, None, sym, subst}
+use Rattle.std.proofs.Common.{Option, sym, subst}
 use Rattle.bucket_table.specs.Tables.{Table}
 use Rattle.group_op.specs.Held.{state}
 use Rattle.group_op.specs.Operator.{HasOpened, IsOperator, operator}

@@ -14,7 +14,7 @@ returns-then-level-eq16-clause-ok g c =
     let len = c.len-at.ensures in
     let top : length c.args.parts.now.streams ≡ c.len-at.result - 1 + 1 = omega (arith, some, len) in
     ok_both c.leaf.result
-    (λ came popped. (popped.0, λ rows stacked. advances_popped c.args.shape.now (c.len-at.result - 1) rows (state c.args.table.now c.args.parts.now (g.St.Store.holds c.args.store.now) (g.St.Store.signs c.args.store.now)) (state c.args.table.now c.leaf.new._parts (g.St.Store.holds c.leaf.new._store) (g.St.Store.signs c.leaf.new._store)) top (g.E.Emit.took c.args.emit.now (g.St.Store.holds c.args.store.now)) (g.E.Emit.took c.args.emit.now (g.St.Store.holds c.args.store.now)) (g.E.Emit.took c.leaf.new._emit (g.St.Store.holds c.leaf.new._store)) (λ taken took. took) stacked c.leaf.ensures.serves.leaves.told popped.1 (came rows stacked).0 (came rows stacked).1))
+    (λ came popped. (popped.0, λ rows stacked. advances_popped c.args.shape.now (c.len-at.result - 1) rows (state c.args.table.now c.args.parts.now (g.St.Store.holds c.args.store.now) (g.St.Store.signs c.args.store.now)) (state c.args.table.now c.leaf.new.parts (g.St.Store.holds c.leaf.new.store) (g.St.Store.signs c.leaf.new.store)) top (g.E.Emit.took c.args.emit.now (g.St.Store.holds c.args.store.now)) (g.E.Emit.took c.args.emit.now (g.St.Store.holds c.args.store.now)) (g.E.Emit.took c.leaf.new.emit (g.St.Store.holds c.leaf.new.store)) (λ taken took. took) stacked c.leaf.ensures.serves.leaves.told popped.1 (came rows stacked).0 (came rows stacked).1))
     c.leaf.ensures.ok c.leaf.ensures.popped
 
 pub returns-then-level-eq16-clause-err : goal.returns-then-level-eq16-clause-err
@@ -23,12 +23,12 @@ returns-then-level-eq16-clause-err g c =
     let len = c.len-at.ensures in
     let top : length c.args.parts.now.streams ≡ c.len-at.result - 1 + 1 = omega (arith, some, len) in
     on_err c.leaf.result
-    (λ front rows stacked. front_popped c.args.shape.now (c.len-at.result - 1) rows (state c.args.table.now c.args.parts.now (g.St.Store.holds c.args.store.now) (g.St.Store.signs c.args.store.now)) (state c.args.table.now c.leaf.new._parts (g.St.Store.holds c.leaf.new._store) (g.St.Store.signs c.leaf.new._store)) top (g.E.Emit.took c.args.emit.now (g.St.Store.holds c.args.store.now)) (g.E.Emit.took c.args.emit.now (g.St.Store.holds c.args.store.now)) (g.E.Emit.took c.leaf.new._emit (g.St.Store.holds c.leaf.new._store)) (λ taken took. took) (front rows stacked))
+    (λ front rows stacked. front_popped c.args.shape.now (c.len-at.result - 1) rows (state c.args.table.now c.args.parts.now (g.St.Store.holds c.args.store.now) (g.St.Store.signs c.args.store.now)) (state c.args.table.now c.leaf.new.parts (g.St.Store.holds c.leaf.new.store) (g.St.Store.signs c.leaf.new.store)) top (g.E.Emit.took c.args.emit.now (g.St.Store.holds c.args.store.now)) (g.E.Emit.took c.args.emit.now (g.St.Store.holds c.args.store.now)) (g.E.Emit.took c.leaf.new.emit (g.St.Store.holds c.leaf.new.store)) (λ taken took. took) (front rows stacked))
     c.leaf.ensures.err
 
 pub returns-then-level-eq16-clause-less : goal.returns-then-level-eq16-clause-less
 returns-then-level-eq16-clause-less g c =
-    on_ok c.leaf.result (λ popped. less_popped c.args.parts.now.levels c.leaf.new._parts.levels (c.len-at.result - 1) c.level-level.result c.level-level.ensures.value popped.1.levels) c.leaf.ensures.popped
+    on_ok c.leaf.result (λ popped. less_popped c.args.parts.now.levels c.leaf.new.parts.levels (c.len-at.result - 1) c.level-level.result c.level-level.ensures.value popped.1.levels) c.leaf.ensures.popped
 
 pub returns-in_err-spend_top-clause-err : goal.returns-in_err-spend_top-clause-err
 returns-in_err-spend_top-clause-err g c =

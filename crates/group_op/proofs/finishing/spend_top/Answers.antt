@@ -42,7 +42,7 @@ pub returns-clause-divided : goal.returns-clause-divided
 returns-clause-divided g c =
     let levels = ap (λ (p : Stack). p.levels) c.rest_from.ensures.kept in
     let yes : c.in_ok-absorb.field-0 ≡ true = search (rules, c.if-not-branch.false) in
-    let read : IsRead true c.args.at c.args.level c.args.parts.now c.absorb.new._parts = rw yes at c.in_ok-absorb.ensures.read in
+    let read : IsRead true c.args.at c.args.level c.args.parts.now c.absorb.new.parts = rw yes at c.in_ok-absorb.ensures.read in
     λ is. (
       record {
         empty = ap (λ (x : Table). x.nodes) c.in_ok-flush.ensures.ok.table;
@@ -50,7 +50,7 @@ returns-clause-divided g c =
       },
       less_divided c.args.parts.now.levels c.rest_from.new.self.levels c.args.at c.args.level c.requires.level c.requires.deep.0 (levels ∙ c.flush.ensures.works.levels ∙ read.1),
       λ rows stacked.
-          let has : HasRead c.args.shape.now c.args.at c.args.level true rows (rows c.args.at) [] (state c.absorb.new._table c.absorb.new._parts (g.St.Store.holds c.absorb.new._store) (g.St.Store.signs c.absorb.new._store)) =
+          let has : HasRead c.args.shape.now c.args.at c.args.level true rows (rows c.args.at) [] (state c.absorb.new.table c.absorb.new.parts (g.St.Store.holds c.absorb.new.store) (g.St.Store.signs c.absorb.new.store)) =
           rw yes at (c.in_ok-absorb.ensures.rows rows stacked) in
           has_divided c.args.c.now.tracker c.args.shape.now c.args.at c.args.level _ rows _ _ c.flush.new.table c.flush.new.parts c.rest_from.new.self _ _ _ _ stacked c.requires.top c.requires.level c.requires.deep.0 has read
           c.absorb.ensures.serves c.absorb.ensures.serves.entries c.in_ok-flush.ensures.ok c.flush.ensures.works _ c.in_ok-rest_from.ensures.ok levels,

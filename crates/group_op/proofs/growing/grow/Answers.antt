@@ -1,7 +1,6 @@
-use Rattle.std.proofs.Common.{◌≡◌, ◌∙◌, ◌*◌, ℕ, ap, refl, sym}
+use Rattle.std.proofs.Common.{◌≡◌, ◌∙◌, ◌*◌, ℕ, ap, sym}
 use Rattle.store_api.specs.Changes.{after_reserve}
 use Rattle.store_api.specs.Holdings.{Holdings, length_of}
-use Rattle.store_api.specs.Signs.{Signs}
 use Rattle.group_op.proofs.Growth.{grown_none, grown_untouched, grown_whole, held_reserved, on_ok}
 use Rattle.group_op.proofs.growing.grow.Goals as goal
 

@@ -6,9 +6,9 @@ use Rattle.store_api.specs.Signs.{WasAnswered}
 use Rattle.store_api.proofs.Answered.{answered_before}
 use Rattle.tuple_stream.specs.Streams.{HasRows}
 use Rattle.group_op.specs.declared.lowest.Entry.{Entry}
-use Rattle.group_op.specs.Emission.{AdmitsAll, Emitted, EmittedFront}
+use Rattle.group_op.specs.Emission.{AdmitsAll, Emitted, EmittedFront, WentOn}
 use Rattle.group_op.specs.Keepings.{all_above, key_in, kept_in}
-use Rattle.group_op.specs.Scanning.{WentOn, groups_by_bytes}
+use Rattle.group_op.specs.Scanning.{groups_by_bytes}
 use Rattle.group_op.proofs.Emitting.{came_behind}
 use Rattle.group_op.proofs.Oks.{any_err}
 use Rattle.group_op.proofs.ScanFrames.{free_now, reads_own, stays_handed, stays_none, stays_read, went_emitted, went_front}

@@ -1,4 +1,4 @@
-use Rattle.std.proofs.Common.{◌≡◌, ◌∙◌, ℕ, Option, Some, None, ap, sym, subst}
+use Rattle.std.proofs.Common.{◌∙◌, ℕ, Option, Some, None, ap, sym, subst}
 use Rattle.store_api.specs.Conditions.{IsIdle}
 use Rattle.store_api.specs.Holdings.{Holdings}
 use Rattle.store_api.specs.Signs.{Signs}

@@ -1,7 +1,5 @@
-use Rattle.std.proofs.Common.{◌≡◌, ◌∙◌, ◌+◌, ◌*◌, ◌≤◌, ℕ, List, length, ap, sym, arith}
-use Rattle.row_codec.specs.declared.values.Agg.{Agg}
+use Rattle.std.proofs.Common.{◌≡◌, ◌*◌, ℕ, length, ap, sym, arith}
 use Rattle.bucket_table.proofs.Opened.{most_len}
-use Rattle.store_api.specs.declared.shapes.Shape.{Shape}
 use Rattle.group_op.specs.Operator.{Operator}
 use Rattle.group_op.proofs.operator.GroupOp.feed.Goals as goal
 
