@@ -66,25 +66,6 @@ fn a_page_of_another_client_evicts_the_page_that_is_clean_longest(rt: HostRuntim
 }
 
 #[test]
-fn the_name_before_the_last_number_is_the_last_that_is_given(rt: HostRuntime) {
-    let slots = steps::slots(&rt, rt.alloc(), 0, &[]);
-    let mut pool = owner::open(&rt, rt.alloc(), 4, u64::MAX - 1, slots, 256);
-    let c = owner::client(&rt, &mut pool, 128);
-    let Ok((page, _buf)) = owner::create(&rt, rt.alloc(), &mut pool, &c) else {
-        panic!(rt; "no page");
-    };
-    assert_eq!(rt; page.into_name(), u64::MAX - 1);
-    match owner::create(&rt, rt.alloc(), &mut pool, &c) {
-        Ok((page, _)) => {
-            page.into_name();
-            assert!(rt; false);
-        }
-        Err(refused) => assert_eq!(rt; refused, PoolErr::NamesSpent),
-    }
-    c.into_tracker();
-}
-
-#[test]
 fn a_loan_is_charged_to_whom_it_is_moved(rt: HostRuntime) {
     let slots = steps::slots(&rt, rt.alloc(), 0, &[]);
     let mut pool = owner::open(&rt, rt.alloc(), 4, 0, slots, 256);
