@@ -1,5 +1,5 @@
 -- What a call made that asked first, and what comes while clean pages go.
-use Rattle.std.proofs.Common.{◌≡◌, ℕ, zero, suc, ◌≤◌, ◌<◌, List, [], ◌∷◌, ◌++◌, map, replicate, Result, Ok, Err, None, IsSome, is_some, true, IfOk, IfErr, All, refl, sym, ap, ◌∙◌, subst, arith, le-leb, inl, inr}
+use Rattle.std.proofs.Common.{◌≡◌, ℕ, zero, suc, ◌+◌, ◌≤◌, ◌<◌, length, take, List, [], ◌∷◌, ◌++◌, map, replicate, Result, Ok, Err, None, IsSome, is_some, true, IfOk, IfErr, OnOk, All, refl, sym, ap, ◌∙◌, subst, arith, le-leb, inl, inr}
 use Rattle.std.proofs.lemmas.Bool.{leb-true, cases_lt, false≢true, ne_eqb}
 use Rattle.std.proofs.lemmas.List.{append_assoc, length-replicate}
 use Rattle.std.proofs.lemmas.List.Elements.{All-from_recursion, All-head, All-tail, filter_map-append}
@@ -15,8 +15,8 @@ use Rattle.pool_model.specs.declared.event.Event.TheVariants.{Evict, Create}
 use Rattle.pool_model.specs.declared.entry.Entry.{Entry}
 use Rattle.pool_model.specs.Bytes.{bytes_of}
 use Rattle.pool_model.specs.State.{Opening, State}
-use Rattle.pool_model.specs.Sums.{HasRoom}
-use Rattle.pool_model.specs.Legal.{state_after}
+use Rattle.pool_model.specs.Sums.{HasRoom, free_bytes, length_of as length_in}
+use Rattle.pool_model.specs.Legal.{run, state_after}
 use Rattle.pool_model.specs.LookingBack.{name_in, names_in}
 use Rattle.pool_model.proofs.Names.{legal_names_are_new}
 use Rattle.store_api.specs.Tokens.{PageToken, LoanToken}
@@ -27,15 +27,17 @@ use Rattle.own_entries.specs.OwnHoldings.{after_events}
 use Rattle.own_entries.proofs.ByOthers.{none_there}
 use Rattle.pin_core.specs.StateOf.{state_of}
 use Rattle.pin_core.specs.Standing.{Enters}
-use Rattle.pin_core.specs.Evictions.{evictions, names_gone}
+use Rattle.pin_core.specs.Evictions.{MakesRoom, blocks_in, evictions, names_gone}
 use Rattle.pin_core.specs.Coming.{CanHold, zeros}
 use Rattle.local_pool.specs.declared.owned.Owned.{Owned}
 use Rattle.local_pool.specs.Told.{held_of, signs_of}
 use Rattle.local_pool.specs.Making.{Goes, Makes, is_calm, rests}
+use Rattle.local_pool.specs.Needing.{IsNeeded, EntersNeeded}
 use Rattle.local_pool.specs.Refusing.{Refuses}
 use Rattle.local_pool.specs.Standing.{IsStill, Stands}
 use Rattle.local_pool.specs.Calling.{Evicts, evicts_for, IsFreshPage, IsFreshLoan}
 use Rattle.local_pool.proofs.Growing.{by_append, goes, grown, makes, sums_rest}
+use Rattle.local_pool.proofs.Needed.{needed_evicts, needed_then, needs_all, needs_none}
 use Rattle.local_pool.proofs.Knowing.{knows, sound}
 use Rattle.local_pool.proofs.Still.{still_run}
 use Rattle.local_pool.proofs.Making.{makes_more, makes_grows, makes_made, asked_last, asked_held}
@@ -130,6 +132,17 @@ module _ {D : Type 0} (slot : Ghosts D) where
     makes_evicting =
         makes slot own new (evicts_for blocks own ++ e ∷ []) went is stands_evicting (evicts_for blocks own, All-from_recursion IsEvict (evicts_for blocks own) (are_evicts names), refl)
 
+    -- as many clean pages went as were needed
+    pub needed_evicting : (t : ℕ) → ((s : State) → IsNeeded t (length_of blocks (held_of slot own)) s e) → MakesRoom (state_of own.pool) (bytes_of (state_of own.pool).block_len blocks) names → EntersNeeded t (length_of blocks (held_of slot own)) own new
+    needed_evicting t always room =
+        let s : State = state_of own.pool in
+        let amount : ℕ = length_of blocks (held_of slot own) in
+        let fewest : (k : ℕ) → k < length names → free_bytes s + length_in s (blocks_in s (take k names)) < amount =
+        subst (λ (n : ℕ). (k : ℕ) → k < length names → free_bytes s + length_in s (blocks_in s (take k names)) < n) (sym (len_here slot own is blocks)) room.needed in
+        needs_all t amount slot own new (evicts_for blocks own ++ e ∷ []) went
+        (needed_then t amount own.session (evicts_for blocks own) (e ∷ []) s (needed_evicts t amount own.session names s fewest)
+        (always (run s (by own.session (evicts_for blocks own))), tt))
+
   module _ (own : Owned D) (is : Stands slot own) (t blocks : ℕ) where
     abbrev s : State
     s = state_of own.pool
@@ -196,6 +209,11 @@ module _ {D : Type 0} (slot : Ghosts D) where
     pub makes_created : (r : Result (PageToken × Buffer) PoolErr) → IfOk r Came → IfOk r (λ made. Makes slot (Evicts (Create made.0.name t blocks made.0.key ∷ [])) own new)
     makes_created (Ok made) came = makes_evicting own new is blocks (Create made.0.name t blocks made.0.key) came refl refl is.live
     makes_created (Err e) came = tt
+
+    pub needed_created : (r : Result (PageToken × Buffer) PoolErr) → IfOk r Came → IfErr r Spent → OnOk r (MakesRoom (state_of own.pool) (bytes_of (state_of own.pool).block_len blocks) (names_gone blocks own.pool))
+        → EntersNeeded t (length_of blocks (held_of slot own)) own new
+    needed_created (Ok made) came spent room = needed_evicting own new is blocks (Create made.0.name t blocks made.0.key) came refl refl is.live t (λ s. tt) room
+    needed_created (Err e) came spent room = needs_none t (length_of blocks (held_of slot own)) own new spent.1
 
     pub fresh_created : (r : Result (PageToken × Buffer) PoolErr) → IfOk r (λ made. made.0 ≡ record { name = (state_of own.pool).next_name; key = made.0.key; client = t })
         → IfOk r (λ made. made.1 ≡ zeros blocks (state_of own.pool).block_len) → IfOk r (λ made. made.0.name < 18446744073709551615) → IfOk r (λ made. IsFreshPage t blocks made own (held_of slot own))

@@ -1,5 +1,5 @@
 -- A turn of a pin loads the page.
-use Rattle.std.proofs.Common.{◌≡◌, ℕ, ◌+◌, ◌*◌, ◌||◌, ◌&&◌, ◌==◌, Bool, true, false, cond, if◌then◌else◌, List, [], ◌∷◌, ◌++◌, length, filter, Option, Some, None, is_some, option_map, T, refl, sym, ap, ◌∙◌, subst, arith, inr, eq-eqb}
+use Rattle.std.proofs.Common.{◌≡◌, ℕ, ◌+◌, ◌*◌, ◌<◌, take, map, ◌||◌, ◌&&◌, ◌==◌, Bool, true, false, cond, if◌then◌else◌, List, [], ◌∷◌, ◌++◌, length, filter, Option, Some, None, is_some, option_map, T, refl, sym, ap, ◌∙◌, subst, arith, inr, eq-eqb}
 use Rattle.std.proofs.lemmas.Bool.{and_from}
 use Rattle.std.proofs.lemmas.List.{append_assoc}
 use Rattle.std.proofs.lemmas.List.Elements.{filter-append}
@@ -14,9 +14,10 @@ use Rattle.reservation_tree.specs.declared.errors.PoolErr.{PoolErr}
 use Rattle.reservation_tree.specs.declared.errors.PoolErr.TheVariants.{ReadFault}
 use Rattle.pool_model.specs.declared.call.Call.TheVariants.{Pin}
 use Rattle.pool_model.specs.declared.event.Event.{Event}
-use Rattle.pool_model.specs.declared.event.Event.TheVariants.{ReadOk, ReadFailed}
+use Rattle.pool_model.specs.declared.event.Event.TheVariants.{ReadOk, ReadFailed, Evict}
 use Rattle.pool_model.specs.declared.entry.Entry.{Entry}
 use Rattle.pool_model.specs.State.{Opening, Evicted, Page, Session, Sessions, State, shown, page_at}
+use Rattle.pool_model.specs.Sums.{free_bytes, length_of}
 use Rattle.pool_model.specs.Parts.{with_failures, keep_first}
 use Rattle.pool_model.specs.Effects.{after}
 use Rattle.pool_model.specs.Legal.{run}
@@ -27,14 +28,14 @@ use Rattle.pool_model.proofs.Names.{counts_entries}
 use Rattle.pool_model.proofs.Keeping.{first_kept}
 use Rattle.pool_model.proofs.Windows.{numbered_more, since_more}
 use Rattle.store_api.specs.Tokens.{PageToken}
-use Rattle.store_api.specs.Holdings.{Holdings, page_of}
+use Rattle.store_api.specs.Holdings.{Holdings, page_of, page_len}
 use Rattle.store_api.specs.Conditions.{ShowsLeft}
 use Rattle.store_api.specs.Entries.{by}
 use Rattle.pin_core.specs.declared.jobs.ReadJob.{ReadJob}
 use Rattle.pin_core.specs.StateOf.{state_of}
 use Rattle.pin_core.specs.Standing.{StandsFor, Enters, AreHeld, slots_home}
 use Rattle.pin_core.specs.Runs.{AllTell}
-use Rattle.pin_core.specs.Evictions.{names_gone}
+use Rattle.pin_core.specs.Evictions.{blocks_in, names_gone}
 use Rattle.pin_core.specs.Loads.{load_entries}
 use Rattle.pin_core.specs.PinTurns.{IsLoad}
 use Rattle.pin_core.specs.Refusing.{refusal_of}
@@ -44,6 +45,7 @@ use Rattle.local_pool.specs.declared.tally.Tally.{Tally}
 use Rattle.local_pool.specs.Told.{silence, held_of}
 use Rattle.local_pool.specs.Counting.{Counted, SumsHold, all_failures, tally_in}
 use Rattle.local_pool.specs.Making.{Goes, Makes}
+use Rattle.local_pool.specs.Needing.{IsNeeded, AreNeeded, EntersNeeded}
 use Rattle.local_pool.specs.Standing.{Stands, IsStill}
 use Rattle.local_pool.specs.Turning.{has_asked}
 use Rattle.local_pool.specs.Loading.{CanRead, Returns, IsRead, IsUnread}
@@ -55,7 +57,8 @@ use Rattle.local_pool.proofs.Knowing.{knows}
 use Rattle.local_pool.proofs.Contents.{content_whole}
 use Rattle.local_pool.proofs.Asked.{rose}
 use Rattle.local_pool.proofs.Holding.{is_there}
-use Rattle.local_pool.proofs.Pinned.{content_here, left_here, fits_here}
+use Rattle.local_pool.proofs.Needed.{needed_evicts, needed_fetch, needs_all}
+use Rattle.local_pool.proofs.Pinned.{bytes_here, content_here, left_here, fits_here}
 use Rattle.local_pool.proofs.Silent.{none_silent, told_silence}
 use Rattle.local_pool.proofs.Fetching.{fetching, fetching_by, fetches, fetching_calm, fetching_holds, fetching_moves, fetching_plain, content_append, fetching_leaves, fetching_sessions, fetched_still, unfetched_still, fetching_alike}
 
@@ -209,6 +212,15 @@ module _ {D : Type 0} (slot : Ghosts D) (own : Owned D) (is : Stands slot own) (
           (tally_same slot (λ measure. slots_home measure went.pool + sum_by measure job.row) (λ measure. slots_home measure own.pool) (λ measure. let out = enters.slots measure in omega (arith, out)))
           ret.counted))
 
+    -- as many clean pages went as were needed
+    needed_with : (end : Event) → IsNeeded p.client (page_len p.name (held_of slot own)) (run s (by own.session front)) end → AreNeeded p.client (page_len p.name (held_of slot own)) s (by own.session (front ++ end ∷ []))
+    needed_with end last =
+        let names : List ℕ = names_gone x.blocks own.pool in
+        let amount : ℕ = page_len p.name (held_of slot own) in
+        let evicts : AreNeeded p.client amount s (by own.session (map Evict names)) =
+        needed_evicts p.client amount own.session names s (subst (λ (n : ℕ). (k : ℕ) → k < length names → free_bytes s + length_of s (blocks_in s (take k names)) < n) (bytes_here slot own is p can) load.goes.needed) in
+        needed_fetch p.client amount own.session names p.name end s evicts last
+
     module _ (buf : Buffer) (read : IsRead slot job buf went new) where
       ret : Returns slot (ReadOk p.name) job.row went new
       ret = subst (λ (q : ℕ). Returns slot (ReadOk q) job.row went new) name_is read.returns
@@ -224,6 +236,9 @@ module _ {D : Type 0} (slot : Ghosts D) (own : Owned D) (is : Stands slot own) (
       makes_read =
           makes slot own new (front ++ ReadOk p.name ∷ []) (goes_back (ReadOk p.name) ret) is stands_read
           (inr (fetches (names_gone x.blocks own.pool) p.name (ReadOk p.name ∷ [])))
+
+      pub needed_read : EntersNeeded p.client (page_len p.name (held_of slot own)) own new
+      needed_read = needs_all p.client (page_len p.name (held_of slot own)) slot own new (front ++ ReadOk p.name ∷ []) (goes_back (ReadOk p.name) ret) (needed_with (ReadOk p.name) tt)
 
       pub shows_read : ShowsLeft (page_of p.name (held_of slot own)) (held_of slot own) buf
       shows_read = record {
@@ -251,6 +266,9 @@ module _ {D : Type 0} (slot : Ghosts D) (own : Owned D) (is : Stands slot own) (
       makes_unread =
           makes slot own new (front ++ end ∷ []) (goes_back end unread) is stands_unread
           (read.before, read.now, fetches (names_gone x.blocks own.pool) p.name (end ∷ []))
+
+      pub needed_unread : EntersNeeded p.client (page_len p.name (held_of slot own)) own new
+      needed_unread = needs_all p.client (page_len p.name (held_of slot own)) slot own new (front ++ end ∷ []) (goes_back end unread) (needed_with end tt)
 
       new_session : new.session ≡ own.session
       new_session = unread.session ∙ session

@@ -80,7 +80,7 @@ unfetched_still m (n ∷ names) p before now s still = unfetched_still m names p
 
 -- what of a page its place doesn't tell stays
 module _ (f : Page → ℕ) (same : (x : Page) (at : Place) → f (record x { place = at }) ≡ f x) where
-  put_alike : (pages : Pages) (p : ℕ) (at : Place) (q : ℕ) → f (unwrap_or (get (insert pages p (record (unwrap_or (get pages p) no_page) { place = at })) q) no_page) ≡ f (unwrap_or (get pages q) no_page)
+  pub put_alike : (pages : Pages) (p : ℕ) (at : Place) (q : ℕ) → f (unwrap_or (get (insert pages p (record (unwrap_or (get pages p) no_page) { place = at })) q) no_page) ≡ f (unwrap_or (get pages q) no_page)
   put_alike pages p at q = elim (same_or_other q p) [
     | inl here ↦
         ap (λ (k : ℕ). f (unwrap_or (get (insert pages p (record (unwrap_or (get pages p) no_page) { place = at })) k) no_page)) here

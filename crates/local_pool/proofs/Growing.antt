@@ -180,6 +180,7 @@ module _ {D : Type 0} (slot : Ghosts D) where
       is = is;
       trail = went.trail;
       session = went.session;
+      state = went.state;
       block_len = goes_len;
       outset = goes_outset;
       spent = λ before.

@@ -19,6 +19,7 @@ pub mod Arrivals
 pub mod Holding
 pub mod Loaded
 pub mod Fetching
+pub mod Needed
 pub mod Silent
 pub mod Pinned
 pub mod Fetched

@@ -11,6 +11,8 @@ use Rattle.pool_model.specs.declared.call.Call.{Call}
 use Rattle.pool_model.specs.declared.event.Event.{Event}
 use Rattle.pool_model.specs.declared.event.Event.TheVariants.{Ask, StartWrite, WriteOk, WriteFailed, Refused}
 use Rattle.pool_model.specs.declared.entry.Entry.{Entry}
+use Rattle.pool_model.specs.State.{State}
+use Rattle.pool_model.specs.Legal.{run}
 use Rattle.pool_model.specs.LookingBack.{is_ask, is_by}
 use Rattle.pool_model.specs.Failures.{is_own, is_for_own, failures_in, asks_in}
 use Rattle.pool_model.proofs.Rising.{failures_grow}
@@ -26,6 +28,7 @@ use Rattle.local_pool.specs.Told.{outset_of, held_of, signs_of}
 use Rattle.local_pool.specs.Making.{Makes}
 use Rattle.local_pool.specs.Refusing.{Refuses}
 use Rattle.local_pool.specs.Turning.{IsEnd, IsWrite, Rose, has_asked}
+use Rattle.local_pool.proofs.Sized.{run_on}
 use Rattle.local_pool.proofs.Growing.{by_append}
 
 -- a write more
@@ -114,13 +117,16 @@ module _ {D : Type 0} (slot : Ghosts D) where
     trail = b.trail ∙ ap (λ (h : List Entry). h ++ by y.session b.events) a.trail ∙ ap (λ (m : ℕ). (x.trail ++ by x.session a.events) ++ by m b.events) a.session
         ∙ append_assoc x.trail (by x.session a.events) (by x.session b.events) ∙ ap (λ (h : List Entry). x.trail ++ h) (sym (by_append x.session a.events b.events));
     session = b.session ∙ a.session;
+    state =
+        b.state ∙ ap (λ (m : ℕ). run (state_of y.pool) (by m b.events)) a.session ∙ ap (λ (s : State). run s (by x.session b.events)) a.state
+        ∙ sym (run_on (state_of x.pool) (by x.session a.events) (by x.session b.events)) ∙ ap (run (state_of x.pool)) (sym (by_append x.session a.events b.events));
     block_len = b.block_len ∙ a.block_len;
     outset = b.outset ∙ a.outset;
     spent = λ was. b.spent (a.spent was);
   }
 
   pub makes_so : {P Q : List Event → Type 0} (x y : Owned D) (a : Makes slot P x y) → Q a.events → Makes slot Q x y
-  makes_so x y a is = record { events = a.events; is = is; trail = a.trail; session = a.session; block_len = a.block_len; outset = a.outset; spent = a.spent }
+  makes_so x y a is = record { events = a.events; is = is; trail = a.trail; session = a.session; state = a.state; block_len = a.block_len; outset = a.outset; spent = a.spent }
 
   -- a call that asked and wrote left what is held as it was
   pub asked_held : (t : ℕ) (start now : Owned D) → Makes slot (IsAsked t (held_of slot start) []) start now → held_of slot now ≡ held_of slot start

@@ -11,7 +11,7 @@ use Rattle.pool_model.specs.declared.event.Event.TheVariants.{PinHere, PinLoad, 
 use Rattle.pool_model.specs.Failures.{is_own, is_for_own, failures_in, asks_in}
 use Rattle.pool_model.specs.LookingBack.{is_ask, is_by}
 use Rattle.pool_model.specs.declared.entry.Entry.{Entry}
-use Rattle.store_api.specs.Holdings.{Holdings}
+use Rattle.store_api.specs.Holdings.{Holdings, page_len}
 use Rattle.store_api.specs.Signs.{TellRefused}
 use Rattle.store_api.specs.Entries.{by, IsAsked, IsPin, IsFailedLoad}
 use Rattle.own_entries.specs.CallLaws.{CanBeCharged}
@@ -19,9 +19,11 @@ use Rattle.own_entries.proofs.Calls.{calls_tell}
 use Rattle.local_pool.specs.declared.owned.Owned.{Owned}
 use Rattle.local_pool.specs.Told.{held_of, signs_of}
 use Rattle.local_pool.specs.Making.{Makes}
+use Rattle.local_pool.specs.Needing.{EntersNeeded}
 use Rattle.local_pool.specs.Refusing.{Refuses}
 use Rattle.local_pool.specs.Turning.{IsWrite, Rose}
 use Rattle.local_pool.specs.Pinning.{IsPinned, IsFailedRead, MustRefuse}
+use Rattle.local_pool.proofs.Needed.{needs_more}
 use Rattle.local_pool.proofs.Growing.{by_append}
 use Rattle.local_pool.proofs.Making.{makes_held, makes_grows, makes_more, asked_last, asked_more, asked_held, asks_since, whose}
 
@@ -36,6 +38,13 @@ pub asked_wrote : {D : Type 0} (slot : Ghosts D) (t : ℕ) (start now new : Owne
 asked_wrote slot t start now new asked write =
     makes_more slot start now new asked write
     (asked_more t (held_of slot start) asked.events write.events asked.is (subst (λ (h : Holdings). IsWrite t h write.events) (asked_held slot t start now asked) write.is))
+
+-- what a turn more entered was needed too
+pub steps_needed : {D : Type 0} (slot : Ghosts D) (t p : ℕ) (start now new : Owned D) → Makes slot (IsAsked t (held_of slot start) []) start now → EntersNeeded t (page_len p (held_of slot start)) start now
+    → EntersNeeded t (page_len p (held_of slot now)) now new → EntersNeeded t (page_len p (held_of slot start)) start new
+steps_needed slot t p start now new asked before step =
+    needs_more t (page_len p (held_of slot start)) start now new before
+    (subst (λ (h : Holdings). EntersNeeded t (page_len p h) now new) (asked_held slot t start now asked) step)
 
 -- a failed load, and its refusal
 unread_is : (t : ℕ) (h : Holdings) (p entry : ℕ) (events read end : List Event) → IsAsked t h [] events → IsFailedRead p read → end ≡ Refused (Pin p) entry ∷ []

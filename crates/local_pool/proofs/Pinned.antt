@@ -32,10 +32,12 @@ use Rattle.pin_core.specs.Turns.{LacksRoom, IsStarted, IsWriting}
 use Rattle.local_pool.specs.declared.owned.Owned.{Owned}
 use Rattle.local_pool.specs.Told.{silence, held_of}
 use Rattle.local_pool.specs.Making.{Goes, Makes}
+use Rattle.local_pool.specs.Needing.{EntersNeeded}
 use Rattle.local_pool.specs.Standing.{Stands, is_moving}
 use Rattle.local_pool.specs.Turning.{CanRefuse, has_asked}
 use Rattle.local_pool.specs.Pinning.{CanBePinned, MustRefuse, IsPinned}
 use Rattle.local_pool.proofs.Growing.{goes}
+use Rattle.local_pool.proofs.Needed.{needs_all}
 use Rattle.local_pool.proofs.Knowing.{Knows, knows, sound, owned, left_of}
 use Rattle.local_pool.proofs.Contents.{content_told}
 use Rattle.local_pool.proofs.Asked.{one_more, makes_one, rose, may_refuse}
@@ -124,6 +126,9 @@ module _ {D : Type 0} (slot : Ghosts D) (own : Owned D) (is : Stands slot own) (
 
     pub makes_here : Makes slot (IsPinned p.name) own new
     makes_here = makes_one slot own new is (PinHere p.name) went_here refl refl is.live (inl refl)
+
+    pub needed_here : EntersNeeded p.client (page_len p.name h) own new
+    needed_here = needs_all p.client (page_len p.name h) slot own new (PinHere p.name ∷ []) went_here (tt, tt)
 
   -- its client lacks the room
   pub lacks_here : (failure : Option ℕ) → LacksRoomFor s own.session p.name failure → LacksRoom s own.session p.client (page_len p.name h) failure

@@ -35,10 +35,12 @@ use Rattle.local_pool.specs.declared.tally.Tally.{Tally}
 use Rattle.local_pool.specs.Told.{silence, held_of}
 use Rattle.local_pool.specs.Counting.{Counted, SumsHold, all_failures, blocks_of, stored_by, tally_in, tally_with}
 use Rattle.local_pool.specs.Making.{Goes, Makes}
+use Rattle.local_pool.specs.Needing.{EntersNeeded}
 use Rattle.local_pool.specs.Standing.{Stands, IsStill, is_moving}
 use Rattle.local_pool.specs.Turning.{IsEnd, IsWrite, writes_left, Ends, CanWrite, stored_with}
 use Rattle.local_pool.proofs.Growing.{AllCalm, grown, makes, sums_by}
 use Rattle.local_pool.proofs.Knowing.{Knows, knows, sound, owned}
+use Rattle.local_pool.proofs.Needed.{needs_all, needed_write}
 use Rattle.local_pool.proofs.Still.{out_still, written_still, unwritten_still}
 use Rattle.local_pool.proofs.Waiting.{IsDirtyOf, newest_is, out, written_left, unwritten_left}
 use Rattle.local_pool.proofs.Counting.{fixed, tally_same}
@@ -187,6 +189,9 @@ module _ {D : Type 0} (slot : Ghosts D) (own : Owned D) (is : Stands slot own) w
         ended = ends.ended;
         are = refl;
       })
+
+      pub needed_write_out : EntersNeeded c amount own new
+      needed_write_out = needs_all c amount slot own new made goes_write (needed_write c amount (state_of own.pool) own.session job.id.name ends.end ends.ended lacks.full)
 
       pub left_write : writes_left new.session c (state_of new.pool) < writes_left own.session c (state_of own.pool)
       left_write =

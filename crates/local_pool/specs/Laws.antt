@@ -1,7 +1,5 @@
 -- What the pool of one owner shows at any time. The laws of the store cite this.
-use Rattle.std.specs.Prelude.{Some}
 use Rattle.outside.specs.declared.slot.Slot.{Ghosts}
-use Rattle.pool_model.specs.declared.entry.Entry.{Entry}
 use Rattle.store_api.specs.Entries.{TellsLeft}
 use Rattle.own_entries.proofs.LeftTold.{left_is_told}
 use Rattle.pin_core.specs.StateOf.{state_of}

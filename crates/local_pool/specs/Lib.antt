@@ -4,6 +4,7 @@ pub mod Agreeing
 pub mod Making
 pub mod Refusing
 pub mod Standing
+pub mod Needing
 pub mod Turning
 pub mod Calling
 pub mod Beginning

@@ -12,12 +12,13 @@ use Rattle.pin_core.specs.Standing.{StandsFor, slots_home}
 use Rattle.local_pool.specs.declared.owned.Owned.{Owned}
 use Rattle.local_pool.specs.Told.{all_tell, outset_of, is_spent}
 
--- the trail grew by entries of the owner, of whose events this holds; what was fixed at opening is as it was
+-- the owner entered events of which this holds, in the pool and in its trail; what was fixed at opening is as it was
 pub record Makes {D : Type 0} (slot : Ghosts D) (P : List Event → Type 0) (old new : Owned D) : Type 0 where
   pub events : List Event
   pub is : P events
   pub trail : new.trail ≡ old.trail ++ by old.session events
   pub session : new.session ≡ old.session
+  pub state : state_of new.pool ≡ run (state_of old.pool) (by old.session events)
   pub block_len : (state_of new.pool).block_len ≡ (state_of old.pool).block_len
   pub outset : outset_of slot new.pool ≡ outset_of slot old.pool
   pub spent : is_spent (state_of old.pool) ≡ true → is_spent (state_of new.pool) ≡ true

@@ -17,6 +17,7 @@ use Rattle.local_pool.specs.declared.pinning.PinStep.{PinStep}
 use Rattle.local_pool.specs.declared.pinning.PinStep.TheVariants.{Pinned, Refused, Wrote, Failed}
 use Rattle.local_pool.specs.Told.{held_of}
 use Rattle.local_pool.specs.Making.{Makes}
+use Rattle.local_pool.specs.Needing.{EntersNeeded}
 use Rattle.local_pool.specs.Turning.{IsWrite, Rose, writes_left}
 use Rattle.local_pool.specs.Calling.{Evicts}
 
@@ -41,9 +42,9 @@ pub record MustRefuse {D : Type 0} (t p entry : ℕ) (own : Owned D) : Type 0 wh
 
 module _ {D : Type 0} (slot : Ghosts D) where
   -- whether the page is pinned and shows what was left, the call is refused for a failure, a page was written, or the
-  -- page's load failed
+  -- page's load failed; and what was entered was needed
   abbrev pub PinIs : PageToken → PinStep → Owned D → Owned D → Type 0
-  PinIs p (Pinned buf) old new = Makes slot (IsPinned p.name) old new × ShowsLeft (page_of p.name (held_of slot old)) (held_of slot old) buf
+  PinIs p (Pinned buf) old new = Makes slot (IsPinned p.name) old new × ShowsLeft (page_of p.name (held_of slot old)) (held_of slot old) buf × EntersNeeded p.client (page_len p.name (held_of slot old)) old new
   PinIs p (Refused entry) old new = MustRefuse p.client p.name entry new × (new ≡ old)
-  PinIs p Wrote old new = Makes slot (IsWrite p.client (held_of slot old)) old new × (writes_left new.session p.client (state_of new.pool) < writes_left old.session p.client (state_of old.pool))
-  PinIs p (Failed entry) old new = MustRefuse p.client p.name entry new × Makes slot (IsFailedRead p.name) old new × IsSome ((held_of slot old).clients p.client)
+  PinIs p Wrote old new = Makes slot (IsWrite p.client (held_of slot old)) old new × (writes_left new.session p.client (state_of new.pool) < writes_left old.session p.client (state_of old.pool)) × EntersNeeded p.client (page_len p.name (held_of slot old)) old new
+  PinIs p (Failed entry) old new = MustRefuse p.client p.name entry new × Makes slot (IsFailedRead p.name) old new × IsSome ((held_of slot old).clients p.client) × EntersNeeded p.client (page_len p.name (held_of slot old)) old new

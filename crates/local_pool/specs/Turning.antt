@@ -24,6 +24,7 @@ use Rattle.local_pool.specs.declared.owned.Owned.{Owned}
 use Rattle.local_pool.specs.Told.{held_of}
 use Rattle.local_pool.specs.Counting.{Counted, all_failures, tally_in, tally_with}
 use Rattle.local_pool.specs.Making.{Makes}
+use Rattle.local_pool.specs.Needing.{EntersNeeded}
 use Rattle.local_pool.specs.declared.turning.Turn.{Turn}
 use Rattle.local_pool.specs.declared.turning.Turn.TheVariants.{Ready, Refused, Wrote}
 use Rattle.pool_model.specs.Sums.{HasRoom}
@@ -93,11 +94,11 @@ module _ {D : Type 0} (slot : Ghosts D) where
     pub by : job.who ≡ own.session
     pub content : job.buf.bytes ≡ content_from job.id.name [] own.trail
 
-  -- whether the call has its room, was refused for a failure, or a page was written
+  -- whether the call has its room, was refused for a failure, or a page was written, as was needed
   abbrev pub TurnIs : ℕ → ℕ → Turn → Owned D → Owned D → Type 0
   TurnIs t amount Ready old new = HasRoom (state_of old.pool) t amount × (new ≡ old)
   TurnIs t amount (Refused entry) old new = LacksRoom (state_of old.pool) old.session t amount (Some entry) × (new ≡ old)
-  TurnIs t amount Wrote old new = Makes slot (IsWrite t (held_of slot old)) old new × (writes_left new.session t (state_of new.pool) < writes_left old.session t (state_of old.pool))
+  TurnIs t amount Wrote old new = Makes slot (IsWrite t (held_of slot old)) old new × (writes_left new.session t (state_of new.pool) < writes_left old.session t (state_of old.pool)) × EntersNeeded t amount old new
 
   -- a call of the owner lacks room of its client, for the failure with this number
   pub record CanRefuse (t amount : ℕ) (call : Call) (entry : ℕ) (own : Owned D) : Type 0 where

@@ -11,6 +11,7 @@ ghost use Rattle.store_api.specs.Conditions.{IsLiveClient};
 ghost use Rattle.store_api.specs.Entries.{IsAsked};
 ghost use Rattle.local_pool.specs.Told.{held_of};
 ghost use Rattle.local_pool.specs.Making.{Makes};
+ghost use Rattle.local_pool.specs.Needing.{EntersNeeded};
 ghost use Rattle.local_pool.specs.Refusing.{Refuses};
 ghost use Rattle.local_pool.specs.Turning.{CanRefuse, IsRoomCall, Rose, Wants};
 
@@ -54,6 +55,7 @@ impl<D: Slot + Drop> Alone<D> {
         ensures ok { OnOk result (Makes D.Slot (IsAsked c.now.tracker (held_of D.Slot self.old) []) self.old self.new) }
         ensures room { OnOk result (HasRoom (state_of self.new.pool) c.now.tracker (amount_of want)) }
         ensures err { IfErr result (Refuses D.Slot c.now.tracker call.now self.old self.new) }
+        ensures needed { EntersNeeded c.now.tracker (amount_of want) self.old self.new }
     {
         self.ask();
         loop {

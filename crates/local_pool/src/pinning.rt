@@ -12,6 +12,7 @@ ghost use Rattle.store_api.specs.Conditions.{IsPage, ShowsLeft};
 ghost use Rattle.store_api.specs.Entries.{IsPin};
 ghost use Rattle.local_pool.specs.Told.{held_of};
 ghost use Rattle.local_pool.specs.Making.{Makes};
+ghost use Rattle.local_pool.specs.Needing.{AllNeeded};
 ghost use Rattle.local_pool.specs.Refusing.{Refuses};
 ghost use Rattle.local_pool.specs.Standing.{Stands};
 ghost use Rattle.local_pool.specs.Turning.{has_asked};
@@ -51,6 +52,9 @@ impl<D: Slot + Drop> Alone<D> {
         ensures ok { OnOk result (Makes D.Slot (IsPin p.now.client (held_of D.Slot self.old) p.now.name) self.old self.new) }
         ensures bytes { IfOk result (ShowsLeft (page_of p.now.name (held_of D.Slot self.old)) (held_of D.Slot self.old)) }
         ensures err { IfErr result (Refuses D.Slot p.now.client (call.Pin p.now.name) self.old self.new) }
+
+        // Its client's pages are written only while room lacks, and clean ones evicted only while free blocks lack.
+        ensures needed { AllNeeded p.now.client (page_len p.now.name (held_of D.Slot self.old)) self.old self.new }
     {
         self.ask();
         loop {

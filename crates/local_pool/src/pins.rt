@@ -9,6 +9,7 @@ ghost use Rattle.store_api.specs.Conditions.{IsPage, IsLoan, IsLiveClient};
 ghost use Rattle.store_api.specs.Entries.{IsAsked};
 ghost use Rattle.local_pool.specs.Told.{held_of};
 ghost use Rattle.local_pool.specs.Making.{Makes};
+ghost use Rattle.local_pool.specs.Needing.{AllNeeded};
 ghost use Rattle.local_pool.specs.Refusing.{Refuses};
 
 use crate::entering::enter;
@@ -27,6 +28,9 @@ impl<D: Slot + Drop> Alone<D> {
         requires unused { page_len p.now.name (held_of D.Slot self.old) ≤ unused_of p.now.client (held_of D.Slot self.old) }
         ensures ok { OnOk result (Makes D.Slot (IsAsked p.now.client (held_of D.Slot self.old) (event.PinAgain p.now.name ∷ [])) self.old self.new) }
         ensures err { IfErr result (Refuses D.Slot p.now.client (call.PinAgain p.now.name) self.old self.new) }
+
+        // Its client's pages are written only while room lacks.
+        ensures needed { AllNeeded p.now.client (page_len p.now.name (held_of D.Slot self.old)) self.old self.new }
     {
         let page = p.name();
         let bytes = self.page_len(p);
@@ -88,6 +92,9 @@ impl<D: Slot + Drop> Alone<D> {
         ensures moved { IfOk result (λ moved. moved ≡ record loan { client = to.now.tracker }) }
         ensures back { IfErr result (λ e. e.0 ≡ loan) }
         ensures err { IfErr result (λ e. Refuses D.Slot to.now.tracker (call.MoveBuffer loan.number to.now.tracker) self.old self.new e.1) }
+
+        // That client's pages are written only while room lacks.
+        ensures needed { AllNeeded to.now.tracker (loan_len loan.number (held_of D.Slot self.old)) self.old self.new }
     {
         let bytes = loan.buf().len() as u64;
         let call = Call::MoveBuffer {

@@ -10,6 +10,7 @@ ghost use Rattle.store_api.specs.Entries.{IsAsked};
 ghost use Rattle.store_api.specs.Refusals.{move_refusal};
 ghost use Rattle.local_pool.specs.Told.{held_of};
 ghost use Rattle.local_pool.specs.Making.{Makes};
+ghost use Rattle.local_pool.specs.Needing.{AllNeeded};
 ghost use Rattle.local_pool.specs.Refusing.{Refuses};
 
 use crate::entering::enter;
@@ -27,6 +28,9 @@ impl<D: Slot + Drop> Alone<D> {
         requires unused { bytes ≤ unused_of c.now.tracker (held_of D.Slot self.old) }
         ensures ok { OnOk result (Makes D.Slot (IsAsked c.now.tracker (held_of D.Slot self.old) (event.Decrease c.now.tracker bytes ∷ [])) self.old self.new) }
         ensures err { IfErr result (Refuses D.Slot c.now.tracker (call.GiveBack c.now.tracker bytes) self.old self.new) }
+
+        // The client's pages are written only while room lacks.
+        ensures needed { AllNeeded c.now.tracker bytes self.old self.new }
     {
         let client = c.tracker();
         self.make_room(c, Want::Shrink(bytes), &Call::GiveBack { client, bytes })?;
@@ -66,6 +70,9 @@ impl<D: Slot + Drop> Alone<D> {
         ensures ok { OnOk result (Makes D.Slot (IsAsked from.now.tracker (held_of D.Slot self.old) (event.MoveReservation from.now.tracker to.now.tracker bytes ∷ [])) self.old self.new) }
         ensures refused { IfSome (move_refusal from.now.tracker to.now.tracker bytes (held_of D.Slot self.old)) (λ e. (result ≡ Err e) × (self.new ≡ self.old)) }
         ensures err { IfNone (move_refusal from.now.tracker to.now.tracker bytes (held_of D.Slot self.old)) (IfErr result (Refuses D.Slot from.now.tracker (call.MoveReservation from.now.tracker to.now.tracker bytes) self.old self.new)) }
+
+        // The first client's pages are written only while room lacks.
+        ensures needed { AllNeeded from.now.tracker bytes self.old self.new }
     {
         self.may_move(from, to, bytes)?;
         let (giver, getter) = (from.tracker(), to.tracker());

@@ -5,9 +5,9 @@ use Rattle.store_api.specs.Holdings.{page_len}
 use Rattle.local_pool.specs.declared.owned.Owned.{Owned}
 use Rattle.local_pool.specs.Told.{held_of}
 use Rattle.local_pool.specs.Pinning.{MustRefuse}
-use Rattle.local_pool.proofs.Turned.{can_write, stands_write, makes_write, left_write}
-use Rattle.local_pool.proofs.Pinned.{can_pin, waits_never, stands_here, makes_here, shows_here, must_refuse, client_lives, lacks_here, starts_here}
-use Rattle.local_pool.proofs.Fetched.{can_read, stands_read, makes_read, shows_read, stands_unread, makes_unread, must_fail}
+use Rattle.local_pool.proofs.Turned.{can_write, stands_write, makes_write, left_write, needed_write_out}
+use Rattle.local_pool.proofs.Pinned.{can_pin, waits_never, stands_here, makes_here, needed_here, shows_here, must_refuse, client_lives, lacks_here, starts_here}
+use Rattle.local_pool.proofs.Fetched.{can_read, stands_read, makes_read, needed_read, shows_read, stands_unread, makes_unread, needed_unread, must_fail}
 use Rattle.local_pool.proofs.pinning.step.Goals as goal
 
 pub pin_turn-requires : goal.pin_turn-requires
@@ -23,6 +23,7 @@ returns-in-Here-clause-turn g c =
     let entered : new.trail ≡ own.trail ++ by own.session (PinHere c.args.p.now.name ∷ []) = subst (λ (p : ℕ). new.trail ≡ own.trail ++ by own.session (PinHere p ∷ [])) c.name.ensures c.enter.ensures in (
       makes_here g.D.Slot own c.requires.stands c.args.p.now c.requires.can new entered refl c.in-Here.ensures.enters,
       shows_here g.D.Slot own c.requires.stands c.args.p.now c.requires.can c.in-Here.buf c.in-Here.ensures.turn.1,
+      needed_here g.D.Slot own c.requires.stands c.args.p.now c.requires.can new entered refl c.in-Here.ensures.enters,
     )
 
 pub returns-in-Here-clause-stands : goal.returns-in-Here-clause-stands
@@ -48,6 +49,7 @@ returns-in-Ok-clause-turn g c =
     let entered = c.tick.ensures ∙ ap (λ es. own.trail ++ es) c.requires.named in (
       makes_read g.D.Slot own c.requires.stands c.args.p.now c.requires.can c.in-Load.job went c.in-Load.ensures.turn.2 c.in-Load.ensures.turn.0 c.in-Load.ensures.enters entered refl c.read_back.new.own c.in-Ok.buf c.in-Ok.ensures.ok,
       shows_read g.D.Slot own c.requires.stands c.args.p.now c.requires.can c.in-Load.job went c.in-Load.ensures.turn.2 c.in-Load.ensures.turn.0 c.in-Load.ensures.enters entered refl c.read_back.new.own c.in-Ok.buf c.in-Ok.ensures.ok,
+      needed_read g.D.Slot own c.requires.stands c.args.p.now c.requires.can c.in-Load.job went c.in-Load.ensures.turn.2 c.in-Load.ensures.turn.0 c.in-Load.ensures.enters entered refl c.read_back.new.own c.in-Ok.buf c.in-Ok.ensures.ok,
     )
 
 pub returns-in-Ok-clause-stands : goal.returns-in-Ok-clause-stands
@@ -66,6 +68,7 @@ returns-in-Err-ReadFault-clause-turn g c =
       must_fail g.D.Slot own c.requires.stands c.args.p.now c.requires.can c.in-Load.job went it.turn.2 it.turn.0 it.enters entered refl c.read_back.new.own c.in-Err-ReadFault.field-0 c.in-Err-ReadFault.ensures.err c.in-Err-ReadFault.entry c.in-Err-ReadFault.field-0-is c.requires.asked,
       makes_unread g.D.Slot own c.requires.stands c.args.p.now c.requires.can c.in-Load.job went it.turn.2 it.turn.0 it.enters entered refl c.read_back.new.own c.in-Err-ReadFault.field-0 c.in-Err-ReadFault.ensures.err,
       client_lives g.D.Slot own c.requires.stands c.args.p.now c.requires.can,
+      needed_unread g.D.Slot own c.requires.stands c.args.p.now c.requires.can c.in-Load.job went it.turn.2 it.turn.0 it.enters entered refl c.read_back.new.own c.in-Err-ReadFault.field-0 c.in-Err-ReadFault.ensures.err,
     )
 
 pub returns-in-Err-ReadFault-clause-stands : goal.returns-in-Err-ReadFault-clause-stands
@@ -103,6 +106,7 @@ returns-in-Write-clause-turn g c =
     let started = starts_here g.D.Slot own c.requires.stands c.args.p.now c.requires.can c.in-Write.job c.pin_turn.new.self it.turn.1 in (
       makes_write g.D.Slot own c.requires.stands c.args.p.now.client (page_len c.args.p.now.name (held_of g.D.Slot own)) some c.in-Write.job c.pin_turn.new.self went lacks started it.enters refl c.enter_started.ensures refl c.write_out.new.own c.write_out.ensures.ends,
       left_write g.D.Slot own c.requires.stands c.args.p.now.client (page_len c.args.p.now.name (held_of g.D.Slot own)) some c.in-Write.job c.pin_turn.new.self went lacks started it.enters refl c.enter_started.ensures refl c.write_out.new.own c.write_out.ensures.ends,
+      needed_write_out g.D.Slot own c.requires.stands c.args.p.now.client (page_len c.args.p.now.name (held_of g.D.Slot own)) some c.in-Write.job c.pin_turn.new.self went lacks started it.enters refl c.enter_started.ensures refl c.write_out.new.own c.write_out.ensures.ends,
     )
 
 pub returns-in-Write-clause-stands : goal.returns-in-Write-clause-stands

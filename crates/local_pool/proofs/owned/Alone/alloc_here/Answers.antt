@@ -6,8 +6,9 @@ use Rattle.store_api.specs.Holdings.{length_of}
 use Rattle.local_pool.specs.declared.owned.Owned.{Owned}
 use Rattle.local_pool.specs.Told.{held_of}
 use Rattle.local_pool.specs.Making.{Makes}
+use Rattle.local_pool.specs.Needing.{EntersNeeded}
 use Rattle.local_pool.specs.Calling.{Evicts, IsFreshLoan}
-use Rattle.local_pool.proofs.Arrivals.{may_hold, stands_evicting, makes_evicting, fresh_loan}
+use Rattle.local_pool.proofs.Arrivals.{may_hold, stands_evicting, makes_evicting, needed_evicting, fresh_loan}
 use Rattle.local_pool.proofs.owned.Alone.alloc_here.Goals as goal
 
 pub alloc_named-requires-clause-can : goal.alloc_named-requires-clause-can
@@ -33,3 +34,10 @@ returns-clause-loan g c =
     subst (λ (t : ℕ). IsFreshLoan t c.args.shell c.alloc_named.result (held_of g.D.Slot c.args.self.now)) c.tracker.ensures
     (subst (λ (o : Owned g.row.D.Denot). IsFreshLoan c.tracker.result c.args.shell c.alloc_named.result (held_of g.D.Slot o)) c.self.view_is
     (fresh_loan g.D.Slot c.self.inside.own c.self.invariant c.tracker.result c.args.shell c.alloc_named.result c.alloc_named.ensures.fresh c.alloc_named.ensures.loan))
+
+pub returns-clause-needed : goal.returns-clause-needed
+returns-clause-needed g c =
+    subst (λ (t : ℕ). EntersNeeded t (length_of c.args.shell (held_of g.D.Slot c.args.self.now)) c.args.self.now c.alloc_named.new.own) c.tracker.ensures
+    (subst (λ (o : Owned g.row.D.Denot). EntersNeeded c.tracker.result (length_of c.args.shell (held_of g.D.Slot o)) o c.alloc_named.new.own) c.self.view_is
+    (needed_evicting g.D.Slot c.self.inside.own c.alloc_named.new.own c.self.invariant c.args.shell (Alloc c.alloc_named.result.number c.tracker.result c.args.shell)
+    c.alloc_named.ensures.goes refl refl c.self.invariant.live c.tracker.result (λ s. tt) c.alloc_named.ensures.room))

@@ -7,8 +7,9 @@ use Rattle.store_api.specs.Holdings.{length_of}
 use Rattle.local_pool.specs.declared.owned.Owned.{Owned}
 use Rattle.local_pool.specs.Told.{held_of, signs_of}
 use Rattle.local_pool.specs.Making.{Makes}
+use Rattle.local_pool.specs.Needing.{EntersNeeded}
 use Rattle.local_pool.specs.Calling.{Evicts, IsFreshPage}
-use Rattle.local_pool.proofs.Arrivals.{may_hold, stands_created, makes_created, fresh_created, spent_created}
+use Rattle.local_pool.proofs.Arrivals.{may_hold, stands_created, makes_created, needed_created, fresh_created, spent_created}
 use Rattle.local_pool.proofs.owned.Alone.create_here.Goals as goal
 
 pub create_named-requires-clause-can : goal.create_named-requires-clause-can
@@ -37,3 +38,9 @@ pub returns-clause-err : goal.returns-clause-err
 returns-clause-err g c =
     subst (λ (o : Owned g.row.D.Denot). IfErr c.create_named.result (λ e. (e ≡ NamesSpent) × (c.create_named.new.own ≡ o) × ((signs_of o).spent ≡ true))) c.self.view_is
     (spent_created g.D.Slot c.self.inside.own c.create_named.new.own c.self.invariant c.tracker.result c.args.shell c.create_named.result c.create_named.ensures.err)
+
+pub returns-clause-needed : goal.returns-clause-needed
+returns-clause-needed g c =
+    subst (λ (t : ℕ). EntersNeeded t (length_of c.args.shell (held_of g.D.Slot c.args.self.now)) c.args.self.now c.create_named.new.own) c.tracker.ensures
+    (subst (λ (o : Owned g.row.D.Denot). EntersNeeded c.tracker.result (length_of c.args.shell (held_of g.D.Slot o)) o c.create_named.new.own) c.self.view_is
+    (needed_created g.D.Slot c.self.inside.own c.create_named.new.own c.self.invariant c.tracker.result c.args.shell c.create_named.result c.create_named.ensures.goes c.create_named.ensures.err c.create_named.ensures.room))

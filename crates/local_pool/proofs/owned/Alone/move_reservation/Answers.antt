@@ -6,6 +6,7 @@ use Rattle.store_api.specs.Refusals.{move_refusal}
 use Rattle.local_pool.specs.Told.{held_of}
 use Rattle.local_pool.proofs.Making.{asked_held}
 use Rattle.local_pool.proofs.Accounts.{asked_then, no_error_told}
+use Rattle.local_pool.proofs.Needed.{all_needed, none_needed, then_needed}
 use Rattle.local_pool.proofs.owned.Alone.move_reservation.Goals as goal
 
 pub pass_on-requires-clause-from : goal.pass_on-requires-clause-from
@@ -28,3 +29,13 @@ pass_on-requires-clause-granted g c =
 pub returns-clause-ok : goal.returns-clause-ok
 returns-clause-ok g c =
     asked_then g.D.Slot c.args.from.now.tracker (MoveReservation c.args.from.now.tracker c.args.to.now.tracker c.args.bytes) c.args.self.now c.make_room.new.self c.pass_on.new.self c.in_ok-make_room.ensures.ok c.pass_on.ensures
+
+pub returns-in_err-may_move-clause-needed : goal.returns-in_err-may_move-clause-needed
+returns-in_err-may_move-clause-needed g c = none_needed c.args.from.now.tracker c.args.bytes c.args.self.now
+
+pub returns-in_err-make_room-clause-needed : goal.returns-in_err-make_room-clause-needed
+returns-in_err-make_room-clause-needed g c = all_needed c.args.from.now.tracker c.args.bytes c.args.self.now c.make_room.new.self c.make_room.ensures.needed
+
+pub returns-clause-needed : goal.returns-clause-needed
+returns-clause-needed g c =
+    then_needed c.args.from.now.tracker c.args.bytes g.D.Slot c.args.self.now c.make_room.new.self c.pass_on.new.self (MoveReservation c.args.from.now.tracker c.args.to.now.tracker c.args.bytes) (λ s. tt) c.make_room.ensures.needed c.pass_on.ensures

@@ -6,7 +6,7 @@ use Rattle.local_pool.specs.Told.{held_of}
 use Rattle.local_pool.specs.Standing.{Stands}
 use Rattle.local_pool.specs.Turning.{TurnIs}
 use Rattle.local_pool.proofs.Knowing.{knows}
-use Rattle.local_pool.proofs.Turned.{can_write, stands_write, makes_write, left_write, none_flies, same_stands}
+use Rattle.local_pool.proofs.Turned.{can_write, stands_write, makes_write, left_write, needed_write_out, none_flies, same_stands}
 use Rattle.local_pool.proofs.owned.Alone.turn.Goals as goal
 use Rattle.local_pool.proofs.owned.Alone.turn.Goals.{in-Ready, in-Refused, in-Write}
 
@@ -64,5 +64,6 @@ returns g c =
           (subst (λ r. TurnIs g.D.Slot c.args.c.now.tracker (amount_of c.args.want) r c.self.inside.own w.write_out.new.own) (sym w.result-is) (
             makes_write g.D.Slot c.self.inside.own c.self.invariant c.args.c.now.tracker (amount_of c.args.want) some w.in-Write.job c.room_turn.new.self went it.turn.0 it.turn.1 it.enters refl w.enter_started.ensures refl w.write_out.new.own w.write_out.ensures.ends,
             left_write g.D.Slot c.self.inside.own c.self.invariant c.args.c.now.tracker (amount_of c.args.want) some w.in-Write.job c.room_turn.new.self went it.turn.0 it.turn.1 it.enters refl w.enter_started.ensures refl w.write_out.new.own w.write_out.ensures.ends,
+            needed_write_out g.D.Slot c.self.inside.own c.self.invariant c.args.c.now.tracker (amount_of c.args.want) some w.in-Write.job c.room_turn.new.self went it.turn.0 it.turn.1 it.enters refl w.enter_started.ensures refl w.write_out.new.own w.write_out.ensures.ends,
           ))
     ])

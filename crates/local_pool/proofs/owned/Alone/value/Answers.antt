@@ -1,5 +1,4 @@
 use Rattle.std.proofs.Common.{subst}
-use Rattle.local_pool.specs.declared.owned.Owned.{Owned}
 use Rattle.local_pool.specs.Agreeing.{AgreesWith}
 use Rattle.local_pool.proofs.Knowing.{Knows, knows}
 use Rattle.local_pool.proofs.owned.Alone.value.Goals as goal
