@@ -40,6 +40,7 @@ use Rattle.pin_core.specs.Standing.{Enters}
 use Rattle.pin_core.specs.Entering.{unused_of, growth_refusal, fit_refusal, client_entry, move_entry}
 use Rattle.pin_core.specs.Opening.{leaving_entries}
 use Rattle.local_pool.specs.declared.owned.Owned.{Owned}
+use Rattle.local_pool.specs.declared.tally.Tally.{Tally}
 use Rattle.local_pool.specs.Told.{all_tell, held_of}
 use Rattle.local_pool.specs.Making.{Goes, Makes, is_calm, rests}
 use Rattle.local_pool.specs.Standing.{IsStill, Stands}
@@ -48,7 +49,6 @@ use Rattle.local_pool.proofs.Asked.{one_more, makes_one}
 use Rattle.local_pool.proofs.Making.{asked_last, makes_more}
 use Rattle.local_pool.proofs.Still.{still_run}
 use Rattle.local_pool.proofs.Knowing.{Knows, knows, held_is, sound, owned, left_of}
-use Rattle.local_pool.proofs.Counting.{fixed}
 
 -- an error of the pool is the store's
 refused_so : (r : Option Refusal) (o : Option PoolErr) (e : PoolErr) → option_map no_reservation r ≡ o → IsFrom r e → o ≡ Some e
@@ -145,7 +145,7 @@ pub asked_then : {D : Type 0} (slot : Ghosts D) (t : ℕ) (e : Event) (start now
 asked_then slot t e start now new asked last =
     makes_more slot start now new asked last (subst (λ (es : List Event). IsAsked t (held_of slot start) (e ∷ []) (asked.events ++ es)) (sym last.is) (asked_last t (held_of slot start) asked.events (e ∷ []) asked.is))
 
-module _ {D : Type 0} (slot : Ghosts D) (own : Owned D) (is : Stands slot own) where
+module _ {D : Type 0} (slot : Ghosts D) (own : Owned D) {tally : Option Tally} (is : Stands slot tally own) where
   abbrev s : State
   s = state_of own.pool
 
@@ -253,7 +253,7 @@ module _ {D : Type 0} (slot : Ghosts D) (own : Owned D) (is : Stands slot own) w
 
   -- one entry more that grows or moves reservation
   reserved_so : (e : Event) → is_of_bytes e ≡ true → (new : Owned D) → Enters slot (record { maker = own.session; event = e } ∷ []) [] [] own.pool new.pool
-      → new.trail ≡ own.trail ++ record { maker = own.session; event = e } ∷ [] → fixed new ≡ fixed own → Stands slot new × Makes slot (λ events. events ≡ e ∷ []) own new
+      → new.trail ≡ own.trail ++ record { maker = own.session; event = e } ∷ [] → new.session ≡ own.session → Stands slot tally new × Makes slot (λ events. events ≡ e ∷ []) own new
   reserved_so e of new enters trail session =
       let went : Goes slot (e ∷ []) own new = goes slot own new (e ∷ []) trail session enters in
       let live : is_some (after_events held (e ∷ [])).free_slots ≡ true = bytes_live e held of is.live in
@@ -262,23 +262,23 @@ module _ {D : Type 0} (slot : Ghosts D) (own : Owned D) (is : Stands slot own) w
   -- a client came
   pub came : (t u q limit : ℕ) (new : Owned D) → u ≡ t → q ≡ query_of s own.session → (client_count s own.session ≡ 16 → ⊥)
       → Enters slot (client_entry own.session (query_of s own.session) limit t ∷ []) [] [] own.pool new.pool
-      → new.trail ≡ own.trail ++ record { maker = own.session; event = AddTracker u q limit None } ∷ [] → fixed new ≡ fixed own
-      → Stands slot new × Makes slot (λ events. events ≡ AddTracker t held.query limit None ∷ []) own new
+      → new.trail ≡ own.trail ++ record { maker = own.session; event = AddTracker u q limit None } ∷ [] → new.session ≡ own.session
+      → Stands slot tally new × Makes slot (λ events. events ≡ AddTracker t held.query limit None ∷ []) own new
   came t u q limit new same_t same_q free enters trail session =
       let e : Event = AddTracker t held.query limit None in
       let entered : Enters slot (by own.session (e ∷ [])) [] [] own.pool new.pool = subst (λ (k : ℕ). Enters slot (client_entry own.session k limit t ∷ []) [] [] own.pool new.pool) query_is enters in
       let grew : new.trail ≡ own.trail ++ by own.session (e ∷ []) = trail ∙ ap (λ (k : ℕ). own.trail ++ client_entry own.session q limit k ∷ []) same_t ∙ ap (λ (k : ℕ). own.trail ++ client_entry own.session k limit t ∷ []) (same_q ∙ query_is) in
       let went : Goes slot (e ∷ []) own new = goes slot own new (e ∷ []) grew session entered in
       let still : IsStill (state_of new.pool) = subst IsStill (sym went.state) (still_run own.session (e ∷ []) s (refl, tt) is.still) in
-      let stands : Stands slot new = grown_by slot own new (e ∷ []) went is (refl, tt) is.live (fewer free) still (sums_rest slot own new (e ∷ []) went is (refl, tt)) in
+      let stands : Stands slot tally new = grown_by slot own new (e ∷ []) went is (refl, tt) is.live (fewer free) still (sums_rest slot own new (e ∷ []) went is (refl, tt)) in
       (stands, makes slot own new (e ∷ []) went is stands refl)
 
   -- a client went
   left : (c t q bytes : ℕ) (new : Owned D) (first : List Entry) → IsSome (held.clients c) → IsIdle c held → t ≡ c → q ≡ query_of s own.session → bytes ≡ reservation_of s.trackers c
       → Enters slot (leaving_entries s own.session c) [] [] own.pool new.pool
       → first ≡ own.trail ++ record { maker = own.session; event = MoveReservation t q bytes } ∷ []
-      → new.trail ≡ first ++ record { maker = own.session; event = CloseTracker t } ∷ [] → fixed new ≡ fixed own
-      → Stands slot new × Makes slot (λ events. events ≡ MoveReservation c held.query (account_of c held).reservation ∷ CloseTracker c ∷ []) own new
+      → new.trail ≡ first ++ record { maker = own.session; event = CloseTracker t } ∷ [] → new.session ≡ own.session
+      → Stands slot tally new × Makes slot (λ events. events ≡ MoveReservation c held.query (account_of c held).reservation ∷ CloseTracker c ∷ []) own new
   left c t q bytes new first some idle same_t same_q same_bytes enters trail_first trail session =
       let m : ℕ = own.session in
       let events : List Event = MoveReservation c held.query (account_of c held).reservation ∷ CloseTracker c ∷ [] in
@@ -294,7 +294,7 @@ module _ {D : Type 0} (slot : Ghosts D) (own : Owned D) (is : Stands slot own) w
       let ends : after_events held events ≡ after_end_client c held = (calls_tell m held).end_client c some (knows slot own is).fits.apart in
       let few : (after_end_client c held).live_clients ≤ 16 = let now : held.live_clients ≤ 16 = is.few in omega (arith, now) in
       let still : IsStill (state_of new.pool) = subst IsStill (sym went.state) (still_run m events s (refl, (refl, tt)) is.still) in
-      let stands : Stands slot new =
+      let stands : Stands slot tally new =
       grown_by slot own new events went is (refl, (refl, tt)) (ap (λ (h : Holdings). is_some h.free_slots) ends ∙ is.live) (subst (λ (h : Holdings). h.live_clients ≤ 16) (sym ends) few) still (sums_rest slot own new events went is (refl, (refl, tt))) in
       (stands, makes slot own new events went is stands refl)
 
@@ -312,9 +312,9 @@ module _ {D : Type 0} (slot : Ghosts D) (own : Owned D) (is : Stands slot own) w
       token_is = made ∙ ap (λ (n : ℕ). record { session = own.session; tracker = n }) same
 
       pub reserved_by : (e : ℕ → Event) → ((k : ℕ) → is_of_bytes (e k) ≡ true) → (new : Owned D) → Enters slot (record { maker = mine.session; event = e mine.tracker } ∷ []) [] [] own.pool new.pool
-          → new.trail ≡ own.trail ++ record { maker = own.session; event = e t } ∷ [] → fixed new ≡ fixed own → Stands slot new × Makes slot (λ events. events ≡ e c ∷ []) now new
+          → new.trail ≡ own.trail ++ record { maker = own.session; event = e t } ∷ [] → new.session ≡ own.session → Stands slot tally new × Makes slot (λ events. events ≡ e c ∷ []) now new
       reserved_by e of new enters trail session =
-          let both : Stands slot new × Makes slot (λ events. events ≡ e c ∷ []) own new =
+          let both : Stands slot tally new × Makes slot (λ events. events ≡ e c ∷ []) own new =
           reserved_so (e c) (of c) new
           (subst (λ (k : ClientToken). Enters slot (record { maker = k.session; event = e k.tracker } ∷ []) [] [] own.pool new.pool) token_is enters)
           (trail ∙ ap (λ (k : ℕ). own.trail ++ record { maker = own.session; event = e k } ∷ []) same) session in
@@ -356,10 +356,10 @@ module _ {D : Type 0} (slot : Ghosts D) (own : Owned D) (is : Stands slot own) w
         pub went : IsIdle c (held_of slot now) → (u q bytes : ℕ) (new : Owned D) (first : List Entry) → u ≡ c → q ≡ query_of s own.session → bytes ≡ reservation_of s.trackers u
             → Enters slot (leaving_entries s mine.session mine.tracker) [] [] own.pool new.pool
             → first ≡ own.trail ++ record { maker = own.session; event = MoveReservation u q bytes } ∷ []
-            → new.trail ≡ first ++ record { maker = own.session; event = CloseTracker u } ∷ [] → fixed new ≡ fixed own
-            → Stands slot new × Makes slot (λ events. events ≡ MoveReservation c (held_of slot now).query (account_of c (held_of slot now)).reservation ∷ CloseTracker c ∷ []) now new
+            → new.trail ≡ first ++ record { maker = own.session; event = CloseTracker u } ∷ [] → new.session ≡ own.session
+            → Stands slot tally new × Makes slot (λ events. events ≡ MoveReservation c (held_of slot now).query (account_of c (held_of slot now)).reservation ∷ CloseTracker c ∷ []) now new
         went idle u q bytes new first same_u same_q same_bytes enters trail_first trail session =
-            let both : Stands slot new × Makes slot (λ events. events ≡ MoveReservation c held.query (account_of c held).reservation ∷ CloseTracker c ∷ []) own new =
+            let both : Stands slot tally new × Makes slot (λ events. events ≡ MoveReservation c held.query (account_of c held).reservation ∷ CloseTracker c ∷ []) own new =
             left c u q bytes new first (lives_here c some) (idle_here c idle) same_u same_q (same_bytes ∙ ap (reservation_of s.trackers) same_u)
             (subst (λ (k : ClientToken). Enters slot (leaving_entries s k.session k.tracker) [] [] own.pool new.pool) token_is enters) trail_first trail session in
             (both.0, subst (λ (o : Owned D). Makes slot (λ events. events ≡ MoveReservation c (held_of slot o).query (account_of c (held_of slot o)).reservation ∷ CloseTracker c ∷ []) o new) view both.1)
@@ -370,8 +370,8 @@ module _ {D : Type 0} (slot : Ghosts D) (own : Owned D) (is : Stands slot own) w
         other_is = made_other ∙ ap (λ (n : ℕ). record { session = own.session; tracker = n }) same_to
 
         pub moved_by : (bytes : ℕ) (new : Owned D) → Enters slot (move_entry mine.session mine.tracker other.tracker bytes ∷ []) [] [] own.pool new.pool
-            → new.trail ≡ own.trail ++ record { maker = own.session; event = MoveReservation t u bytes } ∷ [] → fixed new ≡ fixed own
-            → Stands slot new × Makes slot (λ events. events ≡ MoveReservation c to bytes ∷ []) now new
+            → new.trail ≡ own.trail ++ record { maker = own.session; event = MoveReservation t u bytes } ∷ [] → new.session ≡ own.session
+            → Stands slot tally new × Makes slot (λ events. events ≡ MoveReservation c to bytes ∷ []) now new
         moved_by bytes new enters trail session =
             reserved_by (λ k. MoveReservation k to bytes) (λ k. refl) new
             (subst (λ (k : ClientToken). Enters slot (move_entry mine.session mine.tracker k.tracker bytes ∷ []) [] [] own.pool new.pool) other_is enters)

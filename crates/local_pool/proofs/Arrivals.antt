@@ -1,5 +1,5 @@
 -- What a call made that asked first, and what comes while clean pages go.
-use Rattle.std.proofs.Common.{◌≡◌, ℕ, zero, suc, ◌+◌, ◌≤◌, ◌<◌, length, take, List, [], ◌∷◌, ◌++◌, map, replicate, Result, Ok, Err, None, IsSome, is_some, true, IfOk, IfErr, OnOk, All, refl, sym, ap, ◌∙◌, subst, arith, le-leb, inl, inr}
+use Rattle.std.proofs.Common.{◌≡◌, ℕ, zero, suc, ◌+◌, ◌≤◌, ◌<◌, length, take, List, [], ◌∷◌, ◌++◌, map, replicate, Result, Ok, Err, None, IsSome, is_some, true, IfOk, IfErr, OnOk, All, refl, sym, ap, ◌∙◌, subst, arith, le-leb, inl, inr, Option}
 use Rattle.std.proofs.lemmas.Bool.{leb-true, cases_lt, false≢true, ne_eqb}
 use Rattle.std.proofs.lemmas.List.{append_assoc, length-replicate}
 use Rattle.std.proofs.lemmas.List.Elements.{All-from_recursion, All-head, All-tail, filter_map-append}
@@ -30,6 +30,7 @@ use Rattle.pin_core.specs.Standing.{Enters}
 use Rattle.pin_core.specs.Evictions.{MakesRoom, blocks_in, evictions, names_gone}
 use Rattle.pin_core.specs.Coming.{CanHold, zeros}
 use Rattle.local_pool.specs.declared.owned.Owned.{Owned}
+use Rattle.local_pool.specs.declared.tally.Tally.{Tally}
 use Rattle.local_pool.specs.Told.{held_of, signs_of}
 use Rattle.local_pool.specs.Making.{Goes, Makes, is_calm, rests}
 use Rattle.local_pool.specs.Needing.{IsNeeded, EntersNeeded}
@@ -42,7 +43,6 @@ use Rattle.local_pool.proofs.Knowing.{knows, sound}
 use Rattle.local_pool.proofs.Still.{still_run}
 use Rattle.local_pool.proofs.Making.{makes_more, makes_grows, makes_made, asked_last, asked_held}
 use Rattle.local_pool.proofs.Reaching.{len_here, room_here}
-use Rattle.local_pool.proofs.Counting.{fixed}
 
 some_blocks : (blocks : ℕ) → IsBlockCount blocks → 0 < blocks
 some_blocks zero is = absurd (false≢true is)
@@ -105,7 +105,7 @@ module _ {D : Type 0} (slot : Ghosts D) where
 
   -- a call of the pool that evicts clean pages first
   pub goes_evicting : (own new : Owned D) (blocks : ℕ) (e entered : Event) (mid gone : List Entry) → gone ≡ by own.session (evicts_for blocks own) → mid ≡ own.trail ++ gone
-      → new.trail ≡ mid ++ by own.session (entered ∷ []) → entered ≡ e → fixed new ≡ fixed own
+      → new.trail ≡ mid ++ by own.session (entered ∷ []) → entered ≡ e → new.session ≡ own.session
       → Enters slot (evictions own.session (names_gone blocks own.pool) ++ record { maker = own.session; event = e } ∷ []) [] [] own.pool new.pool → Goes slot (evicts_for blocks own ++ e ∷ []) own new
   goes_evicting own new blocks e entered mid gone names first trail same session enters =
       let m : ℕ = own.session in
@@ -116,12 +116,12 @@ module _ {D : Type 0} (slot : Ghosts D) where
       ∙ append_assoc own.trail (by m evicts) (by m (e ∷ [])) ∙ ap (λ (es : List Entry). own.trail ++ es) (sym both)) session
       (subst (λ (es : List Entry). Enters slot es [] [] own.pool new.pool) (ap (λ (es : List Entry). es ++ by m (e ∷ [])) (sym (evicts_by m (names_gone blocks own.pool))) ∙ sym both) enters)
 
-  module _ (own new : Owned D) (is : Stands slot own) (blocks : ℕ) (e : Event) (went : Goes slot (evicts_for blocks own ++ e ∷ []) own new)
+  module _ (own new : Owned D) {first : Option Tally} (is : Stands slot first own) (blocks : ℕ) (e : Event) (went : Goes slot (evicts_for blocks own ++ e ∷ []) own new)
       (calm : is_calm e ≡ true) (rest : rests e ≡ true) (live : is_some (after_events (held_of slot own) (e ∷ [])).free_slots ≡ true) where
     abbrev names : List ℕ
     names = names_gone blocks own.pool
 
-    pub stands_evicting : Stands slot new
+    pub stands_evicting : Stands slot first new
     stands_evicting =
         grown slot own new (evicts_for blocks own ++ e ∷ []) went is (all_evicts (λ x. is_calm x ≡ true) (λ p. refl) names (e ∷ []) (calm, tt))
         (ap (λ (h : Holdings). is_some h.free_slots) (evicts_hold (held_of slot own) names (e ∷ [])) ∙ live)
@@ -143,7 +143,7 @@ module _ {D : Type 0} (slot : Ghosts D) where
         (needed_then t amount own.session (evicts_for blocks own) (e ∷ []) s (needed_evicts t amount own.session names s fewest)
         (always (run s (by own.session (evicts_for blocks own))), tt))
 
-  module _ (own : Owned D) (is : Stands slot own) (t blocks : ℕ) where
+  module _ (own : Owned D) {first : Option Tally} (is : Stands slot first own) (t blocks : ℕ) where
     abbrev s : State
     s = state_of own.pool
 
@@ -195,16 +195,16 @@ module _ {D : Type 0} (slot : Ghosts D) where
     names_spent last = le-leb 18446744073709551615 s.next_name (omega (arith, last))
 
   -- the page that came, or the refusal for want of a name
-  module _ (own new : Owned D) (is : Stands slot own) (t blocks : ℕ) where
+  module _ (own new : Owned D) {first : Option Tally} (is : Stands slot first own) (t blocks : ℕ) where
     abbrev Came : PageToken × Buffer → Type 0
     Came made = Goes slot (evicts_for blocks own ++ Create made.0.name t blocks made.0.key ∷ []) own new
 
     abbrev Spent : PoolErr → Type 0
     Spent e = (e ≡ NamesSpent) × (new ≡ own) × ((state_of own.pool).next_name ≡ 18446744073709551615)
 
-    pub stands_created : (r : Result (PageToken × Buffer) PoolErr) → IfOk r Came → IfErr r Spent → Stands slot new
+    pub stands_created : (r : Result (PageToken × Buffer) PoolErr) → IfOk r Came → IfErr r Spent → Stands slot first new
     stands_created (Ok made) came spent = stands_evicting own new is blocks (Create made.0.name t blocks made.0.key) came refl refl is.live
-    stands_created (Err e) came spent = subst (Stands slot) (sym spent.1) is
+    stands_created (Err e) came spent = subst (Stands slot first) (sym spent.1) is
 
     pub makes_created : (r : Result (PageToken × Buffer) PoolErr) → IfOk r Came → IfOk r (λ made. Makes slot (Evicts (Create made.0.name t blocks made.0.key ∷ [])) own new)
     makes_created (Ok made) came = makes_evicting own new is blocks (Create made.0.name t blocks made.0.key) came refl refl is.live

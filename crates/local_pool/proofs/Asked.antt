@@ -31,6 +31,7 @@ use Rattle.pin_core.specs.Refusing.{MayEnter, refusal_of}
 use Rattle.pin_core.specs.PinTurns.{IsStored}
 use Rattle.pin_core.specs.Turns.{failure_of}
 use Rattle.local_pool.specs.declared.owned.Owned.{Owned}
+use Rattle.local_pool.specs.declared.tally.Tally.{Tally}
 use Rattle.local_pool.specs.Told.{silence, held_of}
 use Rattle.local_pool.specs.Making.{Goes, Makes, is_calm, rests}
 use Rattle.local_pool.specs.Standing.{Stands, IsStill}
@@ -38,11 +39,10 @@ use Rattle.local_pool.specs.Turning.{Wants, IsStoredFor, CanRefuse, Rose}
 use Rattle.local_pool.proofs.Growing.{grown, makes, sums_rest}
 use Rattle.local_pool.proofs.Knowing.{Knows, knows, left_of}
 use Rattle.local_pool.proofs.Still.{still_run}
-use Rattle.local_pool.proofs.Counting.{fixed}
 
-module _ {D : Type 0} (slot : Ghosts D) (own new : Owned D) (is : Stands slot own) (e : Event) (went : Goes slot (e ∷ []) own new) (calm : is_calm e ≡ true) (rest : rests e ≡ true) where
+module _ {D : Type 0} (slot : Ghosts D) (own new : Owned D) {first : Option Tally} (is : Stands slot first own) (e : Event) (went : Goes slot (e ∷ []) own new) (calm : is_calm e ≡ true) (rest : rests e ≡ true) where
   -- one entry more, after which nothing is in a job
-  pub one_more : is_some (after_events (held_of slot own) (e ∷ [])).free_slots ≡ true → Stands slot new
+  pub one_more : is_some (after_events (held_of slot own) (e ∷ [])).free_slots ≡ true → Stands slot first new
   one_more live = grown slot own new (e ∷ []) went is (calm, tt) live (subst IsStill (sym went.state) (still_run own.session (e ∷ []) (state_of own.pool) (rest, tt) is.still)) (sums_rest slot own new (e ∷ []) went is (rest, tt))
 
   pub makes_one : {P : List Event → Type 0} → is_some (after_events (held_of slot own) (e ∷ [])).free_slots ≡ true → P (e ∷ []) → Makes slot P own new
@@ -102,7 +102,7 @@ more_in_all m c h more rose =
     let others : failures_in (others_of m c) h ≤ failures_in (others_of m c) (h ++ more) = failures_grow (others_of m c) refl h more in
     omega (arith, rose, before, now, others)
 
-module _ {D : Type 0} (slot : Ghosts D) (own : Owned D) (is : Stands slot own) where
+module _ {D : Type 0} (slot : Ghosts D) (own : Owned D) {first : Option Tally} (is : Stands slot first own) where
   -- a failure that is kept since the owner asked was counted since
   pub rose : (c j : ℕ) → failure_of (state_of own.pool) own.session c ≡ Some j → (h more : List Entry) → own.trail ≡ h ++ more → asks_in own.session more ≡ true → Rose c h own
   rose c j failed h more same asked =
@@ -238,11 +238,10 @@ module _ {D : Type 0} (slot : Ghosts D) (own : Owned D) (is : Stands slot own) w
     may_enter = record { opening = is.opening; history = own.trail; stands = is.stands; may = may_refuse }
 
     pub goes_refused : (new : Owned D) → EntersWhere slot (λ o h. MayFollow h s (refusal_of own.session call entry)) (refusal_of own.session call entry) [] own.pool new.pool
-        → new.trail ≡ own.trail ++ refusal_of own.session call entry ∷ [] → fixed new ≡ fixed own → Goes slot (Refused call entry ∷ []) own new
+        → new.trail ≡ own.trail ++ refusal_of own.session call entry ∷ [] → new.session ≡ own.session → Goes slot (Refused call entry ∷ []) own new
     goes_refused new enters trail session = record {
       trail = trail;
-      session = ap (λ f. f.0) session;
-      opened = ap (λ f. f.1) session;
+      session = session;
       slots = λ rest measure. let moved = enters.slots measure in omega (arith, moved);
       state = enters.state;
       stands = λ o stood. subst (λ (h : List Entry). StandsFor slot o h new.pool) (sym trail) (enters.stands o own.trail stood may_refuse);

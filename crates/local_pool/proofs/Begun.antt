@@ -1,5 +1,5 @@
 -- One owner's pool begins.
-use Rattle.std.proofs.Common.{◌≡◌, ℕ, ◌+◌, ◌-◌, ◌<◌, ◌≤◌, leb, true, false, if◌then◌else◌, List, [], ◌∷◌, ◌++◌, Option, Some, None, is_some, Result, Ok, Err, IfOk, inl, inr, refl, sym, ap, ◌∙◌, subst, arith}
+use Rattle.std.proofs.Common.{◌≡◌, ℕ, ◌+◌, ◌-◌, ◌<◌, ◌≤◌, leb, true, false, if◌then◌else◌, List, [], ◌∷◌, ◌++◌, Option, Some, None, is_some, Result, Ok, Err, IfOk, IfSome, inl, inr, refl, sym, ap, ◌∙◌, subst, arith}
 use Rattle.std.proofs.lemmas.Bool.{false≢true, leb-true, leb-false}
 use Rattle.std.specs.FinMap.{get, empty, get-empty}
 use Rattle.std.specs.Ordering.{nat_cmp}
@@ -41,7 +41,7 @@ use Rattle.local_pool.specs.Counting.{Counted, SumsHold, all_failures, tally_in,
 use Rattle.local_pool.specs.Standing.{Stands}
 use Rattle.local_pool.specs.Beginning.{memory_of, first_events, IsBegun, Begins, LacksLeast, IsLeastRefusal}
 use Rattle.local_pool.proofs.Sized.{run_len, run_memory}
-use Rattle.local_pool.proofs.Counting.{uncounted_yet, counted_as, tally_same}
+use Rattle.local_pool.proofs.Counting.{uncounted_yet, counted_as}
 
 abbrev pub opening_of : PoolConf → ℕ → Opening
 opening_of conf count = record { blocks = conf.blocks; block_len = conf.block_len; first_name = conf.first_name; slots = count; faults = 0; stores = 0 }
@@ -98,17 +98,14 @@ module _ {D : Type 0} (slot : Ghosts D) (own : Owned D) (q limit quota least : �
     no_page p = ap (λ (s : State). get s.pages p) stood.state ∙ ap (λ (h : List Entry). get (state_after o h).pages p) trail ∙ get-empty nat_cmp p
 
     -- the slots count as they did when they were counted
-    sums_first : (first : Tally) → own.opened ≡ first ∷ [] → first ≡ tally_in slot own.pool → SumsHold own (tally_in slot own.pool)
-    sums_first first opened same = record {
-      first = first;
-      opened = opened;
-      counted =
-          counted_as 0 (all_failures own.trail) 0 (written_blocks own.trail) first (tally_in slot own.pool) (sym (ap all_failures trail)) (sym (ap written_blocks trail))
-          (subst (Counted 0 0 first) same (uncounted_yet first));
-    }
+    sums_first : (first : Option Tally) → IfSome first (λ t. t ≡ tally_in slot own.pool) → SumsHold first own.trail (tally_in slot own.pool)
+    sums_first None same = tt
+    sums_first (Some t) same =
+        counted_as 0 (all_failures own.trail) 0 (written_blocks own.trail) t (tally_in slot own.pool) (sym (ap all_failures trail)) (sym (ap written_blocks trail))
+        (subst (Counted 0 0 t) same (uncounted_yet t))
 
-    pub stands_first : own.session < 240 → (first : Tally) → own.opened ≡ first ∷ [] → first ≡ tally_in slot own.pool → Stands slot own
-    stands_first number first opened same = record {
+    pub stands_first : own.session < 240 → (first : Option Tally) → IfSome first (λ t. t ≡ tally_in slot own.pool) → Stands slot first own
+    stands_first number first same = record {
       opening = o;
       stands = stood;
       alone = subst (AllBy own.session) (sym trail) (refl, (refl, tt));
@@ -117,7 +114,7 @@ module _ {D : Type 0} (slot : Ghosts D) (own : Owned D) (q limit quota least : �
       live = ap (λ (h : Holdings). is_some h.free_slots) held_first;
       few = let none : (held_of slot own).live_clients ≡ 0 = ap (λ (h : Holdings). h.live_clients) held_first in omega (arith, none);
       still = λ p x there. let none : None ≡ Some x = sym (no_page p) ∙ there in cc;
-      sums = sums_first first opened same;
+      sums = sums_first first same;
     }
 
 -- a session that came sits
@@ -189,12 +186,16 @@ module _ (conf : PoolConf) (count : ℕ) (s : State) (fresh : s ≡ opened (open
 -- a pool that began over a pool's value with these slots began with them
 pub begins : {D E : Type 0} (slot : Ghosts D) (conf : PoolConf) (slots : List D) (limit quota least : ℕ) (pool : Parts D) → ((measure : D → ℕ) → slots_home measure pool ≡ sum_by measure slots)
     → (r : Result (Owned D) E) → IfOk r (λ own. IsBegun conf limit quota least (held_of slot own)) → IfOk r (λ own. own.trail ≡ by own.session (first_events (held_of slot own).query limit quota least))
-    → IfOk r (λ own. (measure : D → ℕ) → slots_home measure own.pool ≡ slots_home measure pool) → IfOk r (λ own. own.opened ≡ tally_in slot pool ∷ [])
+    → IfOk r (λ own. (measure : D → ℕ) → slots_home measure own.pool ≡ slots_home measure pool)
     → IfOk r (Begins slot conf slots limit quota least)
-begins slot conf slots limit quota least pool count (Ok own) held trail home opened = record {
+begins slot conf slots limit quota least pool count (Ok own) held trail home = record {
   held = held;
   trail = trail;
   home = λ measure. home measure ∙ count measure;
-  opened = opened ∙ ap (λ (t : Tally). t ∷ []) (tally_same slot (λ measure. slots_home measure pool) (λ measure. sum_by measure slots) count);
 }
-begins slot conf slots limit quota least pool count (Err e) held trail home opened = tt
+begins slot conf slots limit quota least pool count (Err e) held trail home = tt
+
+-- slots that are counted alike
+pub counted_alike : (first : Option Tally) (a b : Tally) → a ≡ b → IfSome first (λ t. t ≡ a) → IfSome first (λ t. t ≡ b)
+counted_alike None a b same is = tt
+counted_alike (Some t) a b same is = is ∙ same

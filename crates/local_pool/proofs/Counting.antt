@@ -11,15 +11,10 @@ use Rattle.pool_model.specs.declared.entry.Entry.{Entry}
 use Rattle.pool_model.specs.Failures.{fails}
 use Rattle.store_api.specs.Entries.{by}
 use Rattle.pin_core.specs.Runs.{CountsFaults}
-use Rattle.local_pool.specs.declared.owned.Owned.{Owned}
 use Rattle.local_pool.specs.declared.tally.Tally.{Tally}
 use Rattle.local_pool.specs.Told.{silence}
 use Rattle.local_pool.specs.Making.{rests}
 use Rattle.local_pool.specs.Counting.{Counted, all_failures, stored_by, tally_by}
-
--- what no call of an owner changes
-abbrev pub fixed : {D : Type 0} → Owned D → ℕ × List Tally
-fixed own = (own.session, own.opened)
 
 -- nothing happened
 pub uncounted_yet : (t : Tally) → Counted 0 0 t t

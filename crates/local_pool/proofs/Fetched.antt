@@ -52,7 +52,7 @@ use Rattle.local_pool.specs.Loading.{CanRead, Returns, IsRead, IsUnread}
 use Rattle.local_pool.specs.Pinning.{CanBePinned, MustRefuse, IsPinned, IsFailedRead}
 use Rattle.local_pool.proofs.Sized.{run_on, run_len}
 use Rattle.local_pool.proofs.Growing.{by_append, grown, makes, sums_by}
-use Rattle.local_pool.proofs.Counting.{fixed, tally_same, plain_then, is_stored_by, unstored}
+use Rattle.local_pool.proofs.Counting.{tally_same, plain_then, is_stored_by, unstored}
 use Rattle.local_pool.proofs.Knowing.{knows}
 use Rattle.local_pool.proofs.Contents.{content_whole}
 use Rattle.local_pool.proofs.Asked.{rose}
@@ -105,12 +105,12 @@ failure_kept s m c p before now session lives whose client =
     let there : get new.sessions m ≡ Some changed = ap (λ (ss : Sessions). get ss m) (noted ∙ now_is) ∙ get_same s.sessions m changed in
     ap (λ (o : Option Session). is_some (option_and_then (λ x. get x.failures c) o)) there ∙ ap is_some (first_kept c s.entries session.failures) ∙ some_or (get session.failures c) s.entries
 
-module _ {D : Type 0} (slot : Ghosts D) (own : Owned D) (is : Stands slot own) (p : PageToken) (can : CanBePinned p (held_of slot own)) (job : ReadJob D) (went : Owned D)
+module _ {D : Type 0} (slot : Ghosts D) (own : Owned D) {first : Option Tally} (is : Stands slot first own) (p : PageToken) (can : CanBePinned p (held_of slot own)) (job : ReadJob D) (went : Owned D)
     (load : IsLoad slot p job own.pool went.pool) (evicted : (page_at (state_of own.pool) p.name).place ≡ Evicted)
     (enters : Enters slot (load_entries own.session p.name (page_at (state_of own.pool) p.name).blocks own.pool) job.row [] own.pool went.pool)
-    (entered : went.trail ≡ own.trail ++ load_entries own.session p.name (page_at (state_of own.pool) p.name).blocks own.pool) (fixed_is : fixed went ≡ fixed own) where
+    (entered : went.trail ≡ own.trail ++ load_entries own.session p.name (page_at (state_of own.pool) p.name).blocks own.pool) (fixed_is : went.session ≡ own.session) where
   session : went.session ≡ own.session
-  session = ap (λ f. f.0) fixed_is
+  session = fixed_is
 
   abbrev s : State
   s = state_of own.pool
@@ -193,7 +193,6 @@ module _ {D : Type 0} (slot : Ghosts D) (own : Owned D) (is : Stands slot own) (
             ret.state ∙ ap (λ (m : ℕ). run t (by m (end ∷ []))) session ∙ ap (λ (u : State). run u (by own.session (end ∷ []))) went_state
             ∙ sym (run_on s (by own.session front) (by own.session (end ∷ []))) ∙ ap (run s) (sym (by_append own.session front (end ∷ [])));
         stands = λ o stood. ret.stands o (went_stands o stood);
-        opened = ret.opened ∙ ap (λ f. f.1) fixed_is;
         slots = λ rest. absurd (fetching_moves (names_gone x.blocks own.pool) p.name (end ∷ []) rest);
         told =
             let out = enters.slots (silence slot) in
@@ -203,7 +202,7 @@ module _ {D : Type 0} (slot : Ghosts D) (own : Owned D) (is : Stands slot own) (
       }
 
       -- the slots that were in the job are counted as it took them
-      sums_back : is_stored_by end ≡ false → SumsHold new (tally_in slot new.pool)
+      sums_back : is_stored_by end ≡ false → SumsHold first new.trail (tally_in slot new.pool)
       sums_back none =
           let parts = plain_then new.trail own.session front (end ∷ []) (fetching_plain (names_gone x.blocks own.pool) p.name) (by_append own.session front (end ∷ [])) in
           sums_by slot own new (front ++ end ∷ []) goes_back is (all_failures (by own.session (end ∷ []))) 0 parts.0 (parts.1 ∙ unstored new.trail own.session end none)
@@ -225,7 +224,7 @@ module _ {D : Type 0} (slot : Ghosts D) (own : Owned D) (is : Stands slot own) (
       ret : Returns slot (ReadOk p.name) job.row went new
       ret = subst (λ (q : ℕ). Returns slot (ReadOk q) job.row went new) name_is read.returns
 
-      pub stands_read : Stands slot new
+      pub stands_read : Stands slot first new
       stands_read =
           let gone = goes_back (ReadOk p.name) ret in
           grown slot own new (front ++ ReadOk p.name ∷ []) gone is (fetching_calm (names_gone x.blocks own.pool) p.name (ReadOk p.name ∷ []) (refl, tt))
@@ -255,7 +254,7 @@ module _ {D : Type 0} (slot : Ghosts D) (own : Owned D) (is : Stands slot own) (
       unread : Returns slot end job.row went new
       unread = subst (λ (q : ℕ). Returns slot (ReadFailed q read.before read.now) job.row went new) name_is read.returns
 
-      pub stands_unread : Stands slot new
+      pub stands_unread : Stands slot first new
       stands_unread =
           let gone = goes_back end unread in
           grown slot own new (front ++ end ∷ []) gone is (fetching_calm (names_gone x.blocks own.pool) p.name (end ∷ []) (refl, tt))

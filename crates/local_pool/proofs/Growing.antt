@@ -1,5 +1,5 @@
 -- One owner's entries, one after the other.
-use Rattle.std.proofs.Common.{◌≡◌, ◌≤◌, ℕ, ◌+◌, ◌==◌, List, [], ◌∷◌, ◌++◌, length, length-append, Bool, true, false, if◌then◌else◌, is_some, refl, sym, ap, ◌∙◌, subst, arith, le-leb, ◌<◌}
+use Rattle.std.proofs.Common.{◌≡◌, ◌≤◌, ℕ, ◌+◌, ◌==◌, List, [], ◌∷◌, ◌++◌, length, length-append, Bool, true, false, if◌then◌else◌, is_some, refl, sym, ap, ◌∙◌, subst, arith, le-leb, ◌<◌, Option, Some, None}
 use Rattle.std.proofs.lemmas.Bool.{leb-true}
 use Rattle.std.proofs.lemmas.List.{append_assoc, append-nil}
 use Rattle.std.proofs.lemmas.List.Elements.{filter_map-append}
@@ -21,12 +21,13 @@ use Rattle.own_entries.proofs.Calls.{calls_run_on}
 use Rattle.pin_core.specs.StateOf.{state_of}
 use Rattle.pin_core.specs.Standing.{StandsFor, Enters, slots_home}
 use Rattle.local_pool.specs.declared.owned.Owned.{Owned}
+use Rattle.local_pool.specs.declared.tally.Tally.{Tally}
 use Rattle.local_pool.specs.Told.{silence, all_tell, outset_of, held_of}
 use Rattle.local_pool.specs.Counting.{Counted, SumsHold, all_failures, stored_by, tally_in, written_blocks}
 use Rattle.local_pool.specs.Making.{Makes, Goes, is_calm, rests}
 use Rattle.local_pool.specs.Standing.{IsStill, Stands}
 use Rattle.local_pool.proofs.Sized.{run_len, run_memory}
-use Rattle.local_pool.proofs.Counting.{fixed, uncounted_yet, counted_more, counted_as, tally_same, failures_append, rest_plain, plain_failures, plain_stores}
+use Rattle.local_pool.proofs.Counting.{uncounted_yet, counted_more, counted_as, tally_same, failures_append, rest_plain, plain_failures, plain_stores}
 use Rattle.local_pool.proofs.Stored.{written_more}
 
 pub by_append : (m : ℕ) (a b : List Event) → by m (a ++ b) ≡ by m a ++ by m b
@@ -92,14 +93,21 @@ whole_more m h (e ∷ events) none whole =
 names_more : (a b : List Entry) → length (names_in (a ++ b)) ≡ length (names_in a) + length (names_in b)
 names_more a b = ap length (filter_map-append (λ (e : Entry). name_in e.event) a b) ∙ length-append (names_in a) (names_in b)
 
+-- the sums hold on, where the slots count so much more
+sums_more : (first : Option Tally) (old new : List Entry) (failures blocks : ℕ) (before now : Tally) → all_failures old + failures ≡ all_failures new → written_blocks old + blocks ≡ written_blocks new
+    → SumsHold first old before → Counted failures blocks before now → SumsHold first new now
+sums_more None old new failures blocks before now failed stored was more = tt
+sums_more (Some t) old new failures blocks before now failed stored was more =
+    counted_as (all_failures old + failures) (all_failures new) (written_blocks old + blocks) (written_blocks new) t now failed stored
+    (counted_more (all_failures old) failures (written_blocks old) blocks t before now was more)
+
 module _ {D : Type 0} (slot : Ghosts D) where
   -- a call of the pool that moves no slots
-  pub goes : (old new : Owned D) (events : List Event) → new.trail ≡ old.trail ++ by old.session events → fixed new ≡ fixed old
+  pub goes : (old new : Owned D) (events : List Event) → new.trail ≡ old.trail ++ by old.session events → new.session ≡ old.session
       → Enters slot (by old.session events) [] [] old.pool new.pool → Goes slot events old new
   goes old new events trail same enters = record {
     trail = trail;
-    session = ap (λ f. f.0) same;
-    opened = ap (λ f. f.1) same;
+    session = same;
     slots = λ rest measure. let moved = enters.slots measure in omega (arith, moved);
     state = enters.state;
     stands = λ o stood. subst (λ (h : List Entry). StandsFor slot o h new.pool) (sym trail) (enters.stands o old.trail stood);
@@ -128,9 +136,9 @@ module _ {D : Type 0} (slot : Ghosts D) where
         ∙ calls_run_on (state_of old.pool).block_len old.session (outset_of slot old.pool) old.trail events
 
     -- the sums hold where the slots count as the events have it
-    pub sums_by : Stands slot old → (failures blocks : ℕ) → all_failures (by old.session events) ≡ failures → sum_by (λ e. stored_by new.trail e.event) (by old.session events) ≡ blocks
-        → Counted failures blocks (tally_in slot old.pool) (tally_in slot new.pool) → SumsHold new (tally_in slot new.pool)
-    sums_by was failures blocks fail_so store_so more =
+    pub sums_by : {first : Option Tally} → Stands slot first old → (failures blocks : ℕ) → all_failures (by old.session events) ≡ failures → sum_by (λ e. stored_by new.trail e.event) (by old.session events) ≡ blocks
+        → Counted failures blocks (tally_in slot old.pool) (tally_in slot new.pool) → SumsHold first new.trail (tally_in slot new.pool)
+    sums_by {first} was failures blocks fail_so store_so more =
         let es : List Entry = by old.session events in
         let failed : all_failures old.trail + failures ≡ all_failures new.trail =
         let both = failures_append old.trail es in
@@ -141,22 +149,16 @@ module _ {D : Type 0} (slot : Ghosts D) where
         let last : sum_by (λ e. stored_by (old.trail ++ es) e.event) es ≡ blocks = ap (λ (h : List Entry). sum_by (λ e. stored_by h e.event) es) (sym went.trail) ∙ store_so in
         let same : written_blocks new.trail ≡ written_blocks (old.trail ++ es) = ap written_blocks went.trail in
         omega (arith, both, same, last) in
-        record {
-          first = was.sums.first;
-          opened = went.opened ∙ was.sums.opened;
-          counted =
-              counted_as (all_failures old.trail + failures) (all_failures new.trail) (written_blocks old.trail + blocks) (written_blocks new.trail) was.sums.first (tally_in slot new.pool) failed stored
-              (counted_more (all_failures old.trail) failures (written_blocks old.trail) blocks was.sums.first (tally_in slot old.pool) (tally_in slot new.pool) was.sums.counted more);
-        }
+        sums_more first old.trail new.trail failures blocks (tally_in slot old.pool) (tally_in slot new.pool) failed stored was.sums more
 
     -- as they do where no job began or ended
-    pub sums_rest : Stands slot old → AllByRecursion (λ e. rests e ≡ true) events → SumsHold new (tally_in slot new.pool)
+    pub sums_rest : {first : Option Tally} → Stands slot first old → AllByRecursion (λ e. rests e ≡ true) events → SumsHold first new.trail (tally_in slot new.pool)
     sums_rest was rest =
         sums_by was 0 0 (plain_failures old.session events (rest_plain events rest)) (plain_stores new.trail old.session events (rest_plain events rest))
         (subst (Counted 0 0 (tally_in slot old.pool)) (tally_same slot (λ measure. slots_home measure old.pool) (λ measure. slots_home measure new.pool) (λ measure. sym (went.slots rest measure))) (uncounted_yet (tally_in slot old.pool)))
 
     -- what is kept between calls is kept
-    pub grown_by : Stands slot old → NoneOpens events → is_some (after_events (held_of slot old) events).free_slots ≡ true → (after_events (held_of slot old) events).live_clients ≤ 16 → IsStill (state_of new.pool) → SumsHold new (tally_in slot new.pool) → Stands slot new
+    pub grown_by : {first : Option Tally} → Stands slot first old → NoneOpens events → is_some (after_events (held_of slot old) events).free_slots ≡ true → (after_events (held_of slot old) events).live_clients ≤ 16 → IsStill (state_of new.pool) → SumsHold first new.trail (tally_in slot new.pool) → Stands slot first new
     grown_by was none live few still sums = record {
       opening = was.opening;
       stands = went.stands was.opening was.stands;
@@ -169,12 +171,12 @@ module _ {D : Type 0} (slot : Ghosts D) where
       sums = sums;
     }
 
-    pub grown : Stands slot old → AllCalm events → is_some (after_events (held_of slot old) events).free_slots ≡ true → IsStill (state_of new.pool) → SumsHold new (tally_in slot new.pool) → Stands slot new
+    pub grown : {first : Option Tally} → Stands slot first old → AllCalm events → is_some (after_events (held_of slot old) events).free_slots ≡ true → IsStill (state_of new.pool) → SumsHold first new.trail (tally_in slot new.pool) → Stands slot first new
     grown was calm live still sums =
         grown_by was (none_opens events calm) live (subst (λ (n : ℕ). n ≤ 16) (sym (calm_counts events (held_of slot old) calm)) was.few) still sums
 
     -- and the call made these events
-    pub makes : {P : List Event → Type 0} → Stands slot old → Stands slot new → P events → Makes slot P old new
+    pub makes : {P : List Event → Type 0} {first : Option Tally} → Stands slot first old → Stands slot first new → P events → Makes slot P old new
     makes was now is = record {
       events = events;
       is = is;

@@ -33,6 +33,7 @@ use Rattle.pin_core.specs.Ending.{IsPinnedWith, IsUnpinned, is_flying}
 use Rattle.pin_core.specs.Lending.{IsLoan as IsPoolLoan}
 use Rattle.pin_core.specs.Unpinning.{LacksSlots as PoolLacks}
 use Rattle.local_pool.specs.declared.owned.Owned.{Owned}
+use Rattle.local_pool.specs.declared.tally.Tally.{Tally}
 use Rattle.local_pool.specs.Told.{held_of, signs_of}
 use Rattle.local_pool.specs.Making.{Goes, Makes}
 use Rattle.local_pool.specs.Standing.{Stands, is_moving}
@@ -41,7 +42,6 @@ use Rattle.local_pool.proofs.Growing.{goes}
 use Rattle.local_pool.proofs.Knowing.{Knows, knows, sound, left_of}
 use Rattle.local_pool.proofs.Asked.{one_more, makes_one}
 use Rattle.local_pool.proofs.Making.{makes_held, makes_grows, makes_made}
-use Rattle.local_pool.proofs.Counting.{fixed}
 
 -- a session stays live where a page takes its slots, or gives them back
 pub taken_live : (page : LivePage) (free : Option ℕ) → is_some free ≡ true → is_some (slots_taken page free) ≡ true
@@ -76,7 +76,7 @@ flying_moves Loading is = refl
 flying_moves Clean is = is
 flying_moves Evicted is = is
 
-module _ {D : Type 0} (slot : Ghosts D) (own : Owned D) (is : Stands slot own) where
+module _ {D : Type 0} (slot : Ghosts D) (own : Owned D) {first : Option Tally} (is : Stands slot first own) where
   abbrev s : State
   s = state_of own.pool
 
@@ -223,19 +223,19 @@ stays_pinned slot old new p buf e blocks free made back full cause =
     }
 
 -- a call of the pool whose entry is made by whom a page belongs to
-pub goes_whose : {D : Type 0} (slot : Ghosts D) (old new : Owned D) (e : Event) (maker : ℕ) → maker ≡ old.session → new.trail ≡ old.trail ++ by old.session (e ∷ []) → fixed new ≡ fixed old
+pub goes_whose : {D : Type 0} (slot : Ghosts D) (old new : Owned D) (e : Event) (maker : ℕ) → maker ≡ old.session → new.trail ≡ old.trail ++ by old.session (e ∷ []) → new.session ≡ old.session
     → Enters slot (by maker (e ∷ [])) [] [] old.pool new.pool → Goes slot (e ∷ []) old new
 goes_whose slot old new e maker whose trail session enters = goes slot old new (e ∷ []) trail session (subst (λ (m : ℕ). Enters slot (by m (e ∷ [])) [] [] old.pool new.pool) whose enters)
 
 -- an unpin, or its refusal
-module _ {D : Type 0} (slot : Ghosts D) (own new : Owned D) (is : Stands slot own) (p : PageToken) (buf : Buffer) (held : IsPage p (held_of slot own)) (once : (page_of p.name (held_of slot own)).pins ≡ 1) where
+module _ {D : Type 0} (slot : Ghosts D) (own new : Owned D) {first : Option Tally} (is : Stands slot first own) (p : PageToken) (buf : Buffer) (held : IsPage p (held_of slot own)) (once : (page_of p.name (held_of slot own)).pins ≡ 1) where
   went_refused : Goes slot (UnpinRefused p.name ∷ []) own new → Makes slot (λ events. events ≡ UnpinRefused p.name ∷ []) own new
   went_refused went = makes_one slot own new is (UnpinRefused p.name) went refl refl is.live refl
 
   live_left : is_some (slots_taken (page_of p.name (held_of slot own)) (held_of slot own).free_slots) ≡ true
   live_left = taken_live (page_of p.name (held_of slot own)) (held_of slot own).free_slots is.live
 
-  pub left_stands : {A E : Type 0} (r : Result A E) → OnOk r (Goes slot (Unpin p.name buf.bytes ∷ []) own new) → OnErr r (Goes slot (UnpinRefused p.name ∷ []) own new) → Stands slot new
+  pub left_stands : {A E : Type 0} (r : Result A E) → OnOk r (Goes slot (Unpin p.name buf.bytes ∷ []) own new) → OnErr r (Goes slot (UnpinRefused p.name ∷ []) own new) → Stands slot first new
   left_stands (Ok x) ok err = one_more slot own new is (Unpin p.name buf.bytes) ok refl refl live_left
   left_stands (Err e) ok err = one_more slot own new is (UnpinRefused p.name) err refl refl is.live
 

@@ -27,7 +27,7 @@ use Rattle.local_pool.specs.Counting.{Counted, all_failures, tally_by, tally_wit
 use Rattle.local_pool.specs.Loading.{CanRead, Returns, IsRead, IsUnread}
 use Rattle.local_pool.proofs.Contents.{content_told}
 use Rattle.local_pool.proofs.Written.{same_silence}
-use Rattle.local_pool.proofs.Counting.{fixed, tally_same, same_stores, came_back}
+use Rattle.local_pool.proofs.Counting.{tally_same, same_stores, came_back}
 
 pub load_fits : {D : Type 0} (s : State) (job : ReadJob D) → IsReadJob s job → IsFit job.buf job.row
 load_fits s job is = record {
@@ -63,7 +63,7 @@ module _ {D : Type 0} (slot : Ghosts D) (old new : Owned D) (job ran : ReadJob D
 
   module _ (held : (len : ℕ) → (bytes : List ℕ) → AreHeld slot len job.row bytes → AreHeld slot len ran.row bytes) (tells : map slot.tells ran.row ≡ map slot.tells job.row)
       (enters : (before now : ℕ) → IsFault before now → EntersWhere slot (HoldsContent slot s.block_len ran) (read_entry s ran before now) ran.row old.pool new.pool)
-      (session : fixed new ≡ fixed old) where
+      (session : new.session ≡ old.session) where
     -- the entry with these sums, for which the pool then stands
     returned : (before now : ℕ) (end : Event) → Counted (all_failures (by old.session (end ∷ []))) 0 (tally_with slot old.pool job.row) (tally_by slot (λ measure. slots_home measure old.pool + sum_by measure ran.row))
         → IsFault before now → read_ends ran.failed ran.id.name before now ≡ end → new.trail ≡ old.trail ++ by old.session (end ∷ []) → Returns slot end job.row old new
@@ -74,8 +74,7 @@ module _ {D : Type 0} (slot : Ghosts D) (old new : Owned D) (job ran : ReadJob D
         ∙ ap (λ (e : Event). record { maker = old.session; event = e }) is in
         record {
           trail = trail;
-          session = ap (λ f. f.0) session;
-          opened = ap (λ f. f.1) session;
+          session = session;
           state = it.state ∙ ap (after s) entry_is;
           stands = λ o stood. subst (λ (h : List Entry). StandsFor slot o h new.pool) (ap (λ (e : Entry). old.trail ++ e ∷ []) entry_is ∙ sym trail) (it.stands o old.trail stood (holds held o stood));
           counted =

@@ -120,6 +120,9 @@ module _ (t amount : ℕ) where
       needed = needed_on (state_of x.pool) a.entries b.entries a.needed (subst (λ (s : State). AreNeeded t amount s b.entries) a.state b.needed);
     }
 
+    pub needs_as : (u n : ℕ) (old new : Owned D) → t ≡ u → amount ≡ n → EntersNeeded t amount old new → EntersNeeded u n old new
+    needs_as u n old new same bytes needed = subst (λ (k : ℕ). EntersNeeded k n old new) same (subst (λ (m : ℕ). EntersNeeded t m old new) bytes needed)
+
     pub needs_none : (old new : Owned D) → new ≡ old → EntersNeeded t amount old new
     needs_none old new same = subst (EntersNeeded t amount old) (sym same) (record { entries = []; trail = sym (append-nil old.trail); state = refl; needed = tt })
 

@@ -30,6 +30,7 @@ use Rattle.pin_core.specs.PinTurns.{CanPin, LacksRoomFor}
 use Rattle.pin_core.specs.PinTurns.{IsContent as HasContent}
 use Rattle.pin_core.specs.Turns.{LacksRoom, IsStarted, IsWriting}
 use Rattle.local_pool.specs.declared.owned.Owned.{Owned}
+use Rattle.local_pool.specs.declared.tally.Tally.{Tally}
 use Rattle.local_pool.specs.Told.{silence, held_of}
 use Rattle.local_pool.specs.Making.{Goes, Makes}
 use Rattle.local_pool.specs.Needing.{EntersNeeded}
@@ -43,7 +44,6 @@ use Rattle.local_pool.proofs.Contents.{content_told}
 use Rattle.local_pool.proofs.Asked.{one_more, makes_one, rose, may_refuse}
 use Rattle.local_pool.proofs.Turned.{none_flies}
 use Rattle.local_pool.proofs.Holding.{is_there, not_pinned, not_loading, still_there}
-use Rattle.local_pool.proofs.Counting.{fixed}
 
 -- what was left shows but while the page is pinned
 left_shows : (place : Place) (left : List ℕ) → ((count : ℕ) → place ≡ Pinned count → ⊥) → left_at place left ≡ left
@@ -54,7 +54,7 @@ left_shows Loading left never = refl
 left_shows Clean left never = refl
 left_shows Evicted left never = refl
 
-module _ {D : Type 0} (slot : Ghosts D) (own : Owned D) (is : Stands slot own) (p : PageToken) (can : CanBePinned p (held_of slot own)) where
+module _ {D : Type 0} (slot : Ghosts D) (own : Owned D) {first : Option Tally} (is : Stands slot first own) (p : PageToken) (can : CanBePinned p (held_of slot own)) where
   abbrev s : State
   s = state_of own.pool
 
@@ -116,12 +116,12 @@ module _ {D : Type 0} (slot : Ghosts D) (own : Owned D) (is : Stands slot own) (
   }
 
   -- the page is pinned where it is
-  module _ (new : Owned D) (trail : new.trail ≡ own.trail ++ record { maker = own.session; event = PinHere p.name } ∷ []) (session : fixed new ≡ fixed own)
+  module _ (new : Owned D) (trail : new.trail ≡ own.trail ++ record { maker = own.session; event = PinHere p.name } ∷ []) (session : new.session ≡ own.session)
       (enters : Enters slot (record { maker = own.session; event = PinHere p.name } ∷ []) [] [] own.pool new.pool) where
     went_here : Goes slot (PinHere p.name ∷ []) own new
     went_here = goes slot own new (PinHere p.name ∷ []) trail session enters
 
-    pub stands_here : Stands slot new
+    pub stands_here : Stands slot first new
     stands_here = one_more slot own new is (PinHere p.name) went_here refl refl is.live
 
     pub makes_here : Makes slot (IsPinned p.name) own new
@@ -160,17 +160,16 @@ module _ {D : Type 0} (slot : Ghosts D) (own : Owned D) (is : Stands slot own) (
   waits_never (inr other) = none_flies slot own is x.client other.1
 
 -- a call was refused for a failure
-module _ {D : Type 0} (slot : Ghosts D) (own new : Owned D) (is : Stands slot own) (call : Call) (entry : ℕ) (may : MayFollow own.trail (state_of own.pool) (refusal_of own.session call entry)) where
+module _ {D : Type 0} (slot : Ghosts D) (own new : Owned D) {first : Option Tally} (is : Stands slot first own) (call : Call) (entry : ℕ) (may : MayFollow own.trail (state_of own.pool) (refusal_of own.session call entry)) where
   pub may_refuse_it : MayEnter slot own.pool (refusal_of own.session call entry)
   may_refuse_it = record { opening = is.opening; history = own.trail; stands = is.stands; may = may }
 
   module _ (enters : EntersWhere slot (λ o h. MayFollow h (state_of own.pool) (refusal_of own.session call entry)) (refusal_of own.session call entry) [] own.pool new.pool)
-      (trail : new.trail ≡ own.trail ++ refusal_of own.session call entry ∷ []) (session : fixed new ≡ fixed own) where
+      (trail : new.trail ≡ own.trail ++ refusal_of own.session call entry ∷ []) (session : new.session ≡ own.session) where
     went_refused : Goes slot (Refused call entry ∷ []) own new
     went_refused = record {
       trail = trail;
-      session = ap (λ f. f.0) session;
-      opened = ap (λ f. f.1) session;
+      session = session;
       slots = λ rest measure. let moved = enters.slots measure in omega (arith, moved);
       state = enters.state;
       stands = λ o stood. subst (λ (h : List Entry). StandsFor slot o h new.pool) (sym trail) (enters.stands o own.trail stood may);
@@ -180,7 +179,7 @@ module _ {D : Type 0} (slot : Ghosts D) (own new : Owned D) (is : Stands slot ow
           ap (λ (n : ℕ). n == 0) same;
     }
 
-    pub stands_refused : Stands slot new
+    pub stands_refused : Stands slot first new
     stands_refused = one_more slot own new is (Refused call entry) went_refused refl refl is.live
 
     pub makes_refused : Makes slot (λ events. events ≡ Refused call entry ∷ []) own new

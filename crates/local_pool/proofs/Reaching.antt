@@ -24,12 +24,12 @@ use Rattle.pin_core.specs.Needs.{IsPage}
 use Rattle.pin_core.specs.Pins.{IsPinned, HasPinToSpare, HasRoomFor}
 use Rattle.pin_core.specs.Lending.{IsLoan, CanMoveTo, move_entry}
 use Rattle.local_pool.specs.declared.owned.Owned.{Owned}
+use Rattle.local_pool.specs.declared.tally.Tally.{Tally}
 use Rattle.local_pool.specs.Told.{held_of}
 use Rattle.local_pool.specs.Making.{Goes}
 use Rattle.local_pool.specs.Standing.{Stands}
 use Rattle.local_pool.proofs.Growing.{goes}
 use Rattle.local_pool.proofs.Knowing.{Knows, knows, sound, owned, left_of}
-use Rattle.local_pool.proofs.Counting.{fixed}
 
 -- a page that is told with pins is pinned as often
 pub pinned_so : (place : Place) → 1 ≤ pins_of place → place ≡ Pinned (pins_of place)
@@ -52,7 +52,7 @@ pub moved_live : (f t : ℕ) (h : Holdings) → is_some h.free_slots ≡ true �
 moved_live f t h live =
     either_lives h (with_loan f (Some (record (loan_of f h) { client = t })) (charged t (loan_len f h) (released (loan_of f h).client (loan_len f h) h))) ((loan_of f h).client == t) live live
 
-module _ {D : Type 0} (slot : Ghosts D) (own : Owned D) (is : Stands slot own) where
+module _ {D : Type 0} (slot : Ghosts D) (own : Owned D) {first : Option Tally} (is : Stands slot first own) where
   abbrev s : State
   s = state_of own.pool
 
@@ -110,7 +110,7 @@ module _ {D : Type 0} (slot : Ghosts D) (own : Owned D) (is : Stands slot own) w
     page_room_here room = subst (λ (t : ℕ). HasRoom s t (length_of s (page_at s p.name).blocks)) (sym client_here) (room_here p.client _ _ (sym page_len_here) room)
 
     -- an entry of the page's session is the owner's
-    pub goes_page : (event : ℕ → Event) (name : ℕ) → name ≡ p.name → (new : Owned D) → new.trail ≡ own.trail ++ by own.session (event name ∷ []) → fixed new ≡ fixed own
+    pub goes_page : (event : ℕ → Event) (name : ℕ) → name ≡ p.name → (new : Owned D) → new.trail ≡ own.trail ++ by own.session (event name ∷ []) → new.session ≡ own.session
         → Enters slot (record { maker = (page_at s p.name).session; event = event p.name } ∷ []) [] [] own.pool new.pool → Goes slot (event p.name ∷ []) own new
     goes_page event name same new trail session enters =
         goes slot own new (event p.name ∷ []) (subst (λ (q : ℕ). new.trail ≡ own.trail ++ by own.session (event q ∷ [])) same trail) session
@@ -159,7 +159,7 @@ module _ {D : Type 0} (slot : Ghosts D) (own : Owned D) (is : Stands slot own) w
     }
 
     pub goes_moved : (t : ℕ) (mine : ClientToken) (f u : ℕ) → f ≡ l.number → u ≡ t → mine ≡ record { session = own.session; tracker = u } → l.client ≢ t
-        → (new : Owned D) → new.trail ≡ own.trail ++ by own.session (MoveBuffer f u ∷ []) → fixed new ≡ fixed own
+        → (new : Owned D) → new.trail ≡ own.trail ++ by own.session (MoveBuffer f u ∷ []) → new.session ≡ own.session
         → (l.client ≢ mine.tracker → Enters slot (move_entry mine l.number ∷ []) [] [] own.pool new.pool) → Goes slot (MoveBuffer l.number t ∷ []) own new
     goes_moved t mine f u number tracker token apart new trail session enters =
         let it : mine ≡ record { session = own.session; tracker = t } = token ∙ ap (λ (k : ℕ). record { session = own.session; tracker = k }) tracker in

@@ -43,7 +43,7 @@ use Rattle.local_pool.proofs.Knowing.{Knows, knows, sound, owned}
 use Rattle.local_pool.proofs.Needed.{needs_all, needed_write}
 use Rattle.local_pool.proofs.Still.{out_still, written_still, unwritten_still}
 use Rattle.local_pool.proofs.Waiting.{IsDirtyOf, newest_is, out, written_left, unwritten_left}
-use Rattle.local_pool.proofs.Counting.{fixed, tally_same}
+use Rattle.local_pool.proofs.Counting.{tally_same}
 
 end_holds : (p : ℕ) (end : Event) (h : Holdings) → IsEnd p end → after_events h (StartWrite p ∷ end ∷ []) ≡ h
 end_holds p (WriteOk q) h is = refl
@@ -77,7 +77,7 @@ stored_end h m p blocks (WriteOk q) is same = let here : blocks_of (maker_of h q
 stored_end h m p blocks (WriteFailed q before now) is same = refl
 stored_end h m p blocks _ is same = absurd is
 
-module _ {D : Type 0} (slot : Ghosts D) (own : Owned D) (is : Stands slot own) where
+module _ {D : Type 0} (slot : Ghosts D) (own : Owned D) {first : Option Tally} (is : Stands slot first own) where
   -- a page of one of its clients is the owner's
   pub owner_is : (c p : ℕ) (x : Page) → IsSome ((held_of slot own).clients c) → get (state_of own.pool).pages p ≡ Some x → x.client ≡ c → x.session ≡ own.session
   owner_is c p x some lives for =
@@ -102,9 +102,9 @@ module _ {D : Type 0} (slot : Ghosts D) (own : Owned D) (is : Stands slot own) w
   module _ (c amount : ℕ) (some : IsSome ((held_of slot own).clients c)) (job : WriteJob D) (pool : Parts D) (went : Owned D)
       (lacks : LacksRoom (state_of own.pool) own.session c amount None) (started : IsStarted slot own.session c job own.pool pool)
       (enters : Enters slot (start_entry own.session job.id.name ∷ []) job.row [] own.pool pool)
-      (pool_is : went.pool ≡ pool) (trail_is : went.trail ≡ own.trail ++ record { maker = own.session; event = StartWrite job.id.name } ∷ []) (fixed_is : fixed went ≡ fixed own) where
+      (pool_is : went.pool ≡ pool) (trail_is : went.trail ≡ own.trail ++ record { maker = own.session; event = StartWrite job.id.name } ∷ []) (fixed_is : went.session ≡ own.session) where
     session_is : went.session ≡ own.session
-    session_is = ap (λ f. f.0) fixed_is
+    session_is = fixed_is
 
     waits : IsDirtyOf (state_of own.pool) c job.id.name
     waits = newest_is slot own is c job.id.name started.older started.newest
@@ -142,7 +142,6 @@ module _ {D : Type 0} (slot : Ghosts D) (own : Owned D) (is : Stands slot own) w
             ends.state ∙ ap (λ (m : ℕ). run (state_of went.pool) (by m (ends.end ∷ []))) session_is ∙ ap (λ (v : Parts D). run (state_of v) (by own.session (ends.end ∷ []))) pool_is
             ∙ ap (λ (s : State). run s (by own.session (ends.end ∷ []))) enters.state;
         stands = λ o stood. ends.stands o (subst (λ (v : Parts D). StandsFor slot o went.trail v) (sym pool_is) (subst (λ (h : List Entry). StandsFor slot o h pool) (sym trail_is) (enters.stands o own.trail stood)));
-        opened = ends.opened ∙ ap (λ f. f.1) fixed_is;
         slots = λ rest. let never : false ≡ true = rest.0 in absurd (false≢true never);
         told =
             let out = enters.slots (silence slot) in
@@ -169,14 +168,14 @@ module _ {D : Type 0} (slot : Ghosts D) (own : Owned D) (is : Stands slot own) w
           ap (λ (h : List Entry). blocks_of (maker_of h job.id.name)) grew
           ∙ ap blocks_of (still_made (own.trail ++ start_entry own.session job.id.name ∷ []) (by went.session (ends.end ∷ [])) job.id.name (made_of x) known) ∙ sym started.is.slots
 
-      sums_write : SumsHold new (tally_in slot new.pool)
+      sums_write : SumsHold first new.trail (tally_in slot new.pool)
       sums_write =
           sums_by slot own new made goes_write is (all_failures (by own.session (ends.end ∷ []))) (stored_with (length job.row) ends.end) refl
           (stored_end new.trail own.session job.id.name (length job.row) ends.end ends.ended was_made)
           (subst (λ (m : ℕ). Counted (all_failures (by m (ends.end ∷ []))) (stored_with (length job.row) ends.end) (tally_in slot own.pool) (tally_in slot new.pool)) session_is
           (subst (λ (t : Tally). Counted (all_failures (by went.session (ends.end ∷ []))) (stored_with (length job.row) ends.end) t (tally_in slot new.pool)) started_tally ends.counted))
 
-      pub stands_write : Stands slot new
+      pub stands_write : Stands slot first new
       stands_write =
           grown slot own new made goes_write is (end_calm job.id.name ends.end ends.ended) (ap (λ (h : Holdings). is_some h.free_slots) (end_holds job.id.name ends.end (held_of slot own) ends.ended) ∙ is.live)
           (subst IsStill (sym goes_write.state) (end_still (state_of own.pool) own.session job.id.name ends.end ends.ended is.still)) sums_write
@@ -205,11 +204,11 @@ module _ {D : Type 0} (slot : Ghosts D) (own : Owned D) (is : Stands slot own) w
           (unwritten_left s own.session c job.id.name waits started.older started.newest lacks.failed k.session k.lives whose)))
 
 -- while no call is under way, no page of a client is written
-pub none_flies : {D : Type 0} (slot : Ghosts D) (own : Owned D) → Stands slot own → (c : ℕ) → IsWriting (state_of own.pool) c → ⊥
+pub none_flies : {D : Type 0} {first : Option Tally} (slot : Ghosts D) (own : Owned D) → Stands slot first own → (c : ℕ) → IsWriting (state_of own.pool) c → ⊥
 none_flies slot own is c writing =
     let moves : is_moving writing.page.place ≡ true = ap is_moving writing.flies in
     false≢true (sym (is.still writing.name writing.page writing.lives) ∙ moves)
 
 -- the same pool stands as it did
-pub same_stands : {D : Type 0} (slot : Ghosts D) (own : Owned D) (pool : Parts D) → Stands slot own → pool ≡ own.pool → Stands slot (record own { pool = pool })
-same_stands {D} slot own pool is same = subst (λ (v : Parts D). Stands slot (record own { pool = v })) (sym same) is
+pub same_stands : {D : Type 0} {first : Option Tally} (slot : Ghosts D) (own : Owned D) (pool : Parts D) → Stands slot first own → pool ≡ own.pool → Stands slot first (record own { pool = pool })
+same_stands {D} {first} slot own pool is same = subst (λ (v : Parts D). Stands slot first (record own { pool = v })) (sym same) is

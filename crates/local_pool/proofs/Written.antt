@@ -25,7 +25,7 @@ use Rattle.local_pool.specs.declared.owned.Owned.{Owned}
 use Rattle.local_pool.specs.Told.{silence}
 use Rattle.local_pool.specs.Counting.{Counted, all_failures, tally_by, tally_with}
 use Rattle.local_pool.specs.Turning.{IsEnd, Ends, CanWrite, stored_with}
-use Rattle.local_pool.proofs.Counting.{fixed, tally_same, came_back}
+use Rattle.local_pool.proofs.Counting.{tally_same, came_back}
 
 pub job_fits : {D : Type 0} (s : State) (job : WriteJob D) → IsWriteJob s job → IsFit job.buf job.row
 job_fits s job is = record {
@@ -89,7 +89,7 @@ module _ {D : Type 0} (slot : Ghosts D) where
         → map slot.tells ran.row ≡ map slot.tells job.row
         → EntersWhere slot (IsWritten slot (state_of old.pool).block_len ran) (write_entry ran before now) ran.row old.pool new.pool
         → new.trail ≡ old.trail ++ write_entry ran before now ∷ []
-        → fixed new ≡ fixed old
+        → new.session ≡ old.session
         → Counted (all_failures (by old.session (write_ends ran.failed ran.id.name before now ∷ []))) (stored_with (length job.row) (write_ends ran.failed ran.id.name before now))
         (tally_with slot old.pool job.row) (tally_by slot (λ measure. slots_home measure old.pool + sum_by measure ran.row))
         → Ends slot job old new
@@ -97,8 +97,7 @@ module _ {D : Type 0} (slot : Ghosts D) where
       end = write_ends ran.failed ran.id.name before now;
       ended = subst (λ (p : ℕ). IsEnd p (write_ends ran.failed ran.id.name before now)) name_is (is_end ran.failed before now);
       trail = trail ∙ ap (λ (e : Entry). old.trail ++ e ∷ []) (entry_is before now);
-      session = ap (λ f. f.0) session;
-      opened = ap (λ f. f.1) session;
+      session = session;
       state = enters.state ∙ ap (after (state_of old.pool)) (entry_is before now);
       stands = λ o stood. subst (λ (h : List Entry). StandsFor slot o h new.pool) (sym trail) (enters.stands o old.trail stood (is_written held o stood));
       counted =
@@ -130,7 +129,7 @@ module _ {D : Type 0} (slot : Ghosts D) where
         → CountsStores slot (if ran.failed then 0 else length job.row) job.row ran.row
         → ((before now : ℕ) → IsFault before now → EntersWhere slot (IsWritten slot (state_of old.pool).block_len ran) (write_entry ran before now) ran.row old.pool new.pool)
         → new.trail ≡ old.trail ++ write_entry ran sum (faults_of slot ran.row) ∷ []
-        → fixed new ≡ fixed old
+        → new.session ≡ old.session
         → Ends slot job old new
     comes_back sum is held tells len fall failed faults stores enters trail session = elim ran.failed as (λ b. ran.failed ≡ b → Ends slot job old new) [
       | true ↦ λ bad.

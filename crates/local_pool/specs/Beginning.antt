@@ -14,7 +14,6 @@ use Rattle.pin_core.specs.declared.conf.PoolConf.{PoolConf}
 use Rattle.pin_core.specs.Standing.{slots_home}
 use Rattle.local_pool.specs.declared.owned.Owned.{Owned}
 use Rattle.local_pool.specs.Told.{held_of}
-use Rattle.local_pool.specs.Counting.{tally_of}
 
 -- all memory of a pool that opens with these numbers
 abbrev pub memory_of : PoolConf → ℕ
@@ -42,7 +41,6 @@ pub record Begins {D : Type 0} (slot : Ghosts D) (conf : PoolConf) (slots : List
   pub held : IsBegun conf limit quota least (held_of slot own)
   pub trail : own.trail ≡ by own.session (first_events (held_of slot own).query limit quota least)
   pub home : (measure : D → ℕ) → slots_home measure own.pool ≡ sum_by measure slots
-  pub opened : own.opened ≡ tally_of slot slots ∷ []
 
 -- the least reservation passes its own limit, or all memory
 abbrev pub LacksLeast : PoolConf → ℕ → ℕ → Type 0

@@ -1,5 +1,5 @@
 -- What the slots of a pool count together, and what entries make of that.
-use Rattle.std.specs.Prelude.{◌≡◌, ℕ, ◌+◌, ◌≤◌, List, [], ◌∷◌, Option, Some, None, true}
+use Rattle.std.specs.Prelude.{◌≡◌, ℕ, ◌+◌, ◌≤◌, List, Option, Some, None, true, ⊤}
 use Rattle.std.specs.List.{sum_by}
 use Rattle.outside.specs.declared.slot.Slot.{Ghosts}
 use Rattle.scratch_dev.specs.Rows.{stores_at, uncounted}
@@ -11,7 +11,6 @@ use Rattle.pool_model.specs.Failures.{failures_in}
 use Rattle.pin_core.specs.declared.parts.Parts.{Parts}
 use Rattle.pin_core.specs.Standing.{slots_home}
 use Rattle.pin_core.specs.Runs.{stuck}
-use Rattle.local_pool.specs.declared.owned.Owned.{Owned}
 use Rattle.local_pool.specs.declared.tally.Tally.{Tally}
 use Rattle.local_pool.specs.Told.{silence}
 
@@ -45,11 +44,10 @@ pub record Counted (failures blocks : ℕ) (before now : Tally) : Type 0 where
   pub silent : now.silent ≡ before.silent
   pub slots : now.slots ≡ before.slots
 
--- the pool opened with slots that counted `first`, and by its trail they count so now
-pub record SumsHold {D : Type 0} (own : Owned D) (now : Tally) : Type 0 where
-  pub first : Tally
-  pub opened : own.opened ≡ first ∷ []
-  pub counted : Counted (all_failures own.trail) (written_blocks own.trail) first now
+-- where it is named what the slots counted when the pool opened, they count so now, by what its trail tells
+abbrev pub SumsHold : Option Tally → List Entry → Tally → Type 0
+SumsHold None trail now = ⊤
+SumsHold (Some first) trail now = Counted (all_failures trail) (written_blocks trail) first now
 
 module _ {D : Type 0} (slot : Ghosts D) where
   -- what slots count together, over which measures are summed so

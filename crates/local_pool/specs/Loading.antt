@@ -32,7 +32,6 @@ module _ {D : Type 0} (slot : Ghosts D) where
     pub session : new.session ≡ old.session
     pub state : state_of new.pool ≡ run (state_of old.pool) (by old.session (end ∷ []))
     pub stands : (o : Opening) → StandsFor slot o old.trail old.pool → StandsFor slot o new.trail new.pool
-    pub opened : new.opened ≡ old.opened
     pub counted : Counted (all_failures (by old.session (end ∷ []))) 0 (tally_with slot old.pool row) (tally_in slot new.pool)
 
   -- the page is pinned with its buffer, which shows what was left, where the slots tell it

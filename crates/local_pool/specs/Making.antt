@@ -41,7 +41,6 @@ pub record Goes {D : Type 0} (slot : Ghosts D) (events : List Event) (old new : 
   pub state : state_of new.pool ≡ run (state_of old.pool) (by old.session events)
   pub stands : (o : Opening) → StandsFor slot o old.trail old.pool → StandsFor slot o new.trail new.pool
   pub told : all_tell slot new.pool ≡ all_tell slot old.pool
-  pub opened : new.opened ≡ old.opened
   pub slots : AllByRecursion (λ e. rests e ≡ true) events → (measure : D → ℕ) → slots_home measure new.pool ≡ slots_home measure old.pool
 
 -- an event with which no tracker comes to stand for a session, and none ends

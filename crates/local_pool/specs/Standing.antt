@@ -1,5 +1,5 @@
 -- What one owner's pool keeps true between calls.
-use Rattle.std.specs.Prelude.{◌≡◌, ◌≢◌, ℕ, ◌<◌, ◌≤◌, Bool, true, false, Some, is_some}
+use Rattle.std.specs.Prelude.{◌≡◌, ◌≢◌, ℕ, ◌<◌, ◌≤◌, Bool, true, false, Option, Some, is_some}
 use Rattle.std.specs.FinMap.{get}
 use Rattle.outside.specs.declared.slot.Slot.{Ghosts}
 use Rattle.pool_model.specs.State.{Opening, Place, Flying, Loading, Page, Pages, State}
@@ -8,6 +8,7 @@ use Rattle.own_entries.specs.AboveLaws.{AllBy}
 use Rattle.pin_core.specs.StateOf.{state_of}
 use Rattle.pin_core.specs.Standing.{StandsFor}
 use Rattle.local_pool.specs.declared.owned.Owned.{Owned}
+use Rattle.local_pool.specs.declared.tally.Tally.{Tally}
 use Rattle.local_pool.specs.Told.{held_of}
 use Rattle.local_pool.specs.Counting.{SumsHold, tally_in}
 
@@ -29,8 +30,9 @@ IsStill s = AreStill s.pages
 abbrev pub IsStillBut : ℕ → State → Type 0
 IsStillBut p s = (q : ℕ) (x : Page) → q ≢ p → get s.pages q ≡ Some x → is_moving x.place ≡ false
 
--- the pool's value stands for the trail, which the one owner made alone from its opening on
-pub record Stands {D : Type 0} (slot : Ghosts D) (own : Owned D) : Type 0 where
+-- the pool's value stands for the trail, which the one owner made alone from its opening on; `first` names what the
+-- slots counted when the pool opened, or nothing
+pub record Stands {D : Type 0} (slot : Ghosts D) (first : Option Tally) (own : Owned D) : Type 0 where
   pub opening : Opening
   pub stands : StandsFor slot opening own.trail own.pool
   pub alone : AllBy own.session own.trail
@@ -39,4 +41,4 @@ pub record Stands {D : Type 0} (slot : Ghosts D) (own : Owned D) : Type 0 where
   pub live : is_some (held_of slot own).free_slots ≡ true
   pub few : (held_of slot own).live_clients ≤ 16
   pub still : IsStill (state_of own.pool)
-  pub sums : SumsHold own (tally_in slot own.pool)
+  pub sums : SumsHold first own.trail (tally_in slot own.pool)

@@ -85,7 +85,6 @@ module _ {D : Type 0} (slot : Ghosts D) where
     pub session : new.session ≡ old.session
     pub state : state_of new.pool ≡ run (state_of old.pool) (by old.session (end ∷ []))
     pub stands : (o : Opening) → StandsFor slot o old.trail old.pool → StandsFor slot o new.trail new.pool
-    pub opened : new.opened ≡ old.opened
     pub counted : Counted (all_failures (by old.session (end ∷ []))) (stored_with (length job.row) end) (tally_with slot old.pool job.row) (tally_in slot new.pool)
 
   -- the job is to write a page of the owner, with the page's content

@@ -17,6 +17,7 @@ ghost use Rattle.local_pool.specs.Turning.{CanRefuse, IsRoomCall, Rose, Wants};
 
 use crate::entering::{enter, enter_refused};
 use crate::owned::Alone;
+use crate::tally::OpenedWith;
 use crate::turning::Turn;
 use outside::Slot;
 use pin_core::Want;
@@ -24,7 +25,7 @@ use pool_model::{Call, Event};
 use reservation_tree::PoolErr;
 use store_api::Client;
 
-impl<D: Slot + Drop> Alone<D> {
+impl<D: Slot + Drop, T: OpenedWith> Alone<D, T> {
     // A call begins.
     pub(crate) fn ask(&mut self)
         ensures { Makes D.Slot (λ events. events ≡ event.Ask ∷ []) self.old self.new }

@@ -1,5 +1,5 @@
 //! One owner's pool begins and ends.
-ghost use Rattle.std.specs.Prelude.{◌≡◌, ◌≤◌, ℕ, [], ◌∷◌, IsErr, IfOk, IfErr, vec_len};
+ghost use Rattle.std.specs.Prelude.{◌≡◌, ◌≤◌, ℕ, [], IsErr, IfOk, IfErr, IfSome, vec_len};
 ghost use Rattle.std.specs.List.{sum_by};
 ghost use Rattle.pool_model.specs.State.{Opening};
 ghost use Rattle.pin_core.specs.Setup.{IsOpeningOf, OpensWith};
@@ -12,15 +12,16 @@ ghost use Rattle.local_pool.specs.Beginning.{Begins, IsBegun, IsLeastRefusal, La
 
 use crate::entering::enter;
 use crate::owned::{Alone, Owned};
-use crate::tally::{Tally, count};
+use crate::tally::OpenedWith;
 use outside::Slot;
 use pin_core::{PoolConf, PoolState};
 use pool_model::{Entry, Event};
 use reservation_tree::{PoolErr, TrackerId};
 use std::alloc::Global;
+use std::marker::PhantomData;
 use turn_table::Solo;
 
-impl<D: Slot + Drop> Alone<D> {
+impl<D: Slot + Drop, T: OpenedWith> Alone<D, T> {
     /// A pool with these numbers and slots, whose owner may reserve up to `limit` bytes and has `least` of them, and
     /// whose pages may take `quota` slots. Takes all the memory that it will ever use, but for pages and loans.
     ///
@@ -34,10 +35,11 @@ impl<D: Slot + Drop> Alone<D> {
         limit: u64,
         quota: u32,
         least: u64,
-    ) -> Result<Alone<D>, (Vec<D>, PoolErr)>
+    ) -> Result<Alone<D, T>, (Vec<D>, PoolErr)>
         requires conf { OpensWith conf.now }
         requires slots { vec_len slots ≤ 1048576 }
         requires quota { quota ≤ vec_len slots }
+        requires tally { IfSome T.tally (λ first. first ≡ tally_of D.Slot slots.items) }
         ensures ok { IfOk result (Begins D.Slot conf.now slots.items limit quota least) }
         ensures refused { LacksLeast conf.now limit least → IsErr result }
         ensures cause { IfErr result (λ e. IsLeastRefusal conf.now limit least e.1) }
@@ -46,11 +48,8 @@ impl<D: Slot + Drop> Alone<D> {
         let Ok(trail) = Solo::open(alloc) else {
             return Err((slots, PoolErr::Memory));
         };
-        let Ok(opened) = Solo::open(alloc) else {
-            return Err((slots, PoolErr::Memory));
-        };
         match PoolState::open(alloc, conf, slots) {
-            Ok(pool) => begin(pool, trail, opened, conf, limit, quota, least),
+            Ok(pool) => begin(pool, trail, conf, limit, quota, least),
             Err((slots, _)) => Err((slots, PoolErr::Memory)),
         }
     }
@@ -59,13 +58,12 @@ impl<D: Slot + Drop> Alone<D> {
     pub fn close(self) -> Vec<D>
         requires { (held_of D.Slot self).live_clients ≡ 0 }
         ensures slots { (measure : D → ℕ) → sum_by measure result.items ≡ slots_home measure self.pool }
-        ensures sums { SumsHold self (tally_of D.Slot result.items) }
+        ensures sums { SumsHold T.tally self.trail (tally_of D.Slot result.items) }
     {
         let Owned {
             mut pool,
             trail: _,
             session,
-            opened: _,
         } = self.own;
         pool.end_session(session);
         pool.close()
@@ -73,28 +71,26 @@ impl<D: Slot + Drop> Alone<D> {
 }
 
 // The owner's session begins.
-fn begin<D: Slot + Drop>(
+fn begin<D: Slot + Drop, T: OpenedWith>(
     mut pool: PoolState<D>,
     mut trail: Solo<Entry>,
-    mut opened: Solo<Tally>,
     _conf: &PoolConf,
     limit: u64,
     quota: u32,
     least: u64,
-) -> Result<Alone<D>, (Vec<D>, PoolErr)>
+) -> Result<Alone<D, T>, (Vec<D>, PoolErr)>
     requires conf { OpensWith _conf.now }
     requires fresh { (o : Opening) → IsOpeningOf _conf.now (spare_of pool) o → StandsFor D.Slot o [] pool }
-    requires empty { (trail ≡ []) × (opened ≡ []) }
+    requires empty { trail ≡ [] }
     requires quota { quota ≤ spare_of pool }
+    requires opens { IfSome T.tally (λ first. first ≡ tally_in D.Slot pool) }
     ensures ok { IfOk result (λ own. IsBegun _conf.now limit quota least (held_of D.Slot own)) }
     ensures trail { IfOk result (λ own. own.trail ≡ by own.session (first_events (held_of D.Slot own).query limit quota least)) }
     ensures slots { IfOk result (λ own. (measure : D → ℕ) → slots_home measure own.pool ≡ slots_home measure pool) }
-    ensures opened { IfOk result (λ own. own.opened ≡ tally_in D.Slot pool ∷ []) }
     ensures refused { LacksLeast _conf.now limit least → IsErr result }
     ensures cause { IfErr result (λ e. IsLeastRefusal _conf.now limit least e.1) }
     ensures back { IfErr result (λ e. (measure : D → ℕ) → sum_by measure e.0.items ≡ slots_home measure pool) }
 {
-    count(&mut opened, &pool);
     let session = match pool.open_session(limit, quota, least) {
         Ok(session) => session,
         Err(refusal) => return Err((pool.close(), refusal)),
@@ -123,7 +119,7 @@ fn begin<D: Slot + Drop>(
             pool,
             trail,
             session,
-            opened,
         },
+        first: PhantomData,
     })
 }

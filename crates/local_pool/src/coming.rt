@@ -20,6 +20,7 @@ ghost use Rattle.local_pool.specs.Calling.{Evicts, evicts_for, IsFreshLoan, IsFr
 
 use crate::entering::{enter, enter_evictions};
 use crate::owned::{Alone, Owned};
+use crate::tally::OpenedWith;
 use block_arena::{Buf, Shell};
 use outside::Slot;
 use pin_core::Want;
@@ -31,7 +32,7 @@ use std::marker::Brand;
 use store_api::{Client, Loan, Page};
 use turn_table::Adds;
 
-impl<D: Slot + Drop> Alone<D> {
+impl<D: Slot + Drop, T: OpenedWith> Alone<D, T> {
     /// A new page of so many blocks, which have so many bytes, once there is room.
     pub fn create(
         &mut self,

@@ -19,6 +19,7 @@ ghost use Rattle.local_pool.specs.Leaving.{CanEnd};
 
 use crate::entering::enter;
 use crate::owned::{Alone, Owned};
+use crate::tally::OpenedWith;
 use block_arena::Buf;
 use outside::Slot;
 use pin_core::PoolState;
@@ -28,7 +29,7 @@ use std::marker::Brand;
 use store_api::{Loan, Page};
 use turn_table::Adds;
 
-impl<D: Slot + Drop> Alone<D> {
+impl<D: Slot + Drop, T: OpenedWith> Alone<D, T> {
     /// Leaves these bytes in a page that is pinned once.
     pub fn unpin(&mut self, p: &Page, buf: Buf) -> Result<(), (Buf, PoolErr)>
         requires page { IsPage p.now (held_of D.Slot self.old) }

@@ -1,5 +1,5 @@
 //! The pool of one owner as a store.
-ghost use Rattle.std.specs.Prelude.{◌≡◌, ◌≤◌, ℕ, IsErr, IfOk, IfErr, vec_len};
+ghost use Rattle.std.specs.Prelude.{◌≡◌, ◌≤◌, ℕ, IsErr, IfOk, IfErr, IfSome, vec_len};
 ghost use Rattle.std.specs.List.{sum_by};
 ghost use Rattle.block_arena.specs.Blocks.{IsBlockLen};
 ghost use Rattle.pin_core.specs.Setup.{OpensWith};
@@ -11,27 +11,29 @@ ghost use Rattle.local_pool.specs.Counting.{SumsHold, tally_of};
 ghost use Rattle.local_pool.specs.Beginning.{Begins, IsLeastRefusal, LacksLeast};
 
 use crate::owned::Alone;
+use crate::tally::OpenedWith;
 use block_arena::Buf;
 use outside::Slot;
 use pin_core::{PoolConf, PoolState};
 use reservation_tree::PoolErr;
 use std::alloc::Global;
+use std::marker::Brand;
 use store_api::{Client, Loan, Page, Store};
 
 /// A pool with one owner, as a store.
 ///
 /// What a law of stores says of it whatever was called before stands beside it, since a law can't
-/// use the invariant of [`Alone`].
+/// use the invariant of [`Alone`]. `T` names what the slots counted when the pool opened.
 #[derive(Drop)]
-pub struct LocalPool<D: Slot> {
-    pub(crate) alone: Alone<D>,
+pub struct LocalPool<D: Slot, T: OpenedWith = Brand> {
+    pub(crate) alone: Alone<D, T>,
     pub(crate) block_len: u32,
     ghost len: { block_len ≡ (held_of D.Slot alone).block_len },
     ghost power: { IsBlockLen block_len },
     ghost whole: { IsWholeIdle (held_of D.Slot alone) },
 }
 
-impl<D: Slot + Drop> LocalPool<D> {
+impl<D: Slot + Drop, T: OpenedWith> LocalPool<D, T> {
     /// A pool with these numbers and slots, whose owner may reserve up to `limit` bytes and has `least` of them, and
     /// whose pages may take `quota` slots. Takes all the memory that it will ever use, but for pages and loans.
     ///
@@ -45,10 +47,11 @@ impl<D: Slot + Drop> LocalPool<D> {
         limit: u64,
         quota: u32,
         least: u64,
-    ) -> Result<LocalPool<D>, (Vec<D>, PoolErr)>
+    ) -> Result<LocalPool<D, T>, (Vec<D>, PoolErr)>
         requires conf { OpensWith conf.now }
         requires slots { vec_len slots ≤ 1048576 }
         requires quota { quota ≤ vec_len slots }
+        requires tally { IfSome T.tally (λ first. first ≡ tally_of D.Slot slots.items) }
         ensures ok { IfOk result (λ pool. Begins D.Slot conf.now slots.items limit quota least pool.alone) }
         ensures refused { LacksLeast conf.now limit least → IsErr result }
         ensures cause { IfErr result (λ e. IsLeastRefusal conf.now limit least e.1) }
@@ -81,13 +84,13 @@ impl<D: Slot + Drop> LocalPool<D> {
     pub fn close(self) -> Vec<D>
         requires { (held_of D.Slot self.alone).live_clients ≡ 0 }
         ensures slots { (measure : D → ℕ) → sum_by measure result.items ≡ slots_home measure self.alone.pool }
-        ensures sums { SumsHold self.alone (tally_of D.Slot result.items) }
+        ensures sums { SumsHold T.tally self.alone.trail (tally_of D.Slot result.items) }
     {
         self.alone.close()
     }
 }
 
-impl<D: Slot + Drop> Store for LocalPool<D> {
+impl<D: Slot + Drop, T: OpenedWith> Store for LocalPool<D, T> {
     ghost use Rattle.local_pool.specs.Told.{signs_of};
     ghost use Rattle.local_pool.specs.Laws.{tells_left};
 

@@ -1,28 +1,27 @@
 //! What one owner has.
-use crate::tally::Tally;
+use crate::tally::OpenedWith;
 use outside::Slot;
 use pin_core::PoolState;
 use pool_model::Entry;
-use std::marker::Model;
+use std::marker::{Brand, Model, PhantomData};
 use turn_table::Solo;
 
-/// A pool's value, the trail for which it stands, the number of the owner's session, and what the slots counted
-/// together when the pool opened.
+/// A pool's value, the trail for which it stands, and the number of the owner's session.
 #[derive(Drop)]
 pub struct Owned<D> {
     pub(crate) pool: PoolState<D>,
     pub(crate) trail: Solo<Entry>,
     pub(crate) session: u32,
-    pub(crate) opened: Solo<Tally>,
 }
 
-/// The same, while no call is under way.
+/// The same, while no call is under way. `T` names what the slots counted when the pool opened.
 #[derive(Drop)]
-pub struct Alone<D: Slot> {
+pub struct Alone<D: Slot, T: OpenedWith = Brand> {
     pub(crate) own: Owned<D>,
+    pub(crate) first: PhantomData<T>,
 }
 
-impl<D: Slot> Model for Alone<D> {
+impl<D: Slot, T: OpenedWith> Model for Alone<D, T> {
     ghost use Rattle.std.specs.Coded.{codes};
     ghost use Rattle.reservation_tree.specs.Tree.{state_code};
     ghost use Rattle.page_table.specs.Pages.{pages_code};
@@ -37,5 +36,5 @@ impl<D: Slot> Model for Alone<D> {
 
     ghost view = { λ s. s.own };
 
-    ghost invariant = { λ s. Stands D.Slot s.own };
+    ghost invariant = { λ s. Stands D.Slot T.tally s.own };
 }

@@ -21,6 +21,7 @@ ghost use Rattle.local_pool.specs.Pinning.{CanBePinned, PinIs};
 use crate::entering::{enter, enter_refused, enter_started};
 use crate::loading::read_back;
 use crate::owned::{Alone, Owned};
+use crate::tally::OpenedWith;
 use crate::writing::write_out;
 use block_arena::Buf;
 use outside::Slot;
@@ -43,7 +44,7 @@ pub(crate) enum PinStep {
     Failed { entry: u64 },
 }
 
-impl<D: Slot + Drop> Alone<D> {
+impl<D: Slot + Drop, T: OpenedWith> Alone<D, T> {
     /// Pins a page that rests: where it is, or once there is room for it, after a load where it isn't in memory.
     pub fn pin(&mut self, p: &Page) -> Result<Buf, PoolErr>
         requires page { IsPage p.now (held_of D.Slot self.old) }
@@ -80,7 +81,7 @@ impl<D: Slot + Drop> Alone<D> {
         requires asked { has_asked self.old.trail ≡ true }
         ensures { PinIs D.Slot p.now result self.old self.new }
     {
-        step::<Brand, D>(&mut self.own, p)
+        step::<Brand, D, T>(&mut self.own, p)
     }
 
     // The pin is refused for the failure with this number.
@@ -96,13 +97,13 @@ impl<D: Slot + Drop> Alone<D> {
 }
 
 // One turn, with the entries of a load, which `G` names, since they evict what the turn finds to evict.
-fn step<G: Adds<Entry>, D: Slot + Drop>(own: &mut Owned<D>, p: &Page) -> PinStep
+fn step<G: Adds<Entry>, D: Slot + Drop, T: OpenedWith>(own: &mut Owned<D>, p: &Page) -> PinStep
     requires named { G.entries ≡ load_entries own.old.session p.now.name (page_at (state_of own.old.pool) p.now.name).blocks own.old.pool }
-    requires stands { Stands D.Slot own.old }
+    requires stands { Stands D.Slot T.tally own.old }
     requires can { CanBePinned p.now (held_of D.Slot own.old) }
     requires asked { has_asked own.old.trail ≡ true }
     ensures turn { PinIs D.Slot p.now result own.old own.new }
-    ensures stands { Stands D.Slot own.new }
+    ensures stands { Stands D.Slot T.tally own.new }
 {
     match own.pool.pin_turn(own.session, 0, p) {
         PinTurn::Here(buf) => {

@@ -14,13 +14,14 @@ ghost use Rattle.local_pool.specs.Refusing.{Refuses};
 
 use crate::entering::enter;
 use crate::owned::Alone;
+use crate::tally::OpenedWith;
 use outside::Slot;
 use pin_core::Want;
 use pool_model::{Call, Event};
 use reservation_tree::PoolErr;
 use store_api::{Client, Loan, Page};
 
-impl<D: Slot + Drop> Alone<D> {
+impl<D: Slot + Drop, T: OpenedWith> Alone<D, T> {
     /// Pins a pinned page once more, once there is room.
     pub fn pin_again(&mut self, p: &Page) -> Result<(), PoolErr>
         requires page { IsPage p.now (held_of D.Slot self.old) }

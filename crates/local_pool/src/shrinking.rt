@@ -15,13 +15,14 @@ ghost use Rattle.local_pool.specs.Refusing.{Refuses};
 
 use crate::entering::enter;
 use crate::owned::Alone;
+use crate::tally::OpenedWith;
 use outside::Slot;
 use pin_core::Want;
 use pool_model::{Call, Event};
 use reservation_tree::PoolErr;
 use store_api::Client;
 
-impl<D: Slot + Drop> Alone<D> {
+impl<D: Slot + Drop, T: OpenedWith> Alone<D, T> {
     /// Lowers the client's reservation, once what it holds fits.
     pub fn give_back(&mut self, c: &Client, bytes: u64) -> Result<(), PoolErr>
         requires client { IsLiveClient c.now (held_of D.Slot self.old) }

@@ -1,11 +1,5 @@
 //! What slots count together, for contracts alone.
-ghost use Rattle.std.specs.Prelude.{◌≡◌, ◌++◌, ◌∷◌, []};
-ghost use Rattle.local_pool.specs.Counting.{tally_in};
-
-use outside::Slot;
-use pin_core::PoolState;
 use std::marker::Brand;
-use turn_table::{Adds, Solo};
 
 /// What some slots count together. No value of it is ever made.
 pub struct Tally {
@@ -23,18 +17,17 @@ pub struct Tally {
     pub slots: u64,
 }
 
-// The slots of a pool that opens were counted.
-#[inline]
-pub(crate) fn count<D: Slot>(opened: &mut Solo<Tally>, pool: &PoolState<D>)
-    ensures { opened.new ≡ opened.old ++ tally_in D.Slot pool.now ∷ [] }
-{
-    count_named::<Brand, D>(opened, pool);
+/// Names what the slots of a pool counted when it opened, for contracts alone. A call at `Brand` picks it; where none
+/// is picked it names nothing.
+pub trait OpenedWith {
+    ghost use Rattle.std.specs.Prelude.{Option};
+    ghost use Rattle.local_pool.specs.declared.tally.Tally.{Tally};
+
+    ghost tally: { Option Tally };
 }
 
-#[inline]
-fn count_named<N: Adds<Tally>, D: Slot>(opened: &mut Solo<Tally>, _pool: &PoolState<D>)
-    requires named { N.entries ≡ tally_in D.Slot _pool.now ∷ [] }
-    ensures { opened.new ≡ opened.old ++ tally_in D.Slot _pool.now ∷ [] }
-{
-    opened.tick::<N>();
+impl OpenedWith for Brand {
+    ghost use Rattle.std.specs.Prelude.{None};
+
+    ghost tally = { None };
 }

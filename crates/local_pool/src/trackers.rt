@@ -12,12 +12,13 @@ ghost use Rattle.local_pool.specs.Calling.{IsFresh};
 
 use crate::entering::enter;
 use crate::owned::Alone;
+use crate::tally::OpenedWith;
 use outside::Slot;
 use pool_model::Event;
 use reservation_tree::PoolErr;
 use store_api::Client;
 
-impl<D: Slot + Drop> Alone<D> {
+impl<D: Slot + Drop, T: OpenedWith> Alone<D, T> {
     /// A new client with this limit.
     pub fn add_client(&mut self, limit: u64) -> Result<Client, PoolErr>
         ensures ok { IfOk result (λ c. Makes D.Slot (λ events. events ≡ event.AddTracker c.tracker (held_of D.Slot self.old).query limit None ∷ []) self.old self.new) }

@@ -8,6 +8,7 @@ ghost use Rattle.local_pool.specs.Turning.{TurnIs};
 
 use crate::entering::enter_started;
 use crate::owned::Alone;
+use crate::tally::OpenedWith;
 use crate::writing::write_out;
 use outside::Slot;
 use pin_core::{RoomTurn, Want};
@@ -24,7 +25,7 @@ pub enum Turn {
     Wrote,
 }
 
-impl<D: Slot + Drop> Alone<D> {
+impl<D: Slot + Drop, T: OpenedWith> Alone<D, T> {
     // The first that applies: there is room; a failure refuses the call; the client's newest dirty page is written.
     pub(crate) fn turn(&mut self, c: &Client, want: Want) -> Turn
         requires client { IsLiveClient c.now (held_of D.Slot self.old) }

@@ -9,11 +9,10 @@ use Rattle.pin_core.specs.Sessions.{query_of}
 use Rattle.pin_core.specs.Standing.{StandsFor, slots_home}
 use Rattle.pin_core.specs.Opening.{spare_of}
 use Rattle.local_pool.specs.declared.owned.Owned.{Owned}
-use Rattle.local_pool.specs.declared.tally.Tally.{Tally}
 use Rattle.local_pool.specs.Counting.{tally_in}
 use Rattle.local_pool.specs.Beginning.{first_events}
 use Rattle.local_pool.proofs.Counting.{tally_same}
-use Rattle.local_pool.proofs.Begun.{opening_of, is_opening, not_full, lacks, cause_of, none_left, stands_first, begun, first_query, sits_first}
+use Rattle.local_pool.proofs.Begun.{opening_of, is_opening, not_full, lacks, cause_of, none_left, stands_first, counted_alike, begun, first_query, sits_first}
 use Rattle.local_pool.proofs.beginning.begin.Goals as goal
 
 pub close-requires : goal.close-requires
@@ -61,31 +60,31 @@ invariant_of-result g c =
     let o : Opening = opening_of c.args._conf.now (spare_of c.args.pool) in
     let fresh : StandsFor g.D.Slot o [] c.args.pool = c.requires.fresh o (is_opening c.args._conf.now (spare_of c.args.pool)) in
     let q : ℕ = query_of (state_of c.open_session.new.self) c.in-Ok.session in
-    let own : Owned g.row.D.Denot = record { pool = c.open_session.new.self; trail = c.enter-2.new.trail; session = c.in-Ok.session; opened = c.count.new.opened } in
+    let own : Owned g.row.D.Denot = record { pool = c.open_session.new.self; trail = c.enter-2.new.trail; session = c.in-Ok.session } in
     let trail : own.trail ≡ by own.session (first_events q c.args.limit c.args.quota c.args.least) =
-    trail_is c.args.trail c.enter.new.trail c.enter-2.new.trail c.in-Ok.session c.tracker-tracker.result q c.of.result c.args.limit c.args.quota c.args.least c.requires.empty.0 c.tracker-tracker.ensures c.of.ensures c.enter.ensures c.enter-2.ensures in
+    trail_is c.args.trail c.enter.new.trail c.enter-2.new.trail c.in-Ok.session c.tracker-tracker.result q c.of.result c.args.limit c.args.quota c.args.least c.requires.empty c.tracker-tracker.ensures c.of.ensures c.enter.ensures c.enter-2.ensures in
     stands_first g.D.Slot own q c.args.limit c.args.quota c.args.least trail c.args._conf.now o (is_opening c.args._conf.now (spare_of c.args.pool))
     (subst (λ (h : List Entry). StandsFor g.D.Slot o h own.pool) (sym trail) (c.in-Ok.ensures.ok.stands o [] fresh)) c.in-Ok.ensures.fresh.0
-    (tally_in g.D.Slot c.args.pool) (c.count.ensures ∙ ap (λ (ts : List Tally). ts ++ tally_in g.D.Slot c.args.pool ∷ []) c.requires.empty.1)
-    (tally_same g.D.Slot (λ measure. slots_home measure c.args.pool) (λ measure. slots_home measure own.pool) (λ measure. let home = c.in-Ok.ensures.ok.slots measure in omega (arith, home)))
+    g.T.OpenedWith.tally (counted_alike g.T.OpenedWith.tally (tally_in g.D.Slot c.args.pool) (tally_in g.D.Slot own.pool)
+    (tally_same g.D.Slot (λ measure. slots_home measure c.args.pool) (λ measure. slots_home measure own.pool) (λ measure. let home = c.in-Ok.ensures.ok.slots measure in omega (arith, home))) c.requires.opens)
 
 pub returns-clause-ok : goal.returns-clause-ok
 returns-clause-ok g c =
     let o : Opening = opening_of c.args._conf.now (spare_of c.args.pool) in
     let fresh : StandsFor g.D.Slot o [] c.args.pool = c.requires.fresh o (is_opening c.args._conf.now (spare_of c.args.pool)) in
     let q : ℕ = query_of (state_of c.open_session.new.self) c.in-Ok.session in
-    let own : Owned g.row.D.Denot = record { pool = c.open_session.new.self; trail = c.enter-2.new.trail; session = c.in-Ok.session; opened = c.count.new.opened } in
+    let own : Owned g.row.D.Denot = record { pool = c.open_session.new.self; trail = c.enter-2.new.trail; session = c.in-Ok.session } in
     let trail : own.trail ≡ by own.session (first_events q c.args.limit c.args.quota c.args.least) =
-    trail_is c.args.trail c.enter.new.trail c.enter-2.new.trail c.in-Ok.session c.tracker-tracker.result q c.of.result c.args.limit c.args.quota c.args.least c.requires.empty.0 c.tracker-tracker.ensures c.of.ensures c.enter.ensures c.enter-2.ensures in
+    trail_is c.args.trail c.enter.new.trail c.enter-2.new.trail c.in-Ok.session c.tracker-tracker.result q c.of.result c.args.limit c.args.quota c.args.least c.requires.empty c.tracker-tracker.ensures c.of.ensures c.enter.ensures c.enter-2.ensures in
     begun g.D.Slot own q c.args.limit c.args.quota c.args.least trail c.args._conf.now o (is_opening c.args._conf.now (spare_of c.args.pool))
     (subst (λ (h : List Entry). StandsFor g.D.Slot o h own.pool) (sym trail) (c.in-Ok.ensures.ok.stands o [] fresh))
 
 pub returns-clause-trail : goal.returns-clause-trail
 returns-clause-trail g c =
     let q : ℕ = query_of (state_of c.open_session.new.self) c.in-Ok.session in
-    let own : Owned g.row.D.Denot = record { pool = c.open_session.new.self; trail = c.enter-2.new.trail; session = c.in-Ok.session; opened = c.count.new.opened } in
+    let own : Owned g.row.D.Denot = record { pool = c.open_session.new.self; trail = c.enter-2.new.trail; session = c.in-Ok.session } in
     let trail : own.trail ≡ by own.session (first_events q c.args.limit c.args.quota c.args.least) =
-    trail_is c.args.trail c.enter.new.trail c.enter-2.new.trail c.in-Ok.session c.tracker-tracker.result q c.of.result c.args.limit c.args.quota c.args.least c.requires.empty.0 c.tracker-tracker.ensures c.of.ensures c.enter.ensures c.enter-2.ensures in
+    trail_is c.args.trail c.enter.new.trail c.enter-2.new.trail c.in-Ok.session c.tracker-tracker.result q c.of.result c.args.limit c.args.quota c.args.least c.requires.empty c.tracker-tracker.ensures c.of.ensures c.enter.ensures c.enter-2.ensures in
     trail ∙ ap (λ (k : ℕ). by own.session (first_events k c.args.limit c.args.quota c.args.least)) (sym (first_query g.D.Slot own q c.args.limit c.args.quota c.args.least trail))
 
 pub returns-clause-refused : goal.returns-clause-refused
@@ -93,6 +92,3 @@ returns-clause-refused g c few =
     let o : Opening = opening_of c.args._conf.now (spare_of c.args.pool) in
     let fresh : StandsFor g.D.Slot o [] c.args.pool = c.requires.fresh o (is_opening c.args._conf.now (spare_of c.args.pool)) in
     c.in-Ok.ensures.refused.1 (inr (lacks c.args._conf.now (spare_of c.args.pool) (state_of c.args.pool) fresh.state c.args.limit c.args.least few))
-
-pub returns-clause-opened : goal.returns-clause-opened
-returns-clause-opened g c = c.count.ensures ∙ ap (λ (ts : List Tally). ts ++ tally_in g.D.Slot c.args.pool ∷ []) c.requires.empty.1

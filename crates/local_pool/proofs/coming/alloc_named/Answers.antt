@@ -10,7 +10,7 @@ use Rattle.local_pool.proofs.coming.alloc_named.Goals as goal
 pub returns-clause-goes : goal.returns-clause-goes
 returns-clause-goes g c =
     let own : Owned g.row.D.Denot = c.args.own.now in
-    let new : Owned g.row.D.Denot = record { pool = c.alloc_now-loan.new.self; trail = c.enter.new.trail; session = own.session; opened = own.opened } in
+    let new : Owned g.row.D.Denot = record { pool = c.alloc_now-loan.new.self; trail = c.enter.new.trail; session = own.session } in
     goes_evicting g.D.Slot own new c.args.shell (Alloc c.alloc_now-loan.result.number c.args.client c.args.shell) (Alloc c.number.result c.args.client c.room-blocks.result)
     c.enter_evictions.new.trail g.G.Adds.entries c.requires.gone c.enter_evictions.ensures c.enter.ensures
     (ap (λ (n : ℕ). Alloc n c.args.client c.room-blocks.result) c.number.ensures ∙ ap (Alloc c.alloc_now-loan.result.number c.args.client) c.room-blocks.ensures) refl

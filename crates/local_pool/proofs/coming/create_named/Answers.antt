@@ -11,7 +11,7 @@ use Rattle.local_pool.proofs.coming.create_named.Goals as goal
 pub returns-clause-goes : goal.returns-clause-goes
 returns-clause-goes g c =
     let own : Owned g.row.D.Denot = c.args.own.now in
-    let new : Owned g.row.D.Denot = record { pool = c.create_now-made.new.self; trail = c.enter.new.trail; session = own.session; opened = own.opened } in
+    let new : Owned g.row.D.Denot = record { pool = c.create_now-made.new.self; trail = c.enter.new.trail; session = own.session } in
     goes_evicting g.D.Slot own new c.args.shell (Create c.in-Ok.page.name c.args.client c.args.shell c.in-Ok.page.key) (Create c.name.result c.args.client c.room-blocks.result c.key.result)
     c.enter_evictions.new.trail g.G.Adds.entries c.requires.gone c.enter_evictions.ensures c.enter.ensures
     (ap (λ (n : ℕ). Create n c.args.client c.room-blocks.result c.key.result) c.name.ensures ∙ ap (λ (n : ℕ). Create c.in-Ok.page.name c.args.client n c.key.result) c.room-blocks.ensures

@@ -19,7 +19,7 @@ unreachable-requires-in-Wait g c = waits_never g.D.Slot c.args.own.now c.require
 pub returns-in-Here-clause-turn : goal.returns-in-Here-clause-turn
 returns-in-Here-clause-turn g c =
     let own : Owned g.row.D.Denot = c.args.own.now in
-    let new : Owned g.row.D.Denot = record { pool = c.pin_turn.new.self; trail = c.enter.new.trail; session = own.session; opened = own.opened } in
+    let new : Owned g.row.D.Denot = record { pool = c.pin_turn.new.self; trail = c.enter.new.trail; session = own.session } in
     let entered : new.trail ≡ own.trail ++ by own.session (PinHere c.args.p.now.name ∷ []) = subst (λ (p : ℕ). new.trail ≡ own.trail ++ by own.session (PinHere p ∷ [])) c.name.ensures c.enter.ensures in (
       makes_here g.D.Slot own c.requires.stands c.args.p.now c.requires.can new entered refl c.in-Here.ensures.enters,
       shows_here g.D.Slot own c.requires.stands c.args.p.now c.requires.can c.in-Here.buf c.in-Here.ensures.turn.1,
@@ -29,7 +29,7 @@ returns-in-Here-clause-turn g c =
 pub returns-in-Here-clause-stands : goal.returns-in-Here-clause-stands
 returns-in-Here-clause-stands g c =
     let own : Owned g.row.D.Denot = c.args.own.now in
-    let new : Owned g.row.D.Denot = record { pool = c.pin_turn.new.self; trail = c.enter.new.trail; session = own.session; opened = own.opened } in
+    let new : Owned g.row.D.Denot = record { pool = c.pin_turn.new.self; trail = c.enter.new.trail; session = own.session } in
     let entered : new.trail ≡ own.trail ++ by own.session (PinHere c.args.p.now.name ∷ []) = subst (λ (p : ℕ). new.trail ≡ own.trail ++ by own.session (PinHere p ∷ [])) c.name.ensures c.enter.ensures in
     stands_here g.D.Slot own c.requires.stands c.args.p.now c.requires.can new entered refl c.in-Here.ensures.enters
 
@@ -37,7 +37,7 @@ pub read_back-requires : goal.read_back-requires
 read_back-requires g c = record {
   can =
       let own : Owned g.row.D.Denot = c.args.own.now in
-      let went : Owned g.row.D.Denot = record { pool = c.pin_turn.new.self; trail = c.tick.new.self; session = own.session; opened = own.opened } in
+      let went : Owned g.row.D.Denot = record { pool = c.pin_turn.new.self; trail = c.tick.new.self; session = own.session } in
       can_read g.D.Slot own c.requires.stands c.args.p.now c.requires.can c.in-Load.job went c.in-Load.ensures.turn.2 c.in-Load.ensures.turn.0 c.in-Load.ensures.enters
       (c.tick.ensures ∙ ap (λ es. own.trail ++ es) c.requires.named) refl;
 }
@@ -45,7 +45,7 @@ read_back-requires g c = record {
 pub returns-in-Ok-clause-turn : goal.returns-in-Ok-clause-turn
 returns-in-Ok-clause-turn g c =
     let own : Owned g.row.D.Denot = c.args.own.now in
-    let went : Owned g.row.D.Denot = record { pool = c.pin_turn.new.self; trail = c.tick.new.self; session = own.session; opened = own.opened } in
+    let went : Owned g.row.D.Denot = record { pool = c.pin_turn.new.self; trail = c.tick.new.self; session = own.session } in
     let entered = c.tick.ensures ∙ ap (λ es. own.trail ++ es) c.requires.named in (
       makes_read g.D.Slot own c.requires.stands c.args.p.now c.requires.can c.in-Load.job went c.in-Load.ensures.turn.2 c.in-Load.ensures.turn.0 c.in-Load.ensures.enters entered refl c.read_back.new.own c.in-Ok.buf c.in-Ok.ensures.ok,
       shows_read g.D.Slot own c.requires.stands c.args.p.now c.requires.can c.in-Load.job went c.in-Load.ensures.turn.2 c.in-Load.ensures.turn.0 c.in-Load.ensures.enters entered refl c.read_back.new.own c.in-Ok.buf c.in-Ok.ensures.ok,
@@ -55,14 +55,14 @@ returns-in-Ok-clause-turn g c =
 pub returns-in-Ok-clause-stands : goal.returns-in-Ok-clause-stands
 returns-in-Ok-clause-stands g c =
     let own : Owned g.row.D.Denot = c.args.own.now in
-    let went : Owned g.row.D.Denot = record { pool = c.pin_turn.new.self; trail = c.tick.new.self; session = own.session; opened = own.opened } in
+    let went : Owned g.row.D.Denot = record { pool = c.pin_turn.new.self; trail = c.tick.new.self; session = own.session } in
     let entered = c.tick.ensures ∙ ap (λ es. own.trail ++ es) c.requires.named in
     stands_read g.D.Slot own c.requires.stands c.args.p.now c.requires.can c.in-Load.job went c.in-Load.ensures.turn.2 c.in-Load.ensures.turn.0 c.in-Load.ensures.enters entered refl c.read_back.new.own c.in-Ok.buf c.in-Ok.ensures.ok
 
 pub returns-in-Err-ReadFault-clause-turn : goal.returns-in-Err-ReadFault-clause-turn
 returns-in-Err-ReadFault-clause-turn g c =
     let own : Owned g.row.D.Denot = c.args.own.now in
-    let went : Owned g.row.D.Denot = record { pool = c.pin_turn.new.self; trail = c.tick.new.self; session = own.session; opened = own.opened } in
+    let went : Owned g.row.D.Denot = record { pool = c.pin_turn.new.self; trail = c.tick.new.self; session = own.session } in
     let entered = c.tick.ensures ∙ ap (λ es. own.trail ++ es) c.requires.named in
     let it = c.in-Load.ensures in (
       must_fail g.D.Slot own c.requires.stands c.args.p.now c.requires.can c.in-Load.job went it.turn.2 it.turn.0 it.enters entered refl c.read_back.new.own c.in-Err-ReadFault.field-0 c.in-Err-ReadFault.ensures.err c.in-Err-ReadFault.entry c.in-Err-ReadFault.field-0-is c.requires.asked,
@@ -74,7 +74,7 @@ returns-in-Err-ReadFault-clause-turn g c =
 pub returns-in-Err-ReadFault-clause-stands : goal.returns-in-Err-ReadFault-clause-stands
 returns-in-Err-ReadFault-clause-stands g c =
     let own : Owned g.row.D.Denot = c.args.own.now in
-    let went : Owned g.row.D.Denot = record { pool = c.pin_turn.new.self; trail = c.tick.new.self; session = own.session; opened = own.opened } in
+    let went : Owned g.row.D.Denot = record { pool = c.pin_turn.new.self; trail = c.tick.new.self; session = own.session } in
     let entered = c.tick.ensures ∙ ap (λ es. own.trail ++ es) c.requires.named in
     let it = c.in-Load.ensures in
     stands_unread g.D.Slot own c.requires.stands c.args.p.now c.requires.can c.in-Load.job went it.turn.2 it.turn.0 it.enters entered refl c.read_back.new.own c.in-Err-ReadFault.field-0 c.in-Err-ReadFault.ensures.err
@@ -89,7 +89,7 @@ pub write_out-requires : goal.write_out-requires
 write_out-requires g c = record {
   can =
       let own : Owned g.row.D.Denot = c.args.own.now in
-      let went : Owned g.row.D.Denot = record { pool = c.pin_turn.new.self; trail = c.enter_started.new.trail; session = own.session; opened = own.opened } in
+      let went : Owned g.row.D.Denot = record { pool = c.pin_turn.new.self; trail = c.enter_started.new.trail; session = own.session } in
       let it = c.in-Write.ensures in
       can_write g.D.Slot own c.requires.stands c.args.p.now.client (page_len c.args.p.now.name (held_of g.D.Slot own)) (client_lives g.D.Slot own c.requires.stands c.args.p.now c.requires.can)
       c.in-Write.job c.pin_turn.new.self went (lacks_here g.D.Slot own c.requires.stands c.args.p.now c.requires.can None it.turn.0)
@@ -99,7 +99,7 @@ write_out-requires g c = record {
 pub returns-in-Write-clause-turn : goal.returns-in-Write-clause-turn
 returns-in-Write-clause-turn g c =
     let own : Owned g.row.D.Denot = c.args.own.now in
-    let went : Owned g.row.D.Denot = record { pool = c.pin_turn.new.self; trail = c.enter_started.new.trail; session = own.session; opened = own.opened } in
+    let went : Owned g.row.D.Denot = record { pool = c.pin_turn.new.self; trail = c.enter_started.new.trail; session = own.session } in
     let it = c.in-Write.ensures in
     let some = client_lives g.D.Slot own c.requires.stands c.args.p.now c.requires.can in
     let lacks = lacks_here g.D.Slot own c.requires.stands c.args.p.now c.requires.can None it.turn.0 in
@@ -112,7 +112,7 @@ returns-in-Write-clause-turn g c =
 pub returns-in-Write-clause-stands : goal.returns-in-Write-clause-stands
 returns-in-Write-clause-stands g c =
     let own : Owned g.row.D.Denot = c.args.own.now in
-    let went : Owned g.row.D.Denot = record { pool = c.pin_turn.new.self; trail = c.enter_started.new.trail; session = own.session; opened = own.opened } in
+    let went : Owned g.row.D.Denot = record { pool = c.pin_turn.new.self; trail = c.enter_started.new.trail; session = own.session } in
     let it = c.in-Write.ensures in
     stands_write g.D.Slot own c.requires.stands c.args.p.now.client (page_len c.args.p.now.name (held_of g.D.Slot own)) (client_lives g.D.Slot own c.requires.stands c.args.p.now c.requires.can)
     c.in-Write.job c.pin_turn.new.self went (lacks_here g.D.Slot own c.requires.stands c.args.p.now c.requires.can None it.turn.0)

@@ -25,13 +25,13 @@ returns-in_err-c-clause-refused g c =
 
 pub invariant_of-self-2 : goal.invariant_of-self-2
 invariant_of-self-2 g c =
-    let new : Owned g.row.D.Denot = record { pool = c.add_client.new.self; trail = c.enter.new.trail; session = c.self.inside.own.session; opened = c.self.inside.own.opened } in
+    let new : Owned g.row.D.Denot = record { pool = c.add_client.new.self; trail = c.enter.new.trail; session = c.self.inside.own.session } in
     (came g.D.Slot c.self.inside.own c.self.invariant c.in_ok-c.c.tracker c.tracker.result c.tracker-query.result c.args.limit new c.tracker.ensures c.tracker-query.ensures
     (λ full. false≢true (c.in_ok-c.ensures.refused.1 full)) c.in_ok-c.ensures.ok c.enter.ensures refl).0
 
 pub returns-clause-ok : goal.returns-clause-ok
 returns-clause-ok g c =
-    let new : Owned g.row.D.Denot = record { pool = c.add_client.new.self; trail = c.enter.new.trail; session = c.self.inside.own.session; opened = c.self.inside.own.opened } in
+    let new : Owned g.row.D.Denot = record { pool = c.add_client.new.self; trail = c.enter.new.trail; session = c.self.inside.own.session } in
     subst (λ (o : Owned g.row.D.Denot). Makes g.D.Slot (λ events. events ≡ AddTracker c.in_ok-c.c.tracker (held_of g.D.Slot o).query c.args.limit None ∷ []) o new) c.self.view_is
     (came g.D.Slot c.self.inside.own c.self.invariant c.in_ok-c.c.tracker c.tracker.result c.tracker-query.result c.args.limit new c.tracker.ensures c.tracker-query.ensures
     (λ full. false≢true (c.in_ok-c.ensures.refused.1 full)) c.in_ok-c.ensures.ok c.enter.ensures refl).1

@@ -1,4 +1,4 @@
-use Rattle.std.proofs.Common.{◌≡◌, ℕ, [], ◌∷◌, IsSome, sym, ap, ◌∙◌, subst}
+use Rattle.std.proofs.Common.{◌≡◌, ℕ, [], ◌∷◌, IsSome, refl, sym, ap, ◌∙◌, subst}
 use Rattle.pool_model.specs.declared.event.Event.TheVariants.{Alloc}
 use Rattle.pool_model.specs.Sums.{HasRoom}
 use Rattle.pin_core.specs.StateOf.{state_of}
@@ -9,8 +9,7 @@ use Rattle.local_pool.specs.Making.{Makes}
 use Rattle.local_pool.specs.Calling.{Evicts, IsFreshLoan}
 use Rattle.local_pool.proofs.Making.{asked_held}
 use Rattle.local_pool.proofs.Arrivals.{taken_then}
-use Rattle.local_pool.specs.Needing.{EntersNeeded}
-use Rattle.local_pool.proofs.Needed.{all_needed, needs_more}
+use Rattle.local_pool.proofs.Needed.{all_needed, needs_as, needs_more}
 use Rattle.local_pool.proofs.owned.Alone.alloc.Goals as goal
 
 pub alloc_here-requires-clause-client : goal.alloc_here-requires-clause-client
@@ -36,9 +35,6 @@ returns-clause-loan g c =
     subst (λ (n : ℕ). IsFreshLoan c.args.c.now.tracker n c.alloc_here.result (held_of g.D.Slot c.args.self.now)) c.in-Ok.ensures
     (subst (IsFreshLoan c.args.c.now.tracker c.in-Ok.shell c.alloc_here.result) same c.alloc_here.ensures.loan)
 
-here_needed : (t a b : ℕ) (D : Type 0) (old new : Owned D) → a ≡ b → EntersNeeded t a old new → EntersNeeded t b old new
-here_needed t a b D old new same needed = subst (λ (n : ℕ). EntersNeeded t n old new) same needed
-
 pub returns-in_err-make_room-clause-needed : goal.returns-in_err-make_room-clause-needed
 returns-in_err-make_room-clause-needed g c = all_needed c.args.c.now.tracker c.args.bytes c.args.self.now c.make_room.new.self c.make_room.ensures.needed
 
@@ -48,6 +44,6 @@ returns-clause-needed g c =
     let now : Owned g.row.D.Denot = c.make_room.new.self in
     all_needed c.args.c.now.tracker c.args.bytes start c.alloc_here.new.self
     (needs_more c.args.c.now.tracker c.args.bytes start now c.alloc_here.new.self c.make_room.ensures.needed
-    (here_needed c.args.c.now.tracker _ _ g.row.D.Denot now c.alloc_here.new.self
+    (needs_as c.args.c.now.tracker _ c.args.c.now.tracker c.args.bytes now c.alloc_here.new.self refl
     (sym (c.requires.bytes ∙ ap (λ (n : ℕ). length_of n (held_of g.D.Slot start)) (sym c.in-Ok.ensures) ∙ ap (length_of c.in-Ok.shell) (sym (asked_held g.D.Slot c.args.c.now.tracker start now c.in_ok-make_room.ensures.ok))))
     c.alloc_here.ensures.needed))

@@ -12,11 +12,11 @@ ask-requires g c = record { live = ap is_some (knows g.D.Slot c.self.inside.own 
 
 pub invariant_of-self : goal.invariant_of-self
 invariant_of-self g c =
-    let new : Owned g.row.D.Denot = record { pool = c.ask.new.self; trail = c.enter.new.trail; session = c.self.inside.own.session; opened = c.self.inside.own.opened } in
+    let new : Owned g.row.D.Denot = record { pool = c.ask.new.self; trail = c.enter.new.trail; session = c.self.inside.own.session } in
     one_more g.D.Slot c.self.inside.own new c.self.invariant Ask (goes g.D.Slot c.self.inside.own new (Ask ∷ []) c.enter.ensures refl c.ask.ensures.enters) refl refl c.self.invariant.live
 
 pub returns : goal.returns
 returns g c =
-    let new : Owned g.row.D.Denot = record { pool = c.ask.new.self; trail = c.enter.new.trail; session = c.self.inside.own.session; opened = c.self.inside.own.opened } in
+    let new : Owned g.row.D.Denot = record { pool = c.ask.new.self; trail = c.enter.new.trail; session = c.self.inside.own.session } in
     subst (λ (o : Owned g.row.D.Denot). Makes g.D.Slot (λ events. events ≡ Ask ∷ []) o new) c.self.view_is
     (makes_one g.D.Slot c.self.inside.own new c.self.invariant Ask (goes g.D.Slot c.self.inside.own new (Ask ∷ []) c.enter.ensures refl c.ask.ensures.enters) refl refl c.self.invariant.live refl)

@@ -32,4 +32,4 @@ returns-clause-sums g c =
     let same : tally_in g.D.Slot own.pool ≡ tally_of g.D.Slot c.close.result.items =
     tally_same g.D.Slot (λ measure. slots_home measure own.pool) (λ measure. sum_by measure c.close.result.items)
     (λ measure. let home = c.end_session.ensures.enters.slots measure in let given = c.close.ensures.slots measure in omega (arith, home, given)) in
-    subst (λ (o : Owned g.row.D.Denot). SumsHold o (tally_of g.D.Slot c.close.result.items)) c.self.view_is (subst (SumsHold own) same c.self.invariant.sums)
+    subst (λ (o : Owned g.row.D.Denot). SumsHold g.T.OpenedWith.tally o.trail (tally_of g.D.Slot c.close.result.items)) c.self.view_is (subst (SumsHold g.T.OpenedWith.tally own.trail) same c.self.invariant.sums)

@@ -1,4 +1,4 @@
-use Rattle.std.proofs.Common.{◌≡◌, ℕ, [], ◌∷◌, IsSome, IfOk, sym, ap, ◌∙◌, subst}
+use Rattle.std.proofs.Common.{ℕ, [], ◌∷◌, IsSome, IfOk, refl, sym, ap, ◌∙◌, subst}
 use Rattle.pool_model.specs.declared.event.Event.TheVariants.{Create}
 use Rattle.pool_model.specs.Sums.{HasRoom}
 use Rattle.pin_core.specs.StateOf.{state_of}
@@ -9,8 +9,7 @@ use Rattle.local_pool.specs.Making.{Makes}
 use Rattle.local_pool.specs.Calling.{Evicts, IsFreshPage}
 use Rattle.local_pool.proofs.Making.{asked_held}
 use Rattle.local_pool.proofs.Arrivals.{taken_created, fresh_taken, refused_created}
-use Rattle.local_pool.specs.Needing.{EntersNeeded}
-use Rattle.local_pool.proofs.Needed.{all_needed, needs_more}
+use Rattle.local_pool.proofs.Needed.{all_needed, needs_as, needs_more}
 use Rattle.local_pool.proofs.owned.Alone.create.Goals as goal
 
 pub create_here-requires-clause-client : goal.create_here-requires-clause-client
@@ -39,9 +38,6 @@ pub returns-clause-err : goal.returns-clause-err
 returns-clause-err g c =
     refused_created g.D.Slot c.args.c.now.tracker c.args.blocks c.args.self.now c.make_room.new.self c.create_here.new.self c.in_ok-make_room.ensures.ok c.create_here.result c.create_here.ensures.err
 
-here_needed : (t a b : ℕ) (D : Type 0) (old new : Owned D) → a ≡ b → EntersNeeded t a old new → EntersNeeded t b old new
-here_needed t a b D old new same needed = subst (λ (n : ℕ). EntersNeeded t n old new) same needed
-
 pub returns-in_err-make_room-clause-needed : goal.returns-in_err-make_room-clause-needed
 returns-in_err-make_room-clause-needed g c = all_needed c.args.c.now.tracker c.args.bytes c.args.self.now c.make_room.new.self c.make_room.ensures.needed
 
@@ -51,6 +47,6 @@ returns-clause-needed g c =
     let now : Owned g.row.D.Denot = c.make_room.new.self in
     all_needed c.args.c.now.tracker c.args.bytes start c.create_here.new.self
     (needs_more c.args.c.now.tracker c.args.bytes start now c.create_here.new.self c.make_room.ensures.needed
-    (here_needed c.args.c.now.tracker _ _ g.row.D.Denot now c.create_here.new.self
+    (needs_as c.args.c.now.tracker _ c.args.c.now.tracker c.args.bytes now c.create_here.new.self refl
     (sym (c.requires.bytes ∙ ap (λ (n : ℕ). length_of n (held_of g.D.Slot start)) (sym c.in-Ok.ensures) ∙ ap (length_of c.in-Ok.shell) (sym (asked_held g.D.Slot c.args.c.now.tracker start now c.in_ok-make_room.ensures.ok))))
     c.create_here.ensures.needed))

@@ -19,7 +19,7 @@ end_page-requires g c = record {
 
 pub invariant_of-self : goal.invariant_of-self
 invariant_of-self g c =
-    let new : Owned g.row.D.Denot = record { pool = c.end_page.new.pool; trail = c.enter.new.trail; session = c.self.inside.own.session; opened = c.self.inside.own.opened } in
+    let new : Owned g.row.D.Denot = record { pool = c.end_page.new.pool; trail = c.enter.new.trail; session = c.self.inside.own.session } in
     let page = is_there g.D.Slot c.self.inside.own c.self.invariant c.args.p (subst (λ (o : Owned g.row.D.Denot). IsPage c.args.p (held_of g.D.Slot o)) (sym c.self.view_is) c.requires.page) in
     one_more g.D.Slot c.self.inside.own new c.self.invariant (Destroy c.args.p.name)
     (goes_whose g.D.Slot c.self.inside.own new (Destroy c.args.p.name) _ page.whose
@@ -28,7 +28,7 @@ invariant_of-self g c =
 
 pub returns : goal.returns
 returns g c =
-    let new : Owned g.row.D.Denot = record { pool = c.end_page.new.pool; trail = c.enter.new.trail; session = c.self.inside.own.session; opened = c.self.inside.own.opened } in
+    let new : Owned g.row.D.Denot = record { pool = c.end_page.new.pool; trail = c.enter.new.trail; session = c.self.inside.own.session } in
     let page = is_there g.D.Slot c.self.inside.own c.self.invariant c.args.p (subst (λ (o : Owned g.row.D.Denot). IsPage c.args.p (held_of g.D.Slot o)) (sym c.self.view_is) c.requires.page) in
     subst (λ (o : Owned g.row.D.Denot). Makes g.D.Slot (λ events. events ≡ Destroy c.args.p.name ∷ []) o new) c.self.view_is
     (makes_one g.D.Slot c.self.inside.own new c.self.invariant (Destroy c.args.p.name)

@@ -19,13 +19,13 @@ end_client-requires-clause-idle g c = token_idle g.D.Slot c.self.inside.own c.se
 
 pub invariant_of-self : goal.invariant_of-self
 invariant_of-self g c =
-    let new : Owned g.row.D.Denot = record { pool = c.end_client.new.self; trail = c.enter-2.new.trail; session = c.self.inside.own.session; opened = c.self.inside.own.opened } in
+    let new : Owned g.row.D.Denot = record { pool = c.end_client.new.self; trail = c.enter-2.new.trail; session = c.self.inside.own.session } in
     (went g.D.Slot c.self.inside.own c.self.invariant c.args.self.now c.self.view_is c.of.result c.into_tracker.result c.args.c.tracker c.of.ensures c.into_tracker.ensures c.requires.client
     c.requires.idle c.tracker-tracker.result c.tracker-query.result c.reservation-bytes.result new c.enter.new.trail c.tracker-tracker.ensures c.tracker-query.ensures c.reservation-bytes.ensures c.end_client.ensures.enters c.enter.ensures c.enter-2.ensures refl).0
 
 pub returns-clause-makes : goal.returns-clause-makes
 returns-clause-makes g c =
-    let new : Owned g.row.D.Denot = record { pool = c.end_client.new.self; trail = c.enter-2.new.trail; session = c.self.inside.own.session; opened = c.self.inside.own.opened } in
+    let new : Owned g.row.D.Denot = record { pool = c.end_client.new.self; trail = c.enter-2.new.trail; session = c.self.inside.own.session } in
     (went g.D.Slot c.self.inside.own c.self.invariant c.args.self.now c.self.view_is c.of.result c.into_tracker.result c.args.c.tracker c.of.ensures c.into_tracker.ensures c.requires.client
     c.requires.idle c.tracker-tracker.result c.tracker-query.result c.reservation-bytes.result new c.enter.new.trail c.tracker-tracker.ensures c.tracker-query.ensures c.reservation-bytes.ensures c.end_client.ensures.enters c.enter.ensures c.enter-2.ensures refl).1
 

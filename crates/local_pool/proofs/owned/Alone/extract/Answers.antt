@@ -22,7 +22,7 @@ extract-loan-requires g c = record {
 
 pub invariant_of-self : goal.invariant_of-self
 invariant_of-self g c =
-    let new : Owned g.row.D.Denot = record { pool = c.extract-loan.new.self; trail = c.enter.new.trail; session = c.self.inside.own.session; opened = c.self.inside.own.opened } in
+    let new : Owned g.row.D.Denot = record { pool = c.extract-loan.new.self; trail = c.enter.new.trail; session = c.self.inside.own.session } in
     let page = is_there g.D.Slot c.self.inside.own c.self.invariant c.args.p (subst (λ (o : Owned g.row.D.Denot). IsPage c.args.p (held_of g.D.Slot o)) (sym c.self.view_is) c.requires.page) in
     one_more g.D.Slot c.self.inside.own new c.self.invariant (Extract c.args.p.name c.extract-loan.result.number)
     (goes_whose g.D.Slot c.self.inside.own new (Extract c.args.p.name c.extract-loan.result.number) _ page.whose
@@ -31,7 +31,7 @@ invariant_of-self g c =
 
 pub returns-clause-made : goal.returns-clause-made
 returns-clause-made g c =
-    let new : Owned g.row.D.Denot = record { pool = c.extract-loan.new.self; trail = c.enter.new.trail; session = c.self.inside.own.session; opened = c.self.inside.own.opened } in
+    let new : Owned g.row.D.Denot = record { pool = c.extract-loan.new.self; trail = c.enter.new.trail; session = c.self.inside.own.session } in
     let page = is_there g.D.Slot c.self.inside.own c.self.invariant c.args.p (subst (λ (o : Owned g.row.D.Denot). IsPage c.args.p (held_of g.D.Slot o)) (sym c.self.view_is) c.requires.page) in
     subst (λ (o : Owned g.row.D.Denot). Makes g.D.Slot (λ events. events ≡ Extract c.args.p.name c.extract-loan.result.number ∷ []) o new) c.self.view_is
     (makes_one g.D.Slot c.self.inside.own new c.self.invariant (Extract c.args.p.name c.extract-loan.result.number)

@@ -18,14 +18,14 @@ free-requires g c = record {
 
 pub invariant_of-self : goal.invariant_of-self
 invariant_of-self g c =
-    let new : Owned g.row.D.Denot = record { pool = c.free.new.self; trail = c.enter.new.trail; session = c.self.inside.own.session; opened = c.self.inside.own.opened } in
+    let new : Owned g.row.D.Denot = record { pool = c.free.new.self; trail = c.enter.new.trail; session = c.self.inside.own.session } in
     let held = subst (λ (o : Owned g.row.D.Denot). IsLoan c.args.loan (held_of g.D.Slot o)) (sym c.self.view_is) c.requires in
     one_more g.D.Slot c.self.inside.own new c.self.invariant (Free c.args.loan.number)
     (goes g.D.Slot c.self.inside.own new (Free c.args.loan.number ∷ []) (c.enter.ensures ∙ ap (λ (f : ℕ). c.self.inside.own.trail ++ by c.self.inside.own.session (Free f ∷ [])) c.number-buffer.ensures) refl (c.free.ensures.enters c.self.inside.own.session (loan_client g.D.Slot c.self.inside.own c.self.invariant c.args.loan held))) refl refl c.self.invariant.live
 
 pub returns : goal.returns
 returns g c =
-    let new : Owned g.row.D.Denot = record { pool = c.free.new.self; trail = c.enter.new.trail; session = c.self.inside.own.session; opened = c.self.inside.own.opened } in
+    let new : Owned g.row.D.Denot = record { pool = c.free.new.self; trail = c.enter.new.trail; session = c.self.inside.own.session } in
     let held = subst (λ (o : Owned g.row.D.Denot). IsLoan c.args.loan (held_of g.D.Slot o)) (sym c.self.view_is) c.requires in
     subst (λ (o : Owned g.row.D.Denot). Makes g.D.Slot (λ events. events ≡ Free c.args.loan.number ∷ []) o new) c.self.view_is
     (makes_one g.D.Slot c.self.inside.own new c.self.invariant (Free c.args.loan.number)

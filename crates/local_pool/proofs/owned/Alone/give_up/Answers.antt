@@ -12,10 +12,10 @@ decrease_now-requires-clause-unused g c = token_unused g.D.Slot c.self.inside.ow
 
 pub invariant_of-self : goal.invariant_of-self
 invariant_of-self g c =
-    let new : Owned g.row.D.Denot = record { pool = c.decrease_now.new.self; trail = c.enter.new.trail; session = c.self.inside.own.session; opened = c.self.inside.own.opened } in
+    let new : Owned g.row.D.Denot = record { pool = c.decrease_now.new.self; trail = c.enter.new.trail; session = c.self.inside.own.session } in
     (reserved_by g.D.Slot c.self.inside.own c.self.invariant c.args.self.now c.self.view_is c.of-mine.result c.tracker-tracker.result c.args.c.now.tracker c.of-mine.ensures c.tracker-tracker.ensures (λ t. Decrease t c.args.bytes) (λ t. refl) new c.decrease_now.ensures.enters c.enter.ensures refl).0
 
 pub returns : goal.returns
 returns g c =
-    let new : Owned g.row.D.Denot = record { pool = c.decrease_now.new.self; trail = c.enter.new.trail; session = c.self.inside.own.session; opened = c.self.inside.own.opened } in
+    let new : Owned g.row.D.Denot = record { pool = c.decrease_now.new.self; trail = c.enter.new.trail; session = c.self.inside.own.session } in
     (reserved_by g.D.Slot c.self.inside.own c.self.invariant c.args.self.now c.self.view_is c.of-mine.result c.tracker-tracker.result c.args.c.now.tracker c.of-mine.ensures c.tracker-tracker.ensures (λ t. Decrease t c.args.bytes) (λ t. refl) new c.decrease_now.ensures.enters c.enter.ensures refl).1

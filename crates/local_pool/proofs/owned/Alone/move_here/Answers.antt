@@ -28,7 +28,7 @@ move_buffer_now-moved-requires-clause-to g c =
 pub invariant_of-self : goal.invariant_of-self
 invariant_of-self g c =
     let own : Owned g.row.D.Denot = c.self.inside.own in
-    let new : Owned g.row.D.Denot = record { pool = c.move_buffer_now-moved.new.self; trail = c.enter.new.trail; session = own.session; opened = own.opened } in
+    let new : Owned g.row.D.Denot = record { pool = c.move_buffer_now-moved.new.self; trail = c.enter.new.trail; session = own.session } in
     one_more g.D.Slot own new c.self.invariant (MoveBuffer c.args.loan.number c.args.to.now.tracker)
     (goes_moved g.D.Slot own c.self.invariant c.args.loan
     (subst (λ (o : Owned g.row.D.Denot). IsLoan c.args.loan (held_of g.D.Slot o)) (sym c.self.view_is) c.requires.loan) c.args.to.now.tracker c.of-mine.result c.number-buffer.result c.tracker-to.result
@@ -37,7 +37,7 @@ invariant_of-self g c =
 pub returns-clause-makes : goal.returns-clause-makes
 returns-clause-makes g c =
     let own : Owned g.row.D.Denot = c.self.inside.own in
-    let new : Owned g.row.D.Denot = record { pool = c.move_buffer_now-moved.new.self; trail = c.enter.new.trail; session = own.session; opened = own.opened } in
+    let new : Owned g.row.D.Denot = record { pool = c.move_buffer_now-moved.new.self; trail = c.enter.new.trail; session = own.session } in
     subst (λ (o : Owned g.row.D.Denot). Makes g.D.Slot (λ events. events ≡ MoveBuffer c.args.loan.number c.args.to.now.tracker ∷ []) o new) c.self.view_is
     (makes_one g.D.Slot own new c.self.invariant (MoveBuffer c.args.loan.number c.args.to.now.tracker)
     (goes_moved g.D.Slot own c.self.invariant c.args.loan

@@ -1,12 +1,23 @@
-use Rattle.std.proofs.Common.{ℕ, subst}
+use Rattle.std.proofs.Common.{ℕ, sym, subst}
+use Rattle.std.specs.List.{sum_by}
 use Rattle.pin_core.specs.Setup.{IsOpeningOf}
-use Rattle.local_pool.proofs.Begun.{begins}
+use Rattle.pin_core.specs.Standing.{slots_home}
+use Rattle.local_pool.specs.Counting.{tally_in, tally_of}
+use Rattle.local_pool.proofs.Counting.{tally_same}
+use Rattle.local_pool.proofs.Begun.{begins, counted_alike}
 use Rattle.local_pool.proofs.owned.Alone.open.Goals as goal
 
 pub begin-requires-clause-fresh : goal.begin-requires-clause-fresh
-begin-requires-clause-fresh g c o is = c.in-Ok-open-2.ensures.stands o (subst (λ (n : ℕ). IsOpeningOf c.args.conf.now n o) c.in-Ok-open-2.ensures.spare is)
+begin-requires-clause-fresh g c o is = c.in-Ok-open.ensures.stands o (subst (λ (n : ℕ). IsOpeningOf c.args.conf.now n o) c.in-Ok-open.ensures.spare is)
 
-pub returns-in-Ok-open-2-clause-ok : goal.returns-in-Ok-open-2-clause-ok
-returns-in-Ok-open-2-clause-ok g c =
-    begins g.D.Slot c.args.conf.now c.args.slots.items c.args.limit c.args.quota c.args.least c.in-Ok-open-2.pool c.in-Ok-open-2.ensures.slots
-    c.begin.result c.begin.ensures.ok c.begin.ensures.trail c.begin.ensures.slots c.begin.ensures.opened
+pub returns-in-Ok-open-clause-ok : goal.returns-in-Ok-open-clause-ok
+returns-in-Ok-open-clause-ok g c =
+    begins g.D.Slot c.args.conf.now c.args.slots.items c.args.limit c.args.quota c.args.least c.in-Ok-open.pool c.in-Ok-open.ensures.slots
+    c.begin.result c.begin.ensures.ok c.begin.ensures.trail c.begin.ensures.slots
+
+pub begin-requires-clause-opens : goal.begin-requires-clause-opens
+begin-requires-clause-opens g c =
+    let slots = c.args.slots.items in
+    let pool = c.in-Ok-open.pool in
+    counted_alike g.T.OpenedWith.tally (tally_of g.D.Slot slots) (tally_in g.D.Slot pool)
+    (tally_same g.D.Slot (λ measure. sum_by measure slots) (λ measure. slots_home measure pool) (λ measure. sym (c.in-Ok-open.ensures.slots measure))) c.requires.tally

@@ -23,7 +23,7 @@ unwrap-requires g c =
 
 pub invariant_of-self : goal.invariant_of-self
 invariant_of-self g c =
-    let new : Owned g.row.D.Denot = record { pool = c.move_now.new.self; trail = c.enter.new.trail; session = c.self.inside.own.session; opened = c.self.inside.own.opened } in
+    let new : Owned g.row.D.Denot = record { pool = c.move_now.new.self; trail = c.enter.new.trail; session = c.self.inside.own.session } in
     let ok : IsOk c.move_now.result = search rules in
     (moved_by g.D.Slot c.self.inside.own c.self.invariant c.args.self.now c.self.view_is c.of-mine.result c.tracker-giver.result c.args.from.now.tracker c.of-mine.ensures c.tracker-giver.ensures c.of-other.result c.tracker-getter.result c.args.to.now.tracker c.of-other.ensures c.tracker-getter.ensures c.args.bytes new
     (of_ok (Enters g.D.Slot (move_entry c.of-mine.result.session c.of-mine.result.tracker c.of-other.result.tracker c.args.bytes ∷ []) [] [] c.self.inside.own.pool new.pool) c.move_now.result ok c.move_now.ensures.ok)
@@ -31,7 +31,7 @@ invariant_of-self g c =
 
 pub returns : goal.returns
 returns g c =
-    let new : Owned g.row.D.Denot = record { pool = c.move_now.new.self; trail = c.enter.new.trail; session = c.self.inside.own.session; opened = c.self.inside.own.opened } in
+    let new : Owned g.row.D.Denot = record { pool = c.move_now.new.self; trail = c.enter.new.trail; session = c.self.inside.own.session } in
     let ok : IsOk c.move_now.result = search rules in
     (moved_by g.D.Slot c.self.inside.own c.self.invariant c.args.self.now c.self.view_is c.of-mine.result c.tracker-giver.result c.args.from.now.tracker c.of-mine.ensures c.tracker-giver.ensures c.of-other.result c.tracker-getter.result c.args.to.now.tracker c.of-other.ensures c.tracker-getter.ensures c.args.bytes new
     (of_ok (Enters g.D.Slot (move_entry c.of-mine.result.session c.of-mine.result.tracker c.of-other.result.tracker c.args.bytes ∷ []) [] [] c.self.inside.own.pool new.pool) c.move_now.result ok c.move_now.ensures.ok)

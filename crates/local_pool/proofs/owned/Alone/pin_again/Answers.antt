@@ -11,8 +11,7 @@ use Rattle.local_pool.specs.Told.{held_of}
 use Rattle.local_pool.specs.Making.{Makes}
 use Rattle.local_pool.proofs.Making.{asked_held}
 use Rattle.local_pool.proofs.Arrivals.{asked_then}
-use Rattle.local_pool.specs.Needing.{EntersNeeded}
-use Rattle.local_pool.proofs.Needed.{all_needed, then_needed}
+use Rattle.local_pool.proofs.Needed.{all_needed, needs_as, then_needed}
 use Rattle.local_pool.proofs.owned.Alone.pin_again.Goals as goal
 
 pub pin_again_here-requires-clause-page : goal.pin_again_here-requires-clause-page
@@ -38,16 +37,13 @@ returns-clause-ok g c =
     (subst (λ (t : ℕ). Makes g.D.Slot (IsAsked t (held_of g.D.Slot start) []) start now) (ap (λ (k : ClientToken). k.tracker) c.of-c.ensures ∙ c.client.ensures) c.in_ok-result.ensures.ok)
     c.pin_again_here.ensures
 
-named_needed : (t u a b : ℕ) (D : Type 0) (old new : Owned D) → t ≡ u → a ≡ b → EntersNeeded t a old new → EntersNeeded u b old new
-named_needed t u a b D old new same amounts needed = subst (λ (k : ℕ). EntersNeeded k b old new) same (subst (λ (n : ℕ). EntersNeeded t n old new) amounts needed)
-
 pub returns-in_err-result-clause-needed : goal.returns-in_err-result-clause-needed
 returns-in_err-result-clause-needed g c =
     all_needed c.args.p.now.client (page_len c.args.p.now.name (held_of g.D.Slot c.args.self.now)) c.args.self.now c.make_room-result.new.self
-    (named_needed _ _ _ _ g.row.D.Denot _ _ (ap (λ (k : ClientToken). k.tracker) c.of-c.ensures ∙ c.client.ensures) c.page_len-bytes.ensures.len c.make_room-result.ensures.needed)
+    (needs_as _ _ _ _ _ _ (ap (λ (k : ClientToken). k.tracker) c.of-c.ensures ∙ c.client.ensures) c.page_len-bytes.ensures.len c.make_room-result.ensures.needed)
 
 pub returns-clause-needed : goal.returns-clause-needed
 returns-clause-needed g c =
     then_needed c.args.p.now.client (page_len c.args.p.now.name (held_of g.D.Slot c.args.self.now)) g.D.Slot c.args.self.now c.make_room-result.new.self c.pin_again_here.new.self (PinAgain c.args.p.now.name) (λ s. tt)
-    (named_needed _ _ _ _ g.row.D.Denot _ _ (ap (λ (k : ClientToken). k.tracker) c.of-c.ensures ∙ c.client.ensures) c.page_len-bytes.ensures.len c.make_room-result.ensures.needed)
+    (needs_as _ _ _ _ _ _ (ap (λ (k : ClientToken). k.tracker) c.of-c.ensures ∙ c.client.ensures) c.page_len-bytes.ensures.len c.make_room-result.ensures.needed)
     c.pin_again_here.ensures

@@ -26,7 +26,7 @@ pin_again_now-requires-clause-room g c =
 pub invariant_of-self : goal.invariant_of-self
 invariant_of-self g c =
     let own : Owned g.row.D.Denot = c.self.inside.own in
-    let new : Owned g.row.D.Denot = record { pool = c.pin_again_now.new.self; trail = c.enter.new.trail; session = own.session; opened = own.opened } in
+    let new : Owned g.row.D.Denot = record { pool = c.pin_again_now.new.self; trail = c.enter.new.trail; session = own.session } in
     let page = subst (λ (o : Owned g.row.D.Denot). IsPage c.args.p.now (held_of g.D.Slot o)) (sym c.self.view_is) c.requires.page in
     one_more g.D.Slot own new c.self.invariant (PinAgain c.args.p.now.name)
     (goes_page g.D.Slot own c.self.invariant c.args.p.now page PinAgain c.name.result c.name.ensures new c.enter.ensures refl c.pin_again_now.ensures.enters) refl refl c.self.invariant.live
@@ -34,7 +34,7 @@ invariant_of-self g c =
 pub returns : goal.returns
 returns g c =
     let own : Owned g.row.D.Denot = c.self.inside.own in
-    let new : Owned g.row.D.Denot = record { pool = c.pin_again_now.new.self; trail = c.enter.new.trail; session = own.session; opened = own.opened } in
+    let new : Owned g.row.D.Denot = record { pool = c.pin_again_now.new.self; trail = c.enter.new.trail; session = own.session } in
     let page = subst (λ (o : Owned g.row.D.Denot). IsPage c.args.p.now (held_of g.D.Slot o)) (sym c.self.view_is) c.requires.page in
     subst (λ (o : Owned g.row.D.Denot). Makes g.D.Slot (λ events. events ≡ PinAgain c.args.p.now.name ∷ []) o new) c.self.view_is
     (makes_one g.D.Slot own new c.self.invariant (PinAgain c.args.p.now.name)

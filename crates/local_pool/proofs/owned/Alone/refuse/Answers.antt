@@ -17,14 +17,14 @@ refuse-requires g c = record {
 
 pub invariant_of-self : goal.invariant_of-self
 invariant_of-self g c =
-    let new : Owned g.row.D.Denot = record { pool = c.refuse.new.self; trail = c.enter_refused.new.trail; session = c.self.inside.own.session; opened = c.self.inside.own.opened } in
+    let new : Owned g.row.D.Denot = record { pool = c.refuse.new.self; trail = c.enter_refused.new.trail; session = c.self.inside.own.session } in
     let can = subst (CanRefuse g.D.Slot c.args._c.now.tracker (amount_of c.args._want) c.args.call.now c.args.entry) (sym c.self.view_is) c.requires.can in
     one_more g.D.Slot c.self.inside.own new c.self.invariant (Refused c.args.call.now c.args.entry)
     (goes_refused g.D.Slot c.self.inside.own c.self.invariant c.args._c.now.tracker (amount_of c.args._want) c.args.entry c.args.call.now can new c.refuse.ensures.enters c.enter_refused.ensures refl) refl refl c.self.invariant.live
 
 pub returns-clause-makes : goal.returns-clause-makes
 returns-clause-makes g c =
-    let new : Owned g.row.D.Denot = record { pool = c.refuse.new.self; trail = c.enter_refused.new.trail; session = c.self.inside.own.session; opened = c.self.inside.own.opened } in
+    let new : Owned g.row.D.Denot = record { pool = c.refuse.new.self; trail = c.enter_refused.new.trail; session = c.self.inside.own.session } in
     let can = subst (CanRefuse g.D.Slot c.args._c.now.tracker (amount_of c.args._want) c.args.call.now c.args.entry) (sym c.self.view_is) c.requires.can in
     subst (λ (o : Owned g.row.D.Denot). Makes g.D.Slot (λ events. events ≡ Refused c.args.call.now c.args.entry ∷ []) o new) c.self.view_is
     (makes_one g.D.Slot c.self.inside.own new c.self.invariant (Refused c.args.call.now c.args.entry)

@@ -21,7 +21,7 @@ refuse-requires g c = record {
 pub invariant_of-self : goal.invariant_of-self
 invariant_of-self g c =
     let own : Owned g.row.D.Denot = c.self.inside.own in
-    let new : Owned g.row.D.Denot = record { pool = c.refuse.new.self; trail = c.enter_refused.new.trail; session = own.session; opened = own.opened } in
+    let new : Owned g.row.D.Denot = record { pool = c.refuse.new.self; trail = c.enter_refused.new.trail; session = own.session } in
     stands_refused g.D.Slot own new c.self.invariant (Pin c.name.result) c.args.entry
     (subst (λ (p : ℕ). MayFollow own.trail (state_of own.pool) (refusal_of own.session (Pin p) c.args.entry)) (sym c.name.ensures)
     (subst (λ (o : Owned g.row.D.Denot). MayFollow o.trail (state_of o.pool) (refusal_of o.session (Pin c.args.p.now.name) c.args.entry)) (sym c.self.view_is) c.requires.may))
@@ -30,7 +30,7 @@ invariant_of-self g c =
 pub returns : goal.returns
 returns g c =
     let own : Owned g.row.D.Denot = c.self.inside.own in
-    let new : Owned g.row.D.Denot = record { pool = c.refuse.new.self; trail = c.enter_refused.new.trail; session = own.session; opened = own.opened } in
+    let new : Owned g.row.D.Denot = record { pool = c.refuse.new.self; trail = c.enter_refused.new.trail; session = own.session } in
     subst (λ (o : Owned g.row.D.Denot). Makes g.D.Slot (λ events. events ≡ Refused (Pin c.args.p.now.name) c.args.entry ∷ []) o new) c.self.view_is
     (subst (λ (p : ℕ). Makes g.D.Slot (λ events. events ≡ Refused (Pin p) c.args.entry ∷ []) own new) c.name.ensures
     (makes_refused g.D.Slot own new c.self.invariant (Pin c.name.result) c.args.entry

@@ -23,12 +23,12 @@ returns-in_err-result-clause-granted g c =
 
 pub invariant_of-self-2 : goal.invariant_of-self-2
 invariant_of-self-2 g c =
-    let new : Owned g.row.D.Denot = record { pool = c.increase_to_fit-result.new.self; trail = c.enter.new.trail; session = c.self.inside.own.session; opened = c.self.inside.own.opened } in
+    let new : Owned g.row.D.Denot = record { pool = c.increase_to_fit-result.new.self; trail = c.enter.new.trail; session = c.self.inside.own.session } in
     (reserved_by g.D.Slot c.self.inside.own c.self.invariant c.args.self.now c.self.view_is c.of-mine.result c.tracker-tracker.result c.args.c.now.tracker c.of-mine.ensures c.tracker-tracker.ensures (λ t. IncreaseToFit t c.args.bytes) (λ t. refl) new c.in_ok-result.ensures.ok c.enter.ensures refl).0
 
 pub returns-clause-ok : goal.returns-clause-ok
 returns-clause-ok g c =
-    let new : Owned g.row.D.Denot = record { pool = c.increase_to_fit-result.new.self; trail = c.enter.new.trail; session = c.self.inside.own.session; opened = c.self.inside.own.opened } in
+    let new : Owned g.row.D.Denot = record { pool = c.increase_to_fit-result.new.self; trail = c.enter.new.trail; session = c.self.inside.own.session } in
     (reserved_by g.D.Slot c.self.inside.own c.self.invariant c.args.self.now c.self.view_is c.of-mine.result c.tracker-tracker.result c.args.c.now.tracker c.of-mine.ensures c.tracker-tracker.ensures (λ t. IncreaseToFit t c.args.bytes) (λ t. refl) new c.in_ok-result.ensures.ok c.enter.ensures refl).1
 
 pub returns-clause-refused : goal.returns-clause-refused
