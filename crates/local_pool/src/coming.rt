@@ -49,7 +49,7 @@ impl<D: Slot + Drop, T: OpenedWith> Alone<D, T> {
         ensures page { IfOk result (λ made. IsFreshPage c.now.tracker blocks made self.old (held_of D.Slot self.old)) }
         ensures err { IfErr result (Refuses D.Slot c.now.tracker (call.Create c.now.tracker blocks) self.old self.new) }
 
-        // Its pages are written only while room lacks, and clean ones evicted only while free blocks lack.
+        // The client's pages are written only while room lacks, and clean pages go only while fewer bytes are free.
         ensures needed { AllNeeded c.now.tracker bytes self.old self.new }
     {
         let Ok(shell) = Shell::with(alloc, blocks) else {
@@ -98,7 +98,7 @@ impl<D: Slot + Drop, T: OpenedWith> Alone<D, T> {
         ensures loan { IfOk result (λ loan. IsFreshLoan c.now.tracker blocks loan (held_of D.Slot self.old)) }
         ensures err { IfErr result (Refuses D.Slot c.now.tracker (call.Alloc c.now.tracker blocks) self.old self.new) }
 
-        // Its pages are written only while room lacks, and clean ones evicted only while free blocks lack.
+        // The client's pages are written only while room lacks, and clean pages go only while fewer bytes are free.
         ensures needed { AllNeeded c.now.tracker bytes self.old self.new }
     {
         let Ok(shell) = Shell::with(alloc, blocks) else {

@@ -54,7 +54,7 @@ impl<D: Slot + Drop, T: OpenedWith> Alone<D, T> {
         ensures bytes { IfOk result (ShowsLeft (page_of p.now.name (held_of D.Slot self.old)) (held_of D.Slot self.old)) }
         ensures err { IfErr result (Refuses D.Slot p.now.client (call.Pin p.now.name) self.old self.new) }
 
-        // Its client's pages are written only while room lacks, and clean ones evicted only while free blocks lack.
+        // The client's pages are written only while room lacks, and clean pages go only while fewer bytes are free.
         ensures needed { AllNeeded p.now.client (page_len p.now.name (held_of D.Slot self.old)) self.old self.new }
     {
         self.ask();

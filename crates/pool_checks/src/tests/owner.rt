@@ -85,6 +85,17 @@ pub fn create(
     pool.create(alloc, c, 1)
 }
 
+/// The name of the next page, which stays pinned.
+pub fn next_name(
+    rt: &impl Abort,
+    alloc: Global,
+    pool: &mut Own,
+    c: &Client,
+) -> Result<u64, PoolErr> {
+    let (page, _buf) = create(rt, alloc, pool, c)?;
+    Ok(page.into_name())
+}
+
 /// Leaves this byte in all of a page.
 pub fn leave(rt: &impl Abort, pool: &mut Own, p: &Page, mut buf: Buf, byte: u8) {
     assert!(rt; buf.len() == 64);

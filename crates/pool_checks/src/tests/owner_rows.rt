@@ -66,6 +66,22 @@ fn a_page_of_another_client_evicts_the_page_that_is_clean_longest(rt: HostRuntim
 }
 
 #[test]
+fn the_name_before_the_last_number_is_the_last_that_is_given(rt: HostRuntime) {
+    let slots = steps::slots(&rt, rt.alloc(), 0, &[]);
+    let mut pool = owner::open(&rt, rt.alloc(), 4, u64::MAX - 1, slots, 256);
+    let c = owner::client(&rt, &mut pool, 128);
+    assert_eq!(rt;
+        owner::next_name(&rt, rt.alloc(), &mut pool, &c),
+        Ok(u64::MAX - 1)
+    );
+    assert_eq!(rt;
+        owner::next_name(&rt, rt.alloc(), &mut pool, &c),
+        Err(PoolErr::NamesSpent)
+    );
+    c.into_tracker();
+}
+
+#[test]
 fn a_loan_is_charged_to_whom_it_is_moved(rt: HostRuntime) {
     let slots = steps::slots(&rt, rt.alloc(), 0, &[]);
     let mut pool = owner::open(&rt, rt.alloc(), 4, 0, slots, 256);

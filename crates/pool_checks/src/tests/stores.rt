@@ -1,7 +1,8 @@
 //! What serves any store, over the pool of one owner: a walk over every call, and rows on pages.
-ghost use Rattle.std.specs.Prelude.{◌≡◌, IfOk};
+ghost use Rattle.std.specs.Prelude.{◌≡◌, ◌≤◌, Some, IfOk, vec_len};
 ghost use Rattle.store_api.specs.Conditions.{IsLiveClient};
 ghost use Rattle.store_api.specs.Alike.{AlikeButClients};
+ghost use Rattle.local_pool.specs.Counting.{Counted, tally_of};
 ghost use Rattle.tuple_stream.specs.PageRows.{IsOneRow};
 ghost use Rattle.tuple_stream.specs.Places.{IsWithin};
 ghost use Rattle.tuple_stream.specs.Streams.{HasPageRoom, IsShaped};
@@ -9,9 +10,13 @@ ghost use Rattle.tuple_stream.specs.Touches.{Touches};
 
 use super::owner::{self, Own};
 use super::steps;
+use local_pool::{LocalPool, OpenedWith};
+use outside::Slot;
 use page_table::Place;
+use pin_core::PoolConf;
 use reservation_tree::PoolErr;
 use std::alloc::Global;
+use std::marker::Brand;
 use std::process::Abort;
 use std::test::Fail;
 use store_api::{Client, Page, Store, Walked, walk};
@@ -160,6 +165,53 @@ fn rows_on_pages<St: Store>(store: &mut St, alloc: Global) -> Result<(Vec<u8>, u
     let answer = rows_by(store, alloc, &c);
     store.end_client(c);
     answer
+}
+
+// The same over these slots, which come back. `T` names what they counted, for contracts alone.
+#[tactic(auto, unfolding(pool_model::specs::Bytes::bytes_of))]
+fn slots_after<D: Slot + Drop, T: OpenedWith>(
+    alloc: Global,
+    slots: Vec<D>,
+) -> Result<Vec<D>, StreamErr>
+    requires few { vec_len slots ≤ 1024 }
+    requires tally { T.tally ≡ Some (tally_of D.Slot slots.items) }
+    ensures { IfOk result (λ back. Counted 0 0 (tally_of D.Slot slots.items) (tally_of D.Slot back.items)) }
+{
+    let conf = PoolConf {
+        blocks: 20,
+        block_len: 64,
+        first_name: 0,
+    };
+    let quota = slots.len() as u32;
+    let Ok(mut pool) = LocalPool::<D, T>::open(alloc, &conf, slots, 1280, quota, 1280) else {
+        return Err(StreamErr::Pool(PoolErr::Memory));
+    };
+    let answer = rows_on_pages(&mut pool, alloc);
+    let back = pool.close();
+    answer?;
+    Ok(back)
+}
+
+// The same, for whoever hands in slots: as many come back, and what they counted stands in their counts.
+fn rows_over<D: Slot + Drop>(alloc: Global, slots: Vec<D>) -> Result<Vec<D>, StreamErr>
+    requires few { vec_len slots ≤ 1024 }
+    ensures { IfOk result (λ back. Counted 0 0 (tally_of D.Slot slots.items) (tally_of D.Slot back.items)) }
+{
+    slots_after::<D, Brand>(alloc, slots)
+}
+
+#[test]
+fn slots_come_back_from_a_pool_with_their_counts(rt: HostRuntime) -> Result<(), Fail> {
+    let slots = steps::slots(&rt, rt.alloc(), 8, &[]);
+    assert!(rt; slots.len() <= 1024);
+    let mut stores = 0u64;
+    let back = rows_over(rt.alloc(), slots)?;
+    assert_eq!(rt; back.len(), 8);
+    for slot in back {
+        stores = stores.saturating_add(slot.stores());
+    }
+    assert_eq!(rt; stores, 5);
+    Ok(())
 }
 
 // How many stores seven rows took, in a pool of so many blocks.

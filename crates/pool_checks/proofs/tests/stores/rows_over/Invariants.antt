@@ -1,0 +1,6 @@
+use Rattle.std.specs.Prelude.{Some}
+use Rattle.local_pool.specs.Counting.{tally_of}
+use Rattle.pool_checks.proofs.tests.stores.rows_over.Given as goal
+
+abbrev pub ghosts-slots_after : goal.ghosts-slots_after
+ghosts-slots_after g a = record { tally = Some (tally_of g.D.Slot a.slots.items) }
