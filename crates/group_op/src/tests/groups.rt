@@ -38,7 +38,10 @@ fn add_all(sum: u64, row: &[Value]) -> u64 {
             .iter()
             .fold(sum, |sum, byte| add(sum, u64::from(*byte))),
         Value::Int(number) => add(sum, number.cast_unsigned()),
-        Value::Wide(number) => add(sum, (number.cast_unsigned() % (1 << 64)) as u64),
+        Value::Wide(number) => {
+            let number = number.cast_unsigned();
+            add(add(sum, (number % (1 << 64)) as u64), (number >> 64) as u64)
+        }
     })
 }
 
@@ -71,12 +74,14 @@ impl<St: Store> Emit<St> for Told {
     ghost slots_fit = { λ e h rows took. zero-le };
 }
 
-// Rows to be fed: so many, of so many first and second texts; without second ones there is no number either.
+// Rows to be fed: so many, of so many first and second texts; without second ones there is no number either. The numbers are
+// small ones, or all the greatest one.
 #[derive(Clone, Copy, Drop)]
 struct Plan {
     rows: u32,
     first: u32,
     second: u32,
+    greatest: bool,
 }
 
 fn text(alloc: Global, number: u32) -> Result<Value, OpErr> {
@@ -99,7 +104,11 @@ fn made(alloc: Global, plan: Plan, number: u32) -> Result<Vec<Value>, OpErr> {
     push(&mut row, text(alloc, number % plan.first.max(1))?)?;
     if plan.second > 0 {
         push(&mut row, text(alloc, number % plan.second)?)?;
-        let value = i64::from(number) * 7919 % 1000 - 500;
+        let value = if plan.greatest {
+            i64::MAX
+        } else {
+            i64::from(number) * 7919 % 1000 - 500
+        };
         push(&mut row, Value::Int(value))?;
     }
     Ok(row)
@@ -287,12 +296,12 @@ fn all_four(alloc: Global) -> Result<Shape, OpErr>
 fn two_hundred_keys_are_counted_in_as_many_pages_as_there_are(rt: HostRuntime) -> Result<(), Fail> {
     let rows = [
         (20, 0, 0, 0),
-        (20, 1, 1, 97967661744),
-        (20, 200, 200, 12220058217014460972),
-        (20, 700, 200, 4894560967331180212),
-        (21, 700, 200, 4894560967331180212),
-        (40, 700, 200, 4894560967331180212),
-        (1000, 700, 200, 4894560967331180212),
+        (20, 1, 1, 3036997514064),
+        (20, 200, 200, 15449805641609575780),
+        (20, 700, 200, 8964774332756378096),
+        (21, 700, 200, 8964774332756378096),
+        (40, 700, 200, 8964774332756378096),
+        (1000, 700, 200, 8964774332756378096),
     ];
     let shape = shape_of(rt.alloc())?;
     for (pages, fed, rows, sum) in rows {
@@ -300,6 +309,7 @@ fn two_hundred_keys_are_counted_in_as_many_pages_as_there_are(rt: HostRuntime) -
             rows: fed,
             first: 200,
             second: 0,
+            greatest: false,
         };
         let told = run(rt.alloc(), 64, pages, &shape, plan)?;
         assert_eq!(rt; told, Told { rows, sum }, "{fed} rows in {pages} pages");
@@ -309,19 +319,24 @@ fn two_hundred_keys_are_counted_in_as_many_pages_as_there_are(rt: HostRuntime) -
 
 #[test]
 fn sums_and_extremes_are_the_same_in_any_number_of_pages(rt: HostRuntime) -> Result<(), Fail> {
-    let wanted = Told {
-        rows: 210,
-        sum: 13894799794283291015,
-    };
+    let rows = [
+        (20, 700, 30, 7, false, 210, 437266212992054382),
+        (21, 700, 30, 7, false, 210, 437266212992054382),
+        (40, 700, 30, 7, false, 210, 437266212992054382),
+        (1000, 700, 30, 7, false, 210, 437266212992054382),
+        // The sum of the greatest number and itself has 65 bits.
+        (20, 2, 1, 1, true, 1, 1179043103120027684),
+    ];
     let shape = all_four(rt.alloc())?;
-    for pages in [20, 21, 40, 1000] {
+    for (pages, fed, first, second, greatest, rows, sum) in rows {
         let plan = Plan {
-            rows: 700,
-            first: 30,
-            second: 7,
+            rows: fed,
+            first,
+            second,
+            greatest,
         };
         let told = run(rt.alloc(), 128, pages, &shape, plan)?;
-        assert_eq!(rt; told, wanted, "{pages} pages");
+        assert_eq!(rt; told, Told { rows, sum }, "{fed} rows in {pages} pages");
     }
     Ok(())
 }
