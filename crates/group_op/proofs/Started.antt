@@ -71,6 +71,7 @@ all_start c blocks shape h signs is sized may =
         stand = (keeps_standing path_order path_is_order (grouping_of shape)).none;
         distinct = none_distinct;
         few = omega arith;
+        small = λ low. refl;
         at_end = λ i s there. empty_at_end blocks s (each_empty blocks i s there);
         whole = λ i s there. ap (λ (r : Streamed). r.spent) (each_empty blocks i s there);
         laid = since_now (HaveLaid (over (first_sixteen blocks) h signs)) signs.trail (record { building = All-nil IsBuilding; left = λ w. refl });
