@@ -10,6 +10,7 @@ use Rattle.row_codec.specs.Row.{kinds_of}
 use Rattle.row_codec.specs.RowBytes.{key_bytes, row_bytes}
 use Rattle.row_codec.specs.RowLaws.{IsRow}
 use Rattle.row_codec.specs.RowReading.{row_at}
+use Rattle.store_api.specs.Shapes.{IsShape}
 use Rattle.store_api.specs.declared.shapes.Shape.{Shape}
 use Rattle.group_rows.specs.Keyed.{keys_in}
 use Rattle.group_rows.specs.Partials.{Grouping, Partial, combined_numbers, combined_of}
@@ -91,6 +92,9 @@ dealt shape level base rows i = filter (λ row. place_of shape level base row ==
 -- how long the partial row of a key is: four bytes, those of the key but one for each value, and sixteen a number
 abbrev pub row_len : Shape → List ℕ → ℕ
 row_len shape key = 4 + length key + 16 * length shape.aggs - length shape.keys
+
+abbrev pub LongByKey : Type 0
+LongByKey = (shape : Shape) (row : List ℕ) → IsShape shape → IsPartialRow shape row → length row ≡ row_len shape (key_at shape row)
 
 -- the partial rows of the distinct keys of these rows, with four bytes more each, take so many bytes together
 abbrev pub keys_len : Shape → List (List Value) → ℕ
