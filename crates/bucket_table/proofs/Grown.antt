@@ -41,7 +41,7 @@ module _ (t heads used : ℕ) (links area area_new : Region) (old new : Holdings
       subst (λ (r : Region). IsTable heads used links.bytes r.bytes) (sym came.region)
       (longer heads used links.bytes area.bytes (replicate (1 * each_of area) 0) is bytes_short).0
 
-  nodes_kept : nodes_in heads links.bytes area_new.bytes ≡ nodes_in heads links.bytes area.bytes
+  pub nodes_kept : nodes_in heads links.bytes area_new.bytes ≡ nodes_in heads links.bytes area.bytes
   nodes_kept =
       ap (λ (r : Region). nodes_in heads links.bytes r.bytes) came.region
       ∙ (longer heads used links.bytes area.bytes (replicate (1 * each_of area) 0) is bytes_short).1

@@ -1,5 +1,6 @@
 pub mod Beside
 pub mod Changed
+pub mod Counted
 pub mod Cuts
 pub mod Doubled
 pub mod Emptied

@@ -74,6 +74,11 @@ pub record IsLaid (heads used : ℕ) (links area : Region) : Type 0 where
   pub blocks : links.blocks ≡ area.blocks
   pub block_len : links.block_len ≡ area.block_len
 
+-- the same, and so many nodes stand there
+pub record IsCounted (heads used count : ℕ) (links area : Region) : Type 0 where
+  pub laid : IsLaid heads used links area
+  pub counted : count ≡ length (nodes_in heads links.bytes area.bytes)
+
 -- the node to which a link goes
 abbrev pub node_in : ℕ → Option ℕ
 node_in zero = None

@@ -1,6 +1,7 @@
 //! Several loans of one length, as one list of bytes.
 ghost use Rattle.std.specs.Prelude.{◌≡◌, ◌↔◌, ◌+◌, ◌*◌, ◌<◌, ◌≤◌, ◌/◌, ◌%◌, ◌^◌, length, replicate, true, IfSome, OnSome};
 ghost use Rattle.block_arena.specs.Bytes.{written};
+ghost use Rattle.bucket_table.specs.Lending.{bytes_of};
 ghost use Rattle.bucket_table.specs.Regions.{cut, with_bytes};
 
 use crate::stride::Stride;
@@ -73,6 +74,7 @@ impl Area {
     #[inline]
     pub(crate) fn len(&self) -> usize
         ensures value { result ≡ length self.now.bytes }
+        ensures lent { result ≡ bytes_of self.now.loans }
         ensures short { result < 2 ^ 32 }
     {
         self.parts.len() * self.each.len()

@@ -29,6 +29,7 @@ impl BucketTable {
         thread(&mut self.heads, &mut self.nodes, self.chains, node, hash);
         self.nodes.write(node + 4, row);
         self.used = node + 4 + row.len();
+        self.count += 1;
         Ok(node as u32)
     }
 
@@ -38,5 +39,6 @@ impl BucketTable {
     {
         self.heads.zero();
         self.used = 0;
+        self.count = 0;
     }
 }

@@ -70,6 +70,7 @@ impl BucketTable {
             heads,
             nodes,
             used: 0,
+            count: 0,
             chains,
         }
     }
@@ -156,6 +157,7 @@ impl BucketTable {
             heads,
             nodes,
             used: _,
+            count: _,
             chains: _,
         } = self;
         give_both(store, heads, nodes);

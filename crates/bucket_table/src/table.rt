@@ -1,5 +1,6 @@
 //! A table, and what it says of itself.
 ghost use Rattle.std.specs.Prelude.{◌≡◌, ◌<◌, ◌≤◌, ◌+◌, ◌↔◌, ◌^◌, length, true};
+ghost use Rattle.bucket_table.specs.Lending.{bytes_of};
 ghost use Rattle.bucket_table.specs.Tables.{HasNode, row_of, used_by};
 
 use crate::area::Area;
@@ -8,23 +9,24 @@ use std::marker::Model;
 
 /// A hash table in loans of a store.
 ///
-/// Nothing of it stands outside its loans but how many chains there are, and how much of the node area is used.
+/// Nothing of it stands outside its loans but how many chains and rows there are, and how much of the node area is used.
 pub struct BucketTable {
     pub(crate) heads: Area,
     pub(crate) nodes: Area,
     pub(crate) used: usize,
+    pub(crate) count: u32,
     pub(crate) chains: Chains,
 }
 
 impl Model for BucketTable {
     ghost use Rattle.bucket_table.specs.Tables.{Table};
-    ghost use Rattle.bucket_table.specs.Threads.{IsLaid, table_of};
+    ghost use Rattle.bucket_table.specs.Threads.{IsCounted, table_of};
 
     ghost Value = { Table };
 
     ghost view = { λ t. table_of t.chains.len t.heads t.nodes };
 
-    ghost invariant = { λ t. IsLaid t.chains.len t.used t.heads t.nodes };
+    ghost invariant = { λ t. IsCounted t.chains.len t.used t.count t.heads t.nodes };
 }
 
 impl BucketTable {
@@ -35,6 +37,22 @@ impl BucketTable {
         ensures some { 0 < result }
     {
         self.chains.len()
+    }
+
+    /// How many bytes the buffers of heads have.
+    #[inline]
+    pub fn head_bytes(&self) -> usize
+        ensures { result ≡ bytes_of self.now.head_loans }
+    {
+        self.heads.len()
+    }
+
+    /// How many rows there are.
+    #[inline]
+    pub fn nodes(&self) -> u32
+        ensures { result ≡ length self.now.nodes }
+    {
+        self.count
     }
 
     /// The length of the node area, in bytes.

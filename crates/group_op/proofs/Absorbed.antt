@@ -78,7 +78,7 @@ module _ (shape : Shape) (t at level : ℕ) (d : Bool) (rows : ℕ → List (Lis
   -- the table grew
   pub read_grown : HasRead shape at level d rows some rest a → a.held.told ≡ true → HasGrown t shape a b → HasRead shape at level d rows some rest b
   read_grown read told grown =
-      let same : rows_of b.table ≡ rows_of a.table = ap (map (λ (n : Node). n.row)) grown.nodes in
+      let same : rows_of b.table ≡ rows_of a.table = grown.rows in
       record {
         gone = read.gone;
         now = read.now;

@@ -175,11 +175,24 @@ pub none_distinct : IsDistinct bytes_eq []
 unfolding IsDistinct
 none_distinct = tt
 
--- a table with the same nodes has a new one
-pub here_new : (shape : Shape) (hash : ℕ) (row : List ℕ) (a : State) (table : Table) (parts : Stack) (h : Holdings) (signs : Signs) → table.nodes ≡ a.table.nodes → Deals (λ i. []) (streams_of a) (over parts h signs) → Lacks shape (key_at shape row) a.table
+lacked_rows : (shape : Shape) (key : List ℕ) (nodes : List Node) → All (λ n. key_at shape n.row ≢ key) nodes → All (λ row. key_at shape row ≢ key) (map (λ (n : Node). n.row) nodes)
+lacked_rows shape key [] lacks = All-nil (λ row. key_at shape row ≢ key)
+lacked_rows shape key (n ∷ nodes) lacks =
+    All-cons (λ row. key_at shape row ≢ key) n.row (map (λ (m : Node). m.row) nodes) (All-head (λ n. key_at shape n.row ≢ key) n nodes lacks) (lacked_rows shape key nodes (All-tail (λ n. key_at shape n.row ≢ key) n nodes lacks))
+
+lacked_nodes : (shape : Shape) (key : List ℕ) (nodes : List Node) → All (λ row. key_at shape row ≢ key) (map (λ (n : Node). n.row) nodes) → All (λ n. key_at shape n.row ≢ key) nodes
+lacked_nodes shape key [] lacks = All-nil (λ n. key_at shape n.row ≢ key)
+lacked_nodes shape key (n ∷ nodes) lacks =
+    All-cons (λ n. key_at shape n.row ≢ key) n nodes (All-head (λ row. key_at shape row ≢ key) n.row (map (λ (m : Node). m.row) nodes) lacks) (lacked_nodes shape key nodes (All-tail (λ row. key_at shape row ≢ key) n.row (map (λ (m : Node). m.row) nodes) lacks))
+
+-- what one table lacks, another with the same rows lacks too
+pub lacks_same : (shape : Shape) (key : List ℕ) (a b : Table) → rows_of b ≡ rows_of a → Lacks shape key a → Lacks shape key b
+lacks_same shape key a b rows lacks = lacked_nodes shape key b.nodes (subst (All (λ row. key_at shape row ≢ key)) (sym rows) (lacked_rows shape key a.nodes lacks))
+
+-- a table with the same rows has a new one
+pub here_new : (shape : Shape) (hash : ℕ) (row : List ℕ) (a : State) (table : Table) (parts : Stack) (h : Holdings) (signs : Signs) → rows_of table ≡ rows_of a.table → Deals (λ i. []) (streams_of a) (over parts h signs) → Lacks shape (key_at shape row) a.table
     → HasPutHere shape row a (state (with_nodes (new_node (hash % table.heads) row table.nodes ∷ table.nodes) table) parts h signs)
-here_new shape hash row a table parts h signs same deals lacks =
-    let rows : rows_of table ≡ rows_of a.table = ap (map (λ (n : Node). n.row)) same in
+here_new shape hash row a table parts h signs rows deals lacks =
     record {
       deals = deals;
       same =
@@ -238,16 +251,15 @@ flushed_moved t shape level base a b formed flushed =
     }
 
 -- one move after a growth
-pub moved_then : (t : ℕ) (shape : Shape) (level base : ℕ) (a b c : State) → b.table.nodes ≡ a.table.nodes → Deals (λ i. []) (streams_of a) (streams_of b) → HasMoved shape level base b c → HasMoved shape level base a c
-moved_then t shape level base a b c same deals moved =
-    let rows : rows_of b.table ≡ rows_of a.table = ap (map (λ (n : Node). n.row)) same in
+pub moved_then : (t : ℕ) (shape : Shape) (level base : ℕ) (a b c : State) → rows_of b.table ≡ rows_of a.table → Deals (λ i. []) (streams_of a) (streams_of b) → HasMoved shape level base b c → HasMoved shape level base a c
+moved_then t shape level base a b c rows deals moved =
     record {
       gone = moved.gone;
       formed = moved.formed;
       deals = deals_as (λ i. [] ++ dealt shape level base moved.gone i) (dealt shape level base moved.gone) (streams_of a) (streams_of c) (λ i. refl) (deals_then (λ i. []) (dealt shape level base moved.gone) (streams_of a) (streams_of b) (streams_of c) deals moved.deals);
       same = subst (λ (rs : List (List ℕ)). SameGroups (grouping_of shape) (partials_at shape rs) (partials_at shape (rows_of c.table ++ moved.gone))) rows moved.same;
       distinct = subst (λ (rs : List (List ℕ)). HaveDistinctKeys (partials_at shape rs) → HaveDistinctKeys (partials_at shape (rows_of c.table))) rows moved.distinct;
-      lacks = λ key lacks. moved.lacks key (subst (All (λ (n : Node). key_at shape n.row ≢ key)) (sym same) lacks);
+      lacks = λ key lacks. moved.lacks key (lacks_same shape key a.table b.table rows lacks);
       fewer = let long = ap length rows in let fewer = moved.fewer in omega (arith, long, fewer);
     }
 
@@ -269,8 +281,8 @@ put_moved shape level base hash row a table parts h signs lacks full moved =
 pub put_grown : (shape : Shape) (level base hash : ℕ) (row : List ℕ) (t : ℕ) (a m : State) (table : Table) (parts : Stack) (h : Holdings) (signs : Signs) → HasGrown t shape a m → Lacks shape (key_at shape row) m.table → IsTooLong shape (page_len a) row (rows_of a.table) → HasMoved shape level base m (state table parts h signs)
     → HasPut shape level base row a (state (with_nodes (new_node (hash % table.heads) row table.nodes ∷ table.nodes) table) parts h signs)
 put_grown shape level base hash row t a m table parts h signs grown lacks full moved =
-    put_moved shape level base hash row a table parts h signs (subst (All (λ (n : Node). key_at shape n.row ≢ key_at shape row)) grown.nodes lacks) full
-    (moved_then t shape level base a m (state table parts h signs) grown.nodes grown.deals moved)
+    put_moved shape level base hash row a table parts h signs (lacks_same shape (key_at shape row) m.table a.table (sym grown.rows) lacks) full
+    (moved_then t shape level base a m (state table parts h signs) grown.rows grown.deals moved)
 
 pub works_len : (t : ℕ) (shape : Shape) (a b : State) → Works t shape a b → page_len b ≡ page_len a
 works_len t shape a b works = ap (λ (n : ℕ). n * b.held.block_len) works.blocks ∙ ap (λ (n : ℕ). a.parts.page_blocks * n) works.leaves.others.block_len

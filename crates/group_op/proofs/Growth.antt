@@ -1,5 +1,5 @@
 -- A table grows by a page that its client reserves.
-use Rattle.std.proofs.Common.{◌≡◌, ◌≢◌, ◌∙◌, ℕ, ◌+◌, ◌*◌, ◌-◌, ◌≤◌, true, false, if◌then◌else◌, List, [], ◌∷◌, ◌++◌, Option, Some, None, IsSome, is_some, Result, Ok, Err, OnOk, OnErr, refl, ap, sym, subst, arith, eq-eqb, ne_eqb, append_assoc}
+use Rattle.std.proofs.Common.{◌≡◌, ◌≢◌, ◌∙◌, ℕ, ◌+◌, ◌*◌, ◌-◌, ◌≤◌, true, false, if◌then◌else◌, List, [], ◌∷◌, ◌++◌, Option, Some, None, IsSome, is_some, Result, Ok, Err, OnOk, OnErr, refl, ap, sym, subst, arith, eq-eqb, ne_eqb}
 use Rattle.std.specs.Prelude.{All}
 use Rattle.std.specs.List.{sum_by}
 use Rattle.std.proofs.lemmas.Bool.{false≢true}
@@ -21,13 +21,12 @@ use Rattle.tuple_stream.proofs.Sinces.{since_now, since_so, since_these}
 use Rattle.tuple_stream.specs.Families.{AreShaped, held_in}
 use Rattle.bucket_table.specs.Entering.{EnteredLoans, IsOfLoans}
 use Rattle.bucket_table.specs.Tables.{Lent, Table}
-use Rattle.bucket_table.specs.Lending.{Grew, IsApart, IsOwn, IsTableOf, Lends, bytes_of, loans_of}
+use Rattle.bucket_table.specs.Lending.{IsApart, IsOwn, IsTableOf, Lends, bytes_of, loans_of}
 use Rattle.bucket_table.proofs.Beside.{beside_pages}
-use Rattle.bucket_table.proofs.Lent.{bytes-append}
 use Rattle.partition_stack.specs.Changes.{Owns}
 use Rattle.partition_stack.specs.Stack.{Stack, over}
 use Rattle.partition_stack.proofs.Agreeing.{agreeing_shape}
-use Rattle.group_op.specs.Held.{AreEntries, IsHeld, State, lent, state, streams_of}
+use Rattle.group_op.specs.Held.{AreEntries, IsHeld, State, lent, rows_of, state, streams_of}
 use Rattle.group_op.specs.Putting.{HasGrown, Works}
 use Rattle.group_op.proofs.Deals.{AreApart, deals_as, deals_beside, deals_then, increase_apart, loans_apart, none_apart}
 use Rattle.group_op.proofs.Entering.{works_none}
@@ -139,40 +138,37 @@ works_turned t shape table now p old new before after turns grows reserved room 
       many = refl;
     }
 
-module _ (t : ℕ) (table : Table) (p : Stack) (old new : Holdings) (before after : Signs) (held : IsHeld t (state table p old before)) (is : new ≡ after_reserve t (length_of p.page_blocks old) old) where
-  len : ℕ
-  len = length_of p.page_blocks old
-
+module _ (t more : ℕ) (table : Table) (p : Stack) (old new : Holdings) (before after : Signs) (held : IsHeld t (state table p old before)) (is : new ≡ after_reserve t more old) where
   turned : Turns t old new
-  turned = turns_reserved t (length_of p.page_blocks old) old new held.owns.lives is
+  turned = turns_reserved t more old new held.owns.lives is
 
   pub held_reserved : IsHeld t (state table p new after)
   held_reserved =
-      let more = reserved_more t (length_of p.page_blocks old) old new held.owns.lives is in
-      let unused = unused_more t (length_of p.page_blocks old) old new held.owns.lives is in
+      let gets = reserved_more t more old new held.owns.lives is in
+      let unused = unused_more t more old new held.owns.lives is in
       let loans : new.loans ≡ old.loans = ap (λ (h : Holdings). h.loans) is in
       record {
-        owns = owns_turned t old new turned p before after (lent (state table p old before)) (lent (state table p old before)) held.owns (omega (arith, more, unused));
+        owns = owns_turned t old new turned p before after (lent (state table p old before)) (lent (state table p old before)) held.owns (omega (arith, gets, unused));
         table = beside_pages table old new turned.block_len loans (subst (λ (k : ℕ). IsSome (new.clients k)) (sym held.client) turned.lives) held.table;
         client = held.client;
         blocks = held.blocks;
         loans = λ q loan lives apart. held.loans q loan (sym (ap (λ (f : ℕ → Option LiveLoan). f q) loans) ∙ lives) apart;
-        room = let room = held.room in let same = page_lens p old new turned.block_len in omega (arith, room, more, ap (λ (n : ℕ). 17 * n) same);
+        room = let room = held.room in let same = page_lens p old new turned.block_len in omega (arith, room, gets, ap (λ (n : ℕ). 17 * n) same);
       }
 
-  -- one page more than the grouping needs
-  pub spare_reserved : 18 * length_of p.page_blocks new + lent (state table p new after) ≤ (account_of t new).reservation
+  -- so much more than the grouping needs
+  pub spare_reserved : 17 * length_of p.page_blocks new + lent (state table p new after) + more ≤ (account_of t new).reservation
   spare_reserved =
-      let more = reserved_more t (length_of p.page_blocks old) old new held.owns.lives is in
+      let gets = reserved_more t more old new held.owns.lives is in
       let room = held.room in
       let same = page_lens p old new turned.block_len in
-      omega (arith, room, more, ap (λ (n : ℕ). 18 * n) same)
+      omega (arith, room, gets, ap (λ (n : ℕ). 17 * n) same)
 
   pub works_reserved : (shape : Shape) → Grows before after → AreEntries shape (length_of p.page_blocks old) table → Works t shape (state table p old before) (state table p new after)
   works_reserved shape grows entries =
-      let more = reserved_more t (length_of p.page_blocks old) old new held.owns.lives is in
-      let room : new.room ≡ old.room - length_of p.page_blocks old = ap (λ (h : Holdings). h.room) is in
-      works_turned t shape table table p old new before after turned grows (omega (arith, more)) (omega (arith, more, room)) held_reserved entries
+      let gets = reserved_more t more old new held.owns.lives is in
+      let room : new.room ≡ old.room - more = ap (λ (h : Holdings). h.room) is in
+      works_turned t shape table table p old new before after turned grows (omega (arith, gets)) (omega (arith, gets, room)) held_reserved entries
 
 -- ---- lent
 
@@ -215,73 +211,66 @@ module _ (t : ℕ) (loans : List Lent) (old new : Holdings) (lends : Lends t loa
   pub lent_room : new.room ≡ old.room
   lent_room = ap (λ (h : Holdings). h.room) lends.rest
 
-apart_front : (q : ℕ) (xs ys : List Lent) → IsApart q (xs ++ ys) → IsApart q xs
+pub apart_front : (q : ℕ) (xs ys : List Lent) → IsApart q (xs ++ ys) → IsApart q xs
 apart_front q [] ys apart = All-nil (λ l. l.number ≢ q)
 apart_front q (x ∷ xs) ys apart = All-cons (λ l. l.number ≢ q) x xs (All-head (λ l. l.number ≢ q) x (xs ++ ys) apart) (apart_front q xs ys (All-tail (λ l. l.number ≢ q) x (xs ++ ys) apart))
 
-apart_behind : (q : ℕ) (xs ys : List Lent) → IsApart q (xs ++ ys) → IsApart q ys
+pub apart_behind : (q : ℕ) (xs ys : List Lent) → IsApart q (xs ++ ys) → IsApart q ys
 apart_behind q [] ys apart = apart
 apart_behind q (x ∷ xs) ys apart = apart_behind q xs ys (All-tail (λ l. l.number ≢ q) x (xs ++ ys) apart)
 
-module _ (t : ℕ) (table now : Table) (p : Stack) (old new : Holdings) (before after : Signs) (held : IsHeld t (state table p old before)) (grew : Grew table now old new) (is : IsTableOf now new) (spare : 18 * length_of p.page_blocks old + lent (state table p old before) ≤ (account_of t old).reservation) where
-  lends_now : Lends t (grew.loan ∷ []) old new
-  lends_now = subst (λ (k : ℕ). Lends k (grew.loan ∷ []) old new) held.client grew.lends
+-- a table has these loans more, of so many bytes
+pub record Gets (table now : Table) (loans : List Lent) (more : ℕ) : Type 0 where
+  pub client : now.client ≡ table.client
+  pub blocks : now.page_blocks ≡ table.page_blocks
+  pub lent_is : bytes_of (loans_of now) ≡ bytes_of (loans_of table) + more
+  pub bytes : bytes_of loans ≡ more
+  pub apart : (q : ℕ) → IsApart q (loans_of now) → IsApart q loans × IsApart q (loans_of table)
 
+-- a table got so many bytes, and has the rows that it had
+pub record Got (t more : ℕ) (shape : Shape) (len : ℕ) (table now : Table) (old new : Holdings) : Type 0 where
+  pub loans : List Lent
+  pub lends : Lends t loans old new
+  pub gets : Gets table now loans more
+  pub rows : rows_of now ≡ rows_of table
+  pub entries : AreEntries shape len table → AreEntries shape len now
+
+module _ (t more : ℕ) (shape : Shape) (table now : Table) (p : Stack) (old new : Holdings) (before after : Signs) (held : IsHeld t (state table p old before)) (got : Got t more shape (length_of p.page_blocks old) table now old new) (is : IsTableOf now new) (spare : 17 * length_of p.page_blocks old + lent (state table p old before) + more ≤ (account_of t old).reservation) where
   turned_lent : Turns t old new
-  turned_lent = turns_lent t (grew.loan ∷ []) old new lends_now
+  turned_lent = turns_lent t got.loans old new got.lends
 
-  loans_now : loans_of now ≡ loans_of table ++ grew.loan ∷ []
-  loans_now = ap loans_of grew.table ∙ sym (append_assoc table.head_loans table.node_loans (grew.loan ∷ []))
-
-  one_len : bytes_of (grew.loan ∷ []) ≡ length_of p.page_blocks old
-  one_len =
-      let one = grew.bytes in
-      let len : table.page_blocks * table.block_len ≡ length_of p.page_blocks old = ap (λ (n : ℕ). n * table.block_len) held.blocks ∙ ap (λ (n : ℕ). p.page_blocks * n) held.table.block_len in
-      omega (arith, one, len)
-
-  lent_now : lent (state now p new after) ≡ lent (state table p old before) + length_of p.page_blocks old
-  lent_now =
-      let both = ap bytes_of loans_now ∙ bytes-append (loans_of table) (grew.loan ∷ []) in
-      let one = one_len in
-      omega (arith, both, one)
-
-  pub held_grown : IsHeld t (state now p new after)
+  held_grown : IsHeld t (state now p new after)
   held_grown =
-      let more = lent_now in
-      let own = lent_reservation t (grew.loan ∷ []) old new lends_now in
-      let unused = lent_unused t (grew.loan ∷ []) old new lends_now in
-      let one = one_len in
+      let gets = got.gets.lent_is in
+      let own = lent_reservation t got.loans old new got.lends in
+      let unused = lent_unused t got.loans old new got.lends in
+      let bytes = got.gets.bytes in
       record {
-        owns = owns_turned t old new turned_lent p before after (lent (state table p old before)) (lent (state now p new after)) held.owns (omega (arith, more, own, unused, one));
+        owns = owns_turned t old new turned_lent p before after (lent (state table p old before)) (lent (state now p new after)) held.owns (omega (arith, gets, own, unused, bytes));
         table = is;
-        client = ap (λ (x : Table). x.client) grew.table ∙ held.client;
-        blocks = ap (λ (x : Table). x.page_blocks) grew.table ∙ held.blocks;
+        client = got.gets.client ∙ held.client;
+        blocks = got.gets.blocks ∙ held.blocks;
         loans = λ q loan lives apart.
-            let both : IsApart q (loans_of table ++ grew.loan ∷ []) = subst (IsApart q) loans_now apart in
-            held.loans q loan (sym (lends_now.others q (apart_behind q (loans_of table) (grew.loan ∷ []) both)) ∙ lives) (apart_front q (loans_of table) (grew.loan ∷ []) both);
+            let both = got.gets.apart q apart in
+            held.loans q loan (sym (got.lends.others q both.0) ∙ lives) both.1;
         room =
             let same = page_lens p old new turned_lent.block_len in
-            omega (arith, spare, more, own, ap (λ (n : ℕ). 17 * n) same);
+            omega (arith, spare, gets, own, ap (λ (n : ℕ). 17 * n) same);
       }
 
-  pub entries_grown : (shape : Shape) (len : ℕ) → AreEntries shape len table → AreEntries shape len now
-  entries_grown shape len entries =
-      subst (AreEntries shape len) (sym grew.table)
-      (record { each = entries.each; behind = entries.behind; roomy = let roomy = entries.roomy in omega (arith, roomy) })
-
-  pub works_grown : (shape : Shape) → Grows before after → AreEntries shape (length_of p.page_blocks old) table → Works t shape (state table p old before) (state now p new after)
-  works_grown shape grows entries =
-      let own = lent_reservation t (grew.loan ∷ []) old new lends_now in
-      let room = lent_room t (grew.loan ∷ []) old new lends_now in
-      works_turned t shape table now p old new before after turned_lent grows (omega (arith, own)) (omega (arith, own, room)) held_grown (entries_grown shape (length_of p.page_blocks old) entries)
+  pub works_grown : Grows before after → AreEntries shape (length_of p.page_blocks old) table → Works t shape (state table p old before) (state now p new after)
+  works_grown grows entries =
+      let own = lent_reservation t got.loans old new got.lends in
+      let room = lent_room t got.loans old new got.lends in
+      works_turned t shape table now p old new before after turned_lent grows (omega (arith, own)) (omega (arith, own, room)) held_grown (got.entries entries)
 
 -- ---- the whole of it
 
-grown : (t : ℕ) (shape : Shape) (table now : Table) (p : Stack) (old new : Holdings) (before after : Signs) → AreShaped t (over p old before) → Turns t old new → now.nodes ≡ table.nodes
+grown : (t : ℕ) (shape : Shape) (table now : Table) (p : Stack) (old new : Holdings) (before after : Signs) → AreShaped t (over p old before) → Turns t old new → rows_of now ≡ rows_of table
     → EnteredEvents AreApart before.trail after.trail → Works t shape (state table p old before) (state now p new after) → HasGrown t shape (state table p old before) (state now p new after)
-grown t shape table now p old new before after shaped turns nodes entered works =
+grown t shape table now p old new before after shaped turns rows entered works =
     record {
-      nodes = nodes;
+      rows = rows;
       works = works;
       deals = deals_beside t p.streams old new before after shaped turns.block_len turns.told turns.pages entered;
     }
@@ -290,7 +279,7 @@ grown t shape table now p old new before after shaped turns nodes entered works 
 pub grown_none : (t : ℕ) (shape : Shape) (table : Table) (p : Stack) (h : Holdings) (signs : Signs) → IsHeld t (state table p h signs) → AreEntries shape (length_of p.page_blocks h) table → HasGrown t shape (state table p h signs) (state table p h signs)
 grown_none t shape table p h signs held entries =
     record {
-      nodes = refl;
+      rows = refl;
       works = works_none t shape table p h signs held entries;
       deals = deals_beside t p.streams h h signs signs held.owns.shaped refl refl refl (since_now AreApart signs.trail (none_apart [] refl));
     }
@@ -301,7 +290,7 @@ pub grown_refused : (t : ℕ) (shape : Shape) (table : Table) (p : Stack) (old n
 grown_refused t shape table p old new before after held entries same grows entered =
     subst (λ (h : Holdings). HasGrown t shape (state table p old before) (state table p h after)) (sym same)
     (record {
-      nodes = refl;
+      rows = refl;
       works = record {
         held = record { owns = record { lives = held.owns.lives; shaped = record { each = held.owns.shaped.each; apart = held.owns.shaped.apart }; only = held.owns.only; even = held.owns.even }; table = held.table; client = held.client; blocks = held.blocks; loans = held.loans; room = held.room };
         entries = entries;
@@ -333,37 +322,34 @@ grown_untouched t shape table p old new before after held entries grows result b
 pub grown_then : (t : ℕ) (shape : Shape) (a b c : State) → HasGrown t shape a b → HasGrown t shape b c → HasGrown t shape a c
 grown_then t shape a b c first second =
     record {
-      nodes = second.nodes ∙ first.nodes;
+      rows = second.rows ∙ first.rows;
       works = works_then t shape a b c first.works second.works;
       deals = deals_as (λ i. [] ++ []) (λ i. []) (streams_of a) (streams_of c) (λ i. refl) (deals_then (λ i. []) (λ i. []) (streams_of a) (streams_of b) (streams_of c) first.deals second.deals);
     }
 
 module _ (t : ℕ) (shape : Shape) (table : Table) (p : Stack) (old mid : Holdings) (before between : Signs) (held : IsHeld t (state table p old before)) (entries : AreEntries shape (length_of p.page_blocks old) table)
-    (maker bytes : ℕ) (len : bytes ≡ length_of p.page_blocks old) (is : mid ≡ after_reserve t bytes old) (grows : Grows before between) (made : MadeThese maker (Increase t bytes ∷ []) before between) where
-  is_page : mid ≡ after_reserve t (length_of p.page_blocks old) old
-  is_page = is ∙ ap (λ (n : ℕ). after_reserve t n old) len
-
+    (maker more : ℕ) (is : mid ≡ after_reserve t more old) (grows : Grows before between) (made : MadeThese maker (Increase t more ∷ []) before between) where
   first : HasGrown t shape (state table p old before) (state table p mid between)
   first =
-      grown t shape table table p old mid before between held.owns.shaped (turned t table p old mid before between held is_page) refl
-      (since_so (λ events. events ≡ Increase t bytes ∷ []) AreApart before.trail between.trail (increase_apart t bytes) (since_these maker (Increase t bytes ∷ []) before between made))
-      (works_reserved t table p old mid before between held is_page shape grows entries)
+      grown t shape table table p old mid before between held.owns.shaped (turned t more table p old mid before between held is) refl
+      (since_so (λ events. events ≡ Increase t more ∷ []) AreApart before.trail between.trail (increase_apart t more) (since_these maker (Increase t more ∷ []) before between made))
+      (works_reserved t more table p old mid before between held is shape grows entries)
 
-  module _ (now : Table) (new : Holdings) (after : Signs) (result : Result Unit PoolErr) (more : Grows between after) (entered : EnteredLoans between.trail after.trail) where
+  module _ (now : Table) (new : Holdings) (after : Signs) (result : Result Unit PoolErr) (later : Grows between after) (entered : EnteredLoans between.trail after.trail) where
     apart : EnteredEvents AreApart between.trail after.trail
     apart = since_so (All IsOfLoans) AreApart between.trail after.trail loans_apart entered
 
-    pub grown_whole : IsTableOf now new → OnOk result (Grew table now mid new) → OnErr result (now ≡ table) → OnErr result (new ≡ mid) → HasGrown t shape (state table p old before) (state now p new after)
+    pub grown_whole : IsTableOf now new → OnOk result (Got t more shape (length_of p.page_blocks mid) table now mid new) → OnErr result (now ≡ table) → OnErr result (new ≡ mid) → HasGrown t shape (state table p old before) (state now p new after)
     grown_whole here ok err same = grown_then t shape (state table p old before) (state table p mid between) (state now p new after) first (second result ok err same)
       where
         table_held : IsHeld t (state table p mid between)
         table_held = first.works.held
 
-        second : (r : Result Unit PoolErr) → OnOk r (Grew table now mid new) → OnErr r (now ≡ table) → OnErr r (new ≡ mid) → HasGrown t shape (state table p mid between) (state now p new after)
+        second : (r : Result Unit PoolErr) → OnOk r (Got t more shape (length_of p.page_blocks mid) table now mid new) → OnErr r (now ≡ table) → OnErr r (new ≡ mid) → HasGrown t shape (state table p mid between) (state now p new after)
         second (Ok done) ok err same =
-            grown t shape table now p mid new between after first.works.held.owns.shaped (turned_lent t table now p mid new between after table_held ok here (spare_reserved t table p old mid before between held is_page))
-            (ap (λ (x : Table). x.nodes) ok.table) apart
-            (works_grown t table now p mid new between after table_held ok here (spare_reserved t table p old mid before between held is_page) shape more first.works.entries)
+            grown t shape table now p mid new between after table_held.owns.shaped (turned_lent t more shape table now p mid new between after table_held ok here (spare_reserved t more table p old mid before between held is))
+            ok.rows apart
+            (works_grown t more shape table now p mid new between after table_held ok here (spare_reserved t more table p old mid before between held is) later first.works.entries)
         second (Err e) ok err same =
             subst (λ (x : Table). HasGrown t shape (state table p mid between) (state x p new after)) (sym err)
-            (grown_refused t shape table p mid new between after table_held first.works.entries same more apart)
+            (grown_refused t shape table p mid new between after table_held first.works.entries same later apart)

@@ -327,7 +327,7 @@ no_count : (o : Option (List ℕ × List ℕ)) (p : List ℕ × List ℕ) → No
 no_count None p none is = absurd cc
 no_count (Some q) p none is = absurd cc
 
-counted_some : (o : Option (List ℕ × List ℕ)) (key : List ℕ) (left : ℕ) → Some (key, left) ≡ counted o → (rest : List ℕ) × (o ≡ Some (key, rest)) × (length rest ≡ left)
+pub counted_some : (o : Option (List ℕ × List ℕ)) (key : List ℕ) (left : ℕ) → Some (key, left) ≡ counted o → (rest : List ℕ) × (o ≡ Some (key, rest)) × (length rest ≡ left)
 counted_some None key left is = absurd cc
 counted_some (Some p) key left is =
     let same : (key, left) ≡ (p.0, length p.1) = same_Some (key, left) (p.0, length p.1) is in

@@ -33,6 +33,7 @@ pub mod Opened
 pub mod Kept
 pub mod Ended
 pub mod Saying
+pub mod Gained
 pub mod Gathered
 pub mod NodeOrder
 pub mod OwnBytes
@@ -40,6 +41,7 @@ pub mod TakeMore
 pub mod Absorbed
 pub mod Serving
 pub mod Absorbs
+pub mod KeyHashing
 pub mod KeyWalking
 pub mod ReadingBack
 pub mod Sixteen

@@ -63,9 +63,9 @@ pub record HasPutHere (shape : Shape) (row : List ℕ) (a b : State) : Type 0 wh
   pub distinct : HaveDistinctKeys (partials_at shape (rows_of a.table)) → HaveDistinctKeys (partials_at shape (rows_of b.table))
   pub fewer : length (rows_of b.table) ≤ length (rows_of a.table) + 1
 
--- the table got more memory, and has the rows that it had
+-- the table got more memory or not, and has the rows that it had
 pub record HasGrown (t : ℕ) (shape : Shape) (a b : State) : Type 0 where
-  pub nodes : b.table.nodes ≡ a.table.nodes
+  pub rows : rows_of b.table ≡ rows_of a.table
   pub works : Works t shape a b
   pub deals : Deals (λ i. []) (streams_of a) (streams_of b)
 

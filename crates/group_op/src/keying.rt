@@ -75,7 +75,7 @@ fn push_column(
 }
 
 // The length of the field of this kind at the front.
-fn field_len(kind: Kind, bytes: &[u8]) -> Option<usize>
+pub(crate) fn field_len(kind: Kind, bytes: &[u8]) -> Option<usize>
     ensures cut { option_map (λ len. (take len bytes.now, drop len bytes.now)) result ≡ cut_at kind bytes.now }
     ensures inside { IfSome result (λ len. len ≤ length bytes.now) }
 {

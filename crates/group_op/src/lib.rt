@@ -15,6 +15,7 @@ mod finishing;
 mod flushing;
 mod growing;
 mod handing;
+mod hashing;
 mod joining;
 mod keying;
 mod laws;

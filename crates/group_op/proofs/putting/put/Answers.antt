@@ -1,6 +1,6 @@
-use Rattle.std.proofs.Common.{◌≡◌, ◌≤◌, ℕ, Err, length, map, ap, sym, subst, arith, rules}
+use Rattle.std.proofs.Common.{◌≡◌, ◌≤◌, ℕ, Err, length, ap, sym, subst, arith, rules}
 use Rattle.store_api.proofs.Answered.{answered_before}
-use Rattle.bucket_table.specs.Tables.{Node, Table, used_by}
+use Rattle.bucket_table.specs.Tables.{Table, used_by}
 use Rattle.group_op.specs.Held.{State, page_len, rows_of, state}
 use Rattle.group_op.specs.Putting.{HasGrown, IsTooLong}
 use Rattle.group_op.proofs.Chained.{works_then}
@@ -44,7 +44,7 @@ returns-clause-ok g c =
     rw c.add_entry.ensures
     (put_grown shape c.args.fan.level c.args.fan.base c.args.hash c.args.row.now t a m c.flush.new.table c.flush.new.parts (g.St.Store.holds c.flush.new.store) (g.St.Store.signs c.flush.new.store) grown (c.put_here.ensures.lacks c.if-put_here.false)
     (subst (λ (n : ℕ). IsTooLong shape n c.args.row.now (rows_of c.args.table.now)) (works_len t shape a m c.put_here.ensures.works)
-    (too_long shape (page_len m) c.args.row.now m.table (rows_of c.args.table.now) (ap (map (λ (n : Node). n.row)) grown.nodes) c.put_here.ensures.works.entries (c.put_here.ensures.full c.if-put_here.false) (c.put_here.ensures.lacks c.if-put_here.false)))
+    (too_long shape (page_len m) c.args.row.now m.table (rows_of c.args.table.now) grown.rows c.put_here.ensures.works.entries (c.put_here.ensures.full c.if-put_here.false) (c.put_here.ensures.lacks c.if-put_here.false)))
     (flushed_moved t shape c.args.fan.level c.args.fan.base m b (rows_formed shape _ m.table.heads m.table.nodes grown.works.entries.each) c.in_ok-flush.ensures.ok))
 
 pub returns-clause-works : goal.returns-clause-works

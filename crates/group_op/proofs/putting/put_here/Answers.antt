@@ -1,8 +1,9 @@
 use Rattle.std.proofs.Common.{◌≡◌, ◌≤◌, ℕ, [], length, refl, sym, subst}
 use Rattle.tuple_stream.proofs.FamilyWords.{feeds_none}
 use Rattle.group_op.specs.Held.{State, page_len, state, streams_of}
+use Rattle.group_op.specs.Stored.{key_at}
 use Rattle.group_op.proofs.Deals.{deals_fed}
-use Rattle.group_op.proofs.Entering.{entries_joined, entries_new, here_found, here_new, works_len, works_none}
+use Rattle.group_op.proofs.Entering.{entries_joined, entries_new, here_found, here_new, lacks_same, works_len, works_none}
 use Rattle.group_op.proofs.Keeping.{works_nodes}
 use Rattle.group_op.proofs.Finding.{entry_row}
 use Rattle.group_op.proofs.RowForms.{partial_is_framed}
@@ -49,7 +50,7 @@ pub returns-clause-put : goal.returns-clause-put
 returns-clause-put g c = λ yes.
     let a : State = state c.args.table.now c.args.parts.now (g.St.Store.holds c.args.store.now) (g.St.Store.signs c.args.store.now) in
     rw c.add_entry-2.ensures
-    (here_new c.args.shape.now c.args.hash c.args.row.now a c.grow.new.table c.args.parts.now (g.St.Store.holds c.grow.new.store) (g.St.Store.signs c.grow.new.store) c.grow.ensures.nodes c.grow.ensures.deals c.in_default.ensures.none)
+    (here_new c.args.shape.now c.args.hash c.args.row.now a c.grow.new.table c.args.parts.now (g.St.Store.holds c.grow.new.store) (g.St.Store.signs c.grow.new.store) c.grow.ensures.rows c.grow.ensures.deals c.in_default.ensures.none)
 
 pub returns-clause-works : goal.returns-clause-works
 returns-clause-works g c =
@@ -58,3 +59,7 @@ returns-clause-works g c =
     rw c.add_entry-2.ensures
     (works_nodes c.args.c.now.tracker c.args.shape.now _ _ c.grow.new.table c.args.parts.now (g.St.Store.holds c.grow.new.store) (g.St.Store.signs c.grow.new.store) works
     (entries_new c.args.shape.now _ c.args.hash c.args.row.now c.grow.new.table works.entries c.requires.row (subst (λ (n : ℕ). length c.args.row.now ≤ n) (sym len) c.requires.short) c.requires.hash))
+
+pub returns-then-not-has_room-clause-lacks : goal.returns-then-not-has_room-clause-lacks
+returns-then-not-has_room-clause-lacks g c = λ not.
+    lacks_same c.args.shape.now (key_at c.args.shape.now c.args.row.now) c.args.table.now c.grow.new.table c.grow.ensures.rows c.in_default.ensures.none

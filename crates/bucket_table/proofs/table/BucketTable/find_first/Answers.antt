@@ -7,7 +7,7 @@ use Rattle.bucket_table.proofs.TheRow.{found_on}
 use Rattle.bucket_table.proofs.table.BucketTable.find_first.Goals as goal
 
 pub overflow_mul-place : goal.overflow_mul-place
-overflow_mul-place c = omega (arith, c.place.ensures.below, c.self.invariant.table.few)
+overflow_mul-place c = omega (arith, c.place.ensures.below, c.self.invariant.laid.table.few)
 
 pub returns : goal.returns
 returns c =
@@ -17,7 +17,7 @@ returns c =
     let below : k < t.chains.len = omega (arith, c.place.ensures.value, c.place.ensures.below) in
     let value : c.node_of.result ≡ newest_on k nodes =
     c.node_of.ensures
-    ∙ ap node_in (c.link.ensures ∙ ap (λ (i : ℕ). link_at t.heads.bytes (4 * i)) c.place.ensures.value ∙ c.self.invariant.table.threaded.linked k below)
+    ∙ ap node_in (c.link.ensures ∙ ap (λ (i : ℕ). link_at t.heads.bytes (4 * i)) c.place.ensures.value ∙ c.self.invariant.laid.table.threaded.linked k below)
     ∙ newest_is k nodes
     in
     rw (← c.self.view_is) (record { value = value; node = found_on k nodes c.node_of.result value })

@@ -16,7 +16,7 @@ loop-next-init c =
     let t = c.self.inside in
     let table = c.args.self.now in
     let k = c.args.hash % table.heads in
-    let are : AreNodes table.heads t.nodes.bytes table.nodes = subst (λ (x : Table). AreNodes x.heads t.nodes.bytes x.nodes) c.self.view_is c.self.invariant.table.threaded.stand in
+    let are : AreNodes table.heads t.nodes.bytes table.nodes = subst (λ (x : Table). AreNodes x.heads t.nodes.bytes x.nodes) c.self.view_is c.self.invariant.laid.table.threaded.stand in
     subst (λ (next : Option ℕ). Leaves k c.args.at c.args.bytes.now next table.nodes table.nodes) (sym c.find_first-next.ensures.value) (begins k c.args.at c.args.bytes.now table.heads t.nodes.bytes table.nodes are)
 
 pub returns-then-look-clause-value : goal.returns-then-look-clause-value
@@ -31,7 +31,7 @@ loop-next-smaller c =
     let t = c.self.inside in
     let table = c.args.self.now in
     let k = c.args.hash % table.heads in
-    let are : AreNodes table.heads t.nodes.bytes table.nodes = subst (λ (x : Table). AreNodes x.heads t.nodes.bytes x.nodes) c.self.view_is c.self.invariant.table.threaded.stand in
+    let are : AreNodes table.heads t.nodes.bytes table.nodes = subst (λ (x : Table). AreNodes x.heads t.nodes.bytes x.nodes) c.self.view_is c.self.invariant.laid.table.threaded.stand in
     let inv : Leaves k c.args.at c.args.bytes.now (Some c.in-Some.node) table.nodes table.nodes = subst (λ (next : Option ℕ). Leaves k c.args.at c.args.bytes.now next table.nodes table.nodes) c.in-Some.is c.loop-next.invariant in
     let on = goes_on k c.args.at c.args.bytes.now table.heads c.in-Some.node t.nodes.bytes table.nodes are inv.on (iff_false c.look_at-look.ensures.shows c.if-look.false) in
     subst (λ (next : Option ℕ). length (rest_from c.look_at-look.result.next table.nodes) < length (rest_from next table.nodes)) (sym c.in-Some.is)
@@ -42,7 +42,7 @@ loop-next-preserved c =
     let t = c.self.inside in
     let table = c.args.self.now in
     let k = c.args.hash % table.heads in
-    let are : AreNodes table.heads t.nodes.bytes table.nodes = subst (λ (x : Table). AreNodes x.heads t.nodes.bytes x.nodes) c.self.view_is c.self.invariant.table.threaded.stand in
+    let are : AreNodes table.heads t.nodes.bytes table.nodes = subst (λ (x : Table). AreNodes x.heads t.nodes.bytes x.nodes) c.self.view_is c.self.invariant.laid.table.threaded.stand in
     let inv : Leaves k c.args.at c.args.bytes.now (Some c.in-Some.node) table.nodes table.nodes = subst (λ (next : Option ℕ). Leaves k c.args.at c.args.bytes.now next table.nodes table.nodes) c.in-Some.is c.loop-next.invariant in
     let on = goes_on k c.args.at c.args.bytes.now table.heads c.in-Some.node t.nodes.bytes table.nodes are inv.on (iff_false c.look_at-look.ensures.shows c.if-look.false) in
     subst (λ (next : Option ℕ). Leaves k c.args.at c.args.bytes.now next table.nodes table.nodes) (sym c.look_at-look.ensures.next) (record { same = inv.same ∙ on.0.same; on = on.0.on })

@@ -6,7 +6,7 @@ use Rattle.bucket_table.specs.Regions.{Region}
 use Rattle.bucket_table.specs.Lending.{IsTableOf, WasShort}
 use Rattle.bucket_table.proofs.Held.{any_err}
 use Rattle.bucket_table.specs.Threads.{client_in, table_of}
-use Rattle.bucket_table.proofs.Grown.{grew, grew_held, grown_table}
+use Rattle.bucket_table.proofs.Grown.{grew, grew_held, grown_table, nodes_kept}
 use Rattle.bucket_table.proofs.table.BucketTable.grow.Goals as goal
 
 pub add-requires : goal.add-requires
@@ -30,10 +30,14 @@ add-requires g c =
 pub invariant_of-self-2 : goal.invariant_of-self-2
 invariant_of-self-2 g c =
     let t = c.self.inside in
+    let kept = nodes_kept c.args.c.now.tracker t.chains.len t.used t.heads t.nodes c.add.new.self _ _ c.self.invariant.laid.table c.in_ok-add.ensures.ok (rw (← c.self.view_is) at c.requires.short) in
     record {
-      table = grown_table c.args.c.now.tracker t.chains.len t.used t.heads t.nodes c.add.new.self _ _ c.self.invariant.table c.in_ok-add.ensures.ok (rw (← c.self.view_is) at c.requires.short);
-      blocks = c.self.invariant.blocks ∙ sym (ap (λ (r : Region). r.blocks) c.in_ok-add.ensures.ok.region);
-      block_len = c.self.invariant.block_len ∙ sym (ap (λ (r : Region). r.block_len) c.in_ok-add.ensures.ok.region);
+      laid = record {
+        table = grown_table c.args.c.now.tracker t.chains.len t.used t.heads t.nodes c.add.new.self _ _ c.self.invariant.laid.table c.in_ok-add.ensures.ok (rw (← c.self.view_is) at c.requires.short);
+        blocks = c.self.invariant.laid.blocks ∙ sym (ap (λ (r : Region). r.blocks) c.in_ok-add.ensures.ok.region);
+        block_len = c.self.invariant.laid.block_len ∙ sym (ap (λ (r : Region). r.block_len) c.in_ok-add.ensures.ok.region);
+      };
+      counted = c.self.invariant.counted ∙ sym (ap length kept);
     }
 
 pub returns : goal.returns
@@ -41,7 +45,7 @@ returns g c =
     let t = c.self.inside in
     let old = g.St.Store.holds c.args.store.now in
     let client : client_in t.heads.loans ≡ c.args.c.now.tracker = sym (rw (← c.self.view_is) at c.requires.client) in
-    let grew_so = grew c.args.c.now.tracker t.chains.len t.used t.heads t.nodes c.add.new.self old _ c.self.invariant.table c.in_ok-add.ensures.ok (rw (← c.self.view_is) at c.requires.short) client in
+    let grew_so = grew c.args.c.now.tracker t.chains.len t.used t.heads t.nodes c.add.new.self old _ c.self.invariant.laid.table c.in_ok-add.ensures.ok (rw (← c.self.view_is) at c.requires.short) client in
     let was : IsTableOf (table_of t.chains.len t.heads t.nodes) old = rw (← c.self.view_is) at c.requires.table in
     rw (← c.self.view_is) (record { ok = grew_so; err = tt; held = tt; table = grew_held _ _ old _ was grew_so; cause = tt; grows = c.in_ok-add.ensures.grows; entries = c.in_ok-add.ensures.entries })
 

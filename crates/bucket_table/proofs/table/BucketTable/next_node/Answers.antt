@@ -11,8 +11,8 @@ returns-then-next-self c =
     let nodes = nodes_in t.chains.len t.heads.bytes t.nodes.bytes in
     let has : HasNode p nodes = rw (← c.self.view_is) at c.requires in
     let len : c.row_len.result ≡ length (row_of p nodes) = rw (← c.self.view_is) at c.row_len.ensures.value in
-    let end : p + 4 + length (row_of p nodes) ≡ used_by nodes = ap (λ (n : ℕ). p + 4 + n) (sym len) ∙ c.if-next-self.true ∙ c.self.invariant.table.used_is in
-    rw (← c.self.view_is) (record { value = sym (newest_of_all p t.chains.len t.nodes.bytes nodes c.self.invariant.table.threaded.stand has end); node = tt })
+    let end : p + 4 + length (row_of p nodes) ≡ used_by nodes = ap (λ (n : ℕ). p + 4 + n) (sym len) ∙ c.if-next-self.true ∙ c.self.invariant.laid.table.used_is in
+    rw (← c.self.view_is) (record { value = sym (newest_of_all p t.chains.len t.nodes.bytes nodes c.self.invariant.laid.table.threaded.stand has end); node = tt })
 
 pub returns : goal.returns
 returns c =
@@ -22,6 +22,6 @@ returns c =
     let has : HasNode p nodes = rw (← c.self.view_is) at c.requires in
     let len : c.row_len.result ≡ length (row_of p nodes) = rw (← c.self.view_is) at c.row_len.ensures.value in
     let width : p + 4 + c.row_len.result ≡ p + 4 + length (row_of p nodes) = ap (λ (n : ℕ). p + 4 + n) len in
-    let before : p + 4 + length (row_of p nodes) ≢ used_by nodes = λ end. c.if-next-self.false (width ∙ end ∙ sym c.self.invariant.table.used_is) in
-    let next = newer_is p t.chains.len t.nodes.bytes nodes c.self.invariant.table.threaded.stand has before in
+    let before : p + 4 + length (row_of p nodes) ≢ used_by nodes = λ end. c.if-next-self.false (width ∙ end ∙ sym c.self.invariant.laid.table.used_is) in
+    let next = newer_is p t.chains.len t.nodes.bytes nodes c.self.invariant.laid.table.threaded.stand has before in
     rw (← c.self.view_is) (record { value = ap Some width ∙ sym next.0; node = subst (λ (q : ℕ). HasNode q nodes) (sym width) next.1 })

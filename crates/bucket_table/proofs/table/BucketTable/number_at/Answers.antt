@@ -11,7 +11,7 @@ overflow_add-node-2 c =
     let nodes = nodes_in t.chains.len t.heads.bytes t.nodes.bytes in
     let has : HasNode c.args.node nodes = rw (← c.self.view_is) at c.requires.node in
     let wide : c.args.at + 16 ≤ length (row_of c.args.node nodes) = rw (← c.self.view_is) at c.requires.inside in
-    let is = there t.chains.len t.used c.args.node t.heads.bytes t.nodes.bytes c.self.invariant.table has in
+    let is = there t.chains.len t.used c.args.node t.heads.bytes t.nodes.bytes c.self.invariant.laid.table has in
     omega (arith, is.ends, is.inside, is.short, wide)
 
 pub wide-requires : goal.wide-requires
@@ -20,7 +20,7 @@ wide-requires c =
     let nodes = nodes_in t.chains.len t.heads.bytes t.nodes.bytes in
     let has : HasNode c.args.node nodes = rw (← c.self.view_is) at c.requires.node in
     let wide : c.args.at + 16 ≤ length (row_of c.args.node nodes) = rw (← c.self.view_is) at c.requires.inside in
-    let is = there t.chains.len t.used c.args.node t.heads.bytes t.nodes.bytes c.self.invariant.table has in
+    let is = there t.chains.len t.used c.args.node t.heads.bytes t.nodes.bytes c.self.invariant.laid.table has in
     omega (arith, is.ends, is.inside, wide)
 
 pub returns : goal.returns
@@ -29,5 +29,5 @@ returns c =
     let nodes = nodes_in t.chains.len t.heads.bytes t.nodes.bytes in
     let has : HasNode c.args.node nodes = rw (← c.self.view_is) at c.requires.node in
     let wide : c.args.at + 16 ≤ length (row_of c.args.node nodes) = rw (← c.self.view_is) at c.requires.inside in
-    let is = there t.chains.len t.used c.args.node t.heads.bytes t.nodes.bytes c.self.invariant.table has in
+    let is = there t.chains.len t.used c.args.node t.heads.bytes t.nodes.bytes c.self.invariant.laid.table has in
     rw (← c.self.view_is) (c.wide.ensures ∙ ap number_in (sym (part_there c.args.node c.args.at 16 _ _ t.nodes.bytes is wide)))

@@ -1,4 +1,4 @@
-use Rattle.std.proofs.Common.{◌≡◌, ◌/◌, ℕ, length, ap, ◌∙◌, arith}
+use Rattle.std.proofs.Common.{◌≡◌, ◌/◌, ℕ, length, ap, sym, ◌∙◌, arith}
 use Rattle.bucket_table.specs.Threads.{client_in}
 use Rattle.bucket_table.proofs.Emptied.{empty_over}
 use Rattle.bucket_table.proofs.table.BucketTable.over.Goals as goal
@@ -7,10 +7,10 @@ pub invariant_of-result : goal.invariant_of-result
 invariant_of-result c =
     let links = c.args.heads.bytes in
     let chains : c.of-chains.result.len ≡ length links / 4 = c.of-chains.ensures ∙ ap (λ (n : ℕ). n / 4) c.len.ensures.value in
+    let none = empty_over c.of-chains.result.len links c.args.nodes.bytes chains c.requires.zeros c.requires.some (omega (arith, c.len.ensures.value, c.len.ensures.short)) (omega (arith, c.len-nodes.ensures.value, c.len-nodes.ensures.short)) in
     record {
-      table = (empty_over c.of-chains.result.len links c.args.nodes.bytes chains c.requires.zeros c.requires.some (omega (arith, c.len.ensures.value, c.len.ensures.short)) (omega (arith, c.len-nodes.ensures.value, c.len-nodes.ensures.short))).0;
-      blocks = c.requires.blocks;
-      block_len = c.requires.block_len;
+      laid = record { table = none.0; blocks = c.requires.blocks; block_len = c.requires.block_len };
+      counted = sym (ap length none.1);
     }
 
 pub returns : goal.returns

@@ -13,5 +13,5 @@ returns c =
     let has : HasNode p nodes = rw (← c.self.view_is) at c.requires in
     let len : c.row_len-len.result ≡ length (row_of p nodes) = rw (← c.self.view_is) at c.row_len-len.ensures.value in
     let inside : c.args.at + n ≤ length (row_of p nodes) = omega (arith, len, c.if-len-at.false, c.if-len-at-2.false) in
-    let part = part_there p c.args.at n _ _ t.nodes.bytes (there t.chains.len t.used p t.heads.bytes t.nodes.bytes c.self.invariant.table has) inside in
+    let part = part_there p c.args.at n _ _ t.nodes.bytes (there t.chains.len t.used p t.heads.bytes t.nodes.bytes c.self.invariant.laid.table has) inside in
     rw (← c.self.view_is) ((λ yes. part ∙ c.shows.ensures.0 yes), (λ same. c.shows.ensures.1 (sym part ∙ same)))
