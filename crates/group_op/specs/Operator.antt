@@ -82,7 +82,7 @@ pub record Keeps (start : Option (List Entry)) (fed : List (List Value)) (op : O
   pub distinct : HaveDistinctKeys (partials_at op.shape (entries_in op.table))
   pub fresh : op.table ≡ None → fed ≡ []
   pub few : length (entries_in op.table) + length (shares 16 rows) ≤ length fed
-  -- where those of all keys, with four bytes more each, fit in two pages, none has gone to the partitions
+  -- where the partial rows of all keys, with four bytes more each, fit in two pages, none has gone to the partitions
   pub small : keys_len op.shape fed ≤ 2 * page_of op h → shares 16 rows ≡ []
   -- all pages that rest were left once, by entries since then that end no page and pin none again
   pub at_end : AllAtEnd (over op.parts h signs)
