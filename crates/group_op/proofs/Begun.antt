@@ -5,10 +5,13 @@ use Rattle.std.specs.Prelude.{All, slice_get}
 use Rattle.std.proofs.lemmas.List.Elements.{All-head, All-replicate, All-tail, All-take}
 use Rattle.std.proofs.lemmas.Option.{none-some, same_Some}
 use Rattle.pool_model.specs.declared.event.Event.{Event}
+use Rattle.pool_model.specs.declared.event.Event.TheVariants.{Ask, Alloc, Free, StartWrite, WriteOk, WriteFailed, Evict, Refused}
+use Rattle.bucket_table.specs.Entering.{EnteredLoans, IsOfLoans}
+use Rattle.partition_stack.specs.Changes.{HaveEnded}
 use Rattle.pool_model.specs.declared.entry.Entry.{Entry}
 use Rattle.store_api.specs.Holdings.{Holdings}
 use Rattle.store_api.specs.Signs.{Prolongs, Signs}
-use Rattle.tuple_stream.specs.Families.{Family}
+use Rattle.tuple_stream.specs.Families.{AllClosed, Family, HaveReadAll}
 use Rattle.tuple_stream.specs.Spending.{Empties, Goes, PinsAgain}
 use Rattle.tuple_stream.specs.Steps.{Scene, scene}
 use Rattle.tuple_stream.specs.Streamed.{Streamed}
@@ -91,8 +94,8 @@ gone_more m n t0 t1 t2 was more next =
     (λ x y on then. record { first = both_pin_first x y on.first then.first; pinned = elim then.pinned [ inl pin ↦ inl (has_pin_back x y pin) | inr low ↦ inr low ] })
     was more next
 
-pub gone_all : (levels : List ℕ) (t0 t1 : Option (List Entry)) → EnteredEvents (HasGoneOn levels) t0 t1 → EnteredEvents PinsFirst t0 t1
-gone_all levels t0 t1 on = since_so (HasGoneOn levels) PinsFirst t0 t1 (λ x on. on.first) on
+pub gone_all : (levels : List ℕ) (g : Family) (t0 t1 : Option (List Entry)) → AllClosed g → EnteredEvents (HasGoneOn levels) t0 t1 → EnteredEvents (HaveReadAll g) t0 t1
+gone_all levels g t0 t1 closed on = since_so (HasGoneOn levels) (HaveReadAll g) t0 t1 (λ x gone. record { first = gone.first; pinned = inr closed }) on
 
 -- it was divided
 pub gone_divided : (levels : List ℕ) (b : State) (t0 t1 : Option (List Entry)) → EnteredEvents (HasBegun true b) t0 t1 → EnteredEvents (HasGoneOn levels) t0 t1
@@ -119,3 +122,27 @@ not_last (l ∷ levels) (suc at) shallow there = not_last levels at (All-tail (�
 -- those of the first level aren't
 pub low_levels : (levels : List ℕ) → levels ≡ replicate 16 1 → AreShallow levels
 low_levels levels is = subst AreShallow (sym is) (All-replicate (λ level. level < 16) 16 1 (omega arith))
+
+-- ---- the grouping ends
+
+loan_pins_first : (e : Event) (rest : List Event) → IsOfLoans e → PinsFirst rest → PinsFirst (e ∷ rest)
+loan_pins_first Ask rest is first = first
+loan_pins_first (Alloc f client blocks) rest is first = first
+loan_pins_first (Free f) rest is first = first
+loan_pins_first (StartWrite p) rest is first = first
+loan_pins_first (WriteOk p) rest is first = first
+loan_pins_first (WriteFailed p before after) rest is first = first
+loan_pins_first (Evict p) rest is first = first
+loan_pins_first (Refused call entry) rest is first = first
+loan_pins_first _ rest is first = absurd is
+
+loans_pin_first : (events : List Event) → All IsOfLoans events → PinsFirst events
+loans_pin_first [] are = tt
+loans_pin_first (e ∷ rest) are = loan_pins_first e rest (All-head IsOfLoans e rest are) (loans_pin_first rest (All-tail IsOfLoans e rest are))
+
+pub ended_first : (f : Family) (t0 t1 : Option (List Entry)) → AllClosed f → EnteredEvents (HaveEnded f) t0 t1 → EnteredEvents PinsFirst t0 t1
+ended_first f t0 t1 closed ended = since_so (HaveEnded f) PinsFirst t0 t1 (λ x has. has.first closed) ended
+
+pub closed_first : (f : Family) (t0 t1 t2 : Option (List Entry)) → AllClosed f → EnteredEvents (HaveEnded f) t0 t1 → EnteredLoans t1 t2 → EnteredEvents PinsFirst t0 t2
+closed_first f t0 t1 t2 closed ended loans =
+    since_joined (HaveEnded f) (All IsOfLoans) PinsFirst t0 t1 t2 (λ x y has are. both_pin_first x y (has.first closed) (loans_pin_first y are)) ended loans

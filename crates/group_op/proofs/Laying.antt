@@ -20,8 +20,8 @@ use Rattle.store_api.specs.Signs.{Signs}
 use Rattle.store_api.specs.Tokens.{ClientToken}
 use Rattle.tuple_stream.specs.Streamed.{OpenPage, Streamed, all_bytes, bytes_of, joined, page_rows}
 use Rattle.tuple_stream.specs.Streams.{HasRows, IsOpen, IsShaped}
-use Rattle.tuple_stream.specs.Trails.{EnteredEvents, IsBuilding, Left, PinsFirst, all_left}
-use Rattle.tuple_stream.specs.Families.{AllClosed, AreShaped, Family, LaysAll, weight}
+use Rattle.tuple_stream.specs.Trails.{EnteredEvents, IsBuilding, Left, all_left}
+use Rattle.tuple_stream.specs.Families.{AllClosed, AreShaped, Family, HaveReadAll, LaysAll, weight}
 use Rattle.tuple_stream.specs.FamilyCalls.{AreSteady, HaveLaid, HoldAll, RestsSome, shares}
 use Rattle.tuple_stream.proofs.BuildingQuiet.{left_join}
 use Rattle.tuple_stream.proofs.FamilyHolds.{hold_all}
@@ -92,9 +92,9 @@ module _ (t : ℕ) (shape : Shape) (rows : ℕ → List (List ℕ)) (a : State) 
   settled_left = since_so (HaveLaid (over q k r)) (HasLeft (rows_of a.table ++ shares 16 rows)) start r.trail holds laid
 
 -- and then a page is pinned before one is left
-pub left_first : (rows : List (List ℕ)) (a b c : Option (List Entry)) → EnteredEvents (HasLeft rows) a b → EnteredEvents PinsFirst b c → EnteredEvents (HasLeftFirst rows) a c
-left_first rows a b c was next =
-    since_joined (HasLeft rows) PinsFirst (HasLeftFirst rows) a b c (λ first then left pins. record { laid = first; later = then; split = refl; left = left; first = pins }) was next
+pub left_first : (rows : List (List ℕ)) (g : Family) (a b c : Option (List Entry)) → EnteredEvents (HasLeft rows) a b → EnteredEvents (HaveReadAll g) b c → EnteredEvents (HasLeftFirst rows g) a c
+left_first rows g a b c was next =
+    since_joined (HasLeft rows) (HaveReadAll g) (HasLeftFirst rows g) a b c (λ x y left reads. record { laid = x; later = y; split = refl; left = left; reads = reads }) was next
 
 -- ---- what was fed
 
@@ -107,14 +107,14 @@ shares_formed shape (suc n) rows formed = All-append (IsPartialRow shape) (rows 
 
 -- the partial rows that are kept stand for the rows fed
 module _ (c : ClientToken) (shape : Shape) (start : Option (List Entry)) (fed : List (List Value)) (p : Stack) (table : Option Table) (h : Holdings) (s : Signs) (keeps : Keeps start fed (operator c shape p table) h s)
-    (entries : All (IsPartialRow shape) (entries_in table)) where
+    (entries : All (IsPartialRow shape) (entries_in table)) (g : Family) where
   abbrev all : List (List ℕ)
   all = entries_in table ++ shares 16 keeps.rows
 
   alone : shares 16 keeps.rows ≡ [] → HaveDistinctKeys (partials_at shape all)
   alone none = subst (λ (rs : List (List ℕ)). HaveDistinctKeys (partials_at shape rs)) (sym (ap (λ (rs : List (List ℕ)). entries_in table ++ rs) none ∙ append-nil (entries_in table))) keeps.distinct
 
-  holds_groups : (events : List Event) → HasLeftFirst all events → HoldsGroups shape (length_of p.page_blocks h) fed events
+  holds_groups : (events : List Event) → HasLeftFirst all g events → HoldsGroups shape (length_of p.page_blocks h) fed g events
   holds_groups events has =
       let moved : IsPermutation all has.left.these = has.left.moved in
       let said : IsPermutation (partials_at shape all) (partials_at shape has.left.these) = IsPermutation-map (partial_at shape) all has.left.these moved in
@@ -124,7 +124,7 @@ module _ (c : ClientToken) (shape : Shape) (start : Option (List Entry)) (fed : 
         split = has.split;
         rows = has.left.these;
         leaves = has.left.leaves;
-        first = has.first;
+        reads = has.reads;
         formed = All-permutation (IsPartialRow shape) all has.left.these moved (All-append (IsPartialRow shape) (entries_in table) (shares 16 keeps.rows) entries (shares_formed shape 16 keeps.rows keeps.formed));
         few =
             let long = length_permutation all has.left.these moved in
@@ -140,8 +140,8 @@ module _ (c : ClientToken) (shape : Shape) (start : Option (List Entry)) (fed : 
             (alone (keeps.small low));
       }
 
-  pub kept_groups : (b : Option (List Entry)) → EnteredEvents (HasLeftFirst all) start b → EnteredEvents (HoldsGroups shape (length_of p.page_blocks h) fed) start b
-  kept_groups b left = since_so (HasLeftFirst all) (HoldsGroups shape (length_of p.page_blocks h) fed) start b holds_groups left
+  pub kept_groups : (b : Option (List Entry)) → EnteredEvents (HasLeftFirst all g) start b → EnteredEvents (HoldsGroups shape (length_of p.page_blocks h) fed g) start b
+  kept_groups b left = since_so (HasLeftFirst all g) (HoldsGroups shape (length_of p.page_blocks h) fed g) start b holds_groups left
 
 -- ---- nothing was fed
 
@@ -188,7 +188,7 @@ module _ (c : ClientToken) (shape : Shape) (start : Option (List Entry)) (fed : 
       stream_closed c.tracker x h (shaped.each i x there)
       (subst (λ (rs : List (List ℕ)). HasRows rs x h) (no_rows 16 keeps.rows i none_there (let inside = slice_get_within p.streams i x there in omega (arith, inside, sixteen))) (keeps.shows i x there))
 
-  left_none : (events : List Event) → HaveLaid (over p h s) events → HasLeftFirst (shares 16 keeps.rows) events
+  left_none : (events : List Event) → HaveLaid (over p h s) events → HasLeftFirst (shares 16 keeps.rows) (over p h s) events
   left_none events lays =
       record {
         laid = events;
@@ -196,25 +196,25 @@ module _ (c : ClientToken) (shape : Shape) (start : Option (List Entry)) (fed : 
         split = sym (append-nil events);
         left = subst (λ (n : ℕ). HasLeft (shares n keeps.rows) events) sixteen
             (held_left c.tracker (over p h s) keeps.rows events shaped (hold_all c.tracker (over p h s) keeps.rows events shaped closed_all keeps.whole keeps.shows lays));
-        first = tt;
+        reads = record { first = tt; pinned = inr closed_all };
       }
 
-  pub none_groups : EnteredEvents (HoldsGroups shape (length_of p.page_blocks h) fed) start s.trail
+  pub none_groups : EnteredEvents (HoldsGroups shape (length_of p.page_blocks h) fed (over p h s)) start s.trail
   none_groups =
-      kept_groups c shape start fed p None h s keeps (All-nil (IsPartialRow shape)) s.trail
-      (since_so (HaveLaid (over p h s)) (HasLeftFirst (shares 16 keeps.rows)) start s.trail left_none keeps.laid)
+      kept_groups c shape start fed p None h s keeps (All-nil (IsPartialRow shape)) (over p h s) s.trail
+      (since_so (HaveLaid (over p h s)) (HasLeftFirst (shares 16 keeps.rows) (over p h s)) start s.trail left_none keeps.laid)
 
 -- ---- with a table, or without one
 
 pub none_kept : (c : ClientToken) (shape : Shape) (start : Option (List Entry)) (fed : List (List Value)) (p : Stack) (table : Option Table) (h : Holdings) (s : Signs) → table ≡ None → IsOperator (operator c shape p table) h s → length p.streams ≡ 16
-    → Keeps start fed (operator c shape p table) h s → EnteredEvents (HoldsGroups shape (length_of p.page_blocks h) fed) start s.trail
+    → Keeps start fed (operator c shape p table) h s → EnteredEvents (HoldsGroups shape (length_of p.page_blocks h) fed (over p h s)) start s.trail
 none_kept c shape start fed p None h s none is sixteen keeps = none_groups c shape start fed p h s keeps is.has.0.shaped sixteen
 none_kept c shape start fed p (Some table) h s none is sixteen keeps = absurd (none-some table (sym none))
 
-pub some_kept : (c : ClientToken) (shape : Shape) (start : Option (List Entry)) (fed : List (List Value)) (p : Stack) (table : Option Table) (own : Table) (h : Holdings) (s : Signs) (b : Option (List Entry)) → table ≡ Some own → IsOperator (operator c shape p table) h s
-    → ((start : Option (List Entry)) (rows : ℕ → List (List ℕ)) → AreBuilt start rows (over p h s) → EnteredEvents (HasLeftFirst (rows_of own ++ shares 16 rows)) start b)
-    → Keeps start fed (operator c shape p table) h s → EnteredEvents (HoldsGroups shape (length_of p.page_blocks h) fed) start b
-some_kept c shape start fed p table own h s b same is left keeps =
+pub some_kept : (c : ClientToken) (shape : Shape) (start : Option (List Entry)) (fed : List (List Value)) (p : Stack) (table : Option Table) (own : Table) (h : Holdings) (s : Signs) (g : Family) (b : Option (List Entry)) → table ≡ Some own → IsOperator (operator c shape p table) h s
+    → ((start : Option (List Entry)) (rows : ℕ → List (List ℕ)) → AreBuilt start rows (over p h s) → EnteredEvents (HasLeftFirst (rows_of own ++ shares 16 rows) g) start b)
+    → Keeps start fed (operator c shape p table) h s → EnteredEvents (HoldsGroups shape (length_of p.page_blocks h) fed g) start b
+some_kept c shape start fed p table own h s g b same is left keeps =
     let has : IsOperator (operator c shape p (Some own)) h s = subst (λ (t : Option Table). IsOperator (operator c shape p t) h s) same is in
     let kept : Keeps start fed (operator c shape p (Some own)) h s = subst (λ (t : Option Table). Keeps start fed (operator c shape p t) h s) same keeps in
-    kept_groups c shape start fed p (Some own) h s kept (rows_formed shape (length_of p.page_blocks h) own.heads own.nodes has.has.1.each) b (left start kept.rows (built_of c shape start fed p (Some own) h s kept))
+    kept_groups c shape start fed p (Some own) h s kept (rows_formed shape (length_of p.page_blocks h) own.heads own.nodes has.has.1.each) g b (left start kept.rows (built_of c shape start fed p (Some own) h s kept))

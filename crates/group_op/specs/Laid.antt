@@ -6,23 +6,23 @@ use Rattle.pool_model.specs.declared.event.Event.{Event}
 use Rattle.row_codec.specs.declared.values.Value.{Value}
 use Rattle.row_codec.specs.Order.{path_order}
 use Rattle.store_api.specs.declared.shapes.Shape.{Shape}
-use Rattle.tuple_stream.specs.Families.{Family, ShowAll}
+use Rattle.tuple_stream.specs.Families.{Family, HaveReadAll, ShowAll}
 use Rattle.tuple_stream.specs.FamilyCalls.{AllAtEnd, AllWhole, HaveLaid}
-use Rattle.tuple_stream.specs.Trails.{EnteredEvents, Leaves, PinsFirst}
+use Rattle.tuple_stream.specs.Trails.{EnteredEvents, Leaves}
 use Rattle.group_rows.specs.Standing.{StandFor}
 use Rattle.group_rows.specs.Tables.{HaveDistinctKeys}
 use Rattle.group_op.specs.Stored.{IsPartialRow, grouping_of, keys_len, partials_at}
 
--- first pages are left, each once, and none is pinned again or ends; then one is pinned before any is left. The rows on
--- them are partial rows, no more than the rows fed, and stand for these: one for each key, where those of all keys, with
--- four bytes more each, fit in two pages
-pub record HoldsGroups (shape : Shape) (len : ℕ) (fed : List (List Value)) (events : List Event) : Type 0 where
+-- first pages are left, each once, and none is pinned again or ends; then one is pinned before any is left, and while none
+-- is, none of the streams `g` behind it has a pinned page. The rows on them are partial rows, no more than the rows fed, and
+-- stand for these: one for each key, where those of all keys, with four bytes more each, fit in two pages
+pub record HoldsGroups (shape : Shape) (len : ℕ) (fed : List (List Value)) (g : Family) (events : List Event) : Type 0 where
   pub laid : List Event
   pub later : List Event
   pub split : events ≡ laid ++ later
   pub rows : List (List ℕ)
   pub leaves : Leaves rows laid
-  pub first : PinsFirst later
+  pub reads : HaveReadAll g later
   pub formed : All (IsPartialRow shape) rows
   pub few : length rows ≤ length fed
   pub stand : StandFor path_order (grouping_of shape) fed (partials_at shape rows)
@@ -42,9 +42,9 @@ pub record HasLeft (rows : List (List ℕ)) (events : List Event) : Type 0 where
   pub moved : IsPermutation rows these
 
 -- they are on those that were left before one is pinned again
-pub record HasLeftFirst (rows : List (List ℕ)) (events : List Event) : Type 0 where
+pub record HasLeftFirst (rows : List (List ℕ)) (g : Family) (events : List Event) : Type 0 where
   pub laid : List Event
   pub later : List Event
   pub split : events ≡ laid ++ later
   pub left : HasLeft rows laid
-  pub first : PinsFirst later
+  pub reads : HaveReadAll g later

@@ -6,8 +6,10 @@ ghost use Rattle.row_codec.specs.Order.{path_order};
 ghost use Rattle.store_api.specs.Emitters.{CameOf};
 ghost use Rattle.store_api.specs.Shapes.{IsShape};
 ghost use Rattle.store_api.specs.Signs.{WasAnswered};
+ghost use Rattle.tuple_stream.specs.Families.{HaveReadAll};
 ghost use Rattle.tuple_stream.specs.FamilyCalls.{shares};
-ghost use Rattle.tuple_stream.specs.Trails.{EnteredEvents, PinsFirst};
+ghost use Rattle.tuple_stream.specs.Trails.{EnteredEvents};
+ghost use Rattle.partition_stack.specs.Stack.{over};
 ghost use Rattle.group_rows.specs.Partials.{groups_by};
 ghost use Rattle.group_op.specs.Causes.{CameOfEither, IsShort, IsShortOf};
 ghost use Rattle.group_op.specs.Emission.{AdmitsKinds, Emitted, EmittedFront, IsBeside};
@@ -76,7 +78,7 @@ fn empty_parts<St: Store, E: Emit<St>>(
     requires stands { (rows : List (List Value)) × E.took emit.old (St.holds store.old) rows }
     ensures ok { OnOk result ((rows : ℕ → List (List ℕ)) → Stacked shape.now rows (state table.old parts.old (St.holds store.old) (St.signs store.old)) → Emitted shape.now (E.took emit.old (St.holds store.old)) (E.took emit.new (St.holds store.new)) (said_down shape.now (length parts.old.streams) rows)) }
     ensures err { OnErr result ((rows : ℕ → List (List ℕ)) → Stacked shape.now rows (state table.old parts.old (St.holds store.old) (St.signs store.old)) → EmittedFront shape.now (E.took emit.old (St.holds store.old)) (E.took emit.new (St.holds store.new)) (said_down shape.now (length parts.old.streams) rows)) }
-    ensures first { OnOk result (AreShallow parts.old.levels → EnteredEvents PinsFirst (St.signs store.old).trail (St.signs store.new).trail) }
+    ensures first { OnOk result (AreShallow parts.old.levels → EnteredEvents (HaveReadAll (streams_of (state table.new parts.new (St.holds store.new) (St.signs store.new)))) (St.signs store.old).trail (St.signs store.new).trail) }
     ensures serves { ServesBeside c.now.tracker (E.client emit.old) shape.now (state table.old parts.old (St.holds store.old) (St.signs store.old)) (state table.new parts.new (St.holds store.new) (St.signs store.new)) }
     ensures emitter { StandsStill (E.admits emit.old) (E.admits emit.new) (E.client emit.old) (E.client emit.new) (E.faults emit.old) (E.faults emit.new) (E.took emit.old (St.holds store.old)) (E.took emit.new (St.holds store.new)) (St.holds store.new) }
     ensures short { E.client emit.old ≡ None → IfErr result (IsShortOf parts.old.page_blocks) }
@@ -107,7 +109,7 @@ fn finish_parts<St: Store, E: Emit<St>>(
     requires stands { (rows : List (List Value)) × E.took emit.old (St.holds store.old) rows }
     ensures ok { OnOk result ((rows : ℕ → List (List ℕ)) → ShowsFirst shape.now rows (state table.old parts.old (St.holds store.old) (St.signs store.old)) → Emitted shape.now (E.took emit.old (St.holds store.old)) (E.took emit.new (St.holds store.new)) (groups_of_all shape.now rows (state table.old parts.old (St.holds store.old) (St.signs store.old)))) }
     ensures err { OnErr result ((rows : ℕ → List (List ℕ)) → ShowsFirst shape.now rows (state table.old parts.old (St.holds store.old) (St.signs store.old)) → EmittedFront shape.now (E.took emit.old (St.holds store.old)) (E.took emit.new (St.holds store.new)) (groups_of_all shape.now rows (state table.old parts.old (St.holds store.old) (St.signs store.old)))) }
-    ensures left { OnOk result ((start : Option (List Entry)) → (rows : ℕ → List (List ℕ)) → AreBuilt start rows (streams_of (state table.old parts.old (St.holds store.old) (St.signs store.old))) → EnteredEvents (HasLeftFirst (rows_of table.old ++ shares 16 rows)) start (St.signs store.new).trail) }
+    ensures left { OnOk result ((start : Option (List Entry)) → (rows : ℕ → List (List ℕ)) → AreBuilt start rows (streams_of (state table.old parts.old (St.holds store.old) (St.signs store.old))) → EnteredEvents (HasLeftFirst (rows_of table.old ++ shares 16 rows) (streams_of (state table.new parts.new (St.holds store.new) (St.signs store.new)))) start (St.signs store.new).trail) }
     ensures serves { ServesBeside c.now.tracker (E.client emit.old) shape.now (state table.old parts.old (St.holds store.old) (St.signs store.old)) (state table.new parts.new (St.holds store.new) (St.signs store.new)) }
     ensures emitter { StandsStill (E.admits emit.old) (E.admits emit.new) (E.client emit.old) (E.client emit.new) (E.faults emit.old) (E.faults emit.new) (E.took emit.old (St.holds store.old)) (E.took emit.new (St.holds store.new)) (St.holds store.new) }
     ensures short { E.client emit.old ≡ None → IfErr result (IsShortOf parts.old.page_blocks) }
@@ -136,7 +138,7 @@ fn finish_op<St: Store, E: Emit<St>>(
     requires stands { (rows : List (List Value)) × E.took emit.old (St.holds store.old) rows }
     ensures ok { OnOk result ((start : Option (List Entry)) → (rows : List (List Value)) → Keeps start rows (operator c.now shape.now parts.old table.old) (St.holds store.old) (St.signs store.old) → (St.holds store.old).told ≡ true → Emitted shape.now (E.took emit.old (St.holds store.old)) (E.took emit.new (St.holds store.new)) (groups_by path_order (grouping_of shape.now) rows)) }
     ensures err { OnErr result ((start : Option (List Entry)) → (rows : List (List Value)) → Keeps start rows (operator c.now shape.now parts.old table.old) (St.holds store.old) (St.signs store.old) → (St.holds store.old).told ≡ true → EmittedFront shape.now (E.took emit.old (St.holds store.old)) (E.took emit.new (St.holds store.new)) (groups_by path_order (grouping_of shape.now) rows)) }
-    ensures kept { OnOk result ((start : Option (List Entry)) → (rows : List (List Value)) → Keeps start rows (operator c.now shape.now parts.old table.old) (St.holds store.old) (St.signs store.old) → EnteredEvents (HoldsGroups shape.now (page_of (operator c.now shape.now parts.old table.old) (St.holds store.old)) rows) start (St.signs store.new).trail) }
+    ensures kept { OnOk result ((start : Option (List Entry)) → (rows : List (List Value)) → Keeps start rows (operator c.now shape.now parts.old table.old) (St.holds store.old) (St.signs store.old) → EnteredEvents (HoldsGroups shape.now (page_of (operator c.now shape.now parts.old table.old) (St.holds store.old)) rows (over parts.new (St.holds store.new) (St.signs store.new))) start (St.signs store.new).trail) }
     ensures op { IsOperator (operator c.now shape.now parts.new table.new) (St.holds store.new) (St.signs store.new) }
     ensures leaves { LeavesBeside c.now.tracker (E.client emit.old) (St.holds store.old) (St.holds store.new) (St.signs store.old) (St.signs store.new) }
     ensures emitter { StandsStill (E.admits emit.old) (E.admits emit.new) (E.client emit.old) (E.client emit.new) (E.faults emit.old) (E.faults emit.new) (E.took emit.old (St.holds store.old)) (E.took emit.new (St.holds store.new)) (St.holds store.new) }
@@ -175,7 +177,7 @@ impl GroupOp {
         requires stands { (rows : List (List Value)) × E.took emit.old (St.holds store.old) rows }
         ensures ok { OnOk result ((start : Option (List Entry)) → (fed : List (List Value)) → Keeps start fed self.old (St.holds store.old) (St.signs store.old) → (St.holds store.old).told ≡ true → Emitted self.old.shape (E.took emit.old (St.holds store.old)) (E.took emit.new (St.holds store.new)) (groups_by path_order (grouping_of self.old.shape) fed)) }
         ensures err { OnErr result ((start : Option (List Entry)) → (fed : List (List Value)) → Keeps start fed self.old (St.holds store.old) (St.signs store.old) → (St.holds store.old).told ≡ true → EmittedFront self.old.shape (E.took emit.old (St.holds store.old)) (E.took emit.new (St.holds store.new)) (groups_by path_order (grouping_of self.old.shape) fed)) }
-        ensures kept { OnOk result ((start : Option (List Entry)) → (fed : List (List Value)) → Keeps start fed self.old (St.holds store.old) (St.signs store.old) → EnteredEvents (HoldsGroups self.old.shape (page_of self.old (St.holds store.old)) fed) start (St.signs store.new).trail) }
+        ensures kept { OnOk result ((start : Option (List Entry)) → (fed : List (List Value)) → Keeps start fed self.old (St.holds store.old) (St.signs store.old) → EnteredEvents (HoldsGroups self.old.shape (page_of self.old (St.holds store.old)) fed (over self.new.parts (St.holds store.new) (St.signs store.new))) start (St.signs store.new).trail) }
         ensures op { IsOperator self.new (St.holds store.new) (St.signs store.new) }
         ensures leaves { LeavesBeside self.old.client.tracker (E.client emit.old) (St.holds store.old) (St.holds store.new) (St.signs store.old) (St.signs store.new) }
         ensures emitter { StandsStill (E.admits emit.old) (E.admits emit.new) (E.client emit.old) (E.client emit.new) (E.faults emit.old) (E.faults emit.new) (E.took emit.old (St.holds store.old)) (E.took emit.new (St.holds store.new)) (St.holds store.new) }

@@ -3,6 +3,7 @@ use Rattle.store_api.specs.Emitters.{CameOf}
 use Rattle.group_op.specs.Causes.{IsShortOf}
 use Rattle.group_op.specs.Emission.{EmittedFront}
 use Rattle.group_op.specs.Finishing.{Stacked, said_down}
+use Rattle.partition_stack.specs.Stack.{over}
 use Rattle.group_op.specs.Held.{state}
 use Rattle.group_op.proofs.Advancing.{advances_all, advances_front, advances_none, advances_then}
 use Rattle.group_op.proofs.Besides.{beside_stands, serves_more, serves_none, stands_none, stands_then}
@@ -92,7 +93,7 @@ pub returns-clause-emitter : goal.returns-clause-emitter
 returns-clause-emitter g c = c.down.invariant.stands
 
 pub returns-clause-first : goal.returns-clause-first
-returns-clause-first g c = λ shallow. gone_all c.down.parts.levels (g.St.Store.signs c.args.store.now).trail (g.St.Store.signs c.down.store).trail (c.down.invariant.first shallow)
+returns-clause-first g c = λ shallow. gone_all c.down.parts.levels (over c.down.parts (g.St.Store.holds c.down.store) (g.St.Store.signs c.down.store)) (g.St.Store.signs c.args.store.now).trail (g.St.Store.signs c.down.store).trail c.down.invariant.between.closed (c.down.invariant.first shallow)
 
 pub returns-in_err-advance-clause-short : goal.returns-in_err-advance-clause-short
 returns-in_err-advance-clause-short g c = λ none.

@@ -1,6 +1,7 @@
 use Rattle.std.proofs.Common.{rules, ◌∙◌, ◌++◌, [], ℕ, List, sym, subst, arith, append-nil}
 use Rattle.group_op.specs.Emission.{Emitted, EmittedFront}
 use Rattle.group_op.specs.Finished.{ShowsFirst, groups_of_all}
+use Rattle.partition_stack.specs.Stack.{over}
 use Rattle.group_op.specs.Held.{rows_of, state}
 use Rattle.tuple_stream.specs.FamilyCalls.{shares}
 use Rattle.group_op.proofs.Advancing.{came_later, emitted_same, front_same}
@@ -58,7 +59,7 @@ pub returns-clause-left : goal.returns-clause-left
 returns-clause-left g c =
     on_ok c.empty_parts.result
     (λ first start rows built.
-    left_first (rows_of c.args.table.now ++ shares 16 rows) start (g.St.Store.signs c.settle.new.store).trail (g.St.Store.signs c.empty_parts.new.store).trail (c.in_ok-settle.ensures.left start rows built)
+    left_first (rows_of c.args.table.now ++ shares 16 rows) (over c.empty_parts.new.parts (g.St.Store.holds c.empty_parts.new.store) (g.St.Store.signs c.empty_parts.new.store)) start (g.St.Store.signs c.settle.new.store).trail (g.St.Store.signs c.empty_parts.new.store).trail (c.in_ok-settle.ensures.left start rows built)
     (first (low_levels c.settle.new.parts.levels (c.settle.ensures.levels ∙ c.requires.feeding.first))))
     c.empty_parts.ensures.first
 

@@ -3,6 +3,7 @@ use Rattle.pool_model.specs.declared.entry.Entry.{Entry}
 use Rattle.row_codec.specs.declared.values.Value.{Value}
 use Rattle.row_codec.specs.Order.{path_order}
 use Rattle.tuple_stream.specs.Trails.{EnteredEvents}
+use Rattle.partition_stack.specs.Stack.{over}
 use Rattle.group_rows.specs.Partials.{groups_by}
 use Rattle.group_op.specs.Emission.{Emitted, EmittedFront}
 use Rattle.group_op.specs.Causes.{CameOfEither}
@@ -32,7 +33,8 @@ pub returns-clause-kept : goal.returns-clause-kept
 returns-clause-kept g c =
     let h = g.St.Store.holds c.args.store.now in
     let trail = (g.St.Store.signs c.finish_op.new.store).trail in
-    subst (λ (op : Operator). OnOk c.finish_op.result ((start : Option (List Entry)) (fed : List (List Value)) → Keeps start fed op h (g.St.Store.signs c.args.store.now) → EnteredEvents (HoldsGroups op.shape (page_of op h) fed) start trail))
+    let now = over c.finish_op.new.parts (g.St.Store.holds c.finish_op.new.store) (g.St.Store.signs c.finish_op.new.store) in
+    subst (λ (op : Operator). OnOk c.finish_op.result ((start : Option (List Entry)) (fed : List (List Value)) → Keeps start fed op h (g.St.Store.signs c.args.store.now) → EnteredEvents (HoldsGroups op.shape (page_of op h) fed now) start trail))
     c.self.view_is c.finish_op.ensures.kept
 
 pub returns-clause-cause : goal.returns-clause-cause
