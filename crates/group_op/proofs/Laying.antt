@@ -1,12 +1,12 @@
 -- What a grouping leaves on pages once its table is emptied and all of them rest.
-use Rattle.std.proofs.Common.{◌≡◌, ◌∙◌, inl, inr, ℕ, zero, suc, ◌+◌, ◌*◌, ◌<◌, ◌≤◌, List, [], ◌∷◌, ◌++◌, length, map, reverse, Option, Some, None, IfSome, refl, ap, sym, subst, arith, append-nil, length-append}
-use Rattle.std.specs.Prelude.{All, slice_get, ⊤}
+use Rattle.std.proofs.Common.{◌≡◌, ◌∙◌, inl, inr, ℕ, zero, suc, ◌+◌, ◌<◌, ◌≤◌, List, [], ◌∷◌, ◌++◌, length, map, reverse, Option, Some, None, IfSome, refl, ap, sym, subst, arith, append-nil, length-append}
+use Rattle.std.specs.Prelude.{All, ⊤}
 use Rattle.std.specs.List.{sum_by}
 use Rattle.std.specs.List.Sorted.{IsPermutation}
 use Rattle.std.proofs.lemmas.List.{length-map, map-append, nil_from_length}
 use Rattle.std.proofs.lemmas.List.Elements.{All-append, All-head, All-nil, All-tail}
 use Rattle.std.specs.Str.{bytes_eq}
-use Rattle.std.proofs.lemmas.List.Sorted.{All-permutation, IsPermutation-append_comm, IsPermutation-append_left, IsPermutation-map, IsPermutation-refl, IsPermutation-reverse, IsPermutation-sym, IsPermutation-trans, length_permutation}
+use Rattle.std.proofs.lemmas.List.Sorted.{All-permutation, IsPermutation-append_comm, IsPermutation-append_left, IsPermutation-map, IsPermutation-reverse, IsPermutation-sym, IsPermutation-trans, length_permutation}
 use Rattle.std.proofs.lemmas.List.Sums.{sum_by-append}
 use Rattle.std.proofs.lemmas.Map.Keys.{IsDistinct-IsPermutation}
 use Rattle.std.proofs.lemmas.Option.{none-some, slice_get_within}
@@ -20,23 +20,22 @@ use Rattle.store_api.specs.Signs.{Signs}
 use Rattle.store_api.specs.Tokens.{ClientToken}
 use Rattle.tuple_stream.specs.Streamed.{OpenPage, Streamed, all_bytes, bytes_of, joined, page_rows}
 use Rattle.tuple_stream.specs.Streams.{HasRows, IsOpen, IsShaped}
-use Rattle.tuple_stream.specs.Trails.{EnteredEvents, IsBuilding, Left, all_left}
-use Rattle.tuple_stream.specs.Families.{AllClosed, AreShaped, Family, HaveReadAll, LaysAll, weight}
-use Rattle.tuple_stream.specs.FamilyCalls.{AreSteady, HaveLaid, HoldAll, RestsSome, shares}
+use Rattle.tuple_stream.specs.Trails.{EnteredEvents, IsBuilding, all_left}
+use Rattle.tuple_stream.specs.Families.{AllClosed, AreShaped, Family, HaveReadAll, LaysAll}
+use Rattle.tuple_stream.specs.FamilyCalls.{AreSteady, HaveLaid, RestsSome, shares}
 use Rattle.tuple_stream.proofs.BuildingQuiet.{left_join}
 use Rattle.tuple_stream.proofs.FamilyHolds.{hold_all}
 use Rattle.tuple_stream.proofs.PageLists.{rows_count}
 use Rattle.tuple_stream.proofs.Sinces.{since_joined, since_so}
 use Rattle.bucket_table.specs.Tables.{Table}
 use Rattle.partition_stack.specs.Stack.{Stack, over}
-use Rattle.partition_stack.specs.Changes.{Owns}
-use Rattle.group_rows.specs.Partials.{Partial, combined_of, key_of}
+use Rattle.group_rows.specs.Partials.{combined_of, key_of}
 use Rattle.group_rows.specs.Tables.{HaveDistinctKeys}
 use Rattle.group_rows.proofs.Paths.{path_is_order}
 use Rattle.group_rows.proofs.Tables.{any_order, bytes_equiv}
-use Rattle.group_op.specs.Held.{AreEntries, State, rows_of, state, streams_of}
+use Rattle.group_op.specs.Held.{State, rows_of, state, streams_of}
 use Rattle.group_op.specs.Laid.{AreBuilt, HasLeft, HasLeftFirst, HoldsGroups}
-use Rattle.group_op.specs.Operator.{IsOperator, Keeps, entries_in, operator, page_of}
+use Rattle.group_op.specs.Operator.{IsOperator, Keeps, entries_in, operator}
 use Rattle.group_op.specs.Putting.{HasFlushed}
 use Rattle.group_op.specs.Stored.{IsPartialRow, dealt, grouping_of, partial_at, partials_at}
 use Rattle.group_op.proofs.Deals.{deals_fed}

@@ -1,5 +1,5 @@
 -- Rows that don't fit a table weigh more than two pages, and so do those of all keys that were fed.
-use Rattle.std.proofs.Common.{◌≡◌, ◌≢◌, ◌∙◌, ℕ, ◌+◌, ◌-◌, ◌*◌, ◌<◌, ◌≤◌, false, List, [], ◌∷◌, ◌++◌, length, map, fold, refl, ap, sym, subst, arith, append-nil}
+use Rattle.std.proofs.Common.{◌≡◌, ◌≢◌, ◌∙◌, ℕ, ◌+◌, ◌*◌, ◌<◌, ◌≤◌, false, List, [], ◌∷◌, ◌++◌, length, map, fold, refl, ap, sym, subst, arith, append-nil}
 use Rattle.std.specs.Prelude.{All, flat_map}
 use Rattle.std.specs.BTreeSet.{insert_key}
 use Rattle.std.specs.List.{AllByRecursion, sum_by}
@@ -8,7 +8,7 @@ use Rattle.std.specs.Ordering.{match_ordering}
 use Rattle.std.specs.Str.{bytes_eq}
 use Rattle.std.specs.declared.cmp.Ordering.{Ordering}
 use Rattle.std.specs.declared.cmp.Ordering.TheVariants.{Less, Equal, Greater}
-use Rattle.std.proofs.lemmas.List.{length-map, map-append}
+use Rattle.std.proofs.lemmas.List.{length-map}
 use Rattle.std.proofs.lemmas.List.Elements.{All-cons, All-head, All-nil, All-tail}
 use Rattle.std.proofs.lemmas.List.Sorted.{IsPermutation-refl, sum_by-IsPermutation}
 use Rattle.std.proofs.lemmas.List.Sums.{fold-append, sum_by-cons}
@@ -22,7 +22,7 @@ use Rattle.store_api.specs.Shapes.{IsShape}
 use Rattle.bucket_table.specs.Tables.{Node, Table, used_by}
 use Rattle.group_rows.specs.Combining.{AreValues}
 use Rattle.group_rows.specs.Keyed.{IsExactOrder, KeyOrder, keys_in}
-use Rattle.group_rows.specs.Partials.{Grouping, Partial, combine, combined_by, group_in, groups_by, key_of, partial_of}
+use Rattle.group_rows.specs.Partials.{Grouping, Partial, combine, combined_by, group_in, key_of, partial_of}
 use Rattle.group_rows.specs.Standing.{StandFor}
 use Rattle.group_rows.specs.Tables.{HaveDistinctKeys}
 use Rattle.group_rows.proofs.Each.{keys_each}

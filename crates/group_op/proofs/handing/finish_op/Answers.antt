@@ -1,4 +1,4 @@
-use Rattle.std.proofs.Common.{◌≡◌, ◌∙◌, sym}
+use Rattle.std.proofs.Common.{◌∙◌, sym}
 use Rattle.partition_stack.specs.Stack.{over}
 use Rattle.group_op.proofs.Emitting.{on_ok}
 use Rattle.group_op.proofs.Laying.{none_kept, some_kept}
