@@ -7,19 +7,23 @@ use Rattle.std.proofs.lemmas.Option.{slice_get_within}
 use Rattle.pool_model.specs.declared.event.Event.{Event}
 use Rattle.store_api.specs.Holdings.{Holdings}
 use Rattle.store_api.specs.Signs.{Signs}
+use Rattle.store_api.proofs.Growing.{grows_trans}
 use Rattle.store_api.specs.declared.shapes.Shape.{Shape}
 use Rattle.tuple_stream.specs.Streamed.{Streamed}
 use Rattle.tuple_stream.specs.Streams.{HasRows}
 use Rattle.tuple_stream.specs.Families.{Family, FamilySteps, ShowAll}
 use Rattle.tuple_stream.specs.FamilyCalls.{SpendsIn}
+use Rattle.tuple_stream.specs.Trails.{EnteredEvents}
 use Rattle.bucket_table.specs.Tables.{Node, Table}
 use Rattle.partition_stack.specs.Changes.{ChangesAt, SpendsAt}
 use Rattle.partition_stack.specs.Stack.{Stack, over}
 use Rattle.group_op.specs.Finishing.{HasRead, IsBetween, IsRead, Serves, Stacked}
 use Rattle.group_rows.specs.Tables.{HaveDistinctKeys}
 use Rattle.group_op.specs.Held.{AreEntries, IsHeld, State, page_len, rows_of, state}
+use Rattle.group_op.specs.Pinning.{HasBegun}
 use Rattle.group_op.specs.Stored.{IsPartialRow, SameGroups, grouping_of, partials_at}
 use Rattle.group_op.proofs.Absorbed.{read_spent}
+use Rattle.group_op.proofs.Begun.{begun_more, begun_none, begun_over}
 use Rattle.group_op.proofs.Entering.{none_distinct, works_none}
 use Rattle.group_op.proofs.Keeping.{works_touched}
 use Rattle.group_op.proofs.Same.{same_refl}
@@ -36,6 +40,7 @@ pub record HasSome (shape : Shape) (at level : ℕ) (d : Bool) (left : ℕ) (row
 pub record Absorbs (t : ℕ) (shape : Shape) (at level : ℕ) (d : Bool) (left : ℕ) (a b : State) : Type 0 where
   pub serves : Serves t shape a b
   pub place : IsRead d at level a.parts b.parts
+  pub first : EnteredEvents (HasBegun d b) a.signs.trail b.signs.trail
   pub rows : (rows : ℕ → List (List ℕ)) → Stacked shape rows a → HasSome shape at level d left rows b
 
 slice_get_there : {X : Type 0} (xs : List X) (k : ℕ) → k < length xs → IsSome (slice_get xs k)
@@ -82,6 +87,7 @@ module _ (t : ℕ) (shape : Shape) (at level left : ℕ) (a : State) (held : IsH
       record {
         serves = serves_of t shape a a (works_none t shape a.table a.parts a.held a.signs held entries);
         place = (top, refl, (λ i s there below. between.closed i s there));
+        first = begun_none a a.signs.trail between;
         rows = λ rows stacked. record {
           some = [];
           rest = rows at;
@@ -173,6 +179,9 @@ module _ (t : ℕ) (shape : Shape) (at level : ℕ) (d : Bool) (left : ℕ) (a :
   pub none_place : SpendsAt t at None (over p old before) (over q new after) → ChangesAt at p q → IsRead d at level a.parts q
   none_place none changes = place_called changes (ap (λ (f : Family). length f.streams) none.1)
 
+  pub none_first : SpendsAt t at None (over p old before) (over q new after) → EnteredEvents (HasBegun d (state table q new after)) a.signs.trail after.trail
+  none_first none = begun_over d table p q old new before after a.signs.trail none.1 absorbs.first
+
   -- a row was taken out, and then taken in
   pub more_absorbs : (row : List ℕ) → SpendsIn t at row (over p old before) (over q new after) → ChangesAt at p q
       → (e : Bool) (b : State) → Serves t shape (state table q new after) b → ((was : Stack) → IsRead d at level was q → IsRead e at level was b.parts)
@@ -182,6 +191,9 @@ module _ (t : ℕ) (shape : Shape) (at level : ℕ) (d : Bool) (left : ℕ) (a :
       record {
         serves = serves_then t shape a (state table q new after) b (serves_called spends.steps changes) serves;
         place = place a.parts (place_called changes spends.steps.long);
+        first =
+            begun_more d e (state table p old before) b a.signs.trail before.trail after.trail b.signs.trail absorbs.first (grows_trans before after b.signs spends.steps.grows serves.leaves.grows).trail
+            (λ between. spends.pins between.closed) serves.leaves.grows.trail;
         rows = λ rows stacked.
             let has = absorbs.rows rows stacked in
             let told : old.told ≡ true = absorbs.serves.leaves.others.told ∙ stacked.told in

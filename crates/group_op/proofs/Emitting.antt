@@ -118,6 +118,7 @@ stood_none admits client faults h signs lives =
       never_falls = omega arith;
       others = others_stay client h;
       grows = grows_refl signs;
+      alone = λ none. refl;
     }
 
 pub stood_more : (admits0 admits1 admits2 : List Value → Type 0) (client0 client1 client2 : Option ℕ) (f0 f1 f2 : ℕ) (h0 h1 h2 : Holdings) (s0 s1 s2 : Signs) → Stood admits0 admits1 client0 client1 f0 f1 h0 h1 s0 s1 → Stood admits1 admits2 client1 client2 f1 f2 h1 h2 s1 s2 → Stood admits0 admits2 client0 client2 f0 f2 h0 h2 s0 s2
@@ -129,6 +130,7 @@ stood_more admits0 admits1 admits2 client0 client1 client2 f0 f1 f2 h0 h1 h2 s0 
       never_falls = let x = one.never_falls in let y = two.never_falls in omega (arith, x, y);
       others = others_trans client0 h0 h1 h2 one.others (subst (λ (o : Option ℕ). OthersStay o h1 h2) one.client_same two.others);
       grows = grows_trans s0 s1 s2 one.grows two.grows;
+      alone = λ none. two.alone (one.client_same ∙ none) ∙ one.alone none;
     }
 
 pub came_behind : (f0 f1 f2 : ℕ) (s0 s1 s2 : Signs) (e : OpErr) → f0 ≤ f1 → Grows s0 s1 → CameOf f1 f2 s1 s2 e → CameOf f0 f2 s0 s2 e

@@ -1,5 +1,5 @@
 -- A partial row is in the table, one way or another.
-use Rattle.std.proofs.Common.{◌≡◌, ◌≢◌, ◌∙◌, ℕ, ◌+◌, ◌*◌, ◌%◌, ◌≤◌, zero, suc, Bool, true, false, List, [], ◌∷◌, ◌++◌, length, map, set, reverse, Some, Result, Ok, Err, OnOk, IfErr, option_map, refl, ap, sym, subst, arith, append-nil}
+use Rattle.std.proofs.Common.{◌≡◌, ◌≢◌, ◌∙◌, ℕ, ◌+◌, ◌*◌, ◌%◌, ◌≤◌, zero, suc, Bool, true, false, List, [], ◌∷◌, ◌++◌, length, map, set, reverse, Some, Result, Ok, Err, OnOk, IfErr, option_map, refl, ap, sym, subst, arith, append-nil, inl, inr}
 use Rattle.std.specs.Prelude.{All, slice_get}
 use Rattle.std.specs.List.{AllByRecursion, IsDistinct}
 use Rattle.std.proofs.lemmas.Map.Keys.{IsDistinct-cons}
@@ -28,7 +28,7 @@ use Rattle.group_rows.proofs.Keys.{true_same}
 use Rattle.group_rows.proofs.Paths.{path_is_order}
 use Rattle.group_rows.proofs.Tables.{into_entry}
 use Rattle.group_op.specs.Held.{AreEntries, IsEntry, IsHeld, StandBehind, State, page_len, rows_of, state, streams_of}
-use Rattle.group_op.specs.Putting.{Deals, HasFlushed, HasGrown, HasPut, HasPutHere, Lacks, Works}
+use Rattle.group_op.specs.Putting.{Deals, HasFlushed, HasGrown, HasPut, HasPutHere, IsTooLong, Lacks, Works}
 use Rattle.group_op.specs.Stored.{IsPartialRow, SameGroups, dealt, grouping_of, joined, key_at, partial_at, partials_at}
 use Rattle.group_op.proofs.Deals.{deals_as, deals_fed, deals_then}
 use Rattle.group_op.proofs.Finding.{entry_of, entry_row}
@@ -153,7 +153,7 @@ module _ (back : RowBack) (shape : Shape) (len node : ℕ) (table : Table) (row 
 
 -- ---- a new one
 
-apart_false : (a b : List ℕ) → a ≢ b → bytes_eq a b ≡ false
+pub apart_false : (a b : List ℕ) → a ≢ b → bytes_eq a b ≡ false
 apart_false a b apart = go (bytes_eq a b) refl where
   go : (c : Bool) → bytes_eq a b ≡ c → c ≡ false
   go true is = absurd (apart (true_same a b is))
@@ -215,6 +215,7 @@ put_of_here shape level base row a b here =
           subst (λ (rs : List (List ℕ)). SameGroups (grouping_of shape) (partials_at shape (row ∷ rows_of a.table)) (partials_at shape rs)) (sym (append-nil (rows_of b.table))) here.same;
       distinct = here.distinct;
       fewer = let fewer = here.fewer in omega (arith, fewer);
+      full = inl refl;
     }
 
 pub here_gone : (shape : Shape) (level base : ℕ) (row : List ℕ) (a b : State) (here : HasPutHere shape row a b) → (put_of_here shape level base row a b here).gone ≡ []
@@ -263,9 +264,9 @@ moved_then t shape level base a b c rows deals moved =
     }
 
 -- and a new entry
-pub put_moved : (shape : Shape) (level base hash : ℕ) (row : List ℕ) (a : State) (table : Table) (parts : Stack) (h : Holdings) (signs : Signs) → Lacks shape (key_at shape row) a.table → HasMoved shape level base a (state table parts h signs)
+pub put_moved : (shape : Shape) (level base hash : ℕ) (row : List ℕ) (a : State) (table : Table) (parts : Stack) (h : Holdings) (signs : Signs) → Lacks shape (key_at shape row) a.table → IsTooLong shape (page_len a) row (rows_of a.table) → HasMoved shape level base a (state table parts h signs)
     → HasPut shape level base row a (state (with_nodes (new_node (hash % table.heads) row table.nodes ∷ table.nodes) table) parts h signs)
-put_moved shape level base hash row a table parts h signs lacks moved =
+put_moved shape level base hash row a table parts h signs lacks full moved =
     record {
       gone = moved.gone;
       formed = moved.formed;
@@ -273,13 +274,14 @@ put_moved shape level base hash row a table parts h signs lacks moved =
       same = same_back (grouping_of shape) (partial_at shape row ∷ []) (partials_at shape (rows_of a.table)) (partials_at shape (rows_of table ++ moved.gone)) moved.same;
       distinct = λ apart. IsDistinct-cons bytes_eq (key_of (partial_at shape row)) (map key_of (partials_at shape (rows_of table))) (one_apart shape row table.nodes (moved.lacks (key_at shape row) lacks)) (moved.distinct apart);
       fewer = let fewer = moved.fewer in omega (arith, fewer);
+      full = inr full;
     }
 
 -- after a growth
-pub put_grown : (shape : Shape) (level base hash : ℕ) (row : List ℕ) (t : ℕ) (a m : State) (table : Table) (parts : Stack) (h : Holdings) (signs : Signs) → HasGrown t shape a m → Lacks shape (key_at shape row) m.table → HasMoved shape level base m (state table parts h signs)
+pub put_grown : (shape : Shape) (level base hash : ℕ) (row : List ℕ) (t : ℕ) (a m : State) (table : Table) (parts : Stack) (h : Holdings) (signs : Signs) → HasGrown t shape a m → Lacks shape (key_at shape row) m.table → IsTooLong shape (page_len a) row (rows_of a.table) → HasMoved shape level base m (state table parts h signs)
     → HasPut shape level base row a (state (with_nodes (new_node (hash % table.heads) row table.nodes ∷ table.nodes) table) parts h signs)
-put_grown shape level base hash row t a m table parts h signs grown lacks moved =
-    put_moved shape level base hash row a table parts h signs (lacks_same shape (key_at shape row) m.table a.table (sym grown.rows) lacks)
+put_grown shape level base hash row t a m table parts h signs grown lacks full moved =
+    put_moved shape level base hash row a table parts h signs (lacks_same shape (key_at shape row) m.table a.table (sym grown.rows) lacks) full
     (moved_then t shape level base a m (state table parts h signs) grown.rows grown.deals moved)
 
 pub works_len : (t : ℕ) (shape : Shape) (a b : State) → Works t shape a b → page_len b ≡ page_len a

@@ -1,5 +1,5 @@
 -- What a grouping keeps of the rows that were fed, over one more of them.
-use Rattle.std.proofs.Common.{◌≡◌, ◌∙◌, ℕ, ◌*◌, ◌≤◌, ◌==◌, List, [], ◌∷◌, ◌++◌, length, Bool, true, false, Option, Some, Result, Ok, Err, OnOk, refl, ap, sym, subst, inr, arith, length-append}
+use Rattle.std.proofs.Common.{◌≡◌, ◌∙◌, ℕ, ◌*◌, ◌≤◌, ◌==◌, List, [], ◌∷◌, ◌++◌, length, Bool, true, false, Option, Some, Result, Ok, Err, OnOk, refl, ap, sym, subst, inl, inr, arith, length-append}
 use Rattle.std.specs.Prelude.{All}
 use Rattle.std.specs.List.Sorted.{IsPermutation}
 use Rattle.std.proofs.lemmas.List.Elements.{All-append, All-cons, All-filter, All-nil}
@@ -11,6 +11,8 @@ use Rattle.pool_model.specs.declared.entry.Entry.{Entry}
 use Rattle.row_codec.specs.declared.values.Value.{Value}
 use Rattle.row_codec.specs.Row.{IsValue}
 use Rattle.store_api.specs.Conditions.{IsBlockCount}
+use Rattle.store_api.specs.Shapes.{IsShape}
+use Rattle.std.proofs.lemmas.List.{nil_from_length}
 use Rattle.group_rows.specs.Tables.{HaveDistinctKeys}
 use Rattle.store_api.specs.Holdings.{Holdings, account_of, length_of}
 use Rattle.store_api.specs.Signs.{Signs}
@@ -21,11 +23,13 @@ use Rattle.bucket_table.specs.Tables.{Table}
 use Rattle.partition_stack.specs.Stack.{Stack, over}
 use Rattle.group_op.specs.Held.{rows_of, state}
 use Rattle.group_op.specs.Operator.{HasOpened, IsOperator, Keeps, Spells, entries_in, operator}
-use Rattle.group_op.specs.Putting.{Deals, HasPut, Works}
-use Rattle.group_op.specs.Stored.{IsPartialRow, SameGroups, dealt, grouping_of, partials_at, place_of}
+use Rattle.group_op.specs.Putting.{Deals, HasPut, IsTooLong, Works}
+use Rattle.group_op.specs.Stored.{IsPartialRow, SameGroups, dealt, grouping_of, keys_len, partials_at, place_of}
 use Rattle.group_op.proofs.Deals.{deals_as, deals_then}
 use Rattle.group_op.proofs.Dividing.{more_shares}
+use Rattle.group_op.proofs.Entering.{rows_formed}
 use Rattle.group_op.proofs.Fed.{fed_stands}
+use Rattle.group_op.proofs.Weighing.{fed_long, keys_len_more}
 
 go : (shape : Shape) (i : ℕ) (r : List ℕ) (rows : List (List ℕ)) (b : Bool) → (place_of shape 0 0 r == i) ≡ b → All (λ x. place_of shape 0 0 x ≡ i) (dealt shape 0 0 rows i) → All (λ x. place_of shape 0 0 x ≡ i) (dealt shape 0 0 (r ∷ rows) i)
 go shape i r rows true is rest = rw is (All-cons (λ x. place_of shape 0 0 x ≡ i) r (dealt shape 0 0 rows i) (eqb-true (place_of shape 0 0 r) i is) rest)
@@ -37,7 +41,8 @@ placed_there shape i [] = All-nil (λ r. place_of shape 0 0 r ≡ i)
 placed_there shape i (r ∷ rows) = go shape i r rows (place_of shape 0 0 r == i) refl (placed_there shape i rows)
 
 module _ (c : ClientToken) (shape : Shape) (start : Option (List Entry)) (fed : List (List Value)) (row : List Value) (bytes : List ℕ) (was : Option Table) (own now : Table) (p q : Stack) (h0 h1 h2 : Holdings) (s0 s1 s2 : Signs)
-    (opened : HasOpened shape was own (state own p h0 s0) (state own p h1 s1)) (put : HasPut shape 0 0 bytes (state own p h1 s1) (state now q h2 s2)) (spells : Spells shape bytes row) (keeps : Keeps start fed (operator c shape p was) h0 s0) where
+    (opened : HasOpened shape was own (state own p h0 s0) (state own p h1 s1)) (put : HasPut shape 0 0 bytes (state own p h1 s1) (state now q h2 s2)) (spells : Spells shape bytes row) (keeps : Keeps start fed (operator c shape p was) h0 s0)
+    (is : IsShape shape) (partial : IsPartialRow shape bytes) (len_opened : length_of p.page_blocks h1 ≡ length_of p.page_blocks h0) (len_put : length_of q.page_blocks h2 ≡ length_of p.page_blocks h1) where
   deals : Deals (dealt shape 0 0 put.gone) (over p h0 s0) (over q h2 s2)
   deals =
       deals_as (λ i. [] ++ dealt shape 0 0 put.gone i) (dealt shape 0 0 put.gone) (over p h0 s0) (over q h2 s2) (λ i. refl)
@@ -51,6 +56,28 @@ module _ (c : ClientToken) (shape : Shape) (start : Option (List Entry)) (fed : 
 
   same : SameGroups (grouping_of shape) (partials_at shape (bytes ∷ entries_in was)) (partials_at shape (rows_of now ++ put.gone))
   same = subst (λ (rs : List (List ℕ)). SameGroups (grouping_of shape) (partials_at shape (bytes ∷ rs)) (partials_at shape (rows_of now ++ put.gone))) opened.rows put.same
+
+  entries_formed : All (IsPartialRow shape) (entries_in was)
+  entries_formed = subst (All (IsPartialRow shape)) opened.rows (rows_formed shape (length_of p.page_blocks h1) own.heads own.nodes opened.entries.each)
+
+  -- no row goes to the partitions before the keys weigh more than two pages
+  none_gone : keys_len shape (fed ++ row ∷ []) ≤ 2 * length_of q.page_blocks h2 → put.gone ≡ []
+  none_gone low = elim put.full [
+    | inl none ↦ none
+    | inr full ↦
+        let long = fed_long shape (length_of p.page_blocks h1) fed row bytes (entries_in was) (shares 16 keeps.rows) is partial entries_formed keeps.values spells.values spells.says keeps.distinct keeps.stand
+        (subst (IsTooLong shape (length_of p.page_blocks h1) bytes) opened.rows full) in
+        absurd (omega (arith, low, long, len_put))
+  ]
+
+  none_shared : keys_len shape (fed ++ row ∷ []) ≤ 2 * length_of q.page_blocks h2 → shares 16 rows_now ≡ []
+  none_shared low =
+      let before = keys_len_more shape fed (row ∷ []) in
+      let none = ap length (keeps.small (omega (arith, low, before, len_opened, len_put))) in
+      let gone = ap length (none_gone low) in
+      let long = length_permutation (shares 16 rows_now) (shares 16 keeps.rows ++ put.gone) moved in
+      let both = length-append (shares 16 keeps.rows) put.gone in
+      nil_from_length (shares 16 rows_now) (omega (arith, none, gone, long, both))
 
   pub keeps_fed : Keeps start (fed ++ row ∷ []) (operator c shape q (Some now)) h2 s2
   keeps_fed =
@@ -71,16 +98,18 @@ module _ (c : ClientToken) (shape : Shape) (start : Option (List Entry)) (fed : 
             let both = length-append (shares 16 keeps.rows) put.gone in
             let all = length-append fed (row ∷ []) in
             omega (arith, long, few, fewer, shares_long, both, all);
+        small = none_shared;
         at_end = deals.at_end keeps.at_end;
         whole = deals.whole keeps.whole;
         laid = deals.laid start keeps.at_end keeps.laid;
       }
 
 pub keeps_put : (c : ClientToken) (shape : Shape) (bytes : List ℕ) (was : Option Table) (own now : Table) (p q : Stack) (h0 h1 h2 : Holdings) (s0 s1 s2 : Signs) (r : Result Unit PoolErr)
+    → IsShape shape → IsPartialRow shape bytes → length_of p.page_blocks h1 ≡ length_of p.page_blocks h0 → length_of q.page_blocks h2 ≡ length_of p.page_blocks h1
     → HasOpened shape was own (state own p h0 s0) (state own p h1 s1) → OnOk r (HasPut shape 0 0 bytes (state own p h1 s1) (state now q h2 s2))
     → OnOk r ((start : Option (List Entry)) (rows : List (List Value)) (row : List Value) → Spells shape bytes row → Keeps start rows (operator c shape p was) h0 s0 → Keeps start (rows ++ row ∷ []) (operator c shape q (Some now)) h2 s2)
-keeps_put c shape bytes was own now p q h0 h1 h2 s0 s1 s2 (Ok done) opened put = λ start rows row spells keeps. keeps_fed c shape start rows row bytes was own now p q h0 h1 h2 s0 s1 s2 opened put spells keeps
-keeps_put c shape bytes was own now p q h0 h1 h2 s0 s1 s2 (Err e) opened put = tt
+keeps_put c shape bytes was own now p q h0 h1 h2 s0 s1 s2 (Ok done) is partial one two opened put = λ start rows row spells keeps. keeps_fed c shape start rows row bytes was own now p q h0 h1 h2 s0 s1 s2 opened put spells keeps is partial one two
+keeps_put c shape bytes was own now p q h0 h1 h2 s0 s1 s2 (Err e) is partial one two opened put = tt
 
 -- the grouping is one over its store still
 pub operator_works : (c : ClientToken) (shape : Shape) (was : Option Table) (own now : Table) (p q : Stack) (h0 h1 h2 : Holdings) (s0 s1 s2 : Signs) → IsOperator (operator c shape p was) h0 s0 → h1.block_len ≡ h0.block_len

@@ -52,3 +52,8 @@ pub mod Advancing
 pub mod Settled
 pub mod Started
 pub mod TopRead
+pub mod Begun
+pub mod PagesOnce
+pub mod Laying
+pub mod Weighing
+pub mod Shorts

@@ -1,14 +1,24 @@
 -- What the rows at some places say, place by place.
-use Rattle.std.proofs.Common.{◌≡◌, ℕ, zero, suc, ◌+◌, ◌<◌, List, [], ◌∷◌, ◌++◌, length, take, drop, refl, ap, ◌∙◌, arith}
+use Rattle.std.proofs.Common.{◌≡◌, ℕ, zero, suc, ◌+◌, ◌<◌, List, [], ◌∷◌, ◌++◌, length, take, drop, refl, ap, subst, ◌∙◌, arith}
 use Rattle.std.specs.Prelude.{All, slice_index_or}
 use Rattle.std.proofs.Math.Seq.{take-suc}
 use Rattle.std.proofs.lemmas.List.{map-append}
 use Rattle.std.proofs.lemmas.List.Elements.{All-cons, All-head, All-nil, All-tail}
 use Rattle.store_api.specs.declared.shapes.Shape.{Shape}
-use Rattle.bucket_table.specs.Tables.{Node, row_of}
+use Rattle.bucket_table.specs.Tables.{HasNode, Node, row_of}
 use Rattle.group_rows.specs.Partials.{Partial}
 use Rattle.group_op.specs.InOrder.{said_at}
 use Rattle.group_op.specs.Stored.{partial_at}
+
+pub none_inside : (xs : List ℕ) (i : ℕ) → xs ≡ [] → i < length xs → ⊥
+none_inside xs i none inside = let long = ap length none in omega (arith, long, inside)
+
+-- a list of nodes that aren't there has none
+pub no_places : (nodes : List Node) (places : List ℕ) → nodes ≡ [] → All (λ place. HasNode place nodes) places → places ≡ []
+no_places nodes [] none has = refl
+no_places nodes (place ∷ places) none has =
+    let here : HasNode place [] = subst (λ (ns : List Node). HasNode place ns) none (All-head (λ place. HasNode place nodes) place places has) in
+    absurd cc
 
 split_at : (xs : List ℕ) (i : ℕ) → i < length xs → xs ≡ take i xs ++ (slice_index_or xs i 0 ∷ drop (suc i) xs)
 split_at [] i inside = absurd (omega (arith, inside))

@@ -1,16 +1,12 @@
 -- What a grouping that was started has and keeps.
-use Rattle.std.proofs.Common.{◌≡◌, ◌≢◌, ◌∙◌, ℕ, ◌+◌, ◌*◌, ◌≤◌, List, [], ◌++◌, length, replicate, Option, Some, None, refl, ap, sym, subst, arith}
+use Rattle.std.proofs.Common.{◌≡◌, ℕ, [], replicate, Some, refl, ap, arith}
 use Rattle.std.specs.Prelude.{All, slice_get}
-use Rattle.std.specs.List.{sum_by}
 use Rattle.std.proofs.lemmas.List.Elements.{All-nil}
 use Rattle.std.proofs.lemmas.Option.{none-some}
-use Rattle.row_codec.specs.declared.values.Value.{Value}
 use Rattle.row_codec.specs.Order.{path_order}
 use Rattle.row_codec.specs.Row.{IsValue}
-use Rattle.store_api.specs.declared.shapes.Shape.{Shape}
 use Rattle.store_api.specs.Conditions.{IsBlockCount}
 use Rattle.store_api.specs.Holdings.{Holdings}
-use Rattle.store_api.specs.Shapes.{IsShape}
 use Rattle.store_api.specs.Signs.{Signs}
 use Rattle.store_api.specs.Tokens.{ClientToken}
 use Rattle.tuple_stream.specs.Streamed.{Streamed}
@@ -19,12 +15,11 @@ use Rattle.tuple_stream.specs.FamilyCalls.{HaveLaid}
 use Rattle.tuple_stream.proofs.Empty.{empty_at_end}
 use Rattle.tuple_stream.proofs.Sinces.{since_now}
 use Rattle.partition_stack.specs.Changes.{Owns}
-use Rattle.partition_stack.specs.Stack.{IsStack, Stack, divided, empty, first_sixteen, over}
+use Rattle.partition_stack.specs.Stack.{IsStack, Stack, empty, first_sixteen, over}
 use Rattle.partition_stack.proofs.Coming.{sixteen_come}
 use Rattle.partition_stack.proofs.ListPlaces.{of_replicate}
 use Rattle.group_rows.proofs.Paths.{path_is_order}
 use Rattle.group_rows.proofs.Standing.{keeps_standing}
-use Rattle.group_op.specs.Operator.{started}
 use Rattle.group_op.specs.Starting.{AllStart, MayStart}
 use Rattle.group_op.specs.Stored.{IsPartialRow, grouping_of, place_of}
 use Rattle.group_op.proofs.Entering.{none_distinct}
@@ -71,6 +66,7 @@ all_start c blocks shape h signs is sized may =
         stand = (keeps_standing path_order path_is_order (grouping_of shape)).none;
         distinct = none_distinct;
         few = omega arith;
+        small = λ low. refl;
         at_end = λ i s there. empty_at_end blocks s (each_empty blocks i s there);
         whole = λ i s there. ap (λ (r : Streamed). r.spent) (each_empty blocks i s there);
         laid = since_now (HaveLaid (over (first_sixteen blocks) h signs)) signs.trail (record { building = All-nil IsBuilding; left = λ w. refl });

@@ -1,8 +1,6 @@
 -- The top partition was read while its groups went to an emitter, and then it went.
-use Rattle.std.proofs.Common.{◌≡◌, ◌≢◌, ◌∙◌, ◌⊎◌, inl, inr, ℕ, zero, suc, ◌+◌, ◌-◌, ◌*◌, ◌<◌, ◌≤◌, List, [], ◌∷◌, ◌++◌, length, length-append, take, get_or, true, false, Option, Some, None, IsSome, is_some, if◌then◌else◌, Result, Ok, Err, IfErr, OnOk, refl, ap, sym, subst, arith}
+use Rattle.std.proofs.Common.{◌≡◌, ◌≢◌, ◌∙◌, inl, inr, ℕ, zero, suc, ◌+◌, ◌-◌, ◌*◌, ◌<◌, List, [], ◌∷◌, ◌++◌, length, length-append, take, get_or, true, false, Option, Some, None, IsSome, is_some, if◌then◌else◌, Result, Ok, Err, IfErr, OnOk, refl, ap, sym, subst, arith}
 use Rattle.std.specs.Prelude.{All, option_map, slice_get, sum_by}
-use Rattle.std.specs.Cmp.Lexicographic.{slice_cmp}
-use Rattle.std.specs.Ordering.{nat_cmp}
 use Rattle.std.proofs.lemmas.List.{take_all}
 use Rattle.std.proofs.lemmas.List.FromFn.{length-map-range_with_len}
 use Rattle.std.proofs.lemmas.List.Sums.{sum_by-append, sum_by-cons}
@@ -13,7 +11,7 @@ use Rattle.store_api.specs.declared.op_err.OpErr.{OpErr}
 use Rattle.store_api.specs.declared.op_err.OpErr.TheVariants.{Pool, Sink}
 use Rattle.store_api.specs.declared.shapes.Shape.{Shape}
 use Rattle.store_api.specs.Emitters.{CameOf, HasClient, SameOwn}
-use Rattle.store_api.specs.Holdings.{Account, Holdings, LiveLoan, LivePage, account_of, length_of, no_account, no_loan, no_page, or_else, page_of, unused_of}
+use Rattle.store_api.specs.Holdings.{Account, Holdings, LivePage, account_of, length_of, no_account, no_loan, no_page, or_else, page_of, unused_of}
 use Rattle.store_api.specs.Signs.{Grows, Signs}
 use Rattle.store_api.specs.Tokens.{ClientToken, PageToken}
 use Rattle.store_api.proofs.Answered.{answered_after}
@@ -21,23 +19,21 @@ use Rattle.store_api.proofs.Puts.{there}
 use Rattle.tuple_stream.specs.Families.{AllClosed, AreDisjoint, AreShaped, IsOutside, ShowAll, family, held_in}
 use Rattle.tuple_stream.specs.Spending.{Empties}
 use Rattle.tuple_stream.specs.Steps.{Scene, scene}
-use Rattle.tuple_stream.specs.Streamed.{OpenPage, Streamed, len_in}
+use Rattle.tuple_stream.specs.Streamed.{Streamed}
 use Rattle.tuple_stream.specs.Streams.{HasRows, IsApart, IsOwnPage, IsShaped}
 use Rattle.tuple_stream.specs.Touches.{held, with_unused}
-use Rattle.tuple_stream.proofs.Chosen.{all_placed, at_place}
+use Rattle.tuple_stream.proofs.Chosen.{at_place}
 use Rattle.tuple_stream.proofs.Empty.{empty}
 use Rattle.tuple_stream.proofs.Frames.{still_some}
 use Rattle.tuple_stream.proofs.PageLists.{at_end, still_at}
 use Rattle.bucket_table.specs.Lending.{IsOwn, IsTableOf, loans_of}
 use Rattle.bucket_table.specs.Tables.{Lent, Table}
 use Rattle.bucket_table.proofs.Lent.{moved_own}
-use Rattle.partition_stack.specs.Changes.{Owns}
 use Rattle.partition_stack.specs.Stack.{IsStack, Stack, over}
 use Rattle.partition_stack.proofs.Agreeing.{agreeing_rows, agreeing_shape}
 use Rattle.partition_stack.proofs.ListPlaces.{front_or_behind}
 use Rattle.partition_stack.proofs.Room.{room_for_each}
 use Rattle.group_rows.specs.Partials.{Partial, combined_of}
-use Rattle.group_rows.specs.Splitting.{HasPath}
 use Rattle.group_rows.proofs.Paths.{one_path}
 use Rattle.group_op.specs.Emission.{IsBeside, WentOn}
 use Rattle.group_op.specs.Finishing.{IsPart, LeavesBeside, ServesBeside, StandsStill}

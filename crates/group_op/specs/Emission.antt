@@ -1,5 +1,5 @@
 -- Partial rows go to an emitter as rows of values. `was` and `now` say what it took before and after.
-use Rattle.std.specs.Prelude.{◌≡◌, ◌≢◌, ◌↔◌, ℕ, ◌≤◌, List, [], ◌∷◌, ◌++◌, All, Option, Some, ⊤}
+use Rattle.std.specs.Prelude.{◌≡◌, ◌≢◌, ◌↔◌, ℕ, ◌≤◌, List, [], ◌∷◌, ◌++◌, All, Option, Some, None, ⊤}
 use Rattle.row_codec.specs.declared.values.Value.{Value}
 use Rattle.row_codec.specs.Row.{kinds_of}
 use Rattle.row_codec.specs.RowLaws.{IsRow}
@@ -67,3 +67,4 @@ pub record Stood (admits_old admits : List Value → Type 0) (client_old client 
   pub never_falls : faults_old ≤ faults
   pub others : OthersStay client_old old new
   pub grows : Grows before after
+  pub alone : client_old ≡ None → after ≡ before

@@ -11,3 +11,6 @@ pub mod Finishing
 pub mod KeyParts
 pub mod Finished
 pub mod Starting
+pub mod Pinning
+pub mod Laid
+pub mod Causes

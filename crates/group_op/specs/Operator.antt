@@ -9,10 +9,7 @@ use Rattle.store_api.specs.declared.shapes.Shape.{Shape}
 use Rattle.store_api.specs.Conditions.{IsBlockCount, IsLiveClient}
 use Rattle.store_api.specs.Holdings.{Holdings, LiveLoan, account_of, length_of, unused_of}
 use Rattle.store_api.specs.Shapes.{IsShape}
-use Rattle.store_api.specs.declared.op_err.OpErr.{OpErr}
-use Rattle.store_api.specs.declared.op_err.OpErr.TheVariants.{Pool, Sink}
-use Rattle.store_api.specs.Signs.{Signs, WasAnswered}
-use Rattle.tuple_stream.specs.Touches.{IsFull}
+use Rattle.store_api.specs.Signs.{Signs}
 use Rattle.store_api.specs.Tokens.{ClientToken}
 use Rattle.tuple_stream.specs.Trails.{EnteredEvents}
 use Rattle.tuple_stream.specs.Families.{ShowAll}
@@ -25,7 +22,7 @@ use Rattle.partition_stack.specs.Stack.{Stack, first_sixteen, over}
 use Rattle.partition_stack.specs.Changes.{Owns}
 use Rattle.group_op.specs.Held.{AreEntries, IsHeld, State, page_len, rows_of, state, streams_of}
 use Rattle.group_op.specs.Putting.{Deals}
-use Rattle.group_op.specs.Stored.{IsPartialRow, grouping_of, partial_at, partials_at, place_of}
+use Rattle.group_op.specs.Stored.{IsPartialRow, grouping_of, keys_len, partial_at, partials_at, place_of}
 use Rattle.group_rows.specs.Partials.{partial_of}
 
 -- its client, the shape of its rows, its partitions, and its table once it has one
@@ -85,6 +82,8 @@ pub record Keeps (start : Option (List Entry)) (fed : List (List Value)) (op : O
   pub distinct : HaveDistinctKeys (partials_at op.shape (entries_in op.table))
   pub fresh : op.table ≡ None → fed ≡ []
   pub few : length (entries_in op.table) + length (shares 16 rows) ≤ length fed
+  -- where the partial rows of all keys, with four bytes more each, fit in two pages, none has gone to the partitions
+  pub small : keys_len op.shape fed ≤ 2 * page_of op h → shares 16 rows ≡ []
   -- all pages that rest were left once, by entries since then that end no page and pin none again
   pub at_end : AllAtEnd (over op.parts h signs)
   pub whole : AllWhole (over op.parts h signs)
@@ -102,11 +101,6 @@ pub record IsSame (old new : Operator) : Type 0 where
   pub blocks : new.parts.page_blocks ≡ old.parts.page_blocks
   pub levels : new.parts.levels ≡ old.parts.levels
   pub many : length new.parts.streams ≡ length old.parts.streams
-
--- the store answered so in between; want of slots is told with the blocks of a page
-abbrev pub CameOfStore : ℕ → Holdings → Signs → Signs → OpErr → Type 0
-CameOfStore blocks h before after (Pool e) = WasAnswered e before after × IsFull blocks h.free_slots e
-CameOfStore blocks h before after Sink = ⊥
 
 -- the bytes say what a row of values says by itself
 pub record Spells (shape : Shape) (bytes : List ℕ) (row : List Value) : Type 0 where

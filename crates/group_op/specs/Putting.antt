@@ -1,5 +1,5 @@
 -- A partial row goes into a table, or those of the table to partitions. `a` is before the call and `b` behind it.
-use Rattle.std.specs.Prelude.{◌≡◌, ◌≢◌, ℕ, ◌+◌, ◌<◌, ◌≤◌, List, [], ◌∷◌, ◌++◌, All, Option, length, reverse}
+use Rattle.std.specs.Prelude.{◌≡◌, ◌≢◌, ◌⊎◌, ℕ, ◌+◌, ◌*◌, ◌<◌, ◌≤◌, List, [], ◌∷◌, ◌++◌, All, Option, length, reverse, sum_by}
 use Rattle.pool_model.specs.declared.entry.Entry.{Entry}
 use Rattle.store_api.specs.declared.shapes.Shape.{Shape}
 use Rattle.tuple_stream.specs.Families.{Family, ShowAll}
@@ -41,6 +41,11 @@ pub record Deals (more : ℕ → List (List ℕ)) (f g : Family) : Type 0 where
   pub rows : (rows : ℕ → List (List ℕ)) → AreSure f → ShowAll rows f → ShowAll (λ i. rows i ++ more i) g
   pub laid : (start : Option (List Entry)) → AllAtEnd f → EnteredEvents (HaveLaid f) start f.signs.trail → EnteredEvents (HaveLaid g) start g.signs.trail
 
+-- with this row, whose key is a new one, and four bytes more each, the rows are longer than two pages
+pub record IsTooLong (shape : Shape) (len : ℕ) (row : List ℕ) (rows : List (List ℕ)) : Type 0 where
+  pub long : 2 * len < sum_by (λ r. length r + 4) (row ∷ rows)
+  pub apart : All (λ r. key_at shape r ≢ key_at shape row) rows
+
 -- these rows went to the partitions of a level, and of the others and these the table has what it had and this row
 pub record HasPut (shape : Shape) (level base : ℕ) (row : List ℕ) (a b : State) : Type 0 where
   pub gone : List (List ℕ)
@@ -49,6 +54,7 @@ pub record HasPut (shape : Shape) (level base : ℕ) (row : List ℕ) (a b : Sta
   pub same : SameGroups (grouping_of shape) (partials_at shape (row ∷ rows_of a.table)) (partials_at shape (rows_of b.table ++ gone))
   pub distinct : HaveDistinctKeys (partials_at shape (rows_of a.table)) → HaveDistinctKeys (partials_at shape (rows_of b.table))
   pub fewer : length (rows_of b.table) + length gone ≤ length (rows_of a.table) + 1
+  pub full : (gone ≡ []) ⊎ IsTooLong shape (page_len a) row (rows_of a.table)
 
 -- the table has what it had and this row, and no row went to partitions
 pub record HasPutHere (shape : Shape) (row : List ℕ) (a b : State) : Type 0 where

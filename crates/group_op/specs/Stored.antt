@@ -1,16 +1,18 @@
 -- Partial rows as they are stored, in tables and on pages: the values of a key and a wide number for each aggregate, as
 -- one encoded row. Lengths are in bytes.
-use Rattle.std.specs.Prelude.{◌≡◌, ℕ, ◌+◌, ◌-◌, ◌*◌, ◌==◌, List, [], ◌++◌, length, map, filter, filter_map, slice_get, take, ℤ, Option, Some, None}
+use Rattle.std.specs.Prelude.{◌≡◌, ℕ, ◌+◌, ◌-◌, ◌*◌, ◌==◌, List, [], ◌++◌, length, map, filter, filter_map, slice_get, sum_by, take, ℤ, Option, Some, None}
 use Rattle.row_codec.specs.declared.values.Kind.{Kind}
 use Rattle.row_codec.specs.declared.values.Kind.TheVariants.{Wide}
 use Rattle.row_codec.specs.declared.values.Value.{Value}
 use Rattle.row_codec.specs.declared.values.Value.TheVariants as value
-use Rattle.row_codec.specs.Order.{hash_of, nibble_of}
+use Rattle.row_codec.specs.Order.{hash_of, nibble_of, path_order}
 use Rattle.row_codec.specs.Row.{kinds_of}
-use Rattle.row_codec.specs.RowBytes.{row_bytes}
+use Rattle.row_codec.specs.RowBytes.{key_bytes, row_bytes}
 use Rattle.row_codec.specs.RowLaws.{IsRow}
 use Rattle.row_codec.specs.RowReading.{row_at}
+use Rattle.store_api.specs.Shapes.{IsShape}
 use Rattle.store_api.specs.declared.shapes.Shape.{Shape}
+use Rattle.group_rows.specs.Keyed.{keys_in}
 use Rattle.group_rows.specs.Partials.{Grouping, Partial, combined_numbers, combined_of}
 use Rattle.group_rows.specs.Rows.{partial_in, partial_row}
 
@@ -86,3 +88,14 @@ place_of shape level base row = base + (15 - nibble_at shape level row)
 -- of some rows, those that go to this partition
 abbrev pub dealt : Shape → ℕ → ℕ → List (List ℕ) → ℕ → List (List ℕ)
 dealt shape level base rows i = filter (λ row. place_of shape level base row == i) rows
+
+-- how long the partial row of a key is: four bytes, those of the key but one for each value, and sixteen a number
+abbrev pub row_len : Shape → List ℕ → ℕ
+row_len shape key = 4 + length key + 16 * length shape.aggs - length shape.keys
+
+abbrev pub LongByKey : Type 0
+LongByKey = (shape : Shape) (row : List ℕ) → IsShape shape → IsPartialRow shape row → length row ≡ row_len shape (key_at shape row)
+
+-- the partial rows of the distinct keys of these rows, with four bytes more each, take so many bytes together
+abbrev pub keys_len : Shape → List (List Value) → ℕ
+keys_len shape rows = sum_by (λ key. row_len shape key + 4) (keys_in path_order (key_bytes shape.keys) rows)

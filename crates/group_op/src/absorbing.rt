@@ -6,9 +6,11 @@ ghost use Rattle.store_api.specs.Holdings.{length_of};
 ghost use Rattle.store_api.specs.Shapes.{IsShape};
 ghost use Rattle.store_api.specs.Signs.{WasAnswered};
 ghost use Rattle.tuple_stream.specs.Touches.{IsFull};
+ghost use Rattle.tuple_stream.specs.Trails.{EnteredEvents};
 ghost use Rattle.partition_stack.specs.Stack.{IsPlaced, Stack};
 ghost use Rattle.group_op.specs.Finishing.{HasRead, IsBetween, IsRead, Serves, Stacked};
 ghost use Rattle.group_op.specs.Held.{AreEntries, IsHeld, page_len, state};
+ghost use Rattle.group_op.specs.Pinning.{HasBegun};
 ghost use Rattle.group_op.specs.Stored.{IsPartialRow, key_at};
 
 use crate::flushing::{Fan, Spare};
@@ -44,6 +46,7 @@ pub(crate) fn absorb<St: Store>(
     requires deep { (level < 16) × IsPlaced at level }
     ensures rows { IfOk result (λ divided. (rows : ℕ → List (List ℕ)) → Stacked shape.now rows (state table.old parts.old (St.holds store.old) (St.signs store.old)) → HasRead shape.now at level divided rows (rows at) [] (state table.new parts.new (St.holds store.new) (St.signs store.new))) }
     ensures read { IfOk result (λ divided. IsRead divided at level parts.old parts.new) }
+    ensures first { IfOk result (λ divided. EnteredEvents (HasBegun divided (state table.new parts.new (St.holds store.new) (St.signs store.new))) (St.signs store.old).trail (St.signs store.new).trail) }
     ensures serves { Serves c.now.tracker shape.now (state table.old parts.old (St.holds store.old) (St.signs store.old)) (state table.new parts.new (St.holds store.new) (St.signs store.new)) }
     ensures cause { IfErr result (λ e. WasAnswered e (St.signs store.old) (St.signs store.new)) }
     ensures full { IfErr result (IsFull parts.old.page_blocks (St.holds store.new).free_slots) }

@@ -34,6 +34,7 @@ pub(crate) fn emit_table<St: Store, E: Emit<St>>(
     ensures ok { OnOk result (HaveDistinctKeys (partials_at shape.now (rows_of table.now)) → Emitted shape.now (E.took emit.old (St.holds store.old)) (E.took emit.new (St.holds store.new)) (groups_in shape.now table.now)) }
     ensures err { OnErr result (HaveDistinctKeys (partials_at shape.now (rows_of table.now)) → EmittedFront shape.now (E.took emit.old (St.holds store.old)) (E.took emit.new (St.holds store.new)) (groups_in shape.now table.now)) }
     ensures took { WentOn (E.took emit.old (St.holds store.old)) (E.took emit.new (St.holds store.new)) }
+    ensures still { table.now.nodes ≡ [] → St.signs store.new ≡ St.signs store.old }
     ensures cause { IfErr result (CameOf (E.faults emit.old) (E.faults emit.new) (St.signs store.old) (St.signs store.new)) }
     ensures stood { Stood (E.admits emit.old) (E.admits emit.new) (E.client emit.old) (E.client emit.new) (E.faults emit.old) (E.faults emit.new) (St.holds store.old) (St.holds store.new) (St.signs store.old) (St.signs store.new) }
 {
@@ -59,6 +60,7 @@ fn emit_places<St: Store, E: Emit<St>>(
     requires stands { (rows : List (List Value)) × E.took emit.old (St.holds store.old) rows }
     ensures ok { OnOk result (Emitted shape.now (E.took emit.old (St.holds store.old)) (E.took emit.new (St.holds store.new)) (said_at shape.now table.now.nodes places.now)) }
     ensures err { OnErr result (EmittedFront shape.now (E.took emit.old (St.holds store.old)) (E.took emit.new (St.holds store.new)) (said_at shape.now table.now.nodes places.now)) }
+    ensures still { places.now ≡ [] → St.signs store.new ≡ St.signs store.old }
     ensures cause { IfErr result (CameOf (E.faults emit.old) (E.faults emit.new) (St.signs store.old) (St.signs store.new)) }
     ensures stood { Stood (E.admits emit.old) (E.admits emit.new) (E.client emit.old) (E.client emit.new) (E.faults emit.old) (E.faults emit.new) (St.holds store.old) (St.holds store.new) (St.signs store.old) (St.signs store.new) }
 {

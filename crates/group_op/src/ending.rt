@@ -2,7 +2,10 @@
 ghost use Rattle.std.specs.Prelude.{◌≡◌};
 ghost use Rattle.group_op.specs.Held.{LeavesOthers};
 ghost use Rattle.group_op.specs.Operator.{IsOperator};
+ghost use Rattle.partition_stack.specs.Stack.{over};
 ghost use Rattle.store_api.specs.Conditions.{IsIdle};
+ghost use Rattle.tuple_stream.specs.Families.{AllClosed};
+ghost use Rattle.tuple_stream.specs.Trails.{EnteredEvents, PinsFirst};
 
 use crate::operator::GroupOp;
 use store_api::{Client, Store};
@@ -12,6 +15,8 @@ impl GroupOp {
     pub fn end<St: Store>(self, store: &mut St) -> Client
         requires { IsOperator self (St.holds store.old) (St.signs store.old) }
         ensures client { result ≡ self.client }
+        // Where no page was pinned, none is left before one is pinned again.
+        ensures first { AllClosed (over self.parts (St.holds store.old) (St.signs store.old)) → EnteredEvents PinsFirst (St.signs store.old).trail (St.signs store.new).trail }
         ensures idle { IsIdle self.client.tracker (St.holds store.new) }
         ensures leaves { LeavesOthers self.client.tracker (St.holds store.old) (St.holds store.new) (St.signs store.old) (St.signs store.new) }
     {

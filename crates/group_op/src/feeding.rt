@@ -6,7 +6,8 @@ ghost use Rattle.store_api.specs.Holdings.{length_of};
 ghost use Rattle.store_api.specs.Signs.{WasAnswered};
 ghost use Rattle.tuple_stream.specs.Touches.{IsFull};
 ghost use Rattle.group_op.specs.Held.{IsHeld, LeavesOthers, state};
-ghost use Rattle.group_op.specs.Operator.{CameOfStore, HasOpened, IsFeeding, IsOperator, IsSame, Keeps, MayBeFed, Spells, operator};
+ghost use Rattle.group_op.specs.Causes.{CameOfStore};
+ghost use Rattle.group_op.specs.Operator.{HasOpened, IsFeeding, IsOperator, IsSame, Keeps, MayBeFed, Spells, operator};
 ghost use Rattle.group_op.specs.Stored.{IsPartialRow, key_at};
 
 use crate::flushing::{FIRST, Spare};

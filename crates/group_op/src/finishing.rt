@@ -1,15 +1,18 @@
 //! The groups of all rows that were fed are handed on.
-ghost use Rattle.std.specs.Prelude.{◌≡◌, ◌+◌, ◌<◌, ℕ, [], List, Some, true, false, IfErr, IfOk, OnErr, OnOk, length, slice_get};
+ghost use Rattle.std.specs.Prelude.{◌≡◌, ◌+◌, ◌<◌, ℕ, [], List, Some, None, true, false, IfErr, IfOk, OnErr, OnOk, length, slice_get};
 ghost use Rattle.row_codec.specs.declared.values.Value.{Value};
 ghost use Rattle.store_api.specs.Emitters.{CameOf};
 ghost use Rattle.store_api.specs.Shapes.{IsShape};
 ghost use Rattle.store_api.specs.Signs.{WasAnswered};
 ghost use Rattle.tuple_stream.specs.Families.{ShowAll};
+ghost use Rattle.tuple_stream.specs.Trails.{EnteredEvents, PinsFirst};
 ghost use Rattle.partition_stack.specs.Stack.{IsPlaced, RestBelow, weight};
 ghost use Rattle.group_rows.specs.Partials.{combined_of};
+ghost use Rattle.group_op.specs.Causes.{IsShort, IsShortOf};
 ghost use Rattle.group_op.specs.Emission.{AdmitsKinds, Emitted, EmittedFront, IsBeside};
 ghost use Rattle.group_op.specs.Finishing.{Advances, HasDivided, HasPopped, HasRead, IsBetween, IsRead, Serves, ServesBeside, Stacked, StandsStill, said_down};
 ghost use Rattle.group_op.specs.Held.{AreEntries, IsHeld, page_len, state, streams_of};
+ghost use Rattle.group_op.specs.Pinning.{AreShallow, HasBegun, HasGoneOn};
 ghost use Rattle.group_op.specs.Stored.{grouping_of, partials_at};
 
 use crate::absorbing::absorb;
@@ -48,7 +51,9 @@ fn spend_top<St: Store>(
     requires deep { (level < 16) × IsPlaced at level }
     ensures whole { IfOk result (λ divided. divided ≡ false → IsRead false at level parts.old parts.new × ((rows : ℕ → List (List ℕ)) → Stacked shape.now rows (state table.old parts.old (St.holds store.old) (St.signs store.old)) → HasRead shape.now at level false rows (rows at) [] (state table.new parts.new (St.holds store.new) (St.signs store.new)))) }
     ensures divided { IfOk result (λ divided. divided ≡ true → IsBetween (state table.new parts.new (St.holds store.new) (St.signs store.new)) × (weight parts.new < weight parts.old) × ((rows : ℕ → List (List ℕ)) → Stacked shape.now rows (state table.old parts.old (St.holds store.old) (St.signs store.old)) → HasDivided shape.now at rows (state table.new parts.new (St.holds store.new) (St.signs store.new)))) }
+    ensures first { IfOk result (λ divided. EnteredEvents (HasBegun divided (state table.new parts.new (St.holds store.new) (St.signs store.new))) (St.signs store.old).trail (St.signs store.new).trail) }
     ensures serves { Serves c.now.tracker shape.now (state table.old parts.old (St.holds store.old) (St.signs store.old)) (state table.new parts.new (St.holds store.new) (St.signs store.new)) }
+    ensures short { IfErr result (IsShort parts.old.page_blocks) }
     ensures cause { IfErr result (λ e. WasAnswered e (St.signs store.old) (St.signs store.new)) }
 {
     if !absorb(alloc, store, c, shape, table, parts, at, level, fed, moved)? {
@@ -85,8 +90,10 @@ fn hand_on<St: Store, E: Emit<St>>(
     ensures ok { OnOk result ((rows : ℕ → List (List ℕ)) → (level : ℕ) → HasRead shape.now _at level false rows (rows _at) [] (state table.old parts.old (St.holds store.old) (St.signs store.old)) → ShowAll rows (streams_of (state table.new parts.new (St.holds store.new) (St.signs store.new))) × Emitted shape.now (E.took emit.old (St.holds store.old)) (E.took emit.new (St.holds store.new)) (combined_of (grouping_of shape.now) (partials_at shape.now (rows _at)))) }
     ensures err { OnErr result ((rows : ℕ → List (List ℕ)) → (level : ℕ) → HasRead shape.now _at level false rows (rows _at) [] (state table.old parts.old (St.holds store.old) (St.signs store.old)) → EmittedFront shape.now (E.took emit.old (St.holds store.old)) (E.took emit.new (St.holds store.new)) (combined_of (grouping_of shape.now) (partials_at shape.now (rows _at)))) }
     ensures popped { OnOk result (IsBetween (state table.new parts.new (St.holds store.new) (St.signs store.new)) × HasPopped _at parts.old parts.new) }
+    ensures first { OnOk result (IsBetween (state table.old parts.old (St.holds store.old) (St.signs store.old)) → EnteredEvents PinsFirst (St.signs store.old).trail (St.signs store.new).trail) }
     ensures serves { ServesBeside c.now.tracker (E.client emit.old) shape.now (state table.old parts.old (St.holds store.old) (St.signs store.old)) (state table.new parts.new (St.holds store.new) (St.signs store.new)) }
     ensures emitter { StandsStill (E.admits emit.old) (E.admits emit.new) (E.client emit.old) (E.client emit.new) (E.faults emit.old) (E.faults emit.new) (E.took emit.old (St.holds store.old)) (E.took emit.new (St.holds store.new)) (St.holds store.new) }
+    ensures short { E.client emit.old ≡ None → IfErr result (IsShortOf parts.old.page_blocks) }
     ensures cause { IfErr result (CameOf (E.faults emit.old) (E.faults emit.new) (St.signs store.old) (St.signs store.new)) }
 {
     emit_table(alloc, store, emit, shape, table)?;
@@ -122,6 +129,7 @@ fn leaf<St: Store, E: Emit<St>>(
     ensures popped { OnOk result (IsBetween (state _table.now parts.new (St.holds store.new) (St.signs store.new)) × HasPopped _at parts.old parts.new) }
     ensures serves { ServesBeside c.now.tracker (E.client emit.old) shape.now (state _table.now parts.old (St.holds store.old) (St.signs store.old)) (state _table.now parts.new (St.holds store.new) (St.signs store.new)) }
     ensures emitter { StandsStill (E.admits emit.old) (E.admits emit.new) (E.client emit.old) (E.client emit.new) (E.faults emit.old) (E.faults emit.new) (E.took emit.old (St.holds store.old)) (E.took emit.new (St.holds store.new)) (St.holds store.new) }
+    ensures short { E.client emit.old ≡ None → IfErr result (IsShortOf parts.old.page_blocks) }
     ensures cause { IfErr result (CameOf (E.faults emit.old) (E.faults emit.new) (St.signs store.old) (St.signs store.new)) }
 {
     parts.law_stack();
@@ -155,8 +163,10 @@ pub(crate) fn advance<St: Store, E: Emit<St>>(
     ensures ok { OnOk result (IsBetween (state table.new parts.new (St.holds store.new) (St.signs store.new)) × ((rows : ℕ → List (List ℕ)) → Stacked shape.now rows (state table.old parts.old (St.holds store.old) (St.signs store.old)) → Advances shape.now (E.took emit.old (St.holds store.old)) (E.took emit.new (St.holds store.new)) rows (state table.old parts.old (St.holds store.old) (St.signs store.old)) (state table.new parts.new (St.holds store.new) (St.signs store.new)))) }
     ensures err { OnErr result ((rows : ℕ → List (List ℕ)) → Stacked shape.now rows (state table.old parts.old (St.holds store.old) (St.signs store.old)) → EmittedFront shape.now (E.took emit.old (St.holds store.old)) (E.took emit.new (St.holds store.new)) (said_down shape.now (length parts.old.streams) rows)) }
     ensures less { OnOk result (weight parts.new < weight parts.old) }
+    ensures first { OnOk result (AreShallow parts.old.levels → EnteredEvents (HasGoneOn parts.new.levels) (St.signs store.old).trail (St.signs store.new).trail) }
     ensures serves { ServesBeside c.now.tracker (E.client emit.old) shape.now (state table.old parts.old (St.holds store.old) (St.signs store.old)) (state table.new parts.new (St.holds store.new) (St.signs store.new)) }
     ensures emitter { StandsStill (E.admits emit.old) (E.admits emit.new) (E.client emit.old) (E.client emit.new) (E.faults emit.old) (E.faults emit.new) (E.took emit.old (St.holds store.old)) (E.took emit.new (St.holds store.new)) (St.holds store.new) }
+    ensures short { E.client emit.old ≡ None → IfErr result (IsShortOf parts.old.page_blocks) }
     ensures cause { IfErr result (CameOf (E.faults emit.old) (E.faults emit.new) (St.signs store.old) (St.signs store.new)) }
 {
     let at = parts.len() - 1;

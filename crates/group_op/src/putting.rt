@@ -1,5 +1,5 @@
 //! A partial row goes into a table.
-ghost use Rattle.std.specs.Prelude.{◌≡◌, true, false, ℕ, ◌+◌, ◌%◌, ◌≤◌, ◌∷◌, length, All, IfNone, IfSome, IfErr, OnOk};
+ghost use Rattle.std.specs.Prelude.{◌≡◌, true, false, ℕ, ◌+◌, ◌%◌, ◌<◌, ◌≤◌, ◌∷◌, length, All, IfNone, IfSome, IfErr, OnOk};
 ghost use Rattle.row_codec.specs.Order.{hash_of};
 ghost use Rattle.store_api.specs.Shapes.{IsShape};
 ghost use Rattle.store_api.specs.Signs.{WasAnswered};
@@ -96,6 +96,7 @@ pub(crate) fn put_here<St: Store>(
     ensures put { result ≡ true → HasPutHere shape.now row.now (state table.old parts.now (St.holds store.old) (St.signs store.old)) (state table.new parts.now (St.holds store.new) (St.signs store.new)) }
     ensures grown { result ≡ false → HasGrown c.now.tracker shape.now (state table.old parts.now (St.holds store.old) (St.signs store.old)) (state table.new parts.now (St.holds store.new) (St.signs store.new)) }
     ensures lacks { result ≡ false → Lacks shape.now (key_at shape.now row.now) table.new }
+    ensures full { result ≡ false → table.new.room < used_by table.new.nodes + 4 + length row.now }
     ensures works { Works c.now.tracker shape.now (state table.old parts.now (St.holds store.old) (St.signs store.old)) (state table.new parts.now (St.holds store.new) (St.signs store.new)) }
 {
     if let Some(node) = find(table, hash, row, shape) {

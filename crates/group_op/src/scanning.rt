@@ -9,6 +9,7 @@ ghost use Rattle.store_api.specs.Signs.{WasAnswered};
 ghost use Rattle.tuple_stream.specs.Steps.{Reads, scene};
 ghost use Rattle.tuple_stream.specs.Streams.{HasRows};
 ghost use Rattle.group_rows.specs.Kept.{AreOrdered};
+ghost use Rattle.group_op.specs.Causes.{CameOfEither, IsShort};
 ghost use Rattle.group_op.specs.Emission.{AdmitsAll, Emitted, EmittedFront, IsBeside, Says, Stood, WentOn};
 ghost use Rattle.group_op.specs.Keepings.{HasKept, IsKept, is_above, kept_in, key_in, taken_in};
 ghost use Rattle.group_op.specs.Stored.{IsPartialRow, grouping_of, partial_at, partial_kinds};
@@ -50,7 +51,7 @@ pub fn leaf_by_scan<St: Store, E: Emit<St>>(
     ensures ok { OnOk result ((read : List (List ℕ)) → (St.holds store.old).told ≡ true → HasRows read rows.old (St.holds store.old) → Emitted shape.now (E.took emit.old (St.holds store.old)) (E.took emit.new (St.holds store.new)) (groups_by_bytes shape.now read)) }
     ensures err { OnErr result ((read : List (List ℕ)) → (St.holds store.old).told ≡ true → HasRows read rows.old (St.holds store.old) → EmittedFront shape.now (E.took emit.old (St.holds store.old)) (E.took emit.new (St.holds store.new)) (groups_by_bytes shape.now read)) }
     ensures stands { WentOn (E.took emit.old (St.holds store.old)) (E.took emit.new (St.holds store.new)) }
-    ensures cause { IfErr result (CameOf (E.faults emit.old) (E.faults emit.new) (St.signs store.old) (St.signs store.new)) }
+    ensures cause { IfErr result (CameOfEither rows.old.page_blocks (E.client emit.old) (E.faults emit.old) (E.faults emit.new) (St.signs store.old) (St.signs store.new)) }
     ensures stream { ReadBeside c.now.tracker (E.client emit.old) rows.old rows.new (St.holds store.old) (St.holds store.new) }
     ensures emitter { StaysEmitter (E.admits emit.old) (E.admits emit.new) (E.client emit.old) (E.client emit.new) (E.faults emit.old) (E.faults emit.new) (St.holds store.new) (St.signs store.old) (St.signs store.new) }
 {
@@ -102,6 +103,7 @@ fn keep_lowest<St: Store>(
     ensures went { Reads c.now.tracker (scene rows.old (St.holds store.old) (St.signs store.old)) (scene rows.new (St.holds store.new) (St.signs store.new)) }
     ensures same { rows.new ≡ record rows.old { pinned = rows.new.pinned } }
     ensures cause { IfErr result (λ e. WasAnswered e (St.signs store.old) (St.signs store.new)) }
+    ensures short { IfErr result (IsShort rows.old.page_blocks) }
 {
     entries.clear();
     let mut spare = Entry::new(alloc);

@@ -6,28 +6,24 @@ use Rattle.std.proofs.Math.Seq.{set-append_seam}
 use Rattle.std.proofs.lemmas.List.Elements.{All-nil}
 use Rattle.std.proofs.lemmas.List.Sums.{sum_by-append, sum_by-cons}
 use Rattle.std.proofs.lemmas.Option.{none-some, same_Some}
-use Rattle.pool_model.specs.declared.event.Event.{Event}
 use Rattle.store_api.specs.Holdings.{Holdings}
 use Rattle.store_api.specs.Signs.{Grows, Signs}
 use Rattle.store_api.proofs.Growing.{grows_refl, grows_trans}
 use Rattle.tuple_stream.specs.Streamed.{OpenPage, Streamed, len_in}
 use Rattle.tuple_stream.specs.Streams.{IsApart}
 use Rattle.tuple_stream.specs.Touches.{held, slots_of}
-use Rattle.tuple_stream.specs.Trails.{EnteredEvents, creates_in}
+use Rattle.tuple_stream.specs.Trails.{EnteredEvents}
 use Rattle.tuple_stream.specs.Steps.{Scene, scene}
 use Rattle.tuple_stream.specs.Spending.{Empties}
-use Rattle.tuple_stream.specs.Families.{AreShaped, Family, FamilySteps, GoesAll, IsOutside, TouchesAll, changed, family}
+use Rattle.tuple_stream.specs.Families.{AllClosed, AreShaped, Family, FamilySteps, GoesAll, IsOutside, TouchesAll, changed, family}
 use Rattle.tuple_stream.proofs.BuildingQuiet.{creates_join}
 use Rattle.tuple_stream.proofs.FamilyChains.{touches_both, touches_none}
 use Rattle.tuple_stream.proofs.FamilyStep.{goes_step}
 use Rattle.tuple_stream.proofs.PageLists.{at_end, still_at}
-use Rattle.tuple_stream.proofs.Sinces.{since_joined, since_now, since_so}
-use Rattle.partition_stack.specs.Changes.{EndsAll}
+use Rattle.tuple_stream.proofs.PinsFirst.{both_pin_first}
+use Rattle.tuple_stream.proofs.Sinces.{since_joined, since_now}
+use Rattle.partition_stack.specs.Changes.{EndsAll, HaveEnded}
 use Rattle.partition_stack.proofs.ListPlaces.{front_or_behind}
-
--- nothing is made
-abbrev pub MakesNone : List Event → Type 0
-MakesNone events = creates_in events ≡ 0
 
 -- ---- a stream without pages behind others counts for nothing
 
@@ -94,11 +90,12 @@ shaped_front t streams e h signs shaped =
 pub record Left (t : ℕ) (f g : Family) : Type 0 where
   pub shaped : AreShaped t g
   pub touches : TouchesAll t f g
-  pub trail : EnteredEvents MakesNone f.signs.trail g.signs.trail
+  pub closed : AllClosed f → AllClosed g
+  pub trail : EnteredEvents (HaveEnded f) f.signs.trail g.signs.trail
   pub grows : Grows f.signs g.signs
 
 pub none_left : (t : ℕ) (f : Family) → AreShaped t f → Left t f f
-none_left t f shaped = record { shaped = shaped; touches = touches_none t f; trail = since_now MakesNone f.signs.trail refl; grows = grows_refl f.signs }
+none_left t f shaped = record { shaped = shaped; touches = touches_none t f; closed = λ all. all; trail = since_now (HaveEnded f) f.signs.trail (record { creates = refl; first = λ all. tt }); grows = grows_refl f.signs }
 
 pub one_left : (t : ℕ) (f : Family) (all streams : List Streamed) (s : Streamed) (h : Holdings) (signs : Signs) (b : Scene) → all ≡ streams ++ s ∷ [] → Left t f (family all h signs) → Empties t (scene s h signs) b → b.stream.pages ≡ [] → b.stream.pinned ≡ None → Left t f (family streams b.held b.signs)
 one_left t f all streams s h signs b split was empties none closed =
@@ -111,10 +108,13 @@ one_left t f all streams s h signs b split was empties none closed =
       shaped = shaped_front t streams b.stream b.held b.signs (subst (λ (ss : List Streamed). AreShaped t (family ss b.held b.signs)) same step.shaped);
       touches = touches_both f g (family streams b.held b.signs) t mid.touches (touches_front t g streams b.stream b.held b.signs none closed touches);
       trail =
-          since_joined MakesNone MakesNone MakesNone f.signs.trail signs.trail b.signs.trail
-          (λ first next one two. let sum = creates_join first next in omega (arith, sum, one, two))
-          mid.trail
-          (since_so (GoesAll g (changed (length streams) b g)) MakesNone signs.trail b.signs.trail (λ events goes. goes.creates) step.trail);
+          since_joined (HaveEnded f) (GoesAll g (changed (length streams) b g)) (HaveEnded f) f.signs.trail signs.trail b.signs.trail
+          (λ first next one two. record {
+            creates = let sum = creates_join first next in let none = one.creates in let more = two.creates in omega (arith, sum, none, more);
+            first = λ all. both_pin_first first next (one.first all) (two.reads (mid.closed all)).first;
+          })
+          mid.trail step.trail;
+      closed = λ all i r at. mid.closed all i r (still_at streams s r i at);
       grows = grows_trans f.signs signs b.signs mid.grows step.grows;
     }
 

@@ -1,11 +1,12 @@
 -- What calls change of a stack, and of what its client has. Lengths are in bytes.
 use Rattle.std.specs.Prelude.{◌≡◌, ◌≢◌, ℕ, ◌+◌, List, [], slice_get, Option, Some, None, IsSome}
+use Rattle.pool_model.specs.declared.event.Event.{Event}
 use Rattle.store_api.specs.Holdings.{LivePage, account_of, unused_of}
 use Rattle.store_api.specs.Signs.{Grows}
-use Rattle.tuple_stream.specs.Trails.{EnteredEvents, creates_in}
+use Rattle.tuple_stream.specs.Trails.{EnteredEvents, PinsFirst, creates_in}
 use Rattle.tuple_stream.specs.Streamed.{Streamed}
 use Rattle.tuple_stream.specs.FamilyCalls.{SpendsIn}
-use Rattle.tuple_stream.specs.Families.{AreShaped, Family, IsOutside, TouchesAll, held_in}
+use Rattle.tuple_stream.specs.Families.{AllClosed, AreShaped, Family, IsOutside, TouchesAll, held_in}
 use Rattle.partition_stack.specs.Stack.{Stack}
 
 -- no partition changed but the one at this place
@@ -27,9 +28,14 @@ pub record Owns (t lent : ℕ) (f : Family) : Type 0 where
   pub only : (q : ℕ) (page : LivePage) → f.held.pages q ≡ Some page → IsOutside q f.streams → page.client ≢ t
   pub even : unused_of t f.held + held_in f + lent ≡ (account_of t f.held).reservation
 
+-- no page came; and where none was pinned, none was left before one was pinned again
+pub record HaveEnded (f : Family) (events : List Event) : Type 0 where
+  pub creates : creates_in events ≡ 0
+  pub first : AllClosed f → PinsFirst events
+
 -- all pages went, and the streams with them
 pub record EndsAll (t : ℕ) (f g : Family) : Type 0 where
   pub none : g.streams ≡ []
   pub touches : TouchesAll t f g
-  pub trail : EnteredEvents (λ events. creates_in events ≡ 0) f.signs.trail g.signs.trail
+  pub trail : EnteredEvents (HaveEnded f) f.signs.trail g.signs.trail
   pub grows : Grows f.signs g.signs

@@ -1,7 +1,7 @@
 use Rattle.std.proofs.Common.{◌≡◌, Err, arith, rules}
 use Rattle.store_api.proofs.Answered.{answered_before}
 use Rattle.group_op.specs.Held.{state}
-use Rattle.group_op.proofs.Absorbs.{all_rows, first_absorbs, more_absorbs, none_place, none_rows, place_called, serves_called, spent_none, spent_row}
+use Rattle.group_op.proofs.Absorbs.{all_rows, first_absorbs, more_absorbs, none_first, none_place, none_rows, place_called, serves_called, spent_none, spent_row}
 use Rattle.group_op.proofs.Keeping.{room_of_read}
 use Rattle.group_op.proofs.Serving.{serves_then}
 use Rattle.group_op.proofs.absorbing.absorb.Goals as goal
@@ -90,3 +90,14 @@ pub returns-clause-rows : goal.returns-clause-rows
 returns-clause-rows g c =
     all_rows c.args.c.now.tracker c.args.shape.now c.args.at c.args.level c.loop-left.divided c.loop-left.left (state c.args.table.now c.args.parts.now (g.St.Store.holds c.args.store.now) (g.St.Store.signs c.args.store.now)) c.loop-left.table c.loop-left.parts c.loop-left.parts
     (g.St.Store.holds c.loop-left.store) (g.St.Store.holds c.loop-left.store) (g.St.Store.signs c.loop-left.store) (g.St.Store.signs c.loop-left.store) c.loop-left.invariant (omega (arith, c.loop-left-test.false))
+
+pub returns-then-not-branch-clause-first : goal.returns-then-not-branch-clause-first
+returns-then-not-branch-clause-first g c =
+    none_first c.args.c.now.tracker c.args.shape.now c.args.at c.args.level c.loop-left.divided c.loop-left.left (state c.args.table.now c.args.parts.now (g.St.Store.holds c.args.store.now) (g.St.Store.signs c.args.store.now)) c.loop-left.table c.loop-left.parts c.spend.new.self
+    (g.St.Store.holds c.loop-left.store) (g.St.Store.holds c.spend.new.store) (g.St.Store.signs c.loop-left.store) (g.St.Store.signs c.spend.new.store) c.loop-left.invariant
+    (spent_none c.args.c.now.tracker c.args.shape.now c.args.at c.args.level c.loop-left.divided c.loop-left.left (state c.args.table.now c.args.parts.now (g.St.Store.holds c.args.store.now) (g.St.Store.signs c.args.store.now)) c.loop-left.table c.loop-left.parts c.spend.new.self
+    (g.St.Store.holds c.loop-left.store) (g.St.Store.holds c.spend.new.store) (g.St.Store.signs c.loop-left.store) (g.St.Store.signs c.spend.new.store) c.loop-left.invariant
+    c.in_ok-spend.field-0 c.spend.new.out.items c.in_ok-spend.ensures.ok c.if-not-branch.true)
+
+pub returns-clause-first : goal.returns-clause-first
+returns-clause-first g c = c.loop-left.invariant.first

@@ -1,4 +1,4 @@
-use Rattle.std.proofs.Common.{rules, suc, [], ◌∷◌, ◌++◌, ◌≤◌, length, drop, sym, subst, List}
+use Rattle.std.proofs.Common.{rules, suc, [], ◌∷◌, ◌++◌, ◌≤◌, length, drop, refl, sym, subst, List}
 use Rattle.std.specs.Prelude.{slice_index_or}
 use Rattle.std.proofs.lemmas.List.{take_all}
 use Rattle.row_codec.specs.declared.values.Value.{Value}
@@ -10,7 +10,7 @@ use Rattle.group_op.specs.InOrder.{said_at}
 use Rattle.group_op.specs.Stored.{partial_at}
 use Rattle.group_op.proofs.Emitting.{came_behind, emitted_behind, emitted_none, front_behind, front_none, stood_more, stood_none}
 use Rattle.group_op.proofs.Finding.{entry_row}
-use Rattle.group_op.proofs.Saying.{all_one, said_more, said_split, said_there}
+use Rattle.group_op.proofs.Saying.{all_one, none_inside, said_more, said_split, said_there}
 use Rattle.group_op.proofs.emission.emit_places.Goals as goal
 
 pub returns-in_default-clause-err : goal.returns-in_default-clause-err
@@ -20,6 +20,7 @@ pub loop-place-init : goal.loop-place-init
 loop-place-init g c =
     record {
       emitted = emitted_none _ _;
+      still = λ none. refl;
       stood = stood_none _ _ _ _ _ c.requires.client;
     }
 
@@ -66,6 +67,7 @@ returns-in_err-emit_place-clause-stood g c = stood_more _ _ _ _ _ _ _ _ _ _ _ _ 
 pub loop-place-preserved : goal.loop-place-preserved
 loop-place-preserved g c =
     record {
+      still = λ none. absurd (none_inside _ _ none c.loop-place-test.true);
       emitted = subst (Emitted c.args.shape.now _ _) (sym (said_more c.args.shape.now c.args.table.now.nodes c.args.places.now c.loop-place.place-index c.loop-place-test.true))
           (emitted_behind _ _ _ _ _ c.loop-place.invariant.emitted _ c.in_ok-emit_place.ensures.ok);
       stood = stood_more _ _ _ _ _ _ _ _ _ _ _ _ _ _ _ c.loop-place.invariant.stood c.emit_place.ensures.stood;
@@ -78,3 +80,9 @@ returns-clause-ok g c =
 
 pub returns-clause-stood : goal.returns-clause-stood
 returns-clause-stood g c = c.loop-place.invariant.stood
+
+pub returns-in_err-emit_place-clause-still : goal.returns-in_err-emit_place-clause-still
+returns-in_err-emit_place-clause-still g c = λ none. absurd (none_inside _ _ none c.loop-place-test.true)
+
+pub returns-clause-still : goal.returns-clause-still
+returns-clause-still g c = c.loop-place.invariant.still

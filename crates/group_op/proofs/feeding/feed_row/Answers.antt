@@ -1,4 +1,4 @@
-use Rattle.std.proofs.Common.{ℕ, List, [], ◌∷◌, ◌++◌, Option, Some, OnOk, sym, subst}
+use Rattle.std.proofs.Common.{ℕ, ◌*◌, List, ap, [], ◌∷◌, ◌++◌, Option, Some, OnOk, sym, subst}
 use Rattle.pool_model.specs.declared.entry.Entry.{Entry}
 use Rattle.row_codec.specs.declared.values.Value.{Value}
 use Rattle.store_api.specs.Holdings.{Holdings}
@@ -8,7 +8,7 @@ use Rattle.group_op.specs.Held.{state}
 use Rattle.group_op.specs.Operator.{Keeps, Spells, operator}
 use Rattle.group_op.specs.Putting.{HasPut}
 use Rattle.group_op.proofs.Chained.{leaves_then}
-use Rattle.group_op.proofs.Entering.{cause_after}
+use Rattle.group_op.proofs.Entering.{cause_after, works_len}
 use Rattle.group_op.proofs.Kept.{keeps_put}
 use Rattle.group_op.proofs.feeding.feed_row.Goals as goal
 
@@ -23,7 +23,8 @@ returns-in_default-clause-keeps g c =
     let shape = c.args.shape.now in
     subst (λ (now : Option Table). OnOk c.put-result.result ((start : Option (List Entry)) (rows : List (List Value)) (row : List Value) → Spells shape c.args.fed.now.row.items row → Keeps start rows (operator c.args.c.now shape c.args.parts.now c.args.table.now) h0 s0 → Keeps start (rows ++ row ∷ []) (operator c.args.c.now shape c.put-result.new.parts now) h2 s2)) (sym c.replace.ensures.after)
     (subst (λ (was : Option Table). OnOk c.put-result.result ((start : Option (List Entry)) (rows : List (List Value)) (row : List Value) → Spells shape c.args.fed.now.row.items row → Keeps start rows (operator c.args.c.now shape c.args.parts.now was) h0 s0 → Keeps start (rows ++ row ∷ []) (operator c.args.c.now shape c.put-result.new.parts (Some c.put-result.new.table)) h2 s2)) c.take.ensures.value
-    (keeps_put c.args.c.now shape c.args.fed.now.row.items c.take.result c.in_ok-own.own c.put-result.new.table c.args.parts.now c.put-result.new.parts h0 h1 h2 s0 s1 s2 c.put-result.result c.in_ok-own.ensures.has
+    (keeps_put c.args.c.now shape c.args.fed.now.row.items c.take.result c.in_ok-own.own c.put-result.new.table c.args.parts.now c.put-result.new.parts h0 h1 h2 s0 s1 s2 c.put-result.result c.requires.op.shape c.requires.row
+    (ap (λ (n : ℕ). c.args.parts.now.page_blocks * n) c.in_ok-own.ensures.leaves.others.block_len) (works_len c.args.c.now.tracker shape (state c.in_ok-own.own c.args.parts.now h1 s1) (state c.put-result.new.table c.put-result.new.parts h2 s2) c.put-result.ensures.works) c.in_ok-own.ensures.has
     (subst (λ (bytes : List ℕ). OnOk c.put-result.result (HasPut shape 0 0 bytes (state c.in_ok-own.own c.args.parts.now h1 s1) (state c.put-result.new.table c.put-result.new.parts h2 s2))) c.deref-2.ensures.value c.put-result.ensures.ok)))
 
 pub returns-in_default-clause-leaves : goal.returns-in_default-clause-leaves

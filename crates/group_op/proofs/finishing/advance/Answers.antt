@@ -1,7 +1,13 @@
-use Rattle.std.proofs.Common.{rules, ◌≡◌, ◌∙◌, ◌+◌, ◌-◌, ℕ, List, length, take, ap, arith}
+use Rattle.std.proofs.Common.{rules, ◌≡◌, ◌∙◌, ◌+◌, ◌-◌, ℕ, Bool, List, length, take, Some, ap, subst, arith}
+use Rattle.std.specs.Prelude.{slice_get}
+use Rattle.tuple_stream.specs.Trails.{EnteredEvents}
 use Rattle.group_op.specs.Emission.{EmittedFront}
 use Rattle.group_op.specs.Finishing.{Stacked, said_down}
 use Rattle.group_op.specs.Held.{state}
+use Rattle.group_op.specs.Causes.{IsShort}
+use Rattle.group_op.specs.Pinning.{HasBegun}
+use Rattle.group_op.proofs.Shorts.{short_as}
+use Rattle.group_op.proofs.Begun.{gone_divided, gone_handed, not_last}
 use Rattle.group_op.proofs.Advancing.{advances_divided, advances_popped, came_later, front_popped, front_same, ok_both}
 use Rattle.group_op.proofs.Besides.{own_same, serves_own, serves_then, stands_own, stands_then}
 use Rattle.group_op.proofs.Divided.{less_popped}
@@ -102,3 +108,31 @@ returns-clause-emitter g c =
 
 pub returns-clause-cause : goal.returns-clause-cause
 returns-clause-cause g c = came_later c.hand_on.result _ _ _ _ _ _ (omega arith) c.spend_top.ensures.serves.leaves.grows c.hand_on.ensures.cause
+
+pub returns-then-level-eq16-clause-first : goal.returns-then-level-eq16-clause-first
+returns-then-level-eq16-clause-first g c =
+    let last : slice_get c.args.parts.now.levels (c.len-at.result - 1) ≡ Some 16 = c.level-level.ensures.value ∙ ap Some c.if-level-eq16.true in
+    on_ok c.leaf.result (λ popped shallow. absurd (not_last c.args.parts.now.levels (c.len-at.result - 1) shallow last)) c.leaf.ensures.popped
+
+pub returns-then-branch-clause-first : goal.returns-then-branch-clause-first
+returns-then-branch-clause-first g c = λ shallow.
+    gone_divided c.spend_top.new.parts.levels (state c.spend_top.new.table c.spend_top.new.parts (g.St.Store.holds c.spend_top.new.store) (g.St.Store.signs c.spend_top.new.store)) (g.St.Store.signs c.args.store.now).trail (g.St.Store.signs c.spend_top.new.store).trail (subst (λ (d : Bool). EnteredEvents (HasBegun d (state c.spend_top.new.table c.spend_top.new.parts (g.St.Store.holds c.spend_top.new.store) (g.St.Store.signs c.spend_top.new.store))) (g.St.Store.signs c.args.store.now).trail (g.St.Store.signs c.spend_top.new.store).trail) c.if-branch.true c.in_ok-spend_top.ensures.first)
+
+pub returns-clause-first : goal.returns-clause-first
+returns-clause-first g c =
+    let whole = c.in_ok-spend_top.ensures.whole c.if-branch.false in
+    ok_both c.hand_on.result
+    (λ first popped shallow.
+    gone_handed (state c.spend_top.new.table c.spend_top.new.parts (g.St.Store.holds c.spend_top.new.store) (g.St.Store.signs c.spend_top.new.store)) c.args.parts.now.levels c.hand_on.new.parts.levels (c.len-at.result - 1) (g.St.Store.signs c.args.store.now).trail (g.St.Store.signs c.spend_top.new.store).trail (g.St.Store.signs c.hand_on.new.store).trail
+    (popped.1.levels ∙ ap (take (c.len-at.result - 1)) whole.0.1) shallow
+    (subst (λ (d : Bool). EnteredEvents (HasBegun d (state c.spend_top.new.table c.spend_top.new.parts (g.St.Store.holds c.spend_top.new.store) (g.St.Store.signs c.spend_top.new.store))) (g.St.Store.signs c.args.store.now).trail (g.St.Store.signs c.spend_top.new.store).trail) c.if-branch.false c.in_ok-spend_top.ensures.first)
+    c.hand_on.ensures.serves.leaves.grows.trail first)
+    c.hand_on.ensures.first c.hand_on.ensures.popped
+
+pub returns-in_err-spend_top-clause-short : goal.returns-in_err-spend_top-clause-short
+returns-in_err-spend_top-clause-short g c = λ none.
+    let short : IsShort c.args.parts.now.page_blocks c.in_err-spend_top.field-0.0 = c.in_err-spend_top.ensures.short in
+    search (rules, short)
+
+pub returns-clause-short : goal.returns-clause-short
+returns-clause-short g c = λ none. short_as c.hand_on.result c.spend_top.new.parts.page_blocks c.args.parts.now.page_blocks c.spend_top.ensures.serves.blocks (c.hand_on.ensures.short none)

@@ -1,14 +1,18 @@
 use Rattle.std.proofs.Common.{rules, false, ◌∙◌, [], ℕ, List, length, take, ap, subst}
 use Rattle.std.specs.Prelude.{slice_get}
 use Rattle.tuple_stream.specs.Streamed.{Streamed}
+use Rattle.tuple_stream.specs.Steps.{scene}
 use Rattle.tuple_stream.proofs.PageLists.{at_end}
 use Rattle.bucket_table.specs.Tables.{Table}
+use Rattle.group_op.specs.Causes.{IsShortOf}
 use Rattle.group_op.specs.Emission.{Emitted, EmittedFront}
+use Rattle.group_op.proofs.Shorts.{alone_short}
 use Rattle.group_rows.specs.Partials.{combined_of}
 use Rattle.group_op.specs.Finishing.{HasRead}
 use Rattle.group_op.specs.Held.{state}
 use Rattle.group_op.specs.Stored.{grouping_of, partials_at}
 use Rattle.group_op.proofs.Besides.{beside_stood, closed_popped, leaves_popped, own_same, serves_emit, stands_emit, stands_own, stands_then}
+use Rattle.group_op.proofs.Begun.{top_goes}
 use Rattle.group_op.proofs.HandedOn.{emitted_on, groups_read, popped_long, serves_handed, shows_handed}
 use Rattle.group_op.proofs.finishing.hand_on.Goals as goal
 
@@ -72,3 +76,18 @@ returns-clause-ok g c =
           (λ rows took. g.met.E.Emit.asks_own c.emit_table.new.emit (g.St.Store.holds c.emit_table.new.store) (g.St.Store.holds c.drop_all.new.store) rows (own_same c.args.c.now.tracker _ (state c.args.table.now c.args.parts.now (g.St.Store.holds c.emit_table.new.store) (g.St.Store.signs c.emit_table.new.store)) (state c.args.table.now c.pop-top.new.self (g.St.Store.holds c.drop_all.new.store) (g.St.Store.signs c.drop_all.new.store)) beside.apart leaves) took)
           (subst (Emitted c.args.shape.now _ _) (groups_read c.args.shape.now c.args._at level rows _ read) (c.in_ok-emit_table.ensures.ok read.distinct)),
     )
+
+pub returns-clause-first : goal.returns-clause-first
+returns-clause-first g c =
+    let stood = c.emit_table.ensures.stood in
+    let serves = serves_emit c.args.c.now.tracker _ c.args.shape.now c.args.table.now c.args.parts.now _ _ _ _ c.requires.emitter.apart stood.others c.requires.held stood.grows c.requires.entries in
+    let shape = serves.held.owns.shaped.each (length c.pop-top.new.self.streams) c.pop-top.result (ap (λ (ss : List Streamed). slice_get ss (length c.pop-top.new.self.streams)) c.pop-top.ensures.streams ∙ at_end c.pop-top.new.self.streams c.pop-top.result) in
+    λ between.
+    top_goes c.args.c.now.tracker c.args.table.now c.args.parts.now c.pop-top.new.self.streams c.pop-top.result (g.St.Store.holds c.args.store.now) (g.St.Store.holds c.emit_table.new.store) (g.St.Store.signs c.args.store.now) (g.St.Store.signs c.emit_table.new.store)
+    (scene c.drop_all.new.self (g.St.Store.holds c.drop_all.new.store) (g.St.Store.signs c.drop_all.new.store)) c.pop-top.ensures.streams (c.drop_all.ensures.went c.args.c.now.tracker shape) (c.emit_table.ensures.still between.empty) between
+
+pub returns-in_err-emit_table-clause-short : goal.returns-in_err-emit_table-clause-short
+returns-in_err-emit_table-clause-short g c = λ none.
+    let short : IsShortOf c.args.parts.now.page_blocks c.in_err-emit_table.field-0.0 =
+    alone_short c.args.parts.now.page_blocks _ _ _ _ c.in_err-emit_table.field-0.0 (c.emit_table.ensures.stood.alone none) c.in_err-emit_table.ensures.cause in
+    search (rules, short)

@@ -1,6 +1,11 @@
-use Rattle.std.proofs.Common.{◌∙◌, ℕ, List, ap, subst, take}
+use Rattle.std.proofs.Common.{◌≡◌, ◌∙◌, ℕ, List, length, ap, subst, take}
+use Rattle.std.specs.Prelude.{slice_get}
 use Rattle.row_codec.specs.declared.values.Value.{Value}
 use Rattle.tuple_stream.specs.Steps.{scene}
+use Rattle.tuple_stream.specs.Streamed.{Streamed}
+use Rattle.tuple_stream.proofs.PageLists.{at_end}
+use Rattle.group_op.specs.Causes.{IsShortOf}
+use Rattle.group_op.proofs.Shorts.{if_err}
 use Rattle.group_rows.specs.Partials.{combined_of}
 use Rattle.group_op.specs.Emission.{Emitted, EmittedFront, IsBeside}
 use Rattle.group_op.specs.Stored.{grouping_of, partials_at}
@@ -65,4 +70,10 @@ returns-clause-emitter g c =
 pub returns-clause-cause : goal.returns-clause-cause
 returns-clause-cause g c =
     came_till c.leaf_by_scan-result.result (g.E.Emit.faults c.args.emit.now) (g.E.Emit.faults c.leaf_by_scan-result.new.emit) (g.St.Store.signs c.args.store.now) (g.St.Store.signs c.leaf_by_scan-result.new.store) (g.St.Store.signs c.drop_all.new.store)
-    (leaves_gone c.args.c.now.tracker (g.E.Emit.client c.args.emit.now) c.args.shape.now c.args._table.now c.args.parts.now c.pop-top.new.self c.pop-top.result c.leaf_by_scan-result.new.rows (g.St.Store.holds c.args.store.now) (g.St.Store.holds c.leaf_by_scan-result.new.store) (g.St.Store.signs c.args.store.now) (g.St.Store.signs c.leaf_by_scan-result.new.store) c.requires.held c.pop-top.ensures.streams c.leaf_by_scan-result.ensures.stream (scene c.drop_all.new.self (g.St.Store.holds c.drop_all.new.store) (g.St.Store.signs c.drop_all.new.store)) c.pop-top.ensures.blocks (c.drop_all.ensures.went c.args.c.now.tracker c.leaf_by_scan-result.ensures.stream.shape) c.drop_all.ensures.value).grows c.leaf_by_scan-result.ensures.cause
+    (leaves_gone c.args.c.now.tracker (g.E.Emit.client c.args.emit.now) c.args.shape.now c.args._table.now c.args.parts.now c.pop-top.new.self c.pop-top.result c.leaf_by_scan-result.new.rows (g.St.Store.holds c.args.store.now) (g.St.Store.holds c.leaf_by_scan-result.new.store) (g.St.Store.signs c.args.store.now) (g.St.Store.signs c.leaf_by_scan-result.new.store) c.requires.held c.pop-top.ensures.streams c.leaf_by_scan-result.ensures.stream (scene c.drop_all.new.self (g.St.Store.holds c.drop_all.new.store) (g.St.Store.signs c.drop_all.new.store)) c.pop-top.ensures.blocks (c.drop_all.ensures.went c.args.c.now.tracker c.leaf_by_scan-result.ensures.stream.shape) c.drop_all.ensures.value).grows (if_err c.leaf_by_scan-result.result (λ e both. both.came) c.leaf_by_scan-result.ensures.cause)
+
+pub returns-clause-short : goal.returns-clause-short
+returns-clause-short g c =
+    let blocks : c.pop-top.result.page_blocks ≡ c.args.parts.now.page_blocks =
+    c.law_stack.ensures.each (length c.pop-top.new.self.streams) c.pop-top.result (ap (λ (ss : List Streamed). slice_get ss (length c.pop-top.new.self.streams)) c.pop-top.ensures.streams ∙ at_end c.pop-top.new.self.streams c.pop-top.result) in
+    λ none. if_err c.leaf_by_scan-result.result (λ e both. subst (λ (n : ℕ). IsShortOf n e) blocks (both.short none)) c.leaf_by_scan-result.ensures.cause

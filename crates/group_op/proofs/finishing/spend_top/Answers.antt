@@ -1,12 +1,17 @@
-use Rattle.std.proofs.Common.{rules, ◌≡◌, ◌∙◌, [], true, ap, arith}
+use Rattle.std.proofs.Common.{rules, ◌≡◌, ◌∙◌, ℕ, Bool, [], true, false, ap, subst, arith}
 use Rattle.std.proofs.lemmas.Option.{slice_get_within}
 use Rattle.store_api.specs.Signs.{WasAnswered}
 use Rattle.store_api.proofs.Answered.{answered_before}
 use Rattle.store_api.proofs.Growing.{grows_trans}
+use Rattle.tuple_stream.specs.Trails.{EnteredEvents}
 use Rattle.bucket_table.specs.Tables.{Table}
 use Rattle.partition_stack.specs.Stack.{Stack}
 use Rattle.group_op.specs.Finishing.{HasRead, IsRead}
 use Rattle.group_op.specs.Held.{state}
+use Rattle.group_op.specs.Causes.{IsShort}
+use Rattle.group_op.specs.Pinning.{HasBegun}
+use Rattle.group_op.proofs.Shorts.{full_short}
+use Rattle.group_op.proofs.Begun.{begun_divided}
 use Rattle.group_op.proofs.Divided.{has_divided, less_divided, serves_works}
 use Rattle.group_op.proofs.Keeping.{works_touched}
 use Rattle.group_op.proofs.finishing.spend_top.Goals as goal
@@ -55,3 +60,32 @@ returns-clause-divided g c =
           has_divided c.args.c.now.tracker c.args.shape.now c.args.at c.args.level _ rows _ _ c.flush.new.table c.flush.new.parts c.rest_from.new.self _ _ _ _ stacked c.requires.top c.requires.level c.requires.deep.0 has read
           c.absorb.ensures.serves c.absorb.ensures.serves.entries c.in_ok-flush.ensures.ok c.flush.ensures.works _ c.in_ok-rest_from.ensures.ok levels,
     )
+
+pub returns-then-not-branch-clause-first : goal.returns-then-not-branch-clause-first
+returns-then-not-branch-clause-first g c =
+    let not : c.in_ok-absorb.field-0 ≡ false = search (rules, c.if-not-branch.true) in
+    subst (λ (d : Bool). EnteredEvents (HasBegun d (state c.absorb.new.table c.absorb.new.parts (g.St.Store.holds c.absorb.new.store) (g.St.Store.signs c.absorb.new.store))) (g.St.Store.signs c.args.store.now).trail (g.St.Store.signs c.absorb.new.store).trail) not c.in_ok-absorb.ensures.first
+
+pub returns-clause-first : goal.returns-clause-first
+returns-clause-first g c =
+    let yes : c.in_ok-absorb.field-0 ≡ true = search (rules, c.if-not-branch.false) in
+    begun_divided (state c.absorb.new.table c.absorb.new.parts (g.St.Store.holds c.absorb.new.store) (g.St.Store.signs c.absorb.new.store)) (state c.flush.new.table c.rest_from.new.self (g.St.Store.holds c.rest_from.new.store) (g.St.Store.signs c.rest_from.new.store)) (g.St.Store.signs c.args.store.now).trail (g.St.Store.signs c.absorb.new.store).trail (g.St.Store.signs c.rest_from.new.store).trail
+    (subst (λ (d : Bool). EnteredEvents (HasBegun d (state c.absorb.new.table c.absorb.new.parts (g.St.Store.holds c.absorb.new.store) (g.St.Store.signs c.absorb.new.store))) (g.St.Store.signs c.args.store.now).trail (g.St.Store.signs c.absorb.new.store).trail) yes c.in_ok-absorb.ensures.first)
+    (grows_trans _ _ _ c.flush.ensures.works.leaves.grows c.rest_from.ensures.went.grows).trail
+
+pub returns-in_err-absorb-clause-short : goal.returns-in_err-absorb-clause-short
+returns-in_err-absorb-clause-short g c =
+    let short : IsShort c.args.parts.now.page_blocks c.in_err-absorb.field-0.0 = full_short c.args.parts.now.page_blocks _ c.in_err-absorb.field-0.0 c.in_err-absorb.ensures.full in
+    search (rules, short)
+
+pub returns-in_err-flush-clause-short : goal.returns-in_err-flush-clause-short
+returns-in_err-flush-clause-short g c =
+    let short : IsShort c.args.parts.now.page_blocks c.in_err-flush.field-0.0 =
+    subst (λ (n : ℕ). IsShort n c.in_err-flush.field-0.0) c.absorb.ensures.serves.blocks (full_short c.absorb.new.parts.page_blocks _ c.in_err-flush.field-0.0 c.in_err-flush.ensures.full) in
+    search (rules, short)
+
+pub returns-in_err-rest_from-clause-short : goal.returns-in_err-rest_from-clause-short
+returns-in_err-rest_from-clause-short g c =
+    let short : IsShort c.args.parts.now.page_blocks c.in_err-rest_from.field-0.0 =
+    subst (λ (n : ℕ). IsShort n c.in_err-rest_from.field-0.0) (c.flush.ensures.works.blocks ∙ c.absorb.ensures.serves.blocks) (full_short c.flush.new.parts.page_blocks _ c.in_err-rest_from.field-0.0 c.in_err-rest_from.ensures.full) in
+    search (rules, short)

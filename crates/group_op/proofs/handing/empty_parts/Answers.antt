@@ -1,10 +1,13 @@
-use Rattle.std.proofs.Common.{rules, ◌++◌, ℕ, List, length, arith}
+use Rattle.std.proofs.Common.{rules, ◌∙◌, ◌++◌, ℕ, List, length, subst, arith}
 use Rattle.store_api.specs.Emitters.{CameOf}
+use Rattle.group_op.specs.Causes.{IsShortOf}
 use Rattle.group_op.specs.Emission.{EmittedFront}
 use Rattle.group_op.specs.Finishing.{Stacked, said_down}
+use Rattle.partition_stack.specs.Stack.{over}
 use Rattle.group_op.specs.Held.{state}
 use Rattle.group_op.proofs.Advancing.{advances_all, advances_front, advances_none, advances_then}
 use Rattle.group_op.proofs.Besides.{beside_stands, serves_more, serves_none, stands_none, stands_then}
+use Rattle.group_op.proofs.Begun.{gone_all, gone_more, gone_none}
 use Rattle.group_op.proofs.Emitting.{came_behind}
 use Rattle.group_op.proofs.handing.empty_parts.Goals as goal
 
@@ -14,6 +17,7 @@ down-init g c =
       between = c.requires.between;
       serves = serves_none c.args.c.now.tracker _ c.args.shape.now (state c.args.table.now c.args.parts.now (g.St.Store.holds c.args.store.now) (g.St.Store.signs c.args.store.now)) c.requires.held c.requires.entries;
       stands = stands_none _ _ _ _ _ c.requires.emitter.lives;
+      first = λ shallow. gone_none c.args.parts.now.levels (g.St.Store.signs c.args.store.now).trail shallow;
       rows = λ rows stacked. advances_none c.args.shape.now (g.E.Emit.took c.args.emit.now (g.St.Store.holds c.args.store.now)) rows (state c.args.table.now c.args.parts.now (g.St.Store.holds c.args.store.now) (g.St.Store.signs c.args.store.now)) stacked;
     }
 
@@ -47,6 +51,9 @@ down-preserved g c =
       between = c.in_ok-advance.ensures.ok.0;
       serves = serves_more c.args.c.now.tracker _ _ c.args.shape.now (state c.args.table.now c.args.parts.now (g.St.Store.holds c.args.store.now) (g.St.Store.signs c.args.store.now)) (state c.down.table c.down.parts (g.St.Store.holds c.down.store) (g.St.Store.signs c.down.store)) (state c.advance.new.table c.advance.new.parts (g.St.Store.holds c.advance.new.store) (g.St.Store.signs c.advance.new.store)) was.stands.client_same was.serves c.advance.ensures.serves;
       stands = stands_then _ _ _ _ _ _ _ _ _ _ _ _ _ _ was.stands c.advance.ensures.emitter;
+      first = λ shallow.
+          gone_more c.down.parts.levels c.advance.new.parts.levels (g.St.Store.signs c.args.store.now).trail (g.St.Store.signs c.down.store).trail (g.St.Store.signs c.advance.new.store).trail
+          (was.first shallow) c.advance.ensures.serves.leaves.grows.trail c.in_ok-advance.ensures.first;
       rows = λ rows stacked.
           let first = was.rows rows stacked in
           advances_then c.args.shape.now (g.E.Emit.took c.args.emit.now (g.St.Store.holds c.args.store.now)) (g.E.Emit.took c.down.emit (g.St.Store.holds c.down.store)) (g.E.Emit.took c.advance.new.emit (g.St.Store.holds c.advance.new.store)) rows (state c.args.table.now c.args.parts.now (g.St.Store.holds c.args.store.now) (g.St.Store.signs c.args.store.now)) (state c.down.table c.down.parts (g.St.Store.holds c.down.store) (g.St.Store.signs c.down.store)) (state c.advance.new.table c.advance.new.parts (g.St.Store.holds c.advance.new.store) (g.St.Store.signs c.advance.new.store)) first (c.in_ok-advance.ensures.ok.1 first.left first.stacked);
@@ -84,3 +91,13 @@ returns-clause-serves g c = c.down.invariant.serves
 
 pub returns-clause-emitter : goal.returns-clause-emitter
 returns-clause-emitter g c = c.down.invariant.stands
+
+pub returns-clause-first : goal.returns-clause-first
+returns-clause-first g c = λ shallow. gone_all c.down.parts.levels (over c.down.parts (g.St.Store.holds c.down.store) (g.St.Store.signs c.down.store)) (g.St.Store.signs c.args.store.now).trail (g.St.Store.signs c.down.store).trail c.down.invariant.between.closed (c.down.invariant.first shallow)
+
+pub returns-in_err-advance-clause-short : goal.returns-in_err-advance-clause-short
+returns-in_err-advance-clause-short g c = λ none.
+    let was = c.down.invariant in
+    let short : IsShortOf c.args.parts.now.page_blocks c.in_err-advance.field-0.0 =
+    subst (λ (n : ℕ). IsShortOf n c.in_err-advance.field-0.0) was.serves.blocks (c.in_err-advance.ensures.short (was.stands.client_same ∙ none)) in
+    search (rules, short)

@@ -1,9 +1,15 @@
-use Rattle.std.proofs.Common.{rules, ◌∙◌, [], ℕ, List, sym, subst, arith, append-nil}
+use Rattle.std.proofs.Common.{rules, ◌∙◌, ◌++◌, [], ℕ, List, sym, subst, arith, append-nil}
 use Rattle.group_op.specs.Emission.{Emitted, EmittedFront}
 use Rattle.group_op.specs.Finished.{ShowsFirst, groups_of_all}
-use Rattle.group_op.specs.Held.{state}
+use Rattle.partition_stack.specs.Stack.{over}
+use Rattle.group_op.specs.Held.{rows_of, state}
+use Rattle.tuple_stream.specs.FamilyCalls.{shares}
 use Rattle.group_op.proofs.Advancing.{came_later, emitted_same, front_same}
 use Rattle.group_op.proofs.Besides.{own_same, serves_own, serves_then, stands_own, stands_then}
+use Rattle.group_op.proofs.Begun.{low_levels}
+use Rattle.group_op.specs.Causes.{IsShort}
+use Rattle.group_op.proofs.Laying.{left_first}
+use Rattle.group_op.proofs.Shorts.{short_as}
 use Rattle.group_op.proofs.Emitting.{emitted_behind, front_behind, on_err, on_ok}
 use Rattle.group_op.proofs.handing.finish_parts.Goals as goal
 
@@ -48,3 +54,19 @@ returns-clause-emitter g c =
 
 pub returns-clause-cause : goal.returns-clause-cause
 returns-clause-cause g c = came_later c.empty_parts.result _ _ _ _ _ _ (omega arith) c.settle.ensures.serves.leaves.grows c.empty_parts.ensures.cause
+
+pub returns-clause-left : goal.returns-clause-left
+returns-clause-left g c =
+    on_ok c.empty_parts.result
+    (λ first start rows built.
+    left_first (rows_of c.args.table.now ++ shares 16 rows) (over c.empty_parts.new.parts (g.St.Store.holds c.empty_parts.new.store) (g.St.Store.signs c.empty_parts.new.store)) start (g.St.Store.signs c.settle.new.store).trail (g.St.Store.signs c.empty_parts.new.store).trail (c.in_ok-settle.ensures.left start rows built)
+    (first (low_levels c.settle.new.parts.levels (c.settle.ensures.levels ∙ c.requires.feeding.first))))
+    c.empty_parts.ensures.first
+
+pub returns-in_err-settle-clause-short : goal.returns-in_err-settle-clause-short
+returns-in_err-settle-clause-short g c = λ none.
+    let short : IsShort c.args.parts.now.page_blocks c.in_err-settle.field-0.0 = c.in_err-settle.ensures.short in
+    search (rules, short)
+
+pub returns-clause-short : goal.returns-clause-short
+returns-clause-short g c = λ none. short_as c.empty_parts.result c.settle.new.parts.page_blocks c.args.parts.now.page_blocks c.settle.ensures.serves.blocks (c.empty_parts.ensures.short none)

@@ -1,10 +1,14 @@
-use Rattle.std.proofs.Common.{ap, arith}
+use Rattle.std.proofs.Common.{rules, ◌∙◌, ap, arith}
 use Rattle.std.proofs.lemmas.Option.{slice_get_within}
 use Rattle.bucket_table.specs.Tables.{Table}
 use Rattle.partition_stack.specs.Stack.{Stack}
 use Rattle.group_op.proofs.Divided.{serves_works}
 use Rattle.group_op.proofs.Emitting.{on_ok}
 use Rattle.group_op.proofs.Keeping.{works_touched}
+use Rattle.group_op.specs.Causes.{IsShort}
+use Rattle.group_op.specs.Held.{state}
+use Rattle.group_op.proofs.Laying.{settled_left}
+use Rattle.group_op.proofs.Shorts.{full_short, short_err}
 use Rattle.group_op.proofs.Settled.{answered_later, has_settled, serves_of}
 use Rattle.group_op.proofs.handing.settle.Goals as goal
 
@@ -33,3 +37,26 @@ returns-clause-serves g c =
 
 pub returns-clause-cause : goal.returns-clause-cause
 returns-clause-cause g c = answered_later c.rest_from.result _ _ _ c.flush.ensures.works.leaves.grows c.rest_from.ensures.cause
+
+pub returns-clause-left : goal.returns-clause-left
+returns-clause-left g c =
+    on_ok c.rest_from.result
+    (λ rests start rows built.
+    settled_left c.args.c.now.tracker c.args.shape.now rows (state c.args.table.now c.args.parts.now (g.St.Store.holds c.args.store.now) (g.St.Store.signs c.args.store.now)) c.flush.new.table c.flush.new.parts c.rest_from.new.self
+    (g.St.Store.holds c.flush.new.store) (g.St.Store.holds c.rest_from.new.store) (g.St.Store.signs c.flush.new.store) (g.St.Store.signs c.rest_from.new.store) start built c.in_ok-flush.ensures.ok rests
+    (let long = rests.steps.long in let many = c.flush.ensures.works.many in let sixteen = c.requires.sixteen in omega (arith, long, many, sixteen)))
+    c.rest_from.ensures.ok
+
+pub returns-in_err-flush-clause-levels : goal.returns-in_err-flush-clause-levels
+returns-in_err-flush-clause-levels g c = c.flush.ensures.works.levels
+
+pub returns-clause-levels : goal.returns-clause-levels
+returns-clause-levels g c = ap (λ (p : Stack). p.levels) c.rest_from.ensures.kept ∙ c.flush.ensures.works.levels
+
+pub returns-in_err-flush-clause-short : goal.returns-in_err-flush-clause-short
+returns-in_err-flush-clause-short g c =
+    let short : IsShort c.args.parts.now.page_blocks c.in_err-flush.field-0.0 = full_short c.args.parts.now.page_blocks _ c.in_err-flush.field-0.0 c.in_err-flush.ensures.full in
+    search (rules, short)
+
+pub returns-clause-short : goal.returns-clause-short
+returns-clause-short g c = short_err c.rest_from.result c.flush.new.parts.page_blocks c.args.parts.now.page_blocks _ c.flush.ensures.works.blocks c.rest_from.ensures.full

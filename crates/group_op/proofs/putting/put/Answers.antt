@@ -1,12 +1,13 @@
 use Rattle.std.proofs.Common.{◌≡◌, ◌≤◌, ℕ, Err, length, ap, sym, subst, arith, rules}
 use Rattle.store_api.proofs.Answered.{answered_before}
 use Rattle.bucket_table.specs.Tables.{Table, used_by}
-use Rattle.group_op.specs.Held.{State, page_len, state}
-use Rattle.group_op.specs.Putting.{HasGrown}
+use Rattle.group_op.specs.Held.{State, page_len, rows_of, state}
+use Rattle.group_op.specs.Putting.{HasGrown, IsTooLong}
 use Rattle.group_op.proofs.Chained.{works_then}
-use Rattle.group_op.proofs.Entering.{entries_new, flushed_moved, four_long, put_grown, rows_formed, works_len}
+use Rattle.group_op.proofs.Entering.{entries_new, flushed_moved, four_long, put_grown, put_of_here, rows_formed, works_len}
 use Rattle.group_op.proofs.Keeping.{works_nodes}
 use Rattle.group_op.proofs.RowForms.{partial_is_framed}
+use Rattle.group_op.proofs.Weighing.{too_long}
 use Rattle.group_op.proofs.putting.put.Goals as goal
 
 pub returns-in_err-flush-clause-works : goal.returns-in_err-flush-clause-works
@@ -42,6 +43,8 @@ returns-clause-ok g c =
     let grown : HasGrown t shape a m = c.put_here.ensures.grown c.if-put_here.false in
     rw c.add_entry.ensures
     (put_grown shape c.args.fan.level c.args.fan.base c.args.hash c.args.row.now t a m c.flush.new.table c.flush.new.parts (g.St.Store.holds c.flush.new.store) (g.St.Store.signs c.flush.new.store) grown (c.put_here.ensures.lacks c.if-put_here.false)
+    (subst (λ (n : ℕ). IsTooLong shape n c.args.row.now (rows_of c.args.table.now)) (works_len t shape a m c.put_here.ensures.works)
+    (too_long shape (page_len m) c.args.row.now m.table (rows_of c.args.table.now) grown.rows c.put_here.ensures.works.entries (c.put_here.ensures.full c.if-put_here.false) (c.put_here.ensures.lacks c.if-put_here.false)))
     (flushed_moved t shape c.args.fan.level c.args.fan.base m b (rows_formed shape _ m.table.heads m.table.nodes grown.works.entries.each) c.in_ok-flush.ensures.ok))
 
 pub returns-clause-works : goal.returns-clause-works
@@ -52,3 +55,8 @@ returns-clause-works g c =
     rw c.add_entry.ensures
     (works_nodes t c.args.shape.now _ _ c.flush.new.table c.flush.new.parts (g.St.Store.holds c.flush.new.store) (g.St.Store.signs c.flush.new.store) works
     (entries_new c.args.shape.now _ c.args.hash c.args.row.now c.flush.new.table works.entries c.requires.row (subst (λ (n : ℕ). length c.args.row.now ≤ n) (sym len) c.requires.short) c.requires.hash))
+
+pub returns-then-put_here-clause-ok : goal.returns-then-put_here-clause-ok
+returns-then-put_here-clause-ok g c =
+    put_of_here c.args.shape.now c.args.fan.level c.args.fan.base c.args.row.now (state c.args.table.now c.args.parts.now (g.St.Store.holds c.args.store.now) (g.St.Store.signs c.args.store.now)) (state c.put_here.new.table c.args.parts.now (g.St.Store.holds c.put_here.new.store) (g.St.Store.signs c.put_here.new.store))
+    (c.put_here.ensures.put c.if-put_here.true)

@@ -1,11 +1,13 @@
-use Rattle.std.proofs.Common.{rules}
+use Rattle.std.proofs.Common.{ℕ, rules, subst}
 use Rattle.store_api.specs.Signs.{WasAnswered}
 use Rattle.store_api.proofs.Answered.{answered_before}
 use Rattle.tuple_stream.specs.Reading.{ReadsRow}
 use Rattle.tuple_stream.specs.Steps.{scene}
 use Rattle.tuple_stream.proofs.ReadRow.{reads_trans}
+use Rattle.group_op.specs.Causes.{IsShort}
 use Rattle.group_op.specs.Keepings.{key_in}
 use Rattle.group_op.proofs.Readings.{keeping_all, keeping_more, keeping_none, kept_few, kept_ordered, none_found, row_found}
+use Rattle.group_op.proofs.Shorts.{full_short}
 use Rattle.group_op.proofs.scanning.keep_lowest.Goals as goal
 
 pub loop-spare-init : goal.loop-spare-init
@@ -44,3 +46,9 @@ returns-clause-kept g c =
 
 pub returns-clause-went : goal.returns-clause-went
 returns-clause-went g c = reads_trans c.args.c.now.tracker _ _ _ c.loop-spare.invariant.read.went c.keep_into.ensures.went
+
+pub returns-in_err-keep_into-clause-short : goal.returns-in_err-keep_into-clause-short
+returns-in_err-keep_into-clause-short g c =
+    let short : IsShort c.args.rows.now.page_blocks c.in_err-keep_into.field-0.0 =
+    subst (λ (n : ℕ). IsShort n c.in_err-keep_into.field-0.0) c.loop-spare.invariant.read.went.step.sized (full_short _ _ c.in_err-keep_into.field-0.0 c.in_err-keep_into.ensures.cause.full) in
+    search (rules, short)

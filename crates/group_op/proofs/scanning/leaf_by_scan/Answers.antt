@@ -1,11 +1,14 @@
-use Rattle.std.proofs.Common.{rules, ◌≡◌, ◌∙◌, ℕ, ◌<◌, ◌-◌, List, ◌++◌, true, length, take, sym, subst, arith}
+use Rattle.std.proofs.Common.{rules, ◌≡◌, ◌∙◌, ℕ, ◌<◌, ◌-◌, List, ◌++◌, true, length, take, ap, sym, subst, arith}
 use Rattle.std.specs.Prelude.{IsSome}
 use Rattle.row_codec.specs.declared.values.Value.{Value}
 use Rattle.store_api.specs.Emitters.{CameOf}
 use Rattle.store_api.specs.Signs.{WasAnswered}
 use Rattle.store_api.proofs.Answered.{answered_before}
+use Rattle.store_api.specs.declared.op_err.OpErr.TheVariants.{Pool}
+use Rattle.tuple_stream.specs.Streamed.{Streamed}
 use Rattle.tuple_stream.specs.Streams.{HasRows}
 use Rattle.group_op.specs.declared.lowest.Entry.{Entry}
+use Rattle.group_op.specs.Causes.{CameOfEither, IsShort}
 use Rattle.group_op.specs.Emission.{AdmitsAll, Emitted, EmittedFront, WentOn}
 use Rattle.group_op.specs.Keepings.{all_above, key_in, kept_in}
 use Rattle.group_op.specs.Scanning.{groups_by_bytes}
@@ -13,6 +16,7 @@ use Rattle.group_op.proofs.Emitting.{came_behind}
 use Rattle.group_op.proofs.Oks.{any_err}
 use Rattle.group_op.proofs.ScanFrames.{free_now, reads_own, stays_handed, stays_none, stays_read, went_emitted, went_front}
 use Rattle.group_op.proofs.Scans.{HasHanded, handed_all, handed_end, handed_first, handed_front, handed_none, handed_popped, handed_still, kept_admitted, kept_known}
+use Rattle.group_op.proofs.Shorts.{alone_short}
 use Rattle.group_op.proofs.scanning.leaf_by_scan.Goals as goal
 
 pub loop-left-init : goal.loop-left-init
@@ -46,9 +50,14 @@ returns-in_err-keep_lowest-clause-stands g c =
 
 pub returns-in_err-keep_lowest-clause-cause : goal.returns-in_err-keep_lowest-clause-cause
 returns-in_err-keep_lowest-clause-cause g c =
+    let stays = c.loop-left.invariant.stays in
     let came : WasAnswered c.in_err-keep_lowest.field-0.0 (g.St.Store.signs c.args.store.now) (g.St.Store.signs c.keep_lowest.new.store) =
-    answered_before _ _ _ _ c.loop-left.invariant.stays.emitter.grows c.in_err-keep_lowest.ensures.cause in
-    search (rules, came)
+    answered_before _ _ _ _ stays.emitter.grows c.in_err-keep_lowest.ensures.cause in
+    let short : IsShort c.args.rows.now.page_blocks c.in_err-keep_lowest.field-0.0 =
+    subst (λ (n : ℕ). IsShort n c.in_err-keep_lowest.field-0.0) (ap (λ (s : Streamed). s.page_blocks) stays.beside.same) c.in_err-keep_lowest.ensures.short in
+    let both : CameOfEither c.args.rows.now.page_blocks (g.E.Emit.client c.args.emit.now) (g.E.Emit.faults c.args.emit.now) (g.E.Emit.faults c.loop-left.emit) (g.St.Store.signs c.args.store.now) (g.St.Store.signs c.keep_lowest.new.store) (Pool c.in_err-keep_lowest.field-0.0) =
+    record { came = came; short = λ none. short } in
+    search (rules, both)
 
 pub returns-in_err-keep_lowest-clause-stream : goal.returns-in_err-keep_lowest-clause-stream
 returns-in_err-keep_lowest-clause-stream g c =
@@ -132,7 +141,9 @@ returns-in_err-hand_on-clause-cause g c =
     (g.E.Emit.took c.loop-left.emit (g.St.Store.holds c.keep_lowest.new.store)) c.keep_lowest.ensures.went c.keep_lowest.ensures.same still in
     let came : CameOf (g.E.Emit.faults c.args.emit.now) (g.E.Emit.faults c.hand_on.new.emit) (g.St.Store.signs c.args.store.now) (g.St.Store.signs c.hand_on.new.store) c.in_err-hand_on.field-0.0 =
     came_behind _ _ _ _ _ _ _ read.emitter.never_falls read.emitter.grows c.in_err-hand_on.ensures.cause in
-    search (rules, came)
+    let both : CameOfEither c.args.rows.now.page_blocks (g.E.Emit.client c.args.emit.now) (g.E.Emit.faults c.args.emit.now) (g.E.Emit.faults c.hand_on.new.emit) (g.St.Store.signs c.args.store.now) (g.St.Store.signs c.hand_on.new.store) c.in_err-hand_on.field-0.0 =
+    record { came = came; short = λ none. alone_short c.args.rows.now.page_blocks _ _ _ _ c.in_err-hand_on.field-0.0 (c.hand_on.ensures.stood.alone (stays.emitter.client_same ∙ none)) c.in_err-hand_on.ensures.cause } in
+    search (rules, both)
 
 pub returns-in_err-hand_on-clause-stream : goal.returns-in_err-hand_on-clause-stream
 returns-in_err-hand_on-clause-stream g c =

@@ -5,6 +5,9 @@ use Rattle.store_api.specs.Signs.{Signs}
 use Rattle.bucket_table.specs.Tables.{Table}
 use Rattle.group_op.specs.Held.{LeavesOthers, lent, state}
 use Rattle.group_op.specs.Operator.{IsOperator, Operator, operator}
+use Rattle.tuple_stream.specs.Families.{AllClosed}
+use Rattle.partition_stack.specs.Stack.{over}
+use Rattle.group_op.proofs.Begun.{closed_first, ended_first}
 use Rattle.group_op.proofs.Ended.{ended_idle, ended_leaves, freed_all, freed_idle}
 use Rattle.group_op.proofs.operator.GroupOp.end.Goals as goal
 
@@ -51,3 +54,17 @@ returns-in_default-clause-leaves g c =
     subst (λ (o : Operator). IsOperator o h s) (sym c.self.view_is ∙ ap (λ (x : Option Table). operator me.client me.shape me.parts x) c.in_default.is) c.requires in
     subst (λ (t : ℕ). LeavesOthers t h (g.St.Store.holds c.end.new.store) s (g.St.Store.signs c.end.new.store)) (ap (λ (o : Operator). o.client.tracker) c.self.view_is)
     (ended_leaves me.client.tracker 0 me.parts h (g.St.Store.holds c.end.new.store) s (g.St.Store.signs c.end.new.store) is.has.0 c.end.ensures)
+
+pub returns-in-Some-clause-first : goal.returns-in-Some-clause-first
+returns-in-Some-clause-first g c = λ closed.
+    let h : Holdings = g.St.Store.holds c.args.store.now in
+    let s : Signs = g.St.Store.signs c.args.store.now in
+    let own : AllClosed (over c.self.inside.parts h s) = subst (λ (o : Operator). AllClosed (over o.parts h s)) (sym c.self.view_is) closed in
+    closed_first (over c.self.inside.parts h s) s.trail (g.St.Store.signs c.end.new.store).trail (g.St.Store.signs c.close.new.store).trail own c.end.ensures.trail c.close.ensures.entries
+
+pub returns-in_default-clause-first : goal.returns-in_default-clause-first
+returns-in_default-clause-first g c = λ closed.
+    let h : Holdings = g.St.Store.holds c.args.store.now in
+    let s : Signs = g.St.Store.signs c.args.store.now in
+    let own : AllClosed (over c.self.inside.parts h s) = subst (λ (o : Operator). AllClosed (over o.parts h s)) (sym c.self.view_is) closed in
+    ended_first (over c.self.inside.parts h s) s.trail (g.St.Store.signs c.end.new.store).trail own c.end.ensures.trail

@@ -1,11 +1,16 @@
-use Rattle.std.proofs.Common.{◌≡◌, List, Option, OnErr, OnOk, true, subst}
+use Rattle.std.proofs.Common.{◌≡◌, List, Option, IfErr, OnErr, OnOk, true, subst}
 use Rattle.pool_model.specs.declared.entry.Entry.{Entry}
 use Rattle.row_codec.specs.declared.values.Value.{Value}
 use Rattle.row_codec.specs.Order.{path_order}
+use Rattle.tuple_stream.specs.Trails.{EnteredEvents}
+use Rattle.partition_stack.specs.Stack.{over}
 use Rattle.group_rows.specs.Partials.{groups_by}
 use Rattle.group_op.specs.Emission.{Emitted, EmittedFront}
-use Rattle.group_op.specs.Operator.{Keeps, Operator}
+use Rattle.group_op.specs.Causes.{CameOfEither}
+use Rattle.group_op.specs.Laid.{HoldsGroups}
+use Rattle.group_op.specs.Operator.{Keeps, Operator, page_of}
 use Rattle.group_op.specs.Stored.{grouping_of}
+use Rattle.group_op.proofs.Shorts.{both_causes}
 use Rattle.group_op.proofs.operator.GroupOp.finish.Goals as goal
 
 pub returns-clause-ok : goal.returns-clause-ok
@@ -23,3 +28,16 @@ returns-clause-err g c =
     let now = g.E.Emit.took c.finish_op.new.emit (g.St.Store.holds c.finish_op.new.store) in
     subst (λ (op : Operator). OnErr c.finish_op.result ((start : Option (List Entry)) (fed : List (List Value)) → Keeps start fed op h (g.St.Store.signs c.args.store.now) → h.told ≡ true → EmittedFront op.shape was now (groups_by path_order (grouping_of op.shape) fed)))
     c.self.view_is c.finish_op.ensures.err
+
+pub returns-clause-kept : goal.returns-clause-kept
+returns-clause-kept g c =
+    let h = g.St.Store.holds c.args.store.now in
+    let trail = (g.St.Store.signs c.finish_op.new.store).trail in
+    let now = over c.finish_op.new.parts (g.St.Store.holds c.finish_op.new.store) (g.St.Store.signs c.finish_op.new.store) in
+    subst (λ (op : Operator). OnOk c.finish_op.result ((start : Option (List Entry)) (fed : List (List Value)) → Keeps start fed op h (g.St.Store.signs c.args.store.now) → EnteredEvents (HoldsGroups op.shape (page_of op h) fed now) start trail))
+    c.self.view_is c.finish_op.ensures.kept
+
+pub returns-clause-cause : goal.returns-clause-cause
+returns-clause-cause g c =
+    subst (λ (op : Operator). IfErr c.finish_op.result (CameOfEither op.parts.page_blocks (g.E.Emit.client c.args.emit.now) (g.E.Emit.faults c.args.emit.now) (g.E.Emit.faults c.finish_op.new.emit) (g.St.Store.signs c.args.store.now) (g.St.Store.signs c.finish_op.new.store))) c.self.view_is
+    (both_causes c.finish_op.result _ _ _ _ _ _ c.finish_op.ensures.cause c.finish_op.ensures.short)

@@ -1,0 +1,17 @@
+use Rattle.std.proofs.Common.{◌∙◌, sym}
+use Rattle.partition_stack.specs.Stack.{over}
+use Rattle.group_op.proofs.Emitting.{on_ok}
+use Rattle.group_op.proofs.Laying.{none_kept, some_kept}
+use Rattle.group_op.proofs.handing.finish_op.Goals as goal
+
+pub returns-in_default-clause-kept : goal.returns-in_default-clause-kept
+returns-in_default-clause-kept g c = λ start rows keeps.
+    none_kept c.args.c.now c.args.shape.now start rows c.args.parts.now c.args.table.now (g.St.Store.holds c.args.store.now) (g.St.Store.signs c.args.store.now) (sym c.take.ensures.value ∙ c.in_default.is) c.requires.op c.requires.feeding.sixteen keeps
+
+pub returns-in_default-replace-clause-kept : goal.returns-in_default-replace-clause-kept
+returns-in_default-replace-clause-kept g c =
+    on_ok c.finish_parts-result.result
+    (λ left start rows keeps.
+    some_kept c.args.c.now c.args.shape.now start rows c.args.parts.now c.args.table.now c.in-Some.own (g.St.Store.holds c.args.store.now) (g.St.Store.signs c.args.store.now) (over c.finish_parts-result.new.parts (g.St.Store.holds c.finish_parts-result.new.store) (g.St.Store.signs c.finish_parts-result.new.store)) (g.St.Store.signs c.finish_parts-result.new.store).trail
+    (sym c.take.ensures.value ∙ c.in-Some.is) c.requires.op left keeps)
+    c.finish_parts-result.ensures.left
