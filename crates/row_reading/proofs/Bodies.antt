@@ -1,6 +1,6 @@
 -- The fields behind the frame of a row, read and skipped.
 use Rattle.std.proofs.Common.{◌≡◌, ◌∙◌, ℕ, ◌+◌, ◌<◌, ◌≤◌, ◌^◌, List, [], ◌∷◌, ◌++◌, length, take, drop, Option, Some, None, refl, ap, sym, subst, arith, append_assoc, append-nil, length-append, le-leb, leb-true, cond}
-use Rattle.std.specs.Prelude.{Bool, true, false, flat_map, option_map, option_and_then, IfOk, Ok, Err, Result}
+use Rattle.std.specs.Prelude.{Bool, true, false, flat_map, option_map, option_and_then, IfOk, OnOk, Ok, Err, Result}
 use Rattle.std.specs.Int.{w32, w64, w128, to_be_bytes, cast_signed}
 use Rattle.std.proofs.lemmas.List.{drop-drop, length-drop}
 use Rattle.row_codec.specs.declared.values.Kind.{Kind}
@@ -102,7 +102,6 @@ body_some : (vs : List Value) → 0 < length vs → 0 < length (flat_map field_b
 body_some [] some = absurd (omega (arith, some))
 body_some (v ∷ vs) some = let long = length-append (field_bytes v) (flat_map field_bytes vs) in let first = field_some v in omega (arith, long, first)
 
-
 pub body_there : (kinds : List Kind) (row : List ℕ) → IsRowOf kinds row → framed (flat_map field_bytes (values_at kinds row)) ≡ row
 unfolding row_bytes
 body_there kinds row is = is.spelled
@@ -120,3 +119,7 @@ if_ok (Err e) more holds = holds
 pub told : {P R : Type 0} (found : Bool) → (found ≡ false → P) → (P → R → ⊥) → R → found ≡ true
 told true none never is = refl
 told false none never is = absurd (never (none refl) is)
+
+pub on_ok : {A E : Type 0} {P Q : Type 0} (r : Result A E) → (P → Q) → OnOk r P → OnOk r Q
+on_ok (Ok x) more holds = more holds
+on_ok (Err e) more holds = holds

@@ -9,16 +9,16 @@ use Rattle.row_codec.specs.declared.values.Kind.{Kind}
 use Rattle.row_codec.specs.declared.values.Value.{Value}
 use Rattle.row_codec.specs.declared.values.Value.TheVariants.{Int, Text, Wide}
 use Rattle.row_codec.specs.Row.{kind_of, kinds_of}
-use Rattle.row_codec.specs.RowBytes.{field_bytes, key_bytes, key_part, values_in}
+use Rattle.row_codec.specs.RowBytes.{field_bytes, framed, key_bytes, key_part, values_in}
 use Rattle.row_reading.specs.FieldParts.{behind_fields, cut_at, tagged}
 use Rattle.row_reading.specs.Reading.{IsRowOf, values_at}
-use Rattle.row_reading.proofs.Skipping.{behind_frame, cut_back, skipped_back}
+use Rattle.row_reading.proofs.Skipping.{cut_back, fields_are, skipped_back}
 
 -- the value in a column, and those behind it
-record At (vs : List Value) (column : ℕ) : Type 0 where
-  value : Value
-  there : slice_get vs column ≡ Some value
-  split : drop column vs ≡ value ∷ drop (suc column) vs
+pub record At (vs : List Value) (column : ℕ) : Type 0 where
+  pub value : Value
+  pub there : slice_get vs column ≡ Some value
+  pub split : drop column vs ≡ value ∷ drop (suc column) vs
 
 value_in : (vs : List Value) (column : ℕ) → column < length vs → At vs column
 value_in [] column inside = absurd (omega (arith, inside))
@@ -41,9 +41,9 @@ one_part : (vs : List Value) (column : ℕ) (v : Value) → slice_get vs column 
 unfolding key_bytes
 one_part vs column v there = rw there (append-nil (key_part v))
 
-module _ (kinds : List Kind) (row : List ℕ) (is : IsRowOf kinds row) (column : ℕ) (k : Kind) (there : slice_get kinds column ≡ Some k) where
+module _ (kinds : List Kind) (body : List ℕ) (is : IsRowOf kinds (framed body)) (column : ℕ) (k : Kind) (there : slice_get kinds column ≡ Some k) where
   abbrev vs : List Value
-  vs = values_at kinds row
+  vs = values_at kinds (framed body)
 
   inside : column < length vs
   inside =
@@ -52,7 +52,7 @@ module _ (kinds : List Kind) (row : List ℕ) (is : IsRowOf kinds row) (column :
       let same = ap length is.kinds_are in
       omega (arith, below, long, same)
 
-  at : At vs column
+  pub at : At vs column
   at = value_in vs column inside
 
   kind_is : k ≡ kind_of at.value
@@ -76,9 +76,9 @@ module _ (kinds : List Kind) (row : List ℕ) (is : IsRowOf kinds row) (column :
       omega (arith, all, two, behind, three, fits)
 
   -- the fields before it are skipped
-  pub walked : behind_fields (take column kinds) (drop 4 row) ≡ Some (flat_map field_bytes (drop column vs))
+  pub walked : behind_fields (take column kinds) body ≡ Some (flat_map field_bytes (drop column vs))
   walked =
-      ap₂ behind_fields (ap (take column) (sym is.kinds_are) ∙ kinds_taken column vs) (behind_frame kinds row is ∙ split)
+      ap₂ behind_fields (ap (take column) (sym is.kinds_are) ∙ kinds_taken column vs) (fields_are kinds body is ∙ split)
       ∙ skipped_back (take column vs) (flat_map field_bytes (drop column vs)) (let all = long in omega (arith, all))
 
   -- and it is cut
@@ -87,10 +87,13 @@ module _ (kinds : List Kind) (row : List ℕ) (is : IsRowOf kinds row) (column :
       ap₂ cut_at kind_is behind_split
       ∙ cut_back at.value (flat_map field_bytes (drop (suc column) vs)) (let all = long in omega (arith, all))
 
-  pub none_walked : None ≡ behind_fields (take column kinds) (drop 4 row) → ⊥
+  pub none_walked : None ≡ behind_fields (take column kinds) body → ⊥
   none_walked none = absurd (let both = none ∙ walked in cc)
 
-  module _ (rest : List ℕ) (found : Some rest ≡ behind_fields (take column kinds) (drop 4 row)) where
+  pub inside_kinds : column < length kinds
+  inside_kinds = slice_get_within kinds column k there
+
+  module _ (rest : List ℕ) (found : Some rest ≡ behind_fields (take column kinds) body) where
     rest_is : rest ≡ flat_map field_bytes (drop column vs)
     rest_is = same_Some rest (flat_map field_bytes (drop column vs)) (found ∙ walked)
 

@@ -3,7 +3,7 @@ use Rattle.std.proofs.Common.{◌≡◌, ◌∙◌, ℕ, zero, suc, ◌+◌, ◌
 use Rattle.std.specs.Prelude.{Bool, true, false, flat_map, nat_le, option_map, option_and_then, slice_get}
 use Rattle.std.specs.Int.{w32, w64, w128, to_be_bytes, cast_signed}
 use Rattle.std.proofs.lemmas.List.{drop-drop, length-drop}
-use Rattle.std.proofs.lemmas.List.Concat.{flat_map-append}
+use Rattle.std.proofs.lemmas.Option.{same_Some}
 use Rattle.row_codec.specs.declared.values.Kind.{Kind}
 use Rattle.row_codec.specs.declared.values.Kind.TheVariants as kind
 use Rattle.row_codec.specs.declared.values.Value.{Value}
@@ -86,7 +86,7 @@ all_read (k ∷ ks) bytes e =
     let later = all_read ks outer.0.1 outer.2 in (
       first.0 ∷ later.0,
       ap (λ o. option_and_then (λ (field, rest). option_map (λ fields. field ∷ fields) (fields_in ks rest)) o) first.1
-      ∙ ap (λ o. option_map (λ fields. first.0 ∷ fields) o) later.1,
+          ∙ ap (λ o. option_map (λ fields. first.0 ∷ fields) o) later.1,
     )
 
 -- ---- a row's fields
@@ -103,11 +103,15 @@ module _ (kinds : List Kind) (row : List ℕ) (is : IsRowOf kinds row) where
       let same : flat_map field_bytes vs ++ [] ≡ body = append-nil (flat_map field_bytes vs) ∙ same_framed (flat_map field_bytes vs) body (body_there kinds row is ∙ sym spelled) in
       ap₂ behind_fields (sym is.kinds_are) (sym same) ∙ skipped_back vs [] is.is_row.fits
 
-  pub behind_frame : drop 4 row ≡ flat_map field_bytes vs
-  behind_frame = sym (ap (drop 4) (body_there kinds row is))
+  pub is_none : (body : List ℕ) → framed body ≡ row → None ≡ behind_fields kinds body → ⊥
+  is_none body spelled none = absurd (let both = none ∙ row_skipped body spelled in cc)
 
-  pub long_enough : 4 ≤ length row
-  long_enough =
-      let long : length (framed (flat_map field_bytes vs)) ≡ 4 + length (flat_map field_bytes vs) = length-append (to_be_bytes w32 (length (flat_map field_bytes vs))) (flat_map field_bytes vs) in
-      let same = ap length (body_there kinds row is) in
-      omega (arith, long, same)
+  pub is_rest : (body rest : List ℕ) → framed body ≡ row → Some rest ≡ behind_fields kinds body → rest ≡ []
+  is_rest body rest spelled found = same_Some rest [] (found ∙ row_skipped body spelled)
+
+pub fields_are : (kinds : List Kind) (body : List ℕ) → IsRowOf kinds (framed body) → body ≡ flat_map field_bytes (values_at kinds (framed body))
+fields_are kinds body is = sym (same_framed (flat_map field_bytes (values_at kinds (framed body))) body (body_there kinds (framed body) is))
+
+pub no_bytes : (bytes : List ℕ) → length bytes ≡ 0 → bytes ≡ []
+no_bytes [] none = refl
+no_bytes (b ∷ bytes) none = absurd (omega (arith, none))

@@ -1,7 +1,7 @@
 //! The key in the bytes of a row, which is read where it stands.
-ghost use Rattle.std.specs.Prelude.{◌≡◌, ◌≢◌, ◌≤◌, ◌↔◌, [], ◌∷◌, ◌++◌, drop, length, take, option_map, true, All, IfOk, IfSome, IsTrue, OnOk};
+ghost use Rattle.std.specs.Prelude.{◌≡◌, ◌≢◌, ◌≤◌, [], ◌∷◌, ◌++◌, drop, length, take, option_map, true, All, IfNone, IfOk, IfSome, OnOk};
 ghost use Rattle.row_codec.specs.declared.values.Kind.TheVariants.{Wide};
-ghost use Rattle.row_codec.specs.RowBytes.{key_bytes};
+ghost use Rattle.row_codec.specs.RowBytes.{framed, key_bytes};
 ghost use Rattle.row_reading.specs.FieldParts.{behind_fields, cut_at, tagged};
 ghost use Rattle.row_reading.specs.Reading.{IsKeyColumn, IsRowOf, values_at};
 
@@ -20,41 +20,45 @@ pub fn key_into(
     ensures key { IfOk result (λ found. found ≡ true → key.new.items ≡ key_bytes columns.now (values_at kinds.now row.now)) }
     ensures found { IfOk result (λ found. IsRowOf kinds.now row.now → found ≡ true) }
 {
-    if !is_row(row, kinds) {
+    let Some(fields) = fields_of(row, kinds) else {
         return Ok(false);
-    }
+    };
     key.clear();
     for column in columns {
-        push_column(row, kinds, *column, key)?;
+        push_column(fields, kinds, *column, key)?;
     }
     Ok(true)
 }
 
-// Whether the bytes are a row of these kinds.
-fn is_row(row: &[u8], kinds: &[Kind]) -> bool
-    ensures { IsTrue result ↔ IsRowOf kinds.now row.now }
+// The bytes of all fields of a row of these kinds, where the bytes are one.
+fn fields_of<'a>(row: &'a [u8], kinds: &[Kind]) -> Option<&'a [u8]>
+    ensures some { IfSome result (λ fields. (framed fields.now ≡ row.now) × IsRowOf kinds.now row.now) }
+    ensures none { IfNone result (IsRowOf kinds.now row.now → ⊥) }
 {
     let Some(body) = body_of(row) else {
-        return false;
+        return None;
     };
     let Some(rest) = behind_fields(kinds, body) else {
-        return false;
+        return None;
     };
-    rest.is_empty()
+    if !rest.is_empty() {
+        return None;
+    }
+    Some(body)
 }
 
-// Appends what the field in a column is in a key.
+// Appends what the field in a column is in a key, of a row with these fields.
 fn push_column(
-    row: &[u8],
+    fields: &[u8],
     kinds: &[Kind],
     column: usize,
     key: &mut Vec<u8>,
 ) -> Result<(), Memory>
-    requires row { IsRowOf kinds.now row.now }
+    requires row { IsRowOf kinds.now (framed fields.now) }
     requires column { IsKeyColumn kinds.now column }
-    ensures ok { OnOk result (key.new.items ≡ key.old.items ++ key_bytes (column ∷ []) (values_at kinds.now row.now)) }
+    ensures ok { OnOk result (key.new.items ≡ key.old.items ++ key_bytes (column ∷ []) (values_at kinds.now (framed fields.now))) }
 {
-    let Some(rest) = behind_fields(&kinds[..column], &row[4..]) else {
+    let Some(rest) = behind_fields(&kinds[..column], fields) else {
         unreachable!()
     };
     let kind = kinds[column];
