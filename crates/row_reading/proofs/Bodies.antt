@@ -1,20 +1,17 @@
 -- The fields behind the frame of a row, read and skipped.
-use Rattle.std.proofs.Common.{◌≡◌, ◌∙◌, ℕ, ◌+◌, ◌<◌, ◌≤◌, ◌^◌, List, [], ◌∷◌, ◌++◌, length, take, drop, Option, Some, None, refl, ap, sym, subst, arith, append_assoc, append-nil, length-append, le-leb, leb-true, cond}
+use Rattle.std.proofs.Common.{◌≡◌, ◌∙◌, ℕ, ◌+◌, ◌<◌, ◌^◌, List, [], ◌∷◌, ◌++◌, length, Option, Some, None, refl, ap, sym, subst, arith, append-nil, length-append}
 use Rattle.std.specs.Prelude.{Bool, true, false, flat_map, option_map, option_and_then, IfOk, OnOk, Ok, Err, Result}
-use Rattle.std.specs.Int.{w32, w64, w128, to_be_bytes, cast_signed}
-use Rattle.std.proofs.lemmas.List.{drop-drop, length-drop}
+use Rattle.std.specs.Int.{w32, to_be_bytes}
 use Rattle.row_codec.specs.declared.values.Kind.{Kind}
-use Rattle.row_codec.specs.declared.values.Kind.TheVariants as kind
 use Rattle.row_codec.specs.declared.values.Value.{Value}
 use Rattle.row_codec.specs.declared.values.Value.TheVariants.{Int, Text, Wide}
-use Rattle.row_codec.specs.Row.{kind_of, kinds_of}
+use Rattle.row_codec.specs.Row.{kinds_of}
 use Rattle.row_codec.specs.RowBytes.{field_bytes, framed, row_bytes}
 use Rattle.row_codec.specs.RowLaws.{Begins, IsRow}
-use Rattle.row_codec.specs.RowReading.{field_at, fields_in, framed_at, front, number_in, row_at}
+use Rattle.row_codec.specs.RowReading.{fields_in, framed_at, front, number_in, row_at}
 use Rattle.row_codec.proofs.Numbers.{AreBytes}
 use Rattle.row_codec.proofs.ReadBack.{row_begins}
 use Rattle.row_codec.proofs.SpelledBack.{front_back, number_back, row_back}
-use Rattle.row_reading.specs.FieldParts.{behind_fields, cut_at}
 use Rattle.row_reading.specs.Reading.{IsRowOf, values_at, values_read}
 use Rattle.row_reading.specs.ReadingLaws.{SpelledIsRow, ValuesBack}
 

@@ -1,6 +1,6 @@
 -- Fields are skipped where they can be read.
-use Rattle.std.proofs.Common.{◌≡◌, ◌∙◌, ℕ, zero, suc, ◌+◌, ◌<◌, ◌≤◌, ◌^◌, List, [], ◌∷◌, ◌++◌, length, map, take, drop, Option, Some, None, refl, ap, ap₂, sym, subst, arith, append_assoc, append-nil, length-append, le-leb, leb-true, cond, take-append-drop}
-use Rattle.std.specs.Prelude.{Bool, true, false, flat_map, nat_le, option_map, option_and_then, slice_get}
+use Rattle.std.proofs.Common.{◌≡◌, ◌∙◌, ℕ, ◌+◌, ◌<◌, ◌≤◌, ◌^◌, List, [], ◌∷◌, ◌++◌, length, take, drop, Option, Some, None, refl, ap, ap₂, sym, arith, append_assoc, append-nil, length-append, le-leb, leb-true, cond}
+use Rattle.std.specs.Prelude.{Bool, true, false, flat_map, nat_le, option_map, option_and_then}
 use Rattle.std.specs.Int.{w32, w64, w128, to_be_bytes, cast_signed}
 use Rattle.std.proofs.lemmas.List.{drop-drop, length-drop}
 use Rattle.std.proofs.lemmas.Option.{same_Some}
@@ -9,11 +9,11 @@ use Rattle.row_codec.specs.declared.values.Kind.TheVariants as kind
 use Rattle.row_codec.specs.declared.values.Value.{Value}
 use Rattle.row_codec.specs.declared.values.Value.TheVariants.{Int, Text, Wide}
 use Rattle.row_codec.specs.Row.{kind_of, kinds_of}
-use Rattle.row_codec.specs.RowBytes.{field_bytes, framed, key_bytes, key_part, row_bytes}
+use Rattle.row_codec.specs.RowBytes.{field_bytes, framed}
 use Rattle.row_codec.specs.RowReading.{field_at, fields_in, framed_at, front, number_in}
 use Rattle.row_codec.proofs.SpelledBack.{front_back, number_back}
-use Rattle.row_reading.specs.FieldParts.{behind_fields, cut_at, tagged}
-use Rattle.row_reading.specs.Reading.{IsKeyColumn, IsRowOf, values_at}
+use Rattle.row_reading.specs.FieldParts.{behind_fields, cut_at}
+use Rattle.row_reading.specs.Reading.{IsRowOf, values_at}
 use Rattle.row_reading.proofs.Bodies.{body_there}
 
 -- ---- what is spelled is cut

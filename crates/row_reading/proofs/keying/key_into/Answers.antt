@@ -1,4 +1,4 @@
-use Rattle.std.proofs.Common.{◌≡◌, ◌∙◌, ◌++◌, ◌∷◌, [], ap, get_or, rules}
+use Rattle.std.proofs.Common.{◌∙◌, ◌++◌, ◌∷◌, [], ap, get_or}
 use Rattle.row_codec.specs.RowBytes.{key_bytes}
 use Rattle.row_reading.specs.Reading.{values_at}
 use Rattle.row_reading.proofs.Columns.{key_grows}
