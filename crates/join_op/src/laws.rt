@@ -1,0 +1,11 @@
+//! Laws of pairs: each is the contract of a function that does nothing.
+ghost use Rattle.join_op.specs.PairLaws.{LeftInParts, NoRightNoPair, PairsByParts, PairsInAnyOrder, RightInParts};
+
+/// Pairs don't depend on the order of rows, and may be found part by part.
+pub fn law_pairs()
+    ensures order { PairsInAnyOrder }
+    ensures left { LeftInParts }
+    ensures right { RightInParts }
+    ensures none { NoRightNoPair }
+    ensures parts { PairsByParts }
+{}
