@@ -1,20 +1,20 @@
 -- One side is called while the other rests.
-use Rattle.std.proofs.Common.{◌≡◌, ◌∙◌, ℕ, zero, suc, ◌+◌, ◌-◌, ◌*◌, ◌<◌, ◌≤◌, List, [], ◌∷◌, length, Option, Some, None, is_some, if◌then◌else◌, refl, ap, sym, subst, arith}
+use Rattle.std.proofs.Common.{◌≡◌, ◌∙◌, ℕ, suc, ◌+◌, ◌-◌, ◌*◌, ◌<◌, ◌≤◌, List, [], ◌∷◌, length, Option, Some, None, is_some, if◌then◌else◌, refl, ap, sym, subst, arith}
 use Rattle.std.specs.List.{slice_get, sum_by}
 use Rattle.std.proofs.lemmas.List.Sums.{sum_by-cons}
 use Rattle.pool_model.specs.declared.event.Event.{Event}
-use Rattle.store_api.specs.Conditions.{IsBlockCount, IsLiveClient}
+use Rattle.store_api.specs.Conditions.{IsBlockCount}
 use Rattle.store_api.specs.Holdings.{Holdings, LiveLoan, account_of, length_of, unused_of}
 use Rattle.store_api.specs.Signs.{Signs}
 use Rattle.store_api.specs.Tokens.{ClientToken}
 use Rattle.store_api.specs.declared.shapes.JoinShape.{JoinShape}
 use Rattle.tuple_stream.specs.Streamed.{OpenPage, Streamed, len_in}
 use Rattle.tuple_stream.specs.Touches.{held}
-use Rattle.tuple_stream.specs.Families.{AreShaped, FamilySteps, family, held_in}
+use Rattle.tuple_stream.specs.Families.{FamilySteps, held_in}
 use Rattle.tuple_stream.proofs.FamilyChains.{client_stays, goes_none}
 use Rattle.partition_stack.specs.Leaving.{HasNoLoan}
 use Rattle.partition_stack.specs.Sides.{OwnBoth}
-use Rattle.partition_stack.specs.Stack.{HasRoomFrom, RestBelow, Stack, over}
+use Rattle.partition_stack.specs.Stack.{HasRoomFrom, Stack, over}
 use Rattle.partition_stack.proofs.Left.{touched_leaves}
 use Rattle.partition_stack.proofs.Sides.{other_shows, other_weighs, own_called, own_turned}
 use Rattle.join_op.specs.Beside.{CallsBeside, MayCall}

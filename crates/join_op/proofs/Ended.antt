@@ -1,5 +1,5 @@
 -- A join ends: the pages of both sides go.
-use Rattle.std.proofs.Common.{◌≡◌, ◌∙◌, ℕ, List, [], Option, refl, ap, sym}
+use Rattle.std.proofs.Common.{◌∙◌, ℕ, List, [], Option, ap, sym}
 use Rattle.std.proofs.lemmas.Option.{none-some}
 use Rattle.store_api.specs.Conditions.{IsIdle}
 use Rattle.store_api.specs.Holdings.{Holdings, LiveLoan}

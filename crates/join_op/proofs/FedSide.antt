@@ -1,6 +1,6 @@
 -- What a side keeps once it got a row.
-use Rattle.std.proofs.Common.{◌≡◌, ◌∙◌, ℕ, ◌+◌, ◌-◌, ◌<◌, ◌==◌, List, [], ◌∷◌, ◌++◌, if◌then◌else◌, refl, ap, sym, subst, inl, inr, arith, ne_eqb, eq-eqb}
-use Rattle.std.specs.Prelude.{All, map}
+use Rattle.std.proofs.Common.{◌≡◌, ◌∙◌, ℕ, ◌+◌, ◌<◌, List, [], ◌∷◌, ◌++◌, refl, ap, sym, subst, inl, inr, arith, ne_eqb, eq-eqb}
+use Rattle.std.specs.Prelude.{All}
 use Rattle.std.specs.List.{sum_by}
 use Rattle.std.proofs.lemmas.Bool.{cases_eq}
 use Rattle.std.proofs.lemmas.List.Elements.{All-push}
@@ -12,7 +12,6 @@ use Rattle.row_codec.specs.RowLaws.{IsRow}
 use Rattle.tuple_stream.specs.Families.{Family}
 use Rattle.tuple_stream.specs.FamilyCalls.{AreSure, Feeds, shares, with_rows}
 use Rattle.join_op.specs.Operator.{KeepsSide}
-use Rattle.join_op.specs.Pairs.{SameRows}
 use Rattle.join_op.specs.Stored.{IsRowOf, Side, place_of, rows_in, values_at}
 use Rattle.join_op.proofs.OneRow.{spelled_row, values_back}
 use Rattle.join_op.proofs.Shares.{one_more}

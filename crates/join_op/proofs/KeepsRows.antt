@@ -1,6 +1,6 @@
 -- What a join keeps once a row was fed.
-use Rattle.std.proofs.Common.{◌≡◌, ◌∙◌, inl, inr, ℕ, zero, suc, ◌+◌, ◌-◌, ◌<◌, List, [], ◌∷◌, ◌++◌, length, replicate, Option, Some, None, refl, ap, sym, subst, arith, append-nil, append_assoc}
-use Rattle.std.specs.Prelude.{⊤, All, filter_map, slice_get}
+use Rattle.std.proofs.Common.{◌≡◌, ◌∙◌, inl, inr, ℕ, zero, suc, ◌+◌, ◌-◌, ◌<◌, List, [], ◌∷◌, ◌++◌, length, replicate, Option, Some, refl, ap, sym, subst, arith, append-nil, append_assoc}
+use Rattle.std.specs.Prelude.{⊤, All, slice_get}
 use Rattle.std.specs.List.{sum_by}
 use Rattle.std.proofs.lemmas.List.Elements.{All-append, All-nil, filter_map-append}
 use Rattle.std.proofs.lemmas.List.Sums.{sum_by-append, sum_by_push}
@@ -15,15 +15,14 @@ use Rattle.store_api.specs.Holdings.{Holdings}
 use Rattle.store_api.specs.Signs.{Signs}
 use Rattle.store_api.specs.Tokens.{ClientToken}
 use Rattle.store_api.specs.declared.shapes.JoinShape.{JoinShape}
-use Rattle.tuple_stream.specs.Streamed.{Streamed}
 use Rattle.tuple_stream.specs.Families.{Family, LaysAll, weight}
 use Rattle.tuple_stream.specs.FamilyCalls.{AllAtEnd, AreSteady, Feeds, HaveLaid, RestsSome, shares}
 use Rattle.tuple_stream.specs.Trails.{EnteredEvents, IsBuilding, Left, all_left, left_by}
 use Rattle.tuple_stream.proofs.PageLists.{no_length}
-use Rattle.tuple_stream.proofs.Sinces.{since_joined, since_so}
+use Rattle.tuple_stream.proofs.Sinces.{since_joined}
 use Rattle.partition_stack.specs.Stack.{Stack, empty, first_sixteen, over}
 use Rattle.join_op.specs.Beside.{CallsBeside, first_place}
-use Rattle.join_op.specs.Operator.{HasNoRight, Keeps, KeepsSide, LaidBoth, MayBeFed, operator}
+use Rattle.join_op.specs.Operator.{HasNoRight, Keeps, KeepsSide, LaidBoth, operator}
 use Rattle.join_op.specs.Stored.{Side, left_side, place_of, right_side, rows_in}
 use Rattle.join_op.proofs.FedSide.{side_fed}
 use Rattle.join_op.proofs.OneRow.{values_back}
@@ -120,40 +119,40 @@ none_shared (suc n) rows none = ap (λ (xs : List (List ℕ)). xs ++ shares n (�
 some_fed : (side : Side) (fed : List (List Value)) (row : List Value) (p : Stack) (h : Holdings) (signs : Signs) → KeepsSide side (fed ++ row ∷ []) (over p h signs) → p ≡ first_sixteen p.page_blocks → ⊥
 some_fed side fed row p h signs keeps none =
     let each : (i : ℕ) → i < 16 → keeps.rows i ≡ [] = λ i below.
-        no_length (keeps.rows i) (sym (keeps.shows i (empty p.page_blocks) (ap (λ (s : Stack). slice_get s.streams i) none ∙ in_replicate 16 (empty p.page_blocks) i below)).counted) in
+    no_length (keeps.rows i) (sym (keeps.shows i (empty p.page_blocks) (ap (λ (s : Stack). slice_get s.streams i) none ∙ in_replicate 16 (empty p.page_blocks) i below)).counted) in
     let nothing : sum_by (λ (r : List Value). 1) (rows_in side (shares 16 keeps.rows)) ≡ 0 = ap (λ (rows : List (List ℕ)). sum_by (λ (r : List Value). 1) (rows_in side rows)) (none_shared 16 keeps.rows each) in
     let same = keeps.same (λ r. 1) in
     let more : sum_by (λ (r : List Value). 1) (fed ++ row ∷ []) ≡ sum_by (λ r. 1) fed + 1 = sum_by_push (λ r. 1) fed row in
     omega (arith, nothing, same, more)
 
 module _ (c : ClientToken) (shape : JoinShape) (left now right : Stack) (h h1 : Holdings) (s s1 : Signs) (start : Option (List Entry)) (lefts rights : List (List Value)) (keeps : Keeps start lefts rights (operator c shape left right) h s)
-  (called : CallsBeside c.tracker left now right h h1 s s1) (rests : RestsSome c.tracker (length left.streams) (over left h s) (over now h1 s1)) where
+    (called : CallsBeside c.tracker left now right h h1 s s1) (rests : RestsSome c.tracker (length left.streams) (over left h s) (over now h1 s1)) where
   -- the left side was let rest before a right row came
   laid_rested : HasNoRight (operator c shape left right) → EnteredEvents (LaidBoth (over now h1 s1) (over right h1 s1)) start s1.trail
   laid_rested none =
       since_joined (LaidBoth (over left h s) (over right h s)) (LaysAll (AreSteady (over left h s)) ⊤ (over left h s) (over now h1 s1)) (LaidBoth (over now h1 s1) (over right h1 s1)) start s.trail s1.trail
       (λ first next laid lays.
-        let none_yet : (w : Left → ℕ) → weight w (over right h s) ≡ 0 = λ w. ap (λ (p : Stack). weight w (over p h s)) none ∙ none_left w right.page_blocks h s in
-        record {
-          lefts = first ++ next;
-          rights = [];
-          are = sym (append-nil (first ++ next));
-          left = lays_on (over left h s) (over now h1 s1) first next keeps.left_steady
-              (record {
-                building = subst (All IsBuilding) (sym laid.are) (All-append IsBuilding laid.lefts laid.rights laid.left.building laid.right.building);
-                left = λ w.
-                    let all : sum_by w (all_left first) ≡ sum_by w (all_left (laid.lefts ++ laid.rights)) = ap (λ (es : List Event). sum_by w (all_left es)) laid.are in
-                    let sum = left_sum w laid.lefts laid.rights in
-                    let one = laid.left.left w in
-                    let two = laid.right.left w in
-                    let zero_right = none_yet w in
-                    omega (arith, all, sum, one, two, zero_right);
-              }) lays;
-          right = record {
-            building = All-nil IsBuilding;
-            left = λ w. sym (ap (λ (p : Stack). weight w (over p h1 s1)) none ∙ none_left w right.page_blocks h1 s1);
-          };
-        })
+      let none_yet : (w : Left → ℕ) → weight w (over right h s) ≡ 0 = λ w. ap (λ (p : Stack). weight w (over p h s)) none ∙ none_left w right.page_blocks h s in
+      record {
+        lefts = first ++ next;
+        rights = [];
+        are = sym (append-nil (first ++ next));
+        left = lays_on (over left h s) (over now h1 s1) first next keeps.left_steady
+            (record {
+              building = subst (All IsBuilding) (sym laid.are) (All-append IsBuilding laid.lefts laid.rights laid.left.building laid.right.building);
+              left = λ w.
+                  let all : sum_by w (all_left first) ≡ sum_by w (all_left (laid.lefts ++ laid.rights)) = ap (λ (es : List Event). sum_by w (all_left es)) laid.are in
+                  let sum = left_sum w laid.lefts laid.rights in
+                  let one = laid.left.left w in
+                  let two = laid.right.left w in
+                  let zero_right = none_yet w in
+                  omega (arith, all, sum, one, two, zero_right);
+            }) lays;
+        right = record {
+          building = All-nil IsBuilding;
+          left = λ w. sym (ap (λ (p : Stack). weight w (over p h1 s1)) none ∙ none_left w right.page_blocks h1 s1);
+        };
+      })
       keeps.laid rests.steps.trail
 
   -- and then a right row was fed

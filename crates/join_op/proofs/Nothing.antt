@@ -1,5 +1,5 @@
 -- Nothing was appended.
-use Rattle.std.proofs.Common.{◌≡◌, ◌∙◌, ℕ, ◌==◌, List, [], ◌++◌, if◌then◌else◌, refl, ap, sym, inl, inr, append-nil, ne_eqb, eq-eqb}
+use Rattle.std.proofs.Common.{◌≡◌, ◌∙◌, ℕ, List, [], ◌++◌, refl, ap, sym, inl, inr, append-nil, ne_eqb, eq-eqb}
 use Rattle.std.proofs.lemmas.Bool.{cases_eq}
 use Rattle.tuple_stream.specs.Families.{AreShaped, Family}
 use Rattle.tuple_stream.specs.FamilyCalls.{AllAtEnd, Feeds, with_rows}

@@ -1,5 +1,5 @@
 -- A row that is spelled is one row of a page, and says what was spelled.
-use Rattle.std.proofs.Common.{◌≡◌, ◌∙◌, ℕ, ◌+◌, ◌<◌, ◌^◌, List, [], ◌∷◌, ◌++◌, length, Some, refl, ap, sym, subst, arith, ne_eqb, length-append, append-nil}
+use Rattle.std.proofs.Common.{◌≡◌, ◌∙◌, ℕ, ◌+◌, ◌<◌, ◌^◌, List, [], ◌∷◌, length, Some, refl, ap, sym, subst, arith, ne_eqb, length-append, append-nil}
 use Rattle.std.specs.Prelude.{flat_map, option_and_then}
 use Rattle.std.specs.Int.{w32, to_be_bytes}
 use Rattle.row_codec.specs.declared.values.Kind.{Kind}
@@ -10,7 +10,7 @@ use Rattle.row_codec.specs.RowBytes.{field_bytes, framed, row_bytes}
 use Rattle.row_codec.specs.RowLaws.{IsRow}
 use Rattle.row_codec.specs.RowReading.{framed_at, front, number_in, row_at}
 use Rattle.row_codec.proofs.SpelledBack.{front_back, number_back, row_back}
-use Rattle.tuple_stream.specs.PageRows.{IsOneRow, framed_len, row_len}
+use Rattle.tuple_stream.specs.PageRows.{IsOneRow, framed_len}
 use Rattle.join_op.specs.Stored.{IsRowOf, Side, values_at, values_read}
 
 framed_there : (body : List ℕ) → length body < 2 ^ 32 → framed_at (framed body) ≡ Some (body, [])

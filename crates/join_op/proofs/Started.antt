@@ -1,26 +1,23 @@
 -- What a join that was started has and keeps.
-use Rattle.std.proofs.Common.{◌≡◌, ◌∙◌, inl, ℕ, ◌+◌, ◌*◌, List, [], length, replicate, Option, Some, refl, ap, sym, subst, arith}
-use Rattle.std.specs.Prelude.{All, slice_get}
+use Rattle.std.proofs.Common.{◌≡◌, inl, ℕ, [], replicate, Some, refl, ap, sym, subst, arith}
+use Rattle.std.specs.Prelude.{slice_get}
 use Rattle.std.proofs.lemmas.List.Elements.{All-nil}
 use Rattle.std.proofs.lemmas.Option.{none-some}
-use Rattle.row_codec.specs.declared.values.Value.{Value}
 use Rattle.store_api.specs.Conditions.{IsBlockCount}
-use Rattle.store_api.specs.Holdings.{Holdings, account_of, unused_of}
+use Rattle.store_api.specs.Holdings.{Holdings}
 use Rattle.store_api.specs.Signs.{Signs}
 use Rattle.store_api.specs.Tokens.{ClientToken}
-use Rattle.store_api.specs.declared.shapes.JoinShape.{JoinShape}
 use Rattle.tuple_stream.specs.Streamed.{Streamed}
 use Rattle.tuple_stream.specs.Streams.{IsApart}
 use Rattle.tuple_stream.specs.Trails.{IsBuilding}
-use Rattle.tuple_stream.specs.Families.{AreDisjoint, held_in}
+use Rattle.tuple_stream.specs.Families.{AreDisjoint}
 use Rattle.tuple_stream.proofs.Empty.{empty_at_end}
 use Rattle.tuple_stream.proofs.Sinces.{since_now}
 use Rattle.partition_stack.specs.Changes.{Owns}
-use Rattle.partition_stack.specs.Sides.{OwnBoth}
 use Rattle.partition_stack.specs.Stack.{IsStack, Stack, empty, first_sixteen, over}
 use Rattle.partition_stack.proofs.Coming.{sixteen_come}
 use Rattle.partition_stack.proofs.ListPlaces.{of_replicate}
-use Rattle.join_op.specs.Operator.{KeepsSide, LaidBoth, started}
+use Rattle.join_op.specs.Operator.{KeepsSide, LaidBoth}
 use Rattle.join_op.specs.Starting.{AllStart, MayStart}
 use Rattle.join_op.specs.Stored.{IsRowOf, Side, left_side, place_of, right_side}
 

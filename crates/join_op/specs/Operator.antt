@@ -1,5 +1,5 @@
 -- A join over a store: what it has, and what it keeps of the rows that were fed. Lengths are in bytes.
-use Rattle.std.specs.Prelude.{◌≡◌, ◌≢◌, ℕ, ◌+◌, ◌*◌, ◌≤◌, List, [], ◌++◌, All, length, replicate, Option}
+use Rattle.std.specs.Prelude.{◌≡◌, ℕ, ◌*◌, ◌≤◌, List, ◌++◌, All, length, replicate, Option}
 use Rattle.pool_model.specs.declared.event.Event.{Event}
 use Rattle.pool_model.specs.declared.entry.Entry.{Entry}
 use Rattle.row_codec.specs.declared.values.Value.{Value}

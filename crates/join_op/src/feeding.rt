@@ -145,6 +145,8 @@ fn rest_left<St: Store>(
     ensures rested { OnOk result (RestsSome c.now.tracker (length left.old.streams) (over left.old (St.holds store.old) (St.signs store.old)) (over left.new (St.holds store.new) (St.signs store.new))) }
     ensures rests { OnOk result (RestBelow (length left.new.streams) left.new) }
     ensures flag { left_rests.new ≡ true → RestBelow (length left.new.streams) left.new }
+    ensures set { OnOk result (left_rests.new ≡ true) }
+    ensures unset { OnErr result (left_rests.new ≡ left_rests.old) }
     ensures answers { IfErr result (λ e. WasAnswered e (St.signs store.old) (St.signs store.new) × IsFull left.old.page_blocks (St.holds store.new).free_slots e) }
 {
     if *left_rests {

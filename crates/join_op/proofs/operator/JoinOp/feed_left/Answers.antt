@@ -1,4 +1,4 @@
-use Rattle.std.proofs.Common.{◌∙◌, ◌<◌, ◌^◌, ℕ, List, [], ◌∷◌, ◌++◌, length, Option, OnOk, ap, refl, sym, subst, arith}
+use Rattle.std.proofs.Common.{◌∙◌, ℕ, List, [], ◌∷◌, ◌++◌, Option, OnOk, ap, sym, subst}
 use Rattle.std.specs.Prelude.{All}
 use Rattle.pool_model.specs.declared.entry.Entry.{Entry}
 use Rattle.row_codec.specs.declared.values.Value.{Value}
@@ -45,10 +45,10 @@ returns-clause-keeps g c =
       | in-Ok w ↦
           subst (λ r. OnOk r ((start : Option (List Entry)) (lefts rights : List (List Value)) → Keeps start lefts rights c.args.self.now h s → Keeps start (lefts ++ c.args.row.now ∷ []) rights now h1 s1)) (sym w.result-is)
           (λ start lefts rights keeps.
-            keeps_left me.client me.shape me.left me.right h s start lefts rights (subst (λ (o : Operator). Keeps start lefts rights o h s) (sym c.self.view_is) keeps)
-            c.put_row.new.parts h1 s1 c.args.row.now (subst HasNoRight (sym c.self.view_is) c.requires.first) c.put_row.ensures.beside
-            (subst (λ (more : List (List ℕ)). Feeds me.client.tracker (first_place (left_side me.shape).columns c.args.row.now) more (over me.left h s) (over c.put_row.new.parts h1 s1)) (ap (λ r. came r (row_bytes c.args.row.now)) w.in-Ok.is)
-            (subst (λ (columns : List ℕ). Feeds me.client.tracker (first_place columns c.args.row.now) (came c.put_row.result (row_bytes c.args.row.now)) (over me.left h s) (over c.put_row.new.parts h1 s1)) (c.deref.ensures.value ∙ c.self.invariant.on_left) c.put_row.ensures.went))
-            w.in-Ok.ensures.at_end (subst (λ (o : Operator). MayBeFed (left_side o.shape) o h c.args.row.now) (sym c.self.view_is) c.requires.row).kinds w.in-Ok.ensures.is_row)
+          keeps_left me.client me.shape me.left me.right h s start lefts rights (subst (λ (o : Operator). Keeps start lefts rights o h s) (sym c.self.view_is) keeps)
+          c.put_row.new.parts h1 s1 c.args.row.now (subst HasNoRight (sym c.self.view_is) c.requires.first) c.put_row.ensures.beside
+          (subst (λ (more : List (List ℕ)). Feeds me.client.tracker (first_place (left_side me.shape).columns c.args.row.now) more (over me.left h s) (over c.put_row.new.parts h1 s1)) (ap (λ r. came r (row_bytes c.args.row.now)) w.in-Ok.is)
+          (subst (λ (columns : List ℕ). Feeds me.client.tracker (first_place columns c.args.row.now) (came c.put_row.result (row_bytes c.args.row.now)) (over me.left h s) (over c.put_row.new.parts h1 s1)) (c.deref.ensures.value ∙ c.self.invariant.on_left) c.put_row.ensures.went))
+          w.in-Ok.ensures.at_end (subst (λ (o : Operator). MayBeFed (left_side o.shape) o h c.args.row.now) (sym c.self.view_is) c.requires.row).kinds w.in-Ok.ensures.is_row)
       | in-Err w ↦ subst (λ r. OnOk r ((start : Option (List Entry)) (lefts rights : List (List Value)) → Keeps start lefts rights c.args.self.now h s → Keeps start (lefts ++ c.args.row.now ∷ []) rights now h1 s1)) (sym w.result-is) tt
     ]
