@@ -8,3 +8,5 @@ pub mod Away
 mod Resting
 mod Called
 pub mod Coming
+pub mod Left
+pub mod Sides

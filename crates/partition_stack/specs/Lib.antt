@@ -1,3 +1,5 @@
 pub mod Stack
 pub mod Changes
 pub mod Laws
+pub mod Leaving
+pub mod Sides

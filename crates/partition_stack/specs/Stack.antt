@@ -1,5 +1,5 @@
 -- Partitions of rows that stand on one another. The last one is the top. Lengths are in bytes.
-use Rattle.std.specs.Prelude.{◌≡◌, ℕ, ◌+◌, ◌-◌, ◌*◌, ◌^◌, ◌<◌, ◌≤◌, List, [], ◌++◌, length, replicate, set, slice_get, sum_by, Some, None}
+use Rattle.std.specs.Prelude.{All, ◌≡◌, ℕ, ◌+◌, ◌-◌, ◌*◌, ◌^◌, ◌<◌, ◌≤◌, List, [], ◌++◌, length, replicate, set, slice_get, sum_by, Some, None}
 use Rattle.store_api.specs.Conditions.{IsBlockCount}
 use Rattle.store_api.specs.Holdings.{Holdings, length_of, unused_of}
 use Rattle.store_api.specs.Signs.{Signs}
@@ -36,6 +36,10 @@ divided at level p = record p {
 pub record IsPlaced (at level : ℕ) : Type 0 where
   pub deep : level ≤ 16
   pub low : at < 17 * level
+
+-- no partition has a page
+abbrev pub HaveNoPages : List Streamed → Type 0
+HaveNoPages streams = All (λ s. (s.pages ≡ []) × (s.pinned ≡ None)) streams
 
 -- each partition has a level, and its pages have the stack's blocks
 pub record IsStack (p : Stack) : Type 0 where

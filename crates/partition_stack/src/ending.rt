@@ -1,11 +1,11 @@
 //! All partitions go.
 ghost use Rattle.std.specs.Prelude.{[]};
 ghost use Rattle.tuple_stream.specs.Families.{AreShaped, family};
-ghost use Rattle.partition_stack.specs.Stack.{over};
+ghost use Rattle.partition_stack.specs.Stack.{HaveNoPages, over};
 ghost use Rattle.partition_stack.specs.Changes.{EndsAll};
 
 use crate::stack::Partitions;
-use crate::streams::end_streams;
+use crate::streams::{discard_streams, end_streams};
 use store_api::{Client, Store};
 
 impl Partitions {
@@ -20,5 +20,17 @@ impl Partitions {
             levels: _,
         } = self;
         end_streams(store, c, streams);
+    }
+
+    /// Ends a stack without pages, for which no store is needed.
+    pub fn discard(self)
+        requires { HaveNoPages self.streams }
+    {
+        let Partitions {
+            page_blocks: _,
+            streams,
+            levels: _,
+        } = self;
+        discard_streams(streams);
     }
 }

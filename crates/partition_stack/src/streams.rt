@@ -6,7 +6,7 @@ ghost use Rattle.tuple_stream.specs.Streamed.{Streamed};
 ghost use Rattle.tuple_stream.specs.Families.{AreShaped, FamilySteps, LaysAll, family};
 ghost use Rattle.tuple_stream.specs.FamilyCalls.{AreSteady, RestsSome};
 ghost use Rattle.tuple_stream.specs.Touches.{IsFull};
-ghost use Rattle.partition_stack.specs.Stack.{empty};
+ghost use Rattle.partition_stack.specs.Stack.{HaveNoPages, empty};
 ghost use Rattle.partition_stack.specs.Changes.{EndsAll};
 
 use reservation_tree::{Memory, PoolErr};
@@ -69,6 +69,18 @@ pub(crate) fn end_streams<St: Store>(store: &mut St, c: &Client, streams: Vec<St
     while !streams.is_empty() {
         let mut stream = streams.take_last();
         stream.drop_all(store);
+        stream.end();
+    }
+    streams.destroy_empty();
+}
+
+// Streams without pages end.
+pub(crate) fn discard_streams(streams: Vec<Stream>)
+    requires { HaveNoPages streams.items }
+{
+    let mut streams = streams;
+    while !streams.is_empty() {
+        let stream = streams.take_last();
         stream.end();
     }
     streams.destroy_empty();

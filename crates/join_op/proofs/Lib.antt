@@ -1,0 +1,11 @@
+pub mod Sums
+pub mod Counts
+pub mod OneRow
+pub mod Nothing
+pub mod Calls
+pub mod Shares
+pub mod FedSide
+pub mod Spellable
+pub mod KeepsRows
+mod Started
+mod Ended

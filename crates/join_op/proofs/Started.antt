@@ -1,0 +1,85 @@
+-- What a join that was started has and keeps.
+use Rattle.std.proofs.Common.{◌≡◌, inl, ℕ, [], replicate, Some, refl, ap, sym, subst, arith}
+use Rattle.std.specs.Prelude.{slice_get}
+use Rattle.std.proofs.lemmas.List.Elements.{All-nil}
+use Rattle.std.proofs.lemmas.Option.{none-some}
+use Rattle.store_api.specs.Conditions.{IsBlockCount}
+use Rattle.store_api.specs.Holdings.{Holdings}
+use Rattle.store_api.specs.Signs.{Signs}
+use Rattle.store_api.specs.Tokens.{ClientToken}
+use Rattle.tuple_stream.specs.Streamed.{Streamed}
+use Rattle.tuple_stream.specs.Streams.{IsApart}
+use Rattle.tuple_stream.specs.Trails.{IsBuilding}
+use Rattle.tuple_stream.specs.Families.{AreDisjoint}
+use Rattle.tuple_stream.proofs.Empty.{empty_at_end}
+use Rattle.tuple_stream.proofs.Sinces.{since_now}
+use Rattle.partition_stack.specs.Changes.{Owns}
+use Rattle.partition_stack.specs.Stack.{IsStack, Stack, empty, first_sixteen, over}
+use Rattle.partition_stack.proofs.Coming.{sixteen_come}
+use Rattle.partition_stack.proofs.ListPlaces.{of_replicate}
+use Rattle.join_op.specs.Operator.{KeepsSide, LaidBoth}
+use Rattle.join_op.specs.Starting.{AllStart, MayStart}
+use Rattle.join_op.specs.Stored.{IsRowOf, Side, left_side, place_of, right_side}
+
+-- a stack without partitions
+abbrev no_stack : ℕ → Stack
+no_stack blocks = record { page_blocks = blocks; streams = []; levels = [] }
+
+no_stack_is : (blocks : ℕ) → IsBlockCount blocks → IsStack (no_stack blocks)
+no_stack_is blocks sized = record { sized = sized; each = λ i s there. absurd (none-some s there); levelled = refl; placed = λ i level there. absurd (none-some level there) }
+
+no_owned : (c : ClientToken) (blocks : ℕ) (h : Holdings) (signs : Signs) → MayStart c blocks h → Owns c.tracker 0 (over (no_stack blocks) h signs)
+no_owned c blocks h signs may =
+    record {
+      lives = may.lives;
+      shaped = record { each = λ i s there. absurd (none-some s there); apart = λ i j a b other here there. absurd (none-some a here) };
+      only = λ q page lives outside. may.idle.pages q page lives;
+      even = let free = may.free in omega (arith, free);
+    }
+
+each_empty : (blocks i : ℕ) (s : Streamed) → slice_get (replicate 16 (empty blocks)) i ≡ Some s → s ≡ empty blocks
+each_empty blocks i s there = of_replicate 16 (empty blocks) i s there
+
+apart_from : (blocks : ℕ) (a b : Streamed) → b ≡ empty blocks → AreDisjoint a b
+apart_from blocks a b is = subst (AreDisjoint a) (sym is) (All-nil (λ p. IsApart p.name a.pages))
+
+pub all_start : AllStart
+all_start c blocks shape h signs is sized may =
+    let come = sixteen_come c.tracker 0 0 0 (no_stack blocks) h signs (no_stack_is blocks sized) in
+    let owns : Owns c.tracker 0 (over (first_sixteen blocks) h signs) = come.owns (no_owned c blocks h signs may) in
+    let side : (side : Side) → KeepsSide side [] (over (first_sixteen blocks) h signs) = λ side. record {
+      rows = λ i. [];
+      shows = come.rows (λ i. []) (λ i high. refl) (λ i s there. absurd (none-some s there));
+      formed = λ i. All-nil (IsRowOf side);
+      placed = λ i. All-nil (λ row. place_of side 0 0 row ≡ i);
+      same = λ count. refl;
+      whole = λ i s there. ap (λ (r : Streamed). r.spent) (each_empty blocks i s there);
+    } in
+    record {
+      op = record {
+        shape = is;
+        sized = sized;
+        alike = refl;
+        client = may.lives;
+        least = may.least;
+        owns = record {
+          lives = owns.lives;
+          left_shaped = owns.shaped;
+          right_shaped = owns.shaped;
+          apart = λ i j a b at there. apart_from blocks a b (each_empty blocks j b there);
+          only = λ q page lives outside beside. may.idle.pages q page lives;
+          even = let even = owns.even in let free = may.free in omega (arith, even, free);
+        };
+        loans = may.idle.loans;
+      };
+      feeding = record { left = record { sixteen = refl; first = refl }; right = record { sixteen = refl; first = refl } };
+      keeps = record {
+        left = side (left_side shape);
+        right = side (right_side shape);
+        left_steady = λ i s there. inl (empty_at_end blocks s (each_empty blocks i s there));
+        left_ends = λ none i s there. empty_at_end blocks s (each_empty blocks i s there);
+        right_ends = λ i s there. empty_at_end blocks s (each_empty blocks i s there);
+        laid = since_now (LaidBoth (over (first_sixteen blocks) h signs) (over (first_sixteen blocks) h signs)) signs.trail
+            (record { lefts = []; rights = []; are = refl; left = record { building = All-nil IsBuilding; left = λ w. refl }; right = record { building = All-nil IsBuilding; left = λ w. refl } });
+      };
+    }

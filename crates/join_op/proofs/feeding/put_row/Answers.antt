@@ -1,0 +1,19 @@
+use Rattle.std.proofs.Common.{◌∙◌, sym, subst, arith}
+use Rattle.tuple_stream.specs.PageRows.{IsOneRow}
+use Rattle.join_op.proofs.Calls.{calls_beside, room_first}
+use Rattle.join_op.proofs.Nothing.{feeds_nothing}
+use Rattle.join_op.proofs.feeding.put_row.Goals as goal
+
+pub returns-in_default-clause-went : goal.returns-in_default-clause-went
+returns-in_default-clause-went g c = feeds_nothing c.args.c.now.tracker _ _ c.requires.may.own.left_shaped
+
+pub append-requires-clause-room : goal.append-requires-clause-room
+append-requires-clause-room g c = (0, omega arith, room_first c.args.c.now c.args.parts.now c.args._other.now (g.St.Store.holds c.args.store.now) (g.St.Store.signs c.args.store.now) c.requires.may c.requires.sixteen)
+
+pub append-requires-clause-row : goal.append-requires-clause-row
+append-requires-clause-row g c = subst IsOneRow (sym (c.deref-2.ensures.value ∙ c.in-Ok.ensures.row)) c.in-Ok.ensures.one
+
+pub returns-clause-beside : goal.returns-clause-beside
+returns-clause-beside g c =
+    calls_beside c.args.c.now.tracker c.args.parts.now c.append.new.self c.args._other.now (g.St.Store.holds c.args.store.now) (g.St.Store.holds c.append.new.store) (g.St.Store.signs c.args.store.now) (g.St.Store.signs c.append.new.store)
+    c.requires.may.own c.append.ensures.went.steps c.append.ensures.changes.blocks c.append.ensures.changes.levels

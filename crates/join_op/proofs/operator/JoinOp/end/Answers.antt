@@ -1,0 +1,34 @@
+use Rattle.std.proofs.Common.{ℕ, ap, sym, subst}
+use Rattle.store_api.specs.Conditions.{IsIdle}
+use Rattle.store_api.specs.Holdings.{Holdings}
+use Rattle.store_api.specs.Signs.{Signs}
+use Rattle.partition_stack.specs.Leaving.{LeavesOthers}
+use Rattle.join_op.specs.Operator.{IsOperator, Operator, operator}
+use Rattle.join_op.proofs.Ended.{ended_idle, ended_leaves, left_ended}
+use Rattle.join_op.proofs.operator.JoinOp.end.Goals as goal
+
+pub end-requires-2 : goal.end-requires-2
+end-requires-2 g c =
+    let me = c.self.inside in
+    let h : Holdings = g.St.Store.holds c.args.store.now in
+    let s : Signs = g.St.Store.signs c.args.store.now in
+    let is : IsOperator (operator me.client me.shape me.left me.right) h s = subst (λ (o : Operator). IsOperator o h s) (sym c.self.view_is) c.requires in
+    (left_ended me.client.tracker me.left.streams me.right.streams h (g.St.Store.holds c.end.new.store) (g.St.Store.holds c.end.new.store) s (g.St.Store.signs c.end.new.store) (g.St.Store.signs c.end.new.store) is.owns c.end.ensures).left_shaped
+
+pub returns-clause-idle : goal.returns-clause-idle
+returns-clause-idle g c =
+    let me = c.self.inside in
+    let h : Holdings = g.St.Store.holds c.args.store.now in
+    let s : Signs = g.St.Store.signs c.args.store.now in
+    let is : IsOperator (operator me.client me.shape me.left me.right) h s = subst (λ (o : Operator). IsOperator o h s) (sym c.self.view_is) c.requires in
+    subst (λ (t : ℕ). IsIdle t (g.St.Store.holds c.end-2.new.store)) (ap (λ (o : Operator). o.client.tracker) c.self.view_is)
+    (ended_idle me.client.tracker me.left.streams me.right.streams h (g.St.Store.holds c.end.new.store) (g.St.Store.holds c.end-2.new.store) s (g.St.Store.signs c.end.new.store) (g.St.Store.signs c.end-2.new.store) is.owns c.end.ensures c.end-2.ensures is.loans)
+
+pub returns-clause-leaves : goal.returns-clause-leaves
+returns-clause-leaves g c =
+    let me = c.self.inside in
+    let h : Holdings = g.St.Store.holds c.args.store.now in
+    let s : Signs = g.St.Store.signs c.args.store.now in
+    let is : IsOperator (operator me.client me.shape me.left me.right) h s = subst (λ (o : Operator). IsOperator o h s) (sym c.self.view_is) c.requires in
+    subst (λ (t : ℕ). LeavesOthers t h (g.St.Store.holds c.end-2.new.store) s (g.St.Store.signs c.end-2.new.store)) (ap (λ (o : Operator). o.client.tracker) c.self.view_is)
+    (ended_leaves me.client.tracker me.left.streams me.right.streams h (g.St.Store.holds c.end.new.store) (g.St.Store.holds c.end-2.new.store) s (g.St.Store.signs c.end.new.store) (g.St.Store.signs c.end-2.new.store) is.owns c.end.ensures c.end-2.ensures)

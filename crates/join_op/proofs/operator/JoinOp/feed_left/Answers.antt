@@ -1,0 +1,54 @@
+use Rattle.std.proofs.Common.{◌∙◌, ℕ, List, [], ◌∷◌, ◌++◌, Option, OnOk, ap, sym, subst}
+use Rattle.std.specs.Prelude.{All}
+use Rattle.pool_model.specs.declared.entry.Entry.{Entry}
+use Rattle.row_codec.specs.declared.values.Value.{Value}
+use Rattle.store_api.specs.Holdings.{Holdings, length_of}
+use Rattle.store_api.specs.Signs.{Signs}
+use Rattle.store_api.specs.Shapes.{IsKeyColumn}
+use Rattle.row_codec.specs.RowBytes.{row_bytes}
+use Rattle.tuple_stream.specs.FamilyCalls.{Feeds}
+use Rattle.tuple_stream.specs.Steps.{came}
+use Rattle.partition_stack.specs.Stack.{over}
+use Rattle.join_op.specs.Beside.{first_place}
+use Rattle.join_op.specs.Operator.{HasNoRight, IsOperator, Keeps, MayBeFed, Operator, operator}
+use Rattle.join_op.specs.Stored.{left_side}
+use Rattle.join_op.proofs.Calls.{left_called}
+use Rattle.join_op.proofs.KeepsRows.{keeps_left}
+use Rattle.join_op.proofs.Spellable.{left_keyed, spellable}
+use Rattle.join_op.proofs.operator.JoinOp.feed_left.Goals as goal
+use Rattle.join_op.proofs.operator.JoinOp.feed_left.Goals.{in-Ok, in-Err}
+
+pub put_row-requires-clause-row : goal.put_row-requires-clause-row
+put_row-requires-clause-row g c =
+    let me = c.self.inside in
+    let h : Holdings = g.St.Store.holds c.args.store.now in
+    let is : IsOperator (operator me.client me.shape me.left me.right) h (g.St.Store.signs c.args.store.now) = subst (λ (o : Operator). IsOperator o h (g.St.Store.signs c.args.store.now)) (sym c.self.view_is) c.requires.op in
+    let may : MayBeFed (left_side me.shape) (operator me.client me.shape me.left me.right) h c.args.row.now = subst (λ (o : Operator). MayBeFed (left_side o.shape) o h c.args.row.now) (sym c.self.view_is) c.requires.row in
+    spellable me.shape.left c.deref.result.now (length_of me.left.page_blocks h) c.args.row.now is.shape.left
+    (subst (All (IsKeyColumn me.shape.left)) (sym (c.deref.ensures.value ∙ c.self.invariant.on_left)) (left_keyed me.shape is.shape)) may.kinds may.short
+
+pub returns-clause-op : goal.returns-clause-op
+returns-clause-op g c =
+    let me = c.self.inside in
+    let is : IsOperator (operator me.client me.shape me.left me.right) (g.St.Store.holds c.args.store.now) (g.St.Store.signs c.args.store.now) = subst (λ (o : Operator). IsOperator o (g.St.Store.holds c.args.store.now) (g.St.Store.signs c.args.store.now)) (sym c.self.view_is) c.requires.op in
+    left_called me.client me.shape me.left me.right (g.St.Store.holds c.args.store.now) (g.St.Store.holds c.put_row.new.store) (g.St.Store.signs c.args.store.now) (g.St.Store.signs c.put_row.new.store) is c.put_row.new.parts c.put_row.ensures.beside
+
+pub returns-clause-keeps : goal.returns-clause-keeps
+returns-clause-keeps g c =
+    let me = c.self.inside in
+    let h : Holdings = g.St.Store.holds c.args.store.now in
+    let s : Signs = g.St.Store.signs c.args.store.now in
+    let h1 : Holdings = g.St.Store.holds c.put_row.new.store in
+    let s1 : Signs = g.St.Store.signs c.put_row.new.store in
+    let now : Operator = operator me.client me.shape c.put_row.new.parts me.right in
+    elim c.match-put_row.branch [
+      | in-Ok w ↦
+          subst (λ r. OnOk r ((start : Option (List Entry)) (lefts rights : List (List Value)) → Keeps start lefts rights c.args.self.now h s → Keeps start (lefts ++ c.args.row.now ∷ []) rights now h1 s1)) (sym w.result-is)
+          (λ start lefts rights keeps.
+          keeps_left me.client me.shape me.left me.right h s start lefts rights (subst (λ (o : Operator). Keeps start lefts rights o h s) (sym c.self.view_is) keeps)
+          c.put_row.new.parts h1 s1 c.args.row.now (subst HasNoRight (sym c.self.view_is) c.requires.first) c.put_row.ensures.beside
+          (subst (λ (more : List (List ℕ)). Feeds me.client.tracker (first_place (left_side me.shape).columns c.args.row.now) more (over me.left h s) (over c.put_row.new.parts h1 s1)) (ap (λ r. came r (row_bytes c.args.row.now)) w.in-Ok.is)
+          (subst (λ (columns : List ℕ). Feeds me.client.tracker (first_place columns c.args.row.now) (came c.put_row.result (row_bytes c.args.row.now)) (over me.left h s) (over c.put_row.new.parts h1 s1)) (c.deref.ensures.value ∙ c.self.invariant.on_left) c.put_row.ensures.went))
+          w.in-Ok.ensures.at_end (subst (λ (o : Operator). MayBeFed (left_side o.shape) o h c.args.row.now) (sym c.self.view_is) c.requires.row).kinds w.in-Ok.ensures.is_row)
+      | in-Err w ↦ subst (λ r. OnOk r ((start : Option (List Entry)) (lefts rights : List (List Value)) → Keeps start lefts rights c.args.self.now h s → Keeps start (lefts ++ c.args.row.now ∷ []) rights now h1 s1)) (sym w.result-is) tt
+    ]

@@ -1,0 +1,132 @@
+use Rattle.std.proofs.Common.{◌≡◌, ◌∙◌, ◌*◌, inl, inr, ℕ, List, [], ◌∷◌, ◌++◌, Option, OnOk, IfErr, ap, sym, subst, arith, true≢false}
+use Rattle.std.specs.Prelude.{All}
+use Rattle.std.proofs.lemmas.Bool.{cases_Bool}
+use Rattle.pool_model.specs.declared.entry.Entry.{Entry}
+use Rattle.row_codec.specs.RowBytes.{row_bytes}
+use Rattle.row_codec.specs.declared.values.Value.{Value}
+use Rattle.store_api.proofs.Answered.{answered_before}
+use Rattle.store_api.specs.Holdings.{Holdings, length_of}
+use Rattle.store_api.specs.Signs.{Signs}
+use Rattle.store_api.specs.Shapes.{IsKeyColumn}
+use Rattle.tuple_stream.specs.FamilyCalls.{Feeds}
+use Rattle.tuple_stream.specs.Steps.{came}
+use Rattle.tuple_stream.specs.Touches.{IsFull}
+use Rattle.tuple_stream.specs.Trails.{EnteredEvents}
+use Rattle.partition_stack.proofs.Left.{leaves_both}
+use Rattle.partition_stack.specs.Leaving.{LeavesOthers}
+use Rattle.partition_stack.specs.Stack.{Stack, over}
+use Rattle.join_op.specs.Beside.{first_place}
+use Rattle.join_op.specs.Operator.{CameOfStore, IsOperator, Keeps, LaidBoth, MayBeFed, Operator, operator}
+use Rattle.join_op.specs.Stored.{right_side}
+use Rattle.join_op.proofs.Calls.{left_called, right_called}
+use Rattle.join_op.proofs.KeepsRows.{keeps_right, keeps_right_first}
+use Rattle.join_op.proofs.Spellable.{right_keyed, spellable}
+use Rattle.join_op.proofs.operator.JoinOp.feed_right.Goals as goal
+use Rattle.join_op.proofs.operator.JoinOp.feed_right.Goals.{in-Ok, in-Err-put_row}
+
+pub invariant_of-self : goal.invariant_of-self
+invariant_of-self g c =
+    record {
+      on_left = c.self.invariant.on_left;
+      on_right = c.self.invariant.on_right;
+      rests = c.rest_left.ensures.flag;
+      before = λ unset. c.self.invariant.before (sym c.in-Err.ensures.unset ∙ unset);
+    }
+
+pub put_row-requires-clause-row : goal.put_row-requires-clause-row
+put_row-requires-clause-row g c =
+    let me = c.self.inside in
+    let h : Holdings = g.St.Store.holds c.args.store.now in
+    let h1 : Holdings = g.St.Store.holds c.rest_left.new.store in
+    let is : IsOperator (operator me.client me.shape me.left me.right) h (g.St.Store.signs c.args.store.now) = subst (λ (o : Operator). IsOperator o h (g.St.Store.signs c.args.store.now)) (sym c.self.view_is) c.requires.op in
+    let may : MayBeFed (right_side me.shape) (operator me.client me.shape me.left me.right) h c.args.row.now = subst (λ (o : Operator). MayBeFed (right_side o.shape) o h c.args.row.now) (sym c.self.view_is) c.requires.row in
+    let same : length_of me.right.page_blocks h1 ≡ length_of me.left.page_blocks h = ap (λ (n : ℕ). n * h1.block_len) is.alike ∙ ap (λ (n : ℕ). me.left.page_blocks * n) c.rest_left.ensures.beside.leaves.others.block_len in
+    spellable me.shape.right c.deref.result.now (length_of me.right.page_blocks h1) c.args.row.now is.shape.right
+    (subst (All (IsKeyColumn me.shape.right)) (sym (c.deref.ensures.value ∙ c.self.invariant.on_right)) (right_keyed me.shape is.shape)) may.kinds
+    (let short = may.short in omega (arith, same, short))
+
+pub invariant_of-self-2 : goal.invariant_of-self-2
+invariant_of-self-2 g c =
+    record {
+      on_left = c.self.invariant.on_left;
+      on_right = c.self.invariant.on_right;
+      rests = c.rest_left.ensures.flag;
+      before = λ unset. absurd (true≢false (sym c.in_default.ensures.set ∙ unset));
+    }
+
+pub returns-clause-op : goal.returns-clause-op
+returns-clause-op g c =
+    let me = c.self.inside in
+    let h : Holdings = g.St.Store.holds c.args.store.now in
+    let s : Signs = g.St.Store.signs c.args.store.now in
+    let h1 : Holdings = g.St.Store.holds c.rest_left.new.store in
+    let s1 : Signs = g.St.Store.signs c.rest_left.new.store in
+    let is : IsOperator (operator me.client me.shape me.left me.right) h s = subst (λ (o : Operator). IsOperator o h s) (sym c.self.view_is) c.requires.op in
+    right_called me.client me.shape c.rest_left.new.left me.right h1 (g.St.Store.holds c.put_row.new.store) s1 (g.St.Store.signs c.put_row.new.store)
+    (left_called me.client me.shape me.left me.right h h1 s s1 is c.rest_left.new.left c.rest_left.ensures.beside) c.put_row.new.parts c.put_row.ensures.beside
+
+pub returns-clause-leaves : goal.returns-clause-leaves
+returns-clause-leaves g c =
+    let me = c.self.inside in
+    let h : Holdings = g.St.Store.holds c.args.store.now in
+    let s : Signs = g.St.Store.signs c.args.store.now in
+    let h2 : Holdings = g.St.Store.holds c.put_row.new.store in
+    let s2 : Signs = g.St.Store.signs c.put_row.new.store in
+    subst (λ (t : ℕ). LeavesOthers t h h2 s s2) (ap (λ (o : Operator). o.client.tracker) c.self.view_is)
+    (leaves_both me.client.tracker h (g.St.Store.holds c.rest_left.new.store) h2 s (g.St.Store.signs c.rest_left.new.store) s2 c.rest_left.ensures.beside.leaves c.put_row.ensures.beside.leaves)
+
+pub returns-clause-cause : goal.returns-clause-cause
+returns-clause-cause g c =
+    let me = c.self.inside in
+    let h : Holdings = g.St.Store.holds c.args.store.now in
+    let s : Signs = g.St.Store.signs c.args.store.now in
+    let s1 : Signs = g.St.Store.signs c.rest_left.new.store in
+    let h2 : Holdings = g.St.Store.holds c.put_row.new.store in
+    let s2 : Signs = g.St.Store.signs c.put_row.new.store in
+    let is : IsOperator (operator me.client me.shape me.left me.right) h s = subst (λ (o : Operator). IsOperator o h s) (sym c.self.view_is) c.requires.op in
+    let blocks : me.right.page_blocks ≡ c.args.self.now.left.page_blocks = is.alike ∙ ap (λ (o : Operator). o.left.page_blocks) c.self.view_is in
+    elim c.match-put_row.branch [
+      | in-Ok w ↦ subst (λ r. IfErr r (CameOfStore c.args.self.now.left.page_blocks h2 s s2)) (sym w.result-is) tt
+      | in-Err-put_row w ↦
+          subst (λ r. IfErr r (CameOfStore c.args.self.now.left.page_blocks h2 s s2)) (sym w.result-is) (
+            answered_before w.in-Err-put_row.e s s1 s2 c.rest_left.ensures.beside.leaves.grows w.in-Err-put_row.ensures.answers.0,
+            subst (λ (n : ℕ). IsFull n h2.free_slots w.in-Err-put_row.e) blocks w.in-Err-put_row.ensures.answers.1,
+          )
+    ]
+
+pub returns-clause-keeps : goal.returns-clause-keeps
+returns-clause-keeps g c =
+    let me = c.self.inside in
+    let h : Holdings = g.St.Store.holds c.args.store.now in
+    let s : Signs = g.St.Store.signs c.args.store.now in
+    let h1 : Holdings = g.St.Store.holds c.rest_left.new.store in
+    let s1 : Signs = g.St.Store.signs c.rest_left.new.store in
+    let h2 : Holdings = g.St.Store.holds c.put_row.new.store in
+    let s2 : Signs = g.St.Store.signs c.put_row.new.store in
+    let left1 : Stack = c.rest_left.new.left in
+    let now : Operator = operator me.client me.shape left1 c.put_row.new.parts in
+    let is : IsOperator (operator me.client me.shape me.left me.right) h s = subst (λ (o : Operator). IsOperator o h s) (sym c.self.view_is) c.requires.op in
+    let may : MayBeFed (right_side me.shape) (operator me.client me.shape me.left me.right) h c.args.row.now = subst (λ (o : Operator). MayBeFed (right_side o.shape) o h c.args.row.now) (sym c.self.view_is) c.requires.row in
+    elim c.match-put_row.branch [
+      | in-Ok w ↦
+          let feeds : Feeds me.client.tracker (first_place (right_side me.shape).columns c.args.row.now) (row_bytes c.args.row.now ∷ []) (over me.right h1 s1) (over c.put_row.new.parts h2 s2) =
+          subst (λ (more : List (List ℕ)). Feeds me.client.tracker (first_place (right_side me.shape).columns c.args.row.now) more (over me.right h1 s1) (over c.put_row.new.parts h2 s2)) (ap (λ r. came r (row_bytes c.args.row.now)) w.in-Ok.is)
+          (subst (λ (columns : List ℕ). Feeds me.client.tracker (first_place columns c.args.row.now) (came c.put_row.result (row_bytes c.args.row.now)) (over me.right h1 s1) (over c.put_row.new.parts h2 s2)) (c.deref.ensures.value ∙ c.self.invariant.on_right) c.put_row.ensures.went) in
+          subst (λ r. OnOk r ((start : Option (List Entry)) (lefts rights : List (List Value)) → Keeps start lefts rights c.args.self.now h s → Keeps start lefts (rights ++ c.args.row.now ∷ []) now h2 s2)) (sym w.result-is)
+          (λ start lefts rights kept.
+          let keeps : Keeps start lefts rights (operator me.client me.shape me.left me.right) h s = subst (λ (o : Operator). Keeps start lefts rights o h s) (sym c.self.view_is) kept in
+          elim (cases_Bool me.left_rests) [
+            | inl does ↦
+                let still = c.rest_left.ensures.still does in
+                let laid : EnteredEvents (LaidBoth (over left1 h1 s1) (over me.right h1 s1)) start s1.trail =
+                subst (λ (p : Stack). EnteredEvents (LaidBoth (over p h1 s1) (over me.right h1 s1)) start s1.trail) (sym still.0)
+                (subst (λ (x : Holdings). EnteredEvents (LaidBoth (over me.left x s1) (over me.right x s1)) start s1.trail) (sym still.1)
+                (subst (λ (x : Signs). EnteredEvents (LaidBoth (over me.left h x) (over me.right h x)) start x.trail) (sym still.2) keeps.laid)) in
+                keeps_right me.client me.shape me.left left1 me.right h h1 s s1 start lefts rights keeps c.rest_left.ensures.beside c.in_default.ensures.rested c.put_row.new.parts h2 s2 c.args.row.now laid
+                c.put_row.ensures.beside feeds w.in-Ok.ensures.at_end may.kinds w.in-Ok.ensures.is_row
+            | inr doesnt ↦
+                keeps_right_first me.client me.shape me.left left1 me.right h h1 s s1 start lefts rights keeps c.rest_left.ensures.beside c.in_default.ensures.rested (c.self.invariant.before doesnt)
+                c.put_row.new.parts h2 s2 c.args.row.now c.put_row.ensures.beside feeds w.in-Ok.ensures.at_end may.kinds w.in-Ok.ensures.is_row
+          ])
+      | in-Err-put_row w ↦ subst (λ r. OnOk r ((start : Option (List Entry)) (lefts rights : List (List Value)) → Keeps start lefts rights c.args.self.now h s → Keeps start lefts (rights ++ c.args.row.now ∷ []) now h2 s2)) (sym w.result-is) tt
+    ]

@@ -1,0 +1,32 @@
+//! A join ends.
+ghost use Rattle.std.specs.Prelude.{◌≡◌};
+ghost use Rattle.store_api.specs.Conditions.{IsIdle};
+ghost use Rattle.partition_stack.specs.Leaving.{LeavesOthers};
+ghost use Rattle.join_op.specs.Operator.{IsOperator};
+
+use crate::operator::JoinOp;
+use store_api::{Client, Store};
+
+impl JoinOp {
+    /// Ends the join, and gives its client back, which has no page and no loan from then on. This takes no memory.
+    pub fn end<St: Store>(self, store: &mut St) -> Client
+        requires { IsOperator self (St.holds store.old) (St.signs store.old) }
+        ensures client { result ≡ self.client }
+        ensures idle { IsIdle self.client.tracker (St.holds store.new) }
+        ensures leaves { LeavesOthers self.client.tracker (St.holds store.old) (St.holds store.new) (St.signs store.old) (St.signs store.new) }
+    {
+        let JoinOp {
+            client,
+            shape: _,
+            left_columns: _,
+            right_columns: _,
+            left,
+            right,
+            left_rests: _,
+            fed: _,
+        } = self;
+        left.end(store, &client);
+        right.end(store, &client);
+        client
+    }
+}
