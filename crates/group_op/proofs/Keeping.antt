@@ -15,52 +15,11 @@ use Rattle.tuple_stream.proofs.Frames.{still_some}
 use Rattle.bucket_table.specs.Tables.{Node, Table, with_nodes}
 use Rattle.bucket_table.proofs.Beside.{beside_pages}
 use Rattle.partition_stack.specs.Stack.{HasRoomFrom, Stack, over}
+pub use Rattle.partition_stack.proofs.Left.{others_stay, same_reservation}
 use Rattle.partition_stack.proofs.Owned.{owned_stay}
 use Rattle.group_op.specs.Held.{AreEntries, IsHeld, Leaves, State, lent, state}
 use Rattle.group_op.specs.Finishing.{IsRead}
 use Rattle.group_op.specs.Putting.{IsFan, Works}
-
-account_reservation : (o : Option Account) (n : ℕ) → (or_else no_account (option_map (with_unused n) o)).reservation ≡ (or_else no_account o).reservation
-account_reservation None n = refl
-account_reservation (Some account) n = refl
-
--- a page of another client is none of theirs
-outside_of_other : (t u q : ℕ) (f : Family) (page : LivePage) → AreShaped t f → u ≢ t → f.held.pages q ≡ Some page → page.client ≡ u → IsOutside q f.streams
-outside_of_other t u q f page shaped other lives client = λ i s there.
-    all_placed (λ p. p.name ≢ q) s.pages (λ k p at. λ same.
-    let own = at_place (IsOwnPage t s.page_blocks f.held) s.pages k p (shaped.each i s there).own at in
-    let one : page_of q f.held ≡ page = ap (or_else no_page) lives in
-    other (sym client ∙ sym (ap (λ (r : LivePage). r.client) one) ∙ ap (λ (n : ℕ). (page_of n f.held).client) (sym same) ∙ own.page.client ∙ own.client))
-
-module _ (t : ℕ) (f g : Family) (was : AreShaped t f) (is : AreShaped t g) (touches : TouchesAll t f g) where
-  pub same_reservation : IsSome (f.held.clients t) → (account_of t g.held).reservation ≡ (account_of t f.held).reservation
-  same_reservation lives = ap (λ (o : Option Account). (or_else no_account o).reservation) (touches.account lives) ∙ account_reservation (f.held.clients t) (unused_of t g.held)
-
-  pub others_stay : OthersStay (Some t) f.held g.held
-  others_stay =
-      record {
-        block_len = touches.block_len;
-        session = touches.session;
-        query = touches.query;
-        limit = touches.limit;
-        live_clients = touches.live_clients;
-        told = touches.told;
-        reservation = let same = touches.reservation in omega (arith, same);
-        others = λ u other.
-            let apart : u ≢ t = λ same. other (ap Some (sym same)) in
-            record {
-              account = touches.clients u apart;
-              pages = λ q page client. (
-                (λ lives. (touches.back q (subst (λ (o : Option LivePage). IsSome o) (sym lives) refl) (outside_of_other t u q g page is apart lives client)).0 ∙ lives),
-                (λ lives. (touches.pages q (subst (λ (o : Option LivePage). IsSome o) (sym lives) refl) (outside_of_other t u q f page was apart lives client)).0 ∙ lives),
-              );
-              loans = λ q loan client. (
-                (λ lives. sym (ap (λ (loans : ℕ → Option LiveLoan). loans q) touches.loans) ∙ lives),
-                (λ lives. ap (λ (loans : ℕ → Option LiveLoan). loans q) touches.loans ∙ lives),
-              );
-            };
-        alone = λ none. absurd cc;
-      }
 
 module _ (t : ℕ) (table : Table) (p q : Stack) (old new : Holdings) (before after : Signs) (held : IsHeld t (state table p old before)) (touches : TouchesAll t (over p old before) (over q new after)) (is : AreShaped t (over q new after)) (blocks : q.page_blocks ≡ p.page_blocks) where
   same_len : length_of q.page_blocks new ≡ length_of p.page_blocks old

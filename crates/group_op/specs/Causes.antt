@@ -3,16 +3,10 @@ use Rattle.std.specs.Prelude.{◌≡◌, ◌<◌, ℕ, Option, None, ⊤}
 use Rattle.reservation_tree.specs.declared.errors.PoolErr.{PoolErr}
 use Rattle.reservation_tree.specs.declared.errors.PoolErr.TheVariants.{ScratchFull}
 use Rattle.store_api.specs.Emitters.{CameOf}
-use Rattle.store_api.specs.Holdings.{Holdings}
-use Rattle.store_api.specs.Signs.{Signs, WasAnswered}
+use Rattle.store_api.specs.Signs.{Signs}
 use Rattle.store_api.specs.declared.op_err.OpErr.{OpErr}
 use Rattle.store_api.specs.declared.op_err.OpErr.TheVariants.{Pool, Sink}
-use Rattle.tuple_stream.specs.Touches.{IsFull}
-
--- the store answered so in between; want of slots is told with the blocks of a page
-abbrev pub CameOfStore : ℕ → Holdings → Signs → Signs → OpErr → Type 0
-CameOfStore blocks h before after (Pool e) = WasAnswered e before after × IsFull blocks h.free_slots e
-CameOfStore blocks h before after Sink = ⊥
+pub use Rattle.partition_stack.specs.Leaving.{CameOfStore}
 
 -- want of slots is told with the blocks of a page, and fewer slots were free
 abbrev pub IsShort : ℕ → PoolErr → Type 0

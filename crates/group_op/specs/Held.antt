@@ -3,13 +3,13 @@ use Rattle.std.specs.Prelude.{◌≡◌, ◌≢◌, ℕ, ◌+◌, ◌*◌, ◌%�
 use Rattle.row_codec.specs.Order.{hash_of}
 use Rattle.store_api.specs.declared.shapes.Shape.{Shape}
 use Rattle.store_api.specs.Holdings.{Holdings, LiveLoan, account_of, length_of}
-use Rattle.store_api.specs.Emitters.{OthersStay}
-use Rattle.store_api.specs.Signs.{Grows, Signs}
+use Rattle.store_api.specs.Signs.{Signs}
 use Rattle.tuple_stream.specs.Families.{Family}
 use Rattle.bucket_table.specs.Tables.{Node, Table, used_by}
 use Rattle.bucket_table.specs.Lending.{IsApart, IsTableOf, bytes_of, loans_of}
 use Rattle.partition_stack.specs.Stack.{Stack, over}
 use Rattle.partition_stack.specs.Changes.{Owns}
+pub use Rattle.partition_stack.specs.Leaving.{LeavesOthers}
 use Rattle.group_op.specs.Stored.{IsPartialRow, key_at}
 
 -- a table of partial rows, and partitions of them
@@ -62,14 +62,6 @@ pub record AreEntries (shape : Shape) (len : ℕ) (table : Table) : Type 0 where
   pub each : All (IsEntry shape len table.heads) table.nodes
   pub behind : StandBehind table.nodes
   pub roomy : 2 * len ≤ table.room
-
--- calls changed nothing of other clients; what the client reserves didn't fall, and the query has with it at least what it
--- had
-pub record LeavesOthers (t : ℕ) (old new : Holdings) (before after : Signs) : Type 0 where
-  pub others : OthersStay (Some t) old new
-  pub grows : Grows before after
-  pub reserved : (account_of t old).reservation ≤ (account_of t new).reservation
-  pub room : old.room + (account_of t old).reservation ≤ new.room + (account_of t new).reservation
 
 abbrev pub Leaves : ℕ → State → State → Type 0
 Leaves t a b = LeavesOthers t a.held b.held a.signs b.signs

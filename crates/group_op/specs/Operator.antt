@@ -1,5 +1,5 @@
 -- A grouping over a store: what it has, and what it keeps of the rows that were fed. Lengths are in bytes.
-use Rattle.std.specs.Prelude.{◌≡◌, ◌≢◌, ℕ, ◌+◌, ◌*◌, ◌≤◌, List, [], ◌++◌, All, length, replicate, Option, Some, None}
+use Rattle.std.specs.Prelude.{◌≡◌, ℕ, ◌+◌, ◌*◌, ◌≤◌, List, [], ◌++◌, All, length, replicate, Option, Some, None}
 use Rattle.pool_model.specs.declared.entry.Entry.{Entry}
 use Rattle.row_codec.specs.declared.values.Value.{Value}
 use Rattle.row_codec.specs.Order.{path_order}
@@ -7,7 +7,7 @@ use Rattle.row_codec.specs.RowBytes.{row_bytes}
 use Rattle.row_codec.specs.Row.{IsValue, kinds_of}
 use Rattle.store_api.specs.declared.shapes.Shape.{Shape}
 use Rattle.store_api.specs.Conditions.{IsBlockCount, IsLiveClient}
-use Rattle.store_api.specs.Holdings.{Holdings, LiveLoan, account_of, length_of, unused_of}
+use Rattle.store_api.specs.Holdings.{Holdings, account_of, length_of, unused_of}
 use Rattle.store_api.specs.Shapes.{IsShape}
 use Rattle.store_api.specs.Signs.{Signs}
 use Rattle.store_api.specs.Tokens.{ClientToken}
@@ -20,6 +20,7 @@ use Rattle.group_rows.specs.Tables.{HaveDistinctKeys}
 use Rattle.bucket_table.specs.Tables.{Table}
 use Rattle.partition_stack.specs.Stack.{Stack, first_sixteen, over}
 use Rattle.partition_stack.specs.Changes.{Owns}
+pub use Rattle.partition_stack.specs.Leaving.{HasNoLoan}
 use Rattle.group_op.specs.Held.{AreEntries, IsHeld, State, page_len, rows_of, state, streams_of}
 use Rattle.group_op.specs.Putting.{Deals}
 use Rattle.group_op.specs.Stored.{IsPartialRow, grouping_of, keys_len, partial_at, partials_at, place_of}
@@ -42,10 +43,6 @@ started c blocks shape = operator c shape (first_sixteen blocks) None
 -- the length of its pages
 abbrev pub page_of : Operator → Holdings → ℕ
 page_of op h = length_of op.parts.page_blocks h
-
--- the client has no loan
-abbrev pub HasNoLoan : ℕ → Holdings → Type 0
-HasNoLoan t h = (q : ℕ) (loan : LiveLoan) → h.loans q ≡ Some loan → loan.client ≢ t
 
 -- its client has its table and its partitions and nothing else; before there is a table, nothing is charged
 abbrev pub HasTable : ClientToken → Shape → Stack → Option Table → Holdings → Signs → Type 0

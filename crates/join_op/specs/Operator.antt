@@ -6,16 +6,13 @@ use Rattle.row_codec.specs.declared.values.Value.{Value}
 use Rattle.row_codec.specs.Row.{kinds_of}
 use Rattle.row_codec.specs.RowBytes.{row_bytes}
 use Rattle.store_api.specs.declared.shapes.JoinShape.{JoinShape}
-use Rattle.store_api.specs.declared.op_err.OpErr.{OpErr}
-use Rattle.store_api.specs.declared.op_err.OpErr.TheVariants.{Pool, Sink}
 use Rattle.store_api.specs.Conditions.{IsBlockCount, IsLiveClient}
 use Rattle.store_api.specs.Holdings.{Holdings, account_of, length_of}
 use Rattle.store_api.specs.Shapes.{IsJoinShape}
-use Rattle.store_api.specs.Signs.{Signs, WasAnswered}
+use Rattle.store_api.specs.Signs.{Signs}
 use Rattle.store_api.specs.Tokens.{ClientToken}
 use Rattle.tuple_stream.specs.Families.{Family, ShowAll}
 use Rattle.tuple_stream.specs.FamilyCalls.{AllAtEnd, AllWhole, AreSteady, HaveLaid, shares}
-use Rattle.tuple_stream.specs.Touches.{IsFull}
 use Rattle.tuple_stream.specs.Trails.{EnteredEvents}
 use Rattle.partition_stack.specs.Leaving.{HasNoLoan}
 use Rattle.partition_stack.specs.Sides.{OwnBoth}
@@ -103,8 +100,3 @@ pub record IsSame (old new : Operator) : Type 0 where
   pub shape : new.shape ≡ old.shape
   pub left_blocks : new.left.page_blocks ≡ old.left.page_blocks
   pub right_blocks : new.right.page_blocks ≡ old.right.page_blocks
-
--- the store answered so in between; want of slots is told with the blocks of a page
-abbrev pub CameOfStore : ℕ → Holdings → Signs → Signs → OpErr → Type 0
-CameOfStore blocks h before after (Pool e) = WasAnswered e before after × IsFull blocks h.free_slots e
-CameOfStore blocks h before after Sink = ⊥

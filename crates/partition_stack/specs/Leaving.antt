@@ -2,7 +2,10 @@
 use Rattle.std.specs.Prelude.{◌≡◌, ◌≢◌, ℕ, ◌+◌, ◌≤◌, Some}
 use Rattle.store_api.specs.Holdings.{Holdings, LiveLoan, account_of}
 use Rattle.store_api.specs.Emitters.{OthersStay}
-use Rattle.store_api.specs.Signs.{Grows, Signs}
+use Rattle.store_api.specs.Signs.{Grows, Signs, WasAnswered}
+use Rattle.store_api.specs.declared.op_err.OpErr.{OpErr}
+use Rattle.store_api.specs.declared.op_err.OpErr.TheVariants.{Pool, Sink}
+use Rattle.tuple_stream.specs.Touches.{IsFull}
 
 -- the client has no loan
 abbrev pub HasNoLoan : ℕ → Holdings → Type 0
@@ -15,3 +18,8 @@ pub record LeavesOthers (t : ℕ) (old new : Holdings) (before after : Signs) : 
   pub grows : Grows before after
   pub reserved : (account_of t old).reservation ≤ (account_of t new).reservation
   pub room : old.room + (account_of t old).reservation ≤ new.room + (account_of t new).reservation
+
+-- the store answered so in between; want of slots is told with the blocks of a page
+abbrev pub CameOfStore : ℕ → Holdings → Signs → Signs → OpErr → Type 0
+CameOfStore blocks h before after (Pool e) = WasAnswered e before after × IsFull blocks h.free_slots e
+CameOfStore blocks h before after Sink = ⊥

@@ -13,10 +13,10 @@ use Rattle.tuple_stream.specs.Steps.{came}
 use Rattle.tuple_stream.specs.Touches.{IsFull}
 use Rattle.tuple_stream.specs.Trails.{EnteredEvents}
 use Rattle.partition_stack.proofs.Left.{leaves_both}
-use Rattle.partition_stack.specs.Leaving.{LeavesOthers}
+use Rattle.partition_stack.specs.Leaving.{CameOfStore, LeavesOthers}
 use Rattle.partition_stack.specs.Stack.{Stack, over}
 use Rattle.join_op.specs.Beside.{first_place}
-use Rattle.join_op.specs.Operator.{CameOfStore, IsOperator, Keeps, LaidBoth, MayBeFed, Operator, operator}
+use Rattle.join_op.specs.Operator.{IsOperator, Keeps, LaidBoth, MayBeFed, Operator, operator}
 use Rattle.join_op.specs.Stored.{right_side}
 use Rattle.join_op.proofs.Calls.{left_called, right_called}
 use Rattle.join_op.proofs.KeepsRows.{keeps_right, keeps_right_first}
