@@ -7,9 +7,10 @@ use crate::framing::{body_of, framed};
 use row_codec::{Bytes, Kind, Memory, Value};
 use std::alloc::Global;
 
-/// Reads the values of a row of these kinds, where the bytes are such a row, and answers whether they are.
+/// Reads the values of a row of these kinds, where the bytes are one, and answers whether they are.
 ///
-/// The texts among the values that were there go to `texts`, and their memory is taken first.
+/// The memory of texts that stand in `values` goes to `texts` first, and new texts take it from there. Where the bytes are
+/// no such row, `values` may hold a front of its fields.
 pub fn decode_into(
     alloc: Global,
     kinds: &[Kind],

@@ -8,7 +8,8 @@ ghost use Rattle.row_reading.specs.Reading.{IsKeyColumn, IsRowOf, values_at};
 use crate::framing::body_of;
 use row_codec::{Kind, Memory};
 
-/// Whether the bytes are a row of these kinds, and then its key in these columns, in the key's memory.
+/// Writes the key of a row of these kinds in these columns over `key`, where the bytes are such a row, and answers whether
+/// they are.
 pub fn key_into(
     row: &[u8],
     kinds: &[Kind],

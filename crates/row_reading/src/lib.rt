@@ -1,7 +1,8 @@
 //! Encoded rows, read where they stand.
 //!
-//! Model: the bytes of a row of known kinds spell its values. They are read into memory that is used again, or only the key
-//! in some columns is copied, and no values are made. Bytes that are no such row, or have a byte more, are told apart.
+//! Model: the bytes of a row of known kinds spell its values. Either the values are read into memory that is used again, or
+//! only the key in some columns is copied from the bytes, and no values are made. Both calls answer `false` exactly where
+//! the bytes aren't one whole row of these kinds.
 #![tactic(auto)]
 
 mod decoding;

@@ -2,12 +2,13 @@ use super::*;
 use row_codec::{Bytes, Kind, Value};
 use std::test::Fail;
 
-// A row of -2, "ab" and the wide number 1, and bytes that are no such row.
+// A row of -2, "ab" and the wide number 1.
 const ROW: [u8; 34] = [
     0, 0, 0, 30, 255, 255, 255, 255, 255, 255, 255, 254, 0, 0, 0, 2, 97, 98, 0, 0, 0, 0, 0, 0, 0,
     0, 0, 0, 0, 0, 0, 0, 0, 1,
 ];
 
+// The same with a byte more.
 const LONGER: [u8; 35] = [
     0, 0, 0, 30, 255, 255, 255, 255, 255, 255, 255, 254, 0, 0, 0, 2, 97, 98, 0, 0, 0, 0, 0, 0, 0,
     0, 0, 0, 0, 0, 0, 0, 0, 1, 0,
