@@ -11,9 +11,10 @@ use Rattle.row_codec.specs.RowBytes.{row_bytes}
 use Rattle.row_codec.specs.RowLaws.{IsRow}
 use Rattle.tuple_stream.specs.Families.{Family}
 use Rattle.tuple_stream.specs.FamilyCalls.{AreSure, Feeds, shares, with_rows}
+use Rattle.row_reading.specs.Reading.{IsRowOf, values_at}
 use Rattle.join_op.specs.Operator.{KeepsSide}
-use Rattle.join_op.specs.Stored.{IsRowOf, Side, place_of, rows_in, values_at}
-use Rattle.join_op.proofs.OneRow.{spelled_row, values_back}
+use Rattle.join_op.specs.Stored.{Side, place_of, rows_in}
+use Rattle.join_op.proofs.OneRow.{row_back, spelled_row}
 use Rattle.join_op.proofs.Shares.{one_more}
 use Rattle.join_op.proofs.Sums.{sum_map}
 
@@ -38,14 +39,14 @@ module _ (side : Side) (t : ℕ) (row : List Value) (f g : Family) where
       record {
         rows = with_rows k (keeps.rows k ++ row_bytes row ∷ []) keeps.rows;
         shows = feeds.rows keeps.rows sure keeps.shows;
-        formed = all_with (IsRowOf side) k keeps.rows (row_bytes row) keeps.formed (spelled_row side row is kinds);
+        formed = all_with (IsRowOf side.kinds) k keeps.rows (row_bytes row) keeps.formed (spelled_row side.kinds row is kinds);
         placed = at_with (place_of side 0 0) k keeps.rows (row_bytes row) keeps.placed place;
         same = λ count.
-            let all : sum_by count (rows_in side (shares 16 (with_rows k (keeps.rows k ++ row_bytes row ∷ []) keeps.rows))) ≡ sum_by (λ bytes. count (values_at side bytes)) (shares 16 (with_rows k (keeps.rows k ++ row_bytes row ∷ []) keeps.rows)) = sum_map count (values_at side) (shares 16 (with_rows k (keeps.rows k ++ row_bytes row ∷ []) keeps.rows)) in
-            let more : sum_by (λ bytes. count (values_at side bytes)) (shares 16 (with_rows k (keeps.rows k ++ row_bytes row ∷ []) keeps.rows)) ≡ sum_by (λ bytes. count (values_at side bytes)) (shares 16 keeps.rows) + count (values_at side (row_bytes row)) = one_more (λ bytes. count (values_at side bytes)) 16 k keeps.rows (row_bytes row) inside in
-            let was : sum_by count (rows_in side (shares 16 keeps.rows)) ≡ sum_by (λ bytes. count (values_at side bytes)) (shares 16 keeps.rows) = sum_map count (values_at side) (shares 16 keeps.rows) in
+            let all : sum_by count (rows_in side (shares 16 (with_rows k (keeps.rows k ++ row_bytes row ∷ []) keeps.rows))) ≡ sum_by (λ bytes. count (values_at side.kinds bytes)) (shares 16 (with_rows k (keeps.rows k ++ row_bytes row ∷ []) keeps.rows)) = sum_map count (values_at side.kinds) (shares 16 (with_rows k (keeps.rows k ++ row_bytes row ∷ []) keeps.rows)) in
+            let more : sum_by (λ bytes. count (values_at side.kinds bytes)) (shares 16 (with_rows k (keeps.rows k ++ row_bytes row ∷ []) keeps.rows)) ≡ sum_by (λ bytes. count (values_at side.kinds bytes)) (shares 16 keeps.rows) + count (values_at side.kinds (row_bytes row)) = one_more (λ bytes. count (values_at side.kinds bytes)) 16 k keeps.rows (row_bytes row) inside in
+            let was : sum_by count (rows_in side (shares 16 keeps.rows)) ≡ sum_by (λ bytes. count (values_at side.kinds bytes)) (shares 16 keeps.rows) = sum_map count (values_at side.kinds) (shares 16 keeps.rows) in
             let same : sum_by count (rows_in side (shares 16 keeps.rows)) ≡ sum_by count fed = keeps.same count in
-            let back : count (values_at side (row_bytes row)) ≡ count row = ap count (values_back side row is kinds) in
+            let back : count (values_at side.kinds (row_bytes row)) ≡ count row = ap count (row_back side.kinds row is kinds) in
             let now : sum_by count (fed ++ row ∷ []) ≡ sum_by count fed + count row = sum_by_push count fed row in
             omega (arith, all, more, was, same, back, now);
         whole = feeds.whole keeps.whole;

@@ -25,7 +25,7 @@ use Rattle.join_op.specs.Beside.{CallsBeside, first_place}
 use Rattle.join_op.specs.Operator.{HasNoRight, Keeps, KeepsSide, LaidBoth, operator}
 use Rattle.join_op.specs.Stored.{Side, left_side, place_of, right_side, rows_in}
 use Rattle.join_op.proofs.FedSide.{side_fed}
-use Rattle.join_op.proofs.OneRow.{values_back}
+use Rattle.join_op.proofs.OneRow.{row_back}
 
 left_sum : (w : Left → ℕ) (xs ys : List Event) → sum_by w (all_left (xs ++ ys)) ≡ sum_by w (all_left xs) + sum_by w (all_left ys)
 left_sum w xs ys = ap (sum_by w) (filter_map-append left_by xs ys) ∙ sum_by-append w (all_left xs) (all_left ys)
@@ -43,7 +43,7 @@ none_left w blocks h signs = refl
 
 module _ (row : List Value) (side : Side) (kinds : kinds_of row ≡ side.kinds) (fed_is_row : IsRow row) where
   pub first_is : 0 + (15 - nibble_of (hash_of (key_bytes side.columns row)) 0) ≡ first_place side.columns row → place_of side 0 0 (row_bytes row) ≡ first_place side.columns row
-  first_is same = ap (λ (r : List Value). 0 + (15 - nibble_of (hash_of (key_bytes side.columns r)) 0)) (values_back side row fed_is_row kinds) ∙ same
+  first_is same = ap (λ (r : List Value). 0 + (15 - nibble_of (hash_of (key_bytes side.columns r)) 0)) (row_back side.kinds row fed_is_row kinds) ∙ same
 
   few : (n : ℕ) → 15 - n < 16
   few n = omega arith

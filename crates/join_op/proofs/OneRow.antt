@@ -8,10 +8,11 @@ use Rattle.row_codec.specs.declared.values.Value.TheVariants.{Int, Text, Wide}
 use Rattle.row_codec.specs.Row.{kinds_of}
 use Rattle.row_codec.specs.RowBytes.{field_bytes, framed, row_bytes}
 use Rattle.row_codec.specs.RowLaws.{IsRow}
-use Rattle.row_codec.specs.RowReading.{framed_at, front, number_in, row_at}
-use Rattle.row_codec.proofs.SpelledBack.{front_back, number_back, row_back}
+use Rattle.row_codec.specs.RowReading.{framed_at, front, number_in}
+use Rattle.row_codec.proofs.SpelledBack.{front_back, number_back}
 use Rattle.tuple_stream.specs.PageRows.{IsOneRow, framed_len}
-use Rattle.join_op.specs.Stored.{IsRowOf, Side, values_at, values_read}
+use Rattle.row_reading.specs.Reading.{IsRowOf, values_at}
+use Rattle.row_reading.proofs.Bodies.{spelled_is_row, values_back}
 
 framed_there : (body : List ℕ) → length body < 2 ^ 32 → framed_at (framed body) ≡ Some (body, [])
 framed_there body short =
@@ -49,18 +50,8 @@ body_fits vs short =
     omega (arith, long, short)
 
 -- what is read of a row's bytes is the row
-pub values_back : (side : Side) (row : List Value) → IsRow row → kinds_of row ≡ side.kinds → values_at side (row_bytes row) ≡ row
-unfolding values_at
-values_back side row is kinds =
-    ap (λ (ks : List Kind). values_read (row_at ks (row_bytes row))) (sym kinds)
-    ∙ ap (λ (bytes : List ℕ). values_read (row_at (kinds_of row) bytes)) (sym (append-nil (row_bytes row)))
-    ∙ ap values_read (row_back row [] is)
+pub row_back : (kinds : List Kind) (row : List Value) → IsRow row → kinds_of row ≡ kinds → values_at kinds (row_bytes row) ≡ row
+row_back kinds row is same = ap (λ (ks : List Kind). values_at ks (row_bytes row)) (sym same) ∙ values_back row is
 
-pub spelled_row : (side : Side) (row : List Value) → IsRow row → kinds_of row ≡ side.kinds → IsRowOf side (row_bytes row)
-spelled_row side row is kinds =
-    let back = values_back side row is kinds in
-    record {
-      is_row = subst IsRow (sym back) is;
-      kinds_are = ap kinds_of back ∙ kinds;
-      spelled = ap row_bytes back;
-    }
+pub spelled_row : (kinds : List Kind) (row : List Value) → IsRow row → kinds_of row ≡ kinds → IsRowOf kinds (row_bytes row)
+spelled_row kinds row is same = subst (λ (ks : List Kind). IsRowOf ks (row_bytes row)) same (spelled_is_row row is)

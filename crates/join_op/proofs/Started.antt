@@ -17,9 +17,10 @@ use Rattle.partition_stack.specs.Changes.{Owns}
 use Rattle.partition_stack.specs.Stack.{IsStack, Stack, empty, first_sixteen, over}
 use Rattle.partition_stack.proofs.Coming.{sixteen_come}
 use Rattle.partition_stack.proofs.ListPlaces.{of_replicate}
+use Rattle.row_reading.specs.Reading.{IsRowOf}
 use Rattle.join_op.specs.Operator.{KeepsSide, LaidBoth}
 use Rattle.join_op.specs.Starting.{AllStart, MayStart}
-use Rattle.join_op.specs.Stored.{IsRowOf, Side, left_side, place_of, right_side}
+use Rattle.join_op.specs.Stored.{Side, left_side, place_of, right_side}
 
 -- a stack without partitions
 abbrev no_stack : ℕ → Stack
@@ -50,7 +51,7 @@ all_start c blocks shape h signs is sized may =
     let side : (side : Side) → KeepsSide side [] (over (first_sixteen blocks) h signs) = λ side. record {
       rows = λ i. [];
       shows = come.rows (λ i. []) (λ i high. refl) (λ i s there. absurd (none-some s there));
-      formed = λ i. All-nil (IsRowOf side);
+      formed = λ i. All-nil (IsRowOf side.kinds);
       placed = λ i. All-nil (λ row. place_of side 0 0 row ≡ i);
       same = λ count. refl;
       whole = λ i s there. ap (λ (r : Streamed). r.spent) (each_empty blocks i s there);

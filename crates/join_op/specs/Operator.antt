@@ -14,11 +14,12 @@ use Rattle.store_api.specs.Tokens.{ClientToken}
 use Rattle.tuple_stream.specs.Families.{Family, ShowAll}
 use Rattle.tuple_stream.specs.FamilyCalls.{AllAtEnd, AllWhole, AreSteady, HaveLaid, shares}
 use Rattle.tuple_stream.specs.Trails.{EnteredEvents}
+use Rattle.row_reading.specs.Reading.{IsRowOf}
 use Rattle.partition_stack.specs.Leaving.{HasNoLoan}
 use Rattle.partition_stack.specs.Sides.{OwnBoth}
 use Rattle.partition_stack.specs.Stack.{Stack, first_sixteen, over}
 use Rattle.join_op.specs.Pairs.{SameRows}
-use Rattle.join_op.specs.Stored.{IsRowOf, Side, left_side, place_of, right_side, rows_in}
+use Rattle.join_op.specs.Stored.{Side, left_side, place_of, right_side, rows_in}
 
 -- its client, the shape of its rows, and the partitions of both sides
 pub record Operator : Type 0 where
@@ -71,7 +72,7 @@ HasNoRight op = op.right ≡ first_sixteen op.right.page_blocks
 pub record KeepsSide (side : Side) (fed : List (List Value)) (f : Family) : Type 0 where
   pub rows : ℕ → List (List ℕ)
   pub shows : ShowAll rows f
-  pub formed : (i : ℕ) → All (IsRowOf side) (rows i)
+  pub formed : (i : ℕ) → All (IsRowOf side.kinds) (rows i)
   pub placed : (i : ℕ) → All (λ row. place_of side 0 0 row ≡ i) (rows i)
   pub same : SameRows (rows_in side (shares 16 rows)) fed
   pub whole : AllWhole f

@@ -1,12 +1,10 @@
 -- Rows of one side as they are stored: encoded as they were fed.
-use Rattle.std.specs.Prelude.{◌≡◌, ℕ, ◌+◌, ◌-◌, ◌==◌, List, [], filter, map, Option, Some, None}
+use Rattle.std.specs.Prelude.{ℕ, ◌+◌, ◌-◌, ◌==◌, List, filter, map}
 use Rattle.row_codec.specs.declared.values.Kind.{Kind}
 use Rattle.row_codec.specs.declared.values.Value.{Value}
 use Rattle.row_codec.specs.Order.{hash_of, nibble_of}
-use Rattle.row_codec.specs.Row.{kinds_of}
-use Rattle.row_codec.specs.RowBytes.{key_bytes, row_bytes}
-use Rattle.row_codec.specs.RowLaws.{IsRow}
-use Rattle.row_codec.specs.RowReading.{row_at}
+use Rattle.row_codec.specs.RowBytes.{key_bytes}
+use Rattle.row_reading.specs.Reading.{values_at}
 use Rattle.store_api.specs.declared.shapes.JoinShape.{JoinShape}
 
 -- the kinds of a side's columns, and those of its columns that are to be equal
@@ -20,22 +18,9 @@ left_side shape = record { kinds = shape.left; columns = map (λ pair. pair.0) s
 abbrev pub right_side : JoinShape → Side
 right_side shape = record { kinds = shape.right; columns = map (λ pair. pair.1) shape.on }
 
-abbrev pub values_read : Option (List Value × ℕ) → List Value
-values_read None = []
-values_read (Some (row, len)) = row
-
--- the values that bytes spell, and their key
-unfoldable pub values_at : Side → List ℕ → List Value
-values_at side bytes = values_read (row_at side.kinds bytes)
-
+-- the key of the row that bytes spell
 abbrev pub key_at : Side → List ℕ → List ℕ
-key_at side bytes = key_bytes side.columns (values_at side bytes)
-
--- the bytes are a row of the side
-pub record IsRowOf (side : Side) (bytes : List ℕ) : Type 0 where
-  pub is_row : IsRow (values_at side bytes)
-  pub kinds_are : kinds_of (values_at side bytes) ≡ side.kinds
-  pub spelled : row_bytes (values_at side bytes) ≡ bytes
+key_at side bytes = key_bytes side.columns (values_at side.kinds bytes)
 
 -- where a row goes at a level, of sixteen partitions of which the lowest stands at `base`: nibble 0 is the highest
 abbrev pub place_of : Side → ℕ → ℕ → List ℕ → ℕ
@@ -47,4 +32,4 @@ dealt side level base rows i = filter (λ row. place_of side level base row == i
 
 -- what some stored rows say
 abbrev pub rows_in : Side → List (List ℕ) → List (List Value)
-rows_in side rows = map (values_at side) rows
+rows_in side rows = map (values_at side.kinds) rows
