@@ -1,6 +1,6 @@
 -- Partial rows as they are stored, in tables and on pages: the values of a key and a wide number for each aggregate, as
 -- one encoded row. Lengths are in bytes.
-use Rattle.std.specs.Prelude.{◌≡◌, ℕ, ◌+◌, ◌-◌, ◌*◌, ◌==◌, List, [], ◌++◌, length, map, filter, filter_map, slice_get, sum_by, take, ℤ, Option, Some, None}
+use Rattle.std.specs.Prelude.{◌≡◌, ℕ, ◌+◌, ◌-◌, ◌*◌, ◌==◌, List, [], ◌++◌, length, map, filter, filter_map, slice_get, sum_by, take, ℤ}
 use Rattle.row_codec.specs.declared.values.Kind.{Kind}
 use Rattle.row_codec.specs.declared.values.Kind.TheVariants.{Wide}
 use Rattle.row_codec.specs.declared.values.Value.{Value}
@@ -11,6 +11,7 @@ use Rattle.row_codec.specs.RowBytes.{key_bytes, row_bytes}
 use Rattle.row_codec.specs.RowLaws.{IsRow}
 use Rattle.row_codec.specs.RowReading.{row_at}
 use Rattle.store_api.specs.Shapes.{IsShape}
+pub use Rattle.row_reading.specs.Reading.{values_read}
 use Rattle.store_api.specs.declared.shapes.Shape.{Shape}
 use Rattle.group_rows.specs.Keyed.{keys_in}
 use Rattle.group_rows.specs.Partials.{Grouping, Partial, combined_numbers, combined_of}
@@ -25,10 +26,6 @@ key_kinds shape = filter_map (slice_get shape.kinds) shape.keys
 
 abbrev pub partial_kinds : Shape → List Kind
 partial_kinds shape = key_kinds shape ++ map (λ agg. Wide) shape.aggs
-
-abbrev pub values_read : Option (List Value × ℕ) → List Value
-values_read None = []
-values_read (Some (row, len)) = row
 
 -- the values that bytes spell
 unfoldable pub values_at : Shape → List ℕ → List Value

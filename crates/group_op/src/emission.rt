@@ -1,21 +1,22 @@
 //! The rows of a table go to an emitter, in the order of their keys.
 ghost use Rattle.std.specs.Prelude.{◌≡◌, ℕ, [], ◌∷◌, All, IfErr, List, OnErr, OnOk};
 ghost use Rattle.row_codec.specs.declared.values.Value.{Value};
-ghost use Rattle.row_codec.specs.RowReading.{row_at};
+ghost use Rattle.row_reading.specs.Reading as spelled;
 ghost use Rattle.store_api.specs.Emitters.{CameOf, HasClient};
 ghost use Rattle.bucket_table.specs.Tables.{HasNode, row_of};
 ghost use Rattle.group_rows.specs.Tables.{HaveDistinctKeys};
 ghost use Rattle.group_op.specs.Emission.{AdmitsAll, AdmitsKinds, Emitted, EmittedFront, Stood, WentOn};
 ghost use Rattle.group_op.specs.Held.{AreEntries, rows_of};
 ghost use Rattle.group_op.specs.InOrder.{groups_in, said_at};
-ghost use Rattle.group_op.specs.Stored.{IsPartialRow, partial_at, partial_kinds, partials_at, values_read};
+ghost use Rattle.group_op.specs.Stored.{IsPartialRow, partial_at, partial_kinds, partials_at};
 
 use crate::ordering::places_in_order;
-use crate::reading::{Reading, decode_into};
+use crate::reading::Reading;
 use crate::stored::kinds_of;
 use bucket_table::BucketTable;
 use reservation_tree::PoolErr;
 use row_codec::{Kind, Memory};
+use row_reading::decode_into;
 use std::alloc::Global;
 use store_api::{Emit, OpErr, Shape, Store};
 
@@ -111,7 +112,7 @@ fn read_place(
     spare: &mut Reading,
 ) -> Result<(), Memory>
     requires { HasNode place table.now.nodes }
-    ensures { OnOk result (spare.new.values.items ≡ values_read (row_at kinds.now (row_of place table.now.nodes))) }
+    ensures { OnOk result (spare.new.values.items ≡ spelled.values_at kinds.now (row_of place table.now.nodes)) }
 {
     let Ok(()) = table.row_at(place, &mut spare.row) else {
         return Err(Memory);

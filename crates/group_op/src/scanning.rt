@@ -17,10 +17,11 @@ ghost use Rattle.group_op.specs.Scanning.{IsReadable, MayShow, ReadBeside, Stays
 
 use crate::keying::key_of_partial;
 use crate::lowest::{Entry, keep};
-use crate::reading::{Reading, decode_into};
+use crate::reading::Reading;
 use crate::stored::kinds_of;
 use reservation_tree::PoolErr;
 use row_codec::{Kind, Memory};
+use row_reading::decode_into;
 use std::alloc::Global;
 use std::mem;
 use store_api::{Client, Emit, OpErr, Shape, Store};

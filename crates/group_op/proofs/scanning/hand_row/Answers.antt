@@ -1,7 +1,7 @@
 use Rattle.std.proofs.Common.{rules, ◌≡◌, ◌∙◌, sym, subst}
 use Rattle.group_op.specs.Emission.{Says}
-use Rattle.group_op.specs.Stored.{partial_at, values_at, values_read}
-use Rattle.row_codec.specs.RowReading.{row_at}
+use Rattle.group_op.specs.Stored.{partial_at, values_at}
+use Rattle.row_reading.specs.Reading as spelled
 use Rattle.group_op.proofs.ReadingBack.{values_so}
 use Rattle.group_op.proofs.Emitting.{emitted_one, front_none, front_one, says_read, stood_none}
 use Rattle.group_op.proofs.Oks.{on_err, on_ok}
@@ -15,21 +15,21 @@ returns-in_default-clause-stood g c = stood_none _ _ _ _ _ c.requires.client
 
 pub row-requires-clause-admits : goal.row-requires-clause-admits
 row-requires-clause-admits g c =
-    let read : c.deref.result.now ≡ values_read (row_at c.args.kinds.now c.args.row.now) = search rules in
+    let read : c.deref.result.now ≡ spelled.values_at c.args.kinds.now c.args.row.now = search rules in
     let is : c.deref.result.now ≡ values_at c.args.shape.now c.args.row.now = read ∙ values_so c.args.shape.now c.args.kinds.now c.args.row.now c.requires.kinds in
     let says = subst (Says c.args.shape.now (partial_at c.args.shape.now c.args.row.now)) (sym is) (says_read c.args.shape.now c.args.row.now c.requires.row) in
     c.requires.admits c.deref.result.now says
 
 pub returns-clause-ok : goal.returns-clause-ok
 returns-clause-ok g c =
-    let read : c.deref.result.now ≡ values_read (row_at c.args.kinds.now c.args.row.now) = search rules in
+    let read : c.deref.result.now ≡ spelled.values_at c.args.kinds.now c.args.row.now = search rules in
     let is : c.deref.result.now ≡ values_at c.args.shape.now c.args.row.now = read ∙ values_so c.args.shape.now c.args.kinds.now c.args.row.now c.requires.kinds in
     let says = subst (Says c.args.shape.now (partial_at c.args.shape.now c.args.row.now)) (sym is) (says_read c.args.shape.now c.args.row.now c.requires.row) in
     on_ok c.row.result (emitted_one _ _ _ _ _ says) c.row.ensures.ok
 
 pub returns-clause-err : goal.returns-clause-err
 returns-clause-err g c =
-    let read : c.deref.result.now ≡ values_read (row_at c.args.kinds.now c.args.row.now) = search rules in
+    let read : c.deref.result.now ≡ spelled.values_at c.args.kinds.now c.args.row.now = search rules in
     let is : c.deref.result.now ≡ values_at c.args.shape.now c.args.row.now = read ∙ values_so c.args.shape.now c.args.kinds.now c.args.row.now c.requires.kinds in
     let says = subst (Says c.args.shape.now (partial_at c.args.shape.now c.args.row.now)) (sym is) (says_read c.args.shape.now c.args.row.now c.requires.row) in
     on_err c.row.result (front_one _ _ _ _ _ says) c.row.ensures.err
