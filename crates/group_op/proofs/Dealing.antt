@@ -3,10 +3,8 @@ use Rattle.std.proofs.Common.{◌≡◌, ◌∙◌, ℕ, ◌==◌, List, [], ◌
 use Rattle.std.proofs.lemmas.Bool.{cases_eq}
 use Rattle.std.proofs.lemmas.List.Elements.{filter-append}
 use Rattle.store_api.specs.declared.shapes.Shape.{Shape}
-use Rattle.tuple_stream.specs.Families.{AreShaped, Family}
-use Rattle.tuple_stream.specs.FamilyCalls.{AllAtEnd, Feeds, with_rows}
-use Rattle.tuple_stream.proofs.FamilyChains.{lays_none}
-use Rattle.tuple_stream.proofs.FamilyWords.{shown_as}
+use Rattle.tuple_stream.specs.FamilyCalls.{with_rows}
+pub use Rattle.partition_stack.proofs.Nothing.{feeds_nothing}
 use Rattle.group_op.specs.Stored.{dealt, place_of}
 
 cond_is : {X : Type 0} (b : Bool) (x y : X) → cond b x y ≡ (if b then x else y)
@@ -29,19 +27,3 @@ module _ (shape : Shape) (level base : ℕ) where
             let none : dealt shape level base (row ∷ []) j ≡ [] = one_dealt j row ∙ rw (ne_eqb i j (λ same. apart (sym same))) refl in
             rw (ne_eqb j i apart) (ap (λ (rs : List (List ℕ)). rows j ++ rs) (sym (append-nil (dealt shape level base fed j)) ∙ ap (λ (rs : List (List ℕ)). dealt shape level base fed j ++ rs) (sym none) ∙ sym all))
       ]
-
-same_rows : (i : ℕ) (rows : ℕ → List (List ℕ)) (j : ℕ) → rows j ≡ with_rows i (rows i ++ []) rows j
-same_rows i rows j =
-    elim (cases_eq j i) [
-      | inl same ↦ rw (eq-eqb j i same) (ap rows same ∙ sym (append-nil (rows i)))
-      | inr apart ↦ rw (ne_eqb j i apart) refl
-    ]
-
--- nothing was appended
-pub feeds_nothing : (t i : ℕ) (f : Family) → AreShaped t f → Feeds t i [] f f
-feeds_nothing t i f shaped =
-    record {
-      steps = lays_none (AllAtEnd f) ⊥ t f shaped;
-      whole = λ whole. whole;
-      rows = λ rows sure shows. shown_as rows (with_rows i (rows i ++ []) rows) f (same_rows i rows) shows;
-    }

@@ -16,50 +16,28 @@ use Rattle.tuple_stream.proofs.Empty.{empty_at_end}
 use Rattle.tuple_stream.proofs.Sinces.{since_now}
 use Rattle.partition_stack.specs.Changes.{Owns}
 use Rattle.partition_stack.specs.Stack.{IsStack, Stack, empty, first_sixteen, over}
-use Rattle.partition_stack.proofs.Coming.{sixteen_come}
-use Rattle.partition_stack.proofs.ListPlaces.{of_replicate}
+use Rattle.partition_stack.proofs.First.{each_empty, first_owned, first_shows}
 use Rattle.group_rows.proofs.Paths.{path_is_order}
 use Rattle.group_rows.proofs.Standing.{keeps_standing}
-use Rattle.group_op.specs.Starting.{AllStart, MayStart}
+use Rattle.group_op.specs.Starting.{AllStart}
 use Rattle.group_op.specs.Stored.{IsPartialRow, grouping_of, place_of}
 use Rattle.group_op.proofs.Entering.{none_distinct}
 
--- a stack without partitions
-abbrev no_stack : ℕ → Stack
-no_stack blocks = record { page_blocks = blocks; streams = []; levels = [] }
-
-no_stack_is : (blocks : ℕ) → IsBlockCount blocks → IsStack (no_stack blocks)
-no_stack_is blocks sized = record { sized = sized; each = λ i s there. absurd (none-some s there); levelled = refl; placed = λ i level there. absurd (none-some level there) }
-
-no_owned : (c : ClientToken) (blocks : ℕ) (h : Holdings) (signs : Signs) → MayStart c blocks h → Owns c.tracker 0 (over (no_stack blocks) h signs)
-no_owned c blocks h signs may =
-    record {
-      lives = may.lives;
-      shaped = record { each = λ i s there. absurd (none-some s there); apart = λ i j a b other here there. absurd (none-some a here) };
-      only = λ q page lives outside. may.idle.pages q page lives;
-      even = let free = may.free in omega (arith, free);
-    }
-
--- each of the sixteen is empty
-each_empty : (blocks i : ℕ) (s : Streamed) → slice_get (replicate 16 (empty blocks)) i ≡ Some s → s ≡ empty blocks
-each_empty blocks i s there = of_replicate 16 (empty blocks) i s there
-
 pub all_start : AllStart
 all_start c blocks shape h signs is sized may =
-    let come = sixteen_come c.tracker 0 0 0 (no_stack blocks) h signs (no_stack_is blocks sized) in
     record {
       op = record {
         shape = is;
         sized = sized;
         client = may.lives;
         least = may.least;
-        has = (come.owns (no_owned c blocks h signs may), may.idle.loans, may.free);
+        has = (first_owned c blocks h signs sized may, may.idle.loans, may.free);
       };
       feeding = record { sixteen = refl; first = refl };
       keeps = record {
         fresh = λ none. refl;
         rows = λ i. [];
-        shows = come.rows (λ i. []) (λ i high. refl) (λ i s there. absurd (none-some s there));
+        shows = first_shows blocks h signs sized;
         formed = λ i. All-nil (IsPartialRow shape);
         placed = λ i. All-nil (λ row. place_of shape 0 0 row ≡ i);
         values = All-nil (λ row. All IsValue row);

@@ -1,19 +1,13 @@
 -- A grouping that was started, over a store in which its client has nothing yet. Lengths are in bytes.
-use Rattle.std.specs.Prelude.{◌≡◌, ℕ, ◌*◌, ◌≤◌, []}
+use Rattle.std.specs.Prelude.{ℕ, []}
 use Rattle.store_api.specs.declared.shapes.Shape.{Shape}
-use Rattle.store_api.specs.Conditions.{IsBlockCount, IsIdle, IsLiveClient}
-use Rattle.store_api.specs.Holdings.{Holdings, account_of, length_of, unused_of}
+use Rattle.store_api.specs.Conditions.{IsBlockCount}
+use Rattle.store_api.specs.Holdings.{Holdings}
 use Rattle.store_api.specs.Shapes.{IsShape}
 use Rattle.store_api.specs.Signs.{Signs}
 use Rattle.store_api.specs.Tokens.{ClientToken}
+pub use Rattle.partition_stack.specs.Leaving.{MayStart}
 use Rattle.group_op.specs.Operator.{IsFeeding, IsOperator, Keeps, started}
-
--- the client is live, has twenty pages reserved, and nothing that is charged
-pub record MayStart (c : ClientToken) (blocks : ℕ) (h : Holdings) : Type 0 where
-  pub lives : IsLiveClient c h
-  pub idle : IsIdle c.tracker h
-  pub least : 20 * length_of blocks h ≤ (account_of c.tracker h).reservation
-  pub free : unused_of c.tracker h ≡ (account_of c.tracker h).reservation
 
 -- it is a grouping over the store, and keeps what was fed: nothing
 pub record HasStarted (c : ClientToken) (blocks : ℕ) (shape : Shape) (h : Holdings) (signs : Signs) : Type 0 where

@@ -38,6 +38,20 @@ lays_on f g first next steady laid lays =
       left = λ w. let all = left_sum w first next in let was = laid.left w in let more = lays.left steady w in omega (arith, all, was, more);
     }
 
+-- before the right side has a page, all entries are of the left one
+left_alone : (f g : Family) (events : List Event) → ((w : Left → ℕ) → weight w g ≡ 0) → LaidBoth f g events → HaveLaid f events
+left_alone f g events none laid =
+    record {
+      building = subst (All IsBuilding) (sym laid.are) (All-append IsBuilding laid.lefts laid.rights laid.left.building laid.right.building);
+      left = λ w.
+          let all : sum_by w (all_left events) ≡ sum_by w (all_left (laid.lefts ++ laid.rights)) = ap (λ (es : List Event). sum_by w (all_left es)) laid.are in
+          let sum = left_sum w laid.lefts laid.rights in
+          let one = laid.left.left w in
+          let two = laid.right.left w in
+          let zero_right = none w in
+          omega (arith, all, sum, one, two, zero_right);
+    }
+
 none_left : (w : Left → ℕ) (blocks : ℕ) (h : Holdings) (signs : Signs) → weight w (over (first_sixteen blocks) h signs) ≡ 0
 none_left w blocks h signs = refl
 
@@ -82,17 +96,7 @@ module _ (c : ClientToken) (shape : JoinShape) (left right : Stack) (h : Holding
               lefts = first ++ next;
               rights = [];
               are = sym (append-nil (first ++ next));
-              left = lays_on (over left h signs) (over now new after) first next (keeps.left_ends none)
-                  (record {
-                    building = subst (All IsBuilding) (sym laid.are) (All-append IsBuilding laid.lefts laid.rights laid.left.building laid.right.building);
-                    left = λ w.
-                        let all : sum_by w (all_left first) ≡ sum_by w (all_left (laid.lefts ++ laid.rights)) = ap (λ (es : List Event). sum_by w (all_left es)) laid.are in
-                        let sum = left_sum w laid.lefts laid.rights in
-                        let one = laid.left.left w in
-                        let two = laid.right.left w in
-                        let zero_right = none_yet w in
-                        omega (arith, all, sum, one, two, zero_right);
-                  }) lays;
+              left = lays_on (over left h signs) (over now new after) first next (keeps.left_ends none) (left_alone (over left h signs) (over right h signs) first none_yet laid) lays;
               right = record {
                 building = All-nil IsBuilding;
                 left = λ w. sym (ap (λ (s : Stack). weight w (over s new after)) none ∙ none_left w right.page_blocks new after);
@@ -137,17 +141,7 @@ module _ (c : ClientToken) (shape : JoinShape) (left now right : Stack) (h h1 : 
         lefts = first ++ next;
         rights = [];
         are = sym (append-nil (first ++ next));
-        left = lays_on (over left h s) (over now h1 s1) first next keeps.left_steady
-            (record {
-              building = subst (All IsBuilding) (sym laid.are) (All-append IsBuilding laid.lefts laid.rights laid.left.building laid.right.building);
-              left = λ w.
-                  let all : sum_by w (all_left first) ≡ sum_by w (all_left (laid.lefts ++ laid.rights)) = ap (λ (es : List Event). sum_by w (all_left es)) laid.are in
-                  let sum = left_sum w laid.lefts laid.rights in
-                  let one = laid.left.left w in
-                  let two = laid.right.left w in
-                  let zero_right = none_yet w in
-                  omega (arith, all, sum, one, two, zero_right);
-            }) lays;
+        left = lays_on (over left h s) (over now h1 s1) first next keeps.left_steady (left_alone (over left h s) (over right h s) first none_yet laid) lays;
         right = record {
           building = All-nil IsBuilding;
           left = λ w. sym (ap (λ (p : Stack). weight w (over p h1 s1)) none ∙ none_left w right.page_blocks h1 s1);

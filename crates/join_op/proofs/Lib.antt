@@ -1,7 +1,6 @@
 pub mod Sums
 pub mod Counts
 pub mod OneRow
-pub mod Nothing
 pub mod Calls
 pub mod Shares
 pub mod FedSide

@@ -15,42 +15,21 @@ use Rattle.tuple_stream.proofs.Empty.{empty_at_end}
 use Rattle.tuple_stream.proofs.Sinces.{since_now}
 use Rattle.partition_stack.specs.Changes.{Owns}
 use Rattle.partition_stack.specs.Stack.{IsStack, Stack, empty, first_sixteen, over}
-use Rattle.partition_stack.proofs.Coming.{sixteen_come}
-use Rattle.partition_stack.proofs.ListPlaces.{of_replicate}
+use Rattle.partition_stack.proofs.First.{each_empty, first_owned, first_shows}
 use Rattle.row_reading.specs.Reading.{IsRowOf}
 use Rattle.join_op.specs.Operator.{KeepsSide, LaidBoth}
-use Rattle.join_op.specs.Starting.{AllStart, MayStart}
+use Rattle.join_op.specs.Starting.{AllStart}
 use Rattle.join_op.specs.Stored.{Side, left_side, place_of, right_side}
-
--- a stack without partitions
-abbrev no_stack : ℕ → Stack
-no_stack blocks = record { page_blocks = blocks; streams = []; levels = [] }
-
-no_stack_is : (blocks : ℕ) → IsBlockCount blocks → IsStack (no_stack blocks)
-no_stack_is blocks sized = record { sized = sized; each = λ i s there. absurd (none-some s there); levelled = refl; placed = λ i level there. absurd (none-some level there) }
-
-no_owned : (c : ClientToken) (blocks : ℕ) (h : Holdings) (signs : Signs) → MayStart c blocks h → Owns c.tracker 0 (over (no_stack blocks) h signs)
-no_owned c blocks h signs may =
-    record {
-      lives = may.lives;
-      shaped = record { each = λ i s there. absurd (none-some s there); apart = λ i j a b other here there. absurd (none-some a here) };
-      only = λ q page lives outside. may.idle.pages q page lives;
-      even = let free = may.free in omega (arith, free);
-    }
-
-each_empty : (blocks i : ℕ) (s : Streamed) → slice_get (replicate 16 (empty blocks)) i ≡ Some s → s ≡ empty blocks
-each_empty blocks i s there = of_replicate 16 (empty blocks) i s there
 
 apart_from : (blocks : ℕ) (a b : Streamed) → b ≡ empty blocks → AreDisjoint a b
 apart_from blocks a b is = subst (AreDisjoint a) (sym is) (All-nil (λ p. IsApart p.name a.pages))
 
 pub all_start : AllStart
 all_start c blocks shape h signs is sized may =
-    let come = sixteen_come c.tracker 0 0 0 (no_stack blocks) h signs (no_stack_is blocks sized) in
-    let owns : Owns c.tracker 0 (over (first_sixteen blocks) h signs) = come.owns (no_owned c blocks h signs may) in
+    let owns : Owns c.tracker 0 (over (first_sixteen blocks) h signs) = first_owned c blocks h signs sized may in
     let side : (side : Side) → KeepsSide side [] (over (first_sixteen blocks) h signs) = λ side. record {
       rows = λ i. [];
-      shows = come.rows (λ i. []) (λ i high. refl) (λ i s there. absurd (none-some s there));
+      shows = first_shows blocks h signs sized;
       formed = λ i. All-nil (IsRowOf side.kinds);
       placed = λ i. All-nil (λ row. place_of side 0 0 row ≡ i);
       same = λ count. refl;

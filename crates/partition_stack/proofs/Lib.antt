@@ -10,3 +10,5 @@ mod Called
 pub mod Coming
 pub mod Left
 pub mod Sides
+pub mod Nothing
+pub mod First

@@ -1,7 +1,7 @@
 use Rattle.std.proofs.Common.{◌∙◌, sym, subst, arith}
 use Rattle.tuple_stream.specs.PageRows.{IsOneRow}
 use Rattle.join_op.proofs.Calls.{calls_beside, room_first}
-use Rattle.join_op.proofs.Nothing.{feeds_nothing}
+use Rattle.partition_stack.proofs.Nothing.{feeds_nothing}
 use Rattle.join_op.proofs.feeding.put_row.Goals as goal
 
 pub returns-in_default-clause-went : goal.returns-in_default-clause-went
