@@ -31,6 +31,17 @@ pub turn-requires-clause-unused : goal.turn-requires-clause-unused
 turn-requires-clause-unused g c =
     subst (λ (h : Holdings). amount_of c.args.want ≤ unused_of c.args.c.now.tracker h) (sym (asked_held g.D.Slot c.args.c.now.tracker c.args.self.now c.loop-entry.self c.loop-entry.invariant.0)) c.requires.unused
 
+pub returns-in-Ready-clause-needed : goal.returns-in-Ready-clause-needed
+returns-in-Ready-clause-needed g c =
+    subst (EntersNeeded c.args.c.now.tracker (amount_of c.args.want) c.args.self.now) (sym c.in-Ready.ensures.1) c.loop-entry.invariant.1
+
+pub returns-in-Refused-clause-needed : goal.returns-in-Refused-clause-needed
+returns-in-Refused-clause-needed g c =
+    let t : ℕ = c.args.c.now.tracker in
+    let amount : ℕ = amount_of c.args.want in
+    needs_more t amount c.args.self.now c.turn.new.self c.refuse.new.self (subst (EntersNeeded t amount c.args.self.now) (sym c.in-Refused.ensures.1) c.loop-entry.invariant.1)
+    (needs_one t amount g.D.Slot c.turn.new.self c.refuse.new.self (Refused c.args.call.now c.in-Refused.entry) (λ s. tt) c.refuse.ensures.makes)
+
 pub returns-in-Ready-clause-ok : goal.returns-in-Ready-clause-ok
 returns-in-Ready-clause-ok g c =
     subst (Makes g.D.Slot (IsAsked c.args.c.now.tracker (held_of g.D.Slot c.args.self.now) []) c.args.self.now) (sym c.in-Ready.ensures.1) c.loop-entry.invariant.0
@@ -61,9 +72,6 @@ returns-in-Refused-clause-err g c =
     was_refused g.D.Slot t c.in-Refused.entry c.args.call.now start c.turn.new.self c.refuse.new.self asked c.refuse.ensures.makes
     (c.refuse.ensures.rose start.trail (by start.session asked.events) asked.trail (asks_since g.D.Slot t (held_of g.D.Slot start) start c.turn.new.self asked))
 
-pub loop-entry-smaller : goal.loop-entry-smaller
-loop-entry-smaller g c = c.in-Wrote.ensures.1
-
 pub loop-entry-preserved : goal.loop-entry-preserved
 loop-entry-preserved g c =
     let t : ℕ = c.args.c.now.tracker in
@@ -76,13 +84,5 @@ loop-entry-preserved g c =
       needs_more t (amount_of c.args.want) start c.loop-entry.self c.turn.new.self c.loop-entry.invariant.1 c.in-Wrote.ensures.2,
     )
 
-pub returns-in-Ready-clause-needed : goal.returns-in-Ready-clause-needed
-returns-in-Ready-clause-needed g c =
-    subst (EntersNeeded c.args.c.now.tracker (amount_of c.args.want) c.args.self.now) (sym c.in-Ready.ensures.1) c.loop-entry.invariant.1
-
-pub returns-in-Refused-clause-needed : goal.returns-in-Refused-clause-needed
-returns-in-Refused-clause-needed g c =
-    let t : ℕ = c.args.c.now.tracker in
-    let amount : ℕ = amount_of c.args.want in
-    needs_more t amount c.args.self.now c.turn.new.self c.refuse.new.self (subst (EntersNeeded t amount c.args.self.now) (sym c.in-Refused.ensures.1) c.loop-entry.invariant.1)
-    (needs_one t amount g.D.Slot c.turn.new.self c.refuse.new.self (Refused c.args.call.now c.in-Refused.entry) (λ s. tt) c.refuse.ensures.makes)
+pub loop-entry-smaller : goal.loop-entry-smaller
+loop-entry-smaller g c = c.in-Wrote.ensures.1
