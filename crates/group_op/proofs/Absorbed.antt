@@ -1,5 +1,5 @@
 -- Rows of the top partition are combined, one after the other.
-use Rattle.std.proofs.Common.{◌≡◌, ◌∙◌, ℕ, ◌+◌, ◌<◌, ◌==◌, Bool, true, false, List, [], ◌∷◌, ◌++◌, length, map, drop, refl, ap, ap₂, sym, subst, inl, arith, append-nil, append_assoc, ne_eqb, eq-eqb}
+use Rattle.std.proofs.Common.{◌≡◌, ◌∙◌, ℕ, ◌+◌, ◌<◌, ◌==◌, Bool, true, false, List, [], ◌∷◌, ◌++◌, length, drop, refl, ap, ap₂, sym, subst, inl, arith, append-nil, append_assoc, ne_eqb, eq-eqb}
 use Rattle.std.specs.List.Sorted.{IsPermutation}
 use Rattle.std.proofs.lemmas.Bool.{false≢true}
 use Rattle.std.proofs.lemmas.List.{map-append}
@@ -10,7 +10,7 @@ use Rattle.store_api.specs.Signs.{Signs}
 use Rattle.store_api.specs.declared.shapes.Shape.{Shape}
 use Rattle.tuple_stream.specs.FamilyCalls.{SpendsIn, with_rows}
 use Rattle.tuple_stream.proofs.FamilyWords.{shown_as}
-use Rattle.bucket_table.specs.Tables.{Node, Table}
+use Rattle.bucket_table.specs.Tables.{Table}
 use Rattle.group_rows.specs.Tables.{HaveDistinctKeys}
 use Rattle.partition_stack.specs.Stack.{IsStack, Stack, divided, over}
 use Rattle.partition_stack.proofs.Coming.{sixteen_come}

@@ -1,5 +1,5 @@
 -- What a table that grows or is widened gets.
-use Rattle.std.proofs.Common.{◌≡◌, ◌≢◌, ◌∙◌, ℕ, ◌+◌, ◌*◌, ◌%◌, List, [], ◌∷◌, ◌++◌, drop, length, map, Result, Ok, Err, OnErr, refl, ap, sym, subst, arith, append_assoc}
+use Rattle.std.proofs.Common.{◌≡◌, ◌≢◌, ◌∙◌, ℕ, ◌+◌, ◌*◌, ◌%◌, List, [], ◌∷◌, ◌++◌, drop, map, Result, Ok, Err, OnErr, refl, ap, sym, subst, arith, append_assoc}
 use Rattle.std.specs.Prelude.{All}
 use Rattle.std.proofs.lemmas.List.Elements.{All-append, All-cons, All-head, All-nil, All-tail}
 use Rattle.reservation_tree.specs.declared.errors.PoolErr.{PoolErr}
@@ -8,7 +8,7 @@ use Rattle.row_codec.specs.RowLaws.{RowBack}
 use Rattle.store_api.specs.Holdings.{Holdings}
 use Rattle.store_api.specs.declared.shapes.Shape.{Shape}
 use Rattle.bucket_table.specs.Lending.{Grew, IsApart, Lends, bytes_of, loans_of}
-use Rattle.bucket_table.specs.Tables.{Lent, Node, Table, used_by}
+use Rattle.bucket_table.specs.Tables.{Node, Table, used_by}
 use Rattle.bucket_table.specs.Widening.{Widened, rechained}
 use Rattle.bucket_table.proofs.Lent.{bytes-append}
 use Rattle.group_op.specs.Held.{AreEntries, IsEntry, StandBehind, rows_of}

@@ -5,9 +5,7 @@ use Rattle.std.specs.List.{cons_option}
 use Rattle.std.proofs.lemmas.Option.{same_Some}
 use Rattle.row_codec.specs.declared.values.Kind.{Kind}
 use Rattle.row_codec.specs.Order.{hash_of, hash_step}
-use Rattle.store_api.specs.declared.shapes.Shape.{Shape}
-use Rattle.group_op.specs.KeyParts.{behind_key, counted, cut_at, hashed, key_in, parts_at, tagged}
-use Rattle.group_op.specs.Stored.{key_kinds}
+use Rattle.group_op.specs.KeyParts.{behind_key, cut_at, hashed, key_in, parts_at, tagged}
 use Rattle.group_op.proofs.KeyWalking.{counted_some, walk_ends, walk_more, walk_stops}
 
 fold_both : (hash : ℕ) (xs ys : List ℕ) → fold hash_step hash (xs ++ ys) ≡ fold hash_step (fold hash_step hash xs) ys

@@ -1,5 +1,4 @@
-use Rattle.std.proofs.Common.{◌≡◌, ◌∙◌, ◌*◌, ℕ, ap, sym}
-use Rattle.store_api.specs.Alike.{Alike}
+use Rattle.std.proofs.Common.{◌∙◌, ℕ, sym}
 use Rattle.store_api.specs.Holdings.{Holdings, length_of}
 use Rattle.bucket_table.proofs.Widened.{alike_same}
 use Rattle.bucket_table.specs.Tables.{Table}
