@@ -91,7 +91,7 @@ module _ (t : ℕ) (old new : Holdings) (turns : Turns t old new) where
 -- ---- reserved
 
 module _ (t len : ℕ) (old new : Holdings) (lives : IsSome (old.clients t)) (is : new ≡ after_reserve t len old) where
-  own_now : new.clients t ≡ Some (raised len (account_of t old))
+  pub own_now : new.clients t ≡ Some (raised len (account_of t old))
   own_now = ap (λ (h : Holdings). h.clients t) is ∙ rw (eq-eqb t t refl) refl
 
   account_now : account_of t new ≡ raised len (account_of t old)
@@ -114,10 +114,10 @@ module _ (t len : ℕ) (old new : Holdings) (lives : IsSome (old.clients t)) (is
         went = λ q loan other there. ap (λ (h : Holdings). h.loans q) is ∙ there;
       }
 
-  reserved_more : (account_of t new).reservation ≡ (account_of t old).reservation + len
+  pub reserved_more : (account_of t new).reservation ≡ (account_of t old).reservation + len
   reserved_more = ap (λ (a : Account). a.reservation) account_now
 
-  unused_more : unused_of t new ≡ unused_of t old + len
+  pub unused_more : unused_of t new ≡ unused_of t old + len
   unused_more = ap (λ (a : Account). a.unused) account_now
 
 -- ---- the state in between

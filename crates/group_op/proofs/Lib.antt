@@ -18,7 +18,7 @@ pub mod Readings
 pub mod Agreeing
 pub mod ScanFrames
 pub mod Scans
-mod Dropping
+pub mod Dropping
 pub mod Rewriting
 pub mod Joins
 pub mod Finding
