@@ -9,3 +9,4 @@ pub mod Spellable
 pub mod KeepsRows
 mod Started
 mod Ended
+mod Trying
