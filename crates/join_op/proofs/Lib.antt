@@ -8,3 +8,4 @@ pub mod Spellable
 pub mod KeepsRows
 mod Started
 mod Ended
+mod Trying

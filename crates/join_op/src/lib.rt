@@ -9,6 +9,8 @@ mod ending;
 mod feeding;
 mod laws;
 mod operator;
+#[cfg(test)]
+mod tests;
 
 pub use laws::{law_pairs, law_starts};
 pub use operator::JoinOp;
