@@ -1,5 +1,5 @@
 -- One input and one output in memory.
-use Rattle.std.specs.Prelude.{ℕ, Bool, List, Option, Some, None}
+use Rattle.std.specs.Prelude.{ℕ, Bool, false, List, [], Option, Some, None}
 use Rattle.outside.specs.Counts.{more_counted}
 use Rattle.outside.specs.Names.{Written}
 
@@ -26,6 +26,21 @@ with_more_faults n entry = record entry { faults = more_counted n entry.faults }
 -- an output with these bytes
 abbrev pub with_bytes : List ℕ → Bool → OutputEntry → OutputEntry
 with_bytes bytes whole entry = record entry { written = record { bytes = bytes; whole = whole } }
+
+-- which calls of an output fail: the writes of each of its sinks, counted from 0, and whether every create and every done does
+pub record Failing : Type 0 where
+  pub fails : List ℕ
+  pub create : Bool
+  pub done : Bool
+
+-- no call of an output fails
+abbrev pub fails_nowhere : Failing
+fails_nowhere = record { fails = []; create = false; done = false }
+
+-- the calls that were set to fail: none where nothing was set
+abbrev pub failing_of : Option Failing → Failing
+failing_of None = fails_nowhere
+failing_of (Some failing) = failing
 
 -- the faults of the entry under a name, where the names with no entry have one count together
 abbrev pub faults_by : {X : Type 0} → ℕ → (X → ℕ) → Option X → ℕ

@@ -46,7 +46,7 @@ abbrev pub OtherCountsStay : {X : Type 0} → List ℕ → (List ℕ → Option 
 OtherCountsStay name entries before now = (other : List ℕ) → other ≢ name → IsSome (entries name) ⊎ IsSome (entries other) → now other ≡ before other
 
 -- the name has this now, and every other name stays as it was
-abbrev pub Changes : {A : Type 0} → List ℕ → Option A → (List ℕ → Option A) → (List ℕ → Option A) → Type 0
+abbrev pub Changes : {A : Type 0} → List ℕ → A → (List ℕ → A) → (List ℕ → A) → Type 0
 Changes name value before now = (other : List ℕ) → now other ≡ (if bytes_eq name other then value else before other)
 
 -- a name that was created once counts as created from then on

@@ -1,9 +1,9 @@
 -- Outputs in memory, by name.
-use Rattle.std.specs.Prelude.{ℕ, Bool, List, Option, Some, None, is_some}
+use Rattle.std.specs.Prelude.{◌≡◌, ℕ, Bool, List, Option, Some, None, is_some}
 use Rattle.std.specs.Option.{option_map}
 use Rattle.std.specs.BTreeMap.{get_by_text}
-use Rattle.outside.specs.Names.{Written, fresh}
-use Rattle.outside.specs.Entries.{OutputEntry, faults_by}
+use Rattle.outside.specs.Names.{AllStay, Written, fresh}
+use Rattle.outside.specs.Entries.{OutputEntry, Failing, failing_of, faults_by}
 use Rattle.outside.specs.declared.memory.outputs.MemOutputs.{MemOutputs}
 
 -- the output that was created under a name
@@ -38,3 +38,13 @@ faults_of_output outputs name = faults_by outputs.missing (λ entry. entry.fault
 -- the calls on outputs that found no memory, those on sinks that came back included
 abbrev pub starved_outputs : MemOutputs → ℕ
 starved_outputs outputs = outputs.starved
+
+-- which calls of the output under a name were set to fail
+abbrev pub failing_at : MemOutputs → List ℕ → Failing
+failing_at outputs name = failing_of (get_by_text outputs.failing name)
+
+-- every name has the output and the faults that it had, and as many calls found no memory
+pub record KeepsOutputs (old new : MemOutputs) : Type 0 where
+  pub outputs : AllStay (output_at old) (output_at new)
+  pub faults : AllStay (faults_of_output old) (faults_of_output new)
+  pub starved : starved_outputs new ≡ starved_outputs old

@@ -1,8 +1,8 @@
 ghost use Rattle.std.specs.Prelude.{◌<◌, length};
 
 use crate::{
-    Gate, Inputs, MemInputs, MemOutputs, MemSink, MemSlot, MemSource, OpenGate, Outputs, Point,
-    Sink, Slot, Source,
+    Failed, Gate, Inputs, MemInputs, MemOutputs, MemSink, MemSlot, MemSource, OpenGate, Outputs,
+    Point, Sink, Slot, Source,
 };
 use std::test::Fail;
 
@@ -98,6 +98,64 @@ fn an_output_has_the_bytes_of_its_sink_once_it_is_done(rt: HostRuntime) -> Resul
 }
 
 #[test]
+fn an_output_fails_at_the_writes_that_were_set(rt: HostRuntime) -> Result<(), Fail> {
+    let mut outputs = MemOutputs::new(rt.alloc())?;
+    outputs.fail("o.csv", &[1])?;
+    // Each sink counts its writes from 0.
+    for faults in [1, 2] {
+        let mut sink = outputs.create("o.csv")?;
+        for (piece, want) in [
+            (b"ab".as_slice(), Some(2)),
+            (b"x".as_slice(), None),
+            (b"c".as_slice(), Some(1)),
+        ] {
+            assert_eq!(rt; sink.write(piece).ok(), want);
+        }
+        outputs.done("o.csv", sink, true)?;
+        assert_eq!(rt; outputs.bytes("o.csv"), Some(b"abc".as_slice()));
+        assert_eq!(rt;
+            (outputs.faults("o.csv"), outputs.faults("p.csv")),
+            (faults, 0)
+        );
+    }
+    Ok(())
+}
+
+#[test]
+fn a_refused_create_leaves_no_output_and_a_refused_done_none_that_is_whole(
+    rt: HostRuntime,
+) -> Result<(), Fail> {
+    // Whether create and done are refused, the bytes then, whether they are whole, and the faults.
+    let rows = [
+        (true, false, None, false, 1),
+        (true, true, None, false, 1),
+        (false, true, Some(b"answer".as_slice()), false, 1),
+        (false, false, Some(b"answer".as_slice()), true, 0),
+    ];
+    for (create, done, bytes, whole, faults) in rows {
+        let mut outputs = MemOutputs::new(rt.alloc())?;
+        outputs.refuse("o.csv", create, done)?;
+        let went = write_out(&mut outputs, b"answer", true).is_ok();
+        assert_eq!(rt; went, whole, "create {create}, done {done}");
+        assert_eq!(rt;
+            outputs.bytes("o.csv"),
+            bytes,
+            "create {create}, done {done}"
+        );
+        assert_eq!(rt;
+            (
+                outputs.is_whole("o.csv"),
+                outputs.faults("o.csv"),
+                outputs.starved()
+            ),
+            (whole, faults, 0),
+            "create {create}, done {done}"
+        );
+    }
+    Ok(())
+}
+
+#[test]
 fn a_fault_counts_on_its_own_name(rt: HostRuntime) -> Result<(), Fail> {
     let mut inputs = MemInputs::new(rt.alloc())?;
     inputs.put("a.csv", b"x", 1, &[0])?;
@@ -119,13 +177,12 @@ fn a_fault_counts_on_its_own_name(rt: HostRuntime) -> Result<(), Fail> {
     Ok(())
 }
 
-fn write_out(outputs: &mut MemOutputs, piece: &[u8], whole: bool) -> Result<(), Fail>
+fn write_out(outputs: &mut MemOutputs, piece: &[u8], whole: bool) -> Result<(), Failed>
     requires { 0 < length piece.now }
 {
     let mut sink = outputs.create("o.csv")?;
     sink.write(piece)?;
-    outputs.done("o.csv", sink, whole)?;
-    Ok(())
+    outputs.done("o.csv", sink, whole)
 }
 
 #[test]
