@@ -8,3 +8,4 @@ pub mod Digits
 pub mod Filling
 pub mod Cuts
 pub mod RowKinds
+pub mod Fronts

@@ -1,6 +1,6 @@
 // An input that is being read.
 
-ghost use Rattle.std.specs.Prelude.{◌≡◌, ◌≤◌, ◌<◌, ◌+◌, ◌-◌, ◌⊎◌, Some, length, map, option_map, IfErr, IfNone, IfOk, IfSome, IsErrOf, OnOk};
+ghost use Rattle.std.specs.Prelude.{◌≡◌, ◌≤◌, ◌<◌, ◌+◌, ◌-◌, ◌⊎◌, Some, length, map, option_map, true, false, IfErr, IfOk, IfSome, IsErrOf, OnOk};
 ghost use Rattle.std.specs.Io.KnownBytes.{IsAtEnd};
 ghost use Rattle.outside.specs.Counts.{Rose};
 ghost use Rattle.row_codec.specs.Row.{kinds_of};
@@ -11,7 +11,7 @@ ghost use Rattle.csv_edge.specs.Typed.{nothing_more, refused_here, row_then, typ
 use crate::header::{Placed, places};
 use crate::records::Records;
 use crate::refusal::InputErr;
-use crate::row::{NoValue, row_of};
+use crate::row::{NoValue, fill_row};
 use csv::ByteRecord;
 use outside::Source;
 use row_codec::{Column, Value};
@@ -84,20 +84,27 @@ impl Open {
         })
     }
 
-    /// The row of the next record, or `None` at the end of the input.
+    /// Where its memory comes from.
+    #[inline]
+    pub(crate) fn alloc(&self) -> Global {
+        self.alloc
+    }
+
+    /// Makes a list the row of the next record, or answers `false` at the end of the input.
     pub(crate) fn next_row<S: Source>(
         &mut self,
         src: &mut S,
-    ) -> Result<Option<Vec<Value>>, InputErr>
-        ensures row { IfOk result (λ next. IfSome next (λ row. Becomes (row_then row.items) (typed_told self.old (S.remaining src.old)) (typed_told self.new (S.remaining src.new)))) }
-        ensures kinds { IfOk result (λ next. IfSome next (λ row. kinds_of row.items ≡ map (λ column. column.kind) self.old.columns)) }
+        row: &mut Vec<Value>,
+    ) -> Result<bool, InputErr>
+        ensures row { IfOk result (λ found. found ≡ true → Becomes (row_then row.new.items) (typed_told self.old (S.remaining src.old)) (typed_told self.new (S.remaining src.new))) }
+        ensures kinds { IfOk result (λ found. found ≡ true → kinds_of row.new.items ≡ map (λ column. column.kind) self.old.columns) }
         ensures columns { OnOk result (self.new.columns ≡ self.old.columns) }
-        ensures falls { IfOk result (λ next. IfSome next (λ _. self.old.most - self.old.number ≡ self.new.most - self.new.number + 1)) }
+        ensures falls { IfOk result (λ found. found ≡ true → self.old.most - self.old.number ≡ self.new.most - self.new.number + 1) }
         ensures counts { OnOk result (CountsBytes self.old.feed.taken.allowed (S.remaining src.old) self.new.feed.taken.allowed (S.remaining src.new)) }
 
         // At the end all was read, and no limit was passed.
-        ensures end { IfOk result (λ next. IfNone next (Becomes (λ t. t) (typed_told self.old (S.remaining src.old)) (Some nothing_more))) }
-        ensures read { IfOk result (λ next. IfNone next (IsAtEnd (S.remaining src.new) × FitsLimit self.old.feed.taken.allowed (S.remaining src.old))) }
+        ensures end { IfOk result (λ found. found ≡ false → Becomes (λ t. t) (typed_told self.old (S.remaining src.old)) (Some nothing_more)) }
+        ensures read { IfOk result (λ found. found ≡ false → IsAtEnd (S.remaining src.new) × FitsLimit self.old.feed.taken.allowed (S.remaining src.old)) }
 
         // Why it failed.
         ensures refused { IfErr result (λ e. IsOfRecord e → Becomes (λ t. t) (typed_told self.old (S.remaining src.old)) (Some (refused_here e))) }
@@ -107,7 +114,7 @@ impl Open {
         ensures never_falls { S.faults src.old ≤ S.faults src.new }
     {
         if !self.records.next(self.alloc, src, &mut self.byte_record)? {
-            return Ok(None);
+            return Ok(false);
         }
         let number = self.number;
         if self.byte_record.len() != self.width {
@@ -116,10 +123,10 @@ impl Open {
         if number >= self.most {
             return Err(InputErr::TooLarge);
         }
-        match row_of(self.alloc, &self.byte_record, &self.columns)? {
-            Ok(row) => {
+        match fill_row(self.alloc, &self.byte_record, &self.columns, row)? {
+            Ok(()) => {
                 self.number += 1;
-                Ok(Some(row))
+                Ok(true)
             }
             Err(NoValue { column }) => Err(InputErr::Field { number, column }),
         }

@@ -1,6 +1,6 @@
 // The rows of a source, handed out one by one.
 
-ghost use Rattle.std.specs.Prelude.{◌≡◌, ◌≤◌, ◌+◌, ◌⊎◌, ◌<◌, Some, length, map, option_map, IfOk, OnOk, OnErr, IfErr, IfSome, IfNone, IsErrOf};
+ghost use Rattle.std.specs.Prelude.{◌≡◌, ◌≤◌, ◌+◌, ◌⊎◌, ◌<◌, Some, length, map, option_map, true, false, IfOk, OnOk, OnErr, IfErr, IfSome, IfNone, IsErrOf};
 ghost use Rattle.std.specs.Io.KnownBytes.{IsAtEnd};
 ghost use Rattle.outside.specs.Counts.{Rose};
 ghost use Rattle.csv_edge.specs.Typed.{nothing_more, refused_here, row_then, typed_rows};
@@ -73,6 +73,39 @@ impl<'a, S: Source> RowsOver<'a, S, Option<Box<Open>>> {
         Ok(())
     }
 
+    /// Makes a list the next row, or answers `false` at the end of the input, and behind a refusal or
+    /// the end. The memory of the list and of its texts is used again.
+    ///
+    /// Behind `false` and behind an error the list has any values.
+    pub fn next_into(&mut self, row: &mut Vec<Value>) -> Result<bool, InputErr>
+        ensures row { IfOk result (λ found. found ≡ true → Becomes (row_then row.new.items) (rest_of S.remaining self.old) (rest_of S.remaining self.new)) }
+        ensures goes_on { IfOk result (λ found. found ≡ true → GoesOn row.new.items self.old self.new) }
+        ensures counts { IfOk result (λ found. found ≡ true → CountsBytes (bytes_allowed self.old) (S.remaining self.old.src.now) (bytes_allowed self.new) (S.remaining self.new.src.now)) }
+
+        // At the end all was read, and no limit was passed.
+        ensures end { IfOk result (λ found. found ≡ false → Becomes (λ t. t) (rest_of S.remaining self.old) (Some nothing_more) × HasEnded S.remaining self.new) }
+        ensures ended { HasEnded S.remaining self.old → result ≡ Ok false }
+        ensures read { IfOk result (λ found. found ≡ false → IsOpen self.old → IsAtEnd (S.remaining self.new.src.now) × FitsLimit (bytes_allowed self.old) (S.remaining self.old.src.now)) }
+
+        // Why it failed.
+        ensures refused { IfErr result (λ e. IsOfRecord e → Becomes (λ t. t) (rest_of S.remaining self.old) (Some (refused_here e))) }
+        ensures field { IfErr result (λ e. NamesInt e (kinds_in self.old)) }
+        ensures large { IsErrOf result InputErr.TooLarge → Becomes (λ t. t) (rest_of S.remaining self.old) (Some (refused_here InputErr.TooLarge)) ⊎ PassesLimit (bytes_allowed self.old) (S.remaining self.old.src.now) }
+        ensures err { OnErr result (HasEnded S.remaining self.new) }
+        ensures fault { IsErrOf result InputErr.Fault → Rose (S.faults self.old.src.now) (S.faults self.new.src.now) }
+        ensures never_falls { S.faults self.old.src.now ≤ S.faults self.new.src.now }
+        ensures same { self.new.src.ghost_name ≡ self.old.src.ghost_name }
+    {
+        let Some(mut open) = self.left.take() else {
+            return Ok(false);
+        };
+        if !open.next_row(self.src, row)? {
+            return Ok(false);
+        }
+        self.left = Some(open);
+        Ok(true)
+    }
+
     /// The next row, or `None` at the end of the input, and behind a refusal or the end.
     pub fn next(&mut self) -> Result<Option<Vec<Value>>, InputErr>
         ensures row { IfOk result (λ next. IfSome next (λ row. Becomes (row_then row.items) (rest_of S.remaining self.old) (rest_of S.remaining self.new))) }
@@ -93,13 +126,14 @@ impl<'a, S: Source> RowsOver<'a, S, Option<Box<Open>>> {
         ensures never_falls { S.faults self.old.src.now ≤ S.faults self.new.src.now }
         ensures same { self.new.src.ghost_name ≡ self.old.src.ghost_name }
     {
-        let Some(mut open) = self.left.take() else {
+        let Some(open) = &self.left else {
             return Ok(None);
         };
-        let Some(row) = open.next_row(self.src)? else {
-            return Ok(None);
-        };
-        self.left = Some(open);
-        Ok(Some(row))
+        let mut row = Vec::new(open.alloc());
+        if self.next_into(&mut row)? {
+            Ok(Some(row))
+        } else {
+            Ok(None)
+        }
     }
 }

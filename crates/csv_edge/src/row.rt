@@ -1,6 +1,6 @@
 // A record as a row.
 
-ghost use Rattle.std.specs.Prelude.{◌≡◌, [], IfOk, Ok, Err, MatchResult, slice_index_or};
+ghost use Rattle.std.specs.Prelude.{◌≡◌, [], IfOk, OnOk, Ok, Err, Some, None, MatchResult, length, slice_index_or, true, false};
 ghost use Rattle.csv.specs.Records.{fields_of};
 ghost use Rattle.csv_edge.specs.Typed.{row_from, value_of};
 
@@ -24,36 +24,76 @@ pub(crate) fn field_of(byte_record: &ByteRecord, place: usize) -> &[u8]
     byte_record.get(place).unwrap_or(&[])
 }
 
-/// The row of a record.
-pub(crate) fn row_of(
+/// Makes a list the row of a record. The memory of its texts is used again.
+///
+/// Behind an error the list has any values.
+pub(crate) fn fill_row(
     alloc: Global,
     byte_record: &ByteRecord,
     columns: &[Placed],
-) -> Result<Result<Vec<Value>, NoValue>, Memory>
-    ensures { IfOk result (λ made. MatchResult made (λ row. row_from 0 columns.now (fields_of byte_record.now) ≡ Ok row.items) (λ none. row_from 0 columns.now (fields_of byte_record.now) ≡ Err none.column)) }
+    row: &mut Vec<Value>,
+) -> Result<Result<(), NoValue>, Memory>
+    ensures { IfOk result (λ made. MatchResult made (λ _. row_from 0 columns.now (fields_of byte_record.now) ≡ Ok row.new.items) (λ none. row_from 0 columns.now (fields_of byte_record.now) ≡ Err none.column)) }
 {
-    let mut row = Vec::with_capacity(alloc, columns.len())?;
+    fit(row, columns.len())?;
     for (at, column) in columns.iter().enumerate() {
         let field = field_of(byte_record, column.place);
-        let Some(value) = value_of(alloc, column.kind, field)? else {
+        if !fill_value(alloc, &mut row[at], column.kind, field)? {
             // No list of 2^32 columns is handed in.
             let Ok(column) = u32::try_from(at) else {
                 return Err(Memory);
             };
             return Ok(Err(NoValue { column }));
-        };
-        row.push(value)?;
+        }
     }
-    Ok(Ok(row))
+    Ok(Ok(()))
 }
 
-// The value that a field spells in a column of this kind. Sums are no fields.
-fn value_of(alloc: Global, kind: Kind, field: &[u8]) -> Result<Option<Value>, Memory>
-    ensures { IfOk result (λ value. value ≡ value_of kind field.now) }
+// Gives a list so many values. Those that it has stay.
+#[inline]
+fn fit(row: &mut Vec<Value>, len: usize) -> Result<(), Memory>
+    ensures { OnOk result (length row.new.items ≡ len) }
+{
+    row.truncate(len);
+    while row.len() < len {
+        row.push(Value::Int(0))?;
+    }
+    Ok(())
+}
+
+// Makes a value the one that a field spells in a column of this kind, or answers `false` where it
+// spells none. Sums are no fields.
+#[inline]
+fn fill_value(alloc: Global, value: &mut Value, kind: Kind, field: &[u8]) -> Result<bool, Memory>
+    ensures some { IfOk result (λ found. found ≡ true → value_of kind field.now ≡ Some value.new) }
+    ensures none { IfOk result (λ found. found ≡ false → value_of kind field.now ≡ None) }
 {
     match kind {
-        Kind::Int => Ok(int_of(field).map(Value::Int)),
-        Kind::Text => Ok(Some(Value::Text(Bytes::of(alloc, field)?))),
-        Kind::Wide => Ok(None),
+        Kind::Int => match int_of(field) {
+            Some(number) => {
+                *value = Value::Int(number);
+                Ok(true)
+            }
+            None => Ok(false),
+        },
+        Kind::Text => {
+            fill_text(alloc, value, field)?;
+            Ok(true)
+        }
+        Kind::Wide => Ok(false),
+    }
+}
+
+// Makes a value this text; where it was a text before, its memory is used again.
+#[inline]
+fn fill_text(alloc: Global, value: &mut Value, field: &[u8]) -> Result<(), Memory>
+    ensures { OnOk result (value.new ≡ Value.Text field.now) }
+{
+    match value {
+        Value::Text(text) => text.refill(field),
+        Value::Int(_) | Value::Wide(_) => {
+            *value = Value::Text(Bytes::of(alloc, field)?);
+            Ok(())
+        }
     }
 }

@@ -1,8 +1,10 @@
 // Where an input may be cut.
 
-ghost use Rattle.std.specs.Prelude.{◌≡◌, ◌<◌, ℕ};
+ghost use Rattle.std.specs.Prelude.{◌≡◌, ◌≢◌, ◌<◌, ℕ, length};
 ghost use Rattle.csv_edge.specs.Pieces.{after_byte, is_cut};
-ghost use Rattle.csv_edge.specs.Cutting.{FrontIs};
+ghost use Rattle.csv_edge.specs.Cutting.{FrontIs, HasNone, after_bytes};
+
+use memchr::memchr;
 
 /// Where a scan of an input's bytes stands.
 #[derive(Clone, Copy, Debug, PartialEq, Eq)]
@@ -63,7 +65,46 @@ pub(crate) enum Front {
 }
 
 /// Scans bytes for the first cut that has at least so many of them before it.
+///
+/// Where no quote is among them and none is open, only newlines are looked for.
 pub(crate) fn front_of(start: Scan, least: usize, bytes: &[u8]) -> Front
+    ensures { FrontIs start least bytes.now result }
+{
+    if start != Scan::Quoted && memchr(b'"', bytes).is_none() {
+        front_of_plain(start, least, bytes)
+    } else {
+        front_by_bytes(start, least, bytes)
+    }
+}
+
+// The same for bytes without quotes, from outside quotes.
+fn front_of_plain(start: Scan, least: usize, bytes: &[u8]) -> Front
+    requires outside { start ≢ Scan.Quoted }
+    requires plain { HasNone 34 bytes.now 0 (length bytes.now) }
+    ensures { FrontIs start least bytes.now result }
+{
+    let from = least.saturating_sub(1).min(bytes.len());
+    match memchr(b'\n', &bytes[from..]) {
+        Some(at) => Front::Cut(from + at + 1),
+        None => Front::All(scan_behind(start, bytes)),
+    }
+}
+
+// Where the scan stands behind such bytes: the last of them tells.
+fn scan_behind(start: Scan, bytes: &[u8]) -> Scan
+    requires outside { start ≢ Scan.Quoted }
+    requires plain { HasNone 34 bytes.now 0 (length bytes.now) }
+    ensures { result ≡ after_bytes start bytes.now }
+{
+    if bytes.is_empty() {
+        start
+    } else {
+        start.after(bytes[bytes.len() - 1])
+    }
+}
+
+// The same, byte by byte.
+fn front_by_bytes(start: Scan, least: usize, bytes: &[u8]) -> Front
     ensures { FrontIs start least bytes.now result }
 {
     let mut scan = start;

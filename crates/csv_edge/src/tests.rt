@@ -48,10 +48,11 @@ fn told(
         return Ok((lines.finish()?, Some(e)));
     }
     let mut refusal = None;
+    let mut row = Vec::new(alloc);
     for _ in 0..u64::MAX {
-        match rows.next() {
-            Ok(Some(row)) => lines.push(&row)?,
-            Ok(None) => break,
+        match rows.next_into(&mut row) {
+            Ok(true) => lines.push(&row)?,
+            Ok(false) => break,
             Err(e) => {
                 refusal = Some(e);
                 break;
@@ -143,6 +144,47 @@ fn columns_in_any_order_and_the_first_refusal(rt: HostRuntime) -> Result<(), Fai
             column: 0
         })
     );
+    Ok(())
+}
+
+// A list as another input may leave it: of any length, with other kinds and longer texts.
+fn left_over(alloc: Global, len: usize) -> Result<Vec<Value>, Memory> {
+    let mut row = Vec::new(alloc);
+    for at in 0..len {
+        if at % 2 == 0 {
+            row.push(Value::Int(9))?;
+        } else {
+            row.push(Value::Text(Bytes::of(alloc, b"a longer text")?))?;
+        }
+    }
+    Ok(row)
+}
+
+#[test]
+fn a_row_takes_the_place_of_what_its_list_had(rt: HostRuntime) -> Result<(), Fail> {
+    let alloc = rt.alloc();
+    let columns = [
+        column(alloc, "k", Kind::Text)?,
+        column(alloc, "v", Kind::Int)?,
+    ];
+    let first = [Value::Text(Bytes::of(alloc, b"ab")?), Value::Int(7)];
+    let second = [Value::Text(Bytes::of(alloc, b"")?), Value::Int(-1)];
+    let third = [Value::Text(Bytes::of(alloc, b"c")?), Value::Int(0)];
+    for len in [0, 1, 2, 5] {
+        let mut src = MemSource::over(alloc, b"k,v\nab,7\n,-1\nc,0\n", 5, &[])?;
+        let mut rows = Rows::of(&mut src);
+        assert!(rt; rows.start(alloc, &columns, ANY, ANY).is_ok());
+        let mut row = left_over(alloc, len)?;
+        for want in [&first, &second] {
+            assert_eq!(rt; rows.next_into(&mut row), Ok(true), "{len}");
+            assert!(rt; row.as_slice() == want.as_slice(), "{len}");
+        }
+        let Ok(Some(own)) = rows.next() else {
+            return Err(Fail::from("no row in a list of its own"));
+        };
+        assert!(rt; own.as_slice() == third.as_slice(), "{len}");
+        assert_eq!(rt; rows.next_into(&mut row), Ok(false), "{len}");
+    }
     Ok(())
 }
 
@@ -254,13 +296,14 @@ fn told_behind(alloc: Global, len: usize, rest: &[u8], chunk: usize) -> Result<V
 fn an_input_is_cut_behind_newlines_outside_quotes(rt: HostRuntime) -> Result<(), Fail> {
     let alloc = rt.alloc();
     // Behind the first record and its newline the input has 1048576 bytes, or one less.
-    let table: [(usize, &[u8], &[u8]); 7] = [
+    let table: [(usize, &[u8], &[u8]); 8] = [
         (1048573, b"\nb\nc\n", b"b\nc\n"),
         // A mark at the front of a later piece is passed over, and so are quotes behind it.
         (1048573, b"\n\xef\xbb\xbfb\nc\n", b"b\nc\n"),
         (1048573, b"\n\xef\xbb\xbf\"b\"\nc\n", b"b\nc\n"),
         // Where no piece begins, a mark is text.
         (1048572, b"\n\xef\xbb\xbfb\nc\n", b"\xef\xbb\xbfb\nc\n"),
+        (1048572, b"\r\n\xef\xbb\xbfb\n", b"b\n"),
         (1048572, b"\n\"x\ny\"\nc\n", b"\"x\ny\"\nc\n"),
         (1048570, b"\n\"\"\"\n\"\n\"z\"\n", b"\"\"\"\n\"\nz\n"),
         (1048572, b"\n\n\n\nc", b"c\n"),

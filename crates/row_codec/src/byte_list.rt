@@ -1,6 +1,6 @@
 //! A text: any bytes, which contracts see as a list.
 
-ghost use Rattle.std.specs.Prelude.{◌≡◌, ℕ, List, IfOk, ◌==◌};
+ghost use Rattle.std.specs.Prelude.{◌≡◌, ℕ, List, IfOk, OnOk, ◌==◌};
 ghost use Rattle.std.specs.Cmp.Lexicographic.{pointwise};
 ghost use Rattle.std.specs.Cmp.Rules.{comparing};
 ghost use Rattle.std.proofs.Common.{rules};
@@ -42,6 +42,16 @@ impl Bytes {
     {
         let items = Vec::from_slice(alloc, bytes)?;
         Ok(Bytes { items })
+    }
+
+    /// Holds these bytes in place of its own. Its memory is used again.
+    #[inline]
+    pub fn refill(&mut self, bytes: &[u8]) -> Result<(), Memory>
+        ensures copy { OnOk result (self.new ≡ bytes.now) }
+    {
+        self.items.clear();
+        self.items.extend_from_slice(bytes)?;
+        Ok(())
     }
 
     /// The vector's own memory, with no copy.

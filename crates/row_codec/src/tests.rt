@@ -26,6 +26,17 @@ fn text_key(rt: &impl Abort, alloc: Global, text: &[u8]) -> Result<Vec<u8>, Memo
 }
 
 #[test]
+fn a_text_holds_the_bytes_it_was_filled_with_last(rt: HostRuntime) -> Result<(), Fail> {
+    let alloc = rt.alloc();
+    let mut text = Bytes::of(alloc, b"ab")?;
+    for bytes in [b"a longer one".as_slice(), b"", b"\xff\x00", b"c"] {
+        text.refill(bytes)?;
+        assert_eq!(rt; text.as_slice(), bytes);
+    }
+    Ok(())
+}
+
+#[test]
 fn a_row_has_these_bytes_and_is_not_read_from_fewer(rt: HostRuntime) -> Result<(), Fail> {
     let alloc = rt.alloc();
     let bytes = [0, 0, 0, 14, 0, 0, 0, 0, 0, 0, 1, 2, 0, 0, 0, 2, 97, 98];

@@ -1,6 +1,6 @@
 use Rattle.std.proofs.Common.{◌≡◌, ◌++◌, ◌+◌, ◌-◌, ℕ, List, drop}
 use Rattle.csv_edge.specs.Pieces.{front_len}
-use Rattle.csv_edge.proofs.scan.front_of.Given as goal
+use Rattle.csv_edge.proofs.scan.front_by_bytes.Given as goal
 
 abbrev pub invariant-loop-byte : goal.invariant-loop-byte
 invariant-loop-byte l = (l.len ≡ l.byte-index)
