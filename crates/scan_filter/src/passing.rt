@@ -1,8 +1,8 @@
 // Which rows pass.
 
-ghost use Rattle.std.specs.Prelude.{◌≡◌, ◌↔◌, All, Some, IsTrue};
+ghost use Rattle.std.specs.Prelude.{◌≡◌, All, Some};
 ghost use Rattle.row_codec.specs.Row.{kind_of};
-ghost use Rattle.scan_filter.specs.Passes.{FitsRow, HoldsOf, Compares, Passes, value_order};
+ghost use Rattle.scan_filter.specs.Passes.{FitsRow, holds, holds_if, holds_of, passes as passes_all, value_order};
 
 use crate::pred::{Cmp, Pred};
 use row_codec::Value;
@@ -12,19 +12,30 @@ use std::cmp::Ordering;
 #[inline]
 pub fn passes(preds: &[Pred], row: &[Value]) -> bool
     requires kinds { All (FitsRow row.now) preds.now }
-    ensures passes { IsTrue result ↔ Passes preds.now row.now }
+    ensures value { result ≡ passes_all preds.now row.now }
 {
     for pred in preds {
-        if !compares(pred.op, &row[pred.column], &pred.value) {
+        if !holds(pred, row) {
             return false;
         }
     }
     true
 }
 
+// A column that isn't there never compares; the kinds that are asked for leave no such column.
+fn holds(pred: &Pred, row: &[Value]) -> bool
+    requires { FitsRow row.now pred.now }
+    ensures { result ≡ holds row.now pred.now }
+{
+    match row.get(pred.column) {
+        Some(value) => compares(pred.op, value, &pred.value),
+        None => false,
+    }
+}
+
 fn compares(op: Cmp, left: &Value, right: &Value) -> bool
     requires { kind_of left.now ≡ kind_of right.now }
-    ensures { IsTrue result ↔ Compares op left.now right.now }
+    ensures { result ≡ holds_if op (value_order left.now right.now) }
 {
     holds_of(op, order_of(left, right))
 }
@@ -42,7 +53,7 @@ fn order_of(left: &Value, right: &Value) -> Ordering
 }
 
 fn holds_of(op: Cmp, order: Ordering) -> bool
-    ensures { IsTrue result ↔ HoldsOf op order }
+    ensures { result ≡ holds_of op order }
 {
     match op {
         Cmp::Eq => order == Ordering::Equal,

@@ -3,7 +3,7 @@ use Rattle.std.specs.Prelude.{◌≡◌, ◌≢◌, ℕ, ◌+◌, ◌≤◌, ◌
 use Rattle.outside.specs.Counts.{Rose}
 use Rattle.pool_model.specs.LookingBack.{names_in}
 use Rattle.row_codec.specs.declared.values.Value.{Value}
-use Rattle.store_api.specs.Holdings.{LivePage, LiveLoan, Holdings}
+use Rattle.store_api.specs.Holdings.{LivePage, LiveLoan, Holdings, account_of}
 use Rattle.store_api.specs.Alike.{Alike}
 use Rattle.store_api.specs.Signs.{Signs, Grows, Entered, WasAnswered}
 use Rattle.store_api.specs.declared.op_err.OpErr.{OpErr}
@@ -39,6 +39,11 @@ pub record OthersStay (client : Option ℕ) (old new : Holdings) : Type 0 where
 abbrev pub HasClient : Option ℕ → Holdings → Type 0
 HasClient None h = ⊤
 HasClient (Some t) h = IsSome (h.clients t)
+
+-- the query's room and the reservation of the emitter's client together didn't fall; without a client all is as before
+abbrev pub KeepsRoom : Option ℕ → Holdings → Holdings → Type 0
+KeepsRoom None old new = ⊤
+KeepsRoom (Some t) old new = old.room + (account_of t old).reservation ≤ new.room + (account_of t new).reservation
 
 -- the free slots of the quota, and so many more
 abbrev pub slots_with : ℕ → Holdings → Option ℕ

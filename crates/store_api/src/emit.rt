@@ -2,7 +2,7 @@
 ghost use Rattle.std.specs.Prelude.{◌≡◌, ◌⊎◌, ℕ, ◌≤◌, [], ◌∷◌, ◌++◌, List, Option, IfErr, OnOk, OnErr};
 ghost use Rattle.row_codec.specs.declared.values.Value.{Value};
 ghost use Rattle.store_api.specs.Holdings.{Holdings};
-ghost use Rattle.store_api.specs.Emitters.{SameOwn, OthersStay, HasClient, IsSameEmitter, GrowsBy, CameOf, slots_with};
+ghost use Rattle.store_api.specs.Emitters.{SameOwn, OthersStay, HasClient, IsSameEmitter, KeepsRoom, GrowsBy, CameOf, slots_with};
 
 use crate::op_err::OpErr;
 use crate::store::Store;
@@ -50,6 +50,7 @@ pub trait Emit<St: Store> {
         ensures same { IsSameEmitter (admits self.old) (admits self.new) (client self.old) (client self.new) (creates self.old) (creates self.new) (slots_for self.old) (slots_for self.new) }
         ensures client_lives { HasClient (client self.old) (St.holds store.new) }
         ensures others { OthersStay (client self.old) (St.holds store.old) (St.holds store.new) }
+        ensures room { KeepsRoom (client self.old) (St.holds store.old) (St.holds store.new) }
         ensures slots { slots_with (slots self.new (St.holds store.new)) (St.holds store.new) ≡ slots_with (slots self.old (St.holds store.old)) (St.holds store.old) }
         ensures never_falls { faults self.old ≤ faults self.new }
         ensures grows { GrowsBy (client self.old) (creates self.old) (St.signs store.old) (St.signs store.new) };
