@@ -14,7 +14,8 @@ use Rattle.group_op.specs.Emission.{Emitted, EmittedFront}
 use Rattle.group_op.specs.Finishing.{Advances, HasDivided, HasPopped, Stacked, said_down}
 use Rattle.group_op.specs.Held.{State, streams_of}
 use Rattle.group_op.specs.Stored.{grouping_of, partials_at}
-use Rattle.group_op.proofs.Emitting.{came_behind, emitted_behind, front_behind}
+use Rattle.partition_stack.proofs.Emitters.{came_behind}
+use Rattle.group_op.proofs.Emitting.{emitted_behind, front_behind}
 
 -- nothing was handed on in between
 pub emitted_same : (shape : Shape) (was now : List (List Value) → Type 0) → ((rows : List (List Value)) → was rows → now rows) → Emitted shape was now []

@@ -1,19 +1,18 @@
 -- Calls of a grouping and of an emitter beside it, one after the other.
-use Rattle.std.proofs.Common.{◌≡◌, ◌≢◌, ◌∙◌, ℕ, ◌*◌, ◌<◌, List, [], ◌∷◌, ◌++◌, length, Option, Some, None, IsSome, refl, ap, sym, subst, arith, append-nil, append_assoc, ne_eqb}
+use Rattle.std.proofs.Common.{◌≡◌, ◌≢◌, ◌∙◌, ℕ, ◌*◌, ◌<◌, List, [], ◌∷◌, ◌++◌, length, Option, Some, refl, ap, sym, subst, arith, ne_eqb}
 use Rattle.std.specs.Prelude.{set, slice_get}
 use Rattle.std.proofs.Math.Seq.{set-append_seam}
 use Rattle.std.proofs.lemmas.Option.{slice_get_within}
 use Rattle.row_codec.specs.declared.values.Value.{Value}
-use Rattle.store_api.specs.Emitters.{HasClient, OthersStay, SameFor, SameOwn}
-use Rattle.store_api.specs.Holdings.{Account, Holdings, account_of, length_of, no_account, or_else}
+use Rattle.store_api.specs.Emitters.{KeepsRoom, OthersStay, SameOwn}
+use Rattle.store_api.specs.Holdings.{Account, Holdings, length_of}
 use Rattle.store_api.specs.Signs.{Grows, Signs}
 use Rattle.store_api.specs.declared.shapes.Shape.{Shape}
-use Rattle.store_api.proofs.Growing.{grows_trans}
 use Rattle.tuple_stream.specs.Streamed.{Streamed}
 use Rattle.tuple_stream.specs.Streams.{HasRows}
 use Rattle.tuple_stream.specs.Spending.{Empties}
 use Rattle.tuple_stream.specs.Steps.{Scene, scene}
-use Rattle.tuple_stream.specs.Families.{AllClosed, AreShaped, Family, ShowAll, changed, family}
+use Rattle.tuple_stream.specs.Families.{AllClosed, AreShaped, Family, ShowAll, changed, family, slots_in}
 use Rattle.tuple_stream.specs.FamilyCalls.{with_rows}
 use Rattle.tuple_stream.proofs.Empty.{empty, empty_shows}
 use Rattle.tuple_stream.proofs.FamilyWords.{empties_in}
@@ -22,76 +21,48 @@ use Rattle.bucket_table.specs.Tables.{Table}
 use Rattle.bucket_table.proofs.Beside.{beside_others}
 use Rattle.partition_stack.specs.Stack.{RestBelow, Stack, over}
 use Rattle.partition_stack.proofs.Away.{Left, none_left, one_left}
-use Rattle.partition_stack.proofs.Owned.{others_leave_owned}
-use Rattle.group_op.specs.Emission.{IsBeside, Stood, WentOn}
-use Rattle.group_op.specs.Finishing.{LeavesBeside, Serves, ServesBeside, StandsStill}
-use Rattle.group_op.specs.Held.{AreEntries, IsHeld, Leaves, State, lent, state}
-use Rattle.group_op.proofs.Chained.{same_then}
+use Rattle.partition_stack.specs.Slots.{KeepSlots}
+use Rattle.partition_stack.proofs.Owned.{agree, others_leave_owned}
+use Rattle.partition_stack.proofs.Slots.{all_taken, keep_more, keep_none, keep_own, keep_then, taken}
+use Rattle.partition_stack.proofs.Emitters.{account_same, beside_emit, beside_then, left_beside, same_beside, stands_left}
+use Rattle.group_op.specs.Emission.{IsBeside}
+use Rattle.group_op.specs.Finishing.{LeavesBeside, LeavesWith, Serves, ServesBeside, StandsStill}
+use Rattle.group_op.specs.Held.{AreEntries, IsHeld, Leaves, State, lent, state, streams_of}
 use Rattle.group_op.proofs.Opened.{had_leaves}
 use Rattle.group_op.proofs.Keeping.{held_touched, leaves_touched}
 
 -- ---- what calls leave
 
 pub beside_own : (t : ℕ) (client : Option ℕ) (a b : State) → Leaves t a b → LeavesBeside t client a.held b.held a.signs b.signs
-beside_own t client a b leaves =
-    record {
-      block_len = leaves.others.block_len;
-      session = leaves.others.session;
-      query = leaves.others.query;
-      limit = leaves.others.limit;
-      live_clients = leaves.others.live_clients;
-      told = leaves.others.told;
-      reservation = leaves.others.reservation;
-      others = λ u mine theirs. leaves.others.others u (λ same. mine (own_number u t same));
-      reserved = leaves.reserved;
-      grows = leaves.grows;
-    }
-  where
-    own_number : (u v : ℕ) → Some v ≡ Some u → u ≡ v
-    own_number u v same = cc
+beside_own t client a b leaves = left_beside t client a.held b.held a.signs b.signs leaves
 
-account_same : (t : ℕ) (old new : Holdings) → SameFor t old new → account_of t new ≡ account_of t old
-account_same t old new same = ap (or_else no_account) same.account
-
-pub beside_emit : (t : ℕ) (client : Option ℕ) (a b : State) → client ≢ Some t → OthersStay client a.held b.held → Grows a.signs b.signs → LeavesBeside t client a.held b.held a.signs b.signs
-beside_emit t client a b apart others grows =
+pub serves_own : (t : ℕ) (client : Option ℕ) (theirs_old theirs : ℕ) (shape : Shape) (a b : State) → theirs ≡ theirs_old → Serves t shape a b → ServesBeside t client theirs_old theirs shape a b
+serves_own t client theirs_old theirs shape a b same serves =
     record {
-      block_len = others.block_len;
-      session = others.session;
-      query = others.query;
-      limit = others.limit;
-      live_clients = others.live_clients;
-      told = others.told;
-      reservation = others.reservation;
-      others = λ u mine theirs. others.others u theirs;
-      reserved = let same = ap (λ (x : Account). x.reservation) (account_same t a.held b.held (others.others t apart)) in omega (arith, same);
-      grows = grows;
+      held = serves.held;
+      entries = serves.entries;
+      leaves = beside_own t client a b serves.leaves;
+      blocks = serves.blocks;
+      slots = keep_own client (slots_in (streams_of a)) (slots_in (streams_of b)) theirs_old theirs serves.slots.sum same;
     }
 
-pub beside_then : (t : ℕ) (client : Option ℕ) (a b c : State) → LeavesBeside t client a.held b.held a.signs b.signs → LeavesBeside t client b.held c.held b.signs c.signs → LeavesBeside t client a.held c.held a.signs c.signs
-beside_then t client a b c one two =
+pub serves_then : (t : ℕ) (client : Option ℕ) (n0 n1 n2 : ℕ) (shape : Shape) (a b c : State) → ServesBeside t client n0 n1 shape a b → ServesBeside t client n1 n2 shape b c → ServesBeside t client n0 n2 shape a c
+serves_then t client n0 n1 n2 shape a b c one two =
     record {
-      block_len = two.block_len ∙ one.block_len;
-      session = two.session ∙ one.session;
-      query = two.query ∙ one.query;
-      limit = two.limit ∙ one.limit;
-      live_clients = two.live_clients ∙ one.live_clients;
-      told = two.told ∙ one.told;
-      reservation = let x = one.reservation in let y = two.reservation in omega (arith, x, y);
-      others = λ u mine theirs. same_then u a.held b.held c.held (one.others u mine theirs) (two.others u mine theirs);
-      reserved = let x = one.reserved in let y = two.reserved in omega (arith, x, y);
-      grows = grows_trans a.signs b.signs c.signs one.grows two.grows;
+      held = two.held;
+      entries = two.entries;
+      leaves = beside_then t client a.held b.held c.held a.signs b.signs c.signs one.leaves two.leaves;
+      blocks = two.blocks ∙ one.blocks;
+      slots = keep_then client (slots_in (streams_of a)) (slots_in (streams_of b)) (slots_in (streams_of c)) n0 n1 n2 one.slots two.slots;
     }
-
-pub serves_own : (t : ℕ) (client : Option ℕ) (shape : Shape) (a b : State) → Serves t shape a b → ServesBeside t client shape a b
-serves_own t client shape a b serves = record { held = serves.held; entries = serves.entries; leaves = beside_own t client a b serves.leaves; blocks = serves.blocks }
-
-pub serves_then : (t : ℕ) (client : Option ℕ) (shape : Shape) (a b c : State) → ServesBeside t client shape a b → ServesBeside t client shape b c → ServesBeside t client shape a c
-serves_then t client shape a b c one two = record { held = two.held; entries = two.entries; leaves = beside_then t client a b c one.leaves two.leaves; blocks = two.blocks ∙ one.blocks }
 
 -- nothing was called
-pub serves_none : (t : ℕ) (client : Option ℕ) (shape : Shape) (a : State) → IsHeld t a → AreEntries shape (length_of a.parts.page_blocks a.held) a.table → ServesBeside t client shape a a
-serves_none t client shape a held entries = record { held = held; entries = entries; leaves = beside_own t client a a (had_leaves t a.held a.signs); blocks = refl }
+pub serves_none : (t : ℕ) (client : Option ℕ) (theirs : ℕ) (shape : Shape) (a : State) → IsHeld t a → AreEntries shape (length_of a.parts.page_blocks a.held) a.table → ServesBeside t client theirs theirs shape a a
+serves_none t client theirs shape a held entries =
+    record { held = held; entries = entries; leaves = beside_own t client a a (had_leaves t a.held a.signs); blocks = refl; slots = keep_none client (slots_in (streams_of a)) theirs }
+
+pub left_none : (t : ℕ) (client : Option ℕ) (theirs : ℕ) (f : Family) → LeavesWith t client theirs theirs f f
+left_none t client theirs f = record { others = left_beside t client f.held f.held f.signs f.signs (had_leaves t f.held f.signs); slots = keep_none client (slots_in f) theirs }
 
 -- ---- an emission leaves what the grouping has
 
@@ -100,7 +71,7 @@ module _ (t : ℕ) (client : Option ℕ) (shape : Shape) (table : Table) (p : St
   lens = ap (λ (n : ℕ). p.page_blocks * n) others.block_len
 
   module _ (held : IsHeld t (state table p old before)) where
-    held_beside : IsHeld t (state table p new after)
+    pub held_beside : IsHeld t (state table p new after)
     held_beside =
         record {
           owns = (others_leave_owned t (lent (state table p old before)) client p.streams old new before after apart others held.owns).owns;
@@ -117,93 +88,35 @@ module _ (t : ℕ) (client : Option ℕ) (shape : Shape) (table : Table) (p : St
     pub shows_beside : (rows : ℕ → List (List ℕ)) → ShowAll rows (over p old before) → ShowAll rows (over p new after)
     shows_beside rows shows = (others_leave_owned t (lent (state table p old before)) client p.streams old new before after apart others held.owns).rows rows shows
 
-    pub serves_emit : Grows before after → AreEntries shape (length_of p.page_blocks old) table → ServesBeside t client shape (state table p old before) (state table p new after)
-    serves_emit grows entries =
+    -- the grouping's pages have the slots that they had
+    shared : (n0 n1 : ℕ) → KeepSlots client old.free_slots new.free_slots n0 n1 → KeepSlots client (slots_in (over p old before)) (slots_in (over p new after)) n0 n1
+    shared n0 n1 slots =
+        keep_more client old.free_slots new.free_slots n0 n1 (taken p.streams old) (taken p.streams new)
+        (all_taken p.streams old new (agree t (lent (state table p old before)) p.streams old new before after held.owns (others.others t apart) others.block_len)) slots
+
+    pub serves_emit : (n0 n1 : ℕ) → KeepsRoom client old new → KeepSlots client old.free_slots new.free_slots n0 n1 → Grows before after → AreEntries shape (length_of p.page_blocks old) table → ServesBeside t client n0 n1 shape (state table p old before) (state table p new after)
+    serves_emit n0 n1 keeps slots grows entries =
         record {
           held = held_beside;
           entries = subst (λ (n : ℕ). AreEntries shape n table) (sym lens) entries;
-          leaves = beside_emit t client (state table p old before) (state table p new after) apart others grows;
+          leaves = beside_emit t client old new before after apart others keeps grows;
           blocks = refl;
+          slots = shared n0 n1 slots;
         }
 
 -- ---- an emitter that stands
 
 -- what is an emitter's stays while the grouping calls its store
 pub own_same : (t : ℕ) (client : Option ℕ) (a b : State) → client ≢ Some t → Leaves t a b → SameOwn client a.held b.held
-own_same t client a b apart leaves =
-    record {
-      block_len = leaves.others.block_len;
-      told = leaves.others.told;
-      own = λ u is. leaves.others.others u (λ same. apart (is ∙ sym same));
-    }
-
-pub lives_own : (t : ℕ) (client : Option ℕ) (a b : State) → client ≢ Some t → Leaves t a b → HasClient client a.held → HasClient client b.held
-lives_own t None a b apart leaves lives = tt
-lives_own t (Some u) a b apart leaves lives = subst IsSome (sym (leaves.others.others u (λ same. apart (sym same))).account) lives
-
-pub went_none : (was now : List (List Value) → Type 0) → ((rows : List (List Value)) → was rows → now rows) → WentOn was now
-went_none was now same taken took = ([], subst now (sym (append-nil taken)) (same taken took))
-
-pub went_then : (was mid now : List (List Value) → Type 0) → WentOn was mid → WentOn mid now → WentOn was now
-went_then was mid now one two taken took =
-    let first = one taken took in
-    let second = two (taken ++ first.0) first.1 in
-    (first.0 ++ second.0, subst now (append_assoc taken first.0 second.0) second.1)
+own_same t client a b apart leaves = same_beside t client a.held b.held a.signs b.signs apart leaves
 
 module _ (admits : List Value → Type 0) (client : Option ℕ) (faults : ℕ) (was now : List (List Value) → Type 0) (t : ℕ) (a b : State) where
   pub stands_own : IsBeside t client a.held → Leaves t a b → ((rows : List (List Value)) → was rows → now rows) → StandsStill admits admits client client faults faults was now b.held
-  stands_own beside leaves same =
-      record {
-        admits_same = λ row. (λ is. is, λ is. is);
-        client_same = refl;
-        lives = lives_own t client a b beside.apart leaves beside.lives;
-        never_falls = omega arith;
-        took = went_none was now same;
-      }
-
-pub stands_emit : (admits_old admits : List Value → Type 0) (client_old client : Option ℕ) (faults_old faults : ℕ) (was now : List (List Value) → Type 0) (old new : Holdings) (before after : Signs) → Stood admits_old admits client_old client faults_old faults old new before after → WentOn was now → StandsStill admits_old admits client_old client faults_old faults was now new
-stands_emit admits_old admits client_old client faults_old faults was now old new before after stood went =
-    record {
-      admits_same = stood.admits_same;
-      client_same = stood.client_same;
-      lives = stood.lives;
-      never_falls = stood.never_falls;
-      took = went;
-    }
-
-module _ (admits0 admits1 admits2 : List Value → Type 0) (client0 client1 client2 : Option ℕ) (f0 f1 f2 : ℕ) (was mid now : List (List Value) → Type 0) (h1 h2 : Holdings) where
-  pub stands_then : StandsStill admits0 admits1 client0 client1 f0 f1 was mid h1 → StandsStill admits1 admits2 client1 client2 f1 f2 mid now h2 → StandsStill admits0 admits2 client0 client2 f0 f2 was now h2
-  stands_then one two =
-      record {
-        admits_same = λ row. (λ is. (two.admits_same row).0 ((one.admits_same row).0 is), λ is. (one.admits_same row).1 ((two.admits_same row).1 is));
-        client_same = two.client_same ∙ one.client_same;
-        lives = subst (λ (o : Option ℕ). HasClient o h2) one.client_same two.lives;
-        never_falls = let x = one.never_falls in let y = two.never_falls in omega (arith, x, y);
-        took = went_then was mid now one.took two.took;
-      }
-
-pub stands_none : (admits : List Value → Type 0) (client : Option ℕ) (faults : ℕ) (was : List (List Value) → Type 0) (h : Holdings) → HasClient client h → StandsStill admits admits client client faults faults was was h
-stands_none admits client faults was h lives =
-    record { admits_same = λ row. (λ is. is, λ is. is); client_same = refl; lives = lives; never_falls = omega arith; took = went_none was was (λ rows took. took) }
+  stands_own beside leaves same = stands_left admits client faults was now t a.held b.held a.signs b.signs beside leaves same
 
 -- a call of the emitter that stands
-pub serves_more : (t : ℕ) (client now : Option ℕ) (shape : Shape) (a b c : State) → now ≡ client → ServesBeside t client shape a b → ServesBeside t now shape b c → ServesBeside t client shape a c
-serves_more t client now shape a b c same one two = serves_then t client shape a b c one (subst (λ (o : Option ℕ). ServesBeside t o shape b c) same two)
-
--- it is beside the grouping still
-pub beside_stood : (t : ℕ) (admits_old admits : List Value → Type 0) (client_old client : Option ℕ) (faults_old faults : ℕ) (old new : Holdings) (before after : Signs) → IsBeside t client_old old → Stood admits_old admits client_old client faults_old faults old new before after → IsBeside t client new
-beside_stood t admits_old admits client_old client faults_old faults old new before after beside stood =
-    record {
-      apart = λ same. beside.apart (sym stood.client_same ∙ same);
-      lives = subst (λ (o : Option ℕ). HasClient o new) (sym stood.client_same) stood.lives;
-    }
-
-pub beside_stands : (t : ℕ) (admits_old admits : List Value → Type 0) (client_old client : Option ℕ) (faults_old faults : ℕ) (was now : List (List Value) → Type 0) (old new : Holdings) → IsBeside t client_old old → StandsStill admits_old admits client_old client faults_old faults was now new → IsBeside t client new
-beside_stands t admits_old admits client_old client faults_old faults was now old new beside stands =
-    record {
-      apart = λ same. beside.apart (sym stands.client_same ∙ same);
-      lives = subst (λ (o : Option ℕ). HasClient o new) (sym stands.client_same) stands.lives;
-    }
+pub serves_more : (t : ℕ) (client now : Option ℕ) (n0 n1 n2 : ℕ) (shape : Shape) (a b c : State) → now ≡ client → ServesBeside t client n0 n1 shape a b → ServesBeside t now n1 n2 shape b c → ServesBeside t client n0 n2 shape a c
+serves_more t client now n0 n1 n2 shape a b c same one two = serves_then t client n0 n1 n2 shape a b c one (subst (λ (o : Option ℕ). ServesBeside t o n1 n2 shape b c) same two)
 
 -- ---- the top partition goes
 
@@ -219,6 +132,9 @@ module _ (t : ℕ) (table : Table) (p q : Stack) (s : Streamed) (h : Holdings) (
 
   pub held_popped : IsHeld t (state table q b.held b.signs)
   held_popped = held_touched t table p q h b.held signs b.signs held went.touches went.shaped blocks
+
+  pub slots_popped : slots_in (over q b.held b.signs) ≡ slots_in (over p h signs)
+  slots_popped = went.touches.slots
 
   pub leaves_popped : Leaves t (state table p h signs) (state table q b.held b.signs)
   leaves_popped = leaves_touched t table p q h b.held signs b.signs held went.touches went.shaped blocks went.grows

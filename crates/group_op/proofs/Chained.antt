@@ -1,14 +1,9 @@
 -- One step after another leaves what each of them leaves.
-use Rattle.std.proofs.Common.{◌∙◌, ℕ, Option, Some, arith}
-use Rattle.store_api.specs.Alike.{Alike}
-use Rattle.store_api.specs.Emitters.{OthersStay, SameFor}
-use Rattle.store_api.specs.Holdings.{Holdings}
-use Rattle.store_api.specs.Signs.{Signs}
+use Rattle.std.proofs.Common.{◌∙◌, ℕ}
 use Rattle.store_api.specs.declared.shapes.Shape.{Shape}
-use Rattle.store_api.proofs.Growing.{grows_trans}
-use Rattle.store_api.proofs.Reserved.{alike_on}
 pub use Rattle.partition_stack.proofs.Left.{leaves_both, others_then, same_then}
-use Rattle.group_op.specs.Held.{Leaves, State}
+use Rattle.partition_stack.proofs.Slots.{slots_then}
+use Rattle.group_op.specs.Held.{Leaves, State, streams_of}
 use Rattle.group_op.specs.Putting.{Works}
 
 pub leaves_then : (t : ℕ) (a b c : State) → Leaves t a b → Leaves t b c → Leaves t a c
@@ -23,4 +18,5 @@ works_then t shape a b c first second =
       blocks = second.blocks ∙ first.blocks;
       levels = second.levels ∙ first.levels;
       many = second.many ∙ first.many;
+      slots = slots_then a.parts.page_blocks b.parts.page_blocks (streams_of a) (streams_of b) (streams_of c) first.blocks first.slots second.slots;
     }

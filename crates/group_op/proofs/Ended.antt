@@ -1,11 +1,11 @@
 -- A grouping ends: its pages go, and its table's loans come back.
-use Rattle.std.proofs.Common.{◌≡◌, ◌≢◌, ◌∙◌, ℕ, List, [], Option, Some, None, IsSome, refl, ap, sym, subst, arith}
+use Rattle.std.proofs.Common.{◌≡◌, ◌≢◌, ◌∙◌, ℕ, ◌+◌, List, [], Option, Some, None, IsSome, option_map, refl, ap, sym, subst, arith}
 use Rattle.std.proofs.lemmas.Option.{none-some}
 use Rattle.store_api.specs.Conditions.{IsIdle}
 use Rattle.store_api.specs.Holdings.{Account, Holdings, LiveLoan, LivePage, account_of, loan_of, unused_of}
 use Rattle.store_api.specs.Signs.{Grows, Signs}
 use Rattle.tuple_stream.proofs.Frames.{still_some}
-use Rattle.tuple_stream.specs.Families.{AreShaped, family}
+use Rattle.tuple_stream.specs.Families.{AreShaped, family, slots_in}
 use Rattle.bucket_table.specs.Lending.{IsApart, IsOwn, IsTableOf, Lends, loans_of}
 use Rattle.bucket_table.specs.Tables.{Lent, Table}
 use Rattle.bucket_table.proofs.Beside.{beside_pages}
@@ -27,6 +27,7 @@ module _ (t : ℕ) (loans : List Lent) (old new : Holdings) (lends : Lends t loa
         query = sym (ap (λ (h : Holdings). h.query) lends.rest);
         limit = sym (ap (λ (h : Holdings). h.limit) lends.rest);
         live_clients = sym (ap (λ (h : Holdings). h.live_clients) lends.rest);
+        free_slots = sym (ap (λ (h : Holdings). h.free_slots) lends.rest);
         told = sym (ap (λ (h : Holdings). h.told) lends.rest);
         pages = sym (ap (λ (h : Holdings). h.pages) lends.rest);
         reservation = let now = ap (λ (h : Holdings). h.reservation) lends.rest in omega (arith, now);
@@ -52,6 +53,10 @@ module _ (t : ℕ) (loans : List Lent) (old new : Holdings) (lends : Lends t loa
       let room : old.room ≡ new.room = ap (λ (h : Holdings). h.room) lends.rest in
       record { others = others_turned t old new turns_freed; grows = grows; reserved = omega (arith, own); room = omega (arith, own, room) }
 
+none_added : (o : Option ℕ) → option_map (λ n. n + 0) o ≡ o
+none_added None = refl
+none_added (Some n) = ap Some (omega arith)
+
 none_shaped : (t : ℕ) (h : Holdings) (signs : Signs) → AreShaped t (family [] h signs)
 none_shaped t h signs = record { each = λ i s at. absurd (none-some s at); apart = λ i j a b other at there. absurd (none-some a at) }
 
@@ -71,6 +76,9 @@ module _ (t lent : ℕ) (p : Stack) (old new : Holdings) (before after : Signs) 
         reserved = omega (arith, same);
         room = omega (arith, same, room);
       }
+
+  pub ended_slots : new.free_slots ≡ slots_in (over p old before)
+  ended_slots = sym (none_added new.free_slots) ∙ ends.touches.slots
 
   -- with its table's loans still lent, or none
   pub ended_idle : HasNoLoan t old → IsIdle t new
@@ -92,6 +100,9 @@ module _ (t lent : ℕ) (p : Stack) (old new : Holdings) (before after : Signs) 
             pages = λ q page there. ended_pages q page (ap (λ (h : Holdings). h.pages q) own_lends.rest ∙ there);
             loans = freed_none t (loans_of table) new last own_lends (λ q loan there apart. others q loan (sym (ap (λ (f : ℕ → Option LiveLoan). f q) ends.touches.loans) ∙ there) apart);
           }
+
+      pub freed_slots : last.free_slots ≡ slots_in (over p old before)
+      freed_slots = sym (ap (λ (h : Holdings). h.free_slots) own_lends.rest) ∙ ended_slots
 
       pub freed_all : Grows after final → LeavesOthers t old last before final
       freed_all grows =

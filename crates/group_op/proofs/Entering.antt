@@ -22,6 +22,7 @@ use Rattle.tuple_stream.specs.Families.{AreShaped}
 use Rattle.tuple_stream.proofs.FamilyWords.{feeds_none}
 use Rattle.bucket_table.specs.Tables.{HasNode, Node, Table, new_node, row_of, used_by, with_nodes, with_row}
 use Rattle.partition_stack.specs.Stack.{Stack, over}
+use Rattle.partition_stack.proofs.Slots.{slots_none}
 use Rattle.group_rows.specs.Partials.{combine, key_of}
 use Rattle.group_rows.specs.Tables.{HaveDistinctKeys}
 use Rattle.group_rows.proofs.Keys.{true_same}
@@ -69,6 +70,7 @@ works_none t shape table p h signs held entries =
       blocks = refl;
       levels = refl;
       many = refl;
+      slots = slots_none p.page_blocks (over p h signs);
     }
 
 -- ---- a new entry

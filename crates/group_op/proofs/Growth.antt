@@ -25,7 +25,9 @@ use Rattle.bucket_table.specs.Lending.{IsApart, IsOwn, IsTableOf, Lends, bytes_o
 use Rattle.bucket_table.proofs.Beside.{beside_pages}
 use Rattle.partition_stack.specs.Changes.{Owns}
 use Rattle.partition_stack.specs.Stack.{Stack, over}
+use Rattle.partition_stack.specs.Slots.{SameSlots}
 use Rattle.partition_stack.proofs.Agreeing.{agreeing_shape}
+use Rattle.partition_stack.proofs.Slots.{slots_stay}
 use Rattle.group_op.specs.Held.{AreEntries, IsHeld, State, lent, rows_of, state, streams_of}
 use Rattle.group_op.specs.Putting.{HasGrown, Works}
 use Rattle.group_op.proofs.Deals.{AreApart, deals_as, deals_beside, deals_then, increase_apart, loans_apart, none_apart}
@@ -39,6 +41,7 @@ pub record Turns (t : ℕ) (old new : Holdings) : Type 0 where
   pub query : new.query ≡ old.query
   pub limit : new.limit ≡ old.limit
   pub live_clients : new.live_clients ≡ old.live_clients
+  pub free_slots : new.free_slots ≡ old.free_slots
   pub told : new.told ≡ old.told
   pub pages : new.pages ≡ old.pages
   pub reservation : old.reservation ≤ new.reservation
@@ -73,6 +76,9 @@ module _ (t : ℕ) (old new : Holdings) (turns : Turns t old new) where
       }
 
   module _ (p : Stack) (before after : Signs) where
+    pub slots_turned : SameSlots p.page_blocks (over p old before) (over p new after)
+    slots_turned = slots_stay p.page_blocks p.streams old new before after turns.free_slots (λ i s at k q there. ap (λ (f : ℕ → Option LivePage). f q.name) turns.pages)
+
     pub owns_turned : (had has : ℕ) → Owns t had (over p old before) → unused_of t new + has + (account_of t old).reservation ≡ unused_of t old + had + (account_of t new).reservation → Owns t has (over p new after)
     owns_turned had has owns moved =
         record {
@@ -105,6 +111,7 @@ module _ (t len : ℕ) (old new : Holdings) (lives : IsSome (old.clients t)) (is
         query = ap (λ (h : Holdings). h.query) is;
         limit = ap (λ (h : Holdings). h.limit) is;
         live_clients = ap (λ (h : Holdings). h.live_clients) is;
+        free_slots = ap (λ (h : Holdings). h.free_slots) is;
         told = ap (λ (h : Holdings). h.told) is;
         pages = ap (λ (h : Holdings). h.pages) is;
         reservation = let now = ap (λ (h : Holdings). h.reservation) is in omega (arith, now);
@@ -136,6 +143,7 @@ works_turned t shape table now p old new before after turns grows reserved room 
       blocks = refl;
       levels = refl;
       many = refl;
+      slots = slots_turned t old new turns p before after;
     }
 
 module _ (t more : ℕ) (table : Table) (p : Stack) (old new : Holdings) (before after : Signs) (held : IsHeld t (state table p old before)) (is : new ≡ after_reserve t more old) where
@@ -189,6 +197,7 @@ module _ (t : ℕ) (loans : List Lent) (old new : Holdings) (lends : Lends t loa
         query = ap (λ (h : Holdings). h.query) lends.rest;
         limit = ap (λ (h : Holdings). h.limit) lends.rest;
         live_clients = ap (λ (h : Holdings). h.live_clients) lends.rest;
+        free_slots = ap (λ (h : Holdings). h.free_slots) lends.rest;
         told = ap (λ (h : Holdings). h.told) lends.rest;
         pages = ap (λ (h : Holdings). h.pages) lends.rest;
         reservation = let now = ap (λ (h : Holdings). h.reservation) lends.rest in omega (arith, now);
@@ -298,6 +307,7 @@ grown_refused t shape table p old new before after held entries same grows enter
         blocks = refl;
         levels = refl;
         many = refl;
+        slots = record { sum = refl; sized = λ all. all };
       };
       deals = deals_beside t p.streams old old before after held.owns.shaped refl refl refl entered;
     })

@@ -1,16 +1,12 @@
 -- What a grouping has stays its own while its streams are called.
-use Rattle.std.proofs.Common.{◌≡◌, ◌≢◌, ◌∙◌, ℕ, ◌+◌, ◌-◌, ◌*◌, ◌≤◌, Bool, true, false, List, [], length, Option, Some, None, IsSome, option_map, refl, ap, sym, subst, arith}
+use Rattle.std.proofs.Common.{◌≡◌, ◌∙◌, ℕ, ◌+◌, ◌-◌, ◌*◌, ◌≤◌, Bool, true, false, List, [], length, Option, IsSome, ap, sym, subst, arith}
 use Rattle.std.proofs.Math.Nat.{mul-le-mul_right}
 use Rattle.std.proofs.lemmas.List.Elements.{All-nil}
 use Rattle.pool_model.specs.declared.event.Event.{Event}
-use Rattle.store_api.specs.Holdings.{Account, Holdings, LiveLoan, LivePage, or_else, no_account, no_page, account_of, length_of, page_of, unused_of}
-use Rattle.store_api.specs.Emitters.{OthersStay}
+use Rattle.store_api.specs.Holdings.{Account, Holdings, LiveLoan, account_of, length_of, unused_of}
 use Rattle.store_api.specs.Signs.{Grows, Signs}
 use Rattle.store_api.specs.declared.shapes.Shape.{Shape}
-use Rattle.tuple_stream.specs.Streams.{IsOwnPage}
-use Rattle.tuple_stream.specs.Touches.{with_unused}
-use Rattle.tuple_stream.specs.Families.{AreShaped, Family, FamilySteps, IsOutside, TouchesAll, held_in}
-use Rattle.tuple_stream.proofs.Chosen.{all_placed, at_place}
+use Rattle.tuple_stream.specs.Families.{AreShaped, FamilySteps, TouchesAll, held_in}
 use Rattle.tuple_stream.proofs.Frames.{still_some}
 use Rattle.bucket_table.specs.Tables.{Node, Table, with_nodes}
 use Rattle.bucket_table.proofs.Beside.{beside_pages}
@@ -63,6 +59,7 @@ works_touched t shape table p q old new before after held entries steps blocks l
       blocks = blocks;
       levels = levels;
       many = steps.long;
+      slots = record { sum = steps.touches.slots; sized = λ all. steps.sized p.page_blocks all };
     }
 
 -- ---- other nodes in a table
@@ -87,6 +84,7 @@ works_nodes t shape a nodes table q new after works entries =
       blocks = works.blocks;
       levels = works.levels;
       many = works.many;
+      slots = record { sum = works.slots.sum; sized = works.slots.sized };
     }
 
 pub emptied_entries : (shape : Shape) (len : ℕ) (table : Table) → AreEntries shape len table → AreEntries shape len (with_nodes [] table)

@@ -11,12 +11,9 @@ pub mod Passes
 pub mod Puts
 pub mod KeptRows
 pub mod Lasts
-pub mod Oks
 pub mod Emitting
 pub mod KeptList
 pub mod Readings
-pub mod Agreeing
-pub mod ScanFrames
 pub mod Scans
 pub mod Dropping
 pub mod Rewriting
@@ -56,4 +53,4 @@ pub mod Begun
 pub mod PagesOnce
 pub mod Laying
 pub mod Weighing
-pub mod Shorts
+mod Sharing

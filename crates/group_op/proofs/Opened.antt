@@ -26,7 +26,9 @@ use Rattle.partition_stack.proofs.Agreeing.{agreeing_shape}
 use Rattle.group_op.specs.Held.{IsEntry, IsHeld, LeavesOthers, lent, state}
 use Rattle.group_op.specs.Operator.{HasOpened, IsOperator, operator}
 use Rattle.group_op.proofs.Deals.{AreApart, deals_beside, deals_fed, loans_apart}
-use Rattle.group_op.proofs.Growth.{Turns, lent_reservation, lent_room, lent_unused, others_turned, owns_turned, page_lens, turns_lent}
+use Rattle.group_op.proofs.Growth.{Turns, lent_reservation, lent_room, lent_unused, others_turned, owns_turned, page_lens, slots_turned, turns_lent}
+use Rattle.partition_stack.specs.Slots.{SameSlots}
+use Rattle.partition_stack.proofs.Slots.{slots_stay}
 
 -- a lack of a loan is one of the store's
 pub short_full : (t blocks : ℕ) (free : Option ℕ) (before after : Signs) (e : PoolErr) → WasShort t blocks before after e → IsFull blocks free e
@@ -189,6 +191,13 @@ module _ (c : ClientToken) (shape : Shape) (p : Stack) (old new : Holdings) (bef
     new_held ok here =
         both (IsOpened c.tracker p.page_blocks 1 2 old new) (λ own. IsTableOf own new) (λ own. IsHeld c.tracker (state own p new after)) result
         (λ own opened table. opened_held c shape p old new before after is_none own opened table) (as_sized ok) here
+
+    pub new_slots : IfOk result (IsOpened c.tracker blocks 1 2 old new) → OnErr result (Alike old new) → SameSlots p.page_blocks (over p old before) (over p new after)
+    new_slots = go result
+      where
+        go : (r : Result Table PoolErr) → IfOk r (IsOpened c.tracker blocks 1 2 old new) → OnErr r (Alike old new) → SameSlots p.page_blocks (over p old before) (over p new after)
+        go (Ok own) opened same = slots_turned c.tracker old new (turns_lent c.tracker (loans_of own) old new opened.lends) p before after
+        go (Err e) opened same = slots_stay p.page_blocks p.streams old new before after same.rest.free_slots (λ i s at k q there. same.rest.pages q.name)
 
     pub new_none : OnErr result (Alike old new) → OnErr result (IsOperator (operator c shape p None) new after)
     new_none = go result

@@ -1,5 +1,5 @@
 -- Steps that serve a grouping, one after the other, and the division of its top partition.
-use Rattle.std.proofs.Common.{◌≡◌, ◌∙◌, ℕ, ◌+◌, ◌<◌, false, length, replicate, Result, Ok, Err, OnOk, refl, sym, inl, inr, arith, length-append}
+use Rattle.std.proofs.Common.{◌≡◌, ◌∙◌, ℕ, ◌+◌, ◌-◌, ◌<◌, false, length, replicate, option_map, Result, Ok, Err, OnOk, refl, ap, sym, inl, inr, arith, length-append}
 use Rattle.std.proofs.lemmas.List.{length-replicate}
 use Rattle.std.specs.Result.{is_err}
 use Rattle.std.proofs.lemmas.Bool.{false≢true}
@@ -7,21 +7,30 @@ use Rattle.store_api.specs.Holdings.{Holdings}
 use Rattle.store_api.specs.Signs.{Signs}
 use Rattle.store_api.specs.declared.shapes.Shape.{Shape}
 use Rattle.bucket_table.specs.Tables.{Table}
-use Rattle.partition_stack.specs.Stack.{IsPlaced, IsStack, RestBelow, Stack, divided, empty}
+use Rattle.tuple_stream.specs.Streamed.{Streamed}
+use Rattle.partition_stack.specs.Stack.{IsPlaced, IsStack, RestBelow, Stack, divided, empty, over}
 use Rattle.partition_stack.proofs.Coming.{sixteen_come}
-use Rattle.partition_stack.proofs.ListPlaces.{front_or_behind}
+use Rattle.partition_stack.proofs.ListPlaces.{front_or_behind, of_replicate}
+use Rattle.partition_stack.specs.Slots.{SameSlots}
+use Rattle.partition_stack.proofs.Slots.{more_taken, slots_then}
 use Rattle.group_op.specs.Finishing.{Serves}
-use Rattle.group_op.specs.Held.{AreEntries, IsHeld, State, lent, page_len, state}
+use Rattle.group_op.specs.Held.{AreEntries, IsHeld, State, lent, page_len, state, streams_of}
 use Rattle.group_op.specs.Putting.{IsFan, Works}
 use Rattle.group_op.proofs.Chained.{leaves_then}
 use Rattle.group_op.proofs.Entering.{works_none}
 
 pub serves_of : (t : ℕ) (shape : Shape) (a b : State) → Works t shape a b → Serves t shape a b
-serves_of t shape a b works = record { held = works.held; entries = works.entries; leaves = works.leaves; blocks = works.blocks }
+serves_of t shape a b works = record { held = works.held; entries = works.entries; leaves = works.leaves; blocks = works.blocks; slots = works.slots }
 
 pub serves_then : (t : ℕ) (shape : Shape) (a b c : State) → Serves t shape a b → Serves t shape b c → Serves t shape a c
 serves_then t shape a b c first second =
-    record { held = second.held; entries = second.entries; leaves = leaves_then t a b c first.leaves second.leaves; blocks = second.blocks ∙ first.blocks }
+    record {
+      held = second.held;
+      entries = second.entries;
+      leaves = leaves_then t a b c first.leaves second.leaves;
+      blocks = second.blocks ∙ first.blocks;
+      slots = slots_then a.parts.page_blocks b.parts.page_blocks (streams_of a) (streams_of b) (streams_of c) first.blocks first.slots second.slots;
+    }
 
 -- ---- sixteen partitions come on top
 
@@ -37,10 +46,26 @@ module _ (t : ℕ) (shape : Shape) (at level : ℕ) (table : Table) (p : Stack) 
         room = held.room;
       }
 
+  slots_divided : SameSlots p.page_blocks (over p h signs) (over (divided at level p) h signs)
+  slots_divided =
+      record {
+        sum = ap (λ (m : ℕ). option_map (λ (n : ℕ). n + m) h.free_slots) (more_taken p.streams p.page_blocks 16 h);
+        sized = λ all i s there. elim (front_or_behind p.streams (replicate 16 (empty p.page_blocks)) i s there) [
+          | inl front ↦ all i s front
+          | inr behind ↦ ap (λ (r : Streamed). r.page_blocks) (of_replicate 16 (empty p.page_blocks) (i - length p.streams) s behind.1)
+        ];
+      }
+
   pub serves_divided : (held : IsHeld t (state table p h signs)) → AreEntries shape (page_len (state table p h signs)) table → Serves t shape (state table p h signs) (state table (divided at level p) h signs)
   serves_divided held entries =
       let none = works_none t shape table p h signs held entries in
-      record { held = held_divided held; entries = entries; leaves = record { others = none.leaves.others; grows = none.leaves.grows; reserved = none.leaves.reserved; room = none.leaves.room }; blocks = refl }
+      record {
+        held = held_divided held;
+        entries = entries;
+        leaves = record { others = none.leaves.others; grows = none.leaves.grows; reserved = none.leaves.reserved; room = none.leaves.room };
+        blocks = refl;
+        slots = slots_divided;
+      }
 
   pub fan_divided : length p.streams ≡ at + 1 → level < 16 → IsPlaced at level → RestBelow at p → IsFan level (at + 1) at (divided at level p)
   fan_divided top deep placed rests =

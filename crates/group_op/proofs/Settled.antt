@@ -83,4 +83,4 @@ answered_later (Ok x) s0 s1 s2 grows came = tt
 answered_later (Err e) s0 s1 s2 grows came = answered_before e s0 s1 s2 grows came
 
 pub serves_of : (t : ℕ) (shape : Shape) (a b : State) → Works t shape a b → Serves t shape a b
-serves_of t shape a b works = record { held = works.held; entries = works.entries; leaves = works.leaves; blocks = works.blocks }
+serves_of t shape a b works = record { held = works.held; entries = works.entries; leaves = works.leaves; blocks = works.blocks; slots = works.slots }

@@ -1,5 +1,5 @@
 -- The top partition was read while its groups went to an emitter, and then it went.
-use Rattle.std.proofs.Common.{◌≡◌, ◌≢◌, ◌∙◌, inl, inr, ℕ, zero, suc, ◌+◌, ◌-◌, ◌*◌, ◌<◌, List, [], ◌∷◌, ◌++◌, length, length-append, take, get_or, true, false, Option, Some, None, IsSome, is_some, if◌then◌else◌, Result, Ok, Err, IfErr, OnOk, refl, ap, sym, subst, arith}
+use Rattle.std.proofs.Common.{◌≡◌, ◌≢◌, ◌∙◌, inl, inr, ℕ, zero, suc, ◌+◌, ◌-◌, ◌*◌, ◌<◌, ◌≤◌, List, [], ◌∷◌, ◌++◌, length, length-append, take, get_or, true, false, Option, Some, None, IsSome, is_some, if◌then◌else◌, Result, Ok, Err, IfErr, OnOk, refl, ap, sym, subst, arith}
 use Rattle.std.specs.Prelude.{All, option_map, slice_get, sum_by}
 use Rattle.std.proofs.lemmas.List.{take_all}
 use Rattle.std.proofs.lemmas.List.FromFn.{length-map-range_with_len}
@@ -16,12 +16,12 @@ use Rattle.store_api.specs.Signs.{Grows, Signs}
 use Rattle.store_api.specs.Tokens.{ClientToken, PageToken}
 use Rattle.store_api.proofs.Answered.{answered_after}
 use Rattle.store_api.proofs.Puts.{there}
-use Rattle.tuple_stream.specs.Families.{AllClosed, AreDisjoint, AreShaped, IsOutside, ShowAll, family, held_in}
+use Rattle.tuple_stream.specs.Families.{AllClosed, AreDisjoint, AreShaped, IsOutside, ShowAll, family, held_in, slots_in}
 use Rattle.tuple_stream.specs.Spending.{Empties}
 use Rattle.tuple_stream.specs.Steps.{Scene, scene}
 use Rattle.tuple_stream.specs.Streamed.{Streamed}
 use Rattle.tuple_stream.specs.Streams.{HasRows, IsApart, IsOwnPage, IsShaped}
-use Rattle.tuple_stream.specs.Touches.{held, with_unused}
+use Rattle.tuple_stream.specs.Touches.{held, slots_of, slots_with, with_unused}
 use Rattle.tuple_stream.proofs.Chosen.{at_place}
 use Rattle.tuple_stream.proofs.Empty.{empty}
 use Rattle.tuple_stream.proofs.Frames.{still_some}
@@ -29,19 +29,22 @@ use Rattle.tuple_stream.proofs.PageLists.{at_end, still_at}
 use Rattle.bucket_table.specs.Lending.{IsOwn, IsTableOf, loans_of}
 use Rattle.bucket_table.specs.Tables.{Lent, Table}
 use Rattle.bucket_table.proofs.Lent.{moved_own}
+use Rattle.partition_stack.specs.Emitting.{room_with}
+use Rattle.partition_stack.specs.Slots.{IsWantOf, KeepSlots}
 use Rattle.partition_stack.specs.Stack.{IsStack, Stack, over}
 use Rattle.partition_stack.proofs.Agreeing.{agreeing_rows, agreeing_shape}
 use Rattle.partition_stack.proofs.ListPlaces.{front_or_behind}
 use Rattle.partition_stack.proofs.Room.{room_for_each}
+use Rattle.partition_stack.proofs.Slots.{all_taken, keep_front, keep_own, taken, times_all, want_front}
 use Rattle.group_rows.specs.Partials.{Partial, combined_of}
 use Rattle.group_rows.proofs.Paths.{one_path}
 use Rattle.group_op.specs.Emission.{IsBeside, WentOn}
 use Rattle.group_op.specs.Finishing.{IsPart, LeavesBeside, ServesBeside, StandsStill}
 use Rattle.group_op.specs.Held.{AreEntries, IsHeld, Leaves, lent, state}
-use Rattle.group_op.specs.Scanning.{IsReadable, ReadBeside, StaysEmitter, groups_by_bytes}
+use Rattle.group_op.specs.Scanning.{IsReadable, ReadBeside, Shares, StaysEmitter, groups_by_bytes}
 use Rattle.group_op.specs.Stored.{grouping_of, partials_at}
 use Rattle.group_op.proofs.Keeping.{room_of_read}
-use Rattle.group_op.proofs.Besides.{beside_own, held_popped, leaves_popped, own_same, serves_then, shows_popped, stands_own}
+use Rattle.group_op.proofs.Besides.{beside_own, held_popped, leaves_popped, own_same, serves_then, shows_popped, slots_popped, stands_own}
 
 -- ---- what an emitter is asked for, and what it leaves
 
@@ -234,8 +237,8 @@ module _ (t : ℕ) (client : Option ℕ) (shape : Shape) (table : Table) (p q : 
         room = let own = reserves in let room = is.room in omega (arith, own, room, ap (λ (n : ℕ). 17 * n) lens);
       }
 
-  leaves_read : Grows s0 s1 → LeavesBeside t client h0 h1 s0 s1
-  leaves_read grows =
+  leaves_read : room_with t client h0 ≤ room_with t client h1 → Grows s0 s1 → LeavesBeside t client h0 h1 s0 s1
+  leaves_read room grows =
       record {
         block_len = beside.query.block_len;
         session = beside.query.session;
@@ -246,8 +249,20 @@ module _ (t : ℕ) (client : Option ℕ) (shape : Shape) (table : Table) (p q : 
         reservation = beside.query.reservation;
         others = beside.others;
         reserved = let own = reserves in omega (arith, own);
+        room = room;
         grows = grows;
       }
+
+  -- the slots of all, by those of the stream that was read
+  slots_read : (n0 n1 : ℕ) → KeepSlots client (slots_with s h0) (slots_with now h1) n0 n1 → KeepSlots client (slots_in (over p h0 s0)) (slots_in (over p1 h1 s1)) n0 n1
+  slots_read n0 n1 slots =
+      let one : taken (s ∷ []) h0 ≡ sum_by (slots_of s h0) s.pages + 0 = sum_by-cons (λ (r : Streamed). sum_by (slots_of r h0) r.pages) s [] in
+      let all : taken (ss ++ s ∷ []) h0 ≡ taken ss h0 + taken (s ∷ []) h0 = sum_by-append (λ (r : Streamed). sum_by (slots_of r h0) r.pages) ss (s ∷ []) in
+      let was : taken p.streams h0 ≡ taken (ss ++ s ∷ []) h0 = ap (λ (rs : List Streamed). taken rs h0) split in
+      let late_one : taken (now ∷ []) h1 ≡ sum_by (slots_of now h1) now.pages + 0 = sum_by-cons (λ (r : Streamed). sum_by (slots_of r h1) r.pages) now [] in
+      let late : taken (ss ++ now ∷ []) h1 ≡ taken ss h1 + taken (now ∷ []) h1 = sum_by-append (λ (r : Streamed). sum_by (slots_of r h1) r.pages) ss (now ∷ []) in
+      keep_front client h0.free_slots h1.free_slots n0 n1 (sum_by (slots_of s h0) s.pages) (sum_by (slots_of now h1) now.pages) (taken ss h0) (taken ss h1) (taken p.streams h0) (taken (ss ++ now ∷ []) h1)
+      (all_taken ss h0 h1 agree) (omega (arith, one, all, was)) (omega (arith, late_one, late)) slots
 
   -- ---- and it went
 
@@ -255,17 +270,18 @@ module _ (t : ℕ) (client : Option ℕ) (shape : Shape) (table : Table) (p q : 
     pub leaves_gone : Leaves t (state table p1 h1 s1) (state table q b.held b.signs)
     leaves_gone = leaves_popped t table p1 q now h1 s1 b held_read refl blocks empties gone
 
-    pub serves_read : Grows s0 s1 → AreEntries shape (length_of p.page_blocks h0) table → ServesBeside t client shape (state table p h0 s0) (state table q b.held b.signs)
-    serves_read grows entries =
+    pub serves_read : (n0 n1 n2 : ℕ) → Shares t client n0 n1 s now h0 h1 → n2 ≡ n1 → Grows s0 s1 → AreEntries shape (length_of p.page_blocks h0) table → ServesBeside t client n0 n2 shape (state table p h0 s0) (state table q b.held b.signs)
+    serves_read n0 n1 n2 shares same grows entries =
         let late : length_of q.page_blocks b.held ≡ length_of p.page_blocks h1 = ap (λ (n : ℕ). n * b.held.block_len) blocks ∙ ap (λ (n : ℕ). p.page_blocks * n) leaves_gone.others.block_len in
         let mid : AreEntries shape (length_of p.page_blocks h1) table = subst (λ (n : ℕ). AreEntries shape n table) (sym lens) entries in
-        serves_then t client shape (state table p h0 s0) (state table p1 h1 s1) (state table q b.held b.signs)
-        (record { held = held_read; entries = mid; leaves = leaves_read grows; blocks = refl })
+        serves_then t client n0 n1 n2 shape (state table p h0 s0) (state table p1 h1 s1) (state table q b.held b.signs)
+        (record { held = held_read; entries = mid; leaves = leaves_read shares.room grows; blocks = refl; slots = slots_read n0 n1 shares.slots })
         (record {
           held = held_popped t table p1 q now h1 s1 b held_read refl blocks empties gone;
           entries = subst (λ (n : ℕ). AreEntries shape n table) (sym late) mid;
           leaves = beside_own t client (state table p1 h1 s1) (state table q b.held b.signs) leaves_gone;
           blocks = blocks;
+          slots = keep_own client (slots_in (over p1 h1 s1)) (slots_in (over q b.held b.signs)) n1 n2 (slots_popped t table p1 q now h1 s1 b held_read refl blocks empties gone) same;
         })
 
     pub shows_gone : (rows : ℕ → List (List ℕ)) → h0.told ≡ true → ShowAll rows (over p h0 s0) → ShowAll rows (over q b.held b.signs)
@@ -276,3 +292,17 @@ module _ (t : ℕ) (client : Option ℕ) (shape : Shape) (table : Table) (p q : 
 
     pub stands_gone : (admits : List Value → Type 0) (o : Option ℕ) (faults : ℕ) (mid after : List (List Value) → Type 0) → IsBeside t o h1 → ((rows : List (List Value)) → mid rows → after rows) → StandsStill admits admits o o faults faults mid after b.held
     stands_gone admits o faults mid after stays still = stands_own admits o faults mid after t (state table p1 h1 s1) (state table q b.held b.signs) stays leaves_gone still
+
+-- ---- what it was stopped with
+
+-- the top stream's slots leave the same as those of all
+pub want_top : (p : Stack) (ss : List Streamed) (s : Streamed) (h : Holdings) (signs : Signs) → p.streams ≡ ss ++ s ∷ [] → IsStack p → s.page_blocks ≡ p.page_blocks → (e : OpErr) → IsWantOf s.page_blocks (slots_with s h) e → IsWantOf p.page_blocks (slots_in (over p h signs)) e
+want_top p ss s h signs split stack sized (Pool e) want =
+    let times = times_all p.page_blocks ss h (λ i r at. stack.each i r (ap (λ (rs : List Streamed). slice_get rs i) split ∙ still_at ss s r i at)) in
+    let front = times.1 in
+    let one : taken (s ∷ []) h ≡ sum_by (slots_of s h) s.pages + 0 = sum_by-cons (λ (r : Streamed). sum_by (slots_of r h) r.pages) s [] in
+    let all : taken (ss ++ s ∷ []) h ≡ taken ss h + taken (s ∷ []) h = sum_by-append (λ (r : Streamed). sum_by (slots_of r h) r.pages) ss (s ∷ []) in
+    let whole : taken p.streams h ≡ taken (ss ++ s ∷ []) h = ap (λ (rs : List Streamed). taken rs h) split in
+    want_front p.page_blocks times.0 (sum_by (slots_of s h) s.pages) (taken p.streams h) h.free_slots (omega (arith, front, one, all, whole)) e
+    (subst (λ (n : ℕ). IsWantOf n (slots_with s h) (Pool e)) sized want)
+want_top p ss s h signs split stack sized Sink want = tt

@@ -1,12 +1,10 @@
 -- Partial rows go to an emitter as rows of values. `was` and `now` say what it took before and after.
-use Rattle.std.specs.Prelude.{◌≡◌, ◌≢◌, ◌↔◌, ℕ, ◌≤◌, List, [], ◌∷◌, ◌++◌, All, Option, Some, None, ⊤}
+use Rattle.std.specs.Prelude.{◌≡◌, List, [], ◌∷◌, ◌++◌, All, ⊤}
 use Rattle.row_codec.specs.declared.values.Value.{Value}
 use Rattle.row_codec.specs.Row.{kinds_of}
 use Rattle.row_codec.specs.RowLaws.{IsRow}
 use Rattle.store_api.specs.declared.shapes.Shape.{Shape}
-use Rattle.store_api.specs.Emitters.{HasClient, OthersStay}
-use Rattle.store_api.specs.Holdings.{Holdings}
-use Rattle.store_api.specs.Signs.{Grows, Signs}
+pub use Rattle.partition_stack.specs.Emitting.{IsBeside, Stood, WentOn}
 use Rattle.group_rows.specs.Partials.{Partial}
 use Rattle.group_rows.specs.Rows.{partial_in}
 use Rattle.group_op.specs.Stored.{grouping_of, partial_kinds}
@@ -32,10 +30,6 @@ AdmitsAll shape admits partials = All (λ p. (row : List Value) → Says shape p
 abbrev pub AdmitsKinds : Shape → (List Value → Type 0) → Type 0
 AdmitsKinds shape admits = (row : List Value) → IsRow row → kinds_of row ≡ partial_kinds shape → admits row
 
--- rows came behind what was taken, whichever they are
-abbrev pub WentOn : (List (List Value) → Type 0) → (List (List Value) → Type 0) → Type 0
-WentOn was now = (taken : List (List Value)) → was taken → (rows : List (List Value)) × now (taken ++ rows)
-
 -- rows that say these came behind what was taken
 pub record Emitted (shape : Shape) (was now : List (List Value) → Type 0) (partials : List Partial) : Type 0 where
   pub rows : List (List Value)
@@ -53,18 +47,3 @@ pub record CameInFront (shape : Shape) (taken : List (List Value)) (now : List (
 
 abbrev pub EmittedFront : Shape → (List (List Value) → Type 0) → (List (List Value) → Type 0) → List Partial → Type 0
 EmittedFront shape was now partials = (taken : List (List Value)) → was taken → CameInFront shape taken now partials
-
--- an emitter's client is another one than this, or it has none, and it lives
-pub record IsBeside (t : ℕ) (client : Option ℕ) (h : Holdings) : Type 0 where
-  pub apart : client ≢ Some t
-  pub lives : HasClient client h
-
--- an emitter and its store after some rows
-pub record Stood (admits_old admits : List Value → Type 0) (client_old client : Option ℕ) (faults_old faults : ℕ) (old new : Holdings) (before after : Signs) : Type 0 where
-  pub admits_same : (row : List Value) → admits_old row ↔ admits row
-  pub client_same : client ≡ client_old
-  pub lives : HasClient client_old new
-  pub never_falls : faults_old ≤ faults
-  pub others : OthersStay client_old old new
-  pub grows : Grows before after
-  pub alone : client_old ≡ None → after ≡ before

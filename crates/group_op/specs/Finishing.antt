@@ -1,16 +1,15 @@
 -- Partitions are read from the top, each through a table. `a` is before a call and `b` behind it.
-use Rattle.std.specs.Prelude.{◌≡◌, ◌≢◌, ◌↔◌, ℕ, zero, suc, ◌+◌, ◌<◌, ◌≤◌, Bool, true, false, List, [], ◌++◌, All, length, slice_get, set, replicate, take, Option, Some}
+use Rattle.std.specs.Prelude.{◌≡◌, ℕ, zero, suc, ◌+◌, ◌<◌, Bool, true, false, List, [], ◌++◌, All, length, slice_get, set, replicate, take, Option, Some}
 use Rattle.row_codec.specs.declared.values.Value.{Value}
 use Rattle.store_api.specs.declared.shapes.Shape.{Shape}
-use Rattle.store_api.specs.Emitters.{HasClient, SameFor}
-use Rattle.store_api.specs.Holdings.{Holdings, account_of}
-use Rattle.store_api.specs.Signs.{Grows, Signs}
-use Rattle.tuple_stream.specs.Families.{AllClosed, ShowAll}
+use Rattle.tuple_stream.specs.Families.{AllClosed, Family, ShowAll, slots_in}
+pub use Rattle.partition_stack.specs.Emitting.{LeavesBeside, StandsStill}
+use Rattle.partition_stack.specs.Slots.{KeepSlots, SameSlots}
 use Rattle.partition_stack.specs.Stack.{RestBelow, Stack}
 use Rattle.group_rows.specs.Partials.{Partial, combined_of}
 use Rattle.group_rows.specs.Splitting.{HasPath}
 use Rattle.group_rows.specs.Tables.{HaveDistinctKeys}
-use Rattle.group_op.specs.Emission.{Emitted, WentOn}
+use Rattle.group_op.specs.Emission.{Emitted}
 use Rattle.group_op.specs.Held.{AreEntries, IsHeld, Leaves, State, page_len, rows_of, streams_of}
 use Rattle.group_op.specs.Putting.{IsFan}
 use Rattle.group_op.specs.Stored.{IsPartialRow, SameGroups, dealt, grouping_of, partials_at}
@@ -45,6 +44,7 @@ pub record Serves (t : ℕ) (shape : Shape) (a b : State) : Type 0 where
   pub entries : AreEntries shape (page_len b) b.table
   pub leaves : Leaves t a b
   pub blocks : b.parts.page_blocks ≡ a.parts.page_blocks
+  pub slots : SameSlots a.parts.page_blocks (streams_of a) (streams_of b)
 
 -- the top partition is being read, and it was divided, or not yet
 abbrev pub IsRead : Bool → ℕ → ℕ → Stack → Stack → Type 0
@@ -78,33 +78,18 @@ pub record Advances (shape : Shape) (was now : List (List Value) → Type 0) (ro
   pub split : said_down shape (length a.parts.streams) rows ≡ done ++ said_down shape (length b.parts.streams) left
   pub emitted : Emitted shape was now done
 
--- calls changed nothing of clients but this one and the emitter's
-pub record LeavesBeside (t : ℕ) (client : Option ℕ) (old new : Holdings) (before after : Signs) : Type 0 where
-  pub block_len : new.block_len ≡ old.block_len
-  pub session : new.session ≡ old.session
-  pub query : new.query ≡ old.query
-  pub limit : new.limit ≡ old.limit
-  pub live_clients : new.live_clients ≡ old.live_clients
-  pub told : new.told ≡ old.told
-  pub reservation : old.reservation ≤ new.reservation
-  pub others : (u : ℕ) → u ≢ t → client ≢ Some u → SameFor u old new
-  pub reserved : (account_of t old).reservation ≤ (account_of t new).reservation
-  pub grows : Grows before after
+-- what calls with an emitter leave: to the query and other clients, and of the slots, with those of the emitter's pages
+pub record LeavesWith (t : ℕ) (client : Option ℕ) (theirs_old theirs : ℕ) (f g : Family) : Type 0 where
+  pub others : LeavesBeside t client f.held g.held f.signs g.signs
+  pub slots : KeepSlots client (slots_in f) (slots_in g) theirs_old theirs
 
--- an emitter that stands over its store still, and took the same rows or more
-pub record StandsStill (admits_old admits : List Value → Type 0) (client_old client : Option ℕ) (faults_old faults : ℕ) (was now : List (List Value) → Type 0) (h : Holdings) : Type 0 where
-  pub admits_same : (row : List Value) → admits_old row ↔ admits row
-  pub client_same : client ≡ client_old
-  pub lives : HasClient client_old h
-  pub never_falls : faults_old ≤ faults
-  pub took : WentOn was now
-
--- whatever a call with an emitter answers
-pub record ServesBeside (t : ℕ) (client : Option ℕ) (shape : Shape) (a b : State) : Type 0 where
+-- whatever a call with an emitter answers, whose pages have so many slots before and behind it
+pub record ServesBeside (t : ℕ) (client : Option ℕ) (theirs_old theirs : ℕ) (shape : Shape) (a b : State) : Type 0 where
   pub held : IsHeld t b
   pub entries : AreEntries shape (page_len b) b.table
   pub leaves : LeavesBeside t client a.held b.held a.signs b.signs
   pub blocks : b.parts.page_blocks ≡ a.parts.page_blocks
+  pub slots : KeepSlots client (slots_in (streams_of a)) (slots_in (streams_of b)) theirs_old theirs
 
 -- the top partition, at this place, went
 pub record HasPopped (at : ℕ) (old new : Stack) : Type 0 where

@@ -7,6 +7,7 @@ use Rattle.tuple_stream.specs.FamilyCalls.{AllAtEnd, AllWhole, AreSure, FeedsAll
 use Rattle.tuple_stream.specs.Trails.{EnteredEvents}
 use Rattle.group_rows.specs.Tables.{HaveDistinctKeys}
 use Rattle.bucket_table.specs.Tables.{Table, with_nodes}
+use Rattle.partition_stack.specs.Slots.{SameSlots}
 use Rattle.partition_stack.specs.Stack.{RestBelow, Stack}
 use Rattle.group_op.specs.Held.{AreEntries, IsHeld, Leaves, State, page_len, rows_of, streams_of}
 use Rattle.group_op.specs.Stored.{IsPartialRow, SameGroups, dealt, grouping_of, key_at, partials_at}
@@ -28,6 +29,7 @@ pub record Works (t : ℕ) (shape : Shape) (a b : State) : Type 0 where
   pub blocks : b.parts.page_blocks ≡ a.parts.page_blocks
   pub levels : b.parts.levels ≡ a.parts.levels
   pub many : length b.parts.streams ≡ length a.parts.streams
+  pub slots : SameSlots a.parts.page_blocks (streams_of a) (streams_of b)
 
 -- no row of the table has this key
 abbrev pub Lacks : Shape → List ℕ → Table → Type 0

@@ -1,18 +1,16 @@
--- The groups of a stream of partial rows, handed on in ascending order of their keys' bytes. `s` and `old` are the stream
--- and what its store holds before, `now` and `new` behind.
-use Rattle.std.specs.Prelude.{◌≡◌, ◌≢◌, ◌↔◌, ℕ, ◌+◌, ◌≤◌, List, Option, Some, IsSome, option_map, true}
+-- The groups of a stream of partial rows, in ascending order of their keys' bytes. `s` and `old` are the stream and what its
+-- store holds before, `now` and `new` behind.
+use Rattle.std.specs.Prelude.{ℕ, ◌≤◌, List, Option}
 use Rattle.std.specs.Cmp.Lexicographic.{slice_cmp}
 use Rattle.std.specs.Ordering.{nat_cmp}
-use Rattle.row_codec.specs.declared.values.Value.{Value}
+use Rattle.store_api.specs.Holdings.{Holdings}
 use Rattle.store_api.specs.declared.shapes.Shape.{Shape}
-use Rattle.store_api.specs.Conditions.{IsLiveClient}
-use Rattle.store_api.specs.Emitters.{HasClient, SameFor}
-use Rattle.store_api.specs.Holdings.{Holdings, LiveLoan, LivePage, unused_of}
-use Rattle.store_api.specs.Signs.{Grows, Signs}
-use Rattle.store_api.specs.Tokens.{ClientToken}
 use Rattle.tuple_stream.specs.Streamed.{Streamed}
-use Rattle.tuple_stream.specs.Streams.{HasPageRoom, HasRows, IsApart, IsShaped}
-use Rattle.tuple_stream.specs.Touches.{held, with_unused}
+use Rattle.tuple_stream.specs.Touches.{slots_with}
+use Rattle.partition_stack.specs.Emitting.{room_with}
+pub use Rattle.partition_stack.specs.Emitting.{StaysEmitter}
+pub use Rattle.partition_stack.specs.Reading.{IsReadable, IsSameQuery, MayShow, ReadBeside}
+use Rattle.partition_stack.specs.Slots.{KeepSlots}
 use Rattle.group_rows.specs.Partials.{Partial, combined_by}
 use Rattle.group_op.specs.Stored.{grouping_of, partials_at}
 
@@ -20,43 +18,13 @@ use Rattle.group_op.specs.Stored.{grouping_of, partials_at}
 abbrev pub groups_by_bytes : Shape → List (List ℕ) → List Partial
 groups_by_bytes shape rows = combined_by (slice_cmp nat_cmp) (grouping_of shape) (partials_at shape rows)
 
--- reading may show these rows: where pins are told, they are the stream's
-abbrev pub MayShow : Streamed → Holdings → List (List ℕ) → Type 0
-MayShow s h read = (rows : List (List ℕ)) → h.told ≡ true → HasRows rows s h → read ≡ rows
+-- the query has, with what the stream's client and the emitter's reserve, at least the room that it had; and the slots of the
+-- quota, with those of the stream and of the emitter's pages, are as many
+pub record Shares (t : ℕ) (client : Option ℕ) (theirs_old theirs : ℕ) (s now : Streamed) (old new : Holdings) : Type 0 where
+  pub room : room_with t client old ≤ room_with t client new
+  pub slots : KeepSlots client (slots_with s old) (slots_with now new) theirs_old theirs
 
--- a stream of a live client, which has room for one of its pages
-pub record IsReadable (c : ClientToken) (s : Streamed) (h : Holdings) : Type 0 where
-  pub client : IsLiveClient c h
-  pub shape : IsShaped c.tracker s h
-  pub room : HasPageRoom c.tracker s h
-
--- of the query itself only its reservation may have risen
-pub record IsSameQuery (old new : Holdings) : Type 0 where
-  pub block_len : new.block_len ≡ old.block_len
-  pub session : new.session ≡ old.session
-  pub query : new.query ≡ old.query
-  pub limit : new.limit ≡ old.limit
-  pub live_clients : new.live_clients ≡ old.live_clients
-  pub told : new.told ≡ old.told
-  pub reservation : old.reservation ≤ new.reservation
-
--- a client's stream was read while rows went to an emitter: of its client only the pinned page and the unused bytes
--- changed, and of all others only what is the emitter's client's
-pub record ReadBeside (t : ℕ) (client : Option ℕ) (s now : Streamed) (old new : Holdings) : Type 0 where
-  pub shape : IsShaped t now new
-  pub same : now ≡ record s { pinned = now.pinned }
-  pub rows : (rows : List (List ℕ)) → old.told ≡ true → HasRows rows s old → HasRows rows now new
-  pub unused : unused_of t new + held now new ≡ unused_of t old + held s old
-  pub account : IsSome (old.clients t) → new.clients t ≡ option_map (with_unused (unused_of t new)) (old.clients t)
-  pub pages : (q : ℕ) (page : LivePage) → page.client ≡ t → IsApart q s.pages → (new.pages q ≡ Some page) ↔ (old.pages q ≡ Some page)
-  pub loans : (q : ℕ) (loan : LiveLoan) → loan.client ≡ t → (new.loans q ≡ Some loan) ↔ (old.loans q ≡ Some loan)
-  pub others : (u : ℕ) → u ≢ t → client ≢ Some u → SameFor u old new
-  pub query : IsSameQuery old new
-
--- an emitter is what it was and its client lives, and nothing that only grows fell
-pub record StaysEmitter (admits_old admits : List Value → Type 0) (client_old client : Option ℕ) (faults_old faults : ℕ) (new : Holdings) (before after : Signs) : Type 0 where
-  pub admits_same : (row : List Value) → admits_old row ↔ admits row
-  pub client_same : client ≡ client_old
-  pub lives : HasClient client_old new
-  pub never_falls : faults_old ≤ faults
-  pub grows : Grows before after
+-- a client's stream was read while rows went to an emitter, whose pages have so many slots before and behind it
+pub record ReadWith (t : ℕ) (client : Option ℕ) (theirs_old theirs : ℕ) (s now : Streamed) (old new : Holdings) : Type 0 where
+  pub read : ReadBeside t client s now old new
+  pub shares : Shares t client theirs_old theirs s now old new

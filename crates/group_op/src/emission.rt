@@ -4,6 +4,7 @@ ghost use Rattle.row_codec.specs.declared.values.Value.{Value};
 ghost use Rattle.row_reading.specs.Reading as spelled;
 ghost use Rattle.store_api.specs.Emitters.{CameOf, HasClient};
 ghost use Rattle.bucket_table.specs.Tables.{HasNode, row_of};
+ghost use Rattle.partition_stack.specs.Slots.{KeepSlots};
 ghost use Rattle.group_rows.specs.Tables.{HaveDistinctKeys};
 ghost use Rattle.group_op.specs.Emission.{AdmitsAll, AdmitsKinds, Emitted, EmittedFront, Stood, WentOn};
 ghost use Rattle.group_op.specs.Held.{AreEntries, rows_of};
@@ -38,6 +39,7 @@ pub(crate) fn emit_table<St: Store, E: Emit<St>>(
     ensures still { table.now.nodes ≡ [] → St.signs store.new ≡ St.signs store.old }
     ensures cause { IfErr result (CameOf (E.faults emit.old) (E.faults emit.new) (St.signs store.old) (St.signs store.new)) }
     ensures stood { Stood (E.admits emit.old) (E.admits emit.new) (E.client emit.old) (E.client emit.new) (E.faults emit.old) (E.faults emit.new) (St.holds store.old) (St.holds store.new) (St.signs store.old) (St.signs store.new) }
+    ensures slots { KeepSlots (E.client emit.old) (St.holds store.old).free_slots (St.holds store.new).free_slots (E.slots emit.old (St.holds store.old)) (E.slots emit.new (St.holds store.new)) }
 {
     let Ok(places) = places_in_order(alloc, shape, table) else {
         return Err(OpErr::Pool(PoolErr::Memory));
@@ -64,6 +66,7 @@ fn emit_places<St: Store, E: Emit<St>>(
     ensures still { places.now ≡ [] → St.signs store.new ≡ St.signs store.old }
     ensures cause { IfErr result (CameOf (E.faults emit.old) (E.faults emit.new) (St.signs store.old) (St.signs store.new)) }
     ensures stood { Stood (E.admits emit.old) (E.admits emit.new) (E.client emit.old) (E.client emit.new) (E.faults emit.old) (E.faults emit.new) (St.holds store.old) (St.holds store.new) (St.signs store.old) (St.signs store.new) }
+    ensures slots { KeepSlots (E.client emit.old) (St.holds store.old).free_slots (St.holds store.new).free_slots (E.slots emit.old (St.holds store.old)) (E.slots emit.new (St.holds store.new)) }
 {
     let Ok(kinds) = kinds_of(alloc, shape) else {
         return Err(OpErr::Pool(PoolErr::Memory));
@@ -96,6 +99,7 @@ fn emit_place<St: Store, E: Emit<St>>(
     ensures err { OnErr result (EmittedFront shape.now (E.took emit.old (St.holds store.old)) (E.took emit.new (St.holds store.new)) (partial_at shape.now (row_of place table.now.nodes) ∷ [])) }
     ensures cause { IfErr result (CameOf (E.faults emit.old) (E.faults emit.new) (St.signs store.old) (St.signs store.new)) }
     ensures stood { Stood (E.admits emit.old) (E.admits emit.new) (E.client emit.old) (E.client emit.new) (E.faults emit.old) (E.faults emit.new) (St.holds store.old) (St.holds store.new) (St.signs store.old) (St.signs store.new) }
+    ensures slots { KeepSlots (E.client emit.old) (St.holds store.old).free_slots (St.holds store.new).free_slots (E.slots emit.old (St.holds store.old)) (E.slots emit.new (St.holds store.new)) }
 {
     let Ok(()) = read_place(alloc, table, place, kinds, spare) else {
         return Err(OpErr::Pool(PoolErr::Memory));

@@ -4,7 +4,7 @@ ghost use Rattle.group_op.specs.Held.{LeavesOthers};
 ghost use Rattle.group_op.specs.Operator.{IsOperator};
 ghost use Rattle.partition_stack.specs.Stack.{over};
 ghost use Rattle.store_api.specs.Conditions.{IsIdle};
-ghost use Rattle.tuple_stream.specs.Families.{AllClosed};
+ghost use Rattle.tuple_stream.specs.Families.{AllClosed, slots_in};
 ghost use Rattle.tuple_stream.specs.Trails.{EnteredEvents, PinsFirst};
 
 use crate::operator::GroupOp;
@@ -18,6 +18,7 @@ impl GroupOp {
         // Where no page was pinned, none is left before one is pinned again.
         ensures first { AllClosed (over self.parts (St.holds store.old) (St.signs store.old)) → EnteredEvents PinsFirst (St.signs store.old).trail (St.signs store.new).trail }
         ensures idle { IsIdle self.client.tracker (St.holds store.new) }
+        ensures slots { (St.holds store.new).free_slots ≡ slots_in (over self.parts (St.holds store.old) (St.signs store.old)) }
         ensures leaves { LeavesOthers self.client.tracker (St.holds store.old) (St.holds store.new) (St.signs store.old) (St.signs store.new) }
     {
         let GroupOp {

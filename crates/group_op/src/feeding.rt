@@ -4,9 +4,12 @@ ghost use Rattle.pool_model.specs.declared.entry.Entry.{Entry};
 ghost use Rattle.row_codec.specs.declared.values.Value.{Value};
 ghost use Rattle.store_api.specs.Holdings.{length_of};
 ghost use Rattle.store_api.specs.Signs.{WasAnswered};
+ghost use Rattle.tuple_stream.specs.Families.{slots_in};
 ghost use Rattle.tuple_stream.specs.Touches.{IsFull};
+ghost use Rattle.partition_stack.specs.Slots.{SameSlots};
+ghost use Rattle.partition_stack.specs.Stack.{over};
 ghost use Rattle.group_op.specs.Held.{IsHeld, LeavesOthers, state};
-ghost use Rattle.group_op.specs.Causes.{CameOfStore};
+ghost use Rattle.group_op.specs.Causes.{CameOfStore, IsWantOf};
 ghost use Rattle.group_op.specs.Operator.{HasOpened, IsFeeding, IsOperator, IsSame, Keeps, MayBeFed, Spells, operator};
 ghost use Rattle.group_op.specs.Stored.{IsPartialRow, key_at};
 
@@ -42,8 +45,11 @@ impl GroupOp {
         ensures op { IsOperator self.new (St.holds store.new) (St.signs store.new) }
         ensures same { IsSame self.old self.new }
         ensures leaves { LeavesOthers self.old.client.tracker (St.holds store.old) (St.holds store.new) (St.signs store.old) (St.signs store.new) }
+        ensures slots { slots_in (over self.new.parts (St.holds store.new) (St.signs store.new)) ≡ slots_in (over self.old.parts (St.holds store.old) (St.signs store.old)) }
         ensures cause { IfErr result (CameOfStore self.old.parts.page_blocks (St.holds store.new) (St.signs store.old) (St.signs store.new)) }
+        ensures want { IfErr result (IsWantOf self.old.parts.page_blocks (slots_in (over self.old.parts (St.holds store.old) (St.signs store.old)))) }
     {
+        self.parts.law_stack();
         let _len = store.block_len();
         if spell(row, &self.shape, &mut self.fed).is_err() {
             return Err(OpErr::Pool(PoolErr::Memory));
@@ -84,6 +90,7 @@ fn feed_row<St: Store>(
     ensures op { IsOperator (operator c.now shape.now parts.new table.new) (St.holds store.new) (St.signs store.new) }
     ensures same { IsSame (operator c.now shape.now parts.old table.old) (operator c.now shape.now parts.new table.new) }
     ensures leaves { LeavesOthers c.now.tracker (St.holds store.old) (St.holds store.new) (St.signs store.old) (St.signs store.new) }
+    ensures slots { SameSlots parts.old.page_blocks (over parts.old (St.holds store.old) (St.signs store.old)) (over parts.new (St.holds store.new) (St.signs store.new)) }
     ensures cause { IfErr result (λ e. WasAnswered e (St.signs store.old) (St.signs store.new)) }
     ensures full { IfErr result (IsFull parts.old.page_blocks (St.holds store.new).free_slots) }
 {
@@ -113,6 +120,7 @@ fn table_or_new<St: Store>(
     ensures held { IfOk result (λ own. IsHeld c.now.tracker (state own parts.now (St.holds store.new) (St.signs store.new))) }
     ensures none { OnErr result (IsOperator (operator c.now _shape.now parts.now None) (St.holds store.new) (St.signs store.new)) }
     ensures leaves { LeavesOthers c.now.tracker (St.holds store.old) (St.holds store.new) (St.signs store.old) (St.signs store.new) }
+    ensures slots { SameSlots parts.now.page_blocks (over parts.now (St.holds store.old) (St.signs store.old)) (over parts.now (St.holds store.new) (St.signs store.new)) }
     ensures cause { IfErr result (λ e. WasAnswered e (St.signs store.old) (St.signs store.new)) }
     ensures full { IfErr result (IsFull parts.now.page_blocks (St.holds store.new).free_slots) }
 {

@@ -6,15 +6,15 @@ ghost use Rattle.row_codec.specs.Order.{path_order};
 ghost use Rattle.store_api.specs.Emitters.{CameOf};
 ghost use Rattle.store_api.specs.Shapes.{IsShape};
 ghost use Rattle.store_api.specs.Signs.{WasAnswered};
-ghost use Rattle.tuple_stream.specs.Families.{HaveReadAll};
+ghost use Rattle.tuple_stream.specs.Families.{HaveReadAll, slots_in};
 ghost use Rattle.tuple_stream.specs.FamilyCalls.{shares};
 ghost use Rattle.tuple_stream.specs.Trails.{EnteredEvents};
 ghost use Rattle.partition_stack.specs.Stack.{over};
 ghost use Rattle.group_rows.specs.Partials.{groups_by};
-ghost use Rattle.group_op.specs.Causes.{CameOfEither, IsShort, IsShortOf};
+ghost use Rattle.group_op.specs.Causes.{CameBeside, IsWant, IsWantOf};
 ghost use Rattle.group_op.specs.Emission.{AdmitsKinds, Emitted, EmittedFront, IsBeside};
 ghost use Rattle.group_op.specs.Finished.{HasSettled, ShowsFirst, groups_of_all};
-ghost use Rattle.group_op.specs.Finishing.{IsBetween, LeavesBeside, Serves, ServesBeside, Stacked, StandsStill, said_down};
+ghost use Rattle.group_op.specs.Finishing.{IsBetween, LeavesWith, Serves, ServesBeside, Stacked, StandsStill, said_down};
 ghost use Rattle.group_op.specs.Held.{AreEntries, IsHeld, page_len, rows_of, state, streams_of};
 ghost use Rattle.group_op.specs.Laid.{AreBuilt, HasLeft, HasLeftFirst, HoldsGroups};
 ghost use Rattle.group_op.specs.Operator.{IsFeeding, IsOperator, Keeps, operator, page_of};
@@ -50,9 +50,10 @@ fn settle<St: Store>(
     ensures left { OnOk result ((start : Option (List Entry)) → (rows : ℕ → List (List ℕ)) → AreBuilt start rows (streams_of (state table.old parts.old (St.holds store.old) (St.signs store.old))) → EnteredEvents (HasLeft (rows_of table.old ++ shares 16 rows)) start (St.signs store.new).trail) }
     ensures serves { Serves c.now.tracker shape.now (state table.old parts.old (St.holds store.old) (St.signs store.old)) (state table.new parts.new (St.holds store.new) (St.signs store.new)) }
     ensures levels { parts.new.levels ≡ parts.old.levels }
-    ensures short { IfErr result (IsShort parts.old.page_blocks) }
+    ensures want { IfErr result (IsWant parts.old.page_blocks (slots_in (over parts.old (St.holds store.old) (St.signs store.old)))) }
     ensures cause { IfErr result (λ e. WasAnswered e (St.signs store.old) (St.signs store.new)) }
 {
+    parts.law_stack();
     flush(alloc, store, c, shape, table, parts, FIRST, moved)?;
     parts.rest_from(store, c, 0)
 }
@@ -79,9 +80,9 @@ fn empty_parts<St: Store, E: Emit<St>>(
     ensures ok { OnOk result ((rows : ℕ → List (List ℕ)) → Stacked shape.now rows (state table.old parts.old (St.holds store.old) (St.signs store.old)) → Emitted shape.now (E.took emit.old (St.holds store.old)) (E.took emit.new (St.holds store.new)) (said_down shape.now (length parts.old.streams) rows)) }
     ensures err { OnErr result ((rows : ℕ → List (List ℕ)) → Stacked shape.now rows (state table.old parts.old (St.holds store.old) (St.signs store.old)) → EmittedFront shape.now (E.took emit.old (St.holds store.old)) (E.took emit.new (St.holds store.new)) (said_down shape.now (length parts.old.streams) rows)) }
     ensures first { OnOk result (AreShallow parts.old.levels → EnteredEvents (HaveReadAll (streams_of (state table.new parts.new (St.holds store.new) (St.signs store.new)))) (St.signs store.old).trail (St.signs store.new).trail) }
-    ensures serves { ServesBeside c.now.tracker (E.client emit.old) shape.now (state table.old parts.old (St.holds store.old) (St.signs store.old)) (state table.new parts.new (St.holds store.new) (St.signs store.new)) }
+    ensures serves { ServesBeside c.now.tracker (E.client emit.old) (E.slots emit.old (St.holds store.old)) (E.slots emit.new (St.holds store.new)) shape.now (state table.old parts.old (St.holds store.old) (St.signs store.old)) (state table.new parts.new (St.holds store.new) (St.signs store.new)) }
     ensures emitter { StandsStill (E.admits emit.old) (E.admits emit.new) (E.client emit.old) (E.client emit.new) (E.faults emit.old) (E.faults emit.new) (E.took emit.old (St.holds store.old)) (E.took emit.new (St.holds store.new)) (St.holds store.new) }
-    ensures short { E.client emit.old ≡ None → IfErr result (IsShortOf parts.old.page_blocks) }
+    ensures want { E.client emit.old ≡ None → IfErr result (IsWantOf parts.old.page_blocks (slots_in (over parts.old (St.holds store.old) (St.signs store.old)))) }
     ensures cause { IfErr result (CameOf (E.faults emit.old) (E.faults emit.new) (St.signs store.old) (St.signs store.new)) }
 {
     'down: while parts.len() > 0 {
@@ -110,9 +111,9 @@ fn finish_parts<St: Store, E: Emit<St>>(
     ensures ok { OnOk result ((rows : ℕ → List (List ℕ)) → ShowsFirst shape.now rows (state table.old parts.old (St.holds store.old) (St.signs store.old)) → Emitted shape.now (E.took emit.old (St.holds store.old)) (E.took emit.new (St.holds store.new)) (groups_of_all shape.now rows (state table.old parts.old (St.holds store.old) (St.signs store.old)))) }
     ensures err { OnErr result ((rows : ℕ → List (List ℕ)) → ShowsFirst shape.now rows (state table.old parts.old (St.holds store.old) (St.signs store.old)) → EmittedFront shape.now (E.took emit.old (St.holds store.old)) (E.took emit.new (St.holds store.new)) (groups_of_all shape.now rows (state table.old parts.old (St.holds store.old) (St.signs store.old)))) }
     ensures left { OnOk result ((start : Option (List Entry)) → (rows : ℕ → List (List ℕ)) → AreBuilt start rows (streams_of (state table.old parts.old (St.holds store.old) (St.signs store.old))) → EnteredEvents (HasLeftFirst (rows_of table.old ++ shares 16 rows) (streams_of (state table.new parts.new (St.holds store.new) (St.signs store.new)))) start (St.signs store.new).trail) }
-    ensures serves { ServesBeside c.now.tracker (E.client emit.old) shape.now (state table.old parts.old (St.holds store.old) (St.signs store.old)) (state table.new parts.new (St.holds store.new) (St.signs store.new)) }
+    ensures serves { ServesBeside c.now.tracker (E.client emit.old) (E.slots emit.old (St.holds store.old)) (E.slots emit.new (St.holds store.new)) shape.now (state table.old parts.old (St.holds store.old) (St.signs store.old)) (state table.new parts.new (St.holds store.new) (St.signs store.new)) }
     ensures emitter { StandsStill (E.admits emit.old) (E.admits emit.new) (E.client emit.old) (E.client emit.new) (E.faults emit.old) (E.faults emit.new) (E.took emit.old (St.holds store.old)) (E.took emit.new (St.holds store.new)) (St.holds store.new) }
-    ensures short { E.client emit.old ≡ None → IfErr result (IsShortOf parts.old.page_blocks) }
+    ensures want { E.client emit.old ≡ None → IfErr result (IsWantOf parts.old.page_blocks (slots_in (over parts.old (St.holds store.old) (St.signs store.old)))) }
     ensures cause { IfErr result (CameOf (E.faults emit.old) (E.faults emit.new) (St.signs store.old) (St.signs store.new)) }
 {
     settle(alloc, store, c, shape, table, parts, moved)?;
@@ -140,9 +141,9 @@ fn finish_op<St: Store, E: Emit<St>>(
     ensures err { OnErr result ((start : Option (List Entry)) → (rows : List (List Value)) → Keeps start rows (operator c.now shape.now parts.old table.old) (St.holds store.old) (St.signs store.old) → (St.holds store.old).told ≡ true → EmittedFront shape.now (E.took emit.old (St.holds store.old)) (E.took emit.new (St.holds store.new)) (groups_by path_order (grouping_of shape.now) rows)) }
     ensures kept { OnOk result ((start : Option (List Entry)) → (rows : List (List Value)) → Keeps start rows (operator c.now shape.now parts.old table.old) (St.holds store.old) (St.signs store.old) → EnteredEvents (HoldsGroups shape.now (page_of (operator c.now shape.now parts.old table.old) (St.holds store.old)) rows (over parts.new (St.holds store.new) (St.signs store.new))) start (St.signs store.new).trail) }
     ensures op { IsOperator (operator c.now shape.now parts.new table.new) (St.holds store.new) (St.signs store.new) }
-    ensures leaves { LeavesBeside c.now.tracker (E.client emit.old) (St.holds store.old) (St.holds store.new) (St.signs store.old) (St.signs store.new) }
+    ensures leaves { LeavesWith c.now.tracker (E.client emit.old) (E.slots emit.old (St.holds store.old)) (E.slots emit.new (St.holds store.new)) (over parts.old (St.holds store.old) (St.signs store.old)) (over parts.new (St.holds store.new) (St.signs store.new)) }
     ensures emitter { StandsStill (E.admits emit.old) (E.admits emit.new) (E.client emit.old) (E.client emit.new) (E.faults emit.old) (E.faults emit.new) (E.took emit.old (St.holds store.old)) (E.took emit.new (St.holds store.new)) (St.holds store.new) }
-    ensures short { E.client emit.old ≡ None → IfErr result (IsShortOf parts.old.page_blocks) }
+    ensures want { E.client emit.old ≡ None → IfErr result (IsWantOf parts.old.page_blocks (slots_in (over parts.old (St.holds store.old) (St.signs store.old)))) }
     ensures cause { IfErr result (CameOf (E.faults emit.old) (E.faults emit.new) (St.signs store.old) (St.signs store.new)) }
 {
     let Some(mut own) = table.take() else {
@@ -178,10 +179,11 @@ impl GroupOp {
         ensures ok { OnOk result ((start : Option (List Entry)) → (fed : List (List Value)) → Keeps start fed self.old (St.holds store.old) (St.signs store.old) → (St.holds store.old).told ≡ true → Emitted self.old.shape (E.took emit.old (St.holds store.old)) (E.took emit.new (St.holds store.new)) (groups_by path_order (grouping_of self.old.shape) fed)) }
         ensures err { OnErr result ((start : Option (List Entry)) → (fed : List (List Value)) → Keeps start fed self.old (St.holds store.old) (St.signs store.old) → (St.holds store.old).told ≡ true → EmittedFront self.old.shape (E.took emit.old (St.holds store.old)) (E.took emit.new (St.holds store.new)) (groups_by path_order (grouping_of self.old.shape) fed)) }
         ensures kept { OnOk result ((start : Option (List Entry)) → (fed : List (List Value)) → Keeps start fed self.old (St.holds store.old) (St.signs store.old) → EnteredEvents (HoldsGroups self.old.shape (page_of self.old (St.holds store.old)) fed (over self.new.parts (St.holds store.new) (St.signs store.new))) start (St.signs store.new).trail) }
+        ensures client { self.new.client ≡ self.old.client }
         ensures op { IsOperator self.new (St.holds store.new) (St.signs store.new) }
-        ensures leaves { LeavesBeside self.old.client.tracker (E.client emit.old) (St.holds store.old) (St.holds store.new) (St.signs store.old) (St.signs store.new) }
+        ensures leaves { LeavesWith self.old.client.tracker (E.client emit.old) (E.slots emit.old (St.holds store.old)) (E.slots emit.new (St.holds store.new)) (over self.old.parts (St.holds store.old) (St.signs store.old)) (over self.new.parts (St.holds store.new) (St.signs store.new)) }
         ensures emitter { StandsStill (E.admits emit.old) (E.admits emit.new) (E.client emit.old) (E.client emit.new) (E.faults emit.old) (E.faults emit.new) (E.took emit.old (St.holds store.old)) (E.took emit.new (St.holds store.new)) (St.holds store.new) }
-        ensures cause { IfErr result (CameOfEither self.old.parts.page_blocks (E.client emit.old) (E.faults emit.old) (E.faults emit.new) (St.signs store.old) (St.signs store.new)) }
+        ensures cause { IfErr result (CameBeside self.old.parts.page_blocks (slots_in (over self.old.parts (St.holds store.old) (St.signs store.old))) (E.client emit.old) (E.faults emit.old) (E.faults emit.new) (St.signs store.old) (St.signs store.new)) }
     {
         finish_op(
             alloc,

@@ -8,12 +8,14 @@ ghost use Rattle.store_api.specs.Shapes.{IsShape};
 ghost use Rattle.store_api.specs.Signs.{WasAnswered};
 ghost use Rattle.tuple_stream.specs.Steps.{Reads, scene};
 ghost use Rattle.tuple_stream.specs.Streams.{HasRows};
+ghost use Rattle.tuple_stream.specs.Touches.{slots_with};
+ghost use Rattle.partition_stack.specs.Slots.{KeepSlots};
 ghost use Rattle.group_rows.specs.Kept.{AreOrdered};
-ghost use Rattle.group_op.specs.Causes.{CameOfEither, IsShort};
+ghost use Rattle.group_op.specs.Causes.{CameBeside, IsWant};
 ghost use Rattle.group_op.specs.Emission.{AdmitsAll, Emitted, EmittedFront, IsBeside, Says, Stood, WentOn};
 ghost use Rattle.group_op.specs.Keepings.{HasKept, IsKept, is_above, kept_in, key_in, taken_in};
 ghost use Rattle.group_op.specs.Stored.{IsPartialRow, grouping_of, partial_at, partial_kinds};
-ghost use Rattle.group_op.specs.Scanning.{IsReadable, MayShow, ReadBeside, StaysEmitter, groups_by_bytes};
+ghost use Rattle.group_op.specs.Scanning.{IsReadable, MayShow, ReadWith, StaysEmitter, groups_by_bytes};
 
 use crate::keying::key_of_partial;
 use crate::lowest::{Entry, keep};
@@ -52,8 +54,8 @@ pub fn leaf_by_scan<St: Store, E: Emit<St>>(
     ensures ok { OnOk result ((read : List (List ℕ)) → (St.holds store.old).told ≡ true → HasRows read rows.old (St.holds store.old) → Emitted shape.now (E.took emit.old (St.holds store.old)) (E.took emit.new (St.holds store.new)) (groups_by_bytes shape.now read)) }
     ensures err { OnErr result ((read : List (List ℕ)) → (St.holds store.old).told ≡ true → HasRows read rows.old (St.holds store.old) → EmittedFront shape.now (E.took emit.old (St.holds store.old)) (E.took emit.new (St.holds store.new)) (groups_by_bytes shape.now read)) }
     ensures stands { WentOn (E.took emit.old (St.holds store.old)) (E.took emit.new (St.holds store.new)) }
-    ensures cause { IfErr result (CameOfEither rows.old.page_blocks (E.client emit.old) (E.faults emit.old) (E.faults emit.new) (St.signs store.old) (St.signs store.new)) }
-    ensures stream { ReadBeside c.now.tracker (E.client emit.old) rows.old rows.new (St.holds store.old) (St.holds store.new) }
+    ensures cause { IfErr result (CameBeside rows.old.page_blocks (slots_with rows.old (St.holds store.old)) (E.client emit.old) (E.faults emit.old) (E.faults emit.new) (St.signs store.old) (St.signs store.new)) }
+    ensures stream { ReadWith c.now.tracker (E.client emit.old) (E.slots emit.old (St.holds store.old)) (E.slots emit.new (St.holds store.new)) rows.old rows.new (St.holds store.old) (St.holds store.new) }
     ensures emitter { StaysEmitter (E.admits emit.old) (E.admits emit.new) (E.client emit.old) (E.client emit.new) (E.faults emit.old) (E.faults emit.new) (St.holds store.new) (St.signs store.old) (St.signs store.new) }
 {
     let room = room as usize;
@@ -104,7 +106,7 @@ fn keep_lowest<St: Store>(
     ensures went { Reads c.now.tracker (scene rows.old (St.holds store.old) (St.signs store.old)) (scene rows.new (St.holds store.new) (St.signs store.new)) }
     ensures same { rows.new ≡ record rows.old { pinned = rows.new.pinned } }
     ensures cause { IfErr result (λ e. WasAnswered e (St.signs store.old) (St.signs store.new)) }
-    ensures short { IfErr result (IsShort rows.old.page_blocks) }
+    ensures want { IfErr result (IsWant rows.old.page_blocks (slots_with rows.old (St.holds store.old))) }
 {
     entries.clear();
     let mut spare = Entry::new(alloc);
@@ -171,6 +173,7 @@ fn hand_on<St: Store, E: Emit<St>>(
     ensures err { OnErr result (EmittedFront shape.now (E.took emit.old (St.holds store.old)) (E.took emit.new (St.holds store.new)) (kept_in shape.now entries.now)) }
     ensures cause { IfErr result (CameOf (E.faults emit.old) (E.faults emit.new) (St.signs store.old) (St.signs store.new)) }
     ensures stood { Stood (E.admits emit.old) (E.admits emit.new) (E.client emit.old) (E.client emit.new) (E.faults emit.old) (E.faults emit.new) (St.holds store.old) (St.holds store.new) (St.signs store.old) (St.signs store.new) }
+    ensures slots { KeepSlots (E.client emit.old) (St.holds store.old).free_slots (St.holds store.new).free_slots (E.slots emit.old (St.holds store.old)) (E.slots emit.new (St.holds store.new)) }
 {
     let Ok(kinds) = kinds_of(alloc, shape) else {
         return Err(OpErr::Pool(PoolErr::Memory));
@@ -201,6 +204,7 @@ fn hand_row<St: Store, E: Emit<St>>(
     ensures err { OnErr result (EmittedFront shape.now (E.took emit.old (St.holds store.old)) (E.took emit.new (St.holds store.new)) (partial_at shape.now row.now ∷ [])) }
     ensures cause { IfErr result (CameOf (E.faults emit.old) (E.faults emit.new) (St.signs store.old) (St.signs store.new)) }
     ensures stood { Stood (E.admits emit.old) (E.admits emit.new) (E.client emit.old) (E.client emit.new) (E.faults emit.old) (E.faults emit.new) (St.holds store.old) (St.holds store.new) (St.signs store.old) (St.signs store.new) }
+    ensures slots { KeepSlots (E.client emit.old) (St.holds store.old).free_slots (St.holds store.new).free_slots (E.slots emit.old (St.holds store.old)) (E.slots emit.new (St.holds store.new)) }
 {
     let Ok(true) = decode_into(alloc, kinds, row, &mut spare.values, &mut spare.texts) else {
         return Err(OpErr::Pool(PoolErr::Memory));

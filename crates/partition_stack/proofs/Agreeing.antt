@@ -1,10 +1,13 @@
 -- A stream over two states of a store that agree on its pages.
-use Rattle.std.proofs.Common.{◌≡◌, ℕ, ◌*◌, ◌<◌, ◌==◌, if◌then◌else◌, List, length, Option, Some, IsSome, ap, sym, ◌∙◌, subst}
+use Rattle.std.proofs.Common.{◌≡◌, ℕ, ◌+◌, ◌*◌, ◌<◌, ◌==◌, if◌then◌else◌, List, ◌++◌, drop, length, Option, Some, IsSome, ap, sym, ◌∙◌, subst}
 use Rattle.std.specs.Prelude.{All, slice_get}
+use Rattle.std.specs.List.{concat}
+use Rattle.std.proofs.lemmas.List.Elements.{All-drop}
 use Rattle.std.proofs.lemmas.Option.{IfSome_then}
 use Rattle.store_api.specs.Tokens.{PageToken}
 use Rattle.store_api.specs.Holdings.{LivePage, Holdings, or_else, no_page, page_of}
-use Rattle.tuple_stream.specs.Streamed.{Streamed, bytes_of, open_bytes, rows_by_page, page_rows, joined}
+use Rattle.tuple_stream.specs.Places.{IsPlace, Place, rows_from, start_in}
+use Rattle.tuple_stream.specs.Streamed.{Streamed, all_bytes, bytes_of, open_bytes, rows_by_page, page_rows, joined}
 use Rattle.tuple_stream.specs.Streams.{IsOwnPage, IsPacked, IsShaped, HasRows, IsFilled, start_of, unspent}
 use Rattle.tuple_stream.proofs.Chosen.{at_place, all_placed, map_agrees}
 
@@ -17,6 +20,20 @@ module _ (t : ℕ) (s : Streamed) (old new : Holdings) (is : IsShaped t s old) (
 
   rows_agree : page_rows s new ≡ page_rows s old
   rows_agree = ap (rows_by_page s.spent) (map_agrees (bytes_of s new) (bytes_of s old) s.pages (all_placed (λ p. bytes_of s new p ≡ bytes_of s old p) s.pages bytes_agree))
+
+  pub agreeing_places : (place : Place) → IsPlace place s old → IsPlace place s new
+  agreeing_places place stands =
+      let bytes : all_bytes s new (drop place.page s.pages) ≡ all_bytes s old (drop place.page s.pages) =
+      map_agrees (bytes_of s new) (bytes_of s old) (drop place.page s.pages) (All-drop (λ p. bytes_of s new p ≡ bytes_of s old p) place.page s.pages (all_placed (λ p. bytes_of s new p ≡ bytes_of s old p) s.pages bytes_agree)) in
+      let from : rows_from place s new ≡ rows_from place s old = ap (λ (bytes : List (List ℕ)). joined (rows_by_page (start_in s place) bytes)) bytes in
+      record {
+        before = stands.before;
+        behind = stands.behind;
+        rows = ap joined rows_agree ∙ stands.rows ∙ ap (λ (rows : List (List ℕ)). stands.before ++ rows) (sym from);
+        page_is = stands.page_is;
+        first = stands.first;
+        last = λ ends. ap (λ (rows : List (List ℕ)). start_in s place + length (concat rows)) from ∙ stands.last ends;
+      }
 
   own_agrees : (k : ℕ) (p : PageToken) → slice_get s.pages k ≡ Some p → IsOwnPage t s.page_blocks new p
   own_agrees k p there =

@@ -22,11 +22,11 @@ use Rattle.partition_stack.proofs.ListPlaces.{front_or_behind, in_front, of_repl
 none_before : (blocks : ℕ) (a b : Streamed) → b ≡ empty blocks → AreDisjoint a b
 none_before blocks a b is = subst (AreDisjoint a) (sym is) (All-nil (λ p. IsApart p.name a.pages))
 
-none_after : (blocks : ℕ) (a b : Streamed) → a ≡ empty blocks → AreDisjoint a b
+pub none_after : (blocks : ℕ) (a b : Streamed) → a ≡ empty blocks → AreDisjoint a b
 none_after blocks a b is = subst (λ (r : Streamed). AreDisjoint r b) (sym is) (all_placed (λ p. IsApart p.name []) b.pages (λ i p at. All-nil (λ q. q.name ≢ p.name)))
 
 module _ (t blocks n : ℕ) (streams : List Streamed) (h : Holdings) (signs : Signs) (sized : IsBlockCount blocks) where
-  all_shaped : AreShaped t (family streams h signs) → AreShaped t (family (streams ++ replicate n (empty blocks)) h signs)
+  pub all_shaped : AreShaped t (family streams h signs) → AreShaped t (family (streams ++ replicate n (empty blocks)) h signs)
   all_shaped shaped =
       record {
         each = λ i s at. elim (front_or_behind streams (replicate n (empty blocks)) i s at) [
@@ -42,7 +42,7 @@ module _ (t blocks n : ℕ) (streams : List Streamed) (h : Holdings) (signs : Si
         ];
       }
 
-  none_held : (m : ℕ) → sum_by (λ s. held s h) (replicate m (empty blocks)) ≡ 0
+  pub none_held : (m : ℕ) → sum_by (λ s. held s h) (replicate m (empty blocks)) ≡ 0
   none_held zero = refl
   none_held (suc m) = let rest = none_held m in let now : sum_by (λ s. held s h) (empty blocks ∷ replicate m (empty blocks)) ≡ held (empty blocks) h + sum_by (λ s. held s h) (replicate m (empty blocks)) = sum_by-cons (λ (s : Streamed). held s h) (empty blocks) (replicate m (empty blocks)) in omega (arith, rest, now)
 
@@ -59,7 +59,7 @@ module _ (t blocks n : ℕ) (streams : List Streamed) (h : Holdings) (signs : Si
             omega (arith, all, none, even);
       }
 
-  all_shown : (rows : ℕ → List (List ℕ)) → ((i : ℕ) → length streams ≤ i → rows i ≡ []) → ShowAll rows (family streams h signs) → ShowAll rows (family (streams ++ replicate n (empty blocks)) h signs)
+  pub all_shown : (rows : ℕ → List (List ℕ)) → ((i : ℕ) → length streams ≤ i → rows i ≡ []) → ShowAll rows (family streams h signs) → ShowAll rows (family (streams ++ replicate n (empty blocks)) h signs)
   all_shown rows none shows = λ i s at. elim (front_or_behind streams (replicate n (empty blocks)) i s at) [
     | inl there ↦ shows i s there
     | inr behind ↦ subst (λ (rs : List (List ℕ)). HasRows rs s h) (sym (none i behind.0)) (empty_shows blocks s h (of_replicate n (empty blocks) (i - length streams) s behind.1))

@@ -10,15 +10,11 @@ use Rattle.tuple_stream.specs.Families.{ShowAll}
 use Rattle.tuple_stream.specs.Streamed.{Streamed}
 use Rattle.partition_stack.specs.Changes.{Owns}
 use Rattle.partition_stack.specs.Leaving.{MayStart}
-use Rattle.partition_stack.specs.Stack.{IsStack, Stack, empty, first_sixteen, over}
+use Rattle.partition_stack.specs.Stack.{IsStack, Stack, empty, first_sixteen, no_stack, over}
 use Rattle.partition_stack.proofs.Coming.{sixteen_come}
 use Rattle.partition_stack.proofs.ListPlaces.{of_replicate}
 
--- a stack without partitions
-abbrev no_stack : ℕ → Stack
-no_stack blocks = record { page_blocks = blocks; streams = []; levels = [] }
-
-no_stack_is : (blocks : ℕ) → IsBlockCount blocks → IsStack (no_stack blocks)
+pub no_stack_is : (blocks : ℕ) → IsBlockCount blocks → IsStack (no_stack blocks)
 no_stack_is blocks sized = record { sized = sized; each = λ i s there. absurd (none-some s there); levelled = refl; placed = λ i level there. absurd (none-some level there) }
 
 no_owned : (c : ClientToken) (blocks : ℕ) (h : Holdings) (signs : Signs) → MayStart c blocks h → Owns c.tracker 0 (over (no_stack blocks) h signs)

@@ -12,7 +12,7 @@ use Rattle.tuple_stream.specs.Families.{AreShaped, Family, IsOutside, TouchesAll
 use Rattle.tuple_stream.proofs.Chosen.{all_placed, at_place}
 use Rattle.partition_stack.specs.Leaving.{LeavesOthers}
 
-account_reservation : (o : Option Account) (n : ℕ) → (or_else no_account (option_map (with_unused n) o)).reservation ≡ (or_else no_account o).reservation
+pub account_reservation : (o : Option Account) (n : ℕ) → (or_else no_account (option_map (with_unused n) o)).reservation ≡ (or_else no_account o).reservation
 account_reservation None n = refl
 account_reservation (Some account) n = refl
 

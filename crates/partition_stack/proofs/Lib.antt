@@ -12,3 +12,9 @@ pub mod Left
 pub mod Sides
 pub mod Nothing
 pub mod First
+pub mod Results
+pub mod Shorts
+pub mod Emitters
+pub mod ReadFrames
+pub mod Slots
+pub mod Weights

@@ -40,7 +40,7 @@ owned_stay t lent f g owns touches shaped =
     }
 
 module _ (t lent : ℕ) (streams : List Streamed) (old new : Holdings) (before after : Signs) (owns : Owns t lent (family streams old before)) (same : SameFor t old new) (block_len : new.block_len ≡ old.block_len) where
-  agree : (i : ℕ) (s : Streamed) → slice_get streams i ≡ Some s → (k : ℕ) (p : PageToken) → slice_get s.pages k ≡ Some p → new.pages p.name ≡ old.pages p.name
+  pub agree : (i : ℕ) (s : Streamed) → slice_get streams i ≡ Some s → (k : ℕ) (p : PageToken) → slice_get s.pages k ≡ Some p → new.pages p.name ≡ old.pages p.name
   agree i s at k p there =
       let own = at_place (IsOwnPage t s.page_blocks old) s.pages k p (owns.shaped.each i s at).own there in
       let page : old.pages p.name ≡ Some (page_of p.name old) = page_there (old.pages p.name) own.page.lives in

@@ -3,3 +3,7 @@ pub mod Changes
 pub mod Laws
 pub mod Leaving
 pub mod Sides
+pub mod Emitting
+pub mod Reading
+pub mod Causes
+pub mod Slots

@@ -21,6 +21,10 @@ over p h signs = family p.streams h signs
 abbrev pub empty : ℕ → Streamed
 empty blocks = record { page_blocks = blocks; pages = []; pinned = None; spent = 0; used = 0; count = 0 }
 
+-- a stack without partitions
+abbrev pub no_stack : ℕ → Stack
+no_stack blocks = record { page_blocks = blocks; streams = []; levels = [] }
+
 -- sixteen partitions without rows, of the first level
 abbrev pub first_sixteen : ℕ → Stack
 first_sixteen blocks = record { page_blocks = blocks; streams = replicate 16 (empty blocks); levels = replicate 16 1 }

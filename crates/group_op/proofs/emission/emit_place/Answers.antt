@@ -5,7 +5,9 @@ use Rattle.row_codec.specs.declared.values.Value.{Value}
 use Rattle.group_rows.specs.Partials.{Partial}
 use Rattle.group_op.specs.Emission.{Says}
 use Rattle.group_op.specs.Stored.{partial_at, values_at}
-use Rattle.group_op.proofs.Emitting.{emitted_one, front_none, front_one, on_err, on_ok, says_read}
+use Rattle.group_op.proofs.Emitting.{emitted_one, front_none, front_one, says_read}
+use Rattle.partition_stack.proofs.Slots.{keep_none}
+use Rattle.partition_stack.proofs.Results.{on_err, on_ok}
 use Rattle.group_op.proofs.ReadingBack.{values_so}
 use Rattle.group_op.proofs.emission.emit_place.Goals as goal
 
@@ -32,3 +34,9 @@ returns-clause-err g c =
     c.deref.ensures.value ∙ c.in-Ok.ensures ∙ values_so c.args.shape.now c.args.kinds.now (row_of c.args.place c.args.table.now.nodes) c.requires.kinds in
     let says = subst (Says c.args.shape.now (partial_at c.args.shape.now (row_of c.args.place c.args.table.now.nodes))) (sym is) (says_read c.args.shape.now (row_of c.args.place c.args.table.now.nodes) c.requires.formed) in
     on_err c.row.result (front_one _ _ _ _ _ says) c.row.ensures.err
+
+pub returns-in_default-clause-slots : goal.returns-in_default-clause-slots
+returns-in_default-clause-slots g c = keep_none _ _ _
+
+pub returns-clause-slots : goal.returns-clause-slots
+returns-clause-slots g c = record { sum = c.row.ensures.slots; alone = λ none. (c.row.ensures.others.alone none).rest.free_slots }

@@ -8,7 +8,9 @@ use Rattle.group_rows.specs.Partials.{Partial}
 use Rattle.group_op.specs.Emission.{Emitted, EmittedFront, Says}
 use Rattle.group_op.specs.InOrder.{said_at}
 use Rattle.group_op.specs.Stored.{partial_at}
-use Rattle.group_op.proofs.Emitting.{came_behind, emitted_behind, emitted_none, front_behind, front_none, stood_more, stood_none}
+use Rattle.partition_stack.proofs.Slots.{keep_after, keep_none}
+use Rattle.partition_stack.proofs.Emitters.{came_behind, stood_more, stood_none}
+use Rattle.group_op.proofs.Emitting.{emitted_behind, emitted_none, front_behind, front_none}
 use Rattle.group_op.proofs.Finding.{entry_row}
 use Rattle.group_op.proofs.Saying.{all_one, none_inside, said_more, said_split, said_there}
 use Rattle.group_op.proofs.emission.emit_places.Goals as goal
@@ -22,6 +24,7 @@ loop-place-init g c =
       emitted = emitted_none _ _;
       still = λ none. refl;
       stood = stood_none _ _ _ _ _ c.requires.client;
+      slots = keep_none _ _ _;
     }
 
 pub emit_place-requires-clause-formed : goal.emit_place-requires-clause-formed
@@ -71,6 +74,7 @@ loop-place-preserved g c =
       emitted = subst (Emitted c.args.shape.now _ _) (sym (said_more c.args.shape.now c.args.table.now.nodes c.args.places.now c.loop-place.place-index c.loop-place-test.true))
           (emitted_behind _ _ _ _ _ c.loop-place.invariant.emitted _ c.in_ok-emit_place.ensures.ok);
       stood = stood_more _ _ _ _ _ _ _ _ _ _ _ _ _ _ _ c.loop-place.invariant.stood c.emit_place.ensures.stood;
+      slots = keep_after _ _ _ _ _ _ _ _ c.loop-place.invariant.stood.client_same c.loop-place.invariant.slots c.emit_place.ensures.slots;
     }
 
 pub returns-clause-ok : goal.returns-clause-ok
@@ -86,3 +90,12 @@ returns-in_err-emit_place-clause-still g c = λ none. absurd (none_inside _ _ no
 
 pub returns-clause-still : goal.returns-clause-still
 returns-clause-still g c = c.loop-place.invariant.still
+
+pub returns-in_default-clause-slots : goal.returns-in_default-clause-slots
+returns-in_default-clause-slots g c = keep_none _ _ _
+
+pub returns-in_err-emit_place-clause-slots : goal.returns-in_err-emit_place-clause-slots
+returns-in_err-emit_place-clause-slots g c = keep_after _ _ _ _ _ _ _ _ c.loop-place.invariant.stood.client_same c.loop-place.invariant.slots c.emit_place.ensures.slots
+
+pub returns-clause-slots : goal.returns-clause-slots
+returns-clause-slots g c = c.loop-place.invariant.slots

@@ -1,4 +1,5 @@
 use Rattle.std.proofs.Common.{◌≡◌, [], take}
+use Rattle.partition_stack.specs.Slots.{KeepSlots}
 use Rattle.group_op.specs.Emission.{Emitted, Stood}
 use Rattle.group_op.specs.InOrder.{said_at}
 use Rattle.group_op.proofs.emission.emit_places.Given as goal
@@ -8,4 +9,5 @@ invariant-loop-place g l = record {
   emitted : Emitted l.fn.shape (g.E.Emit.took l.fn.emit (g.St.Store.holds l.fn.store)) (g.E.Emit.took l.emit (g.St.Store.holds l.store)) (said_at l.fn.shape l.fn.table.nodes (take l.place-index l.fn.places));
   still : l.fn.places ≡ [] → g.St.Store.signs l.store ≡ g.St.Store.signs l.fn.store;
   stood : Stood (g.E.Emit.admits l.fn.emit) (g.E.Emit.admits l.emit) (g.E.Emit.client l.fn.emit) (g.E.Emit.client l.emit) (g.E.Emit.faults l.fn.emit) (g.E.Emit.faults l.emit) (g.St.Store.holds l.fn.store) (g.St.Store.holds l.store) (g.St.Store.signs l.fn.store) (g.St.Store.signs l.store);
+  slots : KeepSlots (g.E.Emit.client l.fn.emit) (g.St.Store.holds l.fn.store).free_slots (g.St.Store.holds l.store).free_slots (g.E.Emit.slots l.fn.emit (g.St.Store.holds l.fn.store)) (g.E.Emit.slots l.emit (g.St.Store.holds l.store));
 }

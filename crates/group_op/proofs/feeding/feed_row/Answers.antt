@@ -1,4 +1,4 @@
-use Rattle.std.proofs.Common.{ℕ, ◌*◌, List, ap, [], ◌∷◌, ◌++◌, Option, Some, OnOk, sym, subst}
+use Rattle.std.proofs.Common.{ℕ, ◌*◌, List, ap, [], ◌∷◌, ◌++◌, Option, Some, OnOk, refl, sym, subst}
 use Rattle.pool_model.specs.declared.entry.Entry.{Entry}
 use Rattle.row_codec.specs.declared.values.Value.{Value}
 use Rattle.store_api.specs.Holdings.{Holdings}
@@ -10,6 +10,7 @@ use Rattle.group_op.specs.Putting.{HasPut}
 use Rattle.group_op.proofs.Chained.{leaves_then}
 use Rattle.group_op.proofs.Entering.{cause_after, works_len}
 use Rattle.group_op.proofs.Kept.{keeps_put}
+use Rattle.partition_stack.proofs.Slots.{slots_then}
 use Rattle.group_op.proofs.feeding.feed_row.Goals as goal
 
 pub returns-in_default-clause-keeps : goal.returns-in_default-clause-keeps
@@ -37,3 +38,6 @@ returns-in_default-clause-leaves g c =
 pub returns-in_default-clause-cause : goal.returns-in_default-clause-cause
 returns-in_default-clause-cause g c =
     cause_after (g.St.Store.signs c.args.store.now) (g.St.Store.signs c.table_or_new.new.store) (g.St.Store.signs c.put-result.new.store) c.put-result.result c.in_ok-own.ensures.leaves.grows c.put-result.ensures.cause
+
+pub returns-in_default-clause-slots : goal.returns-in_default-clause-slots
+returns-in_default-clause-slots g c = slots_then c.args.parts.now.page_blocks c.args.parts.now.page_blocks _ _ _ refl c.in_ok-own.ensures.slots c.put-result.ensures.works.slots

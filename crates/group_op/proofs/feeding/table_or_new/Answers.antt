@@ -2,7 +2,8 @@ use Rattle.std.proofs.Common.{Option, sym, subst}
 use Rattle.bucket_table.specs.Tables.{Table}
 use Rattle.group_op.specs.Held.{state}
 use Rattle.group_op.specs.Operator.{HasOpened, IsOperator, operator}
-use Rattle.group_op.proofs.Opened.{had_table, new_has, new_held, new_none}
+use Rattle.group_op.proofs.Opened.{had_table, new_has, new_held, new_none, new_slots}
+use Rattle.partition_stack.proofs.Slots.{slots_none}
 use Rattle.group_op.proofs.feeding.table_or_new.Goals as goal
 
 pub returns-in-Some-clause-has : goal.returns-in-Some-clause-has
@@ -25,3 +26,11 @@ pub returns-clause-none : goal.returns-clause-none
 returns-clause-none g c =
     new_none c.args.c.now c.args._shape.now c.args.parts.now (g.St.Store.holds c.args.store.now) (g.St.Store.holds c.open.new.store) (g.St.Store.signs c.args.store.now) (g.St.Store.signs c.open.new.store)
     c.open.result c.page_blocks.result c.page_blocks.ensures c.args.table c.in_default.is c.requires c.open.ensures.err
+
+pub returns-in-Some-clause-slots : goal.returns-in-Some-clause-slots
+returns-in-Some-clause-slots g c = slots_none _ _
+
+pub returns-clause-slots : goal.returns-clause-slots
+returns-clause-slots g c =
+    new_slots c.args.c.now c.args._shape.now c.args.parts.now (g.St.Store.holds c.args.store.now) (g.St.Store.holds c.open.new.store) (g.St.Store.signs c.args.store.now) (g.St.Store.signs c.open.new.store)
+    c.open.result c.page_blocks.result c.page_blocks.ensures c.args.table c.in_default.is c.requires c.open.ensures.ok c.open.ensures.err

@@ -4,14 +4,17 @@ use Rattle.tuple_stream.specs.Trails.{EnteredEvents}
 use Rattle.group_op.specs.Emission.{EmittedFront}
 use Rattle.group_op.specs.Finishing.{Stacked, said_down}
 use Rattle.group_op.specs.Held.{state}
-use Rattle.group_op.specs.Causes.{IsShort}
+use Rattle.group_op.specs.Causes.{IsWant}
 use Rattle.group_op.specs.Pinning.{HasBegun}
-use Rattle.group_op.proofs.Shorts.{short_as}
+use Rattle.tuple_stream.specs.Families.{slots_in}
+use Rattle.partition_stack.specs.Stack.{over}
+use Rattle.group_op.proofs.Sharing.{want_as}
 use Rattle.group_op.proofs.Begun.{gone_divided, gone_handed, not_last}
 use Rattle.group_op.proofs.Advancing.{advances_divided, advances_popped, came_later, front_popped, front_same, ok_both}
-use Rattle.group_op.proofs.Besides.{own_same, serves_own, serves_then, stands_own, stands_then}
+use Rattle.group_op.proofs.Besides.{own_same, serves_own, serves_then, stands_own}
+use Rattle.partition_stack.proofs.Emitters.{stands_then}
 use Rattle.group_op.proofs.Divided.{less_popped}
-use Rattle.group_op.proofs.Emitting.{on_err, on_ok}
+use Rattle.partition_stack.proofs.Results.{on_err, on_ok}
 use Rattle.group_op.proofs.finishing.advance.Goals as goal
 
 pub returns-then-level-eq16-clause-ok : goal.returns-then-level-eq16-clause-ok
@@ -43,7 +46,7 @@ returns-in_err-spend_top-clause-err g c =
     search (rules, front)
 
 pub returns-in_err-spend_top-clause-serves : goal.returns-in_err-spend_top-clause-serves
-returns-in_err-spend_top-clause-serves g c = serves_own _ _ _ _ _ c.spend_top.ensures.serves
+returns-in_err-spend_top-clause-serves g c = serves_own _ _ _ _ _ _ _ (g.met.E.Emit.slots_own c.args.emit.now (g.St.Store.holds c.args.store.now) (g.St.Store.holds c.spend_top.new.store) (own_same c.args.c.now.tracker _ (state c.args.table.now c.args.parts.now (g.St.Store.holds c.args.store.now) (g.St.Store.signs c.args.store.now)) (state c.spend_top.new.table c.spend_top.new.parts (g.St.Store.holds c.spend_top.new.store) (g.St.Store.signs c.spend_top.new.store)) c.requires.emitter.apart c.spend_top.ensures.serves.leaves)) c.spend_top.ensures.serves
 
 pub returns-in_err-spend_top-clause-emitter : goal.returns-in_err-spend_top-clause-emitter
 returns-in_err-spend_top-clause-emitter g c = stands_own _ _ _ _ _ c.args.c.now.tracker (state c.args.table.now c.args.parts.now (g.St.Store.holds c.args.store.now) (g.St.Store.signs c.args.store.now)) (state c.spend_top.new.table c.spend_top.new.parts (g.St.Store.holds c.spend_top.new.store) (g.St.Store.signs c.spend_top.new.store)) c.requires.emitter c.spend_top.ensures.serves.leaves (λ taken took. g.met.E.Emit.asks_own c.args.emit.now (g.St.Store.holds c.args.store.now) (g.St.Store.holds c.spend_top.new.store) taken (own_same c.args.c.now.tracker _ (state c.args.table.now c.args.parts.now (g.St.Store.holds c.args.store.now) (g.St.Store.signs c.args.store.now)) (state c.spend_top.new.table c.spend_top.new.parts (g.St.Store.holds c.spend_top.new.store) (g.St.Store.signs c.spend_top.new.store)) c.requires.emitter.apart c.spend_top.ensures.serves.leaves) took)
@@ -57,7 +60,7 @@ returns-then-branch-clause-ok g c =
     (divided.0, λ rows stacked. advances_divided c.args.shape.now (c.len-at.result - 1) rows (state c.args.table.now c.args.parts.now (g.St.Store.holds c.args.store.now) (g.St.Store.signs c.args.store.now)) (state c.spend_top.new.table c.spend_top.new.parts (g.St.Store.holds c.spend_top.new.store) (g.St.Store.signs c.spend_top.new.store)) top (g.E.Emit.took c.args.emit.now (g.St.Store.holds c.args.store.now)) (g.E.Emit.took c.args.emit.now (g.St.Store.holds c.spend_top.new.store)) (λ taken took. g.met.E.Emit.asks_own c.args.emit.now (g.St.Store.holds c.args.store.now) (g.St.Store.holds c.spend_top.new.store) taken (own_same c.args.c.now.tracker _ (state c.args.table.now c.args.parts.now (g.St.Store.holds c.args.store.now) (g.St.Store.signs c.args.store.now)) (state c.spend_top.new.table c.spend_top.new.parts (g.St.Store.holds c.spend_top.new.store) (g.St.Store.signs c.spend_top.new.store)) c.requires.emitter.apart c.spend_top.ensures.serves.leaves) took) (divided.2 rows stacked))
 
 pub returns-then-branch-clause-serves : goal.returns-then-branch-clause-serves
-returns-then-branch-clause-serves g c = serves_own _ _ _ _ _ c.spend_top.ensures.serves
+returns-then-branch-clause-serves g c = serves_own _ _ _ _ _ _ _ (g.met.E.Emit.slots_own c.args.emit.now (g.St.Store.holds c.args.store.now) (g.St.Store.holds c.spend_top.new.store) (own_same c.args.c.now.tracker _ (state c.args.table.now c.args.parts.now (g.St.Store.holds c.args.store.now) (g.St.Store.signs c.args.store.now)) (state c.spend_top.new.table c.spend_top.new.parts (g.St.Store.holds c.spend_top.new.store) (g.St.Store.signs c.spend_top.new.store)) c.requires.emitter.apart c.spend_top.ensures.serves.leaves)) c.spend_top.ensures.serves
 
 pub returns-then-branch-clause-emitter : goal.returns-then-branch-clause-emitter
 returns-then-branch-clause-emitter g c = stands_own _ _ _ _ _ c.args.c.now.tracker (state c.args.table.now c.args.parts.now (g.St.Store.holds c.args.store.now) (g.St.Store.signs c.args.store.now)) (state c.spend_top.new.table c.spend_top.new.parts (g.St.Store.holds c.spend_top.new.store) (g.St.Store.signs c.spend_top.new.store)) c.requires.emitter c.spend_top.ensures.serves.leaves (λ taken took. g.met.E.Emit.asks_own c.args.emit.now (g.St.Store.holds c.args.store.now) (g.St.Store.holds c.spend_top.new.store) taken (own_same c.args.c.now.tracker _ (state c.args.table.now c.args.parts.now (g.St.Store.holds c.args.store.now) (g.St.Store.signs c.args.store.now)) (state c.spend_top.new.table c.spend_top.new.parts (g.St.Store.holds c.spend_top.new.store) (g.St.Store.signs c.spend_top.new.store)) c.requires.emitter.apart c.spend_top.ensures.serves.leaves) took)
@@ -100,7 +103,7 @@ returns-clause-less g c =
     on_ok c.hand_on.result (λ popped. less_popped c.args.parts.now.levels c.hand_on.new.parts.levels (c.len-at.result - 1) c.level-level.result c.level-level.ensures.value (popped.1.levels ∙ ap (take (c.len-at.result - 1)) whole.0.1)) c.hand_on.ensures.popped
 
 pub returns-clause-serves : goal.returns-clause-serves
-returns-clause-serves g c = serves_then _ _ _ _ _ _ (serves_own _ _ _ _ _ c.spend_top.ensures.serves) c.hand_on.ensures.serves
+returns-clause-serves g c = serves_then _ _ _ _ _ _ _ _ _ (serves_own _ _ _ _ _ _ _ (g.met.E.Emit.slots_own c.args.emit.now (g.St.Store.holds c.args.store.now) (g.St.Store.holds c.spend_top.new.store) (own_same c.args.c.now.tracker _ (state c.args.table.now c.args.parts.now (g.St.Store.holds c.args.store.now) (g.St.Store.signs c.args.store.now)) (state c.spend_top.new.table c.spend_top.new.parts (g.St.Store.holds c.spend_top.new.store) (g.St.Store.signs c.spend_top.new.store)) c.requires.emitter.apart c.spend_top.ensures.serves.leaves)) c.spend_top.ensures.serves) c.hand_on.ensures.serves
 
 pub returns-clause-emitter : goal.returns-clause-emitter
 returns-clause-emitter g c =
@@ -129,10 +132,10 @@ returns-clause-first g c =
     c.hand_on.ensures.serves.leaves.grows.trail first)
     c.hand_on.ensures.first c.hand_on.ensures.popped
 
-pub returns-in_err-spend_top-clause-short : goal.returns-in_err-spend_top-clause-short
-returns-in_err-spend_top-clause-short g c = λ none.
-    let short : IsShort c.args.parts.now.page_blocks c.in_err-spend_top.field-0.0 = c.in_err-spend_top.ensures.short in
-    search (rules, short)
+pub returns-in_err-spend_top-clause-want : goal.returns-in_err-spend_top-clause-want
+returns-in_err-spend_top-clause-want g c = λ none.
+    let want : IsWant c.args.parts.now.page_blocks (slots_in (over c.args.parts.now (g.St.Store.holds c.args.store.now) (g.St.Store.signs c.args.store.now))) c.in_err-spend_top.field-0.0 = c.in_err-spend_top.ensures.want in
+    search (rules, want)
 
-pub returns-clause-short : goal.returns-clause-short
-returns-clause-short g c = λ none. short_as c.hand_on.result c.spend_top.new.parts.page_blocks c.args.parts.now.page_blocks c.spend_top.ensures.serves.blocks (c.hand_on.ensures.short none)
+pub returns-clause-want : goal.returns-clause-want
+returns-clause-want g c = λ none. want_as c.hand_on.result c.spend_top.new.parts.page_blocks c.args.parts.now.page_blocks _ _ c.spend_top.ensures.serves.blocks c.spend_top.ensures.serves.slots.sum (c.hand_on.ensures.want none)

@@ -1,16 +1,17 @@
-use Rattle.std.proofs.Common.{rules, ◌≡◌, ◌∙◌, ℕ, Bool, [], true, false, ap, subst, arith}
+use Rattle.std.proofs.Common.{rules, ◌≡◌, ◌∙◌, Bool, [], true, false, refl, ap, subst, arith}
 use Rattle.std.proofs.lemmas.Option.{slice_get_within}
 use Rattle.store_api.specs.Signs.{WasAnswered}
 use Rattle.store_api.proofs.Answered.{answered_before}
 use Rattle.store_api.proofs.Growing.{grows_trans}
 use Rattle.tuple_stream.specs.Trails.{EnteredEvents}
 use Rattle.bucket_table.specs.Tables.{Table}
-use Rattle.partition_stack.specs.Stack.{Stack}
+use Rattle.partition_stack.specs.Stack.{Stack, over}
 use Rattle.group_op.specs.Finishing.{HasRead, IsRead}
 use Rattle.group_op.specs.Held.{state}
-use Rattle.group_op.specs.Causes.{IsShort}
+use Rattle.tuple_stream.specs.Families.{slots_in}
+use Rattle.group_op.specs.Causes.{IsWant}
 use Rattle.group_op.specs.Pinning.{HasBegun}
-use Rattle.group_op.proofs.Shorts.{full_short}
+use Rattle.partition_stack.proofs.Slots.{full_since}
 use Rattle.group_op.proofs.Begun.{begun_divided}
 use Rattle.group_op.proofs.Divided.{has_divided, less_divided, serves_works}
 use Rattle.group_op.proofs.Keeping.{works_touched}
@@ -73,19 +74,20 @@ returns-clause-first g c =
     (subst (λ (d : Bool). EnteredEvents (HasBegun d (state c.absorb.new.table c.absorb.new.parts (g.St.Store.holds c.absorb.new.store) (g.St.Store.signs c.absorb.new.store))) (g.St.Store.signs c.args.store.now).trail (g.St.Store.signs c.absorb.new.store).trail) yes c.in_ok-absorb.ensures.first)
     (grows_trans _ _ _ c.flush.ensures.works.leaves.grows c.rest_from.ensures.went.grows).trail
 
-pub returns-in_err-absorb-clause-short : goal.returns-in_err-absorb-clause-short
-returns-in_err-absorb-clause-short g c =
-    let short : IsShort c.args.parts.now.page_blocks c.in_err-absorb.field-0.0 = full_short c.args.parts.now.page_blocks _ c.in_err-absorb.field-0.0 c.in_err-absorb.ensures.full in
-    search (rules, short)
+pub returns-in_err-absorb-clause-want : goal.returns-in_err-absorb-clause-want
+returns-in_err-absorb-clause-want g c =
+    let want : IsWant c.args.parts.now.page_blocks (slots_in (over c.args.parts.now (g.St.Store.holds c.args.store.now) (g.St.Store.signs c.args.store.now))) c.in_err-absorb.field-0.0 =
+    full_since c.args.parts.now.page_blocks c.args.parts.now.page_blocks (over c.args.parts.now (g.St.Store.holds c.args.store.now) (g.St.Store.signs c.args.store.now)) (over c.absorb.new.parts (g.St.Store.holds c.absorb.new.store) (g.St.Store.signs c.absorb.new.store)) c.absorb.ensures.serves.slots c.law_stack.ensures.each refl c.in_err-absorb.field-0.0 c.in_err-absorb.ensures.full in
+    search (rules, want)
 
-pub returns-in_err-flush-clause-short : goal.returns-in_err-flush-clause-short
-returns-in_err-flush-clause-short g c =
-    let short : IsShort c.args.parts.now.page_blocks c.in_err-flush.field-0.0 =
-    subst (λ (n : ℕ). IsShort n c.in_err-flush.field-0.0) c.absorb.ensures.serves.blocks (full_short c.absorb.new.parts.page_blocks _ c.in_err-flush.field-0.0 c.in_err-flush.ensures.full) in
-    search (rules, short)
+pub returns-in_err-flush-clause-want : goal.returns-in_err-flush-clause-want
+returns-in_err-flush-clause-want g c =
+    let want : IsWant c.args.parts.now.page_blocks (slots_in (over c.args.parts.now (g.St.Store.holds c.args.store.now) (g.St.Store.signs c.args.store.now))) c.in_err-flush.field-0.0 =
+    full_since c.args.parts.now.page_blocks c.absorb.new.parts.page_blocks (over c.args.parts.now (g.St.Store.holds c.args.store.now) (g.St.Store.signs c.args.store.now)) (over c.flush.new.parts (g.St.Store.holds c.flush.new.store) (g.St.Store.signs c.flush.new.store)) (returns-in_err-flush-clause-serves g c).slots c.law_stack.ensures.each c.absorb.ensures.serves.blocks c.in_err-flush.field-0.0 c.in_err-flush.ensures.full in
+    search (rules, want)
 
-pub returns-in_err-rest_from-clause-short : goal.returns-in_err-rest_from-clause-short
-returns-in_err-rest_from-clause-short g c =
-    let short : IsShort c.args.parts.now.page_blocks c.in_err-rest_from.field-0.0 =
-    subst (λ (n : ℕ). IsShort n c.in_err-rest_from.field-0.0) (c.flush.ensures.works.blocks ∙ c.absorb.ensures.serves.blocks) (full_short c.flush.new.parts.page_blocks _ c.in_err-rest_from.field-0.0 c.in_err-rest_from.ensures.full) in
-    search (rules, short)
+pub returns-in_err-rest_from-clause-want : goal.returns-in_err-rest_from-clause-want
+returns-in_err-rest_from-clause-want g c =
+    let want : IsWant c.args.parts.now.page_blocks (slots_in (over c.args.parts.now (g.St.Store.holds c.args.store.now) (g.St.Store.signs c.args.store.now))) c.in_err-rest_from.field-0.0 =
+    full_since c.args.parts.now.page_blocks c.flush.new.parts.page_blocks (over c.args.parts.now (g.St.Store.holds c.args.store.now) (g.St.Store.signs c.args.store.now)) (over c.rest_from.new.self (g.St.Store.holds c.rest_from.new.store) (g.St.Store.signs c.rest_from.new.store)) (returns-in_err-rest_from-clause-serves g c).slots c.law_stack.ensures.each (c.flush.ensures.works.blocks ∙ c.absorb.ensures.serves.blocks) c.in_err-rest_from.field-0.0 c.in_err-rest_from.ensures.full in
+    search (rules, want)

@@ -1,21 +1,22 @@
-use Rattle.std.proofs.Common.{rules, ◌∙◌, ◌++◌, ℕ, List, length, subst, arith}
+use Rattle.std.proofs.Common.{rules, ◌∙◌, ◌++◌, ℕ, List, Option, length, subst, arith}
 use Rattle.store_api.specs.Emitters.{CameOf}
-use Rattle.group_op.specs.Causes.{IsShortOf}
+use Rattle.group_op.specs.Causes.{IsWantOf}
 use Rattle.group_op.specs.Emission.{EmittedFront}
 use Rattle.group_op.specs.Finishing.{Stacked, said_down}
+use Rattle.tuple_stream.specs.Families.{slots_in}
 use Rattle.partition_stack.specs.Stack.{over}
 use Rattle.group_op.specs.Held.{state}
 use Rattle.group_op.proofs.Advancing.{advances_all, advances_front, advances_none, advances_then}
-use Rattle.group_op.proofs.Besides.{beside_stands, serves_more, serves_none, stands_none, stands_then}
+use Rattle.partition_stack.proofs.Emitters.{beside_stands, came_behind, stands_none, stands_then}
+use Rattle.group_op.proofs.Besides.{serves_more, serves_none}
 use Rattle.group_op.proofs.Begun.{gone_all, gone_more, gone_none}
-use Rattle.group_op.proofs.Emitting.{came_behind}
 use Rattle.group_op.proofs.handing.empty_parts.Goals as goal
 
 pub down-init : goal.down-init
 down-init g c =
     record {
       between = c.requires.between;
-      serves = serves_none c.args.c.now.tracker _ c.args.shape.now (state c.args.table.now c.args.parts.now (g.St.Store.holds c.args.store.now) (g.St.Store.signs c.args.store.now)) c.requires.held c.requires.entries;
+      serves = serves_none c.args.c.now.tracker _ _ c.args.shape.now (state c.args.table.now c.args.parts.now (g.St.Store.holds c.args.store.now) (g.St.Store.signs c.args.store.now)) c.requires.held c.requires.entries;
       stands = stands_none _ _ _ _ _ c.requires.emitter.lives;
       first = λ shallow. gone_none c.args.parts.now.levels (g.St.Store.signs c.args.store.now).trail shallow;
       rows = λ rows stacked. advances_none c.args.shape.now (g.E.Emit.took c.args.emit.now (g.St.Store.holds c.args.store.now)) rows (state c.args.table.now c.args.parts.now (g.St.Store.holds c.args.store.now) (g.St.Store.signs c.args.store.now)) stacked;
@@ -49,7 +50,7 @@ down-preserved g c =
     let was = c.down.invariant in
     record {
       between = c.in_ok-advance.ensures.ok.0;
-      serves = serves_more c.args.c.now.tracker _ _ c.args.shape.now (state c.args.table.now c.args.parts.now (g.St.Store.holds c.args.store.now) (g.St.Store.signs c.args.store.now)) (state c.down.table c.down.parts (g.St.Store.holds c.down.store) (g.St.Store.signs c.down.store)) (state c.advance.new.table c.advance.new.parts (g.St.Store.holds c.advance.new.store) (g.St.Store.signs c.advance.new.store)) was.stands.client_same was.serves c.advance.ensures.serves;
+      serves = serves_more c.args.c.now.tracker _ _ _ _ _ c.args.shape.now (state c.args.table.now c.args.parts.now (g.St.Store.holds c.args.store.now) (g.St.Store.signs c.args.store.now)) (state c.down.table c.down.parts (g.St.Store.holds c.down.store) (g.St.Store.signs c.down.store)) (state c.advance.new.table c.advance.new.parts (g.St.Store.holds c.advance.new.store) (g.St.Store.signs c.advance.new.store)) was.stands.client_same was.serves c.advance.ensures.serves;
       stands = stands_then _ _ _ _ _ _ _ _ _ _ _ _ _ _ was.stands c.advance.ensures.emitter;
       first = λ shallow.
           gone_more c.down.parts.levels c.advance.new.parts.levels (g.St.Store.signs c.args.store.now).trail (g.St.Store.signs c.down.store).trail (g.St.Store.signs c.advance.new.store).trail
@@ -68,7 +69,7 @@ returns-in_err-advance-clause-err g c =
 pub returns-in_err-advance-clause-serves : goal.returns-in_err-advance-clause-serves
 returns-in_err-advance-clause-serves g c =
     let was = c.down.invariant in
-    serves_more c.args.c.now.tracker _ _ c.args.shape.now (state c.args.table.now c.args.parts.now (g.St.Store.holds c.args.store.now) (g.St.Store.signs c.args.store.now)) (state c.down.table c.down.parts (g.St.Store.holds c.down.store) (g.St.Store.signs c.down.store)) (state c.advance.new.table c.advance.new.parts (g.St.Store.holds c.advance.new.store) (g.St.Store.signs c.advance.new.store)) was.stands.client_same was.serves c.advance.ensures.serves
+    serves_more c.args.c.now.tracker _ _ _ _ _ c.args.shape.now (state c.args.table.now c.args.parts.now (g.St.Store.holds c.args.store.now) (g.St.Store.signs c.args.store.now)) (state c.down.table c.down.parts (g.St.Store.holds c.down.store) (g.St.Store.signs c.down.store)) (state c.advance.new.table c.advance.new.parts (g.St.Store.holds c.advance.new.store) (g.St.Store.signs c.advance.new.store)) was.stands.client_same was.serves c.advance.ensures.serves
 
 pub returns-in_err-advance-clause-emitter : goal.returns-in_err-advance-clause-emitter
 returns-in_err-advance-clause-emitter g c = stands_then _ _ _ _ _ _ _ _ _ _ _ _ _ _ c.down.invariant.stands c.advance.ensures.emitter
@@ -95,9 +96,10 @@ returns-clause-emitter g c = c.down.invariant.stands
 pub returns-clause-first : goal.returns-clause-first
 returns-clause-first g c = λ shallow. gone_all c.down.parts.levels (over c.down.parts (g.St.Store.holds c.down.store) (g.St.Store.signs c.down.store)) (g.St.Store.signs c.args.store.now).trail (g.St.Store.signs c.down.store).trail c.down.invariant.between.closed (c.down.invariant.first shallow)
 
-pub returns-in_err-advance-clause-short : goal.returns-in_err-advance-clause-short
-returns-in_err-advance-clause-short g c = λ none.
+pub returns-in_err-advance-clause-want : goal.returns-in_err-advance-clause-want
+returns-in_err-advance-clause-want g c = λ none.
     let was = c.down.invariant in
-    let short : IsShortOf c.args.parts.now.page_blocks c.in_err-advance.field-0.0 =
-    subst (λ (n : ℕ). IsShortOf n c.in_err-advance.field-0.0) was.serves.blocks (c.in_err-advance.ensures.short (was.stands.client_same ∙ none)) in
-    search (rules, short)
+    let want : IsWantOf c.args.parts.now.page_blocks (slots_in (over c.args.parts.now (g.St.Store.holds c.args.store.now) (g.St.Store.signs c.args.store.now))) c.in_err-advance.field-0.0 =
+    subst (λ (n : ℕ). IsWantOf n (slots_in (over c.args.parts.now (g.St.Store.holds c.args.store.now) (g.St.Store.signs c.args.store.now))) c.in_err-advance.field-0.0) was.serves.blocks
+    (subst (λ (o : Option ℕ). IsWantOf c.down.parts.page_blocks o c.in_err-advance.field-0.0) (was.serves.slots.alone none) (c.in_err-advance.ensures.want (was.stands.client_same ∙ none))) in
+    search (rules, want)

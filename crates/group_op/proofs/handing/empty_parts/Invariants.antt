@@ -9,7 +9,7 @@ use Rattle.group_op.proofs.handing.empty_parts.Given as goal
 abbrev pub invariant-down : goal.invariant-down
 invariant-down g l = record {
   between : IsBetween (state l.table l.parts (g.St.Store.holds l.store) (g.St.Store.signs l.store));
-  serves : ServesBeside l.fn.c.tracker (g.E.Emit.client l.fn.emit) l.fn.shape (state l.fn.table l.fn.parts (g.St.Store.holds l.fn.store) (g.St.Store.signs l.fn.store)) (state l.table l.parts (g.St.Store.holds l.store) (g.St.Store.signs l.store));
+  serves : ServesBeside l.fn.c.tracker (g.E.Emit.client l.fn.emit) (g.E.Emit.slots l.fn.emit (g.St.Store.holds l.fn.store)) (g.E.Emit.slots l.emit (g.St.Store.holds l.store)) l.fn.shape (state l.fn.table l.fn.parts (g.St.Store.holds l.fn.store) (g.St.Store.signs l.fn.store)) (state l.table l.parts (g.St.Store.holds l.store) (g.St.Store.signs l.store));
   stands : StandsStill (g.E.Emit.admits l.fn.emit) (g.E.Emit.admits l.emit) (g.E.Emit.client l.fn.emit) (g.E.Emit.client l.emit) (g.E.Emit.faults l.fn.emit) (g.E.Emit.faults l.emit) (g.E.Emit.took l.fn.emit (g.St.Store.holds l.fn.store)) (g.E.Emit.took l.emit (g.St.Store.holds l.store)) (g.St.Store.holds l.store);
   first : AreShallow l.fn.parts.levels → EnteredEvents (HasGoneOn l.parts.levels) (g.St.Store.signs l.fn.store).trail (g.St.Store.signs l.store).trail;
   rows : (rows : ℕ → List (List ℕ)) → Stacked l.fn.shape rows (state l.fn.table l.fn.parts (g.St.Store.holds l.fn.store) (g.St.Store.signs l.fn.store))

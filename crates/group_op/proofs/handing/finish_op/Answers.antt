@@ -1,7 +1,8 @@
 use Rattle.std.proofs.Common.{◌∙◌, sym}
 use Rattle.partition_stack.specs.Stack.{over}
-use Rattle.group_op.proofs.Emitting.{on_ok}
+use Rattle.partition_stack.proofs.Results.{on_ok}
 use Rattle.group_op.proofs.Laying.{none_kept, some_kept}
+use Rattle.group_op.proofs.Besides.{left_none}
 use Rattle.group_op.proofs.handing.finish_op.Goals as goal
 
 pub returns-in_default-clause-kept : goal.returns-in_default-clause-kept
@@ -15,3 +16,9 @@ returns-in_default-replace-clause-kept g c =
     some_kept c.args.c.now c.args.shape.now start rows c.args.parts.now c.args.table.now c.in-Some.own (g.St.Store.holds c.args.store.now) (g.St.Store.signs c.args.store.now) (over c.finish_parts-result.new.parts (g.St.Store.holds c.finish_parts-result.new.store) (g.St.Store.signs c.finish_parts-result.new.store)) (g.St.Store.signs c.finish_parts-result.new.store).trail
     (sym c.take.ensures.value ∙ c.in-Some.is) c.requires.op left keeps)
     c.finish_parts-result.ensures.left
+
+pub returns-in_default-clause-leaves : goal.returns-in_default-clause-leaves
+returns-in_default-clause-leaves g c = left_none _ _ _ _
+
+pub returns-in_default-replace-clause-leaves : goal.returns-in_default-replace-clause-leaves
+returns-in_default-replace-clause-leaves g c = record { others = c.finish_parts-result.ensures.serves.leaves; slots = c.finish_parts-result.ensures.serves.slots }

@@ -5,12 +5,15 @@ use Rattle.partition_stack.specs.Stack.{over}
 use Rattle.group_op.specs.Held.{rows_of, state}
 use Rattle.tuple_stream.specs.FamilyCalls.{shares}
 use Rattle.group_op.proofs.Advancing.{came_later, emitted_same, front_same}
-use Rattle.group_op.proofs.Besides.{own_same, serves_own, serves_then, stands_own, stands_then}
+use Rattle.group_op.proofs.Besides.{own_same, serves_own, serves_then, stands_own}
+use Rattle.partition_stack.proofs.Emitters.{stands_then}
 use Rattle.group_op.proofs.Begun.{low_levels}
-use Rattle.group_op.specs.Causes.{IsShort}
+use Rattle.group_op.specs.Causes.{IsWant}
 use Rattle.group_op.proofs.Laying.{left_first}
-use Rattle.group_op.proofs.Shorts.{short_as}
-use Rattle.group_op.proofs.Emitting.{emitted_behind, front_behind, on_err, on_ok}
+use Rattle.tuple_stream.specs.Families.{slots_in}
+use Rattle.group_op.proofs.Sharing.{want_as}
+use Rattle.group_op.proofs.Emitting.{emitted_behind, front_behind}
+use Rattle.partition_stack.proofs.Results.{on_err, on_ok}
 use Rattle.group_op.proofs.handing.finish_parts.Goals as goal
 
 pub returns-in_err-settle-clause-err : goal.returns-in_err-settle-clause-err
@@ -20,7 +23,7 @@ returns-in_err-settle-clause-err g c =
     search (rules, front)
 
 pub returns-in_err-settle-clause-serves : goal.returns-in_err-settle-clause-serves
-returns-in_err-settle-clause-serves g c = serves_own _ _ _ _ _ c.settle.ensures.serves
+returns-in_err-settle-clause-serves g c = serves_own _ _ _ _ _ _ _ (g.met.E.Emit.slots_own c.args.emit.now (g.St.Store.holds c.args.store.now) (g.St.Store.holds c.settle.new.store) (own_same c.args.c.now.tracker _ (state c.args.table.now c.args.parts.now (g.St.Store.holds c.args.store.now) (g.St.Store.signs c.args.store.now)) (state c.settle.new.table c.settle.new.parts (g.St.Store.holds c.settle.new.store) (g.St.Store.signs c.settle.new.store)) c.requires.emitter.apart c.settle.ensures.serves.leaves)) c.settle.ensures.serves
 
 pub returns-in_err-settle-clause-emitter : goal.returns-in_err-settle-clause-emitter
 returns-in_err-settle-clause-emitter g c = stands_own _ _ _ _ _ c.args.c.now.tracker (state c.args.table.now c.args.parts.now (g.St.Store.holds c.args.store.now) (g.St.Store.signs c.args.store.now)) (state c.settle.new.table c.settle.new.parts (g.St.Store.holds c.settle.new.store) (g.St.Store.signs c.settle.new.store)) c.requires.emitter c.settle.ensures.serves.leaves (λ taken took. g.met.E.Emit.asks_own c.args.emit.now (g.St.Store.holds c.args.store.now) (g.St.Store.holds c.settle.new.store) taken (own_same c.args.c.now.tracker _ (state c.args.table.now c.args.parts.now (g.St.Store.holds c.args.store.now) (g.St.Store.signs c.args.store.now)) (state c.settle.new.table c.settle.new.parts (g.St.Store.holds c.settle.new.store) (g.St.Store.signs c.settle.new.store)) c.requires.emitter.apart c.settle.ensures.serves.leaves) took)
@@ -46,7 +49,7 @@ returns-clause-err g c =
     c.empty_parts.ensures.err
 
 pub returns-clause-serves : goal.returns-clause-serves
-returns-clause-serves g c = serves_then _ _ _ _ _ _ (serves_own _ _ _ _ _ c.settle.ensures.serves) c.empty_parts.ensures.serves
+returns-clause-serves g c = serves_then _ _ _ _ _ _ _ _ _ (serves_own _ _ _ _ _ _ _ (g.met.E.Emit.slots_own c.args.emit.now (g.St.Store.holds c.args.store.now) (g.St.Store.holds c.settle.new.store) (own_same c.args.c.now.tracker _ (state c.args.table.now c.args.parts.now (g.St.Store.holds c.args.store.now) (g.St.Store.signs c.args.store.now)) (state c.settle.new.table c.settle.new.parts (g.St.Store.holds c.settle.new.store) (g.St.Store.signs c.settle.new.store)) c.requires.emitter.apart c.settle.ensures.serves.leaves)) c.settle.ensures.serves) c.empty_parts.ensures.serves
 
 pub returns-clause-emitter : goal.returns-clause-emitter
 returns-clause-emitter g c =
@@ -63,10 +66,10 @@ returns-clause-left g c =
     (first (low_levels c.settle.new.parts.levels (c.settle.ensures.levels ∙ c.requires.feeding.first))))
     c.empty_parts.ensures.first
 
-pub returns-in_err-settle-clause-short : goal.returns-in_err-settle-clause-short
-returns-in_err-settle-clause-short g c = λ none.
-    let short : IsShort c.args.parts.now.page_blocks c.in_err-settle.field-0.0 = c.in_err-settle.ensures.short in
-    search (rules, short)
+pub returns-in_err-settle-clause-want : goal.returns-in_err-settle-clause-want
+returns-in_err-settle-clause-want g c = λ none.
+    let want : IsWant c.args.parts.now.page_blocks (slots_in (over c.args.parts.now (g.St.Store.holds c.args.store.now) (g.St.Store.signs c.args.store.now))) c.in_err-settle.field-0.0 = c.in_err-settle.ensures.want in
+    search (rules, want)
 
-pub returns-clause-short : goal.returns-clause-short
-returns-clause-short g c = λ none. short_as c.empty_parts.result c.settle.new.parts.page_blocks c.args.parts.now.page_blocks c.settle.ensures.serves.blocks (c.empty_parts.ensures.short none)
+pub returns-clause-want : goal.returns-clause-want
+returns-clause-want g c = λ none. want_as c.empty_parts.result c.settle.new.parts.page_blocks c.args.parts.now.page_blocks _ _ c.settle.ensures.serves.blocks c.settle.ensures.serves.slots.sum (c.empty_parts.ensures.want none)

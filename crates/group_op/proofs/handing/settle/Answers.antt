@@ -1,14 +1,15 @@
-use Rattle.std.proofs.Common.{rules, ◌∙◌, ap, arith}
+use Rattle.std.proofs.Common.{rules, ◌∙◌, refl, ap, arith}
 use Rattle.std.proofs.lemmas.Option.{slice_get_within}
 use Rattle.bucket_table.specs.Tables.{Table}
-use Rattle.partition_stack.specs.Stack.{Stack}
+use Rattle.tuple_stream.specs.Families.{slots_in}
+use Rattle.partition_stack.specs.Stack.{Stack, over}
 use Rattle.group_op.proofs.Divided.{serves_works}
-use Rattle.group_op.proofs.Emitting.{on_ok}
+use Rattle.partition_stack.proofs.Results.{if_err, on_ok}
 use Rattle.group_op.proofs.Keeping.{works_touched}
-use Rattle.group_op.specs.Causes.{IsShort}
+use Rattle.group_op.specs.Causes.{IsWant}
 use Rattle.group_op.specs.Held.{state}
 use Rattle.group_op.proofs.Laying.{settled_left}
-use Rattle.group_op.proofs.Shorts.{full_short, short_err}
+use Rattle.partition_stack.proofs.Slots.{full_since}
 use Rattle.group_op.proofs.Settled.{answered_later, has_settled, serves_of}
 use Rattle.group_op.proofs.handing.settle.Goals as goal
 
@@ -53,10 +54,14 @@ returns-in_err-flush-clause-levels g c = c.flush.ensures.works.levels
 pub returns-clause-levels : goal.returns-clause-levels
 returns-clause-levels g c = ap (λ (p : Stack). p.levels) c.rest_from.ensures.kept ∙ c.flush.ensures.works.levels
 
-pub returns-in_err-flush-clause-short : goal.returns-in_err-flush-clause-short
-returns-in_err-flush-clause-short g c =
-    let short : IsShort c.args.parts.now.page_blocks c.in_err-flush.field-0.0 = full_short c.args.parts.now.page_blocks _ c.in_err-flush.field-0.0 c.in_err-flush.ensures.full in
-    search (rules, short)
+pub returns-in_err-flush-clause-want : goal.returns-in_err-flush-clause-want
+returns-in_err-flush-clause-want g c =
+    let want : IsWant c.args.parts.now.page_blocks (slots_in (over c.args.parts.now (g.St.Store.holds c.args.store.now) (g.St.Store.signs c.args.store.now))) c.in_err-flush.field-0.0 =
+    full_since c.args.parts.now.page_blocks c.args.parts.now.page_blocks (over c.args.parts.now (g.St.Store.holds c.args.store.now) (g.St.Store.signs c.args.store.now)) (over c.flush.new.parts (g.St.Store.holds c.flush.new.store) (g.St.Store.signs c.flush.new.store)) c.flush.ensures.works.slots c.law_stack.ensures.each refl c.in_err-flush.field-0.0 c.in_err-flush.ensures.full in
+    search (rules, want)
 
-pub returns-clause-short : goal.returns-clause-short
-returns-clause-short g c = short_err c.rest_from.result c.flush.new.parts.page_blocks c.args.parts.now.page_blocks _ c.flush.ensures.works.blocks c.rest_from.ensures.full
+pub returns-clause-want : goal.returns-clause-want
+returns-clause-want g c =
+    if_err c.rest_from.result
+    (λ e full. full_since c.args.parts.now.page_blocks c.flush.new.parts.page_blocks (over c.args.parts.now (g.St.Store.holds c.args.store.now) (g.St.Store.signs c.args.store.now)) (over c.rest_from.new.self (g.St.Store.holds c.rest_from.new.store) (g.St.Store.signs c.rest_from.new.store)) (returns-clause-serves g c).slots c.law_stack.ensures.each c.flush.ensures.works.blocks e full)
+    c.rest_from.ensures.full

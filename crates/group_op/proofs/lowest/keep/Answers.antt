@@ -6,7 +6,7 @@ use Rattle.std.specs.List.{HoldsAt}
 use Rattle.std.specs.Vec.{with_items}
 use Rattle.std.specs.declared.cmp.Ordering.TheVariants.{Greater}
 use Rattle.group_op.specs.Stored.{joined}
-use Rattle.group_op.proofs.Oks.{on_ok}
+use Rattle.partition_stack.proofs.Results.{on_ok}
 use Rattle.std.proofs.lemmas.List.{with_items_is}
 use Rattle.group_op.proofs.KeptRows.{all_joined, joined_long, all_put, by_bytes, less_there, put_joined, put_placed, sorted_beside}
 use Rattle.group_op.proofs.lowest.keep.Goals as goal

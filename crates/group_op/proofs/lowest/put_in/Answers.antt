@@ -1,7 +1,7 @@
 use Rattle.std.proofs.Common.{rules, suc, ◌≡◌, ◌≢◌, ◌≤◌, ◌∙◌, ◌+◌, ◌++◌, ◌∷◌, [], List, length, take, ap, ap₂, ℕ, sym, arith, length-append}
 use Rattle.std.specs.Prelude.{insert}
 use Rattle.group_op.specs.declared.lowest.Entry.{Entry}
-use Rattle.group_op.proofs.Oks.{on_ok}
+use Rattle.partition_stack.proofs.Results.{on_ok}
 use Rattle.group_op.proofs.Lasts.{before_last}
 use Rattle.group_op.proofs.lowest.put_in.Goals as goal
 

@@ -8,7 +8,9 @@ use Rattle.group_op.specs.Emission.{Emitted, EmittedFront, Says}
 use Rattle.group_op.specs.declared.lowest.Entry.{Entry}
 use Rattle.group_op.specs.Keepings.{kept_in}
 use Rattle.group_op.specs.Stored.{partial_at}
-use Rattle.group_op.proofs.Emitting.{came_behind, emitted_behind, emitted_none, front_behind, front_none, stood_more, stood_none}
+use Rattle.partition_stack.proofs.Slots.{keep_after, keep_none}
+use Rattle.partition_stack.proofs.Emitters.{came_behind, stood_more, stood_none}
+use Rattle.group_op.proofs.Emitting.{emitted_behind, emitted_none, front_behind, front_none}
 use Rattle.group_op.proofs.KeptList.{kept_more, kept_split, kept_there}
 use Rattle.group_op.proofs.scanning.hand_on.Goals as goal
 
@@ -23,6 +25,7 @@ loop-entry-init g c =
     record {
       emitted = emitted_none _ _;
       stood = stood_none _ _ _ _ _ c.requires.client;
+      slots = keep_none _ _ _;
     }
 
 pub hand_row-requires-clause-admits : goal.hand_row-requires-clause-admits
@@ -71,6 +74,7 @@ loop-entry-preserved g c =
       emitted = subst (Emitted shape _ _) (sym (kept_more shape c.args.entries.now c.loop-entry.entry-index c.entry-item.result c.loop-entry-test.true))
           (emitted_behind _ _ _ _ _ c.loop-entry.invariant.emitted _ one);
       stood = stood_more _ _ _ _ _ _ _ _ _ _ _ _ _ _ _ c.loop-entry.invariant.stood c.hand_row.ensures.stood;
+      slots = keep_after _ _ _ _ _ _ _ _ c.loop-entry.invariant.stood.client_same c.loop-entry.invariant.slots c.hand_row.ensures.slots;
     }
 
 pub returns-clause-ok : goal.returns-clause-ok
@@ -80,3 +84,12 @@ returns-clause-ok g c =
 
 pub returns-clause-stood : goal.returns-clause-stood
 returns-clause-stood g c = c.loop-entry.invariant.stood
+
+pub returns-in_default-clause-slots : goal.returns-in_default-clause-slots
+returns-in_default-clause-slots g c = keep_none _ _ _
+
+pub returns-in_err-hand_row-clause-slots : goal.returns-in_err-hand_row-clause-slots
+returns-in_err-hand_row-clause-slots g c = keep_after _ _ _ _ _ _ _ _ c.loop-entry.invariant.stood.client_same c.loop-entry.invariant.slots c.hand_row.ensures.slots
+
+pub returns-clause-slots : goal.returns-clause-slots
+returns-clause-slots g c = c.loop-entry.invariant.slots

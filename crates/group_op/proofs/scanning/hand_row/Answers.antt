@@ -3,8 +3,10 @@ use Rattle.group_op.specs.Emission.{Says}
 use Rattle.group_op.specs.Stored.{partial_at, values_at}
 use Rattle.row_reading.specs.Reading as spelled
 use Rattle.group_op.proofs.ReadingBack.{values_so}
-use Rattle.group_op.proofs.Emitting.{emitted_one, front_none, front_one, says_read, stood_none}
-use Rattle.group_op.proofs.Oks.{on_err, on_ok}
+use Rattle.group_op.proofs.Emitting.{emitted_one, front_none, front_one, says_read}
+use Rattle.partition_stack.proofs.Slots.{keep_none}
+use Rattle.partition_stack.proofs.Emitters.{stood_none}
+use Rattle.partition_stack.proofs.Results.{on_err, on_ok}
 use Rattle.group_op.proofs.scanning.hand_row.Goals as goal
 
 pub returns-in_default-clause-err : goal.returns-in_default-clause-err
@@ -33,3 +35,9 @@ returns-clause-err g c =
     let is : c.deref.result.now ≡ values_at c.args.shape.now c.args.row.now = read ∙ values_so c.args.shape.now c.args.kinds.now c.args.row.now c.requires.kinds in
     let says = subst (Says c.args.shape.now (partial_at c.args.shape.now c.args.row.now)) (sym is) (says_read c.args.shape.now c.args.row.now c.requires.row) in
     on_err c.row.result (front_one _ _ _ _ _ says) c.row.ensures.err
+
+pub returns-in_default-clause-slots : goal.returns-in_default-clause-slots
+returns-in_default-clause-slots g c = keep_none _ _ _
+
+pub returns-clause-slots : goal.returns-clause-slots
+returns-clause-slots g c = record { sum = c.row.ensures.slots; alone = λ none. (c.row.ensures.others.alone none).rest.free_slots }

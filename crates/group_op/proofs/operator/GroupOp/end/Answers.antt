@@ -1,14 +1,14 @@
-use Rattle.std.proofs.Common.{◌∙◌, ℕ, Option, Some, None, ap, sym, subst}
+use Rattle.std.proofs.Common.{◌≡◌, ◌∙◌, ℕ, Option, Some, None, ap, sym, subst}
 use Rattle.store_api.specs.Conditions.{IsIdle}
 use Rattle.store_api.specs.Holdings.{Holdings}
 use Rattle.store_api.specs.Signs.{Signs}
 use Rattle.bucket_table.specs.Tables.{Table}
 use Rattle.group_op.specs.Held.{LeavesOthers, lent, state}
 use Rattle.group_op.specs.Operator.{IsOperator, Operator, operator}
-use Rattle.tuple_stream.specs.Families.{AllClosed}
+use Rattle.tuple_stream.specs.Families.{AllClosed, slots_in}
 use Rattle.partition_stack.specs.Stack.{over}
 use Rattle.group_op.proofs.Begun.{closed_first, ended_first}
-use Rattle.group_op.proofs.Ended.{ended_idle, ended_leaves, freed_all, freed_idle}
+use Rattle.group_op.proofs.Ended.{ended_idle, ended_leaves, ended_slots, freed_all, freed_idle, freed_slots}
 use Rattle.group_op.proofs.operator.GroupOp.end.Goals as goal
 
 pub returns-in-Some-clause-idle : goal.returns-in-Some-clause-idle
@@ -68,3 +68,25 @@ returns-in_default-clause-first g c = λ closed.
     let s : Signs = g.St.Store.signs c.args.store.now in
     let own : AllClosed (over c.self.inside.parts h s) = subst (λ (o : Operator). AllClosed (over o.parts h s)) (sym c.self.view_is) closed in
     ended_first (over c.self.inside.parts h s) s.trail (g.St.Store.signs c.end.new.store).trail own c.end.ensures.trail
+
+pub returns-in-Some-clause-slots : goal.returns-in-Some-clause-slots
+returns-in-Some-clause-slots g c =
+    let me = c.self.inside in
+    let h : Holdings = g.St.Store.holds c.args.store.now in
+    let s : Signs = g.St.Store.signs c.args.store.now in
+    let is : IsOperator (operator me.client me.shape me.parts (Some c.in-Some.table)) h s =
+    subst (λ (o : Operator). IsOperator o h s) (sym c.self.view_is ∙ ap (λ (x : Option Table). operator me.client me.shape me.parts x) c.in-Some.is) c.requires in
+    let held = is.has.0 in
+    subst (λ (o : Operator). (g.St.Store.holds c.close.new.store).free_slots ≡ slots_in (over o.parts h s)) c.self.view_is
+    (freed_slots me.client.tracker (lent (state c.in-Some.table me.parts h s)) me.parts h (g.St.Store.holds c.end.new.store) s (g.St.Store.signs c.end.new.store) held.owns c.end.ensures
+    c.in-Some.table (g.St.Store.holds c.close.new.store) s (g.St.Store.signs c.close.new.store) held.client held.loans c.close.ensures.lends)
+
+pub returns-in_default-clause-slots : goal.returns-in_default-clause-slots
+returns-in_default-clause-slots g c =
+    let me = c.self.inside in
+    let h : Holdings = g.St.Store.holds c.args.store.now in
+    let s : Signs = g.St.Store.signs c.args.store.now in
+    let is : IsOperator (operator me.client me.shape me.parts None) h s =
+    subst (λ (o : Operator). IsOperator o h s) (sym c.self.view_is ∙ ap (λ (x : Option Table). operator me.client me.shape me.parts x) c.in_default.is) c.requires in
+    subst (λ (o : Operator). (g.St.Store.holds c.end.new.store).free_slots ≡ slots_in (over o.parts h s)) c.self.view_is
+    (ended_slots me.client.tracker 0 me.parts h (g.St.Store.holds c.end.new.store) s (g.St.Store.signs c.end.new.store) is.has.0 c.end.ensures)

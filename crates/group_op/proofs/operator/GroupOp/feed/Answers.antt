@@ -1,7 +1,12 @@
-use Rattle.std.proofs.Common.{◌≡◌, ◌*◌, ℕ, length, ap, sym, arith}
+use Rattle.std.proofs.Common.{◌≡◌, ◌*◌, ℕ, IfErr, length, refl, ap, sym, subst, arith}
 use Rattle.bucket_table.proofs.Opened.{most_len}
+use Rattle.tuple_stream.specs.Families.{slots_in}
+use Rattle.partition_stack.specs.Stack.{over}
+use Rattle.partition_stack.proofs.Slots.{full_since}
+use Rattle.group_op.specs.Causes.{IsWantOf}
 use Rattle.group_op.specs.Operator.{Operator}
 use Rattle.group_op.proofs.operator.GroupOp.feed.Goals as goal
+use Rattle.group_op.proofs.operator.GroupOp.feed.Goals.{in-Err, in-Ok}
 
 pub spell-requires-clause-short : goal.spell-requires-clause-short
 spell-requires-clause-short g c =
@@ -13,3 +18,16 @@ spell-requires-clause-short g c =
     let page : blocks * h.block_len ≡ blocks * c.block_len-len.result = ap (λ (n : ℕ). blocks * n) (sym len) in
     let short = c.requires.row.short in
     omega (arith, most, same, page, short)
+
+pub returns-clause-want : goal.returns-clause-want
+returns-clause-want g c =
+    let h = g.St.Store.holds c.args.store.now in
+    let s = g.St.Store.signs c.args.store.now in
+    let p = c.self.inside.parts in
+    subst (λ (o : Operator). IfErr c.match-feed_row.result (IsWantOf o.parts.page_blocks (slots_in (over o.parts h s)))) c.self.view_is
+    (elim c.match-feed_row.branch [
+      | in-Ok w ↦ rw w.result-is tt
+      | in-Err w ↦
+          rw w.result-is
+          (full_since p.page_blocks p.page_blocks (over p h s) (over c.feed_row.new.parts (g.St.Store.holds c.feed_row.new.store) (g.St.Store.signs c.feed_row.new.store)) c.feed_row.ensures.slots c.law_stack.ensures.each refl w.in-Err.e w.in-Err.ensures.full)
+    ])

@@ -2,15 +2,17 @@ use Rattle.std.proofs.Common.{◌≡◌, List, Option, IfErr, OnErr, OnOk, true,
 use Rattle.pool_model.specs.declared.entry.Entry.{Entry}
 use Rattle.row_codec.specs.declared.values.Value.{Value}
 use Rattle.row_codec.specs.Order.{path_order}
+use Rattle.tuple_stream.specs.Families.{slots_in}
 use Rattle.tuple_stream.specs.Trails.{EnteredEvents}
 use Rattle.partition_stack.specs.Stack.{over}
 use Rattle.group_rows.specs.Partials.{groups_by}
 use Rattle.group_op.specs.Emission.{Emitted, EmittedFront}
-use Rattle.group_op.specs.Causes.{CameOfEither}
+use Rattle.group_op.specs.Causes.{CameBeside}
+use Rattle.group_op.specs.Finishing.{LeavesWith}
 use Rattle.group_op.specs.Laid.{HoldsGroups}
 use Rattle.group_op.specs.Operator.{Keeps, Operator, page_of}
 use Rattle.group_op.specs.Stored.{grouping_of}
-use Rattle.group_op.proofs.Shorts.{both_causes}
+use Rattle.group_op.proofs.Sharing.{both_came}
 use Rattle.group_op.proofs.operator.GroupOp.finish.Goals as goal
 
 pub returns-clause-ok : goal.returns-clause-ok
@@ -39,5 +41,15 @@ returns-clause-kept g c =
 
 pub returns-clause-cause : goal.returns-clause-cause
 returns-clause-cause g c =
-    subst (λ (op : Operator). IfErr c.finish_op.result (CameOfEither op.parts.page_blocks (g.E.Emit.client c.args.emit.now) (g.E.Emit.faults c.args.emit.now) (g.E.Emit.faults c.finish_op.new.emit) (g.St.Store.signs c.args.store.now) (g.St.Store.signs c.finish_op.new.store))) c.self.view_is
-    (both_causes c.finish_op.result _ _ _ _ _ _ c.finish_op.ensures.cause c.finish_op.ensures.short)
+    let h = g.St.Store.holds c.args.store.now in
+    let s = g.St.Store.signs c.args.store.now in
+    subst (λ (op : Operator). IfErr c.finish_op.result (CameBeside op.parts.page_blocks (slots_in (over op.parts h s)) (g.E.Emit.client c.args.emit.now) (g.E.Emit.faults c.args.emit.now) (g.E.Emit.faults c.finish_op.new.emit) s (g.St.Store.signs c.finish_op.new.store))) c.self.view_is
+    (both_came c.finish_op.result _ _ _ _ _ _ _ c.finish_op.ensures.cause c.finish_op.ensures.want)
+
+pub returns-clause-leaves : goal.returns-clause-leaves
+returns-clause-leaves g c =
+    let h = g.St.Store.holds c.args.store.now in
+    let new = g.St.Store.holds c.finish_op.new.store in
+    let s = g.St.Store.signs c.args.store.now in
+    subst (λ (op : Operator). LeavesWith op.client.tracker (g.E.Emit.client c.args.emit.now) (g.E.Emit.slots c.args.emit.now h) (g.E.Emit.slots c.finish_op.new.emit new) (over op.parts h s) (over c.finish_op.new.parts new (g.St.Store.signs c.finish_op.new.store))) c.self.view_is
+    c.finish_op.ensures.leaves

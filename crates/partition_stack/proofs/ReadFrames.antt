@@ -1,5 +1,5 @@
 -- What stays while a stream is read and rows go to an emitter.
-use Rattle.std.proofs.Common.{◌≡◌, ◌≢◌, ◌⊎◌, ◌∙◌, inl, inr, ℕ, ◌+◌, ◌*◌, ◌≤◌, List, [], ◌++◌, Option, Some, None, IsSome, refl, ap, sym, subst, arith, append-nil, append_assoc, if◌then◌else◌}
+use Rattle.std.proofs.Common.{◌≡◌, ◌≢◌, ◌⊎◌, ◌∙◌, inl, inr, ℕ, ◌+◌, ◌*◌, ◌≤◌, List, ◌++◌, Option, Some, None, IsSome, refl, ap, sym, subst, arith, if◌then◌else◌}
 use Rattle.std.specs.Prelude.{is_some, option_map, slice_get}
 use Rattle.row_codec.specs.declared.values.Value.{Value}
 use Rattle.store_api.specs.Emitters.{HasClient, OthersStay, SameFor, SameOwn}
@@ -8,6 +8,7 @@ use Rattle.store_api.specs.Signs.{Signs}
 use Rattle.store_api.specs.Tokens.{ClientToken, PageToken}
 use Rattle.store_api.proofs.Growing.{grows_refl, grows_trans}
 use Rattle.store_api.proofs.Puts.{there}
+use Rattle.tuple_stream.specs.Places.{IsPlace, Place}
 use Rattle.tuple_stream.specs.Steps.{Reads, scene}
 use Rattle.tuple_stream.specs.Streamed.{OpenPage, Streamed, len_in}
 use Rattle.tuple_stream.specs.Streams.{IsApart, IsOwnPage, IsShaped}
@@ -15,24 +16,24 @@ use Rattle.tuple_stream.specs.Touches.{held, with_unused}
 use Rattle.tuple_stream.proofs.Chosen.{all_placed, at_place}
 use Rattle.tuple_stream.proofs.Frames.{still_some}
 use Rattle.tuple_stream.proofs.ReadRow.{still_shows}
-use Rattle.store_api.specs.declared.shapes.Shape.{Shape}
-use Rattle.group_rows.specs.Partials.{Partial}
-use Rattle.group_op.specs.Emission.{Emitted, EmittedFront, Stood, WentOn}
-use Rattle.group_op.specs.Scanning.{IsReadable, IsSameQuery, ReadBeside, StaysEmitter}
-use Rattle.group_op.proofs.Agreeing.{agreed_rows, agreed_shape}
+use Rattle.partition_stack.specs.Emitting.{StaysEmitter, Stood, WentOn}
+use Rattle.partition_stack.specs.Reading.{IsReadable, IsSameQuery, ReadBeside}
+use Rattle.partition_stack.proofs.Agreeing.{agreeing_places, agreeing_rows, agreeing_shape}
+use Rattle.partition_stack.proofs.Emitters.{went_none, went_then}
+use Rattle.partition_stack.proofs.Left.{same_then}
 
-unused_again : (o : Option Account) → o ≡ option_map (with_unused (or_else no_account o).unused) o
+pub unused_again : (o : Option Account) → o ≡ option_map (with_unused (or_else no_account o).unused) o
 unused_again None = refl
 unused_again (Some account) = refl
 
-unused_twice : (o : Option Account) (m n : ℕ) → option_map (with_unused n) (option_map (with_unused m) o) ≡ option_map (with_unused n) o
+pub unused_twice : (o : Option Account) (m n : ℕ) → option_map (with_unused n) (option_map (with_unused m) o) ≡ option_map (with_unused n) o
 unused_twice None m n = refl
 unused_twice (Some account) m n = refl
 
-query_same : (h : Holdings) → IsSameQuery h h
+pub query_same : (h : Holdings) → IsSameQuery h h
 query_same h = record { block_len = refl; session = refl; query = refl; limit = refl; live_clients = refl; told = refl; reservation = omega arith }
 
-query_trans : (a b c : Holdings) → IsSameQuery a b → IsSameQuery b c → IsSameQuery a c
+pub query_trans : (a b c : Holdings) → IsSameQuery a b → IsSameQuery b c → IsSameQuery a c
 query_trans a b c one two =
     record {
       block_len = two.block_len ∙ one.block_len;
@@ -44,15 +45,7 @@ query_trans a b c one two =
       reservation = let x = one.reservation in let y = two.reservation in omega (arith, x, y);
     }
 
-same_for_trans : (t : ℕ) (a b c : Holdings) → SameFor t a b → SameFor t b c → SameFor t a c
-same_for_trans t a b c one two =
-    record {
-      account = two.account ∙ one.account;
-      pages = λ q page own. (λ is. (one.pages q page own).0 ((two.pages q page own).0 is), λ is. (two.pages q page own).1 ((one.pages q page own).1 is));
-      loans = λ q loan own. (λ is. (one.loans q loan own).0 ((two.loans q loan own).0 is), λ is. (two.loans q loan own).1 ((one.loans q loan own).1 is));
-    }
-
-same_for : (t : ℕ) (h : Holdings) → SameFor t h h
+pub same_for : (t : ℕ) (h : Holdings) → SameFor t h h
 same_for t h = record { account = refl; pages = λ q page own. (λ is. is, λ is. is); loans = λ q loan own. (λ is. is, λ is. is) }
 
 -- ---- none, and two one after the other
@@ -85,7 +78,7 @@ beside_trans t client s a b h0 h1 h2 lives one two =
           let far : IsApart q a.pages = subst (IsApart q) (sym pages) apart in
           (λ is. (one.pages q page own apart).0 ((two.pages q page own far).0 is), λ is. (two.pages q page own far).1 ((one.pages q page own apart).1 is));
       loans = λ q loan own. (λ is. (one.loans q loan own).0 ((two.loans q loan own).0 is), λ is. (two.loans q loan own).1 ((one.loans q loan own).1 is));
-      others = λ u apart free. same_for_trans u h0 h1 h2 (one.others u apart free) (two.others u apart free);
+      others = λ u apart free. same_then u h0 h1 h2 (one.others u apart free) (two.others u apart free);
       query = query_trans h0 h1 h2 one.query two.query;
     }
 
@@ -155,19 +148,26 @@ module _ (t : ℕ) (s now : Streamed) (old new : Holdings) (before after : Signs
 
 -- ---- rows went to an emitter
 
+stood_agrees : (t : ℕ) (client : Option ℕ) (s : Streamed) (old new : Holdings) → client ≢ Some t → IsShaped t s old → OthersStay client old new → (k : ℕ) (p : PageToken) → slice_get s.pages k ≡ Some p → new.pages p.name ≡ old.pages p.name
+stood_agrees t client s old new free is stay k p at =
+    let own = at_place (IsOwnPage t s.page_blocks old) s.pages k p is.own at in
+    let lives : old.pages p.name ≡ Some (page_of p.name old) = there no_page (old.pages p.name) own.page.lives in
+    ((stay.others t free).pages p.name (page_of p.name old) (own.page.client ∙ own.client)).1 lives ∙ sym lives
+
+-- a place of the stream is one still
+pub stood_place : (t : ℕ) (client : Option ℕ) (s : Streamed) (old new : Holdings) → client ≢ Some t → IsShaped t s old → OthersStay client old new → (place : Place) → IsPlace place s old → IsPlace place s new
+stood_place t client s old new free is stay = agreeing_places t s old new is stay.block_len (stood_agrees t client s old new free is stay)
+
 pub stood_beside : (t : ℕ) (client : Option ℕ) (s : Streamed) (old new : Holdings) → client ≢ Some t → IsShaped t s old → OthersStay client old new → ReadBeside t client s s old new
 stood_beside t client s old new free is stay =
     let same : SameFor t old new = stay.others t free in
-    let stays : (k : ℕ) (p : PageToken) → slice_get s.pages k ≡ Some p → new.pages p.name ≡ old.pages p.name = λ k p at.
-    let own = at_place (IsOwnPage t s.page_blocks old) s.pages k p is.own at in
-    let lives : old.pages p.name ≡ Some (page_of p.name old) = there no_page (old.pages p.name) own.page.lives in
-    (same.pages p.name (page_of p.name old) (own.page.client ∙ own.client)).1 lives ∙ sym lives in
+    let stays : (k : ℕ) (p : PageToken) → slice_get s.pages k ≡ Some p → new.pages p.name ≡ old.pages p.name = stood_agrees t client s old new free is stay in
     let unused : unused_of t new ≡ unused_of t old = ap (λ (o : Option Account). (or_else no_account o).unused) same.account in
     let holds : held s new ≡ held s old = ap (λ (n : ℕ). if is_some s.pinned then s.page_blocks * n else 0) stay.block_len in
     record {
-      shape = agreed_shape t s old new is stay.block_len stays;
+      shape = agreeing_shape t s old new is stay.block_len stays;
       same = refl;
-      rows = λ rows told has. agreed_rows t s old new is stay.block_len stays rows has;
+      rows = λ rows told has. agreeing_rows t s old new is stay.block_len stays rows has;
       unused = omega (arith, unused, holds);
       account = λ lives. same.account ∙ unused_again (old.clients t) ∙ ap (λ (n : ℕ). option_map (with_unused n) (old.clients t)) (sym unused);
       pages = λ q page own apart. same.pages q page own;
@@ -215,21 +215,6 @@ client_stays (Some t) old new same lives = subst (λ (o : Option Account). IsSom
 
 -- ---- all of it
 
-pub went_none : (was : List (List Value) → Type 0) → WentOn was was
-went_none was = λ taken took. ([], subst was (sym (append-nil taken)) took)
-
-pub went_trans : (was mid now : List (List Value) → Type 0) → WentOn was mid → WentOn mid now → WentOn was now
-went_trans was mid now one two = λ taken took.
-    let first = one taken took in
-    let second = two (taken ++ first.0) first.1 in
-    (first.0 ++ second.0, subst now (append_assoc taken first.0 second.0) second.1)
-
-pub went_emitted : {shape : Shape} {was now : List (List Value) → Type 0} {partials : List Partial} → Emitted shape was now partials → WentOn was now
-went_emitted emitted = λ taken took. (emitted.rows, emitted.came taken took)
-
-pub went_front : {shape : Shape} {was now : List (List Value) → Type 0} {partials : List Partial} → EmittedFront shape was now partials → WentOn was now
-went_front front = λ taken took. let came = front taken took in (came.rows, came.came)
-
 pub record Stays (c : ClientToken) (s0 s : Streamed) (h0 h : Holdings) (before after : Signs) (admits0 admits : List Value → Type 0) (client0 client : Option ℕ) (f0 f : ℕ) (took0 took : List (List Value) → Type 0) : Type 0 where
   pub beside : ReadBeside c.tracker client0 s0 s h0 h
   pub readable : IsReadable c s h
@@ -242,7 +227,7 @@ stays_none c s h signs admits client f took is lives =
       beside = beside_none c.tracker client s h is.shape;
       readable = is;
       emitter = record { admits_same = λ row. (λ is. is, λ is. is); client_same = refl; lives = lives; never_falls = omega arith; grows = grows_refl signs };
-      went = went_none took;
+      went = went_none took took (λ rows was. was);
     }
 
 module _ (c : ClientToken) (s0 s : Streamed) (h0 h : Holdings) (before mid : Signs) (admits0 admits : List Value → Type 0) (client0 client : Option ℕ) (f0 f : ℕ) (took0 took : List (List Value) → Type 0) (lives : IsSome (h0.clients c.tracker)) (free : client0 ≢ Some c.tracker) (so : Stays c s0 s h0 h before mid admits0 admits client0 client f0 f took0 took) where
@@ -281,5 +266,5 @@ module _ (c : ClientToken) (s0 s : Streamed) (h0 h : Holdings) (before mid : Sig
           never_falls = let x = so.emitter.never_falls in let y = stood.never_falls in omega (arith, x, y);
           grows = grows_trans before mid after so.emitter.grows stood.grows;
         };
-        went = went_trans took0 took took1 so.went on;
+        went = went_then took0 took took1 so.went on;
       }

@@ -7,7 +7,8 @@ use Rattle.store_api.specs.Signs.{Signs}
 use Rattle.store_api.specs.declared.op_err.OpErr.{OpErr}
 use Rattle.store_api.specs.declared.op_err.OpErr.TheVariants.{Pool, Sink}
 use Rattle.tuple_stream.specs.Touches.{IsFull}
-use Rattle.group_op.specs.Causes.{CameOfEither, IsShort, IsShortOf}
+use Rattle.partition_stack.specs.Causes.{CameOfEither, IsShort, IsShortOf}
+use Rattle.partition_stack.proofs.Results.{if_err}
 
 pub full_short : (blocks : ℕ) (free : Option ℕ) (e : PoolErr) → IsFull blocks free e → IsShort blocks e
 full_short blocks free (NoReservation tracker wanted room) full = tt
@@ -17,10 +18,6 @@ full_short blocks free (ReadFault entry) full = tt
 full_short blocks free (TooManyTrackers count) full = tt
 full_short blocks free NamesSpent full = tt
 full_short blocks free Memory full = tt
-
-pub if_err : {X E : Type 0} {P Q : E → Type 0} (r : Result X E) → ((e : E) → P e → Q e) → IfErr r P → IfErr r Q
-if_err (Ok x) so holds = tt
-if_err (Err e) so holds = so e holds
 
 pub short_err : {X : Type 0} (r : Result X PoolErr) (m n : ℕ) (free : Option ℕ) → m ≡ n → IfErr r (IsFull m free) → IfErr r (IsShort n)
 short_err r m n free same full = if_err r (λ e is. subst (λ (k : ℕ). IsShort k e) same (full_short m free e is)) full
