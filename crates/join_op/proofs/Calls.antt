@@ -23,7 +23,7 @@ use Rattle.join_op.specs.Operator.{IsOperator, operator}
 none_held : (s : Streamed) (h : Holdings) → s.pinned ≡ None → held s h ≡ 0
 none_held s h closed = ap (λ (o : Option OpenPage). if is_some o then len_in s h else 0) closed
 
-all_rest : (streams : List Streamed) (h : Holdings) → ((i : ℕ) (s : Streamed) → slice_get streams i ≡ Some s → i < length streams → s.pinned ≡ None) → sum_by (λ s. held s h) streams ≡ 0
+pub all_rest : (streams : List Streamed) (h : Holdings) → ((i : ℕ) (s : Streamed) → slice_get streams i ≡ Some s → i < length streams → s.pinned ≡ None) → sum_by (λ s. held s h) streams ≡ 0
 all_rest [] h rests = refl
 all_rest (s ∷ streams) h rests =
     let head = none_held s h (rests 0 s refl (omega arith)) in

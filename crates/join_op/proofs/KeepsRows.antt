@@ -1,6 +1,6 @@
 -- What a join keeps once a row was fed.
-use Rattle.std.proofs.Common.{◌≡◌, ◌∙◌, inl, inr, ℕ, zero, suc, ◌+◌, ◌-◌, ◌<◌, List, [], ◌∷◌, ◌++◌, length, replicate, Option, Some, refl, ap, sym, subst, arith, append-nil, append_assoc}
-use Rattle.std.specs.Prelude.{⊤, All, slice_get}
+use Rattle.std.proofs.Common.{◌≡◌, ◌∙◌, inl, inr, ℕ, zero, suc, ◌+◌, ◌-◌, ◌<◌, List, [], ◌∷◌, ◌++◌, length, replicate, Option, Some, refl, ap, sym, subst, arith, append-nil, append_assoc, length-append}
+use Rattle.std.specs.Prelude.{⊤, All, filter_map, slice_get}
 use Rattle.std.specs.List.{sum_by}
 use Rattle.std.proofs.lemmas.List.Elements.{All-append, All-nil, filter_map-append}
 use Rattle.std.proofs.lemmas.List.Sums.{sum_by-append, sum_by_push}
@@ -15,9 +15,10 @@ use Rattle.store_api.specs.Holdings.{Holdings}
 use Rattle.store_api.specs.Signs.{Signs}
 use Rattle.store_api.specs.Tokens.{ClientToken}
 use Rattle.store_api.specs.declared.shapes.JoinShape.{JoinShape}
-use Rattle.tuple_stream.specs.Families.{Family, LaysAll, weight}
+use Rattle.tuple_stream.specs.Families.{Family, LaysAll, pages_in, weight}
 use Rattle.tuple_stream.specs.FamilyCalls.{AllAtEnd, AreSteady, Feeds, HaveLaid, RestsSome, shares}
-use Rattle.tuple_stream.specs.Trails.{EnteredEvents, IsBuilding, Left, all_left, left_by}
+use Rattle.pool_model.specs.LookingBack.{name_in}
+use Rattle.tuple_stream.specs.Trails.{EnteredEvents, IsBuilding, Left, all_left, creates_in, left_by}
 use Rattle.tuple_stream.proofs.PageLists.{no_length}
 use Rattle.tuple_stream.proofs.Sinces.{since_joined}
 use Rattle.partition_stack.specs.Stack.{Stack, empty, first_sixteen, over}
@@ -31,12 +32,19 @@ left_sum : (w : Left → ℕ) (xs ys : List Event) → sum_by w (all_left (xs ++
 left_sum w xs ys = ap (sum_by w) (filter_map-append left_by xs ys) ∙ sum_by-append w (all_left xs) (all_left ys)
 
 -- a side that goes on laying its pages
-lays_on : {K R : Type 0} (f g : Family) (first next : List Event) → K → HaveLaid f first → LaysAll K R f g next → HaveLaid g (first ++ next)
+pub lays_on : {K R : Type 0} (f g : Family) (first next : List Event) → K → HaveLaid f first → LaysAll K R f g next → HaveLaid g (first ++ next)
 lays_on f g first next steady laid lays =
     record {
       building = All-append IsBuilding first next laid.building (lays.building steady);
       left = λ w. let all = left_sum w first next in let was = laid.left w in let more = lays.left steady w in omega (arith, all, was, more);
     }
+
+made_sum : (xs ys : List Event) → creates_in (xs ++ ys) ≡ creates_in xs + creates_in ys
+made_sum xs ys = ap length (filter_map-append name_in xs ys) ∙ length-append (filter_map name_in xs) (filter_map name_in ys)
+
+-- and goes on making them
+pub makes_on : {K R : Type 0} (f g : Family) (first next : List Event) → creates_in first ≡ pages_in f → LaysAll K R f g next → creates_in (first ++ next) ≡ pages_in g
+makes_on f g first next made lays = let all = made_sum first next in let more = lays.creates in omega (arith, all, made, more)
 
 -- before the right side has a page, all entries are of the left one
 left_alone : (f g : Family) (events : List Event) → ((w : Left → ℕ) → weight w g ≡ 0) → LaidBoth f g events → HaveLaid f events
@@ -51,6 +59,17 @@ left_alone f g events none laid =
           let zero_right = none w in
           omega (arith, all, sum, one, two, zero_right);
     }
+
+made_alone : (f g : Family) (events : List Event) → pages_in g ≡ 0 → LaidBoth f g events → creates_in events ≡ pages_in f
+made_alone f g events none laid =
+    let all : creates_in events ≡ creates_in (laid.lefts ++ laid.rights) = ap creates_in laid.are in
+    let sum = made_sum laid.lefts laid.rights in
+    let one = laid.left_made in
+    let two = laid.right_made in
+    omega (arith, all, sum, one, two, none)
+
+no_pages : (blocks : ℕ) (h : Holdings) (signs : Signs) → pages_in (over (first_sixteen blocks) h signs) ≡ 0
+no_pages blocks h signs = refl
 
 none_left : (w : Left → ℕ) (blocks : ℕ) (h : Holdings) (signs : Signs) → weight w (over (first_sixteen blocks) h signs) ≡ 0
 none_left w blocks h signs = refl
@@ -101,12 +120,14 @@ module _ (c : ClientToken) (shape : JoinShape) (left right : Stack) (h : Holding
                 building = All-nil IsBuilding;
                 left = λ w. sym (ap (λ (s : Stack). weight w (over s new after)) none ∙ none_left w right.page_blocks new after);
               };
+              left_made = makes_on (over left h signs) (over now new after) first next (made_alone (over left h signs) (over right h signs) first (ap (λ (s : Stack). pages_in (over s h signs)) none ∙ no_pages right.page_blocks h signs) laid) lays;
+              right_made = sym (ap (λ (s : Stack). pages_in (over s new after)) none ∙ no_pages right.page_blocks new after);
             })
             keeps.laid feeds.steps.trail;
       }
 
 -- a side that was let rest
-rested : (t many : ℕ) (side : Side) (fed : List (List Value)) (f g : Family) → RestsSome t many f g → KeepsSide side fed f → KeepsSide side fed g
+pub rested : (t many : ℕ) (side : Side) (fed : List (List Value)) (f g : Family) → RestsSome t many f g → KeepsSide side fed f → KeepsSide side fed g
 rested t many side fed f g rests keeps =
     record { rows = keeps.rows; shows = rests.rows keeps.rows keeps.shows; formed = keeps.formed; placed = keeps.placed; same = keeps.same; whole = rests.whole keeps.whole }
 
@@ -132,7 +153,7 @@ some_fed side fed row p h signs keeps none =
 module _ (c : ClientToken) (shape : JoinShape) (left now right : Stack) (h h1 : Holdings) (s s1 : Signs) (start : Option (List Entry)) (lefts rights : List (List Value)) (keeps : Keeps start lefts rights (operator c shape left right) h s)
     (called : CallsBeside c.tracker left now right h h1 s s1) (rests : RestsSome c.tracker (length left.streams) (over left h s) (over now h1 s1)) where
   -- the left side was let rest before a right row came
-  laid_rested : HasNoRight (operator c shape left right) → EnteredEvents (LaidBoth (over now h1 s1) (over right h1 s1)) start s1.trail
+  pub laid_rested : HasNoRight (operator c shape left right) → EnteredEvents (LaidBoth (over now h1 s1) (over right h1 s1)) start s1.trail
   laid_rested none =
       since_joined (LaidBoth (over left h s) (over right h s)) (LaysAll (AreSteady (over left h s)) ⊤ (over left h s) (over now h1 s1)) (LaidBoth (over now h1 s1) (over right h1 s1)) start s.trail s1.trail
       (λ first next laid lays.
@@ -146,6 +167,8 @@ module _ (c : ClientToken) (shape : JoinShape) (left now right : Stack) (h h1 : 
           building = All-nil IsBuilding;
           left = λ w. sym (ap (λ (p : Stack). weight w (over p h1 s1)) none ∙ none_left w right.page_blocks h1 s1);
         };
+        left_made = makes_on (over left h s) (over now h1 s1) first next (made_alone (over left h s) (over right h s) first (ap (λ (p : Stack). pages_in (over p h s)) none ∙ no_pages right.page_blocks h s) laid) lays;
+        right_made = sym (ap (λ (p : Stack). pages_in (over p h1 s1)) none ∙ no_pages right.page_blocks h1 s1);
       })
       keeps.laid rests.steps.trail
 
@@ -171,6 +194,8 @@ module _ (c : ClientToken) (shape : JoinShape) (left now right : Stack) (h h1 : 
               are = ap (λ (es : List Event). es ++ next) laid.are ∙ append_assoc laid.lefts laid.rights next;
               left = record { building = laid.left.building; left = λ w. laid.left.left w ∙ sym (beside.weighs w) };
               right = lays_on (over right h1 s1) (over last h2 s2) laid.rights next keeps.right_ends laid.right lays;
+              left_made = laid.left_made;
+              right_made = makes_on (over right h1 s1) (over last h2 s2) laid.rights next laid.right_made lays;
             })
             entered feeds.steps.trail;
       }

@@ -7,5 +7,29 @@ pub mod FedSide
 pub mod Spellable
 pub mod KeepsRows
 mod Started
-mod Ended
+pub mod Ended
 mod Trying
+mod TwoStreams
+pub mod Handed
+pub mod Fans
+pub mod Dealing
+pub mod Advances
+pub mod Divides
+pub mod Going
+pub mod Besides
+pub mod Rooms
+pub mod BothRead
+pub mod First
+pub mod ChunkPairs
+pub mod KeptList
+pub mod Halves
+pub mod Paired
+pub mod BothFrames
+pub mod ChunkJoins
+pub mod ChunkRounds
+pub mod Stepped
+pub mod Rests
+pub mod PagesOnce
+pub mod LaidSides
+pub mod Wholes
+pub mod Cleared

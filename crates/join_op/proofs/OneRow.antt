@@ -42,6 +42,20 @@ row_is_one vs some short =
       whole = ap framed_len (framed_there body fits) ∙ rw (ne_eqb (length body) 0 (λ none. omega (arith, none, inside))) refl ∙ sym long;
     }
 
+-- so are bytes that are a row of some kinds
+pub read_is_one : (kinds : List Kind) (bytes : List ℕ) → IsRowOf kinds bytes → IsOneRow bytes
+unfolding row_bytes
+read_is_one kinds bytes is =
+    let vs : List Value = values_at kinds bytes in
+    let body : List ℕ = flat_map field_bytes vs in
+    let long : length (framed body) ≡ 4 + length body = length-append (to_be_bytes w32 (length body)) body in
+    let fits = is.is_row.fits in
+    let inside : 0 < length body = body_some vs is.is_row.some in
+    subst IsOneRow is.spelled (record {
+      some = omega (arith, long);
+      whole = ap framed_len (framed_there body fits) ∙ rw (ne_eqb (length body) 0 (λ none. omega (arith, none, inside))) refl ∙ sym long;
+    })
+
 pub body_fits : (vs : List Value) → length (row_bytes vs) < 2 ^ 32 → length (flat_map field_bytes vs) < 2 ^ 32
 unfolding row_bytes
 body_fits vs short =

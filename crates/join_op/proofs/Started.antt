@@ -1,12 +1,6 @@
 -- What a join that was started has and keeps.
-use Rattle.std.proofs.Common.{◌≡◌, inl, ℕ, [], replicate, Some, refl, ap, sym, subst, arith}
-use Rattle.std.specs.Prelude.{slice_get}
+use Rattle.std.proofs.Common.{◌≡◌, inl, ℕ, [], refl, ap, sym, subst, arith}
 use Rattle.std.proofs.lemmas.List.Elements.{All-nil}
-use Rattle.std.proofs.lemmas.Option.{none-some}
-use Rattle.store_api.specs.Conditions.{IsBlockCount}
-use Rattle.store_api.specs.Holdings.{Holdings}
-use Rattle.store_api.specs.Signs.{Signs}
-use Rattle.store_api.specs.Tokens.{ClientToken}
 use Rattle.tuple_stream.specs.Streamed.{Streamed}
 use Rattle.tuple_stream.specs.Streams.{IsApart}
 use Rattle.tuple_stream.specs.Trails.{IsBuilding}
@@ -14,7 +8,7 @@ use Rattle.tuple_stream.specs.Families.{AreDisjoint}
 use Rattle.tuple_stream.proofs.Empty.{empty_at_end}
 use Rattle.tuple_stream.proofs.Sinces.{since_now}
 use Rattle.partition_stack.specs.Changes.{Owns}
-use Rattle.partition_stack.specs.Stack.{IsStack, Stack, empty, first_sixteen, over}
+use Rattle.partition_stack.specs.Stack.{empty, first_sixteen, over}
 use Rattle.partition_stack.proofs.First.{each_empty, first_owned, first_shows}
 use Rattle.row_reading.specs.Reading.{IsRowOf}
 use Rattle.join_op.specs.Operator.{KeepsSide, LaidBoth}
@@ -60,6 +54,6 @@ all_start c blocks shape h signs is sized may =
         left_ends = λ none i s there. empty_at_end blocks s (each_empty blocks i s there);
         right_ends = λ i s there. empty_at_end blocks s (each_empty blocks i s there);
         laid = since_now (LaidBoth (over (first_sixteen blocks) h signs) (over (first_sixteen blocks) h signs)) signs.trail
-            (record { lefts = []; rights = []; are = refl; left = record { building = All-nil IsBuilding; left = λ w. refl }; right = record { building = All-nil IsBuilding; left = λ w. refl } });
+            (record { lefts = []; rights = []; are = refl; left = record { building = All-nil IsBuilding; left = λ w. refl }; right = record { building = All-nil IsBuilding; left = λ w. refl }; left_made = refl; right_made = refl });
       };
     }

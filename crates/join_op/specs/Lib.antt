@@ -5,3 +5,10 @@ pub mod Operator
 pub mod Starting
 pub mod Inside
 pub mod Beside
+pub mod Handing
+pub mod Laid
+pub mod Dividing
+pub mod Joining
+pub mod Rested
+pub mod Chunks
+pub mod Alone

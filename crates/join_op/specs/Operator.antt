@@ -11,9 +11,9 @@ use Rattle.store_api.specs.Holdings.{Holdings, account_of, length_of}
 use Rattle.store_api.specs.Shapes.{IsJoinShape}
 use Rattle.store_api.specs.Signs.{Signs}
 use Rattle.store_api.specs.Tokens.{ClientToken}
-use Rattle.tuple_stream.specs.Families.{Family, ShowAll}
+use Rattle.tuple_stream.specs.Families.{Family, ShowAll, pages_in}
 use Rattle.tuple_stream.specs.FamilyCalls.{AllAtEnd, AllWhole, AreSteady, HaveLaid, shares}
-use Rattle.tuple_stream.specs.Trails.{EnteredEvents}
+use Rattle.tuple_stream.specs.Trails.{EnteredEvents, creates_in}
 use Rattle.row_reading.specs.Reading.{IsRowOf}
 use Rattle.partition_stack.specs.Leaving.{HasNoLoan}
 use Rattle.partition_stack.specs.Sides.{OwnBoth}
@@ -77,14 +77,16 @@ pub record KeepsSide (side : Side) (fed : List (List Value)) (f : Family) : Type
   pub same : SameRows (rows_in side (shares 16 rows)) fed
   pub whole : AllWhole f
 
--- the pages of the left side that rest were left by the first entries, and those of the right side by the others; each
--- once, while no page ended and none was pinned again
+-- the first entries made the pages of the left side and left those that rest, and the others did so for the right side; each
+-- was left once, while no page ended and none was pinned again
 pub record LaidBoth (f g : Family) (events : List Event) : Type 0 where
   pub lefts : List Event
   pub rights : List Event
   pub are : events ≡ lefts ++ rights
   pub left : HaveLaid f lefts
   pub right : HaveLaid g rights
+  pub left_made : creates_in lefts ≡ pages_in f
+  pub right_made : creates_in rights ≡ pages_in g
 
 -- what it keeps of the rows that were fed since its store's trail stood at `start`
 pub record Keeps (start : Option (List Entry)) (lefts rights : List (List Value)) (op : Operator) (h : Holdings) (signs : Signs) : Type 0 where

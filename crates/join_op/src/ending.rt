@@ -2,6 +2,9 @@
 ghost use Rattle.std.specs.Prelude.{◌≡◌};
 ghost use Rattle.store_api.specs.Conditions.{IsIdle};
 ghost use Rattle.partition_stack.specs.Leaving.{LeavesOthers};
+ghost use Rattle.partition_stack.specs.Stack.{over};
+ghost use Rattle.tuple_stream.specs.Families.{AllClosed};
+ghost use Rattle.tuple_stream.specs.Trails.{EnteredEvents, PinsFirst};
 ghost use Rattle.join_op.specs.Operator.{IsOperator};
 
 use crate::operator::JoinOp;
@@ -12,6 +15,8 @@ impl JoinOp {
     pub fn end<St: Store>(self, store: &mut St) -> Client
         requires { IsOperator self (St.holds store.old) (St.signs store.old) }
         ensures client { result ≡ self.client }
+        // Where no page was pinned, none is left before one is pinned again.
+        ensures first { AllClosed (over self.left (St.holds store.old) (St.signs store.old)) → AllClosed (over self.right (St.holds store.old) (St.signs store.old)) → EnteredEvents PinsFirst (St.signs store.old).trail (St.signs store.new).trail }
         ensures idle { IsIdle self.client.tracker (St.holds store.new) }
         ensures leaves { LeavesOthers self.client.tracker (St.holds store.old) (St.holds store.new) (St.signs store.old) (St.signs store.new) }
     {

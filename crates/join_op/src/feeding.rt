@@ -1,5 +1,5 @@
 //! Rows are fed to a join.
-ghost use Rattle.std.specs.Prelude.{◌≡◌, ◌≤◌, ◌++◌, ◌^◌, ◌∷◌, [], List, Option, Some, length, true, IfErr, OnErr, OnOk};
+ghost use Rattle.std.specs.Prelude.{◌≡◌, ◌++◌, ◌^◌, ◌∷◌, [], List, Option, length, true, IfErr, OnErr, OnOk};
 ghost use Rattle.pool_model.specs.declared.entry.Entry.{Entry};
 ghost use Rattle.row_codec.specs.declared.values.Value.{Value};
 ghost use Rattle.row_codec.specs.RowLaws.{IsRow};
@@ -131,7 +131,7 @@ impl JoinOp {
 }
 
 // Lets the left side rest, if it doesn't, so that there is room for a page of each right partition.
-fn rest_left<St: Store>(
+pub(crate) fn rest_left<St: Store>(
     store: &mut St,
     c: &Client,
     left: &mut Partitions,

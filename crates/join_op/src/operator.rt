@@ -1,5 +1,5 @@
 //! A join as a value.
-ghost use Rattle.std.specs.Prelude.{◌≡◌, ◌++◌, IfOk, IfErr, map, OnOk};
+ghost use Rattle.std.specs.Prelude.{◌≡◌, IfOk, IfErr, map};
 ghost use Rattle.store_api.specs.Conditions.{IsBlockCount};
 ghost use Rattle.store_api.specs.Shapes.{IsJoinShape};
 ghost use Rattle.join_op.specs.Operator.{started};
@@ -97,7 +97,7 @@ fn copied(alloc: Global, shape: &JoinShape) -> Result<JoinShape, Memory>
 }
 
 // The columns that are to be equal, those of the left side and those of the right one.
-fn columns_of(
+pub(crate) fn columns_of(
     alloc: Global,
     on: &[(usize, usize)],
 ) -> Result<(Vec<usize>, Vec<usize>), row_codec::Memory>

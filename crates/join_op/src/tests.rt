@@ -1,5 +1,6 @@
 //! Both sides of a join over a store in memory, against worked rows. A page has 64 bytes, and a row 9.
-ghost use Rattle.std.specs.Prelude.{◌≡◌, ℕ, ◌<◌, ◌∷◌, [], IfOk};
+ghost use Rattle.std.specs.Prelude.{◌≡◌, ℕ, ◌<◌, ◌∷◌, [], IfOk, None, ⊤, refl};
+ghost use Rattle.std.proofs.Common.{zero-le};
 ghost use Rattle.row_codec.specs.Row.{kinds_of};
 ghost use Rattle.row_codec.specs.declared.values.Kind.TheVariants.{Text};
 ghost use Rattle.store_api.specs.Conditions.{IsIdle, IsLiveClient, IsNewClient};
@@ -8,12 +9,14 @@ ghost use Rattle.store_api.specs.Shapes.{IsJoinShape};
 ghost use Rattle.join_op.specs.Operator.{HasNoRight, IsFeeding, IsOperator, IsSame};
 ghost use Rattle.join_op.specs.Starting.{MayStart};
 
+mod chunks;
+
 use crate::{JoinOp, law_starts};
 use reservation_tree::PoolErr;
 use row_codec::{Bytes, Kind, Value, encoded_len};
 use std::alloc::Global;
 use std::test::Fail;
-use store_api::{Client, JoinShape, Listed, MemStore, OpErr, Store};
+use store_api::{Client, Emit, JoinShape, Listed, MemStore, OpErr, Store};
 
 const MEMORY: OpErr = OpErr::Pool(PoolErr::Memory);
 
@@ -105,22 +108,56 @@ fn feed_rights<St: Store>(
     Ok(())
 }
 
-// How many rows each side has in a partition.
-fn counts(op: &JoinOp, at: usize) -> (u64, u64)
-    requires feeding { IsFeeding op.now }
-    requires inside { at < 16 }
-{
-    (op.left.rows(at), op.right.rows(at))
+// How many rows each side has in a partition, and how many pairs there are.
+#[derive(Clone, Copy, Debug, Drop, PartialEq, Eq)]
+struct Told {
+    left: u64,
+    right: u64,
+    pairs: u64,
 }
 
-// The same after the rows of both sides were fed.
+// Takes pairs, and counts them.
+#[derive(Drop)]
+struct Counted {
+    pairs: u64,
+}
+
+impl<St: Store> Emit<St> for Counted {
+    ghost took = { λ e h rows. ⊤ };
+
+    ghost admits = { λ e row. ⊤ };
+
+    ghost client = { λ e. None };
+
+    ghost faults = { λ e. 0 };
+
+    ghost slots = { λ e h. 0 };
+
+    ghost slots_for = { λ e rows. 0 };
+
+    ghost creates = { λ e. 0 };
+
+    #[tactic(auto, using(store_api::proofs::Growing::grows_refl, store_api::proofs::Untouched::others_stay))]
+    fn row(&mut self, _store: &mut St, _row: &[Value]) -> Result<(), OpErr> {
+        self.pairs = self.pairs.saturating_add(1);
+        Ok(())
+    }
+
+    ghost asks_own = { λ e old new rows same took. took };
+
+    ghost slots_own = { λ e old new same. refl };
+
+    ghost slots_fit = { λ e h rows took. zero-le };
+}
+
+// What it tells of the rows of both sides, once they were fed and the join was finished.
 fn fed<St: Store>(
     alloc: Global,
     store: &mut St,
     op: &mut JoinOp,
     keys: (&[u8], &[u8]),
     at: usize,
-) -> Result<(u64, u64), OpErr>
+) -> Result<Told, OpErr>
     requires op { IsOperator op.old (St.holds store.old) (St.signs store.old) }
     requires feeding { IsFeeding op.old }
     requires first { HasNoRight op.old }
@@ -133,7 +170,11 @@ fn fed<St: Store>(
 {
     feed_lefts(alloc, store, op, keys.0)?;
     feed_rights(alloc, store, op, keys.1)?;
-    Ok(counts(op, at))
+    let (left, right) = (op.left.rows(at), op.right.rows(at));
+    let mut counted = Counted { pairs: 0 };
+    op.finish(alloc, store, &mut counted)?;
+    let pairs = counted.pairs;
+    Ok(Told { left, right, pairs })
 }
 
 // The same by a join of its own, which ends.
@@ -144,7 +185,7 @@ fn started<St: Store>(
     shape: &JoinShape,
     keys: (&[u8], &[u8]),
     at: usize,
-) -> (Client, Result<(u64, u64), OpErr>)
+) -> (Client, Result<Told, OpErr>)
     requires start { MayStart c 1 (St.holds store.old) }
     requires shape { IsJoinShape shape.now }
     requires left { shape.now.left ≡ Text ∷ [] }
@@ -158,9 +199,9 @@ fn started<St: Store>(
     match JoinOp::start(alloc, c, 1, shape) {
         Err((c, _e)) => (c, Err(MEMORY)),
         Ok(mut op) => {
-            let counts = fed(alloc, store, &mut op, keys, at);
+            let told = fed(alloc, store, &mut op, keys, at);
             let _len = store.block_len();
-            (op.end(store), counts)
+            (op.end(store), told)
         }
     }
 }
@@ -173,7 +214,7 @@ fn reserved<St: Store>(
     shape: &JoinShape,
     keys: (&[u8], &[u8]),
     at: usize,
-) -> (Client, Result<(u64, u64), OpErr>)
+) -> (Client, Result<Told, OpErr>)
     requires new { (was : Holdings) × (limit : ℕ) × IsNewClient c limit was (St.holds store.old) }
     requires shape { IsJoinShape shape.now }
     requires left { shape.now.left ≡ Text ∷ [] }
@@ -197,7 +238,7 @@ fn run<St: Store>(
     shape: &JoinShape,
     keys: (&[u8], &[u8]),
     at: usize,
-) -> Result<((u64, u64), u64), OpErr>
+) -> Result<(Told, u64), OpErr>
     requires shape { IsJoinShape shape.now }
     requires left { shape.now.left ≡ Text ∷ [] }
     requires right { shape.now.right ≡ Text ∷ [] }
@@ -205,33 +246,40 @@ fn run<St: Store>(
     ensures { (St.holds store.new).live_clients ≡ (St.holds store.old).live_clients }
 {
     let c = store.add_client(u64::MAX)?;
-    let (c, counts) = reserved(alloc, store, c, shape, keys, at);
+    let (c, told) = reserved(alloc, store, c, shape, keys, at);
     let unused = store.unused(&c);
     store.end_client(c);
-    Ok((counts?, unused))
+    Ok((told?, unused))
 }
 
 #[test]
-fn rows_of_one_text_go_to_one_place_on_both_sides(rt: HostRuntime) -> Result<(), Fail> {
-    let rows: [(&[u8], &[u8], usize, u64, u64); 10] = [
-        (b"abca", b"dab", 6, 2, 1),
-        (b"abca", b"dab", 15, 1, 1),
-        (b"abca", b"dab", 12, 1, 0),
-        (b"abca", b"dab", 13, 0, 1),
-        (b"abca", b"dab", 0, 0, 0),
-        (b"abca", b"", 6, 2, 0),
-        (b"", b"dab", 6, 0, 1),
-        (b"", b"", 6, 0, 0),
+fn rows_of_one_text_go_to_one_place_on_both_sides_and_are_paired(
+    rt: HostRuntime,
+) -> Result<(), Fail> {
+    let many = [b'a'; 300];
+    let rows: [(&[u8], &[u8], usize, u64, u64, u64); 12] = [
+        (b"abca", b"dab", 6, 2, 1, 3),
+        (b"abca", b"dab", 15, 1, 1, 3),
+        (b"abca", b"dab", 12, 1, 0, 3),
+        (b"abca", b"dab", 13, 0, 1, 3),
+        (b"abca", b"dab", 0, 0, 0, 3),
+        (b"aa", b"aa", 6, 2, 2, 4),
+        (b"abca", b"", 6, 2, 0, 0),
+        (b"", b"dab", 6, 0, 1, 0),
+        (b"", b"", 6, 0, 0, 0),
         // Seven rows of nine bytes fill a page.
-        (b"aaaaaaaab", b"aaaaaaaaaaaaaaad", 6, 8, 15),
-        (b"aaaaaaaab", b"aaaaaaaaaaaaaaad", 13, 0, 1),
+        (b"aaaaaaaab", b"aaaaaaaaaaaaaaad", 6, 8, 15, 120),
+        (b"aaaaaaaab", b"aaaaaaaaaaaaaaad", 13, 0, 1, 120),
+        // No partition of one text gets smaller, however often it is divided.
+        (&many, &many, 6, 300, 300, 90_000),
     ];
     let shape = texts(rt.alloc())?;
-    for (lefts, rights, at, left, right) in rows {
+    for (lefts, rights, at, left, right, pairs) in rows {
         let mut store = MemStore::open(rt.alloc(), 64, 1280, 1280)?;
         let answer = run(rt.alloc(), &mut store, &shape, (lefts, rights), at % 16);
         store.close();
-        assert_eq!(rt; answer?, ((left, right), 1280), "place {at}");
+        let told = Told { left, right, pairs };
+        assert_eq!(rt; answer?, (told, 1280), "place {at}");
     }
     Ok(())
 }

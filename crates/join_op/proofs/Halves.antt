@@ -1,0 +1,58 @@
+-- Both sides were divided, one after the other.
+use Rattle.std.proofs.Common.{◌≡◌, ◌∙◌, ℕ, ◌+◌, ◌<◌, List, [], ◌++◌, length, replicate, set, Result, Ok, Err, OnOk, Some, ap, sym, subst}
+use Rattle.std.specs.Prelude.{slice_get}
+use Rattle.store_api.specs.Holdings.{Holdings}
+use Rattle.store_api.specs.Signs.{Signs}
+use Rattle.store_api.specs.declared.shapes.JoinShape.{JoinShape}
+use Rattle.tuple_stream.specs.Families.{AllClosed}
+use Rattle.tuple_stream.specs.Spending.{PinsAgain}
+use Rattle.tuple_stream.specs.Trails.{EnteredEvents}
+use Rattle.partition_stack.specs.Stack.{Stack, over}
+use Rattle.join_op.specs.Dividing.{DealsAll, HasCalled, HasDealt, IsDivided}
+use Rattle.join_op.specs.Joining.{HasDivided, IsBetween, both, pairs_down}
+use Rattle.join_op.specs.Pairs.{SameRows}
+use Rattle.join_op.specs.Stored.{left_side, right_side}
+use Rattle.join_op.proofs.Dealing.{pinned_then}
+use Rattle.join_op.proofs.Divides.{divided_same}
+use Rattle.partition_stack.proofs.Weights.{less_divided}
+
+-- what follows from three clauses on an answer
+pub from_three : {X E P Q R S : Type 0} (r : Result X E) → (P → Q → R → S) → OnOk r P → OnOk r Q → OnOk r R → OnOk r S
+from_three (Ok x) so p q r = so p q r
+from_three (Err e) so p q r = tt
+
+module _ (t : ℕ) (shape : JoinShape) (at level : ℕ) (left right l1 r1 : Stack) (h h1 h2 : Holdings) (s s1 s2 : Signs)
+    (between : IsBetween (both left right h s)) (top : length left.streams ≡ at + 1) (there : slice_get left.levels at ≡ Some level) (deep : level < 16)
+    (called : HasCalled t left l1 right h h1 s s1) (called_next : HasCalled t right r1 l1 h1 h2 s1 s2)
+    (dealt : DealsAll (left_side shape) level at (over left h s) (over l1 h1 s1)) (dealt_next : DealsAll (right_side shape) level at (over right h1 s1) (over r1 h2 s2))
+    (divided : IsDivided level at left l1) (divided_next : IsDivided level at right r1)
+    (closed : AllClosed (over l1 h1 s1)) (closed_next : AllClosed (over r1 h2 s2)) (first : EnteredEvents PinsAgain s.trail s1.trail) where
+  pub both_divided : HasDivided shape at level (both left right h s) (both l1 r1 h2 s2)
+  both_divided =
+      record {
+        between = record {
+          levels = divided_next.levels ∙ ap (λ (ls : List ℕ). set ls at (level + 1) ++ replicate 16 (level + 1)) between.levels ∙ sym divided.levels;
+          many = divided_next.sixteen ∙ sym divided.sixteen;
+          left_closed = closed;
+          right_closed = closed_next;
+        };
+        less = less_divided left.levels l1.levels at level there deep divided.levels;
+        rows = λ lefts rights shows.
+            let one = dealt lefts shows.told shows.left in
+            let two = dealt_next rights (called.leaves.others.told ∙ shows.told) (called.shows rights shows.right) in
+            let one_now : HasDealt (left_side shape) level at lefts (lefts at) [] (over l1 h2 s2) =
+            record { now = one.now; shows = called_next.shows one.now one.shows; below = one.below; here = one.here; above = one.above } in
+            record {
+              lefts_now = one.now;
+              rights_now = two.now;
+              shows = record {
+                told = called_next.leaves.others.told ∙ called.leaves.others.told ∙ shows.told;
+                left = called_next.shows one.now one.shows;
+                right = two.shows;
+              };
+              same = subst (λ (n : ℕ). SameRows (pairs_down shape n one.now two.now) (pairs_down shape (length left.streams) lefts rights)) (sym divided.sixteen)
+                  (subst (λ (n : ℕ). SameRows (pairs_down shape (at + 17) one.now two.now) (pairs_down shape n lefts rights)) (sym top)
+                  (divided_same shape level at lefts rights (over l1 h2 s2) (over r1 h2 s2) one_now two));
+            };
+        first = pinned_then s.trail s1.trail s2.trail first called_next.leaves.grows.trail;
+      }

@@ -1,0 +1,96 @@
+-- One step of a join: partitions of which one has no rows go, or both are divided, or their pairs are handed on.
+use Rattle.std.proofs.Common.{◌≡◌, ◌∙◌, ◌⊎◌, inl, inr, ℕ, zero, suc, ◌+◌, ◌<◌, List, [], ◌∷◌, length, replicate, take, Option, Some, None, IfSome, IsSome, refl, ap, sym, subst, arith, append-nil}
+use Rattle.std.specs.Prelude.{slice_get}
+use Rattle.std.proofs.lemmas.List.Elements.{All-head, All-replicate, All-tail, All-take}
+use Rattle.std.proofs.lemmas.Option.{none-some, same_Some}
+use Rattle.pool_model.specs.declared.entry.Entry.{Entry}
+use Rattle.row_codec.specs.declared.values.Value.{Value}
+use Rattle.store_api.specs.declared.shapes.JoinShape.{JoinShape}
+use Rattle.store_api.specs.Holdings.{Holdings}
+use Rattle.store_api.specs.Signs.{Prolongs, Signs}
+use Rattle.tuple_stream.specs.Spending.{PinsAgain}
+use Rattle.tuple_stream.specs.Streamed.{Streamed}
+use Rattle.tuple_stream.specs.Streams.{HasRows}
+use Rattle.tuple_stream.specs.Trails.{EnteredEvents, PinsFirst}
+use Rattle.tuple_stream.proofs.PageLists.{no_length}
+use Rattle.tuple_stream.proofs.Sinces.{since_now, since_so}
+use Rattle.tuple_stream.proofs.PinsFirst.{both_pin_first, has_pin_back, has_pin_front, pins_first_join}
+use Rattle.partition_stack.specs.Stack.{Stack}
+use Rattle.join_op.specs.Handing.{Emitted}
+use Rattle.join_op.specs.Chunks.{stored_pairs}
+use Rattle.join_op.specs.Joining.{Advances, AreShallow, Both, HasGoneOn, HasNoRowsAt, SharesPairs, ShowBoth, both}
+use Rattle.join_op.specs.Stored.{left_side, rows_in}
+use Rattle.join_op.proofs.Advances.{advances_popped}
+use Rattle.join_op.proofs.Counts.{no_right}
+use Rattle.join_op.proofs.Dealing.{pinned_or}
+use Rattle.join_op.proofs.Handed.{emitted_none, emitted_on}
+
+there_is : (xs : List Streamed) (k : ℕ) → k < length xs → IsSome (slice_get xs k)
+there_is [] k inside = absurd (omega (arith, inside))
+there_is (x ∷ xs) zero inside = refl
+there_is (x ∷ xs) (suc k) inside = there_is xs k (omega (arith, inside))
+
+none_shown : (h : Holdings) (rows : List (List ℕ)) (o : Option Streamed) → IsSome o → IfSome o (λ s. s.count ≡ 0) → ((s : Streamed) → o ≡ Some s → HasRows rows s h) → rows ≡ []
+none_shown h rows None some none shows = absurd cc
+none_shown h rows (Some s) some none shows = no_length rows (sym (shows s refl).counted ∙ none)
+
+-- where one side has no row, there is no pair
+pub no_pairs : (shape : JoinShape) (at : ℕ) (left right : Stack) (h : Holdings) (s : Signs) (lefts rights : ℕ → List (List ℕ)) → ShowBoth lefts rights (both left right h s) → at < length left.streams → at < length right.streams → HasNoRowsAt at left ⊎ HasNoRowsAt at right → [] ≡ stored_pairs shape (lefts at) (rights at)
+no_pairs shape at left right h s lefts rights shows inside inside_right (inl none) =
+    let is : lefts at ≡ [] = none_shown h (lefts at) (slice_get left.streams at) (there_is left.streams at inside) none (λ x there. shows.left at x there) in
+    sym (ap (λ (rs : List (List ℕ)). stored_pairs shape rs (rights at)) is)
+no_pairs shape at left right h s lefts rights shows inside inside_right (inr none) =
+    let is : rights at ≡ [] = none_shown h (rights at) (slice_get right.streams at) (there_is right.streams at inside_right) none (λ x there. shows.right at x there) in
+    sym (ap (λ (rs : List (List ℕ)). stored_pairs shape (lefts at) rs) is ∙ no_right shape (rows_in (left_side shape) (lefts at)))
+
+module _ (shape : JoinShape) (was now : List (List Value) → Type 0) (lefts rights : ℕ → List (List ℕ)) (still : (taken : List (List Value)) → was taken → now taken) where
+  pub advances_gone : (at : ℕ) (left right : Stack) (h : Holdings) (s : Signs) (b : Both) → length left.streams ≡ at + 1 → length right.streams ≡ length left.streams → length b.left.streams ≡ at → ShowBoth lefts rights (both left right h s) → ShowBoth lefts rights b
+      → HasNoRowsAt at left ⊎ HasNoRowsAt at right → Advances shape was now lefts rights (both left right h s) b
+  advances_gone at left right h s b top many low was_shown shows none =
+      advances_popped shape was now lefts rights (both left right h s) b at top low shows
+      (subst (Emitted was now) (no_pairs shape at left right h s lefts rights was_shown (omega (arith, top)) (omega (arith, top, many)) none) (emitted_on was was now [] still (emitted_none was)))
+
+  pub advances_divided : (a b : Both) → SharesPairs shape lefts rights a b → Advances shape was now lefts rights a b
+  advances_divided a b shares =
+      record {
+        lefts_now = shares.lefts_now;
+        rights_now = shares.rights_now;
+        shows = shares.shows;
+        rows = [];
+        came = λ taken took. subst now (sym (append-nil taken)) (still taken took);
+        same = shares.same;
+      }
+
+-- ---- what was pinned
+
+pub gone_on_popped : (levels now : List ℕ) (at : ℕ) (t0 t1 : Option (List Entry)) → now ≡ take at levels → AreShallow levels → EnteredEvents PinsFirst t0 t1 → EnteredEvents (HasGoneOn now) t0 t1
+gone_on_popped levels now at t0 t1 is shallow first =
+    since_so PinsFirst (HasGoneOn now) t0 t1 (λ x pins. record { first = pins; pinned = inr (subst AreShallow (sym is) (All-take (λ level. level < 2) at levels shallow)) }) first
+
+pub gone_on_pinned : (now : List ℕ) (t0 t1 : Option (List Entry)) → EnteredEvents PinsAgain t0 t1 → EnteredEvents (HasGoneOn now) t0 t1
+gone_on_pinned now t0 t1 pins = since_so PinsAgain (HasGoneOn now) t0 t1 (λ x again. record { first = again.first; pinned = inl again.pinned }) pins
+
+-- a partition of a level above the first isn't of those
+pub not_shallow : (levels : List ℕ) (at level : ℕ) → AreShallow levels → slice_get levels at ≡ Some level → 1 < level → ⊥
+not_shallow [] at level shallow there high = none-some level there
+not_shallow (l ∷ levels) zero level shallow there high =
+    let low = All-head (λ level. level < 2) l levels shallow in
+    let is : l ≡ level = same_Some l level there in
+    omega (arith, low, is, high)
+not_shallow (l ∷ levels) (suc at) level shallow there high = not_shallow levels at level (All-tail (λ level. level < 2) l levels shallow) there high
+
+pub gone_on_none : (levels : List ℕ) (trail : Option (List Entry)) → AreShallow levels → EnteredEvents (HasGoneOn levels) trail trail
+gone_on_none levels trail shallow = since_now (HasGoneOn levels) trail (record { first = tt; pinned = inr shallow })
+
+pub gone_on_more : (m n : List ℕ) (t0 t1 t2 : Option (List Entry)) → EnteredEvents (HasGoneOn m) t0 t1 → Prolongs t1 t2 → (AreShallow m → EnteredEvents (HasGoneOn n) t1 t2) → EnteredEvents (HasGoneOn n) t0 t2
+gone_on_more m n t0 t1 t2 was more next =
+    pinned_or (AreShallow m) (HasGoneOn m) (HasGoneOn n) (HasGoneOn n) t0 t1 t2 (λ x on. on.pinned)
+    (λ x y on pin. record { first = pins_first_join x y on.first (inl pin); pinned = inl (has_pin_front x y pin) })
+    (λ x y on next. record { first = both_pin_first x y on.first next.first; pinned = elim next.pinned [ inl pin ↦ inl (has_pin_back x y pin) | inr low ↦ inr low ] })
+    was more next
+
+pub gone_on_all : (levels : List ℕ) (t0 t1 : Option (List Entry)) → EnteredEvents (HasGoneOn levels) t0 t1 → EnteredEvents PinsFirst t0 t1
+gone_on_all levels t0 t1 on = since_so (HasGoneOn levels) PinsFirst t0 t1 (λ x gone. gone.first) on
+
+pub first_shallow : (levels : List ℕ) → levels ≡ replicate 16 1 → AreShallow levels
+first_shallow levels is = subst AreShallow (sym is) (All-replicate (λ level. level < 2) 16 1 (omega arith))

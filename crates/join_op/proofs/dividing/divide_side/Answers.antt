@@ -1,0 +1,79 @@
+use Rattle.std.proofs.Common.{◌≡◌, ◌∙◌, ℕ, ap, sym, subst, arith}
+use Rattle.std.proofs.lemmas.Option.{slice_get_within}
+use Rattle.store_api.proofs.Answered.{answered_before}
+use Rattle.tuple_stream.specs.Families.{AllClosed}
+use Rattle.tuple_stream.specs.Touches.{IsFull}
+use Rattle.partition_stack.specs.Stack.{Stack, over}
+use Rattle.partition_stack.proofs.Results.{on_ok}
+use Rattle.join_op.specs.Dividing.{HasCalled, IsFan, side_of}
+use Rattle.join_op.specs.Joining.{HasRowsAt}
+use Rattle.join_op.proofs.Calls.{calls_beside}
+use Rattle.join_op.proofs.Dealing.{deals_all, deals_rested, pinned_then}
+use Rattle.join_op.proofs.Handed.{both_errs}
+use Rattle.join_op.proofs.Fans.{called_divided, called_of, called_then, closed_divided, fan_divided, may_divided, rows_divided}
+use Rattle.join_op.proofs.dividing.divide_side.Goals as goal
+
+pub spend_side-requires-clause-may : goal.spend_side-requires-clause-may
+spend_side-requires-clause-may g c =
+    may_divided c.args.c.now c.args.at c.args.level c.args.parts.now c.divide.new.self c.args.other.now (g.St.Store.holds c.args.store.now) (g.St.Store.signs c.args.store.now) c.in-Ok.ensures.ok c.law_stack.ensures c.requires.may
+
+pub spend_side-requires-clause-fan : goal.spend_side-requires-clause-fan
+spend_side-requires-clause-fan g c =
+    subst (IsFan c.args.level c.args.at) (sym c.in-Ok.ensures.ok)
+    (fan_divided c.args.level c.args.at c.args.parts.now (g.St.Store.holds c.args.store.now) (g.St.Store.signs c.args.store.now) c.requires.top c.requires.deep
+    (let placed = c.law_stack.ensures.placed c.args.at c.args.level c.requires.level in let low = placed.low in let deep = c.requires.deep in omega (arith, low, deep)) c.requires.closed)
+
+pub spend_side-requires-clause-some : goal.spend_side-requires-clause-some
+spend_side-requires-clause-some g c = subst (HasRowsAt c.args.at) (sym c.in-Ok.ensures.ok) (rows_divided c.args.level c.args.at c.args.parts.now c.requires.top c.requires.some)
+
+pub returns-clause-dealt : goal.returns-clause-dealt
+returns-clause-dealt g c =
+    on_ok c.rest_from.result
+    (λ rests.
+    deals_rested c.args.c.now.tracker _ (side_of c.args.kinds.now c.args.columns.now) c.args.level c.args.at (over c.args.parts.now (g.St.Store.holds c.args.store.now) (g.St.Store.signs c.args.store.now))
+    (over c.spend_side.new.parts (g.St.Store.holds c.spend_side.new.store) (g.St.Store.signs c.spend_side.new.store)) _
+    (deals_all c.args.c.now.tracker (side_of c.args.kinds.now c.args.columns.now) c.args.level c.args.at c.args.parts.now (g.St.Store.holds c.args.store.now) (g.St.Store.signs c.args.store.now) c.law_stack.ensures c.requires.top
+    (over c.spend_side.new.parts (g.St.Store.holds c.spend_side.new.store) (g.St.Store.signs c.spend_side.new.store)) c.divide.new.self c.in-Ok.ensures.ok c.in_ok-spend_side.ensures.dealt) rests)
+    c.rest_from.ensures.ok
+
+pub returns-clause-closed : goal.returns-clause-closed
+returns-clause-closed g c =
+    on_ok c.rest_from.result (λ rests i s there. rests.closed i s there (let inside = slice_get_within c.rest_from.new.self.streams i s there in let long = rests.steps.long in omega (arith, inside, long))) c.rest_from.ensures.ok
+
+pub returns-clause-first : goal.returns-clause-first
+returns-clause-first g c =
+    let h = g.St.Store.holds c.args.store.now in
+    let s = g.St.Store.signs c.args.store.now in
+    on_ok c.rest_from.result
+    (λ rests.
+    pinned_then s.trail (g.St.Store.signs c.spend_side.new.store).trail (g.St.Store.signs c.rest_from.new.store).trail
+    (c.in_ok-spend_side.ensures.first (subst (λ (p : Stack). AllClosed (over p h s)) (sym c.in-Ok.ensures.ok) (closed_divided c.args.level c.args.at c.args.parts.now h s c.requires.closed)))
+    rests.steps.grows.trail)
+    c.rest_from.ensures.ok
+
+pub returns-clause-called : goal.returns-clause-called
+returns-clause-called g c =
+    let t = c.args.c.now.tracker in
+    let h = g.St.Store.holds c.args.store.now in
+    let s = g.St.Store.signs c.args.store.now in
+    let h1 = g.St.Store.holds c.spend_side.new.store in
+    let s1 = g.St.Store.signs c.spend_side.new.store in
+    let h2 = g.St.Store.holds c.rest_from.new.store in
+    let s2 = g.St.Store.signs c.rest_from.new.store in
+    let begun : HasCalled t c.args.parts.now c.divide.new.self c.args.other.now h h s s =
+    subst (λ (p : Stack). HasCalled t c.args.parts.now p c.args.other.now h h s s) (sym c.in-Ok.ensures.ok) (called_divided t c.args.at c.args.level c.args.parts.now c.args.other.now h s c.law_stack.ensures c.requires.may.own) in
+    called_then t c.args.parts.now c.divide.new.self c.rest_from.new.self c.args.other.now h h h2 s s s2 begun
+    (called_then t c.divide.new.self c.spend_side.new.parts c.rest_from.new.self c.args.other.now h h1 h2 s s1 s2
+    (called_of t c.divide.new.self c.spend_side.new.parts c.args.other.now h h1 s s1 c.spend_side.ensures.beside)
+    (called_of t c.spend_side.new.parts c.rest_from.new.self c.args.other.now h1 h2 s1 s2
+    (calls_beside t c.spend_side.new.parts c.rest_from.new.self c.args.other.now h1 h2 s1 s2 c.spend_side.ensures.beside.own c.rest_from.ensures.went
+    (ap (λ (p : Stack). p.page_blocks) c.rest_from.ensures.kept) (ap (λ (p : Stack). p.levels) c.rest_from.ensures.kept))))
+
+pub returns-clause-answers : goal.returns-clause-answers
+returns-clause-answers g c =
+    let blocks : c.spend_side.new.parts.page_blocks ≡ c.args.parts.now.page_blocks = c.spend_side.ensures.beside.blocks ∙ ap (λ (p : Stack). p.page_blocks) c.in-Ok.ensures.ok in
+    both_errs c.rest_from.result
+    (λ e answered full. (
+      answered_before e _ _ _ c.spend_side.ensures.beside.leaves.grows answered,
+      subst (λ (n : ℕ). IsFull n (g.St.Store.holds c.rest_from.new.store).free_slots e) blocks full,
+    )) c.rest_from.ensures.cause c.rest_from.ensures.full

@@ -1,0 +1,62 @@
+use Rattle.std.proofs.Common.{List}
+use Rattle.row_codec.specs.declared.values.Value.{Value}
+use Rattle.partition_stack.specs.Emitting.{IsBeside}
+use Rattle.partition_stack.specs.Stack.{over}
+use Rattle.partition_stack.proofs.Emitters.{beside_stands, beside_then, left_beside, same_beside, stands_left, stands_then}
+use Rattle.partition_stack.proofs.Results.{on_err, on_ok}
+use Rattle.join_op.specs.Pairs.{pairs_of}
+use Rattle.join_op.proofs.Cleared.{cleared_closed, cleared_first, cleared_leaves, cleared_op, right_still}
+use Rattle.join_op.proofs.Handed.{emitted_on, from_two, some_on}
+use Rattle.join_op.proofs.LaidSides.{holds_more}
+use Rattle.join_op.proofs.Paired.{came_till}
+use Rattle.join_op.proofs.finishing.finish_sides.Goals as goal
+
+pub clear-requires : goal.clear-requires
+clear-requires g c = c.join_sides-result.ensures.op.owns.left_shaped
+
+pub clear-requires-2 : goal.clear-requires-2
+clear-requires-2 g c = right_still c.args.c.now c.args.shape.now c.join_sides-result.new.left c.join_sides-result.new.right c.clear.new.self (g.St.Store.holds c.join_sides-result.new.store) (g.St.Store.holds c.clear.new.store) (g.St.Store.signs c.join_sides-result.new.store) (g.St.Store.signs c.clear.new.store) c.join_sides-result.ensures.op c.clear.ensures.ends
+
+pub returns-clause-ok : goal.returns-clause-ok
+returns-clause-ok g c =
+    let gone = cleared_leaves c.args.c.now c.args.shape.now c.join_sides-result.new.left c.join_sides-result.new.right c.clear.new.self c.clear-2.new.self (g.St.Store.holds c.join_sides-result.new.store) (g.St.Store.holds c.clear.new.store) (g.St.Store.holds c.clear-2.new.store) (g.St.Store.signs c.join_sides-result.new.store) (g.St.Store.signs c.clear.new.store) (g.St.Store.signs c.clear-2.new.store) c.join_sides-result.ensures.op c.clear.ensures.ends c.clear-2.ensures.ends c.clear.ensures.none c.clear-2.ensures.none in
+    let beside : IsBeside c.args.c.now.tracker (g.E.Emit.client c.join_sides-result.new.emit) (g.St.Store.holds c.join_sides-result.new.store) = beside_stands c.args.c.now.tracker _ _ _ _ _ _ _ _ _ _ c.requires.emitter c.join_sides-result.ensures.emitter in
+    let still : (taken : List (List Value)) → (g.E.Emit.took c.join_sides-result.new.emit (g.St.Store.holds c.join_sides-result.new.store)) taken → (g.E.Emit.took c.join_sides-result.new.emit (g.St.Store.holds c.clear-2.new.store)) taken =
+    λ taken. g.met.E.Emit.asks_own c.join_sides-result.new.emit (g.St.Store.holds c.join_sides-result.new.store) (g.St.Store.holds c.clear-2.new.store) taken (same_beside c.args.c.now.tracker (g.E.Emit.client c.join_sides-result.new.emit) (g.St.Store.holds c.join_sides-result.new.store) (g.St.Store.holds c.clear-2.new.store) (g.St.Store.signs c.join_sides-result.new.store) (g.St.Store.signs c.clear-2.new.store) beside.apart gone) in
+    on_ok c.join_sides-result.result (λ came start lefts rights keeps told. emitted_on (g.E.Emit.took c.args.emit.now (g.St.Store.holds c.args.store.now)) (g.E.Emit.took c.join_sides-result.new.emit (g.St.Store.holds c.join_sides-result.new.store)) (g.E.Emit.took c.join_sides-result.new.emit (g.St.Store.holds c.clear-2.new.store)) (pairs_of c.args.shape.now lefts rights) still (came start lefts rights keeps told)) c.join_sides-result.ensures.ok
+
+pub returns-clause-err : goal.returns-clause-err
+returns-clause-err g c =
+    let gone = cleared_leaves c.args.c.now c.args.shape.now c.join_sides-result.new.left c.join_sides-result.new.right c.clear.new.self c.clear-2.new.self (g.St.Store.holds c.join_sides-result.new.store) (g.St.Store.holds c.clear.new.store) (g.St.Store.holds c.clear-2.new.store) (g.St.Store.signs c.join_sides-result.new.store) (g.St.Store.signs c.clear.new.store) (g.St.Store.signs c.clear-2.new.store) c.join_sides-result.ensures.op c.clear.ensures.ends c.clear-2.ensures.ends c.clear.ensures.none c.clear-2.ensures.none in
+    let beside : IsBeside c.args.c.now.tracker (g.E.Emit.client c.join_sides-result.new.emit) (g.St.Store.holds c.join_sides-result.new.store) = beside_stands c.args.c.now.tracker _ _ _ _ _ _ _ _ _ _ c.requires.emitter c.join_sides-result.ensures.emitter in
+    let still : (taken : List (List Value)) → (g.E.Emit.took c.join_sides-result.new.emit (g.St.Store.holds c.join_sides-result.new.store)) taken → (g.E.Emit.took c.join_sides-result.new.emit (g.St.Store.holds c.clear-2.new.store)) taken =
+    λ taken. g.met.E.Emit.asks_own c.join_sides-result.new.emit (g.St.Store.holds c.join_sides-result.new.store) (g.St.Store.holds c.clear-2.new.store) taken (same_beside c.args.c.now.tracker (g.E.Emit.client c.join_sides-result.new.emit) (g.St.Store.holds c.join_sides-result.new.store) (g.St.Store.holds c.clear-2.new.store) (g.St.Store.signs c.join_sides-result.new.store) (g.St.Store.signs c.clear-2.new.store) beside.apart gone) in
+    on_err c.join_sides-result.result (λ came start lefts rights keeps told. some_on (g.E.Emit.took c.args.emit.now (g.St.Store.holds c.args.store.now)) (g.E.Emit.took c.join_sides-result.new.emit (g.St.Store.holds c.join_sides-result.new.store)) (g.E.Emit.took c.join_sides-result.new.emit (g.St.Store.holds c.clear-2.new.store)) (pairs_of c.args.shape.now lefts rights) still (came start lefts rights keeps told)) c.join_sides-result.ensures.err
+
+pub returns-clause-kept : goal.returns-clause-kept
+returns-clause-kept g c =
+    from_two c.join_sides-result.result
+    (λ kept between start lefts rights keeps.
+    holds_more c.args.shape.now lefts rights (over c.join_sides-result.new.left (g.St.Store.holds c.join_sides-result.new.store) (g.St.Store.signs c.join_sides-result.new.store)) (over c.join_sides-result.new.right (g.St.Store.holds c.join_sides-result.new.store) (g.St.Store.signs c.join_sides-result.new.store)) (over c.clear.new.self (g.St.Store.holds c.clear-2.new.store) (g.St.Store.signs c.clear-2.new.store)) (over c.clear-2.new.self (g.St.Store.holds c.clear-2.new.store) (g.St.Store.signs c.clear-2.new.store)) start (g.St.Store.signs c.join_sides-result.new.store).trail (g.St.Store.signs c.clear-2.new.store).trail
+    (cleared_closed c.join_sides-result.new.left.page_blocks c.clear.new.self (g.St.Store.holds c.clear-2.new.store) (g.St.Store.signs c.clear-2.new.store) c.clear.ensures.none) (cleared_closed c.join_sides-result.new.right.page_blocks c.clear-2.new.self (g.St.Store.holds c.clear-2.new.store) (g.St.Store.signs c.clear-2.new.store) c.clear-2.ensures.none)
+    (kept start lefts rights keeps) (cleared_first c.args.c.now c.args.shape.now c.join_sides-result.new.left c.join_sides-result.new.right c.clear.new.self c.clear-2.new.self (g.St.Store.holds c.join_sides-result.new.store) (g.St.Store.holds c.clear.new.store) (g.St.Store.holds c.clear-2.new.store) (g.St.Store.signs c.join_sides-result.new.store) (g.St.Store.signs c.clear.new.store) (g.St.Store.signs c.clear-2.new.store) c.join_sides-result.ensures.op c.clear.ensures.ends c.clear-2.ensures.ends c.clear.ensures.none c.clear-2.ensures.none between))
+    c.join_sides-result.ensures.kept c.join_sides-result.ensures.closed
+
+pub returns-clause-op : goal.returns-clause-op
+returns-clause-op g c = cleared_op c.args.c.now c.args.shape.now c.join_sides-result.new.left c.join_sides-result.new.right c.clear.new.self c.clear-2.new.self (g.St.Store.holds c.join_sides-result.new.store) (g.St.Store.holds c.clear.new.store) (g.St.Store.holds c.clear-2.new.store) (g.St.Store.signs c.join_sides-result.new.store) (g.St.Store.signs c.clear.new.store) (g.St.Store.signs c.clear-2.new.store) c.join_sides-result.ensures.op c.clear.ensures.ends c.clear-2.ensures.ends c.clear.ensures.none c.clear-2.ensures.none
+
+pub returns-clause-leaves : goal.returns-clause-leaves
+returns-clause-leaves g c =
+    beside_then c.args.c.now.tracker (g.E.Emit.client c.args.emit.now) (g.St.Store.holds c.args.store.now) (g.St.Store.holds c.join_sides-result.new.store) (g.St.Store.holds c.clear-2.new.store) (g.St.Store.signs c.args.store.now) (g.St.Store.signs c.join_sides-result.new.store) (g.St.Store.signs c.clear-2.new.store) c.join_sides-result.ensures.leaves (left_beside c.args.c.now.tracker (g.E.Emit.client c.args.emit.now) _ _ _ _ (cleared_leaves c.args.c.now c.args.shape.now c.join_sides-result.new.left c.join_sides-result.new.right c.clear.new.self c.clear-2.new.self (g.St.Store.holds c.join_sides-result.new.store) (g.St.Store.holds c.clear.new.store) (g.St.Store.holds c.clear-2.new.store) (g.St.Store.signs c.join_sides-result.new.store) (g.St.Store.signs c.clear.new.store) (g.St.Store.signs c.clear-2.new.store) c.join_sides-result.ensures.op c.clear.ensures.ends c.clear-2.ensures.ends c.clear.ensures.none c.clear-2.ensures.none))
+
+pub returns-clause-emitter : goal.returns-clause-emitter
+returns-clause-emitter g c =
+    let gone = cleared_leaves c.args.c.now c.args.shape.now c.join_sides-result.new.left c.join_sides-result.new.right c.clear.new.self c.clear-2.new.self (g.St.Store.holds c.join_sides-result.new.store) (g.St.Store.holds c.clear.new.store) (g.St.Store.holds c.clear-2.new.store) (g.St.Store.signs c.join_sides-result.new.store) (g.St.Store.signs c.clear.new.store) (g.St.Store.signs c.clear-2.new.store) c.join_sides-result.ensures.op c.clear.ensures.ends c.clear-2.ensures.ends c.clear.ensures.none c.clear-2.ensures.none in
+    let beside : IsBeside c.args.c.now.tracker (g.E.Emit.client c.join_sides-result.new.emit) (g.St.Store.holds c.join_sides-result.new.store) = beside_stands c.args.c.now.tracker _ _ _ _ _ _ _ _ _ _ c.requires.emitter c.join_sides-result.ensures.emitter in
+    let still : (taken : List (List Value)) → (g.E.Emit.took c.join_sides-result.new.emit (g.St.Store.holds c.join_sides-result.new.store)) taken → (g.E.Emit.took c.join_sides-result.new.emit (g.St.Store.holds c.clear-2.new.store)) taken =
+    λ taken. g.met.E.Emit.asks_own c.join_sides-result.new.emit (g.St.Store.holds c.join_sides-result.new.store) (g.St.Store.holds c.clear-2.new.store) taken (same_beside c.args.c.now.tracker (g.E.Emit.client c.join_sides-result.new.emit) (g.St.Store.holds c.join_sides-result.new.store) (g.St.Store.holds c.clear-2.new.store) (g.St.Store.signs c.join_sides-result.new.store) (g.St.Store.signs c.clear-2.new.store) beside.apart gone) in
+    stands_then _ _ _ _ _ _ _ _ _ (g.E.Emit.took c.args.emit.now (g.St.Store.holds c.args.store.now)) (g.E.Emit.took c.join_sides-result.new.emit (g.St.Store.holds c.join_sides-result.new.store)) (g.E.Emit.took c.join_sides-result.new.emit (g.St.Store.holds c.clear-2.new.store)) (g.St.Store.holds c.join_sides-result.new.store) (g.St.Store.holds c.clear-2.new.store) c.join_sides-result.ensures.emitter
+    (stands_left _ _ _ (g.E.Emit.took c.join_sides-result.new.emit (g.St.Store.holds c.join_sides-result.new.store)) (g.E.Emit.took c.join_sides-result.new.emit (g.St.Store.holds c.clear-2.new.store)) c.args.c.now.tracker (g.St.Store.holds c.join_sides-result.new.store) (g.St.Store.holds c.clear-2.new.store) (g.St.Store.signs c.join_sides-result.new.store) (g.St.Store.signs c.clear-2.new.store) beside gone still)
+
+pub returns-clause-cause : goal.returns-clause-cause
+returns-clause-cause g c = came_till c.join_sides-result.result _ _ _ _ _ (cleared_leaves c.args.c.now c.args.shape.now c.join_sides-result.new.left c.join_sides-result.new.right c.clear.new.self c.clear-2.new.self (g.St.Store.holds c.join_sides-result.new.store) (g.St.Store.holds c.clear.new.store) (g.St.Store.holds c.clear-2.new.store) (g.St.Store.signs c.join_sides-result.new.store) (g.St.Store.signs c.clear.new.store) (g.St.Store.signs c.clear-2.new.store) c.join_sides-result.ensures.op c.clear.ensures.ends c.clear-2.ensures.ends c.clear.ensures.none c.clear-2.ensures.none).grows c.join_sides-result.ensures.cause

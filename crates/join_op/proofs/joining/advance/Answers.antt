@@ -1,0 +1,100 @@
+use Rattle.std.proofs.Common.{rules, ◌≡◌, ◌+◌, ◌-◌, ℕ, List, length, arith}
+use Rattle.row_codec.specs.declared.values.Value.{Value}
+use Rattle.partition_stack.proofs.Emitters.{left_beside, same_beside, stands_left}
+use Rattle.partition_stack.proofs.Results.{on_err, on_ok}
+use Rattle.partition_stack.proofs.Weights.{less_popped}
+use Rattle.join_op.specs.Handing.{EmittedSome}
+use Rattle.join_op.specs.Joining.{ShowBoth, both, pairs_down}
+use Rattle.join_op.proofs.Advances.{advances_popped, some_top}
+use Rattle.join_op.proofs.Handed.{any_ok, some_none, some_on}
+use Rattle.join_op.proofs.Stepped.{advances_divided, advances_gone, gone_on_pinned, gone_on_popped, not_shallow}
+use Rattle.join_op.proofs.joining.advance.Goals as goal
+
+pub returns-then-not-have_rows-clause-ok : goal.returns-then-not-have_rows-clause-ok
+returns-then-not-have_rows-clause-ok g c =
+    let top : length c.args.left.now.streams ≡ (c.len-at.result - 1) + 1 = (let len = c.len-at.ensures in let some = c.requires.some in omega (arith, len, some)) in
+    let still : (taken : List (List Value)) → (g.E.Emit.took c.args.emit.now (g.St.Store.holds c.args.store.now)) taken → (g.E.Emit.took c.args.emit.now (g.St.Store.holds c.drop_top.new.store)) taken =
+    λ taken. g.met.E.Emit.asks_own c.args.emit.now (g.St.Store.holds c.args.store.now) (g.St.Store.holds c.drop_top.new.store) taken (same_beside c.args.c.now.tracker (g.E.Emit.client c.args.emit.now) (g.St.Store.holds c.args.store.now) (g.St.Store.holds c.drop_top.new.store) (g.St.Store.signs c.args.store.now) (g.St.Store.signs c.drop_top.new.store) c.requires.emitter.apart c.drop_top.ensures.leaves) in (
+      c.drop_top.ensures.between,
+      λ lefts rights shows.
+          advances_gone c.args.shape.now (g.E.Emit.took c.args.emit.now (g.St.Store.holds c.args.store.now)) (g.E.Emit.took c.args.emit.now (g.St.Store.holds c.drop_top.new.store)) lefts rights still (c.len-at.result - 1) c.args.left.now c.args.right.now (g.St.Store.holds c.args.store.now) (g.St.Store.signs c.args.store.now) (both c.drop_top.new.left c.drop_top.new.right (g.St.Store.holds c.drop_top.new.store) (g.St.Store.signs c.drop_top.new.store)) top c.requires.between.many c.drop_top.ensures.popped.many shows
+          (c.drop_top.ensures.shows lefts rights shows) (c.have_rows.ensures.none c.if-not-have_rows.true),
+    )
+
+pub returns-then-not-have_rows-clause-less : goal.returns-then-not-have_rows-clause-less
+returns-then-not-have_rows-clause-less g c = less_popped c.args.left.now.levels c.drop_top.new.left.levels (c.len-at.result - 1) c.level-level.result c.level-level.ensures.value c.drop_top.ensures.popped.levels
+
+pub returns-then-not-have_rows-clause-first : goal.returns-then-not-have_rows-clause-first
+returns-then-not-have_rows-clause-first g c = λ shallow. gone_on_popped c.args.left.now.levels c.drop_top.new.left.levels (c.len-at.result - 1) _ _ c.drop_top.ensures.popped.levels shallow c.drop_top.ensures.first
+
+pub returns-then-not-have_rows-clause-leaves : goal.returns-then-not-have_rows-clause-leaves
+returns-then-not-have_rows-clause-leaves g c = left_beside c.args.c.now.tracker (g.E.Emit.client c.args.emit.now) _ _ _ _ c.drop_top.ensures.leaves
+
+pub returns-then-not-have_rows-clause-emitter : goal.returns-then-not-have_rows-clause-emitter
+returns-then-not-have_rows-clause-emitter g c =
+    let still : (taken : List (List Value)) → (g.E.Emit.took c.args.emit.now (g.St.Store.holds c.args.store.now)) taken → (g.E.Emit.took c.args.emit.now (g.St.Store.holds c.drop_top.new.store)) taken =
+    λ taken. g.met.E.Emit.asks_own c.args.emit.now (g.St.Store.holds c.args.store.now) (g.St.Store.holds c.drop_top.new.store) taken (same_beside c.args.c.now.tracker (g.E.Emit.client c.args.emit.now) (g.St.Store.holds c.args.store.now) (g.St.Store.holds c.drop_top.new.store) (g.St.Store.signs c.args.store.now) (g.St.Store.signs c.drop_top.new.store) c.requires.emitter.apart c.drop_top.ensures.leaves) in
+    stands_left _ _ _ (g.E.Emit.took c.args.emit.now (g.St.Store.holds c.args.store.now)) (g.E.Emit.took c.args.emit.now (g.St.Store.holds c.drop_top.new.store)) c.args.c.now.tracker (g.St.Store.holds c.args.store.now) (g.St.Store.holds c.drop_top.new.store) (g.St.Store.signs c.args.store.now) (g.St.Store.signs c.drop_top.new.store) c.requires.emitter c.drop_top.ensures.leaves still
+
+pub returns-in_err-divide_both-clause-err : goal.returns-in_err-divide_both-clause-err
+returns-in_err-divide_both-clause-err g c =
+    let still : (taken : List (List Value)) → (g.E.Emit.took c.args.emit.now (g.St.Store.holds c.args.store.now)) taken → (g.E.Emit.took c.args.emit.now (g.St.Store.holds c.divide_both.new.store)) taken =
+    λ taken. g.met.E.Emit.asks_own c.args.emit.now (g.St.Store.holds c.args.store.now) (g.St.Store.holds c.divide_both.new.store) taken (same_beside c.args.c.now.tracker (g.E.Emit.client c.args.emit.now) (g.St.Store.holds c.args.store.now) (g.St.Store.holds c.divide_both.new.store) (g.St.Store.signs c.args.store.now) (g.St.Store.signs c.divide_both.new.store) c.requires.emitter.apart c.divide_both.ensures.leaves) in
+    let some : (lefts rights : ℕ → List (List ℕ)) → ShowBoth lefts rights (both c.args.left.now c.args.right.now (g.St.Store.holds c.args.store.now) (g.St.Store.signs c.args.store.now)) → EmittedSome (g.E.Emit.took c.args.emit.now (g.St.Store.holds c.args.store.now)) (g.E.Emit.took c.args.emit.now (g.St.Store.holds c.divide_both.new.store)) (pairs_down c.args.shape.now (length c.args.left.now.streams) lefts rights) =
+    λ lefts rights shows. some_on (g.E.Emit.took c.args.emit.now (g.St.Store.holds c.args.store.now)) (g.E.Emit.took c.args.emit.now (g.St.Store.holds c.args.store.now)) (g.E.Emit.took c.args.emit.now (g.St.Store.holds c.divide_both.new.store)) (pairs_down c.args.shape.now (length c.args.left.now.streams) lefts rights) still (some_none (g.E.Emit.took c.args.emit.now (g.St.Store.holds c.args.store.now)) (pairs_down c.args.shape.now (length c.args.left.now.streams) lefts rights)) in
+    search (rules, some)
+
+pub returns-in_err-divide_both-clause-leaves : goal.returns-in_err-divide_both-clause-leaves
+returns-in_err-divide_both-clause-leaves g c = left_beside c.args.c.now.tracker (g.E.Emit.client c.args.emit.now) _ _ _ _ c.divide_both.ensures.leaves
+
+pub returns-in_err-divide_both-clause-emitter : goal.returns-in_err-divide_both-clause-emitter
+returns-in_err-divide_both-clause-emitter g c =
+    let still : (taken : List (List Value)) → (g.E.Emit.took c.args.emit.now (g.St.Store.holds c.args.store.now)) taken → (g.E.Emit.took c.args.emit.now (g.St.Store.holds c.divide_both.new.store)) taken =
+    λ taken. g.met.E.Emit.asks_own c.args.emit.now (g.St.Store.holds c.args.store.now) (g.St.Store.holds c.divide_both.new.store) taken (same_beside c.args.c.now.tracker (g.E.Emit.client c.args.emit.now) (g.St.Store.holds c.args.store.now) (g.St.Store.holds c.divide_both.new.store) (g.St.Store.signs c.args.store.now) (g.St.Store.signs c.divide_both.new.store) c.requires.emitter.apart c.divide_both.ensures.leaves) in
+    stands_left _ _ _ (g.E.Emit.took c.args.emit.now (g.St.Store.holds c.args.store.now)) (g.E.Emit.took c.args.emit.now (g.St.Store.holds c.divide_both.new.store)) c.args.c.now.tracker (g.St.Store.holds c.args.store.now) (g.St.Store.holds c.divide_both.new.store) (g.St.Store.signs c.args.store.now) (g.St.Store.signs c.divide_both.new.store) c.requires.emitter c.divide_both.ensures.leaves still
+
+pub returns-then-not-is_few-clause-ok : goal.returns-then-not-is_few-clause-ok
+returns-then-not-is_few-clause-ok g c =
+    let still : (taken : List (List Value)) → (g.E.Emit.took c.args.emit.now (g.St.Store.holds c.args.store.now)) taken → (g.E.Emit.took c.args.emit.now (g.St.Store.holds c.divide_both.new.store)) taken =
+    λ taken. g.met.E.Emit.asks_own c.args.emit.now (g.St.Store.holds c.args.store.now) (g.St.Store.holds c.divide_both.new.store) taken (same_beside c.args.c.now.tracker (g.E.Emit.client c.args.emit.now) (g.St.Store.holds c.args.store.now) (g.St.Store.holds c.divide_both.new.store) (g.St.Store.signs c.args.store.now) (g.St.Store.signs c.divide_both.new.store) c.requires.emitter.apart c.divide_both.ensures.leaves) in (
+      c.in_ok-divide_both.ensures.divided.between,
+      λ lefts rights shows. advances_divided c.args.shape.now (g.E.Emit.took c.args.emit.now (g.St.Store.holds c.args.store.now)) (g.E.Emit.took c.args.emit.now (g.St.Store.holds c.divide_both.new.store)) lefts rights still (both c.args.left.now c.args.right.now (g.St.Store.holds c.args.store.now) (g.St.Store.signs c.args.store.now)) (both c.divide_both.new.left c.divide_both.new.right (g.St.Store.holds c.divide_both.new.store) (g.St.Store.signs c.divide_both.new.store)) (c.in_ok-divide_both.ensures.divided.rows lefts rights shows),
+    )
+
+pub returns-then-not-is_few-clause-less : goal.returns-then-not-is_few-clause-less
+returns-then-not-is_few-clause-less g c = c.in_ok-divide_both.ensures.divided.less
+
+pub returns-then-not-is_few-clause-first : goal.returns-then-not-is_few-clause-first
+returns-then-not-is_few-clause-first g c = λ shallow. gone_on_pinned c.divide_both.new.left.levels _ _ c.in_ok-divide_both.ensures.divided.first
+
+pub returns-then-not-is_few-clause-leaves : goal.returns-then-not-is_few-clause-leaves
+returns-then-not-is_few-clause-leaves g c = left_beside c.args.c.now.tracker (g.E.Emit.client c.args.emit.now) _ _ _ _ c.divide_both.ensures.leaves
+
+pub returns-then-not-is_few-clause-emitter : goal.returns-then-not-is_few-clause-emitter
+returns-then-not-is_few-clause-emitter g c =
+    let still : (taken : List (List Value)) → (g.E.Emit.took c.args.emit.now (g.St.Store.holds c.args.store.now)) taken → (g.E.Emit.took c.args.emit.now (g.St.Store.holds c.divide_both.new.store)) taken =
+    λ taken. g.met.E.Emit.asks_own c.args.emit.now (g.St.Store.holds c.args.store.now) (g.St.Store.holds c.divide_both.new.store) taken (same_beside c.args.c.now.tracker (g.E.Emit.client c.args.emit.now) (g.St.Store.holds c.args.store.now) (g.St.Store.holds c.divide_both.new.store) (g.St.Store.signs c.args.store.now) (g.St.Store.signs c.divide_both.new.store) c.requires.emitter.apart c.divide_both.ensures.leaves) in
+    stands_left _ _ _ (g.E.Emit.took c.args.emit.now (g.St.Store.holds c.args.store.now)) (g.E.Emit.took c.args.emit.now (g.St.Store.holds c.divide_both.new.store)) c.args.c.now.tracker (g.St.Store.holds c.args.store.now) (g.St.Store.holds c.divide_both.new.store) (g.St.Store.signs c.args.store.now) (g.St.Store.signs c.divide_both.new.store) c.requires.emitter c.divide_both.ensures.leaves still
+
+pub returns-clause-ok : goal.returns-clause-ok
+returns-clause-ok g c =
+    let top : length c.args.left.now.streams ≡ (c.len-at.result - 1) + 1 = (let len = c.len-at.ensures in let some = c.requires.some in omega (arith, len, some)) in
+    on_ok c.pair_top.result
+    (λ handed. (
+      c.pair_top.ensures.popped.1,
+      λ lefts rights shows.
+          let came = handed lefts rights shows in
+          advances_popped c.args.shape.now (g.E.Emit.took c.args.emit.now (g.St.Store.holds c.args.store.now)) (g.E.Emit.took c.pair_top.new.emit (g.St.Store.holds c.pair_top.new.store)) lefts rights (both c.args.left.now c.args.right.now (g.St.Store.holds c.args.store.now) (g.St.Store.signs c.args.store.now)) (both c.pair_top.new.left c.pair_top.new.right (g.St.Store.holds c.pair_top.new.store) (g.St.Store.signs c.pair_top.new.store)) (c.len-at.result - 1) top c.pair_top.ensures.popped.0.many came.0 came.1,
+    ))
+    c.pair_top.ensures.ok
+
+pub returns-clause-err : goal.returns-clause-err
+returns-clause-err g c =
+    let top : length c.args.left.now.streams ≡ (c.len-at.result - 1) + 1 = (let len = c.len-at.ensures in let some = c.requires.some in omega (arith, len, some)) in
+    on_err c.pair_top.result (λ handed lefts rights shows. some_top c.args.shape.now (g.E.Emit.took c.args.emit.now (g.St.Store.holds c.args.store.now)) (g.E.Emit.took c.pair_top.new.emit (g.St.Store.holds c.pair_top.new.store)) lefts rights (length c.args.left.now.streams) (c.len-at.result - 1) top (handed lefts rights shows)) c.pair_top.ensures.err
+
+pub returns-clause-less : goal.returns-clause-less
+returns-clause-less g c = any_ok c.pair_top.result (less_popped c.args.left.now.levels c.pair_top.new.left.levels (c.len-at.result - 1) c.level-level.result c.level-level.ensures.value c.pair_top.ensures.popped.0.levels)
+
+pub returns-clause-first : goal.returns-clause-first
+returns-clause-first g c = any_ok c.pair_top.result (λ shallow. absurd (not_shallow c.args.left.now.levels (c.len-at.result - 1) c.level-level.result shallow c.level-level.ensures.value (c.is_few.ensures.later c.if-not-is_few.false)))

@@ -1,0 +1,52 @@
+use Rattle.std.proofs.Common.{◌≡◌, ◌∙◌, List, Option, IfErr, OnErr, OnOk, true, ap, sym, subst, true≢false}
+use Rattle.std.specs.Prelude.{slice_get}
+use Rattle.std.proofs.lemmas.Option.{none-some}
+use Rattle.pool_model.specs.declared.entry.Entry.{Entry}
+use Rattle.row_codec.specs.declared.values.Value.{Value}
+use Rattle.tuple_stream.specs.Trails.{EnteredEvents}
+use Rattle.partition_stack.specs.Causes.{CameOfEither}
+use Rattle.partition_stack.specs.Stack.{Stack, over}
+use Rattle.partition_stack.proofs.Shorts.{both_causes}
+use Rattle.join_op.specs.Handing.{Emitted, EmittedSome}
+use Rattle.join_op.specs.Laid.{HoldsSides}
+use Rattle.join_op.specs.Operator.{Keeps, Operator}
+use Rattle.join_op.specs.Pairs.{pairs_of}
+use Rattle.join_op.proofs.operator.JoinOp.finish.Goals as goal
+
+pub invariant_of-self : goal.invariant_of-self
+invariant_of-self g c =
+    record {
+      on_left = c.self.invariant.on_left;
+      on_right = c.self.invariant.on_right;
+      rests = λ set i s there below. absurd (none-some s (sym (ap (λ (p : Stack). slice_get p.streams i) c.finish_sides.ensures.none.0) ∙ there));
+      before = λ unset. absurd (true≢false (sym c.finish_sides.ensures.none.1 ∙ unset));
+    }
+
+pub returns-clause-ok : goal.returns-clause-ok
+returns-clause-ok g c =
+    let h = g.St.Store.holds c.args.store.now in
+    let was = g.E.Emit.took c.args.emit.now h in
+    let now = g.E.Emit.took c.finish_sides.new.emit (g.St.Store.holds c.finish_sides.new.store) in
+    subst (λ (op : Operator). OnOk c.finish_sides.result ((start : Option (List Entry)) (lefts rights : List (List Value)) → Keeps start lefts rights op h (g.St.Store.signs c.args.store.now) → h.told ≡ true → Emitted was now (pairs_of op.shape lefts rights)))
+    c.self.view_is c.finish_sides.ensures.ok
+
+pub returns-clause-err : goal.returns-clause-err
+returns-clause-err g c =
+    let h = g.St.Store.holds c.args.store.now in
+    let was = g.E.Emit.took c.args.emit.now h in
+    let now = g.E.Emit.took c.finish_sides.new.emit (g.St.Store.holds c.finish_sides.new.store) in
+    subst (λ (op : Operator). OnErr c.finish_sides.result ((start : Option (List Entry)) (lefts rights : List (List Value)) → Keeps start lefts rights op h (g.St.Store.signs c.args.store.now) → h.told ≡ true → EmittedSome was now (pairs_of op.shape lefts rights)))
+    c.self.view_is c.finish_sides.ensures.err
+
+pub returns-clause-kept : goal.returns-clause-kept
+returns-clause-kept g c =
+    let h = g.St.Store.holds c.args.store.now in
+    let h1 = g.St.Store.holds c.finish_sides.new.store in
+    let s1 = g.St.Store.signs c.finish_sides.new.store in
+    subst (λ (op : Operator). OnOk c.finish_sides.result ((start : Option (List Entry)) (lefts rights : List (List Value)) → Keeps start lefts rights op h (g.St.Store.signs c.args.store.now) → EnteredEvents (HoldsSides op.shape lefts rights (over c.finish_sides.new.left h1 s1) (over c.finish_sides.new.right h1 s1)) start s1.trail))
+    c.self.view_is c.finish_sides.ensures.kept
+
+pub returns-clause-cause : goal.returns-clause-cause
+returns-clause-cause g c =
+    subst (λ (op : Operator). IfErr c.finish_sides.result (CameOfEither op.left.page_blocks (g.E.Emit.client c.args.emit.now) (g.E.Emit.faults c.args.emit.now) (g.E.Emit.faults c.finish_sides.new.emit) (g.St.Store.signs c.args.store.now) (g.St.Store.signs c.finish_sides.new.store))) c.self.view_is
+    (both_causes c.finish_sides.result _ _ _ _ _ _ c.finish_sides.ensures.cause c.finish_sides.ensures.short)

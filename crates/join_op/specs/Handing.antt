@@ -1,0 +1,20 @@
+-- Pairs go to an emitter, in any order. `was` and `now` say what it took before and after.
+use Rattle.std.specs.Prelude.{List, ◌++◌}
+use Rattle.row_codec.specs.declared.values.Value.{Value}
+use Rattle.join_op.specs.Pairs.{SameRows}
+
+-- these rows came behind what was taken, each as often, in any order
+pub record Emitted (was now : List (List Value) → Type 0) (pairs : List (List Value)) : Type 0 where
+  pub rows : List (List Value)
+  pub same : SameRows rows pairs
+  pub came : (taken : List (List Value)) → was taken → now (taken ++ rows)
+
+-- some of them did
+pub record CameSome (taken : List (List Value)) (now : List (List Value) → Type 0) (pairs : List (List Value)) : Type 0 where
+  pub some : List (List Value)
+  pub rest : List (List Value)
+  pub same : SameRows (some ++ rest) pairs
+  pub came : now (taken ++ some)
+
+abbrev pub EmittedSome : (List (List Value) → Type 0) → (List (List Value) → Type 0) → List (List Value) → Type 0
+EmittedSome was now pairs = (taken : List (List Value)) → was taken → CameSome taken now pairs

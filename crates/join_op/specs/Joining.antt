@@ -1,0 +1,92 @@
+-- Partitions of both sides are joined from the top, each with the one of its number.
+use Rattle.std.specs.Prelude.{◌≡◌, ◌⊎◌, ◌<◌, ℕ, zero, suc, List, [], ◌++◌, All, IfSome, length, slice_get, take, true}
+use Rattle.row_codec.specs.declared.values.Value.{Value}
+use Rattle.store_api.specs.declared.shapes.JoinShape.{JoinShape}
+use Rattle.store_api.specs.Holdings.{Holdings}
+use Rattle.store_api.specs.Signs.{Signs}
+use Rattle.tuple_stream.specs.Families.{AllClosed, ShowAll}
+use Rattle.tuple_stream.specs.Spending.{PinsAgain}
+use Rattle.pool_model.specs.declared.event.Event.{Event}
+use Rattle.tuple_stream.specs.Trails.{EnteredEvents, HasPin, PinsFirst}
+use Rattle.partition_stack.specs.Stack.{Stack, over, weight}
+use Rattle.join_op.specs.Chunks.{stored_pairs}
+use Rattle.join_op.specs.Pairs.{SameRows}
+use Rattle.join_op.specs.Stored.{left_side, right_side}
+
+-- the partitions of both sides over a store
+pub record Both : Type 0 where
+  pub left : Stack
+  pub right : Stack
+  pub held : Holdings
+  pub signs : Signs
+
+abbrev pub both : Stack → Stack → Holdings → Signs → Both
+both left right h signs = record { left = left; right = right; held = h; signs = signs }
+
+-- the pairs of the first so many partitions, number by number
+abbrev pub pairs_down : JoinShape → ℕ → (ℕ → List (List ℕ)) → (ℕ → List (List ℕ)) → List (List Value)
+pairs_down shape zero lefts rights = []
+pairs_down shape (suc n) lefts rights = stored_pairs shape (lefts n) (rights n) ++ pairs_down shape n lefts rights
+
+-- both sides have partitions of the same levels, and no page is pinned
+pub record IsBetween (b : Both) : Type 0 where
+  pub levels : b.right.levels ≡ b.left.levels
+  pub many : length b.right.streams ≡ length b.left.streams
+  pub left_closed : AllClosed (over b.left b.held b.signs)
+  pub right_closed : AllClosed (over b.right b.held b.signs)
+
+-- a partition of this side, at this place, has rows
+abbrev pub HasRowsAt : ℕ → Stack → Type 0
+HasRowsAt at p = IfSome (slice_get p.streams at) (λ s. 0 < s.count)
+
+-- it has none
+abbrev pub HasNoRowsAt : ℕ → Stack → Type 0
+HasNoRowsAt at p = IfSome (slice_get p.streams at) (λ s. s.count ≡ 0)
+
+-- all partitions are of the first level
+abbrev pub AreShallow : List ℕ → Type 0
+AreShallow levels = All (λ level. level < 2) levels
+
+-- no page was left before one was pinned again; and while none was, all partitions are of the first level
+pub record HasGoneOn (levels : List ℕ) (events : List Event) : Type 0 where
+  pub first : PinsFirst events
+  pub pinned : HasPin events ⊎ AreShallow levels
+
+-- the partitions have these rows
+pub record ShowBoth (lefts rights : ℕ → List (List ℕ)) (b : Both) : Type 0 where
+  pub told : b.held.told ≡ true
+  pub left : ShowAll lefts (over b.left b.held b.signs)
+  pub right : ShowAll rights (over b.right b.held b.signs)
+
+-- some pairs were handed on, and the others are those of the partitions that are there still
+pub record Advances (shape : JoinShape) (was now : List (List Value) → Type 0) (lefts rights : ℕ → List (List ℕ)) (a b : Both) : Type 0 where
+  pub lefts_now : ℕ → List (List ℕ)
+  pub rights_now : ℕ → List (List ℕ)
+  pub shows : ShowBoth lefts_now rights_now b
+  pub rows : List (List Value)
+  pub came : (taken : List (List Value)) → was taken → now (taken ++ rows)
+  pub same : SameRows (rows ++ pairs_down shape (length b.left.streams) lefts_now rights_now) (pairs_down shape (length a.left.streams) lefts rights)
+
+-- the partitions have rows of the same pairs
+pub record SharesPairs (shape : JoinShape) (lefts rights : ℕ → List (List ℕ)) (a b : Both) : Type 0 where
+  pub lefts_now : ℕ → List (List ℕ)
+  pub rights_now : ℕ → List (List ℕ)
+  pub shows : ShowBoth lefts_now rights_now b
+  pub same : SameRows (pairs_down shape (length b.left.streams) lefts_now rights_now) (pairs_down shape (length a.left.streams) lefts rights)
+
+-- the top partition of a side, at this place, went
+pub record HasPopped (at : ℕ) (old new : Stack) : Type 0 where
+  pub many : length new.streams ≡ at
+  pub levels : new.levels ≡ take at old.levels
+
+-- the columns of both sides that are to be equal
+pub record AreColumnsOfBoth (shape : JoinShape) (left right : List ℕ) : Type 0 where
+  pub on_left : left ≡ (left_side shape).columns
+  pub on_right : right ≡ (right_side shape).columns
+
+-- the rows of the top partitions, at this place, are in sixteen above them, and no pair is lost
+pub record HasDivided (shape : JoinShape) (at level : ℕ) (a b : Both) : Type 0 where
+  pub between : IsBetween b
+  pub less : weight b.left < weight a.left
+  pub rows : (lefts rights : ℕ → List (List ℕ)) → ShowBoth lefts rights a → SharesPairs shape lefts rights a b
+  pub first : EnteredEvents PinsAgain a.signs.trail b.signs.trail
