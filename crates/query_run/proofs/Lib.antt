@@ -1,15 +1,13 @@
-mod AnswerParts
-mod Answering
-mod Counted
-pub mod Grouping
-mod KeyBytes
+mod Around
+mod Ended
+mod Going
+mod Handed
 mod KeptFirst
 mod Reading
-mod ReadBack
+mod Results
 mod Sending
-mod Served
-mod Spans
-mod Spelled
-mod TextRows
-mod Ties
-mod Wants
+mod Summing
+mod Taking
+mod Telling
+mod Weighing
+mod Whole

@@ -1,116 +1,129 @@
 -- What is known of an input while its rows are read.
-use Rattle.std.proofs.Common.{◌≡◌, ◌∙◌, ◌≤◌, ◌<◌, ◌+◌, ◌++◌, ◌∷◌, ◌⊎◌, inl, inr, [], ℕ, zero, suc, List, true, false, Option, Some, None, IfSome, All, length, map, min, nat_le, ◌-◌, ◌^◌, slice_index_or, sym, ap, subst, refl, arith, rules}
+use Rattle.std.proofs.Common.{◌≡◌, ◌≢◌, ◌∙◌, ◌≤◌, ◌<◌, ◌+◌, ◌++◌, ◌∷◌, ◌⊎◌, inl, inr, [], ℕ, zero, suc, List, true, false, Option, Some, None, IfSome, All, filter, length, min, nat_le, ◌-◌, ◌^◌, slice_index_or, sym, ap, subst, refl, arith, rules}
 use Rattle.std.specs.Option.{option_map}
-use Rattle.std.proofs.lemmas.List.{append-nil, map-append, length-map}
-use Rattle.std.proofs.lemmas.List.Elements.{All-append}
+use Rattle.std.proofs.lemmas.List.{append-nil, length-append}
+use Rattle.std.proofs.lemmas.List.Elements.{All-append, filter-append}
+use Rattle.pool_model.specs.declared.entry.Entry.{Entry}
 use Rattle.row_codec.specs.declared.values.Value.{Value}
+use Rattle.row_codec.specs.declared.values.Column.{Column}
 use Rattle.row_codec.specs.declared.values.Kind.{Kind}
 use Rattle.row_codec.specs.declared.values.Kind.TheVariants as kind
-use Rattle.row_codec.specs.RowBytes.{row_bytes}
-use Rattle.tuple_stream.specs.Streams.{IsAtEnd}
-use Rattle.tuple_stream.specs.Steps.{Adds, Scene, Shaped}
-use Rattle.tuple_stream.proofs.Built.{adds_trans}
-use Rattle.tuple_stream.proofs.Going.{went_refl}
+use Rattle.outside.specs.Counts.{Rose}
+use Rattle.scan_filter.specs.Passes.{passes}
+use Rattle.store_api.specs.Holdings.{Holdings}
+use Rattle.store_api.specs.Signs.{Signs}
+use Rattle.group_op.specs.Operator.{Keeps, Operator}
 use Rattle.csv_edge.specs.Typed.{Typed, nothing_more, refused_here, row_then, rows_then}
 use Rattle.csv_edge.specs.Rows.{Becomes, CountsBytes, FitsLimit, HasNoSums, IsOfRecord, PassesLimit}
 use Rattle.csv_edge.specs.Rows as rows
 use Rattle.csv_edge.specs.declared.refusal.InputErr.{InputErr}
 use Rattle.csv_edge.specs.declared.refusal.InputErr.TheVariants as input
 use Rattle.csv_edge.proofs.Steps.{none-handed, row-handed}
-use Rattle.query_run.specs.Answer.{HasTexts, text_row}
-use Rattle.query_run.specs.Causes.{IsOfBytes, NamesInt, cause_of_input, side_of}
-use Rattle.query_run.specs.Input.{IsRefusal, column_rows, first_refusal, first_too_long, most_bytes, weight_of}
-use Rattle.query_run.specs.Keeping.{IsKept, IsTextRow, IsTooLong, KeepsTexts, spelled}
+use Rattle.query_run.specs.Causes.{IsOfBytes, IsSourceFault, NamesInt, cause_of_input, side_of}
+use Rattle.query_run.specs.Feeding.{RefusesRow}
+use Rattle.query_run.specs.Input.{IsAccepted, IsRefusal, first_refusal, first_too_long, left_rows, most_bytes, rows_of, weight_of}
+use Rattle.query_run.specs.FedRows.{AreFed, IsFed}
+use Rattle.query_run.specs.Plans.{kinds_of_columns, shape_of}
+use Rattle.query_run.specs.declared.feeding.Fed.{Fed}
+use Rattle.query_plan.specs.declared.plan.Query.{Query}
 use Rattle.query_plan.specs.declared.plan.Side.TheVariants.{Left}
 use Rattle.query_run.specs.declared.outcome.QueryErr.{QueryErr}
 use Rattle.query_run.specs.declared.outcome.QueryErr.TheVariants as query
 use Rattle.query_run.specs.declared.outcome.QueryErr.TheVariants.{TooLarge}
 
--- the texts so far, and what is still to come, are the input
-abbrev pub IsSoFar : List ℕ → Option (List ℕ) → List (List ℕ) → Option Typed → Type 0
-IsSoFar column told texts rest = Becomes (rows_then (map text_row texts)) (option_map (column_rows column) told) rest
+-- the rows so far, and what is still to come, are the input
+abbrev pub IsSoFar : Query → Option (List ℕ) → List (List Value) → Option Typed → Type 0
+IsSoFar plan told rows rest = Becomes (rows_then rows) (option_map (rows_of plan.left.columns) told) rest
 
--- no text that is kept weighs too much
-first-behind : (page : ℕ) (texts : List (List ℕ)) (number : ℕ) (rest : List (List Value)) → All (IsKept page) texts
-    → first_too_long page number (map text_row texts ++ rest) ≡ first_too_long page (number + length texts) rest
-first-behind page [] number rest kept = let same : number + 0 ≡ number = omega arith in rw same refl
-first-behind page (text ∷ texts) number rest kept =
-    let first : IsKept page text = kept 0 text (omega arith) in
-    let light : nat_le (weight_of (text_row text)) page ≡ true = search (rules, first) in
-    let later : All (IsKept page) texts = λ k d below. kept (suc k) d (omega (arith, below)) in
-    let same : number + 1 + length texts ≡ number + length (text ∷ texts) = omega arith in
-    rw (light, first-behind page texts (number + 1) rest later, same) refl
+-- a row that weighs no more than is allowed, and one that does
+abbrev pub IsLight : Query → ℕ → List Value → Type 0
+IsLight plan page row = weight_of plan row ≤ page
 
--- the refusal behind texts that are kept is the first
-refusal-behind : (page : ℕ) (texts : List (List ℕ)) (e : InputErr) → All (IsKept page) texts
-    → first_refusal page (rows_then (map text_row texts) (refused_here e)) ≡ Some (cause_of_input Left e)
-refusal-behind page texts e kept = rw (first-behind page texts 1 [] kept) refl
+pub record IsTooLong (plan : Query) (page : ℕ) (row : List Value) (number : ℕ) (why : QueryErr) : Type 0 where
+  pub heavy : page < weight_of plan row
+  pub names_it : why ≡ query.RowTooLong Left number (min (weight_of plan row) (2 ^ 64 - 1))
 
-none-behind : (page : ℕ) (texts : List (List ℕ)) → All (IsKept page) texts → first_refusal page (rows_then (map text_row texts) nothing_more) ≡ None
-none-behind page texts kept = rw (first-behind page texts 1 [] kept) refl
+-- no row so far weighs too much
+first-behind : (plan : Query) (page : ℕ) (rows : List (List Value)) (number : ℕ) (rest : List (List Value)) → All (IsLight plan page) rows
+    → first_too_long plan Left page number (rows ++ rest) ≡ first_too_long plan Left page (number + length rows) rest
+first-behind plan page [] number rest light = let same : number + 0 ≡ number = omega arith in rw same refl
+first-behind plan page (row ∷ rows) number rest light =
+    let first : IsLight plan page row = light 0 row (omega arith) in
+    let is : nat_le (weight_of plan row) page ≡ true = search (rules, first) in
+    let later : All (IsLight plan page) rows = λ k d below. light (suc k) d (omega (arith, below)) in
+    let same : number + 1 + length rows ≡ number + length (row ∷ rows) = omega arith in
+    rw (is, first-behind plan page rows (number + 1) rest later, same) refl
+
+-- the refusal behind rows that are light is the first
+refusal-behind : (plan : Query) (page : ℕ) (rows : List (List Value)) (e : InputErr) → All (IsLight plan page) rows
+    → first_refusal plan Left page (rows_then rows (refused_here e)) ≡ Some (cause_of_input Left e)
+refusal-behind plan page rows e light = rw (first-behind plan page rows 1 [] light) refl
+
+none-behind : (plan : Query) (page : ℕ) (rows : List (List Value)) → All (IsLight plan page) rows → first_refusal plan Left page (rows_then rows nothing_more) ≡ None
+none-behind plan page rows light = rw (first-behind plan page rows 1 [] light) refl
 
 -- so is a row that weighs too much
-too-long-behind : (page : ℕ) (texts : List (List ℕ)) (row : List Value) (more : Typed) (why : QueryErr) → All (IsKept page) texts → IsTooLong page row (length texts) why
-    → first_refusal page (rows_then (map text_row texts) (row_then row more)) ≡ Some why
-too-long-behind page texts row more why kept long =
-    let heavy : nat_le (weight_of row) page ≡ false = search (rules, long) in
-    let place : 1 + length texts ≡ length texts + 1 = omega arith in
+too-long-behind : (plan : Query) (page : ℕ) (rows : List (List Value)) (row : List Value) (more : Typed) (number : ℕ) (why : QueryErr) → All (IsLight plan page) rows → number ≡ length rows + 1 → IsTooLong plan page row number why
+    → first_refusal plan Left page (rows_then rows (row_then row more)) ≡ Some why
+too-long-behind plan page rows row more number why light at long =
+    let heavy : nat_le (weight_of plan row) page ≡ false = search (rules, long) in
+    let place : 1 + length rows ≡ number = omega (arith, at) in
     let names = long.names_it in
-    rw (first-behind page texts 1 (row ∷ more.rows) kept, heavy, place, names) refl
+    rw (first-behind plan page rows 1 (row ∷ more.rows) light, heavy, place, names) refl
 
-pub refused_at : (page : ℕ) (column : List ℕ) (told : Option (List ℕ)) (texts : List (List ℕ)) (rest : Option Typed) (e : InputErr) → All (IsKept page) texts
-    → IsSoFar column told texts rest → Becomes (λ t. t) rest (Some (refused_here e))
-    → IfSome told (λ bytes. IsRefusal page column bytes (cause_of_input Left e))
-refused_at page column None texts rest e kept so-far here = tt
-refused_at page column (Some bytes) texts None e kept so-far here = absurd so-far
-refused_at page column (Some bytes) texts (Some rest) e kept so-far here =
-    let all : column_rows column bytes ≡ rows_then (map text_row texts) (refused_here e) = so-far ∙ ap (rows_then (map text_row texts)) here in
-    inl (ap (first_refusal page) all ∙ refusal-behind page texts e kept)
+refused_at : (plan : Query) (page : ℕ) (told : Option (List ℕ)) (rows : List (List Value)) (rest : Option Typed) (e : InputErr) → All (IsLight plan page) rows
+    → IsSoFar plan told rows rest → Becomes (λ t. t) rest (Some (refused_here e))
+    → IfSome told (λ bytes. IsRefusal plan page bytes (cause_of_input Left e))
+refused_at plan page None rows rest e light so-far here = tt
+refused_at plan page (Some bytes) rows None e light so-far here = absurd so-far
+refused_at plan page (Some bytes) rows (Some rest) e light so-far here =
+    let all : rows_of plan.left.columns bytes ≡ rows_then rows (refused_here e) = so-far ∙ ap (rows_then rows) here in
+    inl (ap (first_refusal plan Left page) all ∙ refusal-behind plan page rows e light)
 
-pub too_long_at : (page : ℕ) (column : List ℕ) (told : Option (List ℕ)) (texts : List (List ℕ)) (row : List Value) (old new : Option Typed) (why : QueryErr) → All (IsKept page) texts
-    → IsSoFar column told texts old → Becomes (row_then row) old new → IsTooLong page row (length texts) why
-    → IfSome told (λ bytes. IsRefusal page column bytes why)
-too_long_at page column None texts row old new why kept so-far next long = tt
-too_long_at page column (Some bytes) texts row None new why kept so-far next long = absurd so-far
-too_long_at page column (Some bytes) texts row (Some old) None why kept so-far next long = absurd next
-too_long_at page column (Some bytes) texts row (Some old) (Some new) why kept so-far next long =
-    let all : column_rows column bytes ≡ rows_then (map text_row texts) (row_then row new) = so-far ∙ ap (rows_then (map text_row texts)) next in
-    inl (ap (first_refusal page) all ∙ too-long-behind page texts row new why kept long)
+pub too_long_at : (plan : Query) (page : ℕ) (told : Option (List ℕ)) (rows : List (List Value)) (row : List Value) (old new : Option Typed) (number : ℕ) (why : QueryErr) → All (IsLight plan page) rows
+    → IsSoFar plan told rows old → Becomes (row_then row) old new → number ≡ length rows + 1 → IsTooLong plan page row number why
+    → IfSome told (λ bytes. IsRefusal plan page bytes why)
+too_long_at plan page None rows row old new number why light so-far next at long = tt
+too_long_at plan page (Some bytes) rows row None new number why light so-far next at long = absurd so-far
+too_long_at plan page (Some bytes) rows row (Some old) None number why light so-far next at long = absurd next
+too_long_at plan page (Some bytes) rows row (Some old) (Some new) number why light so-far next at long =
+    let all : rows_of plan.left.columns bytes ≡ rows_then rows (row_then row new) = so-far ∙ ap (rows_then rows) next in
+    inl (ap (first_refusal plan Left page) all ∙ too-long-behind plan page rows row new number why light at long)
 
 -- told bytes that pass what is still allowed pass the whole limit
-passes : (told now : Option (List ℕ)) (allowed : ℕ) → CountsBytes most_bytes told allowed now → PassesLimit allowed now → IfSome told (λ bytes. most_bytes < length bytes)
-passes None now allowed counts more = tt
-passes (Some bytes) None allowed counts more = absurd counts
-passes (Some bytes) (Some left) allowed counts more = omega (arith, counts, more)
+passes-limit : (told now : Option (List ℕ)) (allowed : ℕ) → CountsBytes most_bytes told allowed now → PassesLimit allowed now → IfSome told (λ bytes. most_bytes < length bytes)
+passes-limit None now allowed counts more = tt
+passes-limit (Some bytes) None allowed counts more = absurd counts
+passes-limit (Some bytes) (Some left) allowed counts more = omega (arith, counts, more)
 
 fits : (told now : Option (List ℕ)) (allowed : ℕ) → CountsBytes most_bytes told allowed now → FitsLimit allowed now → IfSome told (λ bytes. length bytes ≤ most_bytes)
 fits None now allowed counts more = tt
 fits (Some bytes) None allowed counts more = absurd counts
 fits (Some bytes) (Some left) allowed counts more = omega (arith, counts, more)
 
-large-if : (page : ℕ) (column : List ℕ) (told : Option (List ℕ)) → IfSome told (λ bytes. most_bytes < length bytes) → IfSome told (λ bytes. IsRefusal page column bytes (TooLarge Left))
-large-if page column None more = tt
-large-if page column (Some bytes) more = inr (refl, more)
+large-if : (plan : Query) (page : ℕ) (told : Option (List ℕ)) → IfSome told (λ bytes. most_bytes < length bytes) → IfSome told (λ bytes. IsRefusal plan page bytes (TooLarge Left))
+large-if plan page None more = tt
+large-if plan page (Some bytes) more = inr (refl, more)
 
-pub large_at : (page : ℕ) (column : List ℕ) (told now : Option (List ℕ)) (allowed : ℕ) (texts : List (List ℕ)) (rest : Option Typed) → All (IsKept page) texts
-    → IsSoFar column told texts rest → CountsBytes most_bytes told allowed now
+large_at : (plan : Query) (page : ℕ) (told now : Option (List ℕ)) (allowed : ℕ) (rows : List (List Value)) (rest : Option Typed) → All (IsLight plan page) rows
+    → IsSoFar plan told rows rest → CountsBytes most_bytes told allowed now
     → Becomes (λ t. t) rest (Some (refused_here input.TooLarge)) ⊎ PassesLimit allowed now
-    → IfSome told (λ bytes. IsRefusal page column bytes (TooLarge Left))
-large_at page column told now allowed texts rest kept so-far counts (inl here) = refused_at page column told texts rest input.TooLarge kept so-far here
-large_at page column told now allowed texts rest kept so-far counts (inr more) = large-if page column told (passes told now allowed counts more)
+    → IfSome told (λ bytes. IsRefusal plan page bytes (TooLarge Left))
+large_at plan page told now allowed rows rest light so-far counts (inl here) = refused_at plan page told rows rest input.TooLarge light so-far here
+large_at plan page told now allowed rows rest light so-far counts (inr more) = large-if plan page told (passes-limit told now allowed counts more)
 
 -- what the bytes are refused for is the first refusal
-pub refusal_of_input : (page : ℕ) (column : List ℕ) (told now : Option (List ℕ)) (allowed : ℕ) (texts : List (List ℕ)) (rest : Option Typed) (e : InputErr) → All (IsKept page) texts
-    → IsSoFar column told texts rest → CountsBytes most_bytes told allowed now
+pub refusal_of_input : (plan : Query) (page : ℕ) (told now : Option (List ℕ)) (allowed : ℕ) (rows : List (List Value)) (rest : Option Typed) (e : InputErr) → All (IsLight plan page) rows
+    → IsSoFar plan told rows rest → CountsBytes most_bytes told allowed now
     → (IsOfRecord e → Becomes (λ t. t) rest (Some (refused_here e)))
     → (e ≡ input.TooLarge → Becomes (λ t. t) rest (Some (refused_here input.TooLarge)) ⊎ PassesLimit allowed now)
-    → IsOfBytes (cause_of_input Left e) → IfSome told (λ bytes. IsRefusal page column bytes (cause_of_input Left e))
-refusal_of_input page column told now allowed texts rest input.Fault kept so-far counts refused large is = absurd is
-refusal_of_input page column told now allowed texts rest input.Memory kept so-far counts refused large is = absurd is
-refusal_of_input page column told now allowed texts rest input.TooLarge kept so-far counts refused large is = large_at page column told now allowed texts rest kept so-far counts (large refl)
-refusal_of_input page column told now allowed texts rest input.Header kept so-far counts refused large is = refused_at page column told texts rest input.Header kept so-far (refused tt)
-refusal_of_input page column told now allowed texts rest (input.Csv number) kept so-far counts refused large is = refused_at page column told texts rest (input.Csv number) kept so-far (refused tt)
-refusal_of_input page column told now allowed texts rest (input.Field number place) kept so-far counts refused large is = refused_at page column told texts rest (input.Field number place) kept so-far (refused tt)
+    → IsOfBytes (cause_of_input Left e) → IfSome told (λ bytes. IsRefusal plan page bytes (cause_of_input Left e))
+refusal_of_input plan page told now allowed rows rest input.Fault light so-far counts refused large is = absurd is
+refusal_of_input plan page told now allowed rows rest input.Memory light so-far counts refused large is = absurd is
+refusal_of_input plan page told now allowed rows rest input.TooLarge light so-far counts refused large is = large_at plan page told now allowed rows rest light so-far counts (large refl)
+refusal_of_input plan page told now allowed rows rest input.Header light so-far counts refused large is = refused_at plan page told rows rest input.Header light so-far (refused tt)
+refusal_of_input plan page told now allowed rows rest (input.Csv number) light so-far counts refused large is = refused_at plan page told rows rest (input.Csv number) light so-far (refused tt)
+refusal_of_input plan page told now allowed rows rest (input.Field number place) light so-far counts refused large is = refused_at plan page told rows rest (input.Field number place) light so-far (refused tt)
 
 -- a bad field is one of a column of ints
 pub int_of_input : (e : InputErr) (kinds : List Kind) → HasNoSums kinds → rows.NamesInt e kinds → NamesInt kinds (cause_of_input Left e)
@@ -121,15 +134,56 @@ int_of_input input.Header kinds none names = tt
 int_of_input (input.Csv number) kinds none names = tt
 int_of_input (input.Field number place) kinds none names = names none
 
-pub texts_no_sums : HasNoSums (kind.Text ∷ [])
-texts_no_sums = ((λ e. absurd (cc)), tt)
+-- the columns of a side have no sums
+pub no_sums : (columns : List Column) → All (λ c. c.kind ≢ kind.Wide) columns → HasNoSums (kinds_of_columns columns)
+no_sums [] narrow = tt
+no_sums (c ∷ columns) narrow = (narrow 0 c (omega arith), no_sums columns (λ k d below. narrow (suc k) d (omega (arith, below))))
 
--- a row that is too long is no bad field
-pub long_no_field : (page : ℕ) (row : List Value) (before : ℕ) (why : QueryErr) (kinds : List Kind) → (IsOfBytes why → IsTooLong page row before why) → NamesInt kinds why
-long_no_field page row before (query.BadField side number column) kinds long =
-    let is : query.BadField side number column ≡ query.RowTooLong Left (before + 1) (min (weight_of row) (2 ^ 64 - 1)) = (long tt).names_it in
-    absurd (cc)
-long_no_field page row before _ kinds long = tt
+-- where the header was refused, that is the first refusal
+first-at : (plan : Query) (page : ℕ) (bytes : List ℕ) (e : InputErr) → rows_of plan.left.columns bytes ≡ refused_here e → IsRefusal plan page bytes (cause_of_input Left e)
+first-at plan page bytes e is = inl (ap (first_refusal plan Left page) is)
+
+header-at : (plan : Query) (page : ℕ) (told : Option (List ℕ)) (e : InputErr) → IfSome told (λ bytes. rows_of plan.left.columns bytes ≡ refused_here e)
+    → IfSome told (λ bytes. IsRefusal plan page bytes (cause_of_input Left e))
+header-at plan page None e is = tt
+header-at plan page (Some bytes) e is = first-at plan page bytes e is
+
+large-at : (plan : Query) (page : ℕ) (told : Option (List ℕ)) → IfSome told (λ bytes. (rows_of plan.left.columns bytes ≡ refused_here input.TooLarge) ⊎ (most_bytes < length bytes))
+    → IfSome told (λ bytes. IsRefusal plan page bytes (TooLarge Left))
+large-at plan page None is = tt
+large-at plan page (Some bytes) (inl is) = first-at plan page bytes input.TooLarge is
+large-at plan page (Some bytes) (inr more) = inr (refl, more)
+
+pub refusal_of_header : (plan : Query) (page : ℕ) (told : Option (List ℕ)) (e : InputErr)
+    → (IsOfRecord e → IfSome told (λ bytes. rows_of plan.left.columns bytes ≡ refused_here e))
+    → (e ≡ input.TooLarge → IfSome told (λ bytes. (rows_of plan.left.columns bytes ≡ refused_here input.TooLarge) ⊎ (most_bytes < length bytes)))
+    → IsOfBytes (cause_of_input Left e) → IfSome told (λ bytes. IsRefusal plan page bytes (cause_of_input Left e))
+refusal_of_header plan page told input.Fault refused large is = absurd is
+refusal_of_header plan page told input.Memory refused large is = absurd is
+refusal_of_header plan page told input.TooLarge refused large is = large-at plan page told (large refl)
+refusal_of_header plan page told input.Header refused large is = header-at plan page told input.Header (refused tt)
+refusal_of_header plan page told (input.Csv number) refused large is = header-at plan page told (input.Csv number) (refused tt)
+refusal_of_header plan page told (input.Field number place) refused large is = header-at plan page told (input.Field number place) (refused tt)
+
+-- a row's refusal is of the input where it weighs too much
+pub refusal_of_row : (plan : Query) (page : ℕ) (told : Option (List ℕ)) (rows : List (List Value)) (row : List Value) (old new : Option Typed) (number : ℕ) (why : QueryErr) → All (IsLight plan page) rows
+    → IsSoFar plan told rows old → Becomes (row_then row) old new → number ≡ length rows + 1 → RefusesRow plan page number row why
+    → IsOfBytes why → IfSome told (λ bytes. IsRefusal plan page bytes why)
+refusal_of_row plan page told rows row old new number why light so-far next at (inl long) of-bytes =
+    too_long_at plan page told rows row old new number why light so-far next at (record { heavy = long.0; names_it = long.1 })
+refusal_of_row plan page told rows row old new number why light so-far next at (inr pool) of-bytes = absurd (rw pool.1 at of-bytes)
+
+pub row_side : (plan : Query) (page number : ℕ) (row : List Value) (why : QueryErr) → RefusesRow plan page number row why → IfSome (side_of why) (λ side. side ≡ Left)
+row_side plan page number row why (inl long) = rw long.1 refl
+row_side plan page number row why (inr pool) = rw pool.1 tt
+
+pub row_field : (plan : Query) (page number : ℕ) (row : List Value) (kinds : List Kind) (why : QueryErr) → RefusesRow plan page number row why → NamesInt kinds why
+row_field plan page number row kinds why (inl long) = rw long.1 tt
+row_field plan page number row kinds why (inr pool) = rw pool.1 tt
+
+pub row_fault : (plan : Query) (page number : ℕ) (row : List Value) (faults faults_now : ℕ) (why : QueryErr) → RefusesRow plan page number row why → IsSourceFault why → Rose faults faults_now
+row_fault plan page number row faults faults_now why (inl long) fault = let is = long.1 in let other = fault.1 in absurd (cc)
+row_fault plan page number row faults faults_now why (inr pool) fault = let is = pool.1 in let other = fault.1 in absurd (cc)
 
 -- and whatever it is, it speaks of the left input
 pub side_of_input : (e : InputErr) → IfSome (side_of (cause_of_input Left e)) (λ side. side ≡ Left)
@@ -140,83 +194,81 @@ side_of_input input.Header = refl
 side_of_input (input.Csv number) = refl
 side_of_input (input.Field number place) = refl
 
--- at the end, the texts are those of the input
-has-texts : (page : ℕ) (column bytes : List ℕ) (texts : List (List ℕ)) → All (IsKept page) texts → column_rows column bytes ≡ rows_then (map text_row texts) nothing_more
-    → length bytes ≤ most_bytes → HasTexts page column bytes texts
-has-texts page column bytes texts kept all few = record {
-  accepted = record { whole = ap (first_refusal page) all ∙ none-behind page texts kept; fits = few };
-  rows = ap (λ (t : Typed). t.rows) all ∙ append-nil (map text_row texts);
-}
+-- at the end, the rows are those of the input
+pub ended_at : (plan : Query) (page : ℕ) (told now : Option (List ℕ)) (allowed : ℕ) (rows : List (List Value)) (rest : Option Typed) → All (IsLight plan page) rows
+    → IsSoFar plan told rows rest → CountsBytes most_bytes told allowed now → Becomes (λ t. t) rest (Some nothing_more) → FitsLimit allowed now
+    → IfSome told (λ bytes. IsAccepted plan page bytes × (rows ≡ left_rows plan bytes))
+ended_at plan page None now allowed rows rest light so-far counts here few = tt
+ended_at plan page (Some bytes) now allowed rows None light so-far counts here few = absurd so-far
+ended_at plan page (Some bytes) now allowed rows (Some rest) light so-far counts here few =
+    let all : rows_of plan.left.columns bytes ≡ rows_then rows nothing_more = so-far ∙ ap (rows_then rows) here in (
+      record { whole = ap (first_refusal plan Left page) all ∙ none-behind plan page rows light; fits = fits (Some bytes) now allowed counts few },
+      sym (ap (λ (t : Typed). t.rows) all ∙ append-nil rows),
+    )
 
-pub ended_at : (page : ℕ) (column : List ℕ) (told now : Option (List ℕ)) (allowed : ℕ) (texts : List (List ℕ)) (rest : Option Typed) → All (IsKept page) texts
-    → IsSoFar column told texts rest → CountsBytes most_bytes told allowed now → Becomes (λ t. t) rest (Some nothing_more) → FitsLimit allowed now
-    → IfSome told (λ bytes. HasTexts page column bytes texts)
-ended_at page column None now allowed texts rest kept so-far counts here few = tt
-ended_at page column (Some bytes) now allowed texts None kept so-far counts here few = absurd so-far
-ended_at page column (Some bytes) now allowed texts (Some rest) kept so-far counts here few =
-    has-texts page column bytes texts kept (so-far ∙ ap (rows_then (map text_row texts)) here) (fits (Some bytes) now allowed counts few)
-
--- one more text was read
-pub one_more : (column : List ℕ) (told : Option (List ℕ)) (texts : List (List ℕ)) (text : List ℕ) (row : List Value) (old new : Option Typed)
-    → row ≡ text_row text → IsSoFar column told texts old → Becomes (row_then row) old new → IsSoFar column told (texts ++ text ∷ []) new
-one_more column told texts text row old new is so-far next =
-    rw (map-append text_row texts (text ∷ []), sym is) (row-handed (map text_row texts) row (option_map (column_rows column) told) old new so-far next)
-
-pub counts_on : (told now later : Option (List ℕ)) (most allowed left : ℕ) → CountsBytes most told allowed now → CountsBytes allowed now left later → CountsBytes most told left later
+counts_on : (told now later : Option (List ℕ)) (most allowed left : ℕ) → CountsBytes most told allowed now → CountsBytes allowed now left later → CountsBytes most told left later
 counts_on None now later most allowed left old new = tt
 counts_on (Some bytes) None later most allowed left old new = absurd old
 counts_on (Some bytes) (Some rest) None most allowed left old new = absurd new
 counts_on (Some bytes) (Some rest) (Some more) most allowed left old new = omega (arith, old, new)
 
--- what is kept of rows of which none was looked at yet, and with one more
-pub none_kept : (page : ℕ) → All (IsKept page) []
-none_kept page = λ k d below. absurd (omega (arith, below))
-
-pub one_kept : (page : ℕ) (texts : List (List ℕ)) (text : List ℕ) → All (IsKept page) texts → IsKept page text → All (IsKept page) (texts ++ text ∷ [])
-one_kept page texts text kept is = All-append (IsKept page) texts (text ∷ []) kept (λ k d below. only k d below) where
-  only : (k : ℕ) (d : List ℕ) → k < 1 → IsKept page (slice_index_or (text ∷ []) k d)
+one_more : (P : List Value → Type 0) (rows : List (List Value)) (row : List Value) → All P rows → P row → All P (rows ++ row ∷ [])
+one_more P rows row all is = All-append P rows (row ∷ []) all only where
+  only : (k : ℕ) (d : List Value) → k < 1 → P (slice_index_or (row ∷ []) k d)
   only zero d below = is
   only (suc k) d below = absurd (omega (arith, below))
 
--- the rows so far are kept, and the others are still to come
-pub record IsReading (t page : ℕ) (column : List ℕ) (told : Option (List ℕ)) (a b : Scene) (rest : Option Typed) (now : Option (List ℕ)) (allowed : ℕ) : Type 0 where
-  pub texts : List (List ℕ)
-  pub keeps : KeepsTexts t page texts a b
-  pub so_far : IsSoFar column told texts rest
+-- so many rows were read, and those that pass were fed; the others are still to come
+pub record IsReading (plan : Query) (page : ℕ) (told : Option (List ℕ)) (start : Option (List Entry)) (fed : Fed) (op : Operator) (h : Holdings) (signs : Signs) (rest : Option Typed) (now : Option (List ℕ)) (allowed : ℕ) : Type 0 where
+  pub rows : List (List Value)
+  pub read : fed.read ≡ length rows
+  pub kept : fed.kept ≡ length (filter (passes plan.left.preds) rows)
+  pub light : All (IsLight plan page) rows
+  pub formed : AreFed (shape_of plan) rows
+  pub keeps : Keeps start (filter (passes plan.left.preds) rows) op h signs
+  pub so_far : IsSoFar plan told rows rest
   pub counts : CountsBytes most_bytes told allowed now
 
+abbrev pub fed_of : ℕ → ℕ → Fed
+fed_of read kept = record { read = read; kept = kept }
+
 -- nothing was read yet but the header
-pub started : (t page : ℕ) (column : List ℕ) (told : Option (List ℕ)) (a : Scene) (rest : Option Typed) (now : Option (List ℕ)) (allowed : ℕ)
-    → Shaped t a → Becomes (λ t. t) (option_map (column_rows column) told) rest → CountsBytes most_bytes told allowed now
-    → IsReading t page column told a a rest now allowed
-started t page column told a rest now allowed is ok counts = record {
-  texts = [];
-  keeps = record { kept = none_kept page; went = went_refl t a.stream a.stream a.held a.signs is refl; at_end = λ ends. ends };
-  so_far = none-handed (option_map (column_rows column) told) rest ok;
+pub started : (plan : Query) (page : ℕ) (told : Option (List ℕ)) (start : Option (List Entry)) (op : Operator) (h : Holdings) (signs : Signs) (rest : Option Typed) (now : Option (List ℕ)) (allowed : ℕ)
+    → Keeps start [] op h signs → Becomes (λ t. t) (option_map (rows_of plan.left.columns) told) rest → CountsBytes most_bytes told allowed now
+    → IsReading plan page told start (fed_of 0 0) op h signs rest now allowed
+started plan page told start op h signs rest now allowed keeps ok counts = record {
+  rows = [];
+  read = refl;
+  kept = refl;
+  light = λ k d below. absurd (omega (arith, below));
+  formed = λ k d below. absurd (omega (arith, below));
+  keeps = keeps;
+  so_far = none-handed (option_map (rows_of plan.left.columns) told) rest ok;
   counts = counts;
 }
 
--- a row was read and kept
-pub went_on : (t page : ℕ) (column : List ℕ) (told : Option (List ℕ)) (row : List Value) (a b c : Scene) (rest later : Option Typed) (now then : Option (List ℕ)) (allowed left : ℕ)
-    → IsReading t page column told a b rest now allowed → IsTextRow page row → Adds t (row_bytes row ∷ []) b c → IsAtEnd c.stream → Becomes (row_then row) rest later → CountsBytes allowed now left then
-    → IsReading t page column told a c later then left
-went_on t page column told row a b c rest later now then allowed left before is went ends next counts =
-    let rows : map spelled before.texts ++ row_bytes row ∷ [] ≡ map spelled (before.texts ++ is.text ∷ []) =
-    ap (λ (r : List Value). map spelled before.texts ++ row_bytes r ∷ []) is.is_text ∙ sym (map-append spelled before.texts (is.text ∷ [])) in
+-- a row was read, and fed if it passed
+pub went_on : (plan : Query) (page : ℕ) (told : Option (List ℕ)) (start : Option (List Entry)) (fed : Fed) (read kept : ℕ) (row : List Value) (op op' : Operator) (h h' : Holdings) (signs signs' : Signs) (rest later : Option Typed) (now then : Option (List ℕ)) (allowed left : ℕ)
+    → IsReading plan page told start fed op h signs rest now allowed → IsLight plan page row → IsFed (shape_of plan) row
+    → ((rows : List (List Value)) → Keeps start rows op h signs → Keeps start (rows ++ filter (passes plan.left.preds) (row ∷ [])) op' h' signs')
+    → read ≡ fed.read + 1 → kept ≡ fed.kept + length (filter (passes plan.left.preds) (row ∷ []))
+    → Becomes (row_then row) rest later → CountsBytes allowed now left then
+    → IsReading plan page told start (fed_of read kept) op' h' signs' later then left
+went_on plan page told start fed read kept row op op' h h' signs signs' rest later now then allowed left before is formed feeds reads keeps next counts =
+    let test = passes plan.left.preds in
+    let split : filter test (before.rows ++ row ∷ []) ≡ filter test before.rows ++ filter test (row ∷ []) = filter-append test before.rows (row ∷ []) in
+    let long = length-append before.rows (row ∷ []) in
+    let longer = length-append (filter test before.rows) (filter test (row ∷ [])) in
+    let many : length (filter test (before.rows ++ row ∷ [])) ≡ length (filter test before.rows ++ filter test (row ∷ [])) = ap length split in
+    let was-read = before.read in
+    let was-kept = before.kept in
     record {
-      texts = before.texts ++ is.text ∷ [];
-      keeps = record {
-        kept = one_kept page before.texts is.text before.keeps.kept is.kept;
-        went = subst (λ (rs : List (List ℕ)). Adds t rs a c) rows (adds_trans t a b c before.keeps.at_end before.keeps.went went);
-        at_end = λ was. ends;
-      };
-      so_far = one_more column told before.texts is.text row rest later is.is_text before.so_far next;
+      rows = before.rows ++ row ∷ [];
+      read = omega (arith, reads, was-read, long);
+      kept = omega (arith, keeps, was-kept, longer, many);
+      light = one_more (IsLight plan page) before.rows row before.light is;
+      formed = one_more (IsFed (shape_of plan)) before.rows row before.formed formed;
+      keeps = subst (λ fed. Keeps start fed op' h' signs') (sym split) (feeds (filter test before.rows) before.keeps);
+      so_far = row-handed before.rows row (option_map (rows_of plan.left.columns) told) rest later before.so_far next;
       counts = counts_on told now then most_bytes allowed left before.counts counts;
     }
-
--- as many rows are kept as were read
-pub kept_length : (t page : ℕ) (texts : List (List ℕ)) (a b : Scene) → KeepsTexts t page texts a b → a.stream.count ≡ 0 → b.stream.count ≡ length texts
-kept_length t page texts a b keeps none =
-    let more = keeps.went.counted in
-    let long = length-map texts spelled in
-    omega (arith, more, none, long)

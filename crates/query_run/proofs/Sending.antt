@@ -1,5 +1,5 @@
 -- A text that goes out a part at a time.
-use Rattle.std.proofs.Common.{◌≡◌, ◌∙◌, ◌≤◌, ◌++◌, ℕ, List, [], Option, Some, None, length, take, drop, sym, ap, refl, subst, arith}
+use Rattle.std.proofs.Common.{◌≡◌, ◌∙◌, ◌++◌, ℕ, List, [], Option, Some, None, length, take, drop, sym, ap, refl, subst, arith}
 use Rattle.std.specs.Io.KnownBytes.{Appends}
 use Rattle.std.proofs.lemmas.List.{append_assoc, append-nil, length-append, take-append-drop}
 use Rattle.std.proofs.Math.Seq.{take-append_seam}

@@ -1,66 +1,79 @@
--- The answer of a count, as computed over the bytes of its input. A row weighs at most the bytes of a page.
-use Rattle.std.specs.Prelude.{◌≡◌, ℕ, List, [], ◌∷◌, ◌++◌, Option, Some, None, Bool, true, map, flat_map, codes, length, sum_by, pos, ⊤}
+-- The answer of a query that groups, as computed over the bytes of its input: a line of names, and a line a group.
+use Rattle.std.specs.Prelude.{◌≡◌, codes, ℕ, List, ◌++◌, Option, Some, None, Bool, true, map, flat_map, length, ℤ, ⊤}
+use Rattle.std.specs.List.{range_with_len}
 use Rattle.std.specs.Io.KnownBytes.{Appends}
+use Rattle.row_codec.specs.declared.values.Agg.{Agg}
+use Rattle.row_codec.specs.declared.values.Agg.TheVariants.{Count, Sum, Min, Max}
+use Rattle.row_codec.specs.declared.values.Column.{Column}
 use Rattle.row_codec.specs.declared.values.Value.{Value}
-use Rattle.row_codec.specs.declared.values.Value.TheVariants.{Text, Wide}
+use Rattle.row_codec.specs.declared.values.Value.TheVariants.{Text}
+use Rattle.row_codec.specs.Order.{path_order}
+use Rattle.row_codec.specs.RowBytes.{key_bytes}
 use Rattle.csv_edge.specs.Lines.{line_of}
 use Rattle.csv_edge.specs.Written.{AppendsFront}
-use Rattle.query_run.specs.Groups.{Group, AreGroups}
-use Rattle.query_run.specs.Input.{IsAccepted, column_rows}
+use Rattle.group_rows.specs.Aggregates.{aggregate}
+use Rattle.group_rows.specs.Keyed.{keys_in}
+use Rattle.group_rows.specs.Partials.{Grouping}
+use Rattle.group_rows.specs.Rows.{group_row}
+use Rattle.query_plan.specs.declared.plan.Query.{Query}
+use Rattle.query_run.specs.Input.{IsAccepted, left_rows, passing}
+use Rattle.query_run.specs.Plans.{grouping_of, name_at, row_columns}
 use Rattle.query_run.specs.declared.outcome.Ran.{Ran}
 
--- a row of one text
-abbrev pub text_row : List ℕ → List Value
-text_row text = Text text ∷ []
+-- the name of an aggregate in the first line: `count`, or what is computed and of which column
+abbrev pub of_column : List ℕ → List Column → ℕ → List ℕ
+of_column op columns place = op ++ codes "(" ++ name_at columns place ++ codes ")"
 
--- the input is accepted to its end, and its column has these texts
-pub record HasTexts (page : ℕ) (column bytes : List ℕ) (texts : List (List ℕ)) : Type 0 where
-  pub accepted : IsAccepted page column bytes
-  pub rows : (column_rows column bytes).rows ≡ map text_row texts
+abbrev pub agg_name : List Column → Agg → List ℕ
+agg_name columns Count = codes "count"
+agg_name columns (Sum place) = of_column (codes "sum") columns place
+agg_name columns (Min place) = of_column (codes "min") columns place
+agg_name columns (Max place) = of_column (codes "max") columns place
 
--- the row of names
-abbrev pub header_row : List ℕ → List Value
-header_row column = Text column ∷ Text (codes "count") ∷ []
+-- the row of names: those of the columns that are grouped by, and those of the aggregates
+abbrev pub header_of : Query → List Value
+header_of plan = map (λ place. Text (name_at (row_columns plan) place)) plan.group ++ map (λ agg. Text (agg_name (row_columns plan) agg)) plan.aggs
 
--- the row of a group
-abbrev pub group_row : Group → List Value
-group_row g = Text g.text ∷ Wide (pos g.count) ∷ []
+-- the rows of the groups of these rows, one for each distinct key, in the order of the keys' paths
+abbrev pub group_rows : Grouping → List (List Value) → List (List Value)
+group_rows grouping rows = map (group_row grouping rows) (keys_in path_order (key_bytes grouping.keys) rows)
 
--- the text of an answer
-abbrev pub answer_text : List ℕ → List Group → List ℕ
-answer_text column groups = line_of (header_row column) ++ flat_map (λ g. line_of (group_row g)) groups
+-- the lines of some rows
+abbrev pub lines_of : List (List Value) → List ℕ
+lines_of rows = flat_map line_of rows
 
--- how often each text of the column stands in the input
-pub record Counting (page : ℕ) (column bytes : List ℕ) : Type 0 where
-  pub texts : List (List ℕ)
-  pub read : HasTexts page column bytes texts
-  pub groups : List Group
-  pub grouped : AreGroups texts groups
+-- the text of an answer over these rows
+abbrev pub answer_text : Query → List (List Value) → List ℕ
+answer_text plan rows = line_of (header_of plan) ++ lines_of (group_rows (grouping_of plan) rows)
 
--- the text is the answer over these bytes
-abbrev pub IsAnswer : ℕ → List ℕ → List ℕ → List ℕ → Type 0
-IsAnswer page column bytes text = (c : Counting page column bytes) × (text ≡ answer_text column c.groups)
+-- the text is the answer over these bytes, which are accepted to their end
+pub record IsAnswer (plan : Query) (page : ℕ) (bytes text : List ℕ) : Type 0 where
+  pub accepted : IsAccepted plan page bytes
+  pub is : text ≡ answer_text plan (passing plan bytes)
 
 -- the whole answer was appended, where the bytes are told
-abbrev pub WroteAnswer : ℕ → List ℕ → Option (List ℕ) → Option (List ℕ) → Option (List ℕ) → Type 0
-WroteAnswer page column None old new = ⊤
-WroteAnswer page column (Some bytes) old new = (text : List ℕ) × IsAnswer page column bytes text × Appends old new text
+abbrev pub WroteAnswer : Query → ℕ → Option (List ℕ) → Option (List ℕ) → Option (List ℕ) → Type 0
+WroteAnswer plan page None old new = ⊤
+WroteAnswer plan page (Some bytes) old new = (text : List ℕ) × IsAnswer plan page bytes text × Appends old new text
 
 -- a front of the answer was appended, where the bytes are told
-abbrev pub WroteFront : ℕ → List ℕ → Option (List ℕ) → Option (List ℕ) → Option (List ℕ) → Type 0
-WroteFront page column None old new = ⊤
-WroteFront page column (Some bytes) old new = (text : List ℕ) × IsAnswer page column bytes text × AppendsFront old new text
+abbrev pub WroteFront : Query → ℕ → Option (List ℕ) → Option (List ℕ) → Option (List ℕ) → Type 0
+WroteFront plan page None old new = ⊤
+WroteFront plan page (Some bytes) old new = (text : List ℕ) × IsAnswer plan page bytes text × AppendsFront old new text
 
--- the numbers of the lines of an answer
-pub record LineNumbers {page : ℕ} {column bytes : List ℕ} (c : Counting page column bytes) (ran : Ran) : Type 0 where
-  pub lines : ran.lines ≡ length c.groups
-  pub totals : ran.totals ≡ pos (sum_by (λ g. g.count) c.groups) ∷ []
+-- the sum of each aggregate's column over these rows of groups, in 128 bits
+abbrev pub totals_of : Grouping → List (List Value) → List ℤ
+totals_of grouping groups = map (λ place. aggregate (Sum place) groups) (range_with_len (length grouping.keys) (length grouping.aggs))
+
+-- the numbers of the lines of an answer over these rows
+pub record LineNumbers (plan : Query) (rows : List (List Value)) (ran : Ran) : Type 0 where
+  pub lines : ran.lines ≡ length (group_rows (grouping_of plan) rows)
+  pub totals : ran.totals ≡ totals_of (grouping_of plan) (group_rows (grouping_of plan) rows)
 
 -- the numbers that go with an answer: those of the rows always, and those of the lines where pins are told
-pub record Numbers (page : ℕ) (column : List ℕ) (tells : Bool) (ran : Ran) (bytes : List ℕ) : Type 0 where
-  pub texts : List (List ℕ)
-  pub read : HasTexts page column bytes texts
-  pub left : ran.left ≡ length texts
+pub record Numbers (plan : Query) (page : ℕ) (tells : Bool) (ran : Ran) (bytes : List ℕ) : Type 0 where
+  pub accepted : IsAccepted plan page bytes
+  pub left : ran.left ≡ length (left_rows plan bytes)
   pub right : ran.right ≡ 0
-  pub kept : ran.kept ≡ length texts
-  pub lines : tells ≡ true → (c : Counting page column bytes) × LineNumbers c ran
+  pub kept : ran.kept ≡ length (passing plan bytes)
+  pub lines : tells ≡ true → LineNumbers plan (passing plan bytes) ran

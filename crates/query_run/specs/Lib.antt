@@ -1,11 +1,12 @@
-pub mod Groups
 pub mod Causes
-pub mod Input
 pub mod Plans
+pub mod Input
 pub mod Answer
-pub mod Keeping
-pub mod KeyCounts
 pub mod Trail
 pub mod Stopped
 pub mod Inside
 pub mod Parts
+pub mod FedRows
+pub mod Feeding
+pub mod Ending
+pub mod Writing

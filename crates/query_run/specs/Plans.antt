@@ -1,26 +1,56 @@
--- Queries that count the texts of one column.
-use Rattle.std.specs.Prelude.{◌≡◌, ℕ, List, [], ◌∷◌, None}
-use Rattle.row_codec.specs.declared.values.Agg.TheVariants.{Count}
+-- What a plan asks of a query: which columns it reads, what it groups, and what it computes.
+use Rattle.std.specs.Prelude.{◌≡◌, ◌≢◌, codes, ℕ, ◌<◌, ◌≤◌, List, [], ◌++◌, All, IsSomeAnd, Option, Some, None, length, map, slice_get, slice_index_or}
 use Rattle.row_codec.specs.declared.values.Column.{Column}
+use Rattle.row_codec.specs.declared.values.Kind.{Kind}
+use Rattle.row_codec.specs.declared.values.Kind.TheVariants.{Wide}
+use Rattle.row_codec.specs.Row.{kind_of}
+use Rattle.scan_filter.specs.declared.pred.Pred.{Pred}
 use Rattle.store_api.specs.Conditions.{IsBlockCount}
+use Rattle.store_api.specs.Shapes.{IsShape}
+use Rattle.store_api.specs.declared.shapes.Shape.{Shape}
+use Rattle.group_rows.specs.Partials.{Grouping}
+use Rattle.query_plan.specs.Columns.{behind}
 use Rattle.query_plan.specs.declared.plan.Query.{Query}
-use Rattle.query_run.specs.Input.{text_column}
+use Rattle.query_plan.specs.declared.plan.SidePlan.{SidePlan}
 
--- the name of the first column
-abbrev pub first_name : List Column → List ℕ
-first_name [] = []
-first_name (column ∷ columns) = column.name
+-- the kinds, and the names, of some columns
+abbrev pub kinds_of_columns : List Column → List Kind
+kinds_of_columns columns = map (λ c. c.kind) columns
 
--- the name of the left input's first column
-abbrev pub column_of : Query → List ℕ
-column_of plan = first_name plan.left.columns
+abbrev pub name_at : List Column → ℕ → List ℕ
+name_at columns place = slice_index_or (map (λ c. c.name) columns) place []
 
--- the query groups the rows of its left input by one column of texts, which is all it reads, and counts them
-pub record CountsTexts (plan : Query) : Type 0 where
+-- the columns of the row that is grouped: where the query joins, the left ones and then the right ones
+abbrev pub joined_columns : List Column → Option SidePlan → List Column
+joined_columns left None = left
+joined_columns left (Some right) = behind (codes "left.") left ++ behind (codes "right.") right.columns
+
+abbrev pub row_columns : Query → List Column
+row_columns plan = joined_columns plan.left.columns plan.right
+
+-- the grouping: the kinds of its rows, the columns of its keys, and what is computed over each group
+abbrev pub shape_of : Query → Shape
+shape_of plan = record { kinds = kinds_of_columns (row_columns plan); keys = plan.group; aggs = plan.aggs }
+
+abbrev pub grouping_of : Query → Grouping
+grouping_of plan = record { keys = plan.group; aggs = plan.aggs }
+
+-- a predicate is about a column that is there, with a value of its kind
+abbrev pub IsAbout : List Column → Pred → Type 0
+IsAbout columns pred = IsSomeAnd (slice_get columns pred.column) (λ column. kind_of pred.value ≡ column.kind)
+
+-- a side has columns of ints and texts, and predicates about them
+pub record IsSide (side : SidePlan) : Type 0 where
+  pub some : 0 < length side.columns
+  pub few : length side.columns ≤ 64
+  pub narrow : All (λ column. column.kind ≢ Wide) side.columns
+  pub preds : All (IsAbout side.columns) side.preds
+
+-- the query groups the rows of its left input: by one column or more, which are distinct, with aggregates over ints
+pub record IsGrouping (plan : Query) : Type 0 where
   pub paged : IsBlockCount plan.page_blocks
-  pub columns : plan.left.columns ≡ text_column (column_of plan)
-  pub preds : plan.left.preds ≡ []
-  pub right : plan.right ≡ None
-  pub on : plan.on ≡ []
-  pub group : plan.group ≡ 0 ∷ []
-  pub aggs : plan.aggs ≡ Count ∷ []
+  pub alone : plan.right ≡ None
+  pub left : IsSide plan.left
+  pub shape : IsShape (shape_of plan)
+  pub keys : length plan.group ≤ 8
+  pub aggs : length plan.aggs ≤ 16

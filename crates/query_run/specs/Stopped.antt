@@ -1,10 +1,11 @@
 -- What a query leaves of its store, and what the store may have stopped it with.
-use Rattle.std.specs.Prelude.{◌≡◌, ℕ, ◌≤◌, ◌%◌, Option, Some, None, ⊤}
+use Rattle.std.specs.Prelude.{◌≡◌, ℕ, ◌≤◌, ◌⊎◌, Option}
 use Rattle.reservation_tree.specs.declared.errors.PoolErr.{PoolErr}
-use Rattle.reservation_tree.specs.declared.errors.PoolErr.TheVariants.{ScratchFull}
+use Rattle.outside.specs.Counts.{Rose}
 use Rattle.store_api.specs.Holdings.{Holdings}
 use Rattle.store_api.specs.Signs.{Signs, Grows, WasAnswered}
 use Rattle.tuple_stream.specs.Trails.{EnteredEvents}
+pub use Rattle.partition_stack.specs.Slots.{IsRest, IsWant}
 use Rattle.query_plan.specs.declared.plan.Query.{Query}
 use Rattle.query_plan.specs.Sizes.{least_of}
 use Rattle.query_run.specs.Causes.{OfPool}
@@ -36,22 +37,22 @@ pub record RanOver (plan : Query) (old new : Holdings) (before after : Signs) : 
   pub left : IsLeft old new
   pub grows : Grows before after
 
--- what is left of the slots that were free at the start, when as many pages as they hold have theirs; nothing was
--- ever wanting where there is no quota
-abbrev pub IsRest : ℕ → Option ℕ → ℕ → Type 0
-IsRest blocks None free = ⊥
-IsRest blocks (Some start) free = free ≡ start % blocks
-
--- a want of slots names the blocks of a page, and the slots that are left
-abbrev pub IsWant : ℕ → Option ℕ → PoolErr → Type 0
-IsWant blocks start (ScratchFull need free) = (need ≡ blocks) × IsRest blocks start free
-IsWant blocks start _ = ⊤
-
--- the store gave this answer
-pub record StoppedBy (blocks : ℕ) (start : Holdings) (old new : Signs) (e : PoolErr) : Type 0 where
+-- the store gave this answer; `total` slots were free, and with them those of the pages that were there, where there is a
+-- quota
+pub record StoppedBy (blocks : ℕ) (total : Option ℕ) (old new : Signs) (e : PoolErr) : Type 0 where
   pub answered : WasAnswered e old new
-  pub want : IsWant blocks start.free_slots e
+  pub want : IsWant blocks total e
 
 -- where it is an answer of the store, it gave it
+abbrev pub StoppedOver : ℕ → Option ℕ → Signs → Signs → QueryErr → Type 0
+StoppedOver blocks total old new e = OfPool (StoppedBy blocks total old new) e
+
+-- the same of a store in which no page was
 abbrev pub MayStop : ℕ → Holdings → Signs → Signs → QueryErr → Type 0
-MayStop blocks start old new e = OfPool (StoppedBy blocks start old new) e
+MayStop blocks start old new e = StoppedOver blocks start.free_slots old new e
+
+-- a count of a sink's faults over a call: it rose where the call failed of it, stayed else, and didn't fall
+pub record CountsSink (failed : Type 0) (before now : ℕ) : Type 0 where
+  pub fault : failed → Rose before now
+  pub quiet : failed ⊎ (now ≡ before)
+  pub kept : before ≤ now

@@ -1,40 +1,48 @@
 -- What the entries of a query tell, where its store tells its trail.
-use Rattle.std.specs.Prelude.{◌≡◌, ◌≤◌, ℕ, List, ◌∷◌, ◌++◌, map, Option, None, IfSome}
+use Rattle.std.specs.Prelude.{◌≡◌, ◌≤◌, ◌*◌, ℕ, List, ◌∷◌, ◌++◌, All, length, Option, None, IfSome}
 use Rattle.pool_model.specs.declared.event.Event.{Event}
 use Rattle.pool_model.specs.declared.event.Event.TheVariants.{AddTracker, Increase}
 use Rattle.pool_model.specs.declared.entry.Entry.{Entry}
-use Rattle.tuple_stream.specs.Streamed.{Streamed}
-use Rattle.tuple_stream.specs.Trails.{EnteredEvents, HaveRead, Leaves, PinsFirst}
-use Rattle.query_run.specs.Answer.{HasTexts}
-use Rattle.query_run.specs.Keeping.{spelled}
+use Rattle.row_codec.specs.declared.values.Value.{Value}
+use Rattle.row_codec.specs.Order.{path_order}
+use Rattle.tuple_stream.specs.Families.{Family}
+use Rattle.tuple_stream.specs.Trails.{EnteredEvents, Leaves, PinsFirst}
+use Rattle.group_rows.specs.Standing.{StandFor}
+use Rattle.group_rows.specs.Tables.{HaveDistinctKeys}
+use Rattle.group_op.specs.Laid.{HoldsGroups}
+use Rattle.group_op.specs.Stored.{IsPartialRow, keys_len, partials_at}
+use Rattle.query_plan.specs.declared.plan.Query.{Query}
+use Rattle.query_run.specs.Input.{IsAccepted, passing}
+use Rattle.query_run.specs.Plans.{grouping_of, shape_of}
 
 -- a client of the query comes first, and its reservation is raised to so many bytes; it may be allowed more
 abbrev pub ReservesFirst : ℕ → ℕ → List Event → Type 0
 ReservesFirst query bytes events =
     (c limit : ℕ) × (rest : List Event) × (bytes ≤ limit) × (events ≡ AddTracker c query limit None ∷ Increase c bytes ∷ rest)
 
--- pages were left with these rows; then they were read, so that a page was pinned before one was left again
-pub record Kept (rows : List (List ℕ)) (events : List Event) : Type 0 where
-  pub keeping : List Event
-  pub reading : List Event
-  pub split : events ≡ keeping ++ reading
-  pub leaves : Leaves rows keeping
-  pub reads : PinsFirst reading
+-- first pages are left, each once, and none is pinned again or ends; then one is pinned before any is left. The rows on
+-- them are partial rows, no more than the rows that passed, and combined they are these rows' groups: one for each key,
+-- where those of all keys, with four bytes more each, fit in two pages
+pub record HoldsPartials (plan : Query) (page : ℕ) (rows : List (List Value)) (events : List Event) : Type 0 where
+  pub laid : List Event
+  pub later : List Event
+  pub split : events ≡ laid ++ later
+  pub partials : List (List ℕ)
+  pub leaves : Leaves partials laid
+  pub reads : PinsFirst later
+  pub formed : All (IsPartialRow (shape_of plan)) partials
+  pub few : length partials ≤ length rows
+  pub stand : StandFor path_order (grouping_of plan) rows (partials_at (shape_of plan) partials)
+  pub small : keys_len (shape_of plan) rows ≤ 2 * page → HaveDistinctKeys (partials_at (shape_of plan) partials)
 
--- the rows of the column were kept: those of the input, where its bytes are told
-pub record KeptTexts (page : ℕ) (column : List ℕ) (told : Option (List ℕ)) (start now : Option (List Entry)) : Type 0 where
-  pub texts : List (List ℕ)
-  pub read : IfSome told (λ bytes. HasTexts page column bytes texts)
-  pub kept : EnteredEvents (Kept (map spelled texts)) start now
+-- rows were kept on pages before they were read again: those that pass, where the bytes of the input are told
+pub record KeptGroups (plan : Query) (page : ℕ) (told : Option (List ℕ)) (start now : Option (List Entry)) : Type 0 where
+  pub rows : List (List Value)
+  pub read : IfSome told (λ bytes. IsAccepted plan page bytes × (rows ≡ passing plan bytes))
+  pub kept : EnteredEvents (HoldsPartials plan page rows) start now
 
--- the same while rows are still read: they were kept up to one entry, and have been read since
-pub record KeptAndRead (page : ℕ) (column : List ℕ) (told : Option (List ℕ)) (s : Streamed) (start now : Option (List Entry)) : Type 0 where
-  pub texts : List (List ℕ)
-  pub read : IfSome told (λ bytes. HasTexts page column bytes texts)
-  pub between : Option (List Entry)
-  pub kept : EnteredEvents (Leaves (map spelled texts)) start between
-  pub reads : EnteredEvents (HaveRead s) between now
-
--- a stream that is done with left no page before one was pinned, unless one was pinned already
-abbrev pub EndsFirst : Streamed → List Event → Type 0
-EndsFirst s events = s.pinned ≡ None → PinsFirst events
+-- the same while the grouping is there: pages were left, and then read
+pub record KeptAndRead (plan : Query) (page : ℕ) (told : Option (List ℕ)) (g : Family) (start now : Option (List Entry)) : Type 0 where
+  pub rows : List (List Value)
+  pub read : IfSome told (λ bytes. IsAccepted plan page bytes × (rows ≡ passing plan bytes))
+  pub kept : EnteredEvents (HoldsGroups (shape_of plan) page rows g) start now

@@ -10,16 +10,17 @@ ghost use Rattle.query_run.specs.Inside.{HasOwn};
 
 use store_api::{Client, Store};
 
-// A client with so much reservation, for which the query has room. This is never refused.
-pub(crate) fn own_client<St: Store>(store: &mut St, bytes: u64) -> Client
+// A client that has so much reserved, for which the query has room, and may have more. This is never refused.
+pub(crate) fn own_client<St: Store>(store: &mut St, limit: u64, bytes: u64) -> Client
     requires idle { (St.holds store.old).live_clients ≡ 0 }
     requires room { bytes ≤ (St.holds store.old).room }
-    ensures own { HasOwn result bytes (St.holds store.old) (St.holds store.new) }
-    ensures entries { MadeThese (St.holds store.old).session (event.AddTracker result.tracker (St.holds store.old).query bytes None ∷ event.Increase result.tracker bytes ∷ []) (St.signs store.old) (St.signs store.new) }
+    requires limit { bytes ≤ limit }
+    ensures own { HasOwn result limit bytes (St.holds store.old) (St.holds store.new) }
+    ensures entries { MadeThese (St.holds store.old).session (event.AddTracker result.tracker (St.holds store.old).query limit None ∷ event.Increase result.tracker bytes ∷ []) (St.signs store.old) (St.signs store.new) }
     ensures grows { Grows (St.signs store.old) (St.signs store.new) }
 {
-    let c = new_client(store, bytes);
-    grow(store, &c, bytes);
+    let c = new_client(store, limit);
+    grow(store, &c, limit, bytes);
     c
 }
 
@@ -37,8 +38,9 @@ fn new_client<St: Store>(store: &mut St, limit: u64) -> Client
 }
 
 // Raises a reservation of 0 by bytes for which the client's limit and the query's room suffice.
-fn grow<St: Store>(store: &mut St, c: &Client, bytes: u64)
-    requires client { (St.holds store.old).clients c.now.tracker ≡ Some (record { limit = bytes; reservation = 0; unused = 0 }) }
+fn grow<St: Store>(store: &mut St, c: &Client, _limit: u64, bytes: u64)
+    requires client { (St.holds store.old).clients c.now.tracker ≡ Some (record { limit = _limit; reservation = 0; unused = 0 }) }
+    requires limit { bytes ≤ _limit }
     requires room { bytes ≤ (St.holds store.old).room }
     ensures grown { St.holds store.new ≡ after_reserve c.now.tracker bytes (St.holds store.old) }
     ensures entries { MadeThese (St.holds store.old).session (event.Increase c.now.tracker bytes ∷ []) (St.signs store.old) (St.signs store.new) }

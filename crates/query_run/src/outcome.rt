@@ -1,6 +1,6 @@
 // What a query that ran has to tell.
 
-ghost use Rattle.std.specs.Prelude.{◌≡◌, ◌<◌, ◌^◌, ◌∷◌, [], IfOk, pos};
+ghost use Rattle.std.specs.Prelude.{◌≡◌};
 ghost use Rattle.query_run.specs.Causes.{cause_of_input};
 
 use csv_edge::InputErr;
@@ -11,7 +11,7 @@ use std::alloc::{AllocError, AllocFailed, Global};
 use std::marker::Model;
 use thiserror::Error;
 
-/// A sum for each aggregate: contracts see a list of whole numbers.
+/// A sum for each aggregate, in 128 bits: contracts see a list of whole numbers.
 #[derive(Debug, Drop)]
 pub struct Totals {
     items: Vec<i128>,
@@ -26,14 +26,11 @@ impl Model for Totals {
 }
 
 impl Totals {
-    // The sum of one aggregate.
-    pub(crate) fn one(alloc: Global, total: u128) -> Result<Totals, AllocError>
-        requires { total < 2 ^ 127 }
-        ensures { IfOk result (λ totals. totals ≡ pos total ∷ []) }
+    // These sums.
+    pub(crate) fn of(items: Vec<i128>) -> Totals
+        ensures { result ≡ items.items }
     {
-        Ok(Totals {
-            items: vec![in alloc; total as i128]?,
-        })
+        Totals { items }
     }
 
     pub fn as_slice(&self) -> &[i128]

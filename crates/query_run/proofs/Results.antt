@@ -1,0 +1,14 @@
+-- What holds of an answer, carried on.
+use Rattle.std.proofs.Common.{Result, Ok, Err, IfErr, IfOk, IsErrOf, OnErr}
+
+pub both_ok : {A E : Type 0} (P Q : A → Type 0) (r : Result A E) → IfOk r P → IfOk r Q → IfOk r (λ x. P x × Q x)
+both_ok P Q (Ok x) first second = (first, second)
+both_ok P Q (Err e) first second = first
+
+pub of_err : {A E : Type 0} {P : Type 0} {R : E → Type 0} → (r : Result A E) → (P → (e : E) → R e) → OnErr r P → IfErr r R
+of_err (Ok x) more holds = holds
+of_err (Err e) more holds = more holds e
+
+pub at_err : {A E : Type 0} {P : Type 0} → (r : Result A E) → (e : E) → IsErrOf r e → OnErr r P → P
+at_err (Ok x) e is holds = absurd (cc)
+at_err (Err found) e is holds = holds

@@ -1,0 +1,43 @@
+use Rattle.std.proofs.Common.{◌∙◌, length, pos, replicate, ap, sym, refl, rules}
+use Rattle.store_api.specs.declared.shapes.Shape.{Shape}
+use Rattle.partition_stack.proofs.Results.{any_err, on_err, on_ok}
+use Rattle.query_run.specs.Answer.{answer_text}
+use Rattle.query_run.proofs.Ended.{all_handed, not_stopped, numbers_are, some_anyhow, stopped_front, took_none, unsent_front, untouched, whole_answer}
+use Rattle.query_run.proofs.grouping.write_groups.Goals as goal
+
+pub returns-in_err-part-clause-err : goal.returns-in_err-part-clause-err
+returns-in_err-part-clause-err g c =
+    any_err c.from_residual.result (λ start rows keeps fed told. untouched (g.K.Sink.contents c.args.sink.now) (answer_text c.args.plan.now rows))
+
+pub drive-handed-requires-clause-none : goal.drive-handed-requires-clause-none
+drive-handed-requires-clause-none g c =
+    took_none _ _ c.in_ok-part.part.lines c.in_ok-part.totals.items (length c.args.op.now.shape.keys) (length c.args.op.now.shape.aggs)
+    (c.in_ok-part.ensures.totals ∙ ap (λ (s : Shape). replicate (length s.aggs) (pos 0)) (sym c.requires.shape))
+
+pub returns-in_err-went_through-clause-err : goal.returns-in_err-went_through-clause-err
+returns-in_err-went_through-clause-err g c =
+    any_err c.from_residual-in_err-went_through.result (λ start rows keeps fed told.
+    stopped_front c.args.plan.now c.args.op.now.shape _ rows _ (g.K.Sink.contents c.drive-handed.result.1.sink.now) _ _ _ _ c.requires.shape c.in_ok-part.ensures.part _ (search rules)
+    (some_anyhow _ rows c.args.op.now.shape _ _ _ _ _ _ c.drive-handed.result.0
+    (on_ok c.drive-handed.result.0 (λ all. all start rows keeps fed told) c.drive-handed.ensures.ok)
+    (on_err c.drive-handed.result.0 (λ some. some start rows keeps fed told) c.drive-handed.ensures.err)))
+
+pub returns-in_err-send-clause-err : goal.returns-in_err-send-clause-err
+returns-in_err-send-clause-err g c =
+    any_err c.from_residual-in_err-send.result (λ start rows keeps fed told.
+    unsent_front c.args.plan.now c.args.op.now.shape _ rows c.drive-handed.result.1.stopped (g.K.Sink.contents c.drive-handed.result.1.sink.now) _ _ _ _ c.requires.shape c.in_ok-part.ensures.part
+    (g.K.Sink.contents c.send.new.sink) _ (not_stopped c.drive-handed.result.1.stopped c.drive-handed.result.0 c.in_ok-went_through.ensures.ok) (search rules)
+    (all_handed c.drive-handed.result.1.stopped c.drive-handed.result.0 c.in_ok-went_through.ensures.ok (on_ok c.drive-handed.result.0 (λ all. all start rows keeps fed told) c.drive-handed.ensures.ok))
+    c.in_err-send.ensures.front)
+
+pub returns-clause-ok : goal.returns-clause-ok
+returns-clause-ok g c = λ start rows keeps fed told.
+    whole_answer c.args.plan.now c.args.op.now.shape _ rows c.drive-handed.result.1.stopped (g.K.Sink.contents c.drive-handed.result.1.sink.now) _ _ _ _ c.requires.shape c.in_ok-part.ensures.part
+    (g.K.Sink.contents c.send.new.sink) _ (not_stopped c.drive-handed.result.1.stopped c.drive-handed.result.0 c.in_ok-went_through.ensures.ok) (search rules)
+    (all_handed c.drive-handed.result.1.stopped c.drive-handed.result.0 c.in_ok-went_through.ensures.ok (on_ok c.drive-handed.result.0 (λ all. all start rows keeps fed told) c.drive-handed.ensures.ok))
+    c.in_ok-send.ensures.ok
+
+pub returns-clause-lines : goal.returns-clause-lines
+returns-clause-lines g c = λ start rows keeps fed told.
+    numbers_are c.args.plan.now c.args.op.now.shape _ rows c.drive-handed.result.1.stopped _ _ _ c.drive-handed.result.1.totals.items _ c.requires.shape refl c.of.ensures
+    (all_handed c.drive-handed.result.1.stopped c.drive-handed.result.0 c.in_ok-went_through.ensures.ok (on_ok c.drive-handed.result.0 (λ all. all start rows keeps fed told) c.drive-handed.ensures.ok))

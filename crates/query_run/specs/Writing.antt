@@ -1,0 +1,59 @@
+-- An emitter that writes the lines of rows behind a text that waits.
+use Rattle.std.specs.Prelude.{◌≡◌, ◌≢◌, ℕ, List, ◌++◌, Option, Some, None, length, map, ℤ}
+use Rattle.outside.specs.Counts.{Rose}
+use Rattle.row_codec.specs.declared.values.Agg.TheVariants.{Sum}
+use Rattle.row_codec.specs.declared.values.Value.{Value}
+use Rattle.group_rows.specs.Aggregates.{aggregate}
+use Rattle.store_api.specs.declared.shapes.Shape.{Shape}
+use Rattle.query_run.specs.Answer.{group_rows, lines_of}
+use Rattle.query_run.specs.Parts.{FrontOf, HasSent, StopsWriting}
+use Rattle.query_run.specs.declared.outcome.QueryErr.{QueryErr}
+use Rattle.query_run.specs.declared.outcome.QueryErr.TheVariants.{SinkFault}
+
+-- a sink before a text: its bytes, where they are told, and its faults; what waits to be written before the first row, and
+-- the columns of numbers that are summed
+pub record Begun : Type 0 where
+  pub contents : Option (List ℕ)
+  pub faults : ℕ
+  pub front : List ℕ
+  pub columns : List ℕ
+
+-- the sink now; why it stopped, if it did; the text that waits; and the number of rows and the sums so far
+pub record Written : Type 0 where
+  pub contents : Option (List ℕ)
+  pub faults : ℕ
+  pub stopped : Option QueryErr
+  pub waits : List ℕ
+  pub count : ℕ
+  pub totals : List ℤ
+
+abbrev pub written : Option (List ℕ) → ℕ → Option QueryErr → List ℕ → ℕ → List ℤ → Written
+written contents faults stopped waits count totals =
+    record { contents = contents; faults = faults; stopped = stopped; waits = waits; count = count; totals = totals }
+
+-- the lines of some rows behind what waited
+abbrev pub text_behind : List ℕ → List (List Value) → List ℕ
+text_behind front rows = front ++ lines_of rows
+
+-- as long as the sink goes on, the text was sent but for what waits; once it stopped, which is for want of memory or because
+-- the sink failed, a front of the text was sent, and a fault was counted exactly where the sink failed
+abbrev pub HasSentOf : Option QueryErr → Begun → Written → List ℕ → Type 0
+HasSentOf None before now text = HasSent before.contents now.contents now.waits text × (now.faults ≡ before.faults)
+HasSentOf (Some why) before now text =
+    FrontOf before.contents now.contents text × (why ≡ SinkFault → Rose before.faults now.faults) × (why ≢ SinkFault → now.faults ≡ before.faults) × StopsWriting why
+
+-- these rows were taken
+pub record HasTaken (before : Begun) (rows : List (List Value)) (now : Written) : Type 0 where
+  pub sent : HasSentOf now.stopped before now (text_behind before.front rows)
+  pub counted : now.count ≡ length rows
+  pub totals : now.totals ≡ map (λ column. aggregate (Sum column) rows) before.columns
+
+-- the groups of these rows were taken, or the first of them
+pub record HasTakenSome (shape : Shape) (rows : List (List Value)) (before : Begun) (now : Written) : Type 0 where
+  pub some : List (List Value)
+  pub rest : List (List Value)
+  pub split : group_rows (record { keys = shape.keys; aggs = shape.aggs }) rows ≡ some ++ rest
+  pub taken : HasTaken before some now
+
+abbrev pub HasTakenGroups : Shape → List (List Value) → Begun → Written → Type 0
+HasTakenGroups shape rows before now = HasTaken before (group_rows (record { keys = shape.keys; aggs = shape.aggs }) rows) now
