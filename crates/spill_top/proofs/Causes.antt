@@ -9,6 +9,7 @@ use Rattle.query_run.specs.declared.outcome.QueryErr.{QueryErr}
 use Rattle.query_run.specs.declared.outcome.QueryErr.TheVariants as query
 use Rattle.spill_top.specs.declared.report.Refusal.{Refusal}
 use Rattle.spill_top.specs.declared.report.Refusal.TheVariants.{InputFault, Header, Csv, Large, Row}
+use Rattle.spill_top.specs.Counting.{counting}
 use Rattle.spill_top.specs.Headline.{AcceptsInput, IsCause, IsOfInput, IsStatusOf, RefusesBytes, page_bytes}
 use Rattle.spill_top.specs.Report.{status_of}
 use Rattle.spill_top.specs.Refusals.{refusal_for}
@@ -20,7 +21,7 @@ told_some P None given gives holds = tt
 told_some P (Some bytes) given gives holds = subst (λ o. IfSome o P) gives holds
 
 of-input : (told : Option (List ℕ)) (command : Command) (e : QueryErr) (refusal : Refusal) → refusal_for e ≡ Some refusal
-    → IfSome told (λ bytes. IsRefusal page_bytes command.column bytes e) → IsOfInput told command refusal
+    → IfSome told (λ bytes. IsRefusal (counting command) page_bytes bytes e) → IsOfInput told command refusal
 of-input None command e refusal is refused = tt
 of-input (Some bytes) command e refusal is refused = (e, refused, is)
 
@@ -42,7 +43,7 @@ of-fault told before now command (Row number weight) is rose = cc
 
 -- the cause of a query is that of its command
 pub cause_is : (told : Option (List ℕ)) (before now : ℕ) (command : Command) (e : QueryErr) (refusal : Refusal) → refusal_for e ≡ Some refusal
-    → (IsOfBytes e → IfSome told (λ bytes. IsRefusal page_bytes command.column bytes e)) → (IsSourceFault e → Rose before now)
+    → (IsOfBytes e → IfSome told (λ bytes. IsRefusal (counting command) page_bytes bytes e)) → (IsSourceFault e → Rose before now)
     → IsCause told before now command refusal
 cause_is told before now command (query.SourceFault side) refusal is bytes fault = of-fault told before now command refusal is (fault (side, refl))
 cause_is told before now command query.SinkFault refusal is bytes fault = cc
@@ -83,7 +84,7 @@ first-is (Some bytes) command refusal status why refuses is (e, inl first, for) 
     let told = refuses.told_is in
     let here : refuses.bytes ≡ bytes = cc in
     let what = refuses.first in
-    let same : refusal_of page_bytes command.column bytes ≡ Some why = rw here at what in
+    let same : refusal_of (counting command) page_bytes bytes ≡ Some why = rw here at what in
     let one : e ≡ why = cc in
     ap (option_map status_of) (sym (ap refusal_for one)) ∙ (ap (option_map status_of) for ∙ ap (λ (n : ℕ). Some n) (sym is))
 first-is (Some bytes) command refusal status why refuses is (e, inr more, for) =
@@ -106,7 +107,7 @@ never-refused (Some bytes) command refusal accepts (e, inl first, for) =
     let told = accepts.told_is in
     let here : accepts.bytes ≡ bytes = cc in
     let what = accepts.accepted.whole in
-    let none : refusal_of page_bytes command.column bytes ≡ None = rw here at what in
+    let none : refusal_of (counting command) page_bytes bytes ≡ None = rw here at what in
     cc
 never-refused (Some bytes) command refusal accepts (e, inr more, for) =
     let told = accepts.told_is in

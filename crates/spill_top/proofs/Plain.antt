@@ -1,5 +1,5 @@
 -- The lines that take no memory.
-use Rattle.std.proofs.Common.{◌≡◌, ℕ, List, codes, refl}
+use Rattle.std.proofs.Common.{◌≡◌, codes, refl}
 use Rattle.std.specs.Fmt.{digits}
 use Rattle.spill_top.specs.Report.{shortage, usage}
 

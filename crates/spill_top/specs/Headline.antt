@@ -7,6 +7,7 @@ use Rattle.query_run.specs.Input.{IsAccepted, IsRefusal, most_bytes, refusal_of}
 use Rattle.query_run.specs.declared.outcome.QueryErr.{QueryErr}
 use Rattle.spill_top.specs.declared.report.Refusal.{Refusal}
 use Rattle.spill_top.specs.declared.report.Refusal.TheVariants.{InputFault, Header, Csv, Large, Row}
+use Rattle.spill_top.specs.Counting.{counting}
 use Rattle.spill_top.specs.Refusals.{refusal_for}
 use Rattle.spill_top.specs.Report.{Tells, TellsOrMisses, line_of, shortage, status_of}
 use Rattle.spill_top.specs.Words.{Command}
@@ -21,15 +22,15 @@ IsStatus status = (status ≡ 0) ⊎ (status ≡ 1) ⊎ (status ≡ 3) ⊎ (stat
 
 -- the whole answer of the command was appended to the report, over the bytes that stand under its file
 abbrev pub Answers : (List ℕ → Option (List ℕ)) → Option (List ℕ) → Option (List ℕ) → Command → Type 0
-Answers bytes_at before now command = WroteAnswer page_bytes command.column (bytes_at command.file) before now
+Answers bytes_at before now command = WroteAnswer (counting command) page_bytes (bytes_at command.file) before now
 
 -- a front of that answer was appended
 abbrev pub AnswersInPart : (List ℕ → Option (List ℕ)) → Option (List ℕ) → Option (List ℕ) → Command → Type 0
-AnswersInPart bytes_at before now command = WroteFront page_bytes command.column (bytes_at command.file) before now
+AnswersInPart bytes_at before now command = WroteFront (counting command) page_bytes (bytes_at command.file) before now
 
 -- what the bytes of the input, if they are told, are refused for gives this refusal
 abbrev pub IsOfInput : Option (List ℕ) → Command → Refusal → Type 0
-IsOfInput told command refusal = IfSome told (λ bytes. (why : QueryErr) × IsRefusal page_bytes command.column bytes why × (refusal_for why ≡ Some refusal))
+IsOfInput told command refusal = IfSome told (λ bytes. (why : QueryErr) × IsRefusal (counting command) page_bytes bytes why × (refusal_for why ≡ Some refusal))
 
 -- why a command was refused: its file had a fault, or its bytes are refused
 abbrev pub IsCause : Option (List ℕ) → ℕ → ℕ → Command → Refusal → Type 0
@@ -60,7 +61,7 @@ pub record RefusesBytes (told : Option (List ℕ)) (command : Command) (why : Qu
   pub bytes : List ℕ
   pub told_is : told ≡ Some bytes
   pub fits : length bytes ≤ most_bytes
-  pub first : refusal_of page_bytes command.column bytes ≡ Some why
+  pub first : refusal_of (counting command) page_bytes bytes ≡ Some why
 
 -- the bytes of the input are told, and they are too many
 pub record HasTooMany (told : Option (List ℕ)) : Type 0 where
@@ -72,7 +73,7 @@ pub record HasTooMany (told : Option (List ℕ)) : Type 0 where
 pub record AcceptsInput (told : Option (List ℕ)) (command : Command) : Type 0 where
   pub bytes : List ℕ
   pub told_is : told ≡ Some bytes
-  pub accepted : IsAccepted page_bytes command.column bytes
+  pub accepted : IsAccepted (counting command) page_bytes bytes
 
 -- the status is that of this cause
 abbrev pub IsStatusOf : QueryErr → ℕ → Type 0

@@ -1,27 +1,45 @@
-// The words of a command.
+// The words of a count.
 
-ghost use Rattle.std.specs.Prelude.{◌≡◌, ◌↔◌, IsTrue, Some, None, IfSome, IfNone, map, string_bytes, option_map, true};
-ghost use Rattle.spill_top.specs.Words.{Command, command_of, is_operand};
+ghost use Rattle.std.specs.Prelude.{◌≡◌, ◌≢◌, None, IfOk, IsErr, map, string_bytes, option_map, false, true};
+ghost use Rattle.spill_top.specs.Words.{command_of};
 
-// The file and the column of `count FILE COLUMN`, if the words are that.
-pub(crate) fn command(words: &[String]) -> Option<(&str, &str)>
-    ensures { option_map (λ pair. record { file = pair.0.now; column = pair.1.now }) result ≡ command_of (map string_bytes words.now) }
+use crate::words::{Command, are_operands, read_words};
+use row_codec::Memory;
+use std::alloc::Global;
+
+// The file and the column of `count FILE COLUMN`, if the words are that. Other words are refused as
+// such whether or not there is memory to read them.
+pub(crate) fn count_words<'a>(
+    alloc: Global,
+    words: &'a [String],
+) -> Result<Option<(&'a str, &'a str)>, Memory>
+    ensures ok { IfOk result (λ found. option_map (λ pair. record { file = pair.0.now; column = pair.1.now }) found ≡ command_of (map string_bytes words.entry.now)) }
+    ensures err { IsErr result → command_of (map string_bytes words.entry.now) ≢ None }
 {
-    let [verb, file, column] = words else {
-        return None;
-    };
-    if verb.as_str() == "count" && is_operand(file.as_str()) && is_operand(column.as_str()) {
-        return Some((file.as_str(), column.as_str()));
+    match read_words(alloc, words) {
+        Ok(Some(Command::Count { file, column })) => Ok(Some((file, column))),
+        Ok(Some(Command::Run { .. } | Command::SelfCheck { .. })) => Ok(None),
+        Ok(None) => Ok(None),
+        Err(Memory) => {
+            if is_count(words) {
+                Err(Memory)
+            } else {
+                Ok(None)
+            }
+        }
     }
-    None
 }
 
-// Whether a word may name something: it is not empty and does not begin with a hyphen.
-fn is_operand(word: &str) -> bool
-    ensures { result ≡ is_operand word.now }
+// Whether the words are a count.
+fn is_count(words: &[String]) -> bool
+    ensures yes { result ≡ true → command_of (map string_bytes words.now) ≢ None }
+    ensures no { result ≡ false → command_of (map string_bytes words.now) ≡ None }
 {
-    match word.as_bytes() {
-        [] => false,
-        [first, ..] => *first != b'-',
+    if !are_operands(words) {
+        return false;
     }
+    let [verb, _, _] = words else {
+        return false;
+    };
+    "count" == verb.as_str()
 }

@@ -1,16 +1,16 @@
 // The command `count`.
 
-ghost use Rattle.std.specs.Prelude.{◌≡◌, ◌≢◌, ◌≤◌, ◌⊎◌, None, Some, IfErr, IsErrOf, OnOk};
+ghost use Rattle.std.specs.Prelude.{◌≡◌, ◌≢◌, ◌≤◌, ◌⊎◌, [], ◌∷◌, None, Some, IfErr, IsErrOf, OnOk};
 ghost use Rattle.outside.specs.Counts.{NoneFell, Rose};
 ghost use Rattle.outside.specs.Names.{AllStay};
-ghost use Rattle.query_run.specs.Plans.{CountsTexts, column_of};
+ghost use Rattle.row_codec.specs.declared.values.Kind.TheVariants.{Text};
+ghost use Rattle.query_run.specs.Causes.{NamesInt, OfPool};
 ghost use Rattle.spill_top.specs.Refusals.{refusal_for};
 ghost use Rattle.spill_top.specs.Headline.{Answers, AnswersInPart, IsCause, WroteLess};
 
 use crate::plan::{BLOCK_LEN, LEAST, LIMIT, counting_plan};
 use crate::report::Refusal;
 use outside::{Inputs, Sink};
-use query_plan::Query;
 use query_run::{QueryErr, run_query};
 use reservation_tree::PoolErr;
 use std::alloc::Global;
@@ -29,7 +29,8 @@ pub(crate) enum Stop {
     Refused(Refusal),
 }
 
-// Counts a column of a file, in a store in memory, and writes the answer to the report.
+// Counts a column of a file, in a store in memory, and writes the answer to the report. The source is opened before
+// the store, and given back in any case.
 pub(crate) fn count<I: Inputs, R: Sink>(
     alloc: Global,
     file: &str,
@@ -51,30 +52,6 @@ pub(crate) fn count<I: Inputs, R: Sink>(
     let Ok(plan) = counting_plan(alloc, file, column) else {
         return Err(Stop::Memory);
     };
-    count_in(alloc, &plan, file, inputs, report)
-}
-
-// Runs the plan over the file. The source is opened before the store, and given back in any case.
-fn count_in<I: Inputs, R: Sink>(
-    alloc: Global,
-    plan: &Query,
-    file: &str,
-    inputs: &mut I,
-    report: &mut R,
-) -> Result<(), Stop>
-    requires plan { CountsTexts plan.now }
-    requires page { plan.now.page_blocks ≡ 1 }
-    ensures answer { OnOk result (Answers (I.bytes_at inputs.old) (R.contents report.old) (R.contents report.new) (record { file = file.now; column = column_of plan.now })) }
-    ensures cause { IfErr result (λ e. (why : Refusal) → e ≡ Stop.Refused why → IsCause (I.bytes_at inputs.old file.now) (I.faults_at inputs.old file.now) (I.faults_at inputs.new file.now) (record { file = file.now; column = column_of plan.now }) why) }
-    ensures output_fault { IsErrOf result Stop.Report → Rose (R.faults report.old) (R.faults report.new) }
-    ensures part { IsErrOf result Stop.Report → AnswersInPart (I.bytes_at inputs.old) (R.contents report.old) (R.contents report.new) (record { file = file.now; column = column_of plan.now }) }
-    ensures short { IsErrOf result Stop.Short → WroteLess (I.bytes_at inputs.old) (R.contents report.old) (R.contents report.new) (record { file = file.now; column = column_of plan.now }) }
-    ensures untouched { IfErr result (λ e. (e ≡ Stop.Report) ⊎ (e ≡ Stop.Short) ⊎ (report.new ≡ report.old)) }
-    ensures quiet { IsErrOf result Stop.Report ⊎ (R.faults report.new ≡ R.faults report.old) }
-    ensures inputs { AllStay (I.bytes_at inputs.old) (I.bytes_at inputs.new) }
-    ensures never_falls { NoneFell (I.faults_at inputs.old) (I.faults_at inputs.new) }
-    ensures report { R.faults report.old ≤ R.faults report.new }
-{
     let Ok(mut left) = inputs.open(file) else {
         return Err(Stop::Refused(Refusal::InputFault));
     };
@@ -87,7 +64,7 @@ fn count_in<I: Inputs, R: Sink>(
         Err(_) => unreachable!(),
     };
     let mut right = None;
-    let ran = run_query(alloc, &mut store, plan, &mut left, &mut right, report);
+    let ran = run_query(alloc, &mut store, &plan, &mut left, &mut right, report);
     inputs.close(file, left);
     store.close();
     let_go(right);
@@ -110,7 +87,10 @@ fn let_go<S>(none: Option<S>)
 impl Stop {
     // Why a query stopped that counts texts over a store in memory: such a store refuses for want of memory alone,
     // and a column of texts has no bad field.
+    #[tactic(auto, using(crate::proofs::OnlyMemory::unrefused))]
     fn of(e: QueryErr) -> Stop
+        requires text { NamesInt (Text ∷ []) e }
+        requires memory { OfPool (λ why. why ≡ PoolErr.Memory) e }
         ensures refused { (why : Refusal) → result ≡ Stop.Refused why → refusal_for e ≡ Some why }
         ensures report { result ≡ Stop.Report → e ≡ QueryErr.SinkFault }
         ensures fault { e ≡ QueryErr.SinkFault → result ≡ Stop.Report }
@@ -122,7 +102,8 @@ impl Stop {
         }
         match &e {
             QueryErr::SinkFault => Stop::Report,
-            _ => Stop::Short,
+            QueryErr::Pool(PoolErr::Memory) => Stop::Short,
+            _ => unreachable!(),
         }
     }
 }

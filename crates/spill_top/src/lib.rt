@@ -3,9 +3,12 @@
 
 mod command;
 mod count;
+mod number;
+mod parser;
 mod plan;
 mod report;
 mod top;
+mod words;
 
 pub use top::spill_top;
 

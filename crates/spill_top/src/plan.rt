@@ -1,7 +1,7 @@
 // The plan of a count.
 
 ghost use Rattle.std.specs.Prelude.{◌≡◌, IfOk};
-ghost use Rattle.query_run.specs.Plans.{CountsTexts, column_of};
+ghost use Rattle.spill_top.specs.Counting.{counting};
 
 use query_plan::{FileName, Listed, Query, SidePlan};
 use row_codec::{Agg, Bytes, Column, Kind};
@@ -18,9 +18,7 @@ pub(crate) const LEAST: u64 = 163840;
 
 // The plan that counts a column of texts of a file. Its answer goes to the report, which has no name.
 pub(crate) fn counting_plan(alloc: Global, file: &str, column: &str) -> Result<Query, AllocError>
-    ensures plan { IfOk result CountsTexts }
-    ensures column { IfOk result (λ plan. column_of plan ≡ column.now) }
-    ensures page { IfOk result (λ plan. plan.page_blocks ≡ 1) }
+    ensures { IfOk result (λ plan. plan ≡ counting (record { file = file.now; column = column.now })) }
 {
     let name = Bytes::from_vec(Vec::from_slice(alloc, column.as_bytes())?);
     let columns = vec![in alloc;

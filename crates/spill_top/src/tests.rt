@@ -1,4 +1,5 @@
 use crate::spill_top;
+use crate::words::{Command, read_words};
 use outside::{MemInputs, MemOutputs, MemSink, MemSlot, OpenGate};
 use std::alloc::{AllocError, Global};
 use std::test::Fail;
@@ -153,6 +154,80 @@ fn a_refusal_says_its_cause(rt: HostRuntime) -> Result<(), Fail> {
         let (answered, said) = run.outcome(rt.alloc())?;
         assert_eq!(rt; said.as_slice(), report);
         assert_eq!(rt; answered, status);
+    }
+    Ok(())
+}
+
+fn to_count<'a>(file: &'a str, column: &'a str) -> Option<Command<'a>> {
+    Some(Command::Count { file, column })
+}
+
+fn to_run(plan: &str) -> Option<Command<'_>> {
+    Some(Command::Run { plan })
+}
+
+fn to_self_check(start: u32, rows: u32, groups: u32, blocks: u32) -> Option<Command<'static>> {
+    Some(Command::SelfCheck {
+        start,
+        rows,
+        groups,
+        blocks,
+    })
+}
+
+#[test]
+fn words_are_one_of_three_commands(rt: HostRuntime) -> Result<(), Fail> {
+    const MOST: &str = "2147483647";
+    let rows: [(&[&str], Option<Command>); 32] = [
+        (&["count", "in.csv", "k"], to_count("in.csv", "k")),
+        (&["count", "count", "a=b"], to_count("count", "a=b")),
+        (&["run", "p.toml"], to_run("p.toml")),
+        (&["run", "help"], to_run("help")),
+        (
+            &["selfcheck", "0", "0", "1", "1"],
+            to_self_check(0, 0, 1, 1),
+        ),
+        (
+            &["selfcheck", MOST, MOST, MOST, "262144"],
+            to_self_check(2147483647, 2147483647, 2147483647, 262144),
+        ),
+        (
+            &["selfcheck", "10", "200", "30", "4"],
+            to_self_check(10, 200, 30, 4),
+        ),
+        (&[], None),
+        (&["count"], None),
+        (&["count", "in.csv"], None),
+        (&["count", "in.csv", "k", "k"], None),
+        (&["run"], None),
+        (&["run", "p.toml", "p.toml"], None),
+        (&["selfcheck", "1", "2", "3"], None),
+        (&["selfcheck", "1", "2", "3", "4", "5"], None),
+        (&["frob", "in.csv", "k"], None),
+        (&["Count", "in.csv", "k"], None),
+        (&["coun", "in.csv", "k"], None),
+        (&["help"], None),
+        (&["help", "count"], None),
+        (&["--help"], None),
+        (&["run", "-h"], None),
+        (&["run", "--"], None),
+        (&["count", "-", "k"], None),
+        (&["count", "in.csv", ""], None),
+        (&["", "in.csv", "k"], None),
+        (&["selfcheck", "1", "2", "0", "4"], None),
+        (&["selfcheck", "1", "2", "3", "262145"], None),
+        (&["selfcheck", "2147483648", "2", "3", "4"], None),
+        (&["selfcheck", "01", "2", "3", "4"], None),
+        (&["selfcheck", "1", "+2", "3", "4"], None),
+        (&["selfcheck", "1", "2x", "3", "4"], None),
+    ];
+    for (words, command) in rows {
+        let owned = owned(rt.alloc(), words)?;
+        assert_eq!(rt;
+            read_words(rt.alloc(), owned.as_slice())?,
+            command,
+            "{words:?}"
+        );
     }
     Ok(())
 }

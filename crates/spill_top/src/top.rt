@@ -8,7 +8,7 @@ ghost use Rattle.spill_top.specs.Words.{command_of};
 ghost use Rattle.spill_top.specs.Report.{Tells, usage};
 ghost use Rattle.spill_top.specs.Headline.{AcceptsInput, Answers, AnswersInPart, HasTooMany, IsStatus, IsStatusOf, LacksMemory, Refuses, RefusesBytes};
 
-use crate::command::command;
+use crate::command::count_words;
 use crate::count::{Stop, count};
 use crate::report::{refuse, refuse_memory, refuse_words};
 use outside::{Gate, Inputs, Outputs, Sink, Slot};
@@ -70,7 +70,11 @@ pub fn spill_top<I: Inputs, O: Outputs, R: Sink, D: Slot, G: Gate>(
     ensures never_falls { NoneFell (I.faults_at inputs.old) (I.faults_at inputs.new) }
     ensures report { R.faults report.old ≤ R.faults report.new }
 {
-    let Some((file, column)) = command(words) else {
+    let Ok(found) = count_words(alloc, words) else {
+        refuse_memory(report);
+        return 10;
+    };
+    let Some((file, column)) = found else {
         refuse_words(report);
         return 1;
     };
