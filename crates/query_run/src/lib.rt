@@ -13,6 +13,8 @@ mod header;
 mod outcome;
 mod parts;
 mod run;
+#[cfg(test)]
+mod tests;
 
 pub use outcome::{QueryErr, Ran, Totals};
 pub use query_plan::Side;
