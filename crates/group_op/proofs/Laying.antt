@@ -41,7 +41,7 @@ use Rattle.group_op.specs.Stored.{IsPartialRow, dealt, grouping_of, partial_at, 
 use Rattle.group_op.proofs.Deals.{deals_fed}
 use Rattle.group_op.proofs.Dividing.{more_shares}
 use Rattle.group_op.proofs.Entering.{rows_formed}
-use Rattle.group_op.proofs.PagesOnce.{held_left}
+use Rattle.group_op.proofs.HeldPages.{held_left}
 
 left_as : (xs ys : List (List ℕ)) (events : List Event) → IsPermutation xs ys → HasLeft ys events → HasLeft xs events
 left_as xs ys events moved left = record { these = left.these; leaves = left.leaves; moved = IsPermutation-trans xs ys left.these moved left.moved }

@@ -50,7 +50,7 @@ pub mod Settled
 pub mod Started
 pub mod TopRead
 pub mod Begun
-pub mod PagesOnce
+pub mod HeldPages
 pub mod Laying
 pub mod Weighing
 mod Sharing

@@ -1,11 +1,10 @@
 -- The query's room and the slots, over calls of a stream and of an emitter beside it; and what want of slots is told with.
-use Rattle.std.proofs.Common.{◌≡◌, ◌≢◌, ◌∙◌, inl, inr, ℕ, ◌*◌, ◌≤◌, Option, Some, None, IsSome, Result, Ok, Err, IfErr, ap, sym, subst, arith}
+use Rattle.std.proofs.Common.{◌≡◌, ◌≢◌, ◌∙◌, ℕ, ◌*◌, Option, Some, None, IsSome, Result, Ok, Err, IfErr, ap, sym, subst, arith}
 use Rattle.std.specs.Prelude.{slice_get, sum_by}
-use Rattle.std.proofs.lemmas.Bool.{cases_eq}
 use Rattle.reservation_tree.specs.declared.errors.PoolErr.{PoolErr}
 use Rattle.reservation_tree.specs.declared.errors.PoolErr.TheVariants.{NoReservation, ScratchFull, WriteFault, ReadFault, TooManyTrackers, NamesSpent, Memory}
 use Rattle.store_api.specs.Emitters.{CameOf, KeepsRoom, OthersStay}
-use Rattle.store_api.specs.Holdings.{Account, Holdings, account_of, no_account, no_page, or_else, page_of, unused_of}
+use Rattle.store_api.specs.Holdings.{Holdings, no_page, page_of}
 use Rattle.store_api.specs.Signs.{Signs}
 use Rattle.store_api.specs.Tokens.{PageToken}
 use Rattle.store_api.specs.declared.op_err.OpErr.{OpErr}
@@ -14,12 +13,11 @@ use Rattle.store_api.proofs.Puts.{there}
 use Rattle.tuple_stream.specs.Streamed.{Streamed}
 use Rattle.tuple_stream.specs.Streams.{IsOwnPage, IsShaped}
 use Rattle.tuple_stream.specs.Steps.{Reads, scene}
-use Rattle.tuple_stream.specs.Touches.{IsFull, Touches, slots_of, slots_with}
+use Rattle.tuple_stream.specs.Touches.{IsFull, slots_of, slots_with}
 use Rattle.tuple_stream.proofs.Chosen.{at_place}
-use Rattle.partition_stack.specs.Emitting.{room_with}
 use Rattle.partition_stack.specs.Slots.{IsWant, IsWantOf, KeepSlots}
 use Rattle.partition_stack.proofs.Emitters.{emit_room}
-use Rattle.partition_stack.proofs.Left.{account_reservation}
+use Rattle.partition_stack.proofs.Rooms.{room_touched}
 use Rattle.partition_stack.proofs.Slots.{keep_more, keep_none, keep_own, keep_then, one_taken, times_one, want_with}
 use Rattle.group_op.specs.Causes.{CameBeside}
 use Rattle.group_op.specs.Scanning.{Shares}
@@ -29,29 +27,11 @@ use Rattle.group_op.specs.Scanning.{Shares}
 pub shares_none : (t : ℕ) (client : Option ℕ) (n : ℕ) (s : Streamed) (h : Holdings) → Shares t client n n s s h h
 shares_none t client n s h = record { room = omega arith; slots = keep_none client (slots_with s h) n }
 
--- a call of a stream touches no room and no reservation
-touched_room : (t : ℕ) (client : Option ℕ) (s now : Streamed) (h new : Holdings) → IsSome (h.clients t) → Touches t s now h new → room_with t client h ≤ room_with t client new
-touched_room t client s now h new lives touches = go client
-  where
-    own : (account_of t new).reservation ≡ (account_of t h).reservation
-    own = ap (λ (o : Option Account). (or_else no_account o).reservation) (touches.account lives) ∙ account_reservation (h.clients t) (unused_of t new)
-
-    go : (o : Option ℕ) → room_with t o h ≤ room_with t o new
-    go None = let room = touches.room in let mine = own in omega (arith, room, mine)
-    go (Some u) =
-        let room = touches.room in
-        let mine = own in
-        let theirs : (account_of u new).reservation ≡ (account_of u h).reservation = elim (cases_eq u t) [
-          | inl same ↦ subst (λ (k : ℕ). (account_of k new).reservation ≡ (account_of k h).reservation) (sym same) own
-          | inr other ↦ ap (λ (o : Option Account). (or_else no_account o).reservation) (touches.clients u other)
-        ] in
-        omega (arith, room, mine, theirs)
-
 module _ (t : ℕ) (client : Option ℕ) (n0 n : ℕ) (s0 s : Streamed) (h0 h : Holdings) (so : Shares t client n0 n s0 s h0 h) where
   pub shares_read : (now : Streamed) (new : Holdings) (before after : Signs) (n1 : ℕ) → IsSome (h.clients t) → Reads t (scene s h before) (scene now new after) → n1 ≡ n → Shares t client n0 n1 s0 now h0 new
   shares_read now new before after n1 lives went same =
       let one = so.room in
-      let two = touched_room t client s now h new lives went.step.touches in
+      let two = room_touched t client s now h new lives went.step.touches in
       record {
         room = omega (arith, one, two);
         slots = keep_then client (slots_with s0 h0) (slots_with s h) (slots_with now new) n0 n n1 so.slots (keep_own client (slots_with s h) (slots_with now new) n n1 went.step.touches.slots same);

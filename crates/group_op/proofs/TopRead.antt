@@ -1,10 +1,10 @@
 -- The top partition was read while its groups went to an emitter, and then it went.
-use Rattle.std.proofs.Common.{◌≡◌, ◌≢◌, ◌∙◌, inl, inr, ℕ, zero, suc, ◌+◌, ◌-◌, ◌*◌, ◌<◌, ◌≤◌, List, [], ◌∷◌, ◌++◌, length, length-append, take, get_or, true, false, Option, Some, None, IsSome, is_some, if◌then◌else◌, Result, Ok, Err, IfErr, OnOk, refl, ap, sym, subst, arith}
+use Rattle.std.proofs.Common.{◌≡◌, ◌≢◌, ◌∙◌, inl, inr, ℕ, ◌+◌, ◌-◌, ◌*◌, ◌<◌, ◌≤◌, List, [], ◌∷◌, ◌++◌, length, length-append, take, get_or, true, false, Option, Some, None, IsSome, is_some, if◌then◌else◌, Result, Ok, Err, IfErr, OnOk, refl, ap, sym, subst, arith}
 use Rattle.std.specs.Prelude.{All, option_map, slice_get, sum_by}
 use Rattle.std.proofs.lemmas.List.{take_all}
 use Rattle.std.proofs.lemmas.List.FromFn.{length-map-range_with_len}
 use Rattle.std.proofs.lemmas.List.Sums.{sum_by-append, sum_by-cons}
-use Rattle.std.proofs.lemmas.Option.{none-some, same_Some, slice_get_within}
+use Rattle.std.proofs.lemmas.Option.{slice_get_within}
 use Rattle.row_codec.specs.declared.values.Value.{Value}
 use Rattle.row_codec.specs.Order.{hash_of, nibble_of, path_of}
 use Rattle.store_api.specs.declared.op_err.OpErr.{OpErr}
@@ -33,7 +33,7 @@ use Rattle.partition_stack.specs.Emitting.{room_with}
 use Rattle.partition_stack.specs.Slots.{IsWantOf, KeepSlots}
 use Rattle.partition_stack.specs.Stack.{IsStack, Stack, over}
 use Rattle.partition_stack.proofs.Agreeing.{agreeing_rows, agreeing_shape}
-use Rattle.partition_stack.proofs.ListPlaces.{front_or_behind}
+use Rattle.partition_stack.proofs.ListPlaces.{front_or_behind, only_one, was_at}
 use Rattle.partition_stack.proofs.Room.{room_for_each}
 use Rattle.partition_stack.proofs.Slots.{all_taken, keep_front, keep_own, taken, times_all, want_front}
 use Rattle.group_rows.specs.Partials.{Partial, combined_of}
@@ -100,30 +100,6 @@ top_rows p front s at h signs rows split top shows =
     subst (λ (n : ℕ). HasRows (rows n) s h) last (shows (length front) s (ap (λ (ss : List Streamed). slice_get ss (length front)) split ∙ at_end front s))
 
 -- ---- one stream stands for another with the same pages
-
--- what stood at this place
-record Was (ss : List Streamed) (x : Streamed) (i : ℕ) (a : Streamed) : Type 0 where
-  was : Streamed
-  place : slice_get (ss ++ x ∷ []) i ≡ Some was
-  pages : was.pages ≡ a.pages
-
-only_one : (y : Streamed) (k : ℕ) (a : Streamed) → slice_get (y ∷ []) k ≡ Some a → (k ≡ 0) × (y ≡ a)
-only_one y zero a at = (refl, same_Some y a at)
-only_one y (suc k) a at = absurd (none-some a at)
-
-was_at : (ss : List Streamed) (x y : Streamed) → x.pages ≡ y.pages → (i : ℕ) (a : Streamed) → slice_get (ss ++ y ∷ []) i ≡ Some a → Was ss x i a
-was_at ss x y same i a at =
-    elim (front_or_behind ss (y ∷ []) i a at) [
-      | inl front ↦ record { was = a; place = still_at ss x a i front; pages = refl }
-      | inr behind ↦
-          let one = only_one y (i - length ss) a behind.1 in
-          let here : i ≡ length ss = let first = one.0 in let far = behind.0 in omega (arith, first, far) in
-          record {
-            was = x;
-            place = ap (slice_get (ss ++ x ∷ [])) here ∙ at_end ss x;
-            pages = same ∙ ap (λ (r : Streamed). r.pages) one.1;
-          }
-    ]
 
 unused_reservation : (o : Option Account) (n : ℕ) → (or_else no_account (option_map (with_unused n) o)).reservation ≡ (or_else no_account o).reservation
 unused_reservation None n = refl

@@ -35,4 +35,6 @@ pub use flushing::{Fan, Spare, flush};
 pub use laws::{law_lengths, law_starts};
 pub use operator::GroupOp;
 pub use putting::put;
+pub use row_codec::Agg;
 pub use scanning::leaf_by_scan;
+pub use store_api::{Emit, OpErr, Shape};

@@ -8,8 +8,6 @@ ghost use Rattle.tuple_stream.specs.Touches.{Touches};
 ghost use Rattle.group_op.specs.Scanning.{IsReadable};
 ghost use Rattle.group_op.specs.Leaving.{Leaves};
 
-mod groups;
-
 use crate::leaf_by_scan;
 use reservation_tree::PoolErr;
 use row_codec::{Agg, Kind, Value};

@@ -1,8 +1,8 @@
 -- The top partitions of both sides were read while their pairs went to an emitter.
-use Rattle.std.proofs.Common.{◌≡◌, ◌≢◌, ◌∙◌, inl, inr, ℕ, zero, suc, ◌+◌, ◌-◌, ◌*◌, ◌<◌, List, [], ◌∷◌, ◌++◌, length, Option, Some, None, IsSome, is_some, true, if◌then◌else◌, refl, ap, sym, subst, arith}
+use Rattle.std.proofs.Common.{◌≡◌, ◌≢◌, ◌∙◌, inl, inr, ℕ, ◌+◌, ◌-◌, ◌*◌, ◌<◌, List, [], ◌∷◌, ◌++◌, length, Option, Some, None, IsSome, is_some, true, if◌then◌else◌, refl, ap, sym, subst, arith}
 use Rattle.std.specs.Prelude.{All, option_map, slice_get, sum_by}
 use Rattle.std.proofs.lemmas.List.Sums.{sum_by-append, sum_by-cons}
-use Rattle.std.proofs.lemmas.Option.{none-some, same_Some, slice_get_within}
+use Rattle.std.proofs.lemmas.Option.{slice_get_within}
 use Rattle.store_api.specs.Holdings.{Account, Holdings, LivePage, account_of, no_account, no_page, or_else, page_of, unused_of}
 use Rattle.store_api.specs.Signs.{Grows, Signs}
 use Rattle.store_api.specs.Tokens.{PageToken}
@@ -18,35 +18,11 @@ use Rattle.partition_stack.specs.Emitting.{LeavesBeside}
 use Rattle.partition_stack.specs.Leaving.{HasNoLoan}
 use Rattle.partition_stack.specs.Sides.{OwnBoth}
 use Rattle.partition_stack.proofs.Agreeing.{agreeing_rows, agreeing_shape}
-use Rattle.partition_stack.proofs.ListPlaces.{front_or_behind}
+use Rattle.partition_stack.proofs.ListPlaces.{front_or_behind, only_one, was_at}
 use Rattle.partition_stack.proofs.Sides.{disjoint_back}
 use Rattle.join_op.specs.Chunks.{ReadBoth}
 
 -- ---- one stream stands for another with the same pages
-
--- what stood at this place
-record Was (ss : List Streamed) (x : Streamed) (i : ℕ) (a : Streamed) : Type 0 where
-  was : Streamed
-  place : slice_get (ss ++ x ∷ []) i ≡ Some was
-  pages : was.pages ≡ a.pages
-
-only_one : (y : Streamed) (k : ℕ) (a : Streamed) → slice_get (y ∷ []) k ≡ Some a → (k ≡ 0) × (y ≡ a)
-only_one y zero a at = (refl, same_Some y a at)
-only_one y (suc k) a at = absurd (none-some a at)
-
-was_at : (ss : List Streamed) (x y : Streamed) → x.pages ≡ y.pages → (i : ℕ) (a : Streamed) → slice_get (ss ++ y ∷ []) i ≡ Some a → Was ss x i a
-was_at ss x y same i a at =
-    elim (front_or_behind ss (y ∷ []) i a at) [
-      | inl front ↦ record { was = a; place = still_at ss x a i front; pages = refl }
-      | inr behind ↦
-          let one = only_one y (i - length ss) a behind.1 in
-          let here : i ≡ length ss = let first = one.0 in let far = behind.0 in omega (arith, first, far) in
-          record {
-            was = x;
-            place = ap (slice_get (ss ++ x ∷ [])) here ∙ at_end ss x;
-            pages = same ∙ ap (λ (r : Streamed). r.pages) one.1;
-          }
-    ]
 
 as_disjoint : (a b was wbs : Streamed) → was.pages ≡ a.pages → wbs.pages ≡ b.pages → AreDisjoint was wbs → AreDisjoint a b
 as_disjoint a b was wbs one two far =

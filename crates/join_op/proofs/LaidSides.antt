@@ -29,7 +29,7 @@ use Rattle.join_op.specs.Laid.{HoldsSides, LeavesSide}
 use Rattle.join_op.specs.Operator.{KeepsSide, LaidBoth}
 use Rattle.join_op.specs.Rested.{KeepsRested}
 use Rattle.join_op.specs.Stored.{Side, left_side, right_side}
-use Rattle.join_op.proofs.PagesOnce.{distinct_left, left_named, marks_permute, named, once_in}
+use Rattle.partition_stack.proofs.PagesOnce.{distinct_left, left_named, marks_permute, named, once_in}
 use Rattle.join_op.proofs.Sums.{sum_flat, sum_map}
 
 -- ---- how many were left

@@ -29,7 +29,6 @@ pub mod ChunkJoins
 pub mod ChunkRounds
 pub mod Stepped
 pub mod Rests
-pub mod PagesOnce
 pub mod LaidSides
 pub mod Wholes
 pub mod Cleared

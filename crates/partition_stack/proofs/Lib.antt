@@ -18,3 +18,5 @@ pub mod Emitters
 pub mod ReadFrames
 pub mod Slots
 pub mod Weights
+pub mod PagesOnce
+pub mod Rooms

@@ -3,6 +3,8 @@ use Rattle.std.proofs.Common.{◌≡◌, ◌⊎◌, inl, inr, ℕ, zero, suc, �
 use Rattle.std.specs.List.{slice_get}
 use Rattle.std.proofs.lemmas.List.{get_or-replicate, length-replicate}
 use Rattle.std.proofs.lemmas.Option.{get_or_from_slice_get, none-some, same_Some, slice_get_within}
+use Rattle.tuple_stream.specs.Streamed.{Streamed}
+use Rattle.tuple_stream.proofs.PageLists.{at_end, still_at}
 
 less_none : (n : ℕ) → n - 0 ≡ n
 less_none n = omega arith
@@ -38,3 +40,29 @@ module _ {X : Type 0} where
   set_same [] i x at = refl
   set_same (y ∷ xs) zero x at = ap (λ (z : X). z ∷ xs) (sym (same_Some y x at))
   set_same (y ∷ xs) (suc i) x at = ap (λ (zs : List X). y ∷ zs) (set_same xs i x at)
+
+-- ---- one stream stands for another with the same pages
+
+-- what stood at this place
+pub record Was (ss : List Streamed) (x : Streamed) (i : ℕ) (a : Streamed) : Type 0 where
+  pub was : Streamed
+  pub place : slice_get (ss ++ x ∷ []) i ≡ Some was
+  pub pages : was.pages ≡ a.pages
+
+pub only_one : (y : Streamed) (k : ℕ) (a : Streamed) → slice_get (y ∷ []) k ≡ Some a → (k ≡ 0) × (y ≡ a)
+only_one y zero a at = (refl, same_Some y a at)
+only_one y (suc k) a at = absurd (none-some a at)
+
+pub was_at : (ss : List Streamed) (x y : Streamed) → x.pages ≡ y.pages → (i : ℕ) (a : Streamed) → slice_get (ss ++ y ∷ []) i ≡ Some a → Was ss x i a
+was_at ss x y same i a at =
+    elim (front_or_behind ss (y ∷ []) i a at) [
+      | inl front ↦ record { was = a; place = still_at ss x a i front; pages = refl }
+      | inr behind ↦
+          let one = only_one y (i - length ss) a behind.1 in
+          let here : i ≡ length ss = let first = one.0 in let far = behind.0 in omega (arith, first, far) in
+          record {
+            was = x;
+            place = ap (slice_get (ss ++ x ∷ [])) here ∙ at_end ss x;
+            pages = same ∙ ap (λ (r : Streamed). r.pages) one.1;
+          }
+    ]

@@ -1,6 +1,6 @@
-//! Whole groupings over a store in memory. What is wanted was computed by another program: how many groups there are, and a
-//! checksum over all that they show, in their order.
-ghost use Rattle.std.specs.Prelude.{◌≡◌, ℕ, IfOk, None, ⊤, true, refl};
+//! Whole groupings, over a store in memory and over the pool of one owner. What is wanted was computed by another program: how
+//! many groups there are, and a checksum over all that they show, in their order.
+ghost use Rattle.std.specs.Prelude.{◌≡◌, ◌<◌, ◌≤◌, ℕ, IfOk, None, ⊤, true, refl, vec_len};
 ghost use Rattle.std.proofs.Common.{zero-le};
 ghost use Rattle.block_arena.specs.Blocks.{IsBlockLen};
 ghost use Rattle.row_codec.specs.Row.{kind_of as kind_in, kinds_of};
@@ -10,8 +10,10 @@ ghost use Rattle.store_api.specs.Shapes.{IsShape};
 ghost use Rattle.group_op.specs.Operator.{IsFeeding, IsOperator, IsSame};
 ghost use Rattle.group_op.specs.Starting.{MayStart};
 
-use super::shape_of;
-use crate::{GroupOp, law_starts};
+use group_op::{GroupOp, law_starts};
+use local_pool::LocalPool;
+use outside::MemSlot;
+use pin_core::PoolConf;
 use reservation_tree::PoolErr;
 use row_codec::{Agg, Bytes, Kind, Value, encoded_len};
 use std::alloc::Global;
@@ -251,24 +253,88 @@ fn reserved<St: Store>(
     }
 }
 
-// The same in a new store, with blocks of this length and so many pages of one.
-fn run(alloc: Global, block_len: u32, pages: u64, shape: &Shape, plan: Plan) -> Result<Told, OpErr>
+// The same by a client of its own.
+fn grouped<St: Store>(
+    alloc: Global,
+    store: &mut St,
+    shape: &Shape,
+    plan: Plan,
+) -> Result<Told, OpErr>
+    requires { IsShape shape.now }
+    ensures { (St.holds store.new).live_clients ≡ (St.holds store.old).live_clients }
+{
+    let c = store.add_client(u64::MAX)?;
+    let (c, told) = reserved(alloc, store, c, shape, plan);
+    store.end_client(c);
+    told
+}
+
+// The same in a new store in memory, with blocks of this length and so many pages of one.
+fn in_memory(
+    alloc: Global,
+    block_len: u32,
+    pages: u64,
+    shape: &Shape,
+    plan: Plan,
+) -> Result<Told, OpErr>
     requires shape { IsShape shape.now }
     requires block { IsBlockLen block_len }
 {
     let limit = u64::from(block_len).saturating_mul(pages);
     let mut store = MemStore::open(alloc, block_len, limit, limit)?;
-    let c = match store.add_client(u64::MAX) {
-        Ok(c) => c,
-        Err(e) => {
-            store.close();
-            return Err(OpErr::Pool(e));
-        }
-    };
-    let (c, told) = reserved(alloc, &mut store, c, shape, plan);
-    store.end_client(c);
+    let told = grouped(alloc, &mut store, shape, plan);
     store.close();
     told
+}
+
+// The same in a new pool of so many blocks of 64 bytes, over these slots, which come back.
+#[tactic(auto, unfolding(pool_model::specs::Bytes::bytes_of))]
+fn in_pool(
+    alloc: Global,
+    blocks: u32,
+    slots: Vec<MemSlot>,
+    shape: &Shape,
+    plan: Plan,
+) -> (Vec<MemSlot>, Result<Told, OpErr>)
+    requires shape { IsShape shape.now }
+    requires some { 0 < blocks }
+    requires blocks { blocks ≤ 1024 }
+    requires slots { vec_len slots ≤ 1024 }
+{
+    let conf = PoolConf {
+        blocks,
+        block_len: 64,
+        first_name: 0,
+    };
+    let bytes = u64::from(blocks) * 64;
+    let quota = slots.len() as u32;
+    match LocalPool::<MemSlot>::open(alloc, &conf, slots, bytes, quota, bytes) {
+        Err((slots, e)) => (slots, Err(OpErr::Pool(e))),
+        Ok(mut pool) => {
+            let told = grouped(alloc, &mut pool, shape, plan);
+            (pool.close(), told)
+        }
+    }
+}
+
+// The groups of one text are counted.
+fn one_text(alloc: Global) -> Result<Shape, OpErr>
+    ensures { IfOk result (λ shape. IsShape shape) }
+{
+    let Ok(kinds) = Vec::from_slice(alloc, &[Kind::Text]) else {
+        return Err(MEMORY);
+    };
+    let Ok(keys) = Vec::from_slice(alloc, &[0]) else {
+        return Err(MEMORY);
+    };
+    let Ok(aggs) = Vec::from_slice(alloc, &[Agg::Count]) else {
+        return Err(MEMORY);
+    };
+    Ok(Shape {
+        kinds: Listed::of(kinds),
+        keys: Listed::of(keys),
+        aggs: Listed::of(aggs),
+    })
 }
 
 // All that can be computed over a number, for two texts.
@@ -303,7 +369,7 @@ fn two_hundred_keys_are_counted_in_as_many_pages_as_there_are(rt: HostRuntime) -
         (40, 700, 200, 8964774332756378096),
         (1000, 700, 200, 8964774332756378096),
     ];
-    let shape = shape_of(rt.alloc())?;
+    let shape = one_text(rt.alloc())?;
     for (pages, fed, rows, sum) in rows {
         let plan = Plan {
             rows: fed,
@@ -311,7 +377,7 @@ fn two_hundred_keys_are_counted_in_as_many_pages_as_there_are(rt: HostRuntime) -
             second: 0,
             greatest: false,
         };
-        let told = run(rt.alloc(), 64, pages, &shape, plan)?;
+        let told = in_memory(rt.alloc(), 64, pages, &shape, plan)?;
         assert_eq!(rt; told, Told { rows, sum }, "{fed} rows in {pages} pages");
     }
     Ok(())
@@ -335,8 +401,99 @@ fn sums_and_extremes_are_the_same_in_any_number_of_pages(rt: HostRuntime) -> Res
             second,
             greatest,
         };
-        let told = run(rt.alloc(), 128, pages, &shape, plan)?;
+        let told = in_memory(rt.alloc(), 128, pages, &shape, plan)?;
         assert_eq!(rt; told, Told { rows, sum }, "{fed} rows in {pages} pages");
     }
+    Ok(())
+}
+
+// So many slots, of which each fails at the stores and loads that are listed.
+fn slots(alloc: Global, count: u32, fails: &[u64]) -> Result<Vec<MemSlot>, OpErr> {
+    let mut slots = Vec::new(alloc);
+    for _ in 0..count {
+        let Ok(slot) = MemSlot::new(alloc, fails) else {
+            return Err(MEMORY);
+        };
+        if slots.push(slot).is_err() {
+            return Err(MEMORY);
+        }
+    }
+    Ok(slots)
+}
+
+// How often the slots were stored to, and how often they failed.
+fn counted(slots: &[MemSlot]) -> (u64, u64) {
+    slots.iter().fold((0, 0), |(stores, faults), slot| {
+        (
+            u64::saturating_add(stores, slot.stores()),
+            u64::saturating_add(faults, slot.faults()),
+        )
+    })
+}
+
+fn texts(rows: u32) -> Plan {
+    Plan {
+        rows,
+        first: 200,
+        second: 0,
+        greatest: false,
+    }
+}
+
+#[test]
+fn groups_come_back_from_slots(rt: HostRuntime) -> Result<(), Fail> {
+    let rows = [
+        (20, 200, 15449805641609575780, true),
+        (20, 700, 8964774332756378096, true),
+        (21, 700, 8964774332756378096, true),
+        (40, 700, 8964774332756378096, true),
+        (1000, 700, 8964774332756378096, false),
+    ];
+    let shape = one_text(rt.alloc())?;
+    for (blocks, fed, sum, stores) in rows {
+        let slots = slots(rt.alloc(), 800, &[])?;
+        assert!(rt; slots.len() <= 1024);
+        let (slots, told) = in_pool(rt.alloc(), blocks, slots, &shape, texts(fed));
+        assert_eq!(rt; told, Ok(Told { rows: 200, sum }), "{fed} rows in {blocks} blocks");
+        assert_eq!(rt; slots.len(), 800);
+        assert_eq!(rt; counted(slots.as_slice()).0 > 0, stores, "{blocks} blocks");
+    }
+    Ok(())
+}
+
+#[test]
+fn a_slot_that_fails_is_told_and_the_next_grouping_goes_well(
+    rt: HostRuntime,
+) -> Result<(), Fail> {
+    let shape = one_text(rt.alloc())?;
+    // The first call of a slot stores a block, and the second one loads it.
+    for fails in [0, 1] {
+        let slots = slots(rt.alloc(), 800, &[fails])?;
+        assert!(rt; slots.len() <= 1024);
+        let (slots, told) = in_pool(rt.alloc(), 20, slots, &shape, texts(200));
+        let Err(OpErr::Pool(e)) = told else {
+            panic!(rt; "a call that fails is told");
+        };
+        let kind = match e {
+            PoolErr::WriteFault { .. } => 0,
+            PoolErr::ReadFault { .. } => 1,
+            _ => 2,
+        };
+        assert_eq!(rt; kind, fails);
+        assert_eq!(rt; counted(slots.as_slice()).1, 1);
+        assert_eq!(rt; slots.len(), 800);
+    }
+    Ok(())
+}
+
+#[test]
+fn a_quota_that_is_too_small_is_told(rt: HostRuntime) -> Result<(), Fail> {
+    let shape = one_text(rt.alloc())?;
+    let slots = slots(rt.alloc(), 16, &[])?;
+    assert!(rt; slots.len() <= 1024);
+    let (slots, told) = in_pool(rt.alloc(), 20, slots, &shape, texts(200));
+    let full = PoolErr::ScratchFull { need: 1, free: 0 };
+    assert_eq!(rt; told, Err(OpErr::Pool(full)));
+    assert_eq!(rt; slots.len(), 16);
     Ok(())
 }

@@ -1,6 +1,6 @@
 use Rattle.std.proofs.Common.{◌≡◌}
 use Rattle.group_op.specs.Operator.{IsOperator, IsSame}
-use Rattle.group_op.proofs.tests.groups.feed_all.Given as goal
+use Rattle.operator_checks.proofs.tests.groups.feed_all.Given as goal
 
 abbrev pub invariant-loop-number : goal.invariant-loop-number
 invariant-loop-number g l = record {

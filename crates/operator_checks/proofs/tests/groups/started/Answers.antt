@@ -3,8 +3,8 @@ use Rattle.store_api.specs.Holdings.{length_of}
 use Rattle.store_api.specs.Tokens.{ClientToken}
 use Rattle.bucket_table.proofs.Opened.{some_blocks}
 use Rattle.group_op.specs.Operator.{IsOperator, Operator}
-use Rattle.group_op.proofs.Dropping.{reserving_lives, some_product}
-use Rattle.group_op.proofs.tests.groups.started.Goals as goal
+use Rattle.operator_checks.proofs.Groupings.{reserving_lives, some_product}
+use Rattle.operator_checks.proofs.tests.groups.started.Goals as goal
 
 pub told_of-told-requires-clause-op : goal.told_of-told-requires-clause-op
 told_of-told-requires-clause-op g c =

@@ -3,8 +3,8 @@ use Rattle.row_codec.specs.declared.values.Agg.{Agg}
 use Rattle.row_codec.specs.declared.values.Kind.{Kind}
 use Rattle.row_codec.specs.declared.values.Kind.TheVariants.{Int, Text}
 use Rattle.store_api.specs.Shapes.{IsShape}
-use Rattle.group_op.proofs.Dropping.{four_of_texts}
-use Rattle.group_op.proofs.tests.groups.all_four.Goals as goal
+use Rattle.operator_checks.proofs.Groupings.{four_of_texts}
+use Rattle.operator_checks.proofs.tests.groups.all_four.Goals as goal
 
 pub returns : goal.returns
 returns c =

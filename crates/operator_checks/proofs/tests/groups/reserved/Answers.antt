@@ -1,6 +1,6 @@
 use Rattle.std.proofs.Common.{◌∙◌}
-use Rattle.group_op.proofs.Dropping.{may_start}
-use Rattle.group_op.proofs.tests.groups.reserved.Goals as goal
+use Rattle.operator_checks.proofs.Groupings.{may_start}
+use Rattle.operator_checks.proofs.tests.groups.reserved.Goals as goal
 
 pub started-requires-clause-start : goal.started-requires-clause-start
 started-requires-clause-start g c =

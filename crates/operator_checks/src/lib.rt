@@ -1,0 +1,5 @@
+//! Operators over stores: tests of whole groupings, over a store in memory and over the pool of one owner.
+#![tactic(auto)]
+
+#[cfg(test)]
+mod tests;

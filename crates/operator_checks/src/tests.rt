@@ -1,0 +1,3 @@
+//! Whole operators over stores that have slots, and over a store in memory.
+
+mod groups;
