@@ -96,3 +96,7 @@ pub mod Begun
 pub mod Opens
 pub mod OpenedPool
 pub mod Readings
+pub mod Tallied
+pub mod Stored
+pub mod Plain
+pub mod Summed

@@ -31,3 +31,6 @@ pub mod Entering
 pub mod Seating
 pub mod Opening
 pub mod Setup
+pub mod Tallies
+pub mod Plain
+pub mod SumLaws

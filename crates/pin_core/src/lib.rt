@@ -42,6 +42,7 @@ mod run;
 mod sessions;
 mod setup;
 mod start;
+mod tally;
 mod unpin;
 
 pub use conf::PoolConf;
@@ -52,3 +53,4 @@ pub use parts::Parts;
 pub use pin::PinTurn;
 pub use pool::PoolState;
 pub use room::{RoomTurn, Want};
+pub use tally::{Tally, law_plain, law_sums};
