@@ -7,8 +7,7 @@ use Rattle.outside.specs.declared.slot.Slot.{Ghosts}
 use Rattle.reservation_tree.specs.declared.errors.PoolErr.{PoolErr}
 use Rattle.reservation_tree.specs.declared.errors.PoolErr.TheVariants.{NoReservation}
 use Rattle.reservation_tree.specs.Answer.{no_reservation, IsFrom}
-use Rattle.reservation_tree.specs.Change.{Refusal}
-use Rattle.reservation_tree.specs.Change.{move_refusal as tree_move_refusal}
+use Rattle.reservation_tree.specs.Change.{Refusal, move_refusal as tree_move_refusal}
 use Rattle.reservation_tree.specs.Tracker.{Tracker, IsLive, no_tracker, limit_of, reservation_of}
 use Rattle.pool_model.specs.declared.event.Event.{Event}
 use Rattle.pool_model.specs.declared.event.Event.TheVariants.{AddTracker, CloseTracker, Increase, IncreaseToFit, Decrease, MoveReservation, PinLoad, StartWrite, ReadOk, ReadFailed, WriteOk, WriteFailed}
@@ -34,13 +33,12 @@ use Rattle.own_entries.proofs.Facts.{own_under}
 use Rattle.own_entries.proofs.Idle.{no_page, no_buffer}
 use Rattle.own_entries.proofs.Views.{account_is}
 use Rattle.pin_core.specs.StateOf.{state_of}
-use Rattle.pin_core.specs.Sessions.{IsSeat, query_of, client_count}
-use Rattle.pin_core.specs.Sessions.{IsIdle as HasNothing}
+use Rattle.pin_core.specs.Sessions.{IsSeat, query_of, client_count, IsIdle as HasNothing}
 use Rattle.pin_core.specs.Standing.{Enters}
 use Rattle.pin_core.specs.Entering.{unused_of, growth_refusal, fit_refusal, client_entry, move_entry}
 use Rattle.pin_core.specs.Opening.{leaving_entries}
 use Rattle.local_pool.specs.declared.owned.Owned.{Owned}
-use Rattle.local_pool.specs.declared.tally.Tally.{Tally}
+use Rattle.pin_core.specs.declared.tally.Tally.{Tally}
 use Rattle.local_pool.specs.Told.{all_tell, held_of}
 use Rattle.local_pool.specs.Making.{Goes, Makes, is_calm, rests}
 use Rattle.local_pool.specs.Standing.{IsStill, Stands}

@@ -30,7 +30,7 @@ use Rattle.pin_core.specs.Standing.{Enters}
 use Rattle.pin_core.specs.Evictions.{MakesRoom, blocks_in, evictions, names_gone}
 use Rattle.pin_core.specs.Coming.{CanHold, zeros}
 use Rattle.local_pool.specs.declared.owned.Owned.{Owned}
-use Rattle.local_pool.specs.declared.tally.Tally.{Tally}
+use Rattle.pin_core.specs.declared.tally.Tally.{Tally}
 use Rattle.local_pool.specs.Told.{held_of, signs_of}
 use Rattle.local_pool.specs.Making.{Goes, Makes, is_calm, rests}
 use Rattle.local_pool.specs.Needing.{IsNeeded, EntersNeeded}

@@ -19,8 +19,7 @@ use Rattle.pool_model.specs.Refusals.{IsOwnCall, IsEnabled, client_of}
 use Rattle.pool_model.specs.MayFollow.{MayFollow}
 use Rattle.pool_model.proofs.Rising.{kept_failures_rose, failures_grow}
 use Rattle.pool_model.proofs.Seats.{some_is}
-use Rattle.store_api.specs.Holdings.{LivePage, LiveLoan, or_else, no_loan, page_len, loan_len}
-use Rattle.store_api.specs.Holdings.{IsPageOf as HoldsPage, no_page as no_live_page}
+use Rattle.store_api.specs.Holdings.{LivePage, LiveLoan, or_else, no_loan, page_len, loan_len, IsPageOf as HoldsPage, no_page as no_live_page}
 use Rattle.own_entries.specs.OwnHoldings.{after_events}
 use Rattle.own_entries.proofs.Behind.{IsTold, IsLent}
 use Rattle.own_entries.proofs.Views.{len_is}
@@ -31,8 +30,9 @@ use Rattle.pin_core.specs.Refusing.{MayEnter, refusal_of}
 use Rattle.pin_core.specs.PinTurns.{IsStored}
 use Rattle.pin_core.specs.Turns.{failure_of}
 use Rattle.local_pool.specs.declared.owned.Owned.{Owned}
-use Rattle.local_pool.specs.declared.tally.Tally.{Tally}
-use Rattle.local_pool.specs.Told.{silence, held_of}
+use Rattle.pin_core.specs.declared.tally.Tally.{Tally}
+use Rattle.local_pool.specs.Told.{held_of}
+use Rattle.pin_core.specs.Tallies.{silence}
 use Rattle.local_pool.specs.Making.{Goes, Makes, is_calm, rests}
 use Rattle.local_pool.specs.Standing.{Stands, IsStill}
 use Rattle.local_pool.specs.Turning.{Wants, IsStoredFor, CanRefuse, Rose}

@@ -11,8 +11,7 @@ use Rattle.reservation_tree.specs.Answer.{IsFrom}
 use Rattle.reservation_tree.proofs.Outline.{limit_is, reservation_is}
 use Rattle.reservation_tree.proofs.Maps.{same_or_other, get_same}
 use Rattle.pin_core.specs.Sessions.{IsFull}
-use Rattle.pin_core.specs.Opening.{root_growth, least_refusal}
-use Rattle.pin_core.specs.Opening.{LacksLeast as LacksLeastHere}
+use Rattle.pin_core.specs.Opening.{root_growth, least_refusal, LacksLeast as LacksLeastHere, opening_entries, reopening_entries}
 use Rattle.pool_model.specs.declared.event.Event.TheVariants.{AddTracker, Increase, CloseTracker}
 use Rattle.pool_model.specs.declared.entry.Entry.{Entry}
 use Rattle.pool_model.specs.Bytes.{bytes_of}
@@ -33,15 +32,15 @@ use Rattle.pin_core.specs.StateOf.{state_of}
 use Rattle.pin_core.specs.Setup.{IsOpeningOf}
 use Rattle.pin_core.specs.Standing.{StandsFor, slots_home}
 use Rattle.std.specs.List.{sum_by}
-use Rattle.pin_core.specs.Opening.{opening_entries, reopening_entries}
 use Rattle.local_pool.specs.declared.owned.Owned.{Owned}
-use Rattle.local_pool.specs.declared.tally.Tally.{Tally}
+use Rattle.pin_core.specs.declared.tally.Tally.{Tally}
 use Rattle.local_pool.specs.Told.{outset_of, held_of}
-use Rattle.local_pool.specs.Counting.{Counted, SumsHold, all_failures, tally_in, written_blocks}
+use Rattle.local_pool.specs.Counting.{SumsHold}
+use Rattle.pin_core.specs.Tallies.{Counted, all_failures, tally_in, written_blocks}
 use Rattle.local_pool.specs.Standing.{Stands}
 use Rattle.local_pool.specs.Beginning.{memory_of, first_events, IsBegun, Begins, LacksLeast, IsLeastRefusal}
 use Rattle.local_pool.proofs.Sized.{run_len, run_memory}
-use Rattle.local_pool.proofs.Counting.{uncounted_yet, counted_as}
+use Rattle.pin_core.proofs.Tallied.{uncounted_yet, counted_as}
 
 abbrev pub opening_of : PoolConf → ℕ → Opening
 opening_of conf count = record { blocks = conf.blocks; block_len = conf.block_len; first_name = conf.first_name; slots = count; faults = 0; stores = 0 }

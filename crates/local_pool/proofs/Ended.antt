@@ -25,7 +25,7 @@ use Rattle.pin_core.specs.Sessions.{query_of}
 use Rattle.pin_core.specs.Standing.{StandsFor, Enters}
 use Rattle.pin_core.specs.Opening.{ending_entries}
 use Rattle.local_pool.specs.declared.owned.Owned.{Owned}
-use Rattle.local_pool.specs.declared.tally.Tally.{Tally}
+use Rattle.pin_core.specs.declared.tally.Tally.{Tally}
 use Rattle.local_pool.specs.Told.{outset_of, held_of}
 use Rattle.local_pool.specs.Standing.{Stands}
 use Rattle.local_pool.proofs.Growing.{alone_more}

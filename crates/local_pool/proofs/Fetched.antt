@@ -41,9 +41,10 @@ use Rattle.pin_core.specs.PinTurns.{IsLoad}
 use Rattle.pin_core.specs.Refusing.{refusal_of}
 use Rattle.pin_core.specs.Turns.{failure_of}
 use Rattle.local_pool.specs.declared.owned.Owned.{Owned}
-use Rattle.local_pool.specs.declared.tally.Tally.{Tally}
-use Rattle.local_pool.specs.Told.{silence, held_of}
-use Rattle.local_pool.specs.Counting.{Counted, SumsHold, all_failures, tally_in}
+use Rattle.pin_core.specs.declared.tally.Tally.{Tally}
+use Rattle.local_pool.specs.Told.{held_of}
+use Rattle.pin_core.specs.Tallies.{silence, Counted, all_failures, tally_in}
+use Rattle.local_pool.specs.Counting.{SumsHold}
 use Rattle.local_pool.specs.Making.{Goes, Makes}
 use Rattle.local_pool.specs.Needing.{IsNeeded, AreNeeded, EntersNeeded}
 use Rattle.local_pool.specs.Standing.{Stands, IsStill}
@@ -52,7 +53,8 @@ use Rattle.local_pool.specs.Loading.{CanRead, Returns, IsRead, IsUnread}
 use Rattle.local_pool.specs.Pinning.{CanBePinned, MustRefuse, IsPinned, IsFailedRead}
 use Rattle.local_pool.proofs.Sized.{run_on, run_len}
 use Rattle.local_pool.proofs.Growing.{by_append, grown, makes, sums_by}
-use Rattle.local_pool.proofs.Counting.{tally_same, plain_then, is_stored_by, unstored}
+use Rattle.local_pool.proofs.Counting.{plain_then, is_stored_by, unstored}
+use Rattle.pin_core.proofs.Tallied.{tally_same}
 use Rattle.local_pool.proofs.Knowing.{knows}
 use Rattle.local_pool.proofs.Contents.{content_whole}
 use Rattle.local_pool.proofs.Asked.{rose}

@@ -20,7 +20,7 @@ use Rattle.pin_core.specs.Evictions.{evictions}
 use Rattle.local_pool.specs.Standing.{IsStill}
 use Rattle.local_pool.specs.Calling.{Evicts}
 use Rattle.local_pool.specs.Making.{rests}
-use Rattle.local_pool.proofs.Counting.{ArePlain}
+use Rattle.local_pool.proofs.Counting.{EventsArePlain}
 use Rattle.local_pool.proofs.Growing.{AllCalm}
 use Rattle.local_pool.proofs.Still.{still_on, out_still, read_still, unread_still}
 
@@ -44,7 +44,7 @@ fetching_calm [] p last calm = (refl, calm)
 fetching_calm (n ∷ names) p last calm = (refl, fetching_calm names p last calm)
 
 -- none of them is a failure or a write, though a load begins
-pub fetching_plain : (names : List ℕ) (p : ℕ) → ArePlain (fetching names p)
+pub fetching_plain : (names : List ℕ) (p : ℕ) → EventsArePlain (fetching names p)
 fetching_plain [] p = (refl, tt)
 fetching_plain (n ∷ names) p = (refl, fetching_plain names p)
 

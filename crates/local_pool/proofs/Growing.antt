@@ -21,14 +21,16 @@ use Rattle.own_entries.proofs.Calls.{calls_run_on}
 use Rattle.pin_core.specs.StateOf.{state_of}
 use Rattle.pin_core.specs.Standing.{StandsFor, Enters, slots_home}
 use Rattle.local_pool.specs.declared.owned.Owned.{Owned}
-use Rattle.local_pool.specs.declared.tally.Tally.{Tally}
-use Rattle.local_pool.specs.Told.{silence, all_tell, outset_of, held_of}
-use Rattle.local_pool.specs.Counting.{Counted, SumsHold, all_failures, stored_by, tally_in, written_blocks}
+use Rattle.pin_core.specs.declared.tally.Tally.{Tally}
+use Rattle.local_pool.specs.Told.{all_tell, outset_of, held_of}
+use Rattle.pin_core.specs.Tallies.{silence, Counted, all_failures, stored_by, tally_in, written_blocks}
+use Rattle.local_pool.specs.Counting.{SumsHold}
 use Rattle.local_pool.specs.Making.{Makes, Goes, is_calm, rests}
 use Rattle.local_pool.specs.Standing.{IsStill, Stands}
 use Rattle.local_pool.proofs.Sized.{run_len, run_memory}
-use Rattle.local_pool.proofs.Counting.{uncounted_yet, counted_more, counted_as, tally_same, failures_append, rest_plain, plain_failures, plain_stores}
-use Rattle.local_pool.proofs.Stored.{written_more}
+use Rattle.local_pool.proofs.Counting.{rest_plain, plain_failures, plain_stores}
+use Rattle.pin_core.proofs.Tallied.{uncounted_yet, counted_more, counted_as, tally_same, failures_append}
+use Rattle.pin_core.proofs.Stored.{written_more}
 
 pub by_append : (m : ℕ) (a b : List Event) → by m (a ++ b) ≡ by m a ++ by m b
 by_append m [] b = refl

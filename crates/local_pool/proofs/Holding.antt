@@ -15,8 +15,7 @@ use Rattle.pool_model.specs.Sound.{HasPins}
 use Rattle.pool_model.specs.Owning.{IsClientOf}
 use Rattle.pool_model.specs.PageRows.{MayRefuseUnpin}
 use Rattle.store_api.specs.Tokens.{PageToken, LoanToken}
-use Rattle.store_api.specs.Holdings.{Holdings, LivePage, LiveLoan, or_else, page_of, loan_of}
-use Rattle.store_api.specs.Holdings.{no_page as no_live_page, no_loan}
+use Rattle.store_api.specs.Holdings.{Holdings, LivePage, LiveLoan, or_else, page_of, loan_of, no_page as no_live_page, no_loan}
 use Rattle.store_api.specs.Changes.{slots_taken, slots_given}
 use Rattle.store_api.specs.Conditions.{Fits, IsHeld, IsPage, IsLoan}
 use Rattle.store_api.specs.Refusals.{LacksSlots, IsScratchFull, StaysPinned}
@@ -27,13 +26,12 @@ use Rattle.own_entries.specs.LiveParts.{left_at}
 use Rattle.own_entries.proofs.Behind.{IsTold, IsLent, pinned_once}
 use Rattle.pin_core.specs.StateOf.{state_of}
 use Rattle.pin_core.specs.Standing.{Enters}
-use Rattle.pin_core.specs.Needs.{IsLastPin}
-use Rattle.pin_core.specs.Needs.{IsPage as IsPoolPage}
+use Rattle.pin_core.specs.Needs.{IsLastPin, IsPage as IsPoolPage}
 use Rattle.pin_core.specs.Ending.{IsPinnedWith, IsUnpinned, is_flying}
 use Rattle.pin_core.specs.Lending.{IsLoan as IsPoolLoan}
 use Rattle.pin_core.specs.Unpinning.{LacksSlots as PoolLacks}
 use Rattle.local_pool.specs.declared.owned.Owned.{Owned}
-use Rattle.local_pool.specs.declared.tally.Tally.{Tally}
+use Rattle.pin_core.specs.declared.tally.Tally.{Tally}
 use Rattle.local_pool.specs.Told.{held_of, signs_of}
 use Rattle.local_pool.specs.Making.{Goes, Makes}
 use Rattle.local_pool.specs.Standing.{Stands, is_moving}

@@ -30,7 +30,7 @@ use Rattle.own_entries.proofs.Fresh.{legal_holds_only_live}
 use Rattle.own_entries.proofs.Idle.{legal_idle_is_whole}
 use Rattle.pin_core.specs.StateOf.{state_of}
 use Rattle.local_pool.specs.declared.owned.Owned.{Owned}
-use Rattle.local_pool.specs.declared.tally.Tally.{Tally}
+use Rattle.pin_core.specs.declared.tally.Tally.{Tally}
 use Rattle.local_pool.specs.Told.{outset_of, held_of}
 use Rattle.local_pool.specs.Standing.{Stands}
 use Rattle.local_pool.proofs.Sized.{run_len}

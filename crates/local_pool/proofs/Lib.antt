@@ -1,6 +1,5 @@
 pub mod Sized
 pub mod Counting
-pub mod Stored
 pub mod Growing
 pub mod Knowing
 pub mod Still

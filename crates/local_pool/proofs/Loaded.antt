@@ -20,14 +20,12 @@ use Rattle.pin_core.specs.StateOf.{state_of}
 use Rattle.pin_core.specs.Standing.{StandsFor, AreHeld, slots_home}
 use Rattle.pin_core.specs.Runs.{AllTell, CountsFaults, IsFit, after_loads}
 use Rattle.pin_core.specs.Jobs.{IsReadJob}
-use Rattle.pin_core.specs.Returning.{EntersWhere, read_ends, read_entry}
-use Rattle.pin_core.specs.Returning.{IsRead as HoldsContent}
+use Rattle.pin_core.specs.Returning.{EntersWhere, read_ends, read_entry, IsRead as HoldsContent}
 use Rattle.local_pool.specs.declared.owned.Owned.{Owned}
-use Rattle.local_pool.specs.Counting.{Counted, all_failures, tally_by, tally_with}
+use Rattle.pin_core.specs.Tallies.{Counted, all_failures, tally_by, tally_with}
 use Rattle.local_pool.specs.Loading.{CanRead, Returns, IsRead, IsUnread}
 use Rattle.local_pool.proofs.Contents.{content_told}
-use Rattle.local_pool.proofs.Written.{same_silence}
-use Rattle.local_pool.proofs.Counting.{tally_same, same_stores, came_back}
+use Rattle.pin_core.proofs.Tallied.{same_silence, tally_same, same_stores, came_back}
 
 pub load_fits : {D : Type 0} (s : State) (job : ReadJob D) → IsReadJob s job → IsFit job.buf job.row
 load_fits s job is = record {

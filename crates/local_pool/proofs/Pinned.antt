@@ -26,12 +26,12 @@ use Rattle.pin_core.specs.StateOf.{state_of}
 use Rattle.pin_core.specs.Standing.{StandsFor, Enters, slots_home}
 use Rattle.pin_core.specs.Returning.{EntersWhere}
 use Rattle.pin_core.specs.Refusing.{MayEnter, refusal_of}
-use Rattle.pin_core.specs.PinTurns.{CanPin, LacksRoomFor}
-use Rattle.pin_core.specs.PinTurns.{IsContent as HasContent}
+use Rattle.pin_core.specs.PinTurns.{CanPin, LacksRoomFor, IsContent as HasContent}
 use Rattle.pin_core.specs.Turns.{LacksRoom, IsStarted, IsWriting}
 use Rattle.local_pool.specs.declared.owned.Owned.{Owned}
-use Rattle.local_pool.specs.declared.tally.Tally.{Tally}
-use Rattle.local_pool.specs.Told.{silence, held_of}
+use Rattle.pin_core.specs.declared.tally.Tally.{Tally}
+use Rattle.local_pool.specs.Told.{held_of}
+use Rattle.pin_core.specs.Tallies.{silence}
 use Rattle.local_pool.specs.Making.{Goes, Makes}
 use Rattle.local_pool.specs.Needing.{EntersNeeded}
 use Rattle.local_pool.specs.Standing.{Stands, is_moving}

@@ -8,8 +8,7 @@ use Rattle.pool_model.specs.Parts.{pins_at}
 use Rattle.pool_model.specs.Owning.{IsClientOf}
 use Rattle.pool_model.specs.Sums.{HasRoom, length_of}
 use Rattle.store_api.specs.Tokens.{ClientToken, PageToken, LoanToken}
-use Rattle.store_api.specs.Holdings.{Holdings, LivePage, LiveLoan, or_else, page_of, loan_of, page_len, loan_len}
-use Rattle.store_api.specs.Holdings.{no_page as no_live_page, no_loan}
+use Rattle.store_api.specs.Holdings.{Holdings, LivePage, LiveLoan, or_else, page_of, loan_of, page_len, loan_len, no_page as no_live_page, no_loan}
 use Rattle.store_api.specs.Conditions.{IsPage as HoldsPage, IsLoan as HoldsLoan}
 use Rattle.store_api.specs.Changes.{after_unpin_once, with_loan, charged, released}
 use Rattle.store_api.specs.Entries.{by}
@@ -24,7 +23,7 @@ use Rattle.pin_core.specs.Needs.{IsPage}
 use Rattle.pin_core.specs.Pins.{IsPinned, HasPinToSpare, HasRoomFor}
 use Rattle.pin_core.specs.Lending.{IsLoan, CanMoveTo, move_entry}
 use Rattle.local_pool.specs.declared.owned.Owned.{Owned}
-use Rattle.local_pool.specs.declared.tally.Tally.{Tally}
+use Rattle.pin_core.specs.declared.tally.Tally.{Tally}
 use Rattle.local_pool.specs.Told.{held_of}
 use Rattle.local_pool.specs.Making.{Goes}
 use Rattle.local_pool.specs.Standing.{Stands}

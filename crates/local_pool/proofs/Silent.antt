@@ -9,7 +9,8 @@ use Rattle.pin_core.specs.StateOf.{state_of}
 use Rattle.pin_core.specs.Standing.{slots_home}
 use Rattle.pin_core.specs.Runs.{AllTell}
 use Rattle.local_pool.specs.declared.owned.Owned.{Owned}
-use Rattle.local_pool.specs.Told.{silence, outset_of, held_of}
+use Rattle.local_pool.specs.Told.{outset_of, held_of}
+use Rattle.pin_core.specs.Tallies.{silence}
 
 module _ {D : Type 0} (slot : Ghosts D) where
   abbrev unless : Bool → ℕ

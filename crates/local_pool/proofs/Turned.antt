@@ -31,9 +31,10 @@ use Rattle.pin_core.specs.Standing.{StandsFor, Enters, slots_home}
 use Rattle.pin_core.specs.Jobs.{IsWriteJob}
 use Rattle.pin_core.specs.Turns.{LacksRoom, IsStarted, IsWriting, start_entry}
 use Rattle.local_pool.specs.declared.owned.Owned.{Owned}
-use Rattle.local_pool.specs.declared.tally.Tally.{Tally}
-use Rattle.local_pool.specs.Told.{silence, held_of}
-use Rattle.local_pool.specs.Counting.{Counted, SumsHold, all_failures, blocks_of, stored_by, tally_in, tally_with}
+use Rattle.pin_core.specs.declared.tally.Tally.{Tally}
+use Rattle.local_pool.specs.Told.{held_of}
+use Rattle.pin_core.specs.Tallies.{silence, Counted, all_failures, blocks_of, stored_by, tally_in, tally_with}
+use Rattle.local_pool.specs.Counting.{SumsHold}
 use Rattle.local_pool.specs.Making.{Goes, Makes}
 use Rattle.local_pool.specs.Needing.{EntersNeeded}
 use Rattle.local_pool.specs.Standing.{Stands, IsStill, is_moving}
@@ -43,7 +44,7 @@ use Rattle.local_pool.proofs.Knowing.{Knows, knows, sound, owned}
 use Rattle.local_pool.proofs.Needed.{needs_all, needed_write}
 use Rattle.local_pool.proofs.Still.{out_still, written_still, unwritten_still}
 use Rattle.local_pool.proofs.Waiting.{IsDirtyOf, newest_is, out, written_left, unwritten_left}
-use Rattle.local_pool.proofs.Counting.{tally_same}
+use Rattle.pin_core.proofs.Tallied.{tally_same}
 
 end_holds : (p : ℕ) (end : Event) (h : Holdings) → IsEnd p end → after_events h (StartWrite p ∷ end ∷ []) ≡ h
 end_holds p (WriteOk q) h is = refl

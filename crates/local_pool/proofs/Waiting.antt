@@ -16,7 +16,7 @@ use Rattle.pool_model.proofs.Keeping.{first_kept}
 use Rattle.pin_core.specs.StateOf.{state_of}
 use Rattle.pin_core.specs.Turns.{failure_of}
 use Rattle.local_pool.specs.declared.owned.Owned.{Owned}
-use Rattle.local_pool.specs.declared.tally.Tally.{Tally}
+use Rattle.pin_core.specs.declared.tally.Tally.{Tally}
 use Rattle.local_pool.specs.Standing.{Stands}
 use Rattle.local_pool.specs.Turning.{writes_left}
 

@@ -1,7 +1,6 @@
 -- A page comes back from its write.
 use Rattle.std.proofs.Common.{◌≡◌, ℕ, ◌+◌, ◌*◌, ◌≤◌, List, [], ◌∷◌, ◌++◌, map, length, Bool, true, false, if◌then◌else◌, refl, sym, ap, ◌∙◌, subst, arith, inl}
 use Rattle.std.specs.List.{sum_by}
-use Rattle.std.proofs.lemmas.List.Sums.{sum_by-cons}
 use Rattle.outside.specs.declared.slot.Slot.{Ghosts}
 use Rattle.scratch_dev.specs.Rows.{faults_of, CountsStores}
 use Rattle.pool_model.specs.declared.entry.Entry.{Entry}
@@ -22,22 +21,15 @@ use Rattle.pin_core.specs.Runs.{CountsFaults, IsFit, after_stores}
 use Rattle.pin_core.specs.Jobs.{IsWriteJob}
 use Rattle.pin_core.specs.Returning.{EntersWhere, IsWritten, write_ends, write_entry}
 use Rattle.local_pool.specs.declared.owned.Owned.{Owned}
-use Rattle.local_pool.specs.Told.{silence}
-use Rattle.local_pool.specs.Counting.{Counted, all_failures, tally_by, tally_with}
+use Rattle.pin_core.specs.Tallies.{Counted, all_failures, tally_by, tally_with}
 use Rattle.local_pool.specs.Turning.{IsEnd, Ends, CanWrite, stored_with}
-use Rattle.local_pool.proofs.Counting.{tally_same, came_back}
+use Rattle.pin_core.proofs.Tallied.{tally_same, came_back, same_silence}
 
 pub job_fits : {D : Type 0} (s : State) (job : WriteJob D) → IsWriteJob s job → IsFit job.buf job.row
 job_fits s job is = record {
   whole = record { blocks = refl; block_len = refl; whole = is.buffer.whole ∙ ap (λ (n : ℕ). n * s.block_len) (sym is.buffer.blocks) ∙ ap (λ (len : ℕ). job.buf.blocks * len) (sym is.buffer.block_len) };
   slots = is.slots ∙ sym is.buffer.blocks;
 }
-
-weigh_alike : {D : Type 0} (tells : D → Bool) (xs : List D) → sum_by (λ d. if tells d then 0 else 1) xs ≡ sum_by (λ (t : Bool). if t then 0 else 1) (map tells xs)
-weigh_alike tells [] = refl
-weigh_alike tells (d ∷ xs) =
-    sum_by-cons (λ e. if tells e then 0 else 1) d xs ∙ ap (λ (n : ℕ). (if tells d then 0 else 1) + n) (weigh_alike tells xs)
-    ∙ sym (sum_by-cons (λ (t : Bool). if t then 0 else 1) (tells d) (map tells xs))
 
 -- a page that flies has slots, so its own unpins tell its content, whatever was there before
 told_here : {D : Type 0} (slot : Ghosts D) (v : Parts D) (job : WriteJob D) (h : List Entry) → IsWriteJob (state_of v) job → (o : Opening) → StandsFor slot o h v → content_of o h job.id.name ≡ content_from job.id.name [] h
@@ -48,10 +40,6 @@ told_here slot v job h is o stood =
     it.left (it.rests (λ count pinned. let never : Flying job.who ≡ Pinned count = sym is.flies ∙ pinned in cc)) []
 
 module _ {D : Type 0} (slot : Ghosts D) where
-  -- rows that tell alike are alike in how many tell
-  pub same_silence : (a b : List D) → map slot.tells a ≡ map slot.tells b → sum_by (silence slot) a ≡ sum_by (silence slot) b
-  same_silence a b same = weigh_alike slot.tells a ∙ ap (sum_by (λ (t : Bool). if t then 0 else 1)) same ∙ sym (weigh_alike slot.tells b)
-
   module _ (old new : Owned D) (job ran : WriteJob D) (can : CanWrite slot job old) (rest : ran ≡ after_stores ran.row ran.failed job) where
     name_is : ran.id.name ≡ job.id.name
     name_is = ap (λ (j : WriteJob D). j.id.name) rest
@@ -111,9 +99,9 @@ module _ {D : Type 0} (slot : Ghosts D) where
         → Counted (all_failures (by old.session (write_ends b ran.id.name before now ∷ []))) (stored_with (length job.row) (write_ends b ran.id.name before now))
         (tally_with slot old.pool job.row) (tally_by slot (λ measure. slots_home measure old.pool + sum_by measure ran.row))
     row_counts true before now tells len fall faults stores =
-        came_back slot (λ measure. slots_home measure old.pool) job.row ran.row 1 0 fall faults stores (same_silence ran.row job.row tells) len
+        came_back slot (λ measure. slots_home measure old.pool) job.row ran.row 1 0 fall faults stores (same_silence slot ran.row job.row tells) len
     row_counts false before now tells len fall faults stores =
-        came_back slot (λ measure. slots_home measure old.pool) job.row ran.row 0 (length job.row) fall faults stores (same_silence ran.row job.row tells) len
+        came_back slot (λ measure. slots_home measure old.pool) job.row ran.row 0 (length job.row) fall faults stores (same_silence slot ran.row job.row tells) len
 
     -- without a failure the sums stand nowhere
     any_sums : (before now : ℕ) → ran.failed ≡ false → write_entry ran before now ≡ write_entry ran 0 1

@@ -1,65 +1,10 @@
--- What the slots of a pool count together, and what entries make of that.
-use Rattle.std.specs.Prelude.{◌≡◌, ℕ, ◌+◌, ◌≤◌, List, Option, Some, None, true, ⊤}
-use Rattle.std.specs.List.{sum_by}
-use Rattle.outside.specs.declared.slot.Slot.{Ghosts}
-use Rattle.scratch_dev.specs.Rows.{stores_at, uncounted}
-use Rattle.pool_model.specs.declared.event.Event.{Event}
-use Rattle.pool_model.specs.declared.event.Event.TheVariants.{WriteOk}
+-- What a trail makes of the sums over the slots of its pool.
+use Rattle.std.specs.Prelude.{List, Option, Some, None, ⊤}
 use Rattle.pool_model.specs.declared.entry.Entry.{Entry}
-use Rattle.pool_model.specs.LookingBack.{Made, maker_of}
-use Rattle.pool_model.specs.Failures.{failures_in}
-use Rattle.pin_core.specs.declared.parts.Parts.{Parts}
-use Rattle.pin_core.specs.Standing.{slots_home}
-use Rattle.pin_core.specs.Runs.{stuck}
-use Rattle.local_pool.specs.declared.tally.Tally.{Tally}
-use Rattle.local_pool.specs.Told.{silence}
-
--- how many writes and reads failed
-abbrev pub all_failures : List Entry → ℕ
-all_failures h = failures_in (λ made. true) h
-
--- the blocks of a page, as it was made
-abbrev pub blocks_of : Option Made → ℕ
-blocks_of None = 0
-blocks_of (Some made) = made.blocks
-
--- how many blocks an event stored: those of the page whose write ended well
-abbrev pub stored_by : List Entry → Event → ℕ
-stored_by h (WriteOk p) = blocks_of (maker_of h p)
-stored_by h _ = 0
-
--- the blocks of the pages of all writes that ended well
-abbrev pub written_blocks : List Entry → ℕ
-written_blocks h = sum_by (λ e. stored_by h e.event) h
-
--- the faults never fell, and rose with each failure where no count of them stands at its last value; where all slots
--- count their stores still, they stored so many blocks more; a count that stood at its last value does still; and as
--- many slots are there, of which as many tell what they hold
-pub record Counted (failures blocks : ℕ) (before now : Tally) : Type 0 where
-  pub never_fall : before.faults ≤ now.faults
-  pub failed : now.stuck ≡ 0 → before.faults + failures ≤ now.faults
-  pub stays : before.stuck ≤ now.stuck
-  pub stores : now.uncounted ≡ 0 → before.stores + blocks ≤ now.stores
-  pub short : before.uncounted ≤ now.uncounted
-  pub silent : now.silent ≡ before.silent
-  pub slots : now.slots ≡ before.slots
+use Rattle.pin_core.specs.declared.tally.Tally.{Tally}
+use Rattle.pin_core.specs.Tallies.{Counted, all_failures, written_blocks}
 
 -- where it is named what the slots counted when the pool opened, they count so now, by what its trail tells
 abbrev pub SumsHold : Option Tally → List Entry → Tally → Type 0
 SumsHold None trail now = ⊤
 SumsHold (Some first) trail now = Counted (all_failures trail) (written_blocks trail) first now
-
-module _ {D : Type 0} (slot : Ghosts D) where
-  -- what slots count together, over which measures are summed so
-  abbrev pub tally_by : ((D → ℕ) → ℕ) → Tally
-  tally_by sum = record { faults = sum slot.faults; stuck = sum (stuck slot); stores = sum (stores_at slot); uncounted = sum (uncounted slot); silent = sum (silence slot); slots = sum (λ d. 1) }
-
-  -- these slots; those of a pool that are in no job; and the same with those of a job, as it took them
-  abbrev pub tally_of : List D → Tally
-  tally_of slots = tally_by (λ measure. sum_by measure slots)
-
-  abbrev pub tally_in : Parts D → Tally
-  tally_in v = tally_by (λ measure. slots_home measure v)
-
-  abbrev pub tally_with : Parts D → List D → Tally
-  tally_with v row = tally_by (λ measure. slots_home measure v + sum_by measure row)

@@ -16,7 +16,7 @@ use Rattle.pin_core.specs.Standing.{StandsFor, AreHeld}
 use Rattle.pin_core.specs.Jobs.{IsReadJob}
 use Rattle.pin_core.specs.Runs.{AllTell}
 use Rattle.local_pool.specs.declared.owned.Owned.{Owned}
-use Rattle.local_pool.specs.Counting.{Counted, all_failures, tally_in, tally_with}
+use Rattle.pin_core.specs.Tallies.{Counted, all_failures, tally_in, tally_with}
 
 module _ {D : Type 0} (slot : Ghosts D) where
   -- the job is to load a page of the owner, from slots that hold what it left there last

@@ -8,9 +8,10 @@ use Rattle.own_entries.specs.AboveLaws.{AllBy}
 use Rattle.pin_core.specs.StateOf.{state_of}
 use Rattle.pin_core.specs.Standing.{StandsFor}
 use Rattle.local_pool.specs.declared.owned.Owned.{Owned}
-use Rattle.local_pool.specs.declared.tally.Tally.{Tally}
+use Rattle.pin_core.specs.declared.tally.Tally.{Tally}
 use Rattle.local_pool.specs.Told.{held_of}
-use Rattle.local_pool.specs.Counting.{SumsHold, tally_in}
+use Rattle.local_pool.specs.Counting.{SumsHold}
+use Rattle.pin_core.specs.Tallies.{tally_in}
 
 -- the page is in a job
 abbrev pub is_moving : Place → Bool

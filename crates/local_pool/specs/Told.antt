@@ -1,5 +1,5 @@
 -- What a pool of one owner holds, and what it shows.
-use Rattle.std.specs.Prelude.{ℕ, ◌==◌, leb, if◌then◌else◌, Bool, Some, filter, length}
+use Rattle.std.specs.Prelude.{◌==◌, leb, if◌then◌else◌, Bool, Some, filter, length}
 use Rattle.outside.specs.declared.slot.Slot.{Ghosts}
 use Rattle.pool_model.specs.State.{State}
 use Rattle.pool_model.specs.Sums.{memory}
@@ -10,16 +10,13 @@ use Rattle.own_entries.specs.OwnHoldings.{Outset, holdings_of}
 use Rattle.pin_core.specs.declared.parts.Parts.{Parts}
 use Rattle.pin_core.specs.StateOf.{state_of}
 use Rattle.pin_core.specs.Standing.{slots_home}
+use Rattle.pin_core.specs.Tallies.{silence}
 use Rattle.local_pool.specs.declared.owned.Owned.{Owned}
 
 module _ {D : Type 0} (slot : Ghosts D) where
-  -- 1 for a slot that doesn't tell what it holds
-  abbrev pub silence : D → ℕ
-  silence d = if slot.tells d then 0 else 1
-
   -- each slot tells what it holds
   abbrev pub all_tell : Parts D → Bool
-  all_tell v = slots_home silence v == 0
+  all_tell v = slots_home (silence slot) v == 0
 
   -- its query is the root's one child, so all memory is above it
   abbrev pub outset_of : Parts D → Outset

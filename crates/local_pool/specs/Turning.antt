@@ -22,7 +22,7 @@ use Rattle.pin_core.specs.Jobs.{IsWriteJob}
 use Rattle.pin_core.specs.Turns.{failure_of, LacksRoom}
 use Rattle.local_pool.specs.declared.owned.Owned.{Owned}
 use Rattle.local_pool.specs.Told.{held_of}
-use Rattle.local_pool.specs.Counting.{Counted, all_failures, tally_in, tally_with}
+use Rattle.pin_core.specs.Tallies.{Counted, all_failures, tally_in, tally_with}
 use Rattle.local_pool.specs.Making.{Makes}
 use Rattle.local_pool.specs.Needing.{EntersNeeded}
 use Rattle.local_pool.specs.declared.turning.Turn.{Turn}

@@ -7,7 +7,8 @@ ghost use Rattle.pin_core.specs.Standing.{StandsFor, slots_home};
 ghost use Rattle.pin_core.specs.Opening.{spare_of};
 ghost use Rattle.store_api.specs.Entries.{by};
 ghost use Rattle.local_pool.specs.Told.{held_of};
-ghost use Rattle.local_pool.specs.Counting.{SumsHold, tally_in, tally_of};
+ghost use Rattle.local_pool.specs.Counting.{SumsHold};
+ghost use Rattle.pin_core.specs.Tallies.{tally_in, tally_of};
 ghost use Rattle.local_pool.specs.Beginning.{Begins, IsBegun, IsLeastRefusal, LacksLeast, first_events};
 
 use crate::entering::enter;

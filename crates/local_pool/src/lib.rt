@@ -25,5 +25,5 @@ mod writing;
 
 pub use local::LocalPool;
 pub use owned::{Alone, Owned};
-pub use tally::{OpenedWith, Tally};
+pub use tally::OpenedWith;
 pub use turning::Turn;

@@ -7,7 +7,8 @@ ghost use Rattle.pin_core.specs.Standing.{slots_home};
 ghost use Rattle.own_entries.specs.ClientLaws.{IsWholeIdle};
 ghost use Rattle.local_pool.specs.Told.{held_of};
 ghost use Rattle.local_pool.specs.Agreeing.{AgreesWith};
-ghost use Rattle.local_pool.specs.Counting.{SumsHold, tally_of};
+ghost use Rattle.local_pool.specs.Counting.{SumsHold};
+ghost use Rattle.pin_core.specs.Tallies.{tally_of};
 ghost use Rattle.local_pool.specs.Beginning.{Begins, IsLeastRefusal, LacksLeast};
 
 use crate::owned::Alone;

@@ -2,7 +2,7 @@
 ghost use Rattle.std.specs.Prelude.{◌≡◌, ◌≤◌, Some, IfOk, vec_len};
 ghost use Rattle.store_api.specs.Conditions.{IsLiveClient};
 ghost use Rattle.store_api.specs.Alike.{AlikeButClients};
-ghost use Rattle.local_pool.specs.Counting.{Counted, tally_of};
+ghost use Rattle.pin_core.specs.Tallies.{Counted, tally_of};
 ghost use Rattle.tuple_stream.specs.PageRows.{IsOneRow};
 ghost use Rattle.tuple_stream.specs.Places.{IsWithin};
 ghost use Rattle.tuple_stream.specs.Streams.{HasPageRoom, IsShaped};

@@ -9,9 +9,9 @@ use Rattle.pin_core.specs.Sessions.{query_of}
 use Rattle.pin_core.specs.Standing.{StandsFor, slots_home}
 use Rattle.pin_core.specs.Opening.{spare_of}
 use Rattle.local_pool.specs.declared.owned.Owned.{Owned}
-use Rattle.local_pool.specs.Counting.{tally_in}
+use Rattle.pin_core.specs.Tallies.{tally_in}
 use Rattle.local_pool.specs.Beginning.{first_events}
-use Rattle.local_pool.proofs.Counting.{tally_same}
+use Rattle.pin_core.proofs.Tallied.{tally_same}
 use Rattle.local_pool.proofs.Begun.{opening_of, is_opening, not_full, lacks, cause_of, none_left, stands_first, counted_alike, begun, first_query, sits_first}
 use Rattle.local_pool.proofs.beginning.begin.Goals as goal
 

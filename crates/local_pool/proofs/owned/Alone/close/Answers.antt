@@ -3,8 +3,9 @@ use Rattle.std.specs.List.{sum_by}
 use Rattle.pin_core.specs.Standing.{slots_home}
 use Rattle.local_pool.specs.declared.owned.Owned.{Owned}
 use Rattle.local_pool.specs.Told.{held_of}
-use Rattle.local_pool.specs.Counting.{SumsHold, tally_in, tally_of}
-use Rattle.local_pool.proofs.Counting.{tally_same}
+use Rattle.local_pool.specs.Counting.{SumsHold}
+use Rattle.pin_core.specs.Tallies.{tally_in, tally_of}
+use Rattle.pin_core.proofs.Tallied.{tally_same}
 use Rattle.local_pool.proofs.Knowing.{knows}
 use Rattle.local_pool.proofs.Ended.{no_child, none_left}
 use Rattle.local_pool.proofs.owned.Alone.close.Goals as goal

@@ -2,8 +2,8 @@ use Rattle.std.proofs.Common.{ℕ, sym, subst}
 use Rattle.std.specs.List.{sum_by}
 use Rattle.pin_core.specs.Setup.{IsOpeningOf}
 use Rattle.pin_core.specs.Standing.{slots_home}
-use Rattle.local_pool.specs.Counting.{tally_in, tally_of}
-use Rattle.local_pool.proofs.Counting.{tally_same}
+use Rattle.pin_core.specs.Tallies.{tally_in, tally_of}
+use Rattle.pin_core.proofs.Tallied.{tally_same}
 use Rattle.local_pool.proofs.Begun.{begins, counted_alike}
 use Rattle.local_pool.proofs.owned.Alone.open.Goals as goal
 

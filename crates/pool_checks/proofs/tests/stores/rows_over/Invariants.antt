@@ -1,5 +1,5 @@
 use Rattle.std.specs.Prelude.{Some}
-use Rattle.local_pool.specs.Counting.{tally_of}
+use Rattle.pin_core.specs.Tallies.{tally_of}
 use Rattle.pool_checks.proofs.tests.stores.rows_over.Given as goal
 
 abbrev pub ghosts-slots_after : goal.ghosts-slots_after
