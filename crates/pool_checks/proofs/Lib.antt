@@ -1,5 +1,4 @@
 pub mod Checked
 pub mod CheckedClients
 pub mod CheckedIdle
-pub mod Followed
 pub mod CheckedOwner

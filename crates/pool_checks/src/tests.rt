@@ -1,6 +1,5 @@
 //! A pool over slots in memory: worked rows, and mixed calls beside a plain pool.
 
-mod evictions;
 mod flights;
 mod limits;
 mod loans;
@@ -8,10 +7,6 @@ mod mixed;
 mod moves;
 mod owner;
 mod owner_rows;
-mod pins;
-mod reads;
-mod refusals;
-mod reservations;
 mod scripts;
 mod steps;
 mod stores;

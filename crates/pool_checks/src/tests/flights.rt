@@ -27,6 +27,8 @@ const READ: usize = 23;
 
 const UNREAD: usize = 24;
 
+const READY: usize = 25;
+
 /// What a call started.
 pub enum Started {
     Nothing,
@@ -94,21 +96,26 @@ pub fn make_room(rt: &impl Abort, pool: &mut Pool, world: &mut World, t: u32) ->
     let turn = steps::room_turn(rt, pool, 0, &c, want);
     c.into_tracker();
     match turn {
-        RoomTurn::Ready => assert_eq!(rt; wanted, Answer::Ready),
+        RoomTurn::Ready => agree(rt, world, wanted, Answer::Ready, READY),
         RoomTurn::Refused { entry } => {
-            assert_eq!(rt; wanted, Answer::Refused(entry));
-            world.tally(REFUSED);
+            agree(rt, world, wanted, Answer::Refused(entry), REFUSED);
         }
-        RoomTurn::Wait => {
-            assert_eq!(rt; wanted, Answer::Wait);
-            world.tally(WAITS);
-        }
-        RoomTurn::Write(job) => {
-            assert_eq!(rt; wanted, Answer::Write(job.id.name));
-            return flies(world, job);
-        }
+        RoomTurn::Wait => agree(rt, world, wanted, Answer::Wait, WAITS),
+        RoomTurn::Write(job) => return writes(rt, world, wanted, job),
     }
     Started::Nothing
+}
+
+// The pool answers as the plain pool does.
+fn agree(rt: &impl Abort, world: &mut World, wanted: Answer, found: Answer, kind: usize) {
+    assert_eq!(rt; found, wanted);
+    world.tally(kind);
+}
+
+// A write starts, of the page that the plain pool writes.
+fn writes(rt: &impl Abort, world: &mut World, wanted: Answer, job: WriteJob<MemSlot>) -> Started {
+    assert_eq!(rt; Answer::Write(job.id.name), wanted);
+    flies(world, job)
 }
 
 // What a pin of a page that is neither pinned nor loading is to do next.
@@ -131,29 +138,20 @@ pub fn pin(rt: &impl Abort, pool: &mut Pool, world: &mut World, name: u64, leaf:
     p.into_name();
     match turn {
         PinTurn::Refused { entry } => {
-            assert_eq!(rt; wanted, Answer::Refused(entry));
-            world.tally(REFUSED);
+            agree(rt, world, wanted, Answer::Refused(entry), REFUSED);
         }
-        PinTurn::Wait => {
-            assert_eq!(rt; wanted, Answer::Wait);
-            world.tally(WAITS);
-        }
+        PinTurn::Wait => agree(rt, world, wanted, Answer::Wait, WAITS),
         PinTurn::Here(buf) => {
-            assert_eq!(rt;
-                (wanted, leaf.place == Place::Evicted),
-                (Answer::Ready, false)
-            );
+            assert!(rt; leaf.place != Place::Evicted);
+            agree(rt, world, wanted, Answer::Ready, HERE);
             world.unqueue(name);
             world.count(1);
-            world.tally(HERE);
             shows(rt, world, name, &leaf, buf);
         }
-        PinTurn::Write(job) => {
-            assert_eq!(rt; wanted, Answer::Write(job.id.name));
-            return flies(world, job);
-        }
+        PinTurn::Write(job) => return writes(rt, world, wanted, job),
         PinTurn::Load(job) => {
-            assert_eq!(rt; (wanted, leaf.place), (Answer::Ready, Place::Evicted));
+            assert!(rt; leaf.place == Place::Evicted);
+            agree(rt, world, wanted, Answer::Ready, READY);
             world.evict(leaf.blocks);
             world.put(name, Place::Loading);
             world.count(1);

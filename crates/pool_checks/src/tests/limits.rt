@@ -1,10 +1,9 @@
-//! Where slots, trackers or names are spent.
+//! Where slots or trackers are spent, and a pool that closes.
 
 use super::steps::{self, Pool};
 use crate::is_pinned;
 use block_arena::Buf;
 use reservation_tree::PoolErr;
-use std::alloc::Global;
 use std::process::Abort;
 use store_api::{Client, Page};
 
@@ -72,25 +71,14 @@ fn a_session_has_16_clients(rt: HostRuntime) {
     steps::client(&rt, &mut pool, s, 0).into_tracker();
 }
 
-// A page of two blocks can't be made, for want of a name.
-fn nameless(rt: &impl Abort, alloc: Global, pool: &mut Pool, c: &Client) {
-    match steps::create_now(rt, alloc, pool, c, 2) {
-        Err((shell, _slots, refusal)) => {
-            assert_eq!(rt; (shell.room(), refusal), (2, PoolErr::NamesSpent));
-        }
-        Ok(_) => panic!(rt; "the names are spent"),
-    }
-}
-
 #[test]
-fn the_last_number_is_no_page_s_name(rt: HostRuntime) {
-    let slots = steps::slots(&rt, rt.alloc(), 4, &[]);
-    let mut pool = steps::open(&rt, rt.alloc(), 4, u64::MAX - 1, slots);
-    let s = steps::session(&rt, &mut pool, 4);
-    let c = steps::client(&rt, &mut pool, s, 256);
-    let (page, _buf) = steps::create(&rt, rt.alloc(), &mut pool, &c, 1);
-    assert_eq!(rt; page.into_name(), u64::MAX - 1);
-    nameless(&rt, rt.alloc(), &mut pool, &c);
-    steps::assert_charge(&rt, &pool, &c, 64);
-    c.into_tracker();
+fn a_pool_that_closes_gives_all_its_slots_back(rt: HostRuntime) {
+    let slots = steps::slots(&rt, rt.alloc(), 5, &[]);
+    let mut pool = steps::open(&rt, rt.alloc(), 4, 0, slots);
+    let first = steps::session(&rt, &mut pool, 3);
+    let second = steps::session(&rt, &mut pool, 1);
+    assert_eq!(rt; pool.spare(), 1);
+    steps::end_session(&rt, &mut pool, first);
+    steps::end_session(&rt, &mut pool, second);
+    assert_eq!(rt; steps::close(&rt, pool), 5);
 }

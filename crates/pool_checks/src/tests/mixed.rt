@@ -3,9 +3,11 @@
 use super::flights::{self, Started};
 use super::moves;
 use super::steps::{self, Pool};
-use super::world::{World, bytes_of};
-use page_table::PageId;
-use reservation_tree::TrackerId;
+use super::world::{Leaf, World, bytes_of};
+use outside::MemSlot;
+use page_table::{PageId, PageTable};
+use pin_core::Kept;
+use reservation_tree::{TrackerId, Tree};
 use std::alloc::Global;
 use std::process::Abort;
 
@@ -15,21 +17,35 @@ const FAILS: [u64; 12] = [3, 4, 9, 14, 15, 16, 25, 31, 32, 44, 58, 71];
 // The pool has what the plain pool has.
 fn compare(rt: &impl Abort, pool: &Pool, world: &World) {
     let parts = pool.parts();
-    assert_eq!(rt; parts.entries, world.entries);
-    assert_eq!(rt; bytes_of(parts.arena.free()), world.free());
+    assert_eq!(rt;
+        (parts.entries, bytes_of(parts.arena.free())),
+        (world.entries, world.free())
+    );
     for (t, member) in world.clients.iter() {
-        let client = TrackerId::of(*t);
-        assert!(rt; parts.tree.is_live(client));
-        assert_eq!(rt; parts.tree.reservation(client), member.reservation);
-        assert_eq!(rt; parts.tree.used(client), world.charge(*t));
+        let charge = world.charge(*t);
+        compare_client(rt, &parts.tree, *t, (member.reservation, charge));
     }
     for (name, leaf) in world.pages.iter() {
-        let id = PageId {
-            name: *name,
-            key: leaf.key,
-        };
-        let place = parts.pages.get(id).map(|entry| entry.place);
-        assert_eq!(rt; place, Some(leaf.place), "page {name}");
+        compare_page(rt, &parts.pages, *name, leaf);
+    }
+}
+
+// The client has reserved so much, and is charged so much.
+fn compare_client(rt: &impl Abort, tree: &Tree, t: u32, bytes: (u64, u64)) {
+    let client = TrackerId::of(t);
+    assert!(rt; tree.is_live(client));
+    assert_eq!(rt; (tree.reservation(client), tree.used(client)), bytes);
+}
+
+// The page is where the plain pool's page is.
+fn compare_page(rt: &impl Abort, pages: &PageTable<Kept<MemSlot>>, name: u64, leaf: &Leaf) {
+    let id = PageId {
+        name,
+        key: leaf.key,
+    };
+    match pages.get(id) {
+        Some(entry) => assert_eq!(rt; entry.place, leaf.place, "page {name}"),
+        None => panic!(rt; "page {name} is live"),
     }
 }
 

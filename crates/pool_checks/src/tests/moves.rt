@@ -228,22 +228,21 @@ pub fn unpin(rt: &impl Abort, pool: &mut Pool, world: &mut World, name: u64, lea
     };
     let byte = world.byte();
     steps::put(rt, &mut buf, byte);
-    let lacks = !leaf.has_slots && world.free_slots(leaf.session) < leaf.blocks;
     let p = page(name, &leaf);
     let left = steps::unpin(rt, pool, &p, buf);
     p.into_name();
-    match left {
-        Ok(()) => {
-            assert!(rt; !lacks);
-            world.leave(name, byte).expect(rt, "memory");
-        }
-        Err((buf, _refusal)) => {
-            assert!(rt; lacks);
-            world.hold(name, buf).expect(rt, "memory");
-        }
-    }
+    assert_eq!(rt; left.is_err(), lacks_slots(world, &leaf));
     world.count(1);
+    match left {
+        Ok(()) => world.leave(name, byte).expect(rt, "memory"),
+        Err((buf, _refusal)) => world.hold(name, buf).expect(rt, "memory"),
+    }
     true
+}
+
+// A page that has no slots yet can't have them.
+fn lacks_slots(world: &World, leaf: &Leaf) -> bool {
+    !leaf.has_slots && world.free_slots(leaf.session) < u64::from(leaf.blocks)
 }
 
 pub fn pin_again(

@@ -1,11 +1,12 @@
 //! Worked rows over the pool of one owner.
 
-use super::{owner, steps};
+use super::owner::{self, Own};
+use super::steps;
 use page_table::Place;
 use reservation_tree::PoolErr;
 use std::alloc::Global;
 use std::process::Abort;
-use store_api::{Client, Page};
+use store_api::{Client, Loan, Page};
 
 #[test]
 fn an_unpin_that_lacks_slots_is_refused_until_slots_are_free(rt: HostRuntime) {
@@ -30,7 +31,7 @@ fn an_unpin_that_lacks_slots_is_refused_until_slots_are_free(rt: HostRuntime) {
 }
 
 // Four clean pages of a client without reservation, and no free block.
-fn clean(rt: &impl Abort, alloc: Global, pool: &mut owner::Own, c: &Client) -> (Page, Page) {
+fn clean(rt: &impl Abort, alloc: Global, pool: &mut Own, c: &Client) -> (Page, Page) {
     let first = owner::left(rt, alloc, pool, c, 10);
     let second = owner::left(rt, alloc, pool, c, 11);
     owner::left(rt, alloc, pool, c, 12).into_name();
@@ -81,36 +82,45 @@ fn the_name_before_the_last_number_is_the_last_that_is_given(rt: HostRuntime) {
     c.into_tracker();
 }
 
+fn assert_charges(rt: &impl Abort, pool: &Own, a: &Client, b: &Client, bytes: (u64, u64)) {
+    assert_eq!(rt;
+        (owner::charge(rt, pool, a), owner::charge(rt, pool, b)),
+        bytes
+    );
+}
+
+// A page of the client's that became a loan, with a 7 in front.
+fn extracted(rt: &impl Abort, alloc: Global, pool: &mut Own, c: &Client) -> Loan {
+    let (page, mut buf) = owner::create(rt, alloc, pool, c).expect(rt, "a page");
+    steps::put(rt, &mut buf, 7);
+    owner::extract(rt, pool, page, buf)
+}
+
+// To its own client nothing is entered.
+fn kept(rt: &impl Abort, pool: &mut Own, loan: Loan, c: &Client) -> Loan {
+    let entries = owner::entries(pool);
+    let loan = owner::hand_over(rt, pool, loan, c);
+    assert_eq!(rt; owner::entries(pool), entries);
+    loan
+}
+
 #[test]
 fn a_loan_is_charged_to_whom_it_is_moved(rt: HostRuntime) {
     let slots = steps::slots(&rt, rt.alloc(), 0, &[]);
     let mut pool = owner::open(&rt, rt.alloc(), 4, 0, slots, 256);
     let a = owner::client(&rt, &mut pool, 128);
     let b = owner::client(&rt, &mut pool, 64);
-    let Ok((page, mut buf)) = owner::create(&rt, rt.alloc(), &mut pool, &a) else {
-        panic!(rt; "no page");
-    };
-    steps::put(&rt, &mut buf, 7);
-    let loan = owner::extract(&rt, &mut pool, page, buf);
-    let entries = owner::entries(&pool);
-    // To its own client nothing is entered.
-    let loan = owner::hand_over(&rt, &mut pool, loan, &a);
-    assert_eq!(rt; owner::entries(&pool), entries);
-    assert_eq!(rt;
-        (owner::charge(&rt, &pool, &a), owner::charge(&rt, &pool, &b)),
-        (64, 0)
-    );
+    let loan = extracted(&rt, rt.alloc(), &mut pool, &a);
+    let loan = kept(&rt, &mut pool, loan, &a);
+    assert_charges(&rt, &pool, &a, &b, (64, 0));
     let loan = owner::hand_over(&rt, &mut pool, loan, &b);
-    assert_eq!(rt;
-        (owner::charge(&rt, &pool, &a), owner::charge(&rt, &pool, &b)),
-        (0, 64)
-    );
+    assert_charges(&rt, &pool, &a, &b, (0, 64));
     assert_eq!(rt; steps::front(&rt, loan.buf()), 7);
     owner::free(&rt, &mut pool, loan);
-    assert_eq!(rt; owner::charge(&rt, &pool, &b), 0);
     let loan = owner::lend(&rt, rt.alloc(), &mut pool, &b);
     assert_eq!(rt; owner::shown(&rt, loan.buf()), 0);
     owner::free(&rt, &mut pool, loan);
+    assert_charges(&rt, &pool, &a, &b, (0, 0));
     a.into_tracker();
     b.into_tracker();
 }

@@ -3,8 +3,7 @@
 use crate::{
     are_beside, can_fill, can_move_to, can_pin, has_left, has_no_client, has_no_session, has_none,
     has_pin_to_spare, has_room, has_room_for, is_client, is_client_in, is_last_pin, is_loan,
-    is_page, is_pinned, is_pinned_with, is_read_job, is_seat, is_tracker, is_unpinned,
-    is_write_job, is_writer, length,
+    is_pinned, is_pinned_with, is_read_job, is_seat, is_unpinned, is_write_job, is_writer, length,
 };
 use block_arena::{Buf, Shell};
 use outside::{MemSlot, OpenGate};
@@ -69,14 +68,6 @@ pub fn session(rt: &impl Abort, pool: &mut Pool, quota: u32) -> u32 {
         Ok(s) => s,
         Err(_) => panic!(rt; "no session"),
     }
-}
-
-/// The limit of a session's query tracker.
-pub fn limit(rt: &impl Abort, pool: &Pool, s: u32) -> u64 {
-    assert!(rt; is_seat(pool, s));
-    let query = pool.tracker(s);
-    assert!(rt; is_tracker(pool, query));
-    pool.limit(query)
 }
 
 pub fn end_session(rt: &impl Abort, pool: &mut Pool, s: u32) {
@@ -257,12 +248,6 @@ pub fn create(
     }
 }
 
-/// The length of a page in bytes.
-pub fn page_len(rt: &impl Abort, pool: &Pool, p: &Page) -> u64 {
-    assert!(rt; is_page(pool, p));
-    pool.page_len(p)
-}
-
 /// A new page of so many blocks, left with this byte in front.
 pub fn left(
     rt: &impl Abort,
@@ -314,23 +299,6 @@ pub fn read(
     job.run(&OpenGate, 0);
     assert!(rt; is_read_job(pool, &job));
     pool.finish_read(since, job)
-}
-
-/// Pins a page of the session, after writes where its client has no room for it.
-pub fn pin(rt: &impl Abort, pool: &mut Pool, s: u32, p: &Page) -> Result<Buf, PoolErr> {
-    let since = ask(rt, pool, s);
-    for _ in 0..64 {
-        match pin_turn(rt, pool, s, since, p) {
-            PinTurn::Here(buf) => return Ok(buf),
-            PinTurn::Load(job) => return read(rt, pool, since, job),
-            PinTurn::Refused { entry } => return Err(PoolErr::WriteFault { entry }),
-            PinTurn::Write(job) => {
-                write(rt, pool, job);
-            }
-            PinTurn::Wait => panic!(rt; "a page flies"),
-        }
-    }
-    panic!(rt; "too many pages are written")
 }
 
 pub fn pin_again(rt: &impl Abort, pool: &mut Pool, p: &Page) {

@@ -51,7 +51,7 @@ pub struct World {
     pub failures: BTreeMap<u32, u64>,
     pub entries: u64,
     /// How often each kind of call was made, and each answer came.
-    pub tallies: [u32; 25],
+    pub tallies: [u32; 26],
 }
 
 impl World {
@@ -70,7 +70,7 @@ impl World {
             clean: Vec::new(alloc),
             failures: BTreeMap::new(alloc),
             entries: 6,
-            tallies: [0; 25],
+            tallies: [0; 26],
         }
     }
 
@@ -133,16 +133,20 @@ impl World {
 
     /// What is charged to a client: a pinned page for each of its pins.
     pub fn charge(&self, client: u32) -> u64 {
-        let mut bytes = 0u64;
+        let mut bytes = self.lent(client);
         for page in self.pages.values() {
-            if page.client == client {
-                bytes = bytes.saturating_add(bytes_of(page.blocks).saturating_mul(pins(page)));
-            }
+            let charged = bytes_of(page.blocks).saturating_mul(pins(page));
+            bytes = bytes.saturating_add(only_if(page.client == client, charged));
         }
+        bytes
+    }
+
+    // What its loans have.
+    fn lent(&self, client: u32) -> u64 {
+        let mut bytes = 0u64;
         for lent in self.loans.values() {
-            if lent.client == client {
-                bytes = bytes.saturating_add(lent.buf.len() as u64);
-            }
+            let len = lent.buf.len() as u64;
+            bytes = bytes.saturating_add(only_if(lent.client == client, len));
         }
         bytes
     }
@@ -151,9 +155,8 @@ impl World {
     fn unwritten(&self, client: u32) -> u64 {
         let mut bytes = 0u64;
         for page in self.pages.values() {
-            if page.client == client && matches!(page.place, Place::Dirty | Place::Flying(_)) {
-                bytes = bytes.saturating_add(bytes_of(page.blocks));
-            }
+            let kept = only_if(is_unwritten(page.place), bytes_of(page.blocks));
+            bytes = bytes.saturating_add(only_if(page.client == client, kept));
         }
         bytes
     }
@@ -171,26 +174,30 @@ impl World {
     /// The bytes that no page in memory and no loan has.
     pub fn free(&self) -> u64 {
         let mut used = 0u64;
-        for page in self.pages.values() {
-            if page.place != Place::Evicted {
-                used = used.saturating_add(bytes_of(page.blocks));
-            }
-        }
         for lent in self.loans.values() {
             used = used.saturating_add(lent.buf.len() as u64);
         }
-        bytes_of(self.blocks).saturating_sub(used)
+        let taken = used.saturating_add(self.in_memory());
+        bytes_of(self.blocks).saturating_sub(taken)
+    }
+
+    fn in_memory(&self) -> u64 {
+        let mut bytes = 0u64;
+        for page in self.pages.values() {
+            let len = bytes_of(page.blocks);
+            bytes = bytes.saturating_add(only_if(page.place != Place::Evicted, len));
+        }
+        bytes
     }
 
     /// The slots of a session's quota that no page of it has.
-    pub fn free_slots(&self, session: u32) -> u32 {
-        let mut used = 0u32;
+    pub fn free_slots(&self, session: u32) -> u64 {
+        let mut used = 0u64;
         for page in self.pages.values() {
-            if page.session == session && page.has_slots {
-                used = used.saturating_add(page.blocks);
-            }
+            let slots = only_if(page.has_slots, u64::from(page.blocks));
+            used = used.saturating_add(only_if(page.session == session, slots));
         }
-        self.quota.saturating_sub(used)
+        u64::from(self.quota).saturating_sub(used)
     }
 
     /// The newest dirty page of the client.
@@ -222,9 +229,7 @@ impl World {
     pub fn growth(&self, session: u32, bytes: u64) -> u64 {
         let mut given = bytes;
         for member in self.clients.values() {
-            if member.session == session {
-                given = given.saturating_add(member.reservation);
-            }
+            given = given.saturating_add(only_if(member.session == session, member.reservation));
         }
         given.saturating_sub(self.query(session))
     }
@@ -356,4 +361,15 @@ fn pins(page: &Leaf) -> u64 {
         Place::Loading => 1,
         _ => 0,
     }
+}
+
+fn only_if(is: bool, count: u64) -> u64 {
+    match is {
+        true => count,
+        false => 0,
+    }
+}
+
+fn is_unwritten(place: Place) -> bool {
+    matches!(place, Place::Dirty | Place::Flying(_))
 }
