@@ -1,5 +1,5 @@
 -- Pairs of stored rows, handed on one after the other.
-use Rattle.std.proofs.Common.{◌≡◌, ◌⊎◌, ◌∙◌, inl, inr, ℕ, ◌+◌, List, [], ◌∷◌, ◌++◌, map, refl, ap, ap₂, sym, subst, append-nil}
+use Rattle.std.proofs.Common.{◌≡◌, ◌⊎◌, ◌∙◌, inl, inr, ℕ, ◌+◌, Bool, true, false, List, [], ◌∷◌, ◌++◌, map, refl, ap, ap₂, sym, subst, append-nil}
 use Rattle.std.specs.List.{sum_by}
 use Rattle.std.proofs.lemmas.List.{map-append}
 use Rattle.std.proofs.lemmas.List.Sums.{sum_by-append}
@@ -9,6 +9,7 @@ use Rattle.row_reading.specs.Reading.{values_at}
 use Rattle.store_api.specs.declared.shapes.JoinShape.{JoinShape}
 use Rattle.join_op.specs.Chunks.{stored_pairs}
 use Rattle.join_op.specs.Handing.{Emitted, EmittedSome}
+use Rattle.join_op.specs.Holding.{pairs_with}
 use Rattle.join_op.specs.Pairs.{SameRows, pairs_of, partners}
 use Rattle.join_op.specs.Stored.{left_side, right_side, rows_in}
 use Rattle.join_op.proofs.Counts.{no_right, right_parts}
@@ -59,16 +60,34 @@ pairs_right shape ls xs ys count =
 pub none_right : (shape : JoinShape) (ls : List (List ℕ)) → stored_pairs shape ls [] ≡ []
 none_right shape ls = no_right shape (rows_in (left_side shape) ls)
 
--- where a right row stands behind others, or between others
-module _ (shape : JoinShape) (ls all xs : List (List ℕ)) (x : List ℕ) where
-  pub more_right : all ≡ xs ++ x ∷ [] → SameRows (stored_pairs shape ls xs ++ stored_pairs shape ls (x ∷ [])) (stored_pairs shape ls all)
-  more_right is count = sym (pairs_right shape ls xs (x ∷ []) count) ∙ sym (ap (λ (rs : List (List ℕ)). sum_by count (stored_pairs shape ls rs)) is)
+-- ---- the same of pairs of rows that are read with rows that are held
 
-  pub parts_right : (ys : List (List ℕ)) → all ≡ xs ++ x ∷ ys → SameRows (stored_pairs shape ls xs ++ (stored_pairs shape ls (x ∷ []) ++ stored_pairs shape ls ys)) (stored_pairs shape ls all)
-  parts_right ys is count =
-      let front : List (List Value) = stored_pairs shape ls xs in
-      sum_by-append count front (stored_pairs shape ls (x ∷ []) ++ stored_pairs shape ls ys)
-      ∙ ap (λ (n : ℕ). sum_by count front + n) (sym (pairs_right shape ls (x ∷ []) ys count))
-      ∙ sym (sum_by-append count front (stored_pairs shape ls (x ∷ ys)))
-      ∙ sym (pairs_right shape ls xs (x ∷ ys) count)
-      ∙ sym (ap (λ (rs : List (List ℕ)). sum_by count (stored_pairs shape ls rs)) is)
+pub with_reads : (b : Bool) (shape : JoinShape) (xs ys helds : List (List ℕ)) → SameRows (pairs_with b shape (xs ++ ys) helds) (pairs_with b shape xs helds ++ pairs_with b shape ys helds)
+with_reads true shape xs ys helds = pairs_right shape helds xs ys
+with_reads false shape xs ys helds = λ count. ap (sum_by count) (pairs_left shape xs ys helds)
+
+pub with_helds : (b : Bool) (shape : JoinShape) (reads xs ys : List (List ℕ)) → SameRows (pairs_with b shape reads (xs ++ ys)) (pairs_with b shape reads xs ++ pairs_with b shape reads ys)
+with_helds true shape reads xs ys = λ count. ap (sum_by count) (pairs_left shape xs ys reads)
+with_helds false shape reads xs ys = pairs_right shape reads xs ys
+
+pub none_held : (b : Bool) (shape : JoinShape) (reads : List (List ℕ)) → pairs_with b shape reads [] ≡ []
+none_held true shape reads = refl
+none_held false shape reads = none_right shape reads
+
+pub none_read : (b : Bool) (shape : JoinShape) (helds : List (List ℕ)) → pairs_with b shape [] helds ≡ []
+none_read true shape helds = none_right shape helds
+none_read false shape helds = refl
+
+-- where a held row stands behind others, or between others
+module _ (b : Bool) (shape : JoinShape) (reads all xs : List (List ℕ)) (x : List ℕ) where
+  pub more_held : all ≡ xs ++ x ∷ [] → SameRows (pairs_with b shape reads xs ++ pairs_with b shape reads (x ∷ [])) (pairs_with b shape reads all)
+  more_held is count = sym (with_helds b shape reads xs (x ∷ []) count) ∙ sym (ap (λ (rs : List (List ℕ)). sum_by count (pairs_with b shape reads rs)) is)
+
+  pub parts_held : (ys : List (List ℕ)) → all ≡ xs ++ x ∷ ys → SameRows (pairs_with b shape reads xs ++ (pairs_with b shape reads (x ∷ []) ++ pairs_with b shape reads ys)) (pairs_with b shape reads all)
+  parts_held ys is count =
+      let front : List (List Value) = pairs_with b shape reads xs in
+      sum_by-append count front (pairs_with b shape reads (x ∷ []) ++ pairs_with b shape reads ys)
+      ∙ ap (λ (n : ℕ). sum_by count front + n) (sym (with_helds b shape reads (x ∷ []) ys count))
+      ∙ sym (sum_by-append count front (pairs_with b shape reads (x ∷ ys)))
+      ∙ sym (with_helds b shape reads xs (x ∷ ys) count)
+      ∙ sym (ap (λ (rs : List (List ℕ)). sum_by count (pairs_with b shape reads rs)) is)

@@ -27,6 +27,11 @@ pub mod Paired
 pub mod BothFrames
 pub mod ChunkJoins
 pub mod ChunkRounds
+pub mod Fillings
+pub mod ChainWalks
+pub mod LentBoth
+pub mod HeldSame
+pub mod LeafEnds
 pub mod Stepped
 pub mod Rests
 pub mod LaidSides

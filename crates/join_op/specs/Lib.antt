@@ -11,4 +11,5 @@ pub mod Dividing
 pub mod Joining
 pub mod Rested
 pub mod Chunks
+pub mod Holding
 pub mod Alone

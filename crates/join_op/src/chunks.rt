@@ -1,29 +1,21 @@
-//! The pairs of two streams of rows, where a part of the right ones is kept in memory at a time.
-ghost use Rattle.std.specs.Prelude.{◌≡◌, ◌<◌, ◌++◌, ℕ, ◌∷◌, [], All, IfErr, List, OnErr, OnOk, length, true};
+//! The pairs of two streams of rows. Rows of one stream are held at a time, in a table of the store or in memory.
+ghost use Rattle.std.specs.Prelude.{◌≡◌, ◌<◌, ℕ, IfErr, List, OnErr, OnOk, true};
 ghost use Rattle.row_codec.specs.declared.values.Value.{Value};
-ghost use Rattle.store_api.specs.Emitters.{CameOf, HasClient};
+ghost use Rattle.store_api.specs.Holdings.{Holdings};
 ghost use Rattle.store_api.specs.Shapes.{IsJoinShape};
-ghost use Rattle.store_api.specs.Signs.{WasAnswered};
-ghost use Rattle.tuple_stream.specs.Places.{IsWithin};
-ghost use Rattle.tuple_stream.specs.Steps.{Reads, scene};
+ghost use Rattle.bucket_table.specs.Lending.{Lends};
 ghost use Rattle.tuple_stream.specs.Streams.{HasRows};
-ghost use Rattle.partition_stack.specs.Causes.{CameOfEither, IsShort};
-ghost use Rattle.partition_stack.specs.Emitting.{IsBeside, StaysEmitter, Stood, WentOn};
-ghost use Rattle.partition_stack.specs.Reading.{IsReadable};
-ghost use Rattle.join_op.specs.Chunks.{AdmitsJoined, AreColumns, AreReadable, IsKept, ReadBoth, ReadOne, ReadsMore, kept_rows, stored_pairs};
+ghost use Rattle.partition_stack.specs.Causes.{CameOfEither};
+ghost use Rattle.partition_stack.specs.Emitting.{IsBeside, StaysEmitter, WentOn};
+ghost use Rattle.join_op.specs.Chunks.{AdmitsJoined, AreReadable, ReadBoth, stored_pairs};
 ghost use Rattle.join_op.specs.Handing.{Emitted, EmittedSome};
-ghost use Rattle.join_op.specs.Stored.{left_side, right_side};
+ghost use Rattle.join_op.specs.Holding.{IsSameHeld, IsTableAt, MayHold, loans_in};
 
-use crate::feeding::Spare;
-use crate::operator::columns_of;
-use crate::pairing::{Pair, emit_pair};
-use reservation_tree::PoolErr;
-use row_codec::Memory;
-use row_reading::key_into;
+use crate::holding::{Held, hold};
+use crate::meeting::join_held;
 use std::alloc::Global;
-use std::mem;
 use store_api::{Client, Emit, JoinShape, OpErr, Store};
-use tuple_stream::{At, Stream};
+use tuple_stream::Stream;
 
 /// Hands the pairs of two streams' rows on, in any order, and keeps at most `chunk` right rows at a time: the left stream
 /// is read as often as there are chunks, and the rows of both stay. Which pages are pinned may have changed.
@@ -55,189 +47,105 @@ pub fn leaf_by_chunks<St: Store, E: Emit<St>>(
     ensures streams { ReadBoth c.now.tracker (E.client emit.old) left.old left.new right.old right.new (St.holds store.old) (St.holds store.new) }
     ensures emitter { StaysEmitter (E.admits emit.old) (E.admits emit.new) (E.client emit.old) (E.client emit.new) (E.faults emit.old) (E.faults emit.new) (St.holds store.new) (St.signs store.old) (St.signs store.new) }
 {
-    let Ok((left_columns, right_columns)) = columns_of(alloc, shape.on.as_slice()) else {
-        return Err(OpErr::Pool(PoolErr::Memory));
-    };
-    let mut spare = Spare::new(alloc);
-    let mut pair = Pair::new(alloc);
-    let mut place = At::first();
-    let mut kept = Vec::new(alloc);
-    let mut unused = Vec::new(alloc);
-    let mut waiting = right.rows();
-    'rounds: while waiting > 0 {
-        // The memory of the rows that were joined is taken again.
-        mem::swap(&mut kept, &mut unused);
-        keep_chunk(
-            alloc,
-            store,
-            c,
-            right,
-            shape,
-            &right_columns,
-            chunk as usize,
-            &mut place,
-            &mut kept,
-            &mut unused,
-        )?;
-        join_chunk(
-            alloc,
-            store,
-            c,
-            left,
-            shape,
-            &left_columns,
-            &kept,
-            &mut spare,
-            &mut pair,
-            emit,
-        )?;
-        waiting = waiting.saturating_sub(kept.len() as u64);
-    }
-    Ok(())
+    let held = Held::few(alloc, chunk);
+    join_pair(alloc, store, c, left, right, shape, false, held, emit)
 }
 
-// Keeps the next right rows beside their keys: as many as a chunk has, or all that are left.
-fn keep_chunk<St: Store>(
-    alloc: Global,
-    store: &mut St,
-    c: &Client,
-    right: &mut Stream,
-    shape: &JoinShape,
-    columns: &[usize],
-    chunk: usize,
-    place: &mut At,
-    kept: &mut Vec<Spare>,
-    unused: &mut Vec<Spare>,
-) -> Result<(), PoolErr>
-    requires stream { IsReadable c.now right.old (St.holds store.old) }
-    requires columns { AreColumns (right_side shape.now) columns.now }
-    requires place { IsWithin place.old right.old }
-    ensures each { OnOk result (All (IsKept (right_side shape.now)) kept.new.items) }
-    ensures reads { OnOk result (ReadsMore (kept_rows kept.new.items) place.old place.new (scene right.old (St.holds store.old) (St.signs store.old)) (scene right.new (St.holds store.new) (St.signs store.new))) }
-    ensures last { OnOk result (length kept.new.items < chunk → place.new.row ≡ right.new.count) }
-    ensures went { Reads c.now.tracker (scene right.old (St.holds store.old) (St.signs store.old)) (scene right.new (St.holds store.new) (St.signs store.new)) }
-    ensures same { right.new ≡ record right.old { pinned = right.new.pinned } }
-    ensures cause { IfErr result (λ e. WasAnswered e (St.signs store.old) (St.signs store.new)) }
-    ensures short { IfErr result (IsShort right.old.page_blocks) }
-{
-    kept.clear();
-    'more: while kept.len() < chunk {
-        let mut spare = match unused.pop() {
-            Some(spare) => spare,
-            None => Spare::new(alloc),
-        };
-        if !right.keep_into(store, c, place, &mut spare.row)? {
-            return Ok(());
-        }
-        let Ok(()) = keep(shape, columns, spare, kept) else {
-            return Err(PoolErr::Memory);
-        };
-    }
-    Ok(())
-}
-
-// Keeps a right row, where it is one, beside its key.
-fn keep(
-    shape: &JoinShape,
-    columns: &[usize],
-    mut spare: Spare,
-    kept: &mut Vec<Spare>,
-) -> Result<(), Memory>
-    requires columns { AreColumns (right_side shape.now) columns.now }
-    ensures each { OnOk result (All (IsKept (right_side shape.now)) kept.old.items → All (IsKept (right_side shape.now)) kept.new.items) }
-    ensures rows { OnOk result (kept_rows kept.new.items ≡ kept_rows kept.old.items ++ spare.row.items ∷ []) }
-{
-    let Ok(true) = key_into(&spare.row, shape.right.as_slice(), columns, &mut spare.key) else {
-        return Err(Memory);
-    };
-    kept.push(spare)?;
-    Ok(())
-}
-
-// Hands the pairs of all left rows with these right ones on.
-fn join_chunk<St: Store, E: Emit<St>>(
+// The same through a table of the store, which has the rows of the stream with fewer pages, where the client may charge so
+// much; else by chunks.
+pub(crate) fn leaf_by_table<St: Store, E: Emit<St>>(
     alloc: Global,
     store: &mut St,
     c: &Client,
     left: &mut Stream,
+    right: &mut Stream,
     shape: &JoinShape,
-    columns: &[usize],
-    kept: &[Spare],
-    spare: &mut Spare,
-    pair: &mut Pair,
+    blocks: u32,
     emit: &mut E,
 ) -> Result<(), OpErr>
-    requires stream { IsReadable c.now left.old (St.holds store.old) }
-    requires columns { AreColumns (left_side shape.now) columns.now }
-    requires kept { All (IsKept (right_side shape.now)) kept.now }
+    requires streams { AreReadable c.now left.old right.old (St.holds store.old) }
+    requires shape { IsJoinShape shape.now }
+    requires blocks { blocks ≡ left.old.page_blocks }
     requires emitter { IsBeside c.now.tracker (E.client emit.old) (St.holds store.old) }
     requires stands { (taken : List (List Value)) × E.took emit.old (St.holds store.old) taken }
     requires admits { AdmitsJoined shape.now (E.admits emit.old) }
-    ensures ok { OnOk result ((lefts : List (List ℕ)) → (St.holds store.old).told ≡ true → HasRows lefts left.old (St.holds store.old) → Emitted (E.took emit.old (St.holds store.old)) (E.took emit.new (St.holds store.new)) (stored_pairs shape.now lefts (kept_rows kept.now))) }
-    ensures err { OnErr result ((lefts : List (List ℕ)) → (St.holds store.old).told ≡ true → HasRows lefts left.old (St.holds store.old) → EmittedSome (E.took emit.old (St.holds store.old)) (E.took emit.new (St.holds store.new)) (stored_pairs shape.now lefts (kept_rows kept.now))) }
+    ensures ok { OnOk result ((lefts rights : List (List ℕ)) → (St.holds store.old).told ≡ true → HasRows lefts left.old (St.holds store.old) → HasRows rights right.old (St.holds store.old) → Emitted (E.took emit.old (St.holds store.old)) (E.took emit.new (St.holds store.new)) (stored_pairs shape.now lefts rights)) }
+    ensures err { OnErr result ((lefts rights : List (List ℕ)) → (St.holds store.old).told ≡ true → HasRows lefts left.old (St.holds store.old) → HasRows rights right.old (St.holds store.old) → EmittedSome (E.took emit.old (St.holds store.old)) (E.took emit.new (St.holds store.new)) (stored_pairs shape.now lefts rights)) }
     ensures stands { WentOn (E.took emit.old (St.holds store.old)) (E.took emit.new (St.holds store.new)) }
     ensures cause { IfErr result (CameOfEither left.old.page_blocks (E.client emit.old) (E.faults emit.old) (E.faults emit.new) (St.signs store.old) (St.signs store.new)) }
-    ensures stream { ReadOne c.now.tracker (E.client emit.old) left.old left.new (St.holds store.old) (St.holds store.new) }
+    ensures streams { ReadBoth c.now.tracker (E.client emit.old) left.old left.new right.old right.new (St.holds store.old) (St.holds store.new) }
     ensures emitter { StaysEmitter (E.admits emit.old) (E.admits emit.new) (E.client emit.old) (E.client emit.new) (E.faults emit.old) (E.faults emit.new) (St.holds store.new) (St.signs store.old) (St.signs store.new) }
 {
-    let mut place = At::first();
-    'lefts: while left.keep_into(store, c, &mut place, &mut spare.row)? {
-        let Ok(true) = key_into(&spare.row, shape.left.as_slice(), columns, &mut spare.key) else {
-            return Err(OpErr::Pool(PoolErr::Memory));
-        };
-        join_row(alloc, store, shape, spare, kept, pair, emit)?;
-    }
-    Ok(())
+    let turned = left.pages() < right.pages();
+    let (pages, rows) = if turned {
+        (left.pages(), left.rows())
+    } else {
+        (right.pages(), right.rows())
+    };
+    let held = hold(alloc, store, c, blocks, pages, rows);
+    join_pair(alloc, store, c, left, right, shape, turned, held, emit)
 }
 
-// Hands the pairs of a left row with these right ones on.
-fn join_row<St: Store, E: Emit<St>>(
+// The same with what is held, which goes then. What became of the store is told over what it held before the table was lent.
+fn join_pair<St: Store, E: Emit<St>>(
     alloc: Global,
     store: &mut St,
+    c: &Client,
+    left: &mut Stream,
+    right: &mut Stream,
     shape: &JoinShape,
-    left: &Spare,
-    kept: &[Spare],
-    pair: &mut Pair,
+    turned: bool,
+    held: Held,
     emit: &mut E,
 ) -> Result<(), OpErr>
-    requires left { IsKept (left_side shape.now) left.now }
-    requires kept { All (IsKept (right_side shape.now)) kept.now }
-    requires client { HasClient (E.client emit.old) (St.holds store.old) }
+    requires streams { AreReadable c.now left.old right.old (St.holds store.old) }
+    requires shape { IsJoinShape shape.now }
+    requires may { MayHold held }
+    requires table { IsTableAt c.now.tracker held.table (St.holds store.old) }
+    requires emitter { IsBeside c.now.tracker (E.client emit.old) (St.holds store.old) }
     requires stands { (taken : List (List Value)) × E.took emit.old (St.holds store.old) taken }
     requires admits { AdmitsJoined shape.now (E.admits emit.old) }
-    ensures ok { OnOk result (Emitted (E.took emit.old (St.holds store.old)) (E.took emit.new (St.holds store.new)) (stored_pairs shape.now (left.now.row.items ∷ []) (kept_rows kept.now))) }
-    ensures err { OnErr result (EmittedSome (E.took emit.old (St.holds store.old)) (E.took emit.new (St.holds store.new)) (stored_pairs shape.now (left.now.row.items ∷ []) (kept_rows kept.now))) }
-    ensures cause { IfErr result (CameOf (E.faults emit.old) (E.faults emit.new) (St.signs store.old) (St.signs store.new)) }
-    ensures stood { Stood (E.admits emit.old) (E.admits emit.new) (E.client emit.old) (E.client emit.new) (E.faults emit.old) (E.faults emit.new) (St.holds store.old) (St.holds store.new) (St.signs store.old) (St.signs store.new) }
+    ensures ok { OnOk result ((lefts rights : List (List ℕ)) → (St.holds store.old).told ≡ true → HasRows lefts left.old (St.holds store.old) → HasRows rights right.old (St.holds store.old) → Emitted (E.took emit.old (St.holds store.old)) (E.took emit.new (St.holds store.new)) (stored_pairs shape.now lefts rights)) }
+    ensures err { OnErr result ((lefts rights : List (List ℕ)) → (St.holds store.old).told ≡ true → HasRows lefts left.old (St.holds store.old) → HasRows rights right.old (St.holds store.old) → EmittedSome (E.took emit.old (St.holds store.old)) (E.took emit.new (St.holds store.new)) (stored_pairs shape.now lefts rights)) }
+    ensures stands { WentOn (E.took emit.old (St.holds store.old)) (E.took emit.new (St.holds store.new)) }
+    ensures cause { IfErr result (CameOfEither left.old.page_blocks (E.client emit.old) (E.faults emit.old) (E.faults emit.new) (St.signs store.old) (St.signs store.new)) }
+    ensures streams { (less : Holdings) → Lends c.now.tracker (loans_in held.table) less (St.holds store.old) → AreReadable c.now left.old right.old less → ReadBoth c.now.tracker (E.client emit.old) left.old left.new right.old right.new less (St.holds store.new) }
+    ensures emitter { StaysEmitter (E.admits emit.old) (E.admits emit.new) (E.client emit.old) (E.client emit.new) (E.faults emit.old) (E.faults emit.new) (St.holds store.new) (St.signs store.old) (St.signs store.new) }
 {
-    for right in kept {
-        join_one(alloc, store, shape, left, right, pair, emit)?;
-    }
-    Ok(())
+    let mut held = held;
+    let result = join_streams(alloc, store, c, left, right, shape, turned, &mut held, emit);
+    held.give(store);
+    result
 }
 
-// Hands the pair of a left and a right row on, where they have one key.
-fn join_one<St: Store, E: Emit<St>>(
+// The same while what is held stays. A join that is turned holds rows of the left stream.
+fn join_streams<St: Store, E: Emit<St>>(
     alloc: Global,
     store: &mut St,
+    c: &Client,
+    left: &mut Stream,
+    right: &mut Stream,
     shape: &JoinShape,
-    left: &Spare,
-    right: &Spare,
-    pair: &mut Pair,
+    turned: bool,
+    held: &mut Held,
     emit: &mut E,
 ) -> Result<(), OpErr>
-    requires left { IsKept (left_side shape.now) left.now }
-    requires right { IsKept (right_side shape.now) right.now }
-    requires client { HasClient (E.client emit.old) (St.holds store.old) }
+    requires streams { AreReadable c.now left.old right.old (St.holds store.old) }
+    requires shape { IsJoinShape shape.now }
+    requires may { MayHold held.old }
+    requires emitter { IsBeside c.now.tracker (E.client emit.old) (St.holds store.old) }
     requires stands { (taken : List (List Value)) × E.took emit.old (St.holds store.old) taken }
     requires admits { AdmitsJoined shape.now (E.admits emit.old) }
-    ensures ok { OnOk result (Emitted (E.took emit.old (St.holds store.old)) (E.took emit.new (St.holds store.new)) (stored_pairs shape.now (left.now.row.items ∷ []) (right.now.row.items ∷ []))) }
-    ensures err { OnErr result (EmittedSome (E.took emit.old (St.holds store.old)) (E.took emit.new (St.holds store.new)) (stored_pairs shape.now (left.now.row.items ∷ []) (right.now.row.items ∷ []))) }
-    ensures cause { IfErr result (CameOf (E.faults emit.old) (E.faults emit.new) (St.signs store.old) (St.signs store.new)) }
-    ensures stood { Stood (E.admits emit.old) (E.admits emit.new) (E.client emit.old) (E.client emit.new) (E.faults emit.old) (E.faults emit.new) (St.holds store.old) (St.holds store.new) (St.signs store.old) (St.signs store.new) }
+    ensures ok { OnOk result ((lefts rights : List (List ℕ)) → (St.holds store.old).told ≡ true → HasRows lefts left.old (St.holds store.old) → HasRows rights right.old (St.holds store.old) → Emitted (E.took emit.old (St.holds store.old)) (E.took emit.new (St.holds store.new)) (stored_pairs shape.now lefts rights)) }
+    ensures err { OnErr result ((lefts rights : List (List ℕ)) → (St.holds store.old).told ≡ true → HasRows lefts left.old (St.holds store.old) → HasRows rights right.old (St.holds store.old) → EmittedSome (E.took emit.old (St.holds store.old)) (E.took emit.new (St.holds store.new)) (stored_pairs shape.now lefts rights)) }
+    ensures stands { WentOn (E.took emit.old (St.holds store.old)) (E.took emit.new (St.holds store.new)) }
+    ensures cause { IfErr result (CameOfEither left.old.page_blocks (E.client emit.old) (E.faults emit.old) (E.faults emit.new) (St.signs store.old) (St.signs store.new)) }
+    ensures streams { ReadBoth c.now.tracker (E.client emit.old) left.old left.new right.old right.new (St.holds store.old) (St.holds store.new) }
+    ensures held { IsSameHeld held.old held.new }
+    ensures emitter { StaysEmitter (E.admits emit.old) (E.admits emit.new) (E.client emit.old) (E.client emit.new) (E.faults emit.old) (E.faults emit.new) (St.holds store.new) (St.signs store.old) (St.signs store.new) }
 {
-    if left.key.as_slice() != right.key.as_slice() {
-        return Ok(());
+    if turned {
+        return join_held(alloc, store, c, right, left, shape, true, held, emit);
     }
-    emit_pair(alloc, store, shape, &left.row, &right.row, pair, emit)
+    join_held(alloc, store, c, left, right, shape, false, held, emit)
 }

@@ -1,6 +1,7 @@
 //! Partitions of both sides are joined from the top, each with the one of its number.
 ghost use Rattle.std.specs.Prelude.{◌≡◌, ◌≢◌, ◌⊎◌, ◌+◌, ◌<◌, ℕ, List, None, true, false, Some, IfErr, OnErr, OnOk, length, slice_get};
 ghost use Rattle.row_codec.specs.declared.values.Value.{Value};
+ghost use Rattle.store_api.specs.Conditions.{IsLiveClient};
 ghost use Rattle.store_api.specs.Emitters.{CameOf};
 ghost use Rattle.store_api.specs.Signs.{WasAnswered};
 ghost use Rattle.tuple_stream.specs.Families.{AllClosed, ShowAll};
@@ -16,16 +17,14 @@ ghost use Rattle.join_op.specs.Handing.{Emitted, EmittedSome};
 ghost use Rattle.join_op.specs.Joining.{Advances, AreColumnsOfBoth, AreShallow, HasDivided, HasGoneOn, HasPopped, HasNoRowsAt, HasRowsAt, IsBetween, ShowBoth, both, pairs_down};
 ghost use Rattle.join_op.specs.Operator.{IsOperator, operator};
 
-use crate::chunks::leaf_by_chunks;
+use crate::chunks::leaf_by_table;
 use crate::dividing::divide_side;
 use crate::feeding::Spare;
+use crate::holding::buffers_in;
 use partition_stack::Partitions;
 use reservation_tree::PoolErr;
 use std::alloc::Global;
 use store_api::{Client, Emit, JoinShape, OpErr, Store};
-
-// So many right rows are kept in memory at a time.
-const CHUNK: u32 = 16;
 
 // The top partition of one side goes.
 fn drop_one<St: Store>(store: &mut St, c: &Client, parts: &mut Partitions, _other: &Partitions)
@@ -151,9 +150,10 @@ fn pair_top<St: Store, E: Emit<St>>(
 {
     left.law_stack();
     right.law_stack();
+    let blocks = left.page_blocks();
     let mut one = left.pop();
     let mut other = right.pop();
-    let result = leaf_by_chunks(alloc, store, c, &mut one, &mut other, shape, CHUNK, emit);
+    let result = leaf_by_table(alloc, store, c, &mut one, &mut other, shape, blocks, emit);
     one.drop_all(store);
     one.end();
     other.drop_all(store);
@@ -174,14 +174,35 @@ fn have_rows(left: &Partitions, right: &Partitions, at: usize) -> bool
     right.rows(at) > 0
 }
 
-// Whether the right rows of the top partitions are so few that they are kept at once. Partitions of the first level are
-// divided first, so that a page is pinned again before any is left by others.
-fn is_few(right: &Partitions, at: usize, level: u32) -> bool
-    requires inside { at < length right.now.streams }
+// Whether the top partitions are joined: of the last level, or a table of the client's memory has room for the rows of the
+// smaller one. Partitions of the first level are divided first, so that a page is pinned again before any is left by others.
+fn is_few<St: Store>(
+    store: &St,
+    c: &Client,
+    left: &Partitions,
+    right: &Partitions,
+    at: usize,
+    level: u32,
+) -> bool
+    requires client { IsLiveClient c.now (St.holds store.now) }
+    requires left { at < length left.now.streams }
+    requires right { at < length right.now.streams }
     ensures later { result ≡ true → 1 < level }
     ensures last { result ≡ false → level ≢ 16 }
 {
-    level > 1 && (level == 16 || right.rows(at) <= u64::from(CHUNK))
+    if level <= 1 {
+        return false;
+    }
+    if level == 16 {
+        return true;
+    }
+    let len = u64::from(left.page_blocks()) * u64::from(store.block_len());
+    let (pages, rows) = if left.pages(at) < right.pages(at) {
+        (left.pages(at), left.rows(at))
+    } else {
+        (right.pages(at), right.rows(at))
+    };
+    buffers_in(len, pages, rows, store.unused(c)).is_some()
 }
 
 // The pairs of the top partitions are handed on, or their rows go to sixteen partitions above them.
@@ -221,7 +242,7 @@ fn advance<St: Store, E: Emit<St>>(
         drop_top(store, c, shape, left, right, at);
         return Ok(());
     }
-    if !is_few(right, at, level) {
+    if !is_few(store, c, left, right, at, level) {
         divide_both(
             alloc,
             store,

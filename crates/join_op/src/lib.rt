@@ -2,7 +2,8 @@
 //!
 //! Model: the rows of both sides in partitions by the paths of their keys, as they were fed. Partitions of one number hold
 //! the rows of one path, so that the pairs of all are those of the partitions, number by number. When no more rows come, the
-//! top partitions of both sides are joined, or both are divided by the next four bits of their keys' hashes.
+//! top partitions of both sides are joined, or both are divided by the next four bits of their keys' hashes. To join two,
+//! rows of one are held, in a table where there is memory for all of them, while the other one is read.
 //! Invariant: the left side is told to rest only where none of its pages is pinned.
 #![tactic(auto)]
 
@@ -11,8 +12,10 @@ mod dividing;
 mod ending;
 mod feeding;
 mod finishing;
+mod holding;
 mod joining;
 mod laws;
+mod meeting;
 mod operator;
 mod pairing;
 #[cfg(test)]

@@ -1,4 +1,4 @@
-use Rattle.std.proofs.Common.{◌≡◌, ℕ, List, subst}
+use Rattle.std.proofs.Common.{◌≡◌, ◌∙◌, ℕ, List, subst, sym}
 use Rattle.row_codec.specs.declared.values.Value.{Value}
 use Rattle.tuple_stream.specs.Steps.{scene}
 use Rattle.partition_stack.specs.Causes.{IsShortOf}
@@ -10,76 +10,81 @@ use Rattle.join_op.specs.Chunks.{stored_pairs}
 use Rattle.join_op.proofs.Handed.{emitted_on, some_on}
 use Rattle.join_op.proofs.joining.pair_top.Goals as goal
 
-pub leaf_by_chunks-result-requires-clause-streams : goal.leaf_by_chunks-result-requires-clause-streams
-leaf_by_chunks-result-requires-clause-streams g c =
+pub leaf_by_table-result-requires-clause-streams : goal.leaf_by_table-result-requires-clause-streams
+leaf_by_table-result-requires-clause-streams g c =
     readable c.args.c.now c.args.shape.now c.args._at c.args.left.now c.args.right.now c.pop-one.new.self c.pop-other.new.self c.pop-one.result c.pop-other.result (g.St.Store.holds c.args.store.now) (g.St.Store.signs c.args.store.now)
     c.requires.op c.requires.between c.requires.top c.pop-one.ensures.streams c.pop-other.ensures.streams c.law_stack.ensures c.law_stack-2.ensures
 
+pub leaf_by_table-result-requires-clause-blocks : goal.leaf_by_table-result-requires-clause-blocks
+leaf_by_table-result-requires-clause-blocks g c =
+    c.page_blocks-blocks.ensures
+    ∙ sym (c.law_stack.ensures.each c.args._at c.pop-one.result (left_there c.args.c.now c.args.shape.now c.args._at c.args.left.now c.args.right.now c.pop-one.new.self c.pop-other.new.self c.pop-one.result c.pop-other.result (g.St.Store.holds c.args.store.now) (g.St.Store.signs c.args.store.now) c.requires.op c.requires.between c.requires.top c.pop-one.ensures.streams c.pop-other.ensures.streams))
+
 pub drop_all-requires : goal.drop_all-requires
-drop_all-requires g c = (c.args.c.now.tracker, c.leaf_by_chunks-result.ensures.streams.left_shape)
+drop_all-requires g c = (c.args.c.now.tracker, c.leaf_by_table-result.ensures.streams.left_shape)
 
 pub drop_all-requires-2 : goal.drop_all-requires-2
 drop_all-requires-2 g c = (
   c.args.c.now.tracker,
   right_still c.args.c.now c.args.shape.now c.args._at c.args.left.now c.args.right.now c.pop-one.new.self c.pop-other.new.self c.pop-one.result c.pop-other.result (g.St.Store.holds c.args.store.now) (g.St.Store.signs c.args.store.now)
-      c.requires.op c.requires.between c.requires.top c.pop-one.ensures.streams c.pop-other.ensures.streams (g.E.Emit.client c.args.emit.now) c.leaf_by_chunks-result.new.left c.leaf_by_chunks-result.new.right
-      (g.St.Store.holds c.leaf_by_chunks-result.new.store) (g.St.Store.signs c.leaf_by_chunks-result.new.store) c.leaf_by_chunks-result.ensures.streams c.leaf_by_chunks-result.ensures.emitter.grows
-      (scene c.drop_all.new.self (g.St.Store.holds c.drop_all.new.store) (g.St.Store.signs c.drop_all.new.store)) (c.drop_all.ensures.went c.args.c.now.tracker c.leaf_by_chunks-result.ensures.streams.left_shape) c.drop_all.ensures.value,
+      c.requires.op c.requires.between c.requires.top c.pop-one.ensures.streams c.pop-other.ensures.streams (g.E.Emit.client c.args.emit.now) c.leaf_by_table-result.new.left c.leaf_by_table-result.new.right
+      (g.St.Store.holds c.leaf_by_table-result.new.store) (g.St.Store.signs c.leaf_by_table-result.new.store) c.leaf_by_table-result.ensures.streams c.leaf_by_table-result.ensures.emitter.grows
+      (scene c.drop_all.new.self (g.St.Store.holds c.drop_all.new.store) (g.St.Store.signs c.drop_all.new.store)) (c.drop_all.ensures.went c.args.c.now.tracker c.leaf_by_table-result.ensures.streams.left_shape) c.drop_all.ensures.value,
 )
 
 pub returns-clause-ok : goal.returns-clause-ok
 returns-clause-ok g c =
-    let h1 = g.St.Store.holds c.leaf_by_chunks-result.new.store in
+    let h1 = g.St.Store.holds c.leaf_by_table-result.new.store in
     let h3 = g.St.Store.holds c.drop_all-2.new.store in
-    let gone = leaves_gone c.args.c.now c.args.shape.now c.args._at c.args.left.now c.args.right.now c.pop-one.new.self c.pop-other.new.self c.pop-one.result c.pop-other.result (g.St.Store.holds c.args.store.now) (g.St.Store.signs c.args.store.now) c.requires.op c.requires.between c.requires.top c.pop-one.ensures.streams c.pop-other.ensures.streams (g.E.Emit.client c.args.emit.now) c.leaf_by_chunks-result.new.left c.leaf_by_chunks-result.new.right (g.St.Store.holds c.leaf_by_chunks-result.new.store) (g.St.Store.signs c.leaf_by_chunks-result.new.store) c.leaf_by_chunks-result.ensures.streams c.leaf_by_chunks-result.ensures.emitter.grows (scene c.drop_all.new.self (g.St.Store.holds c.drop_all.new.store) (g.St.Store.signs c.drop_all.new.store)) (c.drop_all.ensures.went c.args.c.now.tracker c.leaf_by_chunks-result.ensures.streams.left_shape) c.drop_all.ensures.value (scene c.drop_all-2.new.self (g.St.Store.holds c.drop_all-2.new.store) (g.St.Store.signs c.drop_all-2.new.store)) (c.drop_all-2.ensures.went c.args.c.now.tracker (right_still c.args.c.now c.args.shape.now c.args._at c.args.left.now c.args.right.now c.pop-one.new.self c.pop-other.new.self c.pop-one.result c.pop-other.result (g.St.Store.holds c.args.store.now) (g.St.Store.signs c.args.store.now) c.requires.op c.requires.between c.requires.top c.pop-one.ensures.streams c.pop-other.ensures.streams (g.E.Emit.client c.args.emit.now) c.leaf_by_chunks-result.new.left c.leaf_by_chunks-result.new.right (g.St.Store.holds c.leaf_by_chunks-result.new.store) (g.St.Store.signs c.leaf_by_chunks-result.new.store) c.leaf_by_chunks-result.ensures.streams c.leaf_by_chunks-result.ensures.emitter.grows (scene c.drop_all.new.self (g.St.Store.holds c.drop_all.new.store) (g.St.Store.signs c.drop_all.new.store)) (c.drop_all.ensures.went c.args.c.now.tracker c.leaf_by_chunks-result.ensures.streams.left_shape) c.drop_all.ensures.value)) c.drop_all-2.ensures.value c.pop-one.ensures.blocks c.pop-other.ensures.blocks c.pop-one.ensures.levels c.pop-other.ensures.levels in
-    let beside : IsBeside c.args.c.now.tracker (g.E.Emit.client c.leaf_by_chunks-result.new.emit) h1 = beside_read c.args.c.now.tracker (g.E.Emit.admits c.args.emit.now) (g.E.Emit.admits c.leaf_by_chunks-result.new.emit) (g.E.Emit.client c.args.emit.now) (g.E.Emit.client c.leaf_by_chunks-result.new.emit) (g.E.Emit.faults c.args.emit.now) (g.E.Emit.faults c.leaf_by_chunks-result.new.emit) (g.St.Store.holds c.args.store.now) h1 (g.St.Store.signs c.args.store.now) (g.St.Store.signs c.leaf_by_chunks-result.new.store) c.requires.emitter c.leaf_by_chunks-result.ensures.emitter in
-    let still : (taken : List (List Value)) → g.E.Emit.took c.leaf_by_chunks-result.new.emit h1 taken → g.E.Emit.took c.leaf_by_chunks-result.new.emit h3 taken =
-    λ taken. g.met.E.Emit.asks_own c.leaf_by_chunks-result.new.emit h1 h3 taken (same_beside c.args.c.now.tracker (g.E.Emit.client c.leaf_by_chunks-result.new.emit) h1 h3 (g.St.Store.signs c.leaf_by_chunks-result.new.store) (g.St.Store.signs c.drop_all-2.new.store) beside.apart gone) in
-    on_ok c.leaf_by_chunks-result.result
+    let gone = leaves_gone c.args.c.now c.args.shape.now c.args._at c.args.left.now c.args.right.now c.pop-one.new.self c.pop-other.new.self c.pop-one.result c.pop-other.result (g.St.Store.holds c.args.store.now) (g.St.Store.signs c.args.store.now) c.requires.op c.requires.between c.requires.top c.pop-one.ensures.streams c.pop-other.ensures.streams (g.E.Emit.client c.args.emit.now) c.leaf_by_table-result.new.left c.leaf_by_table-result.new.right (g.St.Store.holds c.leaf_by_table-result.new.store) (g.St.Store.signs c.leaf_by_table-result.new.store) c.leaf_by_table-result.ensures.streams c.leaf_by_table-result.ensures.emitter.grows (scene c.drop_all.new.self (g.St.Store.holds c.drop_all.new.store) (g.St.Store.signs c.drop_all.new.store)) (c.drop_all.ensures.went c.args.c.now.tracker c.leaf_by_table-result.ensures.streams.left_shape) c.drop_all.ensures.value (scene c.drop_all-2.new.self (g.St.Store.holds c.drop_all-2.new.store) (g.St.Store.signs c.drop_all-2.new.store)) (c.drop_all-2.ensures.went c.args.c.now.tracker (right_still c.args.c.now c.args.shape.now c.args._at c.args.left.now c.args.right.now c.pop-one.new.self c.pop-other.new.self c.pop-one.result c.pop-other.result (g.St.Store.holds c.args.store.now) (g.St.Store.signs c.args.store.now) c.requires.op c.requires.between c.requires.top c.pop-one.ensures.streams c.pop-other.ensures.streams (g.E.Emit.client c.args.emit.now) c.leaf_by_table-result.new.left c.leaf_by_table-result.new.right (g.St.Store.holds c.leaf_by_table-result.new.store) (g.St.Store.signs c.leaf_by_table-result.new.store) c.leaf_by_table-result.ensures.streams c.leaf_by_table-result.ensures.emitter.grows (scene c.drop_all.new.self (g.St.Store.holds c.drop_all.new.store) (g.St.Store.signs c.drop_all.new.store)) (c.drop_all.ensures.went c.args.c.now.tracker c.leaf_by_table-result.ensures.streams.left_shape) c.drop_all.ensures.value)) c.drop_all-2.ensures.value c.pop-one.ensures.blocks c.pop-other.ensures.blocks c.pop-one.ensures.levels c.pop-other.ensures.levels in
+    let beside : IsBeside c.args.c.now.tracker (g.E.Emit.client c.leaf_by_table-result.new.emit) h1 = beside_read c.args.c.now.tracker (g.E.Emit.admits c.args.emit.now) (g.E.Emit.admits c.leaf_by_table-result.new.emit) (g.E.Emit.client c.args.emit.now) (g.E.Emit.client c.leaf_by_table-result.new.emit) (g.E.Emit.faults c.args.emit.now) (g.E.Emit.faults c.leaf_by_table-result.new.emit) (g.St.Store.holds c.args.store.now) h1 (g.St.Store.signs c.args.store.now) (g.St.Store.signs c.leaf_by_table-result.new.store) c.requires.emitter c.leaf_by_table-result.ensures.emitter in
+    let still : (taken : List (List Value)) → g.E.Emit.took c.leaf_by_table-result.new.emit h1 taken → g.E.Emit.took c.leaf_by_table-result.new.emit h3 taken =
+    λ taken. g.met.E.Emit.asks_own c.leaf_by_table-result.new.emit h1 h3 taken (same_beside c.args.c.now.tracker (g.E.Emit.client c.leaf_by_table-result.new.emit) h1 h3 (g.St.Store.signs c.leaf_by_table-result.new.store) (g.St.Store.signs c.drop_all-2.new.store) beside.apart gone) in
+    on_ok c.leaf_by_table-result.result
     (λ came lefts rights shows. (
-      shows_paired c.args.c.now c.args.shape.now c.args._at c.args.left.now c.args.right.now c.pop-one.new.self c.pop-other.new.self c.pop-one.result c.pop-other.result (g.St.Store.holds c.args.store.now) (g.St.Store.signs c.args.store.now) c.requires.op c.requires.between c.requires.top c.pop-one.ensures.streams c.pop-other.ensures.streams (g.E.Emit.client c.args.emit.now) c.leaf_by_chunks-result.new.left c.leaf_by_chunks-result.new.right (g.St.Store.holds c.leaf_by_chunks-result.new.store) (g.St.Store.signs c.leaf_by_chunks-result.new.store) c.leaf_by_chunks-result.ensures.streams c.leaf_by_chunks-result.ensures.emitter.grows (scene c.drop_all.new.self (g.St.Store.holds c.drop_all.new.store) (g.St.Store.signs c.drop_all.new.store)) (c.drop_all.ensures.went c.args.c.now.tracker c.leaf_by_chunks-result.ensures.streams.left_shape) c.drop_all.ensures.value (scene c.drop_all-2.new.self (g.St.Store.holds c.drop_all-2.new.store) (g.St.Store.signs c.drop_all-2.new.store)) (c.drop_all-2.ensures.went c.args.c.now.tracker (right_still c.args.c.now c.args.shape.now c.args._at c.args.left.now c.args.right.now c.pop-one.new.self c.pop-other.new.self c.pop-one.result c.pop-other.result (g.St.Store.holds c.args.store.now) (g.St.Store.signs c.args.store.now) c.requires.op c.requires.between c.requires.top c.pop-one.ensures.streams c.pop-other.ensures.streams (g.E.Emit.client c.args.emit.now) c.leaf_by_chunks-result.new.left c.leaf_by_chunks-result.new.right (g.St.Store.holds c.leaf_by_chunks-result.new.store) (g.St.Store.signs c.leaf_by_chunks-result.new.store) c.leaf_by_chunks-result.ensures.streams c.leaf_by_chunks-result.ensures.emitter.grows (scene c.drop_all.new.self (g.St.Store.holds c.drop_all.new.store) (g.St.Store.signs c.drop_all.new.store)) (c.drop_all.ensures.went c.args.c.now.tracker c.leaf_by_chunks-result.ensures.streams.left_shape) c.drop_all.ensures.value)) c.drop_all-2.ensures.value c.pop-one.ensures.blocks c.pop-other.ensures.blocks c.pop-one.ensures.levels c.pop-other.ensures.levels lefts rights shows,
-      emitted_on (g.E.Emit.took c.args.emit.now (g.St.Store.holds c.args.store.now)) (g.E.Emit.took c.leaf_by_chunks-result.new.emit h1) (g.E.Emit.took c.leaf_by_chunks-result.new.emit h3) (stored_pairs c.args.shape.now (lefts c.args._at) (rights c.args._at)) still (came (lefts c.args._at) (rights c.args._at) shows.told (left_rows c.args.c.now c.args.shape.now c.args._at c.args.left.now c.args.right.now c.pop-one.new.self c.pop-other.new.self c.pop-one.result c.pop-other.result (g.St.Store.holds c.args.store.now) (g.St.Store.signs c.args.store.now) c.requires.op c.requires.between c.requires.top c.pop-one.ensures.streams c.pop-other.ensures.streams lefts rights shows) (right_rows c.args.c.now c.args.shape.now c.args._at c.args.left.now c.args.right.now c.pop-one.new.self c.pop-other.new.self c.pop-one.result c.pop-other.result (g.St.Store.holds c.args.store.now) (g.St.Store.signs c.args.store.now) c.requires.op c.requires.between c.requires.top c.pop-one.ensures.streams c.pop-other.ensures.streams lefts rights shows)),
+      shows_paired c.args.c.now c.args.shape.now c.args._at c.args.left.now c.args.right.now c.pop-one.new.self c.pop-other.new.self c.pop-one.result c.pop-other.result (g.St.Store.holds c.args.store.now) (g.St.Store.signs c.args.store.now) c.requires.op c.requires.between c.requires.top c.pop-one.ensures.streams c.pop-other.ensures.streams (g.E.Emit.client c.args.emit.now) c.leaf_by_table-result.new.left c.leaf_by_table-result.new.right (g.St.Store.holds c.leaf_by_table-result.new.store) (g.St.Store.signs c.leaf_by_table-result.new.store) c.leaf_by_table-result.ensures.streams c.leaf_by_table-result.ensures.emitter.grows (scene c.drop_all.new.self (g.St.Store.holds c.drop_all.new.store) (g.St.Store.signs c.drop_all.new.store)) (c.drop_all.ensures.went c.args.c.now.tracker c.leaf_by_table-result.ensures.streams.left_shape) c.drop_all.ensures.value (scene c.drop_all-2.new.self (g.St.Store.holds c.drop_all-2.new.store) (g.St.Store.signs c.drop_all-2.new.store)) (c.drop_all-2.ensures.went c.args.c.now.tracker (right_still c.args.c.now c.args.shape.now c.args._at c.args.left.now c.args.right.now c.pop-one.new.self c.pop-other.new.self c.pop-one.result c.pop-other.result (g.St.Store.holds c.args.store.now) (g.St.Store.signs c.args.store.now) c.requires.op c.requires.between c.requires.top c.pop-one.ensures.streams c.pop-other.ensures.streams (g.E.Emit.client c.args.emit.now) c.leaf_by_table-result.new.left c.leaf_by_table-result.new.right (g.St.Store.holds c.leaf_by_table-result.new.store) (g.St.Store.signs c.leaf_by_table-result.new.store) c.leaf_by_table-result.ensures.streams c.leaf_by_table-result.ensures.emitter.grows (scene c.drop_all.new.self (g.St.Store.holds c.drop_all.new.store) (g.St.Store.signs c.drop_all.new.store)) (c.drop_all.ensures.went c.args.c.now.tracker c.leaf_by_table-result.ensures.streams.left_shape) c.drop_all.ensures.value)) c.drop_all-2.ensures.value c.pop-one.ensures.blocks c.pop-other.ensures.blocks c.pop-one.ensures.levels c.pop-other.ensures.levels lefts rights shows,
+      emitted_on (g.E.Emit.took c.args.emit.now (g.St.Store.holds c.args.store.now)) (g.E.Emit.took c.leaf_by_table-result.new.emit h1) (g.E.Emit.took c.leaf_by_table-result.new.emit h3) (stored_pairs c.args.shape.now (lefts c.args._at) (rights c.args._at)) still (came (lefts c.args._at) (rights c.args._at) shows.told (left_rows c.args.c.now c.args.shape.now c.args._at c.args.left.now c.args.right.now c.pop-one.new.self c.pop-other.new.self c.pop-one.result c.pop-other.result (g.St.Store.holds c.args.store.now) (g.St.Store.signs c.args.store.now) c.requires.op c.requires.between c.requires.top c.pop-one.ensures.streams c.pop-other.ensures.streams lefts rights shows) (right_rows c.args.c.now c.args.shape.now c.args._at c.args.left.now c.args.right.now c.pop-one.new.self c.pop-other.new.self c.pop-one.result c.pop-other.result (g.St.Store.holds c.args.store.now) (g.St.Store.signs c.args.store.now) c.requires.op c.requires.between c.requires.top c.pop-one.ensures.streams c.pop-other.ensures.streams lefts rights shows)),
     ))
-    c.leaf_by_chunks-result.ensures.ok
+    c.leaf_by_table-result.ensures.ok
 
 pub returns-clause-err : goal.returns-clause-err
 returns-clause-err g c =
-    let h1 = g.St.Store.holds c.leaf_by_chunks-result.new.store in
+    let h1 = g.St.Store.holds c.leaf_by_table-result.new.store in
     let h3 = g.St.Store.holds c.drop_all-2.new.store in
-    let gone = leaves_gone c.args.c.now c.args.shape.now c.args._at c.args.left.now c.args.right.now c.pop-one.new.self c.pop-other.new.self c.pop-one.result c.pop-other.result (g.St.Store.holds c.args.store.now) (g.St.Store.signs c.args.store.now) c.requires.op c.requires.between c.requires.top c.pop-one.ensures.streams c.pop-other.ensures.streams (g.E.Emit.client c.args.emit.now) c.leaf_by_chunks-result.new.left c.leaf_by_chunks-result.new.right (g.St.Store.holds c.leaf_by_chunks-result.new.store) (g.St.Store.signs c.leaf_by_chunks-result.new.store) c.leaf_by_chunks-result.ensures.streams c.leaf_by_chunks-result.ensures.emitter.grows (scene c.drop_all.new.self (g.St.Store.holds c.drop_all.new.store) (g.St.Store.signs c.drop_all.new.store)) (c.drop_all.ensures.went c.args.c.now.tracker c.leaf_by_chunks-result.ensures.streams.left_shape) c.drop_all.ensures.value (scene c.drop_all-2.new.self (g.St.Store.holds c.drop_all-2.new.store) (g.St.Store.signs c.drop_all-2.new.store)) (c.drop_all-2.ensures.went c.args.c.now.tracker (right_still c.args.c.now c.args.shape.now c.args._at c.args.left.now c.args.right.now c.pop-one.new.self c.pop-other.new.self c.pop-one.result c.pop-other.result (g.St.Store.holds c.args.store.now) (g.St.Store.signs c.args.store.now) c.requires.op c.requires.between c.requires.top c.pop-one.ensures.streams c.pop-other.ensures.streams (g.E.Emit.client c.args.emit.now) c.leaf_by_chunks-result.new.left c.leaf_by_chunks-result.new.right (g.St.Store.holds c.leaf_by_chunks-result.new.store) (g.St.Store.signs c.leaf_by_chunks-result.new.store) c.leaf_by_chunks-result.ensures.streams c.leaf_by_chunks-result.ensures.emitter.grows (scene c.drop_all.new.self (g.St.Store.holds c.drop_all.new.store) (g.St.Store.signs c.drop_all.new.store)) (c.drop_all.ensures.went c.args.c.now.tracker c.leaf_by_chunks-result.ensures.streams.left_shape) c.drop_all.ensures.value)) c.drop_all-2.ensures.value c.pop-one.ensures.blocks c.pop-other.ensures.blocks c.pop-one.ensures.levels c.pop-other.ensures.levels in
-    let beside : IsBeside c.args.c.now.tracker (g.E.Emit.client c.leaf_by_chunks-result.new.emit) h1 = beside_read c.args.c.now.tracker (g.E.Emit.admits c.args.emit.now) (g.E.Emit.admits c.leaf_by_chunks-result.new.emit) (g.E.Emit.client c.args.emit.now) (g.E.Emit.client c.leaf_by_chunks-result.new.emit) (g.E.Emit.faults c.args.emit.now) (g.E.Emit.faults c.leaf_by_chunks-result.new.emit) (g.St.Store.holds c.args.store.now) h1 (g.St.Store.signs c.args.store.now) (g.St.Store.signs c.leaf_by_chunks-result.new.store) c.requires.emitter c.leaf_by_chunks-result.ensures.emitter in
-    let still : (taken : List (List Value)) → g.E.Emit.took c.leaf_by_chunks-result.new.emit h1 taken → g.E.Emit.took c.leaf_by_chunks-result.new.emit h3 taken =
-    λ taken. g.met.E.Emit.asks_own c.leaf_by_chunks-result.new.emit h1 h3 taken (same_beside c.args.c.now.tracker (g.E.Emit.client c.leaf_by_chunks-result.new.emit) h1 h3 (g.St.Store.signs c.leaf_by_chunks-result.new.store) (g.St.Store.signs c.drop_all-2.new.store) beside.apart gone) in
-    on_err c.leaf_by_chunks-result.result
-    (λ came lefts rights shows. some_on (g.E.Emit.took c.args.emit.now (g.St.Store.holds c.args.store.now)) (g.E.Emit.took c.leaf_by_chunks-result.new.emit h1) (g.E.Emit.took c.leaf_by_chunks-result.new.emit h3) (stored_pairs c.args.shape.now (lefts c.args._at) (rights c.args._at)) still (came (lefts c.args._at) (rights c.args._at) shows.told (left_rows c.args.c.now c.args.shape.now c.args._at c.args.left.now c.args.right.now c.pop-one.new.self c.pop-other.new.self c.pop-one.result c.pop-other.result (g.St.Store.holds c.args.store.now) (g.St.Store.signs c.args.store.now) c.requires.op c.requires.between c.requires.top c.pop-one.ensures.streams c.pop-other.ensures.streams lefts rights shows) (right_rows c.args.c.now c.args.shape.now c.args._at c.args.left.now c.args.right.now c.pop-one.new.self c.pop-other.new.self c.pop-one.result c.pop-other.result (g.St.Store.holds c.args.store.now) (g.St.Store.signs c.args.store.now) c.requires.op c.requires.between c.requires.top c.pop-one.ensures.streams c.pop-other.ensures.streams lefts rights shows)))
-    c.leaf_by_chunks-result.ensures.err
+    let gone = leaves_gone c.args.c.now c.args.shape.now c.args._at c.args.left.now c.args.right.now c.pop-one.new.self c.pop-other.new.self c.pop-one.result c.pop-other.result (g.St.Store.holds c.args.store.now) (g.St.Store.signs c.args.store.now) c.requires.op c.requires.between c.requires.top c.pop-one.ensures.streams c.pop-other.ensures.streams (g.E.Emit.client c.args.emit.now) c.leaf_by_table-result.new.left c.leaf_by_table-result.new.right (g.St.Store.holds c.leaf_by_table-result.new.store) (g.St.Store.signs c.leaf_by_table-result.new.store) c.leaf_by_table-result.ensures.streams c.leaf_by_table-result.ensures.emitter.grows (scene c.drop_all.new.self (g.St.Store.holds c.drop_all.new.store) (g.St.Store.signs c.drop_all.new.store)) (c.drop_all.ensures.went c.args.c.now.tracker c.leaf_by_table-result.ensures.streams.left_shape) c.drop_all.ensures.value (scene c.drop_all-2.new.self (g.St.Store.holds c.drop_all-2.new.store) (g.St.Store.signs c.drop_all-2.new.store)) (c.drop_all-2.ensures.went c.args.c.now.tracker (right_still c.args.c.now c.args.shape.now c.args._at c.args.left.now c.args.right.now c.pop-one.new.self c.pop-other.new.self c.pop-one.result c.pop-other.result (g.St.Store.holds c.args.store.now) (g.St.Store.signs c.args.store.now) c.requires.op c.requires.between c.requires.top c.pop-one.ensures.streams c.pop-other.ensures.streams (g.E.Emit.client c.args.emit.now) c.leaf_by_table-result.new.left c.leaf_by_table-result.new.right (g.St.Store.holds c.leaf_by_table-result.new.store) (g.St.Store.signs c.leaf_by_table-result.new.store) c.leaf_by_table-result.ensures.streams c.leaf_by_table-result.ensures.emitter.grows (scene c.drop_all.new.self (g.St.Store.holds c.drop_all.new.store) (g.St.Store.signs c.drop_all.new.store)) (c.drop_all.ensures.went c.args.c.now.tracker c.leaf_by_table-result.ensures.streams.left_shape) c.drop_all.ensures.value)) c.drop_all-2.ensures.value c.pop-one.ensures.blocks c.pop-other.ensures.blocks c.pop-one.ensures.levels c.pop-other.ensures.levels in
+    let beside : IsBeside c.args.c.now.tracker (g.E.Emit.client c.leaf_by_table-result.new.emit) h1 = beside_read c.args.c.now.tracker (g.E.Emit.admits c.args.emit.now) (g.E.Emit.admits c.leaf_by_table-result.new.emit) (g.E.Emit.client c.args.emit.now) (g.E.Emit.client c.leaf_by_table-result.new.emit) (g.E.Emit.faults c.args.emit.now) (g.E.Emit.faults c.leaf_by_table-result.new.emit) (g.St.Store.holds c.args.store.now) h1 (g.St.Store.signs c.args.store.now) (g.St.Store.signs c.leaf_by_table-result.new.store) c.requires.emitter c.leaf_by_table-result.ensures.emitter in
+    let still : (taken : List (List Value)) → g.E.Emit.took c.leaf_by_table-result.new.emit h1 taken → g.E.Emit.took c.leaf_by_table-result.new.emit h3 taken =
+    λ taken. g.met.E.Emit.asks_own c.leaf_by_table-result.new.emit h1 h3 taken (same_beside c.args.c.now.tracker (g.E.Emit.client c.leaf_by_table-result.new.emit) h1 h3 (g.St.Store.signs c.leaf_by_table-result.new.store) (g.St.Store.signs c.drop_all-2.new.store) beside.apart gone) in
+    on_err c.leaf_by_table-result.result
+    (λ came lefts rights shows. some_on (g.E.Emit.took c.args.emit.now (g.St.Store.holds c.args.store.now)) (g.E.Emit.took c.leaf_by_table-result.new.emit h1) (g.E.Emit.took c.leaf_by_table-result.new.emit h3) (stored_pairs c.args.shape.now (lefts c.args._at) (rights c.args._at)) still (came (lefts c.args._at) (rights c.args._at) shows.told (left_rows c.args.c.now c.args.shape.now c.args._at c.args.left.now c.args.right.now c.pop-one.new.self c.pop-other.new.self c.pop-one.result c.pop-other.result (g.St.Store.holds c.args.store.now) (g.St.Store.signs c.args.store.now) c.requires.op c.requires.between c.requires.top c.pop-one.ensures.streams c.pop-other.ensures.streams lefts rights shows) (right_rows c.args.c.now c.args.shape.now c.args._at c.args.left.now c.args.right.now c.pop-one.new.self c.pop-other.new.self c.pop-one.result c.pop-other.result (g.St.Store.holds c.args.store.now) (g.St.Store.signs c.args.store.now) c.requires.op c.requires.between c.requires.top c.pop-one.ensures.streams c.pop-other.ensures.streams lefts rights shows)))
+    c.leaf_by_table-result.ensures.err
 
 pub returns-clause-popped : goal.returns-clause-popped
-returns-clause-popped g c = popped c.args.c.now c.args.shape.now c.args._at c.args.left.now c.args.right.now c.pop-one.new.self c.pop-other.new.self c.pop-one.result c.pop-other.result (g.St.Store.holds c.args.store.now) (g.St.Store.signs c.args.store.now) c.requires.op c.requires.between c.requires.top c.pop-one.ensures.streams c.pop-other.ensures.streams (g.E.Emit.client c.args.emit.now) c.leaf_by_chunks-result.new.left c.leaf_by_chunks-result.new.right (g.St.Store.holds c.leaf_by_chunks-result.new.store) (g.St.Store.signs c.leaf_by_chunks-result.new.store) c.leaf_by_chunks-result.ensures.streams c.leaf_by_chunks-result.ensures.emitter.grows (scene c.drop_all.new.self (g.St.Store.holds c.drop_all.new.store) (g.St.Store.signs c.drop_all.new.store)) (c.drop_all.ensures.went c.args.c.now.tracker c.leaf_by_chunks-result.ensures.streams.left_shape) c.drop_all.ensures.value (scene c.drop_all-2.new.self (g.St.Store.holds c.drop_all-2.new.store) (g.St.Store.signs c.drop_all-2.new.store)) (c.drop_all-2.ensures.went c.args.c.now.tracker (right_still c.args.c.now c.args.shape.now c.args._at c.args.left.now c.args.right.now c.pop-one.new.self c.pop-other.new.self c.pop-one.result c.pop-other.result (g.St.Store.holds c.args.store.now) (g.St.Store.signs c.args.store.now) c.requires.op c.requires.between c.requires.top c.pop-one.ensures.streams c.pop-other.ensures.streams (g.E.Emit.client c.args.emit.now) c.leaf_by_chunks-result.new.left c.leaf_by_chunks-result.new.right (g.St.Store.holds c.leaf_by_chunks-result.new.store) (g.St.Store.signs c.leaf_by_chunks-result.new.store) c.leaf_by_chunks-result.ensures.streams c.leaf_by_chunks-result.ensures.emitter.grows (scene c.drop_all.new.self (g.St.Store.holds c.drop_all.new.store) (g.St.Store.signs c.drop_all.new.store)) (c.drop_all.ensures.went c.args.c.now.tracker c.leaf_by_chunks-result.ensures.streams.left_shape) c.drop_all.ensures.value)) c.drop_all-2.ensures.value c.pop-one.ensures.blocks c.pop-other.ensures.blocks c.pop-one.ensures.levels c.pop-other.ensures.levels
+returns-clause-popped g c = popped c.args.c.now c.args.shape.now c.args._at c.args.left.now c.args.right.now c.pop-one.new.self c.pop-other.new.self c.pop-one.result c.pop-other.result (g.St.Store.holds c.args.store.now) (g.St.Store.signs c.args.store.now) c.requires.op c.requires.between c.requires.top c.pop-one.ensures.streams c.pop-other.ensures.streams (g.E.Emit.client c.args.emit.now) c.leaf_by_table-result.new.left c.leaf_by_table-result.new.right (g.St.Store.holds c.leaf_by_table-result.new.store) (g.St.Store.signs c.leaf_by_table-result.new.store) c.leaf_by_table-result.ensures.streams c.leaf_by_table-result.ensures.emitter.grows (scene c.drop_all.new.self (g.St.Store.holds c.drop_all.new.store) (g.St.Store.signs c.drop_all.new.store)) (c.drop_all.ensures.went c.args.c.now.tracker c.leaf_by_table-result.ensures.streams.left_shape) c.drop_all.ensures.value (scene c.drop_all-2.new.self (g.St.Store.holds c.drop_all-2.new.store) (g.St.Store.signs c.drop_all-2.new.store)) (c.drop_all-2.ensures.went c.args.c.now.tracker (right_still c.args.c.now c.args.shape.now c.args._at c.args.left.now c.args.right.now c.pop-one.new.self c.pop-other.new.self c.pop-one.result c.pop-other.result (g.St.Store.holds c.args.store.now) (g.St.Store.signs c.args.store.now) c.requires.op c.requires.between c.requires.top c.pop-one.ensures.streams c.pop-other.ensures.streams (g.E.Emit.client c.args.emit.now) c.leaf_by_table-result.new.left c.leaf_by_table-result.new.right (g.St.Store.holds c.leaf_by_table-result.new.store) (g.St.Store.signs c.leaf_by_table-result.new.store) c.leaf_by_table-result.ensures.streams c.leaf_by_table-result.ensures.emitter.grows (scene c.drop_all.new.self (g.St.Store.holds c.drop_all.new.store) (g.St.Store.signs c.drop_all.new.store)) (c.drop_all.ensures.went c.args.c.now.tracker c.leaf_by_table-result.ensures.streams.left_shape) c.drop_all.ensures.value)) c.drop_all-2.ensures.value c.pop-one.ensures.blocks c.pop-other.ensures.blocks c.pop-one.ensures.levels c.pop-other.ensures.levels
 
 pub returns-clause-op : goal.returns-clause-op
-returns-clause-op g c = op_paired c.args.c.now c.args.shape.now c.args._at c.args.left.now c.args.right.now c.pop-one.new.self c.pop-other.new.self c.pop-one.result c.pop-other.result (g.St.Store.holds c.args.store.now) (g.St.Store.signs c.args.store.now) c.requires.op c.requires.between c.requires.top c.pop-one.ensures.streams c.pop-other.ensures.streams (g.E.Emit.client c.args.emit.now) c.leaf_by_chunks-result.new.left c.leaf_by_chunks-result.new.right (g.St.Store.holds c.leaf_by_chunks-result.new.store) (g.St.Store.signs c.leaf_by_chunks-result.new.store) c.leaf_by_chunks-result.ensures.streams c.leaf_by_chunks-result.ensures.emitter.grows (scene c.drop_all.new.self (g.St.Store.holds c.drop_all.new.store) (g.St.Store.signs c.drop_all.new.store)) (c.drop_all.ensures.went c.args.c.now.tracker c.leaf_by_chunks-result.ensures.streams.left_shape) c.drop_all.ensures.value (scene c.drop_all-2.new.self (g.St.Store.holds c.drop_all-2.new.store) (g.St.Store.signs c.drop_all-2.new.store)) (c.drop_all-2.ensures.went c.args.c.now.tracker (right_still c.args.c.now c.args.shape.now c.args._at c.args.left.now c.args.right.now c.pop-one.new.self c.pop-other.new.self c.pop-one.result c.pop-other.result (g.St.Store.holds c.args.store.now) (g.St.Store.signs c.args.store.now) c.requires.op c.requires.between c.requires.top c.pop-one.ensures.streams c.pop-other.ensures.streams (g.E.Emit.client c.args.emit.now) c.leaf_by_chunks-result.new.left c.leaf_by_chunks-result.new.right (g.St.Store.holds c.leaf_by_chunks-result.new.store) (g.St.Store.signs c.leaf_by_chunks-result.new.store) c.leaf_by_chunks-result.ensures.streams c.leaf_by_chunks-result.ensures.emitter.grows (scene c.drop_all.new.self (g.St.Store.holds c.drop_all.new.store) (g.St.Store.signs c.drop_all.new.store)) (c.drop_all.ensures.went c.args.c.now.tracker c.leaf_by_chunks-result.ensures.streams.left_shape) c.drop_all.ensures.value)) c.drop_all-2.ensures.value c.pop-one.ensures.blocks c.pop-other.ensures.blocks c.pop-one.ensures.levels c.pop-other.ensures.levels
+returns-clause-op g c = op_paired c.args.c.now c.args.shape.now c.args._at c.args.left.now c.args.right.now c.pop-one.new.self c.pop-other.new.self c.pop-one.result c.pop-other.result (g.St.Store.holds c.args.store.now) (g.St.Store.signs c.args.store.now) c.requires.op c.requires.between c.requires.top c.pop-one.ensures.streams c.pop-other.ensures.streams (g.E.Emit.client c.args.emit.now) c.leaf_by_table-result.new.left c.leaf_by_table-result.new.right (g.St.Store.holds c.leaf_by_table-result.new.store) (g.St.Store.signs c.leaf_by_table-result.new.store) c.leaf_by_table-result.ensures.streams c.leaf_by_table-result.ensures.emitter.grows (scene c.drop_all.new.self (g.St.Store.holds c.drop_all.new.store) (g.St.Store.signs c.drop_all.new.store)) (c.drop_all.ensures.went c.args.c.now.tracker c.leaf_by_table-result.ensures.streams.left_shape) c.drop_all.ensures.value (scene c.drop_all-2.new.self (g.St.Store.holds c.drop_all-2.new.store) (g.St.Store.signs c.drop_all-2.new.store)) (c.drop_all-2.ensures.went c.args.c.now.tracker (right_still c.args.c.now c.args.shape.now c.args._at c.args.left.now c.args.right.now c.pop-one.new.self c.pop-other.new.self c.pop-one.result c.pop-other.result (g.St.Store.holds c.args.store.now) (g.St.Store.signs c.args.store.now) c.requires.op c.requires.between c.requires.top c.pop-one.ensures.streams c.pop-other.ensures.streams (g.E.Emit.client c.args.emit.now) c.leaf_by_table-result.new.left c.leaf_by_table-result.new.right (g.St.Store.holds c.leaf_by_table-result.new.store) (g.St.Store.signs c.leaf_by_table-result.new.store) c.leaf_by_table-result.ensures.streams c.leaf_by_table-result.ensures.emitter.grows (scene c.drop_all.new.self (g.St.Store.holds c.drop_all.new.store) (g.St.Store.signs c.drop_all.new.store)) (c.drop_all.ensures.went c.args.c.now.tracker c.leaf_by_table-result.ensures.streams.left_shape) c.drop_all.ensures.value)) c.drop_all-2.ensures.value c.pop-one.ensures.blocks c.pop-other.ensures.blocks c.pop-one.ensures.levels c.pop-other.ensures.levels
 
 pub returns-clause-leaves : goal.returns-clause-leaves
-returns-clause-leaves g c = leaves_paired c.args.c.now c.args.shape.now c.args._at c.args.left.now c.args.right.now c.pop-one.new.self c.pop-other.new.self c.pop-one.result c.pop-other.result (g.St.Store.holds c.args.store.now) (g.St.Store.signs c.args.store.now) c.requires.op c.requires.between c.requires.top c.pop-one.ensures.streams c.pop-other.ensures.streams (g.E.Emit.client c.args.emit.now) c.leaf_by_chunks-result.new.left c.leaf_by_chunks-result.new.right (g.St.Store.holds c.leaf_by_chunks-result.new.store) (g.St.Store.signs c.leaf_by_chunks-result.new.store) c.leaf_by_chunks-result.ensures.streams c.leaf_by_chunks-result.ensures.emitter.grows (scene c.drop_all.new.self (g.St.Store.holds c.drop_all.new.store) (g.St.Store.signs c.drop_all.new.store)) (c.drop_all.ensures.went c.args.c.now.tracker c.leaf_by_chunks-result.ensures.streams.left_shape) c.drop_all.ensures.value (scene c.drop_all-2.new.self (g.St.Store.holds c.drop_all-2.new.store) (g.St.Store.signs c.drop_all-2.new.store)) (c.drop_all-2.ensures.went c.args.c.now.tracker (right_still c.args.c.now c.args.shape.now c.args._at c.args.left.now c.args.right.now c.pop-one.new.self c.pop-other.new.self c.pop-one.result c.pop-other.result (g.St.Store.holds c.args.store.now) (g.St.Store.signs c.args.store.now) c.requires.op c.requires.between c.requires.top c.pop-one.ensures.streams c.pop-other.ensures.streams (g.E.Emit.client c.args.emit.now) c.leaf_by_chunks-result.new.left c.leaf_by_chunks-result.new.right (g.St.Store.holds c.leaf_by_chunks-result.new.store) (g.St.Store.signs c.leaf_by_chunks-result.new.store) c.leaf_by_chunks-result.ensures.streams c.leaf_by_chunks-result.ensures.emitter.grows (scene c.drop_all.new.self (g.St.Store.holds c.drop_all.new.store) (g.St.Store.signs c.drop_all.new.store)) (c.drop_all.ensures.went c.args.c.now.tracker c.leaf_by_chunks-result.ensures.streams.left_shape) c.drop_all.ensures.value)) c.drop_all-2.ensures.value c.pop-one.ensures.blocks c.pop-other.ensures.blocks c.pop-one.ensures.levels c.pop-other.ensures.levels
+returns-clause-leaves g c = leaves_paired c.args.c.now c.args.shape.now c.args._at c.args.left.now c.args.right.now c.pop-one.new.self c.pop-other.new.self c.pop-one.result c.pop-other.result (g.St.Store.holds c.args.store.now) (g.St.Store.signs c.args.store.now) c.requires.op c.requires.between c.requires.top c.pop-one.ensures.streams c.pop-other.ensures.streams (g.E.Emit.client c.args.emit.now) c.leaf_by_table-result.new.left c.leaf_by_table-result.new.right (g.St.Store.holds c.leaf_by_table-result.new.store) (g.St.Store.signs c.leaf_by_table-result.new.store) c.leaf_by_table-result.ensures.streams c.leaf_by_table-result.ensures.emitter.grows (scene c.drop_all.new.self (g.St.Store.holds c.drop_all.new.store) (g.St.Store.signs c.drop_all.new.store)) (c.drop_all.ensures.went c.args.c.now.tracker c.leaf_by_table-result.ensures.streams.left_shape) c.drop_all.ensures.value (scene c.drop_all-2.new.self (g.St.Store.holds c.drop_all-2.new.store) (g.St.Store.signs c.drop_all-2.new.store)) (c.drop_all-2.ensures.went c.args.c.now.tracker (right_still c.args.c.now c.args.shape.now c.args._at c.args.left.now c.args.right.now c.pop-one.new.self c.pop-other.new.self c.pop-one.result c.pop-other.result (g.St.Store.holds c.args.store.now) (g.St.Store.signs c.args.store.now) c.requires.op c.requires.between c.requires.top c.pop-one.ensures.streams c.pop-other.ensures.streams (g.E.Emit.client c.args.emit.now) c.leaf_by_table-result.new.left c.leaf_by_table-result.new.right (g.St.Store.holds c.leaf_by_table-result.new.store) (g.St.Store.signs c.leaf_by_table-result.new.store) c.leaf_by_table-result.ensures.streams c.leaf_by_table-result.ensures.emitter.grows (scene c.drop_all.new.self (g.St.Store.holds c.drop_all.new.store) (g.St.Store.signs c.drop_all.new.store)) (c.drop_all.ensures.went c.args.c.now.tracker c.leaf_by_table-result.ensures.streams.left_shape) c.drop_all.ensures.value)) c.drop_all-2.ensures.value c.pop-one.ensures.blocks c.pop-other.ensures.blocks c.pop-one.ensures.levels c.pop-other.ensures.levels
 
 pub returns-clause-emitter : goal.returns-clause-emitter
 returns-clause-emitter g c =
-    let h1 = g.St.Store.holds c.leaf_by_chunks-result.new.store in
+    let h1 = g.St.Store.holds c.leaf_by_table-result.new.store in
     let h3 = g.St.Store.holds c.drop_all-2.new.store in
-    let gone = leaves_gone c.args.c.now c.args.shape.now c.args._at c.args.left.now c.args.right.now c.pop-one.new.self c.pop-other.new.self c.pop-one.result c.pop-other.result (g.St.Store.holds c.args.store.now) (g.St.Store.signs c.args.store.now) c.requires.op c.requires.between c.requires.top c.pop-one.ensures.streams c.pop-other.ensures.streams (g.E.Emit.client c.args.emit.now) c.leaf_by_chunks-result.new.left c.leaf_by_chunks-result.new.right (g.St.Store.holds c.leaf_by_chunks-result.new.store) (g.St.Store.signs c.leaf_by_chunks-result.new.store) c.leaf_by_chunks-result.ensures.streams c.leaf_by_chunks-result.ensures.emitter.grows (scene c.drop_all.new.self (g.St.Store.holds c.drop_all.new.store) (g.St.Store.signs c.drop_all.new.store)) (c.drop_all.ensures.went c.args.c.now.tracker c.leaf_by_chunks-result.ensures.streams.left_shape) c.drop_all.ensures.value (scene c.drop_all-2.new.self (g.St.Store.holds c.drop_all-2.new.store) (g.St.Store.signs c.drop_all-2.new.store)) (c.drop_all-2.ensures.went c.args.c.now.tracker (right_still c.args.c.now c.args.shape.now c.args._at c.args.left.now c.args.right.now c.pop-one.new.self c.pop-other.new.self c.pop-one.result c.pop-other.result (g.St.Store.holds c.args.store.now) (g.St.Store.signs c.args.store.now) c.requires.op c.requires.between c.requires.top c.pop-one.ensures.streams c.pop-other.ensures.streams (g.E.Emit.client c.args.emit.now) c.leaf_by_chunks-result.new.left c.leaf_by_chunks-result.new.right (g.St.Store.holds c.leaf_by_chunks-result.new.store) (g.St.Store.signs c.leaf_by_chunks-result.new.store) c.leaf_by_chunks-result.ensures.streams c.leaf_by_chunks-result.ensures.emitter.grows (scene c.drop_all.new.self (g.St.Store.holds c.drop_all.new.store) (g.St.Store.signs c.drop_all.new.store)) (c.drop_all.ensures.went c.args.c.now.tracker c.leaf_by_chunks-result.ensures.streams.left_shape) c.drop_all.ensures.value)) c.drop_all-2.ensures.value c.pop-one.ensures.blocks c.pop-other.ensures.blocks c.pop-one.ensures.levels c.pop-other.ensures.levels in
-    let beside : IsBeside c.args.c.now.tracker (g.E.Emit.client c.leaf_by_chunks-result.new.emit) h1 = beside_read c.args.c.now.tracker (g.E.Emit.admits c.args.emit.now) (g.E.Emit.admits c.leaf_by_chunks-result.new.emit) (g.E.Emit.client c.args.emit.now) (g.E.Emit.client c.leaf_by_chunks-result.new.emit) (g.E.Emit.faults c.args.emit.now) (g.E.Emit.faults c.leaf_by_chunks-result.new.emit) (g.St.Store.holds c.args.store.now) h1 (g.St.Store.signs c.args.store.now) (g.St.Store.signs c.leaf_by_chunks-result.new.store) c.requires.emitter c.leaf_by_chunks-result.ensures.emitter in
-    let still : (taken : List (List Value)) → g.E.Emit.took c.leaf_by_chunks-result.new.emit h1 taken → g.E.Emit.took c.leaf_by_chunks-result.new.emit h3 taken =
-    λ taken. g.met.E.Emit.asks_own c.leaf_by_chunks-result.new.emit h1 h3 taken (same_beside c.args.c.now.tracker (g.E.Emit.client c.leaf_by_chunks-result.new.emit) h1 h3 (g.St.Store.signs c.leaf_by_chunks-result.new.store) (g.St.Store.signs c.drop_all-2.new.store) beside.apart gone) in
-    stands_then _ _ _ _ _ _ _ _ _ (g.E.Emit.took c.args.emit.now (g.St.Store.holds c.args.store.now)) (g.E.Emit.took c.leaf_by_chunks-result.new.emit h1) (g.E.Emit.took c.leaf_by_chunks-result.new.emit h3) h1 h3
-    (stands_read _ _ _ _ _ _ (g.E.Emit.took c.args.emit.now (g.St.Store.holds c.args.store.now)) (g.E.Emit.took c.leaf_by_chunks-result.new.emit h1) h1 (g.St.Store.signs c.args.store.now) (g.St.Store.signs c.leaf_by_chunks-result.new.store) c.leaf_by_chunks-result.ensures.emitter c.leaf_by_chunks-result.ensures.stands)
-    (stands_left _ _ _ (g.E.Emit.took c.leaf_by_chunks-result.new.emit h1) (g.E.Emit.took c.leaf_by_chunks-result.new.emit h3) c.args.c.now.tracker h1 h3 (g.St.Store.signs c.leaf_by_chunks-result.new.store) (g.St.Store.signs c.drop_all-2.new.store) beside gone still)
+    let gone = leaves_gone c.args.c.now c.args.shape.now c.args._at c.args.left.now c.args.right.now c.pop-one.new.self c.pop-other.new.self c.pop-one.result c.pop-other.result (g.St.Store.holds c.args.store.now) (g.St.Store.signs c.args.store.now) c.requires.op c.requires.between c.requires.top c.pop-one.ensures.streams c.pop-other.ensures.streams (g.E.Emit.client c.args.emit.now) c.leaf_by_table-result.new.left c.leaf_by_table-result.new.right (g.St.Store.holds c.leaf_by_table-result.new.store) (g.St.Store.signs c.leaf_by_table-result.new.store) c.leaf_by_table-result.ensures.streams c.leaf_by_table-result.ensures.emitter.grows (scene c.drop_all.new.self (g.St.Store.holds c.drop_all.new.store) (g.St.Store.signs c.drop_all.new.store)) (c.drop_all.ensures.went c.args.c.now.tracker c.leaf_by_table-result.ensures.streams.left_shape) c.drop_all.ensures.value (scene c.drop_all-2.new.self (g.St.Store.holds c.drop_all-2.new.store) (g.St.Store.signs c.drop_all-2.new.store)) (c.drop_all-2.ensures.went c.args.c.now.tracker (right_still c.args.c.now c.args.shape.now c.args._at c.args.left.now c.args.right.now c.pop-one.new.self c.pop-other.new.self c.pop-one.result c.pop-other.result (g.St.Store.holds c.args.store.now) (g.St.Store.signs c.args.store.now) c.requires.op c.requires.between c.requires.top c.pop-one.ensures.streams c.pop-other.ensures.streams (g.E.Emit.client c.args.emit.now) c.leaf_by_table-result.new.left c.leaf_by_table-result.new.right (g.St.Store.holds c.leaf_by_table-result.new.store) (g.St.Store.signs c.leaf_by_table-result.new.store) c.leaf_by_table-result.ensures.streams c.leaf_by_table-result.ensures.emitter.grows (scene c.drop_all.new.self (g.St.Store.holds c.drop_all.new.store) (g.St.Store.signs c.drop_all.new.store)) (c.drop_all.ensures.went c.args.c.now.tracker c.leaf_by_table-result.ensures.streams.left_shape) c.drop_all.ensures.value)) c.drop_all-2.ensures.value c.pop-one.ensures.blocks c.pop-other.ensures.blocks c.pop-one.ensures.levels c.pop-other.ensures.levels in
+    let beside : IsBeside c.args.c.now.tracker (g.E.Emit.client c.leaf_by_table-result.new.emit) h1 = beside_read c.args.c.now.tracker (g.E.Emit.admits c.args.emit.now) (g.E.Emit.admits c.leaf_by_table-result.new.emit) (g.E.Emit.client c.args.emit.now) (g.E.Emit.client c.leaf_by_table-result.new.emit) (g.E.Emit.faults c.args.emit.now) (g.E.Emit.faults c.leaf_by_table-result.new.emit) (g.St.Store.holds c.args.store.now) h1 (g.St.Store.signs c.args.store.now) (g.St.Store.signs c.leaf_by_table-result.new.store) c.requires.emitter c.leaf_by_table-result.ensures.emitter in
+    let still : (taken : List (List Value)) → g.E.Emit.took c.leaf_by_table-result.new.emit h1 taken → g.E.Emit.took c.leaf_by_table-result.new.emit h3 taken =
+    λ taken. g.met.E.Emit.asks_own c.leaf_by_table-result.new.emit h1 h3 taken (same_beside c.args.c.now.tracker (g.E.Emit.client c.leaf_by_table-result.new.emit) h1 h3 (g.St.Store.signs c.leaf_by_table-result.new.store) (g.St.Store.signs c.drop_all-2.new.store) beside.apart gone) in
+    stands_then _ _ _ _ _ _ _ _ _ (g.E.Emit.took c.args.emit.now (g.St.Store.holds c.args.store.now)) (g.E.Emit.took c.leaf_by_table-result.new.emit h1) (g.E.Emit.took c.leaf_by_table-result.new.emit h3) h1 h3
+    (stands_read _ _ _ _ _ _ (g.E.Emit.took c.args.emit.now (g.St.Store.holds c.args.store.now)) (g.E.Emit.took c.leaf_by_table-result.new.emit h1) h1 (g.St.Store.signs c.args.store.now) (g.St.Store.signs c.leaf_by_table-result.new.store) c.leaf_by_table-result.ensures.emitter c.leaf_by_table-result.ensures.stands)
+    (stands_left _ _ _ (g.E.Emit.took c.leaf_by_table-result.new.emit h1) (g.E.Emit.took c.leaf_by_table-result.new.emit h3) c.args.c.now.tracker h1 h3 (g.St.Store.signs c.leaf_by_table-result.new.store) (g.St.Store.signs c.drop_all-2.new.store) beside gone still)
 
 pub returns-clause-short : goal.returns-clause-short
 returns-clause-short g c = λ none.
     let blocks : c.pop-one.result.page_blocks ≡ c.args.left.now.page_blocks = c.law_stack.ensures.each c.args._at c.pop-one.result (left_there c.args.c.now c.args.shape.now c.args._at c.args.left.now c.args.right.now c.pop-one.new.self c.pop-other.new.self c.pop-one.result c.pop-other.result (g.St.Store.holds c.args.store.now) (g.St.Store.signs c.args.store.now) c.requires.op c.requires.between c.requires.top c.pop-one.ensures.streams c.pop-other.ensures.streams) in
-    if_err c.leaf_by_chunks-result.result (λ e came. subst (λ (n : ℕ). IsShortOf n e) blocks (came.short none)) c.leaf_by_chunks-result.ensures.cause
+    if_err c.leaf_by_table-result.result (λ e came. subst (λ (n : ℕ). IsShortOf n e) blocks (came.short none)) c.leaf_by_table-result.ensures.cause
 
 pub returns-clause-cause : goal.returns-clause-cause
 returns-clause-cause g c =
-    came_till c.leaf_by_chunks-result.result _ _ _ _ _ (leaves_gone c.args.c.now c.args.shape.now c.args._at c.args.left.now c.args.right.now c.pop-one.new.self c.pop-other.new.self c.pop-one.result c.pop-other.result (g.St.Store.holds c.args.store.now) (g.St.Store.signs c.args.store.now) c.requires.op c.requires.between c.requires.top c.pop-one.ensures.streams c.pop-other.ensures.streams (g.E.Emit.client c.args.emit.now) c.leaf_by_chunks-result.new.left c.leaf_by_chunks-result.new.right (g.St.Store.holds c.leaf_by_chunks-result.new.store) (g.St.Store.signs c.leaf_by_chunks-result.new.store) c.leaf_by_chunks-result.ensures.streams c.leaf_by_chunks-result.ensures.emitter.grows (scene c.drop_all.new.self (g.St.Store.holds c.drop_all.new.store) (g.St.Store.signs c.drop_all.new.store)) (c.drop_all.ensures.went c.args.c.now.tracker c.leaf_by_chunks-result.ensures.streams.left_shape) c.drop_all.ensures.value (scene c.drop_all-2.new.self (g.St.Store.holds c.drop_all-2.new.store) (g.St.Store.signs c.drop_all-2.new.store)) (c.drop_all-2.ensures.went c.args.c.now.tracker (right_still c.args.c.now c.args.shape.now c.args._at c.args.left.now c.args.right.now c.pop-one.new.self c.pop-other.new.self c.pop-one.result c.pop-other.result (g.St.Store.holds c.args.store.now) (g.St.Store.signs c.args.store.now) c.requires.op c.requires.between c.requires.top c.pop-one.ensures.streams c.pop-other.ensures.streams (g.E.Emit.client c.args.emit.now) c.leaf_by_chunks-result.new.left c.leaf_by_chunks-result.new.right (g.St.Store.holds c.leaf_by_chunks-result.new.store) (g.St.Store.signs c.leaf_by_chunks-result.new.store) c.leaf_by_chunks-result.ensures.streams c.leaf_by_chunks-result.ensures.emitter.grows (scene c.drop_all.new.self (g.St.Store.holds c.drop_all.new.store) (g.St.Store.signs c.drop_all.new.store)) (c.drop_all.ensures.went c.args.c.now.tracker c.leaf_by_chunks-result.ensures.streams.left_shape) c.drop_all.ensures.value)) c.drop_all-2.ensures.value c.pop-one.ensures.blocks c.pop-other.ensures.blocks c.pop-one.ensures.levels c.pop-other.ensures.levels).grows (if_err c.leaf_by_chunks-result.result (λ e came. came.came) c.leaf_by_chunks-result.ensures.cause)
+    came_till c.leaf_by_table-result.result _ _ _ _ _ (leaves_gone c.args.c.now c.args.shape.now c.args._at c.args.left.now c.args.right.now c.pop-one.new.self c.pop-other.new.self c.pop-one.result c.pop-other.result (g.St.Store.holds c.args.store.now) (g.St.Store.signs c.args.store.now) c.requires.op c.requires.between c.requires.top c.pop-one.ensures.streams c.pop-other.ensures.streams (g.E.Emit.client c.args.emit.now) c.leaf_by_table-result.new.left c.leaf_by_table-result.new.right (g.St.Store.holds c.leaf_by_table-result.new.store) (g.St.Store.signs c.leaf_by_table-result.new.store) c.leaf_by_table-result.ensures.streams c.leaf_by_table-result.ensures.emitter.grows (scene c.drop_all.new.self (g.St.Store.holds c.drop_all.new.store) (g.St.Store.signs c.drop_all.new.store)) (c.drop_all.ensures.went c.args.c.now.tracker c.leaf_by_table-result.ensures.streams.left_shape) c.drop_all.ensures.value (scene c.drop_all-2.new.self (g.St.Store.holds c.drop_all-2.new.store) (g.St.Store.signs c.drop_all-2.new.store)) (c.drop_all-2.ensures.went c.args.c.now.tracker (right_still c.args.c.now c.args.shape.now c.args._at c.args.left.now c.args.right.now c.pop-one.new.self c.pop-other.new.self c.pop-one.result c.pop-other.result (g.St.Store.holds c.args.store.now) (g.St.Store.signs c.args.store.now) c.requires.op c.requires.between c.requires.top c.pop-one.ensures.streams c.pop-other.ensures.streams (g.E.Emit.client c.args.emit.now) c.leaf_by_table-result.new.left c.leaf_by_table-result.new.right (g.St.Store.holds c.leaf_by_table-result.new.store) (g.St.Store.signs c.leaf_by_table-result.new.store) c.leaf_by_table-result.ensures.streams c.leaf_by_table-result.ensures.emitter.grows (scene c.drop_all.new.self (g.St.Store.holds c.drop_all.new.store) (g.St.Store.signs c.drop_all.new.store)) (c.drop_all.ensures.went c.args.c.now.tracker c.leaf_by_table-result.ensures.streams.left_shape) c.drop_all.ensures.value)) c.drop_all-2.ensures.value c.pop-one.ensures.blocks c.pop-other.ensures.blocks c.pop-one.ensures.levels c.pop-other.ensures.levels).grows (if_err c.leaf_by_table-result.result (λ e came. came.came) c.leaf_by_table-result.ensures.cause)

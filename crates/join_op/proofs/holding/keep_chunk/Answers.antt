@@ -6,13 +6,13 @@ use Rattle.tuple_stream.specs.Steps.{scene}
 use Rattle.tuple_stream.proofs.ReadRow.{reads_trans}
 use Rattle.partition_stack.specs.Causes.{IsShort}
 use Rattle.partition_stack.proofs.Shorts.{full_short}
-use Rattle.join_op.specs.Stored.{right_side}
+use Rattle.join_op.specs.Holding.{held_side}
 use Rattle.join_op.proofs.ChunkJoins.{row_found}
 use Rattle.join_op.proofs.ChunkRounds.{keeping_more, keeping_none}
-use Rattle.join_op.proofs.chunks.keep_chunk.Goals as goal
+use Rattle.join_op.proofs.holding.keep_chunk.Goals as goal
 
 pub more-init : goal.more-init
-more-init g c = keeping_none c.args.c.now.tracker c.args.chunk (right_side c.args.shape.now) _ c.args.place.now (scene c.args.right.now (g.St.Store.holds c.args.store.now) (g.St.Store.signs c.args.store.now)) (search rules) c.requires.stream.shape c.requires.place
+more-init g c = keeping_none c.args.c.now.tracker c.args.chunk (held_side c.args.turned c.args.shape.now) _ c.args.place.now (scene c.args.builds.now (g.St.Store.holds c.args.store.now) (g.St.Store.signs c.args.store.now)) (search rules) c.requires.stream.shape c.requires.place
 
 pub returns-in_err-keep_into-clause-went : goal.returns-in_err-keep_into-clause-went
 returns-in_err-keep_into-clause-went g c = reads_trans c.args.c.now.tracker _ _ _ c.more.invariant.went c.keep_into.ensures.went
@@ -25,7 +25,7 @@ returns-in_err-keep_into-clause-cause g c =
 
 pub returns-in_err-keep_into-clause-short : goal.returns-in_err-keep_into-clause-short
 returns-in_err-keep_into-clause-short g c =
-    let short : IsShort c.args.right.now.page_blocks c.in_err-keep_into.field-0.0 =
+    let short : IsShort c.args.builds.now.page_blocks c.in_err-keep_into.field-0.0 =
     subst (λ (n : ℕ). IsShort n c.in_err-keep_into.field-0.0) c.more.invariant.went.step.sized (full_short _ _ c.in_err-keep_into.field-0.0 c.in_err-keep_into.ensures.cause.full) in
     search (rules, short)
 
@@ -37,10 +37,10 @@ returns-in_default-clause-went g c = reads_trans c.args.c.now.tracker _ _ _ c.mo
 
 pub more-preserved : goal.more-preserved
 more-preserved g c =
-    let b = scene c.more.right (g.St.Store.holds c.more.store) (g.St.Store.signs c.more.store) in
+    let b = scene c.more.builds (g.St.Store.holds c.more.store) (g.St.Store.signs c.more.store) in
     let d = scene c.keep_into.new.self (g.St.Store.holds c.keep_into.new.store) (g.St.Store.signs c.keep_into.new.store) in
     let found : c.in_ok-keep_into.field-0 ≡ true = search rules in
     let reads : ReadsRow c.more.place c.keep_into.new.place c.keep_into.new.out.items b d = row_found c.in_ok-keep_into.field-0 _ _ _ b d found c.in_ok-keep_into.ensures.ok in
     let less : length c.more.kept.items < c.args.chunk = search rules in
-    keeping_more c.args.c.now.tracker c.args.chunk (right_side c.args.shape.now) c.more.kept.items c.keep.new.kept.items c.args.place.now c.more.place c.keep_into.new.place c.keep_into.new.out.items _ b d
+    keeping_more c.args.c.now.tracker c.args.chunk (held_side c.args.turned c.args.shape.now) c.more.kept.items c.keep.new.kept.items c.args.place.now c.more.place c.keep_into.new.place c.keep_into.new.out.items _ b d
     c.more.invariant less c.keep_into.ensures.went c.keep_into.ensures.same reads (c.in-Ok.ensures.each c.more.invariant.each) c.in-Ok.ensures.rows

@@ -5,31 +5,31 @@ use Rattle.partition_stack.proofs.Emitters.{came_behind, stood_more}
 use Rattle.partition_stack.proofs.Results.{any_err}
 use Rattle.join_op.specs.declared.feeding.Spare.{Spare}
 use Rattle.join_op.specs.Chunks.{kept_rows}
-use Rattle.join_op.proofs.ChunkPairs.{emitted_then, more_right, parts_right, some_then}
+use Rattle.join_op.proofs.ChunkPairs.{emitted_then, more_held, parts_held, some_then}
 use Rattle.join_op.proofs.Handed.{emitted_as}
 use Rattle.join_op.proofs.KeptList.{rows_more, rows_split}
-use Rattle.join_op.proofs.chunks.join_row.Goals as goal
+use Rattle.join_op.proofs.meeting.meet_kept.Goals as goal
 
-pub returns-in_err-join_one-clause-err : goal.returns-in_err-join_one-clause-err
-returns-in_err-join_one-clause-err g c =
+pub returns-in_err-join_two-clause-err : goal.returns-in_err-join_two-clause-err
+returns-in_err-join_two-clause-err g c =
     let i = c.loop-right.right-index in
     let e : Spare = c.right-item.result in
     let split : kept_rows c.args.kept.now ≡ kept_rows (take i c.args.kept.now) ++ e.row.items ∷ kept_rows (drop (suc i) c.args.kept.now) =
     rows_split c.args.kept.now i e c.loop-right-test.true
     ∙ ap (λ (d : Spare). kept_rows (take i c.args.kept.now) ++ d.row.items ∷ kept_rows (drop (suc i) c.args.kept.now)) (let is : slice_index_or c.args.kept.now i e ≡ e = search rules in is) in
     any_err c.from_residual.result (some_then _ _ _ _ c.loop-right.invariant.emitted _ _ _
-    (parts_right c.args.shape.now (c.args.left.now.row.items ∷ []) (kept_rows c.args.kept.now) (kept_rows (take i c.args.kept.now)) e.row.items (kept_rows (drop (suc i) c.args.kept.now)) split)
-    c.in_err-join_one.ensures.err)
+    (parts_held c.args.turned c.args.shape.now (c.args.row.now.row.items ∷ []) (kept_rows c.args.kept.now) (kept_rows (take i c.args.kept.now)) e.row.items (kept_rows (drop (suc i) c.args.kept.now)) split)
+    c.in_err-join_two.ensures.err)
 
-pub returns-in_err-join_one-clause-cause : goal.returns-in_err-join_one-clause-cause
-returns-in_err-join_one-clause-cause g c =
+pub returns-in_err-join_two-clause-cause : goal.returns-in_err-join_two-clause-cause
+returns-in_err-join_two-clause-cause g c =
     let stood = c.loop-right.invariant.stood in
-    let came : CameOf (g.E.Emit.faults c.args.emit.now) (g.E.Emit.faults c.join_one.new.emit) (g.St.Store.signs c.args.store.now) (g.St.Store.signs c.join_one.new.store) c.in_err-join_one.field-0.0 =
-    came_behind _ _ _ _ _ _ _ stood.never_falls stood.grows c.in_err-join_one.ensures.cause in
+    let came : CameOf (g.E.Emit.faults c.args.emit.now) (g.E.Emit.faults c.join_two.new.emit) (g.St.Store.signs c.args.store.now) (g.St.Store.signs c.join_two.new.store) c.in_err-join_two.field-0.0 =
+    came_behind _ _ _ _ _ _ _ stood.never_falls stood.grows c.in_err-join_two.ensures.cause in
     search (rules, came)
 
-pub returns-in_err-join_one-clause-stood : goal.returns-in_err-join_one-clause-stood
-returns-in_err-join_one-clause-stood g c = stood_more _ _ _ _ _ _ _ _ _ _ _ _ _ _ _ c.loop-right.invariant.stood c.join_one.ensures.stood
+pub returns-in_err-join_two-clause-stood : goal.returns-in_err-join_two-clause-stood
+returns-in_err-join_two-clause-stood g c = stood_more _ _ _ _ _ _ _ _ _ _ _ _ _ _ _ c.loop-right.invariant.stood c.join_two.ensures.stood
 
 pub loop-right-preserved : goal.loop-right-preserved
 loop-right-preserved g c =
@@ -40,7 +40,7 @@ loop-right-preserved g c =
     ∙ ap (λ (d : Spare). kept_rows (take i c.args.kept.now) ++ d.row.items ∷ []) (let is : slice_index_or c.args.kept.now i e ≡ e = search rules in is) in
     record {
       emitted = emitted_as _ _ _ _
-          (more_right c.args.shape.now (c.args.left.now.row.items ∷ []) (kept_rows (take (i + 1) c.args.kept.now)) (kept_rows (take i c.args.kept.now)) e.row.items more)
-          (emitted_then _ _ _ _ c.loop-right.invariant.emitted _ c.in_ok-join_one.ensures.ok);
-      stood = stood_more _ _ _ _ _ _ _ _ _ _ _ _ _ _ _ c.loop-right.invariant.stood c.join_one.ensures.stood;
+          (more_held c.args.turned c.args.shape.now (c.args.row.now.row.items ∷ []) (kept_rows (take (i + 1) c.args.kept.now)) (kept_rows (take i c.args.kept.now)) e.row.items more)
+          (emitted_then _ _ _ _ c.loop-right.invariant.emitted _ c.in_ok-join_two.ensures.ok);
+      stood = stood_more _ _ _ _ _ _ _ _ _ _ _ _ _ _ _ c.loop-right.invariant.stood c.join_two.ensures.stood;
     }

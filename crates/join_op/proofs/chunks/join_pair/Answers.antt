@@ -1,0 +1,80 @@
+use Rattle.std.proofs.Common.{◌≡◌, ◌≢◌, ◌∙◌, List, Some, sym}
+use Rattle.row_codec.specs.declared.values.Value.{Value}
+use Rattle.bucket_table.specs.Lending.{Lends}
+use Rattle.partition_stack.proofs.Results.{if_err, on_err, on_ok}
+use Rattle.join_op.specs.Chunks.{stored_pairs}
+use Rattle.join_op.specs.Holding.{IsTableAt, loans_in}
+use Rattle.join_op.proofs.Handed.{emitted_on, some_on}
+use Rattle.join_op.proofs.LeafEnds.{cause_later, lends_as, stays_later, went_later}
+use Rattle.join_op.proofs.LentBoth.{both_lent, own_given, table_read}
+use Rattle.join_op.proofs.chunks.join_pair.Goals as goal
+
+pub give-requires : goal.give-requires
+give-requires g c =
+    let t = c.args.c.now.tracker in
+    let h1 = g.St.Store.holds c.args.store.now in
+    let h2 = g.St.Store.holds c.join_streams-result.new.store in
+    let at : IsTableAt t c.join_streams-result.new.held.table h2 = table_read t _ _ _ _ _ h1 h2 c.join_streams-result.ensures.streams c.args.held.table c.join_streams-result.new.held.table c.join_streams-result.ensures.held.table c.requires.table in
+    (t, at)
+
+pub returns-clause-ok : goal.returns-clause-ok
+returns-clause-ok g c =
+    let t = c.args.c.now.tracker in
+    let h1 = g.St.Store.holds c.args.store.now in
+    let h2 = g.St.Store.holds c.join_streams-result.new.store in
+    let h3 = g.St.Store.holds c.give.new.store in
+    let at : IsTableAt t c.join_streams-result.new.held.table h2 = table_read t _ _ _ _ _ h1 h2 c.join_streams-result.ensures.streams c.args.held.table c.join_streams-result.new.held.table c.join_streams-result.ensures.held.table c.requires.table in
+    let lends : Lends t (loans_in c.args.held.table) h3 h2 = lends_as t c.args.held.table c.join_streams-result.new.held.table h3 h2 c.join_streams-result.ensures.held.table (c.give.ensures.lends t at) in
+    let free : g.E.Emit.client c.join_streams-result.new.emit ≢ Some t = λ is. c.requires.emitter.apart (sym c.join_streams-result.ensures.emitter.client_same ∙ is) in
+    let still : (rows : List (List Value)) → g.E.Emit.took c.join_streams-result.new.emit h2 rows → g.E.Emit.took c.join_streams-result.new.emit h3 rows =
+    λ rows. g.met.E.Emit.asks_own c.join_streams-result.new.emit h2 h3 rows (own_given t (loans_in c.args.held.table) h3 h2 lends (g.E.Emit.client c.join_streams-result.new.emit) free) in
+    on_ok c.join_streams-result.result (λ came lefts rights told one two. emitted_on (g.E.Emit.took c.args.emit.now h1) (g.E.Emit.took c.join_streams-result.new.emit h2) (g.E.Emit.took c.join_streams-result.new.emit h3) (stored_pairs c.args.shape.now lefts rights) still (came lefts rights told one two)) c.join_streams-result.ensures.ok
+
+pub returns-clause-err : goal.returns-clause-err
+returns-clause-err g c =
+    let t = c.args.c.now.tracker in
+    let h1 = g.St.Store.holds c.args.store.now in
+    let h2 = g.St.Store.holds c.join_streams-result.new.store in
+    let h3 = g.St.Store.holds c.give.new.store in
+    let at : IsTableAt t c.join_streams-result.new.held.table h2 = table_read t _ _ _ _ _ h1 h2 c.join_streams-result.ensures.streams c.args.held.table c.join_streams-result.new.held.table c.join_streams-result.ensures.held.table c.requires.table in
+    let lends : Lends t (loans_in c.args.held.table) h3 h2 = lends_as t c.args.held.table c.join_streams-result.new.held.table h3 h2 c.join_streams-result.ensures.held.table (c.give.ensures.lends t at) in
+    let free : g.E.Emit.client c.join_streams-result.new.emit ≢ Some t = λ is. c.requires.emitter.apart (sym c.join_streams-result.ensures.emitter.client_same ∙ is) in
+    let still : (rows : List (List Value)) → g.E.Emit.took c.join_streams-result.new.emit h2 rows → g.E.Emit.took c.join_streams-result.new.emit h3 rows =
+    λ rows. g.met.E.Emit.asks_own c.join_streams-result.new.emit h2 h3 rows (own_given t (loans_in c.args.held.table) h3 h2 lends (g.E.Emit.client c.join_streams-result.new.emit) free) in
+    on_err c.join_streams-result.result (λ came lefts rights told one two. some_on (g.E.Emit.took c.args.emit.now h1) (g.E.Emit.took c.join_streams-result.new.emit h2) (g.E.Emit.took c.join_streams-result.new.emit h3) (stored_pairs c.args.shape.now lefts rights) still (came lefts rights told one two)) c.join_streams-result.ensures.err
+
+pub returns-clause-stands : goal.returns-clause-stands
+returns-clause-stands g c =
+    let t = c.args.c.now.tracker in
+    let h1 = g.St.Store.holds c.args.store.now in
+    let h2 = g.St.Store.holds c.join_streams-result.new.store in
+    let h3 = g.St.Store.holds c.give.new.store in
+    let at : IsTableAt t c.join_streams-result.new.held.table h2 = table_read t _ _ _ _ _ h1 h2 c.join_streams-result.ensures.streams c.args.held.table c.join_streams-result.new.held.table c.join_streams-result.ensures.held.table c.requires.table in
+    let lends : Lends t (loans_in c.args.held.table) h3 h2 = lends_as t c.args.held.table c.join_streams-result.new.held.table h3 h2 c.join_streams-result.ensures.held.table (c.give.ensures.lends t at) in
+    let free : g.E.Emit.client c.join_streams-result.new.emit ≢ Some t = λ is. c.requires.emitter.apart (sym c.join_streams-result.ensures.emitter.client_same ∙ is) in
+    let still : (rows : List (List Value)) → g.E.Emit.took c.join_streams-result.new.emit h2 rows → g.E.Emit.took c.join_streams-result.new.emit h3 rows =
+    λ rows. g.met.E.Emit.asks_own c.join_streams-result.new.emit h2 h3 rows (own_given t (loans_in c.args.held.table) h3 h2 lends (g.E.Emit.client c.join_streams-result.new.emit) free) in
+    went_later (g.E.Emit.took c.args.emit.now h1) (g.E.Emit.took c.join_streams-result.new.emit h2) (g.E.Emit.took c.join_streams-result.new.emit h3) still c.join_streams-result.ensures.stands
+
+pub returns-clause-cause : goal.returns-clause-cause
+returns-clause-cause g c = if_err c.join_streams-result.result (λ e came. cause_later _ _ _ _ _ _ _ e c.give.ensures.grows came) c.join_streams-result.ensures.cause
+
+pub returns-clause-streams : goal.returns-clause-streams
+returns-clause-streams g c =
+    let t = c.args.c.now.tracker in
+    let h1 = g.St.Store.holds c.args.store.now in
+    let h2 = g.St.Store.holds c.join_streams-result.new.store in
+    let h3 = g.St.Store.holds c.give.new.store in
+    let at : IsTableAt t c.join_streams-result.new.held.table h2 = table_read t _ _ _ _ _ h1 h2 c.join_streams-result.ensures.streams c.args.held.table c.join_streams-result.new.held.table c.join_streams-result.ensures.held.table c.requires.table in
+    let lends : Lends t (loans_in c.args.held.table) h3 h2 = lends_as t c.args.held.table c.join_streams-result.new.held.table h3 h2 c.join_streams-result.ensures.held.table (c.give.ensures.lends t at) in
+    λ less came is. both_lent t _ _ _ _ _ (loans_in c.args.held.table) less h1 h2 h3 came lends is.left_shape is.right_shape c.join_streams-result.ensures.streams
+
+pub returns-clause-emitter : goal.returns-clause-emitter
+returns-clause-emitter g c =
+    let t = c.args.c.now.tracker in
+    let h1 = g.St.Store.holds c.args.store.now in
+    let h2 = g.St.Store.holds c.join_streams-result.new.store in
+    let h3 = g.St.Store.holds c.give.new.store in
+    let at : IsTableAt t c.join_streams-result.new.held.table h2 = table_read t _ _ _ _ _ h1 h2 c.join_streams-result.ensures.streams c.args.held.table c.join_streams-result.new.held.table c.join_streams-result.ensures.held.table c.requires.table in
+    let lends : Lends t (loans_in c.args.held.table) h3 h2 = lends_as t c.args.held.table c.join_streams-result.new.held.table h3 h2 c.join_streams-result.ensures.held.table (c.give.ensures.lends t at) in
+    stays_later t (loans_in c.args.held.table) _ _ _ _ _ _ h3 h2 _ _ _ c.requires.emitter.apart lends c.give.ensures.grows c.join_streams-result.ensures.emitter

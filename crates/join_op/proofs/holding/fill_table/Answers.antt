@@ -1,0 +1,45 @@
+use Rattle.std.proofs.Common.{rules, ◌≡◌, ℕ, true, subst}
+use Rattle.store_api.specs.Signs.{WasAnswered}
+use Rattle.store_api.proofs.Answered.{answered_before}
+use Rattle.tuple_stream.specs.Reading.{ReadsRow}
+use Rattle.tuple_stream.specs.Steps.{scene}
+use Rattle.tuple_stream.proofs.ReadRow.{reads_trans}
+use Rattle.partition_stack.specs.Causes.{IsShort}
+use Rattle.partition_stack.proofs.Shorts.{full_short}
+use Rattle.join_op.specs.Holding.{held_side}
+use Rattle.join_op.proofs.ChunkJoins.{row_found}
+use Rattle.join_op.proofs.Fillings.{filling_more, filling_none}
+use Rattle.join_op.proofs.holding.fill_table.Goals as goal
+
+pub more-init : goal.more-init
+more-init g c = filling_none c.args.c.now.tracker (held_side c.args.turned c.args.shape.now) c.args.table.now _ c.args.place.now (scene c.args.builds.now (g.St.Store.holds c.args.store.now) (g.St.Store.signs c.args.store.now)) c.clear.ensures c.requires.stream.shape c.requires.place
+
+pub returns-in_err-keep_into-clause-went : goal.returns-in_err-keep_into-clause-went
+returns-in_err-keep_into-clause-went g c = reads_trans c.args.c.now.tracker _ _ _ c.more.invariant.went c.keep_into.ensures.went
+
+pub returns-in_err-keep_into-clause-cause : goal.returns-in_err-keep_into-clause-cause
+returns-in_err-keep_into-clause-cause g c =
+    let came : WasAnswered c.in_err-keep_into.field-0.0 (g.St.Store.signs c.args.store.now) (g.St.Store.signs c.keep_into.new.store) =
+    answered_before _ _ _ _ c.more.invariant.went.step.grows c.in_err-keep_into.ensures.cause.answered in
+    search (rules, came)
+
+pub returns-in_err-keep_into-clause-short : goal.returns-in_err-keep_into-clause-short
+returns-in_err-keep_into-clause-short g c =
+    let short : IsShort c.args.builds.now.page_blocks c.in_err-keep_into.field-0.0 =
+    subst (λ (n : ℕ). IsShort n c.in_err-keep_into.field-0.0) c.more.invariant.went.step.sized (full_short _ _ c.in_err-keep_into.field-0.0 c.in_err-keep_into.ensures.cause.full) in
+    search (rules, short)
+
+pub returns-then-not-branch-clause-went : goal.returns-then-not-branch-clause-went
+returns-then-not-branch-clause-went g c = reads_trans c.args.c.now.tracker _ _ _ c.more.invariant.went c.keep_into.ensures.went
+
+pub returns-in_default-clause-went : goal.returns-in_default-clause-went
+returns-in_default-clause-went g c = reads_trans c.args.c.now.tracker _ _ _ c.more.invariant.went c.keep_into.ensures.went
+
+pub more-preserved : goal.more-preserved
+more-preserved g c =
+    let b = scene c.more.builds (g.St.Store.holds c.more.store) (g.St.Store.signs c.more.store) in
+    let d = scene c.keep_into.new.self (g.St.Store.holds c.keep_into.new.store) (g.St.Store.signs c.keep_into.new.store) in
+    let found : c.in_ok-keep_into.field-0 ≡ true = search rules in
+    let reads : ReadsRow c.more.place c.keep_into.new.place c.keep_into.new.out.items b d = row_found c.in_ok-keep_into.field-0 _ _ _ b d found c.in_ok-keep_into.ensures.ok in
+    filling_more c.args.c.now.tracker (held_side c.args.turned c.args.shape.now) c.args.table.now c.more.table c.put.new.table c.args.place.now c.more.place c.keep_into.new.place c.keep_into.new.out.items _ b d
+    c.more.invariant c.keep_into.ensures.went c.keep_into.ensures.same reads c.put.ensures.each c.put.ensures.table c.in-Ok.ensures.rows

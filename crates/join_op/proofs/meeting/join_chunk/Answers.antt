@@ -1,0 +1,234 @@
+use Rattle.std.proofs.Common.{arith, rules, ◌∙◌, ℕ, List, ◌++◌, ap, sym, subst}
+use Rattle.std.specs.Prelude.{All}
+use Rattle.row_codec.specs.declared.values.Kind.{Kind}
+use Rattle.row_codec.specs.declared.values.Value.{Value}
+use Rattle.row_reading.specs.Reading.{IsKeyColumn}
+use Rattle.store_api.specs.Emitters.{CameOf}
+use Rattle.store_api.specs.Signs.{WasAnswered}
+use Rattle.store_api.specs.declared.op_err.OpErr.TheVariants.{Pool}
+use Rattle.store_api.proofs.Answered.{answered_before}
+use Rattle.tuple_stream.specs.Reading.{ReadsRow}
+use Rattle.tuple_stream.specs.Steps.{scene}
+use Rattle.tuple_stream.specs.Streamed.{Streamed}
+use Rattle.partition_stack.specs.Causes.{CameOfEither, IsShort}
+use Rattle.partition_stack.specs.Emitting.{WentOn}
+use Rattle.partition_stack.proofs.Emitters.{came_behind}
+use Rattle.partition_stack.proofs.ReadFrames.{free_now, reads_own, stays_handed, stays_none, stays_read, stood_place}
+use Rattle.partition_stack.proofs.Results.{any_err}
+use Rattle.partition_stack.proofs.Shorts.{alone_short, full_short}
+use Rattle.join_op.specs.Holding.{held_rows}
+use Rattle.join_op.proofs.ChunkJoins.{joined_all, joined_more, joined_none, joined_part, joined_some, none_found, row_found, went_all, went_some}
+use Rattle.join_op.proofs.Rooms.{room_handed, room_read}
+use Rattle.join_op.proofs.meeting.join_chunk.Goals as goal
+
+pub lefts-init : goal.lefts-init
+lefts-init g c =
+    record {
+      stays = stays_none c.args.c.now c.args.reads.now (g.St.Store.holds c.args.store.now) (g.St.Store.signs c.args.store.now) (g.E.Emit.admits c.args.emit.now) (g.E.Emit.client c.args.emit.now) (g.E.Emit.faults c.args.emit.now) (g.E.Emit.took c.args.emit.now (g.St.Store.holds c.args.store.now)) c.requires.stream c.requires.emitter.lives;
+      room = omega arith;
+      joined = joined_none c.args.turned c.args.shape.now (held_rows c.args.held.now) c.args.c.now.tracker c.args.reads.now (g.St.Store.holds c.args.store.now) (g.St.Store.signs c.args.store.now) (g.E.Emit.took c.args.emit.now (g.St.Store.holds c.args.store.now)) c.first-place.result c.first-place.ensures c.requires.stream.shape;
+    }
+
+pub returns-in_err-keep_into-clause-err : goal.returns-in_err-keep_into-clause-err
+returns-in_err-keep_into-clause-err g c =
+    let stays = c.lefts.invariant.stays in
+    let still : (rows : List (List Value)) → g.E.Emit.took c.lefts.emit (g.St.Store.holds c.lefts.store) rows → g.E.Emit.took c.lefts.emit (g.St.Store.holds c.keep_into.new.store) rows = λ rows.
+    g.met.E.Emit.asks_own c.lefts.emit (g.St.Store.holds c.lefts.store) (g.St.Store.holds c.keep_into.new.store) rows
+    (reads_own c.args.c.now.tracker c.lefts.reads c.keep_into.new.self (g.St.Store.holds c.lefts.store) (g.St.Store.holds c.keep_into.new.store) (g.St.Store.signs c.lefts.store) (g.St.Store.signs c.keep_into.new.store) stays.readable.shape c.keep_into.ensures.went (g.E.Emit.client c.lefts.emit) (free_now _ _ _ _ _ _ _ _ _ _ _ _ _ _ _ c.requires.stream.client c.requires.emitter.apart stays)) in
+    any_err c.from_residual.result (joined_some c.args.turned c.args.shape.now (held_rows c.args.held.now) c.args.reads.now c.lefts.reads (g.St.Store.holds c.args.store.now) (g.St.Store.holds c.lefts.store) (g.E.Emit.took c.args.emit.now (g.St.Store.holds c.args.store.now)) (g.E.Emit.took c.lefts.emit (g.St.Store.holds c.lefts.store)) c.lefts.place c.lefts.invariant.joined (g.E.Emit.took c.lefts.emit (g.St.Store.holds c.keep_into.new.store)) still)
+
+pub returns-in_err-keep_into-clause-stands : goal.returns-in_err-keep_into-clause-stands
+returns-in_err-keep_into-clause-stands g c =
+    let stays = c.lefts.invariant.stays in
+    let still : (rows : List (List Value)) → g.E.Emit.took c.lefts.emit (g.St.Store.holds c.lefts.store) rows → g.E.Emit.took c.lefts.emit (g.St.Store.holds c.keep_into.new.store) rows = λ rows.
+    g.met.E.Emit.asks_own c.lefts.emit (g.St.Store.holds c.lefts.store) (g.St.Store.holds c.keep_into.new.store) rows
+    (reads_own c.args.c.now.tracker c.lefts.reads c.keep_into.new.self (g.St.Store.holds c.lefts.store) (g.St.Store.holds c.keep_into.new.store) (g.St.Store.signs c.lefts.store) (g.St.Store.signs c.keep_into.new.store) stays.readable.shape c.keep_into.ensures.went (g.E.Emit.client c.lefts.emit) (free_now _ _ _ _ _ _ _ _ _ _ _ _ _ _ _ c.requires.stream.client c.requires.emitter.apart stays)) in
+    let read = stays_read _ _ _ _ _ _ _ _ _ _ _ _ _ _ _ c.requires.stream.client c.requires.emitter.apart stays c.keep_into.new.self (g.St.Store.holds c.keep_into.new.store) (g.St.Store.signs c.keep_into.new.store) (g.E.Emit.took c.lefts.emit (g.St.Store.holds c.keep_into.new.store)) c.keep_into.ensures.went c.keep_into.ensures.same still in
+    read.went
+
+pub returns-in_default-clause-stands : goal.returns-in_default-clause-stands
+returns-in_default-clause-stands g c =
+    let stays = c.lefts.invariant.stays in
+    let still : (rows : List (List Value)) → g.E.Emit.took c.lefts.emit (g.St.Store.holds c.lefts.store) rows → g.E.Emit.took c.lefts.emit (g.St.Store.holds c.keep_into.new.store) rows = λ rows.
+    g.met.E.Emit.asks_own c.lefts.emit (g.St.Store.holds c.lefts.store) (g.St.Store.holds c.keep_into.new.store) rows
+    (reads_own c.args.c.now.tracker c.lefts.reads c.keep_into.new.self (g.St.Store.holds c.lefts.store) (g.St.Store.holds c.keep_into.new.store) (g.St.Store.signs c.lefts.store) (g.St.Store.signs c.keep_into.new.store) stays.readable.shape c.keep_into.ensures.went (g.E.Emit.client c.lefts.emit) (free_now _ _ _ _ _ _ _ _ _ _ _ _ _ _ _ c.requires.stream.client c.requires.emitter.apart stays)) in
+    let read = stays_read _ _ _ _ _ _ _ _ _ _ _ _ _ _ _ c.requires.stream.client c.requires.emitter.apart stays c.keep_into.new.self (g.St.Store.holds c.keep_into.new.store) (g.St.Store.signs c.keep_into.new.store) (g.E.Emit.took c.lefts.emit (g.St.Store.holds c.keep_into.new.store)) c.keep_into.ensures.went c.keep_into.ensures.same still in
+    read.went
+
+pub returns-clause-stands : goal.returns-clause-stands
+returns-clause-stands g c =
+    let stays = c.lefts.invariant.stays in
+    let still : (rows : List (List Value)) → g.E.Emit.took c.lefts.emit (g.St.Store.holds c.lefts.store) rows → g.E.Emit.took c.lefts.emit (g.St.Store.holds c.keep_into.new.store) rows = λ rows.
+    g.met.E.Emit.asks_own c.lefts.emit (g.St.Store.holds c.lefts.store) (g.St.Store.holds c.keep_into.new.store) rows
+    (reads_own c.args.c.now.tracker c.lefts.reads c.keep_into.new.self (g.St.Store.holds c.lefts.store) (g.St.Store.holds c.keep_into.new.store) (g.St.Store.signs c.lefts.store) (g.St.Store.signs c.keep_into.new.store) stays.readable.shape c.keep_into.ensures.went (g.E.Emit.client c.lefts.emit) (free_now _ _ _ _ _ _ _ _ _ _ _ _ _ _ _ c.requires.stream.client c.requires.emitter.apart stays)) in
+    let read = stays_read _ _ _ _ _ _ _ _ _ _ _ _ _ _ _ c.requires.stream.client c.requires.emitter.apart stays c.keep_into.new.self (g.St.Store.holds c.keep_into.new.store) (g.St.Store.signs c.keep_into.new.store) (g.E.Emit.took c.lefts.emit (g.St.Store.holds c.keep_into.new.store)) c.keep_into.ensures.went c.keep_into.ensures.same still in
+    read.went
+
+pub returns-in_err-meet-clause-stands : goal.returns-in_err-meet-clause-stands
+returns-in_err-meet-clause-stands g c =
+    let stays = c.lefts.invariant.stays in
+    let still : (rows : List (List Value)) → g.E.Emit.took c.lefts.emit (g.St.Store.holds c.lefts.store) rows → g.E.Emit.took c.lefts.emit (g.St.Store.holds c.keep_into.new.store) rows = λ rows.
+    g.met.E.Emit.asks_own c.lefts.emit (g.St.Store.holds c.lefts.store) (g.St.Store.holds c.keep_into.new.store) rows
+    (reads_own c.args.c.now.tracker c.lefts.reads c.keep_into.new.self (g.St.Store.holds c.lefts.store) (g.St.Store.holds c.keep_into.new.store) (g.St.Store.signs c.lefts.store) (g.St.Store.signs c.keep_into.new.store) stays.readable.shape c.keep_into.ensures.went (g.E.Emit.client c.lefts.emit) (free_now _ _ _ _ _ _ _ _ _ _ _ _ _ _ _ c.requires.stream.client c.requires.emitter.apart stays)) in
+    let read = stays_read _ _ _ _ _ _ _ _ _ _ _ _ _ _ _ c.requires.stream.client c.requires.emitter.apart stays c.keep_into.new.self (g.St.Store.holds c.keep_into.new.store) (g.St.Store.signs c.keep_into.new.store) (g.E.Emit.took c.lefts.emit (g.St.Store.holds c.keep_into.new.store)) c.keep_into.ensures.went c.keep_into.ensures.same still in
+    let on : WentOn (g.E.Emit.took c.lefts.emit (g.St.Store.holds c.keep_into.new.store)) (g.E.Emit.took c.meet.new.emit (g.St.Store.holds c.meet.new.store)) = went_some c.in_err-meet.ensures.err in
+    let all = stays_handed _ _ _ _ _ _ _ _ _ _ _ _ _ _ _ c.requires.stream.client c.requires.emitter.apart read (g.St.Store.holds c.meet.new.store) (g.St.Store.signs c.meet.new.store) (g.E.Emit.admits c.meet.new.emit) (g.E.Emit.client c.meet.new.emit) (g.E.Emit.faults c.meet.new.emit) (g.E.Emit.took c.meet.new.emit (g.St.Store.holds c.meet.new.store)) c.meet.ensures.stood on in
+    all.went
+
+pub returns-in_err-keep_into-clause-stream : goal.returns-in_err-keep_into-clause-stream
+returns-in_err-keep_into-clause-stream g c =
+    let stays = c.lefts.invariant.stays in
+    let still : (rows : List (List Value)) → g.E.Emit.took c.lefts.emit (g.St.Store.holds c.lefts.store) rows → g.E.Emit.took c.lefts.emit (g.St.Store.holds c.keep_into.new.store) rows = λ rows.
+    g.met.E.Emit.asks_own c.lefts.emit (g.St.Store.holds c.lefts.store) (g.St.Store.holds c.keep_into.new.store) rows
+    (reads_own c.args.c.now.tracker c.lefts.reads c.keep_into.new.self (g.St.Store.holds c.lefts.store) (g.St.Store.holds c.keep_into.new.store) (g.St.Store.signs c.lefts.store) (g.St.Store.signs c.keep_into.new.store) stays.readable.shape c.keep_into.ensures.went (g.E.Emit.client c.lefts.emit) (free_now _ _ _ _ _ _ _ _ _ _ _ _ _ _ _ c.requires.stream.client c.requires.emitter.apart stays)) in
+    let read = stays_read _ _ _ _ _ _ _ _ _ _ _ _ _ _ _ c.requires.stream.client c.requires.emitter.apart stays c.keep_into.new.self (g.St.Store.holds c.keep_into.new.store) (g.St.Store.signs c.keep_into.new.store) (g.E.Emit.took c.lefts.emit (g.St.Store.holds c.keep_into.new.store)) c.keep_into.ensures.went c.keep_into.ensures.same still in
+    record { beside = read.beside; room = room_read c.args.c.now.tracker (g.E.Emit.client c.args.emit.now) (g.St.Store.holds c.args.store.now) (g.St.Store.holds c.lefts.store) (g.St.Store.holds c.keep_into.new.store) c.lefts.invariant.room c.lefts.reads c.keep_into.new.self stays.readable.client c.keep_into.ensures.went.step.touches }
+
+pub returns-in_default-clause-stream : goal.returns-in_default-clause-stream
+returns-in_default-clause-stream g c =
+    let stays = c.lefts.invariant.stays in
+    let still : (rows : List (List Value)) → g.E.Emit.took c.lefts.emit (g.St.Store.holds c.lefts.store) rows → g.E.Emit.took c.lefts.emit (g.St.Store.holds c.keep_into.new.store) rows = λ rows.
+    g.met.E.Emit.asks_own c.lefts.emit (g.St.Store.holds c.lefts.store) (g.St.Store.holds c.keep_into.new.store) rows
+    (reads_own c.args.c.now.tracker c.lefts.reads c.keep_into.new.self (g.St.Store.holds c.lefts.store) (g.St.Store.holds c.keep_into.new.store) (g.St.Store.signs c.lefts.store) (g.St.Store.signs c.keep_into.new.store) stays.readable.shape c.keep_into.ensures.went (g.E.Emit.client c.lefts.emit) (free_now _ _ _ _ _ _ _ _ _ _ _ _ _ _ _ c.requires.stream.client c.requires.emitter.apart stays)) in
+    let read = stays_read _ _ _ _ _ _ _ _ _ _ _ _ _ _ _ c.requires.stream.client c.requires.emitter.apart stays c.keep_into.new.self (g.St.Store.holds c.keep_into.new.store) (g.St.Store.signs c.keep_into.new.store) (g.E.Emit.took c.lefts.emit (g.St.Store.holds c.keep_into.new.store)) c.keep_into.ensures.went c.keep_into.ensures.same still in
+    record { beside = read.beside; room = room_read c.args.c.now.tracker (g.E.Emit.client c.args.emit.now) (g.St.Store.holds c.args.store.now) (g.St.Store.holds c.lefts.store) (g.St.Store.holds c.keep_into.new.store) c.lefts.invariant.room c.lefts.reads c.keep_into.new.self stays.readable.client c.keep_into.ensures.went.step.touches }
+
+pub returns-clause-stream : goal.returns-clause-stream
+returns-clause-stream g c =
+    let stays = c.lefts.invariant.stays in
+    let still : (rows : List (List Value)) → g.E.Emit.took c.lefts.emit (g.St.Store.holds c.lefts.store) rows → g.E.Emit.took c.lefts.emit (g.St.Store.holds c.keep_into.new.store) rows = λ rows.
+    g.met.E.Emit.asks_own c.lefts.emit (g.St.Store.holds c.lefts.store) (g.St.Store.holds c.keep_into.new.store) rows
+    (reads_own c.args.c.now.tracker c.lefts.reads c.keep_into.new.self (g.St.Store.holds c.lefts.store) (g.St.Store.holds c.keep_into.new.store) (g.St.Store.signs c.lefts.store) (g.St.Store.signs c.keep_into.new.store) stays.readable.shape c.keep_into.ensures.went (g.E.Emit.client c.lefts.emit) (free_now _ _ _ _ _ _ _ _ _ _ _ _ _ _ _ c.requires.stream.client c.requires.emitter.apart stays)) in
+    let read = stays_read _ _ _ _ _ _ _ _ _ _ _ _ _ _ _ c.requires.stream.client c.requires.emitter.apart stays c.keep_into.new.self (g.St.Store.holds c.keep_into.new.store) (g.St.Store.signs c.keep_into.new.store) (g.E.Emit.took c.lefts.emit (g.St.Store.holds c.keep_into.new.store)) c.keep_into.ensures.went c.keep_into.ensures.same still in
+    record { beside = read.beside; room = room_read c.args.c.now.tracker (g.E.Emit.client c.args.emit.now) (g.St.Store.holds c.args.store.now) (g.St.Store.holds c.lefts.store) (g.St.Store.holds c.keep_into.new.store) c.lefts.invariant.room c.lefts.reads c.keep_into.new.self stays.readable.client c.keep_into.ensures.went.step.touches }
+
+pub returns-in_err-meet-clause-stream : goal.returns-in_err-meet-clause-stream
+returns-in_err-meet-clause-stream g c =
+    let stays = c.lefts.invariant.stays in
+    let still : (rows : List (List Value)) → g.E.Emit.took c.lefts.emit (g.St.Store.holds c.lefts.store) rows → g.E.Emit.took c.lefts.emit (g.St.Store.holds c.keep_into.new.store) rows = λ rows.
+    g.met.E.Emit.asks_own c.lefts.emit (g.St.Store.holds c.lefts.store) (g.St.Store.holds c.keep_into.new.store) rows
+    (reads_own c.args.c.now.tracker c.lefts.reads c.keep_into.new.self (g.St.Store.holds c.lefts.store) (g.St.Store.holds c.keep_into.new.store) (g.St.Store.signs c.lefts.store) (g.St.Store.signs c.keep_into.new.store) stays.readable.shape c.keep_into.ensures.went (g.E.Emit.client c.lefts.emit) (free_now _ _ _ _ _ _ _ _ _ _ _ _ _ _ _ c.requires.stream.client c.requires.emitter.apart stays)) in
+    let read = stays_read _ _ _ _ _ _ _ _ _ _ _ _ _ _ _ c.requires.stream.client c.requires.emitter.apart stays c.keep_into.new.self (g.St.Store.holds c.keep_into.new.store) (g.St.Store.signs c.keep_into.new.store) (g.E.Emit.took c.lefts.emit (g.St.Store.holds c.keep_into.new.store)) c.keep_into.ensures.went c.keep_into.ensures.same still in
+    let on : WentOn (g.E.Emit.took c.lefts.emit (g.St.Store.holds c.keep_into.new.store)) (g.E.Emit.took c.meet.new.emit (g.St.Store.holds c.meet.new.store)) = went_some c.in_err-meet.ensures.err in
+    let all = stays_handed _ _ _ _ _ _ _ _ _ _ _ _ _ _ _ c.requires.stream.client c.requires.emitter.apart read (g.St.Store.holds c.meet.new.store) (g.St.Store.signs c.meet.new.store) (g.E.Emit.admits c.meet.new.emit) (g.E.Emit.client c.meet.new.emit) (g.E.Emit.faults c.meet.new.emit) (g.E.Emit.took c.meet.new.emit (g.St.Store.holds c.meet.new.store)) c.meet.ensures.stood on in
+    let room = room_read c.args.c.now.tracker (g.E.Emit.client c.args.emit.now) (g.St.Store.holds c.args.store.now) (g.St.Store.holds c.lefts.store) (g.St.Store.holds c.keep_into.new.store) c.lefts.invariant.room c.lefts.reads c.keep_into.new.self stays.readable.client c.keep_into.ensures.went.step.touches in
+    record { beside = all.beside; room = room_handed c.args.c.now.tracker (g.E.Emit.client c.args.emit.now) (g.St.Store.holds c.args.store.now) (g.St.Store.holds c.keep_into.new.store) (g.St.Store.holds c.meet.new.store) room (g.E.Emit.client c.lefts.emit) stays.emitter.client_same c.requires.emitter.apart c.meet.ensures.stood.others c.meet.ensures.stood.room }
+
+pub returns-in_err-keep_into-clause-emitter : goal.returns-in_err-keep_into-clause-emitter
+returns-in_err-keep_into-clause-emitter g c =
+    let stays = c.lefts.invariant.stays in
+    let still : (rows : List (List Value)) → g.E.Emit.took c.lefts.emit (g.St.Store.holds c.lefts.store) rows → g.E.Emit.took c.lefts.emit (g.St.Store.holds c.keep_into.new.store) rows = λ rows.
+    g.met.E.Emit.asks_own c.lefts.emit (g.St.Store.holds c.lefts.store) (g.St.Store.holds c.keep_into.new.store) rows
+    (reads_own c.args.c.now.tracker c.lefts.reads c.keep_into.new.self (g.St.Store.holds c.lefts.store) (g.St.Store.holds c.keep_into.new.store) (g.St.Store.signs c.lefts.store) (g.St.Store.signs c.keep_into.new.store) stays.readable.shape c.keep_into.ensures.went (g.E.Emit.client c.lefts.emit) (free_now _ _ _ _ _ _ _ _ _ _ _ _ _ _ _ c.requires.stream.client c.requires.emitter.apart stays)) in
+    let read = stays_read _ _ _ _ _ _ _ _ _ _ _ _ _ _ _ c.requires.stream.client c.requires.emitter.apart stays c.keep_into.new.self (g.St.Store.holds c.keep_into.new.store) (g.St.Store.signs c.keep_into.new.store) (g.E.Emit.took c.lefts.emit (g.St.Store.holds c.keep_into.new.store)) c.keep_into.ensures.went c.keep_into.ensures.same still in
+    read.emitter
+
+pub returns-in_default-clause-emitter : goal.returns-in_default-clause-emitter
+returns-in_default-clause-emitter g c =
+    let stays = c.lefts.invariant.stays in
+    let still : (rows : List (List Value)) → g.E.Emit.took c.lefts.emit (g.St.Store.holds c.lefts.store) rows → g.E.Emit.took c.lefts.emit (g.St.Store.holds c.keep_into.new.store) rows = λ rows.
+    g.met.E.Emit.asks_own c.lefts.emit (g.St.Store.holds c.lefts.store) (g.St.Store.holds c.keep_into.new.store) rows
+    (reads_own c.args.c.now.tracker c.lefts.reads c.keep_into.new.self (g.St.Store.holds c.lefts.store) (g.St.Store.holds c.keep_into.new.store) (g.St.Store.signs c.lefts.store) (g.St.Store.signs c.keep_into.new.store) stays.readable.shape c.keep_into.ensures.went (g.E.Emit.client c.lefts.emit) (free_now _ _ _ _ _ _ _ _ _ _ _ _ _ _ _ c.requires.stream.client c.requires.emitter.apart stays)) in
+    let read = stays_read _ _ _ _ _ _ _ _ _ _ _ _ _ _ _ c.requires.stream.client c.requires.emitter.apart stays c.keep_into.new.self (g.St.Store.holds c.keep_into.new.store) (g.St.Store.signs c.keep_into.new.store) (g.E.Emit.took c.lefts.emit (g.St.Store.holds c.keep_into.new.store)) c.keep_into.ensures.went c.keep_into.ensures.same still in
+    read.emitter
+
+pub returns-clause-emitter : goal.returns-clause-emitter
+returns-clause-emitter g c =
+    let stays = c.lefts.invariant.stays in
+    let still : (rows : List (List Value)) → g.E.Emit.took c.lefts.emit (g.St.Store.holds c.lefts.store) rows → g.E.Emit.took c.lefts.emit (g.St.Store.holds c.keep_into.new.store) rows = λ rows.
+    g.met.E.Emit.asks_own c.lefts.emit (g.St.Store.holds c.lefts.store) (g.St.Store.holds c.keep_into.new.store) rows
+    (reads_own c.args.c.now.tracker c.lefts.reads c.keep_into.new.self (g.St.Store.holds c.lefts.store) (g.St.Store.holds c.keep_into.new.store) (g.St.Store.signs c.lefts.store) (g.St.Store.signs c.keep_into.new.store) stays.readable.shape c.keep_into.ensures.went (g.E.Emit.client c.lefts.emit) (free_now _ _ _ _ _ _ _ _ _ _ _ _ _ _ _ c.requires.stream.client c.requires.emitter.apart stays)) in
+    let read = stays_read _ _ _ _ _ _ _ _ _ _ _ _ _ _ _ c.requires.stream.client c.requires.emitter.apart stays c.keep_into.new.self (g.St.Store.holds c.keep_into.new.store) (g.St.Store.signs c.keep_into.new.store) (g.E.Emit.took c.lefts.emit (g.St.Store.holds c.keep_into.new.store)) c.keep_into.ensures.went c.keep_into.ensures.same still in
+    read.emitter
+
+pub returns-in_err-meet-clause-emitter : goal.returns-in_err-meet-clause-emitter
+returns-in_err-meet-clause-emitter g c =
+    let stays = c.lefts.invariant.stays in
+    let still : (rows : List (List Value)) → g.E.Emit.took c.lefts.emit (g.St.Store.holds c.lefts.store) rows → g.E.Emit.took c.lefts.emit (g.St.Store.holds c.keep_into.new.store) rows = λ rows.
+    g.met.E.Emit.asks_own c.lefts.emit (g.St.Store.holds c.lefts.store) (g.St.Store.holds c.keep_into.new.store) rows
+    (reads_own c.args.c.now.tracker c.lefts.reads c.keep_into.new.self (g.St.Store.holds c.lefts.store) (g.St.Store.holds c.keep_into.new.store) (g.St.Store.signs c.lefts.store) (g.St.Store.signs c.keep_into.new.store) stays.readable.shape c.keep_into.ensures.went (g.E.Emit.client c.lefts.emit) (free_now _ _ _ _ _ _ _ _ _ _ _ _ _ _ _ c.requires.stream.client c.requires.emitter.apart stays)) in
+    let read = stays_read _ _ _ _ _ _ _ _ _ _ _ _ _ _ _ c.requires.stream.client c.requires.emitter.apart stays c.keep_into.new.self (g.St.Store.holds c.keep_into.new.store) (g.St.Store.signs c.keep_into.new.store) (g.E.Emit.took c.lefts.emit (g.St.Store.holds c.keep_into.new.store)) c.keep_into.ensures.went c.keep_into.ensures.same still in
+    let on : WentOn (g.E.Emit.took c.lefts.emit (g.St.Store.holds c.keep_into.new.store)) (g.E.Emit.took c.meet.new.emit (g.St.Store.holds c.meet.new.store)) = went_some c.in_err-meet.ensures.err in
+    let all = stays_handed _ _ _ _ _ _ _ _ _ _ _ _ _ _ _ c.requires.stream.client c.requires.emitter.apart read (g.St.Store.holds c.meet.new.store) (g.St.Store.signs c.meet.new.store) (g.E.Emit.admits c.meet.new.emit) (g.E.Emit.client c.meet.new.emit) (g.E.Emit.faults c.meet.new.emit) (g.E.Emit.took c.meet.new.emit (g.St.Store.holds c.meet.new.store)) c.meet.ensures.stood on in
+    all.emitter
+
+pub returns-in_err-keep_into-clause-cause : goal.returns-in_err-keep_into-clause-cause
+returns-in_err-keep_into-clause-cause g c =
+    let stays = c.lefts.invariant.stays in
+    let came : WasAnswered c.in_err-keep_into.field-0.0 (g.St.Store.signs c.args.store.now) (g.St.Store.signs c.keep_into.new.store) = answered_before _ _ _ _ stays.emitter.grows c.in_err-keep_into.ensures.cause.answered in
+    let short : IsShort c.args.reads.now.page_blocks c.in_err-keep_into.field-0.0 =
+    subst (λ (n : ℕ). IsShort n c.in_err-keep_into.field-0.0) (ap (λ (s : Streamed). s.page_blocks) stays.beside.same) (full_short _ _ c.in_err-keep_into.field-0.0 c.in_err-keep_into.ensures.cause.full) in
+    let both : CameOfEither c.args.reads.now.page_blocks (g.E.Emit.client c.args.emit.now) (g.E.Emit.faults c.args.emit.now) (g.E.Emit.faults c.lefts.emit) (g.St.Store.signs c.args.store.now) (g.St.Store.signs c.keep_into.new.store) (Pool c.in_err-keep_into.field-0.0) =
+    record { came = came; short = λ none. short } in
+    search (rules, both)
+
+pub key_into-requires : goal.key_into-requires
+key_into-requires g c =
+    record { columns = subst (λ (kinds : List Kind). All (IsKeyColumn kinds) c.args.columns.now) (sym c.read_kinds.ensures) c.requires.columns.0.keyed }
+
+pub returns-in_default-clause-err : goal.returns-in_default-clause-err
+returns-in_default-clause-err g c =
+    let stays = c.lefts.invariant.stays in
+    let still : (rows : List (List Value)) → g.E.Emit.took c.lefts.emit (g.St.Store.holds c.lefts.store) rows → g.E.Emit.took c.lefts.emit (g.St.Store.holds c.keep_into.new.store) rows = λ rows.
+    g.met.E.Emit.asks_own c.lefts.emit (g.St.Store.holds c.lefts.store) (g.St.Store.holds c.keep_into.new.store) rows
+    (reads_own c.args.c.now.tracker c.lefts.reads c.keep_into.new.self (g.St.Store.holds c.lefts.store) (g.St.Store.holds c.keep_into.new.store) (g.St.Store.signs c.lefts.store) (g.St.Store.signs c.keep_into.new.store) stays.readable.shape c.keep_into.ensures.went (g.E.Emit.client c.lefts.emit) (free_now _ _ _ _ _ _ _ _ _ _ _ _ _ _ _ c.requires.stream.client c.requires.emitter.apart stays)) in
+    joined_some c.args.turned c.args.shape.now (held_rows c.args.held.now) c.args.reads.now c.lefts.reads (g.St.Store.holds c.args.store.now) (g.St.Store.holds c.lefts.store) (g.E.Emit.took c.args.emit.now (g.St.Store.holds c.args.store.now)) (g.E.Emit.took c.lefts.emit (g.St.Store.holds c.lefts.store)) c.lefts.place c.lefts.invariant.joined (g.E.Emit.took c.lefts.emit (g.St.Store.holds c.keep_into.new.store)) still
+
+pub meet-requires-clause-stands : goal.meet-requires-clause-stands
+meet-requires-clause-stands g c =
+    let stays = c.lefts.invariant.stays in
+    let still : (rows : List (List Value)) → g.E.Emit.took c.lefts.emit (g.St.Store.holds c.lefts.store) rows → g.E.Emit.took c.lefts.emit (g.St.Store.holds c.keep_into.new.store) rows = λ rows.
+    g.met.E.Emit.asks_own c.lefts.emit (g.St.Store.holds c.lefts.store) (g.St.Store.holds c.keep_into.new.store) rows
+    (reads_own c.args.c.now.tracker c.lefts.reads c.keep_into.new.self (g.St.Store.holds c.lefts.store) (g.St.Store.holds c.keep_into.new.store) (g.St.Store.signs c.lefts.store) (g.St.Store.signs c.keep_into.new.store) stays.readable.shape c.keep_into.ensures.went (g.E.Emit.client c.lefts.emit) (free_now _ _ _ _ _ _ _ _ _ _ _ _ _ _ _ c.requires.stream.client c.requires.emitter.apart stays)) in
+    let read = stays_read _ _ _ _ _ _ _ _ _ _ _ _ _ _ _ c.requires.stream.client c.requires.emitter.apart stays c.keep_into.new.self (g.St.Store.holds c.keep_into.new.store) (g.St.Store.signs c.keep_into.new.store) (g.E.Emit.took c.lefts.emit (g.St.Store.holds c.keep_into.new.store)) c.keep_into.ensures.went c.keep_into.ensures.same still in
+    let more = read.went c.requires.stands.0 c.requires.stands.1 in
+    (c.requires.stands.0 ++ more.0, more.1)
+
+pub lefts-preserved : goal.lefts-preserved
+lefts-preserved g c =
+    let stays = c.lefts.invariant.stays in
+    let still : (rows : List (List Value)) → g.E.Emit.took c.lefts.emit (g.St.Store.holds c.lefts.store) rows → g.E.Emit.took c.lefts.emit (g.St.Store.holds c.keep_into.new.store) rows = λ rows.
+    g.met.E.Emit.asks_own c.lefts.emit (g.St.Store.holds c.lefts.store) (g.St.Store.holds c.keep_into.new.store) rows
+    (reads_own c.args.c.now.tracker c.lefts.reads c.keep_into.new.self (g.St.Store.holds c.lefts.store) (g.St.Store.holds c.keep_into.new.store) (g.St.Store.signs c.lefts.store) (g.St.Store.signs c.keep_into.new.store) stays.readable.shape c.keep_into.ensures.went (g.E.Emit.client c.lefts.emit) (free_now _ _ _ _ _ _ _ _ _ _ _ _ _ _ _ c.requires.stream.client c.requires.emitter.apart stays)) in
+    let read = stays_read _ _ _ _ _ _ _ _ _ _ _ _ _ _ _ c.requires.stream.client c.requires.emitter.apart stays c.keep_into.new.self (g.St.Store.holds c.keep_into.new.store) (g.St.Store.signs c.keep_into.new.store) (g.E.Emit.took c.lefts.emit (g.St.Store.holds c.keep_into.new.store)) c.keep_into.ensures.went c.keep_into.ensures.same still in
+    let reads : ReadsRow c.lefts.place c.keep_into.new.place c.keep_into.new.out.items (scene c.lefts.reads (g.St.Store.holds c.lefts.store) (g.St.Store.signs c.lefts.store)) (scene c.keep_into.new.self (g.St.Store.holds c.keep_into.new.store) (g.St.Store.signs c.keep_into.new.store)) = row_found c.in_ok-keep_into.field-0 _ _ _ (scene c.lefts.reads (g.St.Store.holds c.lefts.store) (g.St.Store.signs c.lefts.store)) (scene c.keep_into.new.self (g.St.Store.holds c.keep_into.new.store) (g.St.Store.signs c.keep_into.new.store)) c.if-branch.true c.in_ok-keep_into.ensures.ok in
+    let on : WentOn (g.E.Emit.took c.lefts.emit (g.St.Store.holds c.keep_into.new.store)) (g.E.Emit.took c.meet.new.emit (g.St.Store.holds c.meet.new.store)) = went_all c.in_ok-meet.ensures.ok in
+    let all = stays_handed _ _ _ _ _ _ _ _ _ _ _ _ _ _ _ c.requires.stream.client c.requires.emitter.apart read (g.St.Store.holds c.meet.new.store) (g.St.Store.signs c.meet.new.store) (g.E.Emit.admits c.meet.new.emit) (g.E.Emit.client c.meet.new.emit) (g.E.Emit.faults c.meet.new.emit) (g.E.Emit.took c.meet.new.emit (g.St.Store.holds c.meet.new.store)) c.meet.ensures.stood on in
+    record {
+      stays = all;
+      room = let room = room_read c.args.c.now.tracker (g.E.Emit.client c.args.emit.now) (g.St.Store.holds c.args.store.now) (g.St.Store.holds c.lefts.store) (g.St.Store.holds c.keep_into.new.store) c.lefts.invariant.room c.lefts.reads c.keep_into.new.self stays.readable.client c.keep_into.ensures.went.step.touches in room_handed c.args.c.now.tracker (g.E.Emit.client c.args.emit.now) (g.St.Store.holds c.args.store.now) (g.St.Store.holds c.keep_into.new.store) (g.St.Store.holds c.meet.new.store) room (g.E.Emit.client c.lefts.emit) stays.emitter.client_same c.requires.emitter.apart c.meet.ensures.stood.others c.meet.ensures.stood.room;
+      joined = joined_more c.args.turned c.args.shape.now (held_rows c.args.held.now) c.args.reads.now c.lefts.reads (g.St.Store.holds c.args.store.now) (g.St.Store.holds c.lefts.store) (g.E.Emit.took c.args.emit.now (g.St.Store.holds c.args.store.now)) (g.E.Emit.took c.lefts.emit (g.St.Store.holds c.lefts.store)) c.lefts.place c.lefts.invariant.joined c.keep_into.new.self (g.St.Store.holds c.keep_into.new.store) (g.St.Store.signs c.lefts.store) (g.St.Store.signs c.keep_into.new.store) c.args.c.now.tracker c.keep_into.new.place c.keep_into.new.out.items stays.beside.query.told stays.beside.rows reads (g.E.Emit.took c.lefts.emit (g.St.Store.holds c.keep_into.new.store)) still
+          (g.St.Store.holds c.meet.new.store) (g.E.Emit.took c.meet.new.emit (g.St.Store.holds c.meet.new.store)) (stood_place c.args.c.now.tracker (g.E.Emit.client c.lefts.emit) c.keep_into.new.self (g.St.Store.holds c.keep_into.new.store) (g.St.Store.holds c.meet.new.store) (free_now _ _ _ _ _ _ _ _ _ _ _ _ _ _ _ c.requires.stream.client c.requires.emitter.apart stays) read.readable.shape c.meet.ensures.stood.others) c.in_ok-meet.ensures.ok;
+    }
+
+pub returns-in_err-meet-clause-err : goal.returns-in_err-meet-clause-err
+returns-in_err-meet-clause-err g c =
+    let stays = c.lefts.invariant.stays in
+    let still : (rows : List (List Value)) → g.E.Emit.took c.lefts.emit (g.St.Store.holds c.lefts.store) rows → g.E.Emit.took c.lefts.emit (g.St.Store.holds c.keep_into.new.store) rows = λ rows.
+    g.met.E.Emit.asks_own c.lefts.emit (g.St.Store.holds c.lefts.store) (g.St.Store.holds c.keep_into.new.store) rows
+    (reads_own c.args.c.now.tracker c.lefts.reads c.keep_into.new.self (g.St.Store.holds c.lefts.store) (g.St.Store.holds c.keep_into.new.store) (g.St.Store.signs c.lefts.store) (g.St.Store.signs c.keep_into.new.store) stays.readable.shape c.keep_into.ensures.went (g.E.Emit.client c.lefts.emit) (free_now _ _ _ _ _ _ _ _ _ _ _ _ _ _ _ c.requires.stream.client c.requires.emitter.apart stays)) in
+    let reads : ReadsRow c.lefts.place c.keep_into.new.place c.keep_into.new.out.items (scene c.lefts.reads (g.St.Store.holds c.lefts.store) (g.St.Store.signs c.lefts.store)) (scene c.keep_into.new.self (g.St.Store.holds c.keep_into.new.store) (g.St.Store.signs c.keep_into.new.store)) = row_found c.in_ok-keep_into.field-0 _ _ _ (scene c.lefts.reads (g.St.Store.holds c.lefts.store) (g.St.Store.signs c.lefts.store)) (scene c.keep_into.new.self (g.St.Store.holds c.keep_into.new.store) (g.St.Store.signs c.keep_into.new.store)) c.if-branch.true c.in_ok-keep_into.ensures.ok in
+    any_err c.from_residual-in_err-meet.result (joined_part c.args.turned c.args.shape.now (held_rows c.args.held.now) c.args.reads.now c.lefts.reads (g.St.Store.holds c.args.store.now) (g.St.Store.holds c.lefts.store) (g.E.Emit.took c.args.emit.now (g.St.Store.holds c.args.store.now)) (g.E.Emit.took c.lefts.emit (g.St.Store.holds c.lefts.store)) c.lefts.place c.lefts.invariant.joined c.keep_into.new.self (g.St.Store.holds c.keep_into.new.store) (g.St.Store.signs c.lefts.store) (g.St.Store.signs c.keep_into.new.store) c.args.c.now.tracker c.keep_into.new.place c.keep_into.new.out.items stays.beside.query.told stays.beside.rows reads (g.E.Emit.took c.lefts.emit (g.St.Store.holds c.keep_into.new.store)) still
+    (g.E.Emit.took c.meet.new.emit (g.St.Store.holds c.meet.new.store)) c.in_err-meet.ensures.err)
+
+pub returns-in_err-meet-clause-cause : goal.returns-in_err-meet-clause-cause
+returns-in_err-meet-clause-cause g c =
+    let stays = c.lefts.invariant.stays in
+    let still : (rows : List (List Value)) → g.E.Emit.took c.lefts.emit (g.St.Store.holds c.lefts.store) rows → g.E.Emit.took c.lefts.emit (g.St.Store.holds c.keep_into.new.store) rows = λ rows.
+    g.met.E.Emit.asks_own c.lefts.emit (g.St.Store.holds c.lefts.store) (g.St.Store.holds c.keep_into.new.store) rows
+    (reads_own c.args.c.now.tracker c.lefts.reads c.keep_into.new.self (g.St.Store.holds c.lefts.store) (g.St.Store.holds c.keep_into.new.store) (g.St.Store.signs c.lefts.store) (g.St.Store.signs c.keep_into.new.store) stays.readable.shape c.keep_into.ensures.went (g.E.Emit.client c.lefts.emit) (free_now _ _ _ _ _ _ _ _ _ _ _ _ _ _ _ c.requires.stream.client c.requires.emitter.apart stays)) in
+    let read = stays_read _ _ _ _ _ _ _ _ _ _ _ _ _ _ _ c.requires.stream.client c.requires.emitter.apart stays c.keep_into.new.self (g.St.Store.holds c.keep_into.new.store) (g.St.Store.signs c.keep_into.new.store) (g.E.Emit.took c.lefts.emit (g.St.Store.holds c.keep_into.new.store)) c.keep_into.ensures.went c.keep_into.ensures.same still in
+    let came : CameOf (g.E.Emit.faults c.args.emit.now) (g.E.Emit.faults c.meet.new.emit) (g.St.Store.signs c.args.store.now) (g.St.Store.signs c.meet.new.store) c.in_err-meet.field-0.0 =
+    came_behind _ _ _ _ _ _ _ read.emitter.never_falls read.emitter.grows c.in_err-meet.ensures.cause in
+    let both : CameOfEither c.args.reads.now.page_blocks (g.E.Emit.client c.args.emit.now) (g.E.Emit.faults c.args.emit.now) (g.E.Emit.faults c.meet.new.emit) (g.St.Store.signs c.args.store.now) (g.St.Store.signs c.meet.new.store) c.in_err-meet.field-0.0 =
+    record { came = came; short = λ none. alone_short c.args.reads.now.page_blocks _ _ _ _ c.in_err-meet.field-0.0 (c.meet.ensures.stood.alone (stays.emitter.client_same ∙ none)) c.in_err-meet.ensures.cause } in
+    search (rules, both)
+
+pub returns-clause-ok : goal.returns-clause-ok
+returns-clause-ok g c =
+    let stays = c.lefts.invariant.stays in
+    let still : (rows : List (List Value)) → g.E.Emit.took c.lefts.emit (g.St.Store.holds c.lefts.store) rows → g.E.Emit.took c.lefts.emit (g.St.Store.holds c.keep_into.new.store) rows = λ rows.
+    g.met.E.Emit.asks_own c.lefts.emit (g.St.Store.holds c.lefts.store) (g.St.Store.holds c.keep_into.new.store) rows
+    (reads_own c.args.c.now.tracker c.lefts.reads c.keep_into.new.self (g.St.Store.holds c.lefts.store) (g.St.Store.holds c.keep_into.new.store) (g.St.Store.signs c.lefts.store) (g.St.Store.signs c.keep_into.new.store) stays.readable.shape c.keep_into.ensures.went (g.E.Emit.client c.lefts.emit) (free_now _ _ _ _ _ _ _ _ _ _ _ _ _ _ _ c.requires.stream.client c.requires.emitter.apart stays)) in
+    let ends = none_found c.in_ok-keep_into.field-0 _ _ _ (scene c.lefts.reads (g.St.Store.holds c.lefts.store) (g.St.Store.signs c.lefts.store)) (scene c.keep_into.new.self (g.St.Store.holds c.keep_into.new.store) (g.St.Store.signs c.keep_into.new.store)) c.if-branch.false c.in_ok-keep_into.ensures.ok in
+    joined_all c.args.turned c.args.shape.now (held_rows c.args.held.now) c.args.reads.now c.lefts.reads (g.St.Store.holds c.args.store.now) (g.St.Store.holds c.lefts.store) (g.E.Emit.took c.args.emit.now (g.St.Store.holds c.args.store.now)) (g.E.Emit.took c.lefts.emit (g.St.Store.holds c.lefts.store)) c.lefts.place c.lefts.invariant.joined ends.0 (ap (λ (s : Streamed). s.count) stays.beside.same) (g.E.Emit.took c.lefts.emit (g.St.Store.holds c.keep_into.new.store)) still

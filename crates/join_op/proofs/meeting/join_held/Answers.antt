@@ -1,0 +1,214 @@
+use Rattle.std.proofs.Common.{rules, ◌≡◌, ◌∙◌, ℕ, ◌-◌, List, ◌++◌, length, ap, sym, subst, arith, true}
+use Rattle.row_codec.specs.declared.values.Value.{Value}
+use Rattle.store_api.specs.Emitters.{CameOf}
+use Rattle.store_api.specs.Signs.{WasAnswered}
+use Rattle.store_api.specs.declared.op_err.OpErr.TheVariants.{Pool}
+use Rattle.store_api.proofs.Answered.{answered_before}
+use Rattle.tuple_stream.specs.Streamed.{Streamed}
+use Rattle.tuple_stream.specs.Streams.{HasRows}
+use Rattle.partition_stack.specs.Causes.{CameOfEither, IsShort, IsShortOf}
+use Rattle.partition_stack.proofs.Emitters.{came_behind}
+use Rattle.partition_stack.proofs.Results.{any_err}
+use Rattle.join_op.specs.Handing.{Emitted, EmittedSome}
+use Rattle.join_op.specs.Holding.{held_rows}
+use Rattle.join_op.proofs.BothFrames.{beside_now, left_readable, other_place, right_readable, stay_left, stay_none, stay_right, still_right}
+use Rattle.join_op.proofs.ChunkRounds.{met_all, met_more, met_none, met_part, met_some}
+use Rattle.join_op.proofs.Handed.{some_none}
+use Rattle.join_op.proofs.HeldSame.{held_itself, held_then, may_still}
+use Rattle.join_op.proofs.meeting.join_held.Goals as goal
+
+pub rounds-init : goal.rounds-init
+rounds-init g c =
+    record {
+      held = held_itself c.args.held.now;
+      stays = stay_none c.args.c.now c.args.reads.now c.args.builds.now (g.St.Store.holds c.args.store.now) (g.St.Store.signs c.args.store.now) (g.E.Emit.admits c.args.emit.now) (g.E.Emit.client c.args.emit.now) (g.E.Emit.faults c.args.emit.now) (g.E.Emit.took c.args.emit.now (g.St.Store.holds c.args.store.now)) c.requires.streams c.requires.emitter.lives;
+      met = met_none c.args.turned c.args.shape.now c.args.c.now.tracker c.args.reads.now c.args.builds.now (g.St.Store.holds c.args.store.now) (g.St.Store.signs c.args.store.now) (g.E.Emit.took c.args.emit.now (g.St.Store.holds c.args.store.now)) c.first-place.result c.rows-waiting.result c.first-place.ensures c.rows-waiting.ensures c.requires.streams.right_shape;
+    }
+
+pub returns-in_default-clause-err : goal.returns-in_default-clause-err
+returns-in_default-clause-err g c =
+    λ lefts rights told one two. some_none _ _
+
+pub returns-in_default-clause-stands : goal.returns-in_default-clause-stands
+returns-in_default-clause-stands g c =
+    let none = stay_none c.args.c.now c.args.reads.now c.args.builds.now (g.St.Store.holds c.args.store.now) (g.St.Store.signs c.args.store.now) (g.E.Emit.admits c.args.emit.now) (g.E.Emit.client c.args.emit.now) (g.E.Emit.faults c.args.emit.now) (g.E.Emit.took c.args.emit.now (g.St.Store.holds c.args.store.now)) c.requires.streams c.requires.emitter.lives in
+    none.went
+
+pub returns-in_err-hold_next-clause-stands : goal.returns-in_err-hold_next-clause-stands
+returns-in_err-hold_next-clause-stands g c =
+    let stays = c.rounds.invariant.stays in
+    let still : (rows : List (List Value)) → g.E.Emit.took c.rounds.emit (g.St.Store.holds c.rounds.store) rows → g.E.Emit.took c.rounds.emit (g.St.Store.holds c.hold_next.new.store) rows =
+    still_right _ _ _ _ _ _ _ _ _ _ _ _ _ _ _ _ _ c.requires.streams.client c.requires.emitter.apart stays c.hold_next.new.builds (g.St.Store.holds c.hold_next.new.store) (g.St.Store.signs c.hold_next.new.store) (g.E.Emit.took c.rounds.emit (g.St.Store.holds c.hold_next.new.store)) c.hold_next.ensures.went (λ rows own. g.met.E.Emit.asks_own c.rounds.emit (g.St.Store.holds c.rounds.store) (g.St.Store.holds c.hold_next.new.store) rows own) in
+    let read = stay_right _ _ _ _ _ _ _ _ _ _ _ _ _ _ _ _ _ c.requires.streams.client c.requires.emitter.apart stays c.hold_next.new.builds (g.St.Store.holds c.hold_next.new.store) (g.St.Store.signs c.hold_next.new.store) (g.E.Emit.took c.rounds.emit (g.St.Store.holds c.hold_next.new.store)) c.hold_next.ensures.went c.hold_next.ensures.same still in
+    read.went
+
+pub returns-in_err-join_chunk-clause-stands : goal.returns-in_err-join_chunk-clause-stands
+returns-in_err-join_chunk-clause-stands g c =
+    let stays = c.rounds.invariant.stays in
+    let still : (rows : List (List Value)) → g.E.Emit.took c.rounds.emit (g.St.Store.holds c.rounds.store) rows → g.E.Emit.took c.rounds.emit (g.St.Store.holds c.hold_next.new.store) rows =
+    still_right _ _ _ _ _ _ _ _ _ _ _ _ _ _ _ _ _ c.requires.streams.client c.requires.emitter.apart stays c.hold_next.new.builds (g.St.Store.holds c.hold_next.new.store) (g.St.Store.signs c.hold_next.new.store) (g.E.Emit.took c.rounds.emit (g.St.Store.holds c.hold_next.new.store)) c.hold_next.ensures.went (λ rows own. g.met.E.Emit.asks_own c.rounds.emit (g.St.Store.holds c.rounds.store) (g.St.Store.holds c.hold_next.new.store) rows own) in
+    let read = stay_right _ _ _ _ _ _ _ _ _ _ _ _ _ _ _ _ _ c.requires.streams.client c.requires.emitter.apart stays c.hold_next.new.builds (g.St.Store.holds c.hold_next.new.store) (g.St.Store.signs c.hold_next.new.store) (g.E.Emit.took c.rounds.emit (g.St.Store.holds c.hold_next.new.store)) c.hold_next.ensures.went c.hold_next.ensures.same still in
+    let all = stay_left _ _ _ _ _ _ _ _ _ _ _ _ _ _ _ _ _ c.requires.streams.client c.requires.emitter.apart read c.join_chunk.new.reads (g.St.Store.holds c.join_chunk.new.store) (g.St.Store.signs c.join_chunk.new.store) (g.E.Emit.admits c.join_chunk.new.emit) (g.E.Emit.client c.join_chunk.new.emit) (g.E.Emit.faults c.join_chunk.new.emit) (g.E.Emit.took c.join_chunk.new.emit (g.St.Store.holds c.join_chunk.new.store)) c.join_chunk.ensures.stream c.join_chunk.ensures.emitter c.join_chunk.ensures.stands in
+    all.went
+
+pub returns-clause-stands : goal.returns-clause-stands
+returns-clause-stands g c =
+    c.rounds.invariant.stays.went
+
+pub returns-in_default-clause-streams : goal.returns-in_default-clause-streams
+returns-in_default-clause-streams g c =
+    let none = stay_none c.args.c.now c.args.reads.now c.args.builds.now (g.St.Store.holds c.args.store.now) (g.St.Store.signs c.args.store.now) (g.E.Emit.admits c.args.emit.now) (g.E.Emit.client c.args.emit.now) (g.E.Emit.faults c.args.emit.now) (g.E.Emit.took c.args.emit.now (g.St.Store.holds c.args.store.now)) c.requires.streams c.requires.emitter.lives in
+    none.both
+
+pub returns-in_err-hold_next-clause-streams : goal.returns-in_err-hold_next-clause-streams
+returns-in_err-hold_next-clause-streams g c =
+    let stays = c.rounds.invariant.stays in
+    let still : (rows : List (List Value)) → g.E.Emit.took c.rounds.emit (g.St.Store.holds c.rounds.store) rows → g.E.Emit.took c.rounds.emit (g.St.Store.holds c.hold_next.new.store) rows =
+    still_right _ _ _ _ _ _ _ _ _ _ _ _ _ _ _ _ _ c.requires.streams.client c.requires.emitter.apart stays c.hold_next.new.builds (g.St.Store.holds c.hold_next.new.store) (g.St.Store.signs c.hold_next.new.store) (g.E.Emit.took c.rounds.emit (g.St.Store.holds c.hold_next.new.store)) c.hold_next.ensures.went (λ rows own. g.met.E.Emit.asks_own c.rounds.emit (g.St.Store.holds c.rounds.store) (g.St.Store.holds c.hold_next.new.store) rows own) in
+    let read = stay_right _ _ _ _ _ _ _ _ _ _ _ _ _ _ _ _ _ c.requires.streams.client c.requires.emitter.apart stays c.hold_next.new.builds (g.St.Store.holds c.hold_next.new.store) (g.St.Store.signs c.hold_next.new.store) (g.E.Emit.took c.rounds.emit (g.St.Store.holds c.hold_next.new.store)) c.hold_next.ensures.went c.hold_next.ensures.same still in
+    read.both
+
+pub returns-in_err-join_chunk-clause-streams : goal.returns-in_err-join_chunk-clause-streams
+returns-in_err-join_chunk-clause-streams g c =
+    let stays = c.rounds.invariant.stays in
+    let still : (rows : List (List Value)) → g.E.Emit.took c.rounds.emit (g.St.Store.holds c.rounds.store) rows → g.E.Emit.took c.rounds.emit (g.St.Store.holds c.hold_next.new.store) rows =
+    still_right _ _ _ _ _ _ _ _ _ _ _ _ _ _ _ _ _ c.requires.streams.client c.requires.emitter.apart stays c.hold_next.new.builds (g.St.Store.holds c.hold_next.new.store) (g.St.Store.signs c.hold_next.new.store) (g.E.Emit.took c.rounds.emit (g.St.Store.holds c.hold_next.new.store)) c.hold_next.ensures.went (λ rows own. g.met.E.Emit.asks_own c.rounds.emit (g.St.Store.holds c.rounds.store) (g.St.Store.holds c.hold_next.new.store) rows own) in
+    let read = stay_right _ _ _ _ _ _ _ _ _ _ _ _ _ _ _ _ _ c.requires.streams.client c.requires.emitter.apart stays c.hold_next.new.builds (g.St.Store.holds c.hold_next.new.store) (g.St.Store.signs c.hold_next.new.store) (g.E.Emit.took c.rounds.emit (g.St.Store.holds c.hold_next.new.store)) c.hold_next.ensures.went c.hold_next.ensures.same still in
+    let all = stay_left _ _ _ _ _ _ _ _ _ _ _ _ _ _ _ _ _ c.requires.streams.client c.requires.emitter.apart read c.join_chunk.new.reads (g.St.Store.holds c.join_chunk.new.store) (g.St.Store.signs c.join_chunk.new.store) (g.E.Emit.admits c.join_chunk.new.emit) (g.E.Emit.client c.join_chunk.new.emit) (g.E.Emit.faults c.join_chunk.new.emit) (g.E.Emit.took c.join_chunk.new.emit (g.St.Store.holds c.join_chunk.new.store)) c.join_chunk.ensures.stream c.join_chunk.ensures.emitter c.join_chunk.ensures.stands in
+    all.both
+
+pub returns-clause-streams : goal.returns-clause-streams
+returns-clause-streams g c =
+    c.rounds.invariant.stays.both
+
+pub returns-in_default-clause-emitter : goal.returns-in_default-clause-emitter
+returns-in_default-clause-emitter g c =
+    let none = stay_none c.args.c.now c.args.reads.now c.args.builds.now (g.St.Store.holds c.args.store.now) (g.St.Store.signs c.args.store.now) (g.E.Emit.admits c.args.emit.now) (g.E.Emit.client c.args.emit.now) (g.E.Emit.faults c.args.emit.now) (g.E.Emit.took c.args.emit.now (g.St.Store.holds c.args.store.now)) c.requires.streams c.requires.emitter.lives in
+    none.emitter
+
+pub returns-in_err-hold_next-clause-emitter : goal.returns-in_err-hold_next-clause-emitter
+returns-in_err-hold_next-clause-emitter g c =
+    let stays = c.rounds.invariant.stays in
+    let still : (rows : List (List Value)) → g.E.Emit.took c.rounds.emit (g.St.Store.holds c.rounds.store) rows → g.E.Emit.took c.rounds.emit (g.St.Store.holds c.hold_next.new.store) rows =
+    still_right _ _ _ _ _ _ _ _ _ _ _ _ _ _ _ _ _ c.requires.streams.client c.requires.emitter.apart stays c.hold_next.new.builds (g.St.Store.holds c.hold_next.new.store) (g.St.Store.signs c.hold_next.new.store) (g.E.Emit.took c.rounds.emit (g.St.Store.holds c.hold_next.new.store)) c.hold_next.ensures.went (λ rows own. g.met.E.Emit.asks_own c.rounds.emit (g.St.Store.holds c.rounds.store) (g.St.Store.holds c.hold_next.new.store) rows own) in
+    let read = stay_right _ _ _ _ _ _ _ _ _ _ _ _ _ _ _ _ _ c.requires.streams.client c.requires.emitter.apart stays c.hold_next.new.builds (g.St.Store.holds c.hold_next.new.store) (g.St.Store.signs c.hold_next.new.store) (g.E.Emit.took c.rounds.emit (g.St.Store.holds c.hold_next.new.store)) c.hold_next.ensures.went c.hold_next.ensures.same still in
+    read.emitter
+
+pub returns-in_err-join_chunk-clause-emitter : goal.returns-in_err-join_chunk-clause-emitter
+returns-in_err-join_chunk-clause-emitter g c =
+    let stays = c.rounds.invariant.stays in
+    let still : (rows : List (List Value)) → g.E.Emit.took c.rounds.emit (g.St.Store.holds c.rounds.store) rows → g.E.Emit.took c.rounds.emit (g.St.Store.holds c.hold_next.new.store) rows =
+    still_right _ _ _ _ _ _ _ _ _ _ _ _ _ _ _ _ _ c.requires.streams.client c.requires.emitter.apart stays c.hold_next.new.builds (g.St.Store.holds c.hold_next.new.store) (g.St.Store.signs c.hold_next.new.store) (g.E.Emit.took c.rounds.emit (g.St.Store.holds c.hold_next.new.store)) c.hold_next.ensures.went (λ rows own. g.met.E.Emit.asks_own c.rounds.emit (g.St.Store.holds c.rounds.store) (g.St.Store.holds c.hold_next.new.store) rows own) in
+    let read = stay_right _ _ _ _ _ _ _ _ _ _ _ _ _ _ _ _ _ c.requires.streams.client c.requires.emitter.apart stays c.hold_next.new.builds (g.St.Store.holds c.hold_next.new.store) (g.St.Store.signs c.hold_next.new.store) (g.E.Emit.took c.rounds.emit (g.St.Store.holds c.hold_next.new.store)) c.hold_next.ensures.went c.hold_next.ensures.same still in
+    let all = stay_left _ _ _ _ _ _ _ _ _ _ _ _ _ _ _ _ _ c.requires.streams.client c.requires.emitter.apart read c.join_chunk.new.reads (g.St.Store.holds c.join_chunk.new.store) (g.St.Store.signs c.join_chunk.new.store) (g.E.Emit.admits c.join_chunk.new.emit) (g.E.Emit.client c.join_chunk.new.emit) (g.E.Emit.faults c.join_chunk.new.emit) (g.E.Emit.took c.join_chunk.new.emit (g.St.Store.holds c.join_chunk.new.store)) c.join_chunk.ensures.stream c.join_chunk.ensures.emitter c.join_chunk.ensures.stands in
+    all.emitter
+
+pub returns-clause-emitter : goal.returns-clause-emitter
+returns-clause-emitter g c =
+    c.rounds.invariant.stays.emitter
+
+pub hold_next-requires-clause-stream : goal.hold_next-requires-clause-stream
+hold_next-requires-clause-stream g c =
+    right_readable _ _ _ _ c.rounds.invariant.stays.readable
+
+pub join_chunk-requires-clause-stream : goal.join_chunk-requires-clause-stream
+join_chunk-requires-clause-stream g c =
+    let stays = c.rounds.invariant.stays in
+    let still : (rows : List (List Value)) → g.E.Emit.took c.rounds.emit (g.St.Store.holds c.rounds.store) rows → g.E.Emit.took c.rounds.emit (g.St.Store.holds c.hold_next.new.store) rows =
+    still_right _ _ _ _ _ _ _ _ _ _ _ _ _ _ _ _ _ c.requires.streams.client c.requires.emitter.apart stays c.hold_next.new.builds (g.St.Store.holds c.hold_next.new.store) (g.St.Store.signs c.hold_next.new.store) (g.E.Emit.took c.rounds.emit (g.St.Store.holds c.hold_next.new.store)) c.hold_next.ensures.went (λ rows own. g.met.E.Emit.asks_own c.rounds.emit (g.St.Store.holds c.rounds.store) (g.St.Store.holds c.hold_next.new.store) rows own) in
+    let read = stay_right _ _ _ _ _ _ _ _ _ _ _ _ _ _ _ _ _ c.requires.streams.client c.requires.emitter.apart stays c.hold_next.new.builds (g.St.Store.holds c.hold_next.new.store) (g.St.Store.signs c.hold_next.new.store) (g.E.Emit.took c.rounds.emit (g.St.Store.holds c.hold_next.new.store)) c.hold_next.ensures.went c.hold_next.ensures.same still in
+    left_readable _ _ _ _ read.readable
+
+pub join_chunk-requires-clause-emitter : goal.join_chunk-requires-clause-emitter
+join_chunk-requires-clause-emitter g c =
+    let stays = c.rounds.invariant.stays in
+    let still : (rows : List (List Value)) → g.E.Emit.took c.rounds.emit (g.St.Store.holds c.rounds.store) rows → g.E.Emit.took c.rounds.emit (g.St.Store.holds c.hold_next.new.store) rows =
+    still_right _ _ _ _ _ _ _ _ _ _ _ _ _ _ _ _ _ c.requires.streams.client c.requires.emitter.apart stays c.hold_next.new.builds (g.St.Store.holds c.hold_next.new.store) (g.St.Store.signs c.hold_next.new.store) (g.E.Emit.took c.rounds.emit (g.St.Store.holds c.hold_next.new.store)) c.hold_next.ensures.went (λ rows own. g.met.E.Emit.asks_own c.rounds.emit (g.St.Store.holds c.rounds.store) (g.St.Store.holds c.hold_next.new.store) rows own) in
+    let read = stay_right _ _ _ _ _ _ _ _ _ _ _ _ _ _ _ _ _ c.requires.streams.client c.requires.emitter.apart stays c.hold_next.new.builds (g.St.Store.holds c.hold_next.new.store) (g.St.Store.signs c.hold_next.new.store) (g.E.Emit.took c.rounds.emit (g.St.Store.holds c.hold_next.new.store)) c.hold_next.ensures.went c.hold_next.ensures.same still in
+    beside_now _ _ _ _ _ _ _ _ _ _ _ _ _ _ _ _ _ c.requires.streams.client c.requires.emitter.apart read
+
+pub join_chunk-requires-clause-stands : goal.join_chunk-requires-clause-stands
+join_chunk-requires-clause-stands g c =
+    let stays = c.rounds.invariant.stays in
+    let still : (rows : List (List Value)) → g.E.Emit.took c.rounds.emit (g.St.Store.holds c.rounds.store) rows → g.E.Emit.took c.rounds.emit (g.St.Store.holds c.hold_next.new.store) rows =
+    still_right _ _ _ _ _ _ _ _ _ _ _ _ _ _ _ _ _ c.requires.streams.client c.requires.emitter.apart stays c.hold_next.new.builds (g.St.Store.holds c.hold_next.new.store) (g.St.Store.signs c.hold_next.new.store) (g.E.Emit.took c.rounds.emit (g.St.Store.holds c.hold_next.new.store)) c.hold_next.ensures.went (λ rows own. g.met.E.Emit.asks_own c.rounds.emit (g.St.Store.holds c.rounds.store) (g.St.Store.holds c.hold_next.new.store) rows own) in
+    let read = stay_right _ _ _ _ _ _ _ _ _ _ _ _ _ _ _ _ _ c.requires.streams.client c.requires.emitter.apart stays c.hold_next.new.builds (g.St.Store.holds c.hold_next.new.store) (g.St.Store.signs c.hold_next.new.store) (g.E.Emit.took c.rounds.emit (g.St.Store.holds c.hold_next.new.store)) c.hold_next.ensures.went c.hold_next.ensures.same still in
+    let more = read.went c.requires.stands.0 c.requires.stands.1 in
+    (c.requires.stands.0 ++ more.0, more.1)
+
+pub join_chunk-requires-clause-admits : goal.join_chunk-requires-clause-admits
+join_chunk-requires-clause-admits g c =
+    λ one two is kinds are others. (c.rounds.invariant.stays.emitter.admits_same (one ++ two)).0 (c.requires.admits one two is kinds are others)
+
+pub returns-in_err-hold_next-clause-err : goal.returns-in_err-hold_next-clause-err
+returns-in_err-hold_next-clause-err g c =
+    let stays = c.rounds.invariant.stays in
+    let still : (rows : List (List Value)) → g.E.Emit.took c.rounds.emit (g.St.Store.holds c.rounds.store) rows → g.E.Emit.took c.rounds.emit (g.St.Store.holds c.hold_next.new.store) rows =
+    still_right _ _ _ _ _ _ _ _ _ _ _ _ _ _ _ _ _ c.requires.streams.client c.requires.emitter.apart stays c.hold_next.new.builds (g.St.Store.holds c.hold_next.new.store) (g.St.Store.signs c.hold_next.new.store) (g.E.Emit.took c.rounds.emit (g.St.Store.holds c.hold_next.new.store)) c.hold_next.ensures.went (λ rows own. g.met.E.Emit.asks_own c.rounds.emit (g.St.Store.holds c.rounds.store) (g.St.Store.holds c.hold_next.new.store) rows own) in
+    any_err c.from_residual.result (met_some c.args.turned c.args.shape.now c.args.reads.now c.args.builds.now c.rounds.builds (g.St.Store.holds c.args.store.now) (g.St.Store.holds c.rounds.store) (g.E.Emit.took c.args.emit.now (g.St.Store.holds c.args.store.now)) (g.E.Emit.took c.rounds.emit (g.St.Store.holds c.rounds.store)) c.rounds.place c.rounds.waiting c.rounds.invariant.met (g.E.Emit.took c.rounds.emit (g.St.Store.holds c.hold_next.new.store)) still)
+
+pub returns-in_err-hold_next-clause-cause : goal.returns-in_err-hold_next-clause-cause
+returns-in_err-hold_next-clause-cause g c =
+    let stays = c.rounds.invariant.stays in
+    let came : WasAnswered c.in_err-hold_next.field-0.0 (g.St.Store.signs c.args.store.now) (g.St.Store.signs c.hold_next.new.store) = answered_before _ _ _ _ stays.emitter.grows c.in_err-hold_next.ensures.cause in
+    let short : IsShort c.args.reads.now.page_blocks c.in_err-hold_next.field-0.0 =
+    subst (λ (n : ℕ). IsShort n c.in_err-hold_next.field-0.0) (ap (λ (s : Streamed). s.page_blocks) stays.both.right_same ∙ c.requires.streams.alike) c.in_err-hold_next.ensures.short in
+    let both : CameOfEither c.args.reads.now.page_blocks (g.E.Emit.client c.args.emit.now) (g.E.Emit.faults c.args.emit.now) (g.E.Emit.faults c.rounds.emit) (g.St.Store.signs c.args.store.now) (g.St.Store.signs c.hold_next.new.store) (Pool c.in_err-hold_next.field-0.0) =
+    record { came = came; short = λ none. short } in
+    search (rules, both)
+
+pub returns-in_err-join_chunk-clause-err : goal.returns-in_err-join_chunk-clause-err
+returns-in_err-join_chunk-clause-err g c =
+    let stays = c.rounds.invariant.stays in
+    let still : (rows : List (List Value)) → g.E.Emit.took c.rounds.emit (g.St.Store.holds c.rounds.store) rows → g.E.Emit.took c.rounds.emit (g.St.Store.holds c.hold_next.new.store) rows =
+    still_right _ _ _ _ _ _ _ _ _ _ _ _ _ _ _ _ _ c.requires.streams.client c.requires.emitter.apart stays c.hold_next.new.builds (g.St.Store.holds c.hold_next.new.store) (g.St.Store.signs c.hold_next.new.store) (g.E.Emit.took c.rounds.emit (g.St.Store.holds c.hold_next.new.store)) c.hold_next.ensures.went (λ rows own. g.met.E.Emit.asks_own c.rounds.emit (g.St.Store.holds c.rounds.store) (g.St.Store.holds c.hold_next.new.store) rows own) in
+    let read = stay_right _ _ _ _ _ _ _ _ _ _ _ _ _ _ _ _ _ c.requires.streams.client c.requires.emitter.apart stays c.hold_next.new.builds (g.St.Store.holds c.hold_next.new.store) (g.St.Store.signs c.hold_next.new.store) (g.E.Emit.took c.rounds.emit (g.St.Store.holds c.hold_next.new.store)) c.hold_next.ensures.went c.hold_next.ensures.same still in
+    let handed = c.in_err-join_chunk.ensures.err in
+    any_err c.from_residual-in_err-join_chunk.result (met_part c.args.turned c.args.shape.now c.args.reads.now c.args.builds.now c.rounds.builds (g.St.Store.holds c.args.store.now) (g.St.Store.holds c.rounds.store) (g.E.Emit.took c.args.emit.now (g.St.Store.holds c.args.store.now)) (g.E.Emit.took c.rounds.emit (g.St.Store.holds c.rounds.store)) c.rounds.place c.rounds.waiting c.rounds.invariant.met c.hold_next.new.builds (g.St.Store.holds c.hold_next.new.store) (g.St.Store.signs c.rounds.store) (g.St.Store.signs c.hold_next.new.store) c.hold_next.new.place (held_rows c.hold_next.new.held) stays.both.query.told stays.both.right_rows
+    c.in_ok-hold_next.ensures.reads (g.E.Emit.took c.rounds.emit (g.St.Store.holds c.hold_next.new.store)) still read.both.query.told c.rounds.reads read.both.left_rows (g.E.Emit.took c.join_chunk.new.emit (g.St.Store.holds c.join_chunk.new.store)) handed)
+
+pub returns-in_err-join_chunk-clause-cause : goal.returns-in_err-join_chunk-clause-cause
+returns-in_err-join_chunk-clause-cause g c =
+    let stays = c.rounds.invariant.stays in
+    let still : (rows : List (List Value)) → g.E.Emit.took c.rounds.emit (g.St.Store.holds c.rounds.store) rows → g.E.Emit.took c.rounds.emit (g.St.Store.holds c.hold_next.new.store) rows =
+    still_right _ _ _ _ _ _ _ _ _ _ _ _ _ _ _ _ _ c.requires.streams.client c.requires.emitter.apart stays c.hold_next.new.builds (g.St.Store.holds c.hold_next.new.store) (g.St.Store.signs c.hold_next.new.store) (g.E.Emit.took c.rounds.emit (g.St.Store.holds c.hold_next.new.store)) c.hold_next.ensures.went (λ rows own. g.met.E.Emit.asks_own c.rounds.emit (g.St.Store.holds c.rounds.store) (g.St.Store.holds c.hold_next.new.store) rows own) in
+    let read = stay_right _ _ _ _ _ _ _ _ _ _ _ _ _ _ _ _ _ c.requires.streams.client c.requires.emitter.apart stays c.hold_next.new.builds (g.St.Store.holds c.hold_next.new.store) (g.St.Store.signs c.hold_next.new.store) (g.E.Emit.took c.rounds.emit (g.St.Store.holds c.hold_next.new.store)) c.hold_next.ensures.went c.hold_next.ensures.same still in
+    let came : CameOf (g.E.Emit.faults c.args.emit.now) (g.E.Emit.faults c.join_chunk.new.emit) (g.St.Store.signs c.args.store.now) (g.St.Store.signs c.join_chunk.new.store) c.in_err-join_chunk.field-0.0 =
+    came_behind _ _ _ _ _ _ _ read.emitter.never_falls read.emitter.grows c.in_err-join_chunk.ensures.cause.came in
+    let both : CameOfEither c.args.reads.now.page_blocks (g.E.Emit.client c.args.emit.now) (g.E.Emit.faults c.args.emit.now) (g.E.Emit.faults c.join_chunk.new.emit) (g.St.Store.signs c.args.store.now) (g.St.Store.signs c.join_chunk.new.store) c.in_err-join_chunk.field-0.0 =
+    record { came = came; short = λ none. subst (λ (n : ℕ). IsShortOf n c.in_err-join_chunk.field-0.0) (ap (λ (s : Streamed). s.page_blocks) stays.both.left_same) (c.in_err-join_chunk.ensures.cause.short (stays.emitter.client_same ∙ none)) } in
+    search (rules, both)
+
+pub rounds-preserved : goal.rounds-preserved
+rounds-preserved g c =
+    let stays = c.rounds.invariant.stays in
+    let still : (rows : List (List Value)) → g.E.Emit.took c.rounds.emit (g.St.Store.holds c.rounds.store) rows → g.E.Emit.took c.rounds.emit (g.St.Store.holds c.hold_next.new.store) rows =
+    still_right _ _ _ _ _ _ _ _ _ _ _ _ _ _ _ _ _ c.requires.streams.client c.requires.emitter.apart stays c.hold_next.new.builds (g.St.Store.holds c.hold_next.new.store) (g.St.Store.signs c.hold_next.new.store) (g.E.Emit.took c.rounds.emit (g.St.Store.holds c.hold_next.new.store)) c.hold_next.ensures.went (λ rows own. g.met.E.Emit.asks_own c.rounds.emit (g.St.Store.holds c.rounds.store) (g.St.Store.holds c.hold_next.new.store) rows own) in
+    let read = stay_right _ _ _ _ _ _ _ _ _ _ _ _ _ _ _ _ _ c.requires.streams.client c.requires.emitter.apart stays c.hold_next.new.builds (g.St.Store.holds c.hold_next.new.store) (g.St.Store.signs c.hold_next.new.store) (g.E.Emit.took c.rounds.emit (g.St.Store.holds c.hold_next.new.store)) c.hold_next.ensures.went c.hold_next.ensures.same still in
+    let all = stay_left _ _ _ _ _ _ _ _ _ _ _ _ _ _ _ _ _ c.requires.streams.client c.requires.emitter.apart read c.join_chunk.new.reads (g.St.Store.holds c.join_chunk.new.store) (g.St.Store.signs c.join_chunk.new.store) (g.E.Emit.admits c.join_chunk.new.emit) (g.E.Emit.client c.join_chunk.new.emit) (g.E.Emit.faults c.join_chunk.new.emit) (g.E.Emit.took c.join_chunk.new.emit (g.St.Store.holds c.join_chunk.new.store)) c.join_chunk.ensures.stream c.join_chunk.ensures.emitter c.join_chunk.ensures.stands in
+    let handed = c.in_ok-join_chunk.ensures.ok in
+    let fewer : c.saturating_sub-waiting.result ≡ c.rounds.waiting - length (held_rows c.hold_next.new.held) = search rules in
+    record {
+      held = held_then _ _ _ c.rounds.invariant.held c.hold_next.ensures.held;
+      stays = all;
+      met = met_more c.args.turned c.args.shape.now c.args.reads.now c.args.builds.now c.rounds.builds (g.St.Store.holds c.args.store.now) (g.St.Store.holds c.rounds.store) (g.E.Emit.took c.args.emit.now (g.St.Store.holds c.args.store.now)) (g.E.Emit.took c.rounds.emit (g.St.Store.holds c.rounds.store)) c.rounds.place c.rounds.waiting c.rounds.invariant.met c.hold_next.new.builds (g.St.Store.holds c.hold_next.new.store) (g.St.Store.signs c.rounds.store) (g.St.Store.signs c.hold_next.new.store) c.hold_next.new.place (held_rows c.hold_next.new.held) stays.both.query.told stays.both.right_rows
+          c.in_ok-hold_next.ensures.reads (g.E.Emit.took c.rounds.emit (g.St.Store.holds c.hold_next.new.store)) still read.both.query.told c.rounds.reads read.both.left_rows (g.St.Store.holds c.join_chunk.new.store) (g.E.Emit.took c.join_chunk.new.emit (g.St.Store.holds c.join_chunk.new.store)) c.saturating_sub-waiting.result
+          (other_place c.args.c.now.tracker (g.E.Emit.client c.rounds.emit) c.rounds.reads c.join_chunk.new.reads c.hold_next.new.builds (g.St.Store.holds c.hold_next.new.store) (g.St.Store.holds c.join_chunk.new.store) read.readable.right_shape read.readable.apart c.join_chunk.ensures.stream.beside)
+          (ap (λ (s : Streamed). s.count) c.hold_next.ensures.same) fewer handed;
+    }
+
+pub returns-clause-ok : goal.returns-clause-ok
+returns-clause-ok g c =
+    λ lefts rights told one two. met_all c.args.turned c.args.shape.now c.args.reads.now c.args.builds.now c.rounds.builds (g.St.Store.holds c.args.store.now) (g.St.Store.holds c.rounds.store) (g.E.Emit.took c.args.emit.now (g.St.Store.holds c.args.store.now)) (g.E.Emit.took c.rounds.emit (g.St.Store.holds c.rounds.store)) c.rounds.place c.rounds.waiting c.rounds.invariant.met (let end = c.rounds-test.false in omega (arith, end)) (ap (λ (s : Streamed). s.count) c.rounds.invariant.stays.both.right_same) lefts rights told one two
+
+pub returns-in_default-clause-held : goal.returns-in_default-clause-held
+returns-in_default-clause-held g c = held_itself c.args.held.now
+
+pub returns-in_err-hold_next-clause-held : goal.returns-in_err-hold_next-clause-held
+returns-in_err-hold_next-clause-held g c = held_then _ _ _ c.rounds.invariant.held c.hold_next.ensures.held
+
+pub returns-in_err-join_chunk-clause-held : goal.returns-in_err-join_chunk-clause-held
+returns-in_err-join_chunk-clause-held g c = held_then _ _ _ c.rounds.invariant.held c.hold_next.ensures.held
+
+pub hold_next-requires-clause-may : goal.hold_next-requires-clause-may
+hold_next-requires-clause-may g c = may_still _ _ c.rounds.invariant.held c.requires.may
