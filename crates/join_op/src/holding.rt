@@ -1,7 +1,5 @@
 //! Rows of one side are held while the other side is read.
 ghost use Rattle.std.specs.Prelude.{◌≡◌, ◌<◌, ◌+◌, ◌*◌, ◌^◌, ◌≤◌, ◌++◌, ℕ, ◌∷◌, [], All, IfErr, IfSome, None, OnOk, length, true};
-ghost use Rattle.row_codec.specs.Order.{hash_of};
-ghost use Rattle.row_reading.specs.Reading.{IsRowOf};
 ghost use Rattle.store_api.specs.Conditions.{IsBlockCount, IsLiveClient};
 ghost use Rattle.store_api.specs.Holdings.{length_of};
 ghost use Rattle.store_api.specs.Signs.{Grows, WasAnswered};
@@ -13,7 +11,6 @@ ghost use Rattle.partition_stack.specs.Causes.{IsShort};
 ghost use Rattle.partition_stack.specs.Reading.{IsReadable};
 ghost use Rattle.join_op.specs.Chunks.{AreColumns, IsKept, ReadsMore, kept_rows};
 ghost use Rattle.join_op.specs.Holding.{AreStored, HoldsOf, IsSameHeld, IsTableAt, LeavesRoom, MayHold, held_rows, held_side, loans_in, stored};
-ghost use Rattle.join_op.specs.Stored.{key_at};
 
 use crate::feeding::Spare;
 use bucket_table::BucketTable;
