@@ -8,7 +8,6 @@ pub mod Spellable
 pub mod KeepsRows
 mod Started
 pub mod Ended
-mod Trying
 mod TwoStreams
 pub mod Handed
 pub mod Fans

@@ -1,1 +1,2 @@
 pub mod Groupings
+pub mod Clients

@@ -1,4 +1,4 @@
-//! Operators over stores: tests of whole groupings, over a store in memory and over the pool of one owner.
+//! Operators over stores: tests of whole groupings and joins, over a store in memory and over the pool of one owner.
 #![tactic(auto)]
 
 #[cfg(test)]

@@ -10,17 +10,14 @@ ghost use Rattle.store_api.specs.Shapes.{IsShape};
 ghost use Rattle.group_op.specs.Operator.{IsFeeding, IsOperator, IsSame};
 ghost use Rattle.group_op.specs.Starting.{MayStart};
 
+use super::{MEMORY, counted, opened, slots};
 use group_op::{GroupOp, law_starts};
-use local_pool::LocalPool;
 use outside::MemSlot;
-use pin_core::PoolConf;
 use reservation_tree::PoolErr;
 use row_codec::{Agg, Bytes, Kind, Value, encoded_len};
 use std::alloc::Global;
 use std::test::Fail;
 use store_api::{Client, Emit, Listed, MemStore, OpErr, Shape, Store};
-
-const MEMORY: OpErr = OpErr::Pool(PoolErr::Memory);
 
 // What came: how many rows, and a checksum over their texts and numbers.
 #[derive(Clone, Copy, Debug, Drop, PartialEq, Eq)]
@@ -288,7 +285,6 @@ fn in_memory(
 }
 
 // The same in a new pool of so many blocks of 64 bytes, over these slots, which come back.
-#[tactic(auto, unfolding(pool_model::specs::Bytes::bytes_of))]
 fn in_pool(
     alloc: Global,
     blocks: u32,
@@ -301,14 +297,7 @@ fn in_pool(
     requires blocks { blocks ≤ 1024 }
     requires slots { vec_len slots ≤ 1024 }
 {
-    let conf = PoolConf {
-        blocks,
-        block_len: 64,
-        first_name: 0,
-    };
-    let bytes = u64::from(blocks) * 64;
-    let quota = slots.len() as u32;
-    match LocalPool::<MemSlot>::open(alloc, &conf, slots, bytes, quota, bytes) {
+    match opened(alloc, blocks, slots) {
         Err((slots, e)) => (slots, Err(OpErr::Pool(e))),
         Ok(mut pool) => {
             let told = grouped(alloc, &mut pool, shape, plan);
@@ -407,30 +396,6 @@ fn sums_and_extremes_are_the_same_in_any_number_of_pages(rt: HostRuntime) -> Res
     Ok(())
 }
 
-// So many slots, of which each fails at the stores and loads that are listed.
-fn slots(alloc: Global, count: u32, fails: &[u64]) -> Result<Vec<MemSlot>, OpErr> {
-    let mut slots = Vec::new(alloc);
-    for _ in 0..count {
-        let Ok(slot) = MemSlot::new(alloc, fails) else {
-            return Err(MEMORY);
-        };
-        if slots.push(slot).is_err() {
-            return Err(MEMORY);
-        }
-    }
-    Ok(slots)
-}
-
-// How often the slots were stored to, and how often they failed.
-fn counted(slots: &[MemSlot]) -> (u64, u64) {
-    slots.iter().fold((0, 0), |(stores, faults), slot| {
-        (
-            u64::saturating_add(stores, slot.stores()),
-            u64::saturating_add(faults, slot.faults()),
-        )
-    })
-}
-
 fn texts(rows: u32) -> Plan {
     Plan {
         rows,
@@ -443,43 +408,41 @@ fn texts(rows: u32) -> Plan {
 #[test]
 fn groups_come_back_from_slots(rt: HostRuntime) -> Result<(), Fail> {
     let rows = [
-        (20, 200, 15449805641609575780, true),
-        (20, 700, 8964774332756378096, true),
-        (21, 700, 8964774332756378096, true),
-        (40, 700, 8964774332756378096, true),
-        (1000, 700, 8964774332756378096, false),
+        (20, 200, 15449805641609575780),
+        (20, 700, 8964774332756378096),
+        (21, 700, 8964774332756378096),
+        (40, 700, 8964774332756378096),
+        (1000, 700, 8964774332756378096),
     ];
     let shape = one_text(rt.alloc())?;
-    for (blocks, fed, sum, stores) in rows {
-        let slots = slots(rt.alloc(), 800, &[])?;
+    for (blocks, fed, sum) in rows {
+        let slots = slots(rt.alloc(), 800, 0, &[])?;
         assert!(rt; slots.len() <= 1024);
         let (slots, told) = in_pool(rt.alloc(), blocks, slots, &shape, texts(fed));
-        assert_eq!(rt; told, Ok(Told { rows: 200, sum }), "{fed} rows in {blocks} blocks");
+        assert_eq!(rt;
+            told,
+            Ok(Told { rows: 200, sum }),
+            "{fed} rows in {blocks} blocks"
+        );
         assert_eq!(rt; slots.len(), 800);
-        assert_eq!(rt; counted(slots.as_slice()).0 > 0, stores, "{blocks} blocks");
+        // Pages that rest are written before others are pinned, as long as the client reserves no more.
+        assert!(rt; counted(slots.as_slice()).0 > 0);
     }
     Ok(())
 }
 
 #[test]
-fn a_slot_that_fails_is_told_and_the_next_grouping_goes_well(
-    rt: HostRuntime,
-) -> Result<(), Fail> {
+fn a_slot_that_fails_is_told(rt: HostRuntime) -> Result<(), Fail> {
     let shape = one_text(rt.alloc())?;
     // The first call of a slot stores a block, and the second one loads it.
     for fails in [0, 1] {
-        let slots = slots(rt.alloc(), 800, &[fails])?;
+        let slots = slots(rt.alloc(), 800, 800, &[fails])?;
         assert!(rt; slots.len() <= 1024);
         let (slots, told) = in_pool(rt.alloc(), 20, slots, &shape, texts(200));
         let Err(OpErr::Pool(e)) = told else {
             panic!(rt; "a call that fails is told");
         };
-        let kind = match e {
-            PoolErr::WriteFault { .. } => 0,
-            PoolErr::ReadFault { .. } => 1,
-            _ => 2,
-        };
-        assert_eq!(rt; kind, fails);
+        assert_eq!(rt; super::kind_of(e), fails);
         assert_eq!(rt; counted(slots.as_slice()).1, 1);
         assert_eq!(rt; slots.len(), 800);
     }
@@ -489,7 +452,7 @@ fn a_slot_that_fails_is_told_and_the_next_grouping_goes_well(
 #[test]
 fn a_quota_that_is_too_small_is_told(rt: HostRuntime) -> Result<(), Fail> {
     let shape = one_text(rt.alloc())?;
-    let slots = slots(rt.alloc(), 16, &[])?;
+    let slots = slots(rt.alloc(), 16, 0, &[])?;
     assert!(rt; slots.len() <= 1024);
     let (slots, told) = in_pool(rt.alloc(), 20, slots, &shape, texts(200));
     let full = PoolErr::ScratchFull { need: 1, free: 0 };

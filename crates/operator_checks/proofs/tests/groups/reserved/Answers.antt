@@ -1,5 +1,5 @@
 use Rattle.std.proofs.Common.{◌∙◌}
-use Rattle.operator_checks.proofs.Groupings.{may_start}
+use Rattle.operator_checks.proofs.Clients.{may_start}
 use Rattle.operator_checks.proofs.tests.groups.reserved.Goals as goal
 
 pub started-requires-clause-start : goal.started-requires-clause-start

@@ -1,9 +1,7 @@
 use Rattle.std.proofs.Common.{◌<◌, IsSome, refl, sym, subst, arith}
-use Rattle.store_api.specs.Holdings.{length_of}
 use Rattle.store_api.specs.Tokens.{ClientToken}
-use Rattle.bucket_table.proofs.Opened.{some_blocks}
 use Rattle.group_op.specs.Operator.{IsOperator, Operator}
-use Rattle.operator_checks.proofs.Groupings.{reserving_lives, some_product}
+use Rattle.operator_checks.proofs.Clients.{still_lives}
 use Rattle.operator_checks.proofs.tests.groups.started.Goals as goal
 
 pub told_of-told-requires-clause-op : goal.told_of-told-requires-clause-op
@@ -19,8 +17,5 @@ returns-in-Ok-clause-client g c =
     let new = g.St.Store.holds c.end.new.store in
     let is = c.told_of-told.ensures.op in
     let len : 0 < mid.block_len = (let value = c.block_len-len.ensures.value in let least = c.block_len-len.ensures.least in omega (arith, value, least)) in
-    let page : 0 < length_of op.parts.page_blocks mid = some_product op.parts.page_blocks mid.block_len (some_blocks op.parts.page_blocks is.sized) len in
-    let least = is.least in
-    let reserved = c.end.ensures.leaves.reserved in
     subst (λ (client : ClientToken). IsSome (new.clients client.tracker)) (sym c.end.ensures.client)
-    (reserving_lives (new.clients op.client.tracker) (length_of op.parts.page_blocks mid) page (omega (arith, least, reserved)))
+    (still_lives op.client.tracker op.parts.page_blocks mid new is.sized len is.least c.end.ensures.leaves.reserved)

@@ -1,8 +1,8 @@
 use Rattle.std.proofs.Common.{◌<◌, IsSome, refl, sym, subst, arith}
 use Rattle.store_api.specs.Tokens.{ClientToken}
 use Rattle.join_op.specs.Operator.{IsOperator, Operator}
-use Rattle.join_op.proofs.Trying.{still_lives}
-use Rattle.join_op.proofs.tests.started.Goals as goal
+use Rattle.operator_checks.proofs.Clients.{still_lives}
+use Rattle.operator_checks.proofs.tests.joins.started.Goals as goal
 
 pub fed-told-requires-clause-op : goal.fed-told-requires-clause-op
 fed-told-requires-clause-op g c =

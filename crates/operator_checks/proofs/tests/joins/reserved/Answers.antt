@@ -1,6 +1,6 @@
 use Rattle.std.proofs.Common.{◌∙◌}
-use Rattle.join_op.proofs.Trying.{may_start}
-use Rattle.join_op.proofs.tests.reserved.Goals as goal
+use Rattle.operator_checks.proofs.Clients.{may_start}
+use Rattle.operator_checks.proofs.tests.joins.reserved.Goals as goal
 
 pub started-requires-clause-start : goal.started-requires-clause-start
 started-requires-clause-start g c =

@@ -1,11 +1,11 @@
--- A client that may start a join, and is live when it has ended. For tests.
+-- A client that may start an operator, and is live when it has ended.
 use Rattle.std.proofs.Common.{◌≡◌, ◌∙◌, ℕ, zero, suc, ◌+◌, ◌*◌, ◌<◌, ◌≤◌, Option, Some, None, IsSome, refl, ap, sym, subst, arith, eq-eqb}
 use Rattle.std.proofs.lemmas.Bool.{false≢true}
 use Rattle.store_api.specs.Changes.{after_add_client, after_reserve, raised}
 use Rattle.store_api.specs.Conditions.{IsBlockCount, IsNewClient}
 use Rattle.store_api.specs.Tokens.{ClientToken}
 use Rattle.store_api.specs.Holdings.{Account, Holdings, LiveLoan, LivePage, account_of, length_of, no_account, or_else, unused_of}
-use Rattle.join_op.specs.Starting.{MayStart}
+use Rattle.partition_stack.specs.Leaving.{MayStart}
 
 some_blocks : (blocks : ℕ) → IsBlockCount blocks → 0 < blocks
 some_blocks zero is = absurd (false≢true is)
