@@ -20,14 +20,13 @@ use Rattle.partition_stack.specs.Leaving.{LeavesOthers, MayStart}
 use Rattle.partition_stack.specs.Stack.{empty, first_sixteen, over}
 use Rattle.partition_stack.proofs.Slots.{more_taken, taken}
 use Rattle.group_op.specs.Laid.{HoldsGroups}
-use Rattle.group_op.specs.Operator.{Operator}
 use Rattle.group_op.specs.Starting.{AllStart, HasStarted}
 use Rattle.query_plan.specs.Sizes.{least_of, page_len}
 use Rattle.query_plan.specs.declared.plan.Query.{Query}
 use Rattle.query_run.specs.Input.{IsAccepted, passing}
 use Rattle.query_run.specs.Inside.{HasOwn}
 use Rattle.query_run.specs.Plans.{IsGrouping, shape_of}
-use Rattle.query_run.specs.Stopped.{IsLeft, MayStop, StoppedBy, StoppedOver}
+use Rattle.query_run.specs.Stopped.{IsLeft, MayStop, StoppedBy, StoppedOver, StoppedQuery, amounts_of}
 use Rattle.query_run.specs.Trail.{HoldsPartials, KeptAndRead, KeptGroups}
 use Rattle.query_run.specs.declared.outcome.QueryErr.{QueryErr}
 use Rattle.query_run.proofs.Going.{of_pool_so}
@@ -35,18 +34,22 @@ use Rattle.query_run.proofs.KeptFirst.{coming}
 
 -- ---- the client comes
 
-least-pages : (plan : Query) (block_len : ℕ) → plan.right ≡ None → least_of plan block_len ≡ 20 * page_len plan block_len
-least-pages plan block_len alone = rw alone (omega arith)
+pub least_pages : (plan : Query) (block_len : ℕ) → plan.right ≡ None → least_of plan block_len ≡ 20 * page_len plan block_len
+least_pages plan block_len alone = rw alone (omega arith)
 
-own-account : (c : ClientToken) (most bytes : ℕ) (old new : Holdings) → HasOwn c most bytes old new → account_of c.tracker new ≡ record { limit = most; reservation = bytes; unused = bytes }
-own-account c most bytes old new own = ap (or_else no_account) own.account
+pub own_account : (c : ClientToken) (most bytes : ℕ) (old new : Holdings) → HasOwn c most bytes old new → account_of c.tracker new ≡ record { limit = most; reservation = bytes; unused = bytes }
+own_account c most bytes old new own = ap (or_else no_account) own.account
+
+-- what a query without a right input reserves
+pub one_amount : (plan : Query) (block_len : ℕ) → plan.right ≡ None → amounts_of plan block_len ≡ least_of plan block_len ∷ []
+one_amount plan block_len alone = let least = least_pages plan block_len alone in rw least (rw alone refl)
 
 -- a grouping of this client is one over the store, and nothing was fed
 pub starts_here : (plan : Query) (c : ClientToken) (most bytes : ℕ) (old new : Holdings) (signs : Signs) → AllStart → IsGrouping plan → HasOwn c most bytes old new → bytes ≡ least_of plan old.block_len
     → HasStarted c plan.page_blocks (shape_of plan) new signs
 starts_here plan c most bytes old new signs all grouping own is =
-    let account = own-account c most bytes old new own in
-    let least = least-pages plan old.block_len grouping.alone in
+    let account = own_account c most bytes old new own in
+    let least = least_pages plan old.block_len grouping.alone in
     let may : MayStart c plan.page_blocks new = record {
       lives = rw own.account refl;
       idle = own.idle;
@@ -64,20 +67,20 @@ slots_first blocks h signs = with-none (taken (replicate 16 (empty blocks)) h) (
 
 -- ---- what stopped it
 
-pub stopped_around : (blocks blocks' : ℕ) (total : Option ℕ) (first : Holdings) (s0 s1 s2 s3 : Signs) (e : QueryErr) → blocks' ≡ blocks → total ≡ first.free_slots → Grows s0 s1 → Grows s2 s3
-    → StoppedOver blocks' total s1 s2 e → MayStop blocks first s0 s3 e
-stopped_around blocks blocks' total first s0 s1 s2 s3 e same-blocks same-total grows later = of_pool_so (StoppedBy blocks' total s1 s2) (StoppedBy blocks first.free_slots s0 s3)
+pub stopped_around : (plan : Query) (blocks' : ℕ) (total : Option ℕ) (first : Holdings) (s0 s1 s2 s3 : Signs) (e : QueryErr) → plan.right ≡ None → blocks' ≡ plan.page_blocks → total ≡ first.free_slots → Grows s0 s1 → Grows s2 s3
+    → StoppedOver blocks' total s1 s2 e → MayStop plan first s0 s3 e
+stopped_around plan blocks' total first s0 s1 s2 s3 e alone same-blocks same-total grows later = of_pool_so (StoppedBy blocks' total s1 s2) (StoppedQuery plan first.free_slots s0 s3)
     (λ why stopped. record {
       answered = answered_after why s0 s2 s3 (answered_before why s0 s1 s2 grows stopped.answered) later;
-      want = rw (same-total, same-blocks) at (stopped.want);
+      want = rw alone (rw (same-total, same-blocks) at (stopped.want));
     }) e
 
 -- ---- what is left
 
-pub left_around : (c : ClientToken) (most bytes blocks : ℕ) (op : Operator) (h0 h1 h2 h3 : Holdings) (s1 s2 s3 : Signs) → HasOwn c most bytes h0 h1
-    → LeavesOthers c.tracker h1 h2 s1 s2 → LeavesOthers c.tracker h2 h3 s2 s3 → h3.free_slots ≡ h1.free_slots → IsLeft h0 (after_end_client c.tracker h3)
-left_around c most bytes blocks op h0 h1 h2 h3 s1 s2 s3 own first then free =
-    let account = own-account c most bytes h0 h1 own in
+pub left_around : (c : ClientToken) (most bytes : ℕ) (h0 h1 h2 h3 : Holdings) (s1 s2 s3 : Signs) → HasOwn c most bytes h0 h1
+    → h0.live_clients ≡ 0 → LeavesOthers c.tracker h1 h2 s1 s2 → LeavesOthers c.tracker h2 h3 s2 s3 → IsLeft h0 (after_end_client c.tracker h3)
+left_around c most bytes h0 h1 h2 h3 s1 s2 s3 own none first then =
+    let account = own_account c most bytes h0 h1 own in
     let reserved : (account_of c.tracker h1).reservation ≡ bytes = ap (λ (a : Account). a.reservation) account in
     let room = own.room in
     let one = first.room in
@@ -89,14 +92,13 @@ left_around c most bytes blocks op h0 h1 h2 h3 s1 s2 s3 own first then free =
     let rises-two = then.others.reservation in
     let reservation = own.reservation in
     record {
-      live_clients = omega (arith, live, live-one, live-two);
+      live_clients = omega (arith, none, live, live-one, live-two);
       room = omega (arith, room, one, two, reserved);
       reservation = omega (arith, rises-one, rises-two, reservation);
       limit = then.others.limit ∙ first.others.limit ∙ own.limit;
       query = then.others.query ∙ first.others.query ∙ own.query;
       session = then.others.session ∙ first.others.session ∙ own.session;
       block_len = then.others.block_len ∙ first.others.block_len ∙ own.block_len;
-      free_slots = free ∙ own.free_slots;
       told = then.others.told ∙ first.others.told ∙ own.told;
     }
 
@@ -119,7 +121,7 @@ abbrev pub EndsFirst : Family → List Event → Type 0
 EndsFirst g events = AllClosed g → PinsFirst events
 
 -- what holds of the entries under a premise holds so of what the trail grew by
-entered-if : (A : Type 0) (P : List Event → Type 0) (old new : Option (List Entry)) → Prolongs old new → (A → EnteredEvents P old new) → EnteredEvents (λ events. A → P events) old new
+pub entered-if : (A : Type 0) (P : List Event → Type 0) (old new : Option (List Entry)) → Prolongs old new → (A → EnteredEvents P old new) → EnteredEvents (λ events. A → P events) old new
 entered-if A P None new grew so = grew
 entered-if A P (Some before) new grew so = (
   grew.0,

@@ -1,5 +1,5 @@
 -- The lines of an answer, from what waits before the first row to what is sent last.
-use Rattle.std.proofs.Common.{rules, ◌≡◌, ◌∙◌, ◌+◌, ℕ, zero, suc, List, [], ◌∷◌, ◌++◌, Option, Some, None, length, map, replicate, sym, ap, ap₂, subst, refl, append_assoc, append-nil}
+use Rattle.std.proofs.Common.{rules, ◌≡◌, ◌∙◌, ◌+◌, ℕ, zero, suc, List, [], ◌∷◌, ◌++◌, Option, Some, None, true, length, map, replicate, sym, ap, ap₂, subst, refl, append_assoc, append-nil}
 use Rattle.std.specs.Prelude.{ℤ, pos, Result, Ok, Err, OnErr, OnOk}
 use Rattle.std.specs.Int.{w128}
 use Rattle.std.specs.Io.KnownBytes.{Appends}
@@ -13,6 +13,7 @@ use Rattle.csv_edge.specs.Written.{AppendsFront}
 use Rattle.store_api.specs.declared.op_err.OpErr.{OpErr}
 use Rattle.store_api.specs.declared.shapes.Shape.{Shape}
 use Rattle.group_rows.specs.Aggregates.{aggregate}
+use Rattle.query_plan.specs.Sizes.{groups}
 use Rattle.query_plan.specs.declared.plan.Query.{Query}
 use Rattle.query_run.specs.Answer.{LineNumbers, answer_text, group_rows, header_of, lines_of}
 use Rattle.query_run.specs.Ending.{WentThrough}
@@ -39,10 +40,10 @@ took_none contents faults front totals first n are = record {
 
 -- ---- the text
 
-more_lines : (front : List ℕ) (some rest : List (List Value)) → text_behind front some ++ lines_of rest ≡ text_behind front (some ++ rest)
+pub more_lines : (front : List ℕ) (some rest : List (List Value)) → text_behind front some ++ lines_of rest ≡ text_behind front (some ++ rest)
 more_lines front some rest = append_assoc front (lines_of some) (lines_of rest) ∙ ap (λ l. front ++ l) (sym (flat_map-append line_of some rest))
 
-wider : (start now : Option (List ℕ)) (text more all : List ℕ) → text ++ more ≡ all → FrontOf start now text → FrontOf start now all
+pub wider : (start now : Option (List ℕ)) (text more all : List ℕ) → text ++ more ≡ all → FrontOf start now text → FrontOf start now all
 wider start now text more all is front = record {
   sent = front.sent;
   rest = front.rest ++ more;
@@ -51,7 +52,7 @@ wider start now text more all is front = record {
 }
 
 -- a front of the text was sent, whether the lines were stopped or not
-taken_front : (before : Begun) (rows : List (List Value)) (stopped : Option QueryErr) (contents : Option (List ℕ)) (faults : ℕ) (waits : List ℕ) (count : ℕ) (totals : List ℤ)
+pub taken_front : (before : Begun) (rows : List (List Value)) (stopped : Option QueryErr) (contents : Option (List ℕ)) (faults : ℕ) (waits : List ℕ) (count : ℕ) (totals : List ℤ)
     → HasTaken before rows (written contents faults stopped waits count totals) → FrontOf before.contents contents (text_behind before.front rows)
 taken_front before rows None contents faults waits count totals taken = front_left before.contents contents waits (text_behind before.front rows) taken.sent.0
 taken_front before rows (Some why) contents faults waits count totals taken = taken.sent.0
@@ -106,38 +107,40 @@ untouched now text = appends_front now now text (front_none now text)
 
 -- the text behind the names, where the shape is the plan's
 pub answer_is : (plan : Query) (shape : Shape) (front : List ℕ) (rows : List (List Value)) → shape ≡ shape_of plan → front ≡ line_of (header_of plan)
-    → text_behind front (group_rows (record { keys = shape.keys; aggs = shape.aggs }) rows) ≡ answer_text plan rows
+    → text_behind front (group_rows (record { keys = shape.keys; aggs = shape.aggs }) rows) ≡ answer_text plan (group_rows (grouping_of plan) rows)
 answer_is plan shape front rows same names =
     ap₂ (λ (l : List ℕ) (s : Shape). text_behind l (group_rows (record { keys = s.keys; aggs = s.aggs }) rows)) names same
 
 module _ (plan : Query) (shape : Shape) (before : Begun) (rows : List (List Value)) (stopped : Option QueryErr) (contents : Option (List ℕ)) (faults : ℕ) (waits : List ℕ) (count : ℕ) (totals : List ℤ) (same : shape ≡ shape_of plan) (names : before.front ≡ line_of (header_of plan)) where
   -- the lines or the grouping were stopped
-  pub stopped_front : (final : Option (List ℕ)) → final ≡ contents → HasTakenSome shape rows before (written contents faults stopped waits count totals) → AppendsFront before.contents final (answer_text plan rows)
+  pub stopped_front : (final : Option (List ℕ)) → final ≡ contents → HasTakenSome shape rows before (written contents faults stopped waits count totals) → AppendsFront before.contents final (answer_text plan (group_rows (grouping_of plan) rows))
   stopped_front final is has =
-      subst (λ f. AppendsFront before.contents f (answer_text plan rows)) (sym is)
+      subst (λ f. AppendsFront before.contents f (answer_text plan (group_rows (grouping_of plan) rows))) (sym is)
       (subst (AppendsFront before.contents contents) (answer_is plan shape before.front rows same names) (front_some before rows shape stopped contents faults waits count totals has))
 
   module _ (contents' final : Option (List ℕ)) (none : stopped ≡ None) (is : final ≡ contents') (taken : HasTakenGroups shape rows before (written contents faults stopped waits count totals)) where
     -- what waited wasn't sent whole
-    pub unsent_front : FrontOf contents contents' waits → AppendsFront before.contents final (answer_text plan rows)
+    pub unsent_front : FrontOf contents contents' waits → AppendsFront before.contents final (answer_text plan (group_rows (grouping_of plan) rows))
     unsent_front front =
-        subst (λ f. AppendsFront before.contents f (answer_text plan rows)) (sym is)
+        subst (λ f. AppendsFront before.contents f (answer_text plan (group_rows (grouping_of plan) rows))) (sym is)
         (subst (AppendsFront before.contents contents') (answer_is plan shape before.front rows same names)
         (sent_front before (group_rows (record { keys = shape.keys; aggs = shape.aggs }) rows) stopped contents contents' faults waits count totals none taken front))
 
     -- or it was
-    pub whole_answer : Appends contents contents' waits → Appends before.contents final (answer_text plan rows)
+    pub whole_answer : Appends contents contents' waits → Appends before.contents final (answer_text plan (group_rows (grouping_of plan) rows))
     whole_answer appends =
-        subst (λ f. Appends before.contents f (answer_text plan rows)) (sym is)
+        subst (λ f. Appends before.contents f (answer_text plan (group_rows (grouping_of plan) rows))) (sym is)
         (subst (Appends before.contents contents') (answer_is plan shape before.front rows same names)
         (sent_whole before (group_rows (record { keys = shape.keys; aggs = shape.aggs }) rows) stopped contents contents' faults waits count totals none taken appends))
 
-pub numbers_are : (plan : Query) (shape : Shape) (before : Begun) (rows : List (List Value)) (stopped : Option QueryErr) (contents : Option (List ℕ)) (faults : ℕ) (waits : List ℕ) (totals : List ℤ) (ran : Ran) → shape ≡ shape_of plan
+pub numbers_are : (plan : Query) (shape : Shape) (before : Begun) (rows : List (List Value)) (stopped : Option QueryErr) (contents : Option (List ℕ)) (faults : ℕ) (waits : List ℕ) (totals : List ℤ) (ran : Ran) → groups plan ≡ true → shape ≡ shape_of plan
     → before.columns ≡ range_with_len (length shape.keys) (length shape.aggs) → ran.totals ≡ totals → HasTakenGroups shape rows before (written contents faults stopped waits ran.lines totals) → LineNumbers plan rows ran
-numbers_are plan shape before rows stopped contents faults waits totals ran same columns is taken =
+numbers_are plan shape before rows stopped contents faults waits totals ran grouped same columns is taken =
     let groups : group_rows (record { keys = shape.keys; aggs = shape.aggs }) rows ≡ group_rows (grouping_of plan) rows = ap (λ (s : Shape). group_rows (record { keys = s.keys; aggs = s.aggs }) rows) same in
     let places : before.columns ≡ range_with_len (length plan.group) (length plan.aggs) = columns ∙ ap (λ (s : Shape). range_with_len (length s.keys) (length s.aggs)) same in
     record {
+      out = group_rows (grouping_of plan) rows;
+      are = rw grouped refl;
       lines = taken.counted ∙ ap length groups;
       totals = is ∙ taken.totals ∙ ap₂ (λ (gs : List (List Value)) (cs : List ℕ). map (λ column. aggregate (Sum column) gs) cs) groups places;
     }

@@ -9,7 +9,7 @@ use Rattle.group_op.specs.Finishing.{LeavesWith}
 use Rattle.group_op.specs.Operator.{IsOperator, Operator}
 use Rattle.query_run.specs.Inside.{GoesOn}
 
-left_others : (t : ℕ) (old new : Holdings) (before after : Signs) → LeavesBeside t None old new before after → LeavesOthers t old new before after
+pub left_others : (t : ℕ) (old new : Holdings) (before after : Signs) → LeavesBeside t None old new before after → LeavesOthers t old new before after
 left_others t old new before after left = record {
   others = record {
     block_len = left.block_len;

@@ -1,13 +1,21 @@
+pub mod Alone
 mod Around
 mod Ended
 mod Going
 mod Handed
+mod Joining
 mod KeptFirst
+mod Names
+mod Pairing
 mod Reading
 mod Results
+mod Says
 mod Sending
+mod Sides
 mod Summing
+mod Taken
 mod Taking
 mod Telling
+mod Visits
 mod Weighing
 mod Whole

@@ -1,5 +1,5 @@
 -- What holds of an answer, carried on.
-use Rattle.std.proofs.Common.{Result, Ok, Err, IfErr, IfOk, IsErrOf, OnErr}
+use Rattle.std.proofs.Common.{◌≡◌, Result, Ok, Err, IfErr, IfOk, IsErrOf, OnErr, OnOk}
 
 pub both_ok : {A E : Type 0} (P Q : A → Type 0) (r : Result A E) → IfOk r P → IfOk r Q → IfOk r (λ x. P x × Q x)
 both_ok P Q (Ok x) first second = (first, second)
@@ -12,3 +12,12 @@ of_err (Err e) more holds = more holds e
 pub at_err : {A E : Type 0} {P : Type 0} → (r : Result A E) → (e : E) → IsErrOf r e → OnErr r P → P
 at_err (Ok x) e is holds = absurd (cc)
 at_err (Err found) e is holds = holds
+
+pub of_ok : {A E : Type 0} → (P : A → Type 0) → (r : Result A E) → (x : A) → r ≡ Ok x → IfOk r P → P x
+of_ok P r x is holds = rw is at holds
+
+pub of_done : {A E P : Type 0} → (r : Result A E) → (x : A) → r ≡ Ok x → OnOk r P → P
+of_done r x is holds = rw is at holds
+
+pub of_bad : {A E : Type 0} → (P : E → Type 0) → (r : Result A E) → (e : E) → r ≡ Err e → IfErr r P → P e
+of_bad P r e is holds = rw is at holds

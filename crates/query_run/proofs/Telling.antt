@@ -52,13 +52,13 @@ some_values row kinds same values short [] are = All-nil IsKeyValue
 some_values row kinds same values short (c ∷ cs) are =
     one_value row c kinds same values short (All-head (IsKeyColumn kinds) c cs are) (slice_get row c) (values_in cs row) refl (some_values row kinds same values short cs (All-tail (IsKeyColumn kinds) c cs are))
 
-have_values : (shape : Shape) (rows : List (List Value)) → IsShape shape → AreValues rows → AreFed shape rows → HaveKeyValues (grouping_of shape) rows
+have_values : (shape : Shape) (rows : List (List Value)) → IsShape shape → AreValues rows → AreFed shape.kinds rows → HaveKeyValues (grouping_of shape) rows
 have_values shape [] is values fed = All-nil (λ row. All IsKeyValue (values_in shape.keys row))
 have_values shape (row ∷ rows) is values fed =
-    let first = All-head (IsFed shape) row rows fed in
+    let first = All-head (IsFed shape.kinds) row rows fed in
     All-cons (λ row. All IsKeyValue (values_in shape.keys row)) row rows
-    (some_values row shape.kinds first.kinds (All-head (λ row. All IsValue row) row rows values) first.short shape.keys is.keys)
-    (have_values shape rows is (All-tail (λ row. All IsValue row) row rows values) (All-tail (IsFed shape) row rows fed))
+    (some_values row shape.kinds first.kinds_are (All-head (λ row. All IsValue row) row rows values) first.short shape.keys is.keys)
+    (have_values shape rows is (All-tail (λ row. All IsValue row) row rows values) (All-tail (IsFed shape.kinds) row rows fed))
 
 -- ---- one group
 
@@ -105,7 +105,7 @@ told_row shape rows q row is good some said =
 abbrev Tells : Shape → List (List Value) → List ℕ → Type 0
 Tells shape rows q = (row : List Value) → Says shape (group_in (grouping_of shape) rows q) row → row ≡ group_row (grouping_of shape) rows q
 
-all_tell : (shape : Shape) (rows : List (List Value)) → IsShape shape → AreValues rows → AreFed shape rows → AllByRecursion (Tells shape rows) (keys_in path_order (key_bytes shape.keys) rows)
+all_tell : (shape : Shape) (rows : List (List Value)) → IsShape shape → AreValues rows → AreFed shape.kinds rows → AllByRecursion (Tells shape rows) (keys_in path_order (key_bytes shape.keys) rows)
 all_tell shape rows is values fed =
     let good = have_values shape rows is values fed in
     of_each path_order path_is_order (key_bytes shape.keys) (Tells shape rows) rows (λ q there. λ row said. told_row shape rows q row is good (some_rows shape.keys q rows there) said)
@@ -132,7 +132,7 @@ told_some shape rows (k ∷ ks) (p ∷ some) rest (row ∷ told) all split say =
 
 -- ---- what lines that had no row took
 
-module _ (shape : Shape) (rows : List (List Value)) (before : Begun) (name name_old name_new : ℕ) (sums_old sums_new : List Agg) (was now : Written) (is : IsShape shape) (values : AreValues rows) (fed : AreFed shape rows) (named : name_old ≡ name) (summed : sums_old ≡ map Sum before.columns) (none : HasTaken before [] was) where
+module _ (shape : Shape) (rows : List (List Value)) (before : Begun) (name name_old name_new : ℕ) (sums_old sums_new : List Agg) (was now : Written) (is : IsShape shape) (values : AreValues rows) (fed : AreFed shape.kinds rows) (named : name_old ≡ name) (summed : sums_old ≡ map Sum before.columns) (none : HasTaken before [] was) where
   abbrev pub old_took : List (List Value) → Type 0
   old_took took = (name_old ≡ name) × (sums_old ≡ map Sum before.columns) × HasTaken before took was
 

@@ -1,7 +1,6 @@
 -- What an input is to a query: its rows, or the first place where it is refused. Lengths are in bytes.
-use Rattle.std.specs.Prelude.{◌≡◌, ◌<◌, ◌≤◌, ◌⊎◌, ◌+◌, ◌-◌, ◌*◌, ◌^◌, ℕ, List, [], ◌∷◌, Option, Some, None, IfSome, length, filter, min, nat_le, if◌then◌else◌}
+use Rattle.std.specs.Prelude.{◌≡◌, ◌<◌, ◌≤◌, ◌⊎◌, ◌+◌, ◌-◌, ◌*◌, ◌^◌, ℕ, List, [], ◌∷◌, Option, Some, None, length, filter, min, nat_le, if◌then◌else◌}
 use Rattle.std.specs.Option.{option_map, option_or}
-use Rattle.outside.specs.Counts.{Rose}
 use Rattle.row_codec.specs.declared.values.Column.{Column}
 use Rattle.row_codec.specs.declared.values.Value.{Value}
 use Rattle.row_codec.specs.RowBytes.{row_bytes}
@@ -11,8 +10,8 @@ use Rattle.query_plan.specs.Sizes.{operators}
 use Rattle.query_plan.specs.declared.plan.Query.{Query}
 use Rattle.query_plan.specs.declared.plan.Side.{Side}
 use Rattle.query_plan.specs.declared.plan.Side.TheVariants.{Left}
-use Rattle.query_run.specs.Causes.{IsOfBytes, IsSourceFault, cause_of_input, side_of, NamesInt}
-use Rattle.query_run.specs.Plans.{kinds_of_columns}
+use Rattle.query_plan.specs.declared.plan.SidePlan.{SidePlan}
+use Rattle.query_run.specs.Causes.{cause_of_input}
 use Rattle.query_run.specs.declared.outcome.QueryErr.{QueryErr}
 use Rattle.query_run.specs.declared.outcome.QueryErr.TheVariants.{RowTooLong, TooLarge}
 
@@ -43,30 +42,38 @@ first_too_long plan side page number (row ∷ rest) =
 abbrev pub first_refusal : Query → Side → ℕ → Typed → Option QueryErr
 first_refusal plan side page typed = option_or (first_too_long plan side page 1 typed.rows) (option_map (cause_of_input side) typed.refusal)
 
--- the first refusal of the left input, in the order of reading, where pages have so many bytes
-abbrev pub refusal_of : Query → ℕ → List ℕ → Option QueryErr
-refusal_of plan page bytes = first_refusal plan Left page (rows_of plan.left.columns bytes)
+-- the first refusal of a side's input, in the order of reading, where pages have so many bytes
+abbrev pub refusal_in : Query → Side → SidePlan → ℕ → List ℕ → Option QueryErr
+refusal_in plan side asked page bytes = first_refusal plan side page (rows_of asked.columns bytes)
 
 -- the input is refused for this: where it has too many bytes, that may be found before another refusal
-abbrev pub IsRefusal : Query → ℕ → List ℕ → QueryErr → Type 0
-IsRefusal plan page bytes why = (refusal_of plan page bytes ≡ Some why) ⊎ ((why ≡ TooLarge Left) × (most_bytes < length bytes))
+abbrev pub IsRefusalIn : Query → Side → SidePlan → ℕ → List ℕ → QueryErr → Type 0
+IsRefusalIn plan side asked page bytes why = (refusal_in plan side asked page bytes ≡ Some why) ⊎ ((why ≡ TooLarge side) × (most_bytes < length bytes))
 
 -- the input is accepted to its end
-pub record IsAccepted (plan : Query) (page : ℕ) (bytes : List ℕ) : Type 0 where
-  pub whole : refusal_of plan page bytes ≡ None
+pub record IsAcceptedIn (plan : Query) (side : Side) (asked : SidePlan) (page : ℕ) (bytes : List ℕ) : Type 0 where
+  pub whole : refusal_in plan side asked page bytes ≡ None
   pub fits : length bytes ≤ most_bytes
 
--- the rows of the left input, and those of them that pass its filter
+-- the rows of an input, and those of them that pass its filter
+abbrev pub rows_read : SidePlan → List ℕ → List (List Value)
+rows_read asked bytes = (rows_of asked.columns bytes).rows
+
+abbrev pub passing_in : SidePlan → List ℕ → List (List Value)
+passing_in asked bytes = filter (passes asked.preds) (rows_read asked bytes)
+
+-- the same of the left input
+abbrev pub refusal_of : Query → ℕ → List ℕ → Option QueryErr
+refusal_of plan page bytes = refusal_in plan Left plan.left page bytes
+
+abbrev pub IsRefusal : Query → ℕ → List ℕ → QueryErr → Type 0
+IsRefusal plan page bytes why = IsRefusalIn plan Left plan.left page bytes why
+
+abbrev pub IsAccepted : Query → ℕ → List ℕ → Type 0
+IsAccepted plan page bytes = IsAcceptedIn plan Left plan.left page bytes
+
 abbrev pub left_rows : Query → List ℕ → List (List Value)
-left_rows plan bytes = (rows_of plan.left.columns bytes).rows
+left_rows plan bytes = rows_read plan.left bytes
 
 abbrev pub passing : Query → List ℕ → List (List Value)
-passing plan bytes = filter (passes plan.left.preds) (left_rows plan bytes)
-
--- what an error says of the input is so: it speaks of the left one, its bytes, where they are told, are refused for
--- this, a bad field is one of a column of ints, and a fault of the source was counted
-pub record SaysOfInput (plan : Query) (page : ℕ) (told : Option (List ℕ)) (faults faults_now : ℕ) (why : QueryErr) : Type 0 where
-  pub side : IfSome (side_of why) (λ side. side ≡ Left)
-  pub refused : IsOfBytes why → IfSome told (λ bytes. IsRefusal plan page bytes why)
-  pub field : NamesInt (kinds_of_columns plan.left.columns) why
-  pub source_fault : IsSourceFault why → Rose faults faults_now
+passing plan bytes = passing_in plan.left bytes

@@ -1,5 +1,5 @@
 -- The client of a query, and its grouping. About inner calls; no public clause cites this. Lengths are in bytes.
-use Rattle.std.specs.Prelude.{◌≡◌, ◌+◌, ℕ, Some}
+use Rattle.std.specs.Prelude.{◌≡◌, ◌≢◌, ◌+◌, ℕ, None, Some}
 use Rattle.store_api.specs.Conditions.{IsIdle}
 use Rattle.store_api.specs.Holdings.{Holdings}
 use Rattle.store_api.specs.Signs.{Signs}
@@ -9,12 +9,17 @@ use Rattle.partition_stack.specs.Leaving.{LeavesOthers}
 use Rattle.partition_stack.specs.Stack.{over}
 use Rattle.group_op.specs.Operator.{IsOperator, Operator}
 
--- a client came that may use all of its reservation, which was room, and may reserve up to a limit; it has nothing
+-- a client came that may use all of its reservation, which was room, and may reserve up to a limit; it has nothing, and
+-- nothing of others changed
 pub record HasOwn (c : ClientToken) (most bytes : ℕ) (old new : Holdings) : Type 0 where
+  pub fresh : old.clients c.tracker ≡ None
   pub account : new.clients c.tracker ≡ Some (record { limit = most; reservation = bytes; unused = bytes })
+  pub others : (t : ℕ) → t ≢ c.tracker → new.clients t ≡ old.clients t
+  pub pages : new.pages ≡ old.pages
+  pub loans : new.loans ≡ old.loans
   pub idle : IsIdle c.tracker new
   pub room : new.room + bytes ≡ old.room
-  pub live_clients : new.live_clients ≡ 1
+  pub live_clients : new.live_clients ≡ old.live_clients + 1
   pub reservation : new.reservation ≡ old.reservation
   pub limit : new.limit ≡ old.limit
   pub query : new.query ≡ old.query

@@ -1,6 +1,8 @@
 pub mod Causes
 pub mod Plans
 pub mod Input
+pub mod Both
+pub mod Refused
 pub mod Answer
 pub mod Trail
 pub mod Stopped
@@ -8,5 +10,7 @@ pub mod Inside
 pub mod Parts
 pub mod FedRows
 pub mod Feeding
+pub mod Taking
 pub mod Ending
 pub mod Writing
+pub mod Joined

@@ -1,6 +1,6 @@
-// The client of a query.
+// The clients of a query.
 
-ghost use Rattle.std.specs.Prelude.{[], ◌∷◌, ◌≡◌, ◌≤◌, None, Some};
+ghost use Rattle.std.specs.Prelude.{[], ◌∷◌, ◌≡◌, ◌≤◌, ◌<◌, None, Some};
 ghost use Rattle.pool_model.specs.declared.event.Event.TheVariants as event;
 ghost use Rattle.store_api.specs.Changes.{after_reserve};
 ghost use Rattle.store_api.specs.Conditions.{IsNewClient};
@@ -12,7 +12,7 @@ use store_api::{Client, Store};
 
 // A client that has so much reserved, for which the query has room, and may have more. This is never refused.
 pub(crate) fn own_client<St: Store>(store: &mut St, limit: u64, bytes: u64) -> Client
-    requires idle { (St.holds store.old).live_clients ≡ 0 }
+    requires few { (St.holds store.old).live_clients < 16 }
     requires room { bytes ≤ (St.holds store.old).room }
     requires limit { bytes ≤ limit }
     ensures own { HasOwn result limit bytes (St.holds store.old) (St.holds store.new) }
@@ -26,7 +26,7 @@ pub(crate) fn own_client<St: Store>(store: &mut St, limit: u64, bytes: u64) -> C
 
 // A client that may have so much reservation, and has none.
 fn new_client<St: Store>(store: &mut St, limit: u64) -> Client
-    requires { (St.holds store.old).live_clients ≡ 0 }
+    requires { (St.holds store.old).live_clients < 16 }
     ensures new { IsNewClient result limit (St.holds store.old) (St.holds store.new) }
     ensures entries { MadeThese (St.holds store.old).session (event.AddTracker result.tracker (St.holds store.old).query limit None ∷ []) (St.signs store.old) (St.signs store.new) }
     ensures grows { Grows (St.signs store.old) (St.signs store.new) }

@@ -1,29 +1,29 @@
-// The rows of an input go to a grouping.
+// The rows of an input go to an operator.
 
-ghost use Rattle.std.specs.Prelude.{◌≡◌, ◌≢◌, ◌≤◌, ◌<◌, ◌^◌, ◌∷◌, ◌++◌, [], List, Option, IfErr, IfOk, OnOk, filter};
+ghost use Rattle.std.specs.Prelude.{◌≡◌, ◌≢◌, ◌*◌, ◌-◌, ◌≤◌, ◌<◌, ◌^◌, ◌∷◌, ◌++◌, [], List, IfErr, IfOk, OnOk, filter, length, min};
 ghost use Rattle.std.specs.Io.KnownBytes.{IsAtEnd};
-ghost use Rattle.pool_model.specs.declared.entry.Entry.{Entry};
 ghost use Rattle.row_codec.specs.declared.values.Value.{Value};
 ghost use Rattle.row_codec.specs.Row.{kinds_of};
 ghost use Rattle.scan_filter.specs.Passes.{passes as passes_all};
-ghost use Rattle.tuple_stream.specs.Families.{slots_in};
-ghost use Rattle.partition_stack.specs.Stack.{over};
-ghost use Rattle.group_op.specs.Operator.{IsFeeding, IsOperator, IsSame, Keeps, page_of};
+ghost use Rattle.store_api.specs.Holdings.{Holdings};
+ghost use Rattle.store_api.specs.Signs.{Signs};
+ghost use Rattle.query_run.specs.Causes.{OfPool};
 ghost use Rattle.query_run.specs.Feeding.{HasFed, RefusesRow};
-ghost use Rattle.query_run.specs.Input.{SaysOfInput, weight_of};
-ghost use Rattle.query_run.specs.Inside.{GoesOn};
-ghost use Rattle.query_run.specs.Plans.{IsGrouping, kinds_of_columns, shape_of};
-ghost use Rattle.query_run.specs.Stopped.{StoppedOver};
+ghost use Rattle.query_run.specs.Input.{weight_of};
+ghost use Rattle.query_run.specs.Plans.{IsSide, kinds_of_columns};
+ghost use Rattle.query_run.specs.Refused.{SaysOfSide, source as source_over};
+ghost use Rattle.query_run.specs.Taking.{TakesStill};
 
 use crate::outcome::QueryErr;
+use crate::takes::Takes;
 use csv_edge::Rows;
-use group_op::GroupOp;
 use outside::Source;
-use query_plan::{Query, Side};
+use query_plan::{Query, Side, SidePlan};
+use reservation_tree::PoolErr;
 use row_codec::{Value, encoded_len};
 use scan_filter::passes;
 use std::alloc::Global;
-use store_api::{OpErr, Store};
+use store_api::Store;
 
 // The most records of an input, the header among them.
 const MOST_RECORDS: u64 = 2147483648;
@@ -41,90 +41,112 @@ pub(crate) struct Fed {
     pub(crate) kept: u64,
 }
 
-// Reads what is left of a source to its end, and feeds the rows that pass to a grouping. A page has `page` bytes.
-pub(crate) fn feed_rows<St: Store, S: Source>(
+// Reads what is left of the source of a side to its end, and feeds the rows that pass to an operator. A page has `page` bytes.
+pub(crate) fn feed_side<St: Store, T: Takes<St>, S: Source>(
     alloc: Global,
     store: &mut St,
-    op: &mut GroupOp,
+    op: &mut T,
     plan: &Query,
+    side: Side,
+    asked: &SidePlan,
     page: u64,
-    left: &mut S,
+    source: &mut S,
 ) -> Result<Fed, QueryErr>
-    requires plan { IsGrouping plan.now }
-    requires op { IsOperator op.old (St.holds store.old) (St.signs store.old) }
-    requires shape { op.old.shape ≡ shape_of plan.now }
-    requires feeding { IsFeeding op.old }
-    requires keeps { Keeps (St.signs store.old).trail [] op.old (St.holds store.old) (St.signs store.old) }
-    requires page { page ≡ page_of op.old (St.holds store.old) }
+    requires asked { IsSide asked.now }
+    requires aggs { length plan.now.aggs ≤ 16 }
+    requires kinds { T.kinds op.old ≡ kinds_of_columns asked.now.columns }
+    requires extra { T.extra op.old ≤ 16 * length plan.now.aggs }
+    requires stands { T.stands op.old (St.holds store.old) (St.signs store.old) }
+    requires feeds { T.feeds op.old op.old [] (St.holds store.old) (St.holds store.old) (St.signs store.old) (St.signs store.old) }
+    requires goes { T.goes op.old op.old (St.holds store.old) (St.holds store.old) (St.signs store.old) (St.signs store.old) }
+    requires memory { (after : Signs) → T.stops op.old (St.holds store.old) (St.signs store.old) after PoolErr.Memory }
+    requires page { page ≡ T.page op.old (St.holds store.old) }
     requires short { page < 2 ^ 32 }
-    ensures ok { IfOk result (λ fed. HasFed plan.now page (S.remaining left.old) (St.signs store.old).trail fed op.new (St.holds store.new) (St.signs store.new)) }
-    ensures read { OnOk result (IsAtEnd (S.remaining left.new)) }
-    ensures input { IfErr result (SaysOfInput plan.now page (S.remaining left.old) (S.faults left.old) (S.faults left.new)) }
+    ensures ok { IfOk result (λ fed. HasFed plan.now side asked.now page (S.remaining source.old) fed (λ rows. T.feeds op.old op.new rows (St.holds store.old) (St.holds store.new) (St.signs store.old) (St.signs store.new))) }
+    ensures read { OnOk result (IsAtEnd (S.remaining source.new)) }
+    ensures input { IfErr result (SaysOfSide plan.now side asked.now page (source_over (S.remaining source.old) (S.remaining source.new) (S.faults source.old) (S.faults source.new))) }
     ensures cause { IfErr result (λ e. e ≢ QueryErr.SinkFault) }
-    ensures pool { IfErr result (StoppedOver op.old.parts.page_blocks (slots_in (over op.old.parts (St.holds store.old) (St.signs store.old))) (St.signs store.old) (St.signs store.new)) }
-    ensures went { GoesOn op.old op.new (St.holds store.old) (St.holds store.new) (St.signs store.old) (St.signs store.new) }
-    ensures same { IsSame op.old op.new }
-    ensures source_kept { S.faults left.old ≤ S.faults left.new }
+    ensures pool { IfErr result (OfPool (T.stops op.old (St.holds store.old) (St.signs store.old) (St.signs store.new))) }
+    ensures stands { T.stands op.new (St.holds store.new) (St.signs store.new) }
+    ensures goes { T.goes op.old op.new (St.holds store.old) (St.holds store.new) (St.signs store.old) (St.signs store.new) }
+    ensures source_kept { S.faults source.old ≤ S.faults source.new }
 {
     let mut row = Vec::new(alloc);
-    let mut rows = Rows::of(left);
-    let columns = plan.left.columns.as_slice();
+    let mut rows = Rows::of(source);
+    let columns = asked.columns.as_slice();
     if let Err(e) = rows.start(alloc, columns, MOST_RECORDS, MOST_BYTES) {
-        return Err(QueryErr::of_input(Side::Left, e));
+        return Err(QueryErr::of_input(side, e));
     }
     let mut fed = Fed { read: 0, kept: 0 };
     loop {
         match rows.next_into(&mut row) {
             Ok(true) => (),
             Ok(false) => return Ok(fed),
-            Err(e) => return Err(QueryErr::of_input(Side::Left, e)),
+            Err(e) => return Err(QueryErr::of_input(side, e)),
         }
         fed.read += 1;
-        if feed_row(alloc, store, op, plan, page, fed.read, &row)? {
+        if feed_row(alloc, store, op, plan, side, asked, page, fed.read, &row)? {
             fed.kept += 1;
         }
     }
 }
 
 // Weighs a row, and feeds it if it passes the filter: whether it did. It is the record of this number.
-fn feed_row<St: Store>(
+fn feed_row<St: Store, T: Takes<St>>(
     alloc: Global,
     store: &mut St,
-    op: &mut GroupOp,
+    op: &mut T,
     plan: &Query,
+    side: Side,
+    asked: &SidePlan,
     page: u64,
     number: u64,
     row: &[Value],
 ) -> Result<bool, QueryErr>
-    requires plan { IsGrouping plan.now }
-    requires op { IsOperator op.old (St.holds store.old) (St.signs store.old) }
-    requires shape { op.old.shape ≡ shape_of plan.now }
-    requires feeding { IsFeeding op.old }
-    requires page { page ≡ page_of op.old (St.holds store.old) }
+    requires asked { IsSide asked.now }
+    requires aggs { length plan.now.aggs ≤ 16 }
+    requires takes { T.kinds op.old ≡ kinds_of_columns asked.now.columns }
+    requires extra { T.extra op.old ≤ 16 * length plan.now.aggs }
+    requires stands { T.stands op.old (St.holds store.old) (St.signs store.old) }
+    requires page { page ≡ T.page op.old (St.holds store.old) }
     requires short { page < 2 ^ 32 }
-    requires kinds { kinds_of row.now ≡ kinds_of_columns plan.now.left.columns }
+    requires kinds { kinds_of row.now ≡ kinds_of_columns asked.now.columns }
     ensures light { OnOk result (weight_of plan.now row.now ≤ page) }
-    ensures keeps { IfOk result (λ passed. (passed ≡ passes_all plan.now.left.preds row.now) × ((start : Option (List Entry)) → (rows : List (List Value)) → Keeps start rows op.old (St.holds store.old) (St.signs store.old) → Keeps start (rows ++ filter (passes_all plan.now.left.preds) (row.now ∷ [])) op.new (St.holds store.new) (St.signs store.new))) }
-    ensures refused { IfErr result (RefusesRow plan.now page number row.now) }
-    ensures pool { IfErr result (StoppedOver op.old.parts.page_blocks (slots_in (over op.old.parts (St.holds store.old) (St.signs store.old))) (St.signs store.old) (St.signs store.new)) }
-    ensures went { GoesOn op.old op.new (St.holds store.old) (St.holds store.new) (St.signs store.old) (St.signs store.new) }
-    ensures same { IsSame op.old op.new }
+    ensures feeds { IfOk result (λ passed. (passed ≡ passes_all asked.now.preds row.now) × ((first : T) (rows : List (List Value)) (h : Holdings) (s : Signs) → T.feeds first op.old rows h (St.holds store.old) s (St.signs store.old) → T.feeds first op.new (rows ++ filter (passes_all asked.now.preds) (row.now ∷ [])) h (St.holds store.new) s (St.signs store.new))) }
+    ensures refused { IfErr result (RefusesRow plan.now side page number row.now) }
+    ensures pool { IfErr result (λ e. (first : T) (h : Holdings) (s : Signs) → T.goes first op.old h (St.holds store.old) s (St.signs store.old) → OfPool (T.stops first h s (St.signs store.new)) e) }
+    ensures stands { T.stands op.new (St.holds store.new) (St.signs store.new) }
+    ensures goes { (first : T) (h : Holdings) (s : Signs) → T.goes first op.old h (St.holds store.old) s (St.signs store.old) → T.goes first op.new h (St.holds store.new) s (St.signs store.new) }
+    ensures still { TakesStill (T.kinds op.old) (T.kinds op.new) (T.extra op.old) (T.extra op.new) (T.page op.old (St.holds store.old)) (T.page op.new (St.holds store.new)) }
 {
-    let aggregates = plan.aggs.as_slice().len() as u64;
-    let weight = encoded_len(row).saturating_add(AGGREGATE * aggregates);
-    if weight > page {
+    let bytes = weight(plan, row);
+    if bytes > page {
         return Err(QueryErr::RowTooLong {
-            side: Side::Left,
+            side,
             number,
-            bytes: weight,
+            bytes,
         });
     }
-    if !passes(plan.left.preds.as_slice(), row) {
+    if !passes(asked.preds.as_slice(), row) {
         return Ok(false);
     }
-    match op.feed(alloc, store, row) {
+    match op.take(alloc, store, row) {
         Ok(()) => Ok(true),
-        Err(OpErr::Pool(e)) => Err(QueryErr::Pool(e)),
-        Err(OpErr::Sink) => unreachable!(),
+        Err(e) => Err(QueryErr::Pool(e)),
     }
+}
+
+// What a row weighs, or the greatest number of 64 bits.
+fn weight(plan: &Query, row: &[Value]) -> u64
+    requires { length plan.now.aggs ≤ 16 }
+    ensures { result ≡ min (weight_of plan.now row.now) (2 ^ 64 - 1) }
+{
+    let aggregates = plan.aggs.as_slice().len() as u64;
+    let once = encoded_len(row).saturating_add(AGGREGATE * aggregates);
+    let operators = if plan.right.is_some() && !plan.group.as_slice().is_empty() {
+        2
+    } else {
+        1
+    };
+    once.saturating_mul(operators)
 }

@@ -14,12 +14,12 @@ ghost use Rattle.group_op.specs.Laid.{HoldsGroups};
 ghost use Rattle.group_op.specs.Operator.{IsFeeding, IsOperator, Keeps, page_of};
 ghost use Rattle.csv_edge.specs.Lines.{line_of};
 ghost use Rattle.csv_edge.specs.Written.{AppendsFront};
-ghost use Rattle.query_run.specs.Answer.{LineNumbers, answer_text, header_of};
+ghost use Rattle.query_run.specs.Answer.{LineNumbers, answer_text, group_rows, header_of};
 ghost use Rattle.query_run.specs.Causes.{side_of};
 ghost use Rattle.query_run.specs.Ending.{IsEndedBy, WentThrough, cause_of_op};
 ghost use Rattle.query_run.specs.FedRows.{AreFed};
 ghost use Rattle.query_run.specs.Inside.{GoesOn};
-ghost use Rattle.query_run.specs.Plans.{IsGrouping, shape_of};
+ghost use Rattle.query_run.specs.Plans.{IsGrouping, grouping_of, shape_of};
 ghost use Rattle.query_run.specs.Stopped.{CountsSink, StoppedOver};
 ghost use Rattle.query_run.specs.Writing.{HasTaken, HasTakenGroups, HasTakenSome, written};
 
@@ -49,10 +49,10 @@ pub(crate) fn write_groups<St: Store, K: Sink>(
     requires op { IsOperator op.old (St.holds store.old) (St.signs store.old) }
     requires shape { op.old.shape ≡ shape_of plan.now }
     requires feeding { IsFeeding op.old }
-    ensures ok { OnOk result ((start : Option (List Entry)) (rows : List (List Value)) → Keeps start rows op.old (St.holds store.old) (St.signs store.old) → AreFed op.old.shape rows → (St.holds store.old).told ≡ true → Appends (K.contents sink.old) (K.contents sink.new) (answer_text plan.now rows)) }
-    ensures err { OnErr result ((start : Option (List Entry)) (rows : List (List Value)) → Keeps start rows op.old (St.holds store.old) (St.signs store.old) → AreFed op.old.shape rows → (St.holds store.old).told ≡ true → AppendsFront (K.contents sink.old) (K.contents sink.new) (answer_text plan.now rows)) }
+    ensures ok { OnOk result ((start : Option (List Entry)) (rows : List (List Value)) → Keeps start rows op.old (St.holds store.old) (St.signs store.old) → AreFed op.old.shape.kinds rows → (St.holds store.old).told ≡ true → Appends (K.contents sink.old) (K.contents sink.new) (answer_text plan.now (group_rows (grouping_of plan.now) rows))) }
+    ensures err { OnErr result ((start : Option (List Entry)) (rows : List (List Value)) → Keeps start rows op.old (St.holds store.old) (St.signs store.old) → AreFed op.old.shape.kinds rows → (St.holds store.old).told ≡ true → AppendsFront (K.contents sink.old) (K.contents sink.new) (answer_text plan.now (group_rows (grouping_of plan.now) rows))) }
     ensures read { IfOk result (λ ran. (ran.left ≡ fed.read) × (ran.right ≡ 0) × (ran.kept ≡ fed.kept)) }
-    ensures lines { IfOk result (λ ran. (start : Option (List Entry)) (rows : List (List Value)) → Keeps start rows op.old (St.holds store.old) (St.signs store.old) → AreFed op.old.shape rows → (St.holds store.old).told ≡ true → LineNumbers plan.now rows ran) }
+    ensures lines { IfOk result (λ ran. (start : Option (List Entry)) (rows : List (List Value)) → Keeps start rows op.old (St.holds store.old) (St.signs store.old) → AreFed op.old.shape.kinds rows → (St.holds store.old).told ≡ true → LineNumbers plan.now rows ran) }
     ensures kept { OnOk result ((start : Option (List Entry)) (rows : List (List Value)) → Keeps start rows op.old (St.holds store.old) (St.signs store.old) → EnteredEvents (HoldsGroups (shape_of plan.now) (page_of op.old (St.holds store.old)) rows (over op.new.parts (St.holds store.new) (St.signs store.new))) start (St.signs store.new).trail) }
     ensures cause { IfErr result (λ e. side_of e ≡ None) }
     ensures pool { IfErr result (StoppedOver op.old.parts.page_blocks (slots_in (over op.old.parts (St.holds store.old) (St.signs store.old))) (St.signs store.old) (St.signs store.new)) }
@@ -105,7 +105,10 @@ fn before_rows(alloc: Global, plan: &Query) -> Result<(Part, Vec<Agg>, Vec<i128>
 }
 
 // Whether all rows were handed on and taken; what stopped the lines comes before what stopped the grouping.
-fn went_through(stopped: Option<QueryErr>, handed: Result<(), OpErr>) -> Result<(), QueryErr>
+pub(crate) fn went_through(
+    stopped: Option<QueryErr>,
+    handed: Result<(), OpErr>,
+) -> Result<(), QueryErr>
     ensures ok { OnOk result (WentThrough stopped handed) }
     ensures err { IfErr result (IsEndedBy stopped handed) }
 {
@@ -159,8 +162,8 @@ fn drive<'a, B: Start, St: Store, K: Sink>(
     requires name { lines.sink.ghost_name ≡ B.name }
     requires sums { lines.sums.items ≡ map Sum B.before.columns }
     requires none { HasTaken B.before [] (written (K.contents lines.sink.now) (K.faults lines.sink.now) lines.stopped lines.part.lines lines.rows lines.totals.items) }
-    ensures ok { OnOk result.0 ((start : Option (List Entry)) (rows : List (List Value)) → Keeps start rows op.old (St.holds store.old) (St.signs store.old) → AreFed op.old.shape rows → (St.holds store.old).told ≡ true → HasTakenGroups op.old.shape rows B.before (written (K.contents result.1.sink.now) (K.faults result.1.sink.now) result.1.stopped result.1.part.lines result.1.rows result.1.totals.items)) }
-    ensures err { OnErr result.0 ((start : Option (List Entry)) (rows : List (List Value)) → Keeps start rows op.old (St.holds store.old) (St.signs store.old) → AreFed op.old.shape rows → (St.holds store.old).told ≡ true → HasTakenSome op.old.shape rows B.before (written (K.contents result.1.sink.now) (K.faults result.1.sink.now) result.1.stopped result.1.part.lines result.1.rows result.1.totals.items)) }
+    ensures ok { OnOk result.0 ((start : Option (List Entry)) (rows : List (List Value)) → Keeps start rows op.old (St.holds store.old) (St.signs store.old) → AreFed op.old.shape.kinds rows → (St.holds store.old).told ≡ true → HasTakenGroups op.old.shape rows B.before (written (K.contents result.1.sink.now) (K.faults result.1.sink.now) result.1.stopped result.1.part.lines result.1.rows result.1.totals.items)) }
+    ensures err { OnErr result.0 ((start : Option (List Entry)) (rows : List (List Value)) → Keeps start rows op.old (St.holds store.old) (St.signs store.old) → AreFed op.old.shape.kinds rows → (St.holds store.old).told ≡ true → HasTakenSome op.old.shape rows B.before (written (K.contents result.1.sink.now) (K.faults result.1.sink.now) result.1.stopped result.1.part.lines result.1.rows result.1.totals.items)) }
     ensures any { (rows : List (List Value)) × HasTaken B.before rows (written (K.contents result.1.sink.now) (K.faults result.1.sink.now) result.1.stopped result.1.part.lines result.1.rows result.1.totals.items) }
     ensures kept { OnOk result.0 ((start : Option (List Entry)) (rows : List (List Value)) → Keeps start rows op.old (St.holds store.old) (St.signs store.old) → EnteredEvents (HoldsGroups op.old.shape (page_of op.old (St.holds store.old)) rows (over op.new.parts (St.holds store.new) (St.signs store.new))) start (St.signs store.new).trail) }
     ensures went { GoesOn op.old op.new (St.holds store.old) (St.holds store.new) (St.signs store.old) (St.signs store.new) }

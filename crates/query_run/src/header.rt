@@ -1,11 +1,12 @@
 // The line of names.
 
-ghost use Rattle.std.specs.Prelude.{◌≡◌, ◌++◌, IfOk, OnOk, map};
+ghost use Rattle.std.specs.Prelude.{◌≡◌, ◌++◌, IfOk, OnOk, Some, false, map};
 ghost use Rattle.row_codec.specs.declared.values.Value.TheVariants.{Text};
+ghost use Rattle.query_plan.specs.Sizes.{groups};
 ghost use Rattle.query_run.specs.Answer.{agg_name, header_of, of_column};
 ghost use Rattle.query_run.specs.Plans.{IsGrouping, name_at};
 
-use query_plan::Query;
+use query_plan::{Query, SidePlan};
 use row_codec::{Agg, Bytes, Column, Memory, Value};
 use std::alloc::Global;
 
@@ -19,6 +20,39 @@ pub(crate) fn header_row(alloc: Global, plan: &Query) -> Result<Vec<Value>, Memo
     push_columns(alloc, columns, plan.group.as_slice(), &mut row)?;
     push_aggs(alloc, columns, plan.aggs.as_slice(), &mut row)?;
     Ok(row)
+}
+
+// The names of all columns of a joined row.
+pub(crate) fn joined_header(
+    alloc: Global,
+    plan: &Query,
+    asked: &SidePlan,
+) -> Result<Vec<Value>, Memory>
+    requires right { plan.now.right ≡ Some asked.now }
+    requires groups { groups plan.now ≡ false }
+    ensures { IfOk result (λ row. row.items ≡ header_of plan.now) }
+{
+    let mut row = Vec::new(alloc);
+    push_names(alloc, b"left.", plan.left.columns.as_slice(), &mut row)?;
+    push_names(alloc, b"right.", asked.columns.as_slice(), &mut row)?;
+    Ok(row)
+}
+
+// Adds the names of a side's columns, each behind the same front.
+fn push_names(
+    alloc: Global,
+    front: &[u8],
+    columns: &[Column],
+    row: &mut Vec<Value>,
+) -> Result<(), Memory>
+    ensures { OnOk result (row.new.items ≡ row.old.items ++ map (λ column. Text (front.now ++ column.name)) columns.now) }
+{
+    for column in columns {
+        let mut name = Vec::from_slice(alloc, front)?;
+        name.extend_from_slice(column.name.as_slice())?;
+        row.push(Value::Text(Bytes::from_vec(name)))?;
+    }
+    Ok(())
 }
 
 // Adds the names of the columns at these places.

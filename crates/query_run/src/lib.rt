@@ -1,18 +1,23 @@
 //! One query: its answer, or its cause.
 //!
-//! Model: a query reads the rows of its input, feeds those that pass its filter to a grouping over its store, and writes a
-//! line a group in the order of the keys' paths. Nothing is written before the input was read to its end, and whatever
-//! becomes of the query, its store has no client of it afterwards.
+//! Model: a query reads the rows of its inputs, the left one first, and feeds those that pass their side's filter to an
+//! operator over its store: a grouping, or a join. Then it writes a line a group in the order of the keys' paths, or a line a
+//! pair in any order. Nothing is written before all inputs were read to their ends, and whatever becomes of the query, its
+//! store has no client of it afterwards.
 #![tactic(auto)]
 
 mod answering;
 mod client;
 mod feeding;
+mod grouped;
 mod grouping;
 mod header;
+mod joined;
 mod outcome;
+mod pairs;
 mod parts;
 mod run;
+mod takes;
 #[cfg(test)]
 mod tests;
 

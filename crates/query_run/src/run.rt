@@ -1,52 +1,47 @@
-// A query, from the bytes of its input to those of its answer.
+// A query, from the bytes of its inputs to those of its answer.
 
-ghost use Rattle.std.specs.Prelude.{◌≡◌, ◌≤◌, ◌<◌, ◌^◌, ◌⊎◌, [], IfErr, IfOk, IfSome, IsErrOf, IsSome, OnOk, is_some, true};
+ghost use Rattle.std.specs.Prelude.{◌≡◌, ◌≤◌, ◌⊎◌, IfErr, IfOk, IfSome, IsErrOf, IsSome, OnOk, is_some, true};
 ghost use Rattle.std.specs.Io.KnownBytes.{IsAtEnd};
 ghost use Rattle.outside.specs.Counts.{Rose};
-ghost use Rattle.tuple_stream.specs.Families.{slots_in};
-ghost use Rattle.partition_stack.specs.Stack.{over};
-ghost use Rattle.group_op.specs.Operator.{IsFeeding, IsOperator, Keeps, page_of, started};
 ghost use Rattle.query_plan.specs.Sizes.{joins, page_len};
 ghost use Rattle.query_run.specs.Answer.{Numbers, WroteAnswer, WroteFront};
+ghost use Rattle.query_run.specs.Both.{HoldsInput, both_told, faults_in, told_in};
 ghost use Rattle.query_run.specs.Causes.{side_of};
-ghost use Rattle.query_run.specs.Input.{SaysOfInput};
-ghost use Rattle.query_run.specs.Inside.{GoesOn};
-ghost use Rattle.query_run.specs.Plans.{IsGrouping, kinds_of_columns, shape_of};
-ghost use Rattle.query_run.specs.Stopped.{CountsSink, HasRoomFor, MayStop, RanOver, StoppedOver};
-ghost use Rattle.query_run.specs.Trail.{KeptAndRead, KeptGroups};
+ghost use Rattle.query_run.specs.Plans.{IsRunnable};
+ghost use Rattle.query_run.specs.Refused.{SaysOfInputs, source};
+ghost use Rattle.query_run.specs.Stopped.{HasRoomFor, MayStop, RanOver};
+ghost use Rattle.query_run.specs.Trail.{KeptRows};
 
-use crate::client::own_client;
-use crate::feeding::feed_rows;
-use crate::grouping::write_groups;
+use crate::grouped::run_grouped;
+use crate::joined::{come_and_go, run_joined};
 use crate::outcome::{QueryErr, Ran};
-use group_op::{GroupOp, law_starts};
 use outside::{Sink, Source};
-use query_plan::{Query, least};
+use query_plan::Query;
 use reservation_tree::PoolErr;
-use row_codec::{Column, Kind, Memory};
 use std::alloc::Global;
-use store_api::{Client, Listed, Shape, Store};
+use store_api::Store;
 
-/// Runs a query that groups the rows of its left input, and writes its answer. The whole input is read before anything
-/// is written. The rows that pass the filter are grouped by a client of the query's own, which begins with the least
-/// reservation and may have as much as the plan's limit; what its memory can't hold goes to pages of the store.
+/// Runs a query, and writes its answer. All inputs are read before anything is written, the left one first. The rows that
+/// pass the filter of their side are grouped or joined by an operator with a client of its own, which begins with twenty
+/// pages reserved and may have as much as the plan's limit, or the least reservation where that is more; what its memory
+/// can't hold goes to pages of the store. A query that joins and groups what it joined is answered by want of memory so
+/// far, before anything is read.
 ///
 /// So an answer is promised where the store tells what a pin shows. Where it doesn't, what comes back may be any bytes,
 /// and bytes that are no row are answered by `Memory`.
 ///
 /// The store has no live client and room for the least reservation; afterwards it has no live client again, and at
-/// least the room that it had. `right` holds a source exactly where the query joins, and holds it afterwards; queries
-/// that join are not run yet.
+/// least the room that it had. `right` holds a source exactly where the query joins, and holds it afterwards.
 ///
 /// An input has at most 2147483648 records, the header among them, and 1099511627776 bytes. A row weighs its encoded
-/// bytes and 16 more for each aggregate, and at most as many as a page has; every row is weighed, whether it passes or
-/// not. The first refusal in the order of reading is answered; that an input has too many bytes may show before another
-/// refusal.
+/// bytes and 16 more for each aggregate, twice where the query joins and groups, and at most as many as a page has; every
+/// row is weighed, whether it passes or not. The first refusal in the order of reading is answered; that an input has too
+/// many bytes may show before another refusal.
 ///
 /// # Errors
 ///
-/// Those of the input, each with its place; `SinkFault`; and `Pool`, where the store answered so in this call or
-/// there was no memory: a growth of a client that is refused is no error, and there is no second client.
+/// Those of the inputs, each with its place; `SinkFault`; and `Pool`, where the store answered so in this call or
+/// there was no memory: a growth of a client that is refused is no error, and there are few clients.
 pub fn run_query<St: Store, S: Source, K: Sink>(
     alloc: Global,
     store: &mut St,
@@ -55,113 +50,34 @@ pub fn run_query<St: Store, S: Source, K: Sink>(
     right: &mut Option<S>,
     sink: &mut K,
 ) -> Result<Ran, QueryErr>
-    requires plan { IsGrouping plan.now }
+    requires plan { IsRunnable plan.now }
     requires store { HasRoomFor plan.now (St.holds store.old) }
     requires right { is_some right.old ≡ joins plan.now }
-    ensures answer { (St.holds store.old).told ≡ true → OnOk result (WroteAnswer plan.now (page_len plan.now (St.holds store.old).block_len) (S.remaining left.old) (K.contents sink.old) (K.contents sink.new)) }
-    ensures read { OnOk result (IsAtEnd (S.remaining left.new)) }
-    ensures numbers { IfOk result (λ ran. IfSome (S.remaining left.old) (Numbers plan.now (page_len plan.now (St.holds store.old).block_len) (St.holds store.old).told ran)) }
+    ensures answer { (St.holds store.old).told ≡ true → OnOk result (WroteAnswer plan.now (page_len plan.now (St.holds store.old).block_len) (both_told (S.remaining left.old) (told_in S.remaining right.old)) (K.contents sink.old) (K.contents sink.new)) }
+    ensures read { OnOk result (IsAtEnd (S.remaining left.new) × IsAtEnd (told_in S.remaining right.new)) }
+    ensures numbers { IfOk result (λ ran. IfSome (both_told (S.remaining left.old) (told_in S.remaining right.old)) (Numbers plan.now (page_len plan.now (St.holds store.old).block_len) (St.holds store.old).told ran)) }
 
-    ensures input { IfErr result (SaysOfInput plan.now (page_len plan.now (St.holds store.old).block_len) (S.remaining left.old) (S.faults left.old) (S.faults left.new)) }
-    ensures pool { IfErr result (MayStop plan.now.page_blocks (St.holds store.old) (St.signs store.old) (St.signs store.new)) }
+    ensures input { IfErr result (SaysOfInputs plan.now (page_len plan.now (St.holds store.old).block_len) (source (S.remaining left.old) (S.remaining left.new) (S.faults left.old) (S.faults left.new)) (source (told_in S.remaining right.old) (told_in S.remaining right.new) (faults_in S.faults right.old) (faults_in S.faults right.new))) }
+    ensures pool { IfErr result (MayStop plan.now (St.holds store.old) (St.signs store.old) (St.signs store.new)) }
     ensures sink_fault { IsErrOf result QueryErr.SinkFault → Rose (K.faults sink.old) (K.faults sink.new) }
-    ensures front { (St.holds store.old).told ≡ true → IsErrOf result QueryErr.SinkFault → WroteFront plan.now (page_len plan.now (St.holds store.old).block_len) (S.remaining left.old) (K.contents sink.old) (K.contents sink.new) }
+    ensures front { (St.holds store.old).told ≡ true → IsErrOf result QueryErr.SinkFault → WroteFront plan.now (page_len plan.now (St.holds store.old).block_len) (both_told (S.remaining left.old) (told_in S.remaining right.old)) (K.contents sink.old) (K.contents sink.new) }
     ensures untouched { IfErr result (λ e. IsSome (side_of e) → sink.new ≡ sink.old) }
-    ensures stopped { IfErr result (λ _. (sink.new ≡ sink.old) ⊎ (IsAtEnd (S.remaining left.new) × ((St.holds store.old).told ≡ true → WroteFront plan.now (page_len plan.now (St.holds store.old).block_len) (S.remaining left.old) (K.contents sink.old) (K.contents sink.new)))) }
+    ensures stopped { IfErr result (λ _. (sink.new ≡ sink.old) ⊎ (IsAtEnd (S.remaining left.new) × IsAtEnd (told_in S.remaining right.new) × ((St.holds store.old).told ≡ true → WroteFront plan.now (page_len plan.now (St.holds store.old).block_len) (both_told (S.remaining left.old) (told_in S.remaining right.old)) (K.contents sink.old) (K.contents sink.new)))) }
     ensures quiet { IsErrOf result QueryErr.SinkFault ⊎ (K.faults sink.new ≡ K.faults sink.old) }
 
-    ensures kept { OnOk result (KeptGroups plan.now (page_len plan.now (St.holds store.old).block_len) (S.remaining left.old) (St.signs store.old).trail (St.signs store.new).trail) }
+    ensures kept { OnOk result (KeptRows plan.now (page_len plan.now (St.holds store.old).block_len) (S.remaining left.old) (told_in S.remaining right.old) (St.signs store.old).trail (St.signs store.new).trail) }
     ensures store { RanOver plan.now (St.holds store.old) (St.holds store.new) (St.signs store.old) (St.signs store.new) }
-    ensures right { right.new ≡ right.old }
+    ensures right { HoldsInput S.faults right.old right.new }
     ensures source_kept { S.faults left.old ≤ S.faults left.new }
     ensures sink_kept { K.faults sink.old ≤ K.faults sink.new }
 {
-    let block_len = store.block_len();
-    let page = u64::from(plan.page_blocks) * u64::from(block_len);
-    let bytes = least(plan, block_len);
-    let c = own_client(store, plan.limit.max(bytes), bytes);
-    let mut op = match start(alloc, c, plan) {
-        Ok(op) => op,
-        Err(c) => {
-            store.end_client(c);
-            return Err(QueryErr::Pool(PoolErr::Memory));
-        }
+    let source = match right {
+        Some(source) => source,
+        None => return run_grouped(alloc, store, plan, left, sink),
     };
-    law_starts();
-    let result = answer(alloc, store, &mut op, plan, page, left, sink);
-    let c = op.end(store);
-    store.end_client(c);
-    result
-}
-
-// A grouping of the plan's shape. Where there was no memory, the client comes back.
-fn start(alloc: Global, c: Client, plan: &Query) -> Result<GroupOp, Client>
-    requires { IsGrouping plan.now }
-    ensures ok { IfOk result (λ op. op ≡ started c plan.now.page_blocks (shape_of plan.now)) }
-    ensures err { IfErr result (λ back. back ≡ c) }
-{
-    let Ok(shape) = shape(alloc, plan) else {
-        return Err(c);
-    };
-    match GroupOp::start(alloc, c, plan.page_blocks, &shape) {
-        Ok(op) => Ok(op),
-        Err((c, _)) => Err(c),
+    if !plan.group.as_slice().is_empty() {
+        come_and_go(store, plan);
+        return Err(QueryErr::Pool(PoolErr::Memory));
     }
-}
-
-// The shape of the rows that a plan groups.
-fn shape(alloc: Global, plan: &Query) -> Result<Shape, Memory>
-    requires { IsGrouping plan.now }
-    ensures { IfOk result (λ shape. shape ≡ shape_of plan.now) }
-{
-    Ok(Shape {
-        kinds: Listed::of(kinds_of(alloc, plan.left.columns.as_slice())?),
-        keys: Listed::of(Vec::from_slice(alloc, plan.group.as_slice())?),
-        aggs: Listed::of(Vec::from_slice(alloc, plan.aggs.as_slice())?),
-    })
-}
-
-// The kinds of some columns.
-fn kinds_of(alloc: Global, columns: &[Column]) -> Result<Vec<Kind>, Memory>
-    ensures { IfOk result (λ kinds. kinds.items ≡ kinds_of_columns columns.now) }
-{
-    let mut kinds = Vec::new(alloc);
-    for column in columns {
-        kinds.push(column.kind)?;
-    }
-    Ok(kinds)
-}
-
-// Feeds what is left of the source to a grouping that was started, and writes its answer.
-fn answer<St: Store, S: Source, K: Sink>(
-    alloc: Global,
-    store: &mut St,
-    op: &mut GroupOp,
-    plan: &Query,
-    page: u64,
-    left: &mut S,
-    sink: &mut K,
-) -> Result<Ran, QueryErr>
-    requires plan { IsGrouping plan.now }
-    requires op { IsOperator op.old (St.holds store.old) (St.signs store.old) }
-    requires shape { op.old.shape ≡ shape_of plan.now }
-    requires feeding { IsFeeding op.old }
-    requires keeps { Keeps (St.signs store.old).trail [] op.old (St.holds store.old) (St.signs store.old) }
-    requires page { page ≡ page_of op.old (St.holds store.old) }
-    requires short { page < 2 ^ 32 }
-    ensures answer { (St.holds store.old).told ≡ true → OnOk result (WroteAnswer plan.now page (S.remaining left.old) (K.contents sink.old) (K.contents sink.new)) }
-    ensures read { OnOk result (IsAtEnd (S.remaining left.new)) }
-    ensures numbers { IfOk result (λ ran. IfSome (S.remaining left.old) (Numbers plan.now page (St.holds store.old).told ran)) }
-    ensures input { IfErr result (SaysOfInput plan.now page (S.remaining left.old) (S.faults left.old) (S.faults left.new)) }
-    ensures pool { IfErr result (StoppedOver op.old.parts.page_blocks (slots_in (over op.old.parts (St.holds store.old) (St.signs store.old))) (St.signs store.old) (St.signs store.new)) }
-    ensures front { (St.holds store.old).told ≡ true → IsErrOf result QueryErr.SinkFault → WroteFront plan.now page (S.remaining left.old) (K.contents sink.old) (K.contents sink.new) }
-    ensures untouched { IfErr result (λ e. IsSome (side_of e) → sink.new ≡ sink.old) }
-    ensures stopped { IfErr result (λ _. (sink.new ≡ sink.old) ⊎ (IsAtEnd (S.remaining left.new) × ((St.holds store.old).told ≡ true → WroteFront plan.now page (S.remaining left.old) (K.contents sink.old) (K.contents sink.new)))) }
-    ensures sink { CountsSink (IsErrOf result QueryErr.SinkFault) (K.faults sink.old) (K.faults sink.new) }
-    ensures kept { OnOk result (KeptAndRead plan.now page (S.remaining left.old) (over op.new.parts (St.holds store.new) (St.signs store.new)) (St.signs store.old).trail (St.signs store.new).trail) }
-    ensures went { GoesOn op.old op.new (St.holds store.old) (St.holds store.new) (St.signs store.old) (St.signs store.new) }
-    ensures source_kept { S.faults left.old ≤ S.faults left.new }
-{
-    let fed = feed_rows(alloc, store, op, plan, page, left)?;
-    write_groups(alloc, store, op, plan, fed, sink)
+    run_joined(alloc, store, plan, left, source, sink)
 }

@@ -1,11 +1,13 @@
 //! Whole queries over a store in memory, against worked rows. A page has 256 bytes, and a query begins with twenty of them.
 
-ghost use Rattle.std.specs.Prelude.{◌≡◌, ◌≤◌, ◌⊎◌, [], ◌∷◌, codes, IfOk, All, length, pos};
+mod joined;
+
+ghost use Rattle.std.specs.Prelude.{◌≡◌, ◌≤◌, ◌⊎◌, [], ◌∷◌, codes, IfOk, All, None, length, pos};
 ghost use Rattle.row_codec.specs.declared.values.Kind.TheVariants.{Int, Text};
 ghost use Rattle.row_codec.specs.declared.values.Value.TheVariants as value;
 ghost use Rattle.scan_filter.specs.declared.pred.Cmp.TheVariants.{Lt};
 ghost use Rattle.store_api.specs.Shapes.{IsOverInts};
-ghost use Rattle.query_run.specs.Plans.{IsGrouping, IsSide, kinds_of_columns};
+ghost use Rattle.query_run.specs.Plans.{IsRunnable, IsSide, kinds_of_columns};
 
 use crate::{QueryErr, Ran, run_query};
 use outside::{MemSink, MemSource};
@@ -90,7 +92,8 @@ fn side(alloc: Global, asked: Asked) -> Result<SidePlan, AllocError>
 }
 
 fn plan(alloc: Global, asked: Asked) -> Result<Query, AllocError>
-    ensures grouping { IfOk result (λ plan. IsGrouping plan) }
+    ensures runnable { IfOk result (λ plan. IsRunnable plan) }
+    ensures alone { IfOk result (λ plan. plan.right ≡ None) }
     ensures page { IfOk result (λ plan. plan.page_blocks ≡ 1) }
 {
     let group = vec![in alloc; 0]?;
@@ -114,7 +117,8 @@ fn run(
     left: &mut MemSource,
     sink: &mut MemSink,
 ) -> Result<Ran, QueryErr>
-    requires plan { IsGrouping plan.now }
+    requires plan { IsRunnable plan.now }
+    requires alone { plan.now.right ≡ None }
     requires page { plan.now.page_blocks ≡ 1 }
 {
     let mut store = MemStore::open(alloc, 256, 16384, 5120)?;

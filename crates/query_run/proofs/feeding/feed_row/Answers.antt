@@ -1,24 +1,31 @@
-use Rattle.std.proofs.Common.{ap, length}
-use Rattle.query_run.proofs.Weighing.{counted_light, fits_rows, may_be_fed}
+use Rattle.std.proofs.Common.{◌≡◌, ◌++◌, ◌∷◌, [], List, false, true, append-nil, refl, rules, subst, sym}
+use Rattle.row_codec.specs.declared.values.Value.{Value}
+use Rattle.scan_filter.specs.Passes.{passes}
+use Rattle.query_run.proofs.Weighing.{counted_light, fits_rows, may_be_taken}
 use Rattle.query_run.proofs.feeding.feed_row.Goals as goal
 
 pub passes-requires : goal.passes-requires
 passes-requires g c =
-    let preds = c.as_slice-2.ensures.value in
-    record { kinds = rw preds (fits_rows c.args.plan.now.left.columns c.args.row.now c.args.plan.now.left.preds c.requires.kinds c.requires.plan.left.preds) }
+    let preds = c.as_slice.ensures.value in
+    record { kinds = rw preds (fits_rows c.args.asked.now.columns c.args.row.now c.args.asked.now.preds c.requires.kinds c.requires.asked.preds) }
 
 pub returns-then-not-passes-clause-light : goal.returns-then-not-passes-clause-light
-returns-then-not-passes-clause-light g c =
-    counted_light c.args.plan.now c.args.row.now c.encoded_len.result c.saturating_add-weight.result (length c.as_slice.result.now) c.args.page
-    c.requires.plan.alone (ap length c.as_slice.ensures.value) c.encoded_len.ensures.len c.saturating_add-weight.ensures c.if-weight-page.false c.requires.short
+returns-then-not-passes-clause-light g c = counted_light c.args.plan.now c.args.row.now c.weight-bytes.result c.args.page c.weight-bytes.ensures c.if-bytes-page.false c.requires.short
 
-pub feed-requires-clause-row : goal.feed-requires-clause-row
-feed-requires-clause-row g c =
-    let light = counted_light c.args.plan.now c.args.row.now c.encoded_len.result c.saturating_add-weight.result (length c.as_slice.result.now) c.args.page
-    c.requires.plan.alone (ap length c.as_slice.ensures.value) c.encoded_len.ensures.len c.saturating_add-weight.ensures c.if-weight-page.false c.requires.short in
-    may_be_fed c.args.plan.now c.args.op.now (g.St.Store.holds c.args.store.now) c.args.row.now c.args.page c.requires.plan.alone c.requires.shape c.requires.page c.requires.kinds light
+pub returns-then-not-passes-clause-feeds : goal.returns-then-not-passes-clause-feeds
+returns-then-not-passes-clause-feeds g c =
+    let passed : passes c.args.asked.now.preds c.args.row.now ≡ false = search rules in
+    (sym passed, λ first rows h s fed. rw (passed, append-nil rows) fed)
+
+pub take-requires-clause-row : goal.take-requires-clause-row
+take-requires-clause-row g c =
+    let light = counted_light c.args.plan.now c.args.row.now c.weight-bytes.result c.args.page c.weight-bytes.ensures c.if-bytes-page.false c.requires.short in
+    may_be_taken c.args.plan.now _ _ _ c.args.page _ c.args.row.now c.requires.takes c.requires.extra c.requires.page c.requires.kinds light
 
 pub returns-in-Ok-clause-light : goal.returns-in-Ok-clause-light
-returns-in-Ok-clause-light g c =
-    counted_light c.args.plan.now c.args.row.now c.encoded_len.result c.saturating_add-weight.result (length c.as_slice.result.now) c.args.page
-    c.requires.plan.alone (ap length c.as_slice.ensures.value) c.encoded_len.ensures.len c.saturating_add-weight.ensures c.if-weight-page.false c.requires.short
+returns-in-Ok-clause-light g c = counted_light c.args.plan.now c.args.row.now c.weight-bytes.result c.args.page c.weight-bytes.ensures c.if-bytes-page.false c.requires.short
+
+pub returns-in-Ok-clause-feeds : goal.returns-in-Ok-clause-feeds
+returns-in-Ok-clause-feeds g c =
+    let passed : passes c.args.asked.now.preds c.args.row.now ≡ true = search rules in
+    (sym passed, λ first rows h s fed. rw passed (c.in-Ok.ensures.ok first rows h s fed))

@@ -1,13 +1,15 @@
 use Rattle.std.proofs.Common.{◌∙◌, length, pos, replicate, ap, sym, refl, rules}
 use Rattle.store_api.specs.declared.shapes.Shape.{Shape}
 use Rattle.partition_stack.proofs.Results.{any_err, on_err, on_ok}
-use Rattle.query_run.specs.Answer.{answer_text}
+use Rattle.query_run.specs.Answer.{answer_text, group_rows}
+use Rattle.query_run.specs.Plans.{grouping_of}
 use Rattle.query_run.proofs.Ended.{all_handed, not_stopped, numbers_are, some_anyhow, stopped_front, took_none, unsent_front, untouched, whole_answer}
+use Rattle.query_run.proofs.Whole.{grouped}
 use Rattle.query_run.proofs.grouping.write_groups.Goals as goal
 
 pub returns-in_err-part-clause-err : goal.returns-in_err-part-clause-err
 returns-in_err-part-clause-err g c =
-    any_err c.from_residual.result (λ start rows keeps fed told. untouched (g.K.Sink.contents c.args.sink.now) (answer_text c.args.plan.now rows))
+    any_err c.from_residual.result (λ start rows keeps fed told. untouched (g.K.Sink.contents c.args.sink.now) (answer_text c.args.plan.now (group_rows (grouping_of c.args.plan.now) rows)))
 
 pub drive-handed-requires-clause-none : goal.drive-handed-requires-clause-none
 drive-handed-requires-clause-none g c =
@@ -39,5 +41,5 @@ returns-clause-ok g c = λ start rows keeps fed told.
 
 pub returns-clause-lines : goal.returns-clause-lines
 returns-clause-lines g c = λ start rows keeps fed told.
-    numbers_are c.args.plan.now c.args.op.now.shape _ rows c.drive-handed.result.1.stopped _ _ _ c.drive-handed.result.1.totals.items _ c.requires.shape refl c.of.ensures
+    numbers_are c.args.plan.now c.args.op.now.shape _ rows c.drive-handed.result.1.stopped _ _ _ c.drive-handed.result.1.totals.items _ (grouped c.args.plan.now c.requires.plan) c.requires.shape refl c.of.ensures
     (all_handed c.drive-handed.result.1.stopped c.drive-handed.result.0 c.in_ok-went_through.ensures.ok (on_ok c.drive-handed.result.0 (λ all. all start rows keeps fed told) c.drive-handed.ensures.ok))

@@ -1,4 +1,4 @@
-use Rattle.std.proofs.Common.{rules, ◌≡◌, [], ◌∷◌, ℕ, List, arith, refl}
+use Rattle.std.proofs.Common.{rules, ◌≡◌, ◌==◌, ◌∙◌, [], ◌∷◌, ℕ, List, false, true, not, length, inl, sym, true≢false, arith, refl}
 use Rattle.std.specs.Prelude.{All, eqb}
 use Rattle.std.specs.List.{IsDistinct}
 use Rattle.std.proofs.lemmas.Map.Keys.{IsDistinct-cons}
@@ -23,15 +23,19 @@ by_text kinds keys aggs two one ints =
       aggs = ints;
     })
 
-pub returns-clause-grouping : goal.returns-clause-grouping
-returns-clause-grouping c =
+pub returns-clause-runnable : goal.returns-clause-runnable
+returns-clause-runnable c =
     let key : c.from_vec.result ≡ 0 ∷ [] = search rules in
     let ints : All (IsOverInts (Text ∷ Int ∷ [])) c.from_vec-2.result = rw c.from_vec-2.ensures.moved c.in_ok-aggs_of.ensures.ints in
+    let groups-it : not (length c.from_vec.result == 0) ≡ true = rw key refl in
     record {
       paged = refl;
-      alone = refl;
       left = c.in_ok-side.ensures.side;
-      shape = by_text _ _ _ c.in_ok-side.ensures.kinds key ints;
+      right = tt;
+      join = tt;
+      does = inl groups-it;
+      shape = λ groups. by_text _ _ _ c.in_ok-side.ensures.kinds key ints;
       keys = rw key (omega arith);
       aggs = rw c.from_vec-2.ensures.moved c.in_ok-aggs_of.ensures.few;
+      none = λ (not-so : not (length c.from_vec.result == 0) ≡ false). absurd (true≢false (sym groups-it ∙ not-so));
     }

@@ -1,0 +1,99 @@
+use Rattle.std.proofs.Common.{rules, [], Some, ◌≡◌, ◌∙◌, ◌*◌, inl, inr, ap, subst}
+use Rattle.store_api.proofs.Growing.{grows_trans}
+use Rattle.tuple_stream.specs.Families.{slots_in}
+use Rattle.partition_stack.specs.Stack.{over}
+use Rattle.group_op.specs.Operator.{Operator}
+use Rattle.query_plan.specs.Sizes.{least_of, page_len}
+use Rattle.store_api.specs.Changes.{after_end_client}
+use Rattle.store_api.specs.Holdings.{account_of}
+use Rattle.store_api.specs.Tokens.{ClientToken}
+use Rattle.query_run.specs.Answer.{WroteFront}
+use Rattle.query_run.specs.Both.{both_told}
+use Rattle.query_run.specs.Stopped.{IsLeft}
+use Rattle.query_run.proofs.Around.{ends_first, kept_whole, left_around, one_amount, slots_first, starts_here, stopped_around}
+use Rattle.query_run.proofs.KeptFirst.{reserves_first}
+use Rattle.query_run.proofs.Visits.{back_none, left_behind}
+use Rattle.partition_stack.proofs.Results.{if_err, on_ok}
+use Rattle.query_run.proofs.grouped.run_grouped.Goals as goal
+
+pub answer-result-requires-clause-op : goal.answer-result-requires-clause-op
+answer-result-requires-clause-op g c =
+    let has = starts_here c.args.plan.now c.own_client-c.result _ _ (g.St.Store.holds c.args.store.now) (g.St.Store.holds c.own_client-c.new.store) (g.St.Store.signs c.own_client-c.new.store) c.law_starts.ensures.law c.requires.plan c.own_client-c.ensures.own (search rules) in
+    rw c.in-Ok.ensures.ok has.op
+
+pub answer-result-requires-clause-keeps : goal.answer-result-requires-clause-keeps
+answer-result-requires-clause-keeps g c =
+    let has = starts_here c.args.plan.now c.own_client-c.result _ _ (g.St.Store.holds c.args.store.now) (g.St.Store.holds c.own_client-c.new.store) (g.St.Store.signs c.own_client-c.new.store) c.law_starts.ensures.law c.requires.plan c.own_client-c.ensures.own (search rules) in
+    rw c.in-Ok.ensures.ok has.keeps
+
+pub returns-clause-pool : goal.returns-clause-pool
+returns-clause-pool g c =
+    let start = c.in-Ok.ensures.ok in
+    let blocks : c.in-Ok.op.parts.page_blocks ≡ c.args.plan.now.page_blocks = ap (λ (op : Operator). op.parts.page_blocks) start in
+    let slots : slots_in (over c.in-Ok.op.parts (g.St.Store.holds c.own_client-c.new.store) (g.St.Store.signs c.own_client-c.new.store)) ≡ (g.St.Store.holds c.args.store.now).free_slots =
+    ap (λ (op : Operator). slots_in (over op.parts (g.St.Store.holds c.own_client-c.new.store) (g.St.Store.signs c.own_client-c.new.store))) start ∙ slots_first c.args.plan.now.page_blocks (g.St.Store.holds c.own_client-c.new.store) (g.St.Store.signs c.own_client-c.new.store) ∙ c.own_client-c.ensures.own.free_slots in
+    let later = grows_trans _ _ _ c.end-c.ensures.leaves.grows c.end_client-2.ensures.grows in
+    if_err c.answer-result.result (λ e came. stopped_around c.args.plan.now _ _ (g.St.Store.holds c.args.store.now) _ _ _ _ e c.requires.plan.alone blocks slots c.own_client-c.ensures.grows later came) c.answer-result.ensures.pool
+
+pub returns-clause-stopped : goal.returns-clause-stopped
+returns-clause-stopped g c =
+    let len : c.from.result * c.from-2.result ≡ page_len c.args.plan.now (g.St.Store.holds c.args.store.now).block_len = search rules in
+    let own = c.own_client-c.ensures.own in
+    if_err c.answer-result.result (λ e either. elim either [
+      | inl same ↦ inl same
+      | inr both ↦ inr (both.0, λ told. subst (λ n. WroteFront c.args.plan.now n (both_told (g.S.Source.remaining c.args.left.now) (Some [])) (g.K.Sink.contents c.args.sink.now) (g.K.Sink.contents c.answer-result.new.sink)) len (both.1 (own.told ∙ told)))
+    ]) c.answer-result.ensures.stopped
+
+pub returns-clause-kept : goal.returns-clause-kept
+returns-clause-kept g c =
+    let len : c.from.result * c.from-2.result ≡ page_len c.args.plan.now (g.St.Store.holds c.args.store.now).block_len = search rules in
+    let old = g.St.Store.holds c.args.store.now in
+    let s0 = g.St.Store.signs c.args.store.now in
+    let s1 = g.St.Store.signs c.own_client-c.new.store in
+    let s2 = g.St.Store.signs c.answer-result.new.store in
+    let h3 = g.St.Store.holds c.end-c.new.store in
+    let s3 = g.St.Store.signs c.end-c.new.store in
+    let s4 = g.St.Store.signs c.end_client-2.new.self in
+    let f = over c.answer-result.new.op.parts (g.St.Store.holds c.answer-result.new.store) s2 in
+    let t = c.end-c.result.tracker in
+    let ends = ends_first f s2 s3 c.end-c.ensures.leaves.grows c.end-c.ensures.first in
+    on_ok c.answer-result.result (λ kept. kept_whole c.args.plan.now (c.from.result * c.from-2.result) (page_len c.args.plan.now old.block_len) (g.S.Source.remaining c.args.left.now) f
+    old.session c.own_client-c.result.tracker old.query c.max.result c.least-bytes.result h3.session t h3.query (account_of t h3).reservation s0 s1 s2 s3 s4
+    c.own_client-c.ensures.entries kept ends c.end_client-2.ensures.entries len) c.answer-result.ensures.kept
+
+pub returns-clause-store : goal.returns-clause-store
+returns-clause-store g c =
+    let was = g.St.Store.holds c.args.store.now in
+    let own = c.own_client-c.ensures.own in
+    let start = c.in-Ok.ensures.ok in
+    let went = c.answer-result.ensures.went in
+    let first : c.in-Ok.op.client ≡ c.own_client-c.result = ap (λ (op : Operator). op.client) start in
+    let client : c.answer-result.new.op.client ≡ c.own_client-c.result = went.client ∙ first in
+    let slots : slots_in (over c.in-Ok.op.parts (g.St.Store.holds c.own_client-c.new.store) (g.St.Store.signs c.own_client-c.new.store)) ≡ (g.St.Store.holds c.own_client-c.new.store).free_slots =
+    ap (λ (op : Operator). slots_in (over op.parts (g.St.Store.holds c.own_client-c.new.store) (g.St.Store.signs c.own_client-c.new.store))) start ∙ slots_first c.args.plan.now.page_blocks (g.St.Store.holds c.own_client-c.new.store) (g.St.Store.signs c.own_client-c.new.store) in
+    let free : (g.St.Store.holds c.end-c.new.store).free_slots ≡ (g.St.Store.holds c.own_client-c.new.store).free_slots = c.end-c.ensures.slots ∙ went.slots ∙ slots in
+    let later = grows_trans _ _ _ c.end-c.ensures.leaves.grows c.end_client-2.ensures.grows in
+    let grows = grows_trans _ _ _ went.leaves.grows later in
+    let left : IsLeft was (after_end_client c.own_client-c.result.tracker (g.St.Store.holds c.end-c.new.store)) =
+    left_around c.own_client-c.result c.max.result c.least-bytes.result was (g.St.Store.holds c.own_client-c.new.store) (g.St.Store.holds c.answer-result.new.store) (g.St.Store.holds c.end-c.new.store) (g.St.Store.signs c.own_client-c.new.store) (g.St.Store.signs c.answer-result.new.store) (g.St.Store.signs c.end-c.new.store) own c.requires.store.idle (rw first at (went.leaves)) (rw client at (c.end-c.ensures.leaves)) in
+    let ended : g.St.Store.holds c.end_client-2.new.self ≡ after_end_client c.own_client-c.result.tracker (g.St.Store.holds c.end-c.new.store) =
+    c.end_client-2.ensures.value ∙ ap (λ (t : ClientToken). after_end_client t.tracker (g.St.Store.holds c.end-c.new.store)) (c.end-c.ensures.client ∙ client) in
+    record {
+      reserves = rw (one_amount c.args.plan.now was.block_len c.requires.plan.alone) (reserves_first was.session c.own_client-c.result.tracker was.query c.max.result c.least-bytes.result (least_of c.args.plan.now was.block_len) (g.St.Store.signs c.args.store.now) (g.St.Store.signs c.own_client-c.new.store) (g.St.Store.signs c.end_client-2.new.self) c.own_client-c.ensures.entries grows (search rules) (search rules));
+      left = rw ended left;
+      free = λ alone. rw ended (free ∙ own.free_slots);
+      grows = grows_trans _ _ _ c.own_client-c.ensures.grows grows;
+    }
+
+pub returns-in-Err-clause-store : goal.returns-in-Err-clause-store
+returns-in-Err-clause-store g c =
+    let was = g.St.Store.holds c.args.store.now in
+    let own = c.own_client-c.ensures.own in
+    let ended : g.St.Store.holds c.end_client.new.self ≡ after_end_client c.own_client-c.result.tracker (g.St.Store.holds c.own_client-c.new.store) =
+    c.end_client.ensures.value ∙ ap (λ (t : ClientToken). after_end_client t.tracker (g.St.Store.holds c.own_client-c.new.store)) c.in-Err.ensures.err in
+    record {
+      reserves = rw (one_amount c.args.plan.now was.block_len c.requires.plan.alone) (reserves_first was.session c.own_client-c.result.tracker was.query c.max.result c.least-bytes.result (least_of c.args.plan.now was.block_len) (g.St.Store.signs c.args.store.now) (g.St.Store.signs c.own_client-c.new.store) (g.St.Store.signs c.end_client.new.self) c.own_client-c.ensures.entries c.end_client.ensures.grows (search rules) (search rules));
+      left = rw ended (left_behind c.own_client-c.result _ _ was _ _ c.requires.store.idle own (back_none _));
+      free = λ alone. rw ended own.free_slots;
+      grows = grows_trans _ _ _ c.own_client-c.ensures.grows c.end_client.ensures.grows;
+    }

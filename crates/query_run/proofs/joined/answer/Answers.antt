@@ -1,0 +1,84 @@
+use Rattle.std.proofs.Common.{◌≡◌, ◌∙◌, ◌<◌, ◌+◌, ◌^◌, List, inr, sym, subst, arith}
+use Rattle.partition_stack.proofs.Left.{leaves_both}
+use Rattle.partition_stack.proofs.Results.{if_err, if_ok, on_ok}
+use Rattle.partition_stack.specs.Leaving.{LeavesOthers}
+use Rattle.partition_stack.specs.Stack.{over}
+use Rattle.store_api.specs.declared.shapes.JoinShape.{JoinShape}
+use Rattle.tuple_stream.specs.Trails.{EnteredEvents}
+use Rattle.join_op.specs.Laid.{HoldsSides}
+use Rattle.join_op.specs.Pairs.{pairs_of}
+use Rattle.query_run.specs.Answer.{LineNumbers}
+use Rattle.query_run.specs.Joined.{WrotePairs, WroteSomePairs}
+use Rattle.query_run.proofs.Going.{of_pool_so}
+use Rattle.query_run.proofs.Results.{at_err, both_ok, of_done, of_err, of_ok}
+use Rattle.query_run.proofs.Says.{says_neither}
+use Rattle.query_run.proofs.Sides.{both_kept, few_kept, joined_answer, joined_front, joined_numbers}
+use Rattle.query_run.proofs.Taken.{join_stops}
+use Rattle.query_run.proofs.joined.answer.Goals as goal
+
+pub write_pairs-result-requires-clause-few : goal.write_pairs-result-requires-clause-few
+write_pairs-result-requires-clause-few g c =
+    let has = of_ok _ c.feed_both-fed.result.0 c.in-Ok.fed c.in-Ok.is c.feed_both-fed.ensures.ok in
+    let left = few_kept _ _ _ _ _ _ _ has.lefts_fed in
+    let right = few_kept _ _ _ _ _ _ _ has.rights_fed in
+    omega (arith, left, right)
+
+pub write_pairs-result-requires-clause-aggs : goal.write_pairs-result-requires-clause-aggs
+write_pairs-result-requires-clause-aggs g c = c.requires.plan.none c.requires.groups
+
+pub returns-clause-answer : goal.returns-clause-answer
+returns-clause-answer g c = λ told.
+    let has = of_ok _ c.feed_both-fed.result.0 c.in-Ok.fed c.in-Ok.is c.feed_both-fed.ensures.ok in
+    let goes = c.feed_both-fed.ensures.goes in
+    let shape = goes.same.shape ∙ c.requires.shape in
+    on_ok c.write_pairs-result.result (λ ok. joined_answer c.args.plan.now c.args.asked.now c.args.page c.requires.right c.requires.groups _ _ _ _ _ _ _ has
+    (subst (λ (s : JoinShape). WrotePairs c.args.plan.now (pairs_of s has.lefts has.rights) (g.K.Sink.contents c.args.sink.now) (g.K.Sink.contents c.write_pairs-result.new.sink)) shape (ok _ _ _ has.kept (goes.leaves.others.told ∙ told)))) c.write_pairs-result.ensures.ok
+
+pub returns-clause-numbers : goal.returns-clause-numbers
+returns-clause-numbers g c =
+    let has = of_ok _ c.feed_both-fed.result.0 c.in-Ok.fed c.in-Ok.is c.feed_both-fed.ensures.ok in
+    let goes = c.feed_both-fed.ensures.goes in
+    let shape = goes.same.shape ∙ c.requires.shape in
+    if_ok c.write_pairs-result.result (λ ran both. joined_numbers c.args.plan.now c.args.asked.now c.args.page c.requires.right c.requires.groups _ _ _ _ _ _ ran has both.0.0 both.0.1 both.0.2
+    (λ told. subst (λ (s : JoinShape). LineNumbers c.args.plan.now (pairs_of s has.lefts has.rights) ran) shape (both.1 _ _ _ has.kept (goes.leaves.others.told ∙ told))))
+    (both_ok _ _ c.write_pairs-result.result c.write_pairs-result.ensures.read c.write_pairs-result.ensures.lines)
+
+pub returns-clause-input : goal.returns-clause-input
+returns-clause-input g c = if_err c.write_pairs-result.result (λ e none. says_neither c.args.plan.now c.args.page _ _ e none) c.write_pairs-result.ensures.cause
+
+pub returns-clause-pool : goal.returns-clause-pool
+returns-clause-pool g c = if_err c.write_pairs-result.result (λ e stopped. of_pool_so _ _ (λ why by. join_stops _ _ _ _ _ _ _ why c.feed_both-fed.ensures.goes by) e stopped) c.write_pairs-result.ensures.pool
+
+pub returns-clause-front : goal.returns-clause-front
+returns-clause-front g c = λ told failed.
+    let has = of_ok _ c.feed_both-fed.result.0 c.in-Ok.fed c.in-Ok.is c.feed_both-fed.ensures.ok in
+    let goes = c.feed_both-fed.ensures.goes in
+    let shape = goes.same.shape ∙ c.requires.shape in
+    joined_front c.args.plan.now c.args.asked.now c.args.page c.requires.right c.requires.groups _ _ _ _ _ _ _ has (subst (λ (s : JoinShape). WroteSomePairs c.args.plan.now (pairs_of s has.lefts has.rights) (g.K.Sink.contents c.args.sink.now) (g.K.Sink.contents c.write_pairs-result.new.sink)) shape (at_err c.write_pairs-result.result _ failed c.write_pairs-result.ensures.err _ _ _ has.kept (goes.leaves.others.told ∙ told)))
+
+pub returns-clause-stopped : goal.returns-clause-stopped
+returns-clause-stopped g c =
+    let has = of_ok _ c.feed_both-fed.result.0 c.in-Ok.fed c.in-Ok.is c.feed_both-fed.ensures.ok in
+    let goes = c.feed_both-fed.ensures.goes in
+    let shape = goes.same.shape ∙ c.requires.shape in
+    let read = of_done c.feed_both-fed.result.0 c.in-Ok.fed c.in-Ok.is c.feed_both-fed.ensures.read in
+    of_err c.write_pairs-result.result (λ err e. inr (read.0, read.1, λ told. joined_front c.args.plan.now c.args.asked.now c.args.page c.requires.right c.requires.groups _ _ _ _ _ _ _ has (subst (λ (s : JoinShape). WroteSomePairs c.args.plan.now (pairs_of s has.lefts has.rights) (g.K.Sink.contents c.args.sink.now) (g.K.Sink.contents c.write_pairs-result.new.sink)) shape (err _ _ _ has.kept (goes.leaves.others.told ∙ told))))) c.write_pairs-result.ensures.err
+
+pub returns-clause-kept : goal.returns-clause-kept
+returns-clause-kept g c =
+    let has = of_ok _ c.feed_both-fed.result.0 c.in-Ok.fed c.in-Ok.is c.feed_both-fed.ensures.ok in
+    let goes = c.feed_both-fed.ensures.goes in
+    let shape = goes.same.shape ∙ c.requires.shape in
+    let f = over c.write_pairs-result.new.op.left (g.St.Store.holds c.write_pairs-result.new.store) (g.St.Store.signs c.write_pairs-result.new.store) in
+    let k = over c.write_pairs-result.new.op.right (g.St.Store.holds c.write_pairs-result.new.store) (g.St.Store.signs c.write_pairs-result.new.store) in
+    on_ok c.write_pairs-result.result (λ kept. both_kept c.args.plan.now c.args.asked.now c.args.page _ _ _ _ _ f k _ _ has
+    (subst (λ (s : JoinShape). EnteredEvents (HoldsSides s has.lefts has.rights f k) (g.St.Store.signs c.args.store.now).trail (g.St.Store.signs c.write_pairs-result.new.store).trail) shape (kept _ _ _ has.kept))) c.write_pairs-result.ensures.kept
+
+pub returns-clause-op : goal.returns-clause-op
+returns-clause-op g c = (c.write_pairs-result.ensures.op, c.write_pairs-result.ensures.client ∙ c.feed_both-fed.ensures.goes.same.client)
+
+pub returns-clause-leaves : goal.returns-clause-leaves
+returns-clause-leaves g c =
+    let goes = c.feed_both-fed.ensures.goes in
+    let then = c.write_pairs-result.ensures.leaves in
+    leaves_both _ _ _ _ _ _ _ goes.leaves (rw goes.same.client at then)

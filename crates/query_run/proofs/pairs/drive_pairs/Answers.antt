@@ -1,0 +1,21 @@
+use Rattle.std.proofs.Common.{[]}
+use Rattle.partition_stack.proofs.Results.{on_err, on_ok}
+use Rattle.query_run.proofs.Handed.{left_others}
+use Rattle.query_run.proofs.pairs.drive_pairs.Goals as goal
+
+pub returns-clause-ok : goal.returns-clause-ok
+returns-clause-ok g c =
+    on_ok c.finish-result.result (λ emitted start lefts rights keeps told.
+    let pairs = emitted start lefts rights keeps told in
+    record { out = pairs.rows; same = pairs.same; taken = (pairs.came [] (c.requires.name, c.requires.sums, c.requires.none)).2 })
+    c.finish-result.ensures.ok
+
+pub returns-clause-err : goal.returns-clause-err
+returns-clause-err g c =
+    on_err c.finish-result.result (λ emitted start lefts rights keeps told.
+    let pairs = emitted start lefts rights keeps told [] (c.requires.name, c.requires.sums, c.requires.none) in
+    record { some = pairs.some; rest = pairs.rest; same = pairs.same; taken = pairs.came.2 })
+    c.finish-result.ensures.err
+
+pub returns-clause-leaves : goal.returns-clause-leaves
+returns-clause-leaves g c = left_others _ _ _ _ _ c.finish-result.ensures.leaves

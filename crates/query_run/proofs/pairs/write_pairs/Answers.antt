@@ -1,0 +1,52 @@
+use Rattle.std.proofs.Common.{◌≡◌, refl, rules}
+use Rattle.partition_stack.proofs.Results.{any_err, on_err, on_ok}
+use Rattle.join_op.specs.Pairs.{pairs_of}
+use Rattle.csv_edge.specs.Lines.{line_of}
+use Rattle.query_run.specs.Answer.{answer_text, header_of}
+use Rattle.query_run.proofs.Ended.{all_handed, not_stopped, took_none, untouched}
+use Rattle.query_run.proofs.Pairing.{no_pairs, pair_numbers, some_pairs, stopped_pairs, unsent_pairs, whole_pairs}
+use Rattle.query_run.proofs.pairs.write_pairs.Goals as goal
+
+pub returns-in_err-names-clause-err : goal.returns-in_err-names-clause-err
+returns-in_err-names-clause-err g c =
+    any_err c.from_residual.result (λ start lefts rights keeps told.
+    no_pairs c.args.plan.now _ (g.K.Sink.contents c.args.sink.now) (untouched (g.K.Sink.contents c.args.sink.now) (answer_text c.args.plan.now (pairs_of c.args.op.now.shape lefts rights))))
+
+pub returns-in_err-part-clause-err : goal.returns-in_err-part-clause-err
+returns-in_err-part-clause-err g c =
+    any_err c.from_residual-in_err-part.result (λ start lefts rights keeps told.
+    no_pairs c.args.plan.now _ (g.K.Sink.contents c.args.sink.now) (untouched (g.K.Sink.contents c.args.sink.now) (answer_text c.args.plan.now (pairs_of c.args.op.now.shape lefts rights))))
+
+pub drive_pairs-handed-requires-clause-none : goal.drive_pairs-handed-requires-clause-none
+drive_pairs-handed-requires-clause-none g c = took_none _ _ c.in_ok-part.part.lines _ 0 0 (search rules)
+
+pub returns-in_err-went_through-clause-err : goal.returns-in_err-went_through-clause-err
+returns-in_err-went_through-clause-err g c =
+    let names : c.in_ok-part.part.lines ≡ line_of (header_of c.args.plan.now) = search rules in
+    any_err c.from_residual-in_err-went_through.result (λ start lefts rights keeps told.
+    stopped_pairs (pairs_of c.args.op.now.shape lefts rights) _ _ (g.K.Sink.contents c.drive_pairs-handed.result.1.sink.now) _ _ _ _ c.args.plan.now _ names (search rules)
+    (some_pairs (pairs_of c.args.op.now.shape lefts rights) _ _ _ _ _ _ _ c.drive_pairs-handed.result.0
+    (on_ok c.drive_pairs-handed.result.0 (λ all. all start lefts rights keeps told) c.drive_pairs-handed.ensures.ok)
+    (on_err c.drive_pairs-handed.result.0 (λ some. some start lefts rights keeps told) c.drive_pairs-handed.ensures.err)))
+
+pub returns-in_err-send-clause-err : goal.returns-in_err-send-clause-err
+returns-in_err-send-clause-err g c =
+    let names : c.in_ok-part.part.lines ≡ line_of (header_of c.args.plan.now) = search rules in
+    any_err c.from_residual-in_err-send.result (λ start lefts rights keeps told.
+    unsent_pairs (pairs_of c.args.op.now.shape lefts rights) _ c.drive_pairs-handed.result.1.stopped (g.K.Sink.contents c.drive_pairs-handed.result.1.sink.now) _ _ _ _ c.args.plan.now _ names
+    (g.K.Sink.contents c.send.new.sink) (not_stopped c.drive_pairs-handed.result.1.stopped c.drive_pairs-handed.result.0 c.in_ok-went_through.ensures.ok) (search rules)
+    (all_handed c.drive_pairs-handed.result.1.stopped c.drive_pairs-handed.result.0 c.in_ok-went_through.ensures.ok (on_ok c.drive_pairs-handed.result.0 (λ all. all start lefts rights keeps told) c.drive_pairs-handed.ensures.ok))
+    c.in_err-send.ensures.front)
+
+pub returns-clause-ok : goal.returns-clause-ok
+returns-clause-ok g c = λ start lefts rights keeps told.
+    let names : c.in_ok-part.part.lines ≡ line_of (header_of c.args.plan.now) = search rules in
+    whole_pairs (pairs_of c.args.op.now.shape lefts rights) _ c.drive_pairs-handed.result.1.stopped (g.K.Sink.contents c.drive_pairs-handed.result.1.sink.now) _ _ _ _ c.args.plan.now _ names
+    (g.K.Sink.contents c.send.new.sink) (not_stopped c.drive_pairs-handed.result.1.stopped c.drive_pairs-handed.result.0 c.in_ok-went_through.ensures.ok) (search rules)
+    (all_handed c.drive_pairs-handed.result.1.stopped c.drive_pairs-handed.result.0 c.in_ok-went_through.ensures.ok (on_ok c.drive_pairs-handed.result.0 (λ all. all start lefts rights keeps told) c.drive_pairs-handed.ensures.ok))
+    c.in_ok-send.ensures.ok
+
+pub returns-clause-lines : goal.returns-clause-lines
+returns-clause-lines g c = λ start lefts rights keeps told.
+    pair_numbers c.args.plan.now (pairs_of c.args.op.now.shape lefts rights) _ c.drive_pairs-handed.result.1.stopped _ _ _ c.drive_pairs-handed.result.1.totals.items _ c.requires.groups c.requires.aggs refl c.of.ensures
+    (all_handed c.drive_pairs-handed.result.1.stopped c.drive_pairs-handed.result.0 c.in_ok-went_through.ensures.ok (on_ok c.drive_pairs-handed.result.0 (λ all. all start lefts rights keeps told) c.drive_pairs-handed.ensures.ok))

@@ -1,0 +1,50 @@
+use Rattle.std.proofs.Common.{◌≡◌, [], ◌∷◌, arith, rules}
+use Rattle.partition_stack.specs.Leaving.{CameOfStore}
+use Rattle.store_api.specs.declared.op_err.OpErr.TheVariants as op
+use Rattle.query_run.specs.Taking.{JoinGoes}
+use Rattle.query_run.proofs.Taken.{join_goes_then, join_stops, right_feeds_then, right_still, short_pool}
+use Rattle.query_run.proofs.takes.RightsTakes.take.Goals as goal
+
+pub feed_right-requires-clause-op : goal.feed_right-requires-clause-op
+feed_right-requires-clause-op g c = c.requires.stands.is
+
+pub feed_right-requires-clause-feeding : goal.feed_right-requires-clause-feeding
+feed_right-requires-clause-feeding g c = c.requires.stands.feeding
+
+pub feed_right-requires-clause-row : goal.feed_right-requires-clause-row
+feed_right-requires-clause-row g c = let short = c.requires.row.short in record { kinds = c.requires.row.kinds_are; short = omega (arith, short) }
+
+pub returns-in-Ok-clause-ok : goal.returns-in-Ok-clause-ok
+returns-in-Ok-clause-ok g c = λ first rows h s fed. right_feeds_then first.op _ _ rows (c.args.row.now ∷ []) h _ _ s _ _ fed c.in-Ok.ensures.keeps
+
+pub returns-in-Ok-clause-stands : goal.returns-in-Ok-clause-stands
+returns-in-Ok-clause-stands g c = record { is = c.feed_right.ensures.op; feeding = c.feed_right.ensures.feeding }
+
+pub returns-in-Ok-clause-goes : goal.returns-in-Ok-clause-goes
+returns-in-Ok-clause-goes g c = λ first h s before.
+    let goes : JoinGoes c.args.self.now.op c.feed_right.new.self (g.St.Store.holds c.args.store.now) (g.St.Store.holds c.feed_right.new.store) (g.St.Store.signs c.args.store.now) (g.St.Store.signs c.feed_right.new.store) = record { leaves = c.feed_right.ensures.leaves; same = c.feed_right.ensures.same } in
+    join_goes_then first.op _ _ h _ _ s _ _ before goes
+
+pub returns-in-Ok-clause-still : goal.returns-in-Ok-clause-still
+returns-in-Ok-clause-still g c =
+    let goes : JoinGoes c.args.self.now.op c.feed_right.new.self (g.St.Store.holds c.args.store.now) (g.St.Store.holds c.feed_right.new.store) (g.St.Store.signs c.args.store.now) (g.St.Store.signs c.feed_right.new.store) = record { leaves = c.feed_right.ensures.leaves; same = c.feed_right.ensures.same } in
+    right_still _ _ _ _ _ _ goes
+
+pub returns-in-Err-Pool-clause-stands : goal.returns-in-Err-Pool-clause-stands
+returns-in-Err-Pool-clause-stands g c = record { is = c.feed_right.ensures.op; feeding = c.feed_right.ensures.feeding }
+
+pub returns-in-Err-Pool-clause-goes : goal.returns-in-Err-Pool-clause-goes
+returns-in-Err-Pool-clause-goes g c = λ first h s before.
+    let goes : JoinGoes c.args.self.now.op c.feed_right.new.self (g.St.Store.holds c.args.store.now) (g.St.Store.holds c.feed_right.new.store) (g.St.Store.signs c.args.store.now) (g.St.Store.signs c.feed_right.new.store) = record { leaves = c.feed_right.ensures.leaves; same = c.feed_right.ensures.same } in
+    join_goes_then first.op _ _ h _ _ s _ _ before goes
+
+pub returns-in-Err-Pool-clause-still : goal.returns-in-Err-Pool-clause-still
+returns-in-Err-Pool-clause-still g c =
+    let goes : JoinGoes c.args.self.now.op c.feed_right.new.self (g.St.Store.holds c.args.store.now) (g.St.Store.holds c.feed_right.new.store) (g.St.Store.signs c.args.store.now) (g.St.Store.signs c.feed_right.new.store) = record { leaves = c.feed_right.ensures.leaves; same = c.feed_right.ensures.same } in
+    right_still _ _ _ _ _ _ goes
+
+pub returns-in-Err-Pool-clause-cause : goal.returns-in-Err-Pool-clause-cause
+returns-in-Err-Pool-clause-cause g c = λ first h s before.
+    let is : c.in-Err-Pool.field-0 ≡ op.Pool c.in-Err-Pool.e = search rules in
+    let came : CameOfStore c.args.self.now.op.left.page_blocks (g.St.Store.holds c.feed_right.new.store) (g.St.Store.signs c.args.store.now) (g.St.Store.signs c.feed_right.new.store) c.in-Err-Pool.field-0 = search rules in
+    join_stops first.op c.args.self.now.op h _ s _ _ c.in-Err-Pool.e before (short_pool _ (g.St.Store.holds c.feed_right.new.store) _ _ _ c.in-Err-Pool.e is came)

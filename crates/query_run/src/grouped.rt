@@ -1,0 +1,141 @@
+// A query that groups the rows of its left input, and has no other one.
+
+ghost use Rattle.std.specs.Prelude.{◌≡◌, ◌≤◌, ◌<◌, ◌^◌, ◌⊎◌, [], Some, IfErr, IfOk, IfSome, IsErrOf, IsSome, OnOk, true};
+ghost use Rattle.std.specs.Io.KnownBytes.{IsAtEnd};
+ghost use Rattle.tuple_stream.specs.Families.{slots_in};
+ghost use Rattle.partition_stack.specs.Stack.{over};
+ghost use Rattle.group_op.specs.Operator.{IsFeeding, IsOperator, Keeps, page_of, started};
+ghost use Rattle.query_plan.specs.Sizes.{page_len};
+ghost use Rattle.query_run.specs.Answer.{Numbers, WroteAnswer, WroteFront};
+ghost use Rattle.query_run.specs.Both.{both_told};
+ghost use Rattle.query_run.specs.Causes.{side_of};
+ghost use Rattle.query_run.specs.Inside.{GoesOn};
+ghost use Rattle.query_run.specs.Plans.{IsGrouping, kinds_of_columns, shape_of};
+ghost use Rattle.query_run.specs.Refused.{SaysOfSide, source};
+ghost use Rattle.query_run.specs.Stopped.{CountsSink, HasRoomFor, MayStop, RanOver, StoppedOver};
+ghost use Rattle.query_run.specs.Trail.{KeptAndRead, KeptGroups};
+
+use crate::client::own_client;
+use crate::feeding::feed_side;
+use crate::grouping::write_groups;
+use crate::outcome::{QueryErr, Ran};
+use group_op::{GroupOp, law_starts};
+use outside::{Sink, Source};
+use query_plan::{Query, Side, least};
+use reservation_tree::PoolErr;
+use row_codec::{Column, Kind, Memory};
+use std::alloc::Global;
+use store_api::{Client, Listed, Shape, Store};
+
+// Runs a query without a right input, by a client of its own.
+pub(crate) fn run_grouped<St: Store, S: Source, K: Sink>(
+    alloc: Global,
+    store: &mut St,
+    plan: &Query,
+    left: &mut S,
+    sink: &mut K,
+) -> Result<Ran, QueryErr>
+    requires plan { IsGrouping plan.now }
+    requires store { HasRoomFor plan.now (St.holds store.old) }
+    ensures answer { (St.holds store.old).told ≡ true → OnOk result (WroteAnswer plan.now (page_len plan.now (St.holds store.old).block_len) (both_told (S.remaining left.old) (Some [])) (K.contents sink.old) (K.contents sink.new)) }
+    ensures read { OnOk result (IsAtEnd (S.remaining left.new)) }
+    ensures numbers { IfOk result (λ ran. IfSome (both_told (S.remaining left.old) (Some [])) (Numbers plan.now (page_len plan.now (St.holds store.old).block_len) (St.holds store.old).told ran)) }
+    ensures input { IfErr result (SaysOfSide plan.now Side.Left plan.now.left (page_len plan.now (St.holds store.old).block_len) (source (S.remaining left.old) (S.remaining left.new) (S.faults left.old) (S.faults left.new))) }
+    ensures pool { IfErr result (MayStop plan.now (St.holds store.old) (St.signs store.old) (St.signs store.new)) }
+    ensures front { (St.holds store.old).told ≡ true → IsErrOf result QueryErr.SinkFault → WroteFront plan.now (page_len plan.now (St.holds store.old).block_len) (both_told (S.remaining left.old) (Some [])) (K.contents sink.old) (K.contents sink.new) }
+    ensures untouched { IfErr result (λ e. IsSome (side_of e) → sink.new ≡ sink.old) }
+    ensures stopped { IfErr result (λ _. (sink.new ≡ sink.old) ⊎ (IsAtEnd (S.remaining left.new) × ((St.holds store.old).told ≡ true → WroteFront plan.now (page_len plan.now (St.holds store.old).block_len) (both_told (S.remaining left.old) (Some [])) (K.contents sink.old) (K.contents sink.new)))) }
+    ensures sink { CountsSink (IsErrOf result QueryErr.SinkFault) (K.faults sink.old) (K.faults sink.new) }
+    ensures kept { OnOk result (KeptGroups plan.now (page_len plan.now (St.holds store.old).block_len) (S.remaining left.old) (St.signs store.old).trail (St.signs store.new).trail) }
+    ensures store { RanOver plan.now (St.holds store.old) (St.holds store.new) (St.signs store.old) (St.signs store.new) }
+    ensures source_kept { S.faults left.old ≤ S.faults left.new }
+{
+    let block_len = store.block_len();
+    let page = u64::from(plan.page_blocks) * u64::from(block_len);
+    let bytes = least(plan, block_len);
+    let c = own_client(store, plan.limit.max(bytes), bytes);
+    let mut op = match start(alloc, c, plan) {
+        Ok(op) => op,
+        Err(c) => {
+            store.end_client(c);
+            return Err(QueryErr::Pool(PoolErr::Memory));
+        }
+    };
+    law_starts();
+    let result = answer(alloc, store, &mut op, plan, page, left, sink);
+    let c = op.end(store);
+    store.end_client(c);
+    result
+}
+
+// A grouping of the plan's shape. Where there was no memory, the client comes back.
+fn start(alloc: Global, c: Client, plan: &Query) -> Result<GroupOp, Client>
+    requires { IsGrouping plan.now }
+    ensures ok { IfOk result (λ op. op ≡ started c plan.now.page_blocks (shape_of plan.now)) }
+    ensures err { IfErr result (λ back. back ≡ c) }
+{
+    let Ok(shape) = shape(alloc, plan) else {
+        return Err(c);
+    };
+    match GroupOp::start(alloc, c, plan.page_blocks, &shape) {
+        Ok(op) => Ok(op),
+        Err((c, _)) => Err(c),
+    }
+}
+
+// The shape of the rows that a plan groups.
+fn shape(alloc: Global, plan: &Query) -> Result<Shape, Memory>
+    requires { IsGrouping plan.now }
+    ensures { IfOk result (λ shape. shape ≡ shape_of plan.now) }
+{
+    Ok(Shape {
+        kinds: Listed::of(kinds_of(alloc, plan.left.columns.as_slice())?),
+        keys: Listed::of(Vec::from_slice(alloc, plan.group.as_slice())?),
+        aggs: Listed::of(Vec::from_slice(alloc, plan.aggs.as_slice())?),
+    })
+}
+
+// The kinds of some columns.
+pub(crate) fn kinds_of(alloc: Global, columns: &[Column]) -> Result<Vec<Kind>, Memory>
+    ensures { IfOk result (λ kinds. kinds.items ≡ kinds_of_columns columns.now) }
+{
+    let mut kinds = Vec::new(alloc);
+    for column in columns {
+        kinds.push(column.kind)?;
+    }
+    Ok(kinds)
+}
+
+// Feeds what is left of the source to a grouping that was started, and writes its answer.
+fn answer<St: Store, S: Source, K: Sink>(
+    alloc: Global,
+    store: &mut St,
+    op: &mut GroupOp,
+    plan: &Query,
+    page: u64,
+    left: &mut S,
+    sink: &mut K,
+) -> Result<Ran, QueryErr>
+    requires plan { IsGrouping plan.now }
+    requires op { IsOperator op.old (St.holds store.old) (St.signs store.old) }
+    requires shape { op.old.shape ≡ shape_of plan.now }
+    requires feeding { IsFeeding op.old }
+    requires keeps { Keeps (St.signs store.old).trail [] op.old (St.holds store.old) (St.signs store.old) }
+    requires page { page ≡ page_of op.old (St.holds store.old) }
+    requires short { page < 2 ^ 32 }
+    ensures answer { (St.holds store.old).told ≡ true → OnOk result (WroteAnswer plan.now page (both_told (S.remaining left.old) (Some [])) (K.contents sink.old) (K.contents sink.new)) }
+    ensures read { OnOk result (IsAtEnd (S.remaining left.new)) }
+    ensures numbers { IfOk result (λ ran. IfSome (both_told (S.remaining left.old) (Some [])) (Numbers plan.now page (St.holds store.old).told ran)) }
+    ensures input { IfErr result (SaysOfSide plan.now Side.Left plan.now.left page (source (S.remaining left.old) (S.remaining left.new) (S.faults left.old) (S.faults left.new))) }
+    ensures pool { IfErr result (StoppedOver op.old.parts.page_blocks (slots_in (over op.old.parts (St.holds store.old) (St.signs store.old))) (St.signs store.old) (St.signs store.new)) }
+    ensures front { (St.holds store.old).told ≡ true → IsErrOf result QueryErr.SinkFault → WroteFront plan.now page (both_told (S.remaining left.old) (Some [])) (K.contents sink.old) (K.contents sink.new) }
+    ensures untouched { IfErr result (λ e. IsSome (side_of e) → sink.new ≡ sink.old) }
+    ensures stopped { IfErr result (λ _. (sink.new ≡ sink.old) ⊎ (IsAtEnd (S.remaining left.new) × ((St.holds store.old).told ≡ true → WroteFront plan.now page (both_told (S.remaining left.old) (Some [])) (K.contents sink.old) (K.contents sink.new)))) }
+    ensures sink { CountsSink (IsErrOf result QueryErr.SinkFault) (K.faults sink.old) (K.faults sink.new) }
+    ensures kept { OnOk result (KeptAndRead plan.now page (S.remaining left.old) (over op.new.parts (St.holds store.new) (St.signs store.new)) (St.signs store.old).trail (St.signs store.new).trail) }
+    ensures went { GoesOn op.old op.new (St.holds store.old) (St.holds store.new) (St.signs store.old) (St.signs store.new) }
+    ensures source_kept { S.faults left.old ≤ S.faults left.new }
+{
+    let fed = feed_side(alloc, store, op, plan, Side::Left, &plan.left, page, left)?;
+    write_groups(alloc, store, op, plan, fed, sink)
+}

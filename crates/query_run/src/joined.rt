@@ -1,0 +1,238 @@
+// A query that joins the rows of its two inputs.
+
+ghost use Rattle.std.specs.Prelude.{◌≡◌, ◌≢◌, ◌≤◌, ◌<◌, ◌^◌, ◌⊎◌, [], Some, IfErr, IfOk, IfSome, IsErrOf, IsSome, OnOk, false, true};
+ghost use Rattle.std.specs.Io.KnownBytes.{IsAtEnd};
+ghost use Rattle.partition_stack.specs.Leaving.{LeavesOthers};
+ghost use Rattle.partition_stack.specs.Stack.{over};
+ghost use Rattle.join_op.specs.Operator.{IsOperator, Keeps, page_of, started};
+ghost use Rattle.query_plan.specs.Sizes.{groups, joins, page_len};
+ghost use Rattle.query_run.specs.Answer.{Numbers, WroteAnswer, WroteFront};
+ghost use Rattle.query_run.specs.Both.{both_told};
+ghost use Rattle.query_run.specs.Causes.{OfPool, side_of};
+ghost use Rattle.query_run.specs.Joined.{HasFedBoth, KeptBoth};
+ghost use Rattle.query_run.specs.Plans.{IsRunnable, join_shape_of};
+ghost use Rattle.query_run.specs.Refused.{SaysOfInputs, source};
+ghost use Rattle.query_run.specs.Stopped.{CountsSink, HasRoomFor, MayStop, RanOver, StoppedShort};
+ghost use Rattle.query_run.specs.Taking.{JoinGoes, JoinStands, LeftStands};
+ghost use Rattle.query_run.specs.Trail.{KeptRows};
+
+use crate::client::own_client;
+use crate::feeding::{Fed, feed_side};
+use crate::grouped::kinds_of;
+use crate::outcome::{QueryErr, Ran};
+use crate::pairs::write_pairs;
+use crate::takes::{Lefts, Rights};
+use join_op::{JoinOp, law_starts};
+use outside::{Sink, Source};
+use query_plan::{Query, Side, SidePlan, least};
+use reservation_tree::PoolErr;
+use row_codec::Memory;
+use std::alloc::Global;
+use store_api::{Client, JoinShape, Listed, Store};
+
+// What was read of both sides, and fed.
+#[derive(Clone, Copy, Debug, PartialEq, Eq)]
+pub(crate) struct BothFed {
+    pub(crate) left: Fed,
+    pub(crate) right: Fed,
+}
+
+// Runs a query that joins and doesn't group, by a client of its own.
+pub(crate) fn run_joined<St: Store, S: Source, K: Sink>(
+    alloc: Global,
+    store: &mut St,
+    plan: &Query,
+    left: &mut S,
+    right: &mut S,
+    sink: &mut K,
+) -> Result<Ran, QueryErr>
+    requires plan { IsRunnable plan.now }
+    requires joins { joins plan.now ≡ true }
+    requires groups { groups plan.now ≡ false }
+    requires store { HasRoomFor plan.now (St.holds store.old) }
+    ensures answer { (St.holds store.old).told ≡ true → OnOk result (WroteAnswer plan.now (page_len plan.now (St.holds store.old).block_len) (both_told (S.remaining left.old) (S.remaining right.old)) (K.contents sink.old) (K.contents sink.new)) }
+    ensures read { OnOk result (IsAtEnd (S.remaining left.new) × IsAtEnd (S.remaining right.new)) }
+    ensures numbers { IfOk result (λ ran. IfSome (both_told (S.remaining left.old) (S.remaining right.old)) (Numbers plan.now (page_len plan.now (St.holds store.old).block_len) (St.holds store.old).told ran)) }
+    ensures input { IfErr result (SaysOfInputs plan.now (page_len plan.now (St.holds store.old).block_len) (source (S.remaining left.old) (S.remaining left.new) (S.faults left.old) (S.faults left.new)) (source (S.remaining right.old) (S.remaining right.new) (S.faults right.old) (S.faults right.new))) }
+    ensures pool { IfErr result (MayStop plan.now (St.holds store.old) (St.signs store.old) (St.signs store.new)) }
+    ensures front { (St.holds store.old).told ≡ true → IsErrOf result QueryErr.SinkFault → WroteFront plan.now (page_len plan.now (St.holds store.old).block_len) (both_told (S.remaining left.old) (S.remaining right.old)) (K.contents sink.old) (K.contents sink.new) }
+    ensures untouched { IfErr result (λ e. IsSome (side_of e) → sink.new ≡ sink.old) }
+    ensures stopped { IfErr result (λ _. (sink.new ≡ sink.old) ⊎ (IsAtEnd (S.remaining left.new) × IsAtEnd (S.remaining right.new) × ((St.holds store.old).told ≡ true → WroteFront plan.now (page_len plan.now (St.holds store.old).block_len) (both_told (S.remaining left.old) (S.remaining right.old)) (K.contents sink.old) (K.contents sink.new)))) }
+    ensures sink { CountsSink (IsErrOf result QueryErr.SinkFault) (K.faults sink.old) (K.faults sink.new) }
+    ensures kept { OnOk result (KeptRows plan.now (page_len plan.now (St.holds store.old).block_len) (S.remaining left.old) (S.remaining right.old) (St.signs store.old).trail (St.signs store.new).trail) }
+    ensures store { RanOver plan.now (St.holds store.old) (St.holds store.new) (St.signs store.old) (St.signs store.new) }
+    ensures sources_kept { (S.faults left.old ≤ S.faults left.new) × (S.faults right.old ≤ S.faults right.new) }
+{
+    let Some(asked) = &plan.right else {
+        unreachable!();
+    };
+    let block_len = store.block_len();
+    let page = u64::from(plan.page_blocks) * u64::from(block_len);
+    let bytes = least(plan, block_len);
+    let c = own_client(store, plan.limit.max(bytes), bytes);
+    let op = match start(alloc, c, plan, asked) {
+        Ok(op) => op,
+        Err(c) => {
+            store.end_client(c);
+            return Err(QueryErr::Pool(PoolErr::Memory));
+        }
+    };
+    law_starts();
+    let (result, op) = answer(alloc, store, op, plan, asked, page, left, right, sink);
+    let c = op.end(store);
+    store.end_client(c);
+    result
+}
+
+// A join of the plan's sides. Where there was no memory, the client comes back.
+fn start(alloc: Global, c: Client, plan: &Query, asked: &SidePlan) -> Result<JoinOp, Client>
+    requires plan { IsRunnable plan.now }
+    requires right { plan.now.right ≡ Some asked.now }
+    ensures ok { IfOk result (λ op. op ≡ started c plan.now.page_blocks (join_shape_of plan.now asked.now)) }
+    ensures err { IfErr result (λ back. back ≡ c) }
+{
+    let Ok(shape) = shape(alloc, plan, asked) else {
+        return Err(c);
+    };
+    match JoinOp::start(alloc, c, plan.page_blocks, &shape) {
+        Ok(op) => Ok(op),
+        Err((c, _)) => Err(c),
+    }
+}
+
+// The shape of the rows that a plan joins.
+fn shape(alloc: Global, plan: &Query, asked: &SidePlan) -> Result<JoinShape, Memory>
+    ensures { IfOk result (λ shape. shape ≡ join_shape_of plan.now asked.now) }
+{
+    Ok(JoinShape {
+        left: Listed::of(kinds_of(alloc, plan.left.columns.as_slice())?),
+        right: Listed::of(kinds_of(alloc, asked.columns.as_slice())?),
+        on: Listed::of(Vec::from_slice(alloc, plan.on.as_slice())?),
+    })
+}
+
+// Feeds what is left of both sources to a join that was started, and writes its answer.
+fn answer<St: Store, S: Source, K: Sink>(
+    alloc: Global,
+    store: &mut St,
+    op: JoinOp,
+    plan: &Query,
+    asked: &SidePlan,
+    page: u64,
+    left: &mut S,
+    right: &mut S,
+    sink: &mut K,
+) -> (Result<Ran, QueryErr>, JoinOp)
+    requires plan { IsRunnable plan.now }
+    requires right { plan.now.right ≡ Some asked.now }
+    requires groups { groups plan.now ≡ false }
+    requires stands { LeftStands op (St.holds store.old) (St.signs store.old) }
+    requires shape { op.shape ≡ join_shape_of plan.now asked.now }
+    requires keeps { Keeps (St.signs store.old).trail [] [] op (St.holds store.old) (St.signs store.old) }
+    requires page { page ≡ page_of op (St.holds store.old) }
+    requires short { page < 2 ^ 32 }
+    ensures answer { (St.holds store.old).told ≡ true → OnOk result.0 (WroteAnswer plan.now page (both_told (S.remaining left.old) (S.remaining right.old)) (K.contents sink.old) (K.contents sink.new)) }
+    ensures read { OnOk result.0 (IsAtEnd (S.remaining left.new) × IsAtEnd (S.remaining right.new)) }
+    ensures numbers { IfOk result.0 (λ ran. IfSome (both_told (S.remaining left.old) (S.remaining right.old)) (Numbers plan.now page (St.holds store.old).told ran)) }
+    ensures input { IfErr result.0 (SaysOfInputs plan.now page (source (S.remaining left.old) (S.remaining left.new) (S.faults left.old) (S.faults left.new)) (source (S.remaining right.old) (S.remaining right.new) (S.faults right.old) (S.faults right.new))) }
+    ensures pool { IfErr result.0 (OfPool (StoppedShort op.left.page_blocks (St.signs store.old) (St.signs store.new))) }
+    ensures untouched { IfErr result.0 (λ e. IsSome (side_of e) → sink.new ≡ sink.old) }
+    ensures stopped { IfErr result.0 (λ _. (sink.new ≡ sink.old) ⊎ (IsAtEnd (S.remaining left.new) × IsAtEnd (S.remaining right.new) × ((St.holds store.old).told ≡ true → WroteFront plan.now page (both_told (S.remaining left.old) (S.remaining right.old)) (K.contents sink.old) (K.contents sink.new)))) }
+    ensures front { (St.holds store.old).told ≡ true → IsErrOf result.0 QueryErr.SinkFault → WroteFront plan.now page (both_told (S.remaining left.old) (S.remaining right.old)) (K.contents sink.old) (K.contents sink.new) }
+    ensures sink { CountsSink (IsErrOf result.0 QueryErr.SinkFault) (K.faults sink.old) (K.faults sink.new) }
+    ensures kept { OnOk result.0 (KeptBoth plan.now asked.now page (S.remaining left.old) (S.remaining right.old) (over result.1.left (St.holds store.new) (St.signs store.new)) (over result.1.right (St.holds store.new) (St.signs store.new)) (St.signs store.old).trail (St.signs store.new).trail) }
+    ensures op { IsOperator result.1 (St.holds store.new) (St.signs store.new) × (result.1.client ≡ op.client) }
+    ensures leaves { LeavesOthers op.client.tracker (St.holds store.old) (St.holds store.new) (St.signs store.old) (St.signs store.new) }
+    ensures sources_kept { (S.faults left.old ≤ S.faults left.new) × (S.faults right.old ≤ S.faults right.new) }
+{
+    let (fed, mut op) = feed_both(alloc, store, op, plan, asked, page, left, right);
+    let fed = match fed {
+        Ok(fed) => fed,
+        Err(e) => return (Err(e), op),
+    };
+    let result = write_pairs(alloc, store, &mut op, plan, asked, fed, sink);
+    (result, op)
+}
+
+// Feeds what is left of both sources to a join, the left one first.
+fn feed_both<St: Store, S: Source>(
+    alloc: Global,
+    store: &mut St,
+    op: JoinOp,
+    plan: &Query,
+    asked: &SidePlan,
+    page: u64,
+    left: &mut S,
+    right: &mut S,
+) -> (Result<BothFed, QueryErr>, JoinOp)
+    requires plan { IsRunnable plan.now }
+    requires right { plan.now.right ≡ Some asked.now }
+    requires stands { LeftStands op (St.holds store.old) (St.signs store.old) }
+    requires shape { op.shape ≡ join_shape_of plan.now asked.now }
+    requires keeps { Keeps (St.signs store.old).trail [] [] op (St.holds store.old) (St.signs store.old) }
+    requires page { page ≡ page_of op (St.holds store.old) }
+    requires short { page < 2 ^ 32 }
+    ensures ok { IfOk result.0 (λ fed. HasFedBoth plan.now asked.now page (S.remaining left.old) (S.remaining right.old) fed.left fed.right (λ lefts rights. Keeps (St.signs store.old).trail lefts rights result.1 (St.holds store.new) (St.signs store.new))) }
+    ensures read { OnOk result.0 (IsAtEnd (S.remaining left.new) × IsAtEnd (S.remaining right.new)) }
+    ensures input { IfErr result.0 (SaysOfInputs plan.now page (source (S.remaining left.old) (S.remaining left.new) (S.faults left.old) (S.faults left.new)) (source (S.remaining right.old) (S.remaining right.new) (S.faults right.old) (S.faults right.new))) }
+    ensures cause { IfErr result.0 (λ e. e ≢ QueryErr.SinkFault) }
+    ensures pool { IfErr result.0 (OfPool (StoppedShort op.left.page_blocks (St.signs store.old) (St.signs store.new))) }
+    ensures stands { JoinStands result.1 (St.holds store.new) (St.signs store.new) }
+    ensures goes { JoinGoes op result.1 (St.holds store.old) (St.holds store.new) (St.signs store.old) (St.signs store.new) }
+    ensures sources_kept { (S.faults left.old ≤ S.faults left.new) × (S.faults right.old ≤ S.faults right.new) }
+{
+    let mut lefts = Lefts { op };
+    let fed = feed_side(
+        alloc,
+        store,
+        &mut lefts,
+        plan,
+        Side::Left,
+        &plan.left,
+        page,
+        left,
+    );
+    let Lefts { op } = lefts;
+    let first = match fed {
+        Ok(fed) => fed,
+        Err(e) => return (Err(e), op),
+    };
+    let mut rights = Rights { op };
+    let fed = feed_side(
+        alloc,
+        store,
+        &mut rights,
+        plan,
+        Side::Right,
+        asked,
+        page,
+        right,
+    );
+    let Rights { op } = rights;
+    match fed {
+        Ok(fed) => (
+            Ok(BothFed {
+                left: first,
+                right: fed,
+            }),
+            op,
+        ),
+        Err(e) => (Err(e), op),
+    }
+}
+
+// Clients come for both operators of a query that joins and groups, and end.
+pub(crate) fn come_and_go<St: Store>(store: &mut St, plan: &Query)
+    requires plan { IsRunnable plan.now }
+    requires joins { joins plan.now ≡ true }
+    requires groups { groups plan.now ≡ true }
+    requires store { HasRoomFor plan.now (St.holds store.old) }
+    ensures { RanOver plan.now (St.holds store.old) (St.holds store.new) (St.signs store.old) (St.signs store.new) }
+{
+    let bytes = least(plan, store.block_len());
+    let limit = plan.limit.max(bytes);
+    let first = own_client(store, limit, bytes / 2);
+    let second = own_client(store, limit, bytes / 2);
+    store.end_client(second);
+    store.end_client(first);
+}

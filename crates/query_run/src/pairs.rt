@@ -1,0 +1,124 @@
+// The pairs of what was fed become the lines of an answer.
+
+ghost use Rattle.std.specs.Prelude.{◌≡◌, ◌+◌, ◌≤◌, ◌<◌, ◌^◌, [], List, Option, None, Some, false, true, map, IfErr, IfOk, IsErrOf, OnErr, OnOk};
+ghost use Rattle.pool_model.specs.declared.entry.Entry.{Entry};
+ghost use Rattle.row_codec.specs.declared.values.Agg.TheVariants.{Sum};
+ghost use Rattle.row_codec.specs.declared.values.Value.{Value};
+ghost use Rattle.tuple_stream.specs.Trails.{EnteredEvents};
+ghost use Rattle.partition_stack.specs.Causes.{CameOfEither};
+ghost use Rattle.partition_stack.specs.Leaving.{LeavesOthers};
+ghost use Rattle.partition_stack.specs.Stack.{over};
+ghost use Rattle.join_op.specs.Laid.{HoldsSides};
+ghost use Rattle.join_op.specs.Operator.{IsFeeding, IsOperator, Keeps};
+ghost use Rattle.join_op.specs.Pairs.{pairs_of};
+ghost use Rattle.query_plan.specs.Sizes.{groups};
+ghost use Rattle.query_run.specs.Answer.{LineNumbers};
+ghost use Rattle.query_run.specs.Causes.{OfPool, side_of};
+ghost use Rattle.query_run.specs.Joined.{HasTakenPairs, HasTakenSomePairs, WrotePairs, WroteSomePairs};
+ghost use Rattle.query_run.specs.Stopped.{CountsSink, StoppedShort};
+ghost use Rattle.query_run.specs.Writing.{HasTaken, written};
+
+use crate::answering::{AnswerLines, Start, Taker};
+use crate::grouping::went_through;
+use crate::header::joined_header;
+use crate::joined::BothFed;
+use crate::outcome::{QueryErr, Ran, Totals};
+use crate::parts::Part;
+use join_op::JoinOp;
+use outside::Sink;
+use query_plan::{Query, SidePlan};
+use std::alloc::Global;
+use std::marker::{Brand, PhantomData};
+use store_api::{OpErr, Store};
+
+// Writes the answer of a join that was fed.
+pub(crate) fn write_pairs<St: Store, K: Sink>(
+    alloc: Global,
+    store: &mut St,
+    op: &mut JoinOp,
+    plan: &Query,
+    asked: &SidePlan,
+    fed: BothFed,
+    sink: &mut K,
+) -> Result<Ran, QueryErr>
+    requires right { plan.now.right ≡ Some asked.now }
+    requires groups { groups plan.now ≡ false }
+    requires aggs { plan.now.aggs ≡ [] }
+    requires few { fed.left.kept + fed.right.kept < 2 ^ 64 }
+    requires op { IsOperator op.old (St.holds store.old) (St.signs store.old) }
+    requires feeding { IsFeeding op.old }
+    ensures ok { OnOk result ((start : Option (List Entry)) → (lefts rights : List (List Value)) → Keeps start lefts rights op.old (St.holds store.old) (St.signs store.old) → (St.holds store.old).told ≡ true → WrotePairs plan.now (pairs_of op.old.shape lefts rights) (K.contents sink.old) (K.contents sink.new)) }
+    ensures err { OnErr result ((start : Option (List Entry)) → (lefts rights : List (List Value)) → Keeps start lefts rights op.old (St.holds store.old) (St.signs store.old) → (St.holds store.old).told ≡ true → WroteSomePairs plan.now (pairs_of op.old.shape lefts rights) (K.contents sink.old) (K.contents sink.new)) }
+    ensures read { IfOk result (λ ran. (ran.left ≡ fed.left.read) × (ran.right ≡ fed.right.read) × (ran.kept ≡ fed.left.kept + fed.right.kept)) }
+    ensures lines { IfOk result (λ ran. (start : Option (List Entry)) → (lefts rights : List (List Value)) → Keeps start lefts rights op.old (St.holds store.old) (St.signs store.old) → (St.holds store.old).told ≡ true → LineNumbers plan.now (pairs_of op.old.shape lefts rights) ran) }
+    ensures kept { OnOk result ((start : Option (List Entry)) → (lefts rights : List (List Value)) → Keeps start lefts rights op.old (St.holds store.old) (St.signs store.old) → EnteredEvents (HoldsSides op.old.shape lefts rights (over op.new.left (St.holds store.new) (St.signs store.new)) (over op.new.right (St.holds store.new) (St.signs store.new))) start (St.signs store.new).trail) }
+    ensures cause { IfErr result (λ e. side_of e ≡ None) }
+    ensures pool { IfErr result (OfPool (StoppedShort op.old.left.page_blocks (St.signs store.old) (St.signs store.new))) }
+    ensures sink { CountsSink (IsErrOf result QueryErr.SinkFault) (K.faults sink.old) (K.faults sink.new) }
+    ensures op { IsOperator op.new (St.holds store.new) (St.signs store.new) }
+    ensures client { op.new.client ≡ op.old.client }
+    ensures leaves { LeavesOthers op.old.client.tracker (St.holds store.old) (St.holds store.new) (St.signs store.old) (St.signs store.new) }
+{
+    let names = joined_header(alloc, plan, asked)?;
+    let part = Part::with(alloc, names.as_slice())?;
+    let lines = AnswerLines {
+        alloc,
+        part,
+        stopped: None,
+        rows: 0,
+        sums: Vec::new(alloc),
+        totals: Vec::new(alloc),
+        sink,
+    };
+    let (handed, lines) = drive_pairs::<Brand, St, K>(alloc, store, op, lines);
+    let AnswerLines {
+        alloc: _,
+        sink,
+        mut part,
+        stopped,
+        rows,
+        sums: _,
+        totals,
+    } = lines;
+    went_through(stopped, handed)?;
+    part.send(alloc, sink)?;
+    Ok(Ran {
+        left: fed.left.read,
+        right: fed.right.read,
+        kept: fed.left.kept + fed.right.kept,
+        lines: rows,
+        totals: Totals::of(totals),
+    })
+}
+
+// Hands the pairs on to these lines, which took no row yet.
+fn drive_pairs<'a, B: Start, St: Store, K: Sink>(
+    alloc: Global,
+    store: &mut St,
+    op: &mut JoinOp,
+    lines: AnswerLines<'a, K>,
+) -> (Result<(), OpErr>, AnswerLines<'a, K>)
+    requires op { IsOperator op.old (St.holds store.old) (St.signs store.old) }
+    requires feeding { IsFeeding op.old }
+    requires name { lines.sink.ghost_name ≡ B.name }
+    requires sums { lines.sums.items ≡ map Sum B.before.columns }
+    requires none { HasTaken B.before [] (written (K.contents lines.sink.now) (K.faults lines.sink.now) lines.stopped lines.part.lines lines.rows lines.totals.items) }
+    ensures ok { OnOk result.0 ((start : Option (List Entry)) → (lefts rights : List (List Value)) → Keeps start lefts rights op.old (St.holds store.old) (St.signs store.old) → (St.holds store.old).told ≡ true → HasTakenPairs (pairs_of op.old.shape lefts rights) B.before (written (K.contents result.1.sink.now) (K.faults result.1.sink.now) result.1.stopped result.1.part.lines result.1.rows result.1.totals.items)) }
+    ensures err { OnErr result.0 ((start : Option (List Entry)) → (lefts rights : List (List Value)) → Keeps start lefts rights op.old (St.holds store.old) (St.signs store.old) → (St.holds store.old).told ≡ true → HasTakenSomePairs (pairs_of op.old.shape lefts rights) B.before (written (K.contents result.1.sink.now) (K.faults result.1.sink.now) result.1.stopped result.1.part.lines result.1.rows result.1.totals.items)) }
+    ensures any { (rows : List (List Value)) × HasTaken B.before rows (written (K.contents result.1.sink.now) (K.faults result.1.sink.now) result.1.stopped result.1.part.lines result.1.rows result.1.totals.items) }
+    ensures kept { OnOk result.0 ((start : Option (List Entry)) → (lefts rights : List (List Value)) → Keeps start lefts rights op.old (St.holds store.old) (St.signs store.old) → EnteredEvents (HoldsSides op.old.shape lefts rights (over op.new.left (St.holds store.new) (St.signs store.new)) (over op.new.right (St.holds store.new) (St.signs store.new))) start (St.signs store.new).trail) }
+    ensures op { IsOperator op.new (St.holds store.new) (St.signs store.new) }
+    ensures client { op.new.client ≡ op.old.client }
+    ensures leaves { LeavesOthers op.old.client.tracker (St.holds store.old) (St.holds store.new) (St.signs store.old) (St.signs store.new) }
+    ensures cause { IfErr result.0 (CameOfEither op.old.left.page_blocks None (K.faults lines.entry.sink.now) (K.faults result.1.sink.now) (St.signs store.old) (St.signs store.new)) }
+    ensures never_falls { K.faults lines.entry.sink.now ≤ K.faults result.1.sink.now }
+    ensures name { result.1.sink.ghost_name ≡ lines.entry.sink.ghost_name }
+{
+    let mut taker = Taker::<'a, K, B> {
+        lines,
+        of: PhantomData,
+    };
+    let result = op.finish(alloc, store, &mut taker);
+    let Taker { lines, of: _ } = taker;
+    (result, lines)
+}
