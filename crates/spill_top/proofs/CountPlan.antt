@@ -1,5 +1,5 @@
--- The plan of a count is one of a query that groups, and what its query says is said of the command.
-use Rattle.std.proofs.Common.{◌≡◌, ◌≢◌, ℕ, List, [], ◌∷◌, Option, IfSome, arith, refl, subst}
+-- The plan of a count is one that runs, and what its query says is said of the command.
+use Rattle.std.proofs.Common.{◌≡◌, ◌≢◌, ℕ, List, [], ◌∷◌, Option, IfSome, false, true≢false, inl, arith, refl, subst}
 use Rattle.std.specs.Prelude.{eqb}
 use Rattle.std.specs.List.{IsDistinct}
 use Rattle.std.proofs.lemmas.Map.Keys.{IsDistinct-cons}
@@ -8,11 +8,11 @@ use Rattle.row_codec.specs.declared.values.Agg.TheVariants.{Count}
 use Rattle.row_codec.specs.declared.values.Kind.TheVariants.{Text, Wide}
 use Rattle.store_api.specs.Shapes.{IsKeyColumn, IsOverInts}
 use Rattle.outside.specs.Told.{GivesBytes}
-use Rattle.query_plan.specs.Sizes.{page_len}
+use Rattle.query_plan.specs.Sizes.{groups, page_len}
 use Rattle.query_plan.specs.declared.plan.Query.{Query}
 use Rattle.query_run.specs.Causes.{IsOfBytes}
 use Rattle.query_run.specs.Input.{IsRefusal}
-use Rattle.query_run.specs.Plans.{IsAbout, IsGrouping, IsSide}
+use Rattle.query_run.specs.Plans.{IsAbout, IsRunnable, IsSide}
 use Rattle.query_run.specs.declared.outcome.QueryErr.{QueryErr}
 use Rattle.spill_top.specs.Counting.{counting}
 use Rattle.spill_top.specs.Headline.{page_bytes}
@@ -32,13 +32,15 @@ one_text command =
       preds = All-nil (IsAbout (counting command).left.columns);
     }
 
-pub groups_texts : (command : Command) → IsGrouping (counting command)
-groups_texts command =
+pub runs : (command : Command) → IsRunnable (counting command)
+runs command =
     record {
       paged = refl;
-      alone = refl;
       left = one_text command;
-      shape = record {
+      right = tt;
+      join = tt;
+      does = inl refl;
+      shape = λ groups. record {
         some = omega arith;
         distinct = IsDistinct-cons eqb 0 [] tt none_distinct;
         keys = All-cons (IsKeyColumn (Text ∷ [])) 0 [] (Text, refl, λ same. cc) (All-nil (IsKeyColumn (Text ∷ [])));
@@ -46,6 +48,7 @@ groups_texts command =
       };
       keys = omega arith;
       aggs = omega arith;
+      none = λ (groups_none : groups (counting command) ≡ false). absurd (true≢false groups_none);
     }
 
 -- its pages over a store of such blocks

@@ -1,5 +1,6 @@
 mod Causes
 mod CountPlan
+mod OneInput
 mod OnlyMemory
 mod Plain
 pub mod Walks

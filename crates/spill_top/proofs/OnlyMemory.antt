@@ -7,6 +7,7 @@ use Rattle.row_codec.specs.declared.values.Kind.TheVariants.{Int, Text}
 use Rattle.store_api.specs.Holdings.{Holdings}
 use Rattle.store_api.specs.MemStore.{no_signs}
 use Rattle.store_api.specs.Signs.{WasAnswered}
+use Rattle.query_plan.specs.declared.plan.Query.{Query}
 use Rattle.query_run.specs.Causes.{NamesInt, OfPool}
 use Rattle.query_run.specs.Stopped.{MayStop}
 use Rattle.query_run.specs.declared.outcome.QueryErr.{QueryErr}
@@ -23,15 +24,15 @@ memory-alone (TooManyTrackers count) answered = absurd answered
 memory-alone NamesSpent answered = cc
 memory-alone Memory answered = refl
 
-pub stops_for_memory : (blocks : ℕ) (start : Holdings) (e : QueryErr) → MayStop blocks start no_signs no_signs e → OfPool (λ why. why ≡ Memory) e
-stops_for_memory blocks start (query.SourceFault side) stop = tt
-stops_for_memory blocks start (query.BadHeader side) stop = tt
-stops_for_memory blocks start (query.BadCsv side number) stop = tt
-stops_for_memory blocks start (query.BadField side number column) stop = tt
-stops_for_memory blocks start (query.TooLarge side) stop = tt
-stops_for_memory blocks start (query.RowTooLong side number bytes) stop = tt
-stops_for_memory blocks start query.SinkFault stop = tt
-stops_for_memory blocks start (query.Pool why) stop = memory-alone why stop.answered
+pub stops_for_memory : (plan : Query) (start : Holdings) (e : QueryErr) → MayStop plan start no_signs no_signs e → OfPool (λ why. why ≡ Memory) e
+stops_for_memory plan start (query.SourceFault side) stop = tt
+stops_for_memory plan start (query.BadHeader side) stop = tt
+stops_for_memory plan start (query.BadCsv side number) stop = tt
+stops_for_memory plan start (query.BadField side number column) stop = tt
+stops_for_memory plan start (query.TooLarge side) stop = tt
+stops_for_memory plan start (query.RowTooLong side number bytes) stop = tt
+stops_for_memory plan start query.SinkFault stop = tt
+stops_for_memory plan start (query.Pool why) stop = memory-alone why stop.answered
 
 no-int : (column : ℕ) → slice_get {X = Kind} (Text ∷ []) column ≡ Some Int → ⊥
 no-int zero is = cc

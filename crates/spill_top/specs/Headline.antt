@@ -1,8 +1,9 @@
 -- When each status comes, and what the report says then.
-use Rattle.std.specs.Prelude.{◌≡◌, ◌≤◌, ◌<◌, ◌⊎◌, ℕ, List, Option, Some, IfSome, length, option_map}
+use Rattle.std.specs.Prelude.{◌≡◌, ◌≤◌, ◌<◌, ◌⊎◌, ℕ, List, [], Option, Some, IfSome, length, option_map}
 use Rattle.std.specs.Io.KnownBytes.{Keeps}
 use Rattle.outside.specs.Counts.{Rose}
 use Rattle.query_run.specs.Answer.{WroteAnswer, WroteFront}
+use Rattle.query_run.specs.Both.{both_told}
 use Rattle.query_run.specs.Input.{IsAccepted, IsRefusal, most_bytes, refusal_of}
 use Rattle.query_run.specs.declared.outcome.QueryErr.{QueryErr}
 use Rattle.spill_top.specs.declared.report.Refusal.{Refusal}
@@ -20,13 +21,14 @@ page_bytes = 8192
 abbrev pub IsStatus : ℕ → Type 0
 IsStatus status = (status ≡ 0) ⊎ (status ≡ 1) ⊎ (status ≡ 3) ⊎ (status ≡ 4) ⊎ (status ≡ 5) ⊎ (status ≡ 9) ⊎ (status ≡ 10)
 
--- the whole answer of the command was appended to the report, over the bytes that stand under its file
+-- the whole answer of the command was appended to the report, over the bytes that stand under its file, which is its only
+-- input
 abbrev pub Answers : (List ℕ → Option (List ℕ)) → Option (List ℕ) → Option (List ℕ) → Command → Type 0
-Answers bytes_at before now command = WroteAnswer (counting command) page_bytes (bytes_at command.file) before now
+Answers bytes_at before now command = WroteAnswer (counting command) page_bytes (both_told (bytes_at command.file) (Some [])) before now
 
 -- a front of that answer was appended
 abbrev pub AnswersInPart : (List ℕ → Option (List ℕ)) → Option (List ℕ) → Option (List ℕ) → Command → Type 0
-AnswersInPart bytes_at before now command = WroteFront (counting command) page_bytes (bytes_at command.file) before now
+AnswersInPart bytes_at before now command = WroteFront (counting command) page_bytes (both_told (bytes_at command.file) (Some [])) before now
 
 -- what the bytes of the input, if they are told, are refused for gives this refusal
 abbrev pub IsOfInput : Option (List ℕ) → Command → Refusal → Type 0
