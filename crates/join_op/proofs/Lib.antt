@@ -36,3 +36,5 @@ pub mod Rests
 pub mod LaidSides
 pub mod Wholes
 pub mod Cleared
+pub mod Reserving
+pub mod Downward

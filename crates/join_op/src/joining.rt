@@ -174,6 +174,48 @@ fn have_rows(left: &Partitions, right: &Partitions, at: usize) -> bool
     right.rows(at) > 0
 }
 
+// The pages and the rows of the top partition that has fewer pages.
+fn fewer(left: &Partitions, right: &Partitions, at: usize) -> (usize, u64)
+    requires left { at < length left.now.streams }
+    requires right { at < length right.now.streams }
+{
+    if left.pages(at) < right.pages(at) {
+        return (left.pages(at), left.rows(at));
+    }
+    (right.pages(at), right.rows(at))
+}
+
+// Reserves what a table of the rows of the smaller top partition lacks, and two pages beside it. What is refused is no error.
+// Partitions of the first level are divided, whatever is reserved.
+fn reserve_top<St: Store>(
+    store: &mut St,
+    c: &Client,
+    _shape: &JoinShape,
+    left: &Partitions,
+    right: &Partitions,
+)
+    requires op { IsOperator (operator c.now _shape.now left.now right.now) (St.holds store.old) (St.signs store.old) }
+    requires between { IsBetween (both left.now right.now (St.holds store.old) (St.signs store.old)) }
+    requires some { 0 < length left.now.streams }
+    ensures op { IsOperator (operator c.now _shape.now left.now right.now) (St.holds store.new) (St.signs store.new) }
+    ensures between { IsBetween (both left.now right.now (St.holds store.new) (St.signs store.new)) }
+    ensures shows { (lefts rights : ℕ → List (List ℕ)) → ShowBoth lefts rights (both left.now right.now (St.holds store.old) (St.signs store.old)) → ShowBoth lefts rights (both left.now right.now (St.holds store.new) (St.signs store.new)) }
+    ensures leaves { LeavesOthers c.now.tracker (St.holds store.old) (St.holds store.new) (St.signs store.old) (St.signs store.new) }
+    ensures first { EnteredEvents PinsFirst (St.signs store.old).trail (St.signs store.new).trail }
+{
+    let at = left.len() - 1;
+    if left.level(at) <= 1 || !have_rows(left, right, at) {
+        return;
+    }
+    let len = u64::from(left.page_blocks()) * u64::from(store.block_len());
+    let (pages, rows) = fewer(left, right, at);
+    let Some((heads, nodes)) = buffers_in(len, pages, rows, u64::MAX) else {
+        return;
+    };
+    let bytes = (u64::from(heads) + u64::from(nodes) + 2) * len;
+    let _reserved = store.reserve_to_fit(c, bytes);
+}
+
 // Whether the top partitions are joined: of the last level, or a table of the client's memory has room for the rows of the
 // smaller one. Partitions of the first level are divided first, so that a page is pinned again before any is left by others.
 fn is_few<St: Store>(
@@ -197,11 +239,7 @@ fn is_few<St: Store>(
         return true;
     }
     let len = u64::from(left.page_blocks()) * u64::from(store.block_len());
-    let (pages, rows) = if left.pages(at) < right.pages(at) {
-        (left.pages(at), left.rows(at))
-    } else {
-        (right.pages(at), right.rows(at))
-    };
+    let (pages, rows) = fewer(left, right, at);
     buffers_in(len, pages, rows, store.unused(c)).is_some()
 }
 
@@ -291,6 +329,7 @@ pub(crate) fn join_parts<St: Store, E: Emit<St>>(
     ensures cause { IfErr result (CameOf (E.faults emit.old) (E.faults emit.new) (St.signs store.old) (St.signs store.new)) }
 {
     'down: while left.len() > 0 {
+        reserve_top(store, c, shape, left, right);
         advance(
             alloc,
             store,

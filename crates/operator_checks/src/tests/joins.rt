@@ -262,6 +262,23 @@ fn rows_of_one_text_are_paired(rt: HostRuntime) -> Result<(), Fail> {
     Ok(())
 }
 
+#[test]
+fn a_join_reserves_a_table_of_the_smaller_partition_where_it_may(
+    rt: HostRuntime,
+) -> Result<(), Fail> {
+    let shape = texts(rt.alloc())?;
+    // The query's limit, and what the client has unused in the end. 300 rows have 43 pages; a table of them has 63 of nodes
+    // and 16 of heads, and two pages are read beside it.
+    let rows: [(u64, u64); 4] = [(1280, 1280), (5183, 1280), (5184, 5184), (8192, 5184)];
+    for (limit, unused) in rows {
+        let mut store = MemStore::open(rt.alloc(), 64, limit, limit)?;
+        let answer = run(rt.alloc(), &mut store, &shape, (&MANY, &MANY));
+        store.close();
+        assert_eq!(rt; answer?, (90_000, unused), "limit {limit}");
+    }
+    Ok(())
+}
+
 // The same in a new pool of 20 blocks of 64 bytes, over these slots, which come back.
 fn in_pool(
     alloc: Global,

@@ -1,43 +1,62 @@
-use Rattle.std.proofs.Common.{rules, ◌∙◌, ◌++◌, ℕ, List, length, refl, subst, arith}
+use Rattle.std.proofs.Common.{rules, ◌∙◌, ◌++◌, ℕ, List, length, subst, arith}
+use Rattle.row_codec.specs.declared.values.Value.{Value}
 use Rattle.store_api.specs.Emitters.{CameOf}
 use Rattle.partition_stack.specs.Causes.{IsShortOf}
-use Rattle.partition_stack.proofs.Emitters.{beside_stands, came_behind, stands_none, stands_then}
+use Rattle.partition_stack.specs.Emitting.{IsBeside}
+use Rattle.partition_stack.proofs.Emitters.{beside_stands, came_behind, same_beside, stands_then}
 use Rattle.join_op.specs.Handing.{EmittedSome}
 use Rattle.join_op.specs.Joining.{ShowBoth, both, pairs_down}
-use Rattle.join_op.proofs.Advances.{advances_all, advances_none, advances_some, advances_then}
-use Rattle.join_op.proofs.Besides.{beside_more, beside_none}
-use Rattle.join_op.proofs.Stepped.{gone_on_all, gone_on_more, gone_on_none}
+use Rattle.join_op.proofs.Advances.{advances_all, advances_some}
+use Rattle.join_op.proofs.Besides.{beside_more}
+use Rattle.join_op.proofs.Downward.{HasGoneDown, down_beside, down_reserved, down_stepped, gone_none}
+use Rattle.join_op.proofs.Stepped.{gone_on_all}
 use Rattle.join_op.proofs.joining.join_parts.Goals as goal
 
 pub down-init : goal.down-init
 down-init g c =
-    let h = g.St.Store.holds c.args.store.now in
-    let s = g.St.Store.signs c.args.store.now in
-    record {
-      between = c.requires.between;
-      op = c.requires.op;
-      leaves = beside_none c.args.c.now.tracker (g.E.Emit.client c.args.emit.now) h s;
-      blocks = refl;
-      stands = stands_none _ _ _ _ _ c.requires.emitter.lives;
-      first = λ shallow. gone_on_none c.args.left.now.levels s.trail shallow;
-      rows = λ lefts rights shows. advances_none c.args.shape.now (g.E.Emit.took c.args.emit.now h) lefts rights (both c.args.left.now c.args.right.now h s) shows;
-    }
+    gone_none c.args.c.now c.args.shape.now _ (g.E.Emit.client c.args.emit.now) _ (g.E.Emit.took c.args.emit.now (g.St.Store.holds c.args.store.now)) (both c.args.left.now c.args.right.now (g.St.Store.holds c.args.store.now) (g.St.Store.signs c.args.store.now))
+    c.requires.between c.requires.op c.requires.emitter.lives
 
-pub advance-requires-clause-op : goal.advance-requires-clause-op
-advance-requires-clause-op g c = c.down.invariant.op
+pub reserve_top-requires-clause-op : goal.reserve_top-requires-clause-op
+reserve_top-requires-clause-op g c = c.down.invariant.op
 
-pub advance-requires-clause-between : goal.advance-requires-clause-between
-advance-requires-clause-between g c = c.down.invariant.between
+pub reserve_top-requires-clause-between : goal.reserve_top-requires-clause-between
+reserve_top-requires-clause-between g c = c.down.invariant.between
 
 pub advance-requires-clause-emitter : goal.advance-requires-clause-emitter
-advance-requires-clause-emitter g c = beside_stands c.args.c.now.tracker _ _ _ _ _ _ _ _ _ _ c.requires.emitter c.down.invariant.stands
+advance-requires-clause-emitter g c =
+    let h0 = g.St.Store.holds c.args.store.now in
+    let s0 = g.St.Store.signs c.args.store.now in
+    let h = g.St.Store.holds c.down.store in
+    let s = g.St.Store.signs c.down.store in
+    let hm = g.St.Store.holds c.reserve_top.new.store in
+    let sm = g.St.Store.signs c.reserve_top.new.store in
+    let beside : IsBeside c.args.c.now.tracker (g.E.Emit.client c.down.emit) h = down_beside c.args.c.now c.args.shape.now _ _ _ _ _ _ _ _ (both c.args.left.now c.args.right.now h0 s0) (both c.down.left c.down.right h s) c.down.invariant c.requires.emitter in
+    let still : (taken : List (List Value)) → g.E.Emit.took c.down.emit h taken → g.E.Emit.took c.down.emit hm taken =
+    λ taken. g.met.E.Emit.asks_own c.down.emit h hm taken (same_beside c.args.c.now.tracker (g.E.Emit.client c.down.emit) h hm s sm beside.apart c.reserve_top.ensures.leaves) in
+    let mid : HasGoneDown c.args.c.now c.args.shape.now (g.E.Emit.admits c.args.emit.now) (g.E.Emit.admits c.down.emit) (g.E.Emit.client c.args.emit.now) (g.E.Emit.client c.down.emit) (g.E.Emit.faults c.args.emit.now) (g.E.Emit.faults c.down.emit) (g.E.Emit.took c.args.emit.now h0) (g.E.Emit.took c.down.emit hm) (both c.args.left.now c.args.right.now h0 s0) (both c.down.left c.down.right hm sm) =
+    down_reserved c.args.c.now c.args.shape.now _ _ _ _ _ _ _ (g.E.Emit.took c.down.emit h) (both c.args.left.now c.args.right.now h0 s0) (both c.down.left c.down.right h s) c.down.invariant (g.E.Emit.took c.down.emit hm) hm sm c.requires.emitter c.reserve_top.ensures.leaves still
+    c.reserve_top.ensures.between c.reserve_top.ensures.op c.reserve_top.ensures.first c.reserve_top.ensures.shows in
+    beside_stands c.args.c.now.tracker _ _ _ _ _ _ _ _ h0 hm c.requires.emitter mid.stands
 
 pub advance-requires-clause-admits : goal.advance-requires-clause-admits
 advance-requires-clause-admits g c = λ left right one left_kinds other right_kinds. (c.down.invariant.stands.admits_same (left ++ right)).0 (c.requires.admits left right one left_kinds other right_kinds)
 
 pub advance-requires-clause-stands : goal.advance-requires-clause-stands
 advance-requires-clause-stands g c =
-    let more = c.down.invariant.stands.took c.requires.stands.0 c.requires.stands.1 in
+    let h0 = g.St.Store.holds c.args.store.now in
+    let s0 = g.St.Store.signs c.args.store.now in
+    let h = g.St.Store.holds c.down.store in
+    let s = g.St.Store.signs c.down.store in
+    let hm = g.St.Store.holds c.reserve_top.new.store in
+    let sm = g.St.Store.signs c.reserve_top.new.store in
+    let beside : IsBeside c.args.c.now.tracker (g.E.Emit.client c.down.emit) h = down_beside c.args.c.now c.args.shape.now _ _ _ _ _ _ _ _ (both c.args.left.now c.args.right.now h0 s0) (both c.down.left c.down.right h s) c.down.invariant c.requires.emitter in
+    let still : (taken : List (List Value)) → g.E.Emit.took c.down.emit h taken → g.E.Emit.took c.down.emit hm taken =
+    λ taken. g.met.E.Emit.asks_own c.down.emit h hm taken (same_beside c.args.c.now.tracker (g.E.Emit.client c.down.emit) h hm s sm beside.apart c.reserve_top.ensures.leaves) in
+    let mid : HasGoneDown c.args.c.now c.args.shape.now (g.E.Emit.admits c.args.emit.now) (g.E.Emit.admits c.down.emit) (g.E.Emit.client c.args.emit.now) (g.E.Emit.client c.down.emit) (g.E.Emit.faults c.args.emit.now) (g.E.Emit.faults c.down.emit) (g.E.Emit.took c.args.emit.now h0) (g.E.Emit.took c.down.emit hm) (both c.args.left.now c.args.right.now h0 s0) (both c.down.left c.down.right hm sm) =
+    down_reserved c.args.c.now c.args.shape.now _ _ _ _ _ _ _ (g.E.Emit.took c.down.emit h) (both c.args.left.now c.args.right.now h0 s0) (both c.down.left c.down.right h s) c.down.invariant (g.E.Emit.took c.down.emit hm) hm sm c.requires.emitter c.reserve_top.ensures.leaves still
+    c.reserve_top.ensures.between c.reserve_top.ensures.op c.reserve_top.ensures.first c.reserve_top.ensures.shows in
+    let more = mid.stands.took c.requires.stands.0 c.requires.stands.1 in
     (c.requires.stands.0 ++ more.0, more.1)
 
 pub down-smaller : goal.down-smaller
@@ -45,25 +64,22 @@ down-smaller g c = c.in_ok-advance.ensures.less
 
 pub down-preserved : goal.down-preserved
 down-preserved g c =
-    let was = c.down.invariant in
     let h0 = g.St.Store.holds c.args.store.now in
     let s0 = g.St.Store.signs c.args.store.now in
     let h = g.St.Store.holds c.down.store in
     let s = g.St.Store.signs c.down.store in
+    let hm = g.St.Store.holds c.reserve_top.new.store in
+    let sm = g.St.Store.signs c.reserve_top.new.store in
+    let beside : IsBeside c.args.c.now.tracker (g.E.Emit.client c.down.emit) h = down_beside c.args.c.now c.args.shape.now _ _ _ _ _ _ _ _ (both c.args.left.now c.args.right.now h0 s0) (both c.down.left c.down.right h s) c.down.invariant c.requires.emitter in
+    let still : (taken : List (List Value)) → g.E.Emit.took c.down.emit h taken → g.E.Emit.took c.down.emit hm taken =
+    λ taken. g.met.E.Emit.asks_own c.down.emit h hm taken (same_beside c.args.c.now.tracker (g.E.Emit.client c.down.emit) h hm s sm beside.apart c.reserve_top.ensures.leaves) in
+    let mid : HasGoneDown c.args.c.now c.args.shape.now (g.E.Emit.admits c.args.emit.now) (g.E.Emit.admits c.down.emit) (g.E.Emit.client c.args.emit.now) (g.E.Emit.client c.down.emit) (g.E.Emit.faults c.args.emit.now) (g.E.Emit.faults c.down.emit) (g.E.Emit.took c.args.emit.now h0) (g.E.Emit.took c.down.emit hm) (both c.args.left.now c.args.right.now h0 s0) (both c.down.left c.down.right hm sm) =
+    down_reserved c.args.c.now c.args.shape.now _ _ _ _ _ _ _ (g.E.Emit.took c.down.emit h) (both c.args.left.now c.args.right.now h0 s0) (both c.down.left c.down.right h s) c.down.invariant (g.E.Emit.took c.down.emit hm) hm sm c.requires.emitter c.reserve_top.ensures.leaves still
+    c.reserve_top.ensures.between c.reserve_top.ensures.op c.reserve_top.ensures.first c.reserve_top.ensures.shows in
     let h1 = g.St.Store.holds c.advance.new.store in
     let s1 = g.St.Store.signs c.advance.new.store in
-    record {
-      between = c.in_ok-advance.ensures.ok.0;
-      op = c.advance.ensures.op;
-      leaves = beside_more c.args.c.now.tracker _ _ h0 h h1 s0 s s1 was.stands.client_same was.leaves c.advance.ensures.leaves;
-      blocks = c.advance.ensures.blocks ∙ was.blocks;
-      stands = stands_then _ _ _ _ _ _ _ _ _ _ _ _ _ _ was.stands c.advance.ensures.emitter;
-      first = λ shallow. gone_on_more c.down.left.levels c.advance.new.left.levels s0.trail s.trail s1.trail (was.first shallow) c.advance.ensures.leaves.grows.trail c.in_ok-advance.ensures.first;
-      rows = λ lefts rights shows.
-          let first = was.rows lefts rights shows in
-          advances_then c.args.shape.now (g.E.Emit.took c.args.emit.now h0) (g.E.Emit.took c.down.emit h) (g.E.Emit.took c.advance.new.emit h1) lefts rights (both c.args.left.now c.args.right.now h0 s0) (both c.down.left c.down.right h s) (both c.advance.new.left c.advance.new.right h1 s1) first
-          (c.in_ok-advance.ensures.ok.1 first.lefts_now first.rights_now first.shows);
-    }
+    down_stepped c.args.c.now c.args.shape.now _ _ _ _ _ _ _ (g.E.Emit.took c.down.emit hm) (both c.args.left.now c.args.right.now h0 s0) (both c.down.left c.down.right hm sm) mid (g.E.Emit.admits c.advance.new.emit) (g.E.Emit.client c.advance.new.emit) (g.E.Emit.faults c.advance.new.emit) (g.E.Emit.took c.advance.new.emit h1)
+    (both c.advance.new.left c.advance.new.right h1 s1) c.in_ok-advance.ensures.ok c.advance.ensures.op c.advance.ensures.leaves c.advance.ensures.blocks c.advance.ensures.emitter c.in_ok-advance.ensures.first
 
 pub returns-in_err-advance-clause-err : goal.returns-in_err-advance-clause-err
 returns-in_err-advance-clause-err g c =
@@ -71,11 +87,19 @@ returns-in_err-advance-clause-err g c =
     let s0 = g.St.Store.signs c.args.store.now in
     let h = g.St.Store.holds c.down.store in
     let s = g.St.Store.signs c.down.store in
+    let hm = g.St.Store.holds c.reserve_top.new.store in
+    let sm = g.St.Store.signs c.reserve_top.new.store in
+    let beside : IsBeside c.args.c.now.tracker (g.E.Emit.client c.down.emit) h = down_beside c.args.c.now c.args.shape.now _ _ _ _ _ _ _ _ (both c.args.left.now c.args.right.now h0 s0) (both c.down.left c.down.right h s) c.down.invariant c.requires.emitter in
+    let still : (taken : List (List Value)) → g.E.Emit.took c.down.emit h taken → g.E.Emit.took c.down.emit hm taken =
+    λ taken. g.met.E.Emit.asks_own c.down.emit h hm taken (same_beside c.args.c.now.tracker (g.E.Emit.client c.down.emit) h hm s sm beside.apart c.reserve_top.ensures.leaves) in
+    let mid : HasGoneDown c.args.c.now c.args.shape.now (g.E.Emit.admits c.args.emit.now) (g.E.Emit.admits c.down.emit) (g.E.Emit.client c.args.emit.now) (g.E.Emit.client c.down.emit) (g.E.Emit.faults c.args.emit.now) (g.E.Emit.faults c.down.emit) (g.E.Emit.took c.args.emit.now h0) (g.E.Emit.took c.down.emit hm) (both c.args.left.now c.args.right.now h0 s0) (both c.down.left c.down.right hm sm) =
+    down_reserved c.args.c.now c.args.shape.now _ _ _ _ _ _ _ (g.E.Emit.took c.down.emit h) (both c.args.left.now c.args.right.now h0 s0) (both c.down.left c.down.right h s) c.down.invariant (g.E.Emit.took c.down.emit hm) hm sm c.requires.emitter c.reserve_top.ensures.leaves still
+    c.reserve_top.ensures.between c.reserve_top.ensures.op c.reserve_top.ensures.first c.reserve_top.ensures.shows in
     let h1 = g.St.Store.holds c.advance.new.store in
     let some : (lefts rights : ℕ → List (List ℕ)) → ShowBoth lefts rights (both c.args.left.now c.args.right.now h0 s0) → EmittedSome (g.E.Emit.took c.args.emit.now h0) (g.E.Emit.took c.advance.new.emit h1) (pairs_down c.args.shape.now (length c.args.left.now.streams) lefts rights) =
     λ lefts rights shows.
-    let first = c.down.invariant.rows lefts rights shows in
-    advances_some c.args.shape.now (g.E.Emit.took c.args.emit.now h0) (g.E.Emit.took c.down.emit h) (g.E.Emit.took c.advance.new.emit h1) lefts rights (both c.args.left.now c.args.right.now h0 s0) (both c.down.left c.down.right h s) first
+    let first = mid.rows lefts rights shows in
+    advances_some c.args.shape.now (g.E.Emit.took c.args.emit.now h0) (g.E.Emit.took c.down.emit hm) (g.E.Emit.took c.advance.new.emit h1) lefts rights (both c.args.left.now c.args.right.now h0 s0) (both c.down.left c.down.right hm sm) first
     (c.in_err-advance.ensures.err first.lefts_now first.rights_now first.shows) in
     search (rules, some)
 
@@ -84,15 +108,52 @@ returns-in_err-advance-clause-op g c = c.advance.ensures.op
 
 pub returns-in_err-advance-clause-leaves : goal.returns-in_err-advance-clause-leaves
 returns-in_err-advance-clause-leaves g c =
-    beside_more c.args.c.now.tracker _ _ _ _ _ _ _ _ c.down.invariant.stands.client_same c.down.invariant.leaves c.advance.ensures.leaves
+    let h0 = g.St.Store.holds c.args.store.now in
+    let s0 = g.St.Store.signs c.args.store.now in
+    let h = g.St.Store.holds c.down.store in
+    let s = g.St.Store.signs c.down.store in
+    let hm = g.St.Store.holds c.reserve_top.new.store in
+    let sm = g.St.Store.signs c.reserve_top.new.store in
+    let beside : IsBeside c.args.c.now.tracker (g.E.Emit.client c.down.emit) h = down_beside c.args.c.now c.args.shape.now _ _ _ _ _ _ _ _ (both c.args.left.now c.args.right.now h0 s0) (both c.down.left c.down.right h s) c.down.invariant c.requires.emitter in
+    let still : (taken : List (List Value)) → g.E.Emit.took c.down.emit h taken → g.E.Emit.took c.down.emit hm taken =
+    λ taken. g.met.E.Emit.asks_own c.down.emit h hm taken (same_beside c.args.c.now.tracker (g.E.Emit.client c.down.emit) h hm s sm beside.apart c.reserve_top.ensures.leaves) in
+    let mid : HasGoneDown c.args.c.now c.args.shape.now (g.E.Emit.admits c.args.emit.now) (g.E.Emit.admits c.down.emit) (g.E.Emit.client c.args.emit.now) (g.E.Emit.client c.down.emit) (g.E.Emit.faults c.args.emit.now) (g.E.Emit.faults c.down.emit) (g.E.Emit.took c.args.emit.now h0) (g.E.Emit.took c.down.emit hm) (both c.args.left.now c.args.right.now h0 s0) (both c.down.left c.down.right hm sm) =
+    down_reserved c.args.c.now c.args.shape.now _ _ _ _ _ _ _ (g.E.Emit.took c.down.emit h) (both c.args.left.now c.args.right.now h0 s0) (both c.down.left c.down.right h s) c.down.invariant (g.E.Emit.took c.down.emit hm) hm sm c.requires.emitter c.reserve_top.ensures.leaves still
+    c.reserve_top.ensures.between c.reserve_top.ensures.op c.reserve_top.ensures.first c.reserve_top.ensures.shows in
+    beside_more c.args.c.now.tracker _ _ _ _ _ _ _ _ mid.stands.client_same mid.leaves c.advance.ensures.leaves
 
 pub returns-in_err-advance-clause-emitter : goal.returns-in_err-advance-clause-emitter
-returns-in_err-advance-clause-emitter g c = stands_then _ _ _ _ _ _ _ _ _ _ _ _ _ _ c.down.invariant.stands c.advance.ensures.emitter
+returns-in_err-advance-clause-emitter g c =
+    let h0 = g.St.Store.holds c.args.store.now in
+    let s0 = g.St.Store.signs c.args.store.now in
+    let h = g.St.Store.holds c.down.store in
+    let s = g.St.Store.signs c.down.store in
+    let hm = g.St.Store.holds c.reserve_top.new.store in
+    let sm = g.St.Store.signs c.reserve_top.new.store in
+    let beside : IsBeside c.args.c.now.tracker (g.E.Emit.client c.down.emit) h = down_beside c.args.c.now c.args.shape.now _ _ _ _ _ _ _ _ (both c.args.left.now c.args.right.now h0 s0) (both c.down.left c.down.right h s) c.down.invariant c.requires.emitter in
+    let still : (taken : List (List Value)) → g.E.Emit.took c.down.emit h taken → g.E.Emit.took c.down.emit hm taken =
+    λ taken. g.met.E.Emit.asks_own c.down.emit h hm taken (same_beside c.args.c.now.tracker (g.E.Emit.client c.down.emit) h hm s sm beside.apart c.reserve_top.ensures.leaves) in
+    let mid : HasGoneDown c.args.c.now c.args.shape.now (g.E.Emit.admits c.args.emit.now) (g.E.Emit.admits c.down.emit) (g.E.Emit.client c.args.emit.now) (g.E.Emit.client c.down.emit) (g.E.Emit.faults c.args.emit.now) (g.E.Emit.faults c.down.emit) (g.E.Emit.took c.args.emit.now h0) (g.E.Emit.took c.down.emit hm) (both c.args.left.now c.args.right.now h0 s0) (both c.down.left c.down.right hm sm) =
+    down_reserved c.args.c.now c.args.shape.now _ _ _ _ _ _ _ (g.E.Emit.took c.down.emit h) (both c.args.left.now c.args.right.now h0 s0) (both c.down.left c.down.right h s) c.down.invariant (g.E.Emit.took c.down.emit hm) hm sm c.requires.emitter c.reserve_top.ensures.leaves still
+    c.reserve_top.ensures.between c.reserve_top.ensures.op c.reserve_top.ensures.first c.reserve_top.ensures.shows in
+    stands_then _ _ _ _ _ _ _ _ _ _ _ _ _ _ mid.stands c.advance.ensures.emitter
 
 pub returns-in_err-advance-clause-cause : goal.returns-in_err-advance-clause-cause
 returns-in_err-advance-clause-cause g c =
+    let h0 = g.St.Store.holds c.args.store.now in
+    let s0 = g.St.Store.signs c.args.store.now in
+    let h = g.St.Store.holds c.down.store in
+    let s = g.St.Store.signs c.down.store in
+    let hm = g.St.Store.holds c.reserve_top.new.store in
+    let sm = g.St.Store.signs c.reserve_top.new.store in
+    let beside : IsBeside c.args.c.now.tracker (g.E.Emit.client c.down.emit) h = down_beside c.args.c.now c.args.shape.now _ _ _ _ _ _ _ _ (both c.args.left.now c.args.right.now h0 s0) (both c.down.left c.down.right h s) c.down.invariant c.requires.emitter in
+    let still : (taken : List (List Value)) → g.E.Emit.took c.down.emit h taken → g.E.Emit.took c.down.emit hm taken =
+    λ taken. g.met.E.Emit.asks_own c.down.emit h hm taken (same_beside c.args.c.now.tracker (g.E.Emit.client c.down.emit) h hm s sm beside.apart c.reserve_top.ensures.leaves) in
+    let mid : HasGoneDown c.args.c.now c.args.shape.now (g.E.Emit.admits c.args.emit.now) (g.E.Emit.admits c.down.emit) (g.E.Emit.client c.args.emit.now) (g.E.Emit.client c.down.emit) (g.E.Emit.faults c.args.emit.now) (g.E.Emit.faults c.down.emit) (g.E.Emit.took c.args.emit.now h0) (g.E.Emit.took c.down.emit hm) (both c.args.left.now c.args.right.now h0 s0) (both c.down.left c.down.right hm sm) =
+    down_reserved c.args.c.now c.args.shape.now _ _ _ _ _ _ _ (g.E.Emit.took c.down.emit h) (both c.args.left.now c.args.right.now h0 s0) (both c.down.left c.down.right h s) c.down.invariant (g.E.Emit.took c.down.emit hm) hm sm c.requires.emitter c.reserve_top.ensures.leaves still
+    c.reserve_top.ensures.between c.reserve_top.ensures.op c.reserve_top.ensures.first c.reserve_top.ensures.shows in
     let came : CameOf (g.E.Emit.faults c.args.emit.now) (g.E.Emit.faults c.advance.new.emit) (g.St.Store.signs c.args.store.now) (g.St.Store.signs c.advance.new.store) c.in_err-advance.field-0.0 =
-    came_behind _ _ _ _ _ _ _ c.down.invariant.stands.never_falls c.down.invariant.leaves.grows c.in_err-advance.ensures.cause in
+    came_behind _ _ _ _ _ _ _ mid.stands.never_falls mid.leaves.grows c.in_err-advance.ensures.cause in
     search (rules, came)
 
 pub returns-in_err-advance-clause-short : goal.returns-in_err-advance-clause-short
