@@ -19,6 +19,7 @@ use Rattle.partition_stack.proofs.Left.{touched_leaves}
 use Rattle.partition_stack.proofs.Sides.{other_shows, other_weighs, own_called, own_turned}
 use Rattle.join_op.specs.Beside.{CallsBeside, MayCall}
 use Rattle.join_op.specs.Operator.{IsOperator, operator}
+use Rattle.join_op.proofs.BothSlots.{slots_stepped}
 
 none_held : (s : Streamed) (h : Holdings) → s.pinned ≡ None → held s h ≡ 0
 none_held s h closed = ap (λ (o : Option OpenPage). if is_some o then len_in s h else 0) closed
@@ -60,6 +61,7 @@ calls_beside {laid} t p now other old new before after own steps blocks levels =
       blocks = blocks;
       levels = levels;
       many = steps.long;
+      slots = slots_stepped t p now other old new before after own steps;
     }
 
 pub calls_none : (t : ℕ) (p other : Stack) (h : Holdings) (signs : Signs) → OwnBoth t 0 p.streams other.streams h signs → CallsBeside t p p other h h signs signs

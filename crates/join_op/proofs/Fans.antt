@@ -16,7 +16,9 @@ use Rattle.partition_stack.proofs.ListPlaces.{front_or_behind, in_front, of_repl
 use Rattle.std.proofs.lemmas.List.Sums.{sum_by-append}
 use Rattle.std.specs.List.{sum_by}
 use Rattle.tuple_stream.specs.Touches.{held}
+use Rattle.partition_stack.proofs.Slots.{slots_then}
 use Rattle.join_op.specs.Beside.{CallsBeside, MayCall}
+use Rattle.join_op.specs.Operator.{over_both}
 use Rattle.join_op.specs.Dividing.{HasCalled, IsFan}
 use Rattle.join_op.specs.Joining.{HasRowsAt}
 use Rattle.join_op.proofs.Calls.{all_rest, calls_none}
@@ -75,6 +77,7 @@ beside_then t p q r other h0 h1 h2 s0 s1 s2 one two =
       blocks = two.blocks ∙ one.blocks;
       levels = two.levels ∙ one.levels;
       many = two.many ∙ one.many;
+      slots = slots_then p.page_blocks q.page_blocks (over_both p other h0 s0) (over_both q other h1 s1) (over_both r other h2 s2) one.blocks one.slots two.slots;
     }
 
 pub may_after : (c : ClientToken) (p now other : Stack) (old new : Holdings) (before after : Signs) → MayCall c p other old before → HasCalled c.tracker p now other old new before after → MayCall c now other new after

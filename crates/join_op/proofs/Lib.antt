@@ -38,3 +38,4 @@ pub mod Wholes
 pub mod Cleared
 pub mod Reserving
 pub mod Downward
+pub mod BothSlots

@@ -13,7 +13,9 @@ use Rattle.tuple_stream.specs.Families.{ShowAll, weight}
 use Rattle.tuple_stream.specs.Trails.{Left}
 use Rattle.partition_stack.specs.Leaving.{LeavesOthers}
 use Rattle.partition_stack.specs.Sides.{OwnBoth}
+use Rattle.partition_stack.specs.Slots.{SameSlots}
 use Rattle.partition_stack.specs.Stack.{RestBelow, Stack, over}
+use Rattle.join_op.specs.Operator.{over_both}
 
 -- a row that may be spelled with its key in these columns, and is no longer than so much
 pub record IsSpellable (columns : List ℕ) (most : ℕ) (row : List Value) : Type 0 where
@@ -33,8 +35,8 @@ pub record MayCall (c : ClientToken) (p other : Stack) (h : Holdings) (signs : S
   pub rests : RestBelow (length other.streams) other
   pub least : 20 * length_of p.page_blocks h ≤ (account_of c.tracker h).reservation
 
--- the side became `now`: both are all that the client has still, the other shows and left what it did, and nothing of other
--- clients changed
+-- the side became `now`: both are all that the client has still and have their slots, the other shows and left what it did,
+-- and nothing of other clients changed
 pub record CallsBeside (t : ℕ) (p now other : Stack) (old new : Holdings) (before after : Signs) : Type 0 where
   pub own : OwnBoth t 0 now.streams other.streams new after
   pub shows : (rows : ℕ → List (List ℕ)) → ShowAll rows (over other old before) → ShowAll rows (over other new after)
@@ -45,3 +47,4 @@ pub record CallsBeside (t : ℕ) (p now other : Stack) (old new : Holdings) (bef
   pub blocks : now.page_blocks ≡ p.page_blocks
   pub levels : now.levels ≡ p.levels
   pub many : length now.streams ≡ length p.streams
+  pub slots : SameSlots p.page_blocks (over_both p other old before) (over_both now other new after)

@@ -11,7 +11,7 @@ use Rattle.store_api.specs.Holdings.{Holdings, account_of, length_of}
 use Rattle.store_api.specs.Shapes.{IsJoinShape}
 use Rattle.store_api.specs.Signs.{Signs}
 use Rattle.store_api.specs.Tokens.{ClientToken}
-use Rattle.tuple_stream.specs.Families.{Family, ShowAll, pages_in}
+use Rattle.tuple_stream.specs.Families.{Family, ShowAll, family, pages_in}
 use Rattle.tuple_stream.specs.FamilyCalls.{AllAtEnd, AllWhole, AreSteady, HaveLaid, shares}
 use Rattle.tuple_stream.specs.Trails.{EnteredEvents, creates_in}
 use Rattle.row_reading.specs.Reading.{IsRowOf}
@@ -48,6 +48,10 @@ pub record IsOperator (op : Operator) (h : Holdings) (signs : Signs) : Type 0 wh
   pub least : 20 * page_of op h ≤ (account_of op.client.tracker h).reservation
   pub owns : OwnBoth op.client.tracker 0 op.left.streams op.right.streams h signs
   pub loans : HasNoLoan op.client.tracker h
+
+-- the partitions of two sides beside each other
+abbrev pub over_both : Stack → Stack → Holdings → Signs → Family
+over_both p other h signs = family (p.streams ++ other.streams) h signs
 
 -- a row that may be fed to a side: of its kinds, and no longer than a page
 pub record MayBeFed (side : Side) (op : Operator) (h : Holdings) (row : List Value) : Type 0 where

@@ -6,13 +6,15 @@ ghost use Rattle.row_codec.specs.RowLaws.{IsRow};
 ghost use Rattle.row_codec.specs.RowBytes.{key_bytes, row_bytes};
 ghost use Rattle.store_api.specs.Holdings.{length_of};
 ghost use Rattle.store_api.specs.Signs.{WasAnswered};
+ghost use Rattle.tuple_stream.specs.Families.{slots_in};
 ghost use Rattle.tuple_stream.specs.FamilyCalls.{AllAtEnd, Feeds, RestsSome};
 ghost use Rattle.tuple_stream.specs.PageRows.{IsOneRow};
 ghost use Rattle.tuple_stream.specs.Steps.{came};
 ghost use Rattle.tuple_stream.specs.Touches.{IsFull};
 ghost use Rattle.partition_stack.specs.Leaving.{CameOfStore, LeavesOthers};
+ghost use Rattle.partition_stack.specs.Slots.{IsWantOf};
 ghost use Rattle.partition_stack.specs.Stack.{RestBelow, over};
-ghost use Rattle.join_op.specs.Operator.{HasNoRight, IsFeeding, IsOperator, IsSame, Keeps, MayBeFed};
+ghost use Rattle.join_op.specs.Operator.{HasNoRight, IsFeeding, IsOperator, IsSame, Keeps, MayBeFed, over_both};
 ghost use Rattle.join_op.specs.Stored.{left_side, right_side};
 ghost use Rattle.join_op.specs.Beside.{CallsBeside, IsSpellable, MayCall, first_place};
 ghost use Rattle.partition_stack.specs.Sides.{OwnBoth};
@@ -64,8 +66,12 @@ impl JoinOp {
         ensures same { IsSame self.old self.new }
         ensures right { self.new.right ≡ self.old.right }
         ensures leaves { LeavesOthers self.old.client.tracker (St.holds store.old) (St.holds store.new) (St.signs store.old) (St.signs store.new) }
+        ensures slots { slots_in (over_both self.new.left self.new.right (St.holds store.new) (St.signs store.new)) ≡ slots_in (over_both self.old.left self.old.right (St.holds store.old) (St.signs store.old)) }
         ensures cause { IfErr result (CameOfStore self.old.left.page_blocks (St.holds store.new) (St.signs store.old) (St.signs store.new)) }
+        ensures want { IfErr result (IsWantOf self.old.left.page_blocks (slots_in (over_both self.old.left self.old.right (St.holds store.old) (St.signs store.old)))) }
     {
+        self.left.law_stack();
+        self.right.law_stack();
         let _len = store.block_len();
         self.left_rests = false;
         match put_row(
@@ -102,8 +108,12 @@ impl JoinOp {
         ensures feeding { IsFeeding self.new }
         ensures same { IsSame self.old self.new }
         ensures leaves { LeavesOthers self.old.client.tracker (St.holds store.old) (St.holds store.new) (St.signs store.old) (St.signs store.new) }
+        ensures slots { slots_in (over_both self.new.left self.new.right (St.holds store.new) (St.signs store.new)) ≡ slots_in (over_both self.old.left self.old.right (St.holds store.old) (St.signs store.old)) }
         ensures cause { IfErr result (CameOfStore self.old.left.page_blocks (St.holds store.new) (St.signs store.old) (St.signs store.new)) }
+        ensures want { IfErr result (IsWantOf self.old.left.page_blocks (slots_in (over_both self.old.left self.old.right (St.holds store.old) (St.signs store.old)))) }
     {
+        self.left.law_stack();
+        self.right.law_stack();
         let _len = store.block_len();
         if let Err(e) = rest_left(
             store,

@@ -1,11 +1,12 @@
-use Rattle.std.proofs.Common.{ℕ, ap, sym, subst}
+use Rattle.std.proofs.Common.{◌≡◌, ℕ, ap, sym, subst}
 use Rattle.store_api.specs.Conditions.{IsIdle}
 use Rattle.store_api.specs.Holdings.{Holdings}
 use Rattle.store_api.specs.Signs.{Signs}
 use Rattle.partition_stack.specs.Leaving.{LeavesOthers}
-use Rattle.join_op.specs.Operator.{IsOperator, Operator, operator}
-use Rattle.tuple_stream.specs.Families.{AllClosed}
+use Rattle.join_op.specs.Operator.{IsOperator, Operator, operator, over_both}
+use Rattle.tuple_stream.specs.Families.{AllClosed, slots_in}
 use Rattle.partition_stack.specs.Stack.{over}
+use Rattle.join_op.proofs.BothSlots.{ended_slots}
 use Rattle.join_op.proofs.Ended.{ended_first, ended_idle, ended_leaves, left_ended}
 use Rattle.join_op.proofs.operator.JoinOp.end.Goals as goal
 
@@ -43,3 +44,13 @@ returns-clause-first g c = λ left right.
     let left_closed : AllClosed (over me.left h s) = subst (λ (o : Operator). AllClosed (over o.left h s)) (sym c.self.view_is) left in
     let right_closed : AllClosed (over me.right h s) = subst (λ (o : Operator). AllClosed (over o.right h s)) (sym c.self.view_is) right in
     ended_first (over me.left h s) (over me.right (g.St.Store.holds c.end.new.store) (g.St.Store.signs c.end.new.store)) s.trail (g.St.Store.signs c.end.new.store).trail (g.St.Store.signs c.end-2.new.store).trail left_closed right_closed c.end.ensures.trail c.end-2.ensures.trail
+
+pub returns-clause-slots : goal.returns-clause-slots
+returns-clause-slots g c =
+    let me = c.self.inside in
+    let h : Holdings = g.St.Store.holds c.args.store.now in
+    let s : Signs = g.St.Store.signs c.args.store.now in
+    let h2 : Holdings = g.St.Store.holds c.end-2.new.store in
+    let is : IsOperator (operator me.client me.shape me.left me.right) h s = subst (λ (o : Operator). IsOperator o h s) (sym c.self.view_is) c.requires in
+    subst (λ (o : Operator). h2.free_slots ≡ slots_in (over_both o.left o.right h s)) c.self.view_is
+    (ended_slots me.client.tracker me.left.streams me.right.streams h (g.St.Store.holds c.end.new.store) h2 s (g.St.Store.signs c.end.new.store) (g.St.Store.signs c.end-2.new.store) is.owns c.end.ensures.touches c.end-2.ensures.touches)

@@ -1,4 +1,4 @@
-use Rattle.std.proofs.Common.{◌∙◌, ℕ, List, [], ◌∷◌, ◌++◌, Option, OnOk, ap, sym, subst}
+use Rattle.std.proofs.Common.{◌≡◌, ◌∙◌, ℕ, List, [], ◌∷◌, ◌++◌, Option, OnOk, IfErr, refl, ap, sym, subst}
 use Rattle.std.specs.Prelude.{All}
 use Rattle.pool_model.specs.declared.entry.Entry.{Entry}
 use Rattle.row_codec.specs.declared.values.Value.{Value}
@@ -8,10 +8,13 @@ use Rattle.store_api.specs.Shapes.{IsKeyColumn}
 use Rattle.row_codec.specs.RowBytes.{row_bytes}
 use Rattle.tuple_stream.specs.FamilyCalls.{Feeds}
 use Rattle.tuple_stream.specs.Steps.{came}
+use Rattle.tuple_stream.specs.Families.{slots_in}
+use Rattle.partition_stack.specs.Slots.{IsWant, IsWantOf}
 use Rattle.partition_stack.specs.Stack.{over}
 use Rattle.join_op.specs.Beside.{first_place}
-use Rattle.join_op.specs.Operator.{HasNoRight, IsOperator, Keeps, MayBeFed, Operator, operator}
+use Rattle.join_op.specs.Operator.{HasNoRight, IsOperator, Keeps, MayBeFed, Operator, operator, over_both}
 use Rattle.join_op.specs.Stored.{left_side}
+use Rattle.join_op.proofs.BothSlots.{want_since}
 use Rattle.join_op.proofs.Calls.{left_called}
 use Rattle.join_op.proofs.KeepsRows.{keeps_left}
 use Rattle.join_op.proofs.Spellable.{left_keyed, spellable}
@@ -51,4 +54,29 @@ returns-clause-keeps g c =
           (subst (λ (columns : List ℕ). Feeds me.client.tracker (first_place columns c.args.row.now) (came c.put_row.result (row_bytes c.args.row.now)) (over me.left h s) (over c.put_row.new.parts h1 s1)) (c.deref.ensures.value ∙ c.self.invariant.on_left) c.put_row.ensures.went))
           w.in-Ok.ensures.at_end (subst (λ (o : Operator). MayBeFed (left_side o.shape) o h c.args.row.now) (sym c.self.view_is) c.requires.row).kinds w.in-Ok.ensures.is_row)
       | in-Err w ↦ subst (λ r. OnOk r ((start : Option (List Entry)) (lefts rights : List (List Value)) → Keeps start lefts rights c.args.self.now h s → Keeps start (lefts ++ c.args.row.now ∷ []) rights now h1 s1)) (sym w.result-is) tt
+    ]
+
+pub returns-clause-slots : goal.returns-clause-slots
+returns-clause-slots g c =
+    let me = c.self.inside in
+    let h : Holdings = g.St.Store.holds c.args.store.now in
+    let s : Signs = g.St.Store.signs c.args.store.now in
+    let h1 : Holdings = g.St.Store.holds c.put_row.new.store in
+    let s1 : Signs = g.St.Store.signs c.put_row.new.store in
+    subst (λ (o : Operator). slots_in (over_both c.put_row.new.parts me.right h1 s1) ≡ slots_in (over_both o.left o.right h s)) c.self.view_is c.put_row.ensures.beside.slots.sum
+
+pub returns-clause-want : goal.returns-clause-want
+returns-clause-want g c =
+    let me = c.self.inside in
+    let h : Holdings = g.St.Store.holds c.args.store.now in
+    let s : Signs = g.St.Store.signs c.args.store.now in
+    let h1 : Holdings = g.St.Store.holds c.put_row.new.store in
+    let s1 : Signs = g.St.Store.signs c.put_row.new.store in
+    let is : IsOperator (operator me.client me.shape me.left me.right) h s = subst (λ (o : Operator). IsOperator o h s) (sym c.self.view_is) c.requires.op in
+    elim c.match-put_row.branch [
+      | in-Ok w ↦ subst (λ r. IfErr r (IsWantOf c.args.self.now.left.page_blocks (slots_in (over_both c.args.self.now.left c.args.self.now.right h s)))) (sym w.result-is) tt
+      | in-Err w ↦
+          subst (λ r. IfErr r (IsWantOf c.args.self.now.left.page_blocks (slots_in (over_both c.args.self.now.left c.args.self.now.right h s)))) (sym w.result-is)
+          (subst (λ (o : Operator). IsWant o.left.page_blocks (slots_in (over_both o.left o.right h s)) w.in-Err.e) c.self.view_is
+          (want_since me.left.page_blocks me.left.page_blocks me.left me.right h h1 s s1 c.put_row.new.parts.streams me.right.streams c.law_stack.ensures c.law_stack-2.ensures refl is.alike c.put_row.ensures.beside.slots refl w.in-Err.e w.in-Err.ensures.answers.1))
     ]

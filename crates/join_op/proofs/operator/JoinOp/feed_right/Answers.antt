@@ -1,4 +1,4 @@
-use Rattle.std.proofs.Common.{◌≡◌, ◌∙◌, ◌*◌, inl, inr, ℕ, List, [], ◌∷◌, ◌++◌, Option, OnOk, IfErr, ap, sym, subst, arith, true≢false}
+use Rattle.std.proofs.Common.{◌≡◌, ◌∙◌, ◌*◌, inl, inr, ℕ, List, [], ◌∷◌, ◌++◌, Option, OnOk, IfErr, refl, ap, sym, subst, arith, true≢false}
 use Rattle.std.specs.Prelude.{All}
 use Rattle.std.proofs.lemmas.Bool.{cases_Bool}
 use Rattle.pool_model.specs.declared.entry.Entry.{Entry}
@@ -12,12 +12,17 @@ use Rattle.tuple_stream.specs.FamilyCalls.{Feeds}
 use Rattle.tuple_stream.specs.Steps.{came}
 use Rattle.tuple_stream.specs.Touches.{IsFull}
 use Rattle.tuple_stream.specs.Trails.{EnteredEvents}
+use Rattle.partition_stack.proofs.Sides.{own_turned}
 use Rattle.partition_stack.proofs.Left.{leaves_both}
 use Rattle.partition_stack.specs.Leaving.{CameOfStore, LeavesOthers}
+use Rattle.tuple_stream.specs.Families.{slots_in}
+use Rattle.partition_stack.proofs.Slots.{slots_then}
+use Rattle.partition_stack.specs.Slots.{IsWant, IsWantOf, SameSlots}
 use Rattle.partition_stack.specs.Stack.{Stack, over}
 use Rattle.join_op.specs.Beside.{first_place}
-use Rattle.join_op.specs.Operator.{IsOperator, Keeps, LaidBoth, MayBeFed, Operator, operator}
+use Rattle.join_op.specs.Operator.{IsOperator, Keeps, LaidBoth, MayBeFed, Operator, operator, over_both}
 use Rattle.join_op.specs.Stored.{right_side}
+use Rattle.join_op.proofs.BothSlots.{slots_turned, want_since}
 use Rattle.join_op.proofs.Calls.{left_called, right_called}
 use Rattle.join_op.proofs.KeepsRows.{keeps_right, keeps_right_first}
 use Rattle.join_op.proofs.Spellable.{right_keyed, spellable}
@@ -130,3 +135,94 @@ returns-clause-keeps g c =
           ])
       | in-Err-put_row w ↦ subst (λ r. OnOk r ((start : Option (List Entry)) (lefts rights : List (List Value)) → Keeps start lefts rights c.args.self.now h s → Keeps start lefts (rights ++ c.args.row.now ∷ []) now h2 s2)) (sym w.result-is) tt
     ]
+
+pub returns-in-Err-clause-slots : goal.returns-in-Err-clause-slots
+returns-in-Err-clause-slots g c =
+    let me = c.self.inside in
+    let h : Holdings = g.St.Store.holds c.args.store.now in
+    let s : Signs = g.St.Store.signs c.args.store.now in
+    let h1 : Holdings = g.St.Store.holds c.rest_left.new.store in
+    let s1 : Signs = g.St.Store.signs c.rest_left.new.store in
+    subst (λ (o : Operator). slots_in (over_both c.rest_left.new.left me.right h1 s1) ≡ slots_in (over_both o.left o.right h s)) c.self.view_is c.rest_left.ensures.beside.slots.sum
+
+pub returns-in-Err-clause-want : goal.returns-in-Err-clause-want
+returns-in-Err-clause-want g c =
+    let me = c.self.inside in
+    let h : Holdings = g.St.Store.holds c.args.store.now in
+    let s : Signs = g.St.Store.signs c.args.store.now in
+    let h1 : Holdings = g.St.Store.holds c.rest_left.new.store in
+    let s1 : Signs = g.St.Store.signs c.rest_left.new.store in
+    let is : IsOperator (operator me.client me.shape me.left me.right) h s = subst (λ (o : Operator). IsOperator o h s) (sym c.self.view_is) c.requires.op in
+    subst (λ (o : Operator). IsWant o.left.page_blocks (slots_in (over_both o.left o.right h s)) c.in-Err.e) c.self.view_is
+    (want_since me.left.page_blocks me.left.page_blocks me.left me.right h h1 s s1 c.rest_left.new.left.streams me.right.streams c.law_stack.ensures c.law_stack-2.ensures refl is.alike c.rest_left.ensures.beside.slots refl c.in-Err.e c.in-Err.ensures.answers.1)
+
+pub returns-clause-slots : goal.returns-clause-slots
+returns-clause-slots g c =
+    let me = c.self.inside in
+    let h : Holdings = g.St.Store.holds c.args.store.now in
+    let s : Signs = g.St.Store.signs c.args.store.now in
+    let h1 : Holdings = g.St.Store.holds c.rest_left.new.store in
+    let s1 : Signs = g.St.Store.signs c.rest_left.new.store in
+    let h2 : Holdings = g.St.Store.holds c.put_row.new.store in
+    let s2 : Signs = g.St.Store.signs c.put_row.new.store in
+    let left1 : Stack = c.rest_left.new.left in
+    let right2 : Stack = c.put_row.new.parts in
+    let is : IsOperator (operator me.client me.shape me.left me.right) h s = subst (λ (o : Operator). IsOperator o h s) (sym c.self.view_is) c.requires.op in
+    let all : SameSlots me.left.page_blocks (over_both me.left me.right h s) (over_both left1 right2 h2 s2) =
+    slots_then me.left.page_blocks me.right.page_blocks (over_both me.left me.right h s) (over_both left1 me.right h1 s1) (over_both left1 right2 h2 s2) is.alike c.rest_left.ensures.beside.slots
+    (slots_turned me.right.page_blocks me.right.streams left1.streams right2.streams left1.streams h1 h2 s1 s2 c.put_row.ensures.beside.slots) in
+    subst (λ (o : Operator). slots_in (over_both left1 right2 h2 s2) ≡ slots_in (over_both o.left o.right h s)) c.self.view_is all.sum
+
+pub returns-clause-want : goal.returns-clause-want
+returns-clause-want g c =
+    let me = c.self.inside in
+    let h : Holdings = g.St.Store.holds c.args.store.now in
+    let s : Signs = g.St.Store.signs c.args.store.now in
+    let h1 : Holdings = g.St.Store.holds c.rest_left.new.store in
+    let s1 : Signs = g.St.Store.signs c.rest_left.new.store in
+    let h2 : Holdings = g.St.Store.holds c.put_row.new.store in
+    let s2 : Signs = g.St.Store.signs c.put_row.new.store in
+    let left1 : Stack = c.rest_left.new.left in
+    let right2 : Stack = c.put_row.new.parts in
+    let is : IsOperator (operator me.client me.shape me.left me.right) h s = subst (λ (o : Operator). IsOperator o h s) (sym c.self.view_is) c.requires.op in
+    let all : SameSlots me.left.page_blocks (over_both me.left me.right h s) (over_both left1 right2 h2 s2) =
+    slots_then me.left.page_blocks me.right.page_blocks (over_both me.left me.right h s) (over_both left1 me.right h1 s1) (over_both left1 right2 h2 s2) is.alike c.rest_left.ensures.beside.slots
+    (slots_turned me.right.page_blocks me.right.streams left1.streams right2.streams left1.streams h1 h2 s1 s2 c.put_row.ensures.beside.slots) in
+    elim c.match-put_row.branch [
+      | in-Ok w ↦ subst (λ r. IfErr r (IsWantOf c.args.self.now.left.page_blocks (slots_in (over_both c.args.self.now.left c.args.self.now.right h s)))) (sym w.result-is) tt
+      | in-Err-put_row w ↦
+          subst (λ r. IfErr r (IsWantOf c.args.self.now.left.page_blocks (slots_in (over_both c.args.self.now.left c.args.self.now.right h s)))) (sym w.result-is)
+          (subst (λ (o : Operator). IsWant o.left.page_blocks (slots_in (over_both o.left o.right h s)) w.in-Err-put_row.e) c.self.view_is
+          (want_since me.left.page_blocks me.right.page_blocks me.left me.right h h2 s s2 left1.streams right2.streams c.law_stack.ensures c.law_stack-2.ensures refl is.alike all is.alike w.in-Err-put_row.e w.in-Err-put_row.ensures.answers.1))
+    ]
+
+pub returns-in-Err-clause-op : goal.returns-in-Err-clause-op
+returns-in-Err-clause-op g c =
+    let me = c.self.inside in
+    let h : Holdings = g.St.Store.holds c.args.store.now in
+    let s : Signs = g.St.Store.signs c.args.store.now in
+    let h1 : Holdings = g.St.Store.holds c.rest_left.new.store in
+    let s1 : Signs = g.St.Store.signs c.rest_left.new.store in
+    let left1 : Stack = c.rest_left.new.left in
+    let is : IsOperator (operator me.client me.shape me.left me.right) h s = subst (λ (o : Operator). IsOperator o h s) (sym c.self.view_is) c.requires.op in
+    left_called me.client me.shape me.left me.right h h1 s s1 is left1 c.rest_left.ensures.beside
+
+pub put_row-requires-clause-may : goal.put_row-requires-clause-may
+put_row-requires-clause-may g c =
+    let me = c.self.inside in
+    let h : Holdings = g.St.Store.holds c.args.store.now in
+    let s : Signs = g.St.Store.signs c.args.store.now in
+    let h1 : Holdings = g.St.Store.holds c.rest_left.new.store in
+    let s1 : Signs = g.St.Store.signs c.rest_left.new.store in
+    let left1 : Stack = c.rest_left.new.left in
+    let is : IsOperator (operator me.client me.shape me.left me.right) h s = subst (λ (o : Operator). IsOperator o h s) (sym c.self.view_is) c.requires.op in
+    let op : IsOperator (operator me.client me.shape left1 me.right) h1 s1 = left_called me.client me.shape me.left me.right h h1 s s1 is left1 c.rest_left.ensures.beside in
+    record {
+      client = op.client;
+      own = own_turned me.client.tracker 0 left1.streams me.right.streams h1 s1 op.owns;
+      rests = c.in_default.ensures.rests;
+      least =
+          let len : length_of me.right.page_blocks h1 ≡ length_of left1.page_blocks h1 = ap (λ (n : ℕ). n * h1.block_len) op.alike in
+          let least = op.least in
+          omega (arith, least, ap (λ (n : ℕ). 20 * n) len);
+    }
