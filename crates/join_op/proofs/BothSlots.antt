@@ -1,5 +1,5 @@
 -- Slots of the pages of both sides of a join.
-use Rattle.std.proofs.Common.{◌≡◌, ◌∙◌, inl, inr, ℕ, zero, suc, ◌+◌, ◌-◌, List, [], ◌∷◌, ◌++◌, length, Option, Some, None, option_map, refl, ap, sym, subst, arith}
+use Rattle.std.proofs.Common.{◌≡◌, ◌∙◌, inl, inr, ℕ, suc, ◌+◌, ◌-◌, List, [], ◌∷◌, ◌++◌, length, Option, Some, None, option_map, refl, ap, sym, arith}
 use Rattle.std.specs.List.{slice_get, sum_by}
 use Rattle.std.proofs.lemmas.List.Sums.{sum_by-append}
 use Rattle.reservation_tree.specs.declared.errors.PoolErr.{PoolErr}
@@ -16,7 +16,7 @@ use Rattle.partition_stack.specs.Sides.{OwnBoth}
 use Rattle.partition_stack.specs.Slots.{IsWant, SameSlots}
 use Rattle.partition_stack.specs.Stack.{IsStack, Stack, over}
 use Rattle.partition_stack.proofs.ListPlaces.{front_or_behind, in_front}
-use Rattle.partition_stack.proofs.Slots.{all_taken, full_since, slots_then, taken}
+use Rattle.partition_stack.proofs.Slots.{all_taken, full_since, taken}
 use Rattle.join_op.specs.Operator.{over_both}
 
 twice : (o : Option ℕ) (a m x : ℕ) → x ≡ m + a → option_map (λ n. n + x) o ≡ option_map (λ n. n + a) (option_map (λ n. n + m) o)

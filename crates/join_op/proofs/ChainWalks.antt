@@ -1,6 +1,6 @@
 -- A chain of a table is walked from its newest node on, and each row on it meets a row of the other side.
-use Rattle.std.proofs.Common.{◌≡◌, ◌≢◌, ◌∙◌, inl, inr, ℕ, ◌+◌, ◌<◌, ◌≤◌, ◌==◌, ◌%◌, Bool, true, false, List, [], ◌∷◌, ◌++◌, Option, Some, None, IsSome, refl, ap, ap₂, sym, subst, arith, eq-eqb, ne_eqb}
-use Rattle.std.specs.Prelude.{⊤, IfSome, filter, slice_get}
+use Rattle.std.proofs.Common.{◌≡◌, ◌≢◌, ◌∙◌, inl, inr, ℕ, ◌+◌, ◌<◌, ◌==◌, ◌%◌, Bool, true, false, List, [], ◌∷◌, ◌++◌, Option, Some, None, IsSome, refl, ap, ap₂, sym, subst, arith, eq-eqb, ne_eqb}
+use Rattle.std.specs.Prelude.{IfSome, filter, slice_get}
 use Rattle.std.specs.List.{sum_by}
 use Rattle.std.specs.Str.{bytes_eq}
 use Rattle.std.proofs.lemmas.Bool.{cases_Bool, cases_eq, false≢true}
@@ -13,8 +13,7 @@ use Rattle.store_api.specs.declared.shapes.JoinShape.{JoinShape}
 use Rattle.bucket_table.specs.Tables.{HasNode, Node, first_row, from_node, newest_on, next_among, next_on_chain, row_of, used_by}
 use Rattle.join_op.specs.Chunks.{stored_pairs}
 use Rattle.join_op.specs.Handing.{Emitted, EmittedSome}
-use Rattle.join_op.specs.Holding.{AreStored, IsStored, held_side, pairs_with, read_side, stored}
-use Rattle.join_op.specs.Pairs.{SameRows}
+use Rattle.join_op.specs.Holding.{AreStored, held_side, pairs_with, read_side, stored}
 use Rattle.join_op.specs.Stored.{Side, key_at, left_side, right_side}
 use Rattle.join_op.proofs.ChunkPairs.{emitted_then, some_first, some_then, with_helds, none_held}
 use Rattle.join_op.proofs.Handed.{emitted_as, emitted_none}

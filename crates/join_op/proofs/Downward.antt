@@ -1,6 +1,5 @@
 -- Partitions are joined from the top, one step after another, and before each more may be reserved.
-use Rattle.std.proofs.Common.{◌≡◌, ◌∙◌, inr, ℕ, List, [], ◌++◌, Option, refl, subst}
-use Rattle.pool_model.specs.declared.entry.Entry.{Entry}
+use Rattle.std.proofs.Common.{◌≡◌, ◌∙◌, inr, ℕ, List, Option, refl}
 use Rattle.row_codec.specs.declared.values.Value.{Value}
 use Rattle.store_api.specs.Emitters.{HasClient}
 use Rattle.store_api.specs.Holdings.{Holdings}
@@ -11,9 +10,8 @@ use Rattle.tuple_stream.specs.Trails.{EnteredEvents, PinsFirst}
 use Rattle.tuple_stream.proofs.Sinces.{since_so}
 use Rattle.partition_stack.specs.Emitting.{IsBeside, LeavesBeside, StandsStill}
 use Rattle.partition_stack.specs.Leaving.{LeavesOthers}
-use Rattle.partition_stack.specs.Stack.{Stack}
 use Rattle.partition_stack.proofs.Emitters.{beside_stands, left_beside, stands_left, stands_none, stands_then}
-use Rattle.join_op.specs.Joining.{Advances, AreShallow, Both, HasGoneOn, IsBetween, SharesPairs, ShowBoth, both}
+use Rattle.join_op.specs.Joining.{Advances, AreShallow, Both, HasGoneOn, IsBetween, ShowBoth, both}
 use Rattle.join_op.specs.Operator.{IsOperator, operator}
 use Rattle.join_op.proofs.Advances.{advances_none, advances_then}
 use Rattle.join_op.proofs.Besides.{beside_more, beside_none}

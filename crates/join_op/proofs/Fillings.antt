@@ -1,5 +1,5 @@
 -- A table is filled with rows of a stream, one after the other.
-use Rattle.std.proofs.Common.{◌≡◌, ◌∙◌, ℕ, ◌+◌, ◌<◌, ◌≤◌, ◌%◌, ◌^◌, List, [], ◌∷◌, ◌++◌, length, take, refl, ap, sym, subst, arith, append-nil, length-append}
+use Rattle.std.proofs.Common.{◌≡◌, ◌∙◌, ℕ, ◌+◌, ◌<◌, ◌%◌, ◌^◌, List, [], ◌∷◌, ◌++◌, length, take, refl, ap, sym, subst, arith, append-nil, length-append}
 use Rattle.std.specs.Prelude.{flat_map}
 use Rattle.std.specs.Int.{w32, to_be_bytes}
 use Rattle.row_codec.specs.declared.values.Kind.{Kind}
@@ -7,7 +7,6 @@ use Rattle.row_codec.specs.declared.values.Value.{Value}
 use Rattle.row_codec.specs.Order.{hash_of}
 use Rattle.row_codec.specs.RowBytes.{field_bytes, framed, row_bytes}
 use Rattle.row_codec.specs.RowReading.{number_in}
-use Rattle.row_codec.proofs.SpelledBack.{number_back}
 use Rattle.row_reading.specs.Reading.{IsRowOf, values_at}
 use Rattle.bucket_table.specs.Tables.{IsFramed, Node, Table, new_node, with_nodes}
 use Rattle.bucket_table.proofs.Spelling.{link_back}

@@ -1,6 +1,5 @@
 -- What holds rows stays what it is while other rows are held.
-use Rattle.std.proofs.Common.{◌≡◌, ◌∙◌, ℕ, ◌+◌, ◌*◌, ◌≤◌, List, [], Bool, true, false, Option, Some, None, refl, ap, sym, subst, arith}
-use Rattle.std.specs.Prelude.{All}
+use Rattle.std.proofs.Common.{◌≡◌, ◌∙◌, ℕ, ◌*◌, Bool, true, false, Option, Some, None, refl, ap, sym, subst, arith}
 use Rattle.store_api.specs.declared.shapes.JoinShape.{JoinShape}
 use Rattle.store_api.specs.Tokens.{ClientToken}
 use Rattle.store_api.specs.Holdings.{Holdings}

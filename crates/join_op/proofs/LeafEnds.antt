@@ -1,13 +1,13 @@
 -- A leaf begins with a table that is lent, and ends where it is given back.
-use Rattle.std.proofs.Common.{◌≡◌, ◌≢◌, ◌∙◌, ℕ, ◌+◌, ◌≤◌, List, [], ◌++◌, Option, Some, None, IsSome, Result, Ok, Err, IfOk, OnErr, refl, ap, sym, subst, arith}
+use Rattle.std.proofs.Common.{◌≡◌, ◌≢◌, ℕ, ◌+◌, List, [], ◌++◌, Option, Some, None, IsSome, Result, Ok, Err, IfOk, OnErr, refl, ap, sym, subst, arith}
 use Rattle.std.specs.Result.{result_ok}
 use Rattle.reservation_tree.specs.declared.errors.PoolErr.{PoolErr}
 use Rattle.store_api.specs.Alike.{Alike}
 use Rattle.row_codec.specs.declared.values.Value.{Value}
 use Rattle.store_api.specs.declared.op_err.OpErr.{OpErr}
 use Rattle.store_api.specs.declared.op_err.OpErr.TheVariants.{Pool, Sink}
-use Rattle.store_api.specs.Emitters.{CameOf, HasClient, SameOwn}
-use Rattle.store_api.specs.Holdings.{Account, Holdings, account_of, unused_of}
+use Rattle.store_api.specs.Emitters.{CameOf}
+use Rattle.store_api.specs.Holdings.{Holdings, account_of, unused_of}
 use Rattle.store_api.specs.Signs.{Grows, Signs}
 use Rattle.store_api.proofs.Answered.{answered_after}
 use Rattle.store_api.proofs.Growing.{grows_trans}
@@ -18,7 +18,7 @@ use Rattle.partition_stack.specs.Causes.{CameOfEither}
 use Rattle.partition_stack.specs.Emitting.{IsBeside, StaysEmitter, WentOn}
 use Rattle.partition_stack.proofs.Emitters.{came_behind}
 use Rattle.partition_stack.proofs.ReadFrames.{client_stays}
-use Rattle.join_op.specs.Handing.{CameSome, Emitted, EmittedSome}
+use Rattle.join_op.specs.Handing.{Emitted, EmittedSome}
 use Rattle.join_op.specs.Holding.{IsSameTable, loans_in}
 use Rattle.join_op.proofs.LentBoth.{loans_same, own_given, own_lent}
 

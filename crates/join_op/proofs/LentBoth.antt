@@ -1,17 +1,14 @@
 -- Both streams were read while a table's loans were lent: what became of the store, over what it held before and has behind.
-use Rattle.std.proofs.Common.{◌≡◌, ◌≢◌, ◌∙◌, inl, inr, ℕ, ◌+◌, ◌*◌, ◌≤◌, get_or, List, [], ◌∷◌, ◌++◌, Option, Some, None, IsSome, is_some, true, if◌then◌else◌, refl, ap, sym, subst, arith}
-use Rattle.std.specs.Prelude.{All, option_map, slice_get}
+use Rattle.std.proofs.Common.{◌≡◌, ◌≢◌, ◌∙◌, inl, inr, ℕ, ◌+◌, ◌*◌, ◌≤◌, get_or, List, Option, Some, None, IsSome, is_some, if◌then◌else◌, refl, ap, sym, subst, arith}
+use Rattle.std.specs.Prelude.{All, option_map}
 use Rattle.std.proofs.lemmas.Bool.{cases_eq, false≢true}
-use Rattle.std.proofs.lemmas.Option.{none-some, same_Some}
 use Rattle.store_api.specs.Emitters.{SameFor, SameOwn}
-use Rattle.store_api.specs.Holdings.{Account, Holdings, LiveLoan, LivePage, account_of, loan_of, no_account, no_loan, or_else, unused_of}
-use Rattle.store_api.specs.Signs.{Signs}
-use Rattle.store_api.specs.Tokens.{ClientToken, PageToken}
+use Rattle.store_api.specs.Holdings.{Account, Holdings, LiveLoan, account_of, loan_of, no_account, no_loan, or_else, unused_of}
+use Rattle.store_api.specs.Tokens.{ClientToken}
 use Rattle.store_api.proofs.Puts.{there}
-use Rattle.bucket_table.specs.Tables.{Lent, Table, with_nodes}
-use Rattle.bucket_table.specs.Lending.{AreHeld, IsApart, IsOwn, IsTableOf, Lends, bytes_of, loans_of}
+use Rattle.bucket_table.specs.Tables.{Lent, Table}
+use Rattle.bucket_table.specs.Lending.{AreHeld, IsApart, IsOwn, Lends, bytes_of, loans_of}
 use Rattle.bucket_table.proofs.Lent.{moved_own}
-use Rattle.tuple_stream.specs.Families.{AreDisjoint}
 use Rattle.tuple_stream.specs.Streamed.{Streamed, len_in}
 use Rattle.tuple_stream.specs.Streams.{HasRows, IsShaped}
 use Rattle.tuple_stream.specs.Touches.{held, with_unused}

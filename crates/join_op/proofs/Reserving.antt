@@ -1,8 +1,7 @@
 -- The client of a join reserves more, and nothing else changes.
-use Rattle.std.proofs.Common.{◌≡◌, ◌≢◌, ◌∙◌, ℕ, ◌+◌, ◌-◌, ◌*◌, ◌≤◌, [], ◌∷◌, List, Option, Some, None, IsSome, is_some, Result, Ok, Err, OnOk, OnErr, if◌then◌else◌, refl, ap, sym, subst, arith, eq-eqb, ne_eqb}
+use Rattle.std.proofs.Common.{◌≡◌, ◌≢◌, ◌∙◌, ℕ, ◌+◌, ◌-◌, ◌*◌, ◌≤◌, [], ◌∷◌, List, Option, Some, IsSome, is_some, Result, Ok, Err, OnOk, OnErr, if◌then◌else◌, refl, ap, sym, subst, arith, eq-eqb, ne_eqb}
 use Rattle.std.specs.List.{slice_get, sum_by}
 use Rattle.std.proofs.lemmas.Option.{none-some}
-use Rattle.pool_model.specs.declared.entry.Entry.{Entry}
 use Rattle.pool_model.specs.declared.event.Event.TheVariants.{IncreaseToFit}
 use Rattle.reservation_tree.specs.declared.errors.PoolErr.{PoolErr}
 use Rattle.store_api.specs.Changes.{after_reserve, raised}

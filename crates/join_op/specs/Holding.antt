@@ -1,6 +1,6 @@
 -- Rows of one side are held while the other side is read: some in memory, or as many as a table has room for. A join is
 -- turned where rows of the left side are held; else those of the right one are.
-use Rattle.std.specs.Prelude.{◌≡◌, ◌≢◌, ℕ, ◌+◌, ◌*◌, ◌%◌, ◌<◌, ◌≤◌, List, [], ◌∷◌, ◌++◌, All, Bool, true, false, IsSome, Option, Some, None, ⊤}
+use Rattle.std.specs.Prelude.{◌≡◌, ℕ, ◌+◌, ◌*◌, ◌%◌, ◌<◌, ◌≤◌, List, [], ◌∷◌, ◌++◌, All, Bool, true, false, IsSome, Option, Some, None, ⊤}
 use Rattle.row_codec.specs.declared.values.Value.{Value}
 use Rattle.row_codec.specs.Order.{hash_of}
 use Rattle.row_reading.specs.Reading.{IsRowOf}

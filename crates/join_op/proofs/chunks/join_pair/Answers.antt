@@ -1,4 +1,4 @@
-use Rattle.std.proofs.Common.{◌≡◌, ◌≢◌, ◌∙◌, List, Some, sym}
+use Rattle.std.proofs.Common.{◌≢◌, ◌∙◌, List, Some, sym}
 use Rattle.row_codec.specs.declared.values.Value.{Value}
 use Rattle.bucket_table.specs.Lending.{Lends}
 use Rattle.partition_stack.proofs.Results.{if_err, on_err, on_ok}

@@ -1,4 +1,3 @@
-use Rattle.std.proofs.Common.{sym}
 use Rattle.partition_stack.proofs.Results.{if_err, on_err, on_ok}
 use Rattle.join_op.proofs.BothFrames.{both_turned}
 use Rattle.join_op.proofs.HeldSame.{readable_turned}

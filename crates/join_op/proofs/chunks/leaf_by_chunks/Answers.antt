@@ -1,4 +1,4 @@
-use Rattle.std.proofs.Common.{sym, subst, None, Option}
+use Rattle.std.proofs.Common.{sym, subst, Option}
 use Rattle.bucket_table.specs.Tables.{Table}
 use Rattle.join_op.specs.Holding.{IsTableAt}
 use Rattle.join_op.proofs.LeafEnds.{lends_nothing}

@@ -1,15 +1,13 @@
-use Rattle.std.proofs.Common.{rules, ◌≡◌, ◌∙◌, ℕ, ◌-◌, List, ◌++◌, length, ap, sym, subst, arith, true}
+use Rattle.std.proofs.Common.{rules, ◌≡◌, ◌∙◌, ℕ, ◌-◌, List, ◌++◌, length, ap, subst, arith}
 use Rattle.row_codec.specs.declared.values.Value.{Value}
 use Rattle.store_api.specs.Emitters.{CameOf}
 use Rattle.store_api.specs.Signs.{WasAnswered}
 use Rattle.store_api.specs.declared.op_err.OpErr.TheVariants.{Pool}
 use Rattle.store_api.proofs.Answered.{answered_before}
 use Rattle.tuple_stream.specs.Streamed.{Streamed}
-use Rattle.tuple_stream.specs.Streams.{HasRows}
 use Rattle.partition_stack.specs.Causes.{CameOfEither, IsShort, IsShortOf}
 use Rattle.partition_stack.proofs.Emitters.{came_behind}
 use Rattle.partition_stack.proofs.Results.{any_err}
-use Rattle.join_op.specs.Handing.{Emitted, EmittedSome}
 use Rattle.join_op.specs.Holding.{held_rows}
 use Rattle.join_op.proofs.BothFrames.{beside_now, left_readable, other_place, right_readable, stay_left, stay_none, stay_right, still_right}
 use Rattle.join_op.proofs.ChunkRounds.{met_all, met_more, met_none, met_part, met_some}

@@ -1,4 +1,4 @@
-use Rattle.std.proofs.Common.{rules, ◌≡◌, ◌∙◌, ℕ, ◌%◌, [], ◌∷◌, List, ◌++◌, ◌<◌, Some, None, Option, ap, sym, subst}
+use Rattle.std.proofs.Common.{rules, ◌≡◌, ℕ, ◌%◌, [], ◌∷◌, List, ◌<◌, Some, Option, ap, sym, subst}
 use Rattle.std.specs.Prelude.{IfSome}
 use Rattle.row_codec.specs.Order.{hash_of}
 use Rattle.row_codec.specs.declared.values.Value.{Value}
@@ -8,7 +8,7 @@ use Rattle.partition_stack.proofs.Emitters.{came_behind, stood_more, stood_none}
 use Rattle.partition_stack.proofs.Results.{any_err}
 use Rattle.join_op.specs.Handing.{Emitted, EmittedSome}
 use Rattle.join_op.specs.Holding.{held_side, pairs_with}
-use Rattle.join_op.proofs.ChainWalks.{HasNext, IsWalking, fewer_left, has_next, left_on, walk_ends, walk_on, walk_part, walk_some, walk_starts}
+use Rattle.join_op.proofs.ChainWalks.{HasNext, IsWalking, fewer_left, has_next, left_on, walk_on, walk_part, walk_some, walk_starts}
 use Rattle.join_op.proofs.meeting.meet_chain.Goals as goal
 
 pub chain-init : goal.chain-init

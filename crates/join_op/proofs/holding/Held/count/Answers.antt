@@ -1,4 +1,4 @@
-use Rattle.std.proofs.Common.{◌≡◌, ◌∙◌, Option, length, ap, sym}
+use Rattle.std.proofs.Common.{◌∙◌, Option, length, ap, sym}
 use Rattle.bucket_table.specs.Tables.{Table}
 use Rattle.join_op.specs.Holding.{rows_either}
 use Rattle.join_op.proofs.Fillings.{stored_count}
