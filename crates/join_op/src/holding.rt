@@ -37,7 +37,7 @@ pub(crate) struct Held {
 }
 
 // The kinds of the side of which rows are held.
-pub(crate) fn held_kinds(shape: &JoinShape, turned: bool) -> &[Kind]
+fn held_kinds(shape: &JoinShape, turned: bool) -> &[Kind]
     ensures { result.now ≡ (held_side turned shape.now).kinds }
 {
     if turned {
@@ -265,6 +265,28 @@ fn keep_chunk<St: Store>(
     Ok(())
 }
 
+// Spells the key of a row, where it is one of the side that is held.
+pub(crate) fn key_held(
+    shape: &JoinShape,
+    turned: bool,
+    columns: &[usize],
+    spare: &mut Spare,
+) -> Result<(), Memory>
+    requires columns { AreColumns (held_side turned shape.now) columns.now }
+    ensures kept { OnOk result (IsKept (held_side turned shape.now) spare.new) }
+    ensures row { spare.new.row.items ≡ spare.old.row.items }
+{
+    let Ok(true) = key_into(
+        &spare.row,
+        held_kinds(shape, turned),
+        columns,
+        &mut spare.key,
+    ) else {
+        return Err(Memory);
+    };
+    Ok(())
+}
+
 // Keeps a row of the side that is held, where it is one, beside its key.
 fn keep(
     shape: &JoinShape,
@@ -277,14 +299,7 @@ fn keep(
     ensures each { OnOk result (All (IsKept (held_side turned shape.now)) kept.old.items → All (IsKept (held_side turned shape.now)) kept.new.items) }
     ensures rows { OnOk result (kept_rows kept.new.items ≡ kept_rows kept.old.items ++ spare.row.items ∷ []) }
 {
-    let Ok(true) = key_into(
-        &spare.row,
-        held_kinds(shape, turned),
-        columns,
-        &mut spare.key,
-    ) else {
-        return Err(Memory);
-    };
+    key_held(shape, turned, columns, &mut spare)?;
     kept.push(spare)?;
     Ok(())
 }
@@ -341,14 +356,7 @@ fn put(
     ensures rows { OnOk result (stored table.new.nodes ≡ stored table.old.nodes ++ spare.old.row.items ∷ []) }
     ensures table { table.new ≡ with_nodes table.new.nodes table.old }
 {
-    let Ok(true) = key_into(
-        &spare.row,
-        held_kinds(shape, turned),
-        columns,
-        &mut spare.key,
-    ) else {
-        return Err(Memory);
-    };
+    key_held(shape, turned, columns, spare)?;
     let Ok(_node) = table.insert(hash64(&spare.key), &spare.row) else {
         return Err(Memory);
     };

@@ -14,7 +14,7 @@ ghost use Rattle.join_op.specs.Holding.{AreStored, HoldsOf, IsSameHeld, MayHold,
 ghost use Rattle.join_op.specs.Stored.{left_side, right_side};
 
 use crate::feeding::Spare;
-use crate::holding::{Held, held_kinds, hold_next};
+use crate::holding::{Held, hold_next, key_held};
 use crate::operator::columns_of;
 use crate::pairing::{Pair, emit_pair};
 use bucket_table::BucketTable;
@@ -286,10 +286,7 @@ fn read_back(
     let Ok(()) = table.row_at(node, &mut back.row) else {
         return Err(Memory);
     };
-    let Ok(true) = key_into(&back.row, held_kinds(shape, turned), columns, &mut back.key) else {
-        return Err(Memory);
-    };
-    Ok(())
+    key_held(shape, turned, columns, back)
 }
 
 // Hands the pair of a row that is read and one that is held on, where they have one key.
