@@ -35,9 +35,6 @@ turned_slots xs ys h signs =
 
 -- ---- pages of one length
 
-far_less : (n m : ℕ) → n + m - n ≡ m
-far_less n m = omega arith
-
 in_behind : (xs ys : List Streamed) (j : ℕ) (z : Streamed) → slice_get ys j ≡ Some z → slice_get (xs ++ ys) (length xs + j) ≡ Some z
 in_behind [] ys j z at = ap (slice_get ys) (none_more j) ∙ at
   where
