@@ -1,5 +1,8 @@
 -- What a command that was read asks for.
-use Rattle.spill_top.specs.Words.{Request, Count, Run, SelfCheck}
+use Rattle.std.specs.Prelude.{ℕ, List, Option, Some, None}
+use Rattle.spill_top.specs.declared.command.Task.{Task}
+use Rattle.spill_top.specs.declared.command.Task.TheVariants as task
+use Rattle.spill_top.specs.Words.{Command as Counting, Request, Count, Run, SelfCheck}
 use Rattle.spill_top.specs.declared.words.Command.{Command}
 use Rattle.spill_top.specs.declared.words.Command.TheVariants as command
 
@@ -7,3 +10,14 @@ abbrev pub asked : Command → Request
 asked (command.Count file column) = Count (record { file = file.now; column = column.now })
 asked (command.Run plan) = Run plan.now
 asked (command.SelfCheck start rows groups blocks) = SelfCheck (record { start = start; rows = rows; groups = groups; blocks = blocks })
+
+-- the count that is asked for, and the plan's file
+abbrev pub count_in : Option Task → Option Counting
+count_in None = None
+count_in (Some (task.Count file column)) = Some (record { file = file.now; column = column.now })
+count_in (Some (task.Run plan)) = None
+
+abbrev pub plan_in : Option Task → Option (List ℕ)
+plan_in None = None
+plan_in (Some (task.Count file column)) = None
+plan_in (Some (task.Run plan)) = Some plan.now

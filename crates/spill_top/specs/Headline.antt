@@ -1,14 +1,13 @@
 -- When each status comes, and what the report says then.
-use Rattle.std.specs.Prelude.{◌≡◌, ◌≤◌, ◌<◌, ◌⊎◌, ℕ, List, [], Option, Some, IfSome, length, option_map}
+use Rattle.std.specs.Prelude.{◌≡◌, ◌≢◌, ◌≤◌, ◌<◌, ◌⊎◌, ℕ, List, Option, Some, IfSome, length, option_map}
 use Rattle.std.specs.Io.KnownBytes.{Keeps}
 use Rattle.outside.specs.Counts.{Rose}
-use Rattle.query_run.specs.Answer.{WroteAnswer, WroteFront}
-use Rattle.query_run.specs.Both.{both_told}
 use Rattle.query_run.specs.Input.{IsAccepted, IsRefusal, most_bytes, refusal_of}
 use Rattle.query_run.specs.declared.outcome.QueryErr.{QueryErr}
 use Rattle.spill_top.specs.declared.report.Refusal.{Refusal}
 use Rattle.spill_top.specs.declared.report.Refusal.TheVariants.{InputFault, Header, Csv, Large, Row}
 use Rattle.spill_top.specs.Counting.{counting}
+use Rattle.spill_top.specs.OneInput.{WroteAnswerOver, WroteFrontOver}
 use Rattle.spill_top.specs.Refusals.{refusal_for}
 use Rattle.spill_top.specs.Report.{Tells, TellsOrMisses, line_of, shortage, status_of}
 use Rattle.spill_top.specs.Words.{Command}
@@ -17,18 +16,18 @@ use Rattle.spill_top.specs.Words.{Command}
 abbrev pub page_bytes : ℕ
 page_bytes = 8192
 
--- the statuses: an answer, or its cause
+-- the statuses of a count: an answer, or its cause
 abbrev pub IsStatus : ℕ → Type 0
-IsStatus status = (status ≡ 0) ⊎ (status ≡ 1) ⊎ (status ≡ 3) ⊎ (status ≡ 4) ⊎ (status ≡ 5) ⊎ (status ≡ 9) ⊎ (status ≡ 10)
+IsStatus status = (status ≡ 0) ⊎ (status ≡ 3) ⊎ (status ≡ 4) ⊎ (status ≡ 5) ⊎ (status ≡ 9) ⊎ (status ≡ 10)
 
 -- the whole answer of the command was appended to the report, over the bytes that stand under its file, which is its only
 -- input
 abbrev pub Answers : (List ℕ → Option (List ℕ)) → Option (List ℕ) → Option (List ℕ) → Command → Type 0
-Answers bytes_at before now command = WroteAnswer (counting command) page_bytes (both_told (bytes_at command.file) (Some [])) before now
+Answers bytes_at before now command = WroteAnswerOver (counting command) page_bytes (bytes_at command.file) before now
 
 -- a front of that answer was appended
 abbrev pub AnswersInPart : (List ℕ → Option (List ℕ)) → Option (List ℕ) → Option (List ℕ) → Command → Type 0
-AnswersInPart bytes_at before now command = WroteFront (counting command) page_bytes (both_told (bytes_at command.file) (Some [])) before now
+AnswersInPart bytes_at before now command = WroteFrontOver (counting command) page_bytes (bytes_at command.file) before now
 
 -- what the bytes of the input, if they are told, are refused for gives this refusal
 abbrev pub IsOfInput : Option (List ℕ) → Command → Refusal → Type 0
@@ -80,3 +79,18 @@ pub record AcceptsInput (told : Option (List ℕ)) (command : Command) : Type 0 
 -- the status is that of this cause
 abbrev pub IsStatusOf : QueryErr → ℕ → Type 0
 IsStatusOf why status = option_map status_of (refusal_for why) ≡ Some status
+
+-- a count: its answer, or the cause of its status. Where the bytes of the input are refused, that is answered, unless it can't be read or memory is wanting;
+-- where they are accepted and no count rises, only memory can be wanting
+pub record Counted (bytes_at : List ℕ → Option (List ℕ)) (faults faults_now : List ℕ → ℕ) (report report_now : Option (List ℕ)) (writes writes_now status : ℕ) (command : Command) : Type 0 where
+  pub status_is : IsStatus status
+  pub answer : status ≡ 0 → Answers bytes_at report report_now command
+  pub input_fault : status ≡ 3 → Rose (faults command.file) (faults_now command.file)
+  pub refused : status ≢ 0 → status ≢ 9 → status ≢ 10 → Refuses status command (bytes_at command.file) (faults command.file) (faults_now command.file) report report_now writes writes_now
+  pub lacks_memory : status ≡ 10 → LacksMemory bytes_at report report_now writes writes_now command
+  pub quiet : status ≡ 0 → writes_now ≡ writes
+  pub output_fault : status ≡ 9 → Rose writes writes_now
+  pub part : status ≡ 9 → AnswersInPart bytes_at report report_now command
+  pub refuses : (why : QueryErr) → RefusesBytes (bytes_at command.file) command why → IsStatusOf why status ⊎ (status ≡ 3) ⊎ (status ≡ 10)
+  pub too_many : HasTooMany (bytes_at command.file) → (status ≡ 4) ⊎ (status ≡ 5) ⊎ (status ≡ 3) ⊎ (status ≡ 10)
+  pub succeeds : AcceptsInput (bytes_at command.file) command → (Rose (faults command.file) (faults_now command.file) ⊎ Rose writes writes_now) ⊎ ((status ≡ 0) ⊎ (status ≡ 10))

@@ -4,4 +4,11 @@ pub mod Parsing
 pub mod Report
 pub mod Refusals
 pub mod Counting
+pub mod OneInput
 pub mod Headline
+pub mod Endings
+pub mod Reserving
+pub mod Running
+pub mod Jobs
+pub mod Ran
+pub mod PlanFile

@@ -75,3 +75,14 @@ count_asked (Some (SelfCheck checking)) = None
 -- the count that words ask for, if they ask for one
 abbrev pub command_of : List (List ℕ) → Option Command
 command_of words = count_asked (request_of words)
+
+-- the plan's file that is asked for, if it is a run
+abbrev pub plan_asked : Option Request → Option (List ℕ)
+plan_asked None = None
+plan_asked (Some (Count command)) = None
+plan_asked (Some (Run plan)) = Some plan
+plan_asked (Some (SelfCheck checking)) = None
+
+-- the plan's file that words ask for, if they ask for a run
+abbrev pub plan_file_of : List (List ℕ) → Option (List ℕ)
+plan_file_of words = plan_asked (request_of words)

@@ -1,27 +1,34 @@
-// The words of a count.
+// What the words of a command ask for, as far as it is built.
 
-ghost use Rattle.std.specs.Prelude.{◌≡◌, ◌≢◌, None, IfOk, IsErr, map, string_bytes, option_map, false, true};
-ghost use Rattle.spill_top.specs.Words.{command_of};
+ghost use Rattle.std.specs.Prelude.{◌≡◌, ◌≢◌, ◌⊎◌, None, IfOk, IsErr, map, string_bytes, false, true};
+ghost use Rattle.spill_top.specs.Asked.{count_in, plan_in};
+ghost use Rattle.spill_top.specs.Words.{command_of, plan_file_of};
 
 use crate::words::{Command, are_operands, read_words};
 use row_codec::Memory;
 use std::alloc::Global;
 
-// The file and the column of `count FILE COLUMN`, if the words are that. Other words are refused as
-// such whether or not there is memory to read them.
-pub(crate) fn count_words<'a>(
-    alloc: Global,
-    words: &'a [String],
-) -> Result<Option<(&'a str, &'a str)>, Memory>
-    ensures ok { IfOk result (λ found. option_map (λ pair. record { file = pair.0.now; column = pair.1.now }) found ≡ command_of (map string_bytes words.entry.now)) }
-    ensures err { IsErr result → command_of (map string_bytes words.entry.now) ≢ None }
+// A count, or a run of a plan.
+#[derive(Clone, Copy, Debug, PartialEq, Eq)]
+pub(crate) enum Task<'a> {
+    Count { file: &'a str, column: &'a str },
+    Run { plan: &'a str },
+}
+
+// What words ask for, if they are a command that is built. Other words are refused as such whether or not there is memory to read
+// them.
+pub(crate) fn read_task<'a>(alloc: Global, words: &'a [String]) -> Result<Option<Task<'a>>, Memory>
+    ensures count { IfOk result (λ found. count_in found ≡ command_of (map string_bytes words.entry.now)) }
+    ensures run { IfOk result (λ found. plan_in found ≡ plan_file_of (map string_bytes words.entry.now)) }
+    ensures err { IsErr result → (command_of (map string_bytes words.entry.now) ≢ None) ⊎ (plan_file_of (map string_bytes words.entry.now) ≢ None) }
 {
     match read_words(alloc, words) {
-        Ok(Some(Command::Count { file, column })) => Ok(Some((file, column))),
-        Ok(Some(Command::Run { .. } | Command::SelfCheck { .. })) => Ok(None),
+        Ok(Some(Command::Count { file, column })) => Ok(Some(Task::Count { file, column })),
+        Ok(Some(Command::Run { plan })) => Ok(Some(Task::Run { plan })),
+        Ok(Some(Command::SelfCheck { .. })) => Ok(None),
         Ok(None) => Ok(None),
         Err(Memory) => {
-            if is_count(words) {
+            if is_built(words) {
                 Err(Memory)
             } else {
                 Ok(None)
@@ -30,16 +37,18 @@ pub(crate) fn count_words<'a>(
     }
 }
 
-// Whether the words are a count.
-fn is_count(words: &[String]) -> bool
-    ensures yes { result ≡ true → command_of (map string_bytes words.now) ≢ None }
-    ensures no { result ≡ false → command_of (map string_bytes words.now) ≡ None }
+// Whether the words are a count or a run.
+fn is_built(words: &[String]) -> bool
+    ensures yes { result ≡ true → (command_of (map string_bytes words.now) ≢ None) ⊎ (plan_file_of (map string_bytes words.now) ≢ None) }
+    ensures count { result ≡ false → command_of (map string_bytes words.now) ≡ None }
+    ensures run { result ≡ false → plan_file_of (map string_bytes words.now) ≡ None }
 {
     if !are_operands(words) {
         return false;
     }
-    let [verb, _, _] = words else {
-        return false;
-    };
-    "count" == verb.as_str()
+    match words {
+        [verb, _, _] => "count" == verb.as_str(),
+        [verb, _] => "run" == verb.as_str(),
+        _ => false,
+    }
 }

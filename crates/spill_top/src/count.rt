@@ -8,6 +8,7 @@ ghost use Rattle.query_run.specs.Causes.{NamesInt, OfPool};
 ghost use Rattle.spill_top.specs.Refusals.{refusal_for};
 ghost use Rattle.spill_top.specs.Headline.{Answers, AnswersInPart, IsCause, WroteLess};
 
+use crate::job::let_go;
 use crate::plan::{BLOCK_LEN, LEAST, LIMIT, counting_plan};
 use crate::report::Refusal;
 use outside::{Inputs, Sink};
@@ -72,16 +73,6 @@ pub(crate) fn count<I: Inputs, R: Sink>(
         return Ok(());
     };
     Err(Stop::of(e))
-}
-
-// Lets go of a source that is not there.
-fn let_go<S>(none: Option<S>)
-    requires { none ≡ None }
-{
-    match none {
-        None => (),
-        Some(_) => unreachable!(),
-    }
 }
 
 impl Stop {

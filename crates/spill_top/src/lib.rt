@@ -3,10 +3,18 @@
 
 mod command;
 mod count;
+mod counted;
+mod ending;
+mod job;
 mod number;
+mod over;
 mod parser;
 mod plan;
+mod plan_file;
+mod ran;
 mod report;
+mod run;
+mod steps;
 mod top;
 mod words;
 

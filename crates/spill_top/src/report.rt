@@ -1,7 +1,9 @@
 // The lines of refusals.
 
 ghost use Rattle.std.specs.Prelude.{◌≡◌, ◌≤◌, IfOk, Some, None};
-ghost use Rattle.spill_top.specs.Report.{Tells, line_of, outcome_of, shortage, usage, status_of};
+ghost use Rattle.run_report.specs.declared.outcome.Outcome.TheVariants.{Refused};
+ghost use Rattle.run_report.specs.Report.{outcome_text};
+ghost use Rattle.spill_top.specs.Report.{Tells, TellsOrMisses, line_of, outcome_of, shortage, usage, status_of};
 ghost use Rattle.spill_top.specs.Refusals.{Says, refusal_for};
 
 use csv_edge::write_whole;
@@ -104,12 +106,26 @@ pub(crate) fn refuse<R: Sink>(alloc: Global, report: &mut R, refusal: Refusal) -
     status
 }
 
-// Appends the line for want of memory, which takes none.
-pub(crate) fn refuse_memory<R: Sink>(report: &mut R)
+// Appends the line of a command that is refused so, unless it finds no memory, and answers its status.
+pub(crate) fn refuse_as<R: Sink>(alloc: Global, report: &mut R, status: u8, cause: Cause) -> u8
+    ensures status { result ≡ status }
+    ensures tells { TellsOrMisses (outcome_text None (Refused status cause)) (R.contents report.old) (R.contents report.new) (R.faults report.old) (R.faults report.new) }
+    ensures never_falls { R.faults report.old ≤ R.faults report.new }
+{
+    if let Ok(line) = outcome_line(alloc, None, &Outcome::Refused { status, cause }) {
+        tell(report, line.as_slice());
+    }
+    status
+}
+
+// Appends the line for want of memory, which takes none, and answers its status.
+pub(crate) fn refuse_memory<R: Sink>(report: &mut R) -> u8
+    ensures status { result ≡ 10 }
     ensures tells { Tells shortage (R.contents report.old) (R.contents report.new) (R.faults report.old) (R.faults report.new) }
     ensures never_falls { R.faults report.old ≤ R.faults report.new }
 {
     tell(report, b"10 memory\n");
+    10
 }
 
 // Appends the line for words that are no command.

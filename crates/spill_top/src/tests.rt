@@ -4,6 +4,8 @@ use outside::{MemInputs, MemOutputs, MemSink, MemSlot, OpenGate};
 use std::alloc::{AllocError, Global};
 use std::test::Fail;
 
+mod plans;
+
 // A run of the top call: the file `in.csv`, if it is there, in chunks of 5 bytes with these reads
 // failing, and a report with these writes failing.
 #[derive(Clone, Copy)]

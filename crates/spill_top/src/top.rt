@@ -1,16 +1,18 @@
 // The top call.
 
-ghost use Rattle.std.specs.Prelude.{◌≡◌, ◌≢◌, ◌≤◌, ◌↔◌, ◌⊎◌, None, IfSome, map, string_bytes, vec_len};
-ghost use Rattle.outside.specs.Counts.{NoneFell, Rose};
+ghost use Rattle.std.specs.Prelude.{◌≡◌, ◌≤◌, ◌↔◌, None, IfSome, map, string_bytes, vec_len};
+ghost use Rattle.outside.specs.Counts.{NoneFell};
 ghost use Rattle.outside.specs.Names.{AllStay};
-ghost use Rattle.query_run.specs.declared.outcome.QueryErr.{QueryErr};
-ghost use Rattle.spill_top.specs.Words.{command_of};
+ghost use Rattle.spill_top.specs.Headline.{Counted};
+ghost use Rattle.spill_top.specs.Ran.{RanPlan, telling};
 ghost use Rattle.spill_top.specs.Report.{Tells, usage};
-ghost use Rattle.spill_top.specs.Headline.{AcceptsInput, Answers, AnswersInPart, HasTooMany, IsStatus, IsStatusOf, LacksMemory, Refuses, RefusesBytes};
+ghost use Rattle.spill_top.specs.Running.{seen};
+ghost use Rattle.spill_top.specs.Words.{command_of, plan_file_of};
 
-use crate::command::count_words;
-use crate::count::{Stop, count};
-use crate::report::{refuse, refuse_memory, refuse_words};
+use crate::command::{Task, read_task};
+use crate::counted::answer_count;
+use crate::ran::run;
+use crate::report::{refuse_memory, refuse_words};
 use outside::{Gate, Inputs, Outputs, Sink, Slot};
 use std::alloc::Global;
 
@@ -18,17 +20,25 @@ use std::alloc::Global;
 ///
 /// `count FILE COLUMN` appends to the report how often each text of the column stands in the file.
 /// A refusal appends its line in its place, unless the line finds no memory; where memory is wanting, the
-/// report may also have a front of the answer. After a fault of the report nothing more is written.
+/// report may also have a front of the answer.
+///
+/// `run PLAN` runs the queries of a plan's file and appends a line for each of them, but for those that find no memory. The
+/// least reservations are asked first, in the order of the plan. Then outputs are created, inputs are opened, queries run one
+/// after the other, and sources and then sinks are given back, each in this order. The status is the first that is not 0.
+///
+/// After a fault of the report nothing more is written to it.
 ///
 /// | status | meaning |
 /// |---|---|
-/// | 0 | the report has the whole answer |
+/// | 0 | the report has the whole answer; for a run, each output has its own |
 /// | 1 | the words are no command |
-/// | 3 | the input could not be read |
-/// | 4 | the input was refused: it is no table with such a column, or too large |
-/// | 5 | a row weighs more than 8192 bytes: its encoding, and 16 |
-/// | 9 | the report could not be written |
-/// | 10 | out of memory; when this comes is left open |
+/// | 2 | the bytes of the plan are no plan |
+/// | 3 | an input, or the plan, could not be read |
+/// | 4 | an input was refused: it is no table with such columns, a field is no int, or it is too large |
+/// | 5 | a row weighs more than a page has bytes |
+/// | 6 | the least reservation of a query was refused |
+/// | 9 | an output, or the report, could not be written |
+/// | 10 | out of memory; when this comes is left open. A query that joins ends so too: joins are not run yet |
 pub fn spill_top<I: Inputs, O: Outputs, R: Sink, D: Slot, G: Gate>(
     alloc: Global,
     words: &[String],
@@ -39,53 +49,33 @@ pub fn spill_top<I: Inputs, O: Outputs, R: Sink, D: Slot, G: Gate>(
     gate: &G,
 ) -> u8
     requires { vec_len slots.old ≤ 1048576 }
-    // Status 0: the report has the answer, as computed over the whole input.
-    ensures answer { result ≡ 0 → IfSome (command_of (map string_bytes words.now)) (Answers (I.bytes_at inputs.old) (R.contents report.old) (R.contents report.new)) }
-
-    // Every other status has its cause.
-    ensures status { IsStatus result }
-    ensures words { (result ≡ 1) ↔ (command_of (map string_bytes words.now) ≡ None) }
+    // Words that are no command are refused as such, and no others.
+    ensures words { (result ≡ 1) ↔ ((command_of (map string_bytes words.now) ≡ None) × (plan_file_of (map string_bytes words.now) ≡ None)) }
     ensures usage { result ≡ 1 → Tells usage (R.contents report.old) (R.contents report.new) (R.faults report.old) (R.faults report.new) }
-    ensures input_fault { result ≡ 3 → IfSome (command_of (map string_bytes words.now)) (λ c. Rose (I.faults_at inputs.old c.file) (I.faults_at inputs.new c.file)) }
-    ensures refused { result ≢ 0 → result ≢ 1 → result ≢ 9 → result ≢ 10 → IfSome (command_of (map string_bytes words.now)) (λ c.
-        Refuses result c (I.bytes_at inputs.old c.file) (I.faults_at inputs.old c.file) (I.faults_at inputs.new c.file) (R.contents report.old) (R.contents report.new) (R.faults report.old) (R.faults report.new)) }
-    ensures lacks_memory { result ≡ 10 → IfSome (command_of (map string_bytes words.now)) (LacksMemory (I.bytes_at inputs.old) (R.contents report.old) (R.contents report.new) (R.faults report.old) (R.faults report.new)) }
-    ensures quiet { result ≡ 0 → R.faults report.new ≡ R.faults report.old }
-    ensures output_fault { result ≡ 9 → Rose (R.faults report.old) (R.faults report.new) }
-    ensures part { result ≡ 9 → IfSome (command_of (map string_bytes words.now)) (AnswersInPart (I.bytes_at inputs.old) (R.contents report.old) (R.contents report.new)) }
 
-    // Where the bytes of the input are refused, that is answered, unless it can't be read or memory is wanting.
-    ensures refuses { IfSome (command_of (map string_bytes words.now)) (λ c. (why : QueryErr) → RefusesBytes (I.bytes_at inputs.old c.file) c why
-        → IsStatusOf why result ⊎ (result ≡ 3) ⊎ (result ≡ 10)) }
-    ensures too_many { IfSome (command_of (map string_bytes words.now)) (λ c. HasTooMany (I.bytes_at inputs.old c.file)
-        → (result ≡ 4) ⊎ (result ≡ 5) ⊎ (result ≡ 3) ⊎ (result ≡ 10)) }
-
-    // Where the input is accepted and no count rises, only memory can be wanting.
-    ensures succeeds { IfSome (command_of (map string_bytes words.now)) (λ c. AcceptsInput (I.bytes_at inputs.old c.file) c
-        → (Rose (I.faults_at inputs.old c.file) (I.faults_at inputs.new c.file) ⊎ Rose (R.faults report.old) (R.faults report.new)) ⊎ ((result ≡ 0) ⊎ (result ≡ 10))) }
+    // A command has its answer, or a status with its cause.
+    ensures count { IfSome (command_of (map string_bytes words.now)) (Counted (I.bytes_at inputs.old) (I.faults_at inputs.old) (I.faults_at inputs.new) (R.contents report.old) (R.contents report.new) (R.faults report.old) (R.faults report.new) result) }
+    ensures run { IfSome (plan_file_of (map string_bytes words.now)) (λ file. RanPlan file (vec_len slots.old)
+        (seen (I.bytes_at inputs.old) (I.faults_at inputs.old) (O.written outputs.old) (O.is_created outputs.old) (O.faults_at outputs.old))
+        (seen (I.bytes_at inputs.new) (I.faults_at inputs.new) (O.written outputs.new) (O.is_created outputs.new) (O.faults_at outputs.new))
+        (telling (R.contents report.old) (R.faults report.old)) (telling (R.contents report.new) (R.faults report.new)) result) }
 
     ensures slots { slots.new ≡ slots.old }
-    ensures outputs { outputs.new ≡ outputs.old }
+    ensures outputs { plan_file_of (map string_bytes words.now) ≡ None → outputs.new ≡ outputs.old }
     ensures inputs { AllStay (I.bytes_at inputs.old) (I.bytes_at inputs.new) }
     ensures never_falls { NoneFell (I.faults_at inputs.old) (I.faults_at inputs.new) }
+    ensures outputs_never_fall { NoneFell (O.faults_at outputs.old) (O.faults_at outputs.new) }
     ensures report { R.faults report.old ≤ R.faults report.new }
 {
-    let Ok(found) = count_words(alloc, words) else {
-        refuse_memory(report);
-        return 10;
+    let Ok(found) = read_task(alloc, words) else {
+        return refuse_memory(report);
     };
-    let Some((file, column)) = found else {
-        refuse_words(report);
-        return 1;
-    };
-    match count(alloc, file, column, inputs, report) {
-        Ok(()) => 0,
-        Err(Stop::Report) => 9,
-        Err(Stop::Memory) => {
-            refuse_memory(report);
-            10
+    match found {
+        Some(Task::Count { file, column }) => answer_count(alloc, file, column, inputs, report),
+        Some(Task::Run { plan }) => run(alloc, plan, slots.len() as u32, inputs, outputs, report),
+        None => {
+            refuse_words(report);
+            1
         }
-        Err(Stop::Short) => 10,
-        Err(Stop::Refused(refusal)) => refuse(alloc, report, refusal),
     }
 }

@@ -1,39 +1,48 @@
-use Rattle.std.proofs.Common.{◌≡◌, inl, inr, refl, Some, map, string_bytes, rules}
-use Rattle.spill_top.specs.Headline.{IsCause}
-use Rattle.spill_top.specs.Words.{Command, command_of}
-use Rattle.spill_top.proofs.Causes.{fault_so, refuses_so, succeeds_so, why_is}
-use Rattle.spill_top.proofs.Counts.{of_each}
+use Rattle.std.proofs.Common.{◌≡◌, Some, map, string_bytes, vec_len, refl, rules}
+use Rattle.spill_top.specs.Headline.{Counted}
+use Rattle.spill_top.specs.Ran.{telling}
+use Rattle.spill_top.specs.Running.{seen}
+use Rattle.spill_top.specs.Words.{Command, command_of, plan_file_of}
+use Rattle.spill_top.proofs.Tops.{count_never_one, counted_short, of_each, ran_short, run_never_one, words_count, words_run}
 use Rattle.spill_top.proofs.top.spill_top.Goals as goal
 
-pub returns-in_default-clause-lacks_memory : goal.returns-in_default-clause-lacks_memory
-returns-in_default-clause-lacks_memory g c = λ ten. of_each (command_of (map string_bytes c.args.words.now)) _ (λ command. inl c.refuse_memory.ensures.tells)
+pub returns-in_default-clause-count : goal.returns-in_default-clause-count
+returns-in_default-clause-count g c = of_each (command_of (map string_bytes c.args.words.now)) _ (λ command. counted_short _ _ _ _ _ _ _ _ command c.refuse_memory.ensures.status c.refuse_memory.ensures.tells)
 
-pub returns-in_default-clause-refuses : goal.returns-in_default-clause-refuses
-returns-in_default-clause-refuses g c = of_each (command_of (map string_bytes c.args.words.now)) _ (λ command why refuses. inr (inr refl))
+pub returns-in_default-clause-run : goal.returns-in_default-clause-run
+returns-in_default-clause-run g c = of_each (plan_file_of (map string_bytes c.args.words.now)) _ (λ file. ran_short file _ _ (seen (g.I.Inputs.bytes_at c.args.inputs.now) (g.I.Inputs.faults_at c.args.inputs.now) (g.O.Outputs.written c.args.outputs.now) (g.O.Outputs.is_created c.args.outputs.now) (g.O.Outputs.faults_at c.args.outputs.now)) (seen (g.I.Inputs.bytes_at c.args.inputs.now) (g.I.Inputs.faults_at c.args.inputs.now) (g.O.Outputs.written c.args.outputs.now) (g.O.Outputs.is_created c.args.outputs.now) (g.O.Outputs.faults_at c.args.outputs.now)) (telling (g.R.Sink.contents c.args.report.now) (g.R.Sink.faults c.args.report.now)) (telling (g.R.Sink.contents c.refuse_memory.new.report) (g.R.Sink.faults c.refuse_memory.new.report)) c.refuse_memory.ensures.status (λ name. refl) c.refuse_memory.ensures.tells)
 
-pub returns-in_default-clause-too_many : goal.returns-in_default-clause-too_many
-returns-in_default-clause-too_many g c = of_each (command_of (map string_bytes c.args.words.now)) _ (λ command many. inr (inr (inr refl)))
+pub returns-in-Some-Count-clause-words : goal.returns-in-Some-Count-clause-words
+returns-in-Some-Count-clause-words g c =
+    let is : command_of (map string_bytes c.args.words.now) ≡ Some (record { file = c.in-Some-Count.file.now; column = c.in-Some-Count.column.now }) = search rules in
+    words_count _ _ _ _ is (count_never_one c.answer_count.result c.answer_count.ensures.status)
 
-pub returns-in_default-clause-succeeds : goal.returns-in_default-clause-succeeds
-returns-in_default-clause-succeeds g c = of_each (command_of (map string_bytes c.args.words.now)) _ (λ command accepts. inr (inr refl))
+pub returns-in-Some-Count-clause-usage : goal.returns-in-Some-Count-clause-usage
+returns-in-Some-Count-clause-usage g c = λ one. absurd (count_never_one c.answer_count.result c.answer_count.ensures.status one)
 
-pub returns-in-Err-Refused-clause-input_fault : goal.returns-in-Err-Refused-clause-input_fault
-returns-in-Err-Refused-clause-input_fault g c = λ three.
-    let is : command_of (map string_bytes c.args.words.now) ≡ Some (record { file = c.in-Some.file.now; column = c.in-Some.column.now }) = search rules in
-    let cause : IsCause (g.I.Inputs.bytes_at c.args.inputs.now c.in-Some.file.now) (g.I.Inputs.faults_at c.args.inputs.now c.in-Some.file.now) (g.I.Inputs.faults_at c.count.new.inputs c.in-Some.file.now) (record { file = c.in-Some.file.now; column = c.in-Some.column.now }) c.in-Err-Refused.refusal = search rules in
-    let command : Command = record { file = c.in-Some.file.now; column = c.in-Some.column.now } in
-    rw is (fault_so _ _ _ command _ (why_is _ _ _ command c.in-Err-Refused.refusal _ c.refuse.ensures.says.status_is cause) three)
+pub returns-in-Some-Count-clause-count : goal.returns-in-Some-Count-clause-count
+returns-in-Some-Count-clause-count g c =
+    let command : Command = record { file = c.in-Some-Count.file.now; column = c.in-Some-Count.column.now } in
+    let is : command_of (map string_bytes c.args.words.now) ≡ Some (record { file = c.in-Some-Count.file.now; column = c.in-Some-Count.column.now }) = search rules in
+    let counted : Counted (g.I.Inputs.bytes_at c.args.inputs.now) (g.I.Inputs.faults_at c.args.inputs.now) (g.I.Inputs.faults_at c.answer_count.new.inputs) (g.R.Sink.contents c.args.report.now) (g.R.Sink.contents c.answer_count.new.report) (g.R.Sink.faults c.args.report.now) (g.R.Sink.faults c.answer_count.new.report) c.answer_count.result command = record {
+      status_is = c.answer_count.ensures.status;
+      answer = c.answer_count.ensures.answer;
+      input_fault = c.answer_count.ensures.input_fault;
+      refused = c.answer_count.ensures.refused;
+      lacks_memory = c.answer_count.ensures.lacks_memory;
+      quiet = c.answer_count.ensures.quiet;
+      output_fault = c.answer_count.ensures.output_fault;
+      part = c.answer_count.ensures.part;
+      refuses = c.answer_count.ensures.refuses;
+      too_many = c.answer_count.ensures.too_many;
+      succeeds = c.answer_count.ensures.succeeds;
+    } in
+    rw is counted
 
-pub returns-in-Err-Refused-clause-refuses : goal.returns-in-Err-Refused-clause-refuses
-returns-in-Err-Refused-clause-refuses g c =
-    let is : command_of (map string_bytes c.args.words.now) ≡ Some (record { file = c.in-Some.file.now; column = c.in-Some.column.now }) = search rules in
-    let cause : IsCause (g.I.Inputs.bytes_at c.args.inputs.now c.in-Some.file.now) (g.I.Inputs.faults_at c.args.inputs.now c.in-Some.file.now) (g.I.Inputs.faults_at c.count.new.inputs c.in-Some.file.now) (record { file = c.in-Some.file.now; column = c.in-Some.column.now }) c.in-Err-Refused.refusal = search rules in
-    let command : Command = record { file = c.in-Some.file.now; column = c.in-Some.column.now } in
-    rw is (λ why refuses. refuses_so _ _ _ command _ why (why_is _ _ _ command c.in-Err-Refused.refusal _ c.refuse.ensures.says.status_is cause) refuses)
+pub returns-in-Some-Run-clause-words : goal.returns-in-Some-Run-clause-words
+returns-in-Some-Run-clause-words g c =
+    let is : plan_file_of (map string_bytes c.args.words.now) ≡ Some c.in-Some-Run.plan.now = search rules in
+    words_run _ _ _ _ is (run_never_one _ _ _ _ _ _ _ c.run.ensures.ran)
 
-pub returns-in-Err-Refused-clause-succeeds : goal.returns-in-Err-Refused-clause-succeeds
-returns-in-Err-Refused-clause-succeeds g c =
-    let is : command_of (map string_bytes c.args.words.now) ≡ Some (record { file = c.in-Some.file.now; column = c.in-Some.column.now }) = search rules in
-    let cause : IsCause (g.I.Inputs.bytes_at c.args.inputs.now c.in-Some.file.now) (g.I.Inputs.faults_at c.args.inputs.now c.in-Some.file.now) (g.I.Inputs.faults_at c.count.new.inputs c.in-Some.file.now) (record { file = c.in-Some.file.now; column = c.in-Some.column.now }) c.in-Err-Refused.refusal = search rules in
-    let command : Command = record { file = c.in-Some.file.now; column = c.in-Some.column.now } in
-    rw is (λ accepts. succeeds_so _ _ _ _ _ command _ (why_is _ _ _ command c.in-Err-Refused.refusal _ c.refuse.ensures.says.status_is cause) accepts)
+pub returns-in-Some-Run-clause-usage : goal.returns-in-Some-Run-clause-usage
+returns-in-Some-Run-clause-usage g c = λ one. absurd (run_never_one _ _ _ _ _ _ _ c.run.ensures.ran one)

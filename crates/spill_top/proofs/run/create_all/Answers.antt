@@ -1,0 +1,32 @@
+use Rattle.std.proofs.Common.{◌≡◌, ◌<◌, ◌≤◌, ℕ, Bool, List, Option, Some, length, refl, rules}
+use Rattle.std.specs.List.{slice_get}
+use Rattle.std.proofs.lemmas.Option.{slice_get_read}
+use Rattle.spill_top.specs.Running.{seen}
+use Rattle.spill_top.specs.Jobs.{IsBegun, IsCreated, work_of}
+use Rattle.spill_top.proofs.Loops.{going_all, going_call, going_first, kept_call}
+use Rattle.spill_top.proofs.Works.{went_on}
+use Rattle.spill_top.proofs.run.create_all.Goals as goal
+
+pub create-requires-clause-begun : goal.create-requires-clause-begun
+create-requires-clause-begun g c κs within =
+    let inside : c.loop-place.place < length c.loop-place.jobs.items = search rules in
+    let at : slice_get c.loop-place.jobs.items c.loop-place.place ≡ Some c.index_mut.result.now = slice_get_read c.loop-place.jobs.items (length c.loop-place.jobs.items) c.loop-place.place c.index_mut.result.now refl inside (search rules) in
+    going_first (work_of g.S.Source.remaining g.S.Source.faults g.O.Snk.Sink.contents g.O.Snk.Sink.faults) IsBegun IsCreated c.loop-place.place _ c.loop-place.jobs.items c.index_mut.result.now at c.loop-place.invariant.going
+
+pub loop-place-preserved : goal.loop-place-preserved
+loop-place-preserved g c =
+    let inside : c.loop-place.place < length c.loop-place.jobs.items = search rules in
+    let at : slice_get c.loop-place.jobs.items c.loop-place.place ≡ Some c.index_mut.result.now = slice_get_read c.loop-place.jobs.items (length c.loop-place.jobs.items) c.loop-place.place c.index_mut.result.now refl inside (search rules) in
+    let at_query : slice_get c.args.queries.now c.loop-place.place ≡ Some c.index-queries-place.result = slice_get_read c.args.queries.now (length c.args.queries.now) c.loop-place.place c.index-queries-place.result refl c.loop-place-test.true c.index-queries-place.is in
+    record {
+      len = c.loop-place.invariant.len;
+      going = going_call (work_of g.S.Source.remaining g.S.Source.faults g.O.Snk.Sink.contents g.O.Snk.Sink.faults) IsBegun IsCreated c.loop-place.place _ c.loop-place.jobs.items c.index_mut.result.now c.create.new.job at c.create.ensures.refused c.create.ensures.step c.loop-place.invariant.going;
+      works = λ files reads. kept_call (work_of g.S.Source.remaining g.S.Source.faults g.O.Snk.Sink.contents g.O.Snk.Sink.faults) (seen files reads (g.O.Outputs.written c.args.outputs.now) (g.O.Outputs.is_created c.args.outputs.now) (g.O.Outputs.faults_at c.args.outputs.now)) (seen files reads (g.O.Outputs.written c.loop-place.outputs) (g.O.Outputs.is_created c.loop-place.outputs) (g.O.Outputs.faults_at c.loop-place.outputs)) (seen files reads (g.O.Outputs.written c.create.new.outputs) (g.O.Outputs.is_created c.create.new.outputs) (g.O.Outputs.faults_at c.create.new.outputs)) c.args.queries.now _ c.loop-place.jobs.items c.loop-place.place c.index-queries-place.result c.index_mut.result.now c.create.new.job at_query at
+          ((c.create.ensures.went files reads).went) (λ j q at_q apart. (c.create.ensures.went files reads).others q.output (λ same. apart (c.requires.apart j c.loop-place.place q c.index-queries-place.result at_q at_query same))) (c.loop-place.invariant.works files reads) (c.create.ensures.work files reads);
+      went = λ files reads. went_on (seen files reads (g.O.Outputs.written c.args.outputs.now) (g.O.Outputs.is_created c.args.outputs.now) (g.O.Outputs.faults_at c.args.outputs.now)) (seen files reads (g.O.Outputs.written c.loop-place.outputs) (g.O.Outputs.is_created c.loop-place.outputs) (g.O.Outputs.faults_at c.loop-place.outputs)) (seen files reads (g.O.Outputs.written c.create.new.outputs) (g.O.Outputs.is_created c.create.new.outputs) (g.O.Outputs.faults_at c.create.new.outputs)) (c.loop-place.invariant.went files reads) ((c.create.ensures.went files reads).went);
+    }
+
+pub returns-clause-step : goal.returns-clause-step
+returns-clause-step g c =
+    let long : length c.loop-place.jobs.items ≤ c.loop-place.place = search rules in
+    going_all (work_of g.S.Source.remaining g.S.Source.faults g.O.Snk.Sink.contents g.O.Snk.Sink.faults) IsBegun IsCreated c.loop-place.place _ c.loop-place.jobs.items long c.loop-place.invariant.going

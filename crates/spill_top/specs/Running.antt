@@ -1,0 +1,95 @@
+-- What becomes of a query of a plan. What its files hold is told or not, and nothing is said where it isn't.
+use Rattle.std.specs.Prelude.{◌≡◌, ◌<◌, ◌⊎◌, ◌++◌, ℕ, Bool, true, false, List, [], Option, Some, None, IfSome, slice_get, ⊤}
+use Rattle.std.specs.Option.{option_flatten}
+use Rattle.outside.specs.Counts.{NoneFell, Rose}
+use Rattle.outside.specs.Names.{AllStay, OthersStay, StaysCreated, Written, fresh}
+use Rattle.reservation_tree.specs.declared.errors.PoolErr.TheVariants.{Memory}
+use Rattle.query_plan.specs.declared.plan.Query.{Query}
+use Rattle.query_plan.specs.declared.plan.Side.{Side}
+use Rattle.query_plan.specs.Sizes.{page_len}
+use Rattle.spill_top.specs.OneInput.{IsAnswerOver}
+use Rattle.query_run.specs.Causes.{IsOfBytes, IsSourceFault, OfPool, side_of}
+use Rattle.query_run.specs.Input.{IsRefusal}
+use Rattle.query_run.specs.declared.outcome.QueryErr.{QueryErr}
+use Rattle.query_run.specs.declared.outcome.QueryErr.TheVariants.{SinkFault}
+use Rattle.spill_top.specs.declared.ending.Ending.{Ending}
+use Rattle.spill_top.specs.declared.ending.Ending.TheVariants.{Lines, Reservation, Stopped}
+
+-- inputs and outputs at a time, by name: the bytes of files, and the faults of reading; what was written, which names were created, and the faults of writing
+pub record Seen : Type 0 where
+  pub files : List ℕ → Option (List ℕ)
+  pub reads : List ℕ → ℕ
+  pub written : List ℕ → Option Written
+  pub created : List ℕ → Bool
+  pub writes : List ℕ → ℕ
+
+abbrev pub seen : (List ℕ → Option (List ℕ)) → (List ℕ → ℕ) → (List ℕ → Option Written) → (List ℕ → Bool) → (List ℕ → ℕ) → Seen
+seen files reads written created writes = record { files = files; reads = reads; written = written; created = created; writes = writes }
+
+-- the files stayed, no count fell, and what was created stays so
+pub record Went (old new : Seen) : Type 0 where
+  pub files : AllStay old.files new.files
+  pub reads : NoneFell old.reads new.reads
+  pub created : StaysCreated old.created new.created
+  pub writes : NoneFell old.writes new.writes
+
+-- and every output but this one stayed
+pub record WentAt (name : List ℕ) (old new : Seen) : Type 0 where
+  pub went : Went old new
+  pub others : OthersStay name old.written new.written
+
+-- why a query stopped over a store in memory: its bytes, where they are told, are refused for this; reading, or writing, has failed; or memory was wanting
+pub record IsStopped (plan : Query) (page : ℕ) (told : Option (List ℕ)) (read_failed write_failed : Type 0) (why : QueryErr) : Type 0 where
+  pub refused : IsOfBytes why → IfSome told (λ bytes. IsRefusal plan page bytes why)
+  pub source_fault : IsSourceFault why → read_failed
+  pub sink_fault : why ≡ SinkFault → write_failed
+  pub memory : OfPool (λ e. e ≡ Memory) why
+
+-- how a query ended is so: its least reservation was refused for exactly this, if it was
+abbrev pub IsEnding : Query → ℕ → Option (List ℕ) → Type 0 → Type 0 → Option Ending → Ending → Type 0
+IsEnding plan page told read_failed write_failed refused (Lines lines) = refused ≡ None
+IsEnding plan page told read_failed write_failed refused (Reservation root wanted room) = refused ≡ Some (Reservation root wanted room)
+IsEnding plan page told read_failed write_failed refused (Stopped why) = (refused ≡ None) × IsStopped plan page told read_failed write_failed why
+
+-- an answer over these bytes, or a front of it, or nothing
+abbrev pub IsPart : Query → ℕ → List ℕ → List ℕ → Type 0
+IsPart plan page bytes text = (text ≡ []) ⊎ ((whole : List ℕ) × (rest : List ℕ) × IsAnswerOver plan page bytes whole × (text ++ rest ≡ whole))
+
+-- an output holds a text, and whether it was said to be whole
+abbrev pub Holds : Option Written → Bool → (List ℕ → Type 0) → Type 0
+Holds written whole IsText = (text : List ℕ) × (written ≡ Some (record { bytes = text; whole = whole })) × IsText text
+
+-- the same where a query stopped: nothing where its input was at fault
+abbrev pub HoldsPart : Query → ℕ → Option (List ℕ) → Option Written → Option Side → Type 0
+HoldsPart plan page told written (Some side) = Holds written false (λ text. text ≡ [])
+HoldsPart plan page told written None = IfSome told (λ bytes. Holds written false (IsPart plan page bytes))
+
+-- an output that was created and given back is so: it holds the answer where the query ended with one
+abbrev pub HasOutput : Query → ℕ → Option (List ℕ) → Option Written → Option Written → Ending → Type 0
+HasOutput plan page told None written ending = ⊤
+HasOutput plan page told (Some before) written (Lines lines) = IfSome told (λ bytes. Holds written true (IsAnswerOver plan page bytes))
+HasOutput plan page told (Some before) written (Reservation root wanted room) = ⊥
+HasOutput plan page told (Some before) written (Stopped why) = HoldsPart plan page told written (side_of why)
+
+-- nothing was done to the output of a query that could not begin
+abbrev pub HasNoOutput : Ending → Type 0
+HasNoOutput (Lines lines) = ⊥
+HasNoOutput (Reservation root wanted room) = ⊤
+HasNoOutput (Stopped why) = why ≡ SinkFault
+
+-- what became of a query, and of its output
+pub record HasEnded (start now : Seen) (block_len : ℕ) (refused : Option Ending) (query : Query) (ending : Ending) : Type 0 where
+  pub so : IsEnding query (page_len query block_len) (start.files query.left.file)
+      (Rose (start.reads query.left.file) (now.reads query.left.file)) (Rose (start.writes query.output) (now.writes query.output)) refused ending
+  pub output : (HasNoOutput ending × (now.written query.output ≡ start.written query.output))
+      ⊎ HasOutput query (page_len query block_len) (start.files query.left.file) (start.written query.output) (now.written query.output) ending
+
+-- of each query, in the order of the plan
+abbrev pub HaveEnded : Seen → Seen → ℕ → List (Option Ending) → List Query → List Ending → Type 0
+HaveEnded start now block_len refused queries ends =
+    (place : ℕ) (query : Query) (ending : Ending) → slice_get queries place ≡ Some query → slice_get ends place ≡ Some ending
+    → HasEnded start now block_len (option_flatten (slice_get refused place)) query ending
+
+-- no two queries have one output
+abbrev pub AreApart : List Query → Type 0
+AreApart queries = (i j : ℕ) (a b : Query) → slice_get queries i ≡ Some a → slice_get queries j ≡ Some b → a.output ≡ b.output → i ≡ j

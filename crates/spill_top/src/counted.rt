@@ -1,0 +1,49 @@
+// The command `count`: its status, and what its report says.
+
+ghost use Rattle.std.specs.Prelude.{◌≡◌, ◌≢◌, ◌≤◌, ◌⊎◌};
+ghost use Rattle.outside.specs.Counts.{NoneFell, Rose};
+ghost use Rattle.outside.specs.Names.{AllStay};
+ghost use Rattle.query_run.specs.declared.outcome.QueryErr.{QueryErr};
+ghost use Rattle.spill_top.specs.Headline.{AcceptsInput, Answers, AnswersInPart, HasTooMany, IsStatus, IsStatusOf, LacksMemory, Refuses, RefusesBytes};
+
+use crate::count::{Stop, count};
+use crate::report::{refuse, refuse_memory};
+use outside::{Inputs, Sink};
+use std::alloc::Global;
+
+// Counts a column of a file, and writes the answer or a refusal to the report.
+pub(crate) fn answer_count<I: Inputs, R: Sink>(
+    alloc: Global,
+    file: &str,
+    column: &str,
+    inputs: &mut I,
+    report: &mut R,
+) -> u8
+    // Status 0: the report has the answer, as computed over the whole input.
+    ensures answer { result ≡ 0 → Answers (I.bytes_at inputs.old) (R.contents report.old) (R.contents report.new) (record { file = file.now; column = column.now }) }
+
+    // Every other status has its cause.
+    ensures status { IsStatus result }
+    ensures input_fault { result ≡ 3 → Rose (I.faults_at inputs.old file.now) (I.faults_at inputs.new file.now) }
+    ensures refused { result ≢ 0 → result ≢ 9 → result ≢ 10 → Refuses result (record { file = file.now; column = column.now }) (I.bytes_at inputs.old file.now) (I.faults_at inputs.old file.now) (I.faults_at inputs.new file.now) (R.contents report.old) (R.contents report.new) (R.faults report.old) (R.faults report.new) }
+    ensures lacks_memory { result ≡ 10 → LacksMemory (I.bytes_at inputs.old) (R.contents report.old) (R.contents report.new) (R.faults report.old) (R.faults report.new) (record { file = file.now; column = column.now }) }
+    ensures quiet { result ≡ 0 → R.faults report.new ≡ R.faults report.old }
+    ensures output_fault { result ≡ 9 → Rose (R.faults report.old) (R.faults report.new) }
+    ensures part { result ≡ 9 → AnswersInPart (I.bytes_at inputs.old) (R.contents report.old) (R.contents report.new) (record { file = file.now; column = column.now }) }
+
+    // Where the bytes of the input are refused, that is answered, unless it can't be read or memory is wanting.
+    ensures refuses { (why : QueryErr) → RefusesBytes (I.bytes_at inputs.old file.now) (record { file = file.now; column = column.now }) why → IsStatusOf why result ⊎ (result ≡ 3) ⊎ (result ≡ 10) }
+    ensures too_many { HasTooMany (I.bytes_at inputs.old file.now) → (result ≡ 4) ⊎ (result ≡ 5) ⊎ (result ≡ 3) ⊎ (result ≡ 10) }
+
+    // Where the input is accepted and no count rises, only memory can be wanting.
+    ensures succeeds { AcceptsInput (I.bytes_at inputs.old file.now) (record { file = file.now; column = column.now }) → (Rose (I.faults_at inputs.old file.now) (I.faults_at inputs.new file.now) ⊎ Rose (R.faults report.old) (R.faults report.new)) ⊎ ((result ≡ 0) ⊎ (result ≡ 10)) }
+    ensures kept { AllStay (I.bytes_at inputs.old) (I.bytes_at inputs.new) × NoneFell (I.faults_at inputs.old) (I.faults_at inputs.new) × (R.faults report.old ≤ R.faults report.new) }
+{
+    match count(alloc, file, column, inputs, report) {
+        Ok(()) => 0,
+        Err(Stop::Report) => 9,
+        Err(Stop::Memory) => refuse_memory(report),
+        Err(Stop::Short) => 10,
+        Err(Stop::Refused(refusal)) => refuse(alloc, report, refusal),
+    }
+}

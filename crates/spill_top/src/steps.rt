@@ -1,0 +1,137 @@
+// What is done for one query of a plan.
+
+ghost use Rattle.std.specs.Prelude.{◌≡◌, ℕ, Bool, false, true, IsSome, List, Option, option_map, unwrap_or};
+ghost use Rattle.block_arena.specs.Blocks.{IsBlockLen};
+ghost use Rattle.outside.specs.Names.{Written};
+ghost use Rattle.query_plan.specs.Rules.{KeepsQuery};
+ghost use Rattle.spill_top.specs.Endings.{is_answer};
+ghost use Rattle.spill_top.specs.Jobs.{IsBegun, IsCreated, IsDone, IsEnded, IsOpen, IsRead, IsWork, KeepsWork, work_of};
+ghost use Rattle.spill_top.specs.Running.{Seen, Went, WentAt, seen};
+
+use crate::ending::Ending;
+use crate::job::{Job, let_go};
+use crate::over::run_over;
+use outside::{Inputs, Outputs, Sink, Source};
+use query_plan::{Query, Side};
+use query_run::QueryErr;
+use std::alloc::Global;
+use std::mem;
+
+// Creates the output, unless the query has ended.
+pub(crate) fn create<S: Source, O: Outputs>(
+    query: &Query,
+    job: &mut Job<S, O::Snk>,
+    outputs: &mut O,
+)
+    requires begun { IsBegun (work_of S.remaining S.faults O.Snk.contents O.Snk.faults job.old) }
+    ensures work { (files : List ℕ → Option (List ℕ)) (reads : List ℕ → ℕ) → KeepsWork (seen files reads (O.written outputs.old) (O.is_created outputs.old) (O.faults_at outputs.old)) (seen files reads (O.written outputs.new) (O.is_created outputs.new) (O.faults_at outputs.new)) query.now (work_of S.remaining S.faults O.Snk.contents O.Snk.faults job.old) (work_of S.remaining S.faults O.Snk.contents O.Snk.faults job.new) }
+    ensures step { IsCreated (work_of S.remaining S.faults O.Snk.contents O.Snk.faults job.new) }
+    ensures refused { job.new.refused ≡ job.old.refused }
+    ensures went { (files : List ℕ → Option (List ℕ)) (reads : List ℕ → ℕ) → WentAt query.now.output (seen files reads (O.written outputs.old) (O.is_created outputs.old) (O.faults_at outputs.old)) (seen files reads (O.written outputs.new) (O.is_created outputs.new) (O.faults_at outputs.new)) }
+{
+    if job.ended.is_some() {
+        return;
+    }
+    match outputs.create(query.output.as_str()) {
+        Ok(sink) => let_go(mem::replace(&mut job.sink, Some(sink))),
+        Err(_) => job.ended = Some(Ending::Stopped(QueryErr::SinkFault)),
+    }
+}
+
+// Opens the input, unless the query has ended.
+pub(crate) fn open<I: Inputs, K: Sink>(query: &Query, job: &mut Job<I::Src, K>, inputs: &mut I)
+    requires begun { IsCreated (work_of I.Src.remaining I.Src.faults K.contents K.faults job.old) }
+    ensures work { (written : List ℕ → Option Written) (created : List ℕ → Bool) (writes : List ℕ → ℕ) → KeepsWork (seen (I.bytes_at inputs.old) (I.faults_at inputs.old) written created writes) (seen (I.bytes_at inputs.new) (I.faults_at inputs.new) written created writes) query.now (work_of I.Src.remaining I.Src.faults K.contents K.faults job.old) (work_of I.Src.remaining I.Src.faults K.contents K.faults job.new) }
+    ensures step { IsOpen (work_of I.Src.remaining I.Src.faults K.contents K.faults job.new) }
+    ensures refused { job.new.refused ≡ job.old.refused }
+    ensures went { (written : List ℕ → Option Written) (created : List ℕ → Bool) (writes : List ℕ → ℕ) → Went (seen (I.bytes_at inputs.old) (I.faults_at inputs.old) written created writes) (seen (I.bytes_at inputs.new) (I.faults_at inputs.new) written created writes) }
+{
+    if job.ended.is_some() {
+        return;
+    }
+    match inputs.open(query.left.file.as_str()) {
+        Ok(left) => let_go(mem::replace(&mut job.left, Some(left))),
+        Err(_) => {
+            let side = Side::Left;
+            job.ended = Some(Ending::Stopped(QueryErr::SourceFault { side }));
+        }
+    }
+}
+
+// Runs the query, unless it has ended.
+pub(crate) fn answer<S: Source, K: Sink>(
+    alloc: Global,
+    query: &Query,
+    job: &mut Job<S, K>,
+    block_len: u32,
+)
+    requires query { KeepsQuery query.now }
+    requires block_len { IsBlockLen block_len }
+    requires open { IsOpen (work_of S.remaining S.faults K.contents K.faults job.old) }
+    ensures work { (start now : Seen) → IsWork start now block_len query.now (work_of S.remaining S.faults K.contents K.faults job.old) → IsWork start now block_len query.now (work_of S.remaining S.faults K.contents K.faults job.new) }
+    ensures step { IsEnded (work_of S.remaining S.faults K.contents K.faults job.new) }
+    ensures refused { job.new.refused ≡ job.old.refused }
+{
+    if job.ended.is_some() {
+        return;
+    }
+    let Some(left) = &mut job.left else {
+        unreachable!();
+    };
+    let Some(sink) = &mut job.sink else {
+        unreachable!();
+    };
+    match run_over(alloc, query, block_len, left, sink) {
+        Ok(lines) => job.ended = Some(Ending::Lines(lines)),
+        Err(e) => job.ended = Some(Ending::Stopped(e)),
+    }
+}
+
+// Gives the source back.
+pub(crate) fn close<I: Inputs, K: Sink>(query: &Query, job: &mut Job<I::Src, K>, inputs: &mut I)
+    requires begun { IsEnded (work_of I.Src.remaining I.Src.faults K.contents K.faults job.old) }
+    ensures work { (written : List ℕ → Option Written) (created : List ℕ → Bool) (writes : List ℕ → ℕ) → KeepsWork (seen (I.bytes_at inputs.old) (I.faults_at inputs.old) written created writes) (seen (I.bytes_at inputs.new) (I.faults_at inputs.new) written created writes) query.now (work_of I.Src.remaining I.Src.faults K.contents K.faults job.old) (work_of I.Src.remaining I.Src.faults K.contents K.faults job.new) }
+    ensures step { IsRead (work_of I.Src.remaining I.Src.faults K.contents K.faults job.new) }
+    ensures refused { job.new.refused ≡ job.old.refused }
+    ensures went { (written : List ℕ → Option Written) (created : List ℕ → Bool) (writes : List ℕ → ℕ) → Went (seen (I.bytes_at inputs.old) (I.faults_at inputs.old) written created writes) (seen (I.bytes_at inputs.new) (I.faults_at inputs.new) written created writes) }
+{
+    if let Some(left) = job.left.take() {
+        inputs.close(query.left.file.as_str(), left);
+    }
+}
+
+// Gives the sink back, and says whether its answer is complete.
+pub(crate) fn finish<S: Source, O: Outputs>(
+    query: &Query,
+    job: &mut Job<S, O::Snk>,
+    outputs: &mut O,
+)
+    requires begun { IsRead (work_of S.remaining S.faults O.Snk.contents O.Snk.faults job.old) }
+    requires created { IsSome job.old.sink → O.is_created outputs.old query.now.output ≡ true }
+    ensures work { (files : List ℕ → Option (List ℕ)) (reads : List ℕ → ℕ) → KeepsWork (seen files reads (O.written outputs.old) (O.is_created outputs.old) (O.faults_at outputs.old)) (seen files reads (O.written outputs.new) (O.is_created outputs.new) (O.faults_at outputs.new)) query.now (work_of S.remaining S.faults O.Snk.contents O.Snk.faults job.old) (work_of S.remaining S.faults O.Snk.contents O.Snk.faults job.new) }
+    ensures step { IsDone (work_of S.remaining S.faults O.Snk.contents O.Snk.faults job.new) }
+    ensures refused { job.new.refused ≡ job.old.refused }
+    ensures went { (files : List ℕ → Option (List ℕ)) (reads : List ℕ → ℕ) → WentAt query.now.output (seen files reads (O.written outputs.old) (O.is_created outputs.old) (O.faults_at outputs.old)) (seen files reads (O.written outputs.new) (O.is_created outputs.new) (O.faults_at outputs.new)) }
+{
+    let Some(sink) = job.sink.take() else {
+        return;
+    };
+    let whole = is_answered(job.ended);
+    match outputs.done(query.output.as_str(), sink, whole) {
+        Ok(()) => (),
+        Err(_) => {
+            if whole {
+                job.ended = Some(Ending::Stopped(QueryErr::SinkFault));
+            }
+        }
+    }
+}
+
+fn is_answered(ended: Option<Ending>) -> bool
+    ensures { result ≡ unwrap_or (option_map is_answer ended) false }
+{
+    match ended {
+        Some(ending) => ending.is_answer(),
+        None => false,
+    }
+}
