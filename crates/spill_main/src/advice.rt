@@ -14,6 +14,27 @@ pub(crate) fn advise(rt: &impl Eprint, status: u8, words: &[String]) -> io::Resu
             }
             rt.eprint(USAGE)
         }
+        (2, [_, plan]) => eprintln!(rt;
+            "spill: {plan} is no plan: the line on standard output names what is wrong with it first"
+        ),
+        (3, [_, plan]) => eprintln!(rt;
+            "spill: {plan}, or an input of one of its queries, could not be read: check that the file is there, that it is a file, and that you may read it; the line on standard output says \"plan\", or the number of the query"
+        ),
+        (4, [_, plan]) => eprintln!(rt;
+            "spill: an input of a query of {plan} was refused: the line of the query on standard output names the record (the header is 0), and the column where a field is no number"
+        ),
+        (5, [_, plan]) => eprintln!(rt;
+            "spill: an input of a query of {plan} has a row that is longer than a page: the line of the query on standard output names the record and its weight; give the query more \"page_blocks\""
+        ),
+        (6, [_, plan]) => eprintln!(rt;
+            "spill: a query of {plan} has too little memory: its line on standard output says how many bytes it asks for and how many there are; give the plan more \"blocks\", or the query a higher \"limit\""
+        ),
+        (9, [_, plan]) => eprintln!(rt;
+            "spill: an output of {plan}, or standard output, could not be written: the disk may be full, or the place may not be yours; lines on standard output number the queries without an output"
+        ),
+        (10, [_, plan]) => eprintln!(rt;
+            "spill: a query of {plan} found no memory, or joins, which is not run yet: its line on standard output gives its number"
+        ),
         (3, [_, file, ..]) => eprintln!(rt;
             "spill: {file} could not be read: check that it is there, that it is a file, and that you may read it"
         ),

@@ -6,12 +6,15 @@ ghost use Rattle.std.specs.Prelude.{◌≡◌, OnSome, length};
 // program isn't built.
 pub(crate) const USAGE: &str = "\
 usage: spill count FILE COLUMN
+       spill run PLAN
        spill help
        spill --version
 
 count FILE COLUMN   how often each value of a column occurs in a CSV file
     spill count orders.csv city
     spill count /dev/stdin city < orders.csv
+run PLAN            the queries of a plan's file, one after the other, each into a file of its own
+    spill run examples/cities.toml
 help                this text; also --help and -h
     spill help
 --version           the name of the program and its version

@@ -59,7 +59,7 @@ lines_next queries ends place text text_now missing missing_now made query endin
       lines = λ rest.
           let after = lines_from (place + 1) (drop (place + 1) queries) (drop (place + 1) ends) rest in
           let step : lines_from place (drop place queries) (drop place ends) (made ∷ rest) ≡ line ++ after =
-              one-more queries ends place query ending made rest at_query at in
+          one-more queries ends place query ending made rest at_query at in
           ap (λ (t : List ℕ). t ++ after) now ∙ (append_assoc text line after ∙ (ap (λ (t : List ℕ). text ++ t) (sym step) ∙ (is.lines (made ∷ rest) ∙ ap (λ (all : List Bool). lines_from 0 queries ends all) (sym (append_assoc is.made (made ∷ []) rest)))));
       whole = all-more is.made made ∙ and-made (list_all (λ is. is) is.made) missing made missing_now is.whole missed;
     }
@@ -108,7 +108,7 @@ pub lines_end : (queries : List Query) (ends : List Ending) (place : ℕ) (text 
 lines_end queries ends place text missing status before now all is tells status_is =
     let many = is.each in
     let text_is : text ≡ lines_from 0 queries ends is.made =
-        sym (append-nil text) ∙ (ap (λ (t : List ℕ). text ++ t) (sym (no-lines queries ends place [] (omega (arith, all)))) ∙ (is.lines [] ∙ ap (λ (made : List Bool). lines_from 0 queries ends made) (append-nil is.made))) in
+    sym (append-nil text) ∙ (ap (λ (t : List ℕ). text ++ t) (sym (no-lines queries ends place [] (omega (arith, all)))) ∙ (is.lines [] ∙ ap (λ (made : List Bool). lines_from 0 queries ends made) (append-nil is.made))) in
     record {
       made = is.made;
       each = omega (arith, many, all);

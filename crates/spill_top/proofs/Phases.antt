@@ -93,7 +93,7 @@ module _ {S K : Type 0} (remaining : S → Option (List ℕ)) (reads : S → ℕ
       → HaveEnded start s4 block_len (refusals block_len room queries) queries ends
   ran_so start s1 s2 s3 s4 block_len room queries j0 j1 j2 j3 j4 j5 ends first are created opened answered closed finished done r1 r2 r3 r4 r5 alike =
       let refused : map (λ (w : Work). w.refused) (map (work_of remaining reads contents writes) j0) ≡ refusals block_len room queries =
-          subst (λ (jobs : List (Job S K)). map (λ (w : Work). w.refused) (map (work_of remaining reads contents writes) jobs) ≡ refusals block_len room queries) (sym first) (begun_refused (refusals block_len room queries)) in
+      subst (λ (jobs : List (Job S K)). map (λ (w : Work). w.refused) (map (work_of remaining reads contents writes) jobs) ≡ refusals block_len room queries) (sym first) (begun_refused (refusals block_len room queries)) in
       all_ended start s4 block_len queries (map (work_of remaining reads contents writes) j5) (refusals block_len room queries) ends
       (finished start block_len (closed start block_len (answered (opened start block_len (created start block_len are))))) done
       (r5 ∙ (r4 ∙ (r3 ∙ (r2 ∙ (r1 ∙ refused))))) (alike ∙ sym (jobs_ended j5))

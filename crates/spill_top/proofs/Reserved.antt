@@ -29,5 +29,5 @@ module _ {S K : Type 0} where
       → jobs ++ map begun (refusals block_len room queries) ≡ all → jobs_now ++ map begun (refusals block_len room_now rest) ≡ all
   reserve_step block_len room room_now queries rest query jobs jobs_now all refused wanted is least refusal_is room_is now whole =
       let after : map (begun {S = S} {K = K}) (refusals block_len room queries) ≡ begun refused ∷ map begun (refusals block_len room_now rest) =
-          rw (room_is, refusal_is, least) (front block_len room queries rest query is) in
+      rw (room_is, refusal_is, least) (front block_len room queries rest query is) in
       ap (λ (js : List (Job S K)). js ++ map begun (refusals block_len room_now rest)) now ∙ (append_assoc jobs (begun refused ∷ []) (map begun (refusals block_len room_now rest)) ∙ (ap (λ (js : List (Job S K)). jobs ++ js) (sym after) ∙ whole))

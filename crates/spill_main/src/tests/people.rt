@@ -83,7 +83,7 @@ fn progress_is_drawn_ten_times_a_second_and_cleared(rt: HostRuntime) -> Result<(
 
 #[test]
 fn each_status_but_0_has_a_sentence(rt: HostRuntime) -> Result<(), Fail> {
-    let rows: [(u8, &[&str], &str); 5] = [
+    let rows: [(u8, &[&str], &str); 7] = [
         (0, &["count", "in.csv", "k"], ""),
         (1, &[], "usage: "),
         (
@@ -95,6 +95,12 @@ fn each_status_but_0_has_a_sentence(rt: HostRuntime) -> Result<(), Fail> {
             3,
             &["count", "in.csv", "k"],
             "spill: in.csv could not be read: ",
+        ),
+        (2, &["run", "p.toml"], "spill: p.toml is no plan: "),
+        (
+            6,
+            &["run", "p.toml"],
+            "spill: a query of p.toml has too little memory: ",
         ),
         (9, &["help"], "spill: writing to standard output failed"),
     ];

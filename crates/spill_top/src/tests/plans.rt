@@ -119,6 +119,7 @@ fn check<R: Abort + AllocGlobal>(
     outputs.refuse("out.csv", fails.create, fails.done)?;
     let mut report = MemSink::new(alloc, 7, fails.report)?;
     let mut slots = slots(alloc)?;
+    assert!(rt; slots.len() == 2000);
     let words = owned(alloc, &["run", "plan.toml"])?;
     let status = spill_top(
         alloc,

@@ -16,12 +16,15 @@ returns-in-Err g c =
     let other : c.in-Err.error ≢ Memory = search rules in
     let is : plan_of c.in-Ok.text.items c.args.slots ≡ Err c.in-Err.error = subst (λ (bytes : List ℕ). plan_of bytes c.args.slots ≡ Err c.in-Err.error) text (c.in-Err.ensures.cause other) in
     record {
-      ran = inr ((λ name. refl), inr (inl (record {
-        status_is = c.refuse_as-in-Err.ensures.status;
-        why = c.in-Err.error;
-        refused = plan_same (g.I.Inputs.bytes_at c.args.inputs.now c.args.file.now) c.in-Ok.text.items c.args.slots (Err c.in-Err.error) c.in-Ok.ensures.text is;
-        tells = c.refuse_as-in-Err.ensures.tells;
-      })));
+      ran = inr (
+        (λ name. refl),
+        inr (inl (record {
+          status_is = c.refuse_as-in-Err.ensures.status;
+          why = c.in-Err.error;
+          refused = plan_same (g.I.Inputs.bytes_at c.args.inputs.now c.args.file.now) c.in-Ok.text.items c.args.slots (Err c.in-Err.error) c.in-Ok.ensures.text is;
+          tells = c.refuse_as-in-Err.ensures.tells;
+        })),
+      );
       went = record { files = c.read_file.ensures.inputs; reads = c.read_file.ensures.never_falls; created = λ name is. is; writes = λ name. omega arith };
       report = c.refuse_as-in-Err.ensures.never_falls;
     }
