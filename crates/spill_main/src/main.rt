@@ -9,13 +9,15 @@
 mod advice;
 mod files;
 mod output;
+mod places;
 mod progress;
 mod usage;
 mod watched;
 
 use files::{FileInputs, FileOutputs};
 use output::Output;
-use outside::{MemSlot, OpenGate};
+use outside::OpenGate;
+use places::{PLACES, Place};
 use spill_top::spill_top;
 use std::alloc::AllocError;
 use std::fs::File;
@@ -63,7 +65,9 @@ fn run_command<R: Files<File = File> + Clock + Print + Eprint + AllocGlobal + Sy
     words: &[String],
     shows_progress: bool,
 ) -> u8 {
-    let mut slots: Vec<MemSlot> = Vec::new(rt.alloc());
+    let Ok(mut slots) = vec![in rt.alloc(); Place; PLACES] else {
+        return NO_MEMORY;
+    };
     spill_top(
         rt.alloc(),
         words,
