@@ -35,6 +35,7 @@ use Rattle.query_plan.specs.Words.{column_as, column_of, fits}
 use Rattle.query_plan.proofs.Faultless.{Reads, and_left, and_right, clear_at, list_reads, needed_reads, none_first, none_then, number_kept, rows_clear, table_clear, within}
 use Rattle.query_plan.proofs.Items.{length_view}
 use Rattle.query_plan.proofs.NamesFound.{groups_inside, groups_once, has_kind, known, names_once, same_kinds}
+use Rattle.query_plan.proofs.OnlyGrouped.{no_items, only_grouped}
 
 -- ---- columns, filters, pairs, aggregates
 
@@ -236,6 +237,7 @@ query_keeps path value e =
       inside = rw (← columns) grouped.1;
       few = omega (arith, few, computed, aggs.short);
       aggs = rw (← columns) grouped.2;
+      none = λ none. ap (map (agg_on (row_columns draft.left draft.right))) (only_grouped text_of (λ v. agg_in (table_of v)) (text any) path entries both.0 group (no_items (group_on (row_columns draft.left draft.right)) draft.group none));
     }
 
 -- ---- a plan

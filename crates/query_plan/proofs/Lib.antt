@@ -5,4 +5,5 @@ mod KeptRules
 mod LeastKey
 mod NamedColumns
 mod NamesFound
+mod OnlyGrouped
 mod Walks

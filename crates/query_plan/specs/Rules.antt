@@ -73,7 +73,7 @@ pub record KeepsSide (side : SidePlan) : Type 0 where
   pub few : length side.preds ≤ 16
   pub preds : All (λ (pred : Pred). HasKind side.columns pred.column (kind_of pred.value)) side.preds
 
--- a query: its pages, its sides, the pairs of a join, and the groups of its row
+-- a query: its pages, its sides, the pairs of a join, and the groups of its row; aggregates only where it groups
 pub record KeepsQuery (query : Query) : Type 0 where
   pub page_blocks : IsPowerWithin 1 256 query.page_blocks
   pub left : KeepsSide query.left
@@ -85,6 +85,7 @@ pub record KeepsQuery (query : Query) : Type 0 where
   pub inside : All (λ place. place < length (row_columns_of query)) query.group
   pub few : length query.aggs ≤ 16
   pub aggs : All (IsOverInts (row_columns_of query)) query.aggs
+  pub none : query.group ≡ [] → query.aggs ≡ []
 
 -- a plan over so many scratch slots: its blocks, their bytes together, its writers, its queries and their quotas
 pub record KeepsRules (slots : ℕ) (plan : Plan) : Type 0 where
