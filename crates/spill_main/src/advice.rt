@@ -7,7 +7,8 @@ use std::io;
 // no words is told how to call the program, and of no mistake.
 pub(crate) fn advise(rt: &impl Eprint, status: u8, words: &[String]) -> io::Result<()> {
     match (status, words) {
-        (0, _) => Ok(()),
+        // The file that was at fault is told where the fault came.
+        (0 | 3, _) => Ok(()),
         (1, words) => {
             if !words.is_empty() {
                 eprintln!(rt; "spill: unknown command, or wrong number of arguments")?;
@@ -16,9 +17,6 @@ pub(crate) fn advise(rt: &impl Eprint, status: u8, words: &[String]) -> io::Resu
         }
         (2, [_, plan]) => eprintln!(rt;
             "spill: {plan} is no plan: the line on standard output names what is wrong with it first"
-        ),
-        (3, [_, plan]) => eprintln!(rt;
-            "spill: {plan}, or an input of one of its queries, could not be read: check that the file is there, that it is a file, and that you may read it; the line on standard output says \"plan\", or the number of the query"
         ),
         (4, [_, plan]) => eprintln!(rt;
             "spill: an input of a query of {plan} was refused: the line of the query on standard output names the record (the header is 0), and the column where a field is no number"
@@ -34,9 +32,6 @@ pub(crate) fn advise(rt: &impl Eprint, status: u8, words: &[String]) -> io::Resu
         ),
         (10, [_, plan]) => eprintln!(rt;
             "spill: a query of {plan} found no memory, or joins, which is not run yet: its line on standard output gives its number"
-        ),
-        (3, [_, file, ..]) => eprintln!(rt;
-            "spill: {file} could not be read: check that it is there, that it is a file, and that you may read it"
         ),
         (4, [_, file, column]) => eprintln!(rt;
             "spill: {file} was refused, and the line on standard output says why: \"header\" where the header, split at commas, must have the column \"{column}\" exactly once; \"csv\" with the number of a record (the header is 0) that must have as many fields as the header; \"large\" where there are too many records or bytes"

@@ -1,22 +1,27 @@
-// Files as inputs and outputs.
+// Files as inputs and outputs. Each says on standard error which file was at fault, and why.
 
 ghost use Rattle.std.specs.Prelude.{None, true};
 
+use crate::in_use::InUse;
 use crate::output::Output;
 use crate::progress::Progress;
 use crate::watched::Watched;
-use outside::{Failed, Inputs, Outputs, Source};
-use std::alloc::AllocError;
-use std::fs;
-use std::fs::File;
+use outside::{Failed, Inputs, Outputs, Sink, Source};
+use std::fs::{File, Metadata};
 use std::io::Read;
 use std::rt::{Clock, Files};
+use std::{fs, io};
+
+// So many places beside an output are tried: a run that was killed may have left a file there.
+const PLACES_BESIDE: u32 = 16;
 
 // A reader as a source. It tells what its reader tells.
 #[derive(Drop)]
 pub(crate) struct Input<R> {
     reader: R,
     faults: u64,
+    // Why it failed, where the last read did.
+    failed: Option<io::Error>,
 }
 
 impl<R: Read> Source for Input<R> {
@@ -27,8 +32,9 @@ impl<R: Read> Source for Input<R> {
     fn read(&mut self, buf: &mut [u8]) -> Result<usize, Failed> {
         match self.reader.read(buf) {
             Ok(count) => Ok(count),
-            Err(_) => {
+            Err(e) => {
                 self.faults = self.faults.saturating_add(1);
+                self.failed = Some(e);
                 Err(Failed)
             }
         }
@@ -39,17 +45,28 @@ impl<R: Read> Source for Input<R> {
 #[derive(Drop)]
 pub(crate) struct FileInputs<'a, F> {
     files: &'a F,
+    in_use: &'a InUse,
     shows_progress: bool,
     faults: u64,
 }
 
-impl<'a, F: Clock + Eprint + AllocGlobal> FileInputs<'a, F> {
-    pub(crate) fn new(files: &'a F, shows_progress: bool) -> FileInputs<'a, F> {
+impl<'a, F: Files<File = File> + Clock + Eprint + AllocGlobal> FileInputs<'a, F> {
+    pub(crate) fn new(files: &'a F, in_use: &'a InUse, shows_progress: bool) -> FileInputs<'a, F> {
         FileInputs {
             files,
+            in_use,
             shows_progress,
             faults: 0,
         }
+    }
+
+    // A file, unless it would be replaced.
+    fn file(&self, name: &str) -> io::Result<File> {
+        let file = fs::open(self.files, name)?;
+        if !self.in_use.reads(&file.metadata()?)? {
+            return Err(io::Error::other("an output of the same plan would replace it"));
+        }
+        Ok(file)
     }
 
     // Without a clock nothing is shown, and the file is read all the same.
@@ -59,6 +76,10 @@ impl<'a, F: Clock + Eprint + AllocGlobal> FileInputs<'a, F> {
         }
         let progress = Progress::start(self.files, size_of(&file));
         Watched::new(file, progress.ok())
+    }
+
+    fn tell(&self, name: &str, why: &io::Error) {
+        let _ = eprintln!(self.files; "spill: {name} could not be read: {why}");
     }
 }
 
@@ -78,45 +99,118 @@ impl<'a, F: Files<File = File> + Clock + Eprint + AllocGlobal + Sync> Inputs for
     ghost faults_at = { λ s _. s.faults };
 
     fn open(&mut self, name: &str) -> Result<Input<Watched<'a, File, F>>, Failed> {
-        match fs::open(self.files, name) {
+        match self.file(name) {
             Ok(file) => Ok(Input {
                 reader: self.watched(file),
                 faults: 0,
+                failed: None,
             }),
-            Err(_) => {
+            Err(e) => {
+                self.tell(name, &e);
                 self.faults = self.faults.saturating_add(1);
                 Err(Failed)
             }
         }
     }
 
-    fn close(&mut self, _name: &str, mut src: Input<Watched<'a, File, F>>) {
+    fn close(&mut self, name: &str, mut src: Input<Watched<'a, File, F>>) {
         self.faults = self.faults.saturating_add(src.faults);
         src.reader.finish();
+        if let Some(e) = &src.failed {
+            self.tell(name, e);
+        }
     }
 }
 
-// Files that are written beside their place, and moved there when they are done, with one count of
-// faults for all names. So an input that stands there is read before it is replaced.
+// A file that is written beside its place.
+#[derive(Drop)]
+pub(crate) struct PartFile {
+    output: Output<File>,
+    place: String,
+}
+
+impl Sink for PartFile {
+    ghost contents = { λ s. None };
+
+    ghost faults = { λ s. s.output.faults };
+
+    fn write(&mut self, piece: &[u8]) -> Result<usize, Failed> {
+        self.output.write(piece)
+    }
+}
+
+// Files that are written beside their place, with one count of faults for all names. Each is moved there when it is done, if
+// it is whole, and else removed; so what stood there stands until an answer replaces it.
 #[derive(Drop)]
 pub(crate) struct FileOutputs<'a, F> {
     files: &'a F,
+    in_use: &'a InUse,
     faults: u64,
 }
 
-impl<'a, F: Files<File = File> + AllocGlobal> FileOutputs<'a, F> {
-    pub(crate) fn new(files: &'a F) -> FileOutputs<'a, F> {
-        FileOutputs { files, faults: 0 }
+impl<'a, F: Files<File = File> + Eprint + AllocGlobal> FileOutputs<'a, F> {
+    pub(crate) fn new(files: &'a F, in_use: &'a InUse) -> FileOutputs<'a, F> {
+        FileOutputs {
+            files,
+            in_use,
+            faults: 0,
+        }
     }
 
-    // The place beside a name.
-    fn beside(&self, name: &str) -> Result<String, AllocError> {
-        format!(in self.files.alloc(); "{name}.spill-part")
+    // A new file beside this place, in which a file may stand that no input is.
+    fn part_of(&self, name: &str) -> io::Result<PartFile> {
+        if let Ok(data) = fs::metadata(self.files, name) {
+            self.may_replace(&data)?;
+        }
+        let mut number = 0;
+        loop {
+            let place = format!(in self.files.alloc(); "{name}.spill-part-{number}")?;
+            match File::create_new(self.files, place.as_str()) {
+                Ok(file) => {
+                    return Ok(PartFile {
+                        output: Output::new(file),
+                        place,
+                    });
+                }
+                Err(e) if e.kind() == io::ErrorKind::AlreadyExists && number < PLACES_BESIDE => {
+                    number += 1;
+                }
+                Err(e) => return Err(e),
+            }
+        }
+    }
+
+    fn may_replace(&self, data: &Metadata) -> io::Result<()> {
+        if !data.is_file() {
+            return Err(io::Error::other("something else than a file stands there"));
+        }
+        if !self.in_use.replaces(data)? {
+            return Err(io::Error::other("it would replace an input of the same run"));
+        }
+        Ok(())
+    }
+
+    // Moves a whole file to its place, or removes it.
+    fn settle(&self, name: &str, place: &str, whole: bool) -> io::Result<()> {
+        if !whole {
+            return fs::remove_file(self.files, place);
+        }
+        let moved = fs::rename(self.files, place, name);
+        if moved.is_err() {
+            let _ = fs::remove_file(self.files, place);
+        }
+        moved
+    }
+
+    fn fail(&mut self, name: &str, why: &io::Error) -> Failed {
+        let _ = eprintln!(self.files; "spill: {name} could not be written: {why}");
+        self.faults = self.faults.saturating_add(1);
+        Failed
     }
 }
 
-impl<'a, F: Files<File = File> + AllocGlobal> Outputs for FileOutputs<'a, F> {
-    type Snk = Output<File>;
+impl<'a, F: Files<File = File> + Eprint + AllocGlobal> Outputs for FileOutputs<'a, F> {
+    type Snk = PartFile;
 
     ghost written = { λ _ _. None };
 
@@ -124,25 +218,20 @@ impl<'a, F: Files<File = File> + AllocGlobal> Outputs for FileOutputs<'a, F> {
 
     ghost faults_at = { λ s _. s.faults };
 
-    fn create(&mut self, name: &str) -> Result<Output<File>, Failed> {
-        if let Ok(place) = self.beside(name) {
-            if let Ok(file) = fs::create(self.files, place.as_str()) {
-                return Ok(Output::new(file));
-            }
+    fn create(&mut self, name: &str) -> Result<PartFile, Failed> {
+        match self.part_of(name) {
+            Ok(part) => Ok(part),
+            Err(e) => Err(self.fail(name, &e)),
         }
-        self.faults = self.faults.saturating_add(1);
-        Err(Failed)
     }
 
-    fn done(&mut self, name: &str, snk: Output<File>, _whole: bool) -> Result<(), Failed> {
-        self.faults = self.faults.saturating_add(snk.faults());
-        drop(snk);
-        if let Ok(place) = self.beside(name) {
-            if fs::rename(self.files, place.as_str(), name).is_ok() {
-                return Ok(());
-            }
+    fn done(&mut self, name: &str, snk: PartFile, whole: bool) -> Result<(), Failed> {
+        self.faults = self.faults.saturating_add(snk.output.faults());
+        let PartFile { output, place } = snk;
+        drop(output);
+        match self.settle(name, place.as_str(), whole) {
+            Ok(()) => Ok(()),
+            Err(e) => Err(self.fail(name, &e)),
         }
-        self.faults = self.faults.saturating_add(1);
-        Err(Failed)
     }
 }

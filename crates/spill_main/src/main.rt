@@ -8,6 +8,7 @@
 
 mod advice;
 mod files;
+mod in_use;
 mod output;
 mod places;
 mod progress;
@@ -15,6 +16,7 @@ mod usage;
 mod watched;
 
 use files::{FileInputs, FileOutputs};
+use in_use::InUse;
 use output::Output;
 use outside::OpenGate;
 use places::{PLACES, Place};
@@ -68,11 +70,12 @@ fn run_command<R: Files<File = File> + Clock + Print + Eprint + AllocGlobal + Sy
     let Ok(mut slots) = vec![in rt.alloc(); Place; PLACES] else {
         return NO_MEMORY;
     };
+    let in_use = InUse::new(rt.alloc());
     spill_top(
         rt.alloc(),
         words,
-        &mut FileInputs::new(rt, shows_progress),
-        &mut FileOutputs::new(rt),
+        &mut FileInputs::new(rt, &in_use, shows_progress),
+        &mut FileOutputs::new(rt, &in_use),
         &mut Output::new(io::writer(rt)),
         &mut slots,
         &OpenGate,

@@ -1,4 +1,5 @@
 use crate::files::{FileInputs, FileOutputs};
+use crate::in_use::InUse;
 use crate::output::Output;
 use outside::{Inputs, Outputs, Sink, Source};
 use std::io::Write;
@@ -21,7 +22,8 @@ fn place(rt: &HostRuntime, name: &str) -> Result<String, Fail> {
 #[test]
 fn a_file_is_read_to_its_end_and_a_missing_one_is_a_fault(rt: HostRuntime) -> Result<(), Fail> {
     let name = place(&rt, "in.csv")?;
-    let mut inputs = FileInputs::new(&rt, false);
+    let in_use = InUse::new(rt.alloc());
+    let mut inputs = FileInputs::new(&rt, &in_use, false);
     assert!(rt; inputs.open(name.as_str()).is_err());
     fs::write(&rt, name.as_str(), "k\na\n")?;
     let mut source = inputs.open(name.as_str())?;
@@ -34,19 +36,73 @@ fn a_file_is_read_to_its_end_and_a_missing_one_is_a_fault(rt: HostRuntime) -> Re
     Ok(())
 }
 
+// Writes an output over an older one, and gives what stands under its name before it is done and behind it.
+fn written_over(rt: &HostRuntime, name: &str, whole: bool) -> Result<(String, String), Fail> {
+    fs::write(rt, name, "an older answer")?;
+    let in_use = InUse::new(rt.alloc());
+    let mut outputs = FileOutputs::new(rt, &in_use);
+    let mut sink = outputs.create(name)?;
+    sink.write(b"k,count\n")?;
+    let before = fs::read_to_string(rt, name)?;
+    outputs.done(name, sink, whole)?;
+    let after = fs::read_to_string(rt, name)?;
+    fs::remove_file(rt, name)?;
+    Ok((before, after))
+}
+
 #[test]
-fn an_output_is_moved_to_its_place_when_it_is_done(rt: HostRuntime) -> Result<(), Fail> {
+fn an_output_takes_its_place_only_where_it_is_whole(rt: HostRuntime) -> Result<(), Fail> {
     let name = place(&rt, "out.csv")?;
-    fs::write(&rt, name.as_str(), "an older answer")?;
-    let mut outputs = FileOutputs::new(&rt);
-    let mut sink = outputs.create(name.as_str())?;
-    assert_eq!(rt; sink.write(b"k,count\n").ok(), Some(8));
-    let before = fs::read_to_string(&rt, name.as_str())?;
-    assert_eq!(rt; before.as_str(), "an older answer");
-    outputs.done(name.as_str(), sink, true)?;
-    let after = fs::read_to_string(&rt, name.as_str())?;
-    assert_eq!(rt; after.as_str(), "k,count\n");
+    for (whole, held) in [(true, "k,count\n"), (false, "an older answer")] {
+        let (before, after) = written_over(&rt, name.as_str(), whole)?;
+        assert_eq!(rt; before.as_str(), "an older answer");
+        assert_eq!(rt; after.as_str(), held);
+    }
+    let beside = format!(in rt.alloc(); "{name}.spill-part-0")?;
+    assert!(rt; !fs::exists(&rt, beside.as_str())?);
+    Ok(())
+}
+
+#[test]
+fn no_output_replaces_an_input(rt: HostRuntime) -> Result<(), Fail> {
+    let name = place(&rt, "both.csv")?;
+    let link = place(&rt, "link.csv")?;
+    fs::write(&rt, name.as_str(), "k\na\n")?;
+    fs::hard_link(&rt, name.as_str(), link.as_str())?;
+    let in_use = InUse::new(rt.alloc());
+    let mut inputs = FileInputs::new(&rt, &in_use, false);
+    let mut outputs = FileOutputs::new(&rt, &in_use);
+    let source = inputs.open(name.as_str())?;
+    assert!(rt; outputs.create(link.as_str()).is_err());
+    inputs.close(name.as_str(), source);
+    assert!(rt; outputs.create(link.as_str()).is_err());
+
+    let in_use = InUse::new(rt.alloc());
+    let mut inputs = FileInputs::new(&rt, &in_use, false);
+    let mut outputs = FileOutputs::new(&rt, &in_use);
+    let sink = outputs.create(link.as_str())?;
+    assert!(rt; inputs.open(name.as_str()).is_err());
+    outputs.done(link.as_str(), sink, false)?;
+    let held = fs::read_to_string(&rt, link.as_str())?;
+    assert_eq!(rt; held.as_str(), "k\na\n");
     fs::remove_file(&rt, name.as_str())?;
+    fs::remove_file(&rt, link.as_str())?;
+    Ok(())
+}
+
+#[test]
+fn a_file_that_a_killed_run_left_is_kept(rt: HostRuntime) -> Result<(), Fail> {
+    let name = place(&rt, "again.csv")?;
+    let left = format!(in rt.alloc(); "{name}.spill-part-0")?;
+    fs::write(&rt, left.as_str(), "a part")?;
+    let in_use = InUse::new(rt.alloc());
+    let mut outputs = FileOutputs::new(&rt, &in_use);
+    let sink = outputs.create(name.as_str())?;
+    outputs.done(name.as_str(), sink, true)?;
+    let held = fs::read_to_string(&rt, left.as_str())?;
+    assert_eq!(rt; held.as_str(), "a part");
+    fs::remove_file(&rt, name.as_str())?;
+    fs::remove_file(&rt, left.as_str())?;
     Ok(())
 }
 
