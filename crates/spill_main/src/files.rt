@@ -70,11 +70,11 @@ impl<'a, F: Files<File = File> + Clock + Eprint + AllocGlobal> FileInputs<'a, F>
     }
 
     // Without a clock nothing is shown, and the file is read all the same.
-    fn watched(&self, file: File) -> Watched<'a, File, F> {
+    fn watched(&self, name: &str, file: File) -> Watched<'a, File, F> {
         if !self.shows_progress {
             return Watched::new(file, None);
         }
-        let progress = Progress::start(self.files, size_of(&file));
+        let progress = Progress::start(self.files, "reading", name, size_of(&file));
         Watched::new(file, progress.ok())
     }
 
@@ -101,7 +101,7 @@ impl<'a, F: Files<File = File> + Clock + Eprint + AllocGlobal + Sync> Inputs for
     fn open(&mut self, name: &str) -> Result<Input<Watched<'a, File, F>>, Failed> {
         match self.file(name) {
             Ok(file) => Ok(Input {
-                reader: self.watched(file),
+                reader: self.watched(name, file),
                 faults: 0,
                 failed: None,
             }),
@@ -124,12 +124,12 @@ impl<'a, F: Files<File = File> + Clock + Eprint + AllocGlobal + Sync> Inputs for
 
 // A file that is written beside its place.
 #[derive(Drop)]
-pub(crate) struct PartFile {
-    output: Output<File>,
+pub(crate) struct PartFile<'a, F> {
+    output: Output<Watched<'a, File, F>>,
     place: String,
 }
 
-impl Sink for PartFile {
+impl<F: Clock + Eprint + AllocGlobal + Sync> Sink for PartFile<'_, F> {
     ghost contents = { λ s. None };
 
     ghost faults = { λ s. s.output.faults };
@@ -145,20 +145,30 @@ impl Sink for PartFile {
 pub(crate) struct FileOutputs<'a, F> {
     files: &'a F,
     in_use: &'a InUse,
+    shows_progress: bool,
     faults: u64,
 }
 
-impl<'a, F: Files<File = File> + Eprint + AllocGlobal> FileOutputs<'a, F> {
-    pub(crate) fn new(files: &'a F, in_use: &'a InUse) -> FileOutputs<'a, F> {
+impl<'a, F: Files<File = File> + Clock + Eprint + AllocGlobal> FileOutputs<'a, F> {
+    pub(crate) fn new(files: &'a F, in_use: &'a InUse, shows_progress: bool) -> FileOutputs<'a, F> {
         FileOutputs {
             files,
             in_use,
+            shows_progress,
             faults: 0,
         }
     }
 
+    fn watched(&self, name: &str, file: File) -> Watched<'a, File, F> {
+        if !self.shows_progress {
+            return Watched::new(file, None);
+        }
+        let progress = Progress::start(self.files, "writing", name, None);
+        Watched::new(file, progress.ok())
+    }
+
     // A new file beside this place, in which a file may stand that no input is.
-    fn part_of(&self, name: &str) -> io::Result<PartFile> {
+    fn part_of(&self, name: &str) -> io::Result<PartFile<'a, F>> {
         if let Ok(data) = fs::metadata(self.files, name) {
             self.may_replace(&data)?;
         }
@@ -168,7 +178,7 @@ impl<'a, F: Files<File = File> + Eprint + AllocGlobal> FileOutputs<'a, F> {
             match File::create_new(self.files, place.as_str()) {
                 Ok(file) => {
                     return Ok(PartFile {
-                        output: Output::new(file),
+                        output: Output::new(self.watched(name, file)),
                         place,
                     });
                 }
@@ -209,8 +219,9 @@ impl<'a, F: Files<File = File> + Eprint + AllocGlobal> FileOutputs<'a, F> {
     }
 }
 
-impl<'a, F: Files<File = File> + Eprint + AllocGlobal> Outputs for FileOutputs<'a, F> {
-    type Snk = PartFile;
+impl<'a, F: Files<File = File> + Clock + Eprint + AllocGlobal + Sync> Outputs
+    for FileOutputs<'a, F> {
+    type Snk = PartFile<'a, F>;
 
     ghost written = { λ _ _. None };
 
@@ -218,16 +229,17 @@ impl<'a, F: Files<File = File> + Eprint + AllocGlobal> Outputs for FileOutputs<'
 
     ghost faults_at = { λ s _. s.faults };
 
-    fn create(&mut self, name: &str) -> Result<PartFile, Failed> {
+    fn create(&mut self, name: &str) -> Result<PartFile<'a, F>, Failed> {
         match self.part_of(name) {
             Ok(part) => Ok(part),
             Err(e) => Err(self.fail(name, &e)),
         }
     }
 
-    fn done(&mut self, name: &str, snk: PartFile, whole: bool) -> Result<(), Failed> {
+    fn done(&mut self, name: &str, snk: PartFile<'a, F>, whole: bool) -> Result<(), Failed> {
         self.faults = self.faults.saturating_add(snk.output.faults());
-        let PartFile { output, place } = snk;
+        let PartFile { mut output, place } = snk;
+        output.writer().finish();
         drop(output);
         match self.settle(name, place.as_str(), whole) {
             Ok(()) => Ok(()),

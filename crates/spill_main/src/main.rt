@@ -75,7 +75,7 @@ fn run_command<R: Files<File = File> + Clock + Print + Eprint + AllocGlobal + Sy
         rt.alloc(),
         words,
         &mut FileInputs::new(rt, &in_use, shows_progress),
-        &mut FileOutputs::new(rt, &in_use),
+        &mut FileOutputs::new(rt, &in_use, shows_progress),
         &mut Output::new(io::writer(rt)),
         &mut slots,
         &OpenGate,

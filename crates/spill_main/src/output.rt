@@ -19,6 +19,10 @@ impl<W: Write> Output<W> {
         Output { writer, faults: 0 }
     }
 
+    pub(crate) fn writer(&mut self) -> &mut W {
+        &mut self.writer
+    }
+
     pub(crate) fn faults(&self) -> u64
         ensures { result ≡ self.now.faults }
     {

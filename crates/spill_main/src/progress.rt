@@ -1,4 +1,4 @@
-// How far a long input is read, shown to a person at a terminal.
+// How far a long file is read or written, shown to a person at a terminal.
 
 ghost use Rattle.std.specs.Prelude.{◌≡◌, ◌<◌, ◌*◌, ◌/◌, ◌==◌, count_by};
 
@@ -8,78 +8,100 @@ use std::rt::Clock;
 use std::time::{Duration, Instant};
 use std::{fmt, io};
 
-// So long passes at least between two drawings, and before the first: what is read sooner shows none.
+// So long passes at least between two drawings, and before the first: what ends sooner shows none.
 const PAUSE_MILLIS: u128 = 100;
 
-// A line on standard error: the bytes read, of how many if that is known, and the rows a second.
+// A line is drawn over the one before it, which is no longer.
+const WIDTH: usize = 78;
+
+// A line on standard error: what is done, the bytes that passed, of how many if that is known, and the rows a second.
 //
-// Rows are the line ends in the bytes read, so a line break inside quotes counts as one too, and
-// a second is one of the whole time so far. Where there is no clock any more, or nothing can be
-// drawn, the reading goes on without the line.
+// Rows are the line ends in the bytes that passed, so a line break inside quotes counts as one too, and
+// a second is one of the whole time since the first of them. Where there is no clock any more, or nothing can be
+// drawn, the work goes on without the line.
 #[derive(Drop)]
 pub(crate) struct Progress<'a, R> {
     rt: &'a R,
+    phase: String,
     size: Option<u64>,
-    read: u64,
+    passed: u64,
     rows: u64,
-    started: Instant,
+    // When the first bytes passed.
+    started: Option<Instant>,
     // The last drawing, or the start.
     drawn: Instant,
     is_shown: bool,
 }
 
 impl<'a, R: Clock + Eprint + AllocGlobal> Progress<'a, R> {
-    pub(crate) fn start(rt: &'a R, size: Option<u64>) -> io::Result<Progress<'a, R>> {
-        let now = Instant::now(rt)?;
+    // A phase, such as `reading`, of the file with this name.
+    pub(crate) fn start(
+        rt: &'a R,
+        phase: &str,
+        name: &str,
+        size: Option<u64>,
+    ) -> io::Result<Progress<'a, R>> {
+        let phase = match name.len() {
+            0..=24 => format!(in rt.alloc(); "{phase} {name}")?,
+            _ => String::from_str(rt.alloc(), phase)?,
+        };
         Ok(Progress {
             rt,
+            phase,
             size,
-            read: 0,
+            passed: 0,
             rows: 0,
-            started: now,
-            drawn: now,
+            started: None,
+            drawn: Instant::now(rt)?,
             is_shown: false,
         })
     }
 
-    // These bytes were read. The line is drawn anew if that is due.
+    // These bytes passed. The line is drawn anew if that is due.
     pub(crate) fn pass(&mut self, bytes: &[u8]) {
-        self.read = self.read.saturating_add(bytes.len() as u64);
+        self.passed = self.passed.saturating_add(bytes.len() as u64);
         self.rows = self.rows.saturating_add(line_ends(bytes));
-        if let Ok(now) = Instant::now(self.rt) {
-            if now.duration_since(self.drawn).as_millis() >= PAUSE_MILLIS {
-                self.drawn = now;
-                self.draw(now.duration_since(self.started));
-            }
+        let Ok(now) = Instant::now(self.rt) else {
+            return;
+        };
+        let Some(started) = self.started else {
+            self.started = Some(now);
+            self.drawn = now;
+            return;
+        };
+        if now.duration_since(self.drawn).as_millis() >= PAUSE_MILLIS {
+            self.drawn = now;
+            self.draw(now.duration_since(started));
         }
     }
 
     // Takes the line away, where there is one.
     pub(crate) fn clear(&mut self) {
         if self.is_shown {
-            let _ = eprint!(self.rt; "\r{:60}\r", "");
+            let _ = eprint!(self.rt; "\r{:WIDTH$}\r", "");
             self.is_shown = false;
         }
     }
 
     fn draw(&mut self, time: Duration) {
         if let Ok(text) = self.text(self.rt.alloc(), time) {
-            let _ = eprint!(self.rt; "\r{text:<60}");
+            let _ = eprint!(self.rt; "\r{text:<WIDTH$}");
             self.is_shown = true;
         }
     }
 
     fn text(&self, alloc: Global, time: Duration) -> Result<String, AllocError> {
-        let read = Megabytes(self.read);
+        let phase = self.phase.as_str();
+        let passed = Megabytes(self.passed);
         let pace = a_second(self.rows, time.as_millis().max(1));
         match self.size {
             Some(size) => {
                 format!(in alloc;
-                    "spill: {read} of {} MB, {pace} rows a second",
+                    "spill: {phase}: {passed} of {} MB, {pace} rows a second",
                     Megabytes(size)
                 )
             }
-            None => format!(in alloc; "spill: {read} MB, {pace} rows a second"),
+            None => format!(in alloc; "spill: {phase}: {passed} MB, {pace} rows a second"),
         }
     }
 }

@@ -40,7 +40,7 @@ fn a_file_is_read_to_its_end_and_a_missing_one_is_a_fault(rt: HostRuntime) -> Re
 fn written_over(rt: &HostRuntime, name: &str, whole: bool) -> Result<(String, String), Fail> {
     fs::write(rt, name, "an older answer")?;
     let in_use = InUse::new(rt.alloc());
-    let mut outputs = FileOutputs::new(rt, &in_use);
+    let mut outputs = FileOutputs::new(rt, &in_use, false);
     let mut sink = outputs.create(name)?;
     sink.write(b"k,count\n")?;
     let before = fs::read_to_string(rt, name)?;
@@ -71,7 +71,7 @@ fn no_output_replaces_an_input(rt: HostRuntime) -> Result<(), Fail> {
     fs::hard_link(&rt, name.as_str(), link.as_str())?;
     let in_use = InUse::new(rt.alloc());
     let mut inputs = FileInputs::new(&rt, &in_use, false);
-    let mut outputs = FileOutputs::new(&rt, &in_use);
+    let mut outputs = FileOutputs::new(&rt, &in_use, false);
     let source = inputs.open(name.as_str())?;
     assert!(rt; outputs.create(link.as_str()).is_err());
     inputs.close(name.as_str(), source);
@@ -79,7 +79,7 @@ fn no_output_replaces_an_input(rt: HostRuntime) -> Result<(), Fail> {
 
     let in_use = InUse::new(rt.alloc());
     let mut inputs = FileInputs::new(&rt, &in_use, false);
-    let mut outputs = FileOutputs::new(&rt, &in_use);
+    let mut outputs = FileOutputs::new(&rt, &in_use, false);
     let sink = outputs.create(link.as_str())?;
     assert!(rt; inputs.open(name.as_str()).is_err());
     outputs.done(link.as_str(), sink, false)?;
@@ -96,7 +96,7 @@ fn a_file_that_a_killed_run_left_is_kept(rt: HostRuntime) -> Result<(), Fail> {
     let left = format!(in rt.alloc(); "{name}.spill-part-0")?;
     fs::write(&rt, left.as_str(), "a part")?;
     let in_use = InUse::new(rt.alloc());
-    let mut outputs = FileOutputs::new(&rt, &in_use);
+    let mut outputs = FileOutputs::new(&rt, &in_use, false);
     let sink = outputs.create(name.as_str())?;
     outputs.done(name.as_str(), sink, true)?;
     let held = fs::read_to_string(&rt, left.as_str())?;

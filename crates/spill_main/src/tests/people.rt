@@ -56,25 +56,31 @@ fn progress_is_drawn_ten_times_a_second_and_cleared(rt: HostRuntime) -> Result<(
     let rows = [
         (
             Some(12_345_678),
-            "\rspill: 0.4 of 12.3 MB, 4000000 rows a second                \
-             \rspill: 0.8 of 12.3 MB, 4000000 rows a second                ",
+            "in.csv",
+            [
+                "spill: reading in.csv: 0.6 of 12.3 MB, 6000000 rows a second",
+                "spill: reading in.csv: 1.0 of 12.3 MB, 5000000 rows a second",
+            ],
         ),
         (
             None,
-            "\rspill: 0.4 MB, 4000000 rows a second                        \
-             \rspill: 0.8 MB, 4000000 rows a second                        ",
+            "a-file-with-a-rather-long-name.csv",
+            [
+                "spill: reading: 0.6 MB, 6000000 rows a second",
+                "spill: reading: 1.0 MB, 5000000 rows a second",
+            ],
         ),
     ];
     let piece = vec![in rt.alloc(); b'\n'; 200_000]?;
-    for (size, drawn) in rows {
+    for (size, name, [first, second]) in rows {
         let desk = (Desk::new(rt.alloc()), rt.alloc());
-        let mut progress = Progress::start(&desk, size)?;
+        let mut progress = Progress::start(&desk, "reading", name, size)?;
         for _ in 0..5 {
             progress.pass(piece.as_slice());
         }
         progress.clear();
         progress.clear();
-        let want = format!(in rt.alloc(); "{drawn}\r{:60}\r", "")?;
+        let want = format!(in rt.alloc(); "\r{first:<78}\r{second:<78}\r{:78}\r", "")?;
         let shown = desk.0.shown.try_borrow()?;
         assert_eq!(rt; shown.as_str(), want.as_str());
     }
