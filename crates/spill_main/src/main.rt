@@ -10,8 +10,8 @@ mod advice;
 mod files;
 mod in_use;
 mod output;
-mod places;
 mod progress;
+mod scratch;
 mod usage;
 mod watched;
 
@@ -19,13 +19,14 @@ use files::{FileInputs, FileOutputs};
 use in_use::InUse;
 use output::Output;
 use outside::OpenGate;
-use places::{PLACES, Place};
+use scratch::{SLOTS, Scratch};
 use spill_top::spill_top;
 use std::alloc::AllocError;
 use std::fs::File;
 use std::io::IsTerminal;
 use std::process::ExitCode;
 use std::rt::{Clock, Env, Files};
+use std::sync::Wait;
 use std::{env, io};
 
 // The status where standard output failed under a text of the program's own.
@@ -40,7 +41,7 @@ fn main(rt: HostRuntime) -> ExitCode {
 }
 
 // Answers the words that the process was given, and gives the status.
-fn run<R: Files<File = File> + Clock + Env + Print + Eprint + AllocGlobal + Sync>(
+fn run<R: Files<File = File> + Clock + Env + Print + Eprint + AllocGlobal + Sync + Wait>(
     rt: &R,
     shows_progress: bool,
 ) -> Result<u8, AllocError> {
@@ -62,12 +63,13 @@ fn status_of(printed: io::Result<()>) -> u8 {
 }
 
 // Hands the words, the files and standard output to the top call, and answers its status.
-fn run_command<R: Files<File = File> + Clock + Print + Eprint + AllocGlobal + Sync>(
+fn run_command<R: Files<File = File> + Clock + Env + Print + Eprint + AllocGlobal + Sync + Wait>(
     rt: &R,
     words: &[String],
     shows_progress: bool,
 ) -> u8 {
-    let Ok(mut slots) = vec![in rt.alloc(); Place; PLACES] else {
+    let scratch = Scratch::new(rt);
+    let Ok(mut slots) = scratch.slots(rt.alloc(), SLOTS) else {
         return NO_MEMORY;
     };
     let in_use = InUse::new(rt.alloc());

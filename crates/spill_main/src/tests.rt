@@ -7,6 +7,7 @@ use std::test::Fail;
 use std::{env, fs, io, process};
 
 mod people;
+mod scratch;
 
 // A place of this process alone.
 fn place(rt: &HostRuntime, name: &str) -> Result<String, Fail> {
