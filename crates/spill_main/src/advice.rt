@@ -1,14 +1,25 @@
-// What a person is told on standard error: one sentence that says what went wrong and what to do.
+// What a person is told on standard error: sentences that say what went wrong and what to do.
 
+use crate::sentences::{Files, tell_lines};
 use crate::usage::USAGE;
-use std::io;
+use query_plan::{Plan, read_plan};
+use std::rt::Files as FileSystem;
+use std::{fs, io};
 
-// Tells what a status means, for the words that led to it. Status 0 needs no sentence; whoever gave
-// no words is told how to call the program, and of no mistake.
-pub(crate) fn advise(rt: &impl Eprint, status: u8, words: &[String]) -> io::Result<()> {
+// The most bytes that a plan has.
+const PLAN_BYTES: u64 = 1048576;
+
+// Tells what a status means, for the words that led to it and what the report says. Status 0 needs no sentence; whoever gave
+// no words is told how to call the program, and of no mistake. A file that was at fault is told where the fault came.
+pub(crate) fn advise<F: FileSystem + AllocGlobal>(
+    files: &F,
+    rt: &impl Eprint,
+    status: u8,
+    words: &[String],
+    report: &str,
+) -> io::Result<()> {
     match (status, words) {
-        // The file that was at fault is told where the fault came.
-        (0 | 3, _) => Ok(()),
+        (0, _) => Ok(()),
         (1, words) => {
             if !words.is_empty() {
                 eprintln!(rt; "spill: unknown command, or wrong number of arguments")?;
@@ -18,31 +29,37 @@ pub(crate) fn advise(rt: &impl Eprint, status: u8, words: &[String]) -> io::Resu
         (2, [_, plan]) => eprintln!(rt;
             "spill: {plan} is no plan: the line on standard output names what is wrong with it first"
         ),
-        (4, [_, plan]) => eprintln!(rt;
-            "spill: an input of a query of {plan} was refused: the line of the query on standard output names the record (the header is 0), and the column where a field is no number"
-        ),
-        (5, [_, plan]) => eprintln!(rt;
-            "spill: an input of a query of {plan} has a row that is longer than a page: the line of the query on standard output names the record and its weight; give the query more \"page_blocks\""
-        ),
-        (6, [_, plan]) => eprintln!(rt;
-            "spill: a query of {plan} has too little memory: its line on standard output says how many bytes it asks for and how many there are; give the plan more \"blocks\", or the query a higher \"limit\""
-        ),
-        (9, [_, plan]) => eprintln!(rt;
-            "spill: an output of {plan}, or standard output, could not be written: the disk may be full, or the place may not be yours; lines on standard output number the queries without an output"
-        ),
-        (10, [_, plan]) => eprintln!(rt;
-            "spill: a query of {plan} found no memory, or joins, which is not run yet: its line on standard output gives its number"
-        ),
-        (4, [_, file, column]) => eprintln!(rt;
-            "spill: {file} was refused, and the line on standard output says why: \"header\" where the header, split at commas, must have the column \"{column}\" exactly once; \"csv\" with the number of a record (the header is 0) that must have as many fields as the header; \"large\" where there are too many records or bytes"
-        ),
-        (5, [_, file, ..]) => eprintln!(rt;
-            "spill: {file} has a row that is too long: a value has at most 8168 bytes; the line on standard output names the record and its weight"
-        ),
+        (9, [_, plan]) if !report.is_empty() => {
+            tell_plan(files, rt, plan.as_str(), report)?;
+            eprintln!(rt; "spill: not every answer of {plan} was written")
+        }
         (9, _) => eprintln!(rt;
             "spill: writing to standard output failed, so the answer is incomplete: the disk may be full, or the reader stopped early"
         ),
+        (_, [_, plan]) => tell_plan(files, rt, plan.as_str(), report),
         (10, _) => eprintln!(rt; "spill: out of memory: give the program more, or a smaller file"),
+        (_, [_, file, ..]) => tell_lines(rt, report, Files::One(file.as_str())),
         (status, _) => eprintln!(rt; "spill: ended with status {status}"),
     }
+}
+
+fn tell_plan<F: FileSystem + AllocGlobal>(
+    files: &F,
+    rt: &impl Eprint,
+    name: &str,
+    report: &str,
+) -> io::Result<()> {
+    let plan = plan_of(files, name);
+    let plan = plan.as_ref();
+    tell_lines(rt, report, Files::OfPlan { name, plan })
+}
+
+// The plan once more, for the names of its files.
+fn plan_of<F: FileSystem + AllocGlobal>(files: &F, name: &str) -> Option<Plan> {
+    let data = fs::metadata(files, name).ok()?;
+    if !data.is_file() || data.len() > PLAN_BYTES {
+        return None;
+    }
+    let text = fs::read_to_string(files, name).ok()?;
+    read_plan(files.alloc(), text.as_str().as_bytes(), u32::MAX).ok()
 }

@@ -11,14 +11,16 @@ mod files;
 mod in_use;
 mod output;
 mod progress;
+mod report;
 mod scratch;
+mod sentences;
 mod usage;
 mod watched;
 
 use files::{FileInputs, FileOutputs};
 use in_use::InUse;
-use output::Output;
 use outside::OpenGate;
+use report::Report;
 use scratch::{SLOTS, Scratch};
 use spill_top::spill_top;
 use std::alloc::AllocError;
@@ -46,13 +48,10 @@ fn run<R: Files<File = File> + Clock + Env + Print + Eprint + AllocGlobal + Sync
     shows_progress: bool,
 ) -> Result<u8, AllocError> {
     let words = words(rt)?;
-    let status = match usage::about(words.as_slice()) {
-        Some(text) => status_of(rt.print(text)),
-        None => run_command(rt, words.as_slice(), shows_progress),
-    };
-    // A person who can't be told loses nothing: the status stands.
-    let _ = advice::advise(rt, status, words.as_slice());
-    Ok(status)
+    match usage::about(words.as_slice()) {
+        Some(text) => Ok(status_of(rt.print(text))),
+        None => Ok(run_command(rt, words.as_slice(), shows_progress)),
+    }
 }
 
 fn status_of(printed: io::Result<()>) -> u8 {
@@ -62,7 +61,8 @@ fn status_of(printed: io::Result<()>) -> u8 {
     }
 }
 
-// Hands the words, the files and standard output to the top call, and answers its status.
+// Hands the words, the files and standard output to the top call, and answers its status. A person who can't be told loses
+// nothing: the status stands.
 fn run_command<R: Files<File = File> + Clock + Env + Print + Eprint + AllocGlobal + Sync + Wait>(
     rt: &R,
     words: &[String],
@@ -73,15 +73,18 @@ fn run_command<R: Files<File = File> + Clock + Env + Print + Eprint + AllocGloba
         return NO_MEMORY;
     };
     let in_use = InUse::new(rt.alloc());
-    spill_top(
+    let mut report = Report::new(rt.alloc(), io::writer(rt));
+    let status = spill_top(
         rt.alloc(),
         words,
         &mut FileInputs::new(rt, &in_use, shows_progress),
         &mut FileOutputs::new(rt, &in_use, shows_progress),
-        &mut Output::new(io::writer(rt)),
+        &mut report,
         &mut slots,
         &OpenGate,
-    )
+    );
+    let _ = advice::advise(rt, rt, status, words, report.text());
+    status
 }
 
 // The words behind the program's name. Where one of them is no text, a person is told, and there are

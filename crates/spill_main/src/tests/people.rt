@@ -89,27 +89,49 @@ fn progress_is_drawn_ten_times_a_second_and_cleared(rt: HostRuntime) -> Result<(
 
 #[test]
 fn each_status_has_a_sentence_but_0_and_that_of_a_file(rt: HostRuntime) -> Result<(), Fail> {
-    let rows: [(u8, &[&str], &str); 7] = [
-        (0, &["count", "in.csv", "k"], ""),
-        (1, &[], "usage: "),
+    let count: &[&str] = &["count", "in.csv", "k"];
+    let run: &[&str] = &["run", "examples/no-such.toml"];
+    let rows: [(u8, &[&str], &str, &str); 15] = [
+        (0, count, "k,count\n", ""),
+        (1, &[], "1 words\n", "usage: "),
         (
             1,
             &["cuont", "in.csv"],
+            "1 words\n",
             "spill: unknown command, or wrong number of arguments\nusage: ",
         ),
-        (3, &["count", "in.csv", "k"], ""),
-        (2, &["run", "p.toml"], "spill: p.toml is no plan: "),
+        (2, run, "2 plan Syntax\n", "spill: examples/no-such.toml is no plan: "),
+        (3, count, "3 input left\n", ""),
+        (4, count, "4 header left\n", "spill: the header of in.csv, "),
+        (4, count, "4 csv left 17\n", "spill: record 17 of in.csv "),
+        (5, count, "5 row left 3 8193\n", "spill: record 3 of in.csv (the header is 0) is too long: its row weighs 8193 bytes"),
+        (
+            4,
+            run,
+            "query 1: 0 lines 2\nquery 2: 4 field right 9 a b\n",
+            "spill: query 2 of examples/no-such.toml: record 9 of an input (the header is 0) must have a whole number of 64 bits in the column \"a b\"\n",
+        ),
         (
             6,
-            &["run", "p.toml"],
-            "spill: a query of p.toml has too little memory: ",
+            run,
+            "query 1: 6 reservation query 163840 155648\n",
+            "spill: query 1 of examples/no-such.toml: it needs 163840 bytes, and its \"limit\" is 155648: a limit of 163840 would do\n",
         ),
-        (9, &["help"], "spill: writing to standard output failed"),
+        (
+            6,
+            run,
+            "query 2: 6 reservation root 1280 768\n",
+            "spill: query 2 of examples/no-such.toml: it needs 1280 bytes, and the queries before it left 768 of the plan's memory",
+        ),
+        (7, run, "query 1: 7 scratch 1 0\n", "spill: query 1 of examples/no-such.toml: the scratch slots "),
+        (7, count, "7 scratch 1 0\n", "spill: in.csv has more values than scratch holds"),
+        (9, &["help"], "", "spill: writing to standard output failed"),
+        (10, count, "10 memory\n", "spill: out of memory"),
     ];
-    for (status, words, begins) in rows {
+    for (status, words, report, begins) in rows {
         let desk = Desk::new(rt.alloc());
         let words = owned(rt.alloc(), words)?;
-        advise(&desk, status, words.as_slice())?;
+        advise(&rt, &desk, status, words.as_slice(), report)?;
         let shown = desk.shown.try_borrow()?;
         assert!(rt; shown.as_str().starts_with(begins), "{status} {begins}");
         assert_eq!(rt; shown.as_str().is_empty(), begins.is_empty());

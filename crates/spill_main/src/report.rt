@@ -1,0 +1,52 @@
+// The report, of which so much is kept as a person is told about.
+
+use crate::output::Output;
+use outside::{Failed, Sink};
+use std::alloc::Global;
+use std::io::Write;
+
+// Lines of a run, and a refusal of a count, are shorter together, but for names of columns that are very long.
+const KEPT: usize = 4096;
+
+// A sink that tells what its writer tells.
+#[derive(Drop)]
+pub(crate) struct Report<W> {
+    output: Output<W>,
+    kept: Vec<u8>,
+}
+
+impl<W: Write> Report<W> {
+    pub(crate) fn new(alloc: Global, writer: W) -> Report<W> {
+        Report {
+            output: Output::new(writer),
+            kept: Vec::new(alloc),
+        }
+    }
+
+    // The first bytes of it, if they are text.
+    pub(crate) fn text(&self) -> &str {
+        str::from_utf8(self.kept.as_slice()).unwrap_or("")
+    }
+
+    // Where there is no memory, a person is told less.
+    fn keep(&mut self, piece: &[u8]) {
+        let room = KEPT.saturating_sub(self.kept.len());
+        if piece.len() <= room {
+            let _ = self.kept.extend_from_slice(piece);
+        }
+    }
+}
+
+impl<W: Write> Sink for Report<W> {
+    ghost contents = { λ s. W.contents s.output.writer };
+
+    ghost faults = { λ s. s.output.faults };
+
+    fn write(&mut self, piece: &[u8]) -> Result<usize, Failed> {
+        let count = self.output.write(piece)?;
+        if let Some(written) = piece.get(..count) {
+            self.keep(written);
+        }
+        Ok(count)
+    }
+}
