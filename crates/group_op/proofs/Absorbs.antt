@@ -25,9 +25,8 @@ use Rattle.group_op.specs.Stored.{IsPartialRow, SameGroups, grouping_of, partial
 use Rattle.group_op.proofs.Absorbed.{read_spent}
 use Rattle.group_op.proofs.Begun.{begun_more, begun_none, begun_over}
 use Rattle.group_op.proofs.Entering.{none_distinct, works_none}
-use Rattle.group_op.proofs.Keeping.{works_touched}
 use Rattle.group_op.proofs.Same.{same_refl}
-use Rattle.group_op.proofs.Serving.{serves_of, serves_then}
+use Rattle.group_op.proofs.Serving.{serves_of, serves_then, serves_touched}
 
 -- some rows were read, and so many are left
 pub record HasSome (shape : Shape) (at level : ℕ) (d : Bool) (left : ℕ) (rows : ℕ → List (List ℕ)) (b : State) : Type 0 where
@@ -147,7 +146,7 @@ module _ (t : ℕ) (shape : Shape) (at level : ℕ) (d : Bool) (left : ℕ) (a :
   pub serves_called : {laid : List Event → Type 0} → FamilySteps laid t (over p old before) (over q new after) → ChangesAt at p q → Serves t shape a (state table q new after)
   serves_called steps changes =
       serves_then t shape a (state table p old before) (state table q new after) absorbs.serves
-      (serves_of t shape (state table p old before) (state table q new after) (works_touched t shape table p q old new before after absorbs.serves.held absorbs.serves.entries steps changes.blocks changes.levels))
+      (serves_touched t shape table p q old new before after absorbs.serves.held absorbs.serves.entries steps changes.blocks)
 
   pub place_called : ChangesAt at p q → length q.streams ≡ length p.streams → IsRead d at level a.parts q
   place_called changes long = place_kept d absorbs.place changes long

@@ -4,13 +4,14 @@ use Rattle.std.specs.Prelude.{All}
 use Rattle.std.specs.List.{sum_by}
 use Rattle.std.proofs.lemmas.List.Elements.{All-append, All-cons, All-head, All-nil, All-tail}
 use Rattle.std.proofs.lemmas.List.Sums.{sum_by-append}
+use Rattle.pool_model.specs.LookingBack.{name_in}
 use Rattle.pool_model.specs.declared.event.Event.{Event}
 use Rattle.pool_model.specs.declared.event.Event.TheVariants.{Ask, Alloc, Free, StartWrite, WriteOk, WriteFailed, Evict, Refused, Increase}
 use Rattle.store_api.specs.Holdings.{Holdings, LivePage, no_page, or_else}
 use Rattle.store_api.specs.Signs.{Signs}
 use Rattle.store_api.specs.Tokens.{PageToken}
 use Rattle.tuple_stream.specs.Streamed.{Streamed}
-use Rattle.tuple_stream.specs.Trails.{EnteredEvents, IsBuilding, Left, all_left, left_by, resting_in}
+use Rattle.tuple_stream.specs.Trails.{EnteredEvents, IsBuilding, Left, all_left, creates_in, left_by, resting_in}
 use Rattle.tuple_stream.specs.Families.{AreShaped, Family, LaysAll, ShowAll, family, weight}
 use Rattle.tuple_stream.specs.FamilyCalls.{AllAtEnd, AreSure, FeedsAll, HaveLaid}
 use Rattle.tuple_stream.proofs.BuildingQuiet.{left_join}
@@ -20,37 +21,42 @@ use Rattle.bucket_table.specs.Entering.{IsOfLoans}
 use Rattle.partition_stack.proofs.Agreeing.{agreeing_rows}
 use Rattle.group_op.specs.Putting.{Deals}
 
--- events that build and leave no page
+-- events that build, and make and leave no page
 pub record AreApart (events : List Event) : Type 0 where
   pub building : All IsBuilding events
   pub none : all_left events ≡ []
+  pub creates : creates_in events ≡ 0
 
 -- such events of a reservation, and of loans
 pub increase_apart : (t bytes : ℕ) (events : List Event) → events ≡ Increase t bytes ∷ [] → AreApart events
-increase_apart t bytes events is = subst AreApart (sym is) (record { building = All-cons IsBuilding (Increase t bytes) [] tt (All-nil IsBuilding); none = refl })
+increase_apart t bytes events is = subst AreApart (sym is) (record { building = All-cons IsBuilding (Increase t bytes) [] tt (All-nil IsBuilding); none = refl; creates = refl })
 
 pub none_apart : (events : List Event) → events ≡ [] → AreApart events
-none_apart events is = subst AreApart (sym is) (record { building = All-nil IsBuilding; none = refl })
+none_apart events is = subst AreApart (sym is) (record { building = All-nil IsBuilding; none = refl; creates = refl })
 
-more_apart : (e : Event) (rest : List Event) → IsBuilding e → left_by e ≡ None → AreApart rest → AreApart (e ∷ rest)
-more_apart e rest building left apart = record { building = All-cons IsBuilding e rest building apart.building; none = filter_map-none e rest left apart.none }
+more_apart : (e : Event) (rest : List Event) → IsBuilding e → left_by e ≡ None → name_in e ≡ None → AreApart rest → AreApart (e ∷ rest)
+more_apart e rest building left unnamed apart =
+    record { building = All-cons IsBuilding e rest building apart.building; none = filter_map-none e rest left apart.none; creates = names-none e rest unnamed apart.creates }
   where
     filter_map-none : (e : Event) (rest : List Event) → left_by e ≡ None → all_left rest ≡ [] → all_left (e ∷ rest) ≡ []
     filter_map-none e rest left none = rw left none
 
+    names-none : (e : Event) (rest : List Event) → name_in e ≡ None → creates_in rest ≡ 0 → creates_in (e ∷ rest) ≡ 0
+    names-none e rest unnamed none = rw unnamed none
+
 loan_apart : (e : Event) (rest : List Event) → IsOfLoans e → AreApart rest → AreApart (e ∷ rest)
-loan_apart Ask rest is apart = more_apart Ask rest tt refl apart
-loan_apart (Alloc f client blocks) rest is apart = more_apart (Alloc f client blocks) rest tt refl apart
-loan_apart (Free f) rest is apart = more_apart (Free f) rest tt refl apart
-loan_apart (StartWrite p) rest is apart = more_apart (StartWrite p) rest tt refl apart
-loan_apart (WriteOk p) rest is apart = more_apart (WriteOk p) rest tt refl apart
-loan_apart (WriteFailed p before after) rest is apart = more_apart (WriteFailed p before after) rest tt refl apart
-loan_apart (Evict p) rest is apart = more_apart (Evict p) rest tt refl apart
-loan_apart (Refused call entry) rest is apart = more_apart (Refused call entry) rest tt refl apart
+loan_apart Ask rest is apart = more_apart Ask rest tt refl refl apart
+loan_apart (Alloc f client blocks) rest is apart = more_apart (Alloc f client blocks) rest tt refl refl apart
+loan_apart (Free f) rest is apart = more_apart (Free f) rest tt refl refl apart
+loan_apart (StartWrite p) rest is apart = more_apart (StartWrite p) rest tt refl refl apart
+loan_apart (WriteOk p) rest is apart = more_apart (WriteOk p) rest tt refl refl apart
+loan_apart (WriteFailed p before after) rest is apart = more_apart (WriteFailed p before after) rest tt refl refl apart
+loan_apart (Evict p) rest is apart = more_apart (Evict p) rest tt refl refl apart
+loan_apart (Refused call entry) rest is apart = more_apart (Refused call entry) rest tt refl refl apart
 loan_apart _ rest is apart = absurd is
 
 pub loans_apart : (events : List Event) → All IsOfLoans events → AreApart events
-loans_apart [] are = record { building = All-nil IsBuilding; none = refl }
+loans_apart [] are = record { building = All-nil IsBuilding; none = refl; creates = refl }
 loans_apart (e ∷ rest) are = loan_apart e rest (All-head IsOfLoans e rest are) (loans_apart rest (All-tail IsOfLoans e rest are))
 
 laid_on : (f g : Family) → AllAtEnd f → (first next : List Event) → HaveLaid f first → LaysAll (AllAtEnd f) ⊥ f g next → HaveLaid g (first ++ next)

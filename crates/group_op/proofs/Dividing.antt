@@ -10,7 +10,7 @@ pub shares_same : (n : ℕ) (rows these : ℕ → List (List ℕ)) → ((i : ℕ
 shares_same zero rows these same = refl
 shares_same (suc n) rows these same = ap₂ (λ (a b : List (List ℕ)). a ++ b) (same 0) (shares_same n (λ i. rows (suc i)) (λ i. these (suc i)) (λ i. same (suc i)))
 
-shares_none : (n : ℕ) → shares n (λ i. []) ≡ []
+pub shares_none : (n : ℕ) → shares n (λ i. []) ≡ []
 shares_none zero = refl
 shares_none (suc n) = shares_none n
 

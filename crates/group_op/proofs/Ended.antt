@@ -1,16 +1,19 @@
 -- A grouping ends: its pages go, and its table's loans come back.
-use Rattle.std.proofs.Common.{◌≡◌, ◌≢◌, ◌∙◌, ℕ, ◌+◌, List, [], Option, Some, None, IsSome, option_map, refl, ap, sym, subst, arith}
+use Rattle.std.proofs.Common.{◌≡◌, ◌≢◌, ◌∙◌, ℕ, ◌+◌, ◌*◌, ◌≤◌, List, [], Option, Some, None, IsSome, option_map, refl, ap, sym, subst, arith}
 use Rattle.std.proofs.lemmas.Option.{none-some}
 use Rattle.store_api.specs.Conditions.{IsIdle}
-use Rattle.store_api.specs.Holdings.{Account, Holdings, LiveLoan, LivePage, account_of, loan_of, unused_of}
+use Rattle.store_api.specs.Holdings.{Account, Holdings, LiveLoan, LivePage, account_of, length_of, loan_of, unused_of}
 use Rattle.store_api.specs.Signs.{Grows, Signs}
+use Rattle.store_api.specs.Tokens.{ClientToken}
 use Rattle.tuple_stream.proofs.Frames.{still_some}
-use Rattle.tuple_stream.specs.Families.{AreShaped, family, slots_in}
-use Rattle.bucket_table.specs.Lending.{IsApart, IsOwn, IsTableOf, Lends, loans_of}
+use Rattle.tuple_stream.specs.Families.{AreShaped, family, held_in, slots_in}
+use Rattle.bucket_table.specs.Lending.{IsApart, IsOwn, IsTableOf, Lends, bytes_of, loans_of}
 use Rattle.bucket_table.specs.Tables.{Lent, Table}
 use Rattle.bucket_table.proofs.Beside.{beside_pages}
 use Rattle.partition_stack.specs.Changes.{EndsAll, Owns}
+use Rattle.partition_stack.specs.Leaving.{MayStart}
 use Rattle.partition_stack.specs.Stack.{Stack, over}
+use Rattle.partition_stack.proofs.Owned.{owned_stay}
 use Rattle.group_op.specs.Held.{LeavesOthers}
 use Rattle.group_op.specs.Operator.{HasNoLoan}
 use Rattle.group_op.proofs.Chained.{leaves_both}
@@ -77,6 +80,16 @@ module _ (t lent : ℕ) (p : Stack) (old new : Holdings) (before after : Signs) 
         room = omega (arith, same, room);
       }
 
+  -- nothing is charged but what is lent
+  pub ended_even : unused_of t new + lent ≡ (account_of t new).reservation
+  ended_even =
+      let even = (owned_stay t lent (over p old before) (family [] new after) owns ends.touches (none_shaped t new after)).even in
+      let none : held_in (family [] new after) ≡ 0 = refl in
+      omega (arith, even, none)
+
+  pub ended_lives : IsSome (new.clients t)
+  ended_lives = (owned_stay t lent (over p old before) (family [] new after) owns ends.touches (none_shaped t new after)).lives
+
   pub ended_slots : new.free_slots ≡ slots_in (over p old before)
   ended_slots = sym (none_added new.free_slots) ∙ ends.touches.slots
 
@@ -101,6 +114,16 @@ module _ (t lent : ℕ) (p : Stack) (old new : Holdings) (before after : Signs) 
             loans = freed_none t (loans_of table) new last own_lends (λ q loan there apart. others q loan (sym (ap (λ (f : ℕ → Option LiveLoan). f q) ends.touches.loans) ∙ there) apart);
           }
 
+      pub freed_even : bytes_of (loans_of table) ≡ lent → unused_of t last ≡ (account_of t last).reservation
+      freed_even all =
+          let even = ended_even in
+          let unused = ap (λ (a : Account). a.unused) own_lends.charged in
+          let own = ap (λ (a : Account). a.reservation) own_lends.charged in
+          omega (arith, all, even, unused, own)
+
+      pub freed_lives : IsSome (last.clients t)
+      freed_lives = own_lends.was
+
       pub freed_slots : last.free_slots ≡ slots_in (over p old before)
       freed_slots = sym (ap (λ (h : Holdings). h.free_slots) own_lends.rest) ∙ ended_slots
 
@@ -109,3 +132,16 @@ module _ (t lent : ℕ) (p : Stack) (old new : Holdings) (before after : Signs) 
           let first = ended_leaves in
           let second = freed_leaves t (loans_of table) new last own_lends after final grows in
           leaves_both t old new last before after final first second
+
+-- so another operator may start with the client
+pub again_of : (c : ClientToken) (blocks : ℕ) (old new : Holdings) (before after : Signs) → 20 * length_of blocks old ≤ (account_of c.tracker old).reservation → LeavesOthers c.tracker old new before after → IsSome (new.clients c.tracker) → IsIdle c.tracker new → unused_of c.tracker new ≡ (account_of c.tracker new).reservation → MayStart c blocks new
+again_of c blocks old new before after least leaves lives idle free =
+    record {
+      lives = lives;
+      idle = idle;
+      least =
+          let reserved = leaves.reserved in
+          let long = ap (λ (n : ℕ). 20 * (blocks * n)) leaves.others.block_len in
+          omega (arith, least, reserved, long);
+      free = free;
+    }

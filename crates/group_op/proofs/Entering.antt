@@ -34,6 +34,7 @@ use Rattle.group_op.specs.Stored.{IsPartialRow, SameGroups, dealt, grouping_of, 
 use Rattle.group_op.proofs.Deals.{deals_as, deals_fed, deals_then}
 use Rattle.group_op.proofs.Finding.{entry_of, entry_row}
 use Rattle.group_op.proofs.Joins.{IsJoined, joins}
+use Rattle.group_op.proofs.Paging.{few_same, made_none}
 use Rattle.group_op.proofs.RowForms.{partial_is_framed}
 use Rattle.group_op.proofs.Rewriting.{NodeAt, rewritten_at, with_own}
 use Rattle.group_op.proofs.Same.{same_back, same_into, same_order, same_refl}
@@ -71,6 +72,8 @@ works_none t shape table p h signs held entries =
       levels = refl;
       many = refl;
       slots = slots_none p.page_blocks (over p h signs);
+      made = made_none (over p h signs);
+      few = few_same (state table p h signs) (state table p h signs) refl;
     }
 
 -- ---- a new entry

@@ -33,6 +33,7 @@ use Rattle.group_op.specs.Putting.{HasGrown, Works}
 use Rattle.group_op.proofs.Deals.{AreApart, deals_as, deals_beside, deals_then, increase_apart, loans_apart, none_apart}
 use Rattle.group_op.proofs.Entering.{works_none}
 use Rattle.group_op.proofs.Chained.{works_then}
+use Rattle.group_op.proofs.Paging.{few_same, few_then, made_apart}
 
 -- what a client reserves or lends changes nothing but that
 pub record Turns (t : ℕ) (old new : Holdings) : Type 0 where
@@ -132,10 +133,10 @@ module _ (t len : ℕ) (old new : Holdings) (lives : IsSome (old.clients t)) (is
 pub page_lens : (p : Stack) (old new : Holdings) → new.block_len ≡ old.block_len → length_of p.page_blocks new ≡ length_of p.page_blocks old
 page_lens p old new same = ap (λ (n : ℕ). p.page_blocks * n) same
 
-works_turned : (t : ℕ) (shape : Shape) (table now : Table) (p : Stack) (old new : Holdings) (before after : Signs) → Turns t old new → Grows before after
+works_turned : (t : ℕ) (shape : Shape) (table now : Table) (p : Stack) (old new : Holdings) (before after : Signs) → Turns t old new → Grows before after → EnteredEvents AreApart before.trail after.trail
     → (account_of t old).reservation ≤ (account_of t new).reservation → old.room + (account_of t old).reservation ≤ new.room + (account_of t new).reservation
     → IsHeld t (state now p new after) → AreEntries shape (length_of p.page_blocks old) now → Works t shape (state table p old before) (state now p new after)
-works_turned t shape table now p old new before after turns grows reserved room held entries =
+works_turned t shape table now p old new before after turns grows entered reserved room held entries =
     record {
       held = held;
       entries = subst (λ (n : ℕ). AreEntries shape n now) (sym (page_lens p old new turns.block_len)) entries;
@@ -144,6 +145,8 @@ works_turned t shape table now p old new before after turns grows reserved room 
       levels = refl;
       many = refl;
       slots = slots_turned t old new turns p before after;
+      made = made_apart (over p old before) (over p new after) refl entered;
+      few = few_same (state table p old before) (state now p new after) refl;
     }
 
 module _ (t more : ℕ) (table : Table) (p : Stack) (old new : Holdings) (before after : Signs) (held : IsHeld t (state table p old before)) (is : new ≡ after_reserve t more old) where
@@ -172,11 +175,11 @@ module _ (t more : ℕ) (table : Table) (p : Stack) (old new : Holdings) (before
       let same = page_lens p old new turned.block_len in
       omega (arith, room, gets, ap (λ (n : ℕ). 17 * n) same)
 
-  pub works_reserved : (shape : Shape) → Grows before after → AreEntries shape (length_of p.page_blocks old) table → Works t shape (state table p old before) (state table p new after)
-  works_reserved shape grows entries =
+  pub works_reserved : (shape : Shape) → Grows before after → EnteredEvents AreApart before.trail after.trail → AreEntries shape (length_of p.page_blocks old) table → Works t shape (state table p old before) (state table p new after)
+  works_reserved shape grows entered entries =
       let gets = reserved_more t more old new held.owns.lives is in
       let room : new.room ≡ old.room - more = ap (λ (h : Holdings). h.room) is in
-      works_turned t shape table table p old new before after turned grows (omega (arith, gets)) (omega (arith, gets, room)) held_reserved entries
+      works_turned t shape table table p old new before after turned grows entered (omega (arith, gets)) (omega (arith, gets, room)) held_reserved entries
 
 -- ---- lent
 
@@ -267,11 +270,11 @@ module _ (t more : ℕ) (shape : Shape) (table now : Table) (p : Stack) (old new
             omega (arith, spare, gets, own, ap (λ (n : ℕ). 17 * n) same);
       }
 
-  pub works_grown : Grows before after → AreEntries shape (length_of p.page_blocks old) table → Works t shape (state table p old before) (state now p new after)
-  works_grown grows entries =
+  pub works_grown : Grows before after → EnteredEvents AreApart before.trail after.trail → AreEntries shape (length_of p.page_blocks old) table → Works t shape (state table p old before) (state now p new after)
+  works_grown grows entered entries =
       let own = lent_reservation t got.loans old new got.lends in
       let room = lent_room t got.loans old new got.lends in
-      works_turned t shape table now p old new before after turned_lent grows (omega (arith, own)) (omega (arith, own, room)) held_grown (got.entries entries)
+      works_turned t shape table now p old new before after turned_lent grows entered (omega (arith, own)) (omega (arith, own, room)) held_grown (got.entries entries)
 
 -- ---- the whole of it
 
@@ -308,6 +311,8 @@ grown_refused t shape table p old new before after held entries same grows enter
         levels = refl;
         many = refl;
         slots = record { sum = refl; sized = λ all. all };
+        made = made_apart (over p old before) (over p old after) refl entered;
+        few = few_same (state table p old before) (state table p old after) refl;
       };
       deals = deals_beside t p.streams old old before after held.owns.shaped refl refl refl entered;
     })
@@ -329,11 +334,14 @@ grown_untouched t shape table p old new before after held entries grows result b
     (since_so (λ events. events ≡ []) AreApart before.trail after.trail none_apart (since_these old.session [] before after same.entries))
 
 -- one after the other
+pub grown_then_works : (t : ℕ) (shape : Shape) (a b c : State) → HasGrown t shape a b → Works t shape b c → Works t shape a c
+grown_then_works t shape a b c grown works = works_then t shape a b c (few_then a b c grown.deals grown.works.many grown.rows works.few) grown.works works
+
 pub grown_then : (t : ℕ) (shape : Shape) (a b c : State) → HasGrown t shape a b → HasGrown t shape b c → HasGrown t shape a c
 grown_then t shape a b c first second =
     record {
       rows = second.rows ∙ first.rows;
-      works = works_then t shape a b c first.works second.works;
+      works = grown_then_works t shape a b c first second.works;
       deals = deals_as (λ i. [] ++ []) (λ i. []) (streams_of a) (streams_of c) (λ i. refl) (deals_then (λ i. []) (λ i. []) (streams_of a) (streams_of b) (streams_of c) first.deals second.deals);
     }
 
@@ -341,9 +349,9 @@ module _ (t : ℕ) (shape : Shape) (table : Table) (p : Stack) (old mid : Holdin
     (maker more : ℕ) (is : mid ≡ after_reserve t more old) (grows : Grows before between) (made : MadeThese maker (Increase t more ∷ []) before between) where
   first : HasGrown t shape (state table p old before) (state table p mid between)
   first =
-      grown t shape table table p old mid before between held.owns.shaped (turned t more table p old mid before between held is) refl
-      (since_so (λ events. events ≡ Increase t more ∷ []) AreApart before.trail between.trail (increase_apart t more) (since_these maker (Increase t more ∷ []) before between made))
-      (works_reserved t more table p old mid before between held is shape grows entries)
+      let entered = since_so (λ events. events ≡ Increase t more ∷ []) AreApart before.trail between.trail (increase_apart t more) (since_these maker (Increase t more ∷ []) before between made) in
+      grown t shape table table p old mid before between held.owns.shaped (turned t more table p old mid before between held is) refl entered
+      (works_reserved t more table p old mid before between held is shape grows entered entries)
 
   module _ (now : Table) (new : Holdings) (after : Signs) (result : Result Unit PoolErr) (later : Grows between after) (entered : EnteredLoans between.trail after.trail) where
     apart : EnteredEvents AreApart between.trail after.trail
@@ -359,7 +367,7 @@ module _ (t : ℕ) (shape : Shape) (table : Table) (p : Stack) (old mid : Holdin
         second (Ok done) ok err same =
             grown t shape table now p mid new between after table_held.owns.shaped (turned_lent t more shape table now p mid new between after table_held ok here (spare_reserved t more table p old mid before between held is))
             ok.rows apart
-            (works_grown t more shape table now p mid new between after table_held ok here (spare_reserved t more table p old mid before between held is) later first.works.entries)
+            (works_grown t more shape table now p mid new between after table_held ok here (spare_reserved t more table p old mid before between held is) later apart first.works.entries)
         second (Err e) ok err same =
             subst (λ (x : Table). HasGrown t shape (state table p mid between) (state x p new after)) (sym err)
             (grown_refused t shape table p mid new between after table_held first.works.entries same later apart)

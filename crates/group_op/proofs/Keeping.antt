@@ -2,11 +2,10 @@
 use Rattle.std.proofs.Common.{◌≡◌, ◌∙◌, ℕ, ◌+◌, ◌-◌, ◌*◌, ◌≤◌, Bool, true, false, List, [], length, Option, IsSome, ap, sym, subst, arith}
 use Rattle.std.proofs.Math.Nat.{mul-le-mul_right}
 use Rattle.std.proofs.lemmas.List.Elements.{All-nil}
-use Rattle.pool_model.specs.declared.event.Event.{Event}
 use Rattle.store_api.specs.Holdings.{Account, Holdings, LiveLoan, account_of, length_of, unused_of}
 use Rattle.store_api.specs.Signs.{Grows, Signs}
 use Rattle.store_api.specs.declared.shapes.Shape.{Shape}
-use Rattle.tuple_stream.specs.Families.{AreShaped, FamilySteps, TouchesAll, held_in}
+use Rattle.tuple_stream.specs.Families.{AreShaped, FamilySteps, LaysAll, TouchesAll, held_in}
 use Rattle.tuple_stream.proofs.Frames.{still_some}
 use Rattle.bucket_table.specs.Tables.{Node, Table, with_nodes}
 use Rattle.bucket_table.proofs.Beside.{beside_pages}
@@ -15,10 +14,11 @@ pub use Rattle.partition_stack.proofs.Left.{others_stay, same_reservation}
 use Rattle.partition_stack.proofs.Owned.{owned_stay}
 use Rattle.group_op.specs.Held.{AreEntries, IsHeld, Leaves, State, lent, state}
 use Rattle.group_op.specs.Finishing.{IsRead}
-use Rattle.group_op.specs.Putting.{IsFan, Works}
+use Rattle.group_op.specs.Putting.{HasFew, IsFan, Works}
+use Rattle.group_op.proofs.Paging.{made_laid}
 
 module _ (t : ℕ) (table : Table) (p q : Stack) (old new : Holdings) (before after : Signs) (held : IsHeld t (state table p old before)) (touches : TouchesAll t (over p old before) (over q new after)) (is : AreShaped t (over q new after)) (blocks : q.page_blocks ≡ p.page_blocks) where
-  same_len : length_of q.page_blocks new ≡ length_of p.page_blocks old
+  pub same_len : length_of q.page_blocks new ≡ length_of p.page_blocks old
   same_len = ap (λ (n : ℕ). n * new.block_len) blocks ∙ ap (λ (n : ℕ). p.page_blocks * n) touches.block_len
 
   client_lives : IsSome (new.clients t)
@@ -50,8 +50,9 @@ module _ (t : ℕ) (table : Table) (p q : Stack) (old new : Holdings) (before af
             omega (arith, same, room);
       }
 
-pub works_touched : {laid : List Event → Type 0} (t : ℕ) (shape : Shape) (table : Table) (p q : Stack) (old new : Holdings) (before after : Signs) → IsHeld t (state table p old before) → AreEntries shape (length_of p.page_blocks old) table → FamilySteps laid t (over p old before) (over q new after) → q.page_blocks ≡ p.page_blocks → q.levels ≡ p.levels → Works t shape (state table p old before) (state table q new after)
-works_touched t shape table p q old new before after held entries steps blocks levels =
+pub works_touched : {K R : Type 0} (t : ℕ) (shape : Shape) (table : Table) (p q : Stack) (old new : Holdings) (before after : Signs) → IsHeld t (state table p old before) → AreEntries shape (length_of p.page_blocks old) table → FamilySteps (LaysAll K R (over p old before) (over q new after)) t (over p old before) (over q new after) → q.page_blocks ≡ p.page_blocks → q.levels ≡ p.levels
+    → HasFew (state table p old before) (state table q new after) → Works t shape (state table p old before) (state table q new after)
+works_touched t shape table p q old new before after held entries steps blocks levels few =
     record {
       held = held_touched t table p q old new before after held steps.touches steps.shaped blocks;
       entries = subst (λ (n : ℕ). AreEntries shape n table) (sym (same_len t table p q old new before after held steps.touches steps.shaped blocks)) entries;
@@ -60,6 +61,8 @@ works_touched t shape table p q old new before after held entries steps blocks l
       levels = levels;
       many = steps.long;
       slots = record { sum = steps.touches.slots; sized = λ all. steps.sized p.page_blocks all };
+      made = made_laid t (over p old before) (over q new after) steps;
+      few = few;
     }
 
 -- ---- other nodes in a table
@@ -85,6 +88,8 @@ works_nodes t shape a nodes table q new after works entries =
       levels = works.levels;
       many = works.many;
       slots = record { sum = works.slots.sum; sized = works.slots.sized };
+      made = works.made;
+      few = works.few;
     }
 
 pub emptied_entries : (shape : Shape) (len : ℕ) (table : Table) → AreEntries shape len table → AreEntries shape len (with_nodes [] table)

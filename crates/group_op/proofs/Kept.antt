@@ -18,11 +18,13 @@ use Rattle.store_api.specs.Holdings.{Holdings, account_of, length_of}
 use Rattle.store_api.specs.Signs.{Signs}
 use Rattle.store_api.specs.Tokens.{ClientToken}
 use Rattle.store_api.specs.declared.shapes.Shape.{Shape}
-use Rattle.tuple_stream.specs.FamilyCalls.{shares}
+use Rattle.tuple_stream.specs.FamilyCalls.{HaveLaid, shares}
+use Rattle.tuple_stream.specs.Trails.{EnteredEvents}
 use Rattle.bucket_table.specs.Tables.{Table}
 use Rattle.partition_stack.specs.Stack.{Stack, over}
 use Rattle.group_op.specs.Held.{rows_of, state}
-use Rattle.group_op.specs.Operator.{HasOpened, IsOperator, Keeps, Spells, entries_in, operator}
+use Rattle.group_op.specs.Feeding.{HasOpened, Spells}
+use Rattle.group_op.specs.Operator.{Holds, IsOperator, Keeps, entries_in, operator}
 use Rattle.group_op.specs.Putting.{Deals, HasPut, IsTooLong, Works}
 use Rattle.group_op.specs.Stored.{IsPartialRow, SameGroups, dealt, grouping_of, keys_len, partials_at, place_of}
 use Rattle.group_op.proofs.Deals.{deals_as, deals_then}
@@ -40,8 +42,8 @@ pub placed_there : (shape : Shape) (i : ℕ) (rows : List (List ℕ)) → All (�
 placed_there shape i [] = All-nil (λ r. place_of shape 0 0 r ≡ i)
 placed_there shape i (r ∷ rows) = go shape i r rows (place_of shape 0 0 r == i) refl (placed_there shape i rows)
 
-module _ (c : ClientToken) (shape : Shape) (start : Option (List Entry)) (fed : List (List Value)) (row : List Value) (bytes : List ℕ) (was : Option Table) (own now : Table) (p q : Stack) (h0 h1 h2 : Holdings) (s0 s1 s2 : Signs)
-    (opened : HasOpened shape was own (state own p h0 s0) (state own p h1 s1)) (put : HasPut shape 0 0 bytes (state own p h1 s1) (state now q h2 s2)) (spells : Spells shape bytes row) (keeps : Keeps start fed (operator c shape p was) h0 s0)
+module _ (c : ClientToken) (shape : Shape) (fed : List (List Value)) (row : List Value) (bytes : List ℕ) (was : Option Table) (own now : Table) (p q : Stack) (h0 h1 h2 : Holdings) (s0 s1 s2 : Signs)
+    (opened : HasOpened shape was own (state own p h0 s0) (state own p h1 s1)) (put : HasPut shape 0 0 bytes (state own p h1 s1) (state now q h2 s2)) (spells : Spells shape bytes row) (holds : Holds fed (operator c shape p was) h0 s0)
     (is : IsShape shape) (partial : IsPartialRow shape bytes) (len_opened : length_of p.page_blocks h1 ≡ length_of p.page_blocks h0) (len_put : length_of q.page_blocks h2 ≡ length_of p.page_blocks h1) where
   deals : Deals (dealt shape 0 0 put.gone) (over p h0 s0) (over q h2 s2)
   deals =
@@ -49,10 +51,10 @@ module _ (c : ClientToken) (shape : Shape) (start : Option (List Entry)) (fed : 
       (deals_then (λ i. []) (dealt shape 0 0 put.gone) (over p h0 s0) (over p h1 s1) (over q h2 s2) opened.deals put.deals)
 
   abbrev rows_now : ℕ → List (List ℕ)
-  rows_now i = keeps.rows i ++ dealt shape 0 0 put.gone i
+  rows_now i = holds.rows i ++ dealt shape 0 0 put.gone i
 
-  moved : IsPermutation (shares 16 rows_now) (shares 16 keeps.rows ++ put.gone)
-  moved = more_shares shape 0 keeps.rows put.gone
+  moved : IsPermutation (shares 16 rows_now) (shares 16 holds.rows ++ put.gone)
+  moved = more_shares shape 0 holds.rows put.gone
 
   same : SameGroups (grouping_of shape) (partials_at shape (bytes ∷ entries_in was)) (partials_at shape (rows_of now ++ put.gone))
   same = subst (λ (rs : List (List ℕ)). SameGroups (grouping_of shape) (partials_at shape (bytes ∷ rs)) (partials_at shape (rows_of now ++ put.gone))) opened.rows put.same
@@ -65,7 +67,7 @@ module _ (c : ClientToken) (shape : Shape) (start : Option (List Entry)) (fed : 
   none_gone low = elim put.full [
     | inl none ↦ none
     | inr full ↦
-        let long = fed_long shape (length_of p.page_blocks h1) fed row bytes (entries_in was) (shares 16 keeps.rows) is partial entries_formed keeps.values spells.values spells.says keeps.distinct keeps.stand
+        let long = fed_long shape (length_of p.page_blocks h1) fed row bytes (entries_in was) (shares 16 holds.rows) is partial entries_formed holds.values spells.values spells.says holds.distinct holds.stand
         (subst (IsTooLong shape (length_of p.page_blocks h1) bytes) opened.rows full) in
         absurd (omega (arith, low, long, len_put))
   ]
@@ -73,43 +75,52 @@ module _ (c : ClientToken) (shape : Shape) (start : Option (List Entry)) (fed : 
   none_shared : keys_len shape (fed ++ row ∷ []) ≤ 2 * length_of q.page_blocks h2 → shares 16 rows_now ≡ []
   none_shared low =
       let before = keys_len_more shape fed (row ∷ []) in
-      let none = ap length (keeps.small (omega (arith, low, before, len_opened, len_put))) in
+      let none = ap length (holds.small (omega (arith, low, before, len_opened, len_put))) in
       let gone = ap length (none_gone low) in
-      let long = length_permutation (shares 16 rows_now) (shares 16 keeps.rows ++ put.gone) moved in
-      let both = length-append (shares 16 keeps.rows) put.gone in
+      let long = length_permutation (shares 16 rows_now) (shares 16 holds.rows ++ put.gone) moved in
+      let both = length-append (shares 16 holds.rows) put.gone in
       nil_from_length (shares 16 rows_now) (omega (arith, none, gone, long, both))
 
-  pub keeps_fed : Keeps start (fed ++ row ∷ []) (operator c shape q (Some now)) h2 s2
-  keeps_fed =
+  pub holds_fed : Holds (fed ++ row ∷ []) (operator c shape q (Some now)) h2 s2
+  holds_fed =
       record {
         rows = rows_now;
-        shows = deals.rows keeps.rows (inr keeps.at_end) keeps.shows;
-        formed = λ i. All-append (IsPartialRow shape) (keeps.rows i) (dealt shape 0 0 put.gone i) (keeps.formed i) (All-filter (λ r. place_of shape 0 0 r == i) (IsPartialRow shape) put.gone put.formed);
-        placed = λ i. All-append (λ r. place_of shape 0 0 r ≡ i) (keeps.rows i) (dealt shape 0 0 put.gone i) (keeps.placed i) (placed_there shape i put.gone);
-        values = All-append (λ r. All IsValue r) fed (row ∷ []) keeps.values (All-cons (λ r. All IsValue r) row [] spells.values (All-nil (λ r. All IsValue r)));
-        stand = fed_stands shape fed row bytes (entries_in was) (rows_of now) put.gone (shares 16 keeps.rows) (shares 16 rows_now) keeps.values spells.values spells.says same moved keeps.stand;
-        distinct = put.distinct (subst (λ (rs : List (List ℕ)). HaveDistinctKeys (partials_at shape rs)) (sym opened.rows) keeps.distinct);
+        shows = deals.rows holds.rows (inr holds.at_end) holds.shows;
+        formed = λ i. All-append (IsPartialRow shape) (holds.rows i) (dealt shape 0 0 put.gone i) (holds.formed i) (All-filter (λ r. place_of shape 0 0 r == i) (IsPartialRow shape) put.gone put.formed);
+        placed = λ i. All-append (λ r. place_of shape 0 0 r ≡ i) (holds.rows i) (dealt shape 0 0 put.gone i) (holds.placed i) (placed_there shape i put.gone);
+        values = All-append (λ r. All IsValue r) fed (row ∷ []) holds.values (All-cons (λ r. All IsValue r) row [] spells.values (All-nil (λ r. All IsValue r)));
+        stand = fed_stands shape fed row bytes (entries_in was) (rows_of now) put.gone (shares 16 holds.rows) (shares 16 rows_now) holds.values spells.values spells.says same moved holds.stand;
+        distinct = put.distinct (subst (λ (rs : List (List ℕ)). HaveDistinctKeys (partials_at shape rs)) (sym opened.rows) holds.distinct);
         fresh = λ none. absurd (none-some now (sym none));
         few =
             let long = ap length opened.rows in
-            let few = keeps.few in
+            let few = holds.few in
             let fewer = put.fewer in
-            let shares_long = length_permutation (shares 16 rows_now) (shares 16 keeps.rows ++ put.gone) moved in
-            let both = length-append (shares 16 keeps.rows) put.gone in
+            let shares_long = length_permutation (shares 16 rows_now) (shares 16 holds.rows ++ put.gone) moved in
+            let both = length-append (shares 16 holds.rows) put.gone in
             let all = length-append fed (row ∷ []) in
             omega (arith, long, few, fewer, shares_long, both, all);
         small = none_shared;
-        at_end = deals.at_end keeps.at_end;
-        whole = deals.whole keeps.whole;
-        laid = deals.laid start keeps.at_end keeps.laid;
+        at_end = deals.at_end holds.at_end;
+        whole = deals.whole holds.whole;
       }
+
+  pub keeps_fed : (start : Option (List Entry)) → EnteredEvents (HaveLaid (over p h0 s0)) start s0.trail → Keeps start (fed ++ row ∷ []) (operator c shape q (Some now)) h2 s2
+  keeps_fed start laid = record { holds = holds_fed; laid = deals.laid start holds.at_end laid }
 
 pub keeps_put : (c : ClientToken) (shape : Shape) (bytes : List ℕ) (was : Option Table) (own now : Table) (p q : Stack) (h0 h1 h2 : Holdings) (s0 s1 s2 : Signs) (r : Result Unit PoolErr)
     → IsShape shape → IsPartialRow shape bytes → length_of p.page_blocks h1 ≡ length_of p.page_blocks h0 → length_of q.page_blocks h2 ≡ length_of p.page_blocks h1
     → HasOpened shape was own (state own p h0 s0) (state own p h1 s1) → OnOk r (HasPut shape 0 0 bytes (state own p h1 s1) (state now q h2 s2))
     → OnOk r ((start : Option (List Entry)) (rows : List (List Value)) (row : List Value) → Spells shape bytes row → Keeps start rows (operator c shape p was) h0 s0 → Keeps start (rows ++ row ∷ []) (operator c shape q (Some now)) h2 s2)
-keeps_put c shape bytes was own now p q h0 h1 h2 s0 s1 s2 (Ok done) is partial one two opened put = λ start rows row spells keeps. keeps_fed c shape start rows row bytes was own now p q h0 h1 h2 s0 s1 s2 opened put spells keeps is partial one two
+keeps_put c shape bytes was own now p q h0 h1 h2 s0 s1 s2 (Ok done) is partial one two opened put = λ start rows row spells keeps. keeps_fed c shape rows row bytes was own now p q h0 h1 h2 s0 s1 s2 opened put spells keeps.holds is partial one two start keeps.laid
 keeps_put c shape bytes was own now p q h0 h1 h2 s0 s1 s2 (Err e) is partial one two opened put = tt
+
+pub holds_put : (c : ClientToken) (shape : Shape) (bytes : List ℕ) (was : Option Table) (own now : Table) (p q : Stack) (h0 h1 h2 : Holdings) (s0 s1 s2 : Signs) (r : Result Unit PoolErr)
+    → IsShape shape → IsPartialRow shape bytes → length_of p.page_blocks h1 ≡ length_of p.page_blocks h0 → length_of q.page_blocks h2 ≡ length_of p.page_blocks h1
+    → HasOpened shape was own (state own p h0 s0) (state own p h1 s1) → OnOk r (HasPut shape 0 0 bytes (state own p h1 s1) (state now q h2 s2))
+    → OnOk r ((rows : List (List Value)) (row : List Value) → Spells shape bytes row → Holds rows (operator c shape p was) h0 s0 → Holds (rows ++ row ∷ []) (operator c shape q (Some now)) h2 s2)
+holds_put c shape bytes was own now p q h0 h1 h2 s0 s1 s2 (Ok done) is partial one two opened put = λ rows row spells holds. holds_fed c shape rows row bytes was own now p q h0 h1 h2 s0 s1 s2 opened put spells holds is partial one two
+holds_put c shape bytes was own now p q h0 h1 h2 s0 s1 s2 (Err e) is partial one two opened put = tt
 
 -- the grouping is one over its store still
 pub operator_works : (c : ClientToken) (shape : Shape) (was : Option Table) (own now : Table) (p q : Stack) (h0 h1 h2 : Holdings) (s0 s1 s2 : Signs) → IsOperator (operator c shape p was) h0 s0 → h1.block_len ≡ h0.block_len

@@ -1,10 +1,10 @@
 -- What a grouping leaves on pages once its table is emptied and all of them rest.
-use Rattle.std.proofs.Common.{◌≡◌, ◌∙◌, inl, inr, ℕ, zero, suc, ◌+◌, ◌<◌, ◌≤◌, List, [], ◌∷◌, ◌++◌, length, map, reverse, Option, Some, None, IfSome, refl, ap, sym, subst, arith, append-nil, length-append}
+use Rattle.std.proofs.Common.{◌≡◌, ◌∙◌, inl, inr, ℕ, zero, suc, ◌+◌, ◌<◌, List, [], ◌++◌, length, map, reverse, Option, Some, None, IfSome, refl, ap, sym, subst, arith, append-nil, length-append}
 use Rattle.std.specs.Prelude.{All, ⊤}
 use Rattle.std.specs.List.{sum_by}
 use Rattle.std.specs.List.Sorted.{IsPermutation}
 use Rattle.std.proofs.lemmas.List.{length-map, map-append, nil_from_length}
-use Rattle.std.proofs.lemmas.List.Elements.{All-append, All-head, All-nil, All-tail}
+use Rattle.std.proofs.lemmas.List.Elements.{All-append, All-nil}
 use Rattle.std.specs.Str.{bytes_eq}
 use Rattle.std.proofs.lemmas.List.Sorted.{All-permutation, IsPermutation-append_comm, IsPermutation-append_left, IsPermutation-map, IsPermutation-reverse, IsPermutation-sym, IsPermutation-trans, length_permutation}
 use Rattle.std.proofs.lemmas.List.Sums.{sum_by-append}
@@ -18,7 +18,7 @@ use Rattle.store_api.specs.declared.shapes.Shape.{Shape}
 use Rattle.store_api.specs.Holdings.{Holdings, length_of}
 use Rattle.store_api.specs.Signs.{Signs}
 use Rattle.store_api.specs.Tokens.{ClientToken}
-use Rattle.tuple_stream.specs.Streamed.{OpenPage, Streamed, all_bytes, bytes_of, joined, page_rows}
+use Rattle.tuple_stream.specs.Streamed.{OpenPage, Streamed, all_bytes, bytes_of, page_rows}
 use Rattle.tuple_stream.specs.Streams.{HasRows, IsOpen, IsShaped}
 use Rattle.tuple_stream.specs.Trails.{EnteredEvents, IsBuilding, all_left}
 use Rattle.tuple_stream.specs.Families.{AllClosed, AreShaped, Family, HaveReadAll, LaysAll}
@@ -42,6 +42,7 @@ use Rattle.group_op.proofs.Deals.{deals_fed}
 use Rattle.group_op.proofs.Dividing.{more_shares}
 use Rattle.group_op.proofs.Entering.{rows_formed}
 use Rattle.group_op.proofs.HeldPages.{held_left}
+use Rattle.group_op.proofs.Paging.{rows_enough}
 
 left_as : (xs ys : List (List ℕ)) (events : List Event) → IsPermutation xs ys → HasLeft ys events → HasLeft xs events
 left_as xs ys events moved left = record { these = left.these; leaves = left.leaves; moved = IsPermutation-trans xs ys left.these moved left.moved }
@@ -97,8 +98,8 @@ left_first rows g a b c was next =
 
 -- ---- what was fed
 
-pub built_of : (c : ClientToken) (shape : Shape) (start : Option (List Entry)) (fed : List (List Value)) (p : Stack) (table : Option Table) (h : Holdings) (s : Signs) → (keeps : Keeps start fed (operator c shape p table) h s) → AreBuilt start keeps.rows (over p h s)
-built_of c shape start fed p table h s keeps = record { shows = keeps.shows; at_end = keeps.at_end; whole = keeps.whole; laid = keeps.laid }
+pub built_of : (c : ClientToken) (shape : Shape) (start : Option (List Entry)) (fed : List (List Value)) (p : Stack) (table : Option Table) (h : Holdings) (s : Signs) → (keeps : Keeps start fed (operator c shape p table) h s) → AreBuilt start keeps.holds.rows (over p h s)
+built_of c shape start fed p table h s keeps = record { shows = keeps.holds.shows; at_end = keeps.holds.at_end; whole = keeps.holds.whole; laid = keeps.laid }
 
 shares_formed : (shape : Shape) (n : ℕ) (rows : ℕ → List (List ℕ)) → ((i : ℕ) → All (IsPartialRow shape) (rows i)) → All (IsPartialRow shape) (shares n rows)
 shares_formed shape zero rows formed = All-nil (IsPartialRow shape)
@@ -108,10 +109,10 @@ shares_formed shape (suc n) rows formed = All-append (IsPartialRow shape) (rows 
 module _ (c : ClientToken) (shape : Shape) (start : Option (List Entry)) (fed : List (List Value)) (p : Stack) (table : Option Table) (h : Holdings) (s : Signs) (keeps : Keeps start fed (operator c shape p table) h s)
     (entries : All (IsPartialRow shape) (entries_in table)) (g : Family) where
   abbrev all : List (List ℕ)
-  all = entries_in table ++ shares 16 keeps.rows
+  all = entries_in table ++ shares 16 keeps.holds.rows
 
-  alone : shares 16 keeps.rows ≡ [] → HaveDistinctKeys (partials_at shape all)
-  alone none = subst (λ (rs : List (List ℕ)). HaveDistinctKeys (partials_at shape rs)) (sym (ap (λ (rs : List (List ℕ)). entries_in table ++ rs) none ∙ append-nil (entries_in table))) keeps.distinct
+  alone : shares 16 keeps.holds.rows ≡ [] → HaveDistinctKeys (partials_at shape all)
+  alone none = subst (λ (rs : List (List ℕ)). HaveDistinctKeys (partials_at shape rs)) (sym (ap (λ (rs : List (List ℕ)). entries_in table ++ rs) none ∙ append-nil (entries_in table))) keeps.holds.distinct
 
   holds_groups : (events : List Event) → HasLeftFirst all g events → HoldsGroups shape (length_of p.page_blocks h) fed g events
   holds_groups events has =
@@ -124,19 +125,19 @@ module _ (c : ClientToken) (shape : Shape) (start : Option (List Entry)) (fed : 
         rows = has.left.these;
         leaves = has.left.leaves;
         reads = has.reads;
-        formed = All-permutation (IsPartialRow shape) all has.left.these moved (All-append (IsPartialRow shape) (entries_in table) (shares 16 keeps.rows) entries (shares_formed shape 16 keeps.rows keeps.formed));
+        formed = All-permutation (IsPartialRow shape) all has.left.these moved (All-append (IsPartialRow shape) (entries_in table) (shares 16 keeps.holds.rows) entries (shares_formed shape 16 keeps.holds.rows keeps.holds.formed));
         few =
             let long = length_permutation all has.left.these moved in
-            let both = length-append (entries_in table) (shares 16 keeps.rows) in
-            let few = keeps.few in
+            let both = length-append (entries_in table) (shares 16 keeps.holds.rows) in
+            let few = keeps.holds.few in
             omega (arith, long, both, few);
         stand =
             any_order path_order path_is_order (grouping_of shape) (partials_at shape all) (partials_at shape has.left.these) said
-            ∙ ap (combined_of (grouping_of shape)) (map-append (partial_at shape) (entries_in table) (shares 16 keeps.rows))
-            ∙ keeps.stand;
+            ∙ ap (combined_of (grouping_of shape)) (map-append (partial_at shape) (entries_in table) (shares 16 keeps.holds.rows))
+            ∙ keeps.holds.stand;
         small = λ low.
             IsDistinct-IsPermutation bytes_eq bytes_equiv.symm (map key_of (partials_at shape all)) (map key_of (partials_at shape has.left.these)) (IsPermutation-map key_of (partials_at shape all) (partials_at shape has.left.these) said)
-            (alone (keeps.small low));
+            (alone (keeps.holds.small low));
       }
 
   pub kept_groups : (b : Option (List Entry)) → EnteredEvents (HasLeftFirst all g) start b → EnteredEvents (HoldsGroups shape (length_of p.page_blocks h) fed g) start b
@@ -157,15 +158,6 @@ no_rows (suc n) rows (suc i) none inside =
     let both = length-append (rows 0) (shares n (λ i. rows (suc i))) in
     no_rows n (λ i. rows (suc i)) i (omega (arith, none, both)) (omega (arith, inside))
 
--- a row on each page
-rows_enough : (pages : List (List (List ℕ))) → All (λ rows. 0 < length rows) pages → length pages ≤ length (joined pages)
-rows_enough [] each = omega arith
-rows_enough (page ∷ pages) each =
-    let here : 0 < length page = All-head (λ rows. 0 < length rows) page pages each in
-    let rest : length pages ≤ length (joined pages) = rows_enough pages (All-tail (λ rows. 0 < length rows) page pages each) in
-    let all : length (joined (page ∷ pages)) ≡ length page + length (joined pages) = length-append page (joined pages) in
-    omega (arith, here, rest, all)
-
 -- a stream without rows has no page
 pub stream_closed : (t : ℕ) (s : Streamed) (h : Holdings) → IsShaped t s h → HasRows [] s h → s.pinned ≡ None
 stream_closed t s h is has =
@@ -179,29 +171,29 @@ stream_closed t s h is has =
     opened_inside (Some page) is_open = is_open.inside
 
 module _ (c : ClientToken) (shape : Shape) (start : Option (List Entry)) (fed : List (List Value)) (p : Stack) (h : Holdings) (s : Signs) (keeps : Keeps start fed (operator c shape p None) h s) (shaped : AreShaped c.tracker (over p h s)) (sixteen : length p.streams ≡ 16) where
-  none_there : length (shares 16 keeps.rows) ≡ 0
-  none_there = let few = keeps.few in let none = ap length (keeps.fresh refl) in omega (arith, few, none)
+  none_there : length (shares 16 keeps.holds.rows) ≡ 0
+  none_there = let few = keeps.holds.few in let none = ap length (keeps.holds.fresh refl) in omega (arith, few, none)
 
   closed_all : AllClosed (over p h s)
   closed_all i x there =
       stream_closed c.tracker x h (shaped.each i x there)
-      (subst (λ (rs : List (List ℕ)). HasRows rs x h) (no_rows 16 keeps.rows i none_there (let inside = slice_get_within p.streams i x there in omega (arith, inside, sixteen))) (keeps.shows i x there))
+      (subst (λ (rs : List (List ℕ)). HasRows rs x h) (no_rows 16 keeps.holds.rows i none_there (let inside = slice_get_within p.streams i x there in omega (arith, inside, sixteen))) (keeps.holds.shows i x there))
 
-  left_none : (events : List Event) → HaveLaid (over p h s) events → HasLeftFirst (shares 16 keeps.rows) (over p h s) events
+  left_none : (events : List Event) → HaveLaid (over p h s) events → HasLeftFirst (shares 16 keeps.holds.rows) (over p h s) events
   left_none events lays =
       record {
         laid = events;
         later = [];
         split = sym (append-nil events);
-        left = subst (λ (n : ℕ). HasLeft (shares n keeps.rows) events) sixteen
-            (held_left c.tracker (over p h s) keeps.rows events shaped (hold_all c.tracker (over p h s) keeps.rows events shaped closed_all keeps.whole keeps.shows lays));
+        left = subst (λ (n : ℕ). HasLeft (shares n keeps.holds.rows) events) sixteen
+            (held_left c.tracker (over p h s) keeps.holds.rows events shaped (hold_all c.tracker (over p h s) keeps.holds.rows events shaped closed_all keeps.holds.whole keeps.holds.shows lays));
         reads = record { first = tt; pinned = inr closed_all };
       }
 
   pub none_groups : EnteredEvents (HoldsGroups shape (length_of p.page_blocks h) fed (over p h s)) start s.trail
   none_groups =
       kept_groups c shape start fed p None h s keeps (All-nil (IsPartialRow shape)) (over p h s) s.trail
-      (since_so (HaveLaid (over p h s)) (HasLeftFirst (shares 16 keeps.rows) (over p h s)) start s.trail left_none keeps.laid)
+      (since_so (HaveLaid (over p h s)) (HasLeftFirst (shares 16 keeps.holds.rows) (over p h s)) start s.trail left_none keeps.laid)
 
 -- ---- with a table, or without one
 
@@ -216,4 +208,4 @@ pub some_kept : (c : ClientToken) (shape : Shape) (start : Option (List Entry)) 
 some_kept c shape start fed p table own h s g b same is left keeps =
     let has : IsOperator (operator c shape p (Some own)) h s = subst (λ (t : Option Table). IsOperator (operator c shape p t) h s) same is in
     let kept : Keeps start fed (operator c shape p (Some own)) h s = subst (λ (t : Option Table). Keeps start fed (operator c shape p t) h s) same keeps in
-    kept_groups c shape start fed p (Some own) h s kept (rows_formed shape (length_of p.page_blocks h) own.heads own.nodes has.has.1.each) g b (left start kept.rows (built_of c shape start fed p (Some own) h s kept))
+    kept_groups c shape start fed p (Some own) h s kept (rows_formed shape (length_of p.page_blocks h) own.heads own.nodes has.has.1.each) g b (left start kept.holds.rows (built_of c shape start fed p (Some own) h s kept))

@@ -25,6 +25,9 @@ pub mod Fed
 pub mod KeyReading
 pub mod Chained
 pub mod Deals
+pub mod Paging
+pub mod Made
+pub mod Asks
 pub mod Growth
 pub mod Opened
 pub mod Kept

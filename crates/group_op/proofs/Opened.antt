@@ -24,7 +24,8 @@ use Rattle.bucket_table.specs.Tables.{Node, Table}
 use Rattle.partition_stack.specs.Stack.{Stack, over}
 use Rattle.partition_stack.proofs.Agreeing.{agreeing_shape}
 use Rattle.group_op.specs.Held.{IsEntry, IsHeld, LeavesOthers, lent, state}
-use Rattle.group_op.specs.Operator.{HasOpened, IsOperator, operator}
+use Rattle.group_op.specs.Feeding.{HasOpened}
+use Rattle.group_op.specs.Operator.{IsOperator, operator}
 use Rattle.group_op.proofs.Deals.{AreApart, deals_beside, deals_fed, loans_apart}
 use Rattle.group_op.proofs.Growth.{Turns, lent_reservation, lent_room, lent_unused, others_turned, owns_turned, page_lens, slots_turned, turns_lent}
 use Rattle.partition_stack.specs.Slots.{SameSlots}

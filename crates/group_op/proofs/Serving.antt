@@ -1,12 +1,14 @@
 -- Steps that serve a grouping, one after the other, and the division of its top partition.
-use Rattle.std.proofs.Common.{◌≡◌, ◌∙◌, ℕ, ◌+◌, ◌-◌, ◌<◌, false, length, replicate, option_map, Result, Ok, Err, OnOk, refl, ap, sym, inl, inr, arith, length-append}
+use Rattle.std.proofs.Common.{◌≡◌, ◌∙◌, ℕ, ◌+◌, ◌-◌, ◌<◌, false, List, length, replicate, option_map, Result, Ok, Err, OnOk, refl, ap, sym, subst, inl, inr, arith, length-append}
 use Rattle.std.proofs.lemmas.List.{length-replicate}
 use Rattle.std.specs.Result.{is_err}
 use Rattle.std.proofs.lemmas.Bool.{false≢true}
-use Rattle.store_api.specs.Holdings.{Holdings}
+use Rattle.pool_model.specs.declared.event.Event.{Event}
+use Rattle.store_api.specs.Holdings.{Holdings, length_of}
 use Rattle.store_api.specs.Signs.{Signs}
 use Rattle.store_api.specs.declared.shapes.Shape.{Shape}
 use Rattle.bucket_table.specs.Tables.{Table}
+use Rattle.tuple_stream.specs.Families.{FamilySteps}
 use Rattle.tuple_stream.specs.Streamed.{Streamed}
 use Rattle.partition_stack.specs.Stack.{IsPlaced, IsStack, RestBelow, Stack, divided, empty, over}
 use Rattle.partition_stack.proofs.Coming.{sixteen_come}
@@ -18,6 +20,7 @@ use Rattle.group_op.specs.Held.{AreEntries, IsHeld, State, lent, page_len, state
 use Rattle.group_op.specs.Putting.{IsFan, Works}
 use Rattle.group_op.proofs.Chained.{leaves_then}
 use Rattle.group_op.proofs.Entering.{works_none}
+use Rattle.group_op.proofs.Keeping.{held_touched, leaves_touched, same_len}
 
 pub serves_of : (t : ℕ) (shape : Shape) (a b : State) → Works t shape a b → Serves t shape a b
 serves_of t shape a b works = record { held = works.held; entries = works.entries; leaves = works.leaves; blocks = works.blocks; slots = works.slots }
@@ -30,6 +33,17 @@ serves_then t shape a b c first second =
       leaves = leaves_then t a b c first.leaves second.leaves;
       blocks = second.blocks ∙ first.blocks;
       slots = slots_then a.parts.page_blocks b.parts.page_blocks (streams_of a) (streams_of b) (streams_of c) first.blocks first.slots second.slots;
+    }
+
+-- the streams were called
+pub serves_touched : {laid : List Event → Type 0} (t : ℕ) (shape : Shape) (table : Table) (p q : Stack) (old new : Holdings) (before after : Signs) → IsHeld t (state table p old before) → AreEntries shape (length_of p.page_blocks old) table → FamilySteps laid t (over p old before) (over q new after) → q.page_blocks ≡ p.page_blocks → Serves t shape (state table p old before) (state table q new after)
+serves_touched t shape table p q old new before after held entries steps blocks =
+    record {
+      held = held_touched t table p q old new before after held steps.touches steps.shaped blocks;
+      entries = subst (λ (n : ℕ). AreEntries shape n table) (sym (same_len t table p q old new before after held steps.touches steps.shaped blocks)) entries;
+      leaves = leaves_touched t table p q old new before after held steps.touches steps.shaped blocks steps.grows;
+      blocks = blocks;
+      slots = record { sum = steps.touches.slots; sized = λ all. steps.sized p.page_blocks all };
     }
 
 -- ---- sixteen partitions come on top

@@ -1,21 +1,15 @@
 -- What a grouping that was started has and keeps.
-use Rattle.std.proofs.Common.{◌≡◌, ℕ, [], replicate, Some, refl, ap, arith}
-use Rattle.std.specs.Prelude.{All, slice_get}
+use Rattle.std.proofs.Common.{◌≡◌, [], refl, ap, arith}
+use Rattle.std.specs.Prelude.{All}
 use Rattle.std.proofs.lemmas.List.Elements.{All-nil}
-use Rattle.std.proofs.lemmas.Option.{none-some}
 use Rattle.row_codec.specs.Order.{path_order}
 use Rattle.row_codec.specs.Row.{IsValue}
-use Rattle.store_api.specs.Conditions.{IsBlockCount}
-use Rattle.store_api.specs.Holdings.{Holdings}
-use Rattle.store_api.specs.Signs.{Signs}
-use Rattle.store_api.specs.Tokens.{ClientToken}
 use Rattle.tuple_stream.specs.Streamed.{Streamed}
 use Rattle.tuple_stream.specs.Trails.{IsBuilding}
 use Rattle.tuple_stream.specs.FamilyCalls.{HaveLaid}
 use Rattle.tuple_stream.proofs.Empty.{empty_at_end}
 use Rattle.tuple_stream.proofs.Sinces.{since_now}
-use Rattle.partition_stack.specs.Changes.{Owns}
-use Rattle.partition_stack.specs.Stack.{IsStack, Stack, empty, first_sixteen, over}
+use Rattle.partition_stack.specs.Stack.{first_sixteen, over}
 use Rattle.partition_stack.proofs.First.{each_empty, first_owned, first_shows}
 use Rattle.group_rows.proofs.Paths.{path_is_order}
 use Rattle.group_rows.proofs.Standing.{keeps_standing}
@@ -35,18 +29,20 @@ all_start c blocks shape h signs is sized may =
       };
       feeding = record { sixteen = refl; first = refl };
       keeps = record {
-        fresh = λ none. refl;
-        rows = λ i. [];
-        shows = first_shows blocks h signs sized;
-        formed = λ i. All-nil (IsPartialRow shape);
-        placed = λ i. All-nil (λ row. place_of shape 0 0 row ≡ i);
-        values = All-nil (λ row. All IsValue row);
-        stand = (keeps_standing path_order path_is_order (grouping_of shape)).none;
-        distinct = none_distinct;
-        few = omega arith;
-        small = λ low. refl;
-        at_end = λ i s there. empty_at_end blocks s (each_empty blocks i s there);
-        whole = λ i s there. ap (λ (r : Streamed). r.spent) (each_empty blocks i s there);
+        holds = record {
+          fresh = λ none. refl;
+          rows = λ i. [];
+          shows = first_shows blocks h signs sized;
+          formed = λ i. All-nil (IsPartialRow shape);
+          placed = λ i. All-nil (λ row. place_of shape 0 0 row ≡ i);
+          values = All-nil (λ row. All IsValue row);
+          stand = (keeps_standing path_order path_is_order (grouping_of shape)).none;
+          distinct = none_distinct;
+          few = omega arith;
+          small = λ low. refl;
+          at_end = λ i s there. empty_at_end blocks s (each_empty blocks i s there);
+          whole = λ i s there. ap (λ (r : Streamed). r.spent) (each_empty blocks i s there);
+        };
         laid = since_now (HaveLaid (over (first_sixteen blocks) h signs)) signs.trail (record { building = All-nil IsBuilding; left = λ w. refl });
       };
     }

@@ -1,8 +1,8 @@
 -- The rows of a table go to partitions one after the other, the oldest first.
-use Rattle.std.proofs.Common.{◌≡◌, ◌∙◌, ℕ, ◌<◌, ◌≤◌, List, [], ◌∷◌, ◌++◌, length, map, reverse, Option, Some, None, IsSome, refl, ap, sym, subst, arith, append_assoc, append-nil}
+use Rattle.std.proofs.Common.{◌≡◌, ◌∙◌, ℕ, ◌<◌, ◌≤◌, List, [], ◌∷◌, ◌++◌, length, map, reverse, Option, Some, None, IsSome, refl, ap, sym, subst, arith, append_assoc, append-nil, length-append}
 use Rattle.std.specs.Prelude.{All}
 use Rattle.std.specs.List.{slice_get}
-use Rattle.std.proofs.lemmas.List.{reverse-append}
+use Rattle.std.proofs.lemmas.List.{length-map, length-reverse, reverse-append}
 use Rattle.store_api.specs.Holdings.{Holdings}
 use Rattle.store_api.specs.Signs.{Signs}
 use Rattle.store_api.specs.declared.shapes.Shape.{Shape}
@@ -10,14 +10,15 @@ use Rattle.tuple_stream.specs.Families.{AreShaped, Family}
 use Rattle.tuple_stream.specs.FamilyCalls.{AllAtEnd, Feeds, FeedsAll}
 use Rattle.tuple_stream.proofs.FamilyWords.{feeds_more, feeds_none}
 use Rattle.tuple_stream.proofs.Chosen.{at_place}
-use Rattle.bucket_table.specs.Tables.{HasNode, Node, from_node, newer_than, oldest, row_of}
+use Rattle.bucket_table.specs.Tables.{HasNode, Node, Table, from_node, newer_than, oldest, row_of}
 use Rattle.partition_stack.specs.Stack.{Stack, over}
 use Rattle.partition_stack.specs.Changes.{ChangesAt}
-use Rattle.group_op.specs.Held.{StandBehind}
-use Rattle.group_op.specs.Putting.{IsFan}
+use Rattle.group_op.specs.Held.{StandBehind, state}
+use Rattle.group_op.specs.Putting.{HasFew, IsFan}
 use Rattle.group_op.specs.Stored.{dealt, place_of}
 use Rattle.group_op.proofs.Dealing.{dealt_more}
 use Rattle.group_op.proofs.NodeLists.{Ends, ends, from_there, left_from, nearer, newer_there, none_left, row_there}
+use Rattle.group_op.proofs.Paging.{few_fed, few_refused}
 
 -- the rows of some nodes, the oldest first
 abbrev pub rows_in : List Node → List (List ℕ)
@@ -116,6 +117,24 @@ module _ (t : ℕ) (shape : Shape) (level base from : ℕ) (nodes : List Node) (
         blocks = changes.blocks ∙ walked.blocks;
         levels = changes.levels ∙ walked.levels;
       }
+
+-- no more rows went than the table has
+pub walked_few : (t : ℕ) (shape : Shape) (level base from : ℕ) (nodes : List Node) (next : Option ℕ) (f : Family) (p q : Stack) (h : Holdings) (signs : Signs) → (walked : HasWalked t shape level base from nodes next f p q h signs) → length (rows_in walked.older) ≤ length (map (λ n. n.row) nodes)
+walked_few t shape level base from nodes next f p q h signs walked =
+    let back = length-reverse (map (λ (n : Node). n.row) walked.older) in
+    let some = length-map walked.older (λ (n : Node). n.row) in
+    let all = length-map nodes (λ (n : Node). n.row) in
+    let split = ap length walked.split ∙ length-append walked.newer walked.older in
+    omega (arith, back, some, all, split)
+
+pub few_walked : (t : ℕ) (shape : Shape) (level base from : ℕ) (next : Option ℕ) (table : Table) (p q : Stack) (h k : Holdings) (s r : Signs) → HasWalked t shape level base from table.nodes next (over p h s) p q k r → HasFew (state table p h s) (state table q k r)
+few_walked t shape level base from next table p q h k s r walked =
+    few_fed t shape level base (rows_in walked.older) (state table p h s) (state table q k r) (walked_few t shape level base from table.nodes next (over p h s) p q k r walked) walked.feeds
+
+-- and the next row was refused
+pub few_stopped : (t : ℕ) (shape : Shape) (level base from at : ℕ) (next : Option ℕ) (table : Table) (p q now : Stack) (h k j : Holdings) (s r u : Signs) → HasWalked t shape level base from table.nodes next (over p h s) p q k r → Feeds t at [] (over q k r) (over now j u) → HasFew (state table p h s) (state table now j u)
+few_stopped t shape level base from at next table p q now h k j s r u walked last =
+    few_refused t shape level base at (rows_in walked.older) (state table p h s) (state table q k r) (state table now j u) (walked_few t shape level base from table.nodes next (over p h s) p q k r walked) walked.feeds last
 
 pub walked_all : (t : ℕ) (shape : Shape) (level base from : ℕ) (nodes : List Node) (next : Option ℕ) (f : Family) (p q : Stack) (h : Holdings) (signs : Signs) → HasWalked t shape level base from nodes next f p q h signs → next ≡ None → FeedsAll t (dealt shape level base (rows_in nodes)) f (over q h signs)
 walked_all t shape level base from nodes next f p q h signs walked end =

@@ -3,6 +3,9 @@ pub mod Held
 pub mod Putting
 pub mod Emission
 pub mod Operator
+pub mod Feeding
+pub mod Making
+pub mod Asking
 pub mod Scanning
 pub mod Keepings
 pub mod Leaving

@@ -4,7 +4,7 @@ use Rattle.pool_model.specs.declared.entry.Entry.{Entry}
 use Rattle.row_codec.specs.declared.values.Value.{Value}
 use Rattle.row_codec.specs.Order.{path_order}
 use Rattle.row_codec.specs.RowBytes.{row_bytes}
-use Rattle.row_codec.specs.Row.{IsValue, kinds_of}
+use Rattle.row_codec.specs.Row.{kinds_of}
 use Rattle.store_api.specs.declared.shapes.Shape.{Shape}
 use Rattle.store_api.specs.Conditions.{IsBlockCount, IsLiveClient}
 use Rattle.store_api.specs.Holdings.{Holdings, account_of, length_of, unused_of}
@@ -21,10 +21,8 @@ use Rattle.bucket_table.specs.Tables.{Table}
 use Rattle.partition_stack.specs.Stack.{Stack, first_sixteen, over}
 use Rattle.partition_stack.specs.Changes.{Owns}
 pub use Rattle.partition_stack.specs.Leaving.{HasNoLoan}
-use Rattle.group_op.specs.Held.{AreEntries, IsHeld, State, page_len, rows_of, state, streams_of}
-use Rattle.group_op.specs.Putting.{Deals}
-use Rattle.group_op.specs.Stored.{IsPartialRow, grouping_of, keys_len, partial_at, partials_at, place_of}
-use Rattle.group_rows.specs.Partials.{partial_of}
+use Rattle.group_op.specs.Held.{AreEntries, IsHeld, rows_of, state}
+use Rattle.group_op.specs.Stored.{IsPartialRow, grouping_of, keys_len, partials_at, place_of}
 
 -- its client, the shape of its rows, its partitions, and its table once it has one
 pub record Operator : Type 0 where
@@ -67,9 +65,9 @@ abbrev pub entries_in : Option Table → List (List ℕ)
 entries_in None = []
 entries_in (Some table) = rows_of table
 
--- what it keeps of the rows that were fed since its store's trail stood at `start`: partial rows in its table and in
--- sixteen partitions, each in the one of its path's first nibble. Combined, they are the groups of these rows
-pub record Keeps (start : Option (List Entry)) (fed : List (List Value)) (op : Operator) (h : Holdings) (signs : Signs) : Type 0 where
+-- what it holds of the rows that were fed: partial rows in its table and in sixteen partitions, each in the one of its path's
+-- first nibble. Combined, they are the groups of these rows. It doesn't look at what the store shows
+pub record Holds (fed : List (List Value)) (op : Operator) (h : Holdings) (signs : Signs) : Type 0 where
   pub rows : ℕ → List (List ℕ)
   pub shows : ShowAll rows (over op.parts h signs)
   pub formed : (i : ℕ) → All (IsPartialRow op.shape) (rows i)
@@ -81,9 +79,14 @@ pub record Keeps (start : Option (List Entry)) (fed : List (List Value)) (op : O
   pub few : length (entries_in op.table) + length (shares 16 rows) ≤ length fed
   -- where the partial rows of all keys, with four bytes more each, fit in two pages, none has gone to the partitions
   pub small : keys_len op.shape fed ≤ 2 * page_of op h → shares 16 rows ≡ []
-  -- all pages that rest were left once, by entries since then that end no page and pin none again
+  -- in each partition the page to which rows come is pinned, and nothing is spent
   pub at_end : AllAtEnd (over op.parts h signs)
   pub whole : AllWhole (over op.parts h signs)
+
+-- and all pages that rest were left once since its store's trail stood at `start`, by entries that end no page and pin none
+-- again
+pub record Keeps (start : Option (List Entry)) (fed : List (List Value)) (op : Operator) (h : Holdings) (signs : Signs) : Type 0 where
+  pub holds : Holds fed op h signs
   pub laid : EnteredEvents (HaveLaid (over op.parts h signs)) start signs.trail
 
 -- sixteen partitions of the first level, as long as rows are fed
@@ -98,14 +101,3 @@ pub record IsSame (old new : Operator) : Type 0 where
   pub blocks : new.parts.page_blocks ≡ old.parts.page_blocks
   pub levels : new.parts.levels ≡ old.parts.levels
   pub many : length new.parts.streams ≡ length old.parts.streams
-
--- the bytes say what a row of values says by itself
-pub record Spells (shape : Shape) (bytes : List ℕ) (row : List Value) : Type 0 where
-  pub values : All IsValue row
-  pub says : partial_at shape bytes ≡ partial_of (grouping_of shape) row
-
--- the table is the one that was there, or a new one without rows. `a` is before the call and `b` behind it
-pub record HasOpened (shape : Shape) (was : Option Table) (table : Table) (a b : State) : Type 0 where
-  pub rows : rows_of table ≡ entries_in was
-  pub entries : AreEntries shape (page_len b) table
-  pub deals : Deals (λ i. []) (streams_of a) (streams_of b)

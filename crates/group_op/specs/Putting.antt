@@ -2,9 +2,9 @@
 use Rattle.std.specs.Prelude.{◌≡◌, ◌≢◌, ◌⊎◌, ℕ, ◌+◌, ◌*◌, ◌<◌, ◌≤◌, List, [], ◌∷◌, ◌++◌, All, Option, length, reverse, sum_by}
 use Rattle.pool_model.specs.declared.entry.Entry.{Entry}
 use Rattle.store_api.specs.declared.shapes.Shape.{Shape}
-use Rattle.tuple_stream.specs.Families.{Family, ShowAll}
-use Rattle.tuple_stream.specs.FamilyCalls.{AllAtEnd, AllWhole, AreSure, FeedsAll, HaveLaid}
-use Rattle.tuple_stream.specs.Trails.{EnteredEvents}
+use Rattle.tuple_stream.specs.Families.{Family, ShowAll, pages_in}
+use Rattle.tuple_stream.specs.FamilyCalls.{AllAtEnd, AllWhole, AreSure, FeedsAll, HaveLaid, shares}
+use Rattle.tuple_stream.specs.Trails.{EnteredEvents, creates_in}
 use Rattle.group_rows.specs.Tables.{HaveDistinctKeys}
 use Rattle.bucket_table.specs.Tables.{Table, with_nodes}
 use Rattle.partition_stack.specs.Slots.{SameSlots}
@@ -21,6 +21,16 @@ pub record IsFan (level base from : ℕ) (p : Stack) : Type 0 where
   pub low : base ≤ 256
   pub rests : RestBelow from p
 
+-- streams have the pages that they had and those that were made
+abbrev pub HaveMade : Family → Family → Type 0
+HaveMade f g = EnteredEvents (λ events. pages_in g ≡ pages_in f + creates_in events) f.signs.trail g.signs.trail
+
+-- whatever rows stood in the partitions, there are no more pages than these and the rows of the table
+abbrev pub HasFew : State → State → Type 0
+HasFew a b =
+    (rows : ℕ → List (List ℕ)) → AllAtEnd (streams_of a) → ShowAll rows (streams_of a)
+    → pages_in (streams_of b) ≤ length (shares (length a.parts.streams) rows) + length (rows_of a.table)
+
 -- whatever the call answers
 pub record Works (t : ℕ) (shape : Shape) (a b : State) : Type 0 where
   pub held : IsHeld t b
@@ -30,6 +40,8 @@ pub record Works (t : ℕ) (shape : Shape) (a b : State) : Type 0 where
   pub levels : b.parts.levels ≡ a.parts.levels
   pub many : length b.parts.streams ≡ length a.parts.streams
   pub slots : SameSlots a.parts.page_blocks (streams_of a) (streams_of b)
+  pub made : HaveMade (streams_of a) (streams_of b)
+  pub few : HasFew a b
 
 -- no row of the table has this key
 abbrev pub Lacks : Shape → List ℕ → Table → Type 0

@@ -1,6 +1,6 @@
 -- Partial rows as they are stored, in tables and on pages: the values of a key and a wide number for each aggregate, as
 -- one encoded row. Lengths are in bytes.
-use Rattle.std.specs.Prelude.{◌≡◌, ℕ, ◌+◌, ◌-◌, ◌*◌, ◌==◌, List, [], ◌++◌, length, map, filter, filter_map, slice_get, sum_by, take, ℤ}
+use Rattle.std.specs.Prelude.{◌≡◌, ℕ, ◌+◌, ◌-◌, ◌*◌, ◌==◌, List, ◌++◌, length, map, filter, filter_map, slice_get, sum_by, take, ℤ}
 use Rattle.row_codec.specs.declared.values.Kind.{Kind}
 use Rattle.row_codec.specs.declared.values.Kind.TheVariants.{Wide}
 use Rattle.row_codec.specs.declared.values.Value.{Value}

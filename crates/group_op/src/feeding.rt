@@ -1,5 +1,5 @@
 //! Rows are fed to a grouping.
-ghost use Rattle.std.specs.Prelude.{◌≡◌, ◌≤◌, ◌++◌, ◌∷◌, [], List, None, Option, length, IfErr, IfOk, OnErr, OnOk};
+ghost use Rattle.std.specs.Prelude.{◌≡◌, ◌++◌, ◌∷◌, [], List, None, Option, IfErr, IfOk, OnErr, OnOk};
 ghost use Rattle.pool_model.specs.declared.entry.Entry.{Entry};
 ghost use Rattle.row_codec.specs.declared.values.Value.{Value};
 ghost use Rattle.store_api.specs.Holdings.{length_of};
@@ -10,8 +10,10 @@ ghost use Rattle.partition_stack.specs.Slots.{SameSlots};
 ghost use Rattle.partition_stack.specs.Stack.{over};
 ghost use Rattle.group_op.specs.Held.{IsHeld, LeavesOthers, state};
 ghost use Rattle.group_op.specs.Causes.{CameOfStore, IsWantOf};
-ghost use Rattle.group_op.specs.Operator.{HasOpened, IsFeeding, IsOperator, IsSame, Keeps, MayBeFed, Spells, operator};
-ghost use Rattle.group_op.specs.Stored.{IsPartialRow, key_at};
+ghost use Rattle.group_op.specs.Feeding.{HasOpened, IsSpelled, Spells};
+ghost use Rattle.group_op.specs.Making.{Makes};
+ghost use Rattle.group_op.specs.Operator.{Holds, IsFeeding, IsOperator, IsSame, Keeps, MayBeFed, operator};
+ghost use Rattle.group_op.specs.Putting.{HaveMade};
 
 use crate::flushing::{FIRST, Spare};
 use crate::operator::GroupOp;
@@ -42,6 +44,8 @@ impl GroupOp {
         requires feeding { IsFeeding self.old }
         requires row { MayBeFed self.old (St.holds store.old) row.now }
         ensures keeps { OnOk result ((start : Option (List Entry)) → (fed : List (List Value)) → Keeps start fed self.old (St.holds store.old) (St.signs store.old) → Keeps start (fed ++ row.now ∷ []) self.new (St.holds store.new) (St.signs store.new)) }
+        ensures holds { OnOk result ((fed : List (List Value)) → Holds fed self.old (St.holds store.old) (St.signs store.old) → Holds (fed ++ row.now ∷ []) self.new (St.holds store.new) (St.signs store.new)) }
+        ensures makes { Makes self.old self.new (St.holds store.old) (St.signs store.old) (St.signs store.new) }
         ensures op { IsOperator self.new (St.holds store.new) (St.signs store.new) }
         ensures same { IsSame self.old self.new }
         ensures leaves { LeavesOthers self.old.client.tracker (St.holds store.old) (St.holds store.new) (St.signs store.old) (St.signs store.new) }
@@ -83,10 +87,10 @@ fn feed_row<St: Store>(
 ) -> Result<(), PoolErr>
     requires op { IsOperator (operator c.now shape.now parts.old table.old) (St.holds store.old) (St.signs store.old) }
     requires feeding { IsFeeding (operator c.now shape.now parts.old table.old) }
-    requires row { IsPartialRow shape.now fed.now.row.items }
-    requires short { length fed.now.row.items ≤ length_of parts.old.page_blocks (St.holds store.old) }
-    requires key { fed.now.key.items ≡ key_at shape.now fed.now.row.items }
+    requires row { IsSpelled shape.now (length_of parts.old.page_blocks (St.holds store.old)) fed.now.row.items fed.now.key.items }
     ensures keeps { OnOk result ((start : Option (List Entry)) → (rows : List (List Value)) → (row : List Value) → Spells shape.now fed.now.row.items row → Keeps start rows (operator c.now shape.now parts.old table.old) (St.holds store.old) (St.signs store.old) → Keeps start (rows ++ row ∷ []) (operator c.now shape.now parts.new table.new) (St.holds store.new) (St.signs store.new)) }
+    ensures holds { OnOk result ((rows : List (List Value)) → (row : List Value) → Spells shape.now fed.now.row.items row → Holds rows (operator c.now shape.now parts.old table.old) (St.holds store.old) (St.signs store.old) → Holds (rows ++ row ∷ []) (operator c.now shape.now parts.new table.new) (St.holds store.new) (St.signs store.new)) }
+    ensures makes { Makes (operator c.now shape.now parts.old table.old) (operator c.now shape.now parts.new table.new) (St.holds store.old) (St.signs store.old) (St.signs store.new) }
     ensures op { IsOperator (operator c.now shape.now parts.new table.new) (St.holds store.new) (St.signs store.new) }
     ensures same { IsSame (operator c.now shape.now parts.old table.old) (operator c.now shape.now parts.new table.new) }
     ensures leaves { LeavesOthers c.now.tracker (St.holds store.old) (St.holds store.new) (St.signs store.old) (St.signs store.new) }
@@ -121,6 +125,7 @@ fn table_or_new<St: Store>(
     ensures none { OnErr result (IsOperator (operator c.now _shape.now parts.now None) (St.holds store.new) (St.signs store.new)) }
     ensures leaves { LeavesOthers c.now.tracker (St.holds store.old) (St.holds store.new) (St.signs store.old) (St.signs store.new) }
     ensures slots { SameSlots parts.now.page_blocks (over parts.now (St.holds store.old) (St.signs store.old)) (over parts.now (St.holds store.new) (St.signs store.new)) }
+    ensures made { HaveMade (over parts.now (St.holds store.old) (St.signs store.old)) (over parts.now (St.holds store.new) (St.signs store.new)) }
     ensures cause { IfErr result (λ e. WasAnswered e (St.signs store.old) (St.signs store.new)) }
     ensures full { IfErr result (IsFull parts.now.page_blocks (St.holds store.new).free_slots) }
 {

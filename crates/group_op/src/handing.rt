@@ -17,7 +17,7 @@ ghost use Rattle.group_op.specs.Finished.{HasSettled, ShowsFirst, groups_of_all}
 ghost use Rattle.group_op.specs.Finishing.{IsBetween, LeavesWith, Serves, ServesBeside, Stacked, StandsStill, said_down};
 ghost use Rattle.group_op.specs.Held.{AreEntries, IsHeld, page_len, rows_of, state, streams_of};
 ghost use Rattle.group_op.specs.Laid.{AreBuilt, HasLeft, HasLeftFirst, HoldsGroups};
-ghost use Rattle.group_op.specs.Operator.{IsFeeding, IsOperator, Keeps, operator, page_of};
+ghost use Rattle.group_op.specs.Operator.{Holds, IsFeeding, IsOperator, Keeps, operator, page_of};
 ghost use Rattle.group_op.specs.Pinning.{AreShallow};
 ghost use Rattle.group_op.specs.Stored.{grouping_of};
 
@@ -137,8 +137,8 @@ fn finish_op<St: Store, E: Emit<St>>(
     requires emitter { IsBeside c.now.tracker (E.client emit.old) (St.holds store.old) }
     requires admits { AdmitsKinds shape.now (E.admits emit.old) }
     requires stands { (rows : List (List Value)) × E.took emit.old (St.holds store.old) rows }
-    ensures ok { OnOk result ((start : Option (List Entry)) → (rows : List (List Value)) → Keeps start rows (operator c.now shape.now parts.old table.old) (St.holds store.old) (St.signs store.old) → (St.holds store.old).told ≡ true → Emitted shape.now (E.took emit.old (St.holds store.old)) (E.took emit.new (St.holds store.new)) (groups_by path_order (grouping_of shape.now) rows)) }
-    ensures err { OnErr result ((start : Option (List Entry)) → (rows : List (List Value)) → Keeps start rows (operator c.now shape.now parts.old table.old) (St.holds store.old) (St.signs store.old) → (St.holds store.old).told ≡ true → EmittedFront shape.now (E.took emit.old (St.holds store.old)) (E.took emit.new (St.holds store.new)) (groups_by path_order (grouping_of shape.now) rows)) }
+    ensures ok { OnOk result ((rows : List (List Value)) → Holds rows (operator c.now shape.now parts.old table.old) (St.holds store.old) (St.signs store.old) → (St.holds store.old).told ≡ true → Emitted shape.now (E.took emit.old (St.holds store.old)) (E.took emit.new (St.holds store.new)) (groups_by path_order (grouping_of shape.now) rows)) }
+    ensures err { OnErr result ((rows : List (List Value)) → Holds rows (operator c.now shape.now parts.old table.old) (St.holds store.old) (St.signs store.old) → (St.holds store.old).told ≡ true → EmittedFront shape.now (E.took emit.old (St.holds store.old)) (E.took emit.new (St.holds store.new)) (groups_by path_order (grouping_of shape.now) rows)) }
     ensures kept { OnOk result ((start : Option (List Entry)) → (rows : List (List Value)) → Keeps start rows (operator c.now shape.now parts.old table.old) (St.holds store.old) (St.signs store.old) → EnteredEvents (HoldsGroups shape.now (page_of (operator c.now shape.now parts.old table.old) (St.holds store.old)) rows (over parts.new (St.holds store.new) (St.signs store.new))) start (St.signs store.new).trail) }
     ensures op { IsOperator (operator c.now shape.now parts.new table.new) (St.holds store.new) (St.signs store.new) }
     ensures leaves { LeavesWith c.now.tracker (E.client emit.old) (E.slots emit.old (St.holds store.old)) (E.slots emit.new (St.holds store.new)) (over parts.old (St.holds store.old) (St.signs store.old)) (over parts.new (St.holds store.new) (St.signs store.new)) }
@@ -176,8 +176,8 @@ impl GroupOp {
         requires emitter { IsBeside self.old.client.tracker (E.client emit.old) (St.holds store.old) }
         requires admits { AdmitsKinds self.old.shape (E.admits emit.old) }
         requires stands { (rows : List (List Value)) × E.took emit.old (St.holds store.old) rows }
-        ensures ok { OnOk result ((start : Option (List Entry)) → (fed : List (List Value)) → Keeps start fed self.old (St.holds store.old) (St.signs store.old) → (St.holds store.old).told ≡ true → Emitted self.old.shape (E.took emit.old (St.holds store.old)) (E.took emit.new (St.holds store.new)) (groups_by path_order (grouping_of self.old.shape) fed)) }
-        ensures err { OnErr result ((start : Option (List Entry)) → (fed : List (List Value)) → Keeps start fed self.old (St.holds store.old) (St.signs store.old) → (St.holds store.old).told ≡ true → EmittedFront self.old.shape (E.took emit.old (St.holds store.old)) (E.took emit.new (St.holds store.new)) (groups_by path_order (grouping_of self.old.shape) fed)) }
+        ensures ok { OnOk result ((fed : List (List Value)) → Holds fed self.old (St.holds store.old) (St.signs store.old) → (St.holds store.old).told ≡ true → Emitted self.old.shape (E.took emit.old (St.holds store.old)) (E.took emit.new (St.holds store.new)) (groups_by path_order (grouping_of self.old.shape) fed)) }
+        ensures err { OnErr result ((fed : List (List Value)) → Holds fed self.old (St.holds store.old) (St.signs store.old) → (St.holds store.old).told ≡ true → EmittedFront self.old.shape (E.took emit.old (St.holds store.old)) (E.took emit.new (St.holds store.new)) (groups_by path_order (grouping_of self.old.shape) fed)) }
         ensures kept { OnOk result ((start : Option (List Entry)) → (fed : List (List Value)) → Keeps start fed self.old (St.holds store.old) (St.signs store.old) → EnteredEvents (HoldsGroups self.old.shape (page_of self.old (St.holds store.old)) fed (over self.new.parts (St.holds store.new) (St.signs store.new))) start (St.signs store.new).trail) }
         ensures client { self.new.client ≡ self.old.client }
         ensures op { IsOperator self.new (St.holds store.new) (St.signs store.new) }

@@ -32,7 +32,7 @@ mod stored;
 mod tests;
 
 pub use flushing::{Fan, Spare, flush};
-pub use laws::{law_lengths, law_starts};
+pub use laws::{law_asks_own, law_few, law_lengths, law_starts};
 pub use operator::GroupOp;
 pub use putting::put;
 pub use row_codec::Agg;

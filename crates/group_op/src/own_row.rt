@@ -3,7 +3,7 @@ ghost use Rattle.std.specs.Prelude.{◌≡◌, ◌+◌, ◌*◌, ◌<◌, ◌≤
 ghost use Rattle.row_codec.specs.Row.{IsValue, kinds_of};
 ghost use Rattle.row_codec.specs.RowBytes.{row_bytes};
 ghost use Rattle.store_api.specs.Shapes.{IsShape};
-ghost use Rattle.group_op.specs.Operator.{Spells};
+ghost use Rattle.group_op.specs.Feeding.{Spells};
 ghost use Rattle.group_op.specs.Stored.{IsPartialRow, key_at};
 
 use crate::flushing::Spare;

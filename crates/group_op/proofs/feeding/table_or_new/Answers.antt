@@ -1,7 +1,14 @@
-use Rattle.std.proofs.Common.{Option, sym, subst}
+use Rattle.std.proofs.Common.{Option, refl, sym, subst}
+use Rattle.std.specs.Prelude.{All}
+use Rattle.tuple_stream.proofs.Sinces.{since_so}
+use Rattle.bucket_table.specs.Entering.{IsOfLoans}
+use Rattle.partition_stack.specs.Stack.{over}
+use Rattle.group_op.proofs.Deals.{AreApart, loans_apart}
+use Rattle.group_op.proofs.Paging.{made_apart, made_none}
 use Rattle.bucket_table.specs.Tables.{Table}
 use Rattle.group_op.specs.Held.{state}
-use Rattle.group_op.specs.Operator.{HasOpened, IsOperator, operator}
+use Rattle.group_op.specs.Feeding.{HasOpened}
+use Rattle.group_op.specs.Operator.{IsOperator, operator}
 use Rattle.group_op.proofs.Opened.{had_table, new_has, new_held, new_none, new_slots}
 use Rattle.partition_stack.proofs.Slots.{slots_none}
 use Rattle.group_op.proofs.feeding.table_or_new.Goals as goal
@@ -34,3 +41,11 @@ pub returns-clause-slots : goal.returns-clause-slots
 returns-clause-slots g c =
     new_slots c.args.c.now c.args._shape.now c.args.parts.now (g.St.Store.holds c.args.store.now) (g.St.Store.holds c.open.new.store) (g.St.Store.signs c.args.store.now) (g.St.Store.signs c.open.new.store)
     c.open.result c.page_blocks.result c.page_blocks.ensures c.args.table c.in_default.is c.requires c.open.ensures.ok c.open.ensures.err
+
+pub returns-in-Some-clause-made : goal.returns-in-Some-clause-made
+returns-in-Some-clause-made g c = made_none (over c.args.parts.now (g.St.Store.holds c.args.store.now) (g.St.Store.signs c.args.store.now))
+
+pub returns-clause-made : goal.returns-clause-made
+returns-clause-made g c =
+    made_apart (over c.args.parts.now (g.St.Store.holds c.args.store.now) (g.St.Store.signs c.args.store.now)) (over c.args.parts.now (g.St.Store.holds c.open.new.store) (g.St.Store.signs c.open.new.store)) refl
+    (since_so (All IsOfLoans) AreApart (g.St.Store.signs c.args.store.now).trail (g.St.Store.signs c.open.new.store).trail loans_apart c.open.ensures.entries)

@@ -14,7 +14,7 @@ use Rattle.group_op.specs.Pinning.{HasBegun}
 use Rattle.partition_stack.proofs.Slots.{full_since}
 use Rattle.group_op.proofs.Begun.{begun_divided}
 use Rattle.group_op.proofs.Divided.{has_divided, less_divided, serves_works}
-use Rattle.group_op.proofs.Keeping.{works_touched}
+use Rattle.group_op.proofs.Serving.{serves_then, serves_touched}
 use Rattle.group_op.proofs.finishing.spend_top.Goals as goal
 
 pub returns-in_err-flush-clause-serves : goal.returns-in_err-flush-clause-serves
@@ -29,8 +29,8 @@ returns-in_err-flush-clause-cause g c =
 pub returns-in_err-rest_from-clause-serves : goal.returns-in_err-rest_from-clause-serves
 returns-in_err-rest_from-clause-serves g c =
     let works = c.flush.ensures.works in
-    serves_works _ _ _ _ _ (serves_works _ _ _ _ _ c.absorb.ensures.serves works)
-    (works_touched c.args.c.now.tracker c.args.shape.now c.flush.new.table c.flush.new.parts c.rest_from.new.self _ _ _ _ works.held works.entries c.rest_from.ensures.went (ap (λ (p : Stack). p.page_blocks) c.rest_from.ensures.kept) (ap (λ (p : Stack). p.levels) c.rest_from.ensures.kept))
+    serves_then _ _ _ _ _ (serves_works _ _ _ _ _ c.absorb.ensures.serves works)
+    (serves_touched c.args.c.now.tracker c.args.shape.now c.flush.new.table c.flush.new.parts c.rest_from.new.self _ _ _ _ works.held works.entries c.rest_from.ensures.went (ap (λ (p : Stack). p.page_blocks) c.rest_from.ensures.kept))
 
 pub returns-in_err-rest_from-clause-cause : goal.returns-in_err-rest_from-clause-cause
 returns-in_err-rest_from-clause-cause g c =
@@ -41,8 +41,8 @@ returns-in_err-rest_from-clause-cause g c =
 pub returns-clause-serves : goal.returns-clause-serves
 returns-clause-serves g c =
     let works = c.flush.ensures.works in
-    serves_works _ _ _ _ _ (serves_works _ _ _ _ _ c.absorb.ensures.serves works)
-    (works_touched c.args.c.now.tracker c.args.shape.now c.flush.new.table c.flush.new.parts c.rest_from.new.self _ _ _ _ works.held works.entries c.rest_from.ensures.went (ap (λ (p : Stack). p.page_blocks) c.rest_from.ensures.kept) (ap (λ (p : Stack). p.levels) c.rest_from.ensures.kept))
+    serves_then _ _ _ _ _ (serves_works _ _ _ _ _ c.absorb.ensures.serves works)
+    (serves_touched c.args.c.now.tracker c.args.shape.now c.flush.new.table c.flush.new.parts c.rest_from.new.self _ _ _ _ works.held works.entries c.rest_from.ensures.went (ap (λ (p : Stack). p.page_blocks) c.rest_from.ensures.kept))
 
 pub returns-clause-divided : goal.returns-clause-divided
 returns-clause-divided g c =

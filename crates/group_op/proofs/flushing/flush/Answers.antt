@@ -9,7 +9,7 @@ use Rattle.partition_stack.specs.Stack.{over}
 use Rattle.group_op.specs.Stored.{IsPartialRow}
 use Rattle.group_op.specs.Held.{IsEntry}
 use Rattle.group_op.proofs.Keeping.{emptied_entries, works_nodes, works_touched}
-use Rattle.group_op.proofs.Walking.{HasWalked, entry_is, fan_kept, has_node, less, row_is, walked_all, walked_more, walked_none}
+use Rattle.group_op.proofs.Walking.{HasWalked, entry_is, few_stopped, few_walked, fan_kept, has_node, less, row_is, walked_all, walked_more, walked_none}
 use Rattle.group_op.proofs.flushing.flush.Goals as goal
 
 pub loop-next-init : goal.loop-next-init
@@ -25,7 +25,7 @@ row_at-requires g c =
 pub returns-in_err-row_at-clause-works : goal.returns-in_err-row_at-clause-works
 returns-in_err-row_at-clause-works g c =
     let walked = c.loop-next.invariant in
-    works_touched c.args.c.now.tracker c.args.shape.now c.args.table.now c.args.parts.now c.loop-next.parts _ _ _ _ c.requires.held c.requires.entries walked.feeds.steps walked.blocks walked.levels
+    works_touched c.args.c.now.tracker c.args.shape.now c.args.table.now c.args.parts.now c.loop-next.parts _ _ _ _ c.requires.held c.requires.entries walked.feeds.steps walked.blocks walked.levels (few_walked _ _ _ _ _ _ c.args.table.now _ _ _ _ _ _ walked)
 
 pub send-requires-clause-row : goal.send-requires-clause-row
 send-requires-clause-row g c =
@@ -53,6 +53,7 @@ returns-in_err-send-clause-works g c =
     works_touched c.args.c.now.tracker c.args.shape.now c.args.table.now c.args.parts.now c.send.new.parts _ _ _ _ c.requires.held c.requires.entries
     (lays_both _ _ _ c.args.c.now.tracker walked.feeds.at_end (λ (never : ⊥). never) walked.feeds.steps c.send.ensures.went.steps)
     (c.send.ensures.changes.blocks ∙ walked.blocks) (c.send.ensures.changes.levels ∙ walked.levels)
+    (few_stopped _ _ _ _ _ _ _ c.args.table.now c.args.parts.now c.loop-next.parts c.send.new.parts _ _ _ _ _ _ walked c.in_err-send.ensures.went)
 
 pub returns-in_err-send-clause-fan : goal.returns-in_err-send-clause-fan
 returns-in_err-send-clause-fan g c =
@@ -97,5 +98,5 @@ returns-clause-ok g c =
 pub returns-clause-works : goal.returns-clause-works
 returns-clause-works g c =
     let walked = c.loop-next.invariant in
-    let works = works_touched c.args.c.now.tracker c.args.shape.now c.args.table.now c.args.parts.now c.loop-next.parts _ _ _ _ c.requires.held c.requires.entries walked.feeds.steps walked.blocks walked.levels in
+    let works = works_touched c.args.c.now.tracker c.args.shape.now c.args.table.now c.args.parts.now c.loop-next.parts _ _ _ _ c.requires.held c.requires.entries walked.feeds.steps walked.blocks walked.levels (few_walked _ _ _ _ _ _ c.args.table.now _ _ _ _ _ _ walked) in
     rw c.clear.ensures (works_nodes _ _ _ [] c.args.table.now c.loop-next.parts _ _ works (emptied_entries _ _ c.args.table.now works.entries))

@@ -3,9 +3,8 @@ use Rattle.std.proofs.lemmas.Option.{slice_get_within}
 use Rattle.bucket_table.specs.Tables.{Table}
 use Rattle.tuple_stream.specs.Families.{slots_in}
 use Rattle.partition_stack.specs.Stack.{Stack, over}
-use Rattle.group_op.proofs.Divided.{serves_works}
 use Rattle.partition_stack.proofs.Results.{if_err, on_ok}
-use Rattle.group_op.proofs.Keeping.{works_touched}
+use Rattle.group_op.proofs.Serving.{serves_then, serves_touched}
 use Rattle.group_op.specs.Causes.{IsWant}
 use Rattle.group_op.specs.Held.{state}
 use Rattle.group_op.proofs.Laying.{settled_left}
@@ -33,8 +32,8 @@ returns-clause-ok g c =
 pub returns-clause-serves : goal.returns-clause-serves
 returns-clause-serves g c =
     let works = c.flush.ensures.works in
-    serves_works _ _ _ _ _ (serves_of _ _ _ _ works)
-    (works_touched c.args.c.now.tracker c.args.shape.now c.flush.new.table c.flush.new.parts c.rest_from.new.self _ _ _ _ works.held works.entries c.rest_from.ensures.went (ap (λ (p : Stack). p.page_blocks) c.rest_from.ensures.kept) (ap (λ (p : Stack). p.levels) c.rest_from.ensures.kept))
+    serves_then _ _ _ _ _ (serves_of _ _ _ _ works)
+    (serves_touched c.args.c.now.tracker c.args.shape.now c.flush.new.table c.flush.new.parts c.rest_from.new.self _ _ _ _ works.held works.entries c.rest_from.ensures.went (ap (λ (p : Stack). p.page_blocks) c.rest_from.ensures.kept))
 
 pub returns-clause-cause : goal.returns-clause-cause
 returns-clause-cause g c = answered_later c.rest_from.result _ _ _ c.flush.ensures.works.leaves.grows c.rest_from.ensures.cause

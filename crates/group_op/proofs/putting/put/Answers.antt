@@ -3,7 +3,7 @@ use Rattle.store_api.proofs.Answered.{answered_before}
 use Rattle.bucket_table.specs.Tables.{Table, used_by}
 use Rattle.group_op.specs.Held.{State, page_len, rows_of, state}
 use Rattle.group_op.specs.Putting.{HasGrown, IsTooLong}
-use Rattle.group_op.proofs.Chained.{works_then}
+use Rattle.group_op.proofs.Growth.{grown_then_works}
 use Rattle.group_op.proofs.Entering.{entries_new, flushed_moved, four_long, put_grown, put_of_here, rows_formed, works_len}
 use Rattle.group_op.proofs.Keeping.{works_nodes}
 use Rattle.group_op.proofs.RowForms.{partial_is_framed}
@@ -11,7 +11,11 @@ use Rattle.group_op.proofs.Weighing.{too_long}
 use Rattle.group_op.proofs.putting.put.Goals as goal
 
 pub returns-in_err-flush-clause-works : goal.returns-in_err-flush-clause-works
-returns-in_err-flush-clause-works g c = works_then c.args.c.now.tracker c.args.shape.now _ _ _ c.put_here.ensures.works c.flush.ensures.works
+returns-in_err-flush-clause-works g c =
+    let a : State = state c.args.table.now c.args.parts.now (g.St.Store.holds c.args.store.now) (g.St.Store.signs c.args.store.now) in
+    let m : State = state c.put_here.new.table c.args.parts.now (g.St.Store.holds c.put_here.new.store) (g.St.Store.signs c.put_here.new.store) in
+    let b : State = state c.flush.new.table c.flush.new.parts (g.St.Store.holds c.flush.new.store) (g.St.Store.signs c.flush.new.store) in
+    grown_then_works c.args.c.now.tracker c.args.shape.now a m b (c.put_here.ensures.grown c.if-put_here.false) c.flush.ensures.works
 
 pub returns-in_err-flush-clause-cause : goal.returns-in_err-flush-clause-cause
 returns-in_err-flush-clause-cause g c =
@@ -50,10 +54,13 @@ returns-clause-ok g c =
 pub returns-clause-works : goal.returns-clause-works
 returns-clause-works g c =
     let t : ℕ = c.args.c.now.tracker in
-    let works = works_then t c.args.shape.now _ _ _ c.put_here.ensures.works c.in_ok-flush.ensures.works in
-    let len : page_len (state c.flush.new.table c.flush.new.parts (g.St.Store.holds c.flush.new.store) (g.St.Store.signs c.flush.new.store)) ≡ page_len (state c.args.table.now c.args.parts.now (g.St.Store.holds c.args.store.now) (g.St.Store.signs c.args.store.now)) = works_len t c.args.shape.now _ _ works in
+    let a : State = state c.args.table.now c.args.parts.now (g.St.Store.holds c.args.store.now) (g.St.Store.signs c.args.store.now) in
+    let m : State = state c.put_here.new.table c.args.parts.now (g.St.Store.holds c.put_here.new.store) (g.St.Store.signs c.put_here.new.store) in
+    let b : State = state c.flush.new.table c.flush.new.parts (g.St.Store.holds c.flush.new.store) (g.St.Store.signs c.flush.new.store) in
+    let works = grown_then_works t c.args.shape.now a m b (c.put_here.ensures.grown c.if-put_here.false) c.in_ok-flush.ensures.works in
+    let len : page_len (state c.flush.new.table c.flush.new.parts (g.St.Store.holds c.flush.new.store) (g.St.Store.signs c.flush.new.store)) ≡ page_len (state c.args.table.now c.args.parts.now (g.St.Store.holds c.args.store.now) (g.St.Store.signs c.args.store.now)) = works_len t c.args.shape.now a b works in
     rw c.add_entry.ensures
-    (works_nodes t c.args.shape.now _ _ c.flush.new.table c.flush.new.parts (g.St.Store.holds c.flush.new.store) (g.St.Store.signs c.flush.new.store) works
+    (works_nodes t c.args.shape.now a _ c.flush.new.table c.flush.new.parts (g.St.Store.holds c.flush.new.store) (g.St.Store.signs c.flush.new.store) works
     (entries_new c.args.shape.now _ c.args.hash c.args.row.now c.flush.new.table works.entries c.requires.row (subst (λ (n : ℕ). length c.args.row.now ≤ n) (sym len) c.requires.short) c.requires.hash))
 
 pub returns-then-put_here-clause-ok : goal.returns-then-put_here-clause-ok

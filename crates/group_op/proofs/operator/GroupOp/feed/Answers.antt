@@ -1,10 +1,11 @@
-use Rattle.std.proofs.Common.{◌≡◌, ◌*◌, ℕ, IfErr, length, refl, ap, sym, subst, arith}
+use Rattle.std.proofs.Common.{◌≡◌, ◌∙◌, ◌*◌, ℕ, IfErr, length, refl, ap, sym, subst, arith}
 use Rattle.bucket_table.proofs.Opened.{most_len}
 use Rattle.tuple_stream.specs.Families.{slots_in}
 use Rattle.partition_stack.specs.Stack.{over}
 use Rattle.partition_stack.proofs.Slots.{full_since}
 use Rattle.group_op.specs.Causes.{IsWantOf}
-use Rattle.group_op.specs.Operator.{Operator}
+use Rattle.group_op.specs.Operator.{Keeps, Operator}
+use Rattle.group_op.proofs.Serving.{unless_err}
 use Rattle.group_op.proofs.operator.GroupOp.feed.Goals as goal
 use Rattle.group_op.proofs.operator.GroupOp.feed.Goals.{in-Err, in-Ok}
 
@@ -31,3 +32,15 @@ returns-clause-want g c =
           rw w.result-is
           (full_since p.page_blocks p.page_blocks (over p h s) (over c.feed_row.new.parts (g.St.Store.holds c.feed_row.new.store) (g.St.Store.signs c.feed_row.new.store)) c.feed_row.ensures.slots c.law_stack.ensures.each refl w.in-Err.e w.in-Err.ensures.full)
     ])
+
+pub returns-clause-keeps : goal.returns-clause-keeps
+returns-clause-keeps g c =
+    let spells = unless_err c.spell.result (sym c.is_err.ensures.value ∙ c.if-is_err.false) c.spell.ensures.spells in
+    elim c.match-feed_row.branch [
+      | in-Ok w ↦
+          rw w.result-is
+          (λ start fed keeps.
+          w.in-Ok.ensures.keeps start fed c.args.row.now spells
+          (subst (λ (o : Operator). Keeps start fed o (g.St.Store.holds c.args.store.now) (g.St.Store.signs c.args.store.now)) (sym c.self.view_is) keeps))
+      | in-Err w ↦ rw w.result-is tt
+    ]

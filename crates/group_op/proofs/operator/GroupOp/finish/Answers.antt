@@ -10,7 +10,7 @@ use Rattle.group_op.specs.Emission.{Emitted, EmittedFront}
 use Rattle.group_op.specs.Causes.{CameBeside}
 use Rattle.group_op.specs.Finishing.{LeavesWith}
 use Rattle.group_op.specs.Laid.{HoldsGroups}
-use Rattle.group_op.specs.Operator.{Keeps, Operator, page_of}
+use Rattle.group_op.specs.Operator.{Holds, Keeps, Operator, page_of}
 use Rattle.group_op.specs.Stored.{grouping_of}
 use Rattle.group_op.proofs.Sharing.{both_came}
 use Rattle.group_op.proofs.operator.GroupOp.finish.Goals as goal
@@ -20,7 +20,7 @@ returns-clause-ok g c =
     let h = g.St.Store.holds c.args.store.now in
     let was = g.E.Emit.took c.args.emit.now h in
     let now = g.E.Emit.took c.finish_op.new.emit (g.St.Store.holds c.finish_op.new.store) in
-    subst (λ (op : Operator). OnOk c.finish_op.result ((start : Option (List Entry)) (fed : List (List Value)) → Keeps start fed op h (g.St.Store.signs c.args.store.now) → h.told ≡ true → Emitted op.shape was now (groups_by path_order (grouping_of op.shape) fed)))
+    subst (λ (op : Operator). OnOk c.finish_op.result ((fed : List (List Value)) → Holds fed op h (g.St.Store.signs c.args.store.now) → h.told ≡ true → Emitted op.shape was now (groups_by path_order (grouping_of op.shape) fed)))
     c.self.view_is c.finish_op.ensures.ok
 
 pub returns-clause-err : goal.returns-clause-err
@@ -28,7 +28,7 @@ returns-clause-err g c =
     let h = g.St.Store.holds c.args.store.now in
     let was = g.E.Emit.took c.args.emit.now h in
     let now = g.E.Emit.took c.finish_op.new.emit (g.St.Store.holds c.finish_op.new.store) in
-    subst (λ (op : Operator). OnErr c.finish_op.result ((start : Option (List Entry)) (fed : List (List Value)) → Keeps start fed op h (g.St.Store.signs c.args.store.now) → h.told ≡ true → EmittedFront op.shape was now (groups_by path_order (grouping_of op.shape) fed)))
+    subst (λ (op : Operator). OnErr c.finish_op.result ((fed : List (List Value)) → Holds fed op h (g.St.Store.signs c.args.store.now) → h.told ≡ true → EmittedFront op.shape was now (groups_by path_order (grouping_of op.shape) fed)))
     c.self.view_is c.finish_op.ensures.err
 
 pub returns-clause-kept : goal.returns-clause-kept
