@@ -23,7 +23,7 @@ AsksOwn =
     (op : Operator) (old new : Holdings) (before after : Signs) → SameOwn (Some op.client.tracker) old new → IsOperator op old before
     → StaysSame op old new before after
 
--- its pages have no more slots than pages for each row that was fed
+-- its pages have together no more slots than a page for each row that was fed
 abbrev pub FewSlots : Type 0
 FewSlots =
     (fed : List (List Value)) (op : Operator) (h : Holdings) (signs : Signs) → IsStack op.parts → IsFeeding op → Holds fed op h signs

@@ -66,7 +66,7 @@ entries_in None = []
 entries_in (Some table) = rows_of table
 
 -- what it holds of the rows that were fed: partial rows in its table and in sixteen partitions, each in the one of its path's
--- first nibble. Combined, they are the groups of these rows. It doesn't look at what the store shows
+-- first nibble. Combined, they are the groups of these rows. What else stands in the store's trail is left open
 pub record Holds (fed : List (List Value)) (op : Operator) (h : Holdings) (signs : Signs) : Type 0 where
   pub rows : ℕ → List (List ℕ)
   pub shows : ShowAll rows (over op.parts h signs)
