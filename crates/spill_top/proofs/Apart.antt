@@ -1,5 +1,5 @@
 -- A plan's outputs are apart, since none is an earlier one.
-use Rattle.std.proofs.Common.{◌≡◌, ◌≢◌, ◌⊎◌, ◌<◌, ◌≤◌, ◌+◌, ◌||◌, inl, inr, ℕ, zero, suc, Bool, true, false, List, [], ◌∷◌, Option, Some, None, Result, Ok, Err, length, take, refl, sym, ap, subst, arith}
+use Rattle.std.proofs.Common.{◌≡◌, ◌≢◌, ◌<◌, ◌+◌, ◌||◌, ℕ, zero, suc, Bool, true, false, List, [], ◌∷◌, Option, Some, None, Ok, Err, length, take, refl, sym, subst, arith}
 use Rattle.std.specs.List.{list_any, slice_get}
 use Rattle.std.specs.Option.{option_or}
 use Rattle.std.specs.Prelude.{codes, if◌then◌else◌, nat_le}
@@ -9,7 +9,7 @@ use Rattle.std.proofs.lemmas.Slice.Eq.{bytes_eq-Decides}
 use Rattle.toml.specs.Data.{Members}
 use Rattle.query_plan.specs.Faults.{first_from, table_fault}
 use Rattle.query_plan.specs.Keys.{top_rows}
-use Rattle.query_plan.specs.PlanOf.{document_of, output_fault, plan_fault, plan_in, plan_of, plan_of_table, plan_or, quota_fault, reads, writes}
+use Rattle.query_plan.specs.PlanOf.{document_of, output_fault, plan_fault, plan_in, plan_of, plan_of_table, plan_or, quota_fault, writes}
 use Rattle.query_plan.specs.declared.error.PlanErr.{PlanErr}
 use Rattle.query_plan.specs.declared.error.PlanErr.TheVariants.{Limit}
 use Rattle.query_plan.specs.declared.plan.Plan.{Plan}

@@ -1,14 +1,15 @@
 -- Calls for each query of a plan in turn.
-use Rattle.std.proofs.Common.{◌≡◌, ◌≢◌, ◌∙◌, ◌<◌, ◌≤◌, ◌+◌, ℕ, zero, suc, List, [], ◌∷◌, Option, Some, length, map, set, refl, sym, subst, ap, arith}
+use Rattle.std.proofs.Common.{◌≡◌, ◌≢◌, ◌∙◌, ◌≤◌, ◌+◌, ℕ, zero, suc, List, [], ◌∷◌, Option, Some, length, map, set, refl, sym, subst, ap, arith}
 use Rattle.std.specs.List.{slice_get}
 use Rattle.std.proofs.lemmas.List.{length-map, map-set}
 use Rattle.std.proofs.lemmas.Option.{same_Some}
 use Rattle.spill_top.specs.declared.ending.Ending.{Ending}
 use Rattle.query_plan.specs.declared.plan.Query.{Query}
-use Rattle.spill_top.specs.Running.{AreApart, Seen, Went}
-use Rattle.spill_top.specs.Jobs.{AreAll, AreWorks, IsWork, KeepRefused, KeepsWork, KeepsWorks, Work}
+use Rattle.spill_top.specs.Running.{Seen, Went}
+use Rattle.spill_top.specs.Jobs.{IsWork, KeepsWork, Work}
+use Rattle.spill_top.specs.Steps.{AreAll, AreWorks, KeepRefused, KeepsWorks}
 use Rattle.spill_top.proofs.Places.{Passing, map_get, passing_end, passing_init, passing_step}
-use Rattle.spill_top.proofs.Works.{went_on, works_step}
+use Rattle.spill_top.proofs.Works.{works_step}
 
 -- as far as a place calls were made
 pub record Going (Before After : Work → Type 0) (place : ℕ) (started works : List Work) : Type 0 where

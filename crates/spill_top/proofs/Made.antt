@@ -1,5 +1,5 @@
 -- Outputs that are open were created.
-use Rattle.std.proofs.Common.{◌≡◌, ◌∙◌, ◌⊎◌, inl, inr, ℕ, Bool, true, List, Option, Some, None, IsSome, map, set, refl, sym, subst, ap}
+use Rattle.std.proofs.Common.{◌≡◌, ◌∙◌, inl, inr, ℕ, Bool, true, List, Option, Some, None, IsSome, map, set, refl, sym, subst, ap}
 use Rattle.std.specs.List.{slice_get}
 use Rattle.std.specs.Option.{option_map}
 use Rattle.std.proofs.lemmas.Bool.{false≢true}
@@ -7,7 +7,8 @@ use Rattle.std.proofs.lemmas.List.{map-set}
 use Rattle.outside.specs.Names.{StaysCreated}
 use Rattle.query_plan.specs.declared.plan.Query.{Query}
 use Rattle.spill_top.specs.declared.job.Job.{Job}
-use Rattle.spill_top.specs.Jobs.{AreMade, Opened, Work, work_of}
+use Rattle.spill_top.specs.Jobs.{Opened, Work, work_of}
+use Rattle.spill_top.specs.Steps.{AreMade}
 use Rattle.spill_top.proofs.Places.{map_get, set_get}
 
 none-open : (output : Option Opened) → output ≡ None → IsSome output → {A : Type 0} → A

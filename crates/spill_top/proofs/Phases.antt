@@ -1,18 +1,18 @@
 -- The calls for all queries of a plan, one kind after the other.
-use Rattle.std.proofs.Common.{◌≡◌, ◌∙◌, ◌≤◌, ◌<◌, ℕ, zero, suc, Bool, true, false, List, [], ◌∷◌, Option, Some, None, All, IsSome, length, map, refl, sym, subst, ap, arith}
-use Rattle.std.specs.List.{slice_get}
+use Rattle.std.proofs.Common.{◌≡◌, ◌∙◌, ℕ, suc, true, List, [], ◌∷◌, Option, Some, None, All, IsSome, length, map, refl, sym, subst, ap}
 use Rattle.std.specs.Option.{option_map}
 use Rattle.std.proofs.lemmas.Bool.{false≢true}
 use Rattle.std.proofs.lemmas.List.{length-map}
 use Rattle.std.proofs.lemmas.List.Elements.{All-cons, All-nil}
-use Rattle.outside.specs.Names.{StaysCreated}
 use Rattle.query_plan.specs.Sizes.{least_of}
 use Rattle.query_plan.specs.declared.plan.Query.{Query}
 use Rattle.spill_top.specs.declared.ending.Ending.{Ending}
 use Rattle.spill_top.specs.declared.job.Job.{Job}
 use Rattle.spill_top.specs.Reserving.{refusal, refusals, room_behind}
 use Rattle.spill_top.specs.Running.{HaveEnded, Seen, Went}
-use Rattle.spill_top.specs.Jobs.{AreAll, AreClosed, AreMade, AreWorks, IsBegun, IsDone, KeepRefused, KeepsWorks, Opened, OutputStands, Work, begun, work_of}
+use Rattle.spill_top.specs.Jobs.{Opened, OutputStands, Work, begun, work_of}
+use Rattle.spill_top.specs.Steps.{AreAll, AreClosed, AreMade, AreSided, AreWorks, IsBegun, IsDone, KeepRefused, KeepsWorks}
+use Rattle.spill_top.specs.Sides.{told_of}
 use Rattle.spill_top.proofs.Whole.{all_ended, begun_all, begun_works}
 use Rattle.spill_top.proofs.Works.{went_on}
 
@@ -28,13 +28,17 @@ begun_len {S} {K} block_len room queries jobs first =
 
 -- an output that is open was created
 open-made : (query : Query) (w : Work) (start now : Seen) (page : ℕ) (output : Option Opened) (ended : Option Ending) → IsSome output
-    → OutputStands query page (start.files query.left.file) (start.written query.output) (now.written query.output) (now.created query.output) output ended → now.created query.output ≡ true
+    → OutputStands query page (told_of query start.files) (start.written query.output) (now.written query.output) (now.created query.output) output ended → now.created query.output ≡ true
 open-made query w start now page None ended some is = absurd (false≢true some)
 open-made query w start now page (Some sink) ended some is = is.0
 
 pub made_of : (start now : Seen) (block_len : ℕ) (queries : List Query) (works : List Work) → AreWorks start now block_len queries works → AreMade now.created queries works
 made_of start now block_len queries works are = λ place query w at_query at some.
     open-made query w start now _ w.output w.ended some ((are place query w at_query at).output)
+
+-- right inputs that are open are those of queries that join
+pub sided_of : (start now : Seen) (block_len : ℕ) (queries : List Query) (works : List Work) → AreWorks start now block_len queries works → AreSided queries works
+sided_of start now block_len queries works are = λ place query w at_query at. (are place query w at_query at).sides
 
 module _ {S K : Type 0} (remaining : S → Option (List ℕ)) (reads : S → ℕ) (contents : K → Option (List ℕ)) (writes : K → ℕ) where
   -- how queries were refused that have only begun
@@ -58,12 +62,12 @@ module _ {S K : Type 0} (remaining : S → Option (List ℕ)) (reads : S → ℕ
   none-mapped f None is = refl
   none-mapped f (Some x) is = cc
 
-  closed-one : (job : Job S K) → IsDone (work_of remaining reads contents writes job) → (job.left ≡ None) × (job.sink ≡ None)
-  closed-one job done = (none-mapped _ job.left done.1, none-mapped _ job.sink done.2)
+  closed-one : (job : Job S K) → IsDone (work_of remaining reads contents writes job) → (job.left ≡ None) × (job.right ≡ None) × (job.sink ≡ None)
+  closed-one job done = (none-mapped _ job.left done.1, none-mapped _ job.right done.2, none-mapped _ job.sink done.3)
 
   pub all_closed : (jobs : List (Job S K)) → AreAll IsDone (map (work_of remaining reads contents writes) jobs) → AreClosed jobs
-  all_closed [] done = All-nil (λ (job : Job S K). (job.left ≡ None) × (job.sink ≡ None))
-  all_closed (job ∷ jobs) done = All-cons (λ (job : Job S K). (job.left ≡ None) × (job.sink ≡ None)) job jobs (closed-one job (done 0 (work_of remaining reads contents writes job) refl)) (all_closed jobs (rest-done job jobs done))
+  all_closed [] done = All-nil (λ (job : Job S K). (job.left ≡ None) × (job.right ≡ None) × (job.sink ≡ None))
+  all_closed (job ∷ jobs) done = All-cons (λ (job : Job S K). (job.left ≡ None) × (job.right ≡ None) × (job.sink ≡ None)) job jobs (closed-one job (done 0 (work_of remaining reads contents writes job) refl)) (all_closed jobs (rest-done job jobs done))
 
   pub all_begun : (block_len room : ℕ) (queries : List Query) (jobs : List (Job S K)) → jobs ≡ map begun (refusals block_len room queries) → AreAll IsBegun (map (work_of remaining reads contents writes) jobs)
   all_begun block_len room queries jobs first =
@@ -108,6 +112,24 @@ module _ {S K : Type 0} (remaining : S → Option (List ℕ)) (reads : S → ℕ
       → AreMade s3.created queries (map (work_of remaining reads contents writes) j4)
   made_so start s1 s2 s3 block_len queries j0 j1 j2 j3 j4 are created opened answered closed =
       made_of start s3 block_len queries (map (work_of remaining reads contents writes) j4) (closed start block_len (answered (opened start block_len (created start block_len are))))
+
+  -- and the right inputs that are open are those of queries that join, before and after the queries are answered
+  pub sided_so : (start s1 s2 : Seen) (block_len : ℕ) (queries : List Query) (j0 j1 j2 : List (Job S K))
+      → AreWorks start start block_len queries (map (work_of remaining reads contents writes) j0)
+      → KeepsWorks start s1 queries (map (work_of remaining reads contents writes) j0) (map (work_of remaining reads contents writes) j1)
+      → KeepsWorks s1 s2 queries (map (work_of remaining reads contents writes) j1) (map (work_of remaining reads contents writes) j2)
+      → AreSided queries (map (work_of remaining reads contents writes) j2)
+  sided_so start s1 s2 block_len queries j0 j1 j2 are created opened =
+      sided_of start s2 block_len queries (map (work_of remaining reads contents writes) j2) (opened start block_len (created start block_len are))
+
+  pub sided_then : (start s1 s2 : Seen) (block_len : ℕ) (queries : List Query) (j0 j1 j2 j3 : List (Job S K))
+      → AreWorks start start block_len queries (map (work_of remaining reads contents writes) j0)
+      → KeepsWorks start s1 queries (map (work_of remaining reads contents writes) j0) (map (work_of remaining reads contents writes) j1)
+      → KeepsWorks s1 s2 queries (map (work_of remaining reads contents writes) j1) (map (work_of remaining reads contents writes) j2)
+      → (AreWorks start s2 block_len queries (map (work_of remaining reads contents writes) j2) → AreWorks start s2 block_len queries (map (work_of remaining reads contents writes) j3))
+      → AreSided queries (map (work_of remaining reads contents writes) j3)
+  sided_then start s1 s2 block_len queries j0 j1 j2 j3 are created opened answered =
+      sided_of start s2 block_len queries (map (work_of remaining reads contents writes) j3) (answered (opened start block_len (created start block_len are)))
 
   -- as many endings as jobs
   pub as_many : (jobs : List (Job S K)) (ends : List Ending) → map (λ ending. Some ending) ends ≡ map (λ (job : Job S K). job.ended) jobs → length ends ≡ length jobs

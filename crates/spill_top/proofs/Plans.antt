@@ -1,5 +1,5 @@
 -- The plan of a file of which so much was read as shows it.
-use Rattle.std.proofs.Common.{◌≡◌, ◌∙◌, ◌⊎◌, ◌<◌, ◌≤◌, ◌*◌, ◌^◌, inl, inr, ℕ, Bool, true, false, List, Option, Some, None, IfSome, Result, Ok, Err, length, codes, refl, sym, subst, arith}
+use Rattle.std.proofs.Common.{◌≡◌, ◌∙◌, ◌<◌, ◌≤◌, ◌*◌, ◌^◌, inl, inr, ℕ, Bool, true, false, List, Option, Some, None, IfSome, Result, Err, length, codes, refl, sym, subst, arith}
 use Rattle.std.specs.Prelude.{nat_le, if◌then◌else◌}
 use Rattle.std.proofs.lemmas.Bool.Decides.{leb_tells}
 use Rattle.query_plan.specs.PlanOf.{document_of, plan_of, plan_of_table}

@@ -1,5 +1,5 @@
 -- The least reservations, asked one after the other.
-use Rattle.std.proofs.Common.{◌≡◌, ◌∙◌, ◌-◌, ◌++◌, ℕ, true, false, List, [], ◌∷◌, Option, Some, None, is_none, drop, map, refl, sym, subst, ap}
+use Rattle.std.proofs.Common.{◌≡◌, ◌∙◌, ◌-◌, ◌++◌, ℕ, true, false, List, [], ◌∷◌, Option, Some, None, is_none, map, refl, sym, ap}
 use Rattle.std.proofs.lemmas.Bool.{false≢true}
 use Rattle.std.proofs.lemmas.List.{append_assoc}
 use Rattle.query_plan.specs.Sizes.{least_of}

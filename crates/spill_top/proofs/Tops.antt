@@ -1,5 +1,5 @@
 -- A command that finds no memory for its words.
-use Rattle.std.proofs.Common.{◌≡◌, ◌≢◌, ◌∙◌, ◌⊎◌, ◌↔◌, ◌==◌, inl, inr, ℕ, Bool, true, false, List, [], ◌∷◌, Option, Some, None, IfSome, refl, sym, subst, arith}
+use Rattle.std.proofs.Common.{◌≡◌, ◌∙◌, ◌↔◌, ◌==◌, inl, inr, ℕ, Bool, true, false, List, [], ◌∷◌, Option, Some, None, IfSome, refl, sym, subst, arith}
 use Rattle.std.specs.Prelude.{if◌then◌else◌}
 use Rattle.std.proofs.lemmas.Option.{none-some}
 use Rattle.reservation_tree.specs.declared.errors.PoolErr.{PoolErr}
@@ -39,9 +39,6 @@ short-run file slots start now before after same tells = inr (same, inr (inr (re
 pub of_each : {A : Type 0} → (found : Option A) (holds : A → Type 0) → ((x : A) → holds x) → IfSome found holds
 of_each None holds all = tt
 of_each (Some x) holds all = all x
-
-pub of_none : {A : Type 0} → (found : Option A) (holds : A → Type 0) → found ≡ None → IfSome found holds
-of_none found holds is = rw is tt
 
 pub counted_short : (bytes_at : List ℕ → Option (List ℕ)) (faults faults_now : List ℕ → ℕ) (report report_now : Option (List ℕ)) (writes writes_now status : ℕ) (command : Command) → status ≡ 10 → Tells shortage report report_now writes writes_now
     → Counted bytes_at faults faults_now report report_now writes writes_now status command

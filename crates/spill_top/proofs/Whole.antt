@@ -1,5 +1,5 @@
 -- A plan's run as a whole: how its queries begin, and what is so when all has been given back.
-use Rattle.std.proofs.Common.{◌≡◌, ◌∙◌, ◌⊎◌, ◌<◌, inl, inr, ℕ, zero, suc, Bool, true, false, List, [], ◌∷◌, Option, Some, None, IfSome, IsSome, map, refl, sym, subst, ap, arith}
+use Rattle.std.proofs.Common.{◌≡◌, inl, inr, ℕ, zero, suc, Bool, true, false, List, [], ◌∷◌, Option, Some, None, map, refl, sym, subst, ap, arith}
 use Rattle.std.specs.List.{slice_get}
 use Rattle.std.specs.Option.{option_flatten}
 use Rattle.std.specs.Prelude.{nat_le, if◌then◌else◌, ⊤}
@@ -7,13 +7,17 @@ use Rattle.std.proofs.lemmas.Option.{none-some, same_Some}
 use Rattle.outside.specs.Counts.{Rose}
 use Rattle.query_plan.specs.Sizes.{least_of, page_len}
 use Rattle.query_plan.specs.declared.plan.Query.{Query}
+use Rattle.query_plan.specs.declared.plan.Side.{Side}
+use Rattle.query_plan.specs.declared.plan.Side.TheVariants.{Left, Right}
 use Rattle.spill_top.specs.declared.ending.Ending.{Ending}
 use Rattle.spill_top.specs.declared.ending.Ending.TheVariants.{Lines, Reservation, Stopped}
-use Rattle.spill_top.specs.declared.job.Job.{Job}
 use Rattle.spill_top.specs.Reserving.{refusal, refusals, room_behind}
 use Rattle.spill_top.specs.Running.{HasEnded, HaveEnded, Seen}
-use Rattle.spill_top.specs.Jobs.{AreAll, AreWorks, HasFailed, HasNone, IsBegun, IsDone, IsSoFar, IsWork, Opened, Work, begun, work_of}
+use Rattle.spill_top.specs.Jobs.{HasFailed, HasFailedOn, HasNone, IsSoFar, IsWork, Opened, Work, begun, work_of}
+use Rattle.spill_top.specs.Sides.{RoseOn, bytes_on, faults_on, on_sides}
+use Rattle.spill_top.specs.Steps.{AreAll, AreWorks, IsBegun, IsDone}
 use Rattle.spill_top.proofs.Loops.{went_nowhere}
+use Rattle.spill_top.proofs.Sides.{no_sides, none_stand}
 use Rattle.spill_top.proofs.Works.{ending_later}
 
 -- a query that is refused before it begins is refused for its least reservation
@@ -36,11 +40,11 @@ reserved_at block_len room (query ∷ queries) zero refused at =
 reserved_at block_len room (query ∷ queries) (suc place) refused at =
     reserved_at block_len (room_behind (refusal query.limit (least_of query block_len) room) (least_of query block_len) room) queries place refused at
 
-first-so-far : (plan : Query) (page : ℕ) (told : Option (List ℕ)) (R W : Type 0) (refused : Option Ending) → IsReserved refused → IsSoFar plan page told R W refused refused
-first-so-far plan page told R W None is = refl
-first-so-far plan page told R W (Some (Reservation root wanted room)) is = refl
-first-so-far plan page told R W (Some (Lines lines)) is = absurd is
-first-so-far plan page told R W (Some (Stopped why)) is = absurd is
+first-so-far : (plan : Query) (page : ℕ) (bytes : Side → Option (List ℕ)) (R : Side → Type 0) (W : Type 0) (refused : Option Ending) → IsReserved refused → IsSoFar plan page bytes R W refused refused
+first-so-far plan page bytes R W None is = refl
+first-so-far plan page bytes R W (Some (Reservation root wanted room)) is = refl
+first-so-far plan page bytes R W (Some (Lines lines)) is = absurd is
+first-so-far plan page bytes R W (Some (Stopped why)) is = absurd is
 
 has-none : (refused : Option Ending) → IsReserved refused → HasNone refused
 has-none None is = tt
@@ -48,11 +52,13 @@ has-none (Some (Reservation root wanted room)) is = tt
 has-none (Some (Lines lines)) is = absurd is
 has-none (Some (Stopped why)) is = absurd is
 
-first-is : (start : Seen) (block_len : ℕ) (query : Query) (refused : Option Ending) → IsReserved refused → IsWork start start block_len query (record { refused = refused; input = None; output = None; ended = refused })
+first-is : (start : Seen) (block_len : ℕ) (query : Query) (refused : Option Ending) → IsReserved refused
+    → IsWork start start block_len query (record { refused = refused; left = None; right = None; output = None; ended = refused })
 first-is start block_len query refused is = record {
   went = went_nowhere start;
-  ending = first-so-far query (page_len query block_len) (start.files query.left.file) _ _ refused is;
-  input = tt;
+  ending = first-so-far query (page_len query block_len) (bytes_on query start.files) (HasFailedOn (faults_on query start.reads) (faults_on query start.reads) (on_sides None None)) _ refused is;
+  inputs = none_stand (bytes_on query start.files) refused;
+  sides = no_sides query refused refused None;
   output = inl (has-none refused is, refl);
   fresh_sink = tt;
 }
@@ -63,13 +69,13 @@ Same a b = a ≡ b
 module _ {S K : Type 0} (remaining : S → Option (List ℕ)) (reads : S → ℕ) (contents : K → Option (List ℕ)) (writes : K → ℕ) where
   -- what stands at a place of the first of all lists
   at-first : (all : List (Option Ending)) (place : ℕ) (w : Work) → slice_get (map (work_of remaining reads contents writes) (map begun all)) place ≡ Some w
-      → (refused : Option Ending) × (slice_get all place ≡ Some refused) × Same (record { refused = refused; input = None; output = None; ended = refused }) w
+      → (refused : Option Ending) × (slice_get all place ≡ Some refused) × Same (record { refused = refused; left = None; right = None; output = None; ended = refused }) w
   at-first [] place w at = absurd (none-some w at)
   at-first (refused ∷ rest) zero w at = (refused, refl, same_Some _ w at)
   at-first (refused ∷ rest) (suc place) w at = at-first rest place w at
 
   pub begun_all : (all : List (Option Ending)) → AreAll IsBegun (map (work_of remaining reads contents writes) (map begun all))
-  begun_all all = λ place w at. let one = at-first all place w at in subst (λ (x : Work). IsBegun x) one.2 (refl, refl)
+  begun_all all = λ place w at. let one = at-first all place w at in subst (λ (x : Work). IsBegun x) one.2 (refl, refl, refl)
 
   pub begun_works : (start : Seen) (block_len room : ℕ) (queries : List Query) → AreWorks start start block_len queries (map (work_of remaining reads contents writes) (map begun (refusals block_len room queries)))
   begun_works start block_len room queries = λ place query w at_query at.
@@ -96,17 +102,23 @@ no-more : (before now : ℕ) → HasFailed before now None → Rose before now
 no-more before now (inl rose) = rose
 no-more before now (inr has) = absurd (omega (arith, has))
 
-ended-work : (start now : Seen) (block_len : ℕ) (query : Query) (refused : Option Ending) (ending : Ending) → IsWork start now block_len query (record { refused = refused; input = None; output = None; ended = Some ending })
-    → HasEnded start now block_len refused query ending
+none-more : (before now : Side → ℕ) (side : Side) → HasFailedOn before now (on_sides None None) side → RoseOn before now side
+none-more before now Left failed = no-more (before Left) (now Left) failed
+none-more before now Right failed = no-more (before Right) (now Right) failed
+
+ended-work : (start now : Seen) (block_len : ℕ) (query : Query) (refused : Option Ending) (ending : Ending)
+    → IsWork start now block_len query (record { refused = refused; left = None; right = None; output = None; ended = Some ending }) → HasEnded start now block_len refused query ending
 ended-work start now block_len query refused ending is = record {
-  so = ending_later query (page_len query block_len) (start.files query.left.file) _ _ _ _ refused ending
-      (no-more (start.reads query.left.file) (now.reads query.left.file)) (no-more (start.writes query.output) (now.writes query.output)) is.ending;
+  so = ending_later query (page_len query block_len) (bytes_on query start.files)
+      (HasFailedOn (faults_on query start.reads) (faults_on query now.reads) (on_sides None None)) (HasFailed (start.writes query.output) (now.writes query.output) None)
+      (RoseOn (faults_on query start.reads) (faults_on query now.reads)) (Rose (start.writes query.output) (now.writes query.output)) refused ending
+      (none-more (faults_on query start.reads) (faults_on query now.reads)) (no-more (start.writes query.output) (now.writes query.output)) is.ending;
   output = is.output;
 }
 
-same-work : (refused : Option Ending) (input output : Option Opened) (ended : Option Ending) (ending : Ending) → input ≡ None → output ≡ None → ended ≡ Some ending
-    → Same (record { refused = refused; input = input; output = output; ended = ended }) (record { refused = refused; input = None; output = None; ended = Some ending })
-same-work refused input output ended ending a b e = rw (a, b, e) refl
+same-work : (refused : Option Ending) (left right output : Option Opened) (ended : Option Ending) (ending : Ending) → left ≡ None → right ≡ None → output ≡ None → ended ≡ Some ending
+    → Same (record { refused = refused; left = left; right = right; output = output; ended = ended }) (record { refused = refused; left = None; right = None; output = None; ended = Some ending })
+same-work refused left right output ended ending a b c e = rw (a, b, c, e) refl
 
 -- when all has been given back, the endings are what became of the queries
 pub all_ended : (start now : Seen) (block_len : ℕ) (queries : List Query) (works : List Work) (refused : List (Option Ending)) (ends : List Ending) → AreWorks start now block_len queries works → AreAll IsDone works
@@ -118,6 +130,7 @@ all_ended start now block_len queries works refused ends are done same alike = �
     let is = are place query w at_query one.1 in
     let closed = done place w one.1 in
     let refusal_is : slice_get refused place ≡ Some w.refused = subst (λ (list : List (Option Ending)). slice_get list place ≡ Some w.refused) same (map_at (λ (x : Work). x.refused) works place w one.1) in
-    let shape : w ≡ record { refused = w.refused; input = None; output = None; ended = Some ending } = same-work w.refused w.input w.output w.ended ending closed.1 closed.2 one.2 in
+    let shape : w ≡ record { refused = w.refused; left = None; right = None; output = None; ended = Some ending } =
+    same-work w.refused w.left w.right w.output w.ended ending closed.1 closed.2 closed.3 one.2 in
     subst (λ (r : Option Ending). HasEnded start now block_len r query ending) (sym (ap option_flatten refusal_is))
     (ended-work start now block_len query w.refused ending (subst (λ (x : Work). IsWork start now block_len query x) shape is))

@@ -1,17 +1,22 @@
 -- What stands of a query while calls are made for others.
-use Rattle.std.proofs.Common.{◌≡◌, ◌≢◌, ◌∙◌, ◌⊎◌, ◌<◌, ◌≤◌, inl, inr, ℕ, Bool, true, List, [], Option, Some, None, IfSome, set, refl, sym, subst, ap, arith}
+use Rattle.std.proofs.Common.{◌≡◌, ◌≢◌, ◌∙◌, ◌≤◌, inl, inr, ℕ, Bool, true, List, Option, Some, None, IfSome, set, sym, subst, ap, arith}
 use Rattle.std.specs.List.{slice_get}
 use Rattle.std.specs.Option.{IsSomeAnd}
 use Rattle.outside.specs.Counts.{Rose}
-use Rattle.outside.specs.Names.{Written, fresh}
+use Rattle.outside.specs.Names.{TakesFaults, Written, fresh}
 use Rattle.query_plan.specs.Sizes.{page_len}
 use Rattle.query_plan.specs.declared.plan.Query.{Query}
+use Rattle.query_plan.specs.declared.plan.Side.{Side}
+use Rattle.query_run.specs.Both.{Told}
 use Rattle.query_run.specs.declared.outcome.QueryErr.{QueryErr}
 use Rattle.spill_top.specs.declared.ending.Ending.{Ending}
 use Rattle.spill_top.specs.declared.ending.Ending.TheVariants.{Lines, Reservation, Stopped}
 use Rattle.spill_top.specs.Running.{HasOutput, IsEnding, IsStopped, Seen, Went}
-use Rattle.spill_top.specs.Jobs.{AreWorks, HasFailed, HasNone, IsSoFar, IsWork, Opened, OutputStands, SinkHolds, Work}
+use Rattle.spill_top.specs.Jobs.{HasFailed, HasFailedOn, IsSoFar, IsWork, Opened, OutputStands, SinkHolds, Work, faults_of, inputs_of}
+use Rattle.spill_top.specs.Sides.{bytes_on, faults_on, told_of}
+use Rattle.spill_top.specs.Steps.{AreWorks}
 use Rattle.spill_top.proofs.Places.{set_get}
+use Rattle.spill_top.proofs.Sides.{faults_kept}
 
 pub rose_later : (before mid now : ℕ) → Rose before mid → mid ≤ now → Rose before now
 rose_later before mid now rose more = λ short. omega (arith, rose, more, short)
@@ -31,31 +36,35 @@ pub failed_later : (before mid now : ℕ) (thing : Option Opened) → mid ≤ no
 failed_later before mid now thing more (inl rose) = inl (rose_later before mid now rose more)
 failed_later before mid now thing more (inr has) = inr has
 
-stopped-later : (plan : Query) (page : ℕ) (told : Option (List ℕ)) (R W R' W' : Type 0) (why : QueryErr) → (R → R') → (W → W') → IsStopped plan page told R W why → IsStopped plan page told R' W' why
-stopped-later plan page told R W R' W' why reads writes is = record {
-  refused = is.refused;
-  source_fault = λ fault. reads (is.source_fault fault);
-  sink_fault = λ fault. writes (is.sink_fault fault);
-  memory = is.memory;
-}
+-- it was given back, and its faults are counted
+pub taken : (before old now : ℕ) (thing : Option Opened) → before ≤ old → old ≤ now → TakesFaults (faults_of thing) old now → HasFailed before old thing → HasFailed before now None
+taken before old now thing less more takes (inl rose) = inl (rose_later before old now rose more)
+taken before old now thing less more takes (inr has) = inl (rose_since before old now less (takes has))
 
-pub ending_later : (plan : Query) (page : ℕ) (told : Option (List ℕ)) (R W R' W' : Type 0) (refused : Option Ending) (ending : Ending) → (R → R') → (W → W')
-    → IsEnding plan page told R W refused ending → IsEnding plan page told R' W' refused ending
-ending_later plan page told R W R' W' refused (Lines lines) reads writes is = is
-ending_later plan page told R W R' W' refused (Reservation root wanted room) reads writes is = is
-ending_later plan page told R W R' W' refused (Stopped why) reads writes is = (is.0, stopped-later plan page told R W R' W' why reads writes is.1)
+module _ (plan : Query) (page : ℕ) (bytes : Side → Option (List ℕ)) (R : Side → Type 0) (W : Type 0) (R' : Side → Type 0) (W' : Type 0) where
+  stopped-later : (why : QueryErr) → ((side : Side) → R side → R' side) → (W → W') → IsStopped plan page bytes R W why → IsStopped plan page bytes R' W' why
+  stopped-later why reads writes is = record {
+    refused = is.refused;
+    source_fault = λ side fault. reads side (is.source_fault side fault);
+    sink_fault = λ fault. writes (is.sink_fault fault);
+    memory = is.memory;
+  }
 
-pub so_far_later : (plan : Query) (page : ℕ) (told : Option (List ℕ)) (R W R' W' : Type 0) (refused ended : Option Ending) → (R → R') → (W → W')
-    → IsSoFar plan page told R W refused ended → IsSoFar plan page told R' W' refused ended
-so_far_later plan page told R W R' W' refused None reads writes is = is
-so_far_later plan page told R W R' W' refused (Some ending) reads writes is = ending_later plan page told R W R' W' refused ending reads writes is
+  pub ending_later : (refused : Option Ending) (ending : Ending) → ((side : Side) → R side → R' side) → (W → W') → IsEnding plan page bytes R W refused ending → IsEnding plan page bytes R' W' refused ending
+  ending_later refused (Lines lines) reads writes is = is
+  ending_later refused (Reservation root wanted room) reads writes is = is
+  ending_later refused (Stopped why) reads writes is = (is.0, stopped-later why reads writes is.1)
 
-sink-later : (plan : Query) (page : ℕ) (told : Option (List ℕ)) (before old now : Option Written) (sink : Opened) (ended : Option Ending) → now ≡ old
+  pub so_far_later : (refused ended : Option Ending) → ((side : Side) → R side → R' side) → (W → W') → IsSoFar plan page bytes R W refused ended → IsSoFar plan page bytes R' W' refused ended
+  so_far_later refused None reads writes is = is
+  so_far_later refused (Some ending) reads writes is = ending_later refused ending reads writes is
+
+sink-later : (plan : Query) (page : ℕ) (told : Option Told) (before old now : Option Written) (sink : Opened) (ended : Option Ending) → now ≡ old
     → IfSome before (λ _. (old ≡ Some fresh) × SinkHolds plan page told sink.told ended) → IfSome before (λ _. (now ≡ Some fresh) × SinkHolds plan page told sink.told ended)
 sink-later plan page told None old now sink ended same is = tt
 sink-later plan page told (Some before) old now sink ended same is = (same ∙ is.0, is.1)
 
-output-later : (plan : Query) (page : ℕ) (told : Option (List ℕ)) (before old now : Option Written) (was is_now : Bool) (output : Option Opened) (ended : Option Ending) → now ≡ old → (was ≡ true → is_now ≡ true)
+output-later : (plan : Query) (page : ℕ) (told : Option Told) (before old now : Option Written) (was is_now : Bool) (output : Option Opened) (ended : Option Ending) → now ≡ old → (was ≡ true → is_now ≡ true)
     → OutputStands plan page told before old was output ended → OutputStands plan page told before now is_now output ended
 output-later plan page told before old now was is_now (Some sink) ended same created is = (created is.0, sink-later plan page told before old now sink ended same is.1)
 output-later plan page told before old now was is_now None ended same created (inl is) = inl (is.0, same ∙ is.1)
@@ -67,11 +76,14 @@ pub work_later : (start old now : Seen) (block_len : ℕ) (query : Query) (w : W
     → IsWork start old block_len query w → IsWork start now block_len query w
 work_later start old now block_len query w went same is = record {
   went = went_on start old now is.went went;
-  ending = so_far_later query (page_len query block_len) (start.files query.left.file) _ _ _ _ w.refused w.ended
-      (failed_later (start.reads query.left.file) (old.reads query.left.file) (now.reads query.left.file) w.input (went.reads query.left.file))
+  ending = so_far_later query (page_len query block_len) (bytes_on query start.files)
+      (HasFailedOn (faults_on query start.reads) (faults_on query old.reads) (inputs_of w)) (HasFailed (start.writes query.output) (old.writes query.output) w.output)
+      (HasFailedOn (faults_on query start.reads) (faults_on query now.reads) (inputs_of w)) (HasFailed (start.writes query.output) (now.writes query.output) w.output) w.refused w.ended
+      (λ side. failed_later (faults_on query start.reads side) (faults_on query old.reads side) (faults_on query now.reads side) (inputs_of w side) (faults_kept query old.reads now.reads went.reads side))
       (failed_later (start.writes query.output) (old.writes query.output) (now.writes query.output) w.output (went.writes query.output)) is.ending;
-  input = is.input;
-  output = output-later query (page_len query block_len) (start.files query.left.file) (start.written query.output) (old.written query.output) (now.written query.output)
+  inputs = is.inputs;
+  sides = is.sides;
+  output = output-later query (page_len query block_len) (told_of query start.files) (start.written query.output) (old.written query.output) (now.written query.output)
       (old.created query.output) (now.created query.output) w.output w.ended same (went.created query.output) is.output;
   fresh_sink = is.fresh_sink;
 }

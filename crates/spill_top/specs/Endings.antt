@@ -1,5 +1,5 @@
 -- How the queries of a plan end: the status of each ending, and what the report says of it.
-use Rattle.std.specs.Prelude.{codes, ℕ, Bool, true, false, List, [], Option, Some, None, map, slice_index_or, ⊤}
+use Rattle.std.specs.Prelude.{ℕ, Bool, true, false, List, [], map, slice_index_or, ⊤}
 use Rattle.reservation_tree.specs.declared.errors.PoolErr.{PoolErr}
 use Rattle.reservation_tree.specs.declared.errors.PoolErr.TheVariants as pool
 use Rattle.row_codec.specs.declared.values.Column.{Column}

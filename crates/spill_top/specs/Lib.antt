@@ -8,7 +8,9 @@ pub mod OneInput
 pub mod Headline
 pub mod Endings
 pub mod Reserving
+pub mod Sides
 pub mod Running
 pub mod Jobs
+pub mod Steps
 pub mod Ran
 pub mod PlanFile

@@ -1,5 +1,5 @@
 -- How much of a plan's file is read.
-use Rattle.std.specs.Prelude.{◌≡◌, ◌⊎◌, ◌<◌, ◌++◌, ℕ, List, [], Option, IfSome, length}
+use Rattle.std.specs.Prelude.{◌≡◌, ◌⊎◌, ◌<◌, ℕ, List, Option, IfSome, length}
 
 -- all of the bytes, where they are told, or a front of them that is longer than a document may be
 abbrev pub IsEnough : Option (List ℕ) → List ℕ → Type 0

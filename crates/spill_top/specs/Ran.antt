@@ -1,5 +1,5 @@
 -- What a run of a plan comes to: its status, its report, and what became of each query.
-use Rattle.std.specs.Prelude.{◌≡◌, ◌≢◌, ◌+◌, ◌++◌, ◌==◌, ◌<◌, ◌⊎◌, ℕ, Bool, true, false, List, [], ◌∷◌, Option, Some, None, Ok, Err, IfSome, length, if◌then◌else◌}
+use Rattle.std.specs.Prelude.{◌≡◌, ◌≢◌, ◌+◌, ◌++◌, ◌==◌, ◌⊎◌, ℕ, Bool, true, false, List, [], ◌∷◌, Option, Some, None, Ok, Err, IfSome, length, if◌then◌else◌}
 use Rattle.std.specs.List.{list_all}
 use Rattle.outside.specs.Counts.{Rose}
 use Rattle.query_plan.specs.PlanOf.{plan_of}

@@ -1,19 +1,22 @@
 -- What becomes of a query of a plan. What its files hold is told or not, and nothing is said where it isn't.
-use Rattle.std.specs.Prelude.{◌≡◌, ◌<◌, ◌⊎◌, ◌++◌, ℕ, Bool, true, false, List, [], Option, Some, None, IfSome, slice_get, ⊤}
-use Rattle.std.specs.Option.{option_flatten}
+use Rattle.std.specs.Prelude.{◌≡◌, ◌⊎◌, ◌++◌, ℕ, Bool, true, false, List, [], Option, Some, None, IfSome, length, slice_get, ⊤}
+use Rattle.std.specs.Option.{IsSomeAnd, option_flatten}
 use Rattle.outside.specs.Counts.{NoneFell, Rose}
-use Rattle.outside.specs.Names.{AllStay, OthersStay, StaysCreated, Written, fresh}
+use Rattle.outside.specs.Names.{AllStay, OthersStay, StaysCreated, Written}
 use Rattle.reservation_tree.specs.declared.errors.PoolErr.TheVariants.{Memory}
 use Rattle.query_plan.specs.declared.plan.Query.{Query}
 use Rattle.query_plan.specs.declared.plan.Side.{Side}
+use Rattle.query_plan.specs.declared.plan.Side.TheVariants.{Left, Right}
 use Rattle.query_plan.specs.Sizes.{page_len}
-use Rattle.spill_top.specs.OneInput.{IsAnswerOver}
-use Rattle.query_run.specs.Causes.{IsOfBytes, IsSourceFault, OfPool, side_of}
-use Rattle.query_run.specs.Input.{IsRefusal}
+use Rattle.query_run.specs.Answer.{IsAnswer}
+use Rattle.query_run.specs.Both.{Told}
+use Rattle.query_run.specs.Causes.{IsOfBytes, OfPool, side_of}
+use Rattle.query_run.specs.Input.{IsAccepted, IsRefusal, IsRefusalIn}
 use Rattle.query_run.specs.declared.outcome.QueryErr.{QueryErr}
-use Rattle.query_run.specs.declared.outcome.QueryErr.TheVariants.{SinkFault}
+use Rattle.query_run.specs.declared.outcome.QueryErr.TheVariants.{SinkFault, SourceFault}
 use Rattle.spill_top.specs.declared.ending.Ending.{Ending}
 use Rattle.spill_top.specs.declared.ending.Ending.TheVariants.{Lines, Reservation, Stopped}
+use Rattle.spill_top.specs.Sides.{RoseOn, both_on, bytes_on, faults_on, told_of}
 
 -- inputs and outputs at a time, by name: the bytes of files, and the faults of reading; what was written, which names were created, and the faults of writing
 pub record Seen : Type 0 where
@@ -38,36 +41,49 @@ pub record WentAt (name : List ℕ) (old new : Seen) : Type 0 where
   pub went : Went old new
   pub others : OthersStay name old.written new.written
 
--- why a query stopped over a store in memory: its bytes, where they are told, are refused for this; reading, or writing, has failed; or memory was wanting
-pub record IsStopped (plan : Query) (page : ℕ) (told : Option (List ℕ)) (read_failed write_failed : Type 0) (why : QueryErr) : Type 0 where
-  pub refused : IsOfBytes why → IfSome told (λ bytes. IsRefusal plan page bytes why)
-  pub source_fault : IsSourceFault why → read_failed
+-- the bytes of an input, where they are told, are refused for this; before a right one is, the left one was accepted
+abbrev pub IsRefusedOn : Query → ℕ → (Side → Option (List ℕ)) → QueryErr → Side → Type 0
+IsRefusedOn plan page bytes why Left = IfSome (bytes Left) (λ left. IsRefusal plan page left why)
+IsRefusedOn plan page bytes why Right =
+    IfSome (bytes Left) (IsAccepted plan page) × IsSomeAnd plan.right (λ asked. IfSome (bytes Right) (λ right. IsRefusalIn plan Right asked page right why))
+
+-- why a query stopped over a store in memory: the bytes of the input that the cause names are refused for this; reading that input, or writing, has
+-- failed; or memory was wanting
+pub record IsStopped (plan : Query) (page : ℕ) (bytes : Side → Option (List ℕ)) (read_failed : Side → Type 0) (write_failed : Type 0) (why : QueryErr) : Type 0 where
+  pub refused : IsOfBytes why → IsSomeAnd (side_of why) (IsRefusedOn plan page bytes why)
+  pub source_fault : (side : Side) → why ≡ SourceFault side → read_failed side
   pub sink_fault : why ≡ SinkFault → write_failed
   pub memory : OfPool (λ e. e ≡ Memory) why
 
+-- an answer over these bytes has so many lines behind its first one
+pub record HasLines (plan : Query) (page lines : ℕ) (told : Told) : Type 0 where
+  pub text : List ℕ
+  pub answer : IsAnswer plan page told text
+  pub many : lines ≡ length answer.out
+
 -- how a query ended is so: its least reservation was refused for exactly this, if it was
-abbrev pub IsEnding : Query → ℕ → Option (List ℕ) → Type 0 → Type 0 → Option Ending → Ending → Type 0
-IsEnding plan page told read_failed write_failed refused (Lines lines) = refused ≡ None
-IsEnding plan page told read_failed write_failed refused (Reservation root wanted room) = refused ≡ Some (Reservation root wanted room)
-IsEnding plan page told read_failed write_failed refused (Stopped why) = (refused ≡ None) × IsStopped plan page told read_failed write_failed why
+abbrev pub IsEnding : Query → ℕ → (Side → Option (List ℕ)) → (Side → Type 0) → Type 0 → Option Ending → Ending → Type 0
+IsEnding plan page bytes read_failed write_failed refused (Lines lines) = (refused ≡ None) × IfSome (both_on bytes) (HasLines plan page lines)
+IsEnding plan page bytes read_failed write_failed refused (Reservation root wanted room) = refused ≡ Some (Reservation root wanted room)
+IsEnding plan page bytes read_failed write_failed refused (Stopped why) = (refused ≡ None) × IsStopped plan page bytes read_failed write_failed why
 
 -- an answer over these bytes, or a front of it, or nothing
-abbrev pub IsPart : Query → ℕ → List ℕ → List ℕ → Type 0
-IsPart plan page bytes text = (text ≡ []) ⊎ ((whole : List ℕ) × (rest : List ℕ) × IsAnswerOver plan page bytes whole × (text ++ rest ≡ whole))
+abbrev pub IsPart : Query → ℕ → Told → List ℕ → Type 0
+IsPart plan page told text = (text ≡ []) ⊎ ((whole : List ℕ) × (rest : List ℕ) × IsAnswer plan page told whole × (text ++ rest ≡ whole))
 
 -- an output holds a text, and whether it was said to be whole
 abbrev pub Holds : Option Written → Bool → (List ℕ → Type 0) → Type 0
 Holds written whole IsText = (text : List ℕ) × (written ≡ Some (record { bytes = text; whole = whole })) × IsText text
 
--- the same where a query stopped: nothing where its input was at fault
-abbrev pub HoldsPart : Query → ℕ → Option (List ℕ) → Option Written → Option Side → Type 0
+-- the same where a query stopped: nothing where an input was at fault
+abbrev pub HoldsPart : Query → ℕ → Option Told → Option Written → Option Side → Type 0
 HoldsPart plan page told written (Some side) = Holds written false (λ text. text ≡ [])
-HoldsPart plan page told written None = IfSome told (λ bytes. Holds written false (IsPart plan page bytes))
+HoldsPart plan page told written None = IfSome told (λ both. Holds written false (IsPart plan page both))
 
 -- an output that was created and given back is so: it holds the answer where the query ended with one
-abbrev pub HasOutput : Query → ℕ → Option (List ℕ) → Option Written → Option Written → Ending → Type 0
+abbrev pub HasOutput : Query → ℕ → Option Told → Option Written → Option Written → Ending → Type 0
 HasOutput plan page told None written ending = ⊤
-HasOutput plan page told (Some before) written (Lines lines) = IfSome told (λ bytes. Holds written true (IsAnswerOver plan page bytes))
+HasOutput plan page told (Some before) written (Lines lines) = IfSome told (λ both. Holds written true (IsAnswer plan page both))
 HasOutput plan page told (Some before) written (Reservation root wanted room) = ⊥
 HasOutput plan page told (Some before) written (Stopped why) = HoldsPart plan page told written (side_of why)
 
@@ -79,10 +95,10 @@ HasNoOutput (Stopped why) = why ≡ SinkFault
 
 -- what became of a query, and of its output
 pub record HasEnded (start now : Seen) (block_len : ℕ) (refused : Option Ending) (query : Query) (ending : Ending) : Type 0 where
-  pub so : IsEnding query (page_len query block_len) (start.files query.left.file)
-      (Rose (start.reads query.left.file) (now.reads query.left.file)) (Rose (start.writes query.output) (now.writes query.output)) refused ending
+  pub so : IsEnding query (page_len query block_len) (bytes_on query start.files)
+      (RoseOn (faults_on query start.reads) (faults_on query now.reads)) (Rose (start.writes query.output) (now.writes query.output)) refused ending
   pub output : (HasNoOutput ending × (now.written query.output ≡ start.written query.output))
-      ⊎ HasOutput query (page_len query block_len) (start.files query.left.file) (start.written query.output) (now.written query.output) ending
+      ⊎ HasOutput query (page_len query block_len) (told_of query start.files) (start.written query.output) (now.written query.output) ending
 
 -- of each query, in the order of the plan
 abbrev pub HaveEnded : Seen → Seen → ℕ → List (Option Ending) → List Query → List Ending → Type 0

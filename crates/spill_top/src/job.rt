@@ -2,7 +2,8 @@
 
 ghost use Rattle.std.specs.Prelude.{◌≡◌, ◌≤◌, [], All, IfOk, IsSome, None, Some, length, map, vec_capacity, vec_len};
 ghost use Rattle.query_plan.specs.Rules.{KeepsQuery};
-ghost use Rattle.spill_top.specs.Jobs.{AreClosed, begun};
+ghost use Rattle.spill_top.specs.Jobs.{begun};
+ghost use Rattle.spill_top.specs.Steps.{AreClosed};
 ghost use Rattle.spill_top.specs.Reserving.{refusal, refusals};
 
 use crate::ending::Ending;
@@ -10,11 +11,12 @@ use query_plan::{Query, least};
 use row_codec::Memory;
 use std::alloc::Global;
 
-// A source is there from its opening until it is given back, and so is a sink.
+// A source is there from its opening until it is given back, and so is a sink. A query that doesn't join has no right source.
 pub(crate) struct Job<S, K> {
     // How the least reservation was refused, if it was.
     pub(crate) refused: Option<Ending>,
     pub(crate) left: Option<S>,
+    pub(crate) right: Option<S>,
     pub(crate) sink: Option<K>,
     pub(crate) ended: Option<Ending>,
 }
@@ -42,6 +44,7 @@ pub(crate) fn reserve<S, K>(
         jobs.push_reserved(Job {
             refused,
             left: None,
+            right: None,
             sink: None,
             ended: refused,
         });
@@ -97,10 +100,12 @@ pub(crate) fn discard<S, K>(jobs: Vec<Job<S, K>>)
         let Job {
             refused: _,
             left,
+            right,
             sink,
             ended: _,
         } = jobs.take_last();
         let_go(left);
+        let_go(right);
         let_go(sink);
     }
     jobs.destroy_empty();

@@ -4,7 +4,8 @@ ghost use Rattle.std.specs.Prelude.{◌≡◌, ℕ, Bool, List, Option, ◌*◌,
 ghost use Rattle.block_arena.specs.Blocks.{IsBlockLen};
 ghost use Rattle.outside.specs.Names.{Written};
 ghost use Rattle.query_plan.specs.Rules.{KeepsQuery};
-ghost use Rattle.spill_top.specs.Jobs.{AreAll, AreMade, AreWorks, IsBegun, IsCreated, IsDone, IsEnded, IsOpen, IsRead, KeepRefused, KeepsWorks, work_of};
+ghost use Rattle.spill_top.specs.Jobs.{work_of};
+ghost use Rattle.spill_top.specs.Steps.{AreAll, AreMade, AreSided, AreWorks, IsBegun, IsCreated, IsDone, IsEnded, IsOpen, IsRead, KeepRefused, KeepsWorks};
 ghost use Rattle.spill_top.specs.Reserving.{refusals_of};
 ghost use Rattle.spill_top.specs.Running.{AreApart, HaveEnded, Seen, Went, seen};
 
@@ -94,6 +95,7 @@ fn answer_all<S: Source, K: Sink>(
     requires queries { All KeepsQuery queries.now }
     requires block_len { IsBlockLen block_len }
     requires before { AreAll IsOpen (map (work_of S.remaining S.faults K.contents K.faults) jobs.old.items) }
+    requires sides { AreSided queries.now (map (work_of S.remaining S.faults K.contents K.faults) jobs.old.items) }
     ensures works { (start now : Seen) → AreWorks start now block_len queries.now (map (work_of S.remaining S.faults K.contents K.faults) jobs.old.items) → AreWorks start now block_len queries.now (map (work_of S.remaining S.faults K.contents K.faults) jobs.new.items) }
     ensures step { AreAll IsEnded (map (work_of S.remaining S.faults K.contents K.faults) jobs.new.items) }
     ensures refused { KeepRefused (map (work_of S.remaining S.faults K.contents K.faults) jobs.old.items) (map (work_of S.remaining S.faults K.contents K.faults) jobs.new.items) }
@@ -108,6 +110,7 @@ fn answer_all<S: Source, K: Sink>(
 fn close_all<I: Inputs, K: Sink>(queries: &[Query], jobs: &mut Vec<Job<I::Src, K>>, inputs: &mut I)
     requires len { length queries.now ≡ vec_len jobs.old }
     requires before { AreAll IsEnded (map (work_of I.Src.remaining I.Src.faults K.contents K.faults) jobs.old.items) }
+    requires sides { AreSided queries.now (map (work_of I.Src.remaining I.Src.faults K.contents K.faults) jobs.old.items) }
     ensures works { (written : List ℕ → Option Written) (created : List ℕ → Bool) (writes : List ℕ → ℕ) → KeepsWorks (seen (I.bytes_at inputs.old) (I.faults_at inputs.old) written created writes) (seen (I.bytes_at inputs.new) (I.faults_at inputs.new) written created writes) queries.now (map (work_of I.Src.remaining I.Src.faults K.contents K.faults) jobs.old.items) (map (work_of I.Src.remaining I.Src.faults K.contents K.faults) jobs.new.items) }
     ensures step { AreAll IsRead (map (work_of I.Src.remaining I.Src.faults K.contents K.faults) jobs.new.items) }
     ensures refused { KeepRefused (map (work_of I.Src.remaining I.Src.faults K.contents K.faults) jobs.old.items) (map (work_of I.Src.remaining I.Src.faults K.contents K.faults) jobs.new.items) }

@@ -2,10 +2,13 @@
 
 ghost use Rattle.std.specs.Prelude.{◌≡◌, ℕ, Bool, false, true, IsSome, List, Option, option_map, unwrap_or};
 ghost use Rattle.block_arena.specs.Blocks.{IsBlockLen};
-ghost use Rattle.outside.specs.Names.{Written};
+ghost use Rattle.outside.specs.Counts.{NoneFell};
+ghost use Rattle.outside.specs.Names.{AllStay, TakesFaults, Written};
 ghost use Rattle.query_plan.specs.Rules.{KeepsQuery};
+ghost use Rattle.query_run.specs.Both.{faults_in};
 ghost use Rattle.spill_top.specs.Endings.{is_answer};
-ghost use Rattle.spill_top.specs.Jobs.{IsBegun, IsCreated, IsDone, IsEnded, IsOpen, IsRead, IsWork, KeepsWork, work_of};
+ghost use Rattle.spill_top.specs.Jobs.{HasSides, IsWork, KeepsWork, work_of};
+ghost use Rattle.spill_top.specs.Steps.{IsBegun, IsCreated, IsDone, IsEnded, IsOpen, IsRead};
 ghost use Rattle.spill_top.specs.Running.{Seen, Went, WentAt, seen};
 
 use crate::ending::Ending;
@@ -38,7 +41,7 @@ pub(crate) fn create<S: Source, O: Outputs>(
     }
 }
 
-// Opens the input, unless the query has ended.
+// Opens the inputs, the left one first, unless the query has ended. One that can't be opened ends it.
 pub(crate) fn open<I: Inputs, K: Sink>(query: &Query, job: &mut Job<I::Src, K>, inputs: &mut I)
     requires begun { IsCreated (work_of I.Src.remaining I.Src.faults K.contents K.faults job.old) }
     ensures work { (written : List ℕ → Option Written) (created : List ℕ → Bool) (writes : List ℕ → ℕ) → KeepsWork (seen (I.bytes_at inputs.old) (I.faults_at inputs.old) written created writes) (seen (I.bytes_at inputs.new) (I.faults_at inputs.new) written created writes) query.now (work_of I.Src.remaining I.Src.faults K.contents K.faults job.old) (work_of I.Src.remaining I.Src.faults K.contents K.faults job.new) }
@@ -49,13 +52,21 @@ pub(crate) fn open<I: Inputs, K: Sink>(query: &Query, job: &mut Job<I::Src, K>, 
     if job.ended.is_some() {
         return;
     }
-    match inputs.open(query.left.file.as_str()) {
-        Ok(left) => let_go(mem::replace(&mut job.left, Some(left))),
-        Err(_) => {
-            let side = Side::Left;
-            job.ended = Some(Ending::Stopped(QueryErr::SourceFault { side }));
-        }
-    }
+    let Ok(left) = inputs.open(query.left.file.as_str()) else {
+        let side = Side::Left;
+        job.ended = Some(Ending::Stopped(QueryErr::SourceFault { side }));
+        return;
+    };
+    let_go(mem::replace(&mut job.left, Some(left)));
+    let Some(right) = &query.right else {
+        return;
+    };
+    let Ok(right) = inputs.open(right.file.as_str()) else {
+        let side = Side::Right;
+        job.ended = Some(Ending::Stopped(QueryErr::SourceFault { side }));
+        return;
+    };
+    let_go(mem::replace(&mut job.right, Some(right)));
 }
 
 // Runs the query, unless it has ended.
@@ -68,6 +79,7 @@ pub(crate) fn answer<S: Source, K: Sink>(
     requires query { KeepsQuery query.now }
     requires block_len { IsBlockLen block_len }
     requires open { IsOpen (work_of S.remaining S.faults K.contents K.faults job.old) }
+    requires sides { HasSides query.now (work_of S.remaining S.faults K.contents K.faults job.old) }
     ensures work { (start now : Seen) → IsWork start now block_len query.now (work_of S.remaining S.faults K.contents K.faults job.old) → IsWork start now block_len query.now (work_of S.remaining S.faults K.contents K.faults job.new) }
     ensures step { IsEnded (work_of S.remaining S.faults K.contents K.faults job.new) }
     ensures refused { job.new.refused ≡ job.old.refused }
@@ -81,22 +93,35 @@ pub(crate) fn answer<S: Source, K: Sink>(
     let Some(sink) = &mut job.sink else {
         unreachable!();
     };
-    match run_over(alloc, query, block_len, left, sink) {
+    match run_over(alloc, query, block_len, left, &mut job.right, sink) {
         Ok(lines) => job.ended = Some(Ending::Lines(lines)),
         Err(e) => job.ended = Some(Ending::Stopped(e)),
     }
 }
 
-// Gives the source back.
+// Gives the sources back, the left one first.
 pub(crate) fn close<I: Inputs, K: Sink>(query: &Query, job: &mut Job<I::Src, K>, inputs: &mut I)
     requires begun { IsEnded (work_of I.Src.remaining I.Src.faults K.contents K.faults job.old) }
+    requires sides { HasSides query.now (work_of I.Src.remaining I.Src.faults K.contents K.faults job.old) }
     ensures work { (written : List ℕ → Option Written) (created : List ℕ → Bool) (writes : List ℕ → ℕ) → KeepsWork (seen (I.bytes_at inputs.old) (I.faults_at inputs.old) written created writes) (seen (I.bytes_at inputs.new) (I.faults_at inputs.new) written created writes) query.now (work_of I.Src.remaining I.Src.faults K.contents K.faults job.old) (work_of I.Src.remaining I.Src.faults K.contents K.faults job.new) }
     ensures step { IsRead (work_of I.Src.remaining I.Src.faults K.contents K.faults job.new) }
     ensures refused { job.new.refused ≡ job.old.refused }
     ensures went { (written : List ℕ → Option Written) (created : List ℕ → Bool) (writes : List ℕ → ℕ) → Went (seen (I.bytes_at inputs.old) (I.faults_at inputs.old) written created writes) (seen (I.bytes_at inputs.new) (I.faults_at inputs.new) written created writes) }
 {
-    if let Some(left) = job.left.take() {
-        inputs.close(query.left.file.as_str(), left);
+    give_back(query.left.file.as_str(), job.left.take(), inputs);
+    if let Some(right) = &query.right {
+        give_back(right.file.as_str(), job.right.take(), inputs);
+    }
+}
+
+// Gives back the source of a file, if it is there.
+fn give_back<I: Inputs>(file: &str, source: Option<I::Src>, inputs: &mut I)
+    ensures takes { TakesFaults (faults_in I.Src.faults source) (I.faults_at inputs.old file.now) (I.faults_at inputs.new file.now) }
+    ensures kept { AllStay (I.bytes_at inputs.old) (I.bytes_at inputs.new) }
+    ensures never_falls { NoneFell (I.faults_at inputs.old) (I.faults_at inputs.new) }
+{
+    if let Some(source) = source {
+        inputs.close(file, source);
     }
 }
 

@@ -2,9 +2,12 @@ use crate::spill_top;
 use crate::words::{Command, read_words};
 use outside::{MemInputs, MemOutputs, MemSink, MemSlot, OpenGate};
 use std::alloc::{AllocError, Global};
+use std::process::Abort;
 use std::test::Fail;
 
+mod joins;
 mod plans;
+mod runs;
 
 // A run of the top call: the file `in.csv`, if it is there, in chunks of 5 bytes with these reads
 // failing, and a report with these writes failing.
@@ -110,20 +113,28 @@ fn a_row_weighs_at_most_a_page(rt: HostRuntime) -> Result<(), Fail> {
 }
 
 #[test]
+fn words_that_are_no_command_are_refused(rt: HostRuntime) -> Result<(), Fail> {
+    let rows = [
+        Run::words(&[]),
+        Run::words(&["frob"]),
+        Run::words(&["count", "in.csv"]),
+        Run::words(&["count", "-x", "k"]),
+        Run::words(&["count", "in.csv", ""]),
+        Run::words(&["count", "in.csv", "k", "k"]),
+        Run::words(&["selfcheck", "1", "2", "0", "4"]),
+    ];
+    for run in rows {
+        let (status, said) = run.outcome(rt.alloc())?;
+        assert_eq!(rt; said.as_slice(), b"1 words\n".as_slice());
+        assert_eq!(rt; status, 1);
+    }
+    Ok(())
+}
+
+#[test]
 fn a_refusal_says_its_cause(rt: HostRuntime) -> Result<(), Fail> {
     let rows = [
-        (Run::words(&[]), 1, b"1 words\n".as_slice()),
-        (Run::words(&["frob"]), 1, b"1 words\n"),
-        (Run::words(&["count", "in.csv"]), 1, b"1 words\n"),
-        (Run::words(&["count", "-x", "k"]), 1, b"1 words\n"),
-        (Run::words(&["count", "in.csv", ""]), 1, b"1 words\n"),
-        (Run::words(&["count", "in.csv", "k", "k"]), 1, b"1 words\n"),
-        (
-            Run::words(&["selfcheck", "1", "2", "0", "4"]),
-            1,
-            b"1 words\n",
-        ),
-        (Run::count(b""), 4, b"4 header left\n"),
+        (Run::count(b""), 4, b"4 header left\n".as_slice()),
         (Run::count(b"x\na\n"), 4, b"4 header left\n"),
         (Run::count(b"k,k\na,b\n"), 4, b"4 header left\n"),
         (Run::count(b"k,v\na,1\nb\n"), 4, b"4 csv left 2\n"),
@@ -177,10 +188,26 @@ fn to_self_check(start: u32, rows: u32, groups: u32, blocks: u32) -> Option<Comm
     })
 }
 
+// What words are read as.
+fn check_words<R: Abort + AllocGlobal>(
+    rt: &R,
+    words: &[&str],
+    command: Option<Command>,
+) -> Result<(), Fail> {
+    let owned = owned(rt.alloc(), words)?;
+    assert_eq!(rt;
+        read_words(rt.alloc(), owned.as_slice())?,
+        command,
+        "{words:?}"
+    );
+    Ok(())
+}
+
+const MOST: &str = "2147483647";
+
 #[test]
 fn words_are_one_of_three_commands(rt: HostRuntime) -> Result<(), Fail> {
-    const MOST: &str = "2147483647";
-    let rows: [(&[&str], Option<Command>); 32] = [
+    let rows: [(&[&str], Option<Command>); 7] = [
         (&["count", "in.csv", "k"], to_count("in.csv", "k")),
         (&["count", "count", "a=b"], to_count("count", "a=b")),
         (&["run", "p.toml"], to_run("p.toml")),
@@ -197,39 +224,44 @@ fn words_are_one_of_three_commands(rt: HostRuntime) -> Result<(), Fail> {
             &["selfcheck", "10", "200", "30", "4"],
             to_self_check(10, 200, 30, 4),
         ),
-        (&[], None),
-        (&["count"], None),
-        (&["count", "in.csv"], None),
-        (&["count", "in.csv", "k", "k"], None),
-        (&["run"], None),
-        (&["run", "p.toml", "p.toml"], None),
-        (&["selfcheck", "1", "2", "3"], None),
-        (&["selfcheck", "1", "2", "3", "4", "5"], None),
-        (&["frob", "in.csv", "k"], None),
-        (&["Count", "in.csv", "k"], None),
-        (&["coun", "in.csv", "k"], None),
-        (&["help"], None),
-        (&["help", "count"], None),
-        (&["--help"], None),
-        (&["run", "-h"], None),
-        (&["run", "--"], None),
-        (&["count", "-", "k"], None),
-        (&["count", "in.csv", ""], None),
-        (&["", "in.csv", "k"], None),
-        (&["selfcheck", "1", "2", "0", "4"], None),
-        (&["selfcheck", "1", "2", "3", "262145"], None),
-        (&["selfcheck", "2147483648", "2", "3", "4"], None),
-        (&["selfcheck", "01", "2", "3", "4"], None),
-        (&["selfcheck", "1", "+2", "3", "4"], None),
-        (&["selfcheck", "1", "2x", "3", "4"], None),
     ];
     for (words, command) in rows {
-        let owned = owned(rt.alloc(), words)?;
-        assert_eq!(rt;
-            read_words(rt.alloc(), owned.as_slice())?,
-            command,
-            "{words:?}"
-        );
+        check_words(&rt, words, command)?;
+    }
+    Ok(())
+}
+
+#[test]
+fn other_words_are_no_command(rt: HostRuntime) -> Result<(), Fail> {
+    let rows: [&[&str]; 25] = [
+        &[],
+        &["count"],
+        &["count", "in.csv"],
+        &["count", "in.csv", "k", "k"],
+        &["run"],
+        &["run", "p.toml", "p.toml"],
+        &["selfcheck", "1", "2", "3"],
+        &["selfcheck", "1", "2", "3", "4", "5"],
+        &["frob", "in.csv", "k"],
+        &["Count", "in.csv", "k"],
+        &["coun", "in.csv", "k"],
+        &["help"],
+        &["help", "count"],
+        &["--help"],
+        &["run", "-h"],
+        &["run", "--"],
+        &["count", "-", "k"],
+        &["count", "in.csv", ""],
+        &["", "in.csv", "k"],
+        &["selfcheck", "1", "2", "0", "4"],
+        &["selfcheck", "1", "2", "3", "262145"],
+        &["selfcheck", "2147483648", "2", "3", "4"],
+        &["selfcheck", "01", "2", "3", "4"],
+        &["selfcheck", "1", "+2", "3", "4"],
+        &["selfcheck", "1", "2x", "3", "4"],
+    ];
+    for words in rows {
+        check_words(&rt, words, None)?;
     }
     Ok(())
 }

@@ -24,7 +24,8 @@ use std::alloc::Global;
 ///
 /// `run PLAN` runs the queries of a plan's file and appends a line for each of them, but for those that find no memory. The
 /// least reservations are asked first, in the order of the plan. Then outputs are created, inputs are opened, queries run one
-/// after the other, and sources and then sinks are given back, each in this order. The status is the first that is not 0.
+/// after the other, and sources and then sinks are given back, each in this order; of a query that joins the left input comes
+/// first. A query whose output or input can't be opened does not run. The status is the first that is not 0.
 ///
 /// After a fault of the report nothing more is written to it.
 ///
@@ -38,7 +39,7 @@ use std::alloc::Global;
 /// | 5 | a row weighs more than a page has bytes |
 /// | 6 | the least reservation of a query was refused |
 /// | 9 | an output, or the report, could not be written |
-/// | 10 | out of memory; when this comes is left open. A query that joins ends so too: joins are not run yet |
+/// | 10 | out of memory; when this comes is left open |
 pub fn spill_top<I: Inputs, O: Outputs, R: Sink, D: Slot, G: Gate>(
     alloc: Global,
     words: &[String],

@@ -1,9 +1,9 @@
-// Whole runs of plans.
+// Whole runs of plans whose queries group.
 
 use crate::spill_top;
 use crate::tests::owned;
+use crate::tests::runs::{Fails, File, NOWHERE, check, run_plan};
 use outside::{MemInputs, MemOutputs, MemSink, MemSlot, OpenGate};
-use std::alloc::Global;
 use std::process::Abort;
 use std::test::Fail;
 
@@ -47,297 +47,172 @@ agg = [{op = \"count\"}]
 left = {file = \"in.csv\", columns = [\"k:text\"]}
 ";
 
-// A plan with one line of it written anew, and a file `in.csv` in chunks of 5 bytes.
-#[derive(Clone, Copy)]
-struct Plan<'a> {
-    text: &'a str,
-    line: &'a str,
-    anew: &'a str,
-    file: Option<&'a [u8]>,
-}
+const ONE: File = ("in.csv", b"k,v\na,1\n", &[]);
 
-impl<'a> Plan<'a> {
-    fn sums(file: &'a [u8]) -> Plan<'a> {
-        Plan {
-            text: SUMS,
-            line: "",
-            anew: "",
-            file: Some(file),
-        }
-    }
+const THREE: File = ("in.csv", b"v,z,k\n+7,q,a\n-9,q,a\n007,q,b\n", &[]);
 
-    fn with(self, line: &'a str, anew: &'a str) -> Plan<'a> {
-        Plan { line, anew, ..self }
-    }
-}
+const GREAT: File = (
+    "in.csv",
+    b"k,v\na,9223372036854775807\na,9223372036854775807\n",
+    &[],
+);
 
-// What has to stand after a run. No bytes: the output was never created.
-#[derive(Drop)]
-struct Want<'a> {
-    status: u8,
-    report: &'a str,
-    outputs: &'a [(&'a str, Option<&'a str>)],
-}
+const TOO_GREAT: File = ("in.csv", b"k,v\na,1\na,9223372036854775808\n", &[]);
 
-// Where calls fail: reads of the input, writes and the ends of `out.csv`.
-#[derive(Clone, Copy)]
-struct Fails {
-    reads: &'static [u64],
-    writes: &'static [u64],
-    create: bool,
-    done: bool,
-    report: &'static [u64],
-}
+const EMPTY: File = ("in.csv", b"k,v\na,1\na,\n", &[]);
 
-const NOWHERE: Fails = Fails {
-    reads: &[],
-    writes: &[],
-    create: false,
-    done: false,
-    report: &[],
-};
+const NAMELESS: File = ("in.csv", b"z\n", &[]);
 
-fn check<R: Abort + AllocGlobal>(
+const BROKEN: File = ("in.csv", b"k,v\na,1\n", &[1]);
+
+// Only the rows below 5; and the least and the greatest in place of the sums.
+const SMALL: (&str, &str) = (
+    "\"v:int\"]",
+    "\"v:int\"]\nfilter = [{column = \"v\", op = \"<\", value = 5}]",
+);
+
+const ENDS: (&str, &str) = (
+    "{op = \"count\"}, {op = \"sum\", column = \"v\"}",
+    "{op = \"min\", column = \"v\"}, {op = \"max\", column = \"v\"}",
+);
+
+// Runs the sums over these files, where the plan has these texts written anew, and sees what becomes of it.
+fn check_sums<R: Abort + AllocGlobal>(
     rt: &R,
-    plan: Plan,
-    fails: Fails,
-    want: &Want,
+    edits: &[(&str, &str)],
+    files: &[File],
+    status: u8,
+    report: &str,
+    output: Option<&str>,
 ) -> Result<(), Fail> {
-    let alloc = rt.alloc();
-    let text = if plan.line.is_empty() {
-        String::from_str(alloc, plan.text)?
-    } else {
-        plan.text.replace(alloc, plan.line, plan.anew)?
-    };
-    let mut inputs = MemInputs::new(alloc)?;
-    inputs.put("plan.toml", text.as_bytes(), 100, &[])?;
-    if let Some(bytes) = plan.file {
-        inputs.put("in.csv", bytes, 5, fails.reads)?;
-    }
-    let mut outputs = MemOutputs::new(alloc)?;
-    outputs.fail("out.csv", fails.writes)?;
-    outputs.refuse("out.csv", fails.create, fails.done)?;
-    let mut report = MemSink::new(alloc, 7, fails.report)?;
-    let mut slots = slots(alloc)?;
-    assert!(rt; slots.len() == 2000);
-    let words = owned(alloc, &["run", "plan.toml"])?;
-    let status = spill_top(
-        alloc,
-        words.as_slice(),
-        &mut inputs,
-        &mut outputs,
-        &mut report,
-        &mut slots,
-        &OpenGate,
-    );
-    assert_eq!(rt; report.bytes(), want.report.as_bytes());
-    assert_eq!(rt; status, want.status);
-    for (name, bytes) in want.outputs {
-        let wanted = match bytes {
-            Some(text) => Some(text.as_bytes()),
-            None => None,
-        };
-        assert_eq!(rt; outputs.bytes(name), wanted, "{name}");
-        assert_eq!(rt;
-            outputs.is_whole(name),
-            want.status == 0 || *name == "one.csv",
-            "{name}"
-        );
-    }
-    assert_eq!(rt; slots.len(), 2000);
+    let ended = run_plan(rt, SUMS, edits, files, NOWHERE)?;
+    let outputs = [("out.csv", output, status == 0)];
+    check(rt, &ended, status, report, &outputs);
     Ok(())
 }
 
-fn slots(alloc: Global) -> Result<Vec<MemSlot>, Fail> {
-    let mut slots = Vec::new(alloc);
-    for _ in 0..2000u32 {
-        slots.push(MemSlot::new(alloc, &[])?)?;
-    }
-    Ok(slots)
-}
-
 #[test]
-fn a_plan_ends_with_an_answer_or_its_cause(rt: HostRuntime) -> Result<(), Fail> {
-    const THREE: &[u8] = b"v,z,k\n+7,q,a\n-9,q,a\n007,q,b\n";
-    const SMALL: &[u8] = b"k,v\na,1\n";
-    let rows: [(Plan, u8, &str, &str); 13] = [
+fn a_query_ends_with_its_answer(rt: HostRuntime) -> Result<(), Fail> {
+    let rows: [(&[(&str, &str)], &[File], &str, &str); 4] = [
         (
-            Plan::sums(b"k,v\na,9223372036854775807\na,9223372036854775807\n"),
-            0,
+            &[],
+            &[GREAT],
             "query 1: 0 lines 1\n",
             "k,count,sum(v)\na,2,18446744073709551614\n",
         ),
         (
-            Plan::sums(b"k,v\na,1\na,9223372036854775808\n"),
-            4,
-            "query 1: 4 field left 2 v\n",
-            "",
-        ),
-        (
-            Plan::sums(b"k,v\na,1\na,\n"),
-            4,
-            "query 1: 4 field left 2 v\n",
-            "",
-        ),
-        (
-            Plan::sums(THREE),
-            0,
+            &[],
+            &[THREE],
             "query 1: 0 lines 2\n",
             "k,count,sum(v)\nb,1,7\na,2,-2\n",
         ),
         (
-            Plan::sums(THREE).with(
-                "\"v:int\"]",
-                "\"v:int\"]\nfilter = [{column = \"v\", op = \"<\", value = 5}]",
-            ),
-            0,
+            &[SMALL],
+            &[THREE],
             "query 1: 0 lines 1\n",
             "k,count,sum(v)\na,1,-9\n",
         ),
         (
-            Plan::sums(THREE).with(
-                "{op = \"count\"}, {op = \"sum\", column = \"v\"}",
-                "{op = \"min\", column = \"v\"}, {op = \"max\", column = \"v\"}",
-            ),
-            0,
+            &[ENDS],
+            &[THREE],
             "query 1: 0 lines 2\n",
             "k,min(v),max(v)\nb,7,7\na,-9,7\n",
         ),
-        (
-            Plan {
-                file: None,
-                ..Plan::sums(b"")
-            },
-            3,
-            "query 1: 3 input left\n",
-            "",
-        ),
-        (
-            Plan::sums(SMALL).with("blocks = 64\n", ""),
-            2,
-            "2 plan MissingKey blocks\n",
-            "-",
-        ),
-        (
-            Plan::sums(SMALL).with("writers = 0", "writers = 9"),
-            2,
-            "2 plan Limit writers\n",
-            "-",
-        ),
-        (
-            Plan::sums(SMALL).with("quota = 700", "quota = 2001"),
-            2,
-            "2 plan QuotaSum query\n",
-            "-",
-        ),
-        (
-            Plan {
-                text: "x =",
-                ..Plan::sums(SMALL)
-            },
-            2,
-            "2 plan Syntax\n",
-            "-",
-        ),
-        (
-            Plan::sums(SMALL).with("limit = 16384", "limit = 5119"),
-            6,
-            "query 1: 6 reservation query 5120 5119\n",
-            "-",
-        ),
-        (Plan::sums(b"z\n"), 4, "query 1: 4 header left\n", ""),
     ];
-    for (plan, status, report, output) in rows {
-        let outputs = [("out.csv", if output == "-" { None } else { Some(output) })];
-        let want = Want {
-            status,
-            report,
-            outputs: &outputs,
-        };
-        check(&rt, plan, NOWHERE, &want)?;
+    for (edits, files, report, output) in rows {
+        check_sums(&rt, edits, files, 0, report, Some(output))?;
     }
     Ok(())
 }
 
 #[test]
-fn a_fault_is_the_cause_of_its_query(rt: HostRuntime) -> Result<(), Fail> {
-    const ANSWER: &str = "k,count,sum(v)\na,1,1\n";
-    let rows: [(Fails, u8, &str, Option<&str>); 5] = [
+fn an_input_is_refused_and_its_output_is_empty(rt: HostRuntime) -> Result<(), Fail> {
+    let rows: [(&[File], u8, &str); 4] = [
+        (&[TOO_GREAT], 4, "query 1: 4 field left 2 v\n"),
+        (&[EMPTY], 4, "query 1: 4 field left 2 v\n"),
+        (&[NAMELESS], 4, "query 1: 4 header left\n"),
+        (&[], 3, "query 1: 3 input left\n"),
+    ];
+    for (files, status, report) in rows {
+        check_sums(&rt, &[], files, status, report, Some(""))?;
+    }
+    Ok(())
+}
+
+#[test]
+fn what_is_refused_before_its_inputs_has_no_output(rt: HostRuntime) -> Result<(), Fail> {
+    let rows = [
+        (("blocks = 64\n", ""), 2, "2 plan MissingKey blocks\n"),
+        (("writers = 0", "writers = 9"), 2, "2 plan Limit writers\n"),
         (
-            Fails {
-                reads: &[1],
-                ..NOWHERE
-            },
-            3,
-            "query 1: 3 input left\n",
-            Some(""),
+            ("quota = 700", "quota = 2001"),
+            2,
+            "2 plan QuotaSum query\n",
         ),
+        (("[[query]]", "x ="), 2, "2 plan Syntax\n"),
         (
-            Fails {
-                writes: &[0],
-                ..NOWHERE
-            },
-            9,
-            "query 1: 9 output\n",
-            Some(""),
-        ),
-        (
-            Fails {
-                create: true,
-                ..NOWHERE
-            },
-            9,
-            "query 1: 9 output\n",
-            None,
-        ),
-        (
-            Fails {
-                done: true,
-                ..NOWHERE
-            },
-            9,
-            "query 1: 9 output\n",
-            Some(ANSWER),
-        ),
-        (
-            Fails {
-                report: &[1],
-                ..NOWHERE
-            },
-            9,
-            "query 1",
-            Some(ANSWER),
+            ("limit = 16384", "limit = 5119"),
+            6,
+            "query 1: 6 reservation query 5120 5119\n",
         ),
     ];
-    for (fails, status, report, output) in rows {
-        let whole = fails.report.len() == 1;
-        let outputs = [("out.csv", output)];
-        let outputs: &[(&str, Option<&str>)] = if whole { &[] } else { &outputs };
-        let want = Want {
-            status,
-            report,
-            outputs,
-        };
-        check(&rt, Plan::sums(b"k,v\na,1\n"), fails, &want)?;
+    for (edit, status, report) in rows {
+        check_sums(&rt, &[edit], &[ONE], status, report, None)?;
+    }
+    Ok(())
+}
+
+// A call that fails: the first write of the output, its creation, its end, or the second write of the report.
+const WRITE: Fails = Fails {
+    writes: &[0],
+    ..NOWHERE
+};
+
+const CREATE: Fails = Fails {
+    create: true,
+    ..NOWHERE
+};
+
+const DONE: Fails = Fails {
+    done: true,
+    ..NOWHERE
+};
+
+const REPORT: Fails = Fails {
+    report: &[1],
+    ..NOWHERE
+};
+
+#[test]
+fn a_fault_is_the_cause_of_its_query(rt: HostRuntime) -> Result<(), Fail> {
+    const ANSWER: &str = "k,count,sum(v)\na,1,1\n";
+    let rows: [(File, Fails, u8, &str, Option<&str>); 5] = [
+        (BROKEN, NOWHERE, 3, "query 1: 3 input left\n", Some("")),
+        (ONE, WRITE, 9, "query 1: 9 output\n", Some("")),
+        (ONE, CREATE, 9, "query 1: 9 output\n", None),
+        (ONE, DONE, 9, "query 1: 9 output\n", Some(ANSWER)),
+        (ONE, REPORT, 9, "query 1", Some(ANSWER)),
+    ];
+    for (file, fails, status, report, output) in rows {
+        let ended = run_plan(&rt, SUMS, &[], &[file], fails)?;
+        let whole = !fails.report.is_empty();
+        let outputs = [("out.csv", output, whole)];
+        check(&rt, &ended, status, report, &outputs);
     }
     Ok(())
 }
 
 #[test]
 fn a_query_whose_reservation_is_refused_has_no_output(rt: HostRuntime) -> Result<(), Fail> {
-    let plan = Plan {
-        text: TWO,
-        ..Plan::sums(b"k\na\nb\na\nd\nc\n")
-    };
-    let want = Want {
-        status: 6,
-        report: "query 1: 0 lines 4\nquery 2: 6 reservation root 1280 768\n",
-        outputs: &[
-            ("one.csv", Some("k,count\nb,1\nd,1\nc,1\na,2\n")),
-            ("two.csv", None),
-        ],
-    };
-    check(&rt, plan, NOWHERE, &want)
+    const FILE: File = ("in.csv", b"k\na\nb\na\nd\nc\n", &[]);
+    let ended = run_plan(&rt, TWO, &[], &[FILE], NOWHERE)?;
+    let report = "query 1: 0 lines 4\nquery 2: 6 reservation root 1280 768\n";
+    let outputs = [
+        ("one.csv", Some("k,count\nb,1\nd,1\nc,1\na,2\n"), true),
+        ("two.csv", None, false),
+    ];
+    check(&rt, &ended, 6, report, &outputs);
+    Ok(())
 }
 
 #[test]

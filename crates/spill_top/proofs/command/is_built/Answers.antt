@@ -1,4 +1,4 @@
-use Rattle.std.proofs.Common.{◌≡◌, ◌∙◌, ◌<◌, inl, inr, [], ap, codes, get_or, length, map, string_bytes, sym, rules, arith}
+use Rattle.std.proofs.Common.{◌≡◌, ◌∙◌, ◌<◌, inr, [], ap, codes, get_or, length, map, string_bytes, sym, rules, arith}
 use Rattle.std.specs.Str.{bytes_eq}
 use Rattle.std.proofs.lemmas.List.{get_or-map, length-map}
 use Rattle.spill_top.proofs.Counts.{not_three, not_two, three_other, two_other, two_run}

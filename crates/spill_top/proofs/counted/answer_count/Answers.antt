@@ -1,4 +1,4 @@
-use Rattle.std.proofs.Common.{◌≡◌, rules}
+use Rattle.std.proofs.Common.{rules}
 use Rattle.spill_top.specs.Headline.{IsCause}
 use Rattle.spill_top.specs.Words.{Command}
 use Rattle.spill_top.proofs.Causes.{fault_so, refuses_so, succeeds_so, why_is}

@@ -1,5 +1,5 @@
 use Rattle.std.proofs.Common.{length}
-use Rattle.spill_top.specs.Jobs.{AreClosed}
+use Rattle.spill_top.specs.Steps.{AreClosed}
 use Rattle.spill_top.proofs.job.discard.Given as goal
 
 abbrev pub invariant-loop-jobs : goal.invariant-loop-jobs

@@ -1,4 +1,4 @@
-use Rattle.std.proofs.Common.{◌≡◌, ◌≢◌, ◌≤◌, inl, inr, ℕ, List, IfSome, Ok, Err, length, refl, subst, rules, arith}
+use Rattle.std.proofs.Common.{◌≡◌, ◌≢◌, inl, inr, ℕ, List, Ok, Err, length, refl, subst, rules, arith}
 use Rattle.query_plan.specs.PlanOf.{plan_of}
 use Rattle.query_plan.specs.declared.error.PlanErr.TheVariants.{Memory}
 use Rattle.query_plan.specs.declared.plan.Query.{Query}
@@ -6,7 +6,7 @@ use Rattle.spill_top.specs.declared.ending.Ending.{Ending}
 use Rattle.spill_top.specs.Ran.{Reported, telling}
 use Rattle.spill_top.specs.Running.{Went, seen}
 use Rattle.spill_top.proofs.Apart.{apart_in_plan}
-use Rattle.spill_top.proofs.Grouped.{block_len_of}
+use Rattle.spill_top.proofs.Runnable.{block_len_of}
 use Rattle.spill_top.proofs.Plans.{plan_same}
 use Rattle.spill_top.proofs.ran.run.Goals as goal
 

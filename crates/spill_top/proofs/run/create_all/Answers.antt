@@ -1,8 +1,9 @@
-use Rattle.std.proofs.Common.{◌≡◌, ◌<◌, ◌≤◌, ℕ, Bool, List, Option, Some, length, refl, rules}
+use Rattle.std.proofs.Common.{◌≡◌, ◌<◌, ◌≤◌, Some, length, refl, rules}
 use Rattle.std.specs.List.{slice_get}
 use Rattle.std.proofs.lemmas.Option.{slice_get_read}
 use Rattle.spill_top.specs.Running.{seen}
-use Rattle.spill_top.specs.Jobs.{IsBegun, IsCreated, work_of}
+use Rattle.spill_top.specs.Jobs.{work_of}
+use Rattle.spill_top.specs.Steps.{IsBegun, IsCreated}
 use Rattle.spill_top.proofs.Loops.{going_all, going_call, going_first, kept_call}
 use Rattle.spill_top.proofs.Works.{went_on}
 use Rattle.spill_top.proofs.run.create_all.Goals as goal

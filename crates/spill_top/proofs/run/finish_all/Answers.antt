@@ -1,8 +1,9 @@
-use Rattle.std.proofs.Common.{◌≡◌, ◌<◌, ◌≤◌, ℕ, Bool, List, Option, Some, None, length, map, refl, rules}
+use Rattle.std.proofs.Common.{◌≡◌, ◌<◌, ◌≤◌, Some, None, length, map, refl, rules}
 use Rattle.std.specs.List.{slice_get}
 use Rattle.std.proofs.lemmas.Option.{slice_get_read}
 use Rattle.spill_top.specs.Running.{seen}
-use Rattle.spill_top.specs.Jobs.{IsRead, IsDone, work_of}
+use Rattle.spill_top.specs.Jobs.{work_of}
+use Rattle.spill_top.specs.Steps.{IsDone, IsRead}
 use Rattle.spill_top.proofs.Loops.{going_all, going_call, going_first, going_init, kept_call, went_nowhere}
 use Rattle.spill_top.proofs.Made.{made_at, made_call}
 use Rattle.spill_top.proofs.Works.{went_on}
@@ -39,7 +40,7 @@ loop-place-preserved g c =
       len = c.loop-place.invariant.len;
       going = going_call (work_of g.S.Source.remaining g.S.Source.faults g.O.Snk.Sink.contents g.O.Snk.Sink.faults) IsRead IsDone c.loop-place.place _ c.loop-place.jobs.items c.index_mut.result.now c.finish.new.job at c.finish.ensures.refused c.finish.ensures.step c.loop-place.invariant.going;
       made = made_call g.S.Source.remaining g.S.Source.faults g.O.Snk.Sink.contents g.O.Snk.Sink.faults (g.O.Outputs.is_created c.loop-place.outputs) (g.O.Outputs.is_created c.finish.new.outputs) c.args.queries.now c.loop-place.jobs.items c.loop-place.place c.finish.new.job
-          ((c.finish.ensures.went (λ name. None) (λ name. 0)).went.created) c.finish.ensures.step.2 c.loop-place.invariant.made;
+          ((c.finish.ensures.went (λ name. None) (λ name. 0)).went.created) c.finish.ensures.step.3 c.loop-place.invariant.made;
       works = λ files reads. kept_call (work_of g.S.Source.remaining g.S.Source.faults g.O.Snk.Sink.contents g.O.Snk.Sink.faults) (seen files reads (g.O.Outputs.written c.args.outputs.now) (g.O.Outputs.is_created c.args.outputs.now) (g.O.Outputs.faults_at c.args.outputs.now)) (seen files reads (g.O.Outputs.written c.loop-place.outputs) (g.O.Outputs.is_created c.loop-place.outputs) (g.O.Outputs.faults_at c.loop-place.outputs)) (seen files reads (g.O.Outputs.written c.finish.new.outputs) (g.O.Outputs.is_created c.finish.new.outputs) (g.O.Outputs.faults_at c.finish.new.outputs)) c.args.queries.now _ c.loop-place.jobs.items c.loop-place.place c.index-queries-place.result c.index_mut.result.now c.finish.new.job at_query at
           ((c.finish.ensures.went files reads).went) (λ j q at_q apart. (c.finish.ensures.went files reads).others q.output (λ same. apart (c.requires.apart j c.loop-place.place q c.index-queries-place.result at_q at_query same))) (c.loop-place.invariant.works files reads) (c.finish.ensures.work files reads);
       went = λ files reads. went_on (seen files reads (g.O.Outputs.written c.args.outputs.now) (g.O.Outputs.is_created c.args.outputs.now) (g.O.Outputs.faults_at c.args.outputs.now)) (seen files reads (g.O.Outputs.written c.loop-place.outputs) (g.O.Outputs.is_created c.loop-place.outputs) (g.O.Outputs.faults_at c.loop-place.outputs)) (seen files reads (g.O.Outputs.written c.finish.new.outputs) (g.O.Outputs.is_created c.finish.new.outputs) (g.O.Outputs.faults_at c.finish.new.outputs)) (c.loop-place.invariant.went files reads) ((c.finish.ensures.went files reads).went);

@@ -1,7 +1,7 @@
-use Rattle.std.proofs.Common.{◌≡◌, ℕ, Bool, List, Option, map, vec_len}
-use Rattle.outside.specs.Names.{Written}
-use Rattle.spill_top.specs.Running.{Seen, Went, seen}
-use Rattle.spill_top.specs.Jobs.{AreMade, IsRead, IsDone, KeepsWorks, work_of}
+use Rattle.std.proofs.Common.{◌≡◌, ℕ, List, Option, map, vec_len}
+use Rattle.spill_top.specs.Running.{Went, seen}
+use Rattle.spill_top.specs.Jobs.{work_of}
+use Rattle.spill_top.specs.Steps.{AreMade, IsDone, IsRead, KeepsWorks}
 use Rattle.spill_top.proofs.Loops.{Going}
 use Rattle.spill_top.proofs.run.finish_all.Given as goal
 

@@ -1,8 +1,9 @@
-use Rattle.std.proofs.Common.{◌≡◌, ◌<◌, ◌≤◌, ℕ, Bool, List, Option, Some, length, map, refl, rules}
+use Rattle.std.proofs.Common.{◌≡◌, ◌<◌, ◌≤◌, Some, length, map, refl, rules}
 use Rattle.std.specs.List.{slice_get}
 use Rattle.std.proofs.lemmas.Option.{slice_get_read}
 use Rattle.spill_top.specs.Running.{seen}
-use Rattle.spill_top.specs.Jobs.{IsCreated, IsOpen, work_of}
+use Rattle.spill_top.specs.Jobs.{work_of}
+use Rattle.spill_top.specs.Steps.{IsCreated, IsOpen}
 use Rattle.spill_top.proofs.Loops.{going_all, going_call, going_first, going_init, kept_call, went_nowhere}
 use Rattle.spill_top.proofs.Works.{went_on}
 use Rattle.spill_top.proofs.run.open_all.Goals as goal

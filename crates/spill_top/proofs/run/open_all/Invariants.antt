@@ -1,7 +1,8 @@
 use Rattle.std.proofs.Common.{◌≡◌, ℕ, Bool, List, Option, map, vec_len}
 use Rattle.outside.specs.Names.{Written}
-use Rattle.spill_top.specs.Running.{Seen, Went, seen}
-use Rattle.spill_top.specs.Jobs.{IsCreated, IsOpen, KeepsWorks, work_of}
+use Rattle.spill_top.specs.Running.{Went, seen}
+use Rattle.spill_top.specs.Jobs.{work_of}
+use Rattle.spill_top.specs.Steps.{IsCreated, IsOpen, KeepsWorks}
 use Rattle.spill_top.proofs.Loops.{Going}
 use Rattle.spill_top.proofs.run.open_all.Given as goal
 

@@ -1,12 +1,12 @@
-use Rattle.std.proofs.Common.{◌≡◌, ◌∙◌, ◌*◌, ◌≤◌, All, IsSome, Some, List, length, map, vec_capacity, vec_len, refl, sym, subst, ap, rules, arith}
+use Rattle.std.proofs.Common.{◌≡◌, ◌∙◌, ◌*◌, ◌≤◌, All, IsSome, Some, List, length, map, vec_capacity, vec_len, sym, subst, ap, rules, arith}
 use Rattle.std.proofs.lemmas.List.Elements.{All-same}
 use Rattle.query_plan.specs.Rules.{KeepsQuery}
 use Rattle.query_plan.specs.declared.plan.Query.{Query}
 use Rattle.spill_top.specs.declared.ending.Ending.{Ending}
-use Rattle.spill_top.specs.Jobs.{AreAll, IsBegun, begun, work_of}
+use Rattle.spill_top.specs.Jobs.{begun}
 use Rattle.spill_top.specs.Reserving.{refusals}
 use Rattle.spill_top.specs.Running.{AreApart, HaveEnded, seen}
-use Rattle.spill_top.proofs.Phases.{all_begun, all_closed, all_have_ended, as_many, begun_len, made_so, ran_so, went_thrice, works_begin}
+use Rattle.spill_top.proofs.Phases.{all_begun, all_closed, all_have_ended, as_many, begun_len, made_so, ran_so, sided_so, sided_then, went_thrice, works_begin}
 use Rattle.spill_top.proofs.run.run_queries.Goals as goal
 
 pub create_all-requires-clause-len : goal.create_all-requires-clause-len
@@ -45,12 +45,26 @@ answer_all-requires-clause-queries g c =
     let queries_are : c.as_slice-queries.result.now ≡ c.args.plan.now.queries = search rules in
     subst (λ (queries : List Query). All KeepsQuery queries) (sym queries_are) c.requires.queries
 
+pub answer_all-requires-clause-sides : goal.answer_all-requires-clause-sides
+answer_all-requires-clause-sides g c =
+    let first : c.in_ok-jobs.jobs.items ≡ map begun (refusals c.args.plan.now.block_len (c.args.plan.now.blocks * c.args.plan.now.block_len) c.as_slice-queries.result.now) = search rules in
+    let are = works_begin g.I.Src.Source.remaining g.I.Src.Source.faults g.O.Snk.Sink.contents g.O.Snk.Sink.faults (seen (g.I.Inputs.bytes_at c.args.inputs.now) (g.I.Inputs.faults_at c.args.inputs.now) (g.O.Outputs.written c.args.outputs.now) (g.O.Outputs.is_created c.args.outputs.now) (g.O.Outputs.faults_at c.args.outputs.now)) c.args.plan.now.block_len (c.args.plan.now.blocks * c.args.plan.now.block_len) c.as_slice-queries.result.now c.in_ok-jobs.jobs.items first in
+    sided_so g.I.Src.Source.remaining g.I.Src.Source.faults g.O.Snk.Sink.contents g.O.Snk.Sink.faults (seen (g.I.Inputs.bytes_at c.args.inputs.now) (g.I.Inputs.faults_at c.args.inputs.now) (g.O.Outputs.written c.args.outputs.now) (g.O.Outputs.is_created c.args.outputs.now) (g.O.Outputs.faults_at c.args.outputs.now)) (seen (g.I.Inputs.bytes_at c.args.inputs.now) (g.I.Inputs.faults_at c.args.inputs.now) (g.O.Outputs.written c.create_all.new.outputs) (g.O.Outputs.is_created c.create_all.new.outputs) (g.O.Outputs.faults_at c.create_all.new.outputs)) (seen (g.I.Inputs.bytes_at c.open_all.new.inputs) (g.I.Inputs.faults_at c.open_all.new.inputs) (g.O.Outputs.written c.create_all.new.outputs) (g.O.Outputs.is_created c.create_all.new.outputs) (g.O.Outputs.faults_at c.create_all.new.outputs)) c.args.plan.now.block_len c.as_slice-queries.result.now c.in_ok-jobs.jobs.items c.create_all.new.jobs.items c.open_all.new.jobs.items
+    are (c.create_all.ensures.works (g.I.Inputs.bytes_at c.args.inputs.now) (g.I.Inputs.faults_at c.args.inputs.now)) (c.open_all.ensures.works (g.O.Outputs.written c.create_all.new.outputs) (g.O.Outputs.is_created c.create_all.new.outputs) (g.O.Outputs.faults_at c.create_all.new.outputs))
+
 pub close_all-requires-clause-len : goal.close_all-requires-clause-len
 close_all-requires-clause-len g c κs within =
     let first : c.in_ok-jobs.jobs.items ≡ map begun (refusals c.args.plan.now.block_len (c.args.plan.now.blocks * c.args.plan.now.block_len) c.as_slice-queries.result.now) = search rules in
     let many = begun_len c.args.plan.now.block_len (c.args.plan.now.blocks * c.args.plan.now.block_len) c.as_slice-queries.result.now c.in_ok-jobs.jobs.items first in
     let len0 : length c.as_slice-queries.result.now ≡ vec_len c.in_ok-jobs.jobs = search (rules, many) in
     len0 ∙ (sym c.create_all.ensures.len ∙ (sym c.open_all.ensures.len ∙ sym c.answer_all.ensures.len))
+
+pub close_all-requires-clause-sides : goal.close_all-requires-clause-sides
+close_all-requires-clause-sides g c κs within =
+    let first : c.in_ok-jobs.jobs.items ≡ map begun (refusals c.args.plan.now.block_len (c.args.plan.now.blocks * c.args.plan.now.block_len) c.as_slice-queries.result.now) = search rules in
+    let are = works_begin g.I.Src.Source.remaining g.I.Src.Source.faults g.O.Snk.Sink.contents g.O.Snk.Sink.faults (seen (g.I.Inputs.bytes_at c.args.inputs.now) (g.I.Inputs.faults_at c.args.inputs.now) (g.O.Outputs.written c.args.outputs.now) (g.O.Outputs.is_created c.args.outputs.now) (g.O.Outputs.faults_at c.args.outputs.now)) c.args.plan.now.block_len (c.args.plan.now.blocks * c.args.plan.now.block_len) c.as_slice-queries.result.now c.in_ok-jobs.jobs.items first in
+    sided_then g.I.Src.Source.remaining g.I.Src.Source.faults g.O.Snk.Sink.contents g.O.Snk.Sink.faults (seen (g.I.Inputs.bytes_at c.args.inputs.now) (g.I.Inputs.faults_at c.args.inputs.now) (g.O.Outputs.written c.args.outputs.now) (g.O.Outputs.is_created c.args.outputs.now) (g.O.Outputs.faults_at c.args.outputs.now)) (seen (g.I.Inputs.bytes_at c.args.inputs.now) (g.I.Inputs.faults_at c.args.inputs.now) (g.O.Outputs.written c.create_all.new.outputs) (g.O.Outputs.is_created c.create_all.new.outputs) (g.O.Outputs.faults_at c.create_all.new.outputs)) (seen (g.I.Inputs.bytes_at c.open_all.new.inputs) (g.I.Inputs.faults_at c.open_all.new.inputs) (g.O.Outputs.written c.create_all.new.outputs) (g.O.Outputs.is_created c.create_all.new.outputs) (g.O.Outputs.faults_at c.create_all.new.outputs)) c.args.plan.now.block_len c.as_slice-queries.result.now c.in_ok-jobs.jobs.items c.create_all.new.jobs.items c.open_all.new.jobs.items c.answer_all.new.jobs.items
+    are (c.create_all.ensures.works (g.I.Inputs.bytes_at c.args.inputs.now) (g.I.Inputs.faults_at c.args.inputs.now)) (c.open_all.ensures.works (g.O.Outputs.written c.create_all.new.outputs) (g.O.Outputs.is_created c.create_all.new.outputs) (g.O.Outputs.faults_at c.create_all.new.outputs)) (c.answer_all.ensures.works (seen (g.I.Inputs.bytes_at c.args.inputs.now) (g.I.Inputs.faults_at c.args.inputs.now) (g.O.Outputs.written c.args.outputs.now) (g.O.Outputs.is_created c.args.outputs.now) (g.O.Outputs.faults_at c.args.outputs.now)) (seen (g.I.Inputs.bytes_at c.open_all.new.inputs) (g.I.Inputs.faults_at c.open_all.new.inputs) (g.O.Outputs.written c.create_all.new.outputs) (g.O.Outputs.is_created c.create_all.new.outputs) (g.O.Outputs.faults_at c.create_all.new.outputs)))
 
 pub finish_all-requires-clause-len : goal.finish_all-requires-clause-len
 finish_all-requires-clause-len g c κs within =

@@ -1,12 +1,18 @@
-use Rattle.std.proofs.Common.{◌≡◌, Some, None, subst, rules}
-use Rattle.spill_top.specs.Jobs.{IsWork, Work, opened, work_of}
-use Rattle.spill_top.proofs.Called.{answered_so, stopped_so}
+use Rattle.std.proofs.Common.{rules}
+use Rattle.spill_top.specs.Jobs.{opened}
+use Rattle.spill_top.proofs.Answered.{job_answered, job_stopped, sides_there}
 use Rattle.spill_top.proofs.steps.answer.Goals as goal
+
+pub run_over-requires-clause-right : goal.run_over-requires-clause-right
+run_over-requires-clause-right g c =
+    sides_there g.S.Source.remaining g.S.Source.faults g.K.Sink.contents g.K.Sink.faults c.args.query.now c.args.job.now c.in-Some.left c.requires.sides (search rules) (search rules)
 
 pub returns-in-Ok-clause-work : goal.returns-in-Ok-clause-work
 returns-in-Ok-clause-work g c = λ start now is.
-    answered_so start now c.args.block_len c.in-Ok.lines c.args.query.now c.args.job.now.refused (opened (g.S.Source.remaining c.in-Some.left) (g.S.Source.faults c.in-Some.left)) _ (opened (g.K.Sink.contents c.in-Some-sink.sink) (g.K.Sink.faults c.in-Some-sink.sink)) (opened (g.K.Sink.contents c.run_over.new.sink) (g.K.Sink.faults c.run_over.new.sink)) c.in-Ok.ensures.answer (search (rules, is))
+    job_answered g.S.Source.remaining g.S.Source.faults start now c.args.block_len c.args.query.now c.args.job.now.refused (opened (g.S.Source.remaining c.in-Some.left) (g.S.Source.faults c.in-Some.left)) (opened (g.S.Source.remaining c.run_over.new.left) (g.S.Source.faults c.run_over.new.left)) (opened (g.K.Sink.contents c.in-Some-sink.sink) (g.K.Sink.faults c.in-Some-sink.sink)) (opened (g.K.Sink.contents c.run_over.new.sink) (g.K.Sink.faults c.run_over.new.sink))
+    c.args.job.now.right c.run_over.new.right c.run_over.ensures.right c.in-Ok.lines c.in-Ok.ensures.answer c.in-Ok.ensures.lines (search (rules, is))
 
 pub returns-in-Err-clause-work : goal.returns-in-Err-clause-work
 returns-in-Err-clause-work g c = λ start now is.
-    stopped_so start now c.args.block_len c.args.query.now c.args.job.now.refused _ _ _ (opened (g.K.Sink.contents c.run_over.new.sink) (g.K.Sink.faults c.run_over.new.sink)) c.in-Err.e c.in-Err.ensures.cause c.in-Err.ensures.part (search (rules, is))
+    job_stopped g.S.Source.remaining g.S.Source.faults start now c.args.block_len c.args.query.now c.args.job.now.refused (opened (g.S.Source.remaining c.in-Some.left) (g.S.Source.faults c.in-Some.left)) (opened (g.S.Source.remaining c.run_over.new.left) (g.S.Source.faults c.run_over.new.left)) (opened (g.K.Sink.contents c.in-Some-sink.sink) (g.K.Sink.faults c.in-Some-sink.sink)) (opened (g.K.Sink.contents c.run_over.new.sink) (g.K.Sink.faults c.run_over.new.sink))
+    c.args.job.now.right c.run_over.new.right c.run_over.ensures.right c.in-Err.e c.in-Err.ensures.cause c.in-Err.ensures.part (search (rules, is))

@@ -1,4 +1,4 @@
-use Rattle.std.proofs.Common.{◌≡◌, Some, map, string_bytes, vec_len, refl, rules}
+use Rattle.std.proofs.Common.{◌≡◌, Some, map, string_bytes, refl, rules}
 use Rattle.spill_top.specs.Headline.{Counted}
 use Rattle.spill_top.specs.Ran.{telling}
 use Rattle.spill_top.specs.Running.{seen}

@@ -1,12 +1,12 @@
--- A query that keeps the rules of a plan and does not join is one that groups.
-use Rattle.std.proofs.Common.{◌≡◌, ◌≢◌, ◌∙◌, ◌⊎◌, ◌<◌, ◌≤◌, ◌*◌, ◌/◌, ◌%◌, ◌+◌, ◌-◌, ◌^◌, inl, inr, ℕ, zero, suc, true, List, [], ◌∷◌, Option, Some, None, All, IsSomeAnd, is_some, false, IfErr, Result, Err, count_ones, length, map, refl, sym, subst, ap, arith, lit<}
-use Rattle.std.specs.Prelude.{◌==◌, IfSome, not}
+-- A query that keeps the rules of a plan is one that runs.
+use Rattle.std.proofs.Common.{◌≡◌, ◌≢◌, ◌∙◌, ◌⊎◌, ◌<◌, ◌≤◌, ◌*◌, ◌/◌, ◌%◌, ◌+◌, ◌-◌, ◌^◌, inl, inr, ℕ, zero, suc, true, List, [], ◌∷◌, Option, Some, None, All, IsSomeAnd, false, IfErr, Result, Err, codes, count_ones, length, refl, sym, subst, ap, arith, lit<}
+use Rattle.std.specs.Prelude.{◌==◌, IfSome, not, option_map}
 use Rattle.std.specs.List.{slice_get}
 use Rattle.std.specs.Int.{IsPowerOfTwo, is_power_of_two}
 use Rattle.std.proofs.Math.Nat.{pow-le-pow_right, pow-suc}
 use Rattle.std.proofs.lemmas.Bool.{cases_lt, false≢true, ne_eqb}
 use Rattle.std.proofs.lemmas.Bool.Decides.{eqb_tells}
-use Rattle.std.proofs.lemmas.List.Elements.{All-head, All-tail, All-weaker}
+use Rattle.std.proofs.lemmas.List.Elements.{All-append, All-cons, All-head, All-nil, All-tail, All-weaker}
 use Rattle.std.proofs.lemmas.Nat.{ones_le_self, zero_from_ones}
 use lib.Count.{ones_step}
 use Rattle.block_arena.specs.Blocks.{IsBlockLen}
@@ -18,13 +18,13 @@ use Rattle.row_codec.specs.declared.values.Kind.{Kind}
 use Rattle.row_codec.specs.declared.values.Kind.TheVariants.{Int, Wide}
 use Rattle.store_api.specs.Conditions.{IsBlockCount}
 use Rattle.store_api.specs.Shapes.{IsJoinShape, IsKeyColumn, IsOverInts, IsShape}
-use Rattle.store_api.specs.declared.shapes.Shape.{Shape}
-use Rattle.query_plan.specs.Rules.{HasKind, IsPowerWithin, KeepsQuery, KeepsSide, columns_over, row_columns_of}
+use Rattle.query_plan.specs.Columns.{behind, with_front}
+use Rattle.query_plan.specs.Rules.{HasKind, IsPair, IsPowerWithin, KeepsQuery, KeepsSide, columns_of_side, columns_over, row_columns_of}
 use Rattle.query_plan.specs.Rules.{IsOverInts as IsOver}
-use Rattle.query_plan.specs.Sizes.{groups}
+use Rattle.query_plan.specs.Sizes.{groups, joins}
 use Rattle.query_plan.specs.declared.plan.Query.{Query}
 use Rattle.query_plan.specs.declared.plan.SidePlan.{SidePlan}
-use Rattle.query_run.specs.Plans.{IsAbout, IsGrouping, IsRunnable, IsSide, join_shape_of, kinds_of_columns, shape_of}
+use Rattle.query_run.specs.Plans.{IsAbout, IsRunnable, IsSide, join_shape_of, joined_columns, kinds_of_columns, row_columns, shape_of}
 
 -- ---- powers of two
 
@@ -109,6 +109,9 @@ block_len_of n is =
 
 -- ---- columns
 
+abbrev IsNarrow : Column → Type 0
+IsNarrow column = column.kind ≢ Wide
+
 about : (found : Option Column) (k : Kind) → IsSomeAnd found (λ column. column.kind ≡ k) → IsSomeAnd found (λ column. k ≡ column.kind)
 about None k is = is
 about (Some column) k is = sym is
@@ -124,10 +127,15 @@ side_is side keeps =
           (λ pred is. about (slice_get side.columns pred.column) (kind_of pred.value) is) side.preds keeps.preds;
     }
 
-key-at : (columns : List Column) (place : ℕ) → place < length columns → All (λ (column : Column). column.kind ≢ Wide) columns → IsKeyColumn (kinds_of_columns columns) place
+key-at : (columns : List Column) (place : ℕ) → place < length columns → All IsNarrow columns → IsKeyColumn (kinds_of_columns columns) place
 key-at [] place less narrow = absurd (omega (arith, less))
-key-at (column ∷ columns) zero less narrow = (column.kind, refl, All-head (λ (c : Column). c.kind ≢ Wide) column columns narrow)
-key-at (column ∷ columns) (suc place) less narrow = key-at columns place (omega (arith, less)) (All-tail (λ (c : Column). c.kind ≢ Wide) column columns narrow)
+key-at (column ∷ columns) zero less narrow = (column.kind, refl, All-head IsNarrow column columns narrow)
+key-at (column ∷ columns) (suc place) less narrow = key-at columns place (omega (arith, less)) (All-tail IsNarrow column columns narrow)
+
+key-of : (columns : List Column) (place : ℕ) (k : Kind) → HasKind columns place k → All IsNarrow columns → IsKeyColumn (kinds_of_columns columns) place
+key-of [] place k is narrow = absurd is
+key-of (column ∷ columns) zero k is narrow = (column.kind, refl, All-head IsNarrow column columns narrow)
+key-of (column ∷ columns) (suc place) k is narrow = key-of columns place k is (All-tail IsNarrow column columns narrow)
 
 int-at : (columns : List Column) (place : ℕ) → HasKind columns place Int → slice_get (kinds_of_columns columns) place ≡ Some Int
 int-at [] place is = absurd is
@@ -140,56 +148,89 @@ over-ints columns (Sum place) is = int-at columns place is
 over-ints columns (Min place) is = int-at columns place is
 over-ints columns (Max place) is = int-at columns place is
 
-shape-of : (query : Query) → KeepsQuery query → query.right ≡ None → IsShape (record { kinds = kinds_of_columns query.left.columns; keys = query.group; aggs = query.aggs })
-shape-of query keeps alone =
-    let inside : All (λ (place : ℕ). place < length query.left.columns) query.group = rw alone at keeps.inside in
-    let aggs : All (IsOver query.left.columns) query.aggs = rw alone at keeps.aggs in
-    let many = keeps.groups.1 (rw alone refl) in
-    record {
-      some = omega (arith, many);
-      distinct = keeps.distinct;
-      keys = All-weaker (λ (place : ℕ). place < length query.left.columns) (IsKeyColumn (kinds_of_columns query.left.columns))
-          (λ place less. key-at query.left.columns place less keeps.left.kinds) query.group inside;
-      aggs = All-weaker (IsOver query.left.columns) (IsOverInts (kinds_of_columns query.left.columns)) (over-ints query.left.columns) query.aggs aggs;
-    }
+some-kinds : (columns : List Column) → 1 ≤ length columns → 0 < length (kinds_of_columns columns)
+some-kinds [] some = absurd (omega (arith, some))
+some-kinds (column ∷ columns) some = omega arith
 
-same-shape : (query : Query) → query.right ≡ None → record { kinds = kinds_of_columns query.left.columns; keys = query.group; aggs = query.aggs } ≡ shape_of query
-same-shape query alone = rw alone refl
+-- ---- the row that is grouped
 
-pub groups_of : (query : Query) → KeepsQuery query → query.right ≡ None → IsGrouping query
-groups_of query keeps alone = record {
-  paged = block_count query.page_blocks keeps.page_blocks;
-  alone = alone;
-  left = side_is query.left keeps.left;
-  shape = subst (λ (shape : Shape). IsShape shape) (same-shape query alone) (shape-of query keeps alone);
-  keys = keeps.groups.0;
-  aggs = keeps.few;
-}
+narrow-behind : (front : List ℕ) (columns : List Column) → All IsNarrow columns → All IsNarrow (behind front columns)
+narrow-behind front [] narrow = All-nil IsNarrow
+narrow-behind front (column ∷ columns) narrow =
+    All-cons IsNarrow (with_front front column) (behind front columns) (All-head IsNarrow column columns narrow) (narrow-behind front columns (All-tail IsNarrow column columns narrow))
+
+narrow-row : (left : List Column) (right : Option SidePlan) → All IsNarrow left → IfSome right KeepsSide → All IsNarrow (joined_columns left right)
+narrow-row left None narrow keeps = narrow
+narrow-row left (Some right) narrow keeps =
+    All-append IsNarrow (behind (codes "left.") left) (behind (codes "right.") right.columns) (narrow-behind (codes "left.") left narrow) (narrow-behind (codes "right.") right.columns keeps.kinds)
+
+same-columns : (left : List Column) (right : Option SidePlan) → columns_over left (option_map (λ side. side.columns) right) ≡ joined_columns left right
+same-columns left None = refl
+same-columns left (Some right) = refl
+
+-- ---- whether a query groups
 
 some-groups : (n : ℕ) → 0 < n → not (n == 0) ≡ true
 some-groups zero some = absurd (omega (arith, some))
 some-groups (suc n) some = rw (ne_eqb (suc n) 0 (λ same. cc)) refl
 
--- so it may run
-pub runs_alone : (query : Query) → KeepsQuery query → query.right ≡ None → IsRunnable query
-runs_alone query keeps alone =
-    let grouping = groups_of query keeps alone in
-    let groups-it : groups query ≡ true = some-groups (length query.group) grouping.shape.some in
+groups-some : (n : ℕ) → not (n == 0) ≡ true → 0 < n
+groups-some n is =
+    elim (eqb_tells n 0) [
+      | inl none ↦ (let never : not (n == 0) ≡ false = rw none.0 refl in absurd (false≢true (sym never ∙ is)))
+      | inr some ↦ (let apart = some.1 in omega (arith, apart))
+    ]
+
+no-groups : (keys : List ℕ) → not (length keys == 0) ≡ false → keys ≡ []
+no-groups [] none = refl
+no-groups (key ∷ keys) none = let some = some-groups (length (key ∷ keys)) (omega arith) in absurd (false≢true (sym none ∙ some))
+
+-- ---- the query
+
+does-some : (query : Query) → KeepsQuery query → (right : Option SidePlan) → query.right ≡ right → (groups query ≡ true) ⊎ (joins query ≡ true)
+does-some query keeps None is = let many = keeps.groups.1 (rw is refl) in inl (some-groups (length query.group) (omega (arith, many)))
+does-some query keeps (Some right) is = inr (rw is refl)
+
+right-is : (right : Option SidePlan) → IfSome right KeepsSide → IfSome right IsSide
+right-is None keeps = tt
+right-is (Some right) keeps = side_is right keeps
+
+join-is : (query : Query) (right : Option SidePlan) → KeepsSide query.left → IfSome right KeepsSide → All (IsPair query.left.columns (columns_of_side right)) query.on
+    → IfSome right (λ side. IsJoinShape (join_shape_of query side))
+join-is query None keeps_left keeps pairs = tt
+join-is query (Some right) keeps_left keeps pairs = record {
+  left = some-kinds query.left.columns keeps_left.columns.0;
+  right = some-kinds right.columns keeps.columns.0;
+  on = All-weaker (IsPair query.left.columns right.columns) (λ pair. IsKeyColumn (kinds_of_columns query.left.columns) pair.0 × IsKeyColumn (kinds_of_columns right.columns) pair.1)
+      (λ pair is. (key-of query.left.columns pair.0 is.0 is.1 keeps_left.kinds, key-of right.columns pair.1 is.0 is.2 keeps.kinds)) query.on pairs;
+}
+
+shape-is : (query : Query) → KeepsQuery query → groups query ≡ true → IsShape (shape_of query)
+shape-is query keeps is =
+    let same : row_columns_of query ≡ row_columns query = same-columns query.left.columns query.right in
+    let narrow : All IsNarrow (row_columns query) = narrow-row query.left.columns query.right keeps.left.kinds keeps.right in
     record {
-      paged = grouping.paged;
-      left = grouping.left;
-      right = subst (λ (o : Option SidePlan). IfSome o IsSide) (sym alone) tt;
-      join = subst (λ (o : Option SidePlan). IfSome o (λ right. IsJoinShape (join_shape_of query right))) (sym alone) tt;
-      does = inl groups-it;
-      shape = λ _. grouping.shape;
-      keys = grouping.keys;
-      aggs = grouping.aggs;
-      none = λ is. absurd (false≢true (sym is ∙ groups-it));
+      some = groups-some (length query.group) is;
+      distinct = keeps.distinct;
+      keys = All-weaker (λ (place : ℕ). place < length (row_columns query)) (IsKeyColumn (kinds_of_columns (row_columns query)))
+          (λ place less. key-at (row_columns query) place less narrow) query.group
+          (subst (λ (columns : List Column). All (λ (place : ℕ). place < length columns) query.group) same keeps.inside);
+      aggs = All-weaker (IsOver (row_columns query)) (IsOverInts (kinds_of_columns (row_columns query))) (over-ints (row_columns query)) query.aggs
+          (subst (λ (columns : List Column). All (IsOver columns) query.aggs) same keeps.aggs);
     }
 
-pub none_here : {X : Type 0} (o : Option X) → is_some o ≡ false → o ≡ None
-none_here None is = refl
-none_here (Some x) is = absurd (false≢true (sym is))
+pub runnable : (query : Query) → KeepsQuery query → IsRunnable query
+runnable query keeps = record {
+  paged = block_count query.page_blocks keeps.page_blocks;
+  left = side_is query.left keeps.left;
+  right = right-is query.right keeps.right;
+  join = join-is query query.right keeps.left keeps.right keeps.pairs;
+  does = does-some query keeps query.right refl;
+  shape = shape-is query keeps;
+  keys = keeps.groups.0;
+  aggs = keeps.few;
+  none = λ none. keeps.none (no-groups query.group none);
+}
 
 pub if_err_is : {T E : Type 0} (result : Result T E) (e : E) (P : E → Type 0) → result ≡ Err e → P e → IfErr result P
 if_err_is result e P is holds = subst (λ r. IfErr r P) (sym is) holds

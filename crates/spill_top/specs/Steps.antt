@@ -1,0 +1,55 @@
+-- The queries of a plan in turn: what stands of all of them, and how far they are. About private fields.
+use Rattle.std.specs.Prelude.{◌≡◌, ℕ, Bool, true, List, Some, None, All, IsSome, map, slice_get}
+use Rattle.query_plan.specs.declared.plan.Query.{Query}
+use Rattle.spill_top.specs.declared.job.Job.{Job}
+use Rattle.spill_top.specs.Running.{Seen}
+use Rattle.spill_top.specs.Jobs.{HasSides, IsWork, Work}
+
+-- what stands of all queries
+abbrev pub AreWorks : Seen → Seen → ℕ → List Query → List Work → Type 0
+AreWorks start now block_len queries works =
+    (place : ℕ) (query : Query) (w : Work) → slice_get queries place ≡ Some query → slice_get works place ≡ Some w → IsWork start now block_len query w
+
+-- calls for them left it so, whenever the plan started
+abbrev pub KeepsWorks : Seen → Seen → List Query → List Work → List Work → Type 0
+KeepsWorks old now queries before after = (start : Seen) (block_len : ℕ) → AreWorks start old block_len queries before → AreWorks start now block_len queries after
+
+-- how the least reservations were refused stays
+abbrev pub KeepRefused : List Work → List Work → Type 0
+KeepRefused before after = map (λ w. w.refused) after ≡ map (λ w. w.refused) before
+
+-- a fact of each
+abbrev pub AreAll : (Work → Type 0) → List Work → Type 0
+AreAll Fact works = (place : ℕ) (w : Work) → slice_get works place ≡ Some w → Fact w
+
+-- the steps: nothing is open; the output is; the inputs are; it has ended; the inputs are back; all is
+abbrev pub IsBegun : Work → Type 0
+IsBegun w = (w.left ≡ None) × (w.right ≡ None) × (w.output ≡ None)
+
+abbrev pub IsCreated : Work → Type 0
+IsCreated w = (w.left ≡ None) × (w.right ≡ None) × (w.ended ≡ None → IsSome w.output)
+
+abbrev pub IsOpen : Work → Type 0
+IsOpen w = w.ended ≡ None → IsSome w.left × IsSome w.output
+
+abbrev pub IsEnded : Work → Type 0
+IsEnded w = IsSome w.ended
+
+abbrev pub IsRead : Work → Type 0
+IsRead w = IsSome w.ended × (w.left ≡ None) × (w.right ≡ None)
+
+abbrev pub IsDone : Work → Type 0
+IsDone w = IsSome w.ended × (w.left ≡ None) × (w.right ≡ None) × (w.output ≡ None)
+
+-- nothing is open for any of them
+abbrev pub AreClosed : {S K : Type 0} → List (Job S K) → Type 0
+AreClosed jobs = All (λ job. (job.left ≡ None) × (job.right ≡ None) × (job.sink ≡ None)) jobs
+
+-- the names of the outputs that are open were created
+abbrev pub AreMade : (List ℕ → Bool) → List Query → List Work → Type 0
+AreMade created queries works =
+    (place : ℕ) (query : Query) (w : Work) → slice_get queries place ≡ Some query → slice_get works place ≡ Some w → IsSome w.output → created query.output ≡ true
+
+-- the right inputs that are open are those of queries that join
+abbrev pub AreSided : List Query → List Work → Type 0
+AreSided queries works = (place : ℕ) (query : Query) (w : Work) → slice_get queries place ≡ Some query → slice_get works place ≡ Some w → HasSides query w
