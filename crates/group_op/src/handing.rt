@@ -142,6 +142,7 @@ fn finish_op<St: Store, E: Emit<St>>(
     ensures kept { OnOk result ((start : Option (List Entry)) → (rows : List (List Value)) → Keeps start rows (operator c.now shape.now parts.old table.old) (St.holds store.old) (St.signs store.old) → EnteredEvents (HoldsGroups shape.now (page_of (operator c.now shape.now parts.old table.old) (St.holds store.old)) rows (over parts.new (St.holds store.new) (St.signs store.new))) start (St.signs store.new).trail) }
     ensures op { IsOperator (operator c.now shape.now parts.new table.new) (St.holds store.new) (St.signs store.new) }
     ensures leaves { LeavesWith c.now.tracker (E.client emit.old) (E.slots emit.old (St.holds store.old)) (E.slots emit.new (St.holds store.new)) (over parts.old (St.holds store.old) (St.signs store.old)) (over parts.new (St.holds store.new) (St.signs store.new)) }
+    ensures quiet { table.old ≡ None → (parts.new ≡ parts.old) × (table.new ≡ None) × (St.signs store.new ≡ St.signs store.old) }
     ensures emitter { StandsStill (E.admits emit.old) (E.admits emit.new) (E.client emit.old) (E.client emit.new) (E.faults emit.old) (E.faults emit.new) (E.took emit.old (St.holds store.old)) (E.took emit.new (St.holds store.new)) (St.holds store.new) }
     ensures want { E.client emit.old ≡ None → IfErr result (IsWantOf parts.old.page_blocks (slots_in (over parts.old (St.holds store.old) (St.signs store.old)))) }
     ensures cause { IfErr result (CameOf (E.faults emit.old) (E.faults emit.new) (St.signs store.old) (St.signs store.new)) }
@@ -183,6 +184,8 @@ impl GroupOp {
         ensures op { IsOperator self.new (St.holds store.new) (St.signs store.new) }
         ensures leaves { LeavesWith self.old.client.tracker (E.client emit.old) (E.slots emit.old (St.holds store.old)) (E.slots emit.new (St.holds store.new)) (over self.old.parts (St.holds store.old) (St.signs store.old)) (over self.new.parts (St.holds store.new) (St.signs store.new)) }
         ensures emitter { StandsStill (E.admits emit.old) (E.admits emit.new) (E.client emit.old) (E.client emit.new) (E.faults emit.old) (E.faults emit.new) (E.took emit.old (St.holds store.old)) (E.took emit.new (St.holds store.new)) (St.holds store.new) }
+        // Where nothing was fed, there is no table, and the store isn't called.
+        ensures quiet { self.old.table ≡ None → (self.new ≡ self.old) × (St.signs store.new ≡ St.signs store.old) }
         ensures cause { IfErr result (CameBeside self.old.parts.page_blocks (slots_in (over self.old.parts (St.holds store.old) (St.signs store.old))) (E.client emit.old) (E.faults emit.old) (E.faults emit.new) (St.signs store.old) (St.signs store.new)) }
     {
         finish_op(

@@ -18,13 +18,13 @@ use Rattle.tuple_stream.specs.Families.{AllClosed, AreDisjoint, AreShaped, Famil
 use Rattle.tuple_stream.specs.FamilyCalls.{HaveLaid, HoldAll, shares}
 use Rattle.tuple_stream.specs.Trails.{EnteredEvents, Left, PinsFirst, all_left, creates_in, left_by, left_page, rested, resting_in}
 use Rattle.tuple_stream.proofs.FamilyHolds.{hold_all}
-use Rattle.tuple_stream.proofs.PinsFirst.{both_pin_first}
+use Rattle.tuple_stream.proofs.PinsFirst.{both_pin_first, has_pin_front}
 use Rattle.tuple_stream.proofs.Sinces.{since_joined}
 use Rattle.partition_stack.specs.Sides.{OwnBoth}
 use Rattle.partition_stack.specs.Stack.{over}
 use Rattle.partition_stack.proofs.ListPlaces.{front_or_behind}
 use Rattle.partition_stack.proofs.Sides.{disjoint_back}
-use Rattle.join_op.specs.Joining.{Both, IsBetween}
+use Rattle.join_op.specs.Joining.{Both, IsBetween, PinsBefore}
 use Rattle.join_op.specs.Laid.{HoldsSides, LeavesSide}
 use Rattle.join_op.specs.Operator.{KeepsSide, LaidBoth}
 use Rattle.join_op.specs.Rested.{KeepsRested}
@@ -119,8 +119,8 @@ module _ (t : ℕ) (shape : JoinShape) (lefts rights : List (List Value)) (start
   abbrev g : Family
   g = over b.right b.held b.signs
 
-  module _ (p q : Family) (after : Option (List Entry)) (closed_p : AllClosed p) (closed_q : AllClosed q) where
-    together : (first later : List Event) → LaidBoth f g first → PinsFirst later → HoldsSides shape lefts rights p q (first ++ later)
+  module _ (still : Type 0) (p q : Family) (after : Option (List Entry)) (closed_p : AllClosed p) (closed_q : AllClosed q) where
+    together : (first later : List Event) → LaidBoth f g first → PinsBefore still later → HoldsSides shape lefts rights p q still (first ++ later)
     together first later laid pins =
         let left_holds = holds t (left_side shape) lefts f laid.lefts own.left_shaped between.left_closed keeps.left laid.left laid.left_made sixteen in
         let right_holds = holds t (right_side shape) rights g laid.rights own.right_shaped between.right_closed keeps.right laid.right laid.right_made (between.many ∙ sixteen) in
@@ -139,16 +139,16 @@ module _ (t : ℕ) (shape : JoinShape) (lefts rights : List (List Value)) (start
               let two = right_holds.pages name in
               let all = both name in
               omega (arith, sum, one, two, all));
-          reads = record { first = pins; pinned = inr (closed_p, closed_q) };
+          reads = record { first = pins.first; pinned = elim pins.pinned [ inl pin ↦ inl pin | inr so ↦ inr (closed_p, closed_q, so) ] };
         }
 
-    pub holds_sides : EnteredEvents PinsFirst b.signs.trail after → EnteredEvents (HoldsSides shape lefts rights p q) start after
-    holds_sides pins = since_joined (LaidBoth f g) PinsFirst (HoldsSides shape lefts rights p q) start b.signs.trail after together keeps.laid pins
+    pub holds_sides : EnteredEvents (PinsBefore still) b.signs.trail after → EnteredEvents (HoldsSides shape lefts rights p q still) start after
+    holds_sides pins = since_joined (LaidBoth f g) (PinsBefore still) (HoldsSides shape lefts rights p q still) start b.signs.trail after together keeps.laid pins
 
 -- later events that pin a page before one is left, where none is pinned
-pub holds_more : (shape : JoinShape) (lefts rights : List (List Value)) (p q k r : Family) (t0 t1 t2 : Option (List Entry)) → AllClosed k → AllClosed r → EnteredEvents (HoldsSides shape lefts rights p q) t0 t1 → EnteredEvents PinsFirst t1 t2 → EnteredEvents (HoldsSides shape lefts rights k r) t0 t2
-holds_more shape lefts rights p q k r t0 t1 t2 closed_k closed_r was next =
-    since_joined (HoldsSides shape lefts rights p q) PinsFirst (HoldsSides shape lefts rights k r) t0 t1 t2
+pub holds_more : (still : Type 0) (shape : JoinShape) (lefts rights : List (List Value)) (p q k r : Family) (t0 t1 t2 : Option (List Entry)) → AllClosed k → AllClosed r → EnteredEvents (HoldsSides shape lefts rights p q still) t0 t1 → EnteredEvents PinsFirst t1 t2 → EnteredEvents (HoldsSides shape lefts rights k r still) t0 t2
+holds_more still shape lefts rights p q k r t0 t1 t2 closed_k closed_r was next =
+    since_joined (HoldsSides shape lefts rights p q still) PinsFirst (HoldsSides shape lefts rights k r still) t0 t1 t2
     (λ x y held pins. record {
       lefts_laid = held.lefts_laid;
       rights_laid = held.rights_laid;
@@ -157,6 +157,9 @@ holds_more shape lefts rights p q k r t0 t1 t2 closed_k closed_r was next =
       left = held.left;
       right = held.right;
       once = held.once;
-      reads = record { first = both_pin_first held.later y held.reads.first pins; pinned = inr (closed_k, closed_r) };
+      reads = record {
+        first = both_pin_first held.later y held.reads.first pins;
+        pinned = elim held.reads.pinned [ inl pin ↦ inl (has_pin_front held.later y pin) | inr closed ↦ inr (closed_k, closed_r, closed.2) ];
+      };
     })
     was next

@@ -18,7 +18,7 @@ use Rattle.tuple_stream.proofs.PinsFirst.{both_pin_first, has_pin_back, has_pin_
 use Rattle.partition_stack.specs.Stack.{Stack}
 use Rattle.join_op.specs.Handing.{Emitted}
 use Rattle.join_op.specs.Chunks.{stored_pairs}
-use Rattle.join_op.specs.Joining.{Advances, AreShallow, Both, HasGoneOn, HasNoRowsAt, SharesPairs, ShowBoth, both}
+use Rattle.join_op.specs.Joining.{Advances, AreShallow, Both, HasGoneOn, HasNoRowsAt, PinsBefore, SharesPairs, ShowBoth, both}
 use Rattle.join_op.specs.Stored.{left_side, rows_in}
 use Rattle.join_op.proofs.Advances.{advances_popped}
 use Rattle.join_op.proofs.Counts.{no_right}
@@ -63,12 +63,12 @@ module _ (shape : JoinShape) (was now : List (List Value) → Type 0) (lefts rig
 
 -- ---- what was pinned
 
-pub gone_on_popped : (levels now : List ℕ) (at : ℕ) (t0 t1 : Option (List Entry)) → now ≡ take at levels → AreShallow levels → EnteredEvents PinsFirst t0 t1 → EnteredEvents (HasGoneOn now) t0 t1
-gone_on_popped levels now at t0 t1 is shallow first =
-    since_so PinsFirst (HasGoneOn now) t0 t1 (λ x pins. record { first = pins; pinned = inr (subst AreShallow (sym is) (All-take (λ level. level < 2) at levels shallow)) }) first
+pub gone_on_popped : (still : Type 0) (levels now : List ℕ) (at : ℕ) (t0 t1 : Option (List Entry)) → still → now ≡ take at levels → AreShallow levels → EnteredEvents PinsFirst t0 t1 → EnteredEvents (HasGoneOn now still) t0 t1
+gone_on_popped still levels now at t0 t1 so is shallow first =
+    since_so PinsFirst (HasGoneOn now still) t0 t1 (λ x pins. record { first = pins; pinned = inr (subst AreShallow (sym is) (All-take (λ level. level < 2) at levels shallow), so) }) first
 
-pub gone_on_pinned : (now : List ℕ) (t0 t1 : Option (List Entry)) → EnteredEvents PinsAgain t0 t1 → EnteredEvents (HasGoneOn now) t0 t1
-gone_on_pinned now t0 t1 pins = since_so PinsAgain (HasGoneOn now) t0 t1 (λ x again. record { first = again.first; pinned = inl again.pinned }) pins
+pub gone_on_pinned : (still : Type 0) (now : List ℕ) (t0 t1 : Option (List Entry)) → EnteredEvents PinsAgain t0 t1 → EnteredEvents (HasGoneOn now still) t0 t1
+gone_on_pinned still now t0 t1 pins = since_so PinsAgain (HasGoneOn now still) t0 t1 (λ x again. record { first = again.first; pinned = inl again.pinned }) pins
 
 -- a partition of a level above the first isn't of those
 pub not_shallow : (levels : List ℕ) (at level : ℕ) → AreShallow levels → slice_get levels at ≡ Some level → 1 < level → ⊥
@@ -79,18 +79,21 @@ not_shallow (l ∷ levels) zero level shallow there high =
     omega (arith, low, is, high)
 not_shallow (l ∷ levels) (suc at) level shallow there high = not_shallow levels at level (All-tail (λ level. level < 2) l levels shallow) there high
 
-pub gone_on_none : (levels : List ℕ) (trail : Option (List Entry)) → AreShallow levels → EnteredEvents (HasGoneOn levels) trail trail
-gone_on_none levels trail shallow = since_now (HasGoneOn levels) trail (record { first = tt; pinned = inr shallow })
+pub gone_on_none : (still : Type 0) (levels : List ℕ) (trail : Option (List Entry)) → still → AreShallow levels → EnteredEvents (HasGoneOn levels still) trail trail
+gone_on_none still levels trail so shallow = since_now (HasGoneOn levels still) trail (record { first = tt; pinned = inr (shallow, so) })
 
-pub gone_on_more : (m n : List ℕ) (t0 t1 t2 : Option (List Entry)) → EnteredEvents (HasGoneOn m) t0 t1 → Prolongs t1 t2 → (AreShallow m → EnteredEvents (HasGoneOn n) t1 t2) → EnteredEvents (HasGoneOn n) t0 t2
-gone_on_more m n t0 t1 t2 was more next =
-    pinned_or (AreShallow m) (HasGoneOn m) (HasGoneOn n) (HasGoneOn n) t0 t1 t2 (λ x on. on.pinned)
+pub gone_on_more : (still next all : Type 0) (m n : List ℕ) (t0 t1 t2 : Option (List Entry)) → (still → next → all) → EnteredEvents (HasGoneOn m still) t0 t1 → Prolongs t1 t2 → (AreShallow m → EnteredEvents (HasGoneOn n next) t1 t2)
+    → EnteredEvents (HasGoneOn n all) t0 t2
+gone_on_more still next all m n t0 t1 t2 both was more then =
+    pinned_or (AreShallow m × still) (HasGoneOn m still) (HasGoneOn n all) (HasGoneOn n all) t0 t1 t2 (λ x on. on.pinned)
     (λ x y on pin. record { first = pins_first_join x y on.first (inl pin); pinned = inl (has_pin_front x y pin) })
     (λ x y on next. record { first = both_pin_first x y on.first next.first; pinned = elim next.pinned [ inl pin ↦ inl (has_pin_back x y pin) | inr low ↦ inr low ] })
-    was more next
+    was more
+    (λ low. since_so (HasGoneOn n next) (HasGoneOn n all) t1 t2 (λ x on. record { first = on.first; pinned = elim on.pinned [ inl pin ↦ inl pin | inr so ↦ inr (so.0, both low.1 so.1) ] }) (then low.0))
 
-pub gone_on_all : (levels : List ℕ) (t0 t1 : Option (List Entry)) → EnteredEvents (HasGoneOn levels) t0 t1 → EnteredEvents PinsFirst t0 t1
-gone_on_all levels t0 t1 on = since_so (HasGoneOn levels) PinsFirst t0 t1 (λ x gone. gone.first) on
+pub gone_on_all : (still : Type 0) (levels : List ℕ) (t0 t1 : Option (List Entry)) → EnteredEvents (HasGoneOn levels still) t0 t1 → EnteredEvents (PinsBefore still) t0 t1
+gone_on_all still levels t0 t1 on =
+    since_so (HasGoneOn levels still) (PinsBefore still) t0 t1 (λ x gone. record { first = gone.first; pinned = elim gone.pinned [ inl pin ↦ inl pin | inr so ↦ inr so.1 ] }) on
 
 pub first_shallow : (levels : List ℕ) → levels ≡ replicate 16 1 → AreShallow levels
 first_shallow levels is = subst AreShallow (sym is) (All-replicate (λ level. level < 2) 16 1 (omega arith))

@@ -47,10 +47,14 @@ HasNoRowsAt at p = IfSome (slice_get p.streams at) (λ s. s.count ≡ 0)
 abbrev pub AreShallow : List ℕ → Type 0
 AreShallow levels = All (λ level. level < 2) levels
 
--- no page was left before one was pinned again; and while none was, all partitions are of the first level
-pub record HasGoneOn (levels : List ℕ) (events : List Event) : Type 0 where
+-- no page was left before one was pinned again; and while none was, `still` is so
+pub record PinsBefore (still : Type 0) (events : List Event) : Type 0 where
   pub first : PinsFirst events
-  pub pinned : HasPin events ⊎ AreShallow levels
+  pub pinned : HasPin events ⊎ still
+
+-- the same, and while none was, all partitions are of the first level
+abbrev pub HasGoneOn : List ℕ → Type 0 → List Event → Type 0
+HasGoneOn levels still events = PinsBefore (AreShallow levels × still) events
 
 -- the partitions have these rows
 pub record ShowBoth (lefts rights : ℕ → List (List ℕ)) (b : Both) : Type 0 where

@@ -18,14 +18,15 @@ pub record LeavesSide (side : Side) (fed : List (List Value)) (events : List Eve
   pub formed : All (IsRowOf side.kinds) rows
   pub same : SameRows (rows_in side rows) fed
 
--- no page was left before one was pinned again, and while none was, none of either side is pinned
-pub record HaveReadBoth (f g : Family) (events : List Event) : Type 0 where
+-- no page was left before one was pinned again, and while none was, none of either side is pinned, and `still` is so
+pub record HaveReadBoth (f g : Family) (still : Type 0) (events : List Event) : Type 0 where
   pub first : PinsFirst events
-  pub pinned : HasPin events ⊎ (AllClosed f × AllClosed g)
+  pub pinned : HasPin events ⊎ (AllClosed f × AllClosed g × still)
 
 -- first the pages of the left side are made and left, then those of the right one, none twice, and none is pinned again or
--- ends; then one is pinned before any is left, and while none is, no page of the sides `f` and `g` behind it is pinned
-pub record HoldsSides (shape : JoinShape) (lefts rights : List (List Value)) (f g : Family) (events : List Event) : Type 0 where
+-- ends; then one is pinned before any is left, and while none is, no page of the sides `f` and `g` behind it is pinned, and
+-- `still` is so
+pub record HoldsSides (shape : JoinShape) (lefts rights : List (List Value)) (f g : Family) (still : Type 0) (events : List Event) : Type 0 where
   pub lefts_laid : List Event
   pub rights_laid : List Event
   pub later : List Event
@@ -33,4 +34,4 @@ pub record HoldsSides (shape : JoinShape) (lefts rights : List (List Value)) (f 
   pub left : LeavesSide (left_side shape) lefts lefts_laid
   pub right : LeavesSide (right_side shape) rights rights_laid
   pub once : IsDistinct eqb (map (λ l. l.name) (all_left (lefts_laid ++ rights_laid)))
-  pub reads : HaveReadBoth f g later
+  pub reads : HaveReadBoth f g still later

@@ -14,7 +14,7 @@ ghost use Rattle.partition_stack.specs.Stack.{over, weight};
 ghost use Rattle.join_op.specs.Chunks.{AdmitsJoined, stored_pairs};
 ghost use Rattle.join_op.specs.Dividing.{HasCalled};
 ghost use Rattle.join_op.specs.Handing.{Emitted, EmittedSome};
-ghost use Rattle.join_op.specs.Joining.{Advances, AreColumnsOfBoth, AreShallow, HasDivided, HasGoneOn, HasPopped, HasNoRowsAt, HasRowsAt, IsBetween, ShowBoth, both, pairs_down};
+ghost use Rattle.join_op.specs.Joining.{Advances, AreColumnsOfBoth, AreShallow, HasDivided, HasGoneOn, HasPopped, HasNoRowsAt, HasRowsAt, IsBetween, PinsBefore, ShowBoth, both, pairs_down};
 ghost use Rattle.join_op.specs.Operator.{IsOperator, operator};
 
 use crate::chunks::leaf_by_table;
@@ -266,7 +266,7 @@ fn advance<St: Store, E: Emit<St>>(
     ensures ok { OnOk result (IsBetween (both left.new right.new (St.holds store.new) (St.signs store.new)) × ((lefts rights : ℕ → List (List ℕ)) → ShowBoth lefts rights (both left.old right.old (St.holds store.old) (St.signs store.old)) → Advances shape.now (E.took emit.old (St.holds store.old)) (E.took emit.new (St.holds store.new)) lefts rights (both left.old right.old (St.holds store.old) (St.signs store.old)) (both left.new right.new (St.holds store.new) (St.signs store.new)))) }
     ensures err { OnErr result ((lefts rights : ℕ → List (List ℕ)) → ShowBoth lefts rights (both left.old right.old (St.holds store.old) (St.signs store.old)) → EmittedSome (E.took emit.old (St.holds store.old)) (E.took emit.new (St.holds store.new)) (pairs_down shape.now (length left.old.streams) lefts rights)) }
     ensures less { OnOk result (weight left.new < weight left.old) }
-    ensures first { OnOk result (AreShallow left.old.levels → EnteredEvents (HasGoneOn left.new.levels) (St.signs store.old).trail (St.signs store.new).trail) }
+    ensures first { OnOk result (AreShallow left.old.levels → EnteredEvents (HasGoneOn left.new.levels (emit.new ≡ emit.old)) (St.signs store.old).trail (St.signs store.new).trail) }
     ensures op { IsOperator (operator c.now shape.now left.new right.new) (St.holds store.new) (St.signs store.new) }
     ensures leaves { LeavesBeside c.now.tracker (E.client emit.old) (St.holds store.old) (St.holds store.new) (St.signs store.old) (St.signs store.new) }
     ensures blocks { left.new.page_blocks ≡ left.old.page_blocks }
@@ -320,7 +320,7 @@ pub(crate) fn join_parts<St: Store, E: Emit<St>>(
     requires stands { (rows : List (List Value)) × E.took emit.old (St.holds store.old) rows }
     ensures ok { OnOk result ((lefts rights : ℕ → List (List ℕ)) → ShowBoth lefts rights (both left.old right.old (St.holds store.old) (St.signs store.old)) → Emitted (E.took emit.old (St.holds store.old)) (E.took emit.new (St.holds store.new)) (pairs_down shape.now (length left.old.streams) lefts rights)) }
     ensures err { OnErr result ((lefts rights : ℕ → List (List ℕ)) → ShowBoth lefts rights (both left.old right.old (St.holds store.old) (St.signs store.old)) → EmittedSome (E.took emit.old (St.holds store.old)) (E.took emit.new (St.holds store.new)) (pairs_down shape.now (length left.old.streams) lefts rights)) }
-    ensures first { OnOk result (AreShallow left.old.levels → EnteredEvents PinsFirst (St.signs store.old).trail (St.signs store.new).trail) }
+    ensures first { OnOk result (AreShallow left.old.levels → EnteredEvents (PinsBefore (emit.new ≡ emit.old)) (St.signs store.old).trail (St.signs store.new).trail) }
     ensures op { IsOperator (operator c.now shape.now left.new right.new) (St.holds store.new) (St.signs store.new) }
     ensures leaves { LeavesBeside c.now.tracker (E.client emit.old) (St.holds store.old) (St.holds store.new) (St.signs store.old) (St.signs store.new) }
     ensures closed { OnOk result (IsBetween (both left.new right.new (St.holds store.new) (St.signs store.new))) }

@@ -102,6 +102,24 @@ left_around c most bytes h0 h1 h2 h3 s1 s2 s3 own none first then =
       told = then.others.told ∙ first.others.told ∙ own.told;
     }
 
+-- where a client that came ends, nothing is left
+pub left_behind : (c : ClientToken) (most bytes : ℕ) (old new : Holdings) → old.live_clients ≡ 0 → HasOwn c most bytes old new → IsLeft old (after_end_client c.tracker new)
+left_behind c most bytes old new none own =
+    let is : (account_of c.tracker new).reservation ≡ bytes = ap (λ (o : Option Account). (or_else no_account o).reservation) own.account in
+    let room = own.room in
+    let live = own.live_clients in
+    let reservation = own.reservation in
+    record {
+      live_clients = omega (arith, none, live);
+      room = omega (arith, is, room);
+      reservation = omega (arith, reservation);
+      limit = own.limit;
+      query = own.query;
+      session = own.session;
+      block_len = own.block_len;
+      told = own.told;
+    }
+
 -- ---- what was kept
 
 -- a client that comes leaves no page

@@ -1,5 +1,6 @@
 -- A client of the query comes, its join works, and both end.
 use Rattle.std.proofs.Common.{arith, ◌≡◌, ◌∙◌, ◌*◌, ◌&&◌, ℕ, Bool, true, List, [], ◌∷◌, ◌++◌, ◌⊎◌, Option, None, Some, false, IfSome, refl, ap, sym, subst, inl, inr, append_assoc}
+use Rattle.std.specs.Prelude.{⊤}
 use Rattle.std.proofs.lemmas.List.Elements.{All-cons}
 use Rattle.pool_model.specs.declared.entry.Entry.{Entry}
 use Rattle.pool_model.specs.declared.event.Event.{Event}
@@ -15,7 +16,7 @@ use Rattle.store_api.specs.declared.shapes.JoinShape.{JoinShape}
 use Rattle.tuple_stream.specs.Families.{AllClosed, Family}
 use Rattle.tuple_stream.specs.Trails.{EnteredEvents, HasPin, IsBuilding, PinsFirst}
 use Rattle.tuple_stream.proofs.PinsFirst.{both_pin_first, pins_first_join}
-use Rattle.tuple_stream.proofs.Sinces.{since_joined, since_these}
+use Rattle.tuple_stream.proofs.Sinces.{since_joined, since_so, since_these}
 use Rattle.partition_stack.specs.Causes.{IsShort}
 use Rattle.partition_stack.specs.Leaving.{MayStart}
 use Rattle.join_op.specs.Laid.{HoldsSides, LeavesSide}
@@ -67,19 +68,35 @@ joins_here plan right c most bytes old new signs all is planned alone own same =
 
 -- ---- what stopped it
 
-pub stopped_join : (plan : Query) (right : SidePlan) (blocks : ℕ) (first : Holdings) (s0 s1 s2 s3 : Signs) (e : QueryErr) → plan.right ≡ Some right → blocks ≡ plan.page_blocks → Grows s0 s1 → Grows s2 s3
+pub stopped_join : (plan : Query) (right : SidePlan) (blocks : ℕ) (first : Holdings) (s0 s1 s2 s3 : Signs) (e : QueryErr) → plan.right ≡ Some right → groups plan ≡ false → blocks ≡ plan.page_blocks → Grows s0 s1 → Grows s2 s3
     → OfPool (StoppedShort blocks s1 s2) e → MayStop plan first s0 s3 e
-stopped_join plan right blocks first s0 s1 s2 s3 e planned same grows later = of_pool_so (StoppedShort blocks s1 s2) (StoppedQuery plan first.free_slots s0 s3)
+stopped_join plan right blocks first s0 s1 s2 s3 e planned alone same grows later = of_pool_so (StoppedShort blocks s1 s2) (StoppedQuery plan first.free_slots s0 s3)
     (λ why stopped. record {
       answered = answered_after why s0 s2 s3 (answered_before why s0 s1 s2 grows stopped.answered) later;
-      want = rw planned (subst (λ n. IsShort n why) same stopped.short);
+      want = rw (planned, alone) (subst (λ n. IsShort n why) same stopped.short);
     }) e
 
 -- ---- what was kept
 
+-- what follows from what is so while no page was pinned again
+pub holds_so : (shape : JoinShape) (lefts rights : List (List Value)) (f g : Family) (still next : Type 0) (t0 t1 : Option (List Entry)) → (still → next) → EnteredEvents (HoldsSides shape lefts rights f g still) t0 t1 → EnteredEvents (HoldsSides shape lefts rights f g next) t0 t1
+holds_so shape lefts rights f g still next t0 t1 so held =
+    since_so (HoldsSides shape lefts rights f g still) (HoldsSides shape lefts rights f g next) t0 t1
+    (λ events has. record {
+      lefts_laid = has.lefts_laid;
+      rights_laid = has.rights_laid;
+      later = has.later;
+      split = has.split;
+      left = has.left;
+      right = has.right;
+      once = has.once;
+      reads = record { first = has.reads.first; pinned = elim has.reads.pinned [ inl pin ↦ inl pin | inr closed ↦ inr (closed.0, closed.1, so closed.2) ] };
+    })
+    held
+
 -- a client that comes leaves no page and makes none
-leaves-behind : (side : Side) (fed : List (List Value)) (c query limit bytes : ℕ) (next : List Event) → LeavesSide side fed next → LeavesSide side fed (coming c query limit bytes ++ next)
-leaves-behind side fed c query limit bytes next left = record {
+pub leaves_behind : (side : Side) (fed : List (List Value)) (c query limit bytes : ℕ) (next : List Event) → LeavesSide side fed next → LeavesSide side fed (coming c query limit bytes ++ next)
+leaves_behind side fed c query limit bytes next left = record {
   rows = left.rows;
   leaves = record {
     building = All-cons IsBuilding (AddTracker c query limit None) (Increase c bytes ∷ next) tt (All-cons IsBuilding (Increase c bytes) next tt left.leaves.building);
@@ -98,21 +115,21 @@ BothEndFirst f g events = AllClosed f × AllClosed g → PinsFirst events
 pub both_end_first : (f g : Family) (before after : Signs) → Grows before after → (AllClosed f → AllClosed g → EnteredEvents PinsFirst before.trail after.trail) → EnteredEvents (BothEndFirst f g) before.trail after.trail
 both_end_first f g before after grows ends = entered-if (AllClosed f × AllClosed g) PinsFirst before.trail after.trail grows.trail (λ both. ends both.0 both.1)
 
-ended-both : (f g : Family) (c query bytes : ℕ) (events next : List Event) → BothEndFirst f g events → next ≡ ending c query bytes → BothEndFirst f g (events ++ next)
-ended-both f g c query bytes events next ends are = λ closed. both_pin_first events next (ends closed) (subst PinsFirst (sym are) tt)
+pub ended_both : (f g : Family) (c query bytes : ℕ) (events next : List Event) → BothEndFirst f g events → next ≡ ending c query bytes → BothEndFirst f g (events ++ next)
+ended_both f g c query bytes events next ends are = λ closed. both_pin_first events next (ends closed) (subst PinsFirst (sym are) tt)
 
 pub record HoldsAndEnds (shape : JoinShape) (lefts rights : List (List Value)) (f g : Family) (events : List Event) : Type 0 where
   pub holds : List Event
   pub ends : List Event
   pub split : events ≡ holds ++ ends
-  pub held : HoldsSides shape lefts rights f g holds
+  pub held : HoldsSides shape lefts rights f g ⊤ holds
   pub ended : BothEndFirst f g ends
 
 holds-whole : (shape : JoinShape) (lefts rights : List (List Value)) (f g : Family) (c query limit bytes : ℕ) (first events : List Event) → first ≡ coming c query limit bytes
     → HoldsAndEnds shape lefts rights f g events → HoldsRows shape lefts rights (first ++ events)
 holds-whole shape lefts rights f g c query limit bytes first events are both =
     let held = both.held in
-    let pinned : HasPin held.later ⊎ PinsFirst both.ends = elim held.reads.pinned [ inl pin ↦ inl pin | inr closed ↦ inr (both.ended closed) ] in
+    let pinned : HasPin held.later ⊎ PinsFirst both.ends = elim held.reads.pinned [ inl pin ↦ inl pin | inr closed ↦ inr (both.ended (closed.0, closed.1)) ] in
     let all : events ≡ held.lefts_laid ++ (held.rights_laid ++ (held.later ++ both.ends)) =
     both.split ∙ ap (λ es. es ++ both.ends) held.split ∙ append_assoc held.lefts_laid (held.rights_laid ++ held.later) both.ends ∙ ap (λ es. held.lefts_laid ++ es) (append_assoc held.rights_laid held.later both.ends) in
     let whole : HoldsRows shape lefts rights (coming c query limit bytes ++ events) = record {
@@ -120,7 +137,7 @@ holds-whole shape lefts rights f g c query limit bytes first events are both =
       rights_laid = held.rights_laid;
       later = held.later ++ both.ends;
       split = ap (λ es. coming c query limit bytes ++ es) all;
-      left = leaves-behind _ lefts c query limit bytes held.lefts_laid held.left;
+      left = leaves_behind _ lefts c query limit bytes held.lefts_laid held.left;
       right = held.right;
       once = held.once;
       reads = pins_first_join held.later both.ends held.reads.first pinned;
@@ -135,9 +152,9 @@ kept_joined plan right page other lefts_told rights_told f g maker c query limit
     let shape = join_shape_of plan right in
     let ended : EnteredEvents (BothEndFirst f g) s2.trail s4.trail =
     since_joined (BothEndFirst f g) (λ events. events ≡ ending later-c later-query later-bytes) (BothEndFirst f g) s2.trail s3.trail s4.trail
-    (λ events next ends are. ended-both f g later-c later-query later-bytes events next ends are) ends (since_these later-maker (ending later-c later-query later-bytes) s3 s4 gone) in
+    (λ events next ends are. ended_both f g later-c later-query later-bytes events next ends are) ends (since_these later-maker (ending later-c later-query later-bytes) s3 s4 gone) in
     let both : EnteredEvents (HoldsAndEnds shape kept.lefts kept.rights f g) s1.trail s4.trail =
-    since_joined (HoldsSides shape kept.lefts kept.rights f g) (BothEndFirst f g) (HoldsAndEnds shape kept.lefts kept.rights f g) s1.trail s2.trail s4.trail
+    since_joined (HoldsSides shape kept.lefts kept.rights f g ⊤) (BothEndFirst f g) (HoldsAndEnds shape kept.lefts kept.rights f g) s1.trail s2.trail s4.trail
     (λ events next held end. record { holds = events; ends = next; split = refl; held = held; ended = end }) kept.kept ended in
     let all : EnteredEvents (HoldsRows shape kept.lefts kept.rights) s0.trail s4.trail =
     since_joined (λ events. events ≡ coming c query limit bytes) (HoldsAndEnds shape kept.lefts kept.rights f g) (HoldsRows shape kept.lefts kept.rights) s0.trail s1.trail s4.trail

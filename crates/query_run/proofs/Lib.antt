@@ -1,11 +1,15 @@
 pub mod Alone
 mod Around
 mod Ended
+mod EndedFirst
+mod Feeders
 mod Going
 mod Handed
 mod Joining
 mod KeptFirst
+mod KeptPairs
 mod Names
+mod Orders
 mod Pairing
 mod Reading
 mod Results
@@ -16,6 +20,6 @@ mod Summing
 mod Taken
 mod Taking
 mod Telling
-mod Visits
+mod TwoClients
 mod Weighing
 mod Whole

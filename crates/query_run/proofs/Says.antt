@@ -1,7 +1,8 @@
 -- What errors say of the inputs of a query.
-use Rattle.std.proofs.Common.{◌≡◌, ◌≢◌, ◌∙◌, ℕ, Option, Some, None, IfSome, ap, sym, subst, refl}
+use Rattle.std.proofs.Common.{◌≡◌, ◌≢◌, ◌∙◌, ℕ, Bool, false, true, Option, Some, None, IfSome, ap, sym, subst, refl}
 use Rattle.std.specs.Prelude.{IsSomeAnd}
 use Rattle.std.specs.Io.KnownBytes.{IsAtEnd}
+use Rattle.query_plan.specs.Sizes.{groups}
 use Rattle.query_plan.specs.declared.plan.Query.{Query}
 use Rattle.query_plan.specs.declared.plan.Side.{Side}
 use Rattle.query_plan.specs.declared.plan.Side.TheVariants.{Left, Right}
@@ -44,9 +45,10 @@ says_right plan right page lefts rights why planned accepted read says = record 
 }
 
 -- there may be no memory at any time
-no-want : (o : Option SidePlan) (blocks : ℕ) (start : Option ℕ) → IsWantIn o blocks start Memory
-no-want None blocks start = tt
-no-want (Some right) blocks start = tt
+no-want : (o : Option SidePlan) (grouped : Bool) (blocks : ℕ) (start : Option ℕ) → IsWantIn o grouped blocks start Memory
+no-want None grouped blocks start = tt
+no-want (Some right) false blocks start = tt
+no-want (Some right) true blocks start = tt
 
 pub memory_stops : (plan : Query) (start : Holdings) (old new : Signs) → MayStop plan start old new (query.Pool Memory)
-memory_stops plan start old new = record { answered = tt; want = no-want plan.right plan.page_blocks start.free_slots }
+memory_stops plan start old new = record { answered = tt; want = no-want plan.right (groups plan) plan.page_blocks start.free_slots }

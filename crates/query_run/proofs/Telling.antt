@@ -144,8 +144,15 @@ module _ (shape : Shape) (rows : List (List Value)) (before : Begun) (name name_
       let told = told_all shape rows (keys_in path_order (key_bytes shape.keys) rows) emitted.rows (all_tell shape rows is values fed) emitted.say in
       (subst new_took told (emitted.came [] (named, summed, none))).2
 
+  -- so it is of rows with the same groups
+  pub took_groups_of : (others : List (List Value)) → groups_by path_order (grouping_of shape) others ≡ groups_by path_order (grouping_of shape) rows → Emitted shape old_took new_took (groups_by path_order (grouping_of shape) others) → HasTakenGroups shape rows before now
+  took_groups_of others same emitted = took_groups (subst (Emitted shape old_took new_took) same emitted)
+
   pub took_some : EmittedFront shape old_took new_took (groups_by path_order (grouping_of shape) rows) → HasTakenSome shape rows before now
   took_some front =
       let came = front [] (named, summed, none) in
       let told = told_some shape rows (keys_in path_order (key_bytes shape.keys) rows) came.some came.rest came.rows (all_tell shape rows is values fed) came.split came.say in
       record { some = came.rows; rest = told.0; split = told.1; taken = came.came.2 }
+
+  pub took_some_of : (others : List (List Value)) → groups_by path_order (grouping_of shape) others ≡ groups_by path_order (grouping_of shape) rows → EmittedFront shape old_took new_took (groups_by path_order (grouping_of shape) others) → HasTakenSome shape rows before now
+  took_some_of others same front = took_some (subst (EmittedFront shape old_took new_took) same front)

@@ -1,22 +1,24 @@
 -- What was read, fed and written, as one answer.
 use Rattle.std.proofs.Common.{rules, ◌≡◌, ◌∙◌, ◌+◌, ◌<◌, ◌++◌, ℕ, Bool, true, List, [], Option, Some, None, IfSome, filter, length, map, ap, sym, subst, refl, arith}
 use Rattle.std.specs.Io.KnownBytes.{Appends}
+use Rattle.pool_model.specs.declared.entry.Entry.{Entry}
 use Rattle.row_codec.specs.declared.values.Value.{Value}
 use Rattle.row_codec.specs.declared.values.Value.TheVariants.{Text}
 use Rattle.scan_filter.specs.Passes.{passes}
 use Rattle.csv_edge.specs.Written.{AppendsFront}
 use Rattle.store_api.specs.Holdings.{Holdings}
 use Rattle.store_api.specs.Signs.{Signs}
-use Rattle.group_op.specs.Operator.{IsSame, Operator, page_of}
+use Rattle.group_op.specs.Operator.{IsSame, Keeps, Operator, page_of}
 use Rattle.query_plan.specs.declared.plan.Query.{Query}
 use Rattle.query_plan.specs.Sizes.{groups}
 use Rattle.query_run.specs.Answer.{AreLines, IsAnswer, LineNumbers, Numbers, WroteAnswer, WroteFront, agg_name, answer_text, group_rows, header_of}
 use Rattle.query_run.specs.Both.{AreAccepted, answered, both_told, right_passing, right_rows}
 use Rattle.query_run.specs.FedRows.{AreFed}
-use Rattle.query_run.specs.Plans.{IsGrouping, grouping_of, kinds_of_columns, name_at, shape_of}
+use Rattle.query_run.specs.Plans.{HasGroups, IsGrouping, grouping_of, kinds_of_columns, name_at, row_columns, shape_of}
 use Rattle.store_api.specs.declared.shapes.Shape.{Shape}
 use Rattle.query_run.specs.Input.{IsAccepted, left_rows, passing}
 use Rattle.query_run.specs.Inside.{GoesOn}
+use Rattle.query_run.specs.Writing.{HoldsFor}
 use Rattle.query_run.specs.declared.feeding.Fed.{Fed}
 use Rattle.query_run.specs.declared.outcome.Ran.{Ran}
 
@@ -85,8 +87,12 @@ module _ (plan : Query) (page : ℕ) (alone : plan.right ≡ None) (grouped : gr
 pub left_kinds : (plan : Query) → plan.right ≡ None → kinds_of_columns plan.left.columns ≡ (shape_of plan).kinds
 left_kinds plan alone = rw alone refl
 
+-- a query that groups the rows of its left input groups
+pub groups_alone : (plan : Query) → IsGrouping plan → HasGroups plan
+groups_alone plan is = record { paged = is.paged; shape = is.shape; keys = is.keys; aggs = is.aggs }
+
 -- a query that groups has a key
-pub grouped : (plan : Query) → IsGrouping plan → groups plan ≡ true
+pub grouped : (plan : Query) → HasGroups plan → groups plan ≡ true
 grouped plan is = let some = is.shape.some in search (rules, some)
 
 pub passing_are : (plan : Query) (page : ℕ) (told : Option (List ℕ)) (rows : List (List Value)) → AreRead plan page told rows
@@ -100,14 +106,15 @@ fed_as plan shape rows alone same fed =
     let kinds : kinds_of_columns plan.left.columns ≡ shape.kinds = left_kinds plan alone ∙ sym (ap (λ (s : Shape). s.kinds) same) in
     subst (λ ks. AreFed ks rows) kinds fed
 
+-- what was fed is of its own groups
+pub holds_for : (start : Option (List Entry)) (rows : List (List Value)) (op : Operator) (h : Holdings) (signs : Signs) → Keeps start rows op h signs → AreFed op.shape.kinds rows → HoldsFor rows op h signs
+holds_for start rows op h signs keeps formed = record { fed = rows; holds = keeps.holds; same = refl; values = keeps.holds.values; formed = formed }
+
 -- pages are as long as they were
 pub same_page : (a b : Operator) (old new : Holdings) (before after : Signs) → IsSame a b → GoesOn a b old new before after → page_of b new ≡ page_of a old
 same_page a b old new before after same went = rw (same.blocks, went.leaves.others.block_len) refl
 
 -- the names of an answer
-pub group_names : (plan : Query) → IsGrouping plan
-    → map (λ place. Text (name_at plan.left.columns place)) plan.group ++ map (λ agg. Text (agg_name plan.left.columns agg)) plan.aggs ≡ header_of plan
-group_names plan is =
-    let alone = is.alone in
-    let groups-it = grouped plan is in
-    rw (groups-it, alone) refl
+pub group_names : (plan : Query) → HasGroups plan
+    → map (λ place. Text (name_at (row_columns plan) place)) plan.group ++ map (λ agg. Text (agg_name (row_columns plan) agg)) plan.aggs ≡ header_of plan
+group_names plan is = let groups-it = grouped plan is in rw groups-it refl

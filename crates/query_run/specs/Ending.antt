@@ -1,5 +1,6 @@
 -- How the lines of an answer end.
 use Rattle.std.specs.Prelude.{◌≡◌, Option, Some, None, Result, Ok, Err, ⊤}
+use Rattle.reservation_tree.specs.declared.errors.PoolErr.TheVariants.{Memory}
 use Rattle.store_api.specs.declared.op_err.OpErr.{OpErr}
 use Rattle.store_api.specs.declared.op_err.OpErr.TheVariants as op
 use Rattle.query_run.specs.declared.outcome.QueryErr.{QueryErr}
@@ -21,3 +22,8 @@ abbrev pub IsEndedBy : {T : Type 0} → Option QueryErr → Result T OpErr → Q
 IsEndedBy None (Ok x) e = ⊥
 IsEndedBy None (Err why) e = e ≡ cause_of_op why
 IsEndedBy (Some why) handed e = e ≡ why
+
+-- why rows that were handed on went to no grouping
+abbrev pub cause_of_handed : {T : Type 0} → Result T OpErr → QueryErr
+cause_of_handed (Ok x) = query.Pool Memory
+cause_of_handed (Err why) = cause_of_op why

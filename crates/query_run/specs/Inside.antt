@@ -1,13 +1,18 @@
--- The client of a query, and its grouping. About inner calls; no public clause cites this. Lengths are in bytes.
-use Rattle.std.specs.Prelude.{◌≡◌, ◌≢◌, ◌+◌, ℕ, None, Some}
+-- The clients of a query, and its grouping. About inner calls; no public clause cites this. Lengths are in bytes.
+use Rattle.std.specs.Prelude.{◌≡◌, ◌≢◌, ◌+◌, ◌-◌, ◌≤◌, ℕ, None, Some}
 use Rattle.store_api.specs.Conditions.{IsIdle}
-use Rattle.store_api.specs.Holdings.{Holdings}
-use Rattle.store_api.specs.Signs.{Signs}
+use Rattle.store_api.specs.Holdings.{Holdings, account_of}
+use Rattle.store_api.specs.Signs.{Grows, Signs, WasAnswered}
 use Rattle.store_api.specs.Tokens.{ClientToken}
 use Rattle.tuple_stream.specs.Families.{slots_in}
 use Rattle.partition_stack.specs.Leaving.{LeavesOthers}
 use Rattle.partition_stack.specs.Stack.{over}
-use Rattle.group_op.specs.Operator.{IsOperator, Operator}
+use Rattle.group_op.specs.Operator.{IsFeeding, IsOperator, Operator}
+use Rattle.query_plan.specs.declared.plan.Query.{Query}
+use Rattle.query_run.specs.Plans.{shape_of}
+use Rattle.query_run.specs.declared.outcome.QueryErr.{QueryErr}
+use Rattle.query_run.specs.declared.outcome.QueryErr.TheVariants.{Pool}
+use Rattle.reservation_tree.specs.declared.errors.PoolErr.{PoolErr}
 
 -- a client came that may use all of its reservation, which was room, and may reserve up to a limit; it has nothing, and
 -- nothing of others changed
@@ -35,3 +40,34 @@ pub record GoesOn (was now : Operator) (old new : Holdings) (before after : Sign
   pub client : now.client ≡ was.client
   pub leaves : LeavesOthers was.client.tracker old new before after
   pub slots : slots_in (over now.parts new after) ≡ slots_in (over was.parts old before)
+
+-- a grouping handed on what it holds; where it has no table, nothing was called
+pub record HandedOn (was now : Operator) (old new : Holdings) (before after : Signs) : Type 0 where
+  pub went : GoesOn was now old new before after
+  pub quiet : was.table ≡ None → (now ≡ was) × (after ≡ before)
+
+-- the first client ended, whose tracker is `t`, and of the second one things changed; the query has with what this one reserves
+-- at least what it had with what both reserved
+pub record HasEndedFirst (t u : ℕ) (old new : Holdings) (before after : Signs) : Type 0 where
+  pub live_clients : new.live_clients ≡ old.live_clients - 1
+  pub room : old.room + (account_of t old).reservation + (account_of u old).reservation ≤ new.room + (account_of u new).reservation
+  pub reservation : old.reservation ≤ new.reservation
+  pub limit : new.limit ≡ old.limit
+  pub query : new.query ≡ old.query
+  pub session : new.session ≡ old.session
+  pub block_len : new.block_len ≡ old.block_len
+  pub told : new.told ≡ old.told
+  pub grows : Grows before after
+
+-- a grouping of the plan's rows by this client, which may be fed
+pub record IsFedFor (c : ClientToken) (plan : Query) (op : Operator) (h : Holdings) (signs : Signs) : Type 0 where
+  pub is : IsOperator op h signs
+  pub feeding : IsFeeding op
+  pub client : op.client ≡ c
+  pub shape_is : op.shape ≡ shape_of plan
+
+-- it is an answer of the store, which gave it
+pub record IsOfStore (e : QueryErr) (old new : Signs) : Type 0 where
+  pub why : PoolErr
+  pub is : e ≡ Pool why
+  pub answered : WasAnswered why old new

@@ -14,3 +14,5 @@ pub mod Taking
 pub mod Ending
 pub mod Writing
 pub mod Joined
+pub mod Feeder
+pub mod FeederLaws

@@ -52,7 +52,14 @@ pub record IsSide (side : SidePlan) : Type 0 where
   pub narrow : All (λ column. column.kind ≢ Wide) side.columns
   pub preds : All (IsAbout side.columns) side.preds
 
--- the query groups the rows of its left input: by one column or more, which are distinct, with aggregates over ints
+-- the query groups rows: by one column or more, which are distinct, with aggregates over ints
+pub record HasGroups (plan : Query) : Type 0 where
+  pub paged : IsBlockCount plan.page_blocks
+  pub shape : IsShape (shape_of plan)
+  pub keys : length plan.group ≤ 8
+  pub aggs : length plan.aggs ≤ 16
+
+-- it groups the rows of its left input, and has no other one
 pub record IsGrouping (plan : Query) : Type 0 where
   pub paged : IsBlockCount plan.page_blocks
   pub alone : plan.right ≡ None

@@ -1,5 +1,5 @@
 -- What a query leaves of its store, and what the store may have stopped it with.
-use Rattle.std.specs.Prelude.{◌≡◌, ◌*◌, ℕ, ◌≤◌, ◌⊎◌, List, Option, None, Some, replicate}
+use Rattle.std.specs.Prelude.{◌≡◌, ◌*◌, ℕ, ◌≤◌, ◌⊎◌, Bool, false, true, List, Option, None, Some, replicate, ⊤}
 use Rattle.reservation_tree.specs.declared.errors.PoolErr.{PoolErr}
 use Rattle.outside.specs.Counts.{Rose}
 use Rattle.store_api.specs.Holdings.{Holdings}
@@ -9,7 +9,7 @@ use Rattle.partition_stack.specs.Causes.{IsShort}
 pub use Rattle.partition_stack.specs.Slots.{IsRest, IsWant}
 use Rattle.query_plan.specs.declared.plan.Query.{Query}
 use Rattle.query_plan.specs.declared.plan.SidePlan.{SidePlan}
-use Rattle.query_plan.specs.Sizes.{least_of, operators, page_len}
+use Rattle.query_plan.specs.Sizes.{groups, least_of, operators, page_len}
 use Rattle.query_run.specs.Causes.{OfPool}
 use Rattle.query_run.specs.Trail.{ReservesFirst}
 use Rattle.query_run.specs.declared.outcome.QueryErr.{QueryErr}
@@ -60,15 +60,17 @@ pub record StoppedShort (blocks : ℕ) (old new : Signs) (e : PoolErr) : Type 0 
   pub short : IsShort blocks e
 
 -- a want of slots names the blocks of a page and those that are free: where the query doesn't join, what is left of the ones
--- that were free at the start, else fewer than a page has
-abbrev pub IsWantIn : Option SidePlan → ℕ → Option ℕ → PoolErr → Type 0
-IsWantIn None blocks start e = IsWant blocks start e
-IsWantIn (Some right) blocks start e = IsShort blocks e
+-- that were free at the start; where it joins and doesn't group, fewer than a page has. Where it does both, nothing is said of
+-- these numbers
+abbrev pub IsWantIn : Option SidePlan → Bool → ℕ → Option ℕ → PoolErr → Type 0
+IsWantIn None grouped blocks start e = IsWant blocks start e
+IsWantIn (Some right) false blocks start e = IsShort blocks e
+IsWantIn (Some right) true blocks start e = ⊤
 
 -- the store over which the plan runs gave this answer
 pub record StoppedQuery (plan : Query) (start : Option ℕ) (old new : Signs) (e : PoolErr) : Type 0 where
   pub answered : WasAnswered e old new
-  pub want : IsWantIn plan.right plan.page_blocks start e
+  pub want : IsWantIn plan.right (groups plan) plan.page_blocks start e
 
 abbrev pub MayStop : Query → Holdings → Signs → Signs → QueryErr → Type 0
 MayStop plan start old new e = OfPool (StoppedQuery plan start.free_slots old new) e

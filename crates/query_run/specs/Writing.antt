@@ -3,9 +3,17 @@ use Rattle.std.specs.Prelude.{◌≡◌, ◌≢◌, ℕ, List, ◌++◌, Option,
 use Rattle.outside.specs.Counts.{Rose}
 use Rattle.row_codec.specs.declared.values.Agg.TheVariants.{Sum}
 use Rattle.row_codec.specs.declared.values.Value.{Value}
+use Rattle.row_codec.specs.Order.{path_order}
 use Rattle.group_rows.specs.Aggregates.{aggregate}
+use Rattle.group_rows.specs.Combining.{AreValues}
+use Rattle.group_rows.specs.Partials.{groups_by}
+use Rattle.group_op.specs.Operator.{Holds, Operator}
+use Rattle.group_op.specs.Stored.{grouping_of}
+use Rattle.store_api.specs.Holdings.{Holdings}
+use Rattle.store_api.specs.Signs.{Signs}
 use Rattle.store_api.specs.declared.shapes.Shape.{Shape}
 use Rattle.query_run.specs.Answer.{group_rows, lines_of}
+use Rattle.query_run.specs.FedRows.{AreFed}
 use Rattle.query_run.specs.Parts.{FrontOf, HasSent, StopsWriting}
 use Rattle.query_run.specs.declared.outcome.QueryErr.{QueryErr}
 use Rattle.query_run.specs.declared.outcome.QueryErr.TheVariants.{SinkFault}
@@ -57,3 +65,11 @@ pub record HasTakenSome (shape : Shape) (rows : List (List Value)) (before : Beg
 
 abbrev pub HasTakenGroups : Shape → List (List Value) → Begun → Written → Type 0
 HasTakenGroups shape rows before now = HasTaken before (group_rows (record { keys = shape.keys; aggs = shape.aggs }) rows) now
+
+-- a grouping that was fed rows of the same groups as these
+pub record HoldsFor (rows : List (List Value)) (op : Operator) (h : Holdings) (signs : Signs) : Type 0 where
+  pub fed : List (List Value)
+  pub holds : Holds fed op h signs
+  pub same : groups_by path_order (grouping_of op.shape) fed ≡ groups_by path_order (grouping_of op.shape) rows
+  pub values : AreValues rows
+  pub formed : AreFed op.shape.kinds rows

@@ -32,7 +32,7 @@ const MOST_RECORDS: u64 = 2147483648;
 const MOST_BYTES: u64 = 1099511627776;
 
 // What an aggregate adds to the weight of a row.
-const AGGREGATE: u64 = 16;
+pub(crate) const AGGREGATE: u64 = 16;
 
 // How many rows were read, and how many of them passed the filter.
 #[derive(Clone, Copy, Debug, PartialEq, Eq)]

@@ -1,6 +1,6 @@
 // A query that groups the rows of its left input, and has no other one.
 
-ghost use Rattle.std.specs.Prelude.{◌≡◌, ◌≤◌, ◌<◌, ◌^◌, ◌⊎◌, [], Some, IfErr, IfOk, IfSome, IsErrOf, IsSome, OnOk, true};
+ghost use Rattle.std.specs.Prelude.{◌≡◌, ◌++◌, ◌≤◌, ◌<◌, ◌^◌, ◌⊎◌, [], Some, IfErr, IfOk, IfSome, IsErrOf, IsSome, OnOk, true};
 ghost use Rattle.std.specs.Io.KnownBytes.{IsAtEnd};
 ghost use Rattle.tuple_stream.specs.Families.{slots_in};
 ghost use Rattle.partition_stack.specs.Stack.{over};
@@ -10,14 +10,14 @@ ghost use Rattle.query_run.specs.Answer.{Numbers, WroteAnswer, WroteFront};
 ghost use Rattle.query_run.specs.Both.{both_told};
 ghost use Rattle.query_run.specs.Causes.{side_of};
 ghost use Rattle.query_run.specs.Inside.{GoesOn};
-ghost use Rattle.query_run.specs.Plans.{IsGrouping, kinds_of_columns, shape_of};
+ghost use Rattle.query_run.specs.Plans.{HasGroups, IsGrouping, kinds_of_columns, row_columns, shape_of};
 ghost use Rattle.query_run.specs.Refused.{SaysOfSide, source};
 ghost use Rattle.query_run.specs.Stopped.{CountsSink, HasRoomFor, MayStop, RanOver, StoppedOver};
 ghost use Rattle.query_run.specs.Trail.{KeptAndRead, KeptGroups};
 
 use crate::client::own_client;
 use crate::feeding::feed_side;
-use crate::grouping::write_groups;
+use crate::grouping::{Read, write_groups};
 use crate::outcome::{QueryErr, Ran};
 use group_op::{GroupOp, law_starts};
 use outside::{Sink, Source};
@@ -54,7 +54,7 @@ pub(crate) fn run_grouped<St: Store, S: Source, K: Sink>(
     let page = u64::from(plan.page_blocks) * u64::from(block_len);
     let bytes = least(plan, block_len);
     let c = own_client(store, plan.limit.max(bytes), bytes);
-    let mut op = match start(alloc, c, plan) {
+    let mut op = match start_grouping(alloc, c, plan) {
         Ok(op) => op,
         Err(c) => {
             store.end_client(c);
@@ -69,8 +69,8 @@ pub(crate) fn run_grouped<St: Store, S: Source, K: Sink>(
 }
 
 // A grouping of the plan's shape. Where there was no memory, the client comes back.
-fn start(alloc: Global, c: Client, plan: &Query) -> Result<GroupOp, Client>
-    requires { IsGrouping plan.now }
+pub(crate) fn start_grouping(alloc: Global, c: Client, plan: &Query) -> Result<GroupOp, Client>
+    requires { HasGroups plan.now }
     ensures ok { IfOk result (λ op. op ≡ started c plan.now.page_blocks (shape_of plan.now)) }
     ensures err { IfErr result (λ back. back ≡ c) }
 {
@@ -85,14 +85,25 @@ fn start(alloc: Global, c: Client, plan: &Query) -> Result<GroupOp, Client>
 
 // The shape of the rows that a plan groups.
 fn shape(alloc: Global, plan: &Query) -> Result<Shape, Memory>
-    requires { IsGrouping plan.now }
     ensures { IfOk result (λ shape. shape ≡ shape_of plan.now) }
 {
     Ok(Shape {
-        kinds: Listed::of(kinds_of(alloc, plan.left.columns.as_slice())?),
+        kinds: Listed::of(row_kinds(alloc, plan)?),
         keys: Listed::of(Vec::from_slice(alloc, plan.group.as_slice())?),
         aggs: Listed::of(Vec::from_slice(alloc, plan.aggs.as_slice())?),
     })
+}
+
+// The kinds of the row that is grouped.
+fn row_kinds(alloc: Global, plan: &Query) -> Result<Vec<Kind>, Memory>
+    ensures { IfOk result (λ kinds. kinds.items ≡ kinds_of_columns (row_columns plan.now)) }
+{
+    let mut kinds = kinds_of(alloc, plan.left.columns.as_slice())?;
+    let Some(asked) = &plan.right else {
+        return Ok(kinds);
+    };
+    push_kinds(asked.columns.as_slice(), &mut kinds)?;
+    Ok(kinds)
 }
 
 // The kinds of some columns.
@@ -100,10 +111,18 @@ pub(crate) fn kinds_of(alloc: Global, columns: &[Column]) -> Result<Vec<Kind>, M
     ensures { IfOk result (λ kinds. kinds.items ≡ kinds_of_columns columns.now) }
 {
     let mut kinds = Vec::new(alloc);
+    push_kinds(columns, &mut kinds)?;
+    Ok(kinds)
+}
+
+// Adds the kinds of some columns.
+fn push_kinds(columns: &[Column], kinds: &mut Vec<Kind>) -> Result<(), Memory>
+    ensures { OnOk result (kinds.new.items ≡ kinds.old.items ++ kinds_of_columns columns.now) }
+{
     for column in columns {
         kinds.push(column.kind)?;
     }
-    Ok(kinds)
+    Ok(())
 }
 
 // Feeds what is left of the source to a grouping that was started, and writes its answer.
@@ -137,5 +156,10 @@ fn answer<St: Store, S: Source, K: Sink>(
     ensures source_kept { S.faults left.old ≤ S.faults left.new }
 {
     let fed = feed_side(alloc, store, op, plan, Side::Left, &plan.left, page, left)?;
-    write_groups(alloc, store, op, plan, fed, sink)
+    let read = Read {
+        left: fed.read,
+        right: 0,
+        kept: fed.kept,
+    };
+    write_groups(alloc, store, op, plan, read, sink)
 }

@@ -17,14 +17,12 @@ ghost use Rattle.csv_edge.specs.Written.{AppendsFront};
 ghost use Rattle.query_run.specs.Answer.{LineNumbers, answer_text, group_rows, header_of};
 ghost use Rattle.query_run.specs.Causes.{side_of};
 ghost use Rattle.query_run.specs.Ending.{IsEndedBy, WentThrough, cause_of_op};
-ghost use Rattle.query_run.specs.FedRows.{AreFed};
-ghost use Rattle.query_run.specs.Inside.{GoesOn};
-ghost use Rattle.query_run.specs.Plans.{IsGrouping, grouping_of, shape_of};
+ghost use Rattle.query_run.specs.Inside.{HandedOn};
+ghost use Rattle.query_run.specs.Plans.{HasGroups, grouping_of, shape_of};
 ghost use Rattle.query_run.specs.Stopped.{CountsSink, StoppedOver};
-ghost use Rattle.query_run.specs.Writing.{HasTaken, HasTakenGroups, HasTakenSome, written};
+ghost use Rattle.query_run.specs.Writing.{HasTaken, HasTakenGroups, HasTakenSome, HoldsFor, written};
 
 use crate::answering::{AnswerLines, Start, Taker};
-use crate::feeding::Fed;
 use crate::header::header_row;
 use crate::outcome::{QueryErr, Ran, Totals};
 use crate::parts::Part;
@@ -36,28 +34,36 @@ use std::alloc::Global;
 use std::marker::{Brand, PhantomData};
 use store_api::{OpErr, Store};
 
+// How many rows were read of each side, and how many passed the filters.
+#[derive(Clone, Copy, Debug, PartialEq, Eq)]
+pub(crate) struct Read {
+    pub(crate) left: u64,
+    pub(crate) right: u64,
+    pub(crate) kept: u64,
+}
+
 // Writes the answer of a grouping that was fed.
 pub(crate) fn write_groups<St: Store, K: Sink>(
     alloc: Global,
     store: &mut St,
     op: &mut GroupOp,
     plan: &Query,
-    fed: Fed,
+    read: Read,
     sink: &mut K,
 ) -> Result<Ran, QueryErr>
-    requires plan { IsGrouping plan.now }
+    requires plan { HasGroups plan.now }
     requires op { IsOperator op.old (St.holds store.old) (St.signs store.old) }
     requires shape { op.old.shape ≡ shape_of plan.now }
     requires feeding { IsFeeding op.old }
-    ensures ok { OnOk result ((start : Option (List Entry)) (rows : List (List Value)) → Keeps start rows op.old (St.holds store.old) (St.signs store.old) → AreFed op.old.shape.kinds rows → (St.holds store.old).told ≡ true → Appends (K.contents sink.old) (K.contents sink.new) (answer_text plan.now (group_rows (grouping_of plan.now) rows))) }
-    ensures err { OnErr result ((start : Option (List Entry)) (rows : List (List Value)) → Keeps start rows op.old (St.holds store.old) (St.signs store.old) → AreFed op.old.shape.kinds rows → (St.holds store.old).told ≡ true → AppendsFront (K.contents sink.old) (K.contents sink.new) (answer_text plan.now (group_rows (grouping_of plan.now) rows))) }
-    ensures read { IfOk result (λ ran. (ran.left ≡ fed.read) × (ran.right ≡ 0) × (ran.kept ≡ fed.kept)) }
-    ensures lines { IfOk result (λ ran. (start : Option (List Entry)) (rows : List (List Value)) → Keeps start rows op.old (St.holds store.old) (St.signs store.old) → AreFed op.old.shape.kinds rows → (St.holds store.old).told ≡ true → LineNumbers plan.now rows ran) }
+    ensures ok { OnOk result ((rows : List (List Value)) → HoldsFor rows op.old (St.holds store.old) (St.signs store.old) → (St.holds store.old).told ≡ true → Appends (K.contents sink.old) (K.contents sink.new) (answer_text plan.now (group_rows (grouping_of plan.now) rows))) }
+    ensures err { OnErr result ((rows : List (List Value)) → HoldsFor rows op.old (St.holds store.old) (St.signs store.old) → (St.holds store.old).told ≡ true → AppendsFront (K.contents sink.old) (K.contents sink.new) (answer_text plan.now (group_rows (grouping_of plan.now) rows))) }
+    ensures read { IfOk result (λ ran. (ran.left ≡ read.left) × (ran.right ≡ read.right) × (ran.kept ≡ read.kept)) }
+    ensures lines { IfOk result (λ ran. (rows : List (List Value)) → HoldsFor rows op.old (St.holds store.old) (St.signs store.old) → (St.holds store.old).told ≡ true → LineNumbers plan.now rows ran) }
     ensures kept { OnOk result ((start : Option (List Entry)) (rows : List (List Value)) → Keeps start rows op.old (St.holds store.old) (St.signs store.old) → EnteredEvents (HoldsGroups (shape_of plan.now) (page_of op.old (St.holds store.old)) rows (over op.new.parts (St.holds store.new) (St.signs store.new))) start (St.signs store.new).trail) }
     ensures cause { IfErr result (λ e. side_of e ≡ None) }
     ensures pool { IfErr result (StoppedOver op.old.parts.page_blocks (slots_in (over op.old.parts (St.holds store.old) (St.signs store.old))) (St.signs store.old) (St.signs store.new)) }
     ensures sink { CountsSink (IsErrOf result QueryErr.SinkFault) (K.faults sink.old) (K.faults sink.new) }
-    ensures went { GoesOn op.old op.new (St.holds store.old) (St.holds store.new) (St.signs store.old) (St.signs store.new) }
+    ensures went { HandedOn op.old op.new (St.holds store.old) (St.holds store.new) (St.signs store.old) (St.signs store.new) }
 {
     let (part, sums, totals) = before_rows(alloc, plan)?;
     let lines = AnswerLines {
@@ -82,9 +88,9 @@ pub(crate) fn write_groups<St: Store, K: Sink>(
     went_through(stopped, handed)?;
     part.send(alloc, sink)?;
     Ok(Ran {
-        left: fed.read,
-        right: 0,
-        kept: fed.kept,
+        left: read.left,
+        right: read.right,
+        kept: read.kept,
         lines: rows,
         totals: Totals::of(totals),
     })
@@ -92,7 +98,7 @@ pub(crate) fn write_groups<St: Store, K: Sink>(
 
 // What an answer has before its first row: the line of names, what is summed, and sums of no rows.
 fn before_rows(alloc: Global, plan: &Query) -> Result<(Part, Vec<Agg>, Vec<i128>), Memory>
-    requires { IsGrouping plan.now }
+    requires { HasGroups plan.now }
     ensures part { IfOk result (λ begun. begun.0.lines ≡ line_of (header_of plan.now)) }
     ensures sums { IfOk result (λ begun. begun.1.items ≡ map Sum (range_with_len (length plan.now.group) (length plan.now.aggs))) }
     ensures totals { IfOk result (λ begun. begun.2.items ≡ replicate (length plan.now.aggs) (pos 0)) }
@@ -120,7 +126,7 @@ pub(crate) fn went_through(
 }
 
 // What an error of a grouping is to its query.
-fn of_op(e: OpErr) -> QueryErr
+pub(crate) fn of_op(e: OpErr) -> QueryErr
     ensures { result ≡ cause_of_op e }
 {
     match e {
@@ -162,11 +168,11 @@ fn drive<'a, B: Start, St: Store, K: Sink>(
     requires name { lines.sink.ghost_name ≡ B.name }
     requires sums { lines.sums.items ≡ map Sum B.before.columns }
     requires none { HasTaken B.before [] (written (K.contents lines.sink.now) (K.faults lines.sink.now) lines.stopped lines.part.lines lines.rows lines.totals.items) }
-    ensures ok { OnOk result.0 ((start : Option (List Entry)) (rows : List (List Value)) → Keeps start rows op.old (St.holds store.old) (St.signs store.old) → AreFed op.old.shape.kinds rows → (St.holds store.old).told ≡ true → HasTakenGroups op.old.shape rows B.before (written (K.contents result.1.sink.now) (K.faults result.1.sink.now) result.1.stopped result.1.part.lines result.1.rows result.1.totals.items)) }
-    ensures err { OnErr result.0 ((start : Option (List Entry)) (rows : List (List Value)) → Keeps start rows op.old (St.holds store.old) (St.signs store.old) → AreFed op.old.shape.kinds rows → (St.holds store.old).told ≡ true → HasTakenSome op.old.shape rows B.before (written (K.contents result.1.sink.now) (K.faults result.1.sink.now) result.1.stopped result.1.part.lines result.1.rows result.1.totals.items)) }
+    ensures ok { OnOk result.0 ((rows : List (List Value)) → HoldsFor rows op.old (St.holds store.old) (St.signs store.old) → (St.holds store.old).told ≡ true → HasTakenGroups op.old.shape rows B.before (written (K.contents result.1.sink.now) (K.faults result.1.sink.now) result.1.stopped result.1.part.lines result.1.rows result.1.totals.items)) }
+    ensures err { OnErr result.0 ((rows : List (List Value)) → HoldsFor rows op.old (St.holds store.old) (St.signs store.old) → (St.holds store.old).told ≡ true → HasTakenSome op.old.shape rows B.before (written (K.contents result.1.sink.now) (K.faults result.1.sink.now) result.1.stopped result.1.part.lines result.1.rows result.1.totals.items)) }
     ensures any { (rows : List (List Value)) × HasTaken B.before rows (written (K.contents result.1.sink.now) (K.faults result.1.sink.now) result.1.stopped result.1.part.lines result.1.rows result.1.totals.items) }
     ensures kept { OnOk result.0 ((start : Option (List Entry)) (rows : List (List Value)) → Keeps start rows op.old (St.holds store.old) (St.signs store.old) → EnteredEvents (HoldsGroups op.old.shape (page_of op.old (St.holds store.old)) rows (over op.new.parts (St.holds store.new) (St.signs store.new))) start (St.signs store.new).trail) }
-    ensures went { GoesOn op.old op.new (St.holds store.old) (St.holds store.new) (St.signs store.old) (St.signs store.new) }
+    ensures went { HandedOn op.old op.new (St.holds store.old) (St.holds store.new) (St.signs store.old) (St.signs store.new) }
     ensures cause { IfErr result.0 (CameBeside op.old.parts.page_blocks (slots_in (over op.old.parts (St.holds store.old) (St.signs store.old))) None (K.faults lines.entry.sink.now) (K.faults result.1.sink.now) (St.signs store.old) (St.signs store.new)) }
     ensures never_falls { K.faults lines.entry.sink.now ≤ K.faults result.1.sink.now }
     ensures name { result.1.sink.ghost_name ≡ lines.entry.sink.ghost_name }

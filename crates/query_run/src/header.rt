@@ -1,10 +1,11 @@
 // The line of names.
 
-ghost use Rattle.std.specs.Prelude.{◌≡◌, ◌++◌, IfOk, OnOk, Some, false, map};
+ghost use Rattle.std.specs.Prelude.{◌≡◌, ◌++◌, IfOk, OnOk, Some, codes, false, map};
 ghost use Rattle.row_codec.specs.declared.values.Value.TheVariants.{Text};
+ghost use Rattle.query_plan.specs.Columns.{behind};
 ghost use Rattle.query_plan.specs.Sizes.{groups};
 ghost use Rattle.query_run.specs.Answer.{agg_name, header_of, of_column};
-ghost use Rattle.query_run.specs.Plans.{IsGrouping, name_at};
+ghost use Rattle.query_run.specs.Plans.{HasGroups, name_at, row_columns};
 
 use query_plan::{Query, SidePlan};
 use row_codec::{Agg, Bytes, Column, Memory, Value};
@@ -12,10 +13,23 @@ use std::alloc::Global;
 
 // The names of the columns that are grouped by, and of the aggregates.
 pub(crate) fn header_row(alloc: Global, plan: &Query) -> Result<Vec<Value>, Memory>
-    requires { IsGrouping plan.now }
+    requires { HasGroups plan.now }
     ensures { IfOk result (λ row. row.items ≡ header_of plan.now) }
 {
-    let columns = plan.left.columns.as_slice();
+    let left = plan.left.columns.as_slice();
+    let Some(asked) = &plan.right else {
+        return grouped_names(alloc, left, plan);
+    };
+    let columns = joined_columns(alloc, left, asked.columns.as_slice())?;
+    grouped_names(alloc, &columns, plan)
+}
+
+// The same over the columns of the row that is grouped.
+fn grouped_names(alloc: Global, columns: &[Column], plan: &Query) -> Result<Vec<Value>, Memory>
+    requires groups { HasGroups plan.now }
+    requires columns { columns.now ≡ row_columns plan.now }
+    ensures { IfOk result (λ row. row.items ≡ header_of plan.now) }
+{
     let mut row = Vec::new(alloc);
     push_columns(alloc, columns, plan.group.as_slice(), &mut row)?;
     push_aggs(alloc, columns, plan.aggs.as_slice(), &mut row)?;
@@ -32,25 +46,44 @@ pub(crate) fn joined_header(
     requires groups { groups plan.now ≡ false }
     ensures { IfOk result (λ row. row.items ≡ header_of plan.now) }
 {
+    let columns = joined_columns(
+        alloc,
+        plan.left.columns.as_slice(),
+        asked.columns.as_slice(),
+    )?;
     let mut row = Vec::new(alloc);
-    push_names(alloc, b"left.", plan.left.columns.as_slice(), &mut row)?;
-    push_names(alloc, b"right.", asked.columns.as_slice(), &mut row)?;
+    for column in &columns {
+        row.push(Value::Text(Bytes::of(alloc, column.name.as_slice())?))?;
+    }
     Ok(row)
 }
 
-// Adds the names of a side's columns, each behind the same front.
-fn push_names(
+// The columns of a joined row: the left ones, and then the right ones.
+fn joined_columns(alloc: Global, left: &[Column], right: &[Column]) -> Result<Vec<Column>, Memory>
+    ensures { IfOk result (λ columns. columns.items ≡ behind (codes "left.") left.now ++ behind (codes "right.") right.now) }
+{
+    let mut columns = Vec::new(alloc);
+    push_behind(alloc, b"left.", left, &mut columns)?;
+    push_behind(alloc, b"right.", right, &mut columns)?;
+    Ok(columns)
+}
+
+// Adds columns, each with this in front of its name.
+fn push_behind(
     alloc: Global,
     front: &[u8],
     columns: &[Column],
-    row: &mut Vec<Value>,
+    out: &mut Vec<Column>,
 ) -> Result<(), Memory>
-    ensures { OnOk result (row.new.items ≡ row.old.items ++ map (λ column. Text (front.now ++ column.name)) columns.now) }
+    ensures { OnOk result (out.new.items ≡ out.old.items ++ behind front.now columns.now) }
 {
     for column in columns {
         let mut name = Vec::from_slice(alloc, front)?;
         name.extend_from_slice(column.name.as_slice())?;
-        row.push(Value::Text(Bytes::from_vec(name)))?;
+        out.push(Column {
+            name: Bytes::from_vec(name),
+            kind: column.kind,
+        })?;
     }
     Ok(())
 }

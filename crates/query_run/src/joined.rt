@@ -85,7 +85,12 @@ pub(crate) fn run_joined<St: Store, S: Source, K: Sink>(
 }
 
 // A join of the plan's sides. Where there was no memory, the client comes back.
-fn start(alloc: Global, c: Client, plan: &Query, asked: &SidePlan) -> Result<JoinOp, Client>
+pub(crate) fn start(
+    alloc: Global,
+    c: Client,
+    plan: &Query,
+    asked: &SidePlan,
+) -> Result<JoinOp, Client>
     requires plan { IsRunnable plan.now }
     requires right { plan.now.right ≡ Some asked.now }
     ensures ok { IfOk result (λ op. op ≡ started c plan.now.page_blocks (join_shape_of plan.now asked.now)) }
@@ -155,7 +160,7 @@ fn answer<St: Store, S: Source, K: Sink>(
 }
 
 // Feeds what is left of both sources to a join, the left one first.
-fn feed_both<St: Store, S: Source>(
+pub(crate) fn feed_both<St: Store, S: Source>(
     alloc: Global,
     store: &mut St,
     op: JoinOp,
@@ -219,20 +224,4 @@ fn feed_both<St: Store, S: Source>(
         ),
         Err(e) => (Err(e), op),
     }
-}
-
-// Clients come for both operators of a query that joins and groups, and end.
-pub(crate) fn come_and_go<St: Store>(store: &mut St, plan: &Query)
-    requires plan { IsRunnable plan.now }
-    requires joins { joins plan.now ≡ true }
-    requires groups { groups plan.now ≡ true }
-    requires store { HasRoomFor plan.now (St.holds store.old) }
-    ensures { RanOver plan.now (St.holds store.old) (St.holds store.new) (St.signs store.old) (St.signs store.new) }
-{
-    let bytes = least(plan, store.block_len());
-    let limit = plan.limit.max(bytes);
-    let first = own_client(store, limit, bytes / 2);
-    let second = own_client(store, limit, bytes / 2);
-    store.end_client(second);
-    store.end_client(first);
 }

@@ -7,7 +7,9 @@
 #![tactic(auto)]
 
 mod answering;
+mod both;
 mod client;
+mod feeder;
 mod feeding;
 mod grouped;
 mod grouping;

@@ -1,6 +1,6 @@
 // The pairs of what was fed become the lines of an answer.
 
-ghost use Rattle.std.specs.Prelude.{◌≡◌, ◌+◌, ◌≤◌, ◌<◌, ◌^◌, [], List, Option, None, Some, false, true, map, IfErr, IfOk, IsErrOf, OnErr, OnOk};
+ghost use Rattle.std.specs.Prelude.{◌≡◌, ◌+◌, ◌≤◌, ◌<◌, ◌^◌, [], List, Option, None, Some, false, true, ⊤, map, IfErr, IfOk, IsErrOf, OnErr, OnOk};
 ghost use Rattle.pool_model.specs.declared.entry.Entry.{Entry};
 ghost use Rattle.row_codec.specs.declared.values.Agg.TheVariants.{Sum};
 ghost use Rattle.row_codec.specs.declared.values.Value.{Value};
@@ -51,7 +51,7 @@ pub(crate) fn write_pairs<St: Store, K: Sink>(
     ensures err { OnErr result ((start : Option (List Entry)) → (lefts rights : List (List Value)) → Keeps start lefts rights op.old (St.holds store.old) (St.signs store.old) → (St.holds store.old).told ≡ true → WroteSomePairs plan.now (pairs_of op.old.shape lefts rights) (K.contents sink.old) (K.contents sink.new)) }
     ensures read { IfOk result (λ ran. (ran.left ≡ fed.left.read) × (ran.right ≡ fed.right.read) × (ran.kept ≡ fed.left.kept + fed.right.kept)) }
     ensures lines { IfOk result (λ ran. (start : Option (List Entry)) → (lefts rights : List (List Value)) → Keeps start lefts rights op.old (St.holds store.old) (St.signs store.old) → (St.holds store.old).told ≡ true → LineNumbers plan.now (pairs_of op.old.shape lefts rights) ran) }
-    ensures kept { OnOk result ((start : Option (List Entry)) → (lefts rights : List (List Value)) → Keeps start lefts rights op.old (St.holds store.old) (St.signs store.old) → EnteredEvents (HoldsSides op.old.shape lefts rights (over op.new.left (St.holds store.new) (St.signs store.new)) (over op.new.right (St.holds store.new) (St.signs store.new))) start (St.signs store.new).trail) }
+    ensures kept { OnOk result ((start : Option (List Entry)) → (lefts rights : List (List Value)) → Keeps start lefts rights op.old (St.holds store.old) (St.signs store.old) → EnteredEvents (HoldsSides op.old.shape lefts rights (over op.new.left (St.holds store.new) (St.signs store.new)) (over op.new.right (St.holds store.new) (St.signs store.new)) ⊤) start (St.signs store.new).trail) }
     ensures cause { IfErr result (λ e. side_of e ≡ None) }
     ensures pool { IfErr result (OfPool (StoppedShort op.old.left.page_blocks (St.signs store.old) (St.signs store.new))) }
     ensures sink { CountsSink (IsErrOf result QueryErr.SinkFault) (K.faults sink.old) (K.faults sink.new) }
@@ -106,7 +106,7 @@ fn drive_pairs<'a, B: Start, St: Store, K: Sink>(
     ensures ok { OnOk result.0 ((start : Option (List Entry)) → (lefts rights : List (List Value)) → Keeps start lefts rights op.old (St.holds store.old) (St.signs store.old) → (St.holds store.old).told ≡ true → HasTakenPairs (pairs_of op.old.shape lefts rights) B.before (written (K.contents result.1.sink.now) (K.faults result.1.sink.now) result.1.stopped result.1.part.lines result.1.rows result.1.totals.items)) }
     ensures err { OnErr result.0 ((start : Option (List Entry)) → (lefts rights : List (List Value)) → Keeps start lefts rights op.old (St.holds store.old) (St.signs store.old) → (St.holds store.old).told ≡ true → HasTakenSomePairs (pairs_of op.old.shape lefts rights) B.before (written (K.contents result.1.sink.now) (K.faults result.1.sink.now) result.1.stopped result.1.part.lines result.1.rows result.1.totals.items)) }
     ensures any { (rows : List (List Value)) × HasTaken B.before rows (written (K.contents result.1.sink.now) (K.faults result.1.sink.now) result.1.stopped result.1.part.lines result.1.rows result.1.totals.items) }
-    ensures kept { OnOk result.0 ((start : Option (List Entry)) → (lefts rights : List (List Value)) → Keeps start lefts rights op.old (St.holds store.old) (St.signs store.old) → EnteredEvents (HoldsSides op.old.shape lefts rights (over op.new.left (St.holds store.new) (St.signs store.new)) (over op.new.right (St.holds store.new) (St.signs store.new))) start (St.signs store.new).trail) }
+    ensures kept { OnOk result.0 ((start : Option (List Entry)) → (lefts rights : List (List Value)) → Keeps start lefts rights op.old (St.holds store.old) (St.signs store.old) → EnteredEvents (HoldsSides op.old.shape lefts rights (over op.new.left (St.holds store.new) (St.signs store.new)) (over op.new.right (St.holds store.new) (St.signs store.new)) ⊤) start (St.signs store.new).trail) }
     ensures op { IsOperator op.new (St.holds store.new) (St.signs store.new) }
     ensures client { op.new.client ≡ op.old.client }
     ensures leaves { LeavesOthers op.old.client.tracker (St.holds store.old) (St.holds store.new) (St.signs store.old) (St.signs store.new) }

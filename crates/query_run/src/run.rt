@@ -12,23 +12,22 @@ ghost use Rattle.query_run.specs.Refused.{SaysOfInputs, source};
 ghost use Rattle.query_run.specs.Stopped.{HasRoomFor, MayStop, RanOver};
 ghost use Rattle.query_run.specs.Trail.{KeptRows};
 
+use crate::both::run_both;
 use crate::grouped::run_grouped;
-use crate::joined::{come_and_go, run_joined};
+use crate::joined::run_joined;
 use crate::outcome::{QueryErr, Ran};
 use outside::{Sink, Source};
 use query_plan::Query;
-use reservation_tree::PoolErr;
 use std::alloc::Global;
 use store_api::Store;
 
 /// Runs a query, and writes its answer. All inputs are read before anything is written, the left one first. The rows that
-/// pass the filter of their side are grouped or joined by an operator with a client of its own, which begins with twenty
-/// pages reserved and may have as much as the plan's limit, or the least reservation where that is more; what its memory
-/// can't hold goes to pages of the store. A query that joins and groups what it joined is answered by want of memory so
-/// far, before anything is read.
+/// pass the filter of their side are grouped or joined, or their pairs are grouped. Each of these operators has a client of
+/// its own, which begins with twenty pages reserved and may have as much as the plan's limit, or the least reservation where
+/// that is more; what its memory can't hold goes to pages of the store.
 ///
-/// So an answer is promised where the store tells what a pin shows. Where it doesn't, what comes back may be any bytes,
-/// and bytes that are no row are answered by `Memory`.
+/// So an answer is promised where the store tells what a pin shows. Where it doesn't, what comes back may be any bytes.
+/// Bytes that are no row are answered by `Memory`, and so are pairs that are longer than any of rows that were weighed.
 ///
 /// The store has no live client and room for the least reservation; afterwards it has no live client again, and at
 /// least the room that it had. `right` holds a source exactly where the query joins, and holds it afterwards.
@@ -41,7 +40,8 @@ use store_api::Store;
 /// # Errors
 ///
 /// Those of the inputs, each with its place; `SinkFault`; and `Pool`, where the store answered so in this call or
-/// there was no memory: a growth of a client that is refused is no error, and there are few clients.
+/// there was no memory: a growth of a client that is refused is no error, and there are few clients. `ScratchFull` names
+/// the blocks of a page and the slots that were free; where the query joins and groups, these numbers are not promised.
 pub fn run_query<St: Store, S: Source, K: Sink>(
     alloc: Global,
     store: &mut St,
@@ -76,8 +76,7 @@ pub fn run_query<St: Store, S: Source, K: Sink>(
         None => return run_grouped(alloc, store, plan, left, sink),
     };
     if !plan.group.as_slice().is_empty() {
-        come_and_go(store, plan);
-        return Err(QueryErr::Pool(PoolErr::Memory));
+        return run_both(alloc, store, plan, left, source, sink);
     }
     run_joined(alloc, store, plan, left, source, sink)
 }

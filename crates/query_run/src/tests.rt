@@ -1,5 +1,6 @@
 //! Whole queries over a store in memory, against worked rows. A page has 256 bytes, and a query begins with twenty of them.
 
+mod both;
 mod joined;
 
 ghost use Rattle.std.specs.Prelude.{◌≡◌, ◌≤◌, ◌⊎◌, [], ◌∷◌, codes, IfOk, All, None, length, pos};

@@ -51,7 +51,7 @@ fn preds(alloc: Global, filters: bool) -> Result<Vec<Pred>, AllocError>
     ]?)
 }
 
-fn side(alloc: Global, second: &[u8], filters: bool) -> Result<SidePlan, AllocError>
+pub(crate) fn side(alloc: Global, second: &[u8], filters: bool) -> Result<SidePlan, AllocError>
     ensures side { IfOk result (λ side. IsSide side) }
     ensures kinds { IfOk result (λ side. kinds_of_columns side.columns ≡ Int ∷ Text ∷ []) }
 {

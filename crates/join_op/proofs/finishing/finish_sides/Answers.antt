@@ -1,4 +1,4 @@
-use Rattle.std.proofs.Common.{List}
+use Rattle.std.proofs.Common.{◌≡◌, List}
 use Rattle.row_codec.specs.declared.values.Value.{Value}
 use Rattle.partition_stack.specs.Emitting.{IsBeside}
 use Rattle.partition_stack.specs.Stack.{over}
@@ -37,7 +37,7 @@ pub returns-clause-kept : goal.returns-clause-kept
 returns-clause-kept g c =
     from_two c.join_sides-result.result
     (λ kept between start lefts rights keeps.
-    holds_more c.args.shape.now lefts rights (over c.join_sides-result.new.left (g.St.Store.holds c.join_sides-result.new.store) (g.St.Store.signs c.join_sides-result.new.store)) (over c.join_sides-result.new.right (g.St.Store.holds c.join_sides-result.new.store) (g.St.Store.signs c.join_sides-result.new.store)) (over c.clear.new.self (g.St.Store.holds c.clear-2.new.store) (g.St.Store.signs c.clear-2.new.store)) (over c.clear-2.new.self (g.St.Store.holds c.clear-2.new.store) (g.St.Store.signs c.clear-2.new.store)) start (g.St.Store.signs c.join_sides-result.new.store).trail (g.St.Store.signs c.clear-2.new.store).trail
+    holds_more (c.join_sides-result.new.emit ≡ c.args.emit.now) c.args.shape.now lefts rights (over c.join_sides-result.new.left (g.St.Store.holds c.join_sides-result.new.store) (g.St.Store.signs c.join_sides-result.new.store)) (over c.join_sides-result.new.right (g.St.Store.holds c.join_sides-result.new.store) (g.St.Store.signs c.join_sides-result.new.store)) (over c.clear.new.self (g.St.Store.holds c.clear-2.new.store) (g.St.Store.signs c.clear-2.new.store)) (over c.clear-2.new.self (g.St.Store.holds c.clear-2.new.store) (g.St.Store.signs c.clear-2.new.store)) start (g.St.Store.signs c.join_sides-result.new.store).trail (g.St.Store.signs c.clear-2.new.store).trail
     (cleared_closed c.join_sides-result.new.left.page_blocks c.clear.new.self (g.St.Store.holds c.clear-2.new.store) (g.St.Store.signs c.clear-2.new.store) c.clear.ensures.none) (cleared_closed c.join_sides-result.new.right.page_blocks c.clear-2.new.self (g.St.Store.holds c.clear-2.new.store) (g.St.Store.signs c.clear-2.new.store) c.clear-2.ensures.none)
     (kept start lefts rights keeps) (cleared_first c.args.c.now c.args.shape.now c.join_sides-result.new.left c.join_sides-result.new.right c.clear.new.self c.clear-2.new.self (g.St.Store.holds c.join_sides-result.new.store) (g.St.Store.holds c.clear.new.store) (g.St.Store.holds c.clear-2.new.store) (g.St.Store.signs c.join_sides-result.new.store) (g.St.Store.signs c.clear.new.store) (g.St.Store.signs c.clear-2.new.store) c.join_sides-result.ensures.op c.clear.ensures.ends c.clear-2.ensures.ends c.clear.ensures.none c.clear-2.ensures.none between))
     c.join_sides-result.ensures.kept c.join_sides-result.ensures.closed

@@ -71,7 +71,7 @@ returns-clause-kept g c =
     (λ first between start lefts rights keeps.
     let rested = c.in_ok-rest_both.ensures.kept start lefts rights keeps in
     holds_sides c.args.c.now.tracker c.args.shape.now lefts rights start (both c.rest_both.new.left c.rest_both.new.right (g.St.Store.holds c.rest_both.new.store) (g.St.Store.signs c.rest_both.new.store)) c.rest_both.ensures.op.owns c.in_ok-rest_both.ensures.rested.between c.in_ok-rest_both.ensures.rested.first.sixteen rested
-    (over c.join_parts.new.left (g.St.Store.holds c.join_parts.new.store) (g.St.Store.signs c.join_parts.new.store)) (over c.join_parts.new.right (g.St.Store.holds c.join_parts.new.store) (g.St.Store.signs c.join_parts.new.store)) (g.St.Store.signs c.join_parts.new.store).trail between.left_closed between.right_closed
+    (c.join_parts.new.emit ≡ c.args.emit.now) (over c.join_parts.new.left (g.St.Store.holds c.join_parts.new.store) (g.St.Store.signs c.join_parts.new.store)) (over c.join_parts.new.right (g.St.Store.holds c.join_parts.new.store) (g.St.Store.signs c.join_parts.new.store)) (g.St.Store.signs c.join_parts.new.store).trail between.left_closed between.right_closed
     (first (first_shallow c.rest_both.new.left.levels c.in_ok-rest_both.ensures.rested.first.first)))
     c.join_parts.ensures.first c.join_parts.ensures.closed
 

@@ -1,4 +1,4 @@
-use Rattle.std.proofs.Common.{rules, ◌≡◌, ◌+◌, ◌-◌, ℕ, List, length, arith}
+use Rattle.std.proofs.Common.{rules, ◌≡◌, refl, ◌+◌, ◌-◌, ℕ, List, length, arith}
 use Rattle.row_codec.specs.declared.values.Value.{Value}
 use Rattle.partition_stack.proofs.Emitters.{left_beside, same_beside, stands_left}
 use Rattle.partition_stack.proofs.Results.{on_err, on_ok}
@@ -25,7 +25,7 @@ pub returns-then-not-have_rows-clause-less : goal.returns-then-not-have_rows-cla
 returns-then-not-have_rows-clause-less g c = less_popped c.args.left.now.levels c.drop_top.new.left.levels (c.len-at.result - 1) c.level-level.result c.level-level.ensures.value c.drop_top.ensures.popped.levels
 
 pub returns-then-not-have_rows-clause-first : goal.returns-then-not-have_rows-clause-first
-returns-then-not-have_rows-clause-first g c = λ shallow. gone_on_popped c.args.left.now.levels c.drop_top.new.left.levels (c.len-at.result - 1) _ _ c.drop_top.ensures.popped.levels shallow c.drop_top.ensures.first
+returns-then-not-have_rows-clause-first g c = λ shallow. gone_on_popped (c.args.emit.now ≡ c.args.emit.now) c.args.left.now.levels c.drop_top.new.left.levels (c.len-at.result - 1) _ _ refl c.drop_top.ensures.popped.levels shallow c.drop_top.ensures.first
 
 pub returns-then-not-have_rows-clause-leaves : goal.returns-then-not-have_rows-clause-leaves
 returns-then-not-have_rows-clause-leaves g c = left_beside c.args.c.now.tracker (g.E.Emit.client c.args.emit.now) _ _ _ _ c.drop_top.ensures.leaves
@@ -65,7 +65,7 @@ pub returns-then-not-is_few-clause-less : goal.returns-then-not-is_few-clause-le
 returns-then-not-is_few-clause-less g c = c.in_ok-divide_both.ensures.divided.less
 
 pub returns-then-not-is_few-clause-first : goal.returns-then-not-is_few-clause-first
-returns-then-not-is_few-clause-first g c = λ shallow. gone_on_pinned c.divide_both.new.left.levels _ _ c.in_ok-divide_both.ensures.divided.first
+returns-then-not-is_few-clause-first g c = λ shallow. gone_on_pinned (c.args.emit.now ≡ c.args.emit.now) c.divide_both.new.left.levels _ _ c.in_ok-divide_both.ensures.divided.first
 
 pub returns-then-not-is_few-clause-leaves : goal.returns-then-not-is_few-clause-leaves
 returns-then-not-is_few-clause-leaves g c = left_beside c.args.c.now.tracker (g.E.Emit.client c.args.emit.now) _ _ _ _ c.divide_both.ensures.leaves

@@ -1,4 +1,4 @@
-use Rattle.std.proofs.Common.{rules, ◌∙◌, ◌++◌, ℕ, List, length, subst, arith}
+use Rattle.std.proofs.Common.{rules, ◌≡◌, refl, ◌∙◌, ◌++◌, ℕ, List, length, subst, arith}
 use Rattle.row_codec.specs.declared.values.Value.{Value}
 use Rattle.store_api.specs.Emitters.{CameOf}
 use Rattle.partition_stack.specs.Causes.{IsShortOf}
@@ -14,7 +14,7 @@ use Rattle.join_op.proofs.joining.join_parts.Goals as goal
 
 pub down-init : goal.down-init
 down-init g c =
-    gone_none c.args.c.now c.args.shape.now _ (g.E.Emit.client c.args.emit.now) _ (g.E.Emit.took c.args.emit.now (g.St.Store.holds c.args.store.now)) (both c.args.left.now c.args.right.now (g.St.Store.holds c.args.store.now) (g.St.Store.signs c.args.store.now))
+    gone_none (c.args.emit.now ≡ c.args.emit.now) refl c.args.c.now c.args.shape.now _ (g.E.Emit.client c.args.emit.now) _ (g.E.Emit.took c.args.emit.now (g.St.Store.holds c.args.store.now)) (both c.args.left.now c.args.right.now (g.St.Store.holds c.args.store.now) (g.St.Store.signs c.args.store.now))
     c.requires.between c.requires.op c.requires.emitter.lives
 
 pub reserve_top-requires-clause-op : goal.reserve_top-requires-clause-op
@@ -31,11 +31,11 @@ advance-requires-clause-emitter g c =
     let s = g.St.Store.signs c.down.store in
     let hm = g.St.Store.holds c.reserve_top.new.store in
     let sm = g.St.Store.signs c.reserve_top.new.store in
-    let beside : IsBeside c.args.c.now.tracker (g.E.Emit.client c.down.emit) h = down_beside c.args.c.now c.args.shape.now _ _ _ _ _ _ _ _ (both c.args.left.now c.args.right.now h0 s0) (both c.down.left c.down.right h s) c.down.invariant c.requires.emitter in
+    let beside : IsBeside c.args.c.now.tracker (g.E.Emit.client c.down.emit) h = down_beside (c.down.emit ≡ c.args.emit.now) c.args.c.now c.args.shape.now _ _ _ _ _ _ _ _ (both c.args.left.now c.args.right.now h0 s0) (both c.down.left c.down.right h s) c.down.invariant c.requires.emitter in
     let still : (taken : List (List Value)) → g.E.Emit.took c.down.emit h taken → g.E.Emit.took c.down.emit hm taken =
     λ taken. g.met.E.Emit.asks_own c.down.emit h hm taken (same_beside c.args.c.now.tracker (g.E.Emit.client c.down.emit) h hm s sm beside.apart c.reserve_top.ensures.leaves) in
-    let mid : HasGoneDown c.args.c.now c.args.shape.now (g.E.Emit.admits c.args.emit.now) (g.E.Emit.admits c.down.emit) (g.E.Emit.client c.args.emit.now) (g.E.Emit.client c.down.emit) (g.E.Emit.faults c.args.emit.now) (g.E.Emit.faults c.down.emit) (g.E.Emit.took c.args.emit.now h0) (g.E.Emit.took c.down.emit hm) (both c.args.left.now c.args.right.now h0 s0) (both c.down.left c.down.right hm sm) =
-    down_reserved c.args.c.now c.args.shape.now _ _ _ _ _ _ _ (g.E.Emit.took c.down.emit h) (both c.args.left.now c.args.right.now h0 s0) (both c.down.left c.down.right h s) c.down.invariant (g.E.Emit.took c.down.emit hm) hm sm c.requires.emitter c.reserve_top.ensures.leaves still
+    let mid : HasGoneDown (c.down.emit ≡ c.args.emit.now) c.args.c.now c.args.shape.now (g.E.Emit.admits c.args.emit.now) (g.E.Emit.admits c.down.emit) (g.E.Emit.client c.args.emit.now) (g.E.Emit.client c.down.emit) (g.E.Emit.faults c.args.emit.now) (g.E.Emit.faults c.down.emit) (g.E.Emit.took c.args.emit.now h0) (g.E.Emit.took c.down.emit hm) (both c.args.left.now c.args.right.now h0 s0) (both c.down.left c.down.right hm sm) =
+    down_reserved (c.down.emit ≡ c.args.emit.now) c.args.c.now c.args.shape.now _ _ _ _ _ _ _ (g.E.Emit.took c.down.emit h) (both c.args.left.now c.args.right.now h0 s0) (both c.down.left c.down.right h s) c.down.invariant (g.E.Emit.took c.down.emit hm) hm sm c.requires.emitter c.reserve_top.ensures.leaves still
     c.reserve_top.ensures.between c.reserve_top.ensures.op c.reserve_top.ensures.first c.reserve_top.ensures.shows in
     beside_stands c.args.c.now.tracker _ _ _ _ _ _ _ _ h0 hm c.requires.emitter mid.stands
 
@@ -50,11 +50,11 @@ advance-requires-clause-stands g c =
     let s = g.St.Store.signs c.down.store in
     let hm = g.St.Store.holds c.reserve_top.new.store in
     let sm = g.St.Store.signs c.reserve_top.new.store in
-    let beside : IsBeside c.args.c.now.tracker (g.E.Emit.client c.down.emit) h = down_beside c.args.c.now c.args.shape.now _ _ _ _ _ _ _ _ (both c.args.left.now c.args.right.now h0 s0) (both c.down.left c.down.right h s) c.down.invariant c.requires.emitter in
+    let beside : IsBeside c.args.c.now.tracker (g.E.Emit.client c.down.emit) h = down_beside (c.down.emit ≡ c.args.emit.now) c.args.c.now c.args.shape.now _ _ _ _ _ _ _ _ (both c.args.left.now c.args.right.now h0 s0) (both c.down.left c.down.right h s) c.down.invariant c.requires.emitter in
     let still : (taken : List (List Value)) → g.E.Emit.took c.down.emit h taken → g.E.Emit.took c.down.emit hm taken =
     λ taken. g.met.E.Emit.asks_own c.down.emit h hm taken (same_beside c.args.c.now.tracker (g.E.Emit.client c.down.emit) h hm s sm beside.apart c.reserve_top.ensures.leaves) in
-    let mid : HasGoneDown c.args.c.now c.args.shape.now (g.E.Emit.admits c.args.emit.now) (g.E.Emit.admits c.down.emit) (g.E.Emit.client c.args.emit.now) (g.E.Emit.client c.down.emit) (g.E.Emit.faults c.args.emit.now) (g.E.Emit.faults c.down.emit) (g.E.Emit.took c.args.emit.now h0) (g.E.Emit.took c.down.emit hm) (both c.args.left.now c.args.right.now h0 s0) (both c.down.left c.down.right hm sm) =
-    down_reserved c.args.c.now c.args.shape.now _ _ _ _ _ _ _ (g.E.Emit.took c.down.emit h) (both c.args.left.now c.args.right.now h0 s0) (both c.down.left c.down.right h s) c.down.invariant (g.E.Emit.took c.down.emit hm) hm sm c.requires.emitter c.reserve_top.ensures.leaves still
+    let mid : HasGoneDown (c.down.emit ≡ c.args.emit.now) c.args.c.now c.args.shape.now (g.E.Emit.admits c.args.emit.now) (g.E.Emit.admits c.down.emit) (g.E.Emit.client c.args.emit.now) (g.E.Emit.client c.down.emit) (g.E.Emit.faults c.args.emit.now) (g.E.Emit.faults c.down.emit) (g.E.Emit.took c.args.emit.now h0) (g.E.Emit.took c.down.emit hm) (both c.args.left.now c.args.right.now h0 s0) (both c.down.left c.down.right hm sm) =
+    down_reserved (c.down.emit ≡ c.args.emit.now) c.args.c.now c.args.shape.now _ _ _ _ _ _ _ (g.E.Emit.took c.down.emit h) (both c.args.left.now c.args.right.now h0 s0) (both c.down.left c.down.right h s) c.down.invariant (g.E.Emit.took c.down.emit hm) hm sm c.requires.emitter c.reserve_top.ensures.leaves still
     c.reserve_top.ensures.between c.reserve_top.ensures.op c.reserve_top.ensures.first c.reserve_top.ensures.shows in
     let more = mid.stands.took c.requires.stands.0 c.requires.stands.1 in
     (c.requires.stands.0 ++ more.0, more.1)
@@ -70,15 +70,15 @@ down-preserved g c =
     let s = g.St.Store.signs c.down.store in
     let hm = g.St.Store.holds c.reserve_top.new.store in
     let sm = g.St.Store.signs c.reserve_top.new.store in
-    let beside : IsBeside c.args.c.now.tracker (g.E.Emit.client c.down.emit) h = down_beside c.args.c.now c.args.shape.now _ _ _ _ _ _ _ _ (both c.args.left.now c.args.right.now h0 s0) (both c.down.left c.down.right h s) c.down.invariant c.requires.emitter in
+    let beside : IsBeside c.args.c.now.tracker (g.E.Emit.client c.down.emit) h = down_beside (c.down.emit ≡ c.args.emit.now) c.args.c.now c.args.shape.now _ _ _ _ _ _ _ _ (both c.args.left.now c.args.right.now h0 s0) (both c.down.left c.down.right h s) c.down.invariant c.requires.emitter in
     let still : (taken : List (List Value)) → g.E.Emit.took c.down.emit h taken → g.E.Emit.took c.down.emit hm taken =
     λ taken. g.met.E.Emit.asks_own c.down.emit h hm taken (same_beside c.args.c.now.tracker (g.E.Emit.client c.down.emit) h hm s sm beside.apart c.reserve_top.ensures.leaves) in
-    let mid : HasGoneDown c.args.c.now c.args.shape.now (g.E.Emit.admits c.args.emit.now) (g.E.Emit.admits c.down.emit) (g.E.Emit.client c.args.emit.now) (g.E.Emit.client c.down.emit) (g.E.Emit.faults c.args.emit.now) (g.E.Emit.faults c.down.emit) (g.E.Emit.took c.args.emit.now h0) (g.E.Emit.took c.down.emit hm) (both c.args.left.now c.args.right.now h0 s0) (both c.down.left c.down.right hm sm) =
-    down_reserved c.args.c.now c.args.shape.now _ _ _ _ _ _ _ (g.E.Emit.took c.down.emit h) (both c.args.left.now c.args.right.now h0 s0) (both c.down.left c.down.right h s) c.down.invariant (g.E.Emit.took c.down.emit hm) hm sm c.requires.emitter c.reserve_top.ensures.leaves still
+    let mid : HasGoneDown (c.down.emit ≡ c.args.emit.now) c.args.c.now c.args.shape.now (g.E.Emit.admits c.args.emit.now) (g.E.Emit.admits c.down.emit) (g.E.Emit.client c.args.emit.now) (g.E.Emit.client c.down.emit) (g.E.Emit.faults c.args.emit.now) (g.E.Emit.faults c.down.emit) (g.E.Emit.took c.args.emit.now h0) (g.E.Emit.took c.down.emit hm) (both c.args.left.now c.args.right.now h0 s0) (both c.down.left c.down.right hm sm) =
+    down_reserved (c.down.emit ≡ c.args.emit.now) c.args.c.now c.args.shape.now _ _ _ _ _ _ _ (g.E.Emit.took c.down.emit h) (both c.args.left.now c.args.right.now h0 s0) (both c.down.left c.down.right h s) c.down.invariant (g.E.Emit.took c.down.emit hm) hm sm c.requires.emitter c.reserve_top.ensures.leaves still
     c.reserve_top.ensures.between c.reserve_top.ensures.op c.reserve_top.ensures.first c.reserve_top.ensures.shows in
     let h1 = g.St.Store.holds c.advance.new.store in
     let s1 = g.St.Store.signs c.advance.new.store in
-    down_stepped c.args.c.now c.args.shape.now _ _ _ _ _ _ _ (g.E.Emit.took c.down.emit hm) (both c.args.left.now c.args.right.now h0 s0) (both c.down.left c.down.right hm sm) mid (g.E.Emit.admits c.advance.new.emit) (g.E.Emit.client c.advance.new.emit) (g.E.Emit.faults c.advance.new.emit) (g.E.Emit.took c.advance.new.emit h1)
+    down_stepped (c.down.emit ≡ c.args.emit.now) c.args.c.now c.args.shape.now _ _ _ _ _ _ _ (g.E.Emit.took c.down.emit hm) (both c.args.left.now c.args.right.now h0 s0) (both c.down.left c.down.right hm sm) mid (c.advance.new.emit ≡ c.down.emit) (c.advance.new.emit ≡ c.args.emit.now) (λ so next. next ∙ so) (g.E.Emit.admits c.advance.new.emit) (g.E.Emit.client c.advance.new.emit) (g.E.Emit.faults c.advance.new.emit) (g.E.Emit.took c.advance.new.emit h1)
     (both c.advance.new.left c.advance.new.right h1 s1) c.in_ok-advance.ensures.ok c.advance.ensures.op c.advance.ensures.leaves c.advance.ensures.blocks c.advance.ensures.emitter c.in_ok-advance.ensures.first
 
 pub returns-in_err-advance-clause-err : goal.returns-in_err-advance-clause-err
@@ -89,11 +89,11 @@ returns-in_err-advance-clause-err g c =
     let s = g.St.Store.signs c.down.store in
     let hm = g.St.Store.holds c.reserve_top.new.store in
     let sm = g.St.Store.signs c.reserve_top.new.store in
-    let beside : IsBeside c.args.c.now.tracker (g.E.Emit.client c.down.emit) h = down_beside c.args.c.now c.args.shape.now _ _ _ _ _ _ _ _ (both c.args.left.now c.args.right.now h0 s0) (both c.down.left c.down.right h s) c.down.invariant c.requires.emitter in
+    let beside : IsBeside c.args.c.now.tracker (g.E.Emit.client c.down.emit) h = down_beside (c.down.emit ≡ c.args.emit.now) c.args.c.now c.args.shape.now _ _ _ _ _ _ _ _ (both c.args.left.now c.args.right.now h0 s0) (both c.down.left c.down.right h s) c.down.invariant c.requires.emitter in
     let still : (taken : List (List Value)) → g.E.Emit.took c.down.emit h taken → g.E.Emit.took c.down.emit hm taken =
     λ taken. g.met.E.Emit.asks_own c.down.emit h hm taken (same_beside c.args.c.now.tracker (g.E.Emit.client c.down.emit) h hm s sm beside.apart c.reserve_top.ensures.leaves) in
-    let mid : HasGoneDown c.args.c.now c.args.shape.now (g.E.Emit.admits c.args.emit.now) (g.E.Emit.admits c.down.emit) (g.E.Emit.client c.args.emit.now) (g.E.Emit.client c.down.emit) (g.E.Emit.faults c.args.emit.now) (g.E.Emit.faults c.down.emit) (g.E.Emit.took c.args.emit.now h0) (g.E.Emit.took c.down.emit hm) (both c.args.left.now c.args.right.now h0 s0) (both c.down.left c.down.right hm sm) =
-    down_reserved c.args.c.now c.args.shape.now _ _ _ _ _ _ _ (g.E.Emit.took c.down.emit h) (both c.args.left.now c.args.right.now h0 s0) (both c.down.left c.down.right h s) c.down.invariant (g.E.Emit.took c.down.emit hm) hm sm c.requires.emitter c.reserve_top.ensures.leaves still
+    let mid : HasGoneDown (c.down.emit ≡ c.args.emit.now) c.args.c.now c.args.shape.now (g.E.Emit.admits c.args.emit.now) (g.E.Emit.admits c.down.emit) (g.E.Emit.client c.args.emit.now) (g.E.Emit.client c.down.emit) (g.E.Emit.faults c.args.emit.now) (g.E.Emit.faults c.down.emit) (g.E.Emit.took c.args.emit.now h0) (g.E.Emit.took c.down.emit hm) (both c.args.left.now c.args.right.now h0 s0) (both c.down.left c.down.right hm sm) =
+    down_reserved (c.down.emit ≡ c.args.emit.now) c.args.c.now c.args.shape.now _ _ _ _ _ _ _ (g.E.Emit.took c.down.emit h) (both c.args.left.now c.args.right.now h0 s0) (both c.down.left c.down.right h s) c.down.invariant (g.E.Emit.took c.down.emit hm) hm sm c.requires.emitter c.reserve_top.ensures.leaves still
     c.reserve_top.ensures.between c.reserve_top.ensures.op c.reserve_top.ensures.first c.reserve_top.ensures.shows in
     let h1 = g.St.Store.holds c.advance.new.store in
     let some : (lefts rights : ℕ → List (List ℕ)) → ShowBoth lefts rights (both c.args.left.now c.args.right.now h0 s0) → EmittedSome (g.E.Emit.took c.args.emit.now h0) (g.E.Emit.took c.advance.new.emit h1) (pairs_down c.args.shape.now (length c.args.left.now.streams) lefts rights) =
@@ -114,11 +114,11 @@ returns-in_err-advance-clause-leaves g c =
     let s = g.St.Store.signs c.down.store in
     let hm = g.St.Store.holds c.reserve_top.new.store in
     let sm = g.St.Store.signs c.reserve_top.new.store in
-    let beside : IsBeside c.args.c.now.tracker (g.E.Emit.client c.down.emit) h = down_beside c.args.c.now c.args.shape.now _ _ _ _ _ _ _ _ (both c.args.left.now c.args.right.now h0 s0) (both c.down.left c.down.right h s) c.down.invariant c.requires.emitter in
+    let beside : IsBeside c.args.c.now.tracker (g.E.Emit.client c.down.emit) h = down_beside (c.down.emit ≡ c.args.emit.now) c.args.c.now c.args.shape.now _ _ _ _ _ _ _ _ (both c.args.left.now c.args.right.now h0 s0) (both c.down.left c.down.right h s) c.down.invariant c.requires.emitter in
     let still : (taken : List (List Value)) → g.E.Emit.took c.down.emit h taken → g.E.Emit.took c.down.emit hm taken =
     λ taken. g.met.E.Emit.asks_own c.down.emit h hm taken (same_beside c.args.c.now.tracker (g.E.Emit.client c.down.emit) h hm s sm beside.apart c.reserve_top.ensures.leaves) in
-    let mid : HasGoneDown c.args.c.now c.args.shape.now (g.E.Emit.admits c.args.emit.now) (g.E.Emit.admits c.down.emit) (g.E.Emit.client c.args.emit.now) (g.E.Emit.client c.down.emit) (g.E.Emit.faults c.args.emit.now) (g.E.Emit.faults c.down.emit) (g.E.Emit.took c.args.emit.now h0) (g.E.Emit.took c.down.emit hm) (both c.args.left.now c.args.right.now h0 s0) (both c.down.left c.down.right hm sm) =
-    down_reserved c.args.c.now c.args.shape.now _ _ _ _ _ _ _ (g.E.Emit.took c.down.emit h) (both c.args.left.now c.args.right.now h0 s0) (both c.down.left c.down.right h s) c.down.invariant (g.E.Emit.took c.down.emit hm) hm sm c.requires.emitter c.reserve_top.ensures.leaves still
+    let mid : HasGoneDown (c.down.emit ≡ c.args.emit.now) c.args.c.now c.args.shape.now (g.E.Emit.admits c.args.emit.now) (g.E.Emit.admits c.down.emit) (g.E.Emit.client c.args.emit.now) (g.E.Emit.client c.down.emit) (g.E.Emit.faults c.args.emit.now) (g.E.Emit.faults c.down.emit) (g.E.Emit.took c.args.emit.now h0) (g.E.Emit.took c.down.emit hm) (both c.args.left.now c.args.right.now h0 s0) (both c.down.left c.down.right hm sm) =
+    down_reserved (c.down.emit ≡ c.args.emit.now) c.args.c.now c.args.shape.now _ _ _ _ _ _ _ (g.E.Emit.took c.down.emit h) (both c.args.left.now c.args.right.now h0 s0) (both c.down.left c.down.right h s) c.down.invariant (g.E.Emit.took c.down.emit hm) hm sm c.requires.emitter c.reserve_top.ensures.leaves still
     c.reserve_top.ensures.between c.reserve_top.ensures.op c.reserve_top.ensures.first c.reserve_top.ensures.shows in
     beside_more c.args.c.now.tracker _ _ _ _ _ _ _ _ mid.stands.client_same mid.leaves c.advance.ensures.leaves
 
@@ -130,11 +130,11 @@ returns-in_err-advance-clause-emitter g c =
     let s = g.St.Store.signs c.down.store in
     let hm = g.St.Store.holds c.reserve_top.new.store in
     let sm = g.St.Store.signs c.reserve_top.new.store in
-    let beside : IsBeside c.args.c.now.tracker (g.E.Emit.client c.down.emit) h = down_beside c.args.c.now c.args.shape.now _ _ _ _ _ _ _ _ (both c.args.left.now c.args.right.now h0 s0) (both c.down.left c.down.right h s) c.down.invariant c.requires.emitter in
+    let beside : IsBeside c.args.c.now.tracker (g.E.Emit.client c.down.emit) h = down_beside (c.down.emit ≡ c.args.emit.now) c.args.c.now c.args.shape.now _ _ _ _ _ _ _ _ (both c.args.left.now c.args.right.now h0 s0) (both c.down.left c.down.right h s) c.down.invariant c.requires.emitter in
     let still : (taken : List (List Value)) → g.E.Emit.took c.down.emit h taken → g.E.Emit.took c.down.emit hm taken =
     λ taken. g.met.E.Emit.asks_own c.down.emit h hm taken (same_beside c.args.c.now.tracker (g.E.Emit.client c.down.emit) h hm s sm beside.apart c.reserve_top.ensures.leaves) in
-    let mid : HasGoneDown c.args.c.now c.args.shape.now (g.E.Emit.admits c.args.emit.now) (g.E.Emit.admits c.down.emit) (g.E.Emit.client c.args.emit.now) (g.E.Emit.client c.down.emit) (g.E.Emit.faults c.args.emit.now) (g.E.Emit.faults c.down.emit) (g.E.Emit.took c.args.emit.now h0) (g.E.Emit.took c.down.emit hm) (both c.args.left.now c.args.right.now h0 s0) (both c.down.left c.down.right hm sm) =
-    down_reserved c.args.c.now c.args.shape.now _ _ _ _ _ _ _ (g.E.Emit.took c.down.emit h) (both c.args.left.now c.args.right.now h0 s0) (both c.down.left c.down.right h s) c.down.invariant (g.E.Emit.took c.down.emit hm) hm sm c.requires.emitter c.reserve_top.ensures.leaves still
+    let mid : HasGoneDown (c.down.emit ≡ c.args.emit.now) c.args.c.now c.args.shape.now (g.E.Emit.admits c.args.emit.now) (g.E.Emit.admits c.down.emit) (g.E.Emit.client c.args.emit.now) (g.E.Emit.client c.down.emit) (g.E.Emit.faults c.args.emit.now) (g.E.Emit.faults c.down.emit) (g.E.Emit.took c.args.emit.now h0) (g.E.Emit.took c.down.emit hm) (both c.args.left.now c.args.right.now h0 s0) (both c.down.left c.down.right hm sm) =
+    down_reserved (c.down.emit ≡ c.args.emit.now) c.args.c.now c.args.shape.now _ _ _ _ _ _ _ (g.E.Emit.took c.down.emit h) (both c.args.left.now c.args.right.now h0 s0) (both c.down.left c.down.right h s) c.down.invariant (g.E.Emit.took c.down.emit hm) hm sm c.requires.emitter c.reserve_top.ensures.leaves still
     c.reserve_top.ensures.between c.reserve_top.ensures.op c.reserve_top.ensures.first c.reserve_top.ensures.shows in
     stands_then _ _ _ _ _ _ _ _ _ _ _ _ _ _ mid.stands c.advance.ensures.emitter
 
@@ -146,11 +146,11 @@ returns-in_err-advance-clause-cause g c =
     let s = g.St.Store.signs c.down.store in
     let hm = g.St.Store.holds c.reserve_top.new.store in
     let sm = g.St.Store.signs c.reserve_top.new.store in
-    let beside : IsBeside c.args.c.now.tracker (g.E.Emit.client c.down.emit) h = down_beside c.args.c.now c.args.shape.now _ _ _ _ _ _ _ _ (both c.args.left.now c.args.right.now h0 s0) (both c.down.left c.down.right h s) c.down.invariant c.requires.emitter in
+    let beside : IsBeside c.args.c.now.tracker (g.E.Emit.client c.down.emit) h = down_beside (c.down.emit ≡ c.args.emit.now) c.args.c.now c.args.shape.now _ _ _ _ _ _ _ _ (both c.args.left.now c.args.right.now h0 s0) (both c.down.left c.down.right h s) c.down.invariant c.requires.emitter in
     let still : (taken : List (List Value)) → g.E.Emit.took c.down.emit h taken → g.E.Emit.took c.down.emit hm taken =
     λ taken. g.met.E.Emit.asks_own c.down.emit h hm taken (same_beside c.args.c.now.tracker (g.E.Emit.client c.down.emit) h hm s sm beside.apart c.reserve_top.ensures.leaves) in
-    let mid : HasGoneDown c.args.c.now c.args.shape.now (g.E.Emit.admits c.args.emit.now) (g.E.Emit.admits c.down.emit) (g.E.Emit.client c.args.emit.now) (g.E.Emit.client c.down.emit) (g.E.Emit.faults c.args.emit.now) (g.E.Emit.faults c.down.emit) (g.E.Emit.took c.args.emit.now h0) (g.E.Emit.took c.down.emit hm) (both c.args.left.now c.args.right.now h0 s0) (both c.down.left c.down.right hm sm) =
-    down_reserved c.args.c.now c.args.shape.now _ _ _ _ _ _ _ (g.E.Emit.took c.down.emit h) (both c.args.left.now c.args.right.now h0 s0) (both c.down.left c.down.right h s) c.down.invariant (g.E.Emit.took c.down.emit hm) hm sm c.requires.emitter c.reserve_top.ensures.leaves still
+    let mid : HasGoneDown (c.down.emit ≡ c.args.emit.now) c.args.c.now c.args.shape.now (g.E.Emit.admits c.args.emit.now) (g.E.Emit.admits c.down.emit) (g.E.Emit.client c.args.emit.now) (g.E.Emit.client c.down.emit) (g.E.Emit.faults c.args.emit.now) (g.E.Emit.faults c.down.emit) (g.E.Emit.took c.args.emit.now h0) (g.E.Emit.took c.down.emit hm) (both c.args.left.now c.args.right.now h0 s0) (both c.down.left c.down.right hm sm) =
+    down_reserved (c.down.emit ≡ c.args.emit.now) c.args.c.now c.args.shape.now _ _ _ _ _ _ _ (g.E.Emit.took c.down.emit h) (both c.args.left.now c.args.right.now h0 s0) (both c.down.left c.down.right h s) c.down.invariant (g.E.Emit.took c.down.emit hm) hm sm c.requires.emitter c.reserve_top.ensures.leaves still
     c.reserve_top.ensures.between c.reserve_top.ensures.op c.reserve_top.ensures.first c.reserve_top.ensures.shows in
     let came : CameOf (g.E.Emit.faults c.args.emit.now) (g.E.Emit.faults c.advance.new.emit) (g.St.Store.signs c.args.store.now) (g.St.Store.signs c.advance.new.store) c.in_err-advance.field-0.0 =
     came_behind _ _ _ _ _ _ _ mid.stands.never_falls mid.leaves.grows c.in_err-advance.ensures.cause in
@@ -175,7 +175,7 @@ returns-clause-ok g c =
     advances_all c.args.shape.now (g.E.Emit.took c.args.emit.now h0) (g.E.Emit.took c.down.emit h) lefts rights (both c.args.left.now c.args.right.now h0 s0) (both c.down.left c.down.right h s) (omega (arith, end, len)) (c.down.invariant.rows lefts rights shows)
 
 pub returns-clause-first : goal.returns-clause-first
-returns-clause-first g c = λ shallow. gone_on_all c.down.left.levels _ _ (c.down.invariant.first shallow)
+returns-clause-first g c = λ shallow. gone_on_all (c.down.emit ≡ c.args.emit.now) c.down.left.levels _ _ (c.down.invariant.first shallow)
 
 pub returns-clause-op : goal.returns-clause-op
 returns-clause-op g c = c.down.invariant.op

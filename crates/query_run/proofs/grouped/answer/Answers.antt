@@ -7,7 +7,7 @@ use Rattle.query_run.specs.Plans.{shape_of}
 use Rattle.query_run.proofs.Going.{goes_then, stopped_later}
 use Rattle.partition_stack.proofs.Results.{if_err, if_ok, on_ok}
 use Rattle.query_run.proofs.Results.{at_err, both_ok, of_err}
-use Rattle.query_run.proofs.Whole.{all_numbers, fed_as, grouped, left_kinds, part_answer, passing_are, passing_of, same_page, whole_answer}
+use Rattle.query_run.proofs.Whole.{all_numbers, fed_as, grouped, groups_alone, holds_for, left_kinds, part_answer, passing_are, passing_of, same_page, whole_answer}
 use Rattle.query_run.proofs.Taken.{group_feeds_none, group_goes_none}
 use Rattle.query_run.proofs.grouped.answer.Goals as goal
 
@@ -17,7 +17,7 @@ returns-clause-answer g c = λ told.
     let keeps = has.came _ [] c.requires.keeps in
     let tells = c.feed_side.ensures.goes.went.leaves.others.told ∙ told in
     let formed = fed_as c.args.plan.now c.feed_side.new.op.shape _ c.requires.plan.alone (c.feed_side.ensures.goes.same.shape ∙ c.requires.shape) has.formed in
-    on_ok c.write_groups.result (λ ok. whole_answer c.args.plan.now c.args.page c.requires.plan.alone (grouped c.args.plan.now c.requires.plan) _ _ _ has.rows has.are (ok _ _ keeps formed tells)) c.write_groups.ensures.ok
+    on_ok c.write_groups.result (λ ok. whole_answer c.args.plan.now c.args.page c.requires.plan.alone (grouped c.args.plan.now (groups_alone c.args.plan.now c.requires.plan)) _ _ _ has.rows has.are (ok _ (holds_for _ _ _ _ _ keeps formed) tells)) c.write_groups.ensures.ok
 
 pub returns-clause-numbers : goal.returns-clause-numbers
 returns-clause-numbers g c =
@@ -25,8 +25,8 @@ returns-clause-numbers g c =
     let keeps = has.came _ [] c.requires.keeps in
     let formed = fed_as c.args.plan.now c.feed_side.new.op.shape _ c.requires.plan.alone (c.feed_side.ensures.goes.same.shape ∙ c.requires.shape) has.formed in
     if_ok c.write_groups.result (λ ran both.
-    all_numbers c.args.plan.now c.args.page c.requires.plan.alone (grouped c.args.plan.now c.requires.plan) _ _ has.rows c.in_ok-fed.fed ran has.are has.read has.kept both.0.0 both.0.1 both.0.2
-    (λ told. both.1 _ _ keeps formed (c.feed_side.ensures.goes.went.leaves.others.told ∙ told))) (both_ok _ _ c.write_groups.result c.write_groups.ensures.read c.write_groups.ensures.lines)
+    all_numbers c.args.plan.now c.args.page c.requires.plan.alone (grouped c.args.plan.now (groups_alone c.args.plan.now c.requires.plan)) _ _ has.rows c.in_ok-fed.fed ran has.are has.read has.kept both.0.0 both.0.1 both.0.2
+    (λ told. both.1 _ (holds_for _ _ _ _ _ keeps formed) (c.feed_side.ensures.goes.went.leaves.others.told ∙ told))) (both_ok _ _ c.write_groups.result c.write_groups.ensures.read c.write_groups.ensures.lines)
 
 pub returns-clause-pool : goal.returns-clause-pool
 returns-clause-pool g c =
@@ -39,7 +39,7 @@ returns-clause-front g c = λ told failed.
     let keeps = has.came _ [] c.requires.keeps in
     let tells = c.feed_side.ensures.goes.went.leaves.others.told ∙ told in
     let formed = fed_as c.args.plan.now c.feed_side.new.op.shape _ c.requires.plan.alone (c.feed_side.ensures.goes.same.shape ∙ c.requires.shape) has.formed in
-    part_answer c.args.plan.now c.args.page c.requires.plan.alone (grouped c.args.plan.now c.requires.plan) _ _ _ has.rows has.are (at_err c.write_groups.result _ failed c.write_groups.ensures.err _ _ keeps formed tells)
+    part_answer c.args.plan.now c.args.page c.requires.plan.alone (grouped c.args.plan.now (groups_alone c.args.plan.now c.requires.plan)) _ _ _ has.rows has.are (at_err c.write_groups.result _ failed c.write_groups.ensures.err _ (holds_for _ _ _ _ _ keeps formed) tells)
 
 pub returns-clause-stopped : goal.returns-clause-stopped
 returns-clause-stopped g c =
@@ -47,7 +47,7 @@ returns-clause-stopped g c =
     let keeps = has.came _ [] c.requires.keeps in
     let read = c.in_ok-fed.ensures.read in
     let formed = fed_as c.args.plan.now c.feed_side.new.op.shape _ c.requires.plan.alone (c.feed_side.ensures.goes.same.shape ∙ c.requires.shape) has.formed in
-    of_err c.write_groups.result (λ err e. inr (read, λ told. part_answer c.args.plan.now c.args.page c.requires.plan.alone (grouped c.args.plan.now c.requires.plan) _ _ _ has.rows has.are (err _ _ keeps formed (c.feed_side.ensures.goes.went.leaves.others.told ∙ told)))) c.write_groups.ensures.err
+    of_err c.write_groups.result (λ err e. inr (read, λ told. part_answer c.args.plan.now c.args.page c.requires.plan.alone (grouped c.args.plan.now (groups_alone c.args.plan.now c.requires.plan)) _ _ _ has.rows has.are (err _ (holds_for _ _ _ _ _ keeps formed) (c.feed_side.ensures.goes.went.leaves.others.told ∙ told)))) c.write_groups.ensures.err
 
 pub returns-clause-kept : goal.returns-clause-kept
 returns-clause-kept g c =
@@ -61,7 +61,7 @@ returns-clause-kept g c =
     }) c.write_groups.ensures.kept
 
 pub returns-clause-went : goal.returns-clause-went
-returns-clause-went g c = goes_then c.args.op.now c.feed_side.new.op c.write_groups.new.op _ _ _ _ _ _ c.feed_side.ensures.goes.went c.write_groups.ensures.went
+returns-clause-went g c = goes_then c.args.op.now c.feed_side.new.op c.write_groups.new.op _ _ _ _ _ _ c.feed_side.ensures.goes.went c.write_groups.ensures.went.went
 
 pub feed_side-requires-clause-kinds : goal.feed_side-requires-clause-kinds
 feed_side-requires-clause-kinds g c = ap (λ (s : Shape). s.kinds) c.requires.shape ∙ sym (left_kinds c.args.plan.now c.requires.plan.alone)
@@ -80,3 +80,6 @@ feed_side-requires-clause-goes g c = group_goes_none _ _ _ (record { is = c.requ
 
 pub feed_side-requires-clause-memory : goal.feed_side-requires-clause-memory
 feed_side-requires-clause-memory g c = λ after. record { answered = tt; want = tt }
+
+pub write_groups-requires-clause-plan : goal.write_groups-requires-clause-plan
+write_groups-requires-clause-plan g c = groups_alone c.args.plan.now c.requires.plan

@@ -10,9 +10,9 @@ use Rattle.store_api.specs.Tokens.{ClientToken}
 use Rattle.query_run.specs.Answer.{WroteFront}
 use Rattle.query_run.specs.Both.{both_told}
 use Rattle.query_run.specs.Stopped.{IsLeft}
-use Rattle.query_run.proofs.Around.{ends_first, kept_whole, left_around, one_amount, slots_first, starts_here, stopped_around}
+use Rattle.query_run.proofs.Around.{ends_first, kept_whole, left_around, left_behind, one_amount, slots_first, starts_here, stopped_around}
 use Rattle.query_run.proofs.KeptFirst.{reserves_first}
-use Rattle.query_run.proofs.Visits.{back_none, left_behind}
+use Rattle.query_run.proofs.Whole.{groups_alone}
 use Rattle.partition_stack.proofs.Results.{if_err, on_ok}
 use Rattle.query_run.proofs.grouped.run_grouped.Goals as goal
 
@@ -93,7 +93,10 @@ returns-in-Err-clause-store g c =
     c.end_client.ensures.value ∙ ap (λ (t : ClientToken). after_end_client t.tracker (g.St.Store.holds c.own_client-c.new.store)) c.in-Err.ensures.err in
     record {
       reserves = rw (one_amount c.args.plan.now was.block_len c.requires.plan.alone) (reserves_first was.session c.own_client-c.result.tracker was.query c.max.result c.least-bytes.result (least_of c.args.plan.now was.block_len) (g.St.Store.signs c.args.store.now) (g.St.Store.signs c.own_client-c.new.store) (g.St.Store.signs c.end_client.new.self) c.own_client-c.ensures.entries c.end_client.ensures.grows (search rules) (search rules));
-      left = rw ended (left_behind c.own_client-c.result _ _ was _ _ c.requires.store.idle own (back_none _));
+      left = rw ended (left_behind c.own_client-c.result _ _ was _ c.requires.store.idle own);
       free = λ alone. rw ended own.free_slots;
       grows = grows_trans _ _ _ c.own_client-c.ensures.grows c.end_client.ensures.grows;
     }
+
+pub start_grouping-requires : goal.start_grouping-requires
+start_grouping-requires g c = groups_alone c.args.plan.now c.requires.plan

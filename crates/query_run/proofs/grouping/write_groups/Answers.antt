@@ -9,7 +9,7 @@ use Rattle.query_run.proofs.grouping.write_groups.Goals as goal
 
 pub returns-in_err-part-clause-err : goal.returns-in_err-part-clause-err
 returns-in_err-part-clause-err g c =
-    any_err c.from_residual.result (λ start rows keeps fed told. untouched (g.K.Sink.contents c.args.sink.now) (answer_text c.args.plan.now (group_rows (grouping_of c.args.plan.now) rows)))
+    any_err c.from_residual.result (λ rows holds told. untouched (g.K.Sink.contents c.args.sink.now) (answer_text c.args.plan.now (group_rows (grouping_of c.args.plan.now) rows)))
 
 pub drive-handed-requires-clause-none : goal.drive-handed-requires-clause-none
 drive-handed-requires-clause-none g c =
@@ -18,28 +18,28 @@ drive-handed-requires-clause-none g c =
 
 pub returns-in_err-went_through-clause-err : goal.returns-in_err-went_through-clause-err
 returns-in_err-went_through-clause-err g c =
-    any_err c.from_residual-in_err-went_through.result (λ start rows keeps fed told.
+    any_err c.from_residual-in_err-went_through.result (λ rows holds told.
     stopped_front c.args.plan.now c.args.op.now.shape _ rows _ (g.K.Sink.contents c.drive-handed.result.1.sink.now) _ _ _ _ c.requires.shape c.in_ok-part.ensures.part _ (search rules)
     (some_anyhow _ rows c.args.op.now.shape _ _ _ _ _ _ c.drive-handed.result.0
-    (on_ok c.drive-handed.result.0 (λ all. all start rows keeps fed told) c.drive-handed.ensures.ok)
-    (on_err c.drive-handed.result.0 (λ some. some start rows keeps fed told) c.drive-handed.ensures.err)))
+    (on_ok c.drive-handed.result.0 (λ all. all rows holds told) c.drive-handed.ensures.ok)
+    (on_err c.drive-handed.result.0 (λ some. some rows holds told) c.drive-handed.ensures.err)))
 
 pub returns-in_err-send-clause-err : goal.returns-in_err-send-clause-err
 returns-in_err-send-clause-err g c =
-    any_err c.from_residual-in_err-send.result (λ start rows keeps fed told.
+    any_err c.from_residual-in_err-send.result (λ rows holds told.
     unsent_front c.args.plan.now c.args.op.now.shape _ rows c.drive-handed.result.1.stopped (g.K.Sink.contents c.drive-handed.result.1.sink.now) _ _ _ _ c.requires.shape c.in_ok-part.ensures.part
     (g.K.Sink.contents c.send.new.sink) _ (not_stopped c.drive-handed.result.1.stopped c.drive-handed.result.0 c.in_ok-went_through.ensures.ok) (search rules)
-    (all_handed c.drive-handed.result.1.stopped c.drive-handed.result.0 c.in_ok-went_through.ensures.ok (on_ok c.drive-handed.result.0 (λ all. all start rows keeps fed told) c.drive-handed.ensures.ok))
+    (all_handed c.drive-handed.result.1.stopped c.drive-handed.result.0 c.in_ok-went_through.ensures.ok (on_ok c.drive-handed.result.0 (λ all. all rows holds told) c.drive-handed.ensures.ok))
     c.in_err-send.ensures.front)
 
 pub returns-clause-ok : goal.returns-clause-ok
-returns-clause-ok g c = λ start rows keeps fed told.
+returns-clause-ok g c = λ rows holds told.
     whole_answer c.args.plan.now c.args.op.now.shape _ rows c.drive-handed.result.1.stopped (g.K.Sink.contents c.drive-handed.result.1.sink.now) _ _ _ _ c.requires.shape c.in_ok-part.ensures.part
     (g.K.Sink.contents c.send.new.sink) _ (not_stopped c.drive-handed.result.1.stopped c.drive-handed.result.0 c.in_ok-went_through.ensures.ok) (search rules)
-    (all_handed c.drive-handed.result.1.stopped c.drive-handed.result.0 c.in_ok-went_through.ensures.ok (on_ok c.drive-handed.result.0 (λ all. all start rows keeps fed told) c.drive-handed.ensures.ok))
+    (all_handed c.drive-handed.result.1.stopped c.drive-handed.result.0 c.in_ok-went_through.ensures.ok (on_ok c.drive-handed.result.0 (λ all. all rows holds told) c.drive-handed.ensures.ok))
     c.in_ok-send.ensures.ok
 
 pub returns-clause-lines : goal.returns-clause-lines
-returns-clause-lines g c = λ start rows keeps fed told.
+returns-clause-lines g c = λ rows holds told.
     numbers_are c.args.plan.now c.args.op.now.shape _ rows c.drive-handed.result.1.stopped _ _ _ c.drive-handed.result.1.totals.items _ (grouped c.args.plan.now c.requires.plan) c.requires.shape refl c.of.ensures
-    (all_handed c.drive-handed.result.1.stopped c.drive-handed.result.0 c.in_ok-went_through.ensures.ok (on_ok c.drive-handed.result.0 (λ all. all start rows keeps fed told) c.drive-handed.ensures.ok))
+    (all_handed c.drive-handed.result.1.stopped c.drive-handed.result.0 c.in_ok-went_through.ensures.ok (on_ok c.drive-handed.result.0 (λ all. all rows holds told) c.drive-handed.ensures.ok))

@@ -1,4 +1,5 @@
 use Rattle.std.proofs.Common.{◌≡◌, ◌∙◌, ◌<◌, ◌+◌, ◌^◌, List, inr, sym, subst, arith}
+use Rattle.std.specs.Prelude.{⊤}
 use Rattle.partition_stack.proofs.Left.{leaves_both}
 use Rattle.partition_stack.proofs.Results.{if_err, if_ok, on_ok}
 use Rattle.partition_stack.specs.Leaving.{LeavesOthers}
@@ -39,7 +40,7 @@ returns-clause-numbers g c =
     let has = of_ok _ c.feed_both-fed.result.0 c.in-Ok.fed c.in-Ok.is c.feed_both-fed.ensures.ok in
     let goes = c.feed_both-fed.ensures.goes in
     let shape = goes.same.shape ∙ c.requires.shape in
-    if_ok c.write_pairs-result.result (λ ran both. joined_numbers c.args.plan.now c.args.asked.now c.args.page c.requires.right c.requires.groups _ _ _ _ _ _ ran has both.0.0 both.0.1 both.0.2
+    if_ok c.write_pairs-result.result (λ ran both. joined_numbers c.args.plan.now c.args.asked.now c.args.page c.requires.right _ _ _ _ _ _ ran has both.0.0 both.0.1 both.0.2
     (λ told. subst (λ (s : JoinShape). LineNumbers c.args.plan.now (pairs_of s has.lefts has.rights) ran) shape (both.1 _ _ _ has.kept (goes.leaves.others.told ∙ told))))
     (both_ok _ _ c.write_pairs-result.result c.write_pairs-result.ensures.read c.write_pairs-result.ensures.lines)
 
@@ -72,7 +73,7 @@ returns-clause-kept g c =
     let f = over c.write_pairs-result.new.op.left (g.St.Store.holds c.write_pairs-result.new.store) (g.St.Store.signs c.write_pairs-result.new.store) in
     let k = over c.write_pairs-result.new.op.right (g.St.Store.holds c.write_pairs-result.new.store) (g.St.Store.signs c.write_pairs-result.new.store) in
     on_ok c.write_pairs-result.result (λ kept. both_kept c.args.plan.now c.args.asked.now c.args.page _ _ _ _ _ f k _ _ has
-    (subst (λ (s : JoinShape). EnteredEvents (HoldsSides s has.lefts has.rights f k) (g.St.Store.signs c.args.store.now).trail (g.St.Store.signs c.write_pairs-result.new.store).trail) shape (kept _ _ _ has.kept))) c.write_pairs-result.ensures.kept
+    (subst (λ (s : JoinShape). EnteredEvents (HoldsSides s has.lefts has.rights f k ⊤) (g.St.Store.signs c.args.store.now).trail (g.St.Store.signs c.write_pairs-result.new.store).trail) shape (kept _ _ _ has.kept))) c.write_pairs-result.ensures.kept
 
 pub returns-clause-op : goal.returns-clause-op
 returns-clause-op g c = (c.write_pairs-result.ensures.op, c.write_pairs-result.ensures.client ∙ c.feed_both-fed.ensures.goes.same.client)

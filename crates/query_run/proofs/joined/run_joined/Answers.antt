@@ -11,11 +11,10 @@ use Rattle.query_run.specs.Both.{both_told}
 use Rattle.query_run.specs.Answer.{WroteFront}
 use Rattle.query_run.specs.Stopped.{IsLeft}
 use Rattle.query_run.proofs.Alone.{not_joined}
-use Rattle.query_run.proofs.Around.{left_around}
+use Rattle.query_run.proofs.Around.{left_around, left_behind}
 use Rattle.query_run.proofs.Joining.{both_end_first, joins_here, kept_joined, one_join, stopped_join}
 use Rattle.query_run.proofs.KeptFirst.{reserves_first}
 use Rattle.query_run.proofs.Says.{memory_stops, says_neither}
-use Rattle.query_run.proofs.Visits.{back_none, left_behind}
 use Rattle.query_run.proofs.joined.run_joined.Goals as goal
 
 pub answer-result-requires-clause-stands : goal.answer-result-requires-clause-stands
@@ -44,7 +43,7 @@ returns-in-Err-clause-store g c =
     c.end_client.ensures.value ∙ ap (λ (t : ClientToken). after_end_client t.tracker (g.St.Store.holds c.own_client-c.new.store)) c.in-Err.ensures.err in
     record {
       reserves = rw (one_join c.args.plan.now was.block_len c.requires.groups) (reserves_first was.session c.own_client-c.result.tracker was.query c.max.result c.least-bytes.result (least_of c.args.plan.now was.block_len) (g.St.Store.signs c.args.store.now) (g.St.Store.signs c.own_client-c.new.store) (g.St.Store.signs c.end_client.new.self) c.own_client-c.ensures.entries c.end_client.ensures.grows (search rules) (search rules));
-      left = rw ended (left_behind c.own_client-c.result _ _ was _ _ c.requires.store.idle own (back_none _));
+      left = rw ended (left_behind c.own_client-c.result _ _ was _ c.requires.store.idle own);
       free = λ alone. absurd (not_joined c.args.plan.now alone c.requires.joins);
       grows = grows_trans _ _ _ c.own_client-c.ensures.grows c.end_client.ensures.grows;
     }
@@ -54,7 +53,7 @@ returns-clause-pool g c =
     let planned : c.args.plan.now.right ≡ Some c.in-Some.asked = search rules in
     let blocks : c.in-Ok.op.left.page_blocks ≡ c.args.plan.now.page_blocks = ap (λ (op : Operator). op.left.page_blocks) c.in-Ok.ensures.ok in
     let later = grows_trans _ _ _ c.end-c.ensures.leaves.grows c.end_client-2.ensures.grows in
-    if_err c.answer-result.result.0 (λ e came. stopped_join c.args.plan.now c.in-Some.asked _ (g.St.Store.holds c.args.store.now) _ _ _ _ e planned blocks c.own_client-c.ensures.grows later came) c.answer-result.ensures.pool
+    if_err c.answer-result.result.0 (λ e came. stopped_join c.args.plan.now c.in-Some.asked _ (g.St.Store.holds c.args.store.now) _ _ _ _ e planned c.requires.groups blocks c.own_client-c.ensures.grows later came) c.answer-result.ensures.pool
 
 pub returns-clause-front : goal.returns-clause-front
 returns-clause-front g c = λ told failed.

@@ -1,6 +1,7 @@
 use Rattle.std.proofs.Common.{[]}
 use Rattle.partition_stack.proofs.Results.{on_err, on_ok}
 use Rattle.query_run.proofs.Handed.{left_others}
+use Rattle.query_run.proofs.Joining.{holds_so}
 use Rattle.query_run.proofs.pairs.drive_pairs.Goals as goal
 
 pub returns-clause-ok : goal.returns-clause-ok
@@ -19,3 +20,6 @@ returns-clause-err g c =
 
 pub returns-clause-leaves : goal.returns-clause-leaves
 returns-clause-leaves g c = left_others _ _ _ _ _ c.finish-result.ensures.leaves
+
+pub returns-clause-kept : goal.returns-clause-kept
+returns-clause-kept g c = on_ok c.finish-result.result (λ kept start lefts rights keeps. holds_so _ _ _ _ _ _ _ _ _ (λ same. tt) (kept start lefts rights keeps)) c.finish-result.ensures.kept

@@ -4,7 +4,6 @@ use Rattle.query_plan.specs.declared.plan.SidePlan.{SidePlan}
 use Rattle.query_run.specs.Trail.{KeptWith}
 use Rattle.partition_stack.proofs.Results.{if_err, on_ok}
 use Rattle.query_run.proofs.Alone.{grouping, none_of, says_left}
-use Rattle.query_run.proofs.Says.{memory_stops, says_neither}
 use Rattle.query_run.proofs.run.run_query.Goals as goal
 
 pub run_grouped-requires-clause-plan : goal.run_grouped-requires-clause-plan
@@ -36,9 +35,3 @@ returns-in-None-clause-kept g c =
     rw none (on_ok c.run_grouped.result
     (λ kept. subst (λ (o : Option SidePlan). KeptWith o c.args.plan.now (page_len c.args.plan.now old.block_len) (g.S.Source.remaining c.args.left.now) (Some []) (g.St.Store.signs c.args.store.now).trail (g.St.Store.signs c.run_grouped.new.store).trail) (sym alone) kept)
     c.run_grouped.ensures.kept)
-
-pub returns-then-not-is_empty-clause-input : goal.returns-then-not-is_empty-clause-input
-returns-then-not-is_empty-clause-input g c = says_neither c.args.plan.now _ _ _ _ refl
-
-pub returns-then-not-is_empty-clause-pool : goal.returns-then-not-is_empty-clause-pool
-returns-then-not-is_empty-clause-pool g c = memory_stops c.args.plan.now (g.St.Store.holds c.args.store.now) _ _

@@ -43,7 +43,7 @@ returns-clause-kept g c =
     let h = g.St.Store.holds c.args.store.now in
     let h1 = g.St.Store.holds c.finish_sides.new.store in
     let s1 = g.St.Store.signs c.finish_sides.new.store in
-    subst (λ (op : Operator). OnOk c.finish_sides.result ((start : Option (List Entry)) (lefts rights : List (List Value)) → Keeps start lefts rights op h (g.St.Store.signs c.args.store.now) → EnteredEvents (HoldsSides op.shape lefts rights (over c.finish_sides.new.left h1 s1) (over c.finish_sides.new.right h1 s1)) start s1.trail))
+    subst (λ (op : Operator). OnOk c.finish_sides.result ((start : Option (List Entry)) (lefts rights : List (List Value)) → Keeps start lefts rights op h (g.St.Store.signs c.args.store.now) → EnteredEvents (HoldsSides op.shape lefts rights (over c.finish_sides.new.left h1 s1) (over c.finish_sides.new.right h1 s1) (c.finish_sides.new.emit ≡ c.args.emit.now)) start s1.trail))
     c.self.view_is c.finish_sides.ensures.kept
 
 pub returns-clause-cause : goal.returns-clause-cause

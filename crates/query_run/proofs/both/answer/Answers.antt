@@ -1,0 +1,128 @@
+use Rattle.std.proofs.Common.{◌≡◌, ◌≢◌, ◌∙◌, ◌<◌, ◌+◌, ◌++◌, ◌^◌, List, Some, IsSome, inr, ap, refl, sym, subst, arith}
+use Rattle.std.specs.Io.KnownBytes.{Appends}
+use Rattle.csv_edge.specs.Written.{AppendsFront}
+use Rattle.store_api.proofs.Answered.{answered_after, answered_before}
+use Rattle.store_api.proofs.Growing.{grows_trans}
+use Rattle.store_api.specs.Changes.{after_end_client}
+use Rattle.store_api.specs.Holdings.{Holdings}
+use Rattle.store_api.specs.Tokens.{ClientToken}
+use Rattle.store_api.specs.declared.shapes.JoinShape.{JoinShape}
+use Rattle.tuple_stream.specs.Trails.{EnteredEvents}
+use Rattle.partition_stack.specs.Leaving.{LeavesOthers}
+use Rattle.partition_stack.proofs.Emitters.{left_beside}
+use Rattle.partition_stack.proofs.Left.{leaves_both}
+use Rattle.partition_stack.proofs.Results.{if_err, if_ok, on_ok}
+use Rattle.join_op.specs.Pairs.{pairs_of}
+use Rattle.query_run.specs.Answer.{LineNumbers, answer_text, group_rows}
+use Rattle.query_run.specs.Inside.{HasEndedFirst}
+use Rattle.query_run.specs.Plans.{grouping_of}
+use Rattle.query_run.specs.Trail.{HoldsRows}
+use Rattle.query_run.proofs.EndedFirst.{ended_behind, ended_first, may_start_still, own_after, own_left, stopped_still}
+use Rattle.query_run.proofs.Going.{of_pool_so}
+use Rattle.query_run.proofs.Names.{joined_kinds}
+use Rattle.query_run.proofs.Results.{at_err, both_ok, of_bad, of_done, of_err, of_ok}
+use Rattle.query_run.proofs.Sides.{both_held, few_kept, groups_answer, groups_front, joined_numbers}
+use Rattle.query_run.proofs.both.answer.Goals as goal
+
+pub returns-in-Err-clause-pool : goal.returns-in-Err-clause-pool
+returns-in-Err-clause-pool g c =
+    let grows = grows_trans _ _ _ c.end-first.ensures.leaves.grows c.end_client.ensures.grows in
+    of_pool_so _ _ (λ why by. answered_after why _ _ _ by.answered grows) c.in-Err.e (of_bad _ c.feed_both-fed.result.0 c.in-Err.e c.in-Err.is c.feed_both-fed.ensures.pool)
+
+pub returns-in-Err-clause-clients : goal.returns-in-Err-clause-clients
+returns-in-Err-clause-clients g c =
+    let t = c.args.join.client.tracker in
+    let u = c.args.second.tracker in
+    let h0 = g.St.Store.holds c.args.store.now in
+    let h1 = g.St.Store.holds c.feed_both-fed.new.store in
+    let h2 = g.St.Store.holds c.end-first.new.store in
+    let s0 = g.St.Store.signs c.args.store.now in
+    let s1 = g.St.Store.signs c.feed_both-fed.new.store in
+    let s2 = g.St.Store.signs c.end-first.new.store in
+    let goes = c.feed_both-fed.ensures.goes in
+    let last : LeavesOthers t h1 h2 s1 s2 = subst (λ (x : ClientToken). LeavesOthers x.tracker h1 h2 s1 s2) goes.same.client c.end-first.ensures.leaves in
+    let leaves : LeavesOthers t h0 h2 s0 s2 = leaves_both t h0 h1 h2 s0 s1 s2 goes.leaves last in
+    let ended : g.St.Store.holds c.end_client.new.self ≡ after_end_client t h2 =
+    c.end_client.ensures.value ∙ ap (λ (x : ClientToken). after_end_client x.tracker h2) (c.end-first.ensures.client ∙ goes.same.client) in
+    rw ended (
+      stopped_still c.args.second c.args.second c.args.plan.now.page_blocks h0 (after_end_client t h2) c.requires.second refl (own_after t u c.requires.apart h0 h2 s0 s2 leaves),
+      ended_first t u c.requires.apart h0 h2 s0 s2 _ (left_beside t (Some u) h0 h2 s0 s2 leaves) c.end_client.ensures.grows,
+    )
+
+pub overflow_add-read : goal.overflow_add-read
+overflow_add-read g c =
+    let has = of_ok _ c.feed_both-fed.result.0 c.in-Ok.fed c.in-Ok.is c.feed_both-fed.ensures.ok in
+    let left = few_kept _ _ _ _ _ _ _ has.lefts_fed in
+    let right = few_kept _ _ _ _ _ _ _ has.rights_fed in
+    omega (arith, left, right)
+
+pub write_both-requires-clause-second : goal.write_both-requires-clause-second
+write_both-requires-clause-second g c =
+    may_start_still c.args.second c.args.plan.now.page_blocks _ _ c.requires.second (own_left c.args.join.client.tracker c.args.second.tracker c.requires.apart _ _ _ _ c.feed_both-fed.ensures.goes.leaves)
+
+pub write_both-requires-clause-kinds : goal.write_both-requires-clause-kinds
+write_both-requires-clause-kinds g c =
+    let shape = c.feed_both-fed.ensures.goes.same.shape ∙ c.requires.started.0 in
+    joined_kinds c.args.plan.now c.args.asked.now c.requires.right ∙ sym (ap (λ (s : JoinShape). s.left ++ s.right) shape)
+
+pub returns-clause-answer : goal.returns-clause-answer
+returns-clause-answer g c = λ told.
+    let has = of_ok _ c.feed_both-fed.result.0 c.in-Ok.fed c.in-Ok.is c.feed_both-fed.ensures.ok in
+    let goes = c.feed_both-fed.ensures.goes in
+    let shape = goes.same.shape ∙ c.requires.started.0 in
+    on_ok c.write_both.result.0 (λ ok. groups_answer c.args.plan.now c.args.asked.now c.args.page c.requires.right c.requires.groups _ _ _ _ _ _ _ has
+    (subst (λ (s : JoinShape). Appends (g.K.Sink.contents c.args.sink.now) (g.K.Sink.contents c.write_both.new.sink) (answer_text c.args.plan.now (group_rows (grouping_of c.args.plan.now) (pairs_of s has.lefts has.rights)))) shape (ok _ _ _ has.kept (goes.leaves.others.told ∙ told)))) c.write_both.ensures.ok
+
+pub returns-clause-numbers : goal.returns-clause-numbers
+returns-clause-numbers g c =
+    let has = of_ok _ c.feed_both-fed.result.0 c.in-Ok.fed c.in-Ok.is c.feed_both-fed.ensures.ok in
+    let goes = c.feed_both-fed.ensures.goes in
+    let shape = goes.same.shape ∙ c.requires.started.0 in
+    if_ok c.write_both.result.0 (λ ran both. joined_numbers c.args.plan.now c.args.asked.now c.args.page c.requires.right _ _ _ _ _ _ ran has both.0.0 both.0.1 both.0.2
+    (λ told. subst (λ (s : JoinShape). LineNumbers c.args.plan.now (pairs_of s has.lefts has.rights) ran) shape (both.1 _ _ _ has.kept (goes.leaves.others.told ∙ told))))
+    (both_ok _ _ c.write_both.result.0 c.write_both.ensures.read c.write_both.ensures.lines)
+
+pub returns-clause-pool : goal.returns-clause-pool
+returns-clause-pool g c =
+    if_err c.write_both.result.0 (λ e by. of_pool_so _ _ (λ why was. answered_before why _ _ _ c.feed_both-fed.ensures.goes.leaves.grows was) e by) c.write_both.ensures.pool
+
+pub returns-clause-front : goal.returns-clause-front
+returns-clause-front g c = λ told failed.
+    let has = of_ok _ c.feed_both-fed.result.0 c.in-Ok.fed c.in-Ok.is c.feed_both-fed.ensures.ok in
+    let goes = c.feed_both-fed.ensures.goes in
+    let shape = goes.same.shape ∙ c.requires.started.0 in
+    groups_front c.args.plan.now c.args.asked.now c.args.page c.requires.right c.requires.groups _ _ _ _ _ _ _ has
+    (subst (λ (s : JoinShape). AppendsFront (g.K.Sink.contents c.args.sink.now) (g.K.Sink.contents c.write_both.new.sink) (answer_text c.args.plan.now (group_rows (grouping_of c.args.plan.now) (pairs_of s has.lefts has.rights)))) shape (at_err c.write_both.result.0 _ failed c.write_both.ensures.err _ _ _ has.kept (goes.leaves.others.told ∙ told)))
+
+pub returns-clause-stopped : goal.returns-clause-stopped
+returns-clause-stopped g c =
+    let has = of_ok _ c.feed_both-fed.result.0 c.in-Ok.fed c.in-Ok.is c.feed_both-fed.ensures.ok in
+    let goes = c.feed_both-fed.ensures.goes in
+    let shape = goes.same.shape ∙ c.requires.started.0 in
+    let read = of_done c.feed_both-fed.result.0 c.in-Ok.fed c.in-Ok.is c.feed_both-fed.ensures.read in
+    of_err c.write_both.result.0 (λ err e. inr (
+      read.0,
+      read.1,
+      λ told. groups_front c.args.plan.now c.args.asked.now c.args.page c.requires.right c.requires.groups _ _ _ _ _ _ _ has
+          (subst (λ (s : JoinShape). AppendsFront (g.K.Sink.contents c.args.sink.now) (g.K.Sink.contents c.write_both.new.sink) (answer_text c.args.plan.now (group_rows (grouping_of c.args.plan.now) (pairs_of s has.lefts has.rights)))) shape (err _ _ _ has.kept (goes.leaves.others.told ∙ told))),
+    )) c.write_both.ensures.err
+
+pub returns-clause-kept : goal.returns-clause-kept
+returns-clause-kept g c =
+    let has = of_ok _ c.feed_both-fed.result.0 c.in-Ok.fed c.in-Ok.is c.feed_both-fed.ensures.ok in
+    let goes = c.feed_both-fed.ensures.goes in
+    let shape = goes.same.shape ∙ c.requires.started.0 in
+    on_ok c.write_both.result.0 (λ kept. both_held c.args.plan.now c.args.asked.now c.args.page _ _ _ _ _ _ _ has
+    (subst (λ (s : JoinShape). EnteredEvents (HoldsRows s has.lefts has.rights) (g.St.Store.signs c.args.store.now).trail (g.St.Store.signs c.write_both.new.store).trail) shape (kept _ _ _ has.kept))) c.write_both.ensures.kept
+
+pub returns-clause-clients : goal.returns-clause-clients
+returns-clause-clients g c =
+    let t = c.args.join.client.tracker in
+    let u = c.args.second.tracker in
+    let h1 = g.St.Store.holds c.feed_both-fed.new.store in
+    let h2 = g.St.Store.holds c.write_both.new.store in
+    let s1 = g.St.Store.signs c.feed_both-fed.new.store in
+    let s2 = g.St.Store.signs c.write_both.new.store in
+    let goes = c.feed_both-fed.ensures.goes in
+    let gone : HasEndedFirst t u h1 h2 s1 s2 = subst (λ (x : ClientToken). HasEndedFirst x.tracker u h1 h2 s1 s2) goes.same.client c.write_both.ensures.gone in
+    (c.write_both.ensures.second, ended_behind t u c.requires.apart _ h1 h2 _ s1 s2 goes.leaves gone)

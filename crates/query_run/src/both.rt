@@ -1,0 +1,229 @@
+// A query that joins the rows of its two inputs, and groups their pairs.
+
+ghost use Rattle.std.specs.Prelude.{◌≡◌, ◌≢◌, ◌++◌, ◌≤◌, ◌<◌, ◌^◌, ◌⊎◌, [], List, Option, IfErr, IfOk, IfSome, IsErrOf, IsSome, None, OnErr, OnOk, Some, true};
+ghost use Rattle.std.specs.Io.KnownBytes.{Appends, IsAtEnd};
+ghost use Rattle.pool_model.specs.declared.entry.Entry.{Entry};
+ghost use Rattle.row_codec.specs.declared.values.Value.{Value};
+ghost use Rattle.csv_edge.specs.Written.{AppendsFront};
+ghost use Rattle.store_api.specs.Holdings.{length_of};
+ghost use Rattle.store_api.specs.Signs.{WasAnswered};
+ghost use Rattle.tuple_stream.specs.Trails.{EnteredEvents};
+ghost use Rattle.partition_stack.specs.Leaving.{MayStart};
+ghost use Rattle.group_op.specs.Operator as group;
+ghost use Rattle.join_op.specs.Operator.{IsFeeding, IsOperator, Keeps};
+ghost use Rattle.join_op.specs.Pairs.{pairs_of};
+ghost use Rattle.query_plan.specs.Sizes.{groups, joins, page_len};
+ghost use Rattle.query_run.specs.Answer.{LineNumbers, Numbers, WroteAnswer, WroteFront, answer_text, group_rows};
+ghost use Rattle.query_run.specs.Both.{both_told};
+ghost use Rattle.query_run.specs.Causes.{OfPool, side_of};
+ghost use Rattle.query_run.specs.Feeder.{HasStopped};
+ghost use Rattle.query_run.specs.Inside.{HasEndedFirst, IsFedFor, IsOfStore};
+ghost use Rattle.query_run.specs.Joined.{HoldsRowsWhile};
+ghost use Rattle.query_run.specs.Plans.{HasGroups, IsRunnable, grouping_of, join_shape_of, shape_of};
+ghost use Rattle.query_run.specs.Refused.{SaysOfInputs, source};
+ghost use Rattle.query_run.specs.Stopped.{CountsSink, HasRoomFor, MayStop, RanOver};
+ghost use Rattle.query_run.specs.Taking.{LeftStands};
+ghost use Rattle.query_run.specs.Trail.{HoldsRows, KeptRows, KeptSides};
+ghost use Rattle.query_run.specs.Writing.{HoldsFor};
+
+use crate::client::own_client;
+use crate::feeder::{Feeder, Whose, hand_pairs, into_grouping};
+use crate::grouped::start_grouping;
+use crate::grouping::{Read, write_groups};
+use crate::joined::{feed_both, start};
+use crate::outcome::{QueryErr, Ran};
+use group_op::{GroupOp, law_asks_own, law_starts};
+use join_op::JoinOp;
+use outside::{Sink, Source};
+use query_plan::{Query, SidePlan, least};
+use reservation_tree::PoolErr;
+use std::alloc::Global;
+use std::marker::Brand;
+use store_api::{Client, Store};
+
+// The pairs of a join that was fed go to a grouping of the second client; the join ends, and the first client.
+fn join_into<B: Whose, St: Store>(
+    alloc: Global,
+    store: &mut St,
+    join: JoinOp,
+    second: Client,
+    plan: &Query,
+    page: u64,
+) -> Result<GroupOp, (QueryErr, Client)>
+    requires plan { HasGroups plan.now }
+    requires whose { (B.client ≡ second) × (B.shape ≡ shape_of plan.now) × (B.blocks ≡ plan.now.page_blocks) }
+    requires op { IsOperator join (St.holds store.old) (St.signs store.old) }
+    requires feeding { IsFeeding join }
+    requires second { MayStart second plan.now.page_blocks (St.holds store.old) }
+    requires apart { second.tracker ≢ join.client.tracker }
+    requires kinds { (shape_of plan.now).kinds ≡ join.shape.left ++ join.shape.right }
+    requires page { (page ≡ length_of plan.now.page_blocks (St.holds store.old)) × (page < 2 ^ 32) }
+    requires long { 0 < (St.holds store.old).block_len }
+    ensures ok { IfOk result (λ op. IsFedFor second plan.now op (St.holds store.new) (St.signs store.new)) }
+    ensures holds { IfOk result (λ op. (start : Option (List Entry)) → (lefts rights : List (List Value)) → Keeps start lefts rights join (St.holds store.old) (St.signs store.old) → (St.holds store.old).told ≡ true → HoldsFor (pairs_of join.shape lefts rights) op (St.holds store.new) (St.signs store.new)) }
+    ensures kept { IfOk result (λ op. (start : Option (List Entry)) → (lefts rights : List (List Value)) → Keeps start lefts rights join (St.holds store.old) (St.signs store.old) → EnteredEvents (HoldsRowsWhile (op ≡ group.started second plan.now.page_blocks (shape_of plan.now)) join.shape lefts rights) start (St.signs store.new).trail) }
+    ensures err { IfErr result (λ e. HasStopped second e.1 (St.holds store.new)) }
+    ensures cause { IfErr result (λ e. IsOfStore e.0 (St.signs store.old) (St.signs store.new)) }
+    ensures gone { HasEndedFirst join.client.tracker second.tracker (St.holds store.old) (St.holds store.new) (St.signs store.old) (St.signs store.new) }
+{
+    let mut join = join;
+    let feeder = match start_grouping(alloc, second, plan) {
+        Ok(op) => Feeder::with(alloc, op, plan, page),
+        Err(second) => {
+            let first = join.end(store);
+            store.end_client(first);
+            return Err((QueryErr::Pool(PoolErr::Memory), second));
+        }
+    };
+    law_starts();
+    law_asks_own();
+    let (handed, feeder) = hand_pairs::<B, St>(alloc, store, &mut join, feeder);
+    let first = join.end(store);
+    store.end_client(first);
+    into_grouping::<B, St>(store, feeder, handed)
+}
+
+// Writes the answer over the pairs of a join that was fed, by a grouping of the second client. The join ends, and the first
+// client; the second one comes back.
+fn write_both<St: Store, K: Sink>(
+    alloc: Global,
+    store: &mut St,
+    join: JoinOp,
+    second: Client,
+    plan: &Query,
+    page: u64,
+    read: Read,
+    sink: &mut K,
+) -> (Result<Ran, QueryErr>, Client)
+    requires plan { HasGroups plan.now }
+    requires op { IsOperator join (St.holds store.old) (St.signs store.old) }
+    requires feeding { IsFeeding join }
+    requires second { MayStart second plan.now.page_blocks (St.holds store.old) }
+    requires apart { second.tracker ≢ join.client.tracker }
+    requires kinds { (shape_of plan.now).kinds ≡ join.shape.left ++ join.shape.right }
+    requires page { (page ≡ length_of plan.now.page_blocks (St.holds store.old)) × (page < 2 ^ 32) }
+    requires long { 0 < (St.holds store.old).block_len }
+    ensures ok { OnOk result.0 ((start : Option (List Entry)) → (lefts rights : List (List Value)) → Keeps start lefts rights join (St.holds store.old) (St.signs store.old) → (St.holds store.old).told ≡ true → Appends (K.contents sink.old) (K.contents sink.new) (answer_text plan.now (group_rows (grouping_of plan.now) (pairs_of join.shape lefts rights)))) }
+    ensures err { OnErr result.0 ((start : Option (List Entry)) → (lefts rights : List (List Value)) → Keeps start lefts rights join (St.holds store.old) (St.signs store.old) → (St.holds store.old).told ≡ true → AppendsFront (K.contents sink.old) (K.contents sink.new) (answer_text plan.now (group_rows (grouping_of plan.now) (pairs_of join.shape lefts rights)))) }
+    ensures read { IfOk result.0 (λ ran. (ran.left ≡ read.left) × (ran.right ≡ read.right) × (ran.kept ≡ read.kept)) }
+    ensures lines { IfOk result.0 (λ ran. (start : Option (List Entry)) → (lefts rights : List (List Value)) → Keeps start lefts rights join (St.holds store.old) (St.signs store.old) → (St.holds store.old).told ≡ true → LineNumbers plan.now (pairs_of join.shape lefts rights) ran) }
+    ensures kept { OnOk result.0 ((start : Option (List Entry)) → (lefts rights : List (List Value)) → Keeps start lefts rights join (St.holds store.old) (St.signs store.old) → EnteredEvents (HoldsRows join.shape lefts rights) start (St.signs store.new).trail) }
+    ensures cause { IfErr result.0 (λ e. side_of e ≡ None) }
+    ensures pool { IfErr result.0 (OfPool (λ e. WasAnswered e (St.signs store.old) (St.signs store.new))) }
+    ensures sink { CountsSink (IsErrOf result.0 QueryErr.SinkFault) (K.faults sink.old) (K.faults sink.new) }
+    ensures second { HasStopped second result.1 (St.holds store.new) }
+    ensures gone { HasEndedFirst join.client.tracker second.tracker (St.holds store.old) (St.holds store.new) (St.signs store.old) (St.signs store.new) }
+{
+    let mut op = match join_into::<Brand, St>(alloc, store, join, second, plan, page) {
+        Ok(op) => op,
+        Err((why, second)) => return (Err(why), second),
+    };
+    let result = write_groups(alloc, store, &mut op, plan, read, sink);
+    let second = op.end(store);
+    (result, second)
+}
+
+// Feeds what is left of both sources to a join that was started, and writes the answer by a grouping of the second client. The
+// join ends, and the first client; the second one comes back.
+fn answer<St: Store, S: Source, K: Sink>(
+    alloc: Global,
+    store: &mut St,
+    join: JoinOp,
+    second: Client,
+    plan: &Query,
+    asked: &SidePlan,
+    page: u64,
+    left: &mut S,
+    right: &mut S,
+    sink: &mut K,
+) -> (Result<Ran, QueryErr>, Client)
+    requires plan { IsRunnable plan.now }
+    requires right { plan.now.right ≡ Some asked.now }
+    requires groups { groups plan.now ≡ true }
+    requires stands { LeftStands join (St.holds store.old) (St.signs store.old) }
+    requires started { (join.shape ≡ join_shape_of plan.now asked.now) × (join.left.page_blocks ≡ plan.now.page_blocks) }
+    requires keeps { Keeps (St.signs store.old).trail [] [] join (St.holds store.old) (St.signs store.old) }
+    requires second { MayStart second plan.now.page_blocks (St.holds store.old) }
+    requires apart { second.tracker ≢ join.client.tracker }
+    requires page { (page ≡ length_of plan.now.page_blocks (St.holds store.old)) × (page < 2 ^ 32) }
+    requires long { 0 < (St.holds store.old).block_len }
+    ensures answer { (St.holds store.old).told ≡ true → OnOk result.0 (WroteAnswer plan.now page (both_told (S.remaining left.old) (S.remaining right.old)) (K.contents sink.old) (K.contents sink.new)) }
+    ensures read { OnOk result.0 (IsAtEnd (S.remaining left.new) × IsAtEnd (S.remaining right.new)) }
+    ensures numbers { IfOk result.0 (λ ran. IfSome (both_told (S.remaining left.old) (S.remaining right.old)) (Numbers plan.now page (St.holds store.old).told ran)) }
+    ensures input { IfErr result.0 (SaysOfInputs plan.now page (source (S.remaining left.old) (S.remaining left.new) (S.faults left.old) (S.faults left.new)) (source (S.remaining right.old) (S.remaining right.new) (S.faults right.old) (S.faults right.new))) }
+    ensures pool { IfErr result.0 (OfPool (λ e. WasAnswered e (St.signs store.old) (St.signs store.new))) }
+    ensures untouched { IfErr result.0 (λ e. IsSome (side_of e) → sink.new ≡ sink.old) }
+    ensures stopped { IfErr result.0 (λ _. (sink.new ≡ sink.old) ⊎ (IsAtEnd (S.remaining left.new) × IsAtEnd (S.remaining right.new) × ((St.holds store.old).told ≡ true → WroteFront plan.now page (both_told (S.remaining left.old) (S.remaining right.old)) (K.contents sink.old) (K.contents sink.new)))) }
+    ensures front { (St.holds store.old).told ≡ true → IsErrOf result.0 QueryErr.SinkFault → WroteFront plan.now page (both_told (S.remaining left.old) (S.remaining right.old)) (K.contents sink.old) (K.contents sink.new) }
+    ensures sink { CountsSink (IsErrOf result.0 QueryErr.SinkFault) (K.faults sink.old) (K.faults sink.new) }
+    ensures kept { OnOk result.0 (KeptSides plan.now asked.now page (S.remaining left.old) (S.remaining right.old) (St.signs store.old).trail (St.signs store.new).trail) }
+    ensures clients { HasStopped second result.1 (St.holds store.new) × HasEndedFirst join.client.tracker second.tracker (St.holds store.old) (St.holds store.new) (St.signs store.old) (St.signs store.new) }
+    ensures sources_kept { (S.faults left.old ≤ S.faults left.new) × (S.faults right.old ≤ S.faults right.new) }
+{
+    let (fed, join) = feed_both(alloc, store, join, plan, asked, page, left, right);
+    let fed = match fed {
+        Ok(fed) => fed,
+        Err(e) => {
+            let first = join.end(store);
+            store.end_client(first);
+            return (Err(e), second);
+        }
+    };
+    let read = Read {
+        left: fed.left.read,
+        right: fed.right.read,
+        kept: fed.left.kept + fed.right.kept,
+    };
+    write_both(alloc, store, join, second, plan, page, read, sink)
+}
+
+// Runs a query that joins and groups, by a client for each of its operators.
+pub(crate) fn run_both<St: Store, S: Source, K: Sink>(
+    alloc: Global,
+    store: &mut St,
+    plan: &Query,
+    left: &mut S,
+    right: &mut S,
+    sink: &mut K,
+) -> Result<Ran, QueryErr>
+    requires plan { IsRunnable plan.now }
+    requires joins { joins plan.now ≡ true }
+    requires groups { groups plan.now ≡ true }
+    requires store { HasRoomFor plan.now (St.holds store.old) }
+    ensures answer { (St.holds store.old).told ≡ true → OnOk result (WroteAnswer plan.now (page_len plan.now (St.holds store.old).block_len) (both_told (S.remaining left.old) (S.remaining right.old)) (K.contents sink.old) (K.contents sink.new)) }
+    ensures read { OnOk result (IsAtEnd (S.remaining left.new) × IsAtEnd (S.remaining right.new)) }
+    ensures numbers { IfOk result (λ ran. IfSome (both_told (S.remaining left.old) (S.remaining right.old)) (Numbers plan.now (page_len plan.now (St.holds store.old).block_len) (St.holds store.old).told ran)) }
+    ensures input { IfErr result (SaysOfInputs plan.now (page_len plan.now (St.holds store.old).block_len) (source (S.remaining left.old) (S.remaining left.new) (S.faults left.old) (S.faults left.new)) (source (S.remaining right.old) (S.remaining right.new) (S.faults right.old) (S.faults right.new))) }
+    ensures pool { IfErr result (MayStop plan.now (St.holds store.old) (St.signs store.old) (St.signs store.new)) }
+    ensures front { (St.holds store.old).told ≡ true → IsErrOf result QueryErr.SinkFault → WroteFront plan.now (page_len plan.now (St.holds store.old).block_len) (both_told (S.remaining left.old) (S.remaining right.old)) (K.contents sink.old) (K.contents sink.new) }
+    ensures untouched { IfErr result (λ e. IsSome (side_of e) → sink.new ≡ sink.old) }
+    ensures stopped { IfErr result (λ _. (sink.new ≡ sink.old) ⊎ (IsAtEnd (S.remaining left.new) × IsAtEnd (S.remaining right.new) × ((St.holds store.old).told ≡ true → WroteFront plan.now (page_len plan.now (St.holds store.old).block_len) (both_told (S.remaining left.old) (S.remaining right.old)) (K.contents sink.old) (K.contents sink.new)))) }
+    ensures sink { CountsSink (IsErrOf result QueryErr.SinkFault) (K.faults sink.old) (K.faults sink.new) }
+    ensures kept { OnOk result (KeptRows plan.now (page_len plan.now (St.holds store.old).block_len) (S.remaining left.old) (S.remaining right.old) (St.signs store.old).trail (St.signs store.new).trail) }
+    ensures store { RanOver plan.now (St.holds store.old) (St.holds store.new) (St.signs store.old) (St.signs store.new) }
+    ensures sources_kept { (S.faults left.old ≤ S.faults left.new) × (S.faults right.old ≤ S.faults right.new) }
+{
+    let Some(asked) = &plan.right else {
+        unreachable!();
+    };
+    let block_len = store.block_len();
+    let page = u64::from(plan.page_blocks) * u64::from(block_len);
+    let bytes = least(plan, block_len);
+    let limit = plan.limit.max(bytes);
+    let first = own_client(store, limit, bytes / 2);
+    let second = own_client(store, limit, bytes / 2);
+    let join = match start(alloc, first, plan, asked) {
+        Ok(join) => join,
+        Err(first) => {
+            store.end_client(first);
+            store.end_client(second);
+            return Err(QueryErr::Pool(PoolErr::Memory));
+        }
+    };
+    join_op::law_starts();
+    let (result, second) = answer(
+        alloc, store, join, second, plan, asked, page, left, right, sink,
+    );
+    store.end_client(second);
+    result
+}
