@@ -6,6 +6,7 @@ use Rattle.std.proofs.lemmas.Map.Keys.{IsDistinct-cons}
 use Rattle.std.proofs.lemmas.List.Elements.{All-cons, All-nil}
 use Rattle.row_codec.specs.declared.values.Agg.TheVariants.{Count}
 use Rattle.row_codec.specs.declared.values.Kind.TheVariants.{Text, Wide}
+use Rattle.pool_model.specs.Bytes.{bytes_of}
 use Rattle.store_api.specs.Shapes.{IsKeyColumn, IsOverInts}
 use Rattle.outside.specs.Told.{GivesBytes}
 use Rattle.query_plan.specs.Sizes.{groups, page_len}
@@ -14,8 +15,9 @@ use Rattle.query_run.specs.Causes.{IsOfBytes}
 use Rattle.query_run.specs.Input.{IsRefusal}
 use Rattle.query_run.specs.Plans.{IsAbout, IsRunnable, IsSide}
 use Rattle.query_run.specs.declared.outcome.QueryErr.{QueryErr}
-use Rattle.spill_top.specs.Counting.{counting}
+use Rattle.spill_top.specs.Counting.{counting, counting_conf}
 use Rattle.spill_top.specs.Headline.{page_bytes}
+use Rattle.spill_top.specs.Pooled.{HasMemoryFor}
 use Rattle.spill_top.specs.Words.{Command}
 use Rattle.spill_top.proofs.Causes.{told_some}
 
@@ -51,8 +53,16 @@ runs command =
       none = λ (groups_none : groups (counting command) ≡ false). absurd (true≢false groups_none);
     }
 
+-- its pool has the memory for it
+pub pool_fits : (command : Command) → HasMemoryFor (counting command) counting_conf
+unfolding bytes_of
+pool_fits command = record {
+  opens = record { block_len = refl; some = omega arith; blocks = omega arith; memory = omega arith };
+  least = omega arith;
+}
+
 -- its pages over a store of such blocks
-page_is : (command : Command) (plan : Query) (block_len : ℕ) → plan ≡ counting command → block_len ≡ 8192 → page_len plan block_len ≡ page_bytes
+pub page_is : (command : Command) (plan : Query) (block_len : ℕ) → plan ≡ counting command → block_len ≡ 8192 → page_len plan block_len ≡ page_bytes
 page_is command plan block_len planned len = rw (planned, len) refl
 
 -- what a query says of the bytes that its source gave is so of those under its file

@@ -2,6 +2,10 @@ mod Causes
 mod CountPlan
 mod OneInput
 mod OnlyMemory
+mod Showing
+mod Pools
+mod Watching
+mod CountStops
 mod Plain
 pub mod Walks
 pub mod Verdicts

@@ -2,6 +2,7 @@
 use Rattle.std.proofs.Common.{◌≡◌, ◌∙◌, ◌↔◌, ◌==◌, inl, inr, ℕ, Bool, true, false, List, [], ◌∷◌, Option, Some, None, IfSome, refl, sym, subst, arith}
 use Rattle.std.specs.Prelude.{if◌then◌else◌}
 use Rattle.std.proofs.lemmas.Option.{none-some}
+use Rattle.pin_core.specs.declared.tally.Tally.{Tally}
 use Rattle.reservation_tree.specs.declared.errors.PoolErr.{PoolErr}
 use Rattle.reservation_tree.specs.declared.errors.PoolErr.TheVariants as pool
 use Rattle.query_run.specs.declared.outcome.QueryErr.{QueryErr}
@@ -15,20 +16,21 @@ use Rattle.spill_top.specs.Report.{Tells, shortage}
 use Rattle.spill_top.specs.Running.{Seen}
 use Rattle.spill_top.specs.Words.{Command}
 
-short-count : (bytes_at : List ℕ → Option (List ℕ)) (faults faults_now : List ℕ → ℕ) (report report_now : Option (List ℕ)) (writes writes_now : ℕ) (command : Command) → Tells shortage report report_now writes writes_now
-    → Counted bytes_at faults faults_now report report_now writes writes_now 10 command
-short-count bytes_at faults faults_now report report_now writes writes_now command tells = record {
-  status_is = inr (inr (inr (inr (inr refl))));
-  answer = λ (is : 10 ≡ 0). absurd (omega (arith, is));
+short-count : (bytes_at : List ℕ → Option (List ℕ)) (faults faults_now : List ℕ → ℕ) (slots slots_now : Tally) (report report_now : Option (List ℕ)) (writes writes_now : ℕ) (command : Command) → Tells shortage report report_now writes writes_now
+    → Counted bytes_at faults faults_now slots slots_now report report_now writes writes_now 10 command
+short-count bytes_at faults faults_now slots slots_now report report_now writes writes_now command tells = record {
+  status_is = inr (inr (inr (inr (inr (inr (inr refl))))));
+  answer = λ tell (is : 10 ≡ 0). absurd (omega (arith, is));
   input_fault = λ (is : 10 ≡ 3). absurd (omega (arith, is));
+  device_fault = λ (is : 10 ≡ 8). absurd (omega (arith, is));
   refused = λ zero nine ten. absurd (ten refl);
   lacks_memory = λ is. inl tells;
   quiet = λ (is : 10 ≡ 0). absurd (omega (arith, is));
   output_fault = λ (is : 10 ≡ 9). absurd (omega (arith, is));
-  part = λ (is : 10 ≡ 9). absurd (omega (arith, is));
-  refuses = λ why refuses. inr (inr refl);
-  too_many = λ many. inr (inr (inr refl));
-  succeeds = λ accepts. inr (inr refl);
+  part = λ tell (is : 10 ≡ 9). absurd (omega (arith, is));
+  refuses = λ tell why refuses. inr (inr (inr (inr refl)));
+  too_many = λ tell many. inr (inr (inr (inr (inr refl))));
+  succeeds = λ accepts. inr (inr (inr refl));
 }
 
 short-run : (file : List ℕ) (slots : ℕ) (start now : Seen) (before after : Telling) → ((name : List ℕ) → now.written name ≡ start.written name) → Tells shortage before.text after.text before.faults after.faults
@@ -40,10 +42,10 @@ pub of_each : {A : Type 0} → (found : Option A) (holds : A → Type 0) → ((x
 of_each None holds all = tt
 of_each (Some x) holds all = all x
 
-pub counted_short : (bytes_at : List ℕ → Option (List ℕ)) (faults faults_now : List ℕ → ℕ) (report report_now : Option (List ℕ)) (writes writes_now status : ℕ) (command : Command) → status ≡ 10 → Tells shortage report report_now writes writes_now
-    → Counted bytes_at faults faults_now report report_now writes writes_now status command
-counted_short bytes_at faults faults_now report report_now writes writes_now status command is tells =
-    subst (λ (n : ℕ). Counted bytes_at faults faults_now report report_now writes writes_now n command) (sym is) (short-count bytes_at faults faults_now report report_now writes writes_now command tells)
+pub counted_short : (bytes_at : List ℕ → Option (List ℕ)) (faults faults_now : List ℕ → ℕ) (slots slots_now : Tally) (report report_now : Option (List ℕ)) (writes writes_now status : ℕ) (command : Command) → status ≡ 10 → Tells shortage report report_now writes writes_now
+    → Counted bytes_at faults faults_now slots slots_now report report_now writes writes_now status command
+counted_short bytes_at faults faults_now slots slots_now report report_now writes writes_now status command is tells =
+    subst (λ (n : ℕ). Counted bytes_at faults faults_now slots slots_now report report_now writes writes_now n command) (sym is) (short-count bytes_at faults faults_now slots slots_now report report_now writes writes_now command tells)
 
 pub ran_short : (file : List ℕ) (slots status : ℕ) (start now : Seen) (before after : Telling) → status ≡ 10 → ((name : List ℕ) → now.written name ≡ start.written name) → Tells shortage before.text after.text before.faults after.faults
     → RanPlan file slots start now before after status
@@ -56,7 +58,9 @@ count_never_one status (inr (inl is)) one = omega (arith, is, one)
 count_never_one status (inr (inr (inl is))) one = omega (arith, is, one)
 count_never_one status (inr (inr (inr (inl is)))) one = omega (arith, is, one)
 count_never_one status (inr (inr (inr (inr (inl is))))) one = omega (arith, is, one)
-count_never_one status (inr (inr (inr (inr (inr is))))) one = omega (arith, is, one)
+count_never_one status (inr (inr (inr (inr (inr (inl is)))))) one = omega (arith, is, one)
+count_never_one status (inr (inr (inr (inr (inr (inr (inl is))))))) one = omega (arith, is, one)
+count_never_one status (inr (inr (inr (inr (inr (inr (inr is))))))) one = omega (arith, is, one)
 
 pool-one : (e : PoolErr) → status_of_pool e ≡ 1 → ⊥
 pool-one (pool.NoReservation tracker wanted room) one = omega (arith, one)

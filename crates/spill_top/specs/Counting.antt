@@ -1,7 +1,8 @@
--- The plan of a count.
+-- The plan of a count, and its pool.
 use Rattle.std.specs.Prelude.{[], ◌∷◌, None}
 use Rattle.row_codec.specs.declared.values.Agg.TheVariants.{Count}
 use Rattle.row_codec.specs.declared.values.Kind.TheVariants.{Text}
+use Rattle.pin_core.specs.declared.conf.PoolConf.{PoolConf}
 use Rattle.query_plan.specs.declared.plan.Query.{Query}
 use Rattle.spill_top.specs.Words.{Command}
 
@@ -19,3 +20,7 @@ counting command = record {
   group = 0 ∷ [];
   aggs = Count ∷ [];
 }
+
+-- with what its pool opens: a page is a block, and all memory is as much as it may reserve
+abbrev pub counting_conf : PoolConf
+counting_conf = record { blocks = 1024; block_len = 8192; first_name = 0 }

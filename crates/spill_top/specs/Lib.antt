@@ -5,7 +5,9 @@ pub mod Report
 pub mod Refusals
 pub mod Counting
 pub mod OneInput
+pub mod Pooled
 pub mod Headline
+pub mod Stops
 pub mod Endings
 pub mod Reserving
 pub mod Sides

@@ -1,5 +1,5 @@
 -- What the report says where there is no answer, and how much of it.
-use Rattle.std.specs.Prelude.{◌≡◌, ◌⊎◌, ℕ, List, Option, None}
+use Rattle.std.specs.Prelude.{◌≡◌, ◌<◌, ◌⊎◌, ℕ, List, Option, None, Some, length, ⊤}
 use Rattle.std.specs.Io.KnownBytes.{Appends, Keeps}
 use Rattle.outside.specs.Counts.{Rose}
 use Rattle.csv_edge.specs.Written.{AppendsFront}
@@ -10,7 +10,7 @@ use Rattle.run_report.specs.declared.outcome.Outcome.{Outcome}
 use Rattle.run_report.specs.declared.outcome.Outcome.TheVariants.{Refused}
 use Rattle.run_report.specs.Report.{outcome_text}
 use Rattle.spill_top.specs.declared.report.Refusal.{Refusal}
-use Rattle.spill_top.specs.declared.report.Refusal.TheVariants.{InputFault, Header, Csv, Large, Row}
+use Rattle.spill_top.specs.declared.report.Refusal.TheVariants.{InputFault, Header, Csv, Large, Row, Scratch, Names, Write, Read}
 
 -- the line for words that are no command
 abbrev pub usage : List ℕ
@@ -26,6 +26,10 @@ status_of Header = 4
 status_of (Csv number) = 4
 status_of Large = 4
 status_of (Row number weight) = 5
+status_of (Scratch need free) = 7
+status_of Names = 7
+status_of (Write entry) = 8
+status_of (Read entry) = 8
 
 -- the cause that is printed
 abbrev pub cause_of : Refusal → Cause
@@ -34,6 +38,10 @@ cause_of Header = cause.Header Left
 cause_of (Csv number) = cause.Csv Left number
 cause_of Large = cause.Large Left
 cause_of (Row number weight) = cause.Row Left number weight
+cause_of (Scratch need free) = cause.Scratch need free
+cause_of Names = cause.Names
+cause_of (Write entry) = cause.Write entry
+cause_of (Read entry) = cause.Read entry
 
 abbrev pub outcome_of : Refusal → Outcome
 outcome_of refusal = Refused (status_of refusal) (cause_of refusal)
@@ -49,3 +57,21 @@ Tells line old new before now = (Appends old new line × (now ≡ before)) ⊎ (
 -- the same, or where the line found no memory, nothing was appended
 abbrev pub TellsOrMisses : List ℕ → Option (List ℕ) → Option (List ℕ) → ℕ → ℕ → Type 0
 TellsOrMisses line old new before now = Tells line old new before now ⊎ (Keeps old new × (now ≡ before))
+
+-- what is known to stand there became longer
+abbrev pub Lengthens : Option (List ℕ) → Option (List ℕ) → Type 0
+Lengthens None new = ⊤
+Lengthens (Some xs) None = ⊥
+Lengthens (Some xs) (Some ys) = length xs < length ys
+
+-- how long it is, as far as that is known
+abbrev pub told_len : Option (List ℕ) → ℕ
+told_len None = 0
+told_len (Some xs) = length xs
+
+-- the same two, one text after the other
+abbrev pub StillTold : Option (List ℕ) → Option (List ℕ) → Type 0
+StillTold old new = (xs : List ℕ) → old ≡ Some xs → new ≡ Some xs
+
+abbrev pub LongerTold : Option (List ℕ) → Option (List ℕ) → Type 0
+LongerTold old new = (xs : List ℕ) → old ≡ Some xs → length xs < told_len new

@@ -1,21 +1,24 @@
 // The command `count`.
 
-ghost use Rattle.std.specs.Prelude.{◌≡◌, ◌≢◌, ◌≤◌, ◌⊎◌, [], ◌∷◌, None, Some, IfErr, IsErrOf, OnOk};
-ghost use Rattle.outside.specs.Counts.{NoneFell, Rose};
+ghost use Rattle.std.specs.Prelude.{◌≡◌, ◌≢◌, ◌≤◌, ◌⊎◌, [], ◌∷◌, Some, IfErr, IsSome, OnOk, false, true, vec_len};
+ghost use Rattle.outside.specs.Counts.{NoneFell};
 ghost use Rattle.outside.specs.Names.{AllStay};
+ghost use Rattle.pin_core.specs.Tallies.{tally_of};
 ghost use Rattle.row_codec.specs.declared.values.Kind.TheVariants.{Text};
 ghost use Rattle.query_run.specs.Causes.{NamesInt, OfPool};
-ghost use Rattle.spill_top.specs.Refusals.{refusal_for};
-ghost use Rattle.spill_top.specs.Headline.{Answers, AnswersInPart, IsCause, WroteLess};
+ghost use Rattle.spill_top.specs.Headline.{Answers};
+ghost use Rattle.spill_top.specs.Pooled.{ComeBack, all_tell};
+ghost use Rattle.spill_top.specs.Refusals.{refusal_for, refusal_of_pool};
+ghost use Rattle.spill_top.specs.Stops.{IsStop};
 
-use crate::job::let_go;
-use crate::plan::{BLOCK_LEN, LEAST, LIMIT, counting_plan};
+use crate::plan::{counting_plan, counting_pool};
 use crate::report::Refusal;
-use outside::{Inputs, Sink};
-use query_run::{QueryErr, run_query};
+use crate::watched::{Watched, run_watched};
+use outside::{Inputs, Sink, Slot};
+use query_run::QueryErr;
 use reservation_tree::PoolErr;
 use std::alloc::Global;
-use store_api::MemStore;
+use std::marker::Brand;
 
 // Why there is no whole answer in the report.
 #[derive(Clone, Copy, Debug, PartialEq, Eq)]
@@ -26,29 +29,30 @@ pub(crate) enum Stop {
     Memory,
     // Memory was wanting when a front of the answer may have been written.
     Short,
-    // The input was refused, and nothing was written.
+    // The count was refused, and nothing was written.
     Refused(Refusal),
+    // It was refused when some of the answer was written.
+    Broken(Refusal),
 }
 
-// Counts a column of a file, in a store in memory, and writes the answer to the report. The source is opened before
-// the store, and given back in any case.
-pub(crate) fn count<I: Inputs, R: Sink>(
+// Counts a column of a file, over a pool of these slots, and writes the answer to the report. The source is opened before
+// the pool, and given back in any case; and so are the slots.
+pub(crate) fn count<I: Inputs, R: Sink, D: Slot + Drop>(
     alloc: Global,
     file: &str,
     column: &str,
     inputs: &mut I,
     report: &mut R,
+    slots: &mut Vec<D>,
 ) -> Result<(), Stop>
-    ensures answer { OnOk result (Answers (I.bytes_at inputs.old) (R.contents report.old) (R.contents report.new) (record { file = file.now; column = column.now })) }
-    ensures cause { IfErr result (λ e. (why : Refusal) → e ≡ Stop.Refused why → IsCause (I.bytes_at inputs.old file.now) (I.faults_at inputs.old file.now) (I.faults_at inputs.new file.now) (record { file = file.now; column = column.now }) why) }
-    ensures output_fault { IsErrOf result Stop.Report → Rose (R.faults report.old) (R.faults report.new) }
-    ensures part { IsErrOf result Stop.Report → AnswersInPart (I.bytes_at inputs.old) (R.contents report.old) (R.contents report.new) (record { file = file.now; column = column.now }) }
-    ensures short { IsErrOf result Stop.Short → WroteLess (I.bytes_at inputs.old) (R.contents report.old) (R.contents report.new) (record { file = file.now; column = column.now }) }
-    ensures untouched { IfErr result (λ e. (e ≡ Stop.Report) ⊎ (e ≡ Stop.Short) ⊎ (report.new ≡ report.old)) }
-    ensures quiet { IsErrOf result Stop.Report ⊎ (R.faults report.new ≡ R.faults report.old) }
+    requires few { vec_len slots.old ≤ 1048576 }
+    ensures answer { all_tell (tally_of D.Slot slots.old.items) ≡ true → OnOk result (Answers (I.bytes_at inputs.old) (R.contents report.old) (R.contents report.new) (record { file = file.now; column = column.now })) }
+    ensures quiet { OnOk result (R.faults report.new ≡ R.faults report.old) }
+    ensures stop { IfErr result (IsStop (I.bytes_at inputs.old) (I.faults_at inputs.old file.now) (I.faults_at inputs.new file.now) (tally_of D.Slot slots.old.items) (tally_of D.Slot slots.new.items) (R.contents report.old) (R.contents report.new) (R.faults report.old) (R.faults report.new) (record { file = file.now; column = column.now })) }
     ensures inputs { AllStay (I.bytes_at inputs.old) (I.bytes_at inputs.new) }
     ensures never_falls { NoneFell (I.faults_at inputs.old) (I.faults_at inputs.new) }
     ensures report { R.faults report.old ≤ R.faults report.new }
+    ensures slots { ComeBack (tally_of D.Slot slots.old.items) (tally_of D.Slot slots.new.items) }
 {
     let Ok(plan) = counting_plan(alloc, file, column) else {
         return Err(Stop::Memory);
@@ -56,40 +60,45 @@ pub(crate) fn count<I: Inputs, R: Sink>(
     let Ok(mut left) = inputs.open(file) else {
         return Err(Stop::Refused(Refusal::InputFault));
     };
-    let mut store = match MemStore::open(alloc, BLOCK_LEN, LIMIT, LEAST) {
-        Ok(store) => store,
-        Err(PoolErr::Memory) => {
-            inputs.close(file, left);
-            return Err(Stop::Memory);
-        }
-        Err(_) => unreachable!(),
+    let watched = Watched {
+        sink: report,
+        written: false,
     };
-    let mut right = None;
-    let ran = run_query(alloc, &mut store, &plan, &mut left, &mut right, report);
+    let pool = counting_pool();
+    let (ran, watched) = run_watched::<Brand, I::Src, R, D>(
+        alloc, &plan, &pool, slots, &mut left, watched,
+    );
     inputs.close(file, left);
-    store.close();
-    let_go(right);
+    let written = watched.written;
+    let Watched {
+        sink: _report,
+        written: _,
+    } = watched;
     let Err(e) = ran else {
         return Ok(());
     };
-    Err(Stop::of(e))
+    Err(Stop::of(e, written))
 }
 
 impl Stop {
-    // Why a query stopped that counts texts over a store in memory: such a store refuses for want of memory alone,
-    // and a column of texts has no bad field.
+    // Why a query stopped that counts texts: a column of texts has no bad field, and of a pool's answers want of memory
+    // alone is no refusal.
     #[tactic(auto, using(crate::proofs::OnlyMemory::unrefused))]
-    fn of(e: QueryErr) -> Stop
+    fn of(e: QueryErr, written: bool) -> Stop
         requires text { NamesInt (Text ∷ []) e }
-        requires memory { OfPool (λ why. why ≡ PoolErr.Memory) e }
-        ensures refused { (why : Refusal) → result ≡ Stop.Refused why → refusal_for e ≡ Some why }
+        requires pool { OfPool (λ why. (why ≡ PoolErr.Memory) ⊎ IsSome (refusal_of_pool why)) e }
+        ensures refused { (why : Refusal) → result ≡ Stop.Refused why → (refusal_for e ≡ Some why) × (written ≡ false) }
+        ensures broken { (why : Refusal) → result ≡ Stop.Broken why → (refusal_for e ≡ Some why) × (written ≡ true) }
         ensures report { result ≡ Stop.Report → e ≡ QueryErr.SinkFault }
-        ensures fault { e ≡ QueryErr.SinkFault → result ≡ Stop.Report }
-        ensures short { result ≡ Stop.Short → refusal_for e ≡ None }
+        ensures short { result ≡ Stop.Short → e ≡ QueryErr.Pool PoolErr.Memory }
         ensures apart { result ≢ Stop.Memory }
     {
         if let Some(refusal) = Refusal::of(&e) {
-            return Stop::Refused(refusal);
+            return if written {
+                Stop::Broken(refusal)
+            } else {
+                Stop::Refused(refusal)
+            };
         }
         match &e {
             QueryErr::SinkFault => Stop::Report,

@@ -11,11 +11,13 @@ mod over;
 mod parser;
 mod plan;
 mod plan_file;
+mod pooled;
 mod ran;
 mod report;
 mod run;
 mod steps;
 mod top;
+mod watched;
 mod words;
 
 pub use top::spill_top;

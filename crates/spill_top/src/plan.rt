@@ -1,20 +1,26 @@
-// The plan of a count.
+// The plan of a count, and its pool.
 
 ghost use Rattle.std.specs.Prelude.{◌≡◌, IfOk};
-ghost use Rattle.spill_top.specs.Counting.{counting};
+ghost use Rattle.spill_top.specs.Counting.{counting, counting_conf};
 
+use pin_core::PoolConf;
 use query_plan::{FileName, Listed, Query, SidePlan};
 use row_codec::{Agg, Bytes, Column, Kind};
 use std::alloc::{AllocError, Global};
 
-// The block length of a count, in bytes; a page is one block.
-pub(crate) const BLOCK_LEN: u32 = 8192;
+// The most bytes that a count may reserve: all memory of its pool.
+const LIMIT: u64 = 8388608;
 
-// The most bytes that a count may reserve.
-pub(crate) const LIMIT: u64 = 8388608;
-
-// What a count reserves at first: twenty pages.
-pub(crate) const LEAST: u64 = 163840;
+// With what the pool of a count opens. A page is one block.
+pub(crate) fn counting_pool() -> PoolConf
+    ensures { result ≡ counting_conf }
+{
+    PoolConf {
+        blocks: 1024,
+        block_len: 8192,
+        first_name: 0,
+    }
+}
 
 // The plan that counts a column of texts of a file. Its answer goes to the report, which has no name.
 pub(crate) fn counting_plan(alloc: Global, file: &str, column: &str) -> Result<Query, AllocError>

@@ -4,17 +4,19 @@ ghost use Rattle.std.specs.Prelude.{◌≡◌, ◌≤◌, IfOk, Some, None};
 ghost use Rattle.run_report.specs.declared.outcome.Outcome.TheVariants.{Refused};
 ghost use Rattle.run_report.specs.Report.{outcome_text};
 ghost use Rattle.spill_top.specs.Report.{Tells, TellsOrMisses, line_of, outcome_of, shortage, usage, status_of};
-ghost use Rattle.spill_top.specs.Refusals.{Says, refusal_for};
+ghost use Rattle.spill_top.specs.Refusals.{Says, refusal_for, refusal_of_pool};
 
 use csv_edge::write_whole;
 use outside::Sink;
 use query_plan::Side;
 use query_run::QueryErr;
+use reservation_tree::PoolErr;
 use row_codec::Memory;
 use run_report::{Cause, Outcome, outcome_line};
 use std::alloc::Global;
 
-// Why an input has no answer. Records are numbered from 0, the header; a weight is in bytes.
+// Why a count has no answer: its input is at fault, or its pool refused. Records are numbered from 0, the header; a weight is
+// in bytes, need and free are numbers of slots, and an entry is one of the pool's history.
 #[derive(Clone, Copy, Debug, PartialEq, Eq)]
 pub(crate) enum Refusal {
     InputFault,
@@ -22,10 +24,14 @@ pub(crate) enum Refusal {
     Csv { number: u64 },
     Large,
     Row { number: u64, weight: u64 },
+    Scratch { need: u32, free: u32 },
+    Names,
+    Write { entry: u64 },
+    Read { entry: u64 },
 }
 
 impl Refusal {
-    // What the cause of a query is to its command, where it is one of the input.
+    // What the cause of a query is to its command, where it is one of the input or of the pool.
     pub(crate) fn of(e: &QueryErr) -> Option<Refusal>
         ensures { result ≡ refusal_for e.now }
     {
@@ -47,8 +53,21 @@ impl Refusal {
                 number: _,
                 column: _,
             }
-            | QueryErr::SinkFault
-            | QueryErr::Pool(_) => None,
+            | QueryErr::SinkFault => None,
+            QueryErr::Pool(e) => Refusal::of_pool(*e),
+        }
+    }
+
+    fn of_pool(e: PoolErr) -> Option<Refusal>
+        ensures { result ≡ refusal_of_pool e }
+    {
+        match e {
+            PoolErr::ScratchFull { need, free } => Some(Refusal::Scratch { need, free }),
+            PoolErr::NamesSpent => Some(Refusal::Names),
+            PoolErr::WriteFault { entry } => Some(Refusal::Write { entry }),
+            PoolErr::ReadFault { entry } => Some(Refusal::Read { entry }),
+            PoolErr::NoReservation { .. } | PoolErr::TooManyTrackers { .. } | PoolErr::Memory =>
+                None,
         }
     }
 
@@ -62,6 +81,8 @@ impl Refusal {
                 number: _,
                 weight: _,
             } => 5,
+            Refusal::Scratch { .. } | Refusal::Names => 7,
+            Refusal::Write { .. } | Refusal::Read { .. } => 8,
         }
     }
 
@@ -81,6 +102,10 @@ impl Refusal {
                 number,
                 weight,
             },
+            Refusal::Scratch { need, free } => Cause::Scratch { need, free },
+            Refusal::Names => Cause::Names,
+            Refusal::Write { entry } => Cause::Write { entry },
+            Refusal::Read { entry } => Cause::Read { entry },
         };
         Outcome::Refused { status, cause }
     }

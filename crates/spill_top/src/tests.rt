@@ -8,15 +8,17 @@ use std::test::Fail;
 mod joins;
 mod plans;
 mod runs;
+mod spills;
 
 // A run of the top call: the file `in.csv`, if it is there, in chunks of 5 bytes with these reads
-// failing, and a report with these writes failing.
+// failing, a report with these writes failing, and so many slots.
 #[derive(Clone, Copy)]
 struct Run<'a> {
     words: &'a [&'a str],
     file: Option<&'a [u8]>,
     reads: &'a [u64],
     writes: &'a [u64],
+    slots: u32,
 }
 
 impl<'a> Run<'a> {
@@ -26,6 +28,7 @@ impl<'a> Run<'a> {
             file: Some(file),
             reads: &[],
             writes: &[],
+            slots: 64,
         }
     }
 
@@ -35,18 +38,23 @@ impl<'a> Run<'a> {
             file: Some(b"k\na\n"),
             reads: &[],
             writes: &[],
+            slots: 64,
         }
     }
 
     // The status and the report.
-    fn outcome(&self, alloc: Global) -> Result<(u8, Vec<u8>), Fail> {
+    fn outcome(&self, rt: &impl Abort, alloc: Global) -> Result<(u8, Vec<u8>), Fail> {
         let words = owned(alloc, self.words)?;
         let mut inputs = MemInputs::new(alloc)?;
         if let Some(bytes) = self.file {
             inputs.put("in.csv", bytes, 5, self.reads)?;
         }
         let mut report = MemSink::new(alloc, usize::MAX, self.writes)?;
-        let mut slots: Vec<MemSlot> = Vec::new(alloc);
+        let mut slots = Vec::new(alloc);
+        for _ in 0..self.slots {
+            slots.push(MemSlot::new(alloc, &[])?)?;
+        }
+        assert!(rt; slots.len() <= 2000);
         let status = spill_top(
             alloc,
             words.as_slice(),
@@ -56,6 +64,7 @@ impl<'a> Run<'a> {
             &mut slots,
             &OpenGate,
         );
+        assert_eq!(rt; slots.len(), self.slots as usize);
         Ok((status, Vec::from_slice(alloc, report.bytes())?))
     }
 }
@@ -80,7 +89,7 @@ fn a_count_answers_in_the_order_of_paths(rt: HostRuntime) -> Result<(), Fail> {
         ),
     ];
     for (file, report) in rows {
-        let (status, said) = Run::count(file).outcome(rt.alloc())?;
+        let (status, said) = Run::count(file).outcome(&rt, rt.alloc())?;
         assert_eq!(rt; said.as_slice(), report);
         assert_eq!(rt; status, 0);
     }
@@ -99,14 +108,14 @@ fn long_field(alloc: Global, len: usize) -> Result<Vec<u8>, AllocError> {
 fn a_row_weighs_at_most_a_page(rt: HostRuntime) -> Result<(), Fail> {
     let alloc = rt.alloc();
     let file = long_field(alloc, 8168)?;
-    let (status, said) = Run::count(file.as_slice()).outcome(alloc)?;
+    let (status, said) = Run::count(file.as_slice()).outcome(&rt, alloc)?;
     let mut report = Vec::from_slice(alloc, b"k,count\n")?;
     report.extend_from_slice(vec![in alloc; b'x'; 8168]?.as_slice())?;
     report.extend_from_slice(b",1\n")?;
     assert_eq!(rt; said.as_slice(), report.as_slice());
     assert_eq!(rt; status, 0);
     let file = long_field(alloc, 8169)?;
-    let (status, said) = Run::count(file.as_slice()).outcome(alloc)?;
+    let (status, said) = Run::count(file.as_slice()).outcome(&rt, alloc)?;
     assert_eq!(rt; said.as_slice(), b"5 row left 1 8193\n".as_slice());
     assert_eq!(rt; status, 5);
     Ok(())
@@ -124,7 +133,7 @@ fn words_that_are_no_command_are_refused(rt: HostRuntime) -> Result<(), Fail> {
         Run::words(&["selfcheck", "1", "2", "0", "4"]),
     ];
     for run in rows {
-        let (status, said) = run.outcome(rt.alloc())?;
+        let (status, said) = run.outcome(&rt, rt.alloc())?;
         assert_eq!(rt; said.as_slice(), b"1 words\n".as_slice());
         assert_eq!(rt; status, 1);
     }
@@ -162,9 +171,17 @@ fn a_refusal_says_its_cause(rt: HostRuntime) -> Result<(), Fail> {
             9,
             b"",
         ),
+        (
+            Run {
+                slots: 0,
+                ..Run::count(b"k\na\n")
+            },
+            7,
+            b"7 scratch 1 0\n",
+        ),
     ];
     for (run, status, report) in rows {
-        let (answered, said) = run.outcome(rt.alloc())?;
+        let (answered, said) = run.outcome(&rt, rt.alloc())?;
         assert_eq!(rt; said.as_slice(), report);
         assert_eq!(rt; answered, status);
     }

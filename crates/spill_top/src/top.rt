@@ -3,7 +3,9 @@
 ghost use Rattle.std.specs.Prelude.{◌≡◌, ◌≤◌, ◌↔◌, None, IfSome, map, string_bytes, vec_len};
 ghost use Rattle.outside.specs.Counts.{NoneFell};
 ghost use Rattle.outside.specs.Names.{AllStay};
+ghost use Rattle.pin_core.specs.Tallies.{tally_of};
 ghost use Rattle.spill_top.specs.Headline.{Counted};
+ghost use Rattle.spill_top.specs.Pooled.{ComeBack};
 ghost use Rattle.spill_top.specs.Ran.{RanPlan, telling};
 ghost use Rattle.spill_top.specs.Report.{Tells, usage};
 ghost use Rattle.spill_top.specs.Running.{seen};
@@ -19,15 +21,16 @@ use std::alloc::Global;
 /// Runs a command and answers its status. The words come without the program's name.
 ///
 /// `count FILE COLUMN` appends to the report how often each text of the column stands in the file.
-/// A refusal appends its line in its place, unless the line finds no memory; where memory is wanting, the
-/// report may also have a front of the answer.
+/// What its memory of 8 MiB can't hold is put on the slots, so an answer is promised where these tell what they hold.
+/// A refusal appends its line in its place, unless the line finds no memory; where memory is wanting, or the slots refuse
+/// while the answer is written, the report has a front of the answer.
 ///
 /// `run PLAN` runs the queries of a plan's file and appends a line for each of them, but for those that find no memory. The
 /// least reservations are asked first, in the order of the plan. Then outputs are created, inputs are opened, queries run one
 /// after the other, and sources and then sinks are given back, each in this order; of a query that joins the left input comes
 /// first. A query whose output or input can't be opened does not run. The status is the first that is not 0.
 ///
-/// After a fault of the report nothing more is written to it.
+/// After a fault of the report nothing more is written to it. Whatever the status, all slots are there again, in any order.
 ///
 /// | status | meaning |
 /// |---|---|
@@ -38,9 +41,11 @@ use std::alloc::Global;
 /// | 4 | an input was refused: it is no table with such columns, a field is no int, or it is too large |
 /// | 5 | a row weighs more than a page has bytes |
 /// | 6 | the least reservation of a query was refused |
+/// | 7 | the slots don't suffice for the pages, or no name of a page is left |
+/// | 8 | a store to a slot or a load failed |
 /// | 9 | an output, or the report, could not be written |
 /// | 10 | out of memory; when this comes is left open |
-pub fn spill_top<I: Inputs, O: Outputs, R: Sink, D: Slot, G: Gate>(
+pub fn spill_top<I: Inputs, O: Outputs, R: Sink, D: Slot + Drop, G: Gate>(
     alloc: Global,
     words: &[String],
     inputs: &mut I,
@@ -55,13 +60,14 @@ pub fn spill_top<I: Inputs, O: Outputs, R: Sink, D: Slot, G: Gate>(
     ensures usage { result ≡ 1 → Tells usage (R.contents report.old) (R.contents report.new) (R.faults report.old) (R.faults report.new) }
 
     // A command has its answer, or a status with its cause.
-    ensures count { IfSome (command_of (map string_bytes words.now)) (Counted (I.bytes_at inputs.old) (I.faults_at inputs.old) (I.faults_at inputs.new) (R.contents report.old) (R.contents report.new) (R.faults report.old) (R.faults report.new) result) }
+    ensures count { IfSome (command_of (map string_bytes words.now)) (Counted (I.bytes_at inputs.old) (I.faults_at inputs.old) (I.faults_at inputs.new) (tally_of D.Slot slots.old.items) (tally_of D.Slot slots.new.items) (R.contents report.old) (R.contents report.new) (R.faults report.old) (R.faults report.new) result) }
     ensures run { IfSome (plan_file_of (map string_bytes words.now)) (λ file. RanPlan file (vec_len slots.old)
         (seen (I.bytes_at inputs.old) (I.faults_at inputs.old) (O.written outputs.old) (O.is_created outputs.old) (O.faults_at outputs.old))
         (seen (I.bytes_at inputs.new) (I.faults_at inputs.new) (O.written outputs.new) (O.is_created outputs.new) (O.faults_at outputs.new))
         (telling (R.contents report.old) (R.faults report.old)) (telling (R.contents report.new) (R.faults report.new)) result) }
 
-    ensures slots { slots.new ≡ slots.old }
+    // All slots are there again, and their counts of faults did not fall.
+    ensures slots { ComeBack (tally_of D.Slot slots.old.items) (tally_of D.Slot slots.new.items) }
     ensures outputs { plan_file_of (map string_bytes words.now) ≡ None → outputs.new ≡ outputs.old }
     ensures inputs { AllStay (I.bytes_at inputs.old) (I.bytes_at inputs.new) }
     ensures never_falls { NoneFell (I.faults_at inputs.old) (I.faults_at inputs.new) }
@@ -72,7 +78,9 @@ pub fn spill_top<I: Inputs, O: Outputs, R: Sink, D: Slot, G: Gate>(
         return refuse_memory(report);
     };
     match found {
-        Some(Task::Count { file, column }) => answer_count(alloc, file, column, inputs, report),
+        Some(Task::Count { file, column }) => answer_count(
+            alloc, file, column, inputs, report, slots,
+        ),
         Some(Task::Run { plan }) => run(alloc, plan, slots.len() as u32, inputs, outputs, report),
         None => {
             refuse_words(report);

@@ -1,37 +1,98 @@
-use Rattle.std.proofs.Common.{◌≡◌, ap, rules, subst, sym}
+use Rattle.std.proofs.Common.{◌≡◌, ◌∙◌, ◌⊎◌, ℕ, IsSome, Some, Result, Err, ap, false, true, rules, subst, sym, vec_len}
 use Rattle.outside.specs.Counts.{Rose}
+use Rattle.pin_core.specs.Tallies.{tally_of}
+use Rattle.pin_core.specs.declared.conf.PoolConf.{PoolConf}
+use Rattle.query_plan.specs.Sizes.{page_len}
 use Rattle.query_plan.specs.declared.plan.Query.{Query}
-use Rattle.query_run.specs.Causes.{IsSourceFault, NamesInt}
+use Rattle.query_plan.specs.declared.plan.Side.TheVariants.{Left}
+use Rattle.query_run.specs.Causes.{IsSourceFault, NamesInt, OfPool, side_of}
 use Rattle.query_run.specs.Plans.{IsRunnable, kinds_of_columns}
-use Rattle.store_api.specs.MemStore.{held_in}
+use Rattle.query_run.specs.Refused.{SaysOfSide, source}
+use Rattle.query_run.specs.declared.outcome.QueryErr.{QueryErr}
+use Rattle.query_run.specs.declared.outcome.QueryErr.TheVariants.{SinkFault}
+use Rattle.spill_top.specs.Counting.{counting}
+use Rattle.spill_top.specs.Headline.{Answers, AnswersInPart, IsCause}
+use Rattle.spill_top.specs.OneInput.{WroteAnswerOver, WroteFrontOver}
+use Rattle.spill_top.specs.Pooled.{HasMemoryFor, IsPoolStop, all_tell}
+use Rattle.spill_top.specs.Refusals.{refusal_for}
+use Rattle.spill_top.specs.Stops.{IsStop}
 use Rattle.spill_top.specs.Words.{Command}
+use Rattle.spill_top.specs.declared.report.Refusal.{Refusal}
 use Rattle.spill_top.proofs.Causes.{cause_is}
-use Rattle.spill_top.proofs.CountPlan.{refused_so, runs}
-use Rattle.spill_top.proofs.OneInput.{fault_alone, field_alone, not_joins, refused_alone}
-use Rattle.spill_top.proofs.OnlyMemory.{stops_for_memory}
+use Rattle.spill_top.proofs.CountPlan.{pool_fits, refused_so, runs}
+use Rattle.spill_top.proofs.CountStops.{answer_so, answers_so, front_of, front_so, less_so, memory_alone, no_fault, pool_alone, pool_causes, stays_so, stop_is}
 use Rattle.spill_top.proofs.count.count.Goals as goal
 
-pub run_query-ran-requires-clause-plan : goal.run_query-ran-requires-clause-plan
-run_query-ran-requires-clause-plan g c = subst (λ (plan : Query). IsRunnable plan) (sym c.in-Ok.ensures) (runs _)
+pub run_watched-ran-requires-clause-plan : goal.run_watched-ran-requires-clause-plan
+run_watched-ran-requires-clause-plan g c = subst (λ (plan : Query). IsRunnable plan) (sym c.in-Ok.ensures) (runs _)
 
-pub run_query-ran-requires-clause-right : goal.run_query-ran-requires-clause-right
-run_query-ran-requires-clause-right g c = not_joins c.in-Ok.plan (ap (λ (plan : Query). plan.right) c.in-Ok.ensures)
+pub run_watched-ran-requires-clause-alone : goal.run_watched-ran-requires-clause-alone
+run_watched-ran-requires-clause-alone g c = ap (λ (plan : Query). plan.right) c.in-Ok.ensures
+
+pub run_watched-ran-requires-clause-memory : goal.run_watched-ran-requires-clause-memory
+run_watched-ran-requires-clause-memory g c =
+    subst (λ (plan : Query). HasMemoryFor plan c.counting_pool-pool.result) (sym c.in-Ok.ensures) (subst (λ (conf : PoolConf). HasMemoryFor (counting (record { file = c.args.file.now; column = c.args.column.now })) conf) (sym c.counting_pool-pool.ensures) (pool_fits (record { file = c.args.file.now; column = c.args.column.now })))
 
 pub of-requires-clause-text : goal.of-requires-clause-text
 of-requires-clause-text g c =
-    let alone = ap (λ (plan : Query). plan.right) c.in-Ok.ensures in
-    subst (λ (plan : Query). NamesInt (kinds_of_columns plan.left.columns) c.in-Err-ran.e) c.in-Ok.ensures (field_alone c.in-Ok.plan c.in-Err-ran.e alone c.in-Err-ran.ensures.input)
+    let says : SaysOfSide c.in-Ok.plan Left c.in-Ok.plan.left (page_len c.in-Ok.plan c.counting_pool-pool.result.block_len) (source (g.I.Src.Source.remaining c.in-Ok-open.left) (g.I.Src.Source.remaining c.run_watched-ran.new.left) (g.I.Src.Source.faults c.in-Ok-open.left) (g.I.Src.Source.faults c.run_watched-ran.new.left)) c.in-Err.e = search rules in
+    subst (λ (plan : Query). NamesInt (kinds_of_columns plan.left.columns) c.in-Err.e) c.in-Ok.ensures says.field
 
-pub of-requires-clause-memory : goal.of-requires-clause-memory
-of-requires-clause-memory g c = stops_for_memory c.in-Ok.plan (held_in c.in-Ok-open-2.store) c.in-Err-ran.e c.in-Err-ran.ensures.pool
+pub of-requires-clause-pool : goal.of-requires-clause-pool
+of-requires-clause-pool g c =
+    let stop : OfPool (IsPoolStop c.in-Ok.plan (vec_len c.args.slots.now) (tally_of g.D.Slot c.args.slots.now.items) (tally_of g.D.Slot c.run_watched-ran.new.slots.items)) c.in-Err.e = search rules in
+    answers_so c.in-Ok.plan (vec_len c.args.slots.now) (tally_of g.D.Slot c.args.slots.now.items) (tally_of g.D.Slot c.run_watched-ran.new.slots.items) c.in-Err.e stop
 
-pub returns-clause-cause : goal.returns-clause-cause
-returns-clause-cause g c = λ why same.
+pub returns-in_default-ran-clause-answer : goal.returns-in_default-ran-clause-answer
+returns-in_default-ran-clause-answer g c = λ tell.
+    let wrote : WroteAnswerOver c.in-Ok.plan (page_len c.in-Ok.plan c.counting_pool-pool.result.block_len) (g.I.Src.Source.remaining c.in-Ok-open.left) (g.R.Sink.contents c.args.report.now) (g.R.Sink.contents c.run_watched-ran.result.1.sink.now) = search (rules, c.run_watched-ran.ensures.answer tell) in
+    let here : Answers (g.I.Inputs.bytes_at c.args.inputs.now) (g.R.Sink.contents c.args.report.now) (g.R.Sink.contents c.run_watched-ran.result.1.sink.now) (record { file = c.args.file.now; column = c.args.column.now }) =
+    answer_so (record { file = c.args.file.now; column = c.args.column.now }) c.in-Ok.plan c.counting_pool-pool.result.block_len _ _ _ _ c.in-Ok.ensures (ap (λ (conf : PoolConf). conf.block_len) c.counting_pool-pool.ensures) c.in-Ok-open.ensures.gives wrote in
+    search (rules, here)
+
+pub returns-clause-stop : goal.returns-clause-stop
+returns-clause-stop g c =
     let command : Command = record { file = c.args.file.now; column = c.args.column.now } in
+    let len = ap (λ (conf : PoolConf). conf.block_len) c.counting_pool-pool.ensures in
     let alone = ap (λ (plan : Query). plan.right) c.in-Ok.ensures in
-    let len : (held_in c.in-Ok-open-2.store).block_len ≡ 8192 = search rules in
-    let refused = refused_alone c.in-Ok.plan c.in-Err-ran.e alone c.in-Err-ran.ensures.input in
-    let bytes = refused_so command c.in-Ok.plan _ _ _ c.in-Err-ran.e c.in-Ok.ensures len c.in-Ok-open.ensures.gives refused in
-    let counted = fault_alone c.in-Ok.plan c.in-Err-ran.e alone c.in-Err-ran.ensures.input in
-    let fault : IsSourceFault c.in-Err-ran.e → Rose (g.I.Inputs.faults_at c.args.inputs.now c.args.file.now) (g.I.Inputs.faults_at c.close-2.new.self c.args.file.now) = search (rules, counted) in
-    cause_is _ _ _ command c.in-Err-ran.e why (c.of.ensures.refused why same) bytes fault
+    let told = g.I.Inputs.bytes_at c.args.inputs.now c.args.file.now in
+    let faults = g.I.Inputs.faults_at c.args.inputs.now c.args.file.now in
+    let faults_now = g.I.Inputs.faults_at c.close.new.self c.args.file.now in
+    let slots = tally_of g.D.Slot c.args.slots.now.items in
+    let slots_now = tally_of g.D.Slot c.run_watched-ran.new.slots.items in
+    let old = g.R.Sink.contents c.args.report.now in
+    let new = g.R.Sink.contents c.run_watched-ran.result.1.sink.now in
+    let result = c.run_watched-ran.result.0 in
+    let written = c.run_watched-ran.result.1.written in
+    let counts = c.run_watched-ran.ensures.sink in
+    let says : SaysOfSide c.in-Ok.plan Left c.in-Ok.plan.left (page_len c.in-Ok.plan c.counting_pool-pool.result.block_len) (source (g.I.Src.Source.remaining c.in-Ok-open.left) (g.I.Src.Source.remaining c.run_watched-ran.new.left) (g.I.Src.Source.faults c.in-Ok-open.left) (g.I.Src.Source.faults c.run_watched-ran.new.left)) c.in-Err.e = search rules in
+    let stop : OfPool (IsPoolStop c.in-Ok.plan (vec_len c.args.slots.now) slots slots_now) c.in-Err.e = search rules in
+    let untouched : IsSome (side_of c.in-Err.e) → written ≡ false = search rules in
+    let either : (written ≡ false) ⊎ (all_tell slots ≡ true → WroteFrontOver c.in-Ok.plan (page_len c.in-Ok.plan c.counting_pool-pool.result.block_len) (g.I.Src.Source.remaining c.in-Ok-open.left) old new) = search rules in
+    let part : (all_tell slots ≡ true → WroteFrontOver c.in-Ok.plan (page_len c.in-Ok.plan c.counting_pool-pool.result.block_len) (g.I.Src.Source.remaining c.in-Ok-open.left) old new) → all_tell slots ≡ true → AnswersInPart (g.I.Inputs.bytes_at c.args.inputs.now) old new command =
+    λ front tell. front_so command c.in-Ok.plan c.counting_pool-pool.result.block_len told _ old new c.in-Ok.ensures len c.in-Ok-open.ensures.gives (front tell) in
+    let counted : IsSourceFault c.in-Err.e → Rose faults faults_now = let fault = says.source_fault in search (rules, fault) in
+    let cause : (why : Refusal) → refusal_for c.in-Err.e ≡ Some why → IsCause told faults faults_now slots slots_now command why =
+    λ why is. cause_is told faults faults_now slots slots_now command c.in-Err.e why is (refused_so command c.in-Ok.plan c.counting_pool-pool.result.block_len told _ c.in-Err.e c.in-Ok.ensures len c.in-Ok-open.ensures.gives says.refused) counted
+    (pool_causes told faults faults_now (vec_len c.args.slots.now) slots slots_now command c.in-Ok.plan c.in-Err.e c.in-Ok.ensures stop) in
+    let here : IsStop (g.I.Inputs.bytes_at c.args.inputs.now) faults faults_now slots slots_now old new (g.R.Sink.faults c.args.report.now) (g.R.Sink.faults c.run_watched-ran.result.1.sink.now) command c.of.result =
+    stop_is (IsStop (g.I.Inputs.bytes_at c.args.inputs.now) faults faults_now slots slots_now old new (g.R.Sink.faults c.args.report.now) (g.R.Sink.faults c.run_watched-ran.result.1.sink.now) command) c.of.result
+    (λ is. let failed : result ≡ Err SinkFault = c.in-Err.is ∙ ap (λ (e : QueryErr). Err e) (c.of.ensures.report is) in
+    (counts.fault failed, λ tell. part (λ t. c.run_watched-ran.ensures.front t failed) tell))
+    (λ is. absurd (c.of.ensures.apart is))
+    (λ is. let memory = c.of.ensures.short is in (
+      less_so written old new (all_tell slots ≡ true) (AnswersInPart (g.I.Inputs.bytes_at c.args.inputs.now) old new command) c.run_watched-ran.ensures.kept (λ front. part front) either,
+      stays_so result c.in-Err.e _ _ c.in-Err.is (λ fault. memory_alone c.in-Err.e memory fault) counts.quiet,
+    ))
+    (λ why is. let of = c.of.ensures.refused why is in
+    (cause why of.0, c.run_watched-ran.ensures.kept of.1, stays_so result c.in-Err.e _ _ c.in-Err.is (no_fault c.in-Err.e why of.0) counts.quiet))
+    (λ why is. let of = c.of.ensures.broken why is in (
+      cause why of.0,
+      pool_alone c.in-Err.e why written of.0 untouched of.1,
+      record {
+        front = λ tell. part (front_of written (all_tell slots ≡ true → WroteFrontOver c.in-Ok.plan (page_len c.in-Ok.plan c.counting_pool-pool.result.block_len) (g.I.Src.Source.remaining c.in-Ok-open.left) old new) of.1 either) tell;
+        some = c.run_watched-ran.ensures.longer of.1;
+        quiet = stays_so result c.in-Err.e _ _ c.in-Err.is (no_fault c.in-Err.e why of.0) counts.quiet;
+      },
+    )) in
+    search (rules, here)

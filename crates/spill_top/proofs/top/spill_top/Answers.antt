@@ -1,13 +1,15 @@
-use Rattle.std.proofs.Common.{◌≡◌, Some, map, string_bytes, refl, rules}
+use Rattle.std.proofs.Common.{◌≡◌, Some, map, string_bytes, arith, refl, rules}
+use Rattle.pin_core.specs.Tallies.{tally_of}
 use Rattle.spill_top.specs.Headline.{Counted}
 use Rattle.spill_top.specs.Ran.{telling}
 use Rattle.spill_top.specs.Running.{seen}
 use Rattle.spill_top.specs.Words.{Command, command_of, plan_file_of}
+use Rattle.spill_top.proofs.Causes.{device_fault}
 use Rattle.spill_top.proofs.Tops.{count_never_one, counted_short, of_each, ran_short, run_never_one, words_count, words_run}
 use Rattle.spill_top.proofs.top.spill_top.Goals as goal
 
 pub returns-in_default-clause-count : goal.returns-in_default-clause-count
-returns-in_default-clause-count g c = of_each (command_of (map string_bytes c.args.words.now)) _ (λ command. counted_short _ _ _ _ _ _ _ _ command c.refuse_memory.ensures.status c.refuse_memory.ensures.tells)
+returns-in_default-clause-count g c = of_each (command_of (map string_bytes c.args.words.now)) _ (λ command. counted_short _ _ _ _ _ _ _ _ _ _ command c.refuse_memory.ensures.status c.refuse_memory.ensures.tells)
 
 pub returns-in_default-clause-run : goal.returns-in_default-clause-run
 returns-in_default-clause-run g c = of_each (plan_file_of (map string_bytes c.args.words.now)) _ (λ file. ran_short file _ _ (seen (g.I.Inputs.bytes_at c.args.inputs.now) (g.I.Inputs.faults_at c.args.inputs.now) (g.O.Outputs.written c.args.outputs.now) (g.O.Outputs.is_created c.args.outputs.now) (g.O.Outputs.faults_at c.args.outputs.now)) (seen (g.I.Inputs.bytes_at c.args.inputs.now) (g.I.Inputs.faults_at c.args.inputs.now) (g.O.Outputs.written c.args.outputs.now) (g.O.Outputs.is_created c.args.outputs.now) (g.O.Outputs.faults_at c.args.outputs.now)) (telling (g.R.Sink.contents c.args.report.now) (g.R.Sink.faults c.args.report.now)) (telling (g.R.Sink.contents c.refuse_memory.new.report) (g.R.Sink.faults c.refuse_memory.new.report)) c.refuse_memory.ensures.status (λ name. refl) c.refuse_memory.ensures.tells)
@@ -24,10 +26,11 @@ pub returns-in-Some-Count-clause-count : goal.returns-in-Some-Count-clause-count
 returns-in-Some-Count-clause-count g c =
     let command : Command = record { file = c.in-Some-Count.file.now; column = c.in-Some-Count.column.now } in
     let is : command_of (map string_bytes c.args.words.now) ≡ Some (record { file = c.in-Some-Count.file.now; column = c.in-Some-Count.column.now }) = search rules in
-    let counted : Counted (g.I.Inputs.bytes_at c.args.inputs.now) (g.I.Inputs.faults_at c.args.inputs.now) (g.I.Inputs.faults_at c.answer_count.new.inputs) (g.R.Sink.contents c.args.report.now) (g.R.Sink.contents c.answer_count.new.report) (g.R.Sink.faults c.args.report.now) (g.R.Sink.faults c.answer_count.new.report) c.answer_count.result command = record {
+    let counted : Counted (g.I.Inputs.bytes_at c.args.inputs.now) (g.I.Inputs.faults_at c.args.inputs.now) (g.I.Inputs.faults_at c.answer_count.new.inputs) (tally_of g.D.Slot c.args.slots.now.items) (tally_of g.D.Slot c.answer_count.new.slots.items) (g.R.Sink.contents c.args.report.now) (g.R.Sink.contents c.answer_count.new.report) (g.R.Sink.faults c.args.report.now) (g.R.Sink.faults c.answer_count.new.report) c.answer_count.result command = record {
       status_is = c.answer_count.ensures.status;
       answer = c.answer_count.ensures.answer;
       input_fault = c.answer_count.ensures.input_fault;
+      device_fault = λ eight. device_fault _ _ _ _ _ _ _ _ _ _ _ eight (c.answer_count.ensures.refused (λ (is : c.answer_count.result ≡ 0). omega (arith, is, eight)) (λ (is : c.answer_count.result ≡ 9). omega (arith, is, eight)) (λ (is : c.answer_count.result ≡ 10). omega (arith, is, eight)));
       refused = c.answer_count.ensures.refused;
       lacks_memory = c.answer_count.ensures.lacks_memory;
       quiet = c.answer_count.ensures.quiet;

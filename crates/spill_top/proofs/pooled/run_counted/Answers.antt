@@ -1,0 +1,81 @@
+use Rattle.std.proofs.Common.{◌≡◌, ◌∙◌, ℕ, Bool, List, IfErr, IfOk, IfSome, OnOk, inl, inr, length, true, vec_len, ap, subst, sym, rules}
+use Rattle.std.proofs.lemmas.Result.{IfErr-weaker}
+use Rattle.pin_core.specs.Tallies.{tally_of}
+use Rattle.pin_core.specs.declared.tally.Tally.{Tally}
+use Rattle.local_pool.specs.Beginning.{Begins}
+use Rattle.local_pool.specs.Told.{held_of}
+use Rattle.query_plan.specs.Sizes.{page_len}
+use Rattle.query_run.specs.Answer.{Numbers, WroteAnswer, WroteFront}
+use Rattle.query_run.specs.Both.{both_told, told_in}
+use Rattle.spill_top.specs.Pooled.{ComeBack, all_tell}
+use Rattle.spill_top.proofs.Showing.{tells_first}
+use Rattle.spill_top.proofs.Pools.{as_many, come_back, pool_stop, room_for, same_slots}
+use Rattle.spill_top.proofs.pooled.run_counted.Goals as goal
+
+pub run_query-ran-requires-clause-store : goal.run_query-ran-requires-clause-store
+run_query-ran-requires-clause-store g c =
+    room_for g.D.Slot c.args.query.now c.args.conf.now c.replace-taken.result.items _ _ _ c.in-Ok.pool.alone c.in-Ok.ensures.ok c.least-wanted.ensures.least
+
+pub returns-clause-answer : goal.returns-clause-answer
+returns-clause-answer g c = λ tell.
+    let taken : c.replace-taken.result.items ≡ c.args.slots.now.items = search rules in
+    let tell_taken : all_tell (tally_of g.D.Slot c.replace-taken.result.items) ≡ true = ap (λ (ds : List g.row.D.Denot). all_tell (tally_of g.D.Slot ds)) taken ∙ tell in
+    subst (λ (n : ℕ). OnOk c.run_query-ran.result (WroteAnswer c.args.query.now (page_len c.args.query.now n) (both_told (g.S.Source.remaining c.args.left.now) (told_in g.S.Source.remaining c.args.right.now)) (g.K.Sink.contents c.args.sink.now) (g.K.Sink.contents c.run_query-ran.new.sink)))
+    c.in-Ok.ensures.ok.held.block_len (c.run_query-ran.ensures.answer (tells_first g.D.Slot c.in-Ok.pool.alone c.replace-taken.result.items c.in-Ok.ensures.ok.home ∙ tell_taken))
+
+pub returns-clause-stopped : goal.returns-clause-stopped
+returns-clause-stopped g c =
+    let taken : c.replace-taken.result.items ≡ c.args.slots.now.items = search rules in
+    IfErr-weaker c.run_query-ran.result _ _ (λ e either. elim either [
+      | inl same ↦ inl same
+      | inr both ↦ inr (
+        both.0,
+        both.1,
+        λ tell.
+            let tell_taken : all_tell (tally_of g.D.Slot c.replace-taken.result.items) ≡ true = ap (λ (ds : List g.row.D.Denot). all_tell (tally_of g.D.Slot ds)) taken ∙ tell in
+            subst (λ (n : ℕ). WroteFront c.args.query.now (page_len c.args.query.now n) (both_told (g.S.Source.remaining c.args.left.now) (told_in g.S.Source.remaining c.args.right.now)) (g.K.Sink.contents c.args.sink.now) (g.K.Sink.contents c.run_query-ran.new.sink))
+            c.in-Ok.ensures.ok.held.block_len (both.2 (tells_first g.D.Slot c.in-Ok.pool.alone c.replace-taken.result.items c.in-Ok.ensures.ok.home ∙ tell_taken)),
+      )
+    ]) c.run_query-ran.ensures.stopped
+
+pub returns-in-Err-clause-slots : goal.returns-in-Err-clause-slots
+returns-in-Err-clause-slots g c =
+    let taken : c.replace-taken.result.items ≡ c.args.slots.now.items = search rules in
+    subst (λ (ds : List g.row.D.Denot). ComeBack (tally_of g.D.Slot ds) (tally_of g.D.Slot c.in-Err.back.items)) taken (same_slots g.D.Slot c.replace-taken.result.items c.in-Err.back.items c.in-Err.ensures.back)
+
+pub returns-in-Err-clause-len : goal.returns-in-Err-clause-len
+returns-in-Err-clause-len g c =
+    let taken : c.replace-taken.result.items ≡ c.args.slots.now.items = search rules in
+    let all : length c.in-Err.back.items ≡ length c.replace-taken.result.items = as_many g.D.Slot c.replace-taken.result.items c.in-Err.back.items (same_slots g.D.Slot c.replace-taken.result.items c.in-Err.back.items c.in-Err.ensures.back) in
+    search (rules, all, taken)
+
+pub returns-clause-slots : goal.returns-clause-slots
+returns-clause-slots g c = come_back g.T.OpenedWith.tally c.run_query-ran.new.store.alone.trail _ _ c.requires.tally c.close.ensures.sums
+
+pub returns-clause-len : goal.returns-clause-len
+returns-clause-len g c =
+    let all : length c.close.result.items ≡ length c.args.slots.now.items = as_many g.D.Slot c.args.slots.now.items c.close.result.items (come_back g.T.OpenedWith.tally c.run_query-ran.new.store.alone.trail _ _ c.requires.tally c.close.ensures.sums) in
+    search (rules, all)
+
+pub returns-clause-pool : goal.returns-clause-pool
+returns-clause-pool g c =
+    IfErr-weaker c.run_query-ran.result _ _
+    (λ e may. pool_stop c.run_query-ran.new.store.alone c.args.query.now c.args.quota (held_of g.D.Slot c.in-Ok.pool.alone) _ g.T.OpenedWith.tally _ _ e c.in-Ok.ensures.ok.held.free_slots c.requires.tally c.close.ensures.sums may)
+    c.run_query-ran.ensures.pool
+
+pub returns-clause-front : goal.returns-clause-front
+returns-clause-front g c = λ tell fault.
+    let taken : c.replace-taken.result.items ≡ c.args.slots.now.items = search rules in
+    let tell_taken : all_tell (tally_of g.D.Slot c.replace-taken.result.items) ≡ true = ap (λ (ds : List g.row.D.Denot). all_tell (tally_of g.D.Slot ds)) taken ∙ tell in
+    subst (λ (n : ℕ). WroteFront c.args.query.now (page_len c.args.query.now n) (both_told (g.S.Source.remaining c.args.left.now) (told_in g.S.Source.remaining c.args.right.now)) (g.K.Sink.contents c.args.sink.now) (g.K.Sink.contents c.run_query-ran.new.sink))
+    c.in-Ok.ensures.ok.held.block_len (c.run_query-ran.ensures.front (tells_first g.D.Slot c.in-Ok.pool.alone c.replace-taken.result.items c.in-Ok.ensures.ok.home ∙ tell_taken) fault)
+
+pub returns-clause-numbers : goal.returns-clause-numbers
+returns-clause-numbers g c =
+    let taken : c.replace-taken.result.items ≡ c.args.slots.now.items = search rules in
+    let tells : (held_of g.D.Slot c.in-Ok.pool.alone).told ≡ all_tell (tally_of g.D.Slot c.args.slots.now.items) =
+    tells_first g.D.Slot c.in-Ok.pool.alone c.replace-taken.result.items c.in-Ok.ensures.ok.home ∙ ap (λ (ds : List g.row.D.Denot). all_tell (tally_of g.D.Slot ds)) taken in
+    let told = both_told (g.S.Source.remaining c.args.left.now) (told_in g.S.Source.remaining c.args.right.now) in
+    subst (λ (n : ℕ). IfOk c.run_query-ran.result (λ ran. IfSome told (Numbers c.args.query.now (page_len c.args.query.now n) (all_tell (tally_of g.D.Slot c.args.slots.now.items)) ran)))
+    c.in-Ok.ensures.ok.held.block_len
+    (subst (λ (b : Bool). IfOk c.run_query-ran.result (λ ran. IfSome told (Numbers c.args.query.now (page_len c.args.query.now (held_of g.D.Slot c.in-Ok.pool.alone).block_len) b ran))) tells c.run_query-ran.ensures.numbers)

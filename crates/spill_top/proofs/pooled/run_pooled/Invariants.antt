@@ -1,0 +1,6 @@
+use Rattle.std.specs.Prelude.{Some}
+use Rattle.pin_core.specs.Tallies.{tally_of}
+use Rattle.spill_top.proofs.pooled.run_pooled.Given as goal
+
+abbrev pub ghosts-run_counted : goal.ghosts-run_counted
+ghosts-run_counted g a = record { tally = Some (tally_of g.D.Slot a.slots.now.items) }

@@ -1,0 +1,107 @@
+// A count's query, whose report is watched for whether anything was written to it.
+
+ghost use Rattle.std.specs.Prelude.{◌≡◌, ◌≤◌, ◌⊎◌, ℕ, List, None, Option, IfErr, IsErrOf, IsSome, OnOk, false, true, vec_len};
+ghost use Rattle.std.specs.Io.KnownBytes.{Keeps};
+ghost use Rattle.pin_core.specs.Tallies.{tally_of};
+ghost use Rattle.query_plan.specs.Sizes.{page_len};
+ghost use Rattle.query_run.specs.Causes.{OfPool, side_of};
+ghost use Rattle.query_run.specs.Plans.{IsRunnable};
+ghost use Rattle.query_run.specs.Refused.{SaysOfSide, source};
+ghost use Rattle.query_run.specs.Stopped.{CountsSink};
+ghost use Rattle.spill_top.specs.OneInput.{WroteAnswerOver, WroteFrontOver};
+ghost use Rattle.spill_top.specs.Pooled.{ComeBack, HasMemoryFor, IsPoolStop, all_tell};
+ghost use Rattle.spill_top.specs.Report.{Lengthens, LongerTold, StillTold};
+
+use crate::job::let_go;
+use crate::pooled::run_pooled;
+use outside::{Failed, Sink, Slot, Source};
+use pin_core::PoolConf;
+use query_plan::{Query, Side};
+use query_run::{QueryErr, Ran};
+use std::alloc::Global;
+use std::marker::{Brand, PhantomData};
+
+// A report, and whether anything was written to it.
+pub(crate) struct Watched<'a, R> {
+    pub(crate) sink: &'a mut R,
+    pub(crate) written: bool,
+}
+
+// What stood in a report before, and which reference to it is watched.
+pub(crate) trait Start {
+    ghost before: { Option (List ℕ) };
+
+    ghost name: { ℕ };
+}
+
+impl Start for Brand {
+    ghost use Rattle.std.specs.Prelude.{None};
+
+    ghost before = { None };
+
+    ghost name = { 0 };
+}
+
+// The same as a sink.
+struct Tied<'a, R: Sink, B: Start> {
+    watched: Watched<'a, R>,
+    of: PhantomData<B>,
+    ghost name: { watched.sink.ghost_name ≡ B.name },
+    ghost kept: { watched.written ≡ false → StillTold B.before (R.contents watched.sink.now) },
+    ghost longer: { watched.written ≡ true → LongerTold B.before (R.contents watched.sink.now) },
+}
+
+impl<'a, R: Sink, B: Start> Sink for Tied<'a, R, B> {
+    ghost contents = { λ s. R.contents s.watched.sink.now };
+
+    ghost faults = { λ s. R.faults s.watched.sink.now };
+
+    fn write(&mut self, piece: &[u8]) -> Result<usize, Failed> {
+        let watched = &mut self.watched;
+        let count = watched.sink.write(piece)?;
+        watched.written = true;
+        Ok(count)
+    }
+}
+
+// Runs a query without a right input over a pool with these numbers, whose pages may take all slots.
+pub(crate) fn run_watched<'a, B: Start, S: Source, R: Sink, D: Slot + Drop>(
+    alloc: Global,
+    plan: &Query,
+    conf: &PoolConf,
+    slots: &mut Vec<D>,
+    left: &mut S,
+    watched: Watched<'a, R>,
+) -> (Result<Ran, QueryErr>, Watched<'a, R>)
+    requires plan { IsRunnable plan.now }
+    requires alone { plan.now.right ≡ None }
+    requires memory { HasMemoryFor plan.now conf.now }
+    requires few { vec_len slots.old ≤ 1048576 }
+    requires name { watched.sink.ghost_name ≡ B.name }
+    requires before { R.contents watched.sink.now ≡ B.before }
+    requires unwritten { watched.written ≡ false }
+    ensures answer { all_tell (tally_of D.Slot slots.old.items) ≡ true → OnOk result.0 (WroteAnswerOver plan.now (page_len plan.now conf.now.block_len) (S.remaining left.old) (R.contents watched.entry.sink.now) (R.contents result.1.sink.now)) }
+    ensures says { IfErr result.0 (SaysOfSide plan.now Side.Left plan.now.left (page_len plan.now conf.now.block_len) (source (S.remaining left.old) (S.remaining left.new) (S.faults left.old) (S.faults left.new))) }
+    ensures pool { IfErr result.0 (OfPool (IsPoolStop plan.now (vec_len slots.old) (tally_of D.Slot slots.old.items) (tally_of D.Slot slots.new.items))) }
+    ensures front { all_tell (tally_of D.Slot slots.old.items) ≡ true → IsErrOf result.0 QueryErr.SinkFault → WroteFrontOver plan.now (page_len plan.now conf.now.block_len) (S.remaining left.old) (R.contents watched.entry.sink.now) (R.contents result.1.sink.now) }
+    ensures untouched { IfErr result.0 (λ e. IsSome (side_of e) → result.1.written ≡ false) }
+    ensures stopped { IfErr result.0 (λ _. (result.1.written ≡ false) ⊎ (all_tell (tally_of D.Slot slots.old.items) ≡ true → WroteFrontOver plan.now (page_len plan.now conf.now.block_len) (S.remaining left.old) (R.contents watched.entry.sink.now) (R.contents result.1.sink.now))) }
+
+    ensures kept { result.1.written ≡ false → Keeps (R.contents watched.entry.sink.now) (R.contents result.1.sink.now) }
+    ensures longer { result.1.written ≡ true → Lengthens (R.contents watched.entry.sink.now) (R.contents result.1.sink.now) }
+    ensures sink { CountsSink (IsErrOf result.0 QueryErr.SinkFault) (R.faults watched.entry.sink.now) (R.faults result.1.sink.now) }
+    ensures source_kept { S.faults left.old ≤ S.faults left.new }
+    ensures slots { ComeBack (tally_of D.Slot slots.old.items) (tally_of D.Slot slots.new.items) }
+    ensures name { result.1.sink.ghost_name ≡ watched.entry.sink.ghost_name }
+{
+    let quota = slots.len() as u32;
+    let mut right = None;
+    let mut tied = Tied::<'a, R, B> {
+        watched,
+        of: PhantomData,
+    };
+    let ran = run_pooled(alloc, plan, conf, quota, slots, left, &mut right, &mut tied);
+    let_go(right);
+    let Tied { watched, of: _ } = tied;
+    (ran, watched)
+}
