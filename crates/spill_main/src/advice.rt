@@ -49,9 +49,10 @@ fn tell_plan<F: FileSystem + AllocGlobal>(
     name: &str,
     report: &str,
 ) -> io::Result<()> {
-    let plan = plan_of(files, name);
-    let plan = plan.as_ref();
-    tell_lines(rt, report, Files::OfPlan { name, plan })
+    match &plan_of(files, name) {
+        Some(plan) => tell_lines(rt, report, Files::OfPlan { name, plan }),
+        None => tell_lines(rt, report, Files::Unread { name }),
+    }
 }
 
 // The plan once more, for the names of its files.

@@ -1,6 +1,6 @@
 // Files as inputs and outputs. Each says on standard error which file was at fault, and why.
 
-ghost use Rattle.std.specs.Prelude.{None, true};
+ghost use Rattle.std.specs.Prelude.{◌≡◌, IfOk, None, true};
 
 use crate::in_use::InUse;
 use crate::output::Output;
@@ -168,12 +168,13 @@ impl<'a, F: Files<File = File> + Clock + Eprint + AllocGlobal> FileOutputs<'a, F
     }
 
     // A new file beside this place, in which a file may stand that no input is.
-    fn part_of(&self, name: &str) -> io::Result<PartFile<'a, F>> {
+    fn part_of(&self, name: &str) -> io::Result<PartFile<'a, F>>
+        ensures { IfOk result (λ part. part.output.faults ≡ 0) }
+    {
         if let Ok(data) = fs::metadata(self.files, name) {
             self.may_replace(&data)?;
         }
-        let mut number = 0;
-        loop {
+        for number in 0..PLACES_BESIDE {
             let place = format!(in self.files.alloc(); "{name}.spill-part-{number}")?;
             match File::create_new(self.files, place.as_str()) {
                 Ok(file) => {
@@ -182,12 +183,11 @@ impl<'a, F: Files<File = File> + Clock + Eprint + AllocGlobal> FileOutputs<'a, F
                         place,
                     });
                 }
-                Err(e) if e.kind() == io::ErrorKind::AlreadyExists && number < PLACES_BESIDE => {
-                    number += 1;
-                }
+                Err(e) if e.kind() == io::ErrorKind::AlreadyExists => {}
                 Err(e) => return Err(e),
             }
         }
+        Err(io::Error::other("the places beside it are taken"))
     }
 
     fn may_replace(&self, data: &Metadata) -> io::Result<()> {
@@ -212,10 +212,8 @@ impl<'a, F: Files<File = File> + Clock + Eprint + AllocGlobal> FileOutputs<'a, F
         moved
     }
 
-    fn fail(&mut self, name: &str, why: &io::Error) -> Failed {
+    fn tell(&self, name: &str, why: &io::Error) {
         let _ = eprintln!(self.files; "spill: {name} could not be written: {why}");
-        self.faults = self.faults.saturating_add(1);
-        Failed
     }
 }
 
@@ -232,7 +230,11 @@ impl<'a, F: Files<File = File> + Clock + Eprint + AllocGlobal + Sync> Outputs
     fn create(&mut self, name: &str) -> Result<PartFile<'a, F>, Failed> {
         match self.part_of(name) {
             Ok(part) => Ok(part),
-            Err(e) => Err(self.fail(name, &e)),
+            Err(e) => {
+                self.tell(name, &e);
+                self.faults = self.faults.saturating_add(1);
+                Err(Failed)
+            }
         }
     }
 
@@ -243,7 +245,11 @@ impl<'a, F: Files<File = File> + Clock + Eprint + AllocGlobal + Sync> Outputs
         drop(output);
         match self.settle(name, place.as_str(), whole) {
             Ok(()) => Ok(()),
-            Err(e) => Err(self.fail(name, &e)),
+            Err(e) => {
+                self.tell(name, &e);
+                self.faults = self.faults.saturating_add(1);
+                Err(Failed)
+            }
         }
     }
 }

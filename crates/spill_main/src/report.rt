@@ -1,5 +1,7 @@
 // The report, of which so much is kept as a person is told about.
 
+ghost use Rattle.std.specs.Prelude.{◌≡◌};
+
 use crate::output::Output;
 use outside::{Failed, Sink};
 use std::alloc::Global;
@@ -29,7 +31,9 @@ impl<W: Write> Report<W> {
     }
 
     // Where there is no memory, a person is told less.
-    fn keep(&mut self, piece: &[u8]) {
+    fn keep(&mut self, piece: &[u8])
+        ensures { self.new.output ≡ self.old.output }
+    {
         let room = KEPT.saturating_sub(self.kept.len());
         if piece.len() <= room {
             let _ = self.kept.extend_from_slice(piece);

@@ -1,6 +1,6 @@
 //! Scratch: one file of the system, in which each slot has a place of its own.
 
-ghost use Rattle.std.specs.Prelude.{None, false};
+ghost use Rattle.std.specs.Prelude.{◌≡◌, IfOk, None, false, vec_len};
 
 use outside::{Failed, Slot};
 use std::alloc::{AllocError, Global};
@@ -50,12 +50,18 @@ impl<'a, R: Files<File = File> + Env + Eprint + AllocGlobal + Wait> Scratch<'a, 
     }
 
     /// Its slots.
-    pub(crate) fn slots(&self, alloc: Global, count: usize) -> Result<Vec<Place<'_, 'a, R>>, AllocError> {
+    pub(crate) fn slots(
+        &self,
+        alloc: Global,
+        count: usize,
+    ) -> Result<Vec<Place<'_, 'a, R>>, AllocError>
+        ensures { IfOk result (λ slots. vec_len slots ≡ count) }
+    {
         let mut slots = Vec::with_capacity(alloc, count)?;
         for number in 0..count {
             slots.push(Place {
                 scratch: self,
-                at: number as u64 * PLACE,
+                at: (number as u64).saturating_mul(PLACE),
                 faults: 0,
             })?;
         }
@@ -94,20 +100,18 @@ impl<'a, R: Files<File = File> + Env + Eprint + AllocGlobal + Wait> Scratch<'a, 
     fn make(&self) -> io::Result<File> {
         let folder = env::temp_dir(self.rt)?;
         let folder = folder.as_str();
-        let mut number = 0;
-        loop {
+        for number in 0..NAMES {
             let name = format!(in self.rt.alloc(); "{folder}/spill-scratch-{number}")?;
             match new_file(self.rt, name.as_str()) {
                 Ok(file) => {
                     fs::remove_file(self.rt, name.as_str())?;
                     return Ok(file);
                 }
-                Err(e) if e.kind() == io::ErrorKind::AlreadyExists && number < NAMES => {
-                    number += 1;
-                }
+                Err(e) if e.kind() == io::ErrorKind::AlreadyExists => {}
                 Err(e) => return Err(e),
             }
         }
+        Err(io::Error::other("its names are taken"))
     }
 
     // Once is enough: what failed is likely to fail again.
@@ -150,18 +154,6 @@ pub(crate) struct Place<'s, 'a, R> {
     faults: u64,
 }
 
-impl<R: Files<File = File> + Env + Eprint + AllocGlobal + Wait> Place<'_, '_, R> {
-    fn counted(&mut self, done: io::Result<()>) -> Result<(), Failed> {
-        match done {
-            Ok(()) => Ok(()),
-            Err(_) => {
-                self.faults = self.faults.saturating_add(1);
-                Err(Failed)
-            }
-        }
-    }
-}
-
 impl<R: Files<File = File> + Env + Eprint + AllocGlobal + Wait> Slot for Place<'_, '_, R> {
     ghost tells = { λ _. false };
 
@@ -172,12 +164,22 @@ impl<R: Files<File = File> + Env + Eprint + AllocGlobal + Wait> Slot for Place<'
     ghost faults = { λ s. s.faults };
 
     fn store(&mut self, block: &[u8]) -> Result<(), Failed> {
-        let done = self.scratch.store(self.at, block);
-        self.counted(done)
+        match self.scratch.store(self.at, block) {
+            Ok(()) => Ok(()),
+            Err(_) => {
+                self.faults = self.faults.saturating_add(1);
+                Err(Failed)
+            }
+        }
     }
 
     fn load(&mut self, block: &mut [u8]) -> Result<(), Failed> {
-        let done = self.scratch.load(self.at, block);
-        self.counted(done)
+        match self.scratch.load(self.at, block) {
+            Ok(()) => Ok(()),
+            Err(_) => {
+                self.faults = self.faults.saturating_add(1);
+                Err(Failed)
+            }
+        }
     }
 }

@@ -32,18 +32,28 @@ impl<'a> Refused<'a> {
     }
 }
 
-// Where the files of a line are told: by the plan that ran, if it can be read again, or by the one file of a count.
+// Where the files of a line are told: by the plan that ran, which may not be read again, or by the one file of a count.
 #[derive(Clone, Copy)]
 pub(crate) enum Files<'a> {
-    OfPlan { name: &'a str, plan: Option<&'a Plan> },
+    OfPlan { name: &'a str, plan: &'a Plan },
+    Unread { name: &'a str },
     One(&'a str),
 }
 
 impl<'a> Files<'a> {
+    // The name of the plan's file.
+    fn plan_name(self) -> Option<&'a str> {
+        match self {
+            Files::OfPlan { name, plan: _ } => Some(name),
+            Files::Unread { name } => Some(name),
+            Files::One(_) => None,
+        }
+    }
+
     fn query(self, number: Option<usize>) -> Option<&'a Query> {
         match self {
-            Files::OfPlan { plan, .. } => plan?.queries.as_slice().get(number?.checked_sub(1)?),
-            Files::One(_) => None,
+            Files::OfPlan { plan, .. } => plan.queries.as_slice().get(number?.checked_sub(1)?),
+            Files::Unread { .. } | Files::One(_) => None,
         }
     }
 
@@ -99,10 +109,8 @@ fn tell(rt: &impl Eprint, line: &Refused<'_>, files: Files<'_>) -> io::Result<()
 
 // Which query, where there are several.
 fn begin(rt: &impl Eprint, line: &Refused<'_>, files: Files<'_>) -> io::Result<()> {
-    match (files, line.query) {
-        (Files::OfPlan { name, .. }, Some(number)) => {
-            eprint!(rt; "spill: query {number} of {name}: ")
-        }
+    match (files.plan_name(), line.query) {
+        (Some(name), Some(number)) => eprint!(rt; "spill: query {number} of {name}: "),
         _ => eprint!(rt; "spill: "),
     }
 }
@@ -151,11 +159,15 @@ fn tell_reservation(rt: &impl Eprint, numbers: &str) -> io::Result<()> {
 
 fn tell_scratch(rt: &impl Eprint, files: Files<'_>) -> io::Result<()> {
     match files {
-        Files::OfPlan { .. } => {
-            eprintln!(rt; "the scratch slots set aside for it were used up: a higher \"quota\" may do")
+        Files::OfPlan { .. } | Files::Unread { .. } => {
+            eprintln!(rt;
+                "the scratch slots set aside for it were used up: a higher \"quota\" may do"
+            )
         }
         Files::One(file) => {
-            eprintln!(rt; "{file} has more values than scratch holds: a plan with longer pages may do")
+            eprintln!(rt;
+                "{file} has more values than scratch holds: a plan with longer pages may do"
+            )
         }
     }
 }
