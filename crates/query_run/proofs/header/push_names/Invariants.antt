@@ -1,6 +1,0 @@
-use Rattle.std.proofs.Common.{◌≡◌, ◌++◌, map, take}
-use Rattle.row_codec.specs.declared.values.Value.TheVariants.{Text}
-use Rattle.query_run.proofs.header.push_names.Given as goal
-
-abbrev pub invariant-loop-column : goal.invariant-loop-column
-invariant-loop-column l = l.row.items ≡ l.initial.row.items ++ map (λ column. Text (l.front ++ column.name)) (take l.column-index l.columns)
