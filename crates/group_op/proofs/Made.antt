@@ -46,10 +46,6 @@ exact_of : (was is : ℕ) (a b : Option (List Entry)) → EnteredEvents (λ even
 exact_of was is None b made = made
 exact_of was is (Some before) b made = (made.0, made.1, (let same = names_are made.0 in let all = made.2 in omega (arith, same, all)))
 
-few_of : (was is most : ℕ) (a b : Option (List Entry)) → is ≤ most → EnteredEvents (λ events. is ≡ was + creates_in events) a b → Entered (λ more. length (names_in more) ≤ most) a b
-few_of was is most None b less made = made
-few_of was is most (Some before) b less made = (made.0, made.1, (let same = names_are made.0 in let all = made.2 in omega (arith, same, all, less)))
-
 none_of : (a b : Option (List Entry)) → EnteredEvents (λ events. creates_in events ≡ 0) a b → Entered (λ more. names_in more ≡ []) a b
 none_of None b made = made
 none_of (Some before) b made = (made.0, made.1, nil_from_length (names_in made.0) (names_are made.0 ∙ made.2))
@@ -68,7 +64,7 @@ pub makes_of : (old new : Operator) (h k : Holdings) (before after : Signs) → 
 makes_of old new h k before after made few =
     record {
       exact = exact_of (pages_on old) (pages_on new) before.trail after.trail made;
-      few = λ fed holds. few_of (pages_on old) (pages_on new) (length fed) before.trail after.trail (few fed holds) made;
+      few = few;
     }
 
 -- ---- few pages for the rows that were fed

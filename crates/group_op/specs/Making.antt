@@ -10,15 +10,11 @@ use Rattle.group_op.specs.Operator.{Holds, IsFeeding, Operator, entries_in}
 abbrev pub pages_on : Operator → ℕ
 pages_on op = sum_by (λ s. length s.pages) op.parts.streams
 
--- no more pages were made than this
-abbrev pub MakesFew : ℕ → Signs → Signs → Type 0
-MakesFew most before after = Entered (λ more. length (names_in more) ≤ most) before.trail after.trail
-
--- while a row was fed, whatever came of it: the partitions have the pages that they had and those that were made, of which there
--- are no more than rows were fed before
+-- while a row was fed, whatever came of it: the partitions have the pages that they had and those that were made, and no more
+-- than rows were fed before
 pub record Makes (old new : Operator) (h : Holdings) (before after : Signs) : Type 0 where
   pub exact : Entered (λ more. pages_on new ≡ pages_on old + length (names_in more)) before.trail after.trail
-  pub few : (fed : List (List Value)) → Holds fed old h before → MakesFew (length fed) before after
+  pub few : (fed : List (List Value)) → Holds fed old h before → pages_on new ≤ length fed
 
 -- the pages and the rows of the table are together no more than the rows fed
 abbrev pub FewPages : Type 0

@@ -1,5 +1,5 @@
 -- One row goes to a grouping of an emitter.
-use Rattle.std.proofs.Common.{◌≡◌, ◌≢◌, ◌∙◌, ◌+◌, ◌-◌, ◌*◌, ◌^◌, ◌<◌, ◌≤◌, ◌==◌, ℕ, zero, suc, List, [], ◌∷◌, ◌++◌, All, length, true, Option, Some, None, Result, Ok, Err, IfErr, option_map, if◌then◌else◌, refl, ap, sym, subst, arith, eq-eqb}
+use Rattle.std.proofs.Common.{◌≡◌, ◌≢◌, ◌∙◌, ◌+◌, ◌-◌, ◌*◌, ◌^◌, ◌<◌, ◌≤◌, ◌==◌, ℕ, zero, suc, List, [], ◌∷◌, ◌++◌, All, length, true, Option, Some, None, Result, Ok, Err, IfErr, option_map, if◌then◌else◌, refl, ap, sym, subst, arith, append_assoc, eq-eqb}
 use Rattle.std.specs.Prelude.{IfSome, slice_get}
 use Rattle.std.specs.List.{sum_by}
 use Rattle.std.proofs.lemmas.List.{length-append}
@@ -12,7 +12,7 @@ use Rattle.row_codec.specs.Row.{kinds_of}
 use Rattle.row_codec.specs.RowBytes.{row_bytes}
 use Rattle.store_api.proofs.Answered.{answered_after}
 use Rattle.store_api.proofs.Growing.{grows_trans}
-use Rattle.store_api.proofs.Names.{MakesPages, makes_both}
+use Rattle.store_api.proofs.Names.{names_both}
 use Rattle.store_api.specs.Emitters.{CameOf, GrowsBy, OthersStay, SameOwn, slots_with}
 use Rattle.store_api.specs.Holdings.{Holdings, length_of, page_of}
 use Rattle.store_api.specs.Signs.{Entered, Grows, Signs}
@@ -28,7 +28,7 @@ use Rattle.partition_stack.specs.Leaving.{CameOfStore, LeavesOthers}
 use Rattle.partition_stack.specs.Stack.{IsStack, Stack, over}
 use Rattle.partition_stack.proofs.Left.{leaves_both}
 use Rattle.group_op.specs.Asking.{AsksOwn, FewSlots, StaysSame, slots_on}
-use Rattle.group_op.specs.Making.{Makes, MakesFew}
+use Rattle.group_op.specs.Making.{Makes, pages_on}
 use Rattle.group_op.specs.Operator.{HasTable, Holds, IsFeeding, IsOperator, IsSame, MayBeFed, Operator, started}
 use Rattle.group_op.specs.Starting.{HasStarted}
 use Rattle.join_op.specs.Pairs.{SameRows}
@@ -37,7 +37,7 @@ use Rattle.outside.specs.Counts.{Rose}
 use Rattle.reservation_tree.specs.declared.errors.PoolErr.TheVariants.{Memory}
 use Rattle.query_run.specs.Ending.{cause_of_handed}
 use Rattle.query_run.specs.FedRows.{AreFed, IsFed}
-use Rattle.query_run.specs.Feeder.{Feeds, HasEnded, Took, TookOf, own_slots, slots_in}
+use Rattle.query_run.specs.Feeder.{Feeds, HasEnded, Took, TookOf, own_slots, pages_made, slots_in}
 use Rattle.query_run.specs.Inside.{IsOfStore}
 use Rattle.query_run.specs.Writing.{HoldsFor}
 use Rattle.query_run.specs.declared.outcome.QueryErr.{QueryErr}
@@ -166,30 +166,41 @@ module _ (c : ClientToken) (shape : Shape) (blocks : ℕ) (a b : Operator) (e e'
 
 -- ---- what the calls showed
 
-entered-less : (n m : ℕ) (a b : Option (List Entry)) → n ≤ m → Entered (λ more. length (names_in more) ≤ n) a b → Entered (λ more. length (names_in more) ≤ m) a b
-entered-less n m None b less entered = entered
-entered-less n m (Some before) b less entered = let few = entered.2 in (entered.0, entered.1, omega (arith, few, less))
+-- a count that rose by the pages that were made stands above those of both calls
+entered-more : (n m k : ℕ) (a b d : Option (List Entry)) → m ≤ k → Entered (λ more. m ≡ n + length (names_in more)) a b → Entered (λ more. names_in more ≡ []) b d → Entered (λ more. n + length (names_in more) ≤ k) a d
+entered-more n m k None b d less first second = subst (λ (o : Option (List Entry)). Entered (λ more. names_in more ≡ []) o d) first second
+entered-more n m k (Some before) b d less first second =
+    let next : Entered (λ more. names_in more ≡ []) (Some (before ++ first.0)) d = subst (λ (o : Option (List Entry)). Entered (λ more. names_in more ≡ []) o d) first.1 second in
+    let sum : length (names_in (first.0 ++ next.0)) ≡ length (names_in first.0) + length (names_in next.0) = ap length (names_both first.0 next.0) ∙ length-append (names_in first.0) (names_in next.0) in
+    let none : length (names_in next.0) ≡ 0 = ap length next.2 in
+    let exact = first.2 in
+    (first.0 ++ next.0, next.1 ∙ ap Some (append_assoc before first.0 next.0), omega (arith, sum, none, exact, less))
 
-entered-none : (a b : Option (List Entry)) → Entered (λ more. names_in more ≡ []) a b → Entered (λ more. length (names_in more) ≤ 0) a b
-entered-none None b entered = entered
-entered-none (Some before) b entered = let none : length (names_in entered.0) ≡ 0 = ap length entered.2 in (entered.0, entered.1, omega (arith, none))
+entered-exact : (n m : ℕ) (a b : Option (List Entry)) → Entered (λ more. m ≡ n + length (names_in more)) a b → Entered (λ more. n + length (names_in more) ≤ m) a b
+entered-exact n m None b entered = entered
+entered-exact n m (Some before) b entered = let exact = entered.2 in (entered.0, entered.1, omega (arith, exact))
 
-module _ (c : ClientToken) (shape : Shape) (blocks : ℕ) (a b : Operator) (e : Feeder) (h h' : Holdings) (s s' : Signs) (asks : AsksOwn) (rows : List (List Value)) (feeds : Feeds c shape blocks a e h rows) (bound : e.taken < 2 ^ 64 - 1) where
-  made : Makes a b h s s' → MakesPages (2 ^ 64) s s'
-  made makes =
+-- so it is of the emitter, which has the grouping, and of one that has none any more
+pub grew_with : (client : Option ℕ) (o : Option Operator) (a : Operator) (t n : ℕ) (s s' : Signs) → o ≡ Some a → GrowsBy client (pages_on a) n s s' → GrowsBy client (pages_made o t) n s s'
+grew_with client o a t n s s' is grew = rw is grew
+
+pub grew_without : (client : Option ℕ) (o : Option Operator) (n t t' : ℕ) (s s' : Signs) → o ≡ None → t' ≡ t → GrowsBy client n t s s' → GrowsBy client n (pages_made o t') s s'
+grew_without client o n t t' s s' is same grew = rw (is, same) grew
+
+module _ (c : ClientToken) (shape : Shape) (blocks : ℕ) (a b : Operator) (e : Feeder) (h h' : Holdings) (s s' : Signs) (asks : AsksOwn) (rows : List (List Value)) (feeds : Feeds c shape blocks a e h rows) where
+  pub grew_by : LeavesOthers a.client.tracker h h' s s' → Makes a b h s s' → GrowsBy (Some c.tracker) (pages_on a) (pages_on b) s s'
+  grew_by leaves makes = record { grows = leaves.grows; alone = λ none. absurd cc; pages = entered-exact (pages_on a) (pages_on b) s.trail s'.trail makes.exact }
+
+  pub grew_ended : (h2 : Holdings) (s2 : Signs) → LeavesOthers a.client.tracker h h' s s' → Makes a b h s s' → HasEnded b h' h2 s' s2 → GrowsBy (Some c.tracker) (pages_on a) e.taken s s2
+  grew_ended h2 s2 leaves makes ended =
       let counted = feeds.counted in
-      let less : length rows ≤ 2 ^ 64 = omega (arith, counted, bound) in
-      entered-less (length rows) (2 ^ 64) s.trail s'.trail less (makes.few rows (holds_here c shape blocks a e h s asks rows feeds))
-
-  pub grew_by : LeavesOthers a.client.tracker h h' s s' → Makes a b h s s' → GrowsBy (Some c.tracker) (2 ^ 64) s s'
-  grew_by leaves makes = record { grows = leaves.grows; alone = λ none. absurd cc; pages = made makes }
-
-  pub grew_ended : (h2 : Holdings) (s2 : Signs) → LeavesOthers a.client.tracker h h' s s' → Makes a b h s s' → HasEnded b h' h2 s' s2 → GrowsBy (Some c.tracker) (2 ^ 64) s s2
-  grew_ended h2 s2 leaves makes ended = record {
-    grows = grows_trans s s' s2 leaves.grows ended.leaves.grows;
-    alone = λ none. absurd cc;
-    pages = makes_both (2 ^ 64) 0 s s' s2 (made makes) (entered-none s'.trail s2.trail ended.names);
-  }
+      let few = makes.few rows (holds_here c shape blocks a e h s asks rows feeds) in
+      let less : pages_on b ≤ e.taken = omega (arith, counted, few) in
+      record {
+        grows = grows_trans s s' s2 leaves.grows ended.leaves.grows;
+        alone = λ none. absurd cc;
+        pages = entered-more (pages_on a) (pages_on b) e.taken s.trail s'.trail s2.trail less makes.exact ended.names;
+      }
 
   pub others_fed : LeavesOthers a.client.tracker h h' s s' → OthersStay (Some c.tracker) h h'
   others_fed leaves = subst (λ (x : ClientToken). OthersStay (Some x.tracker) h h') feeds.client leaves.others

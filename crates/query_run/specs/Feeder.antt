@@ -14,6 +14,7 @@ use Rattle.tuple_stream.specs.Families.{slots_in as all_slots_in}
 use Rattle.tuple_stream.specs.Touches.{slots_of}
 use Rattle.partition_stack.specs.Leaving.{LeavesOthers}
 use Rattle.partition_stack.specs.Stack.{over}
+use Rattle.group_op.specs.Making.{pages_on}
 use Rattle.group_op.specs.Operator.{Holds, IsFeeding, IsOperator, Operator}
 use Rattle.query_run.specs.FedRows.{AreFed}
 use Rattle.query_run.specs.declared.feeder.Feeder.{Feeder}
@@ -26,6 +27,11 @@ own_slots t s h p = if (page_of p.name h).client == t then slots_of s h p else 0
 abbrev pub slots_in : Option Operator → ℕ → Holdings → ℕ
 slots_in None t h = 0
 slots_in (Some op) t h = sum_by (λ s. sum_by (own_slots t s h) s.pages) op.parts.streams
+
+-- the pages that the grouping is known to have made, which are those that it has: once it ended, as many as rows were taken
+abbrev pub pages_made : Option Operator → ℕ → ℕ
+pages_made None taken = taken
+pages_made (Some op) taken = pages_on op
 
 -- the grouping took these rows, and their pages are few: so it was over a store in which its client had the same
 pub record Feeds (c : ClientToken) (shape : Shape) (blocks : ℕ) (op : Operator) (e : Feeder) (h : Holdings) (rows : List (List Value)) : Type 0 where

@@ -16,7 +16,7 @@ ghost use Rattle.join_op.specs.Laid.{HoldsSides};
 ghost use Rattle.join_op.specs.Operator as join;
 ghost use Rattle.join_op.specs.Pairs.{pairs_of};
 ghost use Rattle.query_run.specs.Ending.{cause_of_handed};
-ghost use Rattle.query_run.specs.Feeder.{HasEnded, HasStopped, Took, slots_in};
+ghost use Rattle.query_run.specs.Feeder.{HasEnded, HasStopped, Took, pages_made, slots_in};
 ghost use Rattle.query_run.specs.Joined.{TookPairs};
 ghost use Rattle.query_run.specs.FeederLaws.{slots_few, slots_same, took_same};
 
@@ -79,6 +79,7 @@ impl Feeder {
         requires op { IfSome self.old.op (λ op. IsOperator op (St.holds store.old) (St.signs store.old)) }
         requires alone { self.old.client ≡ None }
         ensures none { self.new.op ≡ None }
+        ensures taken { self.new.taken ≡ self.old.taken }
         ensures client { self.new.client ≡ option_map (λ op. op.client) self.old.op }
         ensures ended { IfSome self.old.op (λ op. HasEnded op (St.holds store.old) (St.holds store.new) (St.signs store.old) (St.signs store.new)) }
     {
@@ -135,7 +136,7 @@ impl<St: Store, B: Whose> Emit<St> for FeederOf<B> {
 
     ghost slots_for = { λ e rows. B.blocks * length rows };
 
-    ghost creates = { λ e. 2 ^ 64 };
+    ghost creates = { λ e. pages_made e.feeder.op e.feeder.taken };
 
     fn row(&mut self, store: &mut St, row: &[Value]) -> Result<(), OpErr> {
         law_asks_own();

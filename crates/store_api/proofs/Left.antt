@@ -34,7 +34,7 @@ is_left t client old new stay apart =
     }
 
 pub emitters_leave_others : EmittersLeaveOthers
-emitters_leave_others client creates old new before after stay grows =
+emitters_leave_others client creates_old creates old new before after stay grows =
     record {
       others = λ t apart. is_left t client old new stay apart;
       held = stay.alone;

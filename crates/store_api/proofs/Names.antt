@@ -18,7 +18,7 @@ use Rattle.store_api.specs.Entries.{by, AreWrites, IsEvict, IsAsked, IsTaken, Is
 abbrev pub MakesPages : ℕ → Signs → Signs → Type 0
 MakesPages n old new = Entered (λ more. length (names_in more) ≤ n) old.trail new.trail
 
-names_both : (first last : List Entry) → names_in (first ++ last) ≡ names_in first ++ names_in last
+pub names_both : (first last : List Entry) → names_in (first ++ last) ≡ names_in first ++ names_in last
 names_both first last = filter_map-append (λ (e : Entry). name_in e.event) first last
 
 module _ (maker : ℕ) where
@@ -89,3 +89,8 @@ creation_makes maker t h p client blocks key old new made =
 pub these_make : (maker n : ℕ) (events : List Event) (old new : Signs) → length (names_in (by maker events)) ≤ n → MadeThese maker events old new → MakesPages n old new
 these_make maker n events old new few made =
     made_makes maker n (λ es. es ≡ events) old new (λ es is. subst (λ (xs : List Event). length (names_in (by maker xs)) ≤ n) (sym is) few) made
+
+-- a count of pages that rises by as many as a call makes
+pub counts_made : (n before after : ℕ) (old new : Signs) → after ≡ before + n → MakesPages n old new → Entered (λ more. before + length (names_in more) ≤ after) old.trail new.trail
+counts_made n before after old new is made =
+    entered_so (λ more. length (names_in more) ≤ n) (λ more. before + length (names_in more) ≤ after) (λ more few. omega (arith, is, few)) old.trail new.trail made

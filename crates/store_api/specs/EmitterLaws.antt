@@ -22,5 +22,5 @@ pub record LeavesOthers (client : Option ℕ) (old new : Holdings) (before after
 -- so a call of an emitter leaves them
 abbrev pub EmittersLeaveOthers : Type 0
 EmittersLeaveOthers =
-    (client : Option ℕ) (creates : ℕ) (old new : Holdings) (before after : Signs) → OthersStay client old new → GrowsBy client creates before after
+    (client : Option ℕ) (creates_old creates : ℕ) (old new : Holdings) (before after : Signs) → OthersStay client old new → GrowsBy client creates_old creates before after
     → LeavesOthers client old new before after

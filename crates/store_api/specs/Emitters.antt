@@ -49,19 +49,19 @@ KeepsRoom (Some t) old new = old.room + (account_of t old).reservation ≤ new.r
 abbrev pub slots_with : ℕ → Holdings → Option ℕ
 slots_with more h = option_map (λ free. free + more) h.free_slots
 
--- an emitter stays what it is: the rows that it admits, its client, how many pages a row may make, and the most slots
--- that its pages have once it took these rows
-pub record IsSameEmitter (admits_old admits : List Value → Type 0) (client_old client : Option ℕ) (creates_old creates : ℕ) (slots_for_old slots_for : List (List Value) → ℕ) : Type 0 where
+-- an emitter stays what it is: the rows that it admits, its client, and the most slots that its pages have once it took
+-- these rows
+pub record IsSameEmitter (admits_old admits : List Value → Type 0) (client_old client : Option ℕ) (slots_for_old slots_for : List (List Value) → ℕ) : Type 0 where
   pub admits_same : (row : List Value) → admits_old row ↔ admits row
   pub client_same : client ≡ client_old
-  pub creates_same : creates ≡ creates_old
   pub slots_same : (rows : List (List Value)) → slots_for rows ≡ slots_for_old rows
 
--- what a call of an emitter shows of its store: at most so many pages were made, and without a client nothing grew
-pub record GrowsBy (client : Option ℕ) (creates : ℕ) (old new : Signs) : Type 0 where
+-- what a call of an emitter shows of its store, which knows that it has made so many pages before it and behind it:
+-- without a client nothing grew
+pub record GrowsBy (client : Option ℕ) (creates_old creates : ℕ) (old new : Signs) : Type 0 where
   pub grows : Grows old new
   pub alone : client ≡ None → new ≡ old
-  pub pages : Entered (λ more. length (names_in more) ≤ creates) old.trail new.trail
+  pub pages : Entered (λ more. creates_old + length (names_in more) ≤ creates) old.trail new.trail
 
 -- an error came of the store, or of a fault of the sink, in this call
 abbrev pub CameOf : ℕ → ℕ → Signs → Signs → OpErr → Type 0

@@ -29,7 +29,7 @@ pub trait Emit<St: Store> {
     // The most slots that they have once it took these rows. This never changes.
     ghost slots_for: { Self → List (List Value) → ℕ };
 
-    // The most pages that a row makes. This never changes.
+    // How many pages it is known to have made, as a count that no row lowers: it rises at least by those that a row makes.
     ghost creates: { Self → ℕ };
 
     /// Takes the row.
@@ -47,13 +47,13 @@ pub trait Emit<St: Store> {
         ensures err { OnErr result ((rows : List (List Value)) → took self.old (St.holds store.old) rows → took self.new (St.holds store.new) rows ⊎ took self.new (St.holds store.new) (rows ++ row.now ∷ [])) }
         ensures cause { IfErr result (CameOf (faults self.old) (faults self.new) (St.signs store.old) (St.signs store.new)) }
 
-        ensures same { IsSameEmitter (admits self.old) (admits self.new) (client self.old) (client self.new) (creates self.old) (creates self.new) (slots_for self.old) (slots_for self.new) }
+        ensures same { IsSameEmitter (admits self.old) (admits self.new) (client self.old) (client self.new) (slots_for self.old) (slots_for self.new) }
         ensures client_lives { HasClient (client self.old) (St.holds store.new) }
         ensures others { OthersStay (client self.old) (St.holds store.old) (St.holds store.new) }
         ensures room { KeepsRoom (client self.old) (St.holds store.old) (St.holds store.new) }
         ensures slots { slots_with (slots self.new (St.holds store.new)) (St.holds store.new) ≡ slots_with (slots self.old (St.holds store.old)) (St.holds store.old) }
         ensures never_falls { faults self.old ≤ faults self.new }
-        ensures grows { GrowsBy (client self.old) (creates self.old) (St.signs store.old) (St.signs store.new) };
+        ensures grows { GrowsBy (client self.old) (creates self.old) (creates self.new) (St.signs store.old) (St.signs store.new) };
 
     // It asks of a store nothing but the block length, whether pages show what was left in them, and what is its
     // client's.

@@ -34,7 +34,7 @@ impl<St: Store> Emit<St> for PageRows {
 
     ghost slots_for = { λ e rows. 0 };
 
-    ghost creates = { λ e. 1 };
+    ghost creates = { λ e. e.rows };
 
     #[tactic(auto, using(crate::proofs::Growing::grows_trans, crate::proofs::Growing::grows_refl))]
     fn row(&mut self, store: &mut St, _row: &[Value]) -> Result<(), OpErr> {

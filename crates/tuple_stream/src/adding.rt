@@ -35,6 +35,7 @@ impl Stream {
         requires row { IsOneRow row.now }
         ensures went { Adds c.now.tracker (came result row.now) (scene self.old (St.holds store.old) (St.signs store.old)) (scene self.new (St.holds store.new) (St.signs store.new)) }
         ensures pinned { OnOk result (IsAtEnd self.new × IsSome self.new.pinned) }
+        ensures few { length self.new.pages ≤ length self.old.pages + 1 }
         ensures long { len_in self.old (St.holds store.old) < length row.now → result ≡ Err (failure.RowTooLong (length row.now)) }
         ensures cause { IfErr result (MayRefuseRow row.now (scene self.old (St.holds store.old) (St.signs store.old)) (scene self.new (St.holds store.new) (St.signs store.new))) }
     {

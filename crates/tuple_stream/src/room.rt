@@ -29,6 +29,7 @@ impl Stream {
         requires fits { bytes ≤ len }
         ensures ok { OnOk result (Readies (Tells (scene self.old (St.holds store.old) (St.signs store.old)) ⊎ IsAtEnd self.old) (IsAtEnd self.old) c.now.tracker bytes (scene self.old (St.holds store.old) (St.signs store.old)) (scene self.new (St.holds store.new) (St.signs store.new))) }
         ensures err { OnErr result (Adds c.now.tracker [] (scene self.old (St.holds store.old) (St.signs store.old)) (scene self.new (St.holds store.new) (St.signs store.new))) }
+        ensures few { length self.new.pages ≤ length self.old.pages + 1 }
         ensures cause { IfErr result (CameOf (scene self.old (St.holds store.old) (St.signs store.old)) (scene self.new (St.holds store.new) (St.signs store.new))) }
     {
         if self.has_room(len, bytes) {
@@ -66,6 +67,7 @@ impl Stream {
         requires full { 0 < length self.old.pages → len < self.old.used + bytes }
         ensures ok { OnOk result (Readies ⊤ (IsAtEnd self.old ⊎ (self.old.pinned ≡ None)) c.now.tracker bytes (scene self.old (St.holds store.old) (St.signs store.old)) (scene self.new (St.holds store.new) (St.signs store.new))) }
         ensures err { OnErr result (Went ⊤ (IsAtEnd self.old ⊎ (self.old.pinned ≡ None)) ⊥ c.now.tracker [] (scene self.old (St.holds store.old) (St.signs store.old)) (scene self.new (St.holds store.new) (St.signs store.new))) }
+        ensures few { length self.new.pages ≤ length self.old.pages + 1 }
         ensures cause { IfErr result (CameOf (scene self.old (St.holds store.old) (St.signs store.old)) (scene self.new (St.holds store.new) (St.signs store.new))) }
     {
         self.rest(store)?;
@@ -90,6 +92,7 @@ impl Stream {
         requires full { 0 < length self.old.pages → len < self.old.used + bytes }
         ensures ok { OnOk result (Readies ⊤ ⊤ c.now.tracker bytes (scene self.old (St.holds store.old) (St.signs store.old)) (scene self.new (St.holds store.new) (St.signs store.new))) }
         ensures err { OnErr result (Went ⊤ ⊤ ⊥ c.now.tracker [] (scene self.old (St.holds store.old) (St.signs store.old)) (scene self.new (St.holds store.new) (St.signs store.new))) }
+        ensures few { length self.new.pages ≤ length self.old.pages + 1 }
         ensures cause { IfErr result (CameOf (scene self.old (St.holds store.old) (St.signs store.old)) (scene self.new (St.holds store.new) (St.signs store.new))) }
     {
         if self.pages.reserve(1).is_err() {

@@ -1,16 +1,22 @@
-use Rattle.std.proofs.Common.{◌≡◌, ◌<◌, ◌≤◌, ℕ, Some, length, refl, ap, subst, arith}
+use Rattle.std.proofs.Common.{◌≡◌, ◌+◌, ◌<◌, ◌≤◌, ℕ, Some, length, refl, ap, subst, arith}
 use Rattle.std.specs.List.{slice_get}
 use Rattle.std.proofs.lemmas.Option.{slice_get_read}
 use Rattle.store_api.specs.Holdings.{length_of}
 use Rattle.tuple_stream.specs.Streamed.{len_in}
 use Rattle.tuple_stream.specs.Touches.{IsFull}
-use Rattle.tuple_stream.specs.Steps.{scene}
-use Rattle.tuple_stream.specs.Families.{AreShaped, family}
+use Rattle.tuple_stream.specs.Steps.{Scene, scene}
+use Rattle.tuple_stream.specs.Families.{AreShaped, Family, changed, family, pages_in}
+use Rattle.tuple_stream.specs.Streamed.{Streamed}
+use Rattle.tuple_stream.proofs.FamilyStep.{pages_changed}
 use Rattle.tuple_stream.proofs.FamilyWords.{at_end_kept, feeds}
 use Rattle.partition_stack.proofs.Stacking.{changed_is_stack}
 use Rattle.partition_stack.proofs.Room.{room_for_each}
 use Rattle.partition_stack.proofs.Called.{changes_at}
 use Rattle.partition_stack.proofs.stack.Partitions.append.Goals as goal
+
+-- one page more of one stream is one more of all
+one_more : (i : ℕ) (f : Family) (a : Streamed) (b : Scene) → slice_get f.streams i ≡ Some a → length b.stream.pages ≤ length a.pages + 1 → pages_in (changed i b f) ≤ pages_in f + 1
+one_more i f a b at few = let sum = pages_changed i f a b at in omega (arith, sum, few)
 
 pub append-requires-clause-stream : goal.append-requires-clause-stream
 append-requires-clause-stream g c =
@@ -84,3 +90,15 @@ returns-clause-full g c =
     let at : slice_get c.self.inside.streams.items c.args.at ≡ Some c.index_mut.result.now = slice_get_read c.self.inside.streams.items (length c.self.inside.streams.items) c.args.at c.index_mut.result.now refl inside c.index_mut.ensures.value in
     let cause = rw c.in-Pool.is at c.in-Err.ensures.cause in
     rw (← c.self.view_is) (subst (λ (n : ℕ). IsFull n (g.St.Store.holds c.append.new.store).free_slots c.in-Pool.e) (c.self.invariant.each c.args.at c.index_mut.result.now at) cause.full)
+
+pub returns-in_default-clause-few : goal.returns-in_default-clause-few
+returns-in_default-clause-few g c =
+    let inside : c.args.at < length c.self.inside.streams.items = rw (← c.self.view_is) at c.requires.inside in
+    let at : slice_get c.self.inside.streams.items c.args.at ≡ Some c.index_mut.result.now = slice_get_read c.self.inside.streams.items (length c.self.inside.streams.items) c.args.at c.index_mut.result.now refl inside c.index_mut.ensures.value in
+    rw (← c.self.view_is) (one_more c.args.at (family c.self.inside.streams.items (g.St.Store.holds c.args.store.now) (g.St.Store.signs c.args.store.now)) c.index_mut.result.now (scene c.append.new.self (g.St.Store.holds c.append.new.store) (g.St.Store.signs c.append.new.store)) at c.append.ensures.few)
+
+pub returns-clause-few : goal.returns-clause-few
+returns-clause-few g c =
+    let inside : c.args.at < length c.self.inside.streams.items = rw (← c.self.view_is) at c.requires.inside in
+    let at : slice_get c.self.inside.streams.items c.args.at ≡ Some c.index_mut.result.now = slice_get_read c.self.inside.streams.items (length c.self.inside.streams.items) c.args.at c.index_mut.result.now refl inside c.index_mut.ensures.value in
+    rw (← c.self.view_is) (one_more c.args.at (family c.self.inside.streams.items (g.St.Store.holds c.args.store.now) (g.St.Store.signs c.args.store.now)) c.index_mut.result.now (scene c.append.new.self (g.St.Store.holds c.append.new.store) (g.St.Store.signs c.append.new.store)) at c.append.ensures.few)

@@ -2,7 +2,7 @@ use Rattle.std.proofs.Common.{◌≡◌, ◌∙◌, ◌+◌, ◌++◌, [], ◌�
 use Rattle.partition_stack.specs.Leaving.{CameOfStore}
 use Rattle.store_api.specs.Tokens.{ClientToken}
 use Rattle.query_run.specs.Feeder.{HasEnded, TookOf}
-use Rattle.query_run.proofs.Feeders.{came_so, feeds_here, grew_by, grew_ended, it_feeds, leaves_ended, others_fed, slots_ended, slots_fed, took_one}
+use Rattle.query_run.proofs.Feeders.{came_so, feeds_here, grew_by, grew_ended, grew_with, grew_without, it_feeds, leaves_ended, others_fed, slots_ended, slots_fed, took_one}
 use Rattle.query_run.proofs.feeder.FeederOfEmit.row.Goals as goal
 
 pub feed-fed-requires-clause-op : goal.feed-fed-requires-clause-op
@@ -21,8 +21,7 @@ returns-in_default-fed-clause-ok g c = λ rows took.
 pub returns-in_default-fed-clause-others : goal.returns-in_default-fed-clause-others
 returns-in_default-fed-clause-others g c =
     let feeds = (it_feeds _ c.args.self.now.feeder.client c.in-Some.op g.B.Whose.client g.B.Whose.shape g.B.Whose.blocks c.args.self.now.feeder _ _ c.in-Some.is c.requires.stands.1).1 in
-    let fits = c.may_take.ensures c.if-not-may_take.false feeds.short in
-    others_fed g.B.Whose.client g.B.Whose.shape g.B.Whose.blocks c.in-Some.op c.feed-fed.new.self _ _ _ _ _ c.law_asks_own.ensures.law _ feeds fits.0 c.feed-fed.ensures.leaves
+    others_fed g.B.Whose.client g.B.Whose.shape g.B.Whose.blocks c.in-Some.op c.feed-fed.new.self _ _ _ _ _ c.law_asks_own.ensures.law _ feeds c.feed-fed.ensures.leaves
 
 pub returns-in_default-fed-clause-slots : goal.returns-in_default-fed-clause-slots
 returns-in_default-fed-clause-slots g c =
@@ -33,8 +32,8 @@ returns-in_default-fed-clause-slots g c =
 pub returns-in_default-fed-clause-grows : goal.returns-in_default-fed-clause-grows
 returns-in_default-fed-clause-grows g c =
     let feeds = (it_feeds _ c.args.self.now.feeder.client c.in-Some.op g.B.Whose.client g.B.Whose.shape g.B.Whose.blocks c.args.self.now.feeder _ _ c.in-Some.is c.requires.stands.1).1 in
-    let fits = c.may_take.ensures c.if-not-may_take.false feeds.short in
-    grew_by g.B.Whose.client g.B.Whose.shape g.B.Whose.blocks c.in-Some.op c.feed-fed.new.self _ _ _ _ _ c.law_asks_own.ensures.law _ feeds fits.0 c.feed-fed.ensures.leaves c.feed-fed.ensures.makes
+    grew_with (Some g.B.Whose.client.tracker) c.args.self.now.feeder.op c.in-Some.op c.args.self.now.feeder.taken _ _ _ c.in-Some.is
+    (grew_by g.B.Whose.client g.B.Whose.shape g.B.Whose.blocks c.in-Some.op c.feed-fed.new.self _ _ _ _ _ c.law_asks_own.ensures.law _ feeds c.feed-fed.ensures.leaves c.feed-fed.ensures.makes)
 
 pub returns-clause-cause : goal.returns-clause-cause
 returns-clause-cause g c =
@@ -44,8 +43,7 @@ returns-clause-cause g c =
 pub returns-clause-others : goal.returns-clause-others
 returns-clause-others g c =
     let feeds = (it_feeds _ c.args.self.now.feeder.client c.in-Some.op g.B.Whose.client g.B.Whose.shape g.B.Whose.blocks c.args.self.now.feeder _ _ c.in-Some.is c.requires.stands.1).1 in
-    let fits = c.may_take.ensures c.if-not-may_take.false feeds.short in
-    (leaves_ended g.B.Whose.client g.B.Whose.shape g.B.Whose.blocks c.in-Some.op c.feed-fed.new.self _ _ _ _ _ c.law_asks_own.ensures.law _ feeds fits.0 _ _ c.feed-fed.ensures.same.client c.feed-fed.ensures.leaves c.stop.ensures.ended).others
+    (leaves_ended g.B.Whose.client g.B.Whose.shape g.B.Whose.blocks c.in-Some.op c.feed-fed.new.self _ _ _ _ _ c.law_asks_own.ensures.law _ feeds _ _ c.feed-fed.ensures.same.client c.feed-fed.ensures.leaves c.stop.ensures.ended).others
 
 pub returns-clause-slots : goal.returns-clause-slots
 returns-clause-slots g c =
@@ -56,5 +54,6 @@ returns-clause-slots g c =
 pub returns-clause-grows : goal.returns-clause-grows
 returns-clause-grows g c =
     let feeds = (it_feeds _ c.args.self.now.feeder.client c.in-Some.op g.B.Whose.client g.B.Whose.shape g.B.Whose.blocks c.args.self.now.feeder _ _ c.in-Some.is c.requires.stands.1).1 in
-    let fits = c.may_take.ensures c.if-not-may_take.false feeds.short in
-    grew_ended g.B.Whose.client g.B.Whose.shape g.B.Whose.blocks c.in-Some.op c.feed-fed.new.self _ _ _ _ _ c.law_asks_own.ensures.law _ feeds fits.0 _ _ c.feed-fed.ensures.leaves c.feed-fed.ensures.makes c.stop.ensures.ended
+    grew_without (Some g.B.Whose.client.tracker) c.stop.new.self.op _ c.args.self.now.feeder.taken c.stop.new.self.taken _ _ c.stop.ensures.none c.stop.ensures.taken
+    (grew_with (Some g.B.Whose.client.tracker) c.args.self.now.feeder.op c.in-Some.op c.args.self.now.feeder.taken _ _ _ c.in-Some.is
+    (grew_ended g.B.Whose.client g.B.Whose.shape g.B.Whose.blocks c.in-Some.op c.feed-fed.new.self _ _ _ _ _ c.law_asks_own.ensures.law _ feeds _ _ c.feed-fed.ensures.leaves c.feed-fed.ensures.makes c.stop.ensures.ended))
