@@ -1,5 +1,5 @@
 -- Rows of the top partition are combined, one after the other.
-use Rattle.std.proofs.Common.{◌≡◌, ◌∙◌, ℕ, ◌+◌, ◌<◌, ◌==◌, Bool, true, false, List, [], ◌∷◌, ◌++◌, length, drop, refl, ap, ap₂, sym, subst, inl, arith, append-nil, append_assoc, ne_eqb, eq-eqb}
+use Rattle.std.proofs.Common.{◌≡◌, ◌∙◌, ℕ, ◌+◌, ◌<◌, ◌==◌, Bool, true, false, List, [], ◌∷◌, ◌++◌, length, length-append, drop, refl, ap, ap₂, sym, subst, inl, arith, append-nil, append_assoc, ne_eqb, eq-eqb}
 use Rattle.std.specs.List.Sorted.{IsPermutation}
 use Rattle.std.proofs.lemmas.Bool.{false≢true}
 use Rattle.std.proofs.lemmas.List.{map-append}
@@ -72,6 +72,12 @@ module _ (shape : Shape) (at level : ℕ) (d : Bool) (rows : ℕ → List (List 
             (subst (SameGroups (grouping_of shape) (partials_at shape some)) (map-append (partial_at shape) (rows_of a.table) read.gone) read.same)
             (subst (SameGroups (grouping_of shape) (partial_at shape row ∷ partials_at shape (rows_of a.table))) (map-append (partial_at shape) (rows_of b.table) put.gone) put.same)));
         distinct = put.distinct read.distinct;
+        fewer =
+            let was = read.fewer in
+            let less = put.fewer in
+            let all = length-append read.gone put.gone in
+            let one = length-append some (row ∷ []) in
+            omega (arith, was, less, all, one);
       }
 
 module _ (shape : Shape) (t at level : ℕ) (d : Bool) (rows : ℕ → List (List ℕ)) (some rest : List (List ℕ)) (a b : State) where
@@ -90,6 +96,7 @@ module _ (shape : Shape) (t at level : ℕ) (d : Bool) (rows : ℕ → List (Lis
         undivided = read.undivided;
         same = subst (λ (rs : List (List ℕ)). SameGroups (grouping_of shape) (partials_at shape some) (partials_at shape (rs ++ read.gone))) (sym same) read.same;
         distinct = subst (λ (rs : List (List ℕ)). HaveDistinctKeys (partials_at shape rs)) (sym same) read.distinct;
+        fewer = let was = read.fewer in let now = ap length same in omega (arith, was, now);
       }
 
 -- ---- the partition is divided
@@ -109,6 +116,7 @@ module _ (shape : Shape) (t at level lent : ℕ) (rows : ℕ → List (List ℕ)
         undivided = λ is. absurd (false≢true (sym is));
         same = read.same;
         distinct = read.distinct;
+        fewer = read.fewer;
       }
 
 -- ---- a row is taken out
@@ -131,5 +139,6 @@ module _ (shape : Shape) (t at level : ℕ) (d : Bool) (rows : ℕ → List (Lis
           undivided = read.undivided;
           same = read.same;
           distinct = read.distinct;
+          fewer = read.fewer;
         },
       )

@@ -11,15 +11,17 @@ use Rattle.store_api.proofs.Growing.{grows_trans}
 use Rattle.store_api.specs.declared.shapes.Shape.{Shape}
 use Rattle.tuple_stream.specs.Streamed.{Streamed}
 use Rattle.tuple_stream.specs.Streams.{HasRows}
-use Rattle.tuple_stream.specs.Families.{Family, FamilySteps, ShowAll}
+use Rattle.tuple_stream.specs.Families.{Family, FamilySteps, GoesAll, ShowAll}
 use Rattle.tuple_stream.specs.FamilyCalls.{SpendsIn}
 use Rattle.tuple_stream.specs.Trails.{EnteredEvents}
 use Rattle.bucket_table.specs.Tables.{Node, Table}
 use Rattle.partition_stack.specs.Changes.{ChangesAt, SpendsAt}
 use Rattle.partition_stack.specs.Stack.{Stack, over}
+use Rattle.partition_stack.proofs.Making.{few_both, few_less, few_none, going_makes}
 use Rattle.group_op.specs.Finishing.{HasRead, IsBetween, IsRead, Serves, Stacked}
 use Rattle.group_rows.specs.Tables.{HaveDistinctKeys}
 use Rattle.group_op.specs.Held.{AreEntries, IsHeld, State, page_len, rows_of, state}
+use Rattle.group_op.specs.Making.{MakesFew, MakesLess}
 use Rattle.group_op.specs.Pinning.{HasBegun}
 use Rattle.group_op.specs.Stored.{IsPartialRow, SameGroups, grouping_of, partials_at}
 use Rattle.group_op.proofs.Absorbed.{read_spent}
@@ -36,10 +38,17 @@ pub record HasSome (shape : Shape) (at level : ℕ) (d : Bool) (left : ℕ) (row
   pub many : left ≡ length rest
   pub read : HasRead shape at level d rows some rest b
 
+-- no more pages were made than rows of so many were read, but for those of the table and those that are left
+pub record HasMade (count left : ℕ) (a b : State) : Type 0 where
+  pub most : ℕ
+  pub short : most + left ≤ count
+  pub less : MakesLess most b.table a.signs b.signs
+
 pub record Absorbs (t : ℕ) (shape : Shape) (at level : ℕ) (d : Bool) (left : ℕ) (a b : State) : Type 0 where
   pub serves : Serves t shape a b
   pub place : IsRead d at level a.parts b.parts
   pub first : EnteredEvents (HasBegun d b) a.signs.trail b.signs.trail
+  pub made : (s : Streamed) → slice_get a.parts.streams at ≡ Some s → HasMade s.count left a b
   pub rows : (rows : ℕ → List (List ℕ)) → Stacked shape rows a → HasSome shape at level d left rows b
 
 slice_get_there : {X : Type 0} (xs : List X) (k : ℕ) → k < length xs → IsSome (slice_get xs k)
@@ -75,6 +84,7 @@ module _ (t : ℕ) (shape : Shape) (at level left : ℕ) (a : State) (held : IsH
         undivided = λ is. refl;
         same = subst (λ (rs : List (List ℕ)). SameGroups (grouping_of shape) [] (partials_at shape (rs ++ []))) (sym none) (same_refl (grouping_of shape) []);
         distinct = subst (λ (rs : List (List ℕ)). HaveDistinctKeys (partials_at shape rs)) (sym none) none_distinct;
+        fewer = let long = ap length none in omega (arith, long);
       }
 
   count_there : (o : Option Streamed) → IfSome o (λ s. left ≡ s.count) → (rows : List (List ℕ)) → ((s : Streamed) → o ≡ Some s → HasRows rows s a.held) → IsSome o → left ≡ length rows
@@ -87,6 +97,10 @@ module _ (t : ℕ) (shape : Shape) (at level left : ℕ) (a : State) (held : IsH
         serves = serves_of t shape a a (works_none t shape a.table a.parts a.held a.signs held entries);
         place = (top, refl, (λ i s there below. between.closed i s there));
         first = begun_none a a.signs.trail between;
+        made = λ s there.
+            let all : left ≡ s.count = subst (λ (o : Option Streamed). IfSome o (λ s. left ≡ s.count)) there counted in
+            let none = ap (λ (nodes : List Node). length (map (λ (n : Node). n.row) nodes)) between.empty in
+            record { most = 0; short = omega (arith, all); less = record { made = 0; fewer = omega (arith, none); few = few_none a.signs } };
         rows = λ rows stacked. record {
           some = [];
           rest = rows at;
@@ -119,6 +133,7 @@ read_over shape at level d rows some rest table p q old new before after is read
       undivided = read.undivided;
       same = read.same;
       distinct = read.distinct;
+      fewer = read.fewer;
     }
 
 top_there : (d : Bool) (at level : ℕ) (was p : Stack) → IsRead d at level was p → IsSome (slice_get p.streams at)
@@ -147,6 +162,36 @@ module _ (t : ℕ) (shape : Shape) (at level : ℕ) (d : Bool) (left : ℕ) (a :
   serves_called steps changes =
       serves_then t shape a (state table p old before) (state table q new after) absorbs.serves
       (serves_touched t shape table p q old new before after absorbs.serves.held absorbs.serves.entries steps changes.blocks)
+
+  made_till : (n : ℕ) → MakesFew n a.signs before → FamilySteps (GoesAll (over p old before) (over q new after)) t (over p old before) (over q new after) → MakesFew n a.signs after
+  made_till n few steps = few_both n 0 n a.signs before after (omega arith) few (going_makes t (over p old before) (over q new after) steps)
+
+  -- a row could not be taken out
+  pub made_unspent : FamilySteps (GoesAll (over p old before) (over q new after)) t (over p old before) (over q new after) → (s : Streamed) → slice_get a.parts.streams at ≡ Some s → MakesFew s.count a.signs after
+  made_unspent steps s there =
+      let was = absorbs.made s there in
+      let short = was.short in
+      let fewer = was.less.fewer in
+      few_less was.less.made s.count a.signs after (omega (arith, short, fewer)) (made_till was.less.made was.less.few steps)
+
+  -- one was taken out, and refused
+  pub made_refused : FamilySteps (GoesAll (over p old before) (over q new after)) t (over p old before) (over q new after) → (last : Signs) → MakesFew (length (rows_of table)) after last → (s : Streamed) → slice_get a.parts.streams at ≡ Some s → MakesFew s.count a.signs last
+  made_refused steps last more s there =
+      let was = absorbs.made s there in
+      let short = was.short in
+      let fewer = was.less.fewer in
+      few_both was.less.made (length (rows_of table)) s.count a.signs after last (omega (arith, short, fewer)) (made_till was.less.made was.less.few steps) more
+
+  -- all that were read are in the table and in partitions
+  pub less_read : (s : Streamed) → slice_get a.parts.streams at ≡ Some s → MakesLess s.count table a.signs before
+  less_read s there =
+      let was = absorbs.made s there in
+      let short = was.short in
+      let fewer = was.less.fewer in
+      record { made = was.less.made; fewer = omega (arith, short, fewer); few = was.less.few }
+
+  pub less_none : SpendsAt t at None (over p old before) (over q new after) → (s : Streamed) → slice_get a.parts.streams at ≡ Some s → MakesLess s.count table a.signs after
+  less_none none s there = subst (λ (f : Family). MakesLess s.count table a.signs f.signs) (sym none.1) (less_read s there)
 
   pub place_called : ChangesAt at p q → length q.streams ≡ length p.streams → IsRead d at level a.parts q
   place_called changes long = place_kept d absorbs.place changes long
@@ -185,14 +230,28 @@ module _ (t : ℕ) (shape : Shape) (at level : ℕ) (d : Bool) (left : ℕ) (a :
   pub more_absorbs : (row : List ℕ) → SpendsIn t at row (over p old before) (over q new after) → ChangesAt at p q
       → (e : Bool) (b : State) → Serves t shape (state table q new after) b → ((was : Stack) → IsRead d at level was q → IsRead e at level was b.parts)
       → ((rows : ℕ → List (List ℕ)) (some rest : List (List ℕ)) → new.told ≡ true → HasRead shape at level d rows some rest (state table q new after) → HasRead shape at level e rows (some ++ row ∷ []) rest b)
-      → 0 < left → Absorbs t shape at level e (left - 1) a b
-  more_absorbs row spends changes e b serves place taken some_left =
+      → MakesLess (length (rows_of table) + 1) b.table after b.signs → 0 < left → Absorbs t shape at level e (left - 1) a b
+  more_absorbs row spends changes e b serves place taken more some_left =
       record {
         serves = serves_then t shape a (state table q new after) b (serves_called spends.steps changes) serves;
         place = place a.parts (place_called changes spends.steps.long);
         first =
             begun_more d e (state table p old before) b a.signs.trail before.trail after.trail b.signs.trail absorbs.first (grows_trans before after b.signs spends.steps.grows serves.leaves.grows).trail
             (λ between. spends.pins between.closed) serves.leaves.grows.trail;
+        made = λ s there.
+            let was = absorbs.made s there in
+            let short = was.short in
+            let fewer = was.less.fewer in
+            let now = more.fewer in
+            record {
+              most = was.most + 1;
+              short = omega (arith, short, some_left);
+              less = record {
+                made = was.less.made + more.made;
+                fewer = omega (arith, fewer, now);
+                few = few_both was.less.made more.made (was.less.made + more.made) a.signs after b.signs (omega arith) (made_till was.less.made was.less.few spends.steps) more.few;
+              };
+            };
         rows = λ rows stacked.
             let has = absorbs.rows rows stacked in
             let told : old.told ≡ true = absorbs.serves.leaves.others.told ∙ stacked.told in

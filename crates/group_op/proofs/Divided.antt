@@ -1,20 +1,22 @@
 -- The top partition was divided: its rows, and those of the table, are in the sixteen above it.
-use Rattle.std.proofs.Common.{◌≡◌, ◌∙◌, inl, inr, ℕ, ◌+◌, ◌-◌, ◌<◌, ◌==◌, true, List, [], ◌∷◌, ◌++◌, cond, Bool, length, replicate, reverse, set, Some, refl, ap, ap₂, sym, subst, arith, append-nil, length-append, ne_eqb}
+use Rattle.std.proofs.Common.{◌≡◌, ◌∙◌, inl, inr, ℕ, ◌+◌, ◌-◌, ◌<◌, ◌≤◌, ◌==◌, true, List, [], ◌∷◌, ◌++◌, cond, Bool, length, replicate, reverse, set, Some, refl, ap, ap₂, sym, subst, arith, append-nil, length-append, ne_eqb}
 use Rattle.std.specs.Prelude.{All, map, slice_get}
 use Rattle.std.proofs.lemmas.Bool.{cases_eq}
-use Rattle.std.proofs.lemmas.List.{length-replicate, length-set}
+use Rattle.std.proofs.lemmas.List.{length-replicate, length-reverse, length-set}
 use Rattle.std.proofs.lemmas.List.Elements.{All-append, All-cons, All-head, All-nil, All-tail, filter-append}
 use Rattle.std.proofs.lemmas.List.Sorted.{All-permutation, IsPermutation-append_comm, IsPermutation-append_right, IsPermutation-map, IsPermutation-reverse, IsPermutation-trans}
 use Rattle.std.proofs.lemmas.Option.{slice_get_within}
 use Rattle.store_api.specs.Holdings.{Holdings}
 use Rattle.store_api.specs.Signs.{Signs}
 use Rattle.store_api.specs.declared.shapes.Shape.{Shape}
-use Rattle.tuple_stream.specs.FamilyCalls.{RestsSome}
+use Rattle.tuple_stream.specs.FamilyCalls.{RestsSome, shares}
 use Rattle.tuple_stream.proofs.OnePlace.{other}
 use Rattle.bucket_table.specs.Tables.{Node, Table}
 pub use Rattle.partition_stack.proofs.Weights.{less_divided, less_popped}
 use Rattle.partition_stack.specs.Stack.{Stack, over}
 use Rattle.partition_stack.proofs.ListPlaces.{front_or_behind, of_replicate}
+use Rattle.partition_stack.proofs.Owing.{owed_divided}
+use Rattle.partition_stack.proofs.SharedRows.{dealt_few, shares_same}
 use Rattle.partition_stack.proofs.Slots.{slots_then}
 use Rattle.group_op.specs.Finishing.{HasDivided, HasRead, IsPart, IsRead, Serves, Stacked, said_down}
 use Rattle.group_op.specs.Held.{AreEntries, IsEntry, State, rows_of, state, streams_of}
@@ -124,7 +126,16 @@ module _ (t : ℕ) (shape : Shape) (at level len : ℕ) (rows : ℕ → List (Li
             behind_part i l (i - (at + 1)) (omega (arith, behind.0, long)) (omega (arith, inside, sixteen, long)) one
       ]
 
-  pub has_divided : HasDivided shape at rows (state table q k r)
+  few_above : length (shares 16 (λ i. left (at + 1 + i))) ≤ length (rows at)
+  few_above =
+      let are = ap length (shares_same 16 (λ i. left (at + 1 + i)) (λ i. dealt shape level (at + 1) gone (at + 1 + i)) (λ i. left_above (at + 1 + i) (omega arith))) in
+      let some = dealt_few (place_of shape level (at + 1)) (at + 1) 16 gone in
+      let both = length-append read.gone (reverse (rows_of b.table)) in
+      let back = length-reverse (rows_of b.table) in
+      let fewer = read.fewer in
+      omega (arith, are, some, both, back, fewer)
+
+  pub has_divided : HasDivided shape at rows a.parts (state table q k r)
   has_divided =
       record {
         left = left;
@@ -139,4 +150,5 @@ module _ (t : ℕ) (shape : Shape) (at level len : ℕ) (rows : ℕ → List (Li
         same =
             sym (ap (λ (x : ℕ). said_down shape x left) many
             ∙ down_divided shape at level rows left gone left_below left_here left_above same part_here deep);
+        deeper = owed_divided a.parts.levels q.levels at level rows left there levels_long deep levels_now left_below left_here few_above;
       }

@@ -4,15 +4,8 @@ use Rattle.std.specs.List.Sorted.{IsPermutation}
 use Rattle.std.proofs.lemmas.List.Sorted.{IsPermutation-append_comm, IsPermutation-append_left, IsPermutation-append_right, IsPermutation-cons, IsPermutation-refl, IsPermutation-to_front, IsPermutation-trans}
 use Rattle.store_api.specs.declared.shapes.Shape.{Shape}
 use Rattle.tuple_stream.specs.FamilyCalls.{shares}
+pub use Rattle.partition_stack.proofs.SharedRows.{shares_none, shares_same}
 use Rattle.group_op.specs.Stored.{dealt, place_of}
-
-pub shares_same : (n : ℕ) (rows these : ℕ → List (List ℕ)) → ((i : ℕ) → rows i ≡ these i) → shares n rows ≡ shares n these
-shares_same zero rows these same = refl
-shares_same (suc n) rows these same = ap₂ (λ (a b : List (List ℕ)). a ++ b) (same 0) (shares_same n (λ i. rows (suc i)) (λ i. these (suc i)) (λ i. same (suc i)))
-
-pub shares_none : (n : ℕ) → shares n (λ i. []) ≡ []
-shares_none zero = refl
-shares_none (suc n) = shares_none n
 
 module _ {X : Type 0} where
   to_front : (xs : List X) (x : X) (ys : List X) → IsPermutation (xs ++ x ∷ ys) (x ∷ (xs ++ ys))

@@ -27,6 +27,7 @@ pub mod Chained
 pub mod Deals
 pub mod Paging
 pub mod Made
+mod Makings
 pub mod Asks
 pub mod Growth
 pub mod Opened

@@ -5,7 +5,7 @@ use Rattle.std.specs.List.{sum_by}
 use Rattle.std.proofs.Math.Nat.{mul-le-mul_right}
 use Rattle.std.proofs.lemmas.List.{nil_from_length}
 use Rattle.std.proofs.lemmas.List.Sums.{sum_by-cons}
-use Rattle.pool_model.specs.LookingBack.{name_in, names_in}
+use Rattle.pool_model.specs.LookingBack.{names_in}
 use Rattle.pool_model.specs.declared.entry.Entry.{Entry}
 use Rattle.row_codec.specs.declared.values.Value.{Value}
 use Rattle.store_api.specs.Holdings.{Holdings, page_of}
@@ -16,13 +16,14 @@ use Rattle.tuple_stream.specs.Families.{Family}
 use Rattle.tuple_stream.specs.FamilyCalls.{shares}
 use Rattle.tuple_stream.specs.Streamed.{Streamed}
 use Rattle.tuple_stream.specs.Touches.{slots_of}
-use Rattle.tuple_stream.specs.Trails.{EnteredEvents, creates_in, events_of}
+use Rattle.tuple_stream.specs.Trails.{EnteredEvents, creates_in}
 use Rattle.tuple_stream.proofs.BuildingQuiet.{creates_join}
 use Rattle.tuple_stream.proofs.Sinces.{since_joined, since_so}
 use Rattle.bucket_table.specs.Entering.{EnteredLoans, IsOfLoans}
 use Rattle.bucket_table.specs.Tables.{Table}
 use Rattle.partition_stack.specs.Changes.{HaveEnded}
 use Rattle.partition_stack.specs.Stack.{Stack, over}
+use Rattle.partition_stack.proofs.Making.{names_are}
 use Rattle.group_op.specs.Asking.{FewSlots, slots_on}
 use Rattle.group_op.specs.Feeding.{HasOpened}
 use Rattle.group_op.specs.Held.{rows_of, state}
@@ -33,14 +34,6 @@ use Rattle.group_op.proofs.Deals.{loans_apart}
 use Rattle.group_op.proofs.Paging.{all_few, shares_nil}
 
 -- ---- the entries that make pages
-
-names_are : (entries : List Entry) → length (names_in entries) ≡ creates_in (events_of entries)
-names_are [] = refl
-names_are (e ∷ entries) = go (name_in e.event) refl (names_are entries)
-  where
-    go : (o : Option ℕ) → name_in e.event ≡ o → length (names_in entries) ≡ creates_in (events_of entries) → length (names_in (e ∷ entries)) ≡ creates_in (events_of (e ∷ entries))
-    go None is rest = rw is rest
-    go (Some name) is rest = rw is (ap suc rest)
 
 exact_of : (was is : ℕ) (a b : Option (List Entry)) → EnteredEvents (λ events. is ≡ was + creates_in events) a b → Entered (λ more. is ≡ was + length (names_in more)) a b
 exact_of was is None b made = made

@@ -1,5 +1,5 @@
 -- Pages that calls make, and how few there are for the rows that stand on them.
-use Rattle.std.proofs.Common.{◌≡◌, ◌≢◌, ◌∙◌, inl, inr, ℕ, zero, suc, ◌+◌, ◌<◌, ◌≤◌, ◌==◌, Bool, true, false, cond, List, [], ◌∷◌, ◌++◌, length, Some, refl, ap, sym, subst, arith, append-nil, length-append, eq-eqb, ne_eqb}
+use Rattle.std.proofs.Common.{◌≡◌, ◌∙◌, inl, inr, ℕ, suc, ◌+◌, ◌<◌, ◌≤◌, ◌==◌, List, [], ◌∷◌, ◌++◌, length, Some, refl, ap, sym, subst, arith, append-nil, length-append, eq-eqb, ne_eqb}
 use Rattle.std.specs.Prelude.{All, slice_get}
 use Rattle.std.specs.List.{sum_by}
 use Rattle.std.proofs.lemmas.Bool.{cases_eq}
@@ -22,7 +22,8 @@ use Rattle.group_op.specs.Held.{State, rows_of, streams_of}
 use Rattle.group_op.specs.Putting.{Deals, HasFew, HaveMade}
 use Rattle.group_op.specs.Stored.{dealt, place_of}
 use Rattle.group_op.proofs.Deals.{AreApart}
-use Rattle.group_op.proofs.Dividing.{shares_both, shares_none, shares_same}
+use Rattle.partition_stack.proofs.SharedRows.{more_few, shares_none, shares_same}
+use Rattle.group_op.proofs.Dividing.{shares_both}
 
 -- ---- pages that were made
 
@@ -75,26 +76,6 @@ all_few rows f shows = streams_few f.streams f.held rows shows
 
 pub shares_nil : (n : ℕ) (rows : ℕ → List (List ℕ)) → length (shares n (λ i. rows i ++ [])) ≡ length (shares n rows)
 shares_nil n rows = ap length (shares_same n (λ i. rows i ++ []) rows (λ i. append-nil (rows i)))
-
-one_at_most : (b : Bool) (row : List ℕ) (rows : List (List ℕ)) → length (cond b (row ∷ rows) rows) ≤ suc (length rows)
-one_at_most true row rows = omega arith
-one_at_most false row rows = omega arith
-
-more_few : (n k : ℕ) (test : ℕ → Bool) (rows : ℕ → List (List ℕ)) (row : List ℕ) → ((i : ℕ) → i ≢ k → test i ≡ false) → length (shares n (λ i. cond (test i) (row ∷ rows i) (rows i))) ≤ suc (length (shares n rows))
-more_few zero k test rows row others = omega arith
-more_few (suc n) zero test rows row others =
-    let here = one_at_most (test 0) row (rows 0) in
-    let rest : length (shares n (λ i. cond (test (suc i)) (row ∷ rows (suc i)) (rows (suc i)))) ≡ length (shares n (λ i. rows (suc i))) =
-    ap length (shares_same n (λ i. cond (test (suc i)) (row ∷ rows (suc i)) (rows (suc i))) (λ i. rows (suc i)) (λ i. ap (λ (b : Bool). cond b (row ∷ rows (suc i)) (rows (suc i))) (others (suc i) (λ same. omega (arith, same))))) in
-    let now = length-append (cond (test 0) (row ∷ rows 0) (rows 0)) (shares n (λ i. cond (test (suc i)) (row ∷ rows (suc i)) (rows (suc i)))) in
-    let was = length-append (rows 0) (shares n (λ i. rows (suc i))) in
-    omega (arith, here, rest, now, was)
-more_few (suc n) (suc k) test rows row others =
-    let here : length (cond (test 0) (row ∷ rows 0) (rows 0)) ≡ length (rows 0) = ap (λ (b : Bool). length (cond b (row ∷ rows 0) (rows 0))) (others 0 (λ same. omega (arith, same))) in
-    let rest = more_few n k (λ i. test (suc i)) (λ i. rows (suc i)) row (λ i apart. others (suc i) (λ same. apart (omega (arith, same)))) in
-    let now = length-append (cond (test 0) (row ∷ rows 0) (rows 0)) (shares n (λ i. cond (test (suc i)) (row ∷ rows (suc i)) (rows (suc i)))) in
-    let was = length-append (rows 0) (shares n (λ i. rows (suc i))) in
-    omega (arith, here, rest, now, was)
 
 dealt_few : (shape : Shape) (level base n : ℕ) (xs : List (List ℕ)) → length (shares n (dealt shape level base xs)) ≤ length xs
 dealt_few shape level base n [] = let none : length (shares n (dealt shape level base [])) ≡ 0 = ap length (shares_none n) in omega (arith, none)

@@ -2,9 +2,9 @@
 use Rattle.std.proofs.Common.{◌≡◌, ◌∙◌, inl, ℕ, ◌==◌, List, ◌++◌, length, replicate, reverse, Some, Result, Ok, Err, IfErr, ap, sym, subst, arith}
 use Rattle.std.specs.Prelude.{All, slice_get}
 use Rattle.std.specs.List.Sorted.{IsPermutation}
-use Rattle.std.proofs.lemmas.List.{length-replicate, map-append}
+use Rattle.std.proofs.lemmas.List.{length-append, length-replicate, length-reverse, map-append}
 use Rattle.std.proofs.lemmas.List.Elements.{All-append, All-filter}
-use Rattle.std.proofs.lemmas.List.Sorted.{IsPermutation-append_comm, IsPermutation-append_left, IsPermutation-map, IsPermutation-reverse, IsPermutation-trans}
+use Rattle.std.proofs.lemmas.List.Sorted.{IsPermutation-append_comm, IsPermutation-append_left, IsPermutation-map, IsPermutation-reverse, IsPermutation-trans, length_permutation}
 use Rattle.std.proofs.lemmas.Option.{slice_get_within}
 use Rattle.reservation_tree.specs.declared.errors.PoolErr.{PoolErr}
 use Rattle.row_codec.specs.Order.{path_order}
@@ -16,6 +16,7 @@ use Rattle.tuple_stream.specs.FamilyCalls.{RestsSome, shares}
 use Rattle.bucket_table.specs.Tables.{Table}
 use Rattle.partition_stack.specs.Stack.{Stack, over}
 use Rattle.partition_stack.proofs.ListPlaces.{of_replicate}
+use Rattle.partition_stack.proofs.Owing.{owed_first}
 use Rattle.group_rows.specs.Partials.{combined_of}
 use Rattle.group_rows.proofs.Paths.{path_is_order}
 use Rattle.group_rows.proofs.Tables.{any_order}
@@ -76,6 +77,12 @@ module _ (t : ℕ) (shape : Shape) (len : ℕ) (rows : ℕ → List (List ℕ)) 
             (IsPermutation-append_left (shares 16 rows) (rows_of a.table) gone (IsPermutation-reverse (rows_of a.table))) (IsPermutation-append_comm gone (shares 16 rows)))
             ∙ sym (same_groups_of shape (shares 16 left) (shares 16 rows ++ gone) (more_shares shape 0 rows gone))
             ∙ sym (ap (λ (x : ℕ). said_down shape x left) many ∙ down_first shape left placed);
+        few =
+            let owes = owed_first q.levels left levels_now in
+            let moved = length_permutation (shares 16 left) (shares 16 rows ++ gone) (more_shares shape 0 rows gone) in
+            let both = length-append (shares 16 rows) gone in
+            let back = length-reverse (rows_of a.table) in
+            omega (arith, owes, moved, both, back);
       }
 
 pub answered_later : {X : Type 0} (r : Result X PoolErr) (s0 s1 s2 : Signs) → Grows s0 s1 → IfErr r (λ e. WasAnswered e s1 s2) → IfErr r (λ e. WasAnswered e s0 s2)

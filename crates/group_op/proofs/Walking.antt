@@ -1,12 +1,12 @@
 -- The rows of a table go to partitions one after the other, the oldest first.
-use Rattle.std.proofs.Common.{◌≡◌, ◌∙◌, ℕ, ◌<◌, ◌≤◌, List, [], ◌∷◌, ◌++◌, length, map, reverse, Option, Some, None, IsSome, refl, ap, sym, subst, arith, append_assoc, append-nil, length-append}
+use Rattle.std.proofs.Common.{◌≡◌, ◌∙◌, ℕ, ◌+◌, ◌<◌, ◌≤◌, List, [], ◌∷◌, ◌++◌, length, map, reverse, Option, Some, None, IsSome, refl, ap, sym, subst, arith, append_assoc, append-nil, length-append}
 use Rattle.std.specs.Prelude.{All}
 use Rattle.std.specs.List.{slice_get}
 use Rattle.std.proofs.lemmas.List.{length-map, length-reverse, reverse-append}
 use Rattle.store_api.specs.Holdings.{Holdings}
 use Rattle.store_api.specs.Signs.{Signs}
 use Rattle.store_api.specs.declared.shapes.Shape.{Shape}
-use Rattle.tuple_stream.specs.Families.{AreShaped, Family}
+use Rattle.tuple_stream.specs.Families.{AreShaped, Family, pages_in}
 use Rattle.tuple_stream.specs.FamilyCalls.{AllAtEnd, Feeds, FeedsAll}
 use Rattle.tuple_stream.proofs.FamilyWords.{feeds_more, feeds_none}
 use Rattle.tuple_stream.proofs.Chosen.{at_place}
@@ -41,6 +41,7 @@ pub record HasWalked (t : ℕ) (shape : Shape) (level base from : ℕ) (nodes : 
   pub fan : IsFan level base from q
   pub blocks : q.page_blocks ≡ p.page_blocks
   pub levels : q.levels ≡ p.levels
+  pub few : pages_in (over q h signs) ≤ pages_in f + length older
 
 pub walked_none : (t : ℕ) (shape : Shape) (level base from : ℕ) (nodes : List Node) (p : Stack) (h : Holdings) (signs : Signs) → AreShaped t (over p h signs) → IsFan level base from p → HasWalked t shape level base from nodes (oldest nodes) (over p h signs) p p h signs
 walked_none t shape level base from nodes p h signs shaped fan =
@@ -53,6 +54,7 @@ walked_none t shape level base from nodes p h signs shaped fan =
       fan = fan;
       blocks = refl;
       levels = refl;
+      few = omega arith;
     }
 
 pub fan_kept : (level base from at : ℕ) (p q : Stack) → IsFan level base from p → base ≤ at → ChangesAt at p q → length q.streams ≡ length p.streams → IsFan level base from q
@@ -99,9 +101,9 @@ module _ (t : ℕ) (shape : Shape) (level base from : ℕ) (nodes : List Node) (
       let was : left_from nodes (Some node) ≡ left_from (last.front ++ last.last ∷ walked.older) (Some last.last.place) = ap (λ (k : ℕ). left_from nodes (Some k)) (sym last.place) ∙ ap (λ (ms : List Node). left_from ms (Some last.last.place)) nodes_are in
       omega (arith, way, now, was)
 
-  pub walked_more : (r : Stack) (new : Holdings) (after : Signs) (row : List ℕ) → row ≡ row_of node nodes → Feeds t (place_of shape level base row) (row ∷ []) (over q h signs) (over r new after) → (AllAtEnd (over q h signs) → AllAtEnd (over r new after)) → ChangesAt (place_of shape level base row) q r
+  pub walked_more : (r : Stack) (new : Holdings) (after : Signs) (row : List ℕ) → row ≡ row_of node nodes → Feeds t (place_of shape level base row) (row ∷ []) (over q h signs) (over r new after) → (AllAtEnd (over q h signs) → AllAtEnd (over r new after)) → ChangesAt (place_of shape level base row) q r → pages_in (over r new after) ≤ pages_in (over q h signs) + 1
       → HasWalked t shape level base from nodes (newer_than node nodes) f p r new after
-  walked_more r new after row is feeds ends changes =
+  walked_more r new after row is feeds ends changes few =
       record {
         newer = last.front;
         older = last.last ∷ walked.older;
@@ -116,7 +118,16 @@ module _ (t : ℕ) (shape : Shape) (level base from : ℕ) (nodes : List Node) (
         fan = fan_kept level base from (place_of shape level base row) q r walked.fan (omega arith) changes feeds.steps.long;
         blocks = changes.blocks ∙ walked.blocks;
         levels = changes.levels ∙ walked.levels;
+        few = let was = walked.few in omega (arith, was, few);
       }
+
+  -- the row at the node may have made one more page
+  pub walked_next : (r : Stack) (new : Holdings) (after : Signs) → pages_in (over r new after) ≤ pages_in (over q h signs) + 1 → pages_in (over r new after) ≤ pages_in f + length (map (λ n. n.row) nodes)
+  walked_next r new after one =
+      let few = walked.few in
+      let all = length-map nodes (λ (n : Node). n.row) in
+      let split = ap length nodes_are ∙ length-append last.front (last.last ∷ walked.older) in
+      omega (arith, one, few, all, split)
 
 -- no more rows went than the table has
 pub walked_few : (t : ℕ) (shape : Shape) (level base from : ℕ) (nodes : List Node) (next : Option ℕ) (f : Family) (p q : Stack) (h : Holdings) (signs : Signs) → (walked : HasWalked t shape level base from nodes next f p q h signs) → length (rows_in walked.older) ≤ length (map (λ n. n.row) nodes)
@@ -126,6 +137,13 @@ walked_few t shape level base from nodes next f p q h signs walked =
     let all = length-map nodes (λ (n : Node). n.row) in
     let split = ap length walked.split ∙ length-append walked.newer walked.older in
     omega (arith, back, some, all, split)
+
+pub walked_pages : (t : ℕ) (shape : Shape) (level base from : ℕ) (nodes : List Node) (next : Option ℕ) (f : Family) (p q : Stack) (h : Holdings) (signs : Signs) → HasWalked t shape level base from nodes next f p q h signs → pages_in (over q h signs) ≤ pages_in f + length (map (λ n. n.row) nodes)
+walked_pages t shape level base from nodes next f p q h signs walked =
+    let few = walked.few in
+    let all = length-map nodes (λ (n : Node). n.row) in
+    let split = ap length walked.split ∙ length-append walked.newer walked.older in
+    omega (arith, few, all, split)
 
 pub few_walked : (t : ℕ) (shape : Shape) (level base from : ℕ) (next : Option ℕ) (table : Table) (p q : Stack) (h k : Holdings) (s r : Signs) → HasWalked t shape level base from table.nodes next (over p h s) p q k r → HasFew (state table p h s) (state table q k r)
 few_walked t shape level base from next table p q h k s r walked =

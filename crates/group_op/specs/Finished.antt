@@ -1,8 +1,9 @@
 -- Sixteen partitions and a table as they are once no row is fed any more. `a` is before a call and `b` behind it.
-use Rattle.std.specs.Prelude.{◌≡◌, ℕ, List, ◌++◌, All, length, true}
+use Rattle.std.specs.Prelude.{◌≡◌, ℕ, ◌+◌, ◌*◌, ◌≤◌, List, ◌++◌, All, length, true}
 use Rattle.store_api.specs.declared.shapes.Shape.{Shape}
 use Rattle.tuple_stream.specs.Families.{ShowAll}
 use Rattle.tuple_stream.specs.FamilyCalls.{shares}
+use Rattle.partition_stack.specs.Making.{owed}
 use Rattle.group_rows.specs.Partials.{Partial, combined_of}
 use Rattle.group_op.specs.Finishing.{Stacked, said_down}
 use Rattle.group_op.specs.Held.{State, rows_of, streams_of}
@@ -24,3 +25,4 @@ pub record HasSettled (shape : Shape) (rows : ℕ → List (List ℕ)) (a b : St
   pub left : ℕ → List (List ℕ)
   pub stacked : Stacked shape left b
   pub same : groups_of_all shape rows a ≡ said_down shape (length b.parts.streams) left
+  pub few : owed b.parts.levels left ≤ 15 * (length (rows_of a.table) + length (shares 16 rows))

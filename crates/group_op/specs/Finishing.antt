@@ -1,9 +1,10 @@
 -- Partitions are read from the top, each through a table. `a` is before a call and `b` behind it.
-use Rattle.std.specs.Prelude.{◌≡◌, ℕ, zero, suc, ◌+◌, ◌<◌, Bool, true, false, List, [], ◌++◌, All, length, slice_get, set, replicate, take, Option, Some}
+use Rattle.std.specs.Prelude.{◌≡◌, ℕ, zero, suc, ◌+◌, ◌<◌, ◌≤◌, Bool, true, false, List, [], ◌++◌, All, length, slice_get, set, replicate, take, Option, Some}
 use Rattle.row_codec.specs.declared.values.Value.{Value}
 use Rattle.store_api.specs.declared.shapes.Shape.{Shape}
 use Rattle.tuple_stream.specs.Families.{AllClosed, Family, ShowAll, slots_in}
 pub use Rattle.partition_stack.specs.Emitting.{LeavesBeside, StandsStill}
+use Rattle.partition_stack.specs.Making.{MakesBeside, owed}
 use Rattle.partition_stack.specs.Slots.{KeepSlots, SameSlots}
 use Rattle.partition_stack.specs.Stack.{RestBelow, Stack}
 use Rattle.group_rows.specs.Partials.{Partial, combined_of}
@@ -63,20 +64,26 @@ pub record HasRead (shape : Shape) (at level : ℕ) (divided : Bool) (rows : ℕ
   pub undivided : divided ≡ false → gone ≡ []
   pub same : SameGroups (grouping_of shape) (partials_at shape some) (partials_at shape (rows_of b.table ++ gone))
   pub distinct : HaveDistinctKeys (partials_at shape (rows_of b.table))
+  pub fewer : length (rows_of b.table) + length gone ≤ length some
 
--- the rows of the top partition are in sixteen above it, and nothing is lost
-pub record HasDivided (shape : Shape) (at : ℕ) (rows : ℕ → List (List ℕ)) (b : State) : Type 0 where
+-- the rows of the top partition are in sixteen above it, and nothing is lost; each of them went a level deeper
+pub record HasDivided (shape : Shape) (at : ℕ) (rows : ℕ → List (List ℕ)) (old : Stack) (b : State) : Type 0 where
   pub left : ℕ → List (List ℕ)
   pub stacked : Stacked shape left b
   pub same : said_down shape (at + 1) rows ≡ said_down shape (length b.parts.streams) left
+  pub deeper : length (rows at) + owed b.parts.levels left ≤ owed old.levels rows
 
--- the first groups were handed on, and the others are there still
-pub record Advances (shape : Shape) (was now : List (List Value) → Type 0) (rows : ℕ → List (List ℕ)) (a b : State) : Type 0 where
+-- the first groups were handed on, and the others are there still; for each page that was made, but for those that the emitter
+-- counts, a row went a level deeper
+pub record Advances (shape : Shape) (was now : List (List Value) → Type 0) (creates_old creates : ℕ) (rows : ℕ → List (List ℕ)) (a b : State) : Type 0 where
   pub left : ℕ → List (List ℕ)
   pub stacked : Stacked shape left b
   pub done : List Partial
   pub split : said_down shape (length a.parts.streams) rows ≡ done ++ said_down shape (length b.parts.streams) left
   pub emitted : Emitted shape was now done
+  pub most : ℕ
+  pub deeper : most + owed b.parts.levels left ≤ owed a.parts.levels rows
+  pub made : MakesBeside most creates_old creates a.signs b.signs
 
 -- what calls with an emitter leave: to the query and other clients, and of the slots, with those of the emitter's pages
 pub record LeavesWith (t : ℕ) (client : Option ℕ) (theirs_old theirs : ℕ) (f g : Family) : Type 0 where

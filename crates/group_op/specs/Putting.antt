@@ -31,6 +31,14 @@ HasFew a b =
     (rows : ℕ → List (List ℕ)) → AllAtEnd (streams_of a) → ShowAll rows (streams_of a)
     → pages_in (streams_of b) ≤ length (shares (length a.parts.streams) rows) + length (rows_of a.table)
 
+-- no more pages came than the table had rows
+abbrev pub FewCame : State → State → Type 0
+FewCame a b = pages_in (streams_of b) ≤ pages_in (streams_of a) + length (rows_of a.table)
+
+-- with one row more, no more pages came than rows left the table
+abbrev pub AsManyLeft : State → State → Type 0
+AsManyLeft a b = pages_in (streams_of b) + length (rows_of b.table) ≤ pages_in (streams_of a) + length (rows_of a.table) + 1
+
 -- whatever the call answers
 pub record Works (t : ℕ) (shape : Shape) (a b : State) : Type 0 where
   pub held : IsHeld t b

@@ -5,13 +5,16 @@ ghost use Rattle.store_api.specs.Emitters.{CameOf};
 ghost use Rattle.store_api.specs.Shapes.{IsShape};
 ghost use Rattle.store_api.specs.Signs.{WasAnswered};
 ghost use Rattle.tuple_stream.specs.Families.{ShowAll, slots_in};
+ghost use Rattle.tuple_stream.specs.Streamed.{Streamed};
 ghost use Rattle.tuple_stream.specs.Trails.{EnteredEvents, PinsFirst};
+ghost use Rattle.partition_stack.specs.Making.{owed};
 ghost use Rattle.partition_stack.specs.Stack.{IsPlaced, RestBelow, over, weight};
 ghost use Rattle.group_rows.specs.Partials.{combined_of};
 ghost use Rattle.group_op.specs.Causes.{IsWant, IsWantOf};
 ghost use Rattle.group_op.specs.Emission.{AdmitsKinds, Emitted, EmittedFront, IsBeside};
 ghost use Rattle.group_op.specs.Finishing.{Advances, HasDivided, HasPopped, HasRead, IsBetween, IsRead, Serves, ServesBeside, Stacked, StandsStill, said_down};
 ghost use Rattle.group_op.specs.Held.{AreEntries, IsHeld, page_len, state, streams_of};
+ghost use Rattle.group_op.specs.Making.{MakesBeside, MakesFew};
 ghost use Rattle.group_op.specs.Pinning.{AreShallow, HasBegun, HasGoneOn};
 ghost use Rattle.group_op.specs.Stored.{grouping_of, partials_at};
 
@@ -50,9 +53,10 @@ fn spend_top<St: Store>(
     requires level { slice_get parts.old.levels at ≡ Some level }
     requires deep { (level < 16) × IsPlaced at level }
     ensures whole { IfOk result (λ divided. divided ≡ false → IsRead false at level parts.old parts.new × ((rows : ℕ → List (List ℕ)) → Stacked shape.now rows (state table.old parts.old (St.holds store.old) (St.signs store.old)) → HasRead shape.now at level false rows (rows at) [] (state table.new parts.new (St.holds store.new) (St.signs store.new)))) }
-    ensures divided { IfOk result (λ divided. divided ≡ true → IsBetween (state table.new parts.new (St.holds store.new) (St.signs store.new)) × (weight parts.new < weight parts.old) × ((rows : ℕ → List (List ℕ)) → Stacked shape.now rows (state table.old parts.old (St.holds store.old) (St.signs store.old)) → HasDivided shape.now at rows (state table.new parts.new (St.holds store.new) (St.signs store.new)))) }
+    ensures divided { IfOk result (λ divided. divided ≡ true → IsBetween (state table.new parts.new (St.holds store.new) (St.signs store.new)) × (weight parts.new < weight parts.old) × ((rows : ℕ → List (List ℕ)) → Stacked shape.now rows (state table.old parts.old (St.holds store.old) (St.signs store.old)) → HasDivided shape.now at rows parts.old (state table.new parts.new (St.holds store.new) (St.signs store.new)))) }
     ensures first { IfOk result (λ divided. EnteredEvents (HasBegun divided (state table.new parts.new (St.holds store.new) (St.signs store.new))) (St.signs store.old).trail (St.signs store.new).trail) }
     ensures serves { Serves c.now.tracker shape.now (state table.old parts.old (St.holds store.old) (St.signs store.old)) (state table.new parts.new (St.holds store.new) (St.signs store.new)) }
+    ensures made { (s : Streamed) → slice_get parts.old.streams at ≡ Some s → MakesFew s.count (St.signs store.old) (St.signs store.new) }
     ensures want { IfErr result (IsWant parts.old.page_blocks (slots_in (over parts.old (St.holds store.old) (St.signs store.old)))) }
     ensures cause { IfErr result (λ e. WasAnswered e (St.signs store.old) (St.signs store.new)) }
 {
@@ -93,6 +97,7 @@ fn hand_on<St: Store, E: Emit<St>>(
     ensures popped { OnOk result (IsBetween (state table.new parts.new (St.holds store.new) (St.signs store.new)) × HasPopped _at parts.old parts.new) }
     ensures first { OnOk result (IsBetween (state table.old parts.old (St.holds store.old) (St.signs store.old)) → EnteredEvents PinsFirst (St.signs store.old).trail (St.signs store.new).trail) }
     ensures serves { ServesBeside c.now.tracker (E.client emit.old) (E.slots emit.old (St.holds store.old)) (E.slots emit.new (St.holds store.new)) shape.now (state table.old parts.old (St.holds store.old) (St.signs store.old)) (state table.new parts.new (St.holds store.new) (St.signs store.new)) }
+    ensures made { MakesBeside 0 (E.creates emit.old) (E.creates emit.new) (St.signs store.old) (St.signs store.new) }
     ensures emitter { StandsStill (E.admits emit.old) (E.admits emit.new) (E.client emit.old) (E.client emit.new) (E.faults emit.old) (E.faults emit.new) (E.took emit.old (St.holds store.old)) (E.took emit.new (St.holds store.new)) (St.holds store.new) }
     ensures want { E.client emit.old ≡ None → IfErr result (IsWantOf parts.old.page_blocks (slots_in (over parts.old (St.holds store.old) (St.signs store.old)))) }
     ensures cause { IfErr result (CameOf (E.faults emit.old) (E.faults emit.new) (St.signs store.old) (St.signs store.new)) }
@@ -129,6 +134,7 @@ fn leaf<St: Store, E: Emit<St>>(
     ensures err { OnErr result ((rows : ℕ → List (List ℕ)) → Stacked shape.now rows (state _table.now parts.old (St.holds store.old) (St.signs store.old)) → EmittedFront shape.now (E.took emit.old (St.holds store.old)) (E.took emit.new (St.holds store.new)) (combined_of (grouping_of shape.now) (partials_at shape.now (rows _at)))) }
     ensures popped { OnOk result (IsBetween (state _table.now parts.new (St.holds store.new) (St.signs store.new)) × HasPopped _at parts.old parts.new) }
     ensures serves { ServesBeside c.now.tracker (E.client emit.old) (E.slots emit.old (St.holds store.old)) (E.slots emit.new (St.holds store.new)) shape.now (state _table.now parts.old (St.holds store.old) (St.signs store.old)) (state _table.now parts.new (St.holds store.new) (St.signs store.new)) }
+    ensures made { MakesBeside 0 (E.creates emit.old) (E.creates emit.new) (St.signs store.old) (St.signs store.new) }
     ensures emitter { StandsStill (E.admits emit.old) (E.admits emit.new) (E.client emit.old) (E.client emit.new) (E.faults emit.old) (E.faults emit.new) (E.took emit.old (St.holds store.old)) (E.took emit.new (St.holds store.new)) (St.holds store.new) }
     ensures want { E.client emit.old ≡ None → IfErr result (IsWantOf parts.old.page_blocks (slots_in (over parts.old (St.holds store.old) (St.signs store.old)))) }
     ensures cause { IfErr result (CameOf (E.faults emit.old) (E.faults emit.new) (St.signs store.old) (St.signs store.new)) }
@@ -161,11 +167,12 @@ pub(crate) fn advance<St: Store, E: Emit<St>>(
     requires emitter { IsBeside c.now.tracker (E.client emit.old) (St.holds store.old) }
     requires admits { AdmitsKinds shape.now (E.admits emit.old) }
     requires stands { (rows : List (List Value)) × E.took emit.old (St.holds store.old) rows }
-    ensures ok { OnOk result (IsBetween (state table.new parts.new (St.holds store.new) (St.signs store.new)) × ((rows : ℕ → List (List ℕ)) → Stacked shape.now rows (state table.old parts.old (St.holds store.old) (St.signs store.old)) → Advances shape.now (E.took emit.old (St.holds store.old)) (E.took emit.new (St.holds store.new)) rows (state table.old parts.old (St.holds store.old) (St.signs store.old)) (state table.new parts.new (St.holds store.new) (St.signs store.new)))) }
+    ensures ok { OnOk result (IsBetween (state table.new parts.new (St.holds store.new) (St.signs store.new)) × ((rows : ℕ → List (List ℕ)) → Stacked shape.now rows (state table.old parts.old (St.holds store.old) (St.signs store.old)) → Advances shape.now (E.took emit.old (St.holds store.old)) (E.took emit.new (St.holds store.new)) (E.creates emit.old) (E.creates emit.new) rows (state table.old parts.old (St.holds store.old) (St.signs store.old)) (state table.new parts.new (St.holds store.new) (St.signs store.new)))) }
     ensures err { OnErr result ((rows : ℕ → List (List ℕ)) → Stacked shape.now rows (state table.old parts.old (St.holds store.old) (St.signs store.old)) → EmittedFront shape.now (E.took emit.old (St.holds store.old)) (E.took emit.new (St.holds store.new)) (said_down shape.now (length parts.old.streams) rows)) }
     ensures less { OnOk result (weight parts.new < weight parts.old) }
     ensures first { OnOk result (AreShallow parts.old.levels → EnteredEvents (HasGoneOn parts.new.levels) (St.signs store.old).trail (St.signs store.new).trail) }
     ensures serves { ServesBeside c.now.tracker (E.client emit.old) (E.slots emit.old (St.holds store.old)) (E.slots emit.new (St.holds store.new)) shape.now (state table.old parts.old (St.holds store.old) (St.signs store.old)) (state table.new parts.new (St.holds store.new) (St.signs store.new)) }
+    ensures made { (rows : ℕ → List (List ℕ)) → Stacked shape.now rows (state table.old parts.old (St.holds store.old) (St.signs store.old)) → MakesBeside (owed parts.old.levels rows) (E.creates emit.old) (E.creates emit.new) (St.signs store.old) (St.signs store.new) }
     ensures emitter { StandsStill (E.admits emit.old) (E.admits emit.new) (E.client emit.old) (E.client emit.new) (E.faults emit.old) (E.faults emit.new) (E.took emit.old (St.holds store.old)) (E.took emit.new (St.holds store.new)) (St.holds store.new) }
     ensures want { E.client emit.old ≡ None → IfErr result (IsWantOf parts.old.page_blocks (slots_in (over parts.old (St.holds store.old) (St.signs store.old)))) }
     ensures cause { IfErr result (CameOf (E.faults emit.old) (E.faults emit.new) (St.signs store.old) (St.signs store.new)) }

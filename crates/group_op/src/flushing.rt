@@ -3,14 +3,14 @@ ghost use Rattle.std.specs.Prelude.{◌+◌, ◌<◌, ◌≤◌, length, OnOk, I
 ghost use Rattle.store_api.specs.Conditions.{IsLiveClient};
 ghost use Rattle.store_api.specs.Holdings.{length_of};
 ghost use Rattle.store_api.specs.Signs.{WasAnswered};
-ghost use Rattle.tuple_stream.specs.Families.{AreShaped};
+ghost use Rattle.tuple_stream.specs.Families.{AreShaped, pages_in};
 ghost use Rattle.tuple_stream.specs.FamilyCalls.{AllAtEnd, Feeds};
 ghost use Rattle.tuple_stream.specs.Steps.{came};
 ghost use Rattle.tuple_stream.specs.Touches.{IsFull};
 ghost use Rattle.partition_stack.specs.Stack.{HasRoomFrom, over};
 ghost use Rattle.partition_stack.specs.Changes.{ChangesAt};
 ghost use Rattle.group_op.specs.Held.{AreEntries, IsHeld, page_len, state};
-ghost use Rattle.group_op.specs.Putting.{HasFlushed, IsFan, Works};
+ghost use Rattle.group_op.specs.Putting.{FewCame, HasFlushed, IsFan, Works};
 ghost use Rattle.group_op.specs.Stored.{IsPartialRow, place_of};
 
 use crate::keying::key_of_partial;
@@ -79,6 +79,7 @@ pub fn flush<St: Store>(
     requires fan { IsFan fan.level fan.base fan.from parts.old }
     ensures ok { OnOk result (HasFlushed c.now.tracker shape.now fan.level fan.base (state table.old parts.old (St.holds store.old) (St.signs store.old)) (state table.new parts.new (St.holds store.new) (St.signs store.new))) }
     ensures works { Works c.now.tracker shape.now (state table.old parts.old (St.holds store.old) (St.signs store.old)) (state table.new parts.new (St.holds store.new) (St.signs store.new)) }
+    ensures few { FewCame (state table.old parts.old (St.holds store.old) (St.signs store.old)) (state table.new parts.new (St.holds store.new) (St.signs store.new)) }
     ensures fan { IsFan fan.level fan.base fan.from parts.new }
     ensures cause { IfErr result (λ e. WasAnswered e (St.signs store.old) (St.signs store.new)) }
     ensures full { IfErr result (IsFull parts.old.page_blocks (St.holds store.new).free_slots) }
@@ -111,6 +112,7 @@ fn send<St: Store>(
     requires short { length spare.old.row.items ≤ length_of parts.old.page_blocks (St.holds store.old) }
     ensures went { Feeds c.now.tracker (place_of shape.now fan.level fan.base spare.old.row.items) (came result spare.old.row.items) (over parts.old (St.holds store.old) (St.signs store.old)) (over parts.new (St.holds store.new) (St.signs store.new)) }
     ensures at_end { OnOk result (AllAtEnd (over parts.old (St.holds store.old) (St.signs store.old)) → AllAtEnd (over parts.new (St.holds store.new) (St.signs store.new))) }
+    ensures few { pages_in (over parts.new (St.holds store.new) (St.signs store.new)) ≤ pages_in (over parts.old (St.holds store.old) (St.signs store.old)) + 1 }
     ensures changes { ChangesAt (place_of shape.now fan.level fan.base spare.old.row.items) parts.old parts.new }
     ensures cause { IfErr result (λ e. WasAnswered e (St.signs store.old) (St.signs store.new)) }
     ensures full { IfErr result (IsFull parts.old.page_blocks (St.holds store.new).free_slots) }

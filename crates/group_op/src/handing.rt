@@ -1,5 +1,5 @@
 //! All groups are handed on.
-ghost use Rattle.std.specs.Prelude.{◌≡◌, ◌++◌, ℕ, List, Option, Some, None, true, replicate, IfErr, OnErr, OnOk, length};
+ghost use Rattle.std.specs.Prelude.{◌≡◌, ◌++◌, ℕ, ◌+◌, ◌*◌, List, Option, Some, None, true, replicate, IfErr, OnErr, OnOk, length};
 ghost use Rattle.pool_model.specs.declared.entry.Entry.{Entry};
 ghost use Rattle.row_codec.specs.declared.values.Value.{Value};
 ghost use Rattle.row_codec.specs.Order.{path_order};
@@ -9,6 +9,7 @@ ghost use Rattle.store_api.specs.Signs.{WasAnswered};
 ghost use Rattle.tuple_stream.specs.Families.{HaveReadAll, slots_in};
 ghost use Rattle.tuple_stream.specs.FamilyCalls.{shares};
 ghost use Rattle.tuple_stream.specs.Trails.{EnteredEvents};
+ghost use Rattle.partition_stack.specs.Making.{owed};
 ghost use Rattle.partition_stack.specs.Stack.{over};
 ghost use Rattle.group_rows.specs.Partials.{groups_by};
 ghost use Rattle.group_op.specs.Causes.{CameBeside, IsWant, IsWantOf};
@@ -17,7 +18,8 @@ ghost use Rattle.group_op.specs.Finished.{HasSettled, ShowsFirst, groups_of_all}
 ghost use Rattle.group_op.specs.Finishing.{IsBetween, LeavesWith, Serves, ServesBeside, Stacked, StandsStill, said_down};
 ghost use Rattle.group_op.specs.Held.{AreEntries, IsHeld, page_len, rows_of, state, streams_of};
 ghost use Rattle.group_op.specs.Laid.{AreBuilt, HasLeft, HasLeftFirst, HoldsGroups};
-ghost use Rattle.group_op.specs.Operator.{Holds, IsFeeding, IsOperator, Keeps, operator, page_of};
+ghost use Rattle.group_op.specs.Making.{MakesBeside, MakesFew};
+ghost use Rattle.group_op.specs.Operator.{Holds, IsFeeding, IsOperator, Keeps, entries_in, operator, page_of};
 ghost use Rattle.group_op.specs.Pinning.{AreShallow};
 ghost use Rattle.group_op.specs.Stored.{grouping_of};
 
@@ -49,6 +51,7 @@ fn settle<St: Store>(
     ensures ok { OnOk result ((rows : ℕ → List (List ℕ)) → ShowsFirst shape.now rows (state table.old parts.old (St.holds store.old) (St.signs store.old)) → HasSettled shape.now rows (state table.old parts.old (St.holds store.old) (St.signs store.old)) (state table.new parts.new (St.holds store.new) (St.signs store.new))) }
     ensures left { OnOk result ((start : Option (List Entry)) → (rows : ℕ → List (List ℕ)) → AreBuilt start rows (streams_of (state table.old parts.old (St.holds store.old) (St.signs store.old))) → EnteredEvents (HasLeft (rows_of table.old ++ shares 16 rows)) start (St.signs store.new).trail) }
     ensures serves { Serves c.now.tracker shape.now (state table.old parts.old (St.holds store.old) (St.signs store.old)) (state table.new parts.new (St.holds store.new) (St.signs store.new)) }
+    ensures made { MakesFew (length (rows_of table.old)) (St.signs store.old) (St.signs store.new) }
     ensures levels { parts.new.levels ≡ parts.old.levels }
     ensures want { IfErr result (IsWant parts.old.page_blocks (slots_in (over parts.old (St.holds store.old) (St.signs store.old)))) }
     ensures cause { IfErr result (λ e. WasAnswered e (St.signs store.old) (St.signs store.new)) }
@@ -81,6 +84,7 @@ fn empty_parts<St: Store, E: Emit<St>>(
     ensures err { OnErr result ((rows : ℕ → List (List ℕ)) → Stacked shape.now rows (state table.old parts.old (St.holds store.old) (St.signs store.old)) → EmittedFront shape.now (E.took emit.old (St.holds store.old)) (E.took emit.new (St.holds store.new)) (said_down shape.now (length parts.old.streams) rows)) }
     ensures first { OnOk result (AreShallow parts.old.levels → EnteredEvents (HaveReadAll (streams_of (state table.new parts.new (St.holds store.new) (St.signs store.new)))) (St.signs store.old).trail (St.signs store.new).trail) }
     ensures serves { ServesBeside c.now.tracker (E.client emit.old) (E.slots emit.old (St.holds store.old)) (E.slots emit.new (St.holds store.new)) shape.now (state table.old parts.old (St.holds store.old) (St.signs store.old)) (state table.new parts.new (St.holds store.new) (St.signs store.new)) }
+    ensures made { (rows : ℕ → List (List ℕ)) → Stacked shape.now rows (state table.old parts.old (St.holds store.old) (St.signs store.old)) → MakesBeside (owed parts.old.levels rows) (E.creates emit.old) (E.creates emit.new) (St.signs store.old) (St.signs store.new) }
     ensures emitter { StandsStill (E.admits emit.old) (E.admits emit.new) (E.client emit.old) (E.client emit.new) (E.faults emit.old) (E.faults emit.new) (E.took emit.old (St.holds store.old)) (E.took emit.new (St.holds store.new)) (St.holds store.new) }
     ensures want { E.client emit.old ≡ None → IfErr result (IsWantOf parts.old.page_blocks (slots_in (over parts.old (St.holds store.old) (St.signs store.old)))) }
     ensures cause { IfErr result (CameOf (E.faults emit.old) (E.faults emit.new) (St.signs store.old) (St.signs store.new)) }
@@ -112,6 +116,7 @@ fn finish_parts<St: Store, E: Emit<St>>(
     ensures err { OnErr result ((rows : ℕ → List (List ℕ)) → ShowsFirst shape.now rows (state table.old parts.old (St.holds store.old) (St.signs store.old)) → EmittedFront shape.now (E.took emit.old (St.holds store.old)) (E.took emit.new (St.holds store.new)) (groups_of_all shape.now rows (state table.old parts.old (St.holds store.old) (St.signs store.old)))) }
     ensures left { OnOk result ((start : Option (List Entry)) → (rows : ℕ → List (List ℕ)) → AreBuilt start rows (streams_of (state table.old parts.old (St.holds store.old) (St.signs store.old))) → EnteredEvents (HasLeftFirst (rows_of table.old ++ shares 16 rows) (streams_of (state table.new parts.new (St.holds store.new) (St.signs store.new)))) start (St.signs store.new).trail) }
     ensures serves { ServesBeside c.now.tracker (E.client emit.old) (E.slots emit.old (St.holds store.old)) (E.slots emit.new (St.holds store.new)) shape.now (state table.old parts.old (St.holds store.old) (St.signs store.old)) (state table.new parts.new (St.holds store.new) (St.signs store.new)) }
+    ensures made { (rows : ℕ → List (List ℕ)) → ShowsFirst shape.now rows (state table.old parts.old (St.holds store.old) (St.signs store.old)) → MakesBeside (16 * length (rows_of table.old) + 15 * length (shares 16 rows)) (E.creates emit.old) (E.creates emit.new) (St.signs store.old) (St.signs store.new) }
     ensures emitter { StandsStill (E.admits emit.old) (E.admits emit.new) (E.client emit.old) (E.client emit.new) (E.faults emit.old) (E.faults emit.new) (E.took emit.old (St.holds store.old)) (E.took emit.new (St.holds store.new)) (St.holds store.new) }
     ensures want { E.client emit.old ≡ None → IfErr result (IsWantOf parts.old.page_blocks (slots_in (over parts.old (St.holds store.old) (St.signs store.old)))) }
     ensures cause { IfErr result (CameOf (E.faults emit.old) (E.faults emit.new) (St.signs store.old) (St.signs store.new)) }
@@ -142,6 +147,7 @@ fn finish_op<St: Store, E: Emit<St>>(
     ensures kept { OnOk result ((start : Option (List Entry)) → (rows : List (List Value)) → Keeps start rows (operator c.now shape.now parts.old table.old) (St.holds store.old) (St.signs store.old) → EnteredEvents (HoldsGroups shape.now (page_of (operator c.now shape.now parts.old table.old) (St.holds store.old)) rows (over parts.new (St.holds store.new) (St.signs store.new))) start (St.signs store.new).trail) }
     ensures op { IsOperator (operator c.now shape.now parts.new table.new) (St.holds store.new) (St.signs store.new) }
     ensures leaves { LeavesWith c.now.tracker (E.client emit.old) (E.slots emit.old (St.holds store.old)) (E.slots emit.new (St.holds store.new)) (over parts.old (St.holds store.old) (St.signs store.old)) (over parts.new (St.holds store.new) (St.signs store.new)) }
+    ensures made { (rows : List (List Value)) → Holds rows (operator c.now shape.now parts.old table.old) (St.holds store.old) (St.signs store.old) → (St.holds store.old).told ≡ true → MakesBeside (15 * length rows + length (entries_in table.old)) (E.creates emit.old) (E.creates emit.new) (St.signs store.old) (St.signs store.new) }
     ensures quiet { table.old ≡ None → (parts.new ≡ parts.old) × (table.new ≡ None) × (St.signs store.new ≡ St.signs store.old) }
     ensures emitter { StandsStill (E.admits emit.old) (E.admits emit.new) (E.client emit.old) (E.client emit.new) (E.faults emit.old) (E.faults emit.new) (E.took emit.old (St.holds store.old)) (E.took emit.new (St.holds store.new)) (St.holds store.new) }
     ensures want { E.client emit.old ≡ None → IfErr result (IsWantOf parts.old.page_blocks (slots_in (over parts.old (St.holds store.old) (St.signs store.old)))) }
@@ -183,6 +189,8 @@ impl GroupOp {
         ensures client { self.new.client ≡ self.old.client }
         ensures op { IsOperator self.new (St.holds store.new) (St.signs store.new) }
         ensures leaves { LeavesWith self.old.client.tracker (E.client emit.old) (E.slots emit.old (St.holds store.old)) (E.slots emit.new (St.holds store.new)) (over self.old.parts (St.holds store.old) (St.signs store.old)) (over self.new.parts (St.holds store.new) (St.signs store.new)) }
+        // Each row goes to deeper partitions at most fifteen times, and one of the table to the first sixteen before.
+        ensures made { (fed : List (List Value)) → Holds fed self.old (St.holds store.old) (St.signs store.old) → (St.holds store.old).told ≡ true → MakesBeside (15 * length fed + length (entries_in self.old.table)) (E.creates emit.old) (E.creates emit.new) (St.signs store.old) (St.signs store.new) }
         ensures emitter { StandsStill (E.admits emit.old) (E.admits emit.new) (E.client emit.old) (E.client emit.new) (E.faults emit.old) (E.faults emit.new) (E.took emit.old (St.holds store.old)) (E.took emit.new (St.holds store.new)) (St.holds store.new) }
         // Where nothing was fed, there is no table, and the store isn't called.
         ensures quiet { self.old.table ≡ None → (self.new ≡ self.old) × (St.signs store.new ≡ St.signs store.old) }

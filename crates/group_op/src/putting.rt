@@ -6,7 +6,7 @@ ghost use Rattle.store_api.specs.Signs.{WasAnswered};
 ghost use Rattle.tuple_stream.specs.Touches.{IsFull};
 ghost use Rattle.bucket_table.specs.Tables.{HasNode, IsFramed, new_node, row_of, used_by, with_nodes};
 ghost use Rattle.group_op.specs.Held.{AreEntries, IsHeld, page_len, state};
-ghost use Rattle.group_op.specs.Putting.{HasGrown, HasPut, HasPutHere, IsFan, Lacks, Works};
+ghost use Rattle.group_op.specs.Putting.{AsManyLeft, FewCame, HasGrown, HasPut, HasPutHere, IsFan, Lacks, Works};
 ghost use Rattle.group_op.specs.Stored.{IsPartialRow, key_at};
 
 use crate::flushing::{Fan, Spare, flush};
@@ -64,6 +64,8 @@ pub fn put<St: Store>(
     requires hash { hash ≡ hash_of (key_at shape.now row.now) }
     ensures ok { OnOk result (HasPut shape.now fan.level fan.base row.now (state table.old parts.old (St.holds store.old) (St.signs store.old)) (state table.new parts.new (St.holds store.new) (St.signs store.new))) }
     ensures works { Works c.now.tracker shape.now (state table.old parts.old (St.holds store.old) (St.signs store.old)) (state table.new parts.new (St.holds store.new) (St.signs store.new)) }
+    ensures few { FewCame (state table.old parts.old (St.holds store.old) (St.signs store.old)) (state table.new parts.new (St.holds store.new) (St.signs store.new)) }
+    ensures left { OnOk result (AsManyLeft (state table.old parts.old (St.holds store.old) (St.signs store.old)) (state table.new parts.new (St.holds store.new) (St.signs store.new))) }
     ensures fan { IsFan fan.level fan.base fan.from parts.new }
     ensures cause { IfErr result (λ e. WasAnswered e (St.signs store.old) (St.signs store.new)) }
     ensures full { IfErr result (IsFull parts.old.page_blocks (St.holds store.new).free_slots) }

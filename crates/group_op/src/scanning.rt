@@ -56,7 +56,7 @@ pub fn leaf_by_scan<St: Store, E: Emit<St>>(
     ensures stands { WentOn (E.took emit.old (St.holds store.old)) (E.took emit.new (St.holds store.new)) }
     ensures cause { IfErr result (CameBeside rows.old.page_blocks (slots_with rows.old (St.holds store.old)) (E.client emit.old) (E.faults emit.old) (E.faults emit.new) (St.signs store.old) (St.signs store.new)) }
     ensures stream { ReadWith c.now.tracker (E.client emit.old) (E.slots emit.old (St.holds store.old)) (E.slots emit.new (St.holds store.new)) rows.old rows.new (St.holds store.old) (St.holds store.new) }
-    ensures emitter { StaysEmitter (E.admits emit.old) (E.admits emit.new) (E.client emit.old) (E.client emit.new) (E.faults emit.old) (E.faults emit.new) (St.holds store.new) (St.signs store.old) (St.signs store.new) }
+    ensures emitter { StaysEmitter (E.admits emit.old) (E.admits emit.new) (E.client emit.old) (E.client emit.new) (E.faults emit.old) (E.faults emit.new) (E.creates emit.old) (E.creates emit.new) (St.holds store.new) (St.signs store.old) (St.signs store.new) }
 {
     let room = room as usize;
     let mut entries = Vec::new(alloc);
@@ -172,7 +172,7 @@ fn hand_on<St: Store, E: Emit<St>>(
     ensures ok { OnOk result (Emitted shape.now (E.took emit.old (St.holds store.old)) (E.took emit.new (St.holds store.new)) (kept_in shape.now entries.now)) }
     ensures err { OnErr result (EmittedFront shape.now (E.took emit.old (St.holds store.old)) (E.took emit.new (St.holds store.new)) (kept_in shape.now entries.now)) }
     ensures cause { IfErr result (CameOf (E.faults emit.old) (E.faults emit.new) (St.signs store.old) (St.signs store.new)) }
-    ensures stood { Stood (E.admits emit.old) (E.admits emit.new) (E.client emit.old) (E.client emit.new) (E.faults emit.old) (E.faults emit.new) (St.holds store.old) (St.holds store.new) (St.signs store.old) (St.signs store.new) }
+    ensures stood { Stood (E.admits emit.old) (E.admits emit.new) (E.client emit.old) (E.client emit.new) (E.faults emit.old) (E.faults emit.new) (E.creates emit.old) (E.creates emit.new) (St.holds store.old) (St.holds store.new) (St.signs store.old) (St.signs store.new) }
     ensures slots { KeepSlots (E.client emit.old) (St.holds store.old).free_slots (St.holds store.new).free_slots (E.slots emit.old (St.holds store.old)) (E.slots emit.new (St.holds store.new)) }
 {
     let Ok(kinds) = kinds_of(alloc, shape) else {
@@ -203,7 +203,7 @@ fn hand_row<St: Store, E: Emit<St>>(
     ensures ok { OnOk result (Emitted shape.now (E.took emit.old (St.holds store.old)) (E.took emit.new (St.holds store.new)) (partial_at shape.now row.now ∷ [])) }
     ensures err { OnErr result (EmittedFront shape.now (E.took emit.old (St.holds store.old)) (E.took emit.new (St.holds store.new)) (partial_at shape.now row.now ∷ [])) }
     ensures cause { IfErr result (CameOf (E.faults emit.old) (E.faults emit.new) (St.signs store.old) (St.signs store.new)) }
-    ensures stood { Stood (E.admits emit.old) (E.admits emit.new) (E.client emit.old) (E.client emit.new) (E.faults emit.old) (E.faults emit.new) (St.holds store.old) (St.holds store.new) (St.signs store.old) (St.signs store.new) }
+    ensures stood { Stood (E.admits emit.old) (E.admits emit.new) (E.client emit.old) (E.client emit.new) (E.faults emit.old) (E.faults emit.new) (E.creates emit.old) (E.creates emit.new) (St.holds store.old) (St.holds store.new) (St.signs store.old) (St.signs store.new) }
     ensures slots { KeepSlots (E.client emit.old) (St.holds store.old).free_slots (St.holds store.new).free_slots (E.slots emit.old (St.holds store.old)) (E.slots emit.new (St.holds store.new)) }
 {
     let Ok(true) = decode_into(alloc, kinds, row, &mut spare.values, &mut spare.texts) else {

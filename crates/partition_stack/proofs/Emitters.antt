@@ -4,7 +4,7 @@ use Rattle.std.proofs.lemmas.Bool.{cases_eq}
 use Rattle.row_codec.specs.declared.values.Value.{Value}
 use Rattle.store_api.specs.declared.op_err.OpErr.{OpErr}
 use Rattle.store_api.specs.declared.op_err.OpErr.TheVariants.{Pool, Sink}
-use Rattle.store_api.specs.Emitters.{CameOf, HasClient, KeepsRoom, OthersStay, SameFor, SameOwn}
+use Rattle.store_api.specs.Emitters.{CameOf, GrowsBy, HasClient, IsSameEmitter, KeepsRoom, OthersStay, SameFor, SameOwn}
 use Rattle.store_api.specs.Holdings.{Account, Holdings, account_of, no_account, or_else}
 use Rattle.store_api.specs.Signs.{Grows, Signs}
 use Rattle.store_api.proofs.Answered.{answered_before}
@@ -13,6 +13,7 @@ use Rattle.store_api.proofs.Untouched.{others_stay}
 use Rattle.partition_stack.specs.Emitting.{IsBeside, LeavesBeside, StandsStill, Stood, WentOn, room_with}
 use Rattle.partition_stack.specs.Leaving.{LeavesOthers}
 use Rattle.partition_stack.proofs.Left.{others_then, same_then}
+use Rattle.partition_stack.proofs.Making.{counts_both, counts_emit, counts_none}
 
 -- ---- rows went to an emitter
 
@@ -25,8 +26,8 @@ keeps_then None a b c one two = tt
 keeps_then (Some t) a b c one two = omega (arith, one, two)
 
 -- nothing was handed on
-pub stood_none : (admits : List Value → Type 0) (client : Option ℕ) (faults : ℕ) (h : Holdings) (signs : Signs) → HasClient client h → Stood admits admits client client faults faults h h signs signs
-stood_none admits client faults h signs lives =
+pub stood_none : {m : ℕ} (admits : List Value → Type 0) (client : Option ℕ) (faults : ℕ) (h : Holdings) (signs : Signs) → HasClient client h → Stood admits admits client client faults faults m m h h signs signs
+stood_none {m} admits client faults h signs lives =
     record {
       admits_same = λ row. (λ is. is, λ is. is);
       client_same = refl;
@@ -36,10 +37,11 @@ stood_none admits client faults h signs lives =
       room = keeps_same client h;
       grows = grows_refl signs;
       alone = λ none. refl;
+      made = counts_none m signs;
     }
 
-pub stood_more : (admits0 admits1 admits2 : List Value → Type 0) (client0 client1 client2 : Option ℕ) (f0 f1 f2 : ℕ) (h0 h1 h2 : Holdings) (s0 s1 s2 : Signs) → Stood admits0 admits1 client0 client1 f0 f1 h0 h1 s0 s1 → Stood admits1 admits2 client1 client2 f1 f2 h1 h2 s1 s2 → Stood admits0 admits2 client0 client2 f0 f2 h0 h2 s0 s2
-stood_more admits0 admits1 admits2 client0 client1 client2 f0 f1 f2 h0 h1 h2 s0 s1 s2 one two =
+pub stood_more : {m0 m1 m2 : ℕ} (admits0 admits1 admits2 : List Value → Type 0) (client0 client1 client2 : Option ℕ) (f0 f1 f2 : ℕ) (h0 h1 h2 : Holdings) (s0 s1 s2 : Signs) → Stood admits0 admits1 client0 client1 f0 f1 m0 m1 h0 h1 s0 s1 → Stood admits1 admits2 client1 client2 f1 f2 m1 m2 h1 h2 s1 s2 → Stood admits0 admits2 client0 client2 f0 f2 m0 m2 h0 h2 s0 s2
+stood_more {m0} {m1} {m2} admits0 admits1 admits2 client0 client1 client2 f0 f1 f2 h0 h1 h2 s0 s1 s2 one two =
     record {
       admits_same = λ row. (λ is. (two.admits_same row).0 ((one.admits_same row).0 is), λ is. (one.admits_same row).1 ((two.admits_same row).1 is));
       client_same = two.client_same ∙ one.client_same;
@@ -49,6 +51,23 @@ stood_more admits0 admits1 admits2 client0 client1 client2 f0 f1 f2 h0 h1 h2 s0 
       room = keeps_then client0 h0 h1 h2 one.room (subst (λ (o : Option ℕ). KeepsRoom o h1 h2) one.client_same two.room);
       grows = grows_trans s0 s1 s2 one.grows two.grows;
       alone = λ none. two.alone (one.client_same ∙ none) ∙ one.alone none;
+      made = counts_both 0 0 0 m0 m1 m2 s0 s1 s2 (omega arith) one.made two.made;
+    }
+
+-- it took one row
+pub stood_row : {most_old most : List (List Value) → ℕ} (admits_old admits : List Value → Type 0) (client_old client : Option ℕ) (f0 f1 m0 m1 : ℕ) (old new : Holdings) (before after : Signs) → IsSameEmitter admits_old admits client_old client most_old most → HasClient client_old new → f0 ≤ f1
+    → OthersStay client_old old new → KeepsRoom client_old old new → GrowsBy client_old m0 m1 before after → Stood admits_old admits client_old client f0 f1 m0 m1 old new before after
+stood_row admits_old admits client_old client f0 f1 m0 m1 old new before after same lives less others room grows =
+    record {
+      admits_same = same.admits_same;
+      client_same = same.client_same;
+      lives = lives;
+      never_falls = less;
+      others = others;
+      room = room;
+      grows = grows.grows;
+      alone = grows.alone;
+      made = counts_emit m0 m1 before after grows.pages;
     }
 
 pub came_behind : (f0 f1 f2 : ℕ) (s0 s1 s2 : Signs) (e : OpErr) → f0 ≤ f1 → Grows s0 s1 → CameOf f1 f2 s1 s2 e → CameOf f0 f2 s0 s2 e
@@ -170,7 +189,7 @@ module _ (admits : List Value → Type 0) (client : Option ℕ) (faults : ℕ) (
         took = went_none was now same;
       }
 
-pub stands_emit : (admits_old admits : List Value → Type 0) (client_old client : Option ℕ) (faults_old faults : ℕ) (was now : List (List Value) → Type 0) (old new : Holdings) (before after : Signs) → Stood admits_old admits client_old client faults_old faults old new before after → WentOn was now → StandsStill admits_old admits client_old client faults_old faults was now new
+pub stands_emit : {m n : ℕ} (admits_old admits : List Value → Type 0) (client_old client : Option ℕ) (faults_old faults : ℕ) (was now : List (List Value) → Type 0) (old new : Holdings) (before after : Signs) → Stood admits_old admits client_old client faults_old faults m n old new before after → WentOn was now → StandsStill admits_old admits client_old client faults_old faults was now new
 stands_emit admits_old admits client_old client faults_old faults was now old new before after stood went =
     record {
       admits_same = stood.admits_same;
@@ -196,7 +215,7 @@ stands_none admits client faults was h lives =
     record { admits_same = λ row. (λ is. is, λ is. is); client_same = refl; lives = lives; never_falls = omega arith; took = went_none was was (λ rows took. took) }
 
 -- it is beside the operator still
-pub beside_stood : (t : ℕ) (admits_old admits : List Value → Type 0) (client_old client : Option ℕ) (faults_old faults : ℕ) (old new : Holdings) (before after : Signs) → IsBeside t client_old old → Stood admits_old admits client_old client faults_old faults old new before after → IsBeside t client new
+pub beside_stood : {m n : ℕ} (t : ℕ) (admits_old admits : List Value → Type 0) (client_old client : Option ℕ) (faults_old faults : ℕ) (old new : Holdings) (before after : Signs) → IsBeside t client_old old → Stood admits_old admits client_old client faults_old faults m n old new before after → IsBeside t client new
 beside_stood t admits_old admits client_old client faults_old faults old new before after beside stood =
     record {
       apart = λ same. beside.apart (sym stood.client_same ∙ same);

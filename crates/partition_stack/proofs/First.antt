@@ -1,5 +1,5 @@
 -- The first sixteen partitions, over a store in which their client has nothing yet.
-use Rattle.std.proofs.Common.{◌≡◌, ℕ, List, [], replicate, Some, refl, arith}
+use Rattle.std.proofs.Common.{◌≡◌, ℕ, [], replicate, Some, refl, arith}
 use Rattle.std.specs.Prelude.{slice_get}
 use Rattle.std.proofs.lemmas.Option.{none-some}
 use Rattle.store_api.specs.Conditions.{IsBlockCount}
@@ -10,7 +10,7 @@ use Rattle.tuple_stream.specs.Families.{ShowAll}
 use Rattle.tuple_stream.specs.Streamed.{Streamed}
 use Rattle.partition_stack.specs.Changes.{Owns}
 use Rattle.partition_stack.specs.Leaving.{MayStart}
-use Rattle.partition_stack.specs.Stack.{IsStack, Stack, empty, first_sixteen, no_stack, over}
+use Rattle.partition_stack.specs.Stack.{IsStack, empty, first_sixteen, no_stack, over}
 use Rattle.partition_stack.proofs.Coming.{sixteen_come}
 use Rattle.partition_stack.proofs.ListPlaces.{of_replicate}
 

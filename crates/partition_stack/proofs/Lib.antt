@@ -14,6 +14,9 @@ pub mod Nothing
 pub mod First
 pub mod Results
 pub mod Shorts
+pub mod Making
+pub mod Owing
+pub mod SharedRows
 pub mod Emitters
 pub mod ReadFrames
 pub mod Slots

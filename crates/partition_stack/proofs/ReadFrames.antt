@@ -21,6 +21,7 @@ use Rattle.partition_stack.specs.Reading.{IsReadable, IsSameQuery, ReadBeside}
 use Rattle.partition_stack.proofs.Agreeing.{agreeing_places, agreeing_rows, agreeing_shape}
 use Rattle.partition_stack.proofs.Emitters.{went_none, went_then}
 use Rattle.partition_stack.proofs.Left.{same_then}
+use Rattle.partition_stack.proofs.Making.{counts_both, counts_none, few_counts, reading_makes}
 
 pub unused_again : (o : Option Account) → o ≡ option_map (with_unused (or_else no_account o).unused) o
 unused_again None = refl
@@ -215,27 +216,27 @@ client_stays (Some t) old new same lives = subst (λ (o : Option Account). IsSom
 
 -- ---- all of it
 
-pub record Stays (c : ClientToken) (s0 s : Streamed) (h0 h : Holdings) (before after : Signs) (admits0 admits : List Value → Type 0) (client0 client : Option ℕ) (f0 f : ℕ) (took0 took : List (List Value) → Type 0) : Type 0 where
+pub record Stays (c : ClientToken) (s0 s : Streamed) (h0 h : Holdings) (before after : Signs) (admits0 admits : List Value → Type 0) (client0 client : Option ℕ) (f0 f m0 m : ℕ) (took0 took : List (List Value) → Type 0) : Type 0 where
   pub beside : ReadBeside c.tracker client0 s0 s h0 h
   pub readable : IsReadable c s h
-  pub emitter : StaysEmitter admits0 admits client0 client f0 f h before after
+  pub emitter : StaysEmitter admits0 admits client0 client f0 f m0 m h before after
   pub went : WentOn took0 took
 
-pub stays_none : (c : ClientToken) (s : Streamed) (h : Holdings) (signs : Signs) (admits : List Value → Type 0) (client : Option ℕ) (f : ℕ) (took : List (List Value) → Type 0) → IsReadable c s h → HasClient client h → Stays c s s h h signs signs admits admits client client f f took took
-stays_none c s h signs admits client f took is lives =
+pub stays_none : {m : ℕ} (c : ClientToken) (s : Streamed) (h : Holdings) (signs : Signs) (admits : List Value → Type 0) (client : Option ℕ) (f : ℕ) (took : List (List Value) → Type 0) → IsReadable c s h → HasClient client h → Stays c s s h h signs signs admits admits client client f f m m took took
+stays_none {m} c s h signs admits client f took is lives =
     record {
       beside = beside_none c.tracker client s h is.shape;
       readable = is;
-      emitter = record { admits_same = λ row. (λ is. is, λ is. is); client_same = refl; lives = lives; never_falls = omega arith; grows = grows_refl signs };
+      emitter = record { admits_same = λ row. (λ is. is, λ is. is); client_same = refl; lives = lives; never_falls = omega arith; grows = grows_refl signs; made = counts_none m signs };
       went = went_none took took (λ rows was. was);
     }
 
-module _ (c : ClientToken) (s0 s : Streamed) (h0 h : Holdings) (before mid : Signs) (admits0 admits : List Value → Type 0) (client0 client : Option ℕ) (f0 f : ℕ) (took0 took : List (List Value) → Type 0) (lives : IsSome (h0.clients c.tracker)) (free : client0 ≢ Some c.tracker) (so : Stays c s0 s h0 h before mid admits0 admits client0 client f0 f took0 took) where
+module _ {m0 m : ℕ} (c : ClientToken) (s0 s : Streamed) (h0 h : Holdings) (before mid : Signs) (admits0 admits : List Value → Type 0) (client0 client : Option ℕ) (f0 f : ℕ) (took0 took : List (List Value) → Type 0) (lives : IsSome (h0.clients c.tracker)) (free : client0 ≢ Some c.tracker) (so : Stays c s0 s h0 h before mid admits0 admits client0 client f0 f m0 m took0 took) where
   pub free_now : client ≢ Some c.tracker
   free_now = λ is. free (sym so.emitter.client_same ∙ is)
 
   pub stays_read : (now : Streamed) (new : Holdings) (after : Signs) (took1 : List (List Value) → Type 0) → Reads c.tracker (scene s h mid) (scene now new after) → now ≡ record s { pinned = now.pinned } → ((rows : List (List Value)) → took rows → took1 rows)
-      → Stays c s0 now h0 new before after admits0 admits client0 client f0 f took0 took1
+      → Stays c s0 now h0 new before after admits0 admits client0 client f0 f m0 m took0 took1
   stays_read now new after took1 went same still =
       let step : ReadBeside c.tracker client0 s now h new = reads_beside c.tracker s now h new mid after so.readable.shape went client0 same in
       record {
@@ -247,13 +248,14 @@ module _ (c : ClientToken) (s0 s : Streamed) (h0 h : Holdings) (before mid : Sig
           lives = client_stays client0 h new (reads_own c.tracker s now h new mid after so.readable.shape went client0 free) so.emitter.lives;
           never_falls = so.emitter.never_falls;
           grows = grows_trans before mid after so.emitter.grows went.step.grows;
+          made = counts_both 0 0 0 m0 m m before mid after (omega arith) so.emitter.made (few_counts 0 m mid after (reading_makes c.tracker s now h new mid after went same));
         };
         went = λ taken was. let first = so.went taken was in (first.0, still (taken ++ first.0) first.1);
       }
 
-  pub stays_handed : (new : Holdings) (after : Signs) (admits1 : List Value → Type 0) (client1 : Option ℕ) (f1 : ℕ) (took1 : List (List Value) → Type 0) → Stood admits admits1 client client1 f f1 h new mid after → WentOn took took1
-      → Stays c s0 s h0 new before after admits0 admits1 client0 client1 f0 f1 took0 took1
-  stays_handed new after admits1 client1 f1 took1 stood on =
+  pub stays_handed : {m1 : ℕ} (new : Holdings) (after : Signs) (admits1 : List Value → Type 0) (client1 : Option ℕ) (f1 : ℕ) (took1 : List (List Value) → Type 0) → Stood admits admits1 client client1 f f1 m m1 h new mid after → WentOn took took1
+      → Stays c s0 s h0 new before after admits0 admits1 client0 client1 f0 f1 m0 m1 took0 took1
+  stays_handed {m1} new after admits1 client1 f1 took1 stood on =
       let stay : OthersStay client0 h new = subst (λ (o : Option ℕ). OthersStay o h new) so.emitter.client_same stood.others in
       let step : ReadBeside c.tracker client0 s s h new = stood_beside c.tracker client0 s h new free so.readable.shape stay in
       record {
@@ -265,6 +267,7 @@ module _ (c : ClientToken) (s0 s : Streamed) (h0 h : Holdings) (before mid : Sig
           lives = subst (λ (o : Option ℕ). HasClient o new) so.emitter.client_same stood.lives;
           never_falls = let x = so.emitter.never_falls in let y = stood.never_falls in omega (arith, x, y);
           grows = grows_trans before mid after so.emitter.grows stood.grows;
+          made = counts_both 0 0 0 m0 m m1 before mid after (omega arith) so.emitter.made stood.made;
         };
         went = went_then took0 took took1 so.went on;
       }

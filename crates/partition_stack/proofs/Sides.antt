@@ -4,11 +4,10 @@ use Rattle.std.specs.List.{All, slice_get, sum_by}
 use Rattle.std.proofs.lemmas.List.Elements.{All-append, All-drop, All-take}
 use Rattle.std.proofs.lemmas.List.Sums.{sum_by-cons}
 use Rattle.store_api.specs.Tokens.{PageToken}
-use Rattle.store_api.specs.Holdings.{Account, Holdings, LivePage, or_else, no_account, no_page, account_of, page_of, unused_of}
+use Rattle.store_api.specs.Holdings.{Account, Holdings, LivePage, or_else, no_page, unused_of}
 use Rattle.store_api.specs.Signs.{Signs}
 use Rattle.tuple_stream.specs.Streamed.{OpenPage, Streamed}
-use Rattle.tuple_stream.specs.Streams.{IsApart, IsOwnPage, IsShaped}
-use Rattle.tuple_stream.specs.Touches.{with_unused}
+use Rattle.tuple_stream.specs.Streams.{IsApart, IsOwnPage}
 use Rattle.tuple_stream.specs.Trails.{Left, left_page, rested, resting_in}
 use Rattle.tuple_stream.specs.Families.{AreDisjoint, AreShaped, IsOutside, ShowAll, TouchesAll, family, held_in, weight}
 use Rattle.tuple_stream.proofs.Chosen.{all_placed, at_place, map_agrees}

@@ -4,6 +4,7 @@ use Rattle.row_codec.specs.declared.values.Value.{Value}
 use Rattle.store_api.specs.Emitters.{HasClient, KeepsRoom, OthersStay, SameFor}
 use Rattle.store_api.specs.Holdings.{Holdings, account_of}
 use Rattle.store_api.specs.Signs.{Grows, Signs}
+use Rattle.partition_stack.specs.Making.{MakesBeside}
 
 -- rows came behind what was taken, whichever they are
 abbrev pub WentOn : (List (List Value) → Type 0) → (List (List Value) → Type 0) → Type 0
@@ -14,8 +15,8 @@ pub record IsBeside (t : ℕ) (client : Option ℕ) (h : Holdings) : Type 0 wher
   pub apart : client ≢ Some t
   pub lives : HasClient client h
 
--- an emitter and its store after some rows
-pub record Stood (admits_old admits : List Value → Type 0) (client_old client : Option ℕ) (faults_old faults : ℕ) (old new : Holdings) (before after : Signs) : Type 0 where
+-- an emitter and its store after some rows, for which no page was made but those that it counts
+pub record Stood (admits_old admits : List Value → Type 0) (client_old client : Option ℕ) (faults_old faults creates_old creates : ℕ) (old new : Holdings) (before after : Signs) : Type 0 where
   pub admits_same : (row : List Value) → admits_old row ↔ admits row
   pub client_same : client ≡ client_old
   pub lives : HasClient client_old new
@@ -24,6 +25,7 @@ pub record Stood (admits_old admits : List Value → Type 0) (client_old client 
   pub room : KeepsRoom client_old old new
   pub grows : Grows before after
   pub alone : client_old ≡ None → after ≡ before
+  pub made : MakesBeside 0 creates_old creates before after
 
 -- the query's room, and with it what this client and the emitter's, where there is one, reserve
 abbrev pub room_with : ℕ → Option ℕ → Holdings → ℕ
@@ -52,10 +54,11 @@ pub record StandsStill (admits_old admits : List Value → Type 0) (client_old c
   pub never_falls : faults_old ≤ faults
   pub took : WentOn was now
 
--- an emitter is what it was and its client lives, and nothing that only grows fell
-pub record StaysEmitter (admits_old admits : List Value → Type 0) (client_old client : Option ℕ) (faults_old faults : ℕ) (new : Holdings) (before after : Signs) : Type 0 where
+-- an emitter is what it was and its client lives, nothing that only grows fell, and no page was made but those that it counts
+pub record StaysEmitter (admits_old admits : List Value → Type 0) (client_old client : Option ℕ) (faults_old faults creates_old creates : ℕ) (new : Holdings) (before after : Signs) : Type 0 where
   pub admits_same : (row : List Value) → admits_old row ↔ admits row
   pub client_same : client ≡ client_old
   pub lives : HasClient client_old new
   pub never_falls : faults_old ≤ faults
   pub grows : Grows before after
+  pub made : MakesBeside 0 creates_old creates before after

@@ -3,6 +3,7 @@ pub mod Changes
 pub mod Laws
 pub mod Leaving
 pub mod Sides
+pub mod Making
 pub mod Emitting
 pub mod Reading
 pub mod Causes

@@ -97,6 +97,7 @@ impl Partitions {
         ensures ok { OnOk result (RestsSome c.now.tracker (length self.old.streams) (over self.old (St.holds store.old) (St.signs store.old)) (over self.new (St.holds store.new) (St.signs store.new))) }
         ensures went { FamilySteps (LaysAll (AreSteady (over self.old (St.holds store.old) (St.signs store.old))) ⊤ (over self.old (St.holds store.old) (St.signs store.old)) (over self.new (St.holds store.new) (St.signs store.new))) c.now.tracker (over self.old (St.holds store.old) (St.signs store.old)) (over self.new (St.holds store.new) (St.signs store.new)) }
         ensures kept { self.new ≡ record self.old { streams = self.new.streams } }
+        ensures pages { pages_in (over self.new (St.holds store.new) (St.signs store.new)) ≡ pages_in (over self.old (St.holds store.old) (St.signs store.old)) }
         ensures cause { IfErr result (λ e. WasAnswered e (St.signs store.old) (St.signs store.new)) }
         ensures full { IfErr result (IsFull self.old.page_blocks (St.holds store.new).free_slots) }
     {

@@ -3,7 +3,7 @@ ghost use Rattle.std.specs.Prelude.{◌≡◌, ◌++◌, ◌<◌, ℕ, [], Some,
 ghost use Rattle.store_api.specs.Conditions.{IsBlockCount};
 ghost use Rattle.store_api.specs.Signs.{WasAnswered};
 ghost use Rattle.tuple_stream.specs.Streamed.{Streamed};
-ghost use Rattle.tuple_stream.specs.Families.{AreShaped, FamilySteps, LaysAll, family};
+ghost use Rattle.tuple_stream.specs.Families.{AreShaped, FamilySteps, LaysAll, family, pages_in};
 ghost use Rattle.tuple_stream.specs.FamilyCalls.{AreSteady, RestsSome};
 ghost use Rattle.tuple_stream.specs.Touches.{IsFull};
 ghost use Rattle.partition_stack.specs.Stack.{HaveNoPages, empty};
@@ -51,6 +51,7 @@ pub(crate) fn rest_streams<St: Store>(
     requires rests { (i : ℕ) (s : Streamed) → slice_get streams.old.items i ≡ Some s → i < from → s.pinned ≡ None }
     ensures ok { OnOk result (RestsSome c.now.tracker (length streams.old.items) (family streams.old.items (St.holds store.old) (St.signs store.old)) (family streams.new.items (St.holds store.new) (St.signs store.new))) }
     ensures went { FamilySteps (LaysAll (AreSteady (family streams.old.items (St.holds store.old) (St.signs store.old))) ⊤ (family streams.old.items (St.holds store.old) (St.signs store.old)) (family streams.new.items (St.holds store.new) (St.signs store.new))) c.now.tracker (family streams.old.items (St.holds store.old) (St.signs store.old)) (family streams.new.items (St.holds store.new) (St.signs store.new)) }
+    ensures pages { pages_in (family streams.new.items (St.holds store.new) (St.signs store.new)) ≡ pages_in (family streams.old.items (St.holds store.old) (St.signs store.old)) }
     ensures cause { IfErr result (λ e. WasAnswered e (St.signs store.old) (St.signs store.new)) }
     ensures full { (blocks : ℕ) → ((i : ℕ) (s : Streamed) → slice_get streams.old.items i ≡ Some s → s.page_blocks ≡ blocks) → IfErr result (IsFull blocks (St.holds store.new).free_slots) }
 {

@@ -1,8 +1,9 @@
 use Rattle.std.proofs.Common.{◌≡◌, Err, arith, rules}
 use Rattle.store_api.proofs.Answered.{answered_before}
 use Rattle.group_op.specs.Held.{state}
-use Rattle.group_op.proofs.Absorbs.{all_rows, first_absorbs, more_absorbs, none_first, none_place, none_rows, place_called, serves_called, spent_none, spent_row}
+use Rattle.group_op.proofs.Absorbs.{all_rows, first_absorbs, less_none, less_read, made_refused, made_unspent, more_absorbs, none_first, none_place, none_rows, place_called, serves_called, spent_none, spent_row}
 use Rattle.group_op.proofs.Keeping.{room_of_read}
+use Rattle.group_op.proofs.Makings.{less_few}
 use Rattle.group_op.proofs.Serving.{serves_then}
 use Rattle.group_op.proofs.absorbing.absorb.Goals as goal
 
@@ -84,7 +85,7 @@ loop-left-preserved g c =
     c.spend.new.out.items (spent_row c.args.c.now.tracker c.args.shape.now c.args.at c.args.level c.loop-left.divided c.loop-left.left (state c.args.table.now c.args.parts.now (g.St.Store.holds c.args.store.now) (g.St.Store.signs c.args.store.now)) c.loop-left.table c.loop-left.parts c.spend.new.self
     (g.St.Store.holds c.loop-left.store) (g.St.Store.holds c.spend.new.store) (g.St.Store.signs c.loop-left.store) (g.St.Store.signs c.spend.new.store) c.loop-left.invariant
     c.in_ok-spend.field-0 c.spend.new.out.items c.in_ok-spend.ensures.ok c.if-not-branch.false) c.spend.ensures.changes c.in_ok-divided.divided
-    (state c.take_in.new.table c.take_in.new.parts (g.St.Store.holds c.take_in.new.store) (g.St.Store.signs c.take_in.new.store)) c.take_in.ensures.serves c.in_ok-divided.ensures.read c.in_ok-divided.ensures.rows (omega (arith, c.loop-left-test.true))
+    (state c.take_in.new.table c.take_in.new.parts (g.St.Store.holds c.take_in.new.store) (g.St.Store.signs c.take_in.new.store)) c.take_in.ensures.serves c.in_ok-divided.ensures.read c.in_ok-divided.ensures.rows c.in_ok-divided.ensures.less (omega (arith, c.loop-left-test.true))
 
 pub returns-clause-rows : goal.returns-clause-rows
 returns-clause-rows g c =
@@ -101,3 +102,35 @@ returns-then-not-branch-clause-first g c =
 
 pub returns-clause-first : goal.returns-clause-first
 returns-clause-first g c = c.loop-left.invariant.first
+
+pub returns-in_err-spend-clause-made : goal.returns-in_err-spend-clause-made
+returns-in_err-spend-clause-made g c =
+    made_unspent c.args.c.now.tracker c.args.shape.now c.args.at c.args.level c.loop-left.divided c.loop-left.left (state c.args.table.now c.args.parts.now (g.St.Store.holds c.args.store.now) (g.St.Store.signs c.args.store.now)) c.loop-left.table c.loop-left.parts c.spend.new.self
+    (g.St.Store.holds c.loop-left.store) (g.St.Store.holds c.spend.new.store) (g.St.Store.signs c.loop-left.store) (g.St.Store.signs c.spend.new.store) c.loop-left.invariant c.in_err-spend.ensures.err.steps
+
+pub returns-then-not-branch-clause-less : goal.returns-then-not-branch-clause-less
+returns-then-not-branch-clause-less g c =
+    less_none c.args.c.now.tracker c.args.shape.now c.args.at c.args.level c.loop-left.divided c.loop-left.left (state c.args.table.now c.args.parts.now (g.St.Store.holds c.args.store.now) (g.St.Store.signs c.args.store.now)) c.loop-left.table c.loop-left.parts c.spend.new.self
+    (g.St.Store.holds c.loop-left.store) (g.St.Store.holds c.spend.new.store) (g.St.Store.signs c.loop-left.store) (g.St.Store.signs c.spend.new.store) c.loop-left.invariant
+    (spent_none c.args.c.now.tracker c.args.shape.now c.args.at c.args.level c.loop-left.divided c.loop-left.left (state c.args.table.now c.args.parts.now (g.St.Store.holds c.args.store.now) (g.St.Store.signs c.args.store.now)) c.loop-left.table c.loop-left.parts c.spend.new.self
+    (g.St.Store.holds c.loop-left.store) (g.St.Store.holds c.spend.new.store) (g.St.Store.signs c.loop-left.store) (g.St.Store.signs c.spend.new.store) c.loop-left.invariant
+    c.in_ok-spend.field-0 c.spend.new.out.items c.in_ok-spend.ensures.ok c.if-not-branch.true)
+
+pub returns-then-not-branch-clause-made : goal.returns-then-not-branch-clause-made
+returns-then-not-branch-clause-made g c = λ s there. less_few _ _ _ _ (returns-then-not-branch-clause-less g c s there)
+
+pub returns-in_err-divided-clause-made : goal.returns-in_err-divided-clause-made
+returns-in_err-divided-clause-made g c =
+    made_refused c.args.c.now.tracker c.args.shape.now c.args.at c.args.level c.loop-left.divided c.loop-left.left (state c.args.table.now c.args.parts.now (g.St.Store.holds c.args.store.now) (g.St.Store.signs c.args.store.now)) c.loop-left.table c.loop-left.parts c.spend.new.self
+    (g.St.Store.holds c.loop-left.store) (g.St.Store.holds c.spend.new.store) (g.St.Store.signs c.loop-left.store) (g.St.Store.signs c.spend.new.store) c.loop-left.invariant
+    (spent_row c.args.c.now.tracker c.args.shape.now c.args.at c.args.level c.loop-left.divided c.loop-left.left (state c.args.table.now c.args.parts.now (g.St.Store.holds c.args.store.now) (g.St.Store.signs c.args.store.now)) c.loop-left.table c.loop-left.parts c.spend.new.self
+    (g.St.Store.holds c.loop-left.store) (g.St.Store.holds c.spend.new.store) (g.St.Store.signs c.loop-left.store) (g.St.Store.signs c.spend.new.store) c.loop-left.invariant
+    c.in_ok-spend.field-0 c.spend.new.out.items c.in_ok-spend.ensures.ok c.if-not-branch.false).steps (g.St.Store.signs c.take_in.new.store) c.in_err-divided.ensures.made
+
+pub returns-clause-less : goal.returns-clause-less
+returns-clause-less g c =
+    less_read c.args.c.now.tracker c.args.shape.now c.args.at c.args.level c.loop-left.divided c.loop-left.left (state c.args.table.now c.args.parts.now (g.St.Store.holds c.args.store.now) (g.St.Store.signs c.args.store.now)) c.loop-left.table c.loop-left.parts c.loop-left.parts
+    (g.St.Store.holds c.loop-left.store) (g.St.Store.holds c.loop-left.store) (g.St.Store.signs c.loop-left.store) (g.St.Store.signs c.loop-left.store) c.loop-left.invariant
+
+pub returns-clause-made : goal.returns-clause-made
+returns-clause-made g c = λ s there. less_few _ _ _ _ (returns-clause-less g c s there)

@@ -1,15 +1,19 @@
-use Rattle.std.proofs.Common.{◌≡◌, ◌∙◌, ◌+◌, ℕ, Bool, true, false, List, Err, sym, subst, rules}
+use Rattle.std.proofs.Common.{◌≡◌, ◌∙◌, ◌+◌, ℕ, Bool, true, false, List, Err, length, ap, sym, subst, arith, rules}
 use Rattle.std.proofs.lemmas.Bool.{false≢true}
 use Rattle.store_api.specs.Holdings.{Holdings}
 use Rattle.store_api.specs.Signs.{Signs}
 use Rattle.store_api.proofs.Answered.{answered_before}
 use Rattle.partition_stack.specs.Stack.{Stack}
 use Rattle.group_op.specs.Finishing.{HasRead, IsRead, Serves}
-use Rattle.group_op.specs.Held.{IsHeld, State, lent, state}
+use Rattle.group_op.specs.Held.{IsHeld, State, lent, rows_of, state, streams_of}
 use Rattle.group_op.specs.Putting.{HasGrown, HasPut, HasPutHere, IsFan}
 use Rattle.group_op.proofs.Absorbed.{read_divided, read_grown, read_more}
 use Rattle.group_op.proofs.Entering.{here_gone, put_of_here}
 use Rattle.group_op.proofs.Serving.{fan_divided, held_divided, serves_divided, serves_of, serves_then, unless_err}
+use Rattle.group_op.specs.Making.{MakesFew, MakesLess}
+use Rattle.group_op.proofs.Makings.{less_since, made_few, none_made, put_less}
+use Rattle.partition_stack.proofs.Making.{few_both, few_less, few_none}
+use Rattle.partition_stack.proofs.Results.{any_err}
 use Rattle.group_op.proofs.absorbing.take_in.Goals as goal
 
 pub returns-then-divided-clause-rows : goal.returns-then-divided-clause-rows
@@ -102,3 +106,57 @@ returns-clause-serves g c =
     let works = c.put_here.ensures.works in
     let mid : Serves t shape m n = subst (λ (p : Stack). Serves t shape m (state c.put_here.new.table p h s)) (sym made) (serves_divided t shape c.args.at c.args.level c.put_here.new.table c.args.parts.now h s c.law_stack.ensures works.held works.entries) in
     serves_then t shape a m b (serves_of t shape a m works) (serves_then t shape m n b mid (serves_of t shape n b c.put-2.ensures.works))
+
+pub returns-in_err-hash-clause-made : goal.returns-in_err-hash-clause-made
+returns-in_err-hash-clause-made g c = any_err c.from_residual.result (few_less 0 (length (rows_of c.args.table.now)) (g.St.Store.signs c.args.store.now) (g.St.Store.signs c.args.store.now) (omega arith) (few_none (g.St.Store.signs c.args.store.now)))
+
+pub returns-in_err-put-clause-made : goal.returns-in_err-put-clause-made
+returns-in_err-put-clause-made g c =
+    let a : State = state c.args.table.now c.args.parts.now (g.St.Store.holds c.args.store.now) (g.St.Store.signs c.args.store.now) in
+    let b : State = state c.put.new.table c.put.new.parts (g.St.Store.holds c.put.new.store) (g.St.Store.signs c.put.new.store) in
+    any_err c.from_residual-in_err-put.result (made_few (streams_of a) (streams_of b) (length (rows_of c.args.table.now)) c.put.ensures.works.made c.put.ensures.few)
+
+pub returns-then-divided-clause-less : goal.returns-then-divided-clause-less
+returns-then-divided-clause-less g c =
+    let a : State = state c.args.table.now c.args.parts.now (g.St.Store.holds c.args.store.now) (g.St.Store.signs c.args.store.now) in
+    let b : State = state c.put.new.table c.put.new.parts (g.St.Store.holds c.put.new.store) (g.St.Store.signs c.put.new.store) in
+    put_less c.args.c.now.tracker c.args.shape.now c.args.level (c.args.at + 1) c.deref.result.now a b c.put.ensures.works c.in_ok-put.ensures.ok c.in_ok-put.ensures.left
+
+pub returns-then-put_here-clause-less : goal.returns-then-put_here-clause-less
+returns-then-put_here-clause-less g c =
+    let fewer = (c.put_here.ensures.put c.if-put_here.true).fewer in
+    record {
+      made = 0;
+      fewer = omega (arith, fewer);
+      few = none_made c.args.c.now.tracker c.args.shape.now c.args.table.now c.put_here.new.table c.args.parts.now (g.St.Store.holds c.args.store.now) (g.St.Store.holds c.put_here.new.store) (g.St.Store.signs c.args.store.now) (g.St.Store.signs c.put_here.new.store) c.put_here.ensures.works;
+    }
+
+pub returns-then-is_err-clause-made : goal.returns-then-is_err-clause-made
+returns-then-is_err-clause-made g c =
+    few_less 0 (length (rows_of c.args.table.now)) (g.St.Store.signs c.args.store.now) (g.St.Store.signs c.put_here.new.store) (omega arith)
+    (none_made c.args.c.now.tracker c.args.shape.now c.args.table.now c.put_here.new.table c.args.parts.now (g.St.Store.holds c.args.store.now) (g.St.Store.holds c.put_here.new.store) (g.St.Store.signs c.args.store.now) (g.St.Store.signs c.put_here.new.store) c.put_here.ensures.works)
+
+pub returns-in_err-put-2-clause-made : goal.returns-in_err-put-2-clause-made
+returns-in_err-put-2-clause-made g c =
+    let h : Holdings = g.St.Store.holds c.put_here.new.store in
+    let s : Signs = g.St.Store.signs c.put_here.new.store in
+    let n : State = state c.put_here.new.table c.divide.new.self h s in
+    let b : State = state c.put-2.new.table c.put-2.new.parts (g.St.Store.holds c.put-2.new.store) (g.St.Store.signs c.put-2.new.store) in
+    let none : MakesFew 0 (g.St.Store.signs c.args.store.now) s = none_made c.args.c.now.tracker c.args.shape.now c.args.table.now c.put_here.new.table c.args.parts.now (g.St.Store.holds c.args.store.now) h (g.St.Store.signs c.args.store.now) s c.put_here.ensures.works in
+    let rows = ap length (c.put_here.ensures.grown c.if-put_here.false).rows in
+    any_err c.from_residual-in_err-put-2.result
+    (few_both 0 (length (rows_of c.put_here.new.table)) (length (rows_of c.args.table.now)) (g.St.Store.signs c.args.store.now) s b.signs (omega (arith, rows)) none
+    (made_few (streams_of n) (streams_of b) (length (rows_of c.put_here.new.table)) c.put-2.ensures.works.made c.put-2.ensures.few))
+
+pub returns-clause-less : goal.returns-clause-less
+returns-clause-less g c =
+    let h : Holdings = g.St.Store.holds c.put_here.new.store in
+    let s : Signs = g.St.Store.signs c.put_here.new.store in
+    let n : State = state c.put_here.new.table c.divide.new.self h s in
+    let b : State = state c.put-2.new.table c.put-2.new.parts (g.St.Store.holds c.put-2.new.store) (g.St.Store.signs c.put-2.new.store) in
+    let none : MakesFew 0 (g.St.Store.signs c.args.store.now) s = none_made c.args.c.now.tracker c.args.shape.now c.args.table.now c.put_here.new.table c.args.parts.now (g.St.Store.holds c.args.store.now) h (g.St.Store.signs c.args.store.now) s c.put_here.ensures.works in
+    let rows = ap length (c.put_here.ensures.grown c.if-put_here.false).rows in
+    let same : length (rows_of c.put_here.new.table) + 1 ≡ length (rows_of c.args.table.now) + 1 = ap (λ (k : ℕ). k + 1) rows in
+    subst (λ (k : ℕ). MakesLess k c.put-2.new.table (g.St.Store.signs c.args.store.now) b.signs) same
+    (less_since (length (rows_of c.put_here.new.table) + 1) c.put-2.new.table (g.St.Store.signs c.args.store.now) s b.signs none
+    (put_less c.args.c.now.tracker c.args.shape.now c.args.level (c.args.at + 1) c.deref-3.result.now n b c.put-2.ensures.works c.in_ok-put-2.ensures.ok c.in_ok-put-2.ensures.left))

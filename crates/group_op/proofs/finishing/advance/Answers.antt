@@ -1,4 +1,4 @@
-use Rattle.std.proofs.Common.{rules, ◌≡◌, ◌∙◌, ◌+◌, ◌-◌, ℕ, Bool, List, length, take, Some, ap, subst, arith}
+use Rattle.std.proofs.Common.{rules, ◌≡◌, ◌∙◌, ◌+◌, ◌-◌, ◌<◌, ℕ, Bool, List, length, take, Some, ap, subst, arith}
 use Rattle.std.specs.Prelude.{slice_get}
 use Rattle.tuple_stream.specs.Trails.{EnteredEvents}
 use Rattle.group_op.specs.Emission.{EmittedFront}
@@ -12,7 +12,10 @@ use Rattle.group_op.proofs.Sharing.{want_as}
 use Rattle.group_op.proofs.Begun.{gone_divided, gone_handed, not_last}
 use Rattle.group_op.proofs.Advancing.{advances_divided, advances_popped, came_later, front_popped, front_same, ok_both}
 use Rattle.group_op.proofs.Besides.{own_same, serves_own, serves_then, stands_own}
+use Rattle.partition_stack.specs.Making.{owed}
 use Rattle.partition_stack.proofs.Emitters.{stands_then}
+use Rattle.partition_stack.proofs.Making.{counts_both, counts_less, few_counted, few_counts, few_less}
+use Rattle.partition_stack.proofs.Owing.{owed_less, owed_popped}
 use Rattle.group_op.proofs.Divided.{less_popped}
 use Rattle.partition_stack.proofs.Results.{on_err, on_ok}
 use Rattle.group_op.proofs.finishing.advance.Goals as goal
@@ -23,7 +26,7 @@ returns-then-level-eq16-clause-ok g c =
     let len = c.len-at.ensures in
     let top : length c.args.parts.now.streams ≡ c.len-at.result - 1 + 1 = omega (arith, some, len) in
     ok_both c.leaf.result
-    (λ came popped. (popped.0, λ rows stacked. advances_popped c.args.shape.now (c.len-at.result - 1) rows (state c.args.table.now c.args.parts.now (g.St.Store.holds c.args.store.now) (g.St.Store.signs c.args.store.now)) (state c.args.table.now c.leaf.new.parts (g.St.Store.holds c.leaf.new.store) (g.St.Store.signs c.leaf.new.store)) top (g.E.Emit.took c.args.emit.now (g.St.Store.holds c.args.store.now)) (g.E.Emit.took c.args.emit.now (g.St.Store.holds c.args.store.now)) (g.E.Emit.took c.leaf.new.emit (g.St.Store.holds c.leaf.new.store)) (λ taken took. took) stacked c.leaf.ensures.serves.leaves.told popped.1 (came rows stacked).0 (came rows stacked).1))
+    (λ came popped. (popped.0, λ rows stacked. advances_popped c.args.shape.now (c.len-at.result - 1) rows (state c.args.table.now c.args.parts.now (g.St.Store.holds c.args.store.now) (g.St.Store.signs c.args.store.now)) (state c.args.table.now c.leaf.new.parts (g.St.Store.holds c.leaf.new.store) (g.St.Store.signs c.leaf.new.store)) top (g.E.Emit.took c.args.emit.now (g.St.Store.holds c.args.store.now)) (g.E.Emit.took c.args.emit.now (g.St.Store.holds c.args.store.now)) (g.E.Emit.took c.leaf.new.emit (g.St.Store.holds c.leaf.new.store)) (λ taken took. took) stacked c.leaf.ensures.serves.leaves.told popped.1 (came rows stacked).0 (came rows stacked).1 0 (let all = owed_popped c.args.parts.now.levels (c.len-at.result - 1) c.level-level.result rows c.level-level.ensures.value in omega (arith, all)) c.leaf.ensures.made))
     c.leaf.ensures.ok c.leaf.ensures.popped
 
 pub returns-then-level-eq16-clause-err : goal.returns-then-level-eq16-clause-err
@@ -56,8 +59,11 @@ returns-then-branch-clause-ok g c =
     let some = c.requires.some in
     let len = c.len-at.ensures in
     let top : length c.args.parts.now.streams ≡ c.len-at.result - 1 + 1 = omega (arith, some, len) in
-    let divided = c.in_ok-spend_top.ensures.divided c.if-branch.true in
-    (divided.0, λ rows stacked. advances_divided c.args.shape.now (c.len-at.result - 1) rows (state c.args.table.now c.args.parts.now (g.St.Store.holds c.args.store.now) (g.St.Store.signs c.args.store.now)) (state c.spend_top.new.table c.spend_top.new.parts (g.St.Store.holds c.spend_top.new.store) (g.St.Store.signs c.spend_top.new.store)) top (g.E.Emit.took c.args.emit.now (g.St.Store.holds c.args.store.now)) (g.E.Emit.took c.args.emit.now (g.St.Store.holds c.spend_top.new.store)) (λ taken took. g.met.E.Emit.asks_own c.args.emit.now (g.St.Store.holds c.args.store.now) (g.St.Store.holds c.spend_top.new.store) taken (own_same c.args.c.now.tracker _ (state c.args.table.now c.args.parts.now (g.St.Store.holds c.args.store.now) (g.St.Store.signs c.args.store.now)) (state c.spend_top.new.table c.spend_top.new.parts (g.St.Store.holds c.spend_top.new.store) (g.St.Store.signs c.spend_top.new.store)) c.requires.emitter.apart c.spend_top.ensures.serves.leaves) took) (divided.2 rows stacked))
+    let divided = c.in_ok-spend_top.ensures.divided c.if-branch.true in (
+      divided.0,
+      λ rows stacked. advances_divided c.args.shape.now (c.len-at.result - 1) rows (state c.args.table.now c.args.parts.now (g.St.Store.holds c.args.store.now) (g.St.Store.signs c.args.store.now)) (state c.spend_top.new.table c.spend_top.new.parts (g.St.Store.holds c.spend_top.new.store) (g.St.Store.signs c.spend_top.new.store)) top (g.E.Emit.took c.args.emit.now (g.St.Store.holds c.args.store.now)) (g.E.Emit.took c.args.emit.now (g.St.Store.holds c.spend_top.new.store)) (λ taken took. g.met.E.Emit.asks_own c.args.emit.now (g.St.Store.holds c.args.store.now) (g.St.Store.holds c.spend_top.new.store) taken (own_same c.args.c.now.tracker _ (state c.args.table.now c.args.parts.now (g.St.Store.holds c.args.store.now) (g.St.Store.signs c.args.store.now)) (state c.spend_top.new.table c.spend_top.new.parts (g.St.Store.holds c.spend_top.new.store) (g.St.Store.signs c.spend_top.new.store)) c.requires.emitter.apart c.spend_top.ensures.serves.leaves) took) (divided.2 rows stacked)
+          (few_counts (length (rows (c.len-at.result - 1))) (g.E.Emit.creates c.args.emit.now) (g.St.Store.signs c.args.store.now) (g.St.Store.signs c.spend_top.new.store) (few_counted rows (over c.args.parts.now (g.St.Store.holds c.args.store.now) (g.St.Store.signs c.args.store.now)) (c.len-at.result - 1) (g.St.Store.signs c.args.store.now) (g.St.Store.signs c.spend_top.new.store) (omega (arith, top)) stacked.shows c.spend_top.ensures.made)),
+    )
 
 pub returns-then-branch-clause-serves : goal.returns-then-branch-clause-serves
 returns-then-branch-clause-serves g c = serves_own _ _ _ _ _ _ _ (g.met.E.Emit.slots_own c.args.emit.now (g.St.Store.holds c.args.store.now) (g.St.Store.holds c.spend_top.new.store) (own_same c.args.c.now.tracker _ (state c.args.table.now c.args.parts.now (g.St.Store.holds c.args.store.now) (g.St.Store.signs c.args.store.now)) (state c.spend_top.new.table c.spend_top.new.parts (g.St.Store.holds c.spend_top.new.store) (g.St.Store.signs c.spend_top.new.store)) c.requires.emitter.apart c.spend_top.ensures.serves.leaves)) c.spend_top.ensures.serves
@@ -74,6 +80,7 @@ returns-clause-ok g c =
     let some = c.requires.some in
     let len = c.len-at.ensures in
     let top : length c.args.parts.now.streams ≡ c.len-at.result - 1 + 1 = omega (arith, some, len) in
+    let deep : c.level-level.result < 16 = let placed = c.level-level.ensures.placed.deep in let not = c.if-level-eq16.false in omega (arith, placed, not) in
     let whole = c.in_ok-spend_top.ensures.whole c.if-branch.false in
     ok_both c.hand_on.result
     (λ came popped. (
@@ -83,7 +90,9 @@ returns-clause-ok g c =
           advances_popped c.args.shape.now (c.len-at.result - 1) rows (state c.args.table.now c.args.parts.now (g.St.Store.holds c.args.store.now) (g.St.Store.signs c.args.store.now)) (state c.hand_on.new.table c.hand_on.new.parts (g.St.Store.holds c.hand_on.new.store) (g.St.Store.signs c.hand_on.new.store)) top (g.E.Emit.took c.args.emit.now (g.St.Store.holds c.args.store.now)) (g.E.Emit.took c.args.emit.now (g.St.Store.holds c.spend_top.new.store)) (g.E.Emit.took c.hand_on.new.emit (g.St.Store.holds c.hand_on.new.store)) (λ taken took. g.met.E.Emit.asks_own c.args.emit.now (g.St.Store.holds c.args.store.now) (g.St.Store.holds c.spend_top.new.store) taken (own_same c.args.c.now.tracker _ (state c.args.table.now c.args.parts.now (g.St.Store.holds c.args.store.now) (g.St.Store.signs c.args.store.now)) (state c.spend_top.new.table c.spend_top.new.parts (g.St.Store.holds c.spend_top.new.store) (g.St.Store.signs c.spend_top.new.store)) c.requires.emitter.apart c.spend_top.ensures.serves.leaves) took) stacked
           (c.hand_on.ensures.serves.leaves.told ∙ c.spend_top.ensures.serves.leaves.others.told)
           (record { many = popped.1.many; levels = popped.1.levels ∙ ap (take (c.len-at.result - 1)) whole.0.1 })
-          both.0 both.1,
+          both.0 both.1 (length (rows (c.len-at.result - 1))) (let all = owed_less c.args.parts.now.levels (c.len-at.result - 1) c.level-level.result rows c.level-level.ensures.value deep in omega (arith, all))
+          (counts_both (length (rows (c.len-at.result - 1))) 0 (length (rows (c.len-at.result - 1))) (g.E.Emit.creates c.args.emit.now) (g.E.Emit.creates c.args.emit.now) (g.E.Emit.creates c.hand_on.new.emit) (g.St.Store.signs c.args.store.now) (g.St.Store.signs c.spend_top.new.store) (g.St.Store.signs c.hand_on.new.store) (omega arith)
+          (few_counts (length (rows (c.len-at.result - 1))) (g.E.Emit.creates c.args.emit.now) (g.St.Store.signs c.args.store.now) (g.St.Store.signs c.spend_top.new.store) (few_counted rows (over c.args.parts.now (g.St.Store.holds c.args.store.now) (g.St.Store.signs c.args.store.now)) (c.len-at.result - 1) (g.St.Store.signs c.args.store.now) (g.St.Store.signs c.spend_top.new.store) (omega (arith, top)) stacked.shows c.spend_top.ensures.made)) c.hand_on.ensures.made),
     ))
     c.hand_on.ensures.ok c.hand_on.ensures.popped
 
@@ -139,3 +148,38 @@ returns-in_err-spend_top-clause-want g c = λ none.
 
 pub returns-clause-want : goal.returns-clause-want
 returns-clause-want g c = λ none. want_as c.hand_on.result c.spend_top.new.parts.page_blocks c.args.parts.now.page_blocks _ _ c.spend_top.ensures.serves.blocks c.spend_top.ensures.serves.slots.sum (c.hand_on.ensures.want none)
+
+pub returns-then-level-eq16-clause-made : goal.returns-then-level-eq16-clause-made
+returns-then-level-eq16-clause-made g c = λ rows stacked. counts_less 0 (owed c.args.parts.now.levels rows) (g.E.Emit.creates c.args.emit.now) (g.E.Emit.creates c.leaf.new.emit) (g.St.Store.signs c.args.store.now) (g.St.Store.signs c.leaf.new.store) (omega arith) c.leaf.ensures.made
+
+pub returns-in_err-spend_top-clause-made : goal.returns-in_err-spend_top-clause-made
+returns-in_err-spend_top-clause-made g c = λ rows stacked.
+    let some = c.requires.some in
+    let len = c.len-at.ensures in
+    let top : length c.args.parts.now.streams ≡ c.len-at.result - 1 + 1 = omega (arith, some, len) in
+    let deep : c.level-level.result < 16 = let placed = c.level-level.ensures.placed.deep in let not = c.if-level-eq16.false in omega (arith, placed, not) in
+    few_counts (owed c.args.parts.now.levels rows) (g.E.Emit.creates c.args.emit.now) (g.St.Store.signs c.args.store.now) (g.St.Store.signs c.spend_top.new.store)
+    (few_less (length (rows (c.len-at.result - 1))) (owed c.args.parts.now.levels rows) (g.St.Store.signs c.args.store.now) (g.St.Store.signs c.spend_top.new.store) (let all = owed_less c.args.parts.now.levels (c.len-at.result - 1) c.level-level.result rows c.level-level.ensures.value deep in omega (arith, all))
+    (few_counted rows (over c.args.parts.now (g.St.Store.holds c.args.store.now) (g.St.Store.signs c.args.store.now)) (c.len-at.result - 1) (g.St.Store.signs c.args.store.now) (g.St.Store.signs c.spend_top.new.store) (omega (arith, top)) stacked.shows c.spend_top.ensures.made))
+
+pub returns-then-branch-clause-made : goal.returns-then-branch-clause-made
+returns-then-branch-clause-made g c = λ rows stacked.
+    let some = c.requires.some in
+    let len = c.len-at.ensures in
+    let top : length c.args.parts.now.streams ≡ c.len-at.result - 1 + 1 = omega (arith, some, len) in
+    let deep : c.level-level.result < 16 = let placed = c.level-level.ensures.placed.deep in let not = c.if-level-eq16.false in omega (arith, placed, not) in
+    few_counts (owed c.args.parts.now.levels rows) (g.E.Emit.creates c.args.emit.now) (g.St.Store.signs c.args.store.now) (g.St.Store.signs c.spend_top.new.store)
+    (few_less (length (rows (c.len-at.result - 1))) (owed c.args.parts.now.levels rows) (g.St.Store.signs c.args.store.now) (g.St.Store.signs c.spend_top.new.store) (let all = owed_less c.args.parts.now.levels (c.len-at.result - 1) c.level-level.result rows c.level-level.ensures.value deep in omega (arith, all))
+    (few_counted rows (over c.args.parts.now (g.St.Store.holds c.args.store.now) (g.St.Store.signs c.args.store.now)) (c.len-at.result - 1) (g.St.Store.signs c.args.store.now) (g.St.Store.signs c.spend_top.new.store) (omega (arith, top)) stacked.shows c.spend_top.ensures.made))
+
+pub returns-clause-made : goal.returns-clause-made
+returns-clause-made g c = λ rows stacked.
+    let some = c.requires.some in
+    let len = c.len-at.ensures in
+    let top : length c.args.parts.now.streams ≡ c.len-at.result - 1 + 1 = omega (arith, some, len) in
+    let deep : c.level-level.result < 16 = let placed = c.level-level.ensures.placed.deep in let not = c.if-level-eq16.false in omega (arith, placed, not) in
+    counts_both (owed c.args.parts.now.levels rows) 0 (owed c.args.parts.now.levels rows) (g.E.Emit.creates c.args.emit.now) (g.E.Emit.creates c.args.emit.now) (g.E.Emit.creates c.hand_on.new.emit) (g.St.Store.signs c.args.store.now) (g.St.Store.signs c.spend_top.new.store) (g.St.Store.signs c.hand_on.new.store) (omega arith)
+    (few_counts (owed c.args.parts.now.levels rows) (g.E.Emit.creates c.args.emit.now) (g.St.Store.signs c.args.store.now) (g.St.Store.signs c.spend_top.new.store)
+    (few_less (length (rows (c.len-at.result - 1))) (owed c.args.parts.now.levels rows) (g.St.Store.signs c.args.store.now) (g.St.Store.signs c.spend_top.new.store) (let all = owed_less c.args.parts.now.levels (c.len-at.result - 1) c.level-level.result rows c.level-level.ensures.value deep in omega (arith, all))
+    (few_counted rows (over c.args.parts.now (g.St.Store.holds c.args.store.now) (g.St.Store.signs c.args.store.now)) (c.len-at.result - 1) (g.St.Store.signs c.args.store.now) (g.St.Store.signs c.spend_top.new.store) (omega (arith, top)) stacked.shows c.spend_top.ensures.made)))
+    c.hand_on.ensures.made

@@ -1,4 +1,4 @@
-use Rattle.std.proofs.Common.{rules, false, ◌∙◌, [], ℕ, List, length, take, ap, subst}
+use Rattle.std.proofs.Common.{rules, false, ◌∙◌, [], ℕ, List, length, take, ap, subst, arith}
 use Rattle.std.specs.Prelude.{slice_get}
 use Rattle.tuple_stream.specs.Streamed.{Streamed}
 use Rattle.tuple_stream.specs.Steps.{scene}
@@ -14,6 +14,7 @@ use Rattle.group_op.specs.Finishing.{HasRead}
 use Rattle.group_op.specs.Held.{state}
 use Rattle.group_op.specs.Stored.{grouping_of, partials_at}
 use Rattle.partition_stack.proofs.Emitters.{beside_stood, stands_emit, stands_then}
+use Rattle.partition_stack.proofs.Making.{counts_both, emptied_makes, few_counts}
 use Rattle.group_op.proofs.Besides.{closed_popped, leaves_popped, own_same, serves_emit, stands_own}
 use Rattle.group_op.proofs.Begun.{top_goes}
 use Rattle.group_op.proofs.HandedOn.{emitted_on, groups_read, popped_long, serves_handed, shows_handed}
@@ -97,3 +98,15 @@ returns-in_err-emit_table-clause-want g c = λ none.
     let want : IsWantOf c.args.parts.now.page_blocks (slots_in (over c.args.parts.now (g.St.Store.holds c.args.store.now) (g.St.Store.signs c.args.store.now))) c.in_err-emit_table.field-0.0 =
     alone_want c.args.parts.now.page_blocks _ _ _ _ _ c.in_err-emit_table.field-0.0 (c.emit_table.ensures.stood.alone none) c.in_err-emit_table.ensures.cause in
     search (rules, want)
+
+pub returns-in_err-emit_table-clause-made : goal.returns-in_err-emit_table-clause-made
+returns-in_err-emit_table-clause-made g c = c.emit_table.ensures.stood.made
+
+pub returns-clause-made : goal.returns-clause-made
+returns-clause-made g c =
+    let stood = c.emit_table.ensures.stood in
+    let serves = serves_emit c.args.c.now.tracker _ c.args.shape.now c.args.table.now c.args.parts.now _ _ _ _ c.requires.emitter.apart stood.others c.requires.held _ _ stood.room c.emit_table.ensures.slots stood.grows c.requires.entries in
+    let shape = serves.held.owns.shaped.each (length c.pop-top.new.self.streams) c.pop-top.result (ap (λ (ss : List Streamed). slice_get ss (length c.pop-top.new.self.streams)) c.pop-top.ensures.streams ∙ at_end c.pop-top.new.self.streams c.pop-top.result) in
+    counts_both 0 0 0 (g.E.Emit.creates c.args.emit.now) (g.E.Emit.creates c.emit_table.new.emit) (g.E.Emit.creates c.emit_table.new.emit) (g.St.Store.signs c.args.store.now) (g.St.Store.signs c.emit_table.new.store) (g.St.Store.signs c.drop_all.new.store) (omega arith) stood.made
+    (few_counts 0 (g.E.Emit.creates c.emit_table.new.emit) (g.St.Store.signs c.emit_table.new.store) (g.St.Store.signs c.drop_all.new.store)
+    (emptied_makes c.args.c.now.tracker (scene c.pop-top.result (g.St.Store.holds c.emit_table.new.store) (g.St.Store.signs c.emit_table.new.store)) (scene c.drop_all.new.self (g.St.Store.holds c.drop_all.new.store) (g.St.Store.signs c.drop_all.new.store)) (c.drop_all.ensures.went c.args.c.now.tracker shape)))

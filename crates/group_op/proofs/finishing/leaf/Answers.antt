@@ -1,4 +1,4 @@
-use Rattle.std.proofs.Common.{◌≡◌, ◌∙◌, ℕ, List, length, ap, subst, take}
+use Rattle.std.proofs.Common.{◌≡◌, ◌∙◌, ℕ, List, length, ap, subst, take, arith}
 use Rattle.std.specs.Prelude.{slice_get}
 use Rattle.row_codec.specs.declared.values.Value.{Value}
 use Rattle.tuple_stream.specs.Steps.{scene}
@@ -10,6 +10,7 @@ use Rattle.group_op.specs.Emission.{Emitted, EmittedFront, IsBeside}
 use Rattle.group_op.specs.Stored.{grouping_of, partials_at}
 use Rattle.group_op.proofs.Besides.{closed_popped}
 use Rattle.partition_stack.proofs.Emitters.{stands_then}
+use Rattle.partition_stack.proofs.Making.{counts_both, emptied_makes, few_counts}
 use Rattle.group_op.proofs.HandedOn.{emitted_on, front_on, popped_long}
 use Rattle.group_op.proofs.TopRead.{beside_read, came_till, groups_last, leaves_gone, of_any, own_gone, serves_read, shows_gone, stands_gone, stands_read, top_readable, top_rows, want_top}
 use Rattle.group_op.proofs.finishing.leaf.Goals as goal
@@ -80,3 +81,10 @@ returns-clause-want g c =
     λ none. if_err c.leaf_by_scan-result.result
     (λ e both. want_top c.args.parts.now c.pop-top.new.self.streams c.pop-top.result (g.St.Store.holds c.args.store.now) (g.St.Store.signs c.args.store.now) c.pop-top.ensures.streams c.law_stack.ensures blocks e (both.want none))
     c.leaf_by_scan-result.ensures.cause
+
+pub returns-clause-made : goal.returns-clause-made
+returns-clause-made g c =
+    let read = c.leaf_by_scan-result.new.rows in
+    counts_both 0 0 0 (g.E.Emit.creates c.args.emit.now) (g.E.Emit.creates c.leaf_by_scan-result.new.emit) (g.E.Emit.creates c.leaf_by_scan-result.new.emit) (g.St.Store.signs c.args.store.now) (g.St.Store.signs c.leaf_by_scan-result.new.store) (g.St.Store.signs c.drop_all.new.store) (omega arith) c.leaf_by_scan-result.ensures.emitter.made
+    (few_counts 0 (g.E.Emit.creates c.leaf_by_scan-result.new.emit) (g.St.Store.signs c.leaf_by_scan-result.new.store) (g.St.Store.signs c.drop_all.new.store)
+    (emptied_makes c.args.c.now.tracker (scene read (g.St.Store.holds c.leaf_by_scan-result.new.store) (g.St.Store.signs c.leaf_by_scan-result.new.store)) (scene c.drop_all.new.self (g.St.Store.holds c.drop_all.new.store) (g.St.Store.signs c.drop_all.new.store)) (c.drop_all.ensures.went c.args.c.now.tracker c.leaf_by_scan-result.ensures.stream.read.shape)))

@@ -1,4 +1,4 @@
-use Rattle.std.proofs.Common.{rules, ◌≡◌, ◌∙◌, Bool, [], true, false, refl, ap, subst, arith}
+use Rattle.std.proofs.Common.{rules, ◌≡◌, ◌∙◌, Bool, [], true, false, length, refl, ap, subst, arith}
 use Rattle.std.proofs.lemmas.Option.{slice_get_within}
 use Rattle.store_api.specs.Signs.{WasAnswered}
 use Rattle.store_api.proofs.Answered.{answered_before}
@@ -7,13 +7,16 @@ use Rattle.tuple_stream.specs.Trails.{EnteredEvents}
 use Rattle.bucket_table.specs.Tables.{Table}
 use Rattle.partition_stack.specs.Stack.{Stack, over}
 use Rattle.group_op.specs.Finishing.{HasRead, IsRead}
-use Rattle.group_op.specs.Held.{state}
+use Rattle.group_op.specs.Held.{rows_of, state}
+use Rattle.group_op.specs.Making.{MakesFew}
 use Rattle.tuple_stream.specs.Families.{slots_in}
 use Rattle.group_op.specs.Causes.{IsWant}
 use Rattle.group_op.specs.Pinning.{HasBegun}
+use Rattle.partition_stack.proofs.Making.{few_both, laying_makes}
 use Rattle.partition_stack.proofs.Slots.{full_since}
 use Rattle.group_op.proofs.Begun.{begun_divided}
 use Rattle.group_op.proofs.Divided.{has_divided, less_divided, serves_works}
+use Rattle.group_op.proofs.Makings.{made_few}
 use Rattle.group_op.proofs.Serving.{serves_then, serves_touched}
 use Rattle.group_op.proofs.finishing.spend_top.Goals as goal
 
@@ -91,3 +94,31 @@ returns-in_err-rest_from-clause-want g c =
     let want : IsWant c.args.parts.now.page_blocks (slots_in (over c.args.parts.now (g.St.Store.holds c.args.store.now) (g.St.Store.signs c.args.store.now))) c.in_err-rest_from.field-0.0 =
     full_since c.args.parts.now.page_blocks c.flush.new.parts.page_blocks (over c.args.parts.now (g.St.Store.holds c.args.store.now) (g.St.Store.signs c.args.store.now)) (over c.rest_from.new.self (g.St.Store.holds c.rest_from.new.store) (g.St.Store.signs c.rest_from.new.store)) (returns-in_err-rest_from-clause-serves g c).slots c.law_stack.ensures.each (c.flush.ensures.works.blocks ∙ c.absorb.ensures.serves.blocks) c.in_err-rest_from.field-0.0 c.in_err-rest_from.ensures.full in
     search (rules, want)
+
+pub returns-in_err-flush-clause-made : goal.returns-in_err-flush-clause-made
+returns-in_err-flush-clause-made g c = λ s there.
+    let less = c.in_ok-absorb.ensures.less s there in
+    let fewer = less.fewer in
+    let flushed : MakesFew (length (rows_of c.absorb.new.table)) (g.St.Store.signs c.absorb.new.store) (g.St.Store.signs c.flush.new.store) =
+    made_few (over c.absorb.new.parts (g.St.Store.holds c.absorb.new.store) (g.St.Store.signs c.absorb.new.store)) (over c.flush.new.parts (g.St.Store.holds c.flush.new.store) (g.St.Store.signs c.flush.new.store)) (length (rows_of c.absorb.new.table)) c.flush.ensures.works.made c.flush.ensures.few in
+    few_both less.made (length (rows_of c.absorb.new.table)) s.count (g.St.Store.signs c.args.store.now) (g.St.Store.signs c.absorb.new.store) (g.St.Store.signs c.flush.new.store) (omega (arith, fewer)) less.few flushed
+
+pub returns-in_err-rest_from-clause-made : goal.returns-in_err-rest_from-clause-made
+returns-in_err-rest_from-clause-made g c = λ s there.
+    let less = c.in_ok-absorb.ensures.less s there in
+    let fewer = less.fewer in
+    let flushed : MakesFew (length (rows_of c.absorb.new.table)) (g.St.Store.signs c.absorb.new.store) (g.St.Store.signs c.flush.new.store) =
+    made_few (over c.absorb.new.parts (g.St.Store.holds c.absorb.new.store) (g.St.Store.signs c.absorb.new.store)) (over c.flush.new.parts (g.St.Store.holds c.flush.new.store) (g.St.Store.signs c.flush.new.store)) (length (rows_of c.absorb.new.table)) c.flush.ensures.works.made c.flush.ensures.few in
+    let spent : MakesFew s.count (g.St.Store.signs c.args.store.now) (g.St.Store.signs c.flush.new.store) = few_both less.made (length (rows_of c.absorb.new.table)) s.count (g.St.Store.signs c.args.store.now) (g.St.Store.signs c.absorb.new.store) (g.St.Store.signs c.flush.new.store) (omega (arith, fewer)) less.few flushed in
+    few_both s.count 0 s.count (g.St.Store.signs c.args.store.now) (g.St.Store.signs c.flush.new.store) (g.St.Store.signs c.rest_from.new.store) (omega arith) spent
+    (laying_makes 0 c.args.c.now.tracker (over c.flush.new.parts (g.St.Store.holds c.flush.new.store) (g.St.Store.signs c.flush.new.store)) (over c.rest_from.new.self (g.St.Store.holds c.rest_from.new.store) (g.St.Store.signs c.rest_from.new.store)) (let same = c.rest_from.ensures.pages in omega (arith, same)) c.rest_from.ensures.went)
+
+pub returns-clause-made : goal.returns-clause-made
+returns-clause-made g c = λ s there.
+    let less = c.in_ok-absorb.ensures.less s there in
+    let fewer = less.fewer in
+    let flushed : MakesFew (length (rows_of c.absorb.new.table)) (g.St.Store.signs c.absorb.new.store) (g.St.Store.signs c.flush.new.store) =
+    made_few (over c.absorb.new.parts (g.St.Store.holds c.absorb.new.store) (g.St.Store.signs c.absorb.new.store)) (over c.flush.new.parts (g.St.Store.holds c.flush.new.store) (g.St.Store.signs c.flush.new.store)) (length (rows_of c.absorb.new.table)) c.flush.ensures.works.made c.flush.ensures.few in
+    let spent : MakesFew s.count (g.St.Store.signs c.args.store.now) (g.St.Store.signs c.flush.new.store) = few_both less.made (length (rows_of c.absorb.new.table)) s.count (g.St.Store.signs c.args.store.now) (g.St.Store.signs c.absorb.new.store) (g.St.Store.signs c.flush.new.store) (omega (arith, fewer)) less.few flushed in
+    few_both s.count 0 s.count (g.St.Store.signs c.args.store.now) (g.St.Store.signs c.flush.new.store) (g.St.Store.signs c.rest_from.new.store) (omega arith) spent
+    (laying_makes 0 c.args.c.now.tracker (over c.flush.new.parts (g.St.Store.holds c.flush.new.store) (g.St.Store.signs c.flush.new.store)) (over c.rest_from.new.self (g.St.Store.holds c.rest_from.new.store) (g.St.Store.signs c.rest_from.new.store)) (let same = c.rest_from.ensures.pages in omega (arith, same)) c.rest_from.ensures.went)

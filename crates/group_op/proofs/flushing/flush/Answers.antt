@@ -9,7 +9,7 @@ use Rattle.partition_stack.specs.Stack.{over}
 use Rattle.group_op.specs.Stored.{IsPartialRow}
 use Rattle.group_op.specs.Held.{IsEntry}
 use Rattle.group_op.proofs.Keeping.{emptied_entries, works_nodes, works_touched}
-use Rattle.group_op.proofs.Walking.{HasWalked, entry_is, few_stopped, few_walked, fan_kept, has_node, less, row_is, walked_all, walked_more, walked_none}
+use Rattle.group_op.proofs.Walking.{HasWalked, entry_is, few_stopped, few_walked, fan_kept, has_node, less, row_is, walked_all, walked_more, walked_next, walked_none, walked_pages}
 use Rattle.group_op.proofs.flushing.flush.Goals as goal
 
 pub loop-next-init : goal.loop-next-init
@@ -86,7 +86,7 @@ loop-next-preserved g c =
     let walked : HasWalked c.args.c.now.tracker c.args.shape.now c.args.fan.level c.args.fan.base c.args.fan.from c.args.table.now.nodes (Some c.in-Some.node) (over c.args.parts.now (g.St.Store.holds c.args.store.now) (g.St.Store.signs c.args.store.now)) c.args.parts.now c.loop-next.parts (g.St.Store.holds c.loop-next.store) (g.St.Store.signs c.loop-next.store) =
     rw c.in-Some.is at c.loop-next.invariant in
     rw c.next_node-next.ensures.value
-    (walked_more _ _ _ _ _ _ _ _ _ _ _ _ c.requires.entries.behind walked c.send.new.parts _ _ c.row_at.new.out.items c.in_ok-row_at.ensures.ok c.in_ok-send.ensures.went c.in_ok-send.ensures.at_end c.in_ok-send.ensures.changes)
+    (walked_more _ _ _ _ _ _ _ _ _ _ _ _ c.requires.entries.behind walked c.send.new.parts _ _ c.row_at.new.out.items c.in_ok-row_at.ensures.ok c.in_ok-send.ensures.went c.in_ok-send.ensures.at_end c.in_ok-send.ensures.changes c.send.ensures.few)
 
 pub returns-clause-ok : goal.returns-clause-ok
 returns-clause-ok g c =
@@ -100,3 +100,15 @@ returns-clause-works g c =
     let walked = c.loop-next.invariant in
     let works = works_touched c.args.c.now.tracker c.args.shape.now c.args.table.now c.args.parts.now c.loop-next.parts _ _ _ _ c.requires.held c.requires.entries walked.feeds.steps walked.blocks walked.levels (few_walked _ _ _ _ _ _ c.args.table.now _ _ _ _ _ _ walked) in
     rw c.clear.ensures (works_nodes _ _ _ [] c.args.table.now c.loop-next.parts _ _ works (emptied_entries _ _ c.args.table.now works.entries))
+
+pub returns-in_err-row_at-clause-few : goal.returns-in_err-row_at-clause-few
+returns-in_err-row_at-clause-few g c = walked_pages _ _ _ _ _ _ _ _ _ _ _ _ c.loop-next.invariant
+
+pub returns-in_err-send-clause-few : goal.returns-in_err-send-clause-few
+returns-in_err-send-clause-few g c =
+    let walked : HasWalked c.args.c.now.tracker c.args.shape.now c.args.fan.level c.args.fan.base c.args.fan.from c.args.table.now.nodes (Some c.in-Some.node) (over c.args.parts.now (g.St.Store.holds c.args.store.now) (g.St.Store.signs c.args.store.now)) c.args.parts.now c.loop-next.parts (g.St.Store.holds c.loop-next.store) (g.St.Store.signs c.loop-next.store) =
+    rw c.in-Some.is at c.loop-next.invariant in
+    walked_next _ _ _ _ _ _ _ _ _ _ _ _ c.requires.entries.behind walked c.send.new.parts (g.St.Store.holds c.send.new.store) (g.St.Store.signs c.send.new.store) c.send.ensures.few
+
+pub returns-clause-few : goal.returns-clause-few
+returns-clause-few g c = walked_pages _ _ _ _ _ _ _ _ _ _ _ _ c.loop-next.invariant

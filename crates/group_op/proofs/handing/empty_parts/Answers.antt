@@ -6,7 +6,7 @@ use Rattle.group_op.specs.Finishing.{Stacked, said_down}
 use Rattle.tuple_stream.specs.Families.{slots_in}
 use Rattle.partition_stack.specs.Stack.{over}
 use Rattle.group_op.specs.Held.{state}
-use Rattle.group_op.proofs.Advancing.{advances_all, advances_front, advances_none, advances_then}
+use Rattle.group_op.proofs.Advancing.{advances_all, advances_few, advances_front, advances_made, advances_none, advances_then}
 use Rattle.partition_stack.proofs.Emitters.{beside_stands, came_behind, stands_none, stands_then}
 use Rattle.group_op.proofs.Besides.{serves_more, serves_none}
 use Rattle.group_op.proofs.Begun.{gone_all, gone_more, gone_none}
@@ -103,3 +103,12 @@ returns-in_err-advance-clause-want g c = λ none.
     subst (λ (n : ℕ). IsWantOf n (slots_in (over c.args.parts.now (g.St.Store.holds c.args.store.now) (g.St.Store.signs c.args.store.now))) c.in_err-advance.field-0.0) was.serves.blocks
     (subst (λ (o : Option ℕ). IsWantOf c.down.parts.page_blocks o c.in_err-advance.field-0.0) (was.serves.slots.alone none) (c.in_err-advance.ensures.want (was.stands.client_same ∙ none))) in
     search (rules, want)
+
+pub returns-in_err-advance-clause-made : goal.returns-in_err-advance-clause-made
+returns-in_err-advance-clause-made g c = λ rows stacked.
+    let first = c.down.invariant.rows rows stacked in
+    advances_made c.args.shape.now (g.E.Emit.took c.args.emit.now (g.St.Store.holds c.args.store.now)) (g.E.Emit.took c.down.emit (g.St.Store.holds c.down.store)) (g.E.Emit.took c.advance.new.emit (g.St.Store.holds c.advance.new.store)) rows (state c.args.table.now c.args.parts.now (g.St.Store.holds c.args.store.now) (g.St.Store.signs c.args.store.now)) (state c.down.table c.down.parts (g.St.Store.holds c.down.store) (g.St.Store.signs c.down.store)) (state c.advance.new.table c.advance.new.parts (g.St.Store.holds c.advance.new.store) (g.St.Store.signs c.advance.new.store)) first (g.E.Emit.creates c.advance.new.emit) (c.advance.ensures.made first.left first.stacked)
+
+pub returns-clause-made : goal.returns-clause-made
+returns-clause-made g c = λ rows stacked.
+    advances_few c.args.shape.now (g.E.Emit.took c.args.emit.now (g.St.Store.holds c.args.store.now)) (g.E.Emit.took c.down.emit (g.St.Store.holds c.down.store)) (g.E.Emit.took c.down.emit (g.St.Store.holds c.down.store)) rows (state c.args.table.now c.args.parts.now (g.St.Store.holds c.args.store.now) (g.St.Store.signs c.args.store.now)) (state c.down.table c.down.parts (g.St.Store.holds c.down.store) (g.St.Store.signs c.down.store)) (state c.down.table c.down.parts (g.St.Store.holds c.down.store) (g.St.Store.signs c.down.store)) (c.down.invariant.rows rows stacked)

@@ -1,8 +1,11 @@
-use Rattle.std.proofs.Common.{◌∙◌, sym}
+use Rattle.std.proofs.Common.{◌+◌, ◌*◌, ◌∙◌, length, sym, arith}
 use Rattle.partition_stack.specs.Stack.{over}
 use Rattle.partition_stack.proofs.Results.{on_ok}
 use Rattle.group_op.proofs.Laying.{none_kept, some_kept}
+use Rattle.group_op.specs.Operator.{entries_in}
+use Rattle.partition_stack.proofs.Making.{counts_less, counts_none}
 use Rattle.group_op.proofs.Besides.{left_none}
+use Rattle.group_op.proofs.Makings.{finished_made}
 use Rattle.group_op.proofs.handing.finish_op.Goals as goal
 
 pub returns-in_default-clause-kept : goal.returns-in_default-clause-kept
@@ -22,3 +25,11 @@ returns-in_default-clause-leaves g c = left_none _ _ _ _
 
 pub returns-in_default-replace-clause-leaves : goal.returns-in_default-replace-clause-leaves
 returns-in_default-replace-clause-leaves g c = record { others = c.finish_parts-result.ensures.serves.leaves; slots = c.finish_parts-result.ensures.serves.slots }
+
+pub returns-in_default-clause-made : goal.returns-in_default-clause-made
+returns-in_default-clause-made g c = λ rows holds told.
+    counts_less 0 (15 * length rows + length (entries_in c.args.table.now)) (g.E.Emit.creates c.args.emit.now) (g.E.Emit.creates c.args.emit.now) (g.St.Store.signs c.args.store.now) (g.St.Store.signs c.args.store.now) (omega arith) (counts_none (g.E.Emit.creates c.args.emit.now) (g.St.Store.signs c.args.store.now))
+
+pub returns-in_default-replace-clause-made : goal.returns-in_default-replace-clause-made
+returns-in_default-replace-clause-made g c = λ rows holds told.
+    finished_made (g.E.Emit.creates c.args.emit.now) (g.E.Emit.creates c.finish_parts-result.new.emit) c.args.c.now c.args.shape.now rows c.args.parts.now c.args.table.now c.in-Some.own (g.St.Store.holds c.args.store.now) (g.St.Store.signs c.args.store.now) (g.St.Store.signs c.finish_parts-result.new.store) (sym c.take.ensures.value ∙ c.in-Some.is) c.finish_parts-result.ensures.made holds told

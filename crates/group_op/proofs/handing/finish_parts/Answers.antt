@@ -1,4 +1,4 @@
-use Rattle.std.proofs.Common.{rules, ◌∙◌, ◌++◌, [], ℕ, List, sym, subst, arith, append-nil}
+use Rattle.std.proofs.Common.{rules, ◌∙◌, ◌+◌, ◌*◌, ◌++◌, [], ℕ, List, length, sym, subst, arith, append-nil}
 use Rattle.group_op.specs.Emission.{Emitted, EmittedFront}
 use Rattle.group_op.specs.Finished.{ShowsFirst, groups_of_all}
 use Rattle.partition_stack.specs.Stack.{over}
@@ -14,6 +14,8 @@ use Rattle.tuple_stream.specs.Families.{slots_in}
 use Rattle.group_op.proofs.Sharing.{want_as}
 use Rattle.group_op.proofs.Emitting.{emitted_behind, front_behind}
 use Rattle.partition_stack.proofs.Results.{on_err, on_ok}
+use Rattle.partition_stack.specs.Making.{owed}
+use Rattle.partition_stack.proofs.Making.{counts_both, counts_less, few_counts}
 use Rattle.group_op.proofs.handing.finish_parts.Goals as goal
 
 pub returns-in_err-settle-clause-err : goal.returns-in_err-settle-clause-err
@@ -73,3 +75,17 @@ returns-in_err-settle-clause-want g c = λ none.
 
 pub returns-clause-want : goal.returns-clause-want
 returns-clause-want g c = λ none. want_as c.empty_parts.result c.settle.new.parts.page_blocks c.args.parts.now.page_blocks _ _ c.settle.ensures.serves.blocks c.settle.ensures.serves.slots.sum (c.empty_parts.ensures.want none)
+
+pub returns-in_err-settle-clause-made : goal.returns-in_err-settle-clause-made
+returns-in_err-settle-clause-made g c = λ rows shows.
+    counts_less (length (rows_of c.args.table.now)) (16 * length (rows_of c.args.table.now) + 15 * length (shares 16 rows)) (g.E.Emit.creates c.args.emit.now) (g.E.Emit.creates c.args.emit.now) (g.St.Store.signs c.args.store.now) (g.St.Store.signs c.settle.new.store) (omega arith)
+    (few_counts (length (rows_of c.args.table.now)) (g.E.Emit.creates c.args.emit.now) (g.St.Store.signs c.args.store.now) (g.St.Store.signs c.settle.new.store) c.settle.ensures.made)
+
+pub returns-clause-made : goal.returns-clause-made
+returns-clause-made g c = λ rows shows.
+    let settled = c.in_ok-settle.ensures.ok rows shows in
+    let few = settled.few in
+    counts_both (length (rows_of c.args.table.now)) (owed c.settle.new.parts.levels settled.left) (16 * length (rows_of c.args.table.now) + 15 * length (shares 16 rows)) (g.E.Emit.creates c.args.emit.now) (g.E.Emit.creates c.args.emit.now) (g.E.Emit.creates c.empty_parts.new.emit)
+    (g.St.Store.signs c.args.store.now) (g.St.Store.signs c.settle.new.store) (g.St.Store.signs c.empty_parts.new.store) (omega (arith, few))
+    (few_counts (length (rows_of c.args.table.now)) (g.E.Emit.creates c.args.emit.now) (g.St.Store.signs c.args.store.now) (g.St.Store.signs c.settle.new.store) c.settle.ensures.made)
+    (c.empty_parts.ensures.made settled.left settled.stacked)

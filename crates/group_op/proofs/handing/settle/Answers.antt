@@ -1,4 +1,4 @@
-use Rattle.std.proofs.Common.{rules, ◌∙◌, refl, ap, arith}
+use Rattle.std.proofs.Common.{rules, ◌∙◌, length, refl, ap, arith}
 use Rattle.std.proofs.lemmas.Option.{slice_get_within}
 use Rattle.bucket_table.specs.Tables.{Table}
 use Rattle.tuple_stream.specs.Families.{slots_in}
@@ -6,8 +6,11 @@ use Rattle.partition_stack.specs.Stack.{Stack, over}
 use Rattle.partition_stack.proofs.Results.{if_err, on_ok}
 use Rattle.group_op.proofs.Serving.{serves_then, serves_touched}
 use Rattle.group_op.specs.Causes.{IsWant}
-use Rattle.group_op.specs.Held.{state}
+use Rattle.group_op.specs.Held.{rows_of, state}
+use Rattle.group_op.specs.Making.{MakesFew}
 use Rattle.group_op.proofs.Laying.{settled_left}
+use Rattle.group_op.proofs.Makings.{made_few}
+use Rattle.partition_stack.proofs.Making.{few_both, laying_makes}
 use Rattle.partition_stack.proofs.Slots.{full_since}
 use Rattle.group_op.proofs.Settled.{answered_later, has_settled, serves_of}
 use Rattle.group_op.proofs.handing.settle.Goals as goal
@@ -64,3 +67,14 @@ returns-clause-want g c =
     if_err c.rest_from.result
     (λ e full. full_since c.args.parts.now.page_blocks c.flush.new.parts.page_blocks (over c.args.parts.now (g.St.Store.holds c.args.store.now) (g.St.Store.signs c.args.store.now)) (over c.rest_from.new.self (g.St.Store.holds c.rest_from.new.store) (g.St.Store.signs c.rest_from.new.store)) (returns-clause-serves g c).slots c.law_stack.ensures.each c.flush.ensures.works.blocks e full)
     c.rest_from.ensures.full
+
+pub returns-in_err-flush-clause-made : goal.returns-in_err-flush-clause-made
+returns-in_err-flush-clause-made g c =
+    made_few (over c.args.parts.now (g.St.Store.holds c.args.store.now) (g.St.Store.signs c.args.store.now)) (over c.flush.new.parts (g.St.Store.holds c.flush.new.store) (g.St.Store.signs c.flush.new.store)) (length (rows_of c.args.table.now)) c.flush.ensures.works.made c.flush.ensures.few
+
+pub returns-clause-made : goal.returns-clause-made
+returns-clause-made g c =
+    let flushed : MakesFew (length (rows_of c.args.table.now)) (g.St.Store.signs c.args.store.now) (g.St.Store.signs c.flush.new.store) =
+    made_few (over c.args.parts.now (g.St.Store.holds c.args.store.now) (g.St.Store.signs c.args.store.now)) (over c.flush.new.parts (g.St.Store.holds c.flush.new.store) (g.St.Store.signs c.flush.new.store)) (length (rows_of c.args.table.now)) c.flush.ensures.works.made c.flush.ensures.few in
+    few_both (length (rows_of c.args.table.now)) 0 (length (rows_of c.args.table.now)) (g.St.Store.signs c.args.store.now) (g.St.Store.signs c.flush.new.store) (g.St.Store.signs c.rest_from.new.store) (omega arith) flushed
+    (laying_makes 0 c.args.c.now.tracker (over c.flush.new.parts (g.St.Store.holds c.flush.new.store) (g.St.Store.signs c.flush.new.store)) (over c.rest_from.new.self (g.St.Store.holds c.rest_from.new.store) (g.St.Store.signs c.rest_from.new.store)) (let same = c.rest_from.ensures.pages in omega (arith, same)) c.rest_from.ensures.went)

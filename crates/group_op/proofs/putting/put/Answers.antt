@@ -67,3 +67,28 @@ pub returns-then-put_here-clause-ok : goal.returns-then-put_here-clause-ok
 returns-then-put_here-clause-ok g c =
     put_of_here c.args.shape.now c.args.fan.level c.args.fan.base c.args.row.now (state c.args.table.now c.args.parts.now (g.St.Store.holds c.args.store.now) (g.St.Store.signs c.args.store.now)) (state c.put_here.new.table c.args.parts.now (g.St.Store.holds c.put_here.new.store) (g.St.Store.signs c.put_here.new.store))
     (c.put_here.ensures.put c.if-put_here.true)
+
+pub returns-then-put_here-clause-few : goal.returns-then-put_here-clause-few
+returns-then-put_here-clause-few g c = omega arith
+
+pub returns-then-put_here-clause-left : goal.returns-then-put_here-clause-left
+returns-then-put_here-clause-left g c = let fewer = (c.put_here.ensures.put c.if-put_here.true).fewer in omega (arith, fewer)
+
+pub returns-in_err-flush-clause-few : goal.returns-in_err-flush-clause-few
+returns-in_err-flush-clause-few g c =
+    let few = c.flush.ensures.few in
+    let rows = ap length (c.put_here.ensures.grown c.if-put_here.false).rows in
+    omega (arith, few, rows)
+
+pub returns-clause-few : goal.returns-clause-few
+returns-clause-few g c =
+    let few = c.flush.ensures.few in
+    let rows = ap length (c.put_here.ensures.grown c.if-put_here.false).rows in
+    omega (arith, few, rows)
+
+pub returns-clause-left : goal.returns-clause-left
+returns-clause-left g c =
+    let few = c.flush.ensures.few in
+    let rows = ap length (c.put_here.ensures.grown c.if-put_here.false).rows in
+    let none : length (rows_of c.flush.new.table) ≡ 0 = ap (λ (x : Table). length (rows_of x)) c.in_ok-flush.ensures.ok.table in
+    rw c.add_entry.ensures (omega (arith, few, rows, none))

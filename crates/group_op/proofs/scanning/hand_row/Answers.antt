@@ -5,7 +5,7 @@ use Rattle.row_reading.specs.Reading as spelled
 use Rattle.group_op.proofs.ReadingBack.{values_so}
 use Rattle.group_op.proofs.Emitting.{emitted_one, front_none, front_one, says_read}
 use Rattle.partition_stack.proofs.Slots.{keep_none}
-use Rattle.partition_stack.proofs.Emitters.{stood_none}
+use Rattle.partition_stack.proofs.Emitters.{stood_none, stood_row}
 use Rattle.partition_stack.proofs.Results.{on_err, on_ok}
 use Rattle.group_op.proofs.scanning.hand_row.Goals as goal
 
@@ -41,3 +41,6 @@ returns-in_default-clause-slots g c = keep_none _ _ _
 
 pub returns-clause-slots : goal.returns-clause-slots
 returns-clause-slots g c = record { sum = c.row.ensures.slots; alone = λ none. (c.row.ensures.others.alone none).rest.free_slots }
+
+pub returns-clause-stood : goal.returns-clause-stood
+returns-clause-stood g c = stood_row _ _ _ _ _ _ _ _ _ _ _ _ c.row.ensures.same c.row.ensures.client_lives c.row.ensures.never_falls c.row.ensures.others c.row.ensures.room c.row.ensures.grows

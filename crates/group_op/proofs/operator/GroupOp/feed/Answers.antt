@@ -4,7 +4,10 @@ use Rattle.tuple_stream.specs.Families.{slots_in}
 use Rattle.partition_stack.specs.Stack.{over}
 use Rattle.partition_stack.proofs.Slots.{full_since}
 use Rattle.group_op.specs.Causes.{IsWantOf}
-use Rattle.group_op.specs.Operator.{Keeps, Operator}
+use Rattle.group_op.specs.Making.{Makes}
+use Rattle.group_op.specs.Operator.{IsFeeding, Keeps, Operator, operator}
+use Rattle.group_op.proofs.Made.{makes_unput}
+use Rattle.group_op.proofs.Paging.{made_none}
 use Rattle.group_op.proofs.Serving.{unless_err}
 use Rattle.group_op.proofs.operator.GroupOp.feed.Goals as goal
 use Rattle.group_op.proofs.operator.GroupOp.feed.Goals.{in-Err, in-Ok}
@@ -44,3 +47,11 @@ returns-clause-keeps g c =
           (subst (λ (o : Operator). Keeps start fed o (g.St.Store.holds c.args.store.now) (g.St.Store.signs c.args.store.now)) (sym c.self.view_is) keeps))
       | in-Err w ↦ rw w.result-is tt
     ]
+
+pub returns-then-is_err-clause-makes : goal.returns-then-is_err-clause-makes
+returns-then-is_err-clause-makes g c =
+    let h = g.St.Store.holds c.args.store.now in
+    let s = g.St.Store.signs c.args.store.now in
+    let p = c.self.inside.parts in
+    subst (λ (o : Operator). Makes o (operator c.self.inside.client c.self.inside.shape p c.self.inside.table) h s s) c.self.view_is
+    (makes_unput c.self.inside.client c.self.inside.shape c.self.inside.table p h s (subst IsFeeding (sym c.self.view_is) c.requires.feeding) c.self.inside.table h s (made_none (over p h s)))

@@ -1,4 +1,4 @@
-use Rattle.std.proofs.Common.{◌≡◌, List, Option, IfErr, OnErr, OnOk, true, subst}
+use Rattle.std.proofs.Common.{◌≡◌, ◌+◌, ◌*◌, length, List, Option, IfErr, OnErr, OnOk, true, subst}
 use Rattle.pool_model.specs.declared.entry.Entry.{Entry}
 use Rattle.row_codec.specs.declared.values.Value.{Value}
 use Rattle.row_codec.specs.Order.{path_order}
@@ -10,7 +10,8 @@ use Rattle.group_op.specs.Emission.{Emitted, EmittedFront}
 use Rattle.group_op.specs.Causes.{CameBeside}
 use Rattle.group_op.specs.Finishing.{LeavesWith}
 use Rattle.group_op.specs.Laid.{HoldsGroups}
-use Rattle.group_op.specs.Operator.{Holds, Keeps, Operator, page_of}
+use Rattle.group_op.specs.Making.{MakesBeside}
+use Rattle.group_op.specs.Operator.{Holds, Keeps, Operator, entries_in, page_of}
 use Rattle.group_op.specs.Stored.{grouping_of}
 use Rattle.group_op.proofs.Sharing.{both_came}
 use Rattle.group_op.proofs.operator.GroupOp.finish.Goals as goal
@@ -53,3 +54,10 @@ returns-clause-leaves g c =
     let s = g.St.Store.signs c.args.store.now in
     subst (λ (op : Operator). LeavesWith op.client.tracker (g.E.Emit.client c.args.emit.now) (g.E.Emit.slots c.args.emit.now h) (g.E.Emit.slots c.finish_op.new.emit new) (over op.parts h s) (over c.finish_op.new.parts new (g.St.Store.signs c.finish_op.new.store))) c.self.view_is
     c.finish_op.ensures.leaves
+
+pub returns-clause-made : goal.returns-clause-made
+returns-clause-made g c =
+    let h = g.St.Store.holds c.args.store.now in
+    let s = g.St.Store.signs c.args.store.now in
+    subst (λ (op : Operator). (fed : List (List Value)) → Holds fed op h s → h.told ≡ true → MakesBeside (15 * length fed + length (entries_in op.table)) (g.E.Emit.creates c.args.emit.now) (g.E.Emit.creates c.finish_op.new.emit) s (g.St.Store.signs c.finish_op.new.store)) c.self.view_is
+    c.finish_op.ensures.made

@@ -18,3 +18,6 @@ returns-clause-kept g c = rw (← c.self.view_is) refl
 
 pub returns-clause-full : goal.returns-clause-full
 returns-clause-full g c = rw (← c.self.view_is) (c.rest_streams.ensures.full c.self.inside.page_blocks c.self.invariant.each)
+
+pub returns-clause-pages : goal.returns-clause-pages
+returns-clause-pages g c = rw (← c.self.view_is) c.rest_streams.ensures.pages
