@@ -21,6 +21,7 @@ use Rattle.partition_stack.specs.Reading.{IsReadable, ReadBeside}
 use Rattle.partition_stack.proofs.Agreeing.{agreeing_places, agreeing_rows, agreeing_shape}
 use Rattle.partition_stack.proofs.Emitters.{went_none, went_then}
 use Rattle.partition_stack.proofs.Left.{same_then}
+use Rattle.partition_stack.proofs.Making.{counts_both, counts_none, few_counts, reading_makes}
 use Rattle.partition_stack.proofs.ReadFrames.{beside_none, client_stays, query_trans, reads_beside, reads_own, unused_twice}
 use Rattle.partition_stack.proofs.Sides.{disjoint_back}
 use Rattle.join_op.specs.Chunks.{AreReadable, ReadBoth, ReadOne}
@@ -159,29 +160,29 @@ still_both c client s a r b old new is both =
 
 -- ---- and an emitter beside them
 
-pub record StayBoth (c : ClientToken) (l0 l r0 r : Streamed) (h0 h : Holdings) (before after : Signs) (admits0 admits : List Value → Type 0) (client0 client : Option ℕ) (f0 f : ℕ) (took0 took : List (List Value) → Type 0) : Type 0 where
+pub record StayBoth (c : ClientToken) (l0 l r0 r : Streamed) (h0 h : Holdings) (before after : Signs) (admits0 admits : List Value → Type 0) (client0 client : Option ℕ) (f0 f m0 m : ℕ) (took0 took : List (List Value) → Type 0) : Type 0 where
   pub both : ReadBoth c.tracker client0 l0 l r0 r h0 h
   pub readable : AreReadable c l r h
-  pub emitter : StaysEmitter admits0 admits client0 client f0 f h before after
+  pub emitter : StaysEmitter admits0 admits client0 client f0 f m0 m h before after
   pub went : WentOn took0 took
 
-pub stay_none : (c : ClientToken) (l r : Streamed) (h : Holdings) (signs : Signs) (admits : List Value → Type 0) (client : Option ℕ) (f : ℕ) (took : List (List Value) → Type 0) → AreReadable c l r h → HasClient client h → StayBoth c l l r r h h signs signs admits admits client client f f took took
-stay_none c l r h signs admits client f took is lives =
+pub stay_none : {m : ℕ} (c : ClientToken) (l r : Streamed) (h : Holdings) (signs : Signs) (admits : List Value → Type 0) (client : Option ℕ) (f : ℕ) (took : List (List Value) → Type 0) → AreReadable c l r h → HasClient client h → StayBoth c l l r r h h signs signs admits admits client client f f m m took took
+stay_none {m} c l r h signs admits client f took is lives =
     record {
       both = both_none c.tracker client l r h is.left_shape is.right_shape is.apart;
       readable = is;
-      emitter = record { admits_same = λ row. (λ is. is, λ is. is); client_same = refl; lives = lives; never_falls = omega arith; grows = grows_refl signs };
+      emitter = record { admits_same = λ row. (λ is. is, λ is. is); client_same = refl; lives = lives; never_falls = omega arith; grows = grows_refl signs; made = counts_none m signs };
       went = went_none took took (λ rows was. was);
     }
 
-module _ (c : ClientToken) (l0 l r0 r : Streamed) (h0 h : Holdings) (before mid : Signs) (admits0 admits : List Value → Type 0) (client0 client : Option ℕ) (f0 f : ℕ) (took0 took : List (List Value) → Type 0) (lives : IsSome (h0.clients c.tracker)) (free : client0 ≢ Some c.tracker) (so : StayBoth c l0 l r0 r h0 h before mid admits0 admits client0 client f0 f took0 took) where
+module _ {m0 m : ℕ} (c : ClientToken) (l0 l r0 r : Streamed) (h0 h : Holdings) (before mid : Signs) (admits0 admits : List Value → Type 0) (client0 client : Option ℕ) (f0 f : ℕ) (took0 took : List (List Value) → Type 0) (lives : IsSome (h0.clients c.tracker)) (free : client0 ≢ Some c.tracker) (so : StayBoth c l0 l r0 r h0 h before mid admits0 admits client0 client f0 f m0 m took0 took) where
   -- what the emitter took stays while the right side is read
   pub still_right : (now : Streamed) (new : Holdings) (after : Signs) (took1 : List (List Value) → Type 0) → Reads c.tracker (scene r h mid) (scene now new after) → ((rows : List (List Value)) → SameOwn client h new → took rows → took1 rows) → (rows : List (List Value)) → took rows → took1 rows
   still_right now new after took1 went asks rows was =
       asks rows (reads_own c.tracker r now h new mid after so.readable.right_shape went client (λ is. free (sym so.emitter.client_same ∙ is))) was
 
   pub stay_right : (now : Streamed) (new : Holdings) (after : Signs) (took1 : List (List Value) → Type 0) → Reads c.tracker (scene r h mid) (scene now new after) → now ≡ record r { pinned = now.pinned } → ((rows : List (List Value)) → took rows → took1 rows)
-      → StayBoth c l0 l r0 now h0 new before after admits0 admits client0 client f0 f took0 took1
+      → StayBoth c l0 l r0 now h0 new before after admits0 admits client0 client f0 f m0 m took0 took1
   stay_right now new after took1 went same still =
       let t : ℕ = c.tracker in
       let beside : ReadBeside t client0 r now h new = reads_beside t r now h new mid after so.readable.right_shape went client0 same in
@@ -195,13 +196,14 @@ module _ (c : ClientToken) (l0 l r0 r : Streamed) (h0 h : Holdings) (before mid 
           lives = client_stays client0 h new (reads_own t r now h new mid after so.readable.right_shape went client0 free) so.emitter.lives;
           never_falls = so.emitter.never_falls;
           grows = grows_trans before mid after so.emitter.grows went.step.grows;
+          made = counts_both 0 0 0 m0 m m before mid after (omega arith) so.emitter.made (few_counts 0 m mid after (reading_makes t r now h new mid after went same));
         };
         went = λ taken was. let first = so.went taken was in (first.0, still (taken ++ first.0) first.1);
       }
 
-  pub stay_left : (now : Streamed) (new : Holdings) (after : Signs) (admits1 : List Value → Type 0) (client1 : Option ℕ) (f1 : ℕ) (took1 : List (List Value) → Type 0) → ReadOne c.tracker client l now h new → StaysEmitter admits admits1 client client1 f f1 new mid after → WentOn took took1
-      → StayBoth c l0 now r0 r h0 new before after admits0 admits1 client0 client1 f0 f1 took0 took1
-  stay_left now new after admits1 client1 f1 took1 read emitter on =
+  pub stay_left : {m1 : ℕ} (now : Streamed) (new : Holdings) (after : Signs) (admits1 : List Value → Type 0) (client1 : Option ℕ) (f1 : ℕ) (took1 : List (List Value) → Type 0) → ReadOne c.tracker client l now h new → StaysEmitter admits admits1 client client1 f f1 m m1 new mid after → WentOn took took1
+      → StayBoth c l0 now r0 r h0 new before after admits0 admits1 client0 client1 f0 f1 m0 m1 took0 took1
+  stay_left {m1} now new after admits1 client1 f1 took1 read emitter on =
       let t : ℕ = c.tracker in
       let one : ReadOne t client0 l now h new = subst (λ (o : Option ℕ). ReadOne t o l now h new) so.emitter.client_same read in
       let step : ReadBoth t client0 l now r r h new = left_read t client0 l now r h new so.readable.right_shape so.readable.apart one.beside one.room in
@@ -214,6 +216,7 @@ module _ (c : ClientToken) (l0 l r0 r : Streamed) (h0 h : Holdings) (before mid 
           lives = subst (λ (o : Option ℕ). HasClient o new) so.emitter.client_same emitter.lives;
           never_falls = let x = so.emitter.never_falls in let y = emitter.never_falls in omega (arith, x, y);
           grows = grows_trans before mid after so.emitter.grows emitter.grows;
+          made = counts_both 0 0 0 m0 m m1 before mid after (omega arith) so.emitter.made emitter.made;
         };
         went = went_then took0 took took1 so.went on;
       }

@@ -20,8 +20,10 @@ use Rattle.tuple_stream.proofs.PinsFirst.{both_pin_first, has_pin_back, has_pin_
 use Rattle.tuple_stream.proofs.Sinces.{since_any, since_joined, since_now, since_so}
 use Rattle.partition_stack.specs.Changes.{ChangesAt, SpendsAt}
 use Rattle.partition_stack.specs.Laws.{NoneFrom}
+use Rattle.partition_stack.specs.Making.{MakesFew}
 use Rattle.partition_stack.specs.Stack.{IsStack, Stack, divided, over}
 use Rattle.partition_stack.proofs.Coming.{sixteen_come}
+use Rattle.partition_stack.proofs.Making.{few_both, few_less, few_none, going_makes}
 use Rattle.join_op.specs.Beside.{CallsBeside}
 use Rattle.join_op.specs.Dividing.{DealsAll, DealsNew, HasDealt, IsFan}
 use Rattle.join_op.specs.Stored.{Side, dealt, place_of}
@@ -134,10 +136,17 @@ pub record HasSome (side : Side) (level at left : ℕ) (rows : ℕ → List (Lis
   pub many : left ≡ length rest
   pub dealt : HasDealt side level at rows some rest f
 
+-- no more pages were made than rows of so many were taken out, of which so many are left
+pub record HasMade (all left : ℕ) (a b : Signs) : Type 0 where
+  pub made : ℕ
+  pub short : made + left ≤ all
+  pub few : MakesFew made a b
+
 pub record Deals (t : ℕ) (side : Side) (level at all left : ℕ) (p now other : Stack) (h0 h : Holdings) (s0 s : Signs) : Type 0 where
   pub beside : CallsBeside t p now other h0 h s0 s
   pub fan : IsFan level at now
   pub first : AllClosed (over p h0 s0) → EnteredEvents (Begun left all p now) s0.trail s.trail
+  pub made : HasMade all left s0 s
   pub rows : (rows : ℕ → List (List ℕ)) → h0.told ≡ true → NoneFrom (at + 1) rows → ShowAll rows (over p h0 s0) → HasSome side level at left rows (over now h s)
 
 there_is : {X : Type 0} (xs : List X) (k : ℕ) → k < length xs → IsSome (slice_get xs k)
@@ -182,6 +191,7 @@ deals_none t side level at left p other h s beside fan counted =
       beside = beside;
       fan = fan;
       first = λ closed. since_now (Begun left (count_at at p) p p) s.trail (record { first = tt; pinned = inr (left_all left (slice_get p.streams at) counted (there_is p.streams at (let many = fan.sixteen in omega (arith, many))), refl) });
+      made = let counted_all = left_all left (slice_get p.streams at) counted (there_is p.streams at (let many = fan.sixteen in omega (arith, many))) in record { made = 0; short = omega (arith, counted_all); few = few_none s };
       rows = λ rows told none shows. record {
         some = [];
         rest = rows at;
@@ -202,6 +212,26 @@ module _ (t : ℕ) (side : Side) (level at left : ℕ) (p0 p q other : Stack) (h
 
   pub fan_more : ChangesAt at p q → length q.streams ≡ length p.streams → IsFan level at q
   fan_more changes long = fan_kept level at at p q deals.fan (omega arith) changes long
+
+  -- which made no page
+  made_till : FamilySteps (GoesAll (over p h s) (over q h1 s1)) t (over p h s) (over q h1 s1) → MakesFew deals.made.made s0 s1
+  made_till steps = few_both deals.made.made 0 deals.made.made s0 s s1 (omega arith) deals.made.few (going_makes t (over p h s) (over q h1 s1) steps)
+
+  here_counted : (x : Streamed) → slice_get p0.streams at ≡ Some x → all ≡ x.count
+  here_counted x there = ap count_in there
+
+  -- all that were taken out, whatever came of the last one
+  pub made_unspent : FamilySteps (GoesAll (over p h s) (over q h1 s1)) t (over p h s) (over q h1 s1) → (x : Streamed) → slice_get p0.streams at ≡ Some x → MakesFew x.count s0 s1
+  made_unspent steps x there = let short = deals.made.short in let counted = here_counted x there in few_less deals.made.made x.count s0 s1 (omega (arith, short, counted)) (made_till steps)
+
+  pub made_sent : FamilySteps (GoesAll (over p h s) (over q h1 s1)) t (over p h s) (over q h1 s1) → 0 < left → (s2 : Signs) → MakesFew 1 s1 s2 → (x : Streamed) → slice_get p0.streams at ≡ Some x → MakesFew x.count s0 s2
+  made_sent steps some s2 more x there = let short = deals.made.short in let counted = here_counted x there in few_both deals.made.made 1 x.count s0 s1 s2 (omega (arith, short, counted, some)) (made_till steps) more
+
+  pub made_all : (x : Streamed) → slice_get p0.streams at ≡ Some x → MakesFew x.count s0 s
+  made_all x there = let short = deals.made.short in let counted = here_counted x there in few_less deals.made.made x.count s0 s (omega (arith, short, counted)) deals.made.few
+
+  pub made_none : SpendsAt t at None (over p h s) (over q h1 s1) → (x : Streamed) → slice_get p0.streams at ≡ Some x → MakesFew x.count s0 s1
+  made_none none x there = subst (λ (f : Family). MakesFew x.count s0 f.signs) (sym none.1) (made_all x there)
 
   -- whether there was a row
   pub spent_row : (found : Bool) (row : List ℕ) → SpendsAt t at (if found then Some row else None) (over p h s) (over q h1 s1) → found ≡ true → SpendsIn t at row (over p h s) (over q h1 s1)
@@ -257,8 +287,8 @@ module _ (t : ℕ) (side : Side) (level at left : ℕ) (p0 p q other : Stack) (h
 
   -- a row was taken out, and then sent on
   pub more_deals : (row : List ℕ) → (spends : SpendsIn t at row (over p h s) (over q h1 s1)) → (changes : ChangesAt at p q) → (r : Stack) (h2 : Holdings) (s2 : Signs) → CallsBeside t q r other h1 h2 s1 s2 → IsFan level at r
-      → Feeds t (place_of side level (at + 1) row) (row ∷ []) (over q h1 s1) (over r h2 s2) → 0 < left → Deals t side level at all (left - 1) p0 r other h0 h2 s0 s2
-  more_deals row spends changes r h2 s2 sent fan feeds some_left =
+      → Feeds t (place_of side level (at + 1) row) (row ∷ []) (over q h1 s1) (over r h2 s2) → MakesFew 1 s1 s2 → 0 < left → Deals t side level at all (left - 1) p0 r other h0 h2 s0 s2
+  more_deals row spends changes r h2 s2 sent fan feeds more some_left =
       record {
         beside = beside_then t p0 q r other h0 h1 h2 s0 s1 s2 (calls_more spends.steps changes) sent;
         fan = fan;
@@ -269,6 +299,7 @@ module _ (t : ℕ) (side : Side) (level at left : ℕ) (p0 p q other : Stack) (h
             (λ x y begun pin. record { first = pins_first_join x y begun.first (inl pin); pinned = inl (has_pin_front x y pin) })
             (λ x y begun next. record { first = both_pin_first x y begun.first next.first; pinned = inl (has_pin_back x y next.pinned) })
             (deals.first closed) grows (λ still. pinned_then s.trail s1.trail s2.trail (spends.pins (closed_now still.1)) sent.leaves.grows.trail);
+        made = let short = deals.made.short in record { made = deals.made.made + 1; short = omega (arith, short, some_left); few = few_both deals.made.made 1 (deals.made.made + 1) s0 s1 s2 (omega arith) (made_till spends.steps) more };
         rows = λ rows told none shows.
             let has = deals.rows rows told none shows in
             let tells : h.told ≡ true = deals.beside.leaves.others.told ∙ told in

@@ -166,3 +166,7 @@ rows_there level at p (Some s) top is some = subst (λ (o : Option Streamed). If
 
 pub rows_divided : (level at : ℕ) (p : Stack) → length p.streams ≡ at + 1 → HasRowsAt at p → HasRowsAt at (divided at level p)
 rows_divided level at p top rows = rows_there level at p (slice_get p.streams at) top refl rows
+
+-- and the partition is the one that it was
+pub still_there : (at level : ℕ) (p q : Stack) (x : Streamed) → q ≡ divided at level p → slice_get p.streams at ≡ Some x → slice_get q.streams at ≡ Some x
+still_there at level p q x same there = ap (λ (r : Stack). slice_get r.streams at) same ∙ in_front p.streams (replicate 16 (empty p.page_blocks)) at x there

@@ -1,17 +1,20 @@
 -- Both sides were divided, one after the other.
-use Rattle.std.proofs.Common.{◌≡◌, ◌∙◌, ℕ, ◌+◌, ◌<◌, List, [], ◌++◌, length, replicate, set, Result, Ok, Err, OnOk, Some, ap, sym, subst}
+use Rattle.std.proofs.Common.{◌≡◌, ◌∙◌, ℕ, ◌+◌, ◌<◌, ◌≤◌, List, [], ◌++◌, length, replicate, set, Result, Ok, Err, OnOk, Some, refl, ap, sym, subst, arith}
 use Rattle.std.specs.Prelude.{slice_get}
 use Rattle.store_api.specs.Holdings.{Holdings}
 use Rattle.store_api.specs.Signs.{Signs}
 use Rattle.store_api.specs.declared.shapes.JoinShape.{JoinShape}
-use Rattle.tuple_stream.specs.Families.{AllClosed}
+use Rattle.tuple_stream.specs.Families.{AllClosed, Family}
 use Rattle.tuple_stream.specs.Spending.{PinsAgain}
 use Rattle.tuple_stream.specs.Trails.{EnteredEvents}
+use Rattle.partition_stack.specs.Making.{MakesFew, owed}
 use Rattle.partition_stack.specs.Stack.{Stack, over}
+use Rattle.partition_stack.proofs.Owing.{owed_divided}
+use Rattle.partition_stack.proofs.SharedRows.{dealt_few, shares_same}
 use Rattle.join_op.specs.Dividing.{DealsAll, HasCalled, HasDealt, IsDivided}
-use Rattle.join_op.specs.Joining.{HasDivided, IsBetween, both, pairs_down}
+use Rattle.join_op.specs.Joining.{HasDivided, IsBetween, ShowBoth, both, pairs_down}
 use Rattle.join_op.specs.Pairs.{SameRows}
-use Rattle.join_op.specs.Stored.{left_side, right_side}
+use Rattle.join_op.specs.Stored.{Side, dealt as dealt_to, left_side, place_of, right_side}
 use Rattle.join_op.proofs.Dealing.{pinned_then}
 use Rattle.join_op.proofs.Divides.{divided_same}
 use Rattle.partition_stack.proofs.Weights.{less_divided}
@@ -26,7 +29,14 @@ module _ (t : ℕ) (shape : JoinShape) (at level : ℕ) (left right l1 r1 : Stac
     (called : HasCalled t left l1 right h h1 s s1) (called_next : HasCalled t right r1 l1 h1 h2 s1 s2)
     (dealt : DealsAll (left_side shape) level at (over left h s) (over l1 h1 s1)) (dealt_next : DealsAll (right_side shape) level at (over right h1 s1) (over r1 h2 s2))
     (divided : IsDivided level at left l1) (divided_next : IsDivided level at right r1)
-    (closed : AllClosed (over l1 h1 s1)) (closed_next : AllClosed (over r1 h2 s2)) (first : EnteredEvents PinsAgain s.trail s1.trail) where
+    (closed : AllClosed (over l1 h1 s1)) (closed_next : AllClosed (over r1 h2 s2)) (first : EnteredEvents PinsAgain s.trail s1.trail)
+    (levelled : length left.levels ≡ at + 1) (made : (lefts rights : ℕ → List (List ℕ)) → ShowBoth lefts rights (both left right h s) → MakesFew (length (lefts at) + length (rights at)) s s2) where
+  -- the rows of one side went a level deeper
+  deeper : (side : Side) (levels now : List ℕ) (rows : ℕ → List (List ℕ)) (f : Family) → (one : HasDealt side level at rows (rows at) [] f) → levels ≡ left.levels → now ≡ set levels at (level + 1) ++ replicate 16 (level + 1) → length (rows at) + owed now one.now ≤ owed levels rows
+  deeper side levels now rows f one same is =
+      owed_divided levels now at level rows one.now (ap (λ (ls : List ℕ). slice_get ls at) same ∙ there) (ap length same ∙ levelled) deep is one.below one.here
+      (let are = ap length (shares_same 16 (λ i. one.now (at + 1 + i)) (λ i. dealt_to side level (at + 1) (rows at) (at + 1 + i)) (λ i. one.above (at + 1 + i) (omega arith))) in let few = dealt_few (place_of side level (at + 1)) (at + 1) 16 (rows at) in omega (arith, are, few))
+
   pub both_divided : HasDivided shape at level (both left right h s) (both l1 r1 h2 s2)
   both_divided =
       record {
@@ -53,6 +63,12 @@ module _ (t : ℕ) (shape : JoinShape) (at level : ℕ) (left right l1 r1 : Stac
               same = subst (λ (n : ℕ). SameRows (pairs_down shape n one.now two.now) (pairs_down shape (length left.streams) lefts rights)) (sym divided.sixteen)
                   (subst (λ (n : ℕ). SameRows (pairs_down shape (at + 17) one.now two.now) (pairs_down shape n lefts rights)) (sym top)
                   (divided_same shape level at lefts rights (over l1 h2 s2) (over r1 h2 s2) one_now two));
+              most = length (lefts at) + length (rights at);
+              deeper =
+                  let first_side = deeper (left_side shape) left.levels l1.levels lefts (over l1 h1 s1) one refl divided.levels in
+                  let other_side = deeper (right_side shape) right.levels r1.levels rights (over r1 h2 s2) two between.levels divided_next.levels in
+                  omega (arith, first_side, other_side);
+              made = made lefts rights shows;
             };
         first = pinned_then s.trail s1.trail s2.trail first called_next.leaves.grows.trail;
       }

@@ -1,5 +1,6 @@
 -- A leaf begins with a table that is lent, and ends where it is given back.
 use Rattle.std.proofs.Common.{◌≡◌, ◌≢◌, ℕ, ◌+◌, List, [], ◌++◌, Option, Some, None, IsSome, Result, Ok, Err, IfOk, OnErr, refl, ap, sym, subst, arith}
+use Rattle.std.specs.Prelude.{All, length, map}
 use Rattle.std.specs.Result.{result_ok}
 use Rattle.reservation_tree.specs.declared.errors.PoolErr.{PoolErr}
 use Rattle.store_api.specs.Alike.{Alike}
@@ -13,10 +14,14 @@ use Rattle.store_api.proofs.Answered.{answered_after}
 use Rattle.store_api.proofs.Growing.{grows_trans}
 use Rattle.bucket_table.specs.Tables.{Lent, Table}
 use Rattle.bucket_table.specs.Lending.{IsOpened, Lends}
+use Rattle.bucket_table.specs.Entering.{EnteredLoans, IsOfLoans}
+use Rattle.bucket_table.proofs.Entered.{loans_leave_pages}
 use Rattle.bucket_table.proofs.Widened.{alike_same}
 use Rattle.partition_stack.specs.Causes.{CameOfEither}
 use Rattle.partition_stack.specs.Emitting.{IsBeside, StaysEmitter, WentOn}
+use Rattle.partition_stack.specs.Making.{MakesFew}
 use Rattle.partition_stack.proofs.Emitters.{came_behind}
+use Rattle.partition_stack.proofs.Making.{counts_both, few_counts, few_entries}
 use Rattle.partition_stack.proofs.ReadFrames.{client_stays}
 use Rattle.join_op.specs.Handing.{Emitted, EmittedSome}
 use Rattle.join_op.specs.Holding.{IsSameTable, loans_in}
@@ -51,19 +56,20 @@ went_later was now last still went taken took = let first = went taken took in (
 pub beside_lent : (t : ℕ) (client : Option ℕ) (loans : List Lent) (less more : Holdings) → Lends t loans less more → IsBeside t client less → IsBeside t client more
 beside_lent t client loans less more lends is = record { apart = is.apart; lives = client_stays client less more (own_lent t loans less more lends client is.apart) is.lives }
 
-pub stays_since : (admits0 admits : List Value → Type 0) (client0 client : Option ℕ) (f0 f : ℕ) (h : Holdings) (a b k : Signs) → Grows a b → StaysEmitter admits0 admits client0 client f0 f h b k → StaysEmitter admits0 admits client0 client f0 f h a k
-stays_since admits0 admits client0 client f0 f h a b k grows stays =
-    record { admits_same = stays.admits_same; client_same = stays.client_same; lives = stays.lives; never_falls = stays.never_falls; grows = grows_trans a b k grows stays.grows }
+pub stays_since : {m0 m : ℕ} (admits0 admits : List Value → Type 0) (client0 client : Option ℕ) (f0 f : ℕ) (h : Holdings) (a b k : Signs) → Grows a b → MakesFew 0 a b → StaysEmitter admits0 admits client0 client f0 f m0 m h b k → StaysEmitter admits0 admits client0 client f0 f m0 m h a k
+stays_since {m0} {m} admits0 admits client0 client f0 f h a b k grows none stays =
+    record { admits_same = stays.admits_same; client_same = stays.client_same; lives = stays.lives; never_falls = stays.never_falls; grows = grows_trans a b k grows stays.grows; made = counts_both 0 0 0 m0 m0 m a b k (omega arith) (few_counts 0 m0 a b none) stays.made }
 
-pub stays_later : (t : ℕ) (loans : List Lent) (admits0 admits : List Value → Type 0) (client0 client : Option ℕ) (f0 f : ℕ) (fewer h : Holdings) (a b k : Signs) → client0 ≢ Some t → Lends t loans fewer h → Grows b k
-    → StaysEmitter admits0 admits client0 client f0 f h a b → StaysEmitter admits0 admits client0 client f0 f fewer a k
-stays_later t loans admits0 admits client0 client f0 f fewer h a b k free lends grows stays =
+pub stays_later : {m0 m : ℕ} (t : ℕ) (loans : List Lent) (admits0 admits : List Value → Type 0) (client0 client : Option ℕ) (f0 f : ℕ) (fewer h : Holdings) (a b k : Signs) → client0 ≢ Some t → Lends t loans fewer h → Grows b k → MakesFew 0 b k
+    → StaysEmitter admits0 admits client0 client f0 f m0 m h a b → StaysEmitter admits0 admits client0 client f0 f m0 m fewer a k
+stays_later {m0} {m} t loans admits0 admits client0 client f0 f fewer h a b k free lends grows none stays =
     record {
       admits_same = stays.admits_same;
       client_same = stays.client_same;
       lives = client_stays client0 h fewer (own_given t loans fewer h lends client0 free) stays.lives;
       never_falls = stays.never_falls;
       grows = grows_trans a b k stays.grows grows;
+      made = counts_both 0 0 0 m0 m m a b k (omega arith) stays.made (few_counts 0 m b k none);
     }
 
 -- the same loans, whatever rows the table has
@@ -91,3 +97,7 @@ lends_nothing t table h none lives = subst (λ (o : Option Table). Lends t (loan
 pub lends_opened : (t blocks heads bufs : ℕ) (r : Result Table PoolErr) (old new : Holdings) → IsSome (old.clients t) → IfOk r (IsOpened t blocks heads bufs old new) → OnErr r (Alike old new) → Lends t (loans_in (result_ok r)) old new
 lends_opened t blocks heads bufs (Ok table) old new lives opened alike = opened.lends
 lends_opened t blocks heads bufs (Err e) old new lives opened alike = subst (λ (h : Holdings). Lends t [] old h) (sym (alike_same old new alike)) (lends_none t old lives)
+
+-- loans make no page
+pub loans_make : (a b : Signs) → EnteredLoans a.trail b.trail → MakesFew 0 a b
+loans_make a b entered = few_entries 0 (λ more. All IsOfLoans (map (λ e. e.event) more)) a b (λ more are. let none = ap length (loans_leave_pages more are).names in omega (arith, none)) entered

@@ -160,11 +160,11 @@ module _ (c : ClientToken) (shape : JoinShape) (at : ℕ) (left right ql qr : St
           }
 
 -- an emitter that stayed and took rows stands
-pub stands_read : (admits_old admits : List Value → Type 0) (client_old client : Option ℕ) (faults_old faults : ℕ) (was now : List (List Value) → Type 0) (new : Holdings) (before after : Signs) → StaysEmitter admits_old admits client_old client faults_old faults new before after → WentOn was now → StandsStill admits_old admits client_old client faults_old faults was now new
+pub stands_read : {m n : ℕ} (admits_old admits : List Value → Type 0) (client_old client : Option ℕ) (faults_old faults : ℕ) (was now : List (List Value) → Type 0) (new : Holdings) (before after : Signs) → StaysEmitter admits_old admits client_old client faults_old faults m n new before after → WentOn was now → StandsStill admits_old admits client_old client faults_old faults was now new
 stands_read admits_old admits client_old client faults_old faults was now new before after stays went =
     record { admits_same = stays.admits_same; client_same = stays.client_same; lives = stays.lives; never_falls = stays.never_falls; took = went }
 
-pub beside_read : (t : ℕ) (admits_old admits : List Value → Type 0) (client_old client : Option ℕ) (faults_old faults : ℕ) (old new : Holdings) (before after : Signs) → IsBeside t client_old old → StaysEmitter admits_old admits client_old client faults_old faults new before after → IsBeside t client new
+pub beside_read : {m n : ℕ} (t : ℕ) (admits_old admits : List Value → Type 0) (client_old client : Option ℕ) (faults_old faults : ℕ) (old new : Holdings) (before after : Signs) → IsBeside t client_old old → StaysEmitter admits_old admits client_old client faults_old faults m n new before after → IsBeside t client new
 beside_read t admits_old admits client_old client faults_old faults old new before after beside stays =
     record {
       apart = λ same. beside.apart (sym stays.client_same ∙ same);

@@ -12,12 +12,14 @@ use Rattle.store_api.specs.Refusals.{IsUntouched}
 use Rattle.store_api.specs.Signs.{Grows, Signs}
 use Rattle.store_api.specs.Tokens.{ClientToken, PageToken}
 use Rattle.store_api.specs.declared.shapes.JoinShape.{JoinShape}
+use Rattle.store_api.proofs.Names.{these_make}
 use Rattle.store_api.proofs.Untouched.{others_stay}
 use Rattle.tuple_stream.specs.Families.{AreShaped, ShowAll, family, held_in}
 use Rattle.tuple_stream.specs.Streamed.{Streamed}
 use Rattle.tuple_stream.specs.Trails.{EnteredEvents, PinsFirst}
 use Rattle.tuple_stream.proofs.Sinces.{since_so, since_these}
 use Rattle.partition_stack.specs.Leaving.{LeavesOthers}
+use Rattle.partition_stack.specs.Making.{MakesFew}
 use Rattle.partition_stack.specs.Sides.{OwnBoth}
 use Rattle.partition_stack.specs.Stack.{Stack}
 use Rattle.partition_stack.proofs.Agreeing.{agreeing_rows, agreeing_shape}
@@ -83,6 +85,11 @@ reserved_first (Ok done) t bytes maker old new before after ok err =
     since_so (λ events. events ≡ IncreaseToFit t bytes ∷ []) PinsFirst before.trail after.trail (λ events are. subst PinsFirst (sym are) tt) (since_these maker (IncreaseToFit t bytes ∷ []) before after ok)
 reserved_first (Err e) t bytes maker old new before after ok err =
     since_so (λ events. events ≡ []) PinsFirst before.trail after.trail (λ events are. subst PinsFirst (sym are) tt) (since_these old.session [] before after err.entries)
+
+-- no page is made for it
+pub reserved_made : (result : Result Unit PoolErr) (t bytes maker : ℕ) (old new : Holdings) (before after : Signs) → OnOk result (MadeThese maker (IncreaseToFit t bytes ∷ []) before after) → OnErr result (IsUntouched old new before after) → MakesFew 0 before after
+reserved_made (Ok done) t bytes maker old new before after ok err = these_make maker 0 (IncreaseToFit t bytes ∷ []) before after (omega arith) ok
+reserved_made (Err e) t bytes maker old new before after ok err = these_make old.session 0 [] before after (omega arith) err.entries
 
 module _ (t : ℕ) (old new : Holdings) (before after : Signs) (more : Reserves t old new) where
   agree : (s : Streamed) (k : ℕ) (p : PageToken) → slice_get s.pages k ≡ Some p → new.pages p.name ≡ old.pages p.name

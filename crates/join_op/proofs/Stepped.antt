@@ -1,5 +1,5 @@
 -- One step of a join: partitions of which one has no rows go, or both are divided, or their pairs are handed on.
-use Rattle.std.proofs.Common.{◌≡◌, ◌∙◌, ◌⊎◌, inl, inr, ℕ, zero, suc, ◌+◌, ◌<◌, List, [], ◌∷◌, length, replicate, take, Option, Some, None, IfSome, IsSome, refl, ap, sym, subst, arith, append-nil}
+use Rattle.std.proofs.Common.{◌≡◌, ◌∙◌, ◌⊎◌, inl, inr, ℕ, zero, suc, ◌+◌, ◌<◌, ◌≤◌, List, [], ◌∷◌, length, replicate, take, Option, Some, None, IfSome, IsSome, refl, ap, sym, subst, arith, append-nil}
 use Rattle.std.specs.Prelude.{slice_get}
 use Rattle.std.proofs.lemmas.List.Elements.{All-head, All-replicate, All-tail, All-take}
 use Rattle.std.proofs.lemmas.Option.{none-some, same_Some}
@@ -15,10 +15,12 @@ use Rattle.tuple_stream.specs.Trails.{EnteredEvents, PinsFirst}
 use Rattle.tuple_stream.proofs.PageLists.{no_length}
 use Rattle.tuple_stream.proofs.Sinces.{since_now, since_so}
 use Rattle.tuple_stream.proofs.PinsFirst.{both_pin_first, has_pin_back, has_pin_front, pins_first_join}
+use Rattle.partition_stack.specs.Making.{MakesFew}
 use Rattle.partition_stack.specs.Stack.{Stack}
+use Rattle.partition_stack.proofs.Making.{few_counts}
 use Rattle.join_op.specs.Handing.{Emitted}
 use Rattle.join_op.specs.Chunks.{stored_pairs}
-use Rattle.join_op.specs.Joining.{Advances, AreShallow, Both, HasGoneOn, HasNoRowsAt, PinsBefore, SharesPairs, ShowBoth, both}
+use Rattle.join_op.specs.Joining.{Advances, AreShallow, Both, HasGoneOn, HasNoRowsAt, PinsBefore, SharesPairs, ShowBoth, both, owed_both}
 use Rattle.join_op.specs.Stored.{left_side, rows_in}
 use Rattle.join_op.proofs.Advances.{advances_popped}
 use Rattle.join_op.proofs.Counts.{no_right}
@@ -44,14 +46,14 @@ no_pairs shape at left right h s lefts rights shows inside inside_right (inr non
     sym (ap (λ (rs : List (List ℕ)). stored_pairs shape (lefts at) rs) is ∙ no_right shape (rows_in (left_side shape) (lefts at)))
 
 module _ (shape : JoinShape) (was now : List (List Value) → Type 0) (lefts rights : ℕ → List (List ℕ)) (still : (taken : List (List Value)) → was taken → now taken) where
-  pub advances_gone : (at : ℕ) (left right : Stack) (h : Holdings) (s : Signs) (b : Both) → length left.streams ≡ at + 1 → length right.streams ≡ length left.streams → length b.left.streams ≡ at → ShowBoth lefts rights (both left right h s) → ShowBoth lefts rights b
-      → HasNoRowsAt at left ⊎ HasNoRowsAt at right → Advances shape was now lefts rights (both left right h s) b
-  advances_gone at left right h s b top many low was_shown shows none =
+  pub advances_gone : {m : ℕ} (at : ℕ) (left right : Stack) (h : Holdings) (s : Signs) (b : Both) → length left.streams ≡ at + 1 → length right.streams ≡ length left.streams → length b.left.streams ≡ at → ShowBoth lefts rights (both left right h s) → ShowBoth lefts rights b
+      → HasNoRowsAt at left ⊎ HasNoRowsAt at right → owed_both b lefts rights ≤ owed_both (both left right h s) lefts rights → MakesFew 0 s b.signs → Advances shape was now m m lefts rights (both left right h s) b
+  advances_gone {m} at left right h s b top many low was_shown shows none less made =
       advances_popped shape was now lefts rights (both left right h s) b at top low shows
-      (subst (Emitted was now) (no_pairs shape at left right h s lefts rights was_shown (omega (arith, top)) (omega (arith, top, many)) none) (emitted_on was was now [] still (emitted_none was)))
+      (subst (Emitted was now) (no_pairs shape at left right h s lefts rights was_shown (omega (arith, top)) (omega (arith, top, many)) none) (emitted_on was was now [] still (emitted_none was))) less (few_counts 0 m s b.signs made)
 
-  pub advances_divided : (a b : Both) → SharesPairs shape lefts rights a b → Advances shape was now lefts rights a b
-  advances_divided a b shares =
+  pub advances_divided : {m : ℕ} (a b : Both) → SharesPairs shape lefts rights a b → Advances shape was now m m lefts rights a b
+  advances_divided {m} a b shares =
       record {
         lefts_now = shares.lefts_now;
         rights_now = shares.rights_now;
@@ -59,6 +61,9 @@ module _ (shape : JoinShape) (was now : List (List Value) → Type 0) (lefts rig
         rows = [];
         came = λ taken took. subst now (sym (append-nil taken)) (still taken took);
         same = shares.same;
+        most = shares.most;
+        deeper = shares.deeper;
+        made = few_counts shares.most m a.signs b.signs shares.made;
       }
 
 -- ---- what was pinned

@@ -1,5 +1,5 @@
 -- Partitions of both sides are joined from the top, each with the one of its number.
-use Rattle.std.specs.Prelude.{◌≡◌, ◌⊎◌, ◌<◌, ℕ, zero, suc, List, [], ◌++◌, All, IfSome, length, slice_get, take, true}
+use Rattle.std.specs.Prelude.{◌≡◌, ◌⊎◌, ◌+◌, ◌<◌, ◌≤◌, ℕ, zero, suc, List, [], ◌++◌, All, IfSome, length, slice_get, take, true}
 use Rattle.row_codec.specs.declared.values.Value.{Value}
 use Rattle.store_api.specs.declared.shapes.JoinShape.{JoinShape}
 use Rattle.store_api.specs.Holdings.{Holdings}
@@ -8,6 +8,7 @@ use Rattle.tuple_stream.specs.Families.{AllClosed, ShowAll}
 use Rattle.tuple_stream.specs.Spending.{PinsAgain}
 use Rattle.pool_model.specs.declared.event.Event.{Event}
 use Rattle.tuple_stream.specs.Trails.{EnteredEvents, HasPin, PinsFirst}
+use Rattle.partition_stack.specs.Making.{MakesBeside, MakesFew, owed}
 use Rattle.partition_stack.specs.Stack.{Stack, over, weight}
 use Rattle.join_op.specs.Chunks.{stored_pairs}
 use Rattle.join_op.specs.Pairs.{SameRows}
@@ -62,21 +63,32 @@ pub record ShowBoth (lefts rights : ℕ → List (List ℕ)) (b : Both) : Type 0
   pub left : ShowAll lefts (over b.left b.held b.signs)
   pub right : ShowAll rights (over b.right b.held b.signs)
 
--- some pairs were handed on, and the others are those of the partitions that are there still
-pub record Advances (shape : JoinShape) (was now : List (List Value) → Type 0) (lefts rights : ℕ → List (List ℕ)) (a b : Both) : Type 0 where
+-- how often the rows of both sides may go to deeper partitions still
+abbrev pub owed_both : Both → (ℕ → List (List ℕ)) → (ℕ → List (List ℕ)) → ℕ
+owed_both b lefts rights = owed b.left.levels lefts + owed b.right.levels rights
+
+-- some pairs were handed on, and the others are those of the partitions that are there still; for each page that was made, but
+-- for those that the emitter counts, a row went a level deeper
+pub record Advances (shape : JoinShape) (was now : List (List Value) → Type 0) (creates_old creates : ℕ) (lefts rights : ℕ → List (List ℕ)) (a b : Both) : Type 0 where
   pub lefts_now : ℕ → List (List ℕ)
   pub rights_now : ℕ → List (List ℕ)
   pub shows : ShowBoth lefts_now rights_now b
   pub rows : List (List Value)
   pub came : (taken : List (List Value)) → was taken → now (taken ++ rows)
   pub same : SameRows (rows ++ pairs_down shape (length b.left.streams) lefts_now rights_now) (pairs_down shape (length a.left.streams) lefts rights)
+  pub most : ℕ
+  pub deeper : most + owed_both b lefts_now rights_now ≤ owed_both a lefts rights
+  pub made : MakesBeside most creates_old creates a.signs b.signs
 
--- the partitions have rows of the same pairs
+-- the partitions have rows of the same pairs, and for each page that was made a row went a level deeper
 pub record SharesPairs (shape : JoinShape) (lefts rights : ℕ → List (List ℕ)) (a b : Both) : Type 0 where
   pub lefts_now : ℕ → List (List ℕ)
   pub rights_now : ℕ → List (List ℕ)
   pub shows : ShowBoth lefts_now rights_now b
   pub same : SameRows (pairs_down shape (length b.left.streams) lefts_now rights_now) (pairs_down shape (length a.left.streams) lefts rights)
+  pub most : ℕ
+  pub deeper : most + owed_both b lefts_now rights_now ≤ owed_both a lefts rights
+  pub made : MakesFew most a.signs b.signs
 
 -- the top partition of a side, at this place, went
 pub record HasPopped (at : ℕ) (old new : Stack) : Type 0 where

@@ -45,7 +45,7 @@ pub fn leaf_by_chunks<St: Store, E: Emit<St>>(
     ensures stands { WentOn (E.took emit.old (St.holds store.old)) (E.took emit.new (St.holds store.new)) }
     ensures cause { IfErr result (CameOfEither left.old.page_blocks (E.client emit.old) (E.faults emit.old) (E.faults emit.new) (St.signs store.old) (St.signs store.new)) }
     ensures streams { ReadBoth c.now.tracker (E.client emit.old) left.old left.new right.old right.new (St.holds store.old) (St.holds store.new) }
-    ensures emitter { StaysEmitter (E.admits emit.old) (E.admits emit.new) (E.client emit.old) (E.client emit.new) (E.faults emit.old) (E.faults emit.new) (St.holds store.new) (St.signs store.old) (St.signs store.new) }
+    ensures emitter { StaysEmitter (E.admits emit.old) (E.admits emit.new) (E.client emit.old) (E.client emit.new) (E.faults emit.old) (E.faults emit.new) (E.creates emit.old) (E.creates emit.new) (St.holds store.new) (St.signs store.old) (St.signs store.new) }
 {
     let held = Held::few(alloc, chunk);
     join_pair(alloc, store, c, left, right, shape, false, held, emit)
@@ -74,7 +74,7 @@ pub(crate) fn leaf_by_table<St: Store, E: Emit<St>>(
     ensures stands { WentOn (E.took emit.old (St.holds store.old)) (E.took emit.new (St.holds store.new)) }
     ensures cause { IfErr result (CameOfEither left.old.page_blocks (E.client emit.old) (E.faults emit.old) (E.faults emit.new) (St.signs store.old) (St.signs store.new)) }
     ensures streams { ReadBoth c.now.tracker (E.client emit.old) left.old left.new right.old right.new (St.holds store.old) (St.holds store.new) }
-    ensures emitter { StaysEmitter (E.admits emit.old) (E.admits emit.new) (E.client emit.old) (E.client emit.new) (E.faults emit.old) (E.faults emit.new) (St.holds store.new) (St.signs store.old) (St.signs store.new) }
+    ensures emitter { StaysEmitter (E.admits emit.old) (E.admits emit.new) (E.client emit.old) (E.client emit.new) (E.faults emit.old) (E.faults emit.new) (E.creates emit.old) (E.creates emit.new) (St.holds store.new) (St.signs store.old) (St.signs store.new) }
 {
     let turned = left.pages() < right.pages();
     let (pages, rows) = if turned {
@@ -110,7 +110,7 @@ fn join_pair<St: Store, E: Emit<St>>(
     ensures stands { WentOn (E.took emit.old (St.holds store.old)) (E.took emit.new (St.holds store.new)) }
     ensures cause { IfErr result (CameOfEither left.old.page_blocks (E.client emit.old) (E.faults emit.old) (E.faults emit.new) (St.signs store.old) (St.signs store.new)) }
     ensures streams { (less : Holdings) → Lends c.now.tracker (loans_in held.table) less (St.holds store.old) → AreReadable c.now left.old right.old less → ReadBoth c.now.tracker (E.client emit.old) left.old left.new right.old right.new less (St.holds store.new) }
-    ensures emitter { StaysEmitter (E.admits emit.old) (E.admits emit.new) (E.client emit.old) (E.client emit.new) (E.faults emit.old) (E.faults emit.new) (St.holds store.new) (St.signs store.old) (St.signs store.new) }
+    ensures emitter { StaysEmitter (E.admits emit.old) (E.admits emit.new) (E.client emit.old) (E.client emit.new) (E.faults emit.old) (E.faults emit.new) (E.creates emit.old) (E.creates emit.new) (St.holds store.new) (St.signs store.old) (St.signs store.new) }
 {
     let mut held = held;
     let result = join_streams(alloc, store, c, left, right, shape, turned, &mut held, emit);
@@ -142,7 +142,7 @@ fn join_streams<St: Store, E: Emit<St>>(
     ensures cause { IfErr result (CameOfEither left.old.page_blocks (E.client emit.old) (E.faults emit.old) (E.faults emit.new) (St.signs store.old) (St.signs store.new)) }
     ensures streams { ReadBoth c.now.tracker (E.client emit.old) left.old left.new right.old right.new (St.holds store.old) (St.holds store.new) }
     ensures held { IsSameHeld held.old held.new }
-    ensures emitter { StaysEmitter (E.admits emit.old) (E.admits emit.new) (E.client emit.old) (E.client emit.new) (E.faults emit.old) (E.faults emit.new) (St.holds store.new) (St.signs store.old) (St.signs store.new) }
+    ensures emitter { StaysEmitter (E.admits emit.old) (E.admits emit.new) (E.client emit.old) (E.client emit.new) (E.faults emit.old) (E.faults emit.new) (E.creates emit.old) (E.creates emit.new) (St.holds store.new) (St.signs store.old) (St.signs store.new) }
 {
     if turned {
         return join_held(alloc, store, c, right, left, shape, true, held, emit);

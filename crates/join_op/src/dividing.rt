@@ -5,8 +5,10 @@ ghost use Rattle.store_api.specs.Signs.{WasAnswered};
 ghost use Rattle.tuple_stream.specs.Families.{AllClosed};
 ghost use Rattle.tuple_stream.specs.FamilyCalls.{Feeds};
 ghost use Rattle.tuple_stream.specs.Spending.{PinsAgain};
+ghost use Rattle.tuple_stream.specs.Streamed.{Streamed};
 ghost use Rattle.tuple_stream.specs.Touches.{IsFull};
 ghost use Rattle.tuple_stream.specs.Trails.{EnteredEvents};
+ghost use Rattle.partition_stack.specs.Making.{MakesFew};
 ghost use Rattle.partition_stack.specs.Stack.{over};
 ghost use Rattle.join_op.specs.Beside.{CallsBeside, MayCall};
 ghost use Rattle.join_op.specs.Dividing.{DealsAll, DealsNew, HasCalled, IsDivided, IsFan, side_of};
@@ -41,6 +43,7 @@ fn send<St: Store>(
     ensures went { OnOk result (Feeds c.now.tracker (place_of (side_of kinds.now columns.now) level (at + 1) spare.old.row.items) (spare.old.row.items ∷ []) (over parts.old (St.holds store.old) (St.signs store.old)) (over parts.new (St.holds store.new) (St.signs store.new))) }
     ensures fan { IsFan level at parts.new }
     ensures beside { CallsBeside c.now.tracker parts.old parts.new _other.now (St.holds store.old) (St.holds store.new) (St.signs store.old) (St.signs store.new) }
+    ensures made { MakesFew 1 (St.signs store.old) (St.signs store.new) }
     ensures answers { IfErr result (λ e. WasAnswered e (St.signs store.old) (St.signs store.new) × IsFull parts.old.page_blocks (St.holds store.new).free_slots e) }
 {
     let len = u64::from(parts.page_blocks()) * u64::from(store.block_len());
@@ -75,6 +78,7 @@ fn spend_side<St: Store>(
     ensures first { OnOk result (AllClosed (over parts.old (St.holds store.old) (St.signs store.old)) → EnteredEvents PinsAgain (St.signs store.old).trail (St.signs store.new).trail) }
     ensures fan { IsFan level at parts.new }
     ensures beside { CallsBeside c.now.tracker parts.old parts.new other.now (St.holds store.old) (St.holds store.new) (St.signs store.old) (St.signs store.new) }
+    ensures made { (s : Streamed) → slice_get parts.old.streams at ≡ Some s → MakesFew s.count (St.signs store.old) (St.signs store.new) }
     ensures answers { IfErr result (λ e. WasAnswered e (St.signs store.old) (St.signs store.new) × IsFull parts.old.page_blocks (St.holds store.new).free_slots e) }
 {
     let mut left = parts.rows(at);
@@ -115,6 +119,7 @@ pub(crate) fn divide_side<St: Store>(
     ensures closed { OnOk result (AllClosed (over parts.new (St.holds store.new) (St.signs store.new))) }
     ensures first { OnOk result (EnteredEvents PinsAgain (St.signs store.old).trail (St.signs store.new).trail) }
     ensures called { HasCalled c.now.tracker parts.old parts.new other.now (St.holds store.old) (St.holds store.new) (St.signs store.old) (St.signs store.new) }
+    ensures made { (s : Streamed) → slice_get parts.old.streams at ≡ Some s → MakesFew s.count (St.signs store.old) (St.signs store.new) }
     ensures answers { IfErr result (λ e. WasAnswered e (St.signs store.old) (St.signs store.new) × IsFull parts.old.page_blocks (St.holds store.new).free_slots e) }
 {
     parts.law_stack();

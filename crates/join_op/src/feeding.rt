@@ -13,6 +13,7 @@ ghost use Rattle.tuple_stream.specs.Steps.{came};
 ghost use Rattle.tuple_stream.specs.Touches.{IsFull};
 ghost use Rattle.partition_stack.specs.Leaving.{CameOfStore, LeavesOthers};
 ghost use Rattle.partition_stack.specs.Slots.{IsWantOf};
+ghost use Rattle.partition_stack.specs.Making.{MakesFew};
 ghost use Rattle.partition_stack.specs.Stack.{RestBelow, over};
 ghost use Rattle.join_op.specs.Operator.{HasNoRight, IsFeeding, IsOperator, IsSame, Keeps, MayBeFed, over_both};
 ghost use Rattle.join_op.specs.Stored.{left_side, right_side};
@@ -152,6 +153,7 @@ pub(crate) fn rest_left<St: Store>(
     requires flag { left_rests.old ≡ true → RestBelow (length left.old.streams) left.old }
     ensures still { left_rests.old ≡ true → (left.new ≡ left.old) × (St.holds store.new ≡ St.holds store.old) × (St.signs store.new ≡ St.signs store.old) }
     ensures beside { CallsBeside c.now.tracker left.old left.new _right.now (St.holds store.old) (St.holds store.new) (St.signs store.old) (St.signs store.new) }
+    ensures made { MakesFew 0 (St.signs store.old) (St.signs store.new) }
     ensures rested { OnOk result (RestsSome c.now.tracker (length left.old.streams) (over left.old (St.holds store.old) (St.signs store.old)) (over left.new (St.holds store.new) (St.signs store.new))) }
     ensures rests { OnOk result (RestBelow (length left.new.streams) left.new) }
     ensures flag { left_rests.new ≡ true → RestBelow (length left.new.streams) left.new }

@@ -1,5 +1,5 @@
 //! The pairs of all rows that were fed are handed on.
-ghost use Rattle.std.specs.Prelude.{◌≡◌, List, None, Option, true, false, IfErr, OnErr, OnOk, length};
+ghost use Rattle.std.specs.Prelude.{◌≡◌, ◌+◌, ◌*◌, List, None, Option, true, false, IfErr, OnErr, OnOk, length};
 ghost use Rattle.pool_model.specs.declared.entry.Entry.{Entry};
 ghost use Rattle.row_codec.specs.declared.values.Value.{Value};
 ghost use Rattle.store_api.specs.Emitters.{CameOf};
@@ -8,6 +8,7 @@ ghost use Rattle.tuple_stream.specs.Trails.{EnteredEvents};
 ghost use Rattle.partition_stack.specs.Causes.{CameOfEither, IsShort, IsShortOf};
 ghost use Rattle.partition_stack.specs.Emitting.{IsBeside, LeavesBeside, StandsStill};
 ghost use Rattle.partition_stack.specs.Leaving.{LeavesOthers};
+ghost use Rattle.partition_stack.specs.Making.{MakesBeside, MakesFew};
 ghost use Rattle.partition_stack.specs.Stack.{RestBelow, first_sixteen, no_stack, over};
 ghost use Rattle.join_op.specs.Chunks.{AdmitsJoined};
 ghost use Rattle.join_op.specs.Handing.{Emitted, EmittedSome};
@@ -40,6 +41,7 @@ fn rest_both<St: Store>(
     requires before { left_rests.old ≡ false → right.old ≡ first_sixteen right.old.page_blocks }
     ensures op { IsOperator (operator c.now _shape.now left.new right.new) (St.holds store.new) (St.signs store.new) }
     ensures leaves { LeavesOthers c.now.tracker (St.holds store.old) (St.holds store.new) (St.signs store.old) (St.signs store.new) }
+    ensures made { MakesFew 0 (St.signs store.old) (St.signs store.new) }
     ensures rested { OnOk result (HasRested (both left.new right.new (St.holds store.new) (St.signs store.new))) }
     ensures kept { OnOk result ((start : Option (List Entry)) → (lefts rights : List (List Value)) → Keeps start lefts rights (operator c.now _shape.now left.old right.old) (St.holds store.old) (St.signs store.old) → KeepsRested start _shape.now lefts rights (both left.new right.new (St.holds store.new) (St.signs store.new))) }
     ensures blocks { left.new.page_blocks ≡ left.old.page_blocks }
@@ -77,6 +79,7 @@ fn join_sides<St: Store, E: Emit<St>>(
     ensures kept { OnOk result ((start : Option (List Entry)) → (lefts rights : List (List Value)) → Keeps start lefts rights (operator c.now shape.now left.old right.old) (St.holds store.old) (St.signs store.old) → EnteredEvents (HoldsSides shape.now lefts rights (over left.new (St.holds store.new) (St.signs store.new)) (over right.new (St.holds store.new) (St.signs store.new)) (emit.new ≡ emit.old)) start (St.signs store.new).trail) }
     ensures op { IsOperator (operator c.now shape.now left.new right.new) (St.holds store.new) (St.signs store.new) }
     ensures leaves { LeavesBeside c.now.tracker (E.client emit.old) (St.holds store.old) (St.holds store.new) (St.signs store.old) (St.signs store.new) }
+    ensures made { (start : Option (List Entry)) → (lefts rights : List (List Value)) → Keeps start lefts rights (operator c.now shape.now left.old right.old) (St.holds store.old) (St.signs store.old) → (St.holds store.old).told ≡ true → MakesBeside (15 * (length lefts + length rights)) (E.creates emit.old) (E.creates emit.new) (St.signs store.old) (St.signs store.new) }
     ensures emitter { StandsStill (E.admits emit.old) (E.admits emit.new) (E.client emit.old) (E.client emit.new) (E.faults emit.old) (E.faults emit.new) (E.took emit.old (St.holds store.old)) (E.took emit.new (St.holds store.new)) (St.holds store.new) }
     ensures short { E.client emit.old ≡ None → IfErr result (IsShortOf left.old.page_blocks) }
     ensures cause { IfErr result (CameOf (E.faults emit.old) (E.faults emit.new) (St.signs store.old) (St.signs store.new)) }
@@ -124,6 +127,7 @@ fn finish_sides<St: Store, E: Emit<St>>(
     ensures kept { OnOk result ((start : Option (List Entry)) → (lefts rights : List (List Value)) → Keeps start lefts rights (operator c.now shape.now left.old right.old) (St.holds store.old) (St.signs store.old) → EnteredEvents (HoldsSides shape.now lefts rights (over left.new (St.holds store.new) (St.signs store.new)) (over right.new (St.holds store.new) (St.signs store.new)) (emit.new ≡ emit.old)) start (St.signs store.new).trail) }
     ensures op { IsOperator (operator c.now shape.now left.new right.new) (St.holds store.new) (St.signs store.new) }
     ensures leaves { LeavesBeside c.now.tracker (E.client emit.old) (St.holds store.old) (St.holds store.new) (St.signs store.old) (St.signs store.new) }
+    ensures made { (start : Option (List Entry)) → (lefts rights : List (List Value)) → Keeps start lefts rights (operator c.now shape.now left.old right.old) (St.holds store.old) (St.signs store.old) → (St.holds store.old).told ≡ true → MakesBeside (15 * (length lefts + length rights)) (E.creates emit.old) (E.creates emit.new) (St.signs store.old) (St.signs store.new) }
     ensures emitter { StandsStill (E.admits emit.old) (E.admits emit.new) (E.client emit.old) (E.client emit.new) (E.faults emit.old) (E.faults emit.new) (E.took emit.old (St.holds store.old)) (E.took emit.new (St.holds store.new)) (St.holds store.new) }
     ensures short { E.client emit.old ≡ None → IfErr result (IsShortOf left.old.page_blocks) }
     ensures cause { IfErr result (CameOf (E.faults emit.old) (E.faults emit.new) (St.signs store.old) (St.signs store.new)) }
@@ -173,6 +177,8 @@ impl JoinOp {
         ensures client { self.new.client ≡ self.old.client }
         ensures op { IsOperator self.new (St.holds store.new) (St.signs store.new) }
         ensures leaves { LeavesBeside self.old.client.tracker (E.client emit.old) (St.holds store.old) (St.holds store.new) (St.signs store.old) (St.signs store.new) }
+        // Each row goes to deeper partitions at most fifteen times.
+        ensures made { (start : Option (List Entry)) → (lefts rights : List (List Value)) → Keeps start lefts rights self.old (St.holds store.old) (St.signs store.old) → (St.holds store.old).told ≡ true → MakesBeside (15 * (length lefts + length rights)) (E.creates emit.old) (E.creates emit.new) (St.signs store.old) (St.signs store.new) }
         ensures emitter { StandsStill (E.admits emit.old) (E.admits emit.new) (E.client emit.old) (E.client emit.new) (E.faults emit.old) (E.faults emit.new) (E.took emit.old (St.holds store.old)) (E.took emit.new (St.holds store.new)) (St.holds store.new) }
         ensures cause { IfErr result (CameOfEither self.old.left.page_blocks (E.client emit.old) (E.faults emit.old) (E.faults emit.new) (St.signs store.old) (St.signs store.new)) }
     {

@@ -7,6 +7,7 @@ ghost use Rattle.bucket_table.specs.Lending.{Lends};
 ghost use Rattle.bucket_table.specs.Tables.{with_nodes};
 ghost use Rattle.tuple_stream.specs.Places.{IsWithin};
 ghost use Rattle.tuple_stream.specs.Steps.{Reads, scene};
+ghost use Rattle.partition_stack.specs.Making.{MakesFew};
 ghost use Rattle.partition_stack.specs.Causes.{IsShort};
 ghost use Rattle.partition_stack.specs.Reading.{IsReadable};
 ghost use Rattle.join_op.specs.Chunks.{AreColumns, IsKept, ReadsMore, kept_rows};
@@ -76,6 +77,7 @@ impl Held {
         requires { (t : ℕ) × IsTableAt t self.table (St.holds store.old) }
         ensures lends { (t : ℕ) → IsTableAt t self.table (St.holds store.old) → Lends t (loans_in self.table) (St.holds store.new) (St.holds store.old) }
         ensures grows { Grows (St.signs store.old) (St.signs store.new) }
+        ensures made { MakesFew 0 (St.signs store.old) (St.signs store.new) }
     {
         let Held {
             table,
@@ -107,6 +109,7 @@ pub(crate) fn hold<St: Store>(
     ensures may { MayHold result }
     ensures room { LeavesRoom c.now.tracker blocks (St.holds store.old) (St.holds store.new) }
     ensures grows { Grows (St.signs store.old) (St.signs store.new) }
+    ensures made { MakesFew 0 (St.signs store.old) (St.signs store.new) }
 {
     let longest = blocks as usize * store.block_len() as usize;
     let table = table_for(alloc, store, c, blocks, pages, rows);
@@ -159,6 +162,7 @@ fn table_for<St: Store>(
     ensures some { IfSome result (λ table. 4 + length_of blocks (St.holds store.old) ≤ table.room) }
     ensures room { LeavesRoom c.now.tracker blocks (St.holds store.old) (St.holds store.new) }
     ensures grows { Grows (St.signs store.old) (St.signs store.new) }
+    ensures made { MakesFew 0 (St.signs store.old) (St.signs store.new) }
 {
     let len = u64::from(blocks) * u64::from(store.block_len());
     let (heads, nodes) = buffers_in(len, pages, rows, store.unused(c))?;

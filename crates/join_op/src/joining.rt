@@ -9,12 +9,13 @@ ghost use Rattle.tuple_stream.specs.Trails.{EnteredEvents, PinsFirst};
 ghost use Rattle.partition_stack.specs.Causes.{IsShort, IsShortOf};
 ghost use Rattle.partition_stack.specs.Emitting.{IsBeside, LeavesBeside, StandsStill};
 ghost use Rattle.partition_stack.specs.Leaving.{LeavesOthers};
+ghost use Rattle.partition_stack.specs.Making.{MakesBeside, MakesFew};
 ghost use Rattle.partition_stack.specs.Sides.{OwnBoth};
 ghost use Rattle.partition_stack.specs.Stack.{over, weight};
 ghost use Rattle.join_op.specs.Chunks.{AdmitsJoined, stored_pairs};
 ghost use Rattle.join_op.specs.Dividing.{HasCalled};
 ghost use Rattle.join_op.specs.Handing.{Emitted, EmittedSome};
-ghost use Rattle.join_op.specs.Joining.{Advances, AreColumnsOfBoth, AreShallow, HasDivided, HasGoneOn, HasPopped, HasNoRowsAt, HasRowsAt, IsBetween, PinsBefore, ShowBoth, both, pairs_down};
+ghost use Rattle.join_op.specs.Joining.{Advances, AreColumnsOfBoth, AreShallow, HasDivided, HasGoneOn, HasPopped, HasNoRowsAt, HasRowsAt, IsBetween, PinsBefore, ShowBoth, both, owed_both, pairs_down};
 ghost use Rattle.join_op.specs.Operator.{IsOperator, operator};
 
 use crate::chunks::leaf_by_table;
@@ -31,6 +32,7 @@ fn drop_one<St: Store>(store: &mut St, c: &Client, parts: &mut Partitions, _othe
     requires own { OwnBoth c.now.tracker 0 parts.old.streams _other.now.streams (St.holds store.old) (St.signs store.old) }
     requires some { 0 < length parts.old.streams }
     ensures called { HasCalled c.now.tracker parts.old parts.new _other.now (St.holds store.old) (St.holds store.new) (St.signs store.old) (St.signs store.new) }
+    ensures made { MakesFew 0 (St.signs store.old) (St.signs store.new) }
     ensures shows { (rows : ℕ → List (List ℕ)) → ShowAll rows (over parts.old (St.holds store.old) (St.signs store.old)) → ShowAll rows (over parts.new (St.holds store.new) (St.signs store.new)) }
     ensures popped { (at : ℕ) → length parts.old.streams ≡ at + 1 → HasPopped at parts.old parts.new }
     ensures closed { AllClosed (over parts.old (St.holds store.old) (St.signs store.old)) → AllClosed (over parts.new (St.holds store.new) (St.signs store.new)) }
@@ -55,6 +57,7 @@ fn drop_top<St: Store>(
     requires top { length left.old.streams ≡ _at + 1 }
     ensures op { IsOperator (operator c.now shape.now left.new right.new) (St.holds store.new) (St.signs store.new) }
     ensures leaves { LeavesOthers c.now.tracker (St.holds store.old) (St.holds store.new) (St.signs store.old) (St.signs store.new) }
+    ensures made { MakesFew 0 (St.signs store.old) (St.signs store.new) }
     ensures blocks { left.new.page_blocks ≡ left.old.page_blocks }
     ensures between { IsBetween (both left.new right.new (St.holds store.new) (St.signs store.new)) }
     ensures shows { (lefts rights : ℕ → List (List ℕ)) → ShowBoth lefts rights (both left.old right.old (St.holds store.old) (St.signs store.old)) → ShowBoth lefts rights (both left.new right.new (St.holds store.new) (St.signs store.new)) }
@@ -88,11 +91,13 @@ fn divide_both<St: Store>(
     requires some { HasRowsAt at left.old × HasRowsAt at right.old }
     ensures op { IsOperator (operator c.now shape.now left.new right.new) (St.holds store.new) (St.signs store.new) }
     ensures leaves { LeavesOthers c.now.tracker (St.holds store.old) (St.holds store.new) (St.signs store.old) (St.signs store.new) }
+    ensures made { (lefts rights : ℕ → List (List ℕ)) → ShowBoth lefts rights (both left.old right.old (St.holds store.old) (St.signs store.old)) → MakesFew (length (lefts at) + length (rights at)) (St.signs store.old) (St.signs store.new) }
     ensures blocks { left.new.page_blocks ≡ left.old.page_blocks }
     ensures divided { OnOk result (HasDivided shape.now at level (both left.old right.old (St.holds store.old) (St.signs store.old)) (both left.new right.new (St.holds store.new) (St.signs store.new))) }
     ensures short { IfErr result (IsShort left.old.page_blocks) }
     ensures cause { IfErr result (λ e. WasAnswered e (St.signs store.old) (St.signs store.new)) }
 {
+    left.law_stack();
     let left_kinds = shape.left.as_slice();
     let right_kinds = shape.right.as_slice();
     divide_side(
@@ -143,6 +148,7 @@ fn pair_top<St: Store, E: Emit<St>>(
     ensures popped { HasPopped _at left.old left.new × IsBetween (both left.new right.new (St.holds store.new) (St.signs store.new)) }
     ensures op { IsOperator (operator c.now shape.now left.new right.new) (St.holds store.new) (St.signs store.new) }
     ensures leaves { LeavesBeside c.now.tracker (E.client emit.old) (St.holds store.old) (St.holds store.new) (St.signs store.old) (St.signs store.new) }
+    ensures made { MakesBeside 0 (E.creates emit.old) (E.creates emit.new) (St.signs store.old) (St.signs store.new) }
     ensures blocks { left.new.page_blocks ≡ left.old.page_blocks }
     ensures emitter { StandsStill (E.admits emit.old) (E.admits emit.new) (E.client emit.old) (E.client emit.new) (E.faults emit.old) (E.faults emit.new) (E.took emit.old (St.holds store.old)) (E.took emit.new (St.holds store.new)) (St.holds store.new) }
     ensures short { E.client emit.old ≡ None → IfErr result (IsShortOf left.old.page_blocks) }
@@ -201,6 +207,7 @@ fn reserve_top<St: Store>(
     ensures between { IsBetween (both left.now right.now (St.holds store.new) (St.signs store.new)) }
     ensures shows { (lefts rights : ℕ → List (List ℕ)) → ShowBoth lefts rights (both left.now right.now (St.holds store.old) (St.signs store.old)) → ShowBoth lefts rights (both left.now right.now (St.holds store.new) (St.signs store.new)) }
     ensures leaves { LeavesOthers c.now.tracker (St.holds store.old) (St.holds store.new) (St.signs store.old) (St.signs store.new) }
+    ensures made { MakesFew 0 (St.signs store.old) (St.signs store.new) }
     ensures first { EnteredEvents PinsFirst (St.signs store.old).trail (St.signs store.new).trail }
 {
     let at = left.len() - 1;
@@ -263,12 +270,13 @@ fn advance<St: Store, E: Emit<St>>(
     requires emitter { IsBeside c.now.tracker (E.client emit.old) (St.holds store.old) }
     requires admits { AdmitsJoined shape.now (E.admits emit.old) }
     requires stands { (rows : List (List Value)) × E.took emit.old (St.holds store.old) rows }
-    ensures ok { OnOk result (IsBetween (both left.new right.new (St.holds store.new) (St.signs store.new)) × ((lefts rights : ℕ → List (List ℕ)) → ShowBoth lefts rights (both left.old right.old (St.holds store.old) (St.signs store.old)) → Advances shape.now (E.took emit.old (St.holds store.old)) (E.took emit.new (St.holds store.new)) lefts rights (both left.old right.old (St.holds store.old) (St.signs store.old)) (both left.new right.new (St.holds store.new) (St.signs store.new)))) }
+    ensures ok { OnOk result (IsBetween (both left.new right.new (St.holds store.new) (St.signs store.new)) × ((lefts rights : ℕ → List (List ℕ)) → ShowBoth lefts rights (both left.old right.old (St.holds store.old) (St.signs store.old)) → Advances shape.now (E.took emit.old (St.holds store.old)) (E.took emit.new (St.holds store.new)) (E.creates emit.old) (E.creates emit.new) lefts rights (both left.old right.old (St.holds store.old) (St.signs store.old)) (both left.new right.new (St.holds store.new) (St.signs store.new)))) }
     ensures err { OnErr result ((lefts rights : ℕ → List (List ℕ)) → ShowBoth lefts rights (both left.old right.old (St.holds store.old) (St.signs store.old)) → EmittedSome (E.took emit.old (St.holds store.old)) (E.took emit.new (St.holds store.new)) (pairs_down shape.now (length left.old.streams) lefts rights)) }
     ensures less { OnOk result (weight left.new < weight left.old) }
     ensures first { OnOk result (AreShallow left.old.levels → EnteredEvents (HasGoneOn left.new.levels (emit.new ≡ emit.old)) (St.signs store.old).trail (St.signs store.new).trail) }
     ensures op { IsOperator (operator c.now shape.now left.new right.new) (St.holds store.new) (St.signs store.new) }
     ensures leaves { LeavesBeside c.now.tracker (E.client emit.old) (St.holds store.old) (St.holds store.new) (St.signs store.old) (St.signs store.new) }
+    ensures made { (lefts rights : ℕ → List (List ℕ)) → ShowBoth lefts rights (both left.old right.old (St.holds store.old) (St.signs store.old)) → MakesBeside (owed_both (both left.old right.old (St.holds store.old) (St.signs store.old)) lefts rights) (E.creates emit.old) (E.creates emit.new) (St.signs store.old) (St.signs store.new) }
     ensures blocks { left.new.page_blocks ≡ left.old.page_blocks }
     ensures emitter { StandsStill (E.admits emit.old) (E.admits emit.new) (E.client emit.old) (E.client emit.new) (E.faults emit.old) (E.faults emit.new) (E.took emit.old (St.holds store.old)) (E.took emit.new (St.holds store.new)) (St.holds store.new) }
     ensures short { E.client emit.old ≡ None → IfErr result (IsShortOf left.old.page_blocks) }
@@ -323,6 +331,7 @@ pub(crate) fn join_parts<St: Store, E: Emit<St>>(
     ensures first { OnOk result (AreShallow left.old.levels → EnteredEvents (PinsBefore (emit.new ≡ emit.old)) (St.signs store.old).trail (St.signs store.new).trail) }
     ensures op { IsOperator (operator c.now shape.now left.new right.new) (St.holds store.new) (St.signs store.new) }
     ensures leaves { LeavesBeside c.now.tracker (E.client emit.old) (St.holds store.old) (St.holds store.new) (St.signs store.old) (St.signs store.new) }
+    ensures made { (lefts rights : ℕ → List (List ℕ)) → ShowBoth lefts rights (both left.old right.old (St.holds store.old) (St.signs store.old)) → MakesBeside (owed_both (both left.old right.old (St.holds store.old) (St.signs store.old)) lefts rights) (E.creates emit.old) (E.creates emit.new) (St.signs store.old) (St.signs store.new) }
     ensures closed { OnOk result (IsBetween (both left.new right.new (St.holds store.new) (St.signs store.new))) }
     ensures emitter { StandsStill (E.admits emit.old) (E.admits emit.new) (E.client emit.old) (E.client emit.new) (E.faults emit.old) (E.faults emit.new) (E.took emit.old (St.holds store.old)) (E.took emit.new (St.holds store.new)) (St.holds store.new) }
     ensures short { E.client emit.old ≡ None → IfErr result (IsShortOf left.old.page_blocks) }

@@ -77,7 +77,7 @@ pub(crate) fn join_held<St: Store, E: Emit<St>>(
     ensures cause { IfErr result (CameOfEither reads.old.page_blocks (E.client emit.old) (E.faults emit.old) (E.faults emit.new) (St.signs store.old) (St.signs store.new)) }
     ensures streams { ReadBoth c.now.tracker (E.client emit.old) reads.old reads.new builds.old builds.new (St.holds store.old) (St.holds store.new) }
     ensures held { IsSameHeld held.old held.new }
-    ensures emitter { StaysEmitter (E.admits emit.old) (E.admits emit.new) (E.client emit.old) (E.client emit.new) (E.faults emit.old) (E.faults emit.new) (St.holds store.new) (St.signs store.old) (St.signs store.new) }
+    ensures emitter { StaysEmitter (E.admits emit.old) (E.admits emit.new) (E.client emit.old) (E.client emit.new) (E.faults emit.old) (E.faults emit.new) (E.creates emit.old) (E.creates emit.new) (St.holds store.new) (St.signs store.old) (St.signs store.new) }
 {
     let Ok((read_columns, held_columns)) = columns_by(alloc, shape, turned) else {
         return Err(OpErr::Pool(PoolErr::Memory));
@@ -147,7 +147,7 @@ fn join_chunk<St: Store, E: Emit<St>>(
     ensures stands { WentOn (E.took emit.old (St.holds store.old)) (E.took emit.new (St.holds store.new)) }
     ensures cause { IfErr result (CameOfEither reads.old.page_blocks (E.client emit.old) (E.faults emit.old) (E.faults emit.new) (St.signs store.old) (St.signs store.new)) }
     ensures stream { ReadOne c.now.tracker (E.client emit.old) reads.old reads.new (St.holds store.old) (St.holds store.new) }
-    ensures emitter { StaysEmitter (E.admits emit.old) (E.admits emit.new) (E.client emit.old) (E.client emit.new) (E.faults emit.old) (E.faults emit.new) (St.holds store.new) (St.signs store.old) (St.signs store.new) }
+    ensures emitter { StaysEmitter (E.admits emit.old) (E.admits emit.new) (E.client emit.old) (E.client emit.new) (E.faults emit.old) (E.faults emit.new) (E.creates emit.old) (E.creates emit.new) (St.holds store.new) (St.signs store.old) (St.signs store.new) }
 {
     let mut place = At::first();
     'lefts: while reads.keep_into(store, c, &mut place, &mut spare.row)? {
@@ -197,7 +197,7 @@ fn meet<St: Store, E: Emit<St>>(
     ensures ok { OnOk result (Emitted (E.took emit.old (St.holds store.old)) (E.took emit.new (St.holds store.new)) (pairs_with turned shape.now (row.now.row.items ∷ []) (held_rows held.now))) }
     ensures err { OnErr result (EmittedSome (E.took emit.old (St.holds store.old)) (E.took emit.new (St.holds store.new)) (pairs_with turned shape.now (row.now.row.items ∷ []) (held_rows held.now))) }
     ensures cause { IfErr result (CameOf (E.faults emit.old) (E.faults emit.new) (St.signs store.old) (St.signs store.new)) }
-    ensures stood { Stood (E.admits emit.old) (E.admits emit.new) (E.client emit.old) (E.client emit.new) (E.faults emit.old) (E.faults emit.new) (St.holds store.old) (St.holds store.new) (St.signs store.old) (St.signs store.new) }
+    ensures stood { Stood (E.admits emit.old) (E.admits emit.new) (E.client emit.old) (E.client emit.new) (E.faults emit.old) (E.faults emit.new) (E.creates emit.old) (E.creates emit.new) (St.holds store.old) (St.holds store.new) (St.signs store.old) (St.signs store.new) }
 {
     match &held.table {
         Some(table) => meet_chain(
@@ -226,7 +226,7 @@ fn meet_kept<St: Store, E: Emit<St>>(
     ensures ok { OnOk result (Emitted (E.took emit.old (St.holds store.old)) (E.took emit.new (St.holds store.new)) (pairs_with turned shape.now (row.now.row.items ∷ []) (kept_rows kept.now))) }
     ensures err { OnErr result (EmittedSome (E.took emit.old (St.holds store.old)) (E.took emit.new (St.holds store.new)) (pairs_with turned shape.now (row.now.row.items ∷ []) (kept_rows kept.now))) }
     ensures cause { IfErr result (CameOf (E.faults emit.old) (E.faults emit.new) (St.signs store.old) (St.signs store.new)) }
-    ensures stood { Stood (E.admits emit.old) (E.admits emit.new) (E.client emit.old) (E.client emit.new) (E.faults emit.old) (E.faults emit.new) (St.holds store.old) (St.holds store.new) (St.signs store.old) (St.signs store.new) }
+    ensures stood { Stood (E.admits emit.old) (E.admits emit.new) (E.client emit.old) (E.client emit.new) (E.faults emit.old) (E.faults emit.new) (E.creates emit.old) (E.creates emit.new) (St.holds store.old) (St.holds store.new) (St.signs store.old) (St.signs store.new) }
 {
     for right in kept {
         join_two(alloc, store, shape, turned, row, right, pair, emit)?;
@@ -256,7 +256,7 @@ fn meet_chain<St: Store, E: Emit<St>>(
     ensures ok { OnOk result (Emitted (E.took emit.old (St.holds store.old)) (E.took emit.new (St.holds store.new)) (pairs_with turned shape.now (row.now.row.items ∷ []) (stored table.now.nodes))) }
     ensures err { OnErr result (EmittedSome (E.took emit.old (St.holds store.old)) (E.took emit.new (St.holds store.new)) (pairs_with turned shape.now (row.now.row.items ∷ []) (stored table.now.nodes))) }
     ensures cause { IfErr result (CameOf (E.faults emit.old) (E.faults emit.new) (St.signs store.old) (St.signs store.new)) }
-    ensures stood { Stood (E.admits emit.old) (E.admits emit.new) (E.client emit.old) (E.client emit.new) (E.faults emit.old) (E.faults emit.new) (St.holds store.old) (St.holds store.new) (St.signs store.old) (St.signs store.new) }
+    ensures stood { Stood (E.admits emit.old) (E.admits emit.new) (E.client emit.old) (E.client emit.new) (E.faults emit.old) (E.faults emit.new) (E.creates emit.old) (E.creates emit.new) (St.holds store.old) (St.holds store.new) (St.signs store.old) (St.signs store.new) }
 {
     let mut next = table.find_first(hash64(&row.key));
     'chain: while let Some(node) = next {
@@ -308,7 +308,7 @@ fn join_two<St: Store, E: Emit<St>>(
     ensures ok { OnOk result (Emitted (E.took emit.old (St.holds store.old)) (E.took emit.new (St.holds store.new)) (pairs_with turned shape.now (row.now.row.items ∷ []) (other.now.row.items ∷ []))) }
     ensures err { OnErr result (EmittedSome (E.took emit.old (St.holds store.old)) (E.took emit.new (St.holds store.new)) (pairs_with turned shape.now (row.now.row.items ∷ []) (other.now.row.items ∷ []))) }
     ensures cause { IfErr result (CameOf (E.faults emit.old) (E.faults emit.new) (St.signs store.old) (St.signs store.new)) }
-    ensures stood { Stood (E.admits emit.old) (E.admits emit.new) (E.client emit.old) (E.client emit.new) (E.faults emit.old) (E.faults emit.new) (St.holds store.old) (St.holds store.new) (St.signs store.old) (St.signs store.new) }
+    ensures stood { Stood (E.admits emit.old) (E.admits emit.new) (E.client emit.old) (E.client emit.new) (E.faults emit.old) (E.faults emit.new) (E.creates emit.old) (E.creates emit.new) (St.holds store.old) (St.holds store.new) (St.signs store.old) (St.signs store.new) }
 {
     if turned {
         return join_one(alloc, store, shape, other, row, pair, emit);
@@ -334,7 +334,7 @@ fn join_one<St: Store, E: Emit<St>>(
     ensures ok { OnOk result (Emitted (E.took emit.old (St.holds store.old)) (E.took emit.new (St.holds store.new)) (stored_pairs shape.now (left.now.row.items ∷ []) (right.now.row.items ∷ []))) }
     ensures err { OnErr result (EmittedSome (E.took emit.old (St.holds store.old)) (E.took emit.new (St.holds store.new)) (stored_pairs shape.now (left.now.row.items ∷ []) (right.now.row.items ∷ []))) }
     ensures cause { IfErr result (CameOf (E.faults emit.old) (E.faults emit.new) (St.signs store.old) (St.signs store.new)) }
-    ensures stood { Stood (E.admits emit.old) (E.admits emit.new) (E.client emit.old) (E.client emit.new) (E.faults emit.old) (E.faults emit.new) (St.holds store.old) (St.holds store.new) (St.signs store.old) (St.signs store.new) }
+    ensures stood { Stood (E.admits emit.old) (E.admits emit.new) (E.client emit.old) (E.client emit.new) (E.faults emit.old) (E.faults emit.new) (E.creates emit.old) (E.creates emit.new) (St.holds store.old) (St.holds store.new) (St.signs store.old) (St.signs store.new) }
 {
     if left.key.as_slice() != right.key.as_slice() {
         return Ok(());

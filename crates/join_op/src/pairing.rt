@@ -52,7 +52,7 @@ pub(crate) fn emit_pair<St: Store, E: Emit<St>>(
     ensures ok { OnOk result (Emitted (E.took emit.old (St.holds store.old)) (E.took emit.new (St.holds store.new)) (pair_at shape.now left.now right.now ∷ [])) }
     ensures err { OnErr result (EmittedSome (E.took emit.old (St.holds store.old)) (E.took emit.new (St.holds store.new)) (pair_at shape.now left.now right.now ∷ [])) }
     ensures cause { IfErr result (CameOf (E.faults emit.old) (E.faults emit.new) (St.signs store.old) (St.signs store.new)) }
-    ensures stood { Stood (E.admits emit.old) (E.admits emit.new) (E.client emit.old) (E.client emit.new) (E.faults emit.old) (E.faults emit.new) (St.holds store.old) (St.holds store.new) (St.signs store.old) (St.signs store.new) }
+    ensures stood { Stood (E.admits emit.old) (E.admits emit.new) (E.client emit.old) (E.client emit.new) (E.faults emit.old) (E.faults emit.new) (E.creates emit.old) (E.creates emit.new) (St.holds store.old) (St.holds store.new) (St.signs store.old) (St.signs store.new) }
 {
     let Ok(()) = read_pair(alloc, shape, left, right, pair) else {
         return Err(OpErr::Pool(PoolErr::Memory));

@@ -77,4 +77,4 @@ returns-clause-emitter g c =
     let h3 = g.St.Store.holds c.give.new.store in
     let at : IsTableAt t c.join_streams-result.new.held.table h2 = table_read t _ _ _ _ _ h1 h2 c.join_streams-result.ensures.streams c.args.held.table c.join_streams-result.new.held.table c.join_streams-result.ensures.held.table c.requires.table in
     let lends : Lends t (loans_in c.args.held.table) h3 h2 = lends_as t c.args.held.table c.join_streams-result.new.held.table h3 h2 c.join_streams-result.ensures.held.table (c.give.ensures.lends t at) in
-    stays_later t (loans_in c.args.held.table) _ _ _ _ _ _ h3 h2 _ _ _ c.requires.emitter.apart lends c.give.ensures.grows c.join_streams-result.ensures.emitter
+    stays_later t (loans_in c.args.held.table) _ _ _ _ _ _ h3 h2 _ _ _ c.requires.emitter.apart lends c.give.ensures.grows c.give.ensures.made c.join_streams-result.ensures.emitter

@@ -67,4 +67,4 @@ pub returns-clause-streams : goal.returns-clause-streams
 returns-clause-streams g c = c.join_pair.ensures.streams _ c.hold-held.ensures.lends c.requires.streams
 
 pub returns-clause-emitter : goal.returns-clause-emitter
-returns-clause-emitter g c = stays_since _ _ _ _ _ _ _ _ _ _ c.hold-held.ensures.grows c.join_pair.ensures.emitter
+returns-clause-emitter g c = stays_since _ _ _ _ _ _ _ _ _ _ c.hold-held.ensures.grows c.hold-held.ensures.made c.join_pair.ensures.emitter

@@ -4,13 +4,14 @@ use Rattle.store_api.proofs.Answered.{answered_before}
 use Rattle.tuple_stream.specs.Families.{AllClosed}
 use Rattle.tuple_stream.specs.Touches.{IsFull}
 use Rattle.partition_stack.specs.Stack.{Stack, over}
+use Rattle.partition_stack.proofs.Making.{few_both, few_less, few_none, laying_makes}
 use Rattle.partition_stack.proofs.Results.{on_ok}
 use Rattle.join_op.specs.Dividing.{HasCalled, IsFan, side_of}
 use Rattle.join_op.specs.Joining.{HasRowsAt}
 use Rattle.join_op.proofs.Calls.{calls_beside}
 use Rattle.join_op.proofs.Dealing.{deals_all, deals_rested, pinned_then}
 use Rattle.join_op.proofs.Handed.{both_errs}
-use Rattle.join_op.proofs.Fans.{called_divided, called_of, called_then, closed_divided, fan_divided, may_divided, rows_divided}
+use Rattle.join_op.proofs.Fans.{called_divided, called_of, called_then, closed_divided, fan_divided, may_divided, rows_divided, still_there}
 use Rattle.join_op.proofs.dividing.divide_side.Goals as goal
 
 pub spend_side-requires-clause-may : goal.spend_side-requires-clause-may
@@ -77,3 +78,14 @@ returns-clause-answers g c =
       answered_before e _ _ _ c.spend_side.ensures.beside.leaves.grows answered,
       subst (λ (n : ℕ). IsFull n (g.St.Store.holds c.rest_from.new.store).free_slots e) blocks full,
     )) c.rest_from.ensures.cause c.rest_from.ensures.full
+
+pub returns-in_default-clause-made : goal.returns-in_default-clause-made
+returns-in_default-clause-made g c = λ x there. few_less 0 x.count (g.St.Store.signs c.args.store.now) (g.St.Store.signs c.args.store.now) (omega arith) (few_none (g.St.Store.signs c.args.store.now))
+
+pub returns-in_err-spend_side-clause-made : goal.returns-in_err-spend_side-clause-made
+returns-in_err-spend_side-clause-made g c = λ x there. c.spend_side.ensures.made x (still_there c.args.at c.args.level c.args.parts.now c.divide.new.self x c.in-Ok.ensures.ok there)
+
+pub returns-clause-made : goal.returns-clause-made
+returns-clause-made g c = λ x there.
+    (few_both x.count 0 x.count (g.St.Store.signs c.args.store.now) (g.St.Store.signs c.spend_side.new.store) (g.St.Store.signs c.rest_from.new.store) (omega arith) (c.spend_side.ensures.made x (still_there c.args.at c.args.level c.args.parts.now c.divide.new.self x c.in-Ok.ensures.ok there))
+    (laying_makes 0 c.args.c.now.tracker (over c.spend_side.new.parts (g.St.Store.holds c.spend_side.new.store) (g.St.Store.signs c.spend_side.new.store)) (over c.rest_from.new.self (g.St.Store.holds c.rest_from.new.store) (g.St.Store.signs c.rest_from.new.store)) (let same = c.rest_from.ensures.pages in omega (arith, same)) c.rest_from.ensures.went))

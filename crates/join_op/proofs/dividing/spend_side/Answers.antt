@@ -3,7 +3,7 @@ use Rattle.store_api.proofs.Answered.{answered_before}
 use Rattle.tuple_stream.specs.Touches.{IsFull}
 use Rattle.join_op.specs.Dividing.{side_of}
 use Rattle.join_op.proofs.Calls.{calls_none}
-use Rattle.join_op.proofs.Dealing.{all_dealt, all_first, calls_more, deals_none, fan_more, more_deals, none_beside, none_dealt, none_fan, none_first, some_all, spent_none, spent_row}
+use Rattle.join_op.proofs.Dealing.{all_dealt, all_first, calls_more, deals_none, fan_more, made_all, made_none, made_sent, made_unspent, more_deals, none_beside, none_dealt, none_fan, none_first, some_all, spent_none, spent_row}
 use Rattle.join_op.proofs.Fans.{beside_then, called_of, may_after, room_of_fan}
 use Rattle.join_op.proofs.dividing.spend_side.Goals as goal
 
@@ -106,7 +106,7 @@ loop-left-preserved g c =
     more_deals c.args.c.now.tracker (side_of c.args.kinds.now c.args.columns.now) c.args.level c.args.at c.loop-left.left c.args.parts.now c.loop-left.parts c.spend.new.self c.args.other.now _ _ (g.St.Store.holds c.spend.new.store) _ _ (g.St.Store.signs c.spend.new.store) c.loop-left.invariant c.spend.new.out.items
     (spent_row c.args.c.now.tracker (side_of c.args.kinds.now c.args.columns.now) c.args.level c.args.at c.loop-left.left c.args.parts.now c.loop-left.parts c.spend.new.self c.args.other.now _ _ (g.St.Store.holds c.spend.new.store) _ _ (g.St.Store.signs c.spend.new.store) c.loop-left.invariant
     c.in_ok-spend.field-0 c.spend.new.out.items c.in_ok-spend.ensures.ok c.if-not-branch.false)
-    c.spend.ensures.changes c.send.new.parts (g.St.Store.holds c.send.new.store) (g.St.Store.signs c.send.new.store) c.send.ensures.beside c.send.ensures.fan c.in_ok-send.ensures.went (omega (arith, c.loop-left-test.true))
+    c.spend.ensures.changes c.send.new.parts (g.St.Store.holds c.send.new.store) (g.St.Store.signs c.send.new.store) c.send.ensures.beside c.send.ensures.fan c.in_ok-send.ensures.went c.send.ensures.made (omega (arith, c.loop-left-test.true))
 
 pub returns-clause-dealt : goal.returns-clause-dealt
 returns-clause-dealt g c =
@@ -116,3 +116,25 @@ pub returns-clause-first : goal.returns-clause-first
 returns-clause-first g c =
     all_first c.args.c.now.tracker (side_of c.args.kinds.now c.args.columns.now) c.args.level c.args.at c.loop-left.left c.args.parts.now c.loop-left.parts c.loop-left.parts c.args.other.now _ _ (g.St.Store.holds c.loop-left.store) _ _ (g.St.Store.signs c.loop-left.store) c.loop-left.invariant
     (some_all c.args.level c.args.at c.args.parts.now c.requires.fan c.requires.some) (omega (arith, c.loop-left-test.false))
+
+pub returns-in_err-spend-clause-made : goal.returns-in_err-spend-clause-made
+returns-in_err-spend-clause-made g c =
+    made_unspent c.args.c.now.tracker (side_of c.args.kinds.now c.args.columns.now) c.args.level c.args.at c.loop-left.left c.args.parts.now c.loop-left.parts c.spend.new.self c.args.other.now _ _ (g.St.Store.holds c.spend.new.store) _ _ (g.St.Store.signs c.spend.new.store) c.loop-left.invariant
+    c.in_err-spend.ensures.err.steps
+
+pub returns-then-not-branch-clause-made : goal.returns-then-not-branch-clause-made
+returns-then-not-branch-clause-made g c =
+    made_none c.args.c.now.tracker (side_of c.args.kinds.now c.args.columns.now) c.args.level c.args.at c.loop-left.left c.args.parts.now c.loop-left.parts c.spend.new.self c.args.other.now _ _ (g.St.Store.holds c.spend.new.store) _ _ (g.St.Store.signs c.spend.new.store) c.loop-left.invariant
+    (spent_none c.args.c.now.tracker (side_of c.args.kinds.now c.args.columns.now) c.args.level c.args.at c.loop-left.left c.args.parts.now c.loop-left.parts c.spend.new.self c.args.other.now _ _ (g.St.Store.holds c.spend.new.store) _ _ (g.St.Store.signs c.spend.new.store) c.loop-left.invariant
+    c.in_ok-spend.field-0 c.spend.new.out.items c.in_ok-spend.ensures.ok c.if-not-branch.true)
+
+pub returns-in_err-send-clause-made : goal.returns-in_err-send-clause-made
+returns-in_err-send-clause-made g c =
+    let spent = spent_row c.args.c.now.tracker (side_of c.args.kinds.now c.args.columns.now) c.args.level c.args.at c.loop-left.left c.args.parts.now c.loop-left.parts c.spend.new.self c.args.other.now _ _ (g.St.Store.holds c.spend.new.store) _ _ (g.St.Store.signs c.spend.new.store) c.loop-left.invariant
+    c.in_ok-spend.field-0 c.spend.new.out.items c.in_ok-spend.ensures.ok c.if-not-branch.false in
+    made_sent c.args.c.now.tracker (side_of c.args.kinds.now c.args.columns.now) c.args.level c.args.at c.loop-left.left c.args.parts.now c.loop-left.parts c.spend.new.self c.args.other.now _ _ (g.St.Store.holds c.spend.new.store) _ _ (g.St.Store.signs c.spend.new.store) c.loop-left.invariant
+    spent.steps (omega (arith, c.loop-left-test.true)) (g.St.Store.signs c.send.new.store) c.send.ensures.made
+
+pub returns-clause-made : goal.returns-clause-made
+returns-clause-made g c =
+    made_all c.args.c.now.tracker (side_of c.args.kinds.now c.args.columns.now) c.args.level c.args.at c.loop-left.left c.args.parts.now c.loop-left.parts c.loop-left.parts c.args.other.now _ _ (g.St.Store.holds c.loop-left.store) _ _ (g.St.Store.signs c.loop-left.store) c.loop-left.invariant

@@ -1,8 +1,10 @@
-use Rattle.std.proofs.Common.{◌≡◌, List}
+use Rattle.std.proofs.Common.{◌≡◌, ◌+◌, ◌*◌, [], List, length, arith}
 use Rattle.row_codec.specs.declared.values.Value.{Value}
 use Rattle.partition_stack.specs.Emitting.{IsBeside}
 use Rattle.partition_stack.specs.Stack.{over}
 use Rattle.partition_stack.proofs.Emitters.{beside_stands, beside_then, left_beside, same_beside, stands_left, stands_then}
+use Rattle.tuple_stream.specs.Families.{family}
+use Rattle.partition_stack.proofs.Making.{counts_both, ending_makes, few_both, few_counts}
 use Rattle.partition_stack.proofs.Results.{on_err, on_ok}
 use Rattle.join_op.specs.Pairs.{pairs_of}
 use Rattle.join_op.proofs.Cleared.{cleared_closed, cleared_first, cleared_leaves, cleared_op, right_still}
@@ -60,3 +62,11 @@ returns-clause-emitter g c =
 
 pub returns-clause-cause : goal.returns-clause-cause
 returns-clause-cause g c = came_till c.join_sides-result.result _ _ _ _ _ (cleared_leaves c.args.c.now c.args.shape.now c.join_sides-result.new.left c.join_sides-result.new.right c.clear.new.self c.clear-2.new.self (g.St.Store.holds c.join_sides-result.new.store) (g.St.Store.holds c.clear.new.store) (g.St.Store.holds c.clear-2.new.store) (g.St.Store.signs c.join_sides-result.new.store) (g.St.Store.signs c.clear.new.store) (g.St.Store.signs c.clear-2.new.store) c.join_sides-result.ensures.op c.clear.ensures.ends c.clear-2.ensures.ends c.clear.ensures.none c.clear-2.ensures.none).grows c.join_sides-result.ensures.cause
+
+pub returns-clause-made : goal.returns-clause-made
+returns-clause-made g c = λ start lefts rights keeps told.
+    counts_both (15 * (length lefts + length rights)) 0 (15 * (length lefts + length rights)) (g.E.Emit.creates c.args.emit.now) (g.E.Emit.creates c.join_sides-result.new.emit) (g.E.Emit.creates c.join_sides-result.new.emit) (g.St.Store.signs c.args.store.now) (g.St.Store.signs c.join_sides-result.new.store) (g.St.Store.signs c.clear-2.new.store) (omega arith) (c.join_sides-result.ensures.made start lefts rights keeps told)
+    (few_counts 0 (g.E.Emit.creates c.join_sides-result.new.emit) (g.St.Store.signs c.join_sides-result.new.store) (g.St.Store.signs c.clear-2.new.store)
+    (few_both 0 0 0 (g.St.Store.signs c.join_sides-result.new.store) (g.St.Store.signs c.clear.new.store) (g.St.Store.signs c.clear-2.new.store) (omega arith)
+    (ending_makes c.args.c.now.tracker (over c.join_sides-result.new.left (g.St.Store.holds c.join_sides-result.new.store) (g.St.Store.signs c.join_sides-result.new.store)) (family [] (g.St.Store.holds c.clear.new.store) (g.St.Store.signs c.clear.new.store)) c.clear.ensures.ends)
+    (ending_makes c.args.c.now.tracker (over c.join_sides-result.new.right (g.St.Store.holds c.clear.new.store) (g.St.Store.signs c.clear.new.store)) (family [] (g.St.Store.holds c.clear-2.new.store) (g.St.Store.signs c.clear-2.new.store)) c.clear-2.ensures.ends)))

@@ -1,18 +1,19 @@
-use Rattle.std.proofs.Common.{rules, ◌≡◌, ◌∙◌, List, Option, true, length, arith}
+use Rattle.std.proofs.Common.{rules, ◌≡◌, ◌∙◌, ◌+◌, ◌*◌, List, Option, true, length, arith}
 use Rattle.pool_model.specs.declared.entry.Entry.{Entry}
 use Rattle.row_codec.specs.declared.values.Value.{Value}
 use Rattle.partition_stack.specs.Stack.{over}
 use Rattle.partition_stack.proofs.Emitters.{beside_then, came_behind, left_beside, same_beside, stands_left, stands_then}
+use Rattle.partition_stack.proofs.Making.{counts_both, counts_less, few_counts}
 use Rattle.partition_stack.proofs.Results.{if_err, on_err, on_ok}
 use Rattle.partition_stack.proofs.Shorts.{short_as}
 use Rattle.join_op.specs.Handing.{EmittedSome}
-use Rattle.join_op.specs.Joining.{both}
+use Rattle.join_op.specs.Joining.{both, owed_both}
 use Rattle.join_op.specs.Operator.{Keeps, operator}
 use Rattle.join_op.specs.Pairs.{pairs_of}
 use Rattle.join_op.proofs.Handed.{from_two, some_none, some_on}
 use Rattle.join_op.proofs.LaidSides.{holds_sides}
 use Rattle.join_op.proofs.Stepped.{first_shallow}
-use Rattle.join_op.proofs.Wholes.{beside_left, emitted_from, pairs_rested, shows_rested, some_from}
+use Rattle.join_op.proofs.Wholes.{beside_left, emitted_from, owed_rested, pairs_rested, shows_rested, some_from}
 use Rattle.join_op.proofs.finishing.join_sides.Goals as goal
 
 pub returns-in_err-rest_both-clause-err : goal.returns-in_err-rest_both-clause-err
@@ -91,3 +92,14 @@ returns-clause-short g c = λ none. short_as c.join_parts.result c.rest_both.new
 
 pub returns-clause-cause : goal.returns-clause-cause
 returns-clause-cause g c = if_err c.join_parts.result (λ e came. came_behind _ _ _ (g.St.Store.signs c.args.store.now) (g.St.Store.signs c.rest_both.new.store) (g.St.Store.signs c.join_parts.new.store) e (omega arith) c.rest_both.ensures.leaves.grows came) c.join_parts.ensures.cause
+
+pub returns-in_err-rest_both-clause-made : goal.returns-in_err-rest_both-clause-made
+returns-in_err-rest_both-clause-made g c = λ start lefts rights keeps told.
+    counts_less 0 (15 * (length lefts + length rights)) (g.E.Emit.creates c.args.emit.now) (g.E.Emit.creates c.args.emit.now) (g.St.Store.signs c.args.store.now) (g.St.Store.signs c.rest_both.new.store) (omega arith) (few_counts 0 (g.E.Emit.creates c.args.emit.now) (g.St.Store.signs c.args.store.now) (g.St.Store.signs c.rest_both.new.store) c.rest_both.ensures.made)
+
+pub returns-clause-made : goal.returns-clause-made
+returns-clause-made g c = λ start lefts rights keeps told.
+    let rested = c.in_ok-rest_both.ensures.kept start lefts rights keeps in
+    let few = owed_rested start c.args.shape.now lefts rights (both c.rest_both.new.left c.rest_both.new.right (g.St.Store.holds c.rest_both.new.store) (g.St.Store.signs c.rest_both.new.store)) rested c.in_ok-rest_both.ensures.rested in
+    counts_both 0 (owed_both (both c.rest_both.new.left c.rest_both.new.right (g.St.Store.holds c.rest_both.new.store) (g.St.Store.signs c.rest_both.new.store)) rested.left.rows rested.right.rows) (15 * (length lefts + length rights)) (g.E.Emit.creates c.args.emit.now) (g.E.Emit.creates c.args.emit.now) (g.E.Emit.creates c.join_parts.new.emit) (g.St.Store.signs c.args.store.now) (g.St.Store.signs c.rest_both.new.store) (g.St.Store.signs c.join_parts.new.store) (omega (arith, few)) (few_counts 0 (g.E.Emit.creates c.args.emit.now) (g.St.Store.signs c.args.store.now) (g.St.Store.signs c.rest_both.new.store) c.rest_both.ensures.made)
+    (c.join_parts.ensures.made rested.left.rows rested.right.rows (shows_rested start c.args.shape.now lefts rights (both c.rest_both.new.left c.rest_both.new.right (g.St.Store.holds c.rest_both.new.store) (g.St.Store.signs c.rest_both.new.store)) rested (c.rest_both.ensures.leaves.others.told ∙ told)))

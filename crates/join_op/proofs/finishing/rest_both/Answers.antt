@@ -1,6 +1,6 @@
-use Rattle.std.proofs.Common.{◌≡◌, Err, ap, rules}
+use Rattle.std.proofs.Common.{◌≡◌, Err, ap, arith, rules}
 use Rattle.store_api.proofs.Answered.{answered_before}
-use Rattle.partition_stack.specs.Stack.{Stack}
+use Rattle.partition_stack.specs.Stack.{Stack, over}
 use Rattle.partition_stack.proofs.Left.{leaves_both}
 use Rattle.partition_stack.proofs.Results.{if_err, on_ok}
 use Rattle.partition_stack.proofs.Shorts.{full_short, short_err}
@@ -8,6 +8,7 @@ use Rattle.partition_stack.proofs.Sides.{own_turned}
 use Rattle.join_op.specs.Beside.{CallsBeside}
 use Rattle.join_op.proofs.Calls.{calls_beside, left_called, right_called}
 use Rattle.join_op.proofs.Rests.{has_rested, keeps_rested}
+use Rattle.partition_stack.proofs.Making.{few_both, laying_makes}
 use Rattle.join_op.proofs.finishing.rest_both.Goals as goal
 
 pub rest_left-requires-clause-own : goal.rest_left-requires-clause-own
@@ -88,3 +89,8 @@ returns-clause-short g c = short_err c.rest_from.result c.args.right.now.page_bl
 
 pub returns-clause-cause : goal.returns-clause-cause
 returns-clause-cause g c = if_err c.rest_from.result (λ e answered. answered_before e _ _ _ c.rest_left.ensures.beside.leaves.grows answered) c.rest_from.ensures.cause
+
+pub returns-clause-made : goal.returns-clause-made
+returns-clause-made g c =
+    few_both 0 0 0 (g.St.Store.signs c.args.store.now) (g.St.Store.signs c.rest_left.new.store) (g.St.Store.signs c.rest_from.new.store) (omega arith) c.rest_left.ensures.made
+    (laying_makes 0 c.args.c.now.tracker (over c.args.right.now (g.St.Store.holds c.rest_left.new.store) (g.St.Store.signs c.rest_left.new.store)) (over c.rest_from.new.self (g.St.Store.holds c.rest_from.new.store) (g.St.Store.signs c.rest_from.new.store)) (let same = c.rest_from.ensures.pages in omega (arith, same)) c.rest_from.ensures.went)

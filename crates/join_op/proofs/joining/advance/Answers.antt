@@ -1,11 +1,12 @@
-use Rattle.std.proofs.Common.{rules, ◌≡◌, refl, ◌+◌, ◌-◌, ℕ, List, length, arith}
+use Rattle.std.proofs.Common.{rules, ◌≡◌, refl, ◌+◌, ◌-◌, ◌<◌, ℕ, List, length, arith}
 use Rattle.row_codec.specs.declared.values.Value.{Value}
 use Rattle.partition_stack.proofs.Emitters.{left_beside, same_beside, stands_left}
+use Rattle.partition_stack.proofs.Making.{counts_less, few_counts, few_less}
 use Rattle.partition_stack.proofs.Results.{on_err, on_ok}
 use Rattle.partition_stack.proofs.Weights.{less_popped}
 use Rattle.join_op.specs.Handing.{EmittedSome}
-use Rattle.join_op.specs.Joining.{ShowBoth, both, pairs_down}
-use Rattle.join_op.proofs.Advances.{advances_popped, some_top}
+use Rattle.join_op.specs.Joining.{ShowBoth, both, owed_both, pairs_down}
+use Rattle.join_op.proofs.Advances.{advances_popped, owed_gone, owed_top, some_top}
 use Rattle.join_op.proofs.Handed.{any_ok, some_none, some_on}
 use Rattle.join_op.proofs.Stepped.{advances_divided, advances_gone, gone_on_pinned, gone_on_popped, not_shallow}
 use Rattle.join_op.proofs.joining.advance.Goals as goal
@@ -18,7 +19,8 @@ returns-then-not-have_rows-clause-ok g c =
       c.drop_top.ensures.between,
       λ lefts rights shows.
           advances_gone c.args.shape.now (g.E.Emit.took c.args.emit.now (g.St.Store.holds c.args.store.now)) (g.E.Emit.took c.args.emit.now (g.St.Store.holds c.drop_top.new.store)) lefts rights still (c.len-at.result - 1) c.args.left.now c.args.right.now (g.St.Store.holds c.args.store.now) (g.St.Store.signs c.args.store.now) (both c.drop_top.new.left c.drop_top.new.right (g.St.Store.holds c.drop_top.new.store) (g.St.Store.signs c.drop_top.new.store)) top c.requires.between.many c.drop_top.ensures.popped.many shows
-          (c.drop_top.ensures.shows lefts rights shows) (c.have_rows.ensures.none c.if-not-have_rows.true),
+          (c.drop_top.ensures.shows lefts rights shows) (c.have_rows.ensures.none c.if-not-have_rows.true)
+          (owed_gone lefts rights (both c.args.left.now c.args.right.now (g.St.Store.holds c.args.store.now) (g.St.Store.signs c.args.store.now)) (both c.drop_top.new.left c.drop_top.new.right (g.St.Store.holds c.drop_top.new.store) (g.St.Store.signs c.drop_top.new.store)) (c.len-at.result - 1) c.level-level.result c.level-level.ensures.value c.requires.between.levels c.drop_top.ensures.popped.levels c.drop_top.ensures.between.levels) c.drop_top.ensures.made,
     )
 
 pub returns-then-not-have_rows-clause-less : goal.returns-then-not-have_rows-clause-less
@@ -84,7 +86,8 @@ returns-clause-ok g c =
       c.pair_top.ensures.popped.1,
       λ lefts rights shows.
           let came = handed lefts rights shows in
-          advances_popped c.args.shape.now (g.E.Emit.took c.args.emit.now (g.St.Store.holds c.args.store.now)) (g.E.Emit.took c.pair_top.new.emit (g.St.Store.holds c.pair_top.new.store)) lefts rights (both c.args.left.now c.args.right.now (g.St.Store.holds c.args.store.now) (g.St.Store.signs c.args.store.now)) (both c.pair_top.new.left c.pair_top.new.right (g.St.Store.holds c.pair_top.new.store) (g.St.Store.signs c.pair_top.new.store)) (c.len-at.result - 1) top c.pair_top.ensures.popped.0.many came.0 came.1,
+          advances_popped c.args.shape.now (g.E.Emit.took c.args.emit.now (g.St.Store.holds c.args.store.now)) (g.E.Emit.took c.pair_top.new.emit (g.St.Store.holds c.pair_top.new.store)) lefts rights (both c.args.left.now c.args.right.now (g.St.Store.holds c.args.store.now) (g.St.Store.signs c.args.store.now)) (both c.pair_top.new.left c.pair_top.new.right (g.St.Store.holds c.pair_top.new.store) (g.St.Store.signs c.pair_top.new.store)) (c.len-at.result - 1) top c.pair_top.ensures.popped.0.many came.0 came.1
+          (owed_gone lefts rights (both c.args.left.now c.args.right.now (g.St.Store.holds c.args.store.now) (g.St.Store.signs c.args.store.now)) (both c.pair_top.new.left c.pair_top.new.right (g.St.Store.holds c.pair_top.new.store) (g.St.Store.signs c.pair_top.new.store)) (c.len-at.result - 1) c.level-level.result c.level-level.ensures.value c.requires.between.levels c.pair_top.ensures.popped.0.levels c.pair_top.ensures.popped.1.levels) c.pair_top.ensures.made,
     ))
     c.pair_top.ensures.ok
 
@@ -98,3 +101,24 @@ returns-clause-less g c = any_ok c.pair_top.result (less_popped c.args.left.now.
 
 pub returns-clause-first : goal.returns-clause-first
 returns-clause-first g c = any_ok c.pair_top.result (λ shallow. absurd (not_shallow c.args.left.now.levels (c.len-at.result - 1) c.level-level.result shallow c.level-level.ensures.value (c.is_few.ensures.later c.if-not-is_few.false)))
+
+pub returns-then-not-have_rows-clause-made : goal.returns-then-not-have_rows-clause-made
+returns-then-not-have_rows-clause-made g c = λ lefts rights shows.
+    few_counts (owed_both (both c.args.left.now c.args.right.now (g.St.Store.holds c.args.store.now) (g.St.Store.signs c.args.store.now)) lefts rights) (g.E.Emit.creates c.args.emit.now) (g.St.Store.signs c.args.store.now) (g.St.Store.signs c.drop_top.new.store) (few_less 0 (owed_both (both c.args.left.now c.args.right.now (g.St.Store.holds c.args.store.now) (g.St.Store.signs c.args.store.now)) lefts rights) (g.St.Store.signs c.args.store.now) (g.St.Store.signs c.drop_top.new.store) (omega arith) c.drop_top.ensures.made)
+
+pub returns-in_err-divide_both-clause-made : goal.returns-in_err-divide_both-clause-made
+returns-in_err-divide_both-clause-made g c = λ lefts rights shows.
+    let deep : c.level-level.result < 16 = let placed = c.level-level.ensures.placed.deep in let not = c.is_few.ensures.last c.if-not-is_few.true in omega (arith, placed, not) in
+    few_counts (owed_both (both c.args.left.now c.args.right.now (g.St.Store.holds c.args.store.now) (g.St.Store.signs c.args.store.now)) lefts rights) (g.E.Emit.creates c.args.emit.now) (g.St.Store.signs c.args.store.now) (g.St.Store.signs c.divide_both.new.store)
+    (few_less (length (lefts (c.len-at.result - 1)) + length (rights (c.len-at.result - 1))) (owed_both (both c.args.left.now c.args.right.now (g.St.Store.holds c.args.store.now) (g.St.Store.signs c.args.store.now)) lefts rights) (g.St.Store.signs c.args.store.now) (g.St.Store.signs c.divide_both.new.store) (owed_top lefts rights (both c.args.left.now c.args.right.now (g.St.Store.holds c.args.store.now) (g.St.Store.signs c.args.store.now)) (c.len-at.result - 1) c.level-level.result c.level-level.ensures.value c.requires.between.levels deep)
+    (c.divide_both.ensures.made lefts rights shows))
+
+pub returns-then-not-is_few-clause-made : goal.returns-then-not-is_few-clause-made
+returns-then-not-is_few-clause-made g c = λ lefts rights shows.
+    let deep : c.level-level.result < 16 = let placed = c.level-level.ensures.placed.deep in let not = c.is_few.ensures.last c.if-not-is_few.true in omega (arith, placed, not) in
+    few_counts (owed_both (both c.args.left.now c.args.right.now (g.St.Store.holds c.args.store.now) (g.St.Store.signs c.args.store.now)) lefts rights) (g.E.Emit.creates c.args.emit.now) (g.St.Store.signs c.args.store.now) (g.St.Store.signs c.divide_both.new.store)
+    (few_less (length (lefts (c.len-at.result - 1)) + length (rights (c.len-at.result - 1))) (owed_both (both c.args.left.now c.args.right.now (g.St.Store.holds c.args.store.now) (g.St.Store.signs c.args.store.now)) lefts rights) (g.St.Store.signs c.args.store.now) (g.St.Store.signs c.divide_both.new.store) (owed_top lefts rights (both c.args.left.now c.args.right.now (g.St.Store.holds c.args.store.now) (g.St.Store.signs c.args.store.now)) (c.len-at.result - 1) c.level-level.result c.level-level.ensures.value c.requires.between.levels deep)
+    (c.divide_both.ensures.made lefts rights shows))
+
+pub returns-clause-made : goal.returns-clause-made
+returns-clause-made g c = λ lefts rights shows. counts_less 0 (owed_both (both c.args.left.now c.args.right.now (g.St.Store.holds c.args.store.now) (g.St.Store.signs c.args.store.now)) lefts rights) (g.E.Emit.creates c.args.emit.now) (g.E.Emit.creates c.pair_top.new.emit) (g.St.Store.signs c.args.store.now) (g.St.Store.signs c.pair_top.new.store) (omega arith) c.pair_top.ensures.made

@@ -1,10 +1,11 @@
-use Rattle.std.proofs.Common.{◌≡◌, ap₂, sym, subst, List}
+use Rattle.std.proofs.Common.{◌≡◌, ◌∙◌, ◌+◌, length, ap₂, sym, subst, arith, List}
 use Rattle.std.specs.Prelude.{All}
 use Rattle.row_codec.specs.declared.values.Kind.{Kind}
 use Rattle.row_reading.specs.Reading.{IsKeyColumn}
 use Rattle.store_api.proofs.Answered.{answered_before}
 use Rattle.partition_stack.specs.Stack.{over}
 use Rattle.partition_stack.proofs.Left.{leaves_both}
+use Rattle.partition_stack.proofs.Making.{few_both, few_counted, few_less}
 use Rattle.partition_stack.proofs.Results.{if_err}
 use Rattle.join_op.specs.Dividing.{DealsAll, side_of}
 use Rattle.join_op.specs.Stored.{Side, left_side, right_side}
@@ -28,6 +29,17 @@ returns-clause-leaves g c = leaves_both c.args.c.now.tracker _ _ _ _ _ _ c.divid
 pub returns-clause-cause : goal.returns-clause-cause
 returns-clause-cause g c = if_err c.divide_side-2.result (λ e answers. answered_before e _ _ _ c.divide_side.ensures.called.leaves.grows answers.0) c.divide_side-2.ensures.answers
 
+pub returns-in_err-divide_side-clause-made : goal.returns-in_err-divide_side-clause-made
+returns-in_err-divide_side-clause-made g c = λ lefts rights shows.
+    few_less (length (lefts c.args.at)) (length (lefts c.args.at) + length (rights c.args.at)) (g.St.Store.signs c.args.store.now) (g.St.Store.signs c.divide_side.new.store) (omega arith)
+    (few_counted lefts (over c.args.left.now (g.St.Store.holds c.args.store.now) (g.St.Store.signs c.args.store.now)) c.args.at (g.St.Store.signs c.args.store.now) (g.St.Store.signs c.divide_side.new.store) (let top = c.requires.top in omega (arith, top)) shows.left c.divide_side.ensures.made)
+
+pub returns-clause-made : goal.returns-clause-made
+returns-clause-made g c = λ lefts rights shows.
+    few_both (length (lefts c.args.at)) (length (rights c.args.at)) (length (lefts c.args.at) + length (rights c.args.at)) (g.St.Store.signs c.args.store.now) (g.St.Store.signs c.divide_side.new.store) (g.St.Store.signs c.divide_side-2.new.store) (omega arith)
+    (few_counted lefts (over c.args.left.now (g.St.Store.holds c.args.store.now) (g.St.Store.signs c.args.store.now)) c.args.at (g.St.Store.signs c.args.store.now) (g.St.Store.signs c.divide_side.new.store) (let top = c.requires.top in omega (arith, top)) shows.left c.divide_side.ensures.made)
+    (few_counted rights (over c.args.right.now (g.St.Store.holds c.args.store.now) (g.St.Store.signs c.args.store.now)) c.args.at (g.St.Store.signs c.divide_side.new.store) (g.St.Store.signs c.divide_side-2.new.store) (let top = c.requires.top in let many = c.requires.between.many in omega (arith, top, many)) shows.right c.divide_side-2.ensures.made)
+
 pub returns-clause-divided : goal.returns-clause-divided
 returns-clause-divided g c =
     let h = g.St.Store.holds c.args.store.now in
@@ -45,5 +57,6 @@ returns-clause-divided g c =
     both_divided c.args.c.now.tracker c.args.shape.now c.args.at c.args.level c.args.left.now c.args.right.now c.divide_side.new.parts c.divide_side-2.new.parts h h1 h2 s s1 s2
     c.requires.between c.requires.top c.requires.level c.requires.deep c.divide_side.ensures.called c.divide_side-2.ensures.called dealt
     (subst (λ (side : Side). DealsAll side c.args.level c.args.at (over c.args.right.now h1 s1) (over c.divide_side-2.new.parts h2 s2)) right_is dealt_next)
-    c.in_ok-divide_side.ensures.divided divided_next c.in_ok-divide_side.ensures.closed closed_next c.in_ok-divide_side.ensures.first)
+    c.in_ok-divide_side.ensures.divided divided_next c.in_ok-divide_side.ensures.closed closed_next c.in_ok-divide_side.ensures.first
+    (c.law_stack.ensures.levelled ∙ c.requires.top) (returns-clause-made g c))
     c.divide_side-2.ensures.dealt c.divide_side-2.ensures.divided c.divide_side-2.ensures.closed

@@ -4,6 +4,7 @@ use Rattle.tuple_stream.specs.Steps.{scene}
 use Rattle.tuple_stream.specs.Streamed.{Streamed}
 use Rattle.tuple_stream.proofs.PageLists.{at_end}
 use Rattle.partition_stack.specs.Sides.{OwnBoth}
+use Rattle.partition_stack.proofs.Making.{emptied_makes}
 use Rattle.join_op.proofs.Going.{closed_front, gone_first, gone_leaves, gone_lives, gone_loans, gone_other, gone_own, gone_shows}
 use Rattle.join_op.proofs.joining.drop_one.Goals as goal
 
@@ -63,3 +64,13 @@ returns-clause-first g c = λ closed.
     let own : OwnBoth t 0 (front ++ c.pop-top.result ∷ []) other h s = subst (λ (ss : List Streamed). OwnBoth t 0 ss other h s) c.pop-top.ensures.streams c.requires.own in
     let empties = c.drop_all.ensures.went t (own.left_shaped.each (length front) c.pop-top.result (at_end front c.pop-top.result)) in
     gone_first t front c.pop-top.result other h s b own empties c.drop_all.ensures.value (subst (λ (ss : List Streamed). AllClosed (family ss h s)) c.pop-top.ensures.streams closed)
+
+pub returns-clause-made : goal.returns-clause-made
+returns-clause-made g c =
+    let t = c.args.c.now.tracker in
+    let h = g.St.Store.holds c.args.store.now in
+    let s = g.St.Store.signs c.args.store.now in
+    let front = c.pop-top.new.self.streams in
+    let other = c.args._other.now.streams in
+    let own : OwnBoth t 0 (front ++ c.pop-top.result ∷ []) other h s = subst (λ (ss : List Streamed). OwnBoth t 0 ss other h s) c.pop-top.ensures.streams c.requires.own in
+    emptied_makes t (scene c.pop-top.result h s) (scene c.drop_all.new.self (g.St.Store.holds c.drop_all.new.store) (g.St.Store.signs c.drop_all.new.store)) (c.drop_all.ensures.went t (own.left_shaped.each (length front) c.pop-top.result (at_end front c.pop-top.result)))

@@ -1,8 +1,9 @@
-use Rattle.std.proofs.Common.{◌∙◌, ap, sym, take}
+use Rattle.std.proofs.Common.{◌∙◌, ap, sym, take, arith}
 use Rattle.tuple_stream.specs.Trails.{PinsFirst}
 use Rattle.tuple_stream.proofs.PinsFirst.{both_pin_first}
 use Rattle.tuple_stream.proofs.Sinces.{since_joined}
 use Rattle.partition_stack.proofs.Left.{leaves_both}
+use Rattle.partition_stack.proofs.Making.{few_both}
 use Rattle.join_op.proofs.joining.drop_top.Goals as goal
 
 pub returns-clause-leaves : goal.returns-clause-leaves
@@ -30,3 +31,6 @@ returns-clause-shows g c = λ lefts rights shows.
 pub returns-clause-first : goal.returns-clause-first
 returns-clause-first g c =
     since_joined PinsFirst PinsFirst PinsFirst _ _ _ both_pin_first (c.drop_one.ensures.first c.requires.between.left_closed) (c.drop_one-2.ensures.first c.requires.between.right_closed)
+
+pub returns-clause-made : goal.returns-clause-made
+returns-clause-made g c = few_both 0 0 0 (g.St.Store.signs c.args.store.now) (g.St.Store.signs c.drop_one.new.store) (g.St.Store.signs c.drop_one-2.new.store) (omega arith) c.drop_one.ensures.made c.drop_one-2.ensures.made

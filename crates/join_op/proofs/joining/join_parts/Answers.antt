@@ -6,7 +6,7 @@ use Rattle.partition_stack.specs.Emitting.{IsBeside}
 use Rattle.partition_stack.proofs.Emitters.{beside_stands, came_behind, same_beside, stands_then}
 use Rattle.join_op.specs.Handing.{EmittedSome}
 use Rattle.join_op.specs.Joining.{ShowBoth, both, pairs_down}
-use Rattle.join_op.proofs.Advances.{advances_all, advances_some}
+use Rattle.join_op.proofs.Advances.{advances_all, advances_few, advances_made, advances_some}
 use Rattle.join_op.proofs.Besides.{beside_more}
 use Rattle.join_op.proofs.Downward.{HasGoneDown, down_beside, down_reserved, down_stepped, gone_none}
 use Rattle.join_op.proofs.Stepped.{gone_on_all}
@@ -34,9 +34,9 @@ advance-requires-clause-emitter g c =
     let beside : IsBeside c.args.c.now.tracker (g.E.Emit.client c.down.emit) h = down_beside (c.down.emit ≡ c.args.emit.now) c.args.c.now c.args.shape.now _ _ _ _ _ _ _ _ (both c.args.left.now c.args.right.now h0 s0) (both c.down.left c.down.right h s) c.down.invariant c.requires.emitter in
     let still : (taken : List (List Value)) → g.E.Emit.took c.down.emit h taken → g.E.Emit.took c.down.emit hm taken =
     λ taken. g.met.E.Emit.asks_own c.down.emit h hm taken (same_beside c.args.c.now.tracker (g.E.Emit.client c.down.emit) h hm s sm beside.apart c.reserve_top.ensures.leaves) in
-    let mid : HasGoneDown (c.down.emit ≡ c.args.emit.now) c.args.c.now c.args.shape.now (g.E.Emit.admits c.args.emit.now) (g.E.Emit.admits c.down.emit) (g.E.Emit.client c.args.emit.now) (g.E.Emit.client c.down.emit) (g.E.Emit.faults c.args.emit.now) (g.E.Emit.faults c.down.emit) (g.E.Emit.took c.args.emit.now h0) (g.E.Emit.took c.down.emit hm) (both c.args.left.now c.args.right.now h0 s0) (both c.down.left c.down.right hm sm) =
+    let mid : HasGoneDown (c.down.emit ≡ c.args.emit.now) c.args.c.now c.args.shape.now (g.E.Emit.admits c.args.emit.now) (g.E.Emit.admits c.down.emit) (g.E.Emit.client c.args.emit.now) (g.E.Emit.client c.down.emit) (g.E.Emit.faults c.args.emit.now) (g.E.Emit.faults c.down.emit) (g.E.Emit.creates c.args.emit.now) (g.E.Emit.creates c.down.emit) (g.E.Emit.took c.args.emit.now h0) (g.E.Emit.took c.down.emit hm) (both c.args.left.now c.args.right.now h0 s0) (both c.down.left c.down.right hm sm) =
     down_reserved (c.down.emit ≡ c.args.emit.now) c.args.c.now c.args.shape.now _ _ _ _ _ _ _ (g.E.Emit.took c.down.emit h) (both c.args.left.now c.args.right.now h0 s0) (both c.down.left c.down.right h s) c.down.invariant (g.E.Emit.took c.down.emit hm) hm sm c.requires.emitter c.reserve_top.ensures.leaves still
-    c.reserve_top.ensures.between c.reserve_top.ensures.op c.reserve_top.ensures.first c.reserve_top.ensures.shows in
+    c.reserve_top.ensures.between c.reserve_top.ensures.op c.reserve_top.ensures.first c.reserve_top.ensures.shows c.reserve_top.ensures.made in
     beside_stands c.args.c.now.tracker _ _ _ _ _ _ _ _ h0 hm c.requires.emitter mid.stands
 
 pub advance-requires-clause-admits : goal.advance-requires-clause-admits
@@ -53,9 +53,9 @@ advance-requires-clause-stands g c =
     let beside : IsBeside c.args.c.now.tracker (g.E.Emit.client c.down.emit) h = down_beside (c.down.emit ≡ c.args.emit.now) c.args.c.now c.args.shape.now _ _ _ _ _ _ _ _ (both c.args.left.now c.args.right.now h0 s0) (both c.down.left c.down.right h s) c.down.invariant c.requires.emitter in
     let still : (taken : List (List Value)) → g.E.Emit.took c.down.emit h taken → g.E.Emit.took c.down.emit hm taken =
     λ taken. g.met.E.Emit.asks_own c.down.emit h hm taken (same_beside c.args.c.now.tracker (g.E.Emit.client c.down.emit) h hm s sm beside.apart c.reserve_top.ensures.leaves) in
-    let mid : HasGoneDown (c.down.emit ≡ c.args.emit.now) c.args.c.now c.args.shape.now (g.E.Emit.admits c.args.emit.now) (g.E.Emit.admits c.down.emit) (g.E.Emit.client c.args.emit.now) (g.E.Emit.client c.down.emit) (g.E.Emit.faults c.args.emit.now) (g.E.Emit.faults c.down.emit) (g.E.Emit.took c.args.emit.now h0) (g.E.Emit.took c.down.emit hm) (both c.args.left.now c.args.right.now h0 s0) (both c.down.left c.down.right hm sm) =
+    let mid : HasGoneDown (c.down.emit ≡ c.args.emit.now) c.args.c.now c.args.shape.now (g.E.Emit.admits c.args.emit.now) (g.E.Emit.admits c.down.emit) (g.E.Emit.client c.args.emit.now) (g.E.Emit.client c.down.emit) (g.E.Emit.faults c.args.emit.now) (g.E.Emit.faults c.down.emit) (g.E.Emit.creates c.args.emit.now) (g.E.Emit.creates c.down.emit) (g.E.Emit.took c.args.emit.now h0) (g.E.Emit.took c.down.emit hm) (both c.args.left.now c.args.right.now h0 s0) (both c.down.left c.down.right hm sm) =
     down_reserved (c.down.emit ≡ c.args.emit.now) c.args.c.now c.args.shape.now _ _ _ _ _ _ _ (g.E.Emit.took c.down.emit h) (both c.args.left.now c.args.right.now h0 s0) (both c.down.left c.down.right h s) c.down.invariant (g.E.Emit.took c.down.emit hm) hm sm c.requires.emitter c.reserve_top.ensures.leaves still
-    c.reserve_top.ensures.between c.reserve_top.ensures.op c.reserve_top.ensures.first c.reserve_top.ensures.shows in
+    c.reserve_top.ensures.between c.reserve_top.ensures.op c.reserve_top.ensures.first c.reserve_top.ensures.shows c.reserve_top.ensures.made in
     let more = mid.stands.took c.requires.stands.0 c.requires.stands.1 in
     (c.requires.stands.0 ++ more.0, more.1)
 
@@ -73,9 +73,9 @@ down-preserved g c =
     let beside : IsBeside c.args.c.now.tracker (g.E.Emit.client c.down.emit) h = down_beside (c.down.emit ≡ c.args.emit.now) c.args.c.now c.args.shape.now _ _ _ _ _ _ _ _ (both c.args.left.now c.args.right.now h0 s0) (both c.down.left c.down.right h s) c.down.invariant c.requires.emitter in
     let still : (taken : List (List Value)) → g.E.Emit.took c.down.emit h taken → g.E.Emit.took c.down.emit hm taken =
     λ taken. g.met.E.Emit.asks_own c.down.emit h hm taken (same_beside c.args.c.now.tracker (g.E.Emit.client c.down.emit) h hm s sm beside.apart c.reserve_top.ensures.leaves) in
-    let mid : HasGoneDown (c.down.emit ≡ c.args.emit.now) c.args.c.now c.args.shape.now (g.E.Emit.admits c.args.emit.now) (g.E.Emit.admits c.down.emit) (g.E.Emit.client c.args.emit.now) (g.E.Emit.client c.down.emit) (g.E.Emit.faults c.args.emit.now) (g.E.Emit.faults c.down.emit) (g.E.Emit.took c.args.emit.now h0) (g.E.Emit.took c.down.emit hm) (both c.args.left.now c.args.right.now h0 s0) (both c.down.left c.down.right hm sm) =
+    let mid : HasGoneDown (c.down.emit ≡ c.args.emit.now) c.args.c.now c.args.shape.now (g.E.Emit.admits c.args.emit.now) (g.E.Emit.admits c.down.emit) (g.E.Emit.client c.args.emit.now) (g.E.Emit.client c.down.emit) (g.E.Emit.faults c.args.emit.now) (g.E.Emit.faults c.down.emit) (g.E.Emit.creates c.args.emit.now) (g.E.Emit.creates c.down.emit) (g.E.Emit.took c.args.emit.now h0) (g.E.Emit.took c.down.emit hm) (both c.args.left.now c.args.right.now h0 s0) (both c.down.left c.down.right hm sm) =
     down_reserved (c.down.emit ≡ c.args.emit.now) c.args.c.now c.args.shape.now _ _ _ _ _ _ _ (g.E.Emit.took c.down.emit h) (both c.args.left.now c.args.right.now h0 s0) (both c.down.left c.down.right h s) c.down.invariant (g.E.Emit.took c.down.emit hm) hm sm c.requires.emitter c.reserve_top.ensures.leaves still
-    c.reserve_top.ensures.between c.reserve_top.ensures.op c.reserve_top.ensures.first c.reserve_top.ensures.shows in
+    c.reserve_top.ensures.between c.reserve_top.ensures.op c.reserve_top.ensures.first c.reserve_top.ensures.shows c.reserve_top.ensures.made in
     let h1 = g.St.Store.holds c.advance.new.store in
     let s1 = g.St.Store.signs c.advance.new.store in
     down_stepped (c.down.emit ≡ c.args.emit.now) c.args.c.now c.args.shape.now _ _ _ _ _ _ _ (g.E.Emit.took c.down.emit hm) (both c.args.left.now c.args.right.now h0 s0) (both c.down.left c.down.right hm sm) mid (c.advance.new.emit ≡ c.down.emit) (c.advance.new.emit ≡ c.args.emit.now) (λ so next. next ∙ so) (g.E.Emit.admits c.advance.new.emit) (g.E.Emit.client c.advance.new.emit) (g.E.Emit.faults c.advance.new.emit) (g.E.Emit.took c.advance.new.emit h1)
@@ -92,9 +92,9 @@ returns-in_err-advance-clause-err g c =
     let beside : IsBeside c.args.c.now.tracker (g.E.Emit.client c.down.emit) h = down_beside (c.down.emit ≡ c.args.emit.now) c.args.c.now c.args.shape.now _ _ _ _ _ _ _ _ (both c.args.left.now c.args.right.now h0 s0) (both c.down.left c.down.right h s) c.down.invariant c.requires.emitter in
     let still : (taken : List (List Value)) → g.E.Emit.took c.down.emit h taken → g.E.Emit.took c.down.emit hm taken =
     λ taken. g.met.E.Emit.asks_own c.down.emit h hm taken (same_beside c.args.c.now.tracker (g.E.Emit.client c.down.emit) h hm s sm beside.apart c.reserve_top.ensures.leaves) in
-    let mid : HasGoneDown (c.down.emit ≡ c.args.emit.now) c.args.c.now c.args.shape.now (g.E.Emit.admits c.args.emit.now) (g.E.Emit.admits c.down.emit) (g.E.Emit.client c.args.emit.now) (g.E.Emit.client c.down.emit) (g.E.Emit.faults c.args.emit.now) (g.E.Emit.faults c.down.emit) (g.E.Emit.took c.args.emit.now h0) (g.E.Emit.took c.down.emit hm) (both c.args.left.now c.args.right.now h0 s0) (both c.down.left c.down.right hm sm) =
+    let mid : HasGoneDown (c.down.emit ≡ c.args.emit.now) c.args.c.now c.args.shape.now (g.E.Emit.admits c.args.emit.now) (g.E.Emit.admits c.down.emit) (g.E.Emit.client c.args.emit.now) (g.E.Emit.client c.down.emit) (g.E.Emit.faults c.args.emit.now) (g.E.Emit.faults c.down.emit) (g.E.Emit.creates c.args.emit.now) (g.E.Emit.creates c.down.emit) (g.E.Emit.took c.args.emit.now h0) (g.E.Emit.took c.down.emit hm) (both c.args.left.now c.args.right.now h0 s0) (both c.down.left c.down.right hm sm) =
     down_reserved (c.down.emit ≡ c.args.emit.now) c.args.c.now c.args.shape.now _ _ _ _ _ _ _ (g.E.Emit.took c.down.emit h) (both c.args.left.now c.args.right.now h0 s0) (both c.down.left c.down.right h s) c.down.invariant (g.E.Emit.took c.down.emit hm) hm sm c.requires.emitter c.reserve_top.ensures.leaves still
-    c.reserve_top.ensures.between c.reserve_top.ensures.op c.reserve_top.ensures.first c.reserve_top.ensures.shows in
+    c.reserve_top.ensures.between c.reserve_top.ensures.op c.reserve_top.ensures.first c.reserve_top.ensures.shows c.reserve_top.ensures.made in
     let h1 = g.St.Store.holds c.advance.new.store in
     let some : (lefts rights : ℕ → List (List ℕ)) → ShowBoth lefts rights (both c.args.left.now c.args.right.now h0 s0) → EmittedSome (g.E.Emit.took c.args.emit.now h0) (g.E.Emit.took c.advance.new.emit h1) (pairs_down c.args.shape.now (length c.args.left.now.streams) lefts rights) =
     λ lefts rights shows.
@@ -117,9 +117,9 @@ returns-in_err-advance-clause-leaves g c =
     let beside : IsBeside c.args.c.now.tracker (g.E.Emit.client c.down.emit) h = down_beside (c.down.emit ≡ c.args.emit.now) c.args.c.now c.args.shape.now _ _ _ _ _ _ _ _ (both c.args.left.now c.args.right.now h0 s0) (both c.down.left c.down.right h s) c.down.invariant c.requires.emitter in
     let still : (taken : List (List Value)) → g.E.Emit.took c.down.emit h taken → g.E.Emit.took c.down.emit hm taken =
     λ taken. g.met.E.Emit.asks_own c.down.emit h hm taken (same_beside c.args.c.now.tracker (g.E.Emit.client c.down.emit) h hm s sm beside.apart c.reserve_top.ensures.leaves) in
-    let mid : HasGoneDown (c.down.emit ≡ c.args.emit.now) c.args.c.now c.args.shape.now (g.E.Emit.admits c.args.emit.now) (g.E.Emit.admits c.down.emit) (g.E.Emit.client c.args.emit.now) (g.E.Emit.client c.down.emit) (g.E.Emit.faults c.args.emit.now) (g.E.Emit.faults c.down.emit) (g.E.Emit.took c.args.emit.now h0) (g.E.Emit.took c.down.emit hm) (both c.args.left.now c.args.right.now h0 s0) (both c.down.left c.down.right hm sm) =
+    let mid : HasGoneDown (c.down.emit ≡ c.args.emit.now) c.args.c.now c.args.shape.now (g.E.Emit.admits c.args.emit.now) (g.E.Emit.admits c.down.emit) (g.E.Emit.client c.args.emit.now) (g.E.Emit.client c.down.emit) (g.E.Emit.faults c.args.emit.now) (g.E.Emit.faults c.down.emit) (g.E.Emit.creates c.args.emit.now) (g.E.Emit.creates c.down.emit) (g.E.Emit.took c.args.emit.now h0) (g.E.Emit.took c.down.emit hm) (both c.args.left.now c.args.right.now h0 s0) (both c.down.left c.down.right hm sm) =
     down_reserved (c.down.emit ≡ c.args.emit.now) c.args.c.now c.args.shape.now _ _ _ _ _ _ _ (g.E.Emit.took c.down.emit h) (both c.args.left.now c.args.right.now h0 s0) (both c.down.left c.down.right h s) c.down.invariant (g.E.Emit.took c.down.emit hm) hm sm c.requires.emitter c.reserve_top.ensures.leaves still
-    c.reserve_top.ensures.between c.reserve_top.ensures.op c.reserve_top.ensures.first c.reserve_top.ensures.shows in
+    c.reserve_top.ensures.between c.reserve_top.ensures.op c.reserve_top.ensures.first c.reserve_top.ensures.shows c.reserve_top.ensures.made in
     beside_more c.args.c.now.tracker _ _ _ _ _ _ _ _ mid.stands.client_same mid.leaves c.advance.ensures.leaves
 
 pub returns-in_err-advance-clause-emitter : goal.returns-in_err-advance-clause-emitter
@@ -133,9 +133,9 @@ returns-in_err-advance-clause-emitter g c =
     let beside : IsBeside c.args.c.now.tracker (g.E.Emit.client c.down.emit) h = down_beside (c.down.emit ≡ c.args.emit.now) c.args.c.now c.args.shape.now _ _ _ _ _ _ _ _ (both c.args.left.now c.args.right.now h0 s0) (both c.down.left c.down.right h s) c.down.invariant c.requires.emitter in
     let still : (taken : List (List Value)) → g.E.Emit.took c.down.emit h taken → g.E.Emit.took c.down.emit hm taken =
     λ taken. g.met.E.Emit.asks_own c.down.emit h hm taken (same_beside c.args.c.now.tracker (g.E.Emit.client c.down.emit) h hm s sm beside.apart c.reserve_top.ensures.leaves) in
-    let mid : HasGoneDown (c.down.emit ≡ c.args.emit.now) c.args.c.now c.args.shape.now (g.E.Emit.admits c.args.emit.now) (g.E.Emit.admits c.down.emit) (g.E.Emit.client c.args.emit.now) (g.E.Emit.client c.down.emit) (g.E.Emit.faults c.args.emit.now) (g.E.Emit.faults c.down.emit) (g.E.Emit.took c.args.emit.now h0) (g.E.Emit.took c.down.emit hm) (both c.args.left.now c.args.right.now h0 s0) (both c.down.left c.down.right hm sm) =
+    let mid : HasGoneDown (c.down.emit ≡ c.args.emit.now) c.args.c.now c.args.shape.now (g.E.Emit.admits c.args.emit.now) (g.E.Emit.admits c.down.emit) (g.E.Emit.client c.args.emit.now) (g.E.Emit.client c.down.emit) (g.E.Emit.faults c.args.emit.now) (g.E.Emit.faults c.down.emit) (g.E.Emit.creates c.args.emit.now) (g.E.Emit.creates c.down.emit) (g.E.Emit.took c.args.emit.now h0) (g.E.Emit.took c.down.emit hm) (both c.args.left.now c.args.right.now h0 s0) (both c.down.left c.down.right hm sm) =
     down_reserved (c.down.emit ≡ c.args.emit.now) c.args.c.now c.args.shape.now _ _ _ _ _ _ _ (g.E.Emit.took c.down.emit h) (both c.args.left.now c.args.right.now h0 s0) (both c.down.left c.down.right h s) c.down.invariant (g.E.Emit.took c.down.emit hm) hm sm c.requires.emitter c.reserve_top.ensures.leaves still
-    c.reserve_top.ensures.between c.reserve_top.ensures.op c.reserve_top.ensures.first c.reserve_top.ensures.shows in
+    c.reserve_top.ensures.between c.reserve_top.ensures.op c.reserve_top.ensures.first c.reserve_top.ensures.shows c.reserve_top.ensures.made in
     stands_then _ _ _ _ _ _ _ _ _ _ _ _ _ _ mid.stands c.advance.ensures.emitter
 
 pub returns-in_err-advance-clause-cause : goal.returns-in_err-advance-clause-cause
@@ -149,9 +149,9 @@ returns-in_err-advance-clause-cause g c =
     let beside : IsBeside c.args.c.now.tracker (g.E.Emit.client c.down.emit) h = down_beside (c.down.emit ≡ c.args.emit.now) c.args.c.now c.args.shape.now _ _ _ _ _ _ _ _ (both c.args.left.now c.args.right.now h0 s0) (both c.down.left c.down.right h s) c.down.invariant c.requires.emitter in
     let still : (taken : List (List Value)) → g.E.Emit.took c.down.emit h taken → g.E.Emit.took c.down.emit hm taken =
     λ taken. g.met.E.Emit.asks_own c.down.emit h hm taken (same_beside c.args.c.now.tracker (g.E.Emit.client c.down.emit) h hm s sm beside.apart c.reserve_top.ensures.leaves) in
-    let mid : HasGoneDown (c.down.emit ≡ c.args.emit.now) c.args.c.now c.args.shape.now (g.E.Emit.admits c.args.emit.now) (g.E.Emit.admits c.down.emit) (g.E.Emit.client c.args.emit.now) (g.E.Emit.client c.down.emit) (g.E.Emit.faults c.args.emit.now) (g.E.Emit.faults c.down.emit) (g.E.Emit.took c.args.emit.now h0) (g.E.Emit.took c.down.emit hm) (both c.args.left.now c.args.right.now h0 s0) (both c.down.left c.down.right hm sm) =
+    let mid : HasGoneDown (c.down.emit ≡ c.args.emit.now) c.args.c.now c.args.shape.now (g.E.Emit.admits c.args.emit.now) (g.E.Emit.admits c.down.emit) (g.E.Emit.client c.args.emit.now) (g.E.Emit.client c.down.emit) (g.E.Emit.faults c.args.emit.now) (g.E.Emit.faults c.down.emit) (g.E.Emit.creates c.args.emit.now) (g.E.Emit.creates c.down.emit) (g.E.Emit.took c.args.emit.now h0) (g.E.Emit.took c.down.emit hm) (both c.args.left.now c.args.right.now h0 s0) (both c.down.left c.down.right hm sm) =
     down_reserved (c.down.emit ≡ c.args.emit.now) c.args.c.now c.args.shape.now _ _ _ _ _ _ _ (g.E.Emit.took c.down.emit h) (both c.args.left.now c.args.right.now h0 s0) (both c.down.left c.down.right h s) c.down.invariant (g.E.Emit.took c.down.emit hm) hm sm c.requires.emitter c.reserve_top.ensures.leaves still
-    c.reserve_top.ensures.between c.reserve_top.ensures.op c.reserve_top.ensures.first c.reserve_top.ensures.shows in
+    c.reserve_top.ensures.between c.reserve_top.ensures.op c.reserve_top.ensures.first c.reserve_top.ensures.shows c.reserve_top.ensures.made in
     let came : CameOf (g.E.Emit.faults c.args.emit.now) (g.E.Emit.faults c.advance.new.emit) (g.St.Store.signs c.args.store.now) (g.St.Store.signs c.advance.new.store) c.in_err-advance.field-0.0 =
     came_behind _ _ _ _ _ _ _ mid.stands.never_falls mid.leaves.grows c.in_err-advance.ensures.cause in
     search (rules, came)
@@ -188,3 +188,25 @@ returns-clause-closed g c = c.down.invariant.between
 
 pub returns-clause-emitter : goal.returns-clause-emitter
 returns-clause-emitter g c = c.down.invariant.stands
+
+pub returns-in_err-advance-clause-made : goal.returns-in_err-advance-clause-made
+returns-in_err-advance-clause-made g c = λ lefts rights shows.
+    let h0 = g.St.Store.holds c.args.store.now in
+    let s0 = g.St.Store.signs c.args.store.now in
+    let h = g.St.Store.holds c.down.store in
+    let s = g.St.Store.signs c.down.store in
+    let hm = g.St.Store.holds c.reserve_top.new.store in
+    let sm = g.St.Store.signs c.reserve_top.new.store in
+    let beside : IsBeside c.args.c.now.tracker (g.E.Emit.client c.down.emit) h = down_beside (c.down.emit ≡ c.args.emit.now) c.args.c.now c.args.shape.now _ _ _ _ _ _ _ _ (both c.args.left.now c.args.right.now h0 s0) (both c.down.left c.down.right h s) c.down.invariant c.requires.emitter in
+    let still : (taken : List (List Value)) → g.E.Emit.took c.down.emit h taken → g.E.Emit.took c.down.emit hm taken =
+    λ taken. g.met.E.Emit.asks_own c.down.emit h hm taken (same_beside c.args.c.now.tracker (g.E.Emit.client c.down.emit) h hm s sm beside.apart c.reserve_top.ensures.leaves) in
+    let mid : HasGoneDown (c.down.emit ≡ c.args.emit.now) c.args.c.now c.args.shape.now (g.E.Emit.admits c.args.emit.now) (g.E.Emit.admits c.down.emit) (g.E.Emit.client c.args.emit.now) (g.E.Emit.client c.down.emit) (g.E.Emit.faults c.args.emit.now) (g.E.Emit.faults c.down.emit) (g.E.Emit.creates c.args.emit.now) (g.E.Emit.creates c.down.emit) (g.E.Emit.took c.args.emit.now h0) (g.E.Emit.took c.down.emit hm) (both c.args.left.now c.args.right.now h0 s0) (both c.down.left c.down.right hm sm) =
+    down_reserved (c.down.emit ≡ c.args.emit.now) c.args.c.now c.args.shape.now _ _ _ _ _ _ _ (g.E.Emit.took c.down.emit h) (both c.args.left.now c.args.right.now h0 s0) (both c.down.left c.down.right h s) c.down.invariant (g.E.Emit.took c.down.emit hm) hm sm c.requires.emitter c.reserve_top.ensures.leaves still
+    c.reserve_top.ensures.between c.reserve_top.ensures.op c.reserve_top.ensures.first c.reserve_top.ensures.shows c.reserve_top.ensures.made in
+    let first = mid.rows lefts rights shows in
+    advances_made (g.E.Emit.creates c.advance.new.emit) c.args.shape.now (g.E.Emit.took c.args.emit.now h0) (g.E.Emit.took c.down.emit hm) lefts rights (both c.args.left.now c.args.right.now h0 s0) (both c.down.left c.down.right hm sm) (g.St.Store.signs c.advance.new.store) first
+    (c.advance.ensures.made first.lefts_now first.rights_now first.shows)
+
+pub returns-clause-made : goal.returns-clause-made
+returns-clause-made g c = λ lefts rights shows.
+    advances_few c.args.shape.now (g.E.Emit.took c.args.emit.now (g.St.Store.holds c.args.store.now)) (g.E.Emit.took c.down.emit (g.St.Store.holds c.down.store)) lefts rights (both c.args.left.now c.args.right.now (g.St.Store.holds c.args.store.now) (g.St.Store.signs c.args.store.now)) (both c.down.left c.down.right (g.St.Store.holds c.down.store) (g.St.Store.signs c.down.store)) (c.down.invariant.rows lefts rights shows)

@@ -1,4 +1,4 @@
-use Rattle.std.proofs.Common.{◌≡◌, ◌∙◌, ℕ, List, subst, sym}
+use Rattle.std.proofs.Common.{◌≡◌, ◌∙◌, ℕ, List, subst, sym, arith}
 use Rattle.row_codec.specs.declared.values.Value.{Value}
 use Rattle.tuple_stream.specs.Steps.{scene}
 use Rattle.partition_stack.specs.Causes.{IsShortOf}
@@ -8,6 +8,7 @@ use Rattle.partition_stack.proofs.Results.{if_err, on_err, on_ok}
 use Rattle.join_op.proofs.Paired.{came_till, leaves_gone, leaves_paired, left_rows, op_paired, popped, readable, right_rows, right_still, shows_paired, stands_read, beside_read, left_there}
 use Rattle.join_op.specs.Chunks.{stored_pairs}
 use Rattle.join_op.proofs.Handed.{emitted_on, some_on}
+use Rattle.partition_stack.proofs.Making.{counts_both, emptied_makes, few_both, few_counts}
 use Rattle.join_op.proofs.joining.pair_top.Goals as goal
 
 pub leaf_by_table-result-requires-clause-streams : goal.leaf_by_table-result-requires-clause-streams
@@ -88,3 +89,16 @@ returns-clause-short g c = λ none.
 pub returns-clause-cause : goal.returns-clause-cause
 returns-clause-cause g c =
     came_till c.leaf_by_table-result.result _ _ _ _ _ (leaves_gone c.args.c.now c.args.shape.now c.args._at c.args.left.now c.args.right.now c.pop-one.new.self c.pop-other.new.self c.pop-one.result c.pop-other.result (g.St.Store.holds c.args.store.now) (g.St.Store.signs c.args.store.now) c.requires.op c.requires.between c.requires.top c.pop-one.ensures.streams c.pop-other.ensures.streams (g.E.Emit.client c.args.emit.now) c.leaf_by_table-result.new.left c.leaf_by_table-result.new.right (g.St.Store.holds c.leaf_by_table-result.new.store) (g.St.Store.signs c.leaf_by_table-result.new.store) c.leaf_by_table-result.ensures.streams c.leaf_by_table-result.ensures.emitter.grows (scene c.drop_all.new.self (g.St.Store.holds c.drop_all.new.store) (g.St.Store.signs c.drop_all.new.store)) (c.drop_all.ensures.went c.args.c.now.tracker c.leaf_by_table-result.ensures.streams.left_shape) c.drop_all.ensures.value (scene c.drop_all-2.new.self (g.St.Store.holds c.drop_all-2.new.store) (g.St.Store.signs c.drop_all-2.new.store)) (c.drop_all-2.ensures.went c.args.c.now.tracker (right_still c.args.c.now c.args.shape.now c.args._at c.args.left.now c.args.right.now c.pop-one.new.self c.pop-other.new.self c.pop-one.result c.pop-other.result (g.St.Store.holds c.args.store.now) (g.St.Store.signs c.args.store.now) c.requires.op c.requires.between c.requires.top c.pop-one.ensures.streams c.pop-other.ensures.streams (g.E.Emit.client c.args.emit.now) c.leaf_by_table-result.new.left c.leaf_by_table-result.new.right (g.St.Store.holds c.leaf_by_table-result.new.store) (g.St.Store.signs c.leaf_by_table-result.new.store) c.leaf_by_table-result.ensures.streams c.leaf_by_table-result.ensures.emitter.grows (scene c.drop_all.new.self (g.St.Store.holds c.drop_all.new.store) (g.St.Store.signs c.drop_all.new.store)) (c.drop_all.ensures.went c.args.c.now.tracker c.leaf_by_table-result.ensures.streams.left_shape) c.drop_all.ensures.value)) c.drop_all-2.ensures.value c.pop-one.ensures.blocks c.pop-other.ensures.blocks c.pop-one.ensures.levels c.pop-other.ensures.levels).grows (if_err c.leaf_by_table-result.result (λ e came. came.came) c.leaf_by_table-result.ensures.cause)
+
+pub returns-clause-made : goal.returns-clause-made
+returns-clause-made g c =
+    let h1 = g.St.Store.holds c.leaf_by_table-result.new.store in
+    let s1 = g.St.Store.signs c.leaf_by_table-result.new.store in
+    let h2 = g.St.Store.holds c.drop_all.new.store in
+    let s2 = g.St.Store.signs c.drop_all.new.store in
+    let s3 = g.St.Store.signs c.drop_all-2.new.store in
+    counts_both 0 0 0 (g.E.Emit.creates c.args.emit.now) (g.E.Emit.creates c.leaf_by_table-result.new.emit) (g.E.Emit.creates c.leaf_by_table-result.new.emit) (g.St.Store.signs c.args.store.now) s1 s3 (omega arith) c.leaf_by_table-result.ensures.emitter.made
+    (few_counts 0 (g.E.Emit.creates c.leaf_by_table-result.new.emit) s1 s3
+    (few_both 0 0 0 s1 s2 s3 (omega arith)
+    (emptied_makes c.args.c.now.tracker (scene c.leaf_by_table-result.new.left h1 s1) (scene c.drop_all.new.self h2 s2) (c.drop_all.ensures.went c.args.c.now.tracker c.leaf_by_table-result.ensures.streams.left_shape))
+    (emptied_makes c.args.c.now.tracker (scene c.leaf_by_table-result.new.right h2 s2) (scene c.drop_all-2.new.self (g.St.Store.holds c.drop_all-2.new.store) s3) (c.drop_all-2.ensures.went c.args.c.now.tracker (right_still c.args.c.now c.args.shape.now c.args._at c.args.left.now c.args.right.now c.pop-one.new.self c.pop-other.new.self c.pop-one.result c.pop-other.result (g.St.Store.holds c.args.store.now) (g.St.Store.signs c.args.store.now) c.requires.op c.requires.between c.requires.top c.pop-one.ensures.streams c.pop-other.ensures.streams (g.E.Emit.client c.args.emit.now) c.leaf_by_table-result.new.left c.leaf_by_table-result.new.right (g.St.Store.holds c.leaf_by_table-result.new.store) (g.St.Store.signs c.leaf_by_table-result.new.store) c.leaf_by_table-result.ensures.streams c.leaf_by_table-result.ensures.emitter.grows (scene c.drop_all.new.self (g.St.Store.holds c.drop_all.new.store) (g.St.Store.signs c.drop_all.new.store)) (c.drop_all.ensures.went c.args.c.now.tracker c.leaf_by_table-result.ensures.streams.left_shape) c.drop_all.ensures.value)))))

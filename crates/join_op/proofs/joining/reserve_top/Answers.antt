@@ -1,4 +1,5 @@
-use Rattle.join_op.proofs.Reserving.{Reserves, reserved_first, reserved_leaves, reserved_op, reserved_shows, reserves}
+use Rattle.join_op.proofs.Reserving.{Reserves, reserved_first, reserved_leaves, reserved_made, reserved_op, reserved_shows, reserves}
+use Rattle.partition_stack.proofs.Making.{few_none}
 use Rattle.join_op.proofs.joining.reserve_top.Goals as goal
 
 pub returns-clause-op : goal.returns-clause-op
@@ -35,3 +36,17 @@ returns-clause-first g c =
     let s = g.St.Store.signs c.args.store.now in
     let s1 = g.St.Store.signs c.reserve_to_fit-reserved.new.self in
     reserved_first c.reserve_to_fit-reserved.result c.args.c.now.tracker _ _ h h1 s s1 c.reserve_to_fit-reserved.ensures.entries c.reserve_to_fit-reserved.ensures.err
+
+pub returns-clause-made : goal.returns-clause-made
+returns-clause-made g c =
+    let h = g.St.Store.holds c.args.store.now in
+    let h1 = g.St.Store.holds c.reserve_to_fit-reserved.new.self in
+    let s = g.St.Store.signs c.args.store.now in
+    let s1 = g.St.Store.signs c.reserve_to_fit-reserved.new.self in
+    reserved_made c.reserve_to_fit-reserved.result c.args.c.now.tracker _ _ h h1 s s1 c.reserve_to_fit-reserved.ensures.entries c.reserve_to_fit-reserved.ensures.err
+
+pub returns-then-level-le1-clause-made : goal.returns-then-level-le1-clause-made
+returns-then-level-le1-clause-made g c = few_none (g.St.Store.signs c.args.store.now)
+
+pub returns-in_default-clause-made : goal.returns-in_default-clause-made
+returns-in_default-clause-made g c = few_none (g.St.Store.signs c.args.store.now)

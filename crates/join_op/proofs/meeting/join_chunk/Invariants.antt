@@ -7,7 +7,7 @@ use Rattle.join_op.proofs.meeting.join_chunk.Given as goal
 
 abbrev pub invariant-lefts : goal.invariant-lefts
 invariant-lefts g l = record {
-  stays : Stays l.fn.c l.fn.reads l.reads (g.St.Store.holds l.fn.store) (g.St.Store.holds l.store) (g.St.Store.signs l.fn.store) (g.St.Store.signs l.store) (g.E.Emit.admits l.fn.emit) (g.E.Emit.admits l.emit) (g.E.Emit.client l.fn.emit) (g.E.Emit.client l.emit) (g.E.Emit.faults l.fn.emit) (g.E.Emit.faults l.emit) (g.E.Emit.took l.fn.emit (g.St.Store.holds l.fn.store)) (g.E.Emit.took l.emit (g.St.Store.holds l.store));
+  stays : Stays l.fn.c l.fn.reads l.reads (g.St.Store.holds l.fn.store) (g.St.Store.holds l.store) (g.St.Store.signs l.fn.store) (g.St.Store.signs l.store) (g.E.Emit.admits l.fn.emit) (g.E.Emit.admits l.emit) (g.E.Emit.client l.fn.emit) (g.E.Emit.client l.emit) (g.E.Emit.faults l.fn.emit) (g.E.Emit.faults l.emit) (g.E.Emit.creates l.fn.emit) (g.E.Emit.creates l.emit) (g.E.Emit.took l.fn.emit (g.St.Store.holds l.fn.store)) (g.E.Emit.took l.emit (g.St.Store.holds l.store));
   room : room_with l.fn.c.tracker (g.E.Emit.client l.fn.emit) (g.St.Store.holds l.fn.store) ≤ room_with l.fn.c.tracker (g.E.Emit.client l.fn.emit) (g.St.Store.holds l.store);
   joined : HasJoined l.fn.turned l.fn.shape (held_rows l.fn.held) l.fn.reads l.reads (g.St.Store.holds l.fn.store) (g.St.Store.holds l.store) (g.E.Emit.took l.fn.emit (g.St.Store.holds l.fn.store)) (g.E.Emit.took l.emit (g.St.Store.holds l.store)) l.place;
 }

@@ -29,7 +29,7 @@ returns-in_default-clause-err g c =
 
 pub returns-in_default-clause-stands : goal.returns-in_default-clause-stands
 returns-in_default-clause-stands g c =
-    let none = stay_none c.args.c.now c.args.reads.now c.args.builds.now (g.St.Store.holds c.args.store.now) (g.St.Store.signs c.args.store.now) (g.E.Emit.admits c.args.emit.now) (g.E.Emit.client c.args.emit.now) (g.E.Emit.faults c.args.emit.now) (g.E.Emit.took c.args.emit.now (g.St.Store.holds c.args.store.now)) c.requires.streams c.requires.emitter.lives in
+    let none = stay_none {m = g.E.Emit.creates c.args.emit.now} c.args.c.now c.args.reads.now c.args.builds.now (g.St.Store.holds c.args.store.now) (g.St.Store.signs c.args.store.now) (g.E.Emit.admits c.args.emit.now) (g.E.Emit.client c.args.emit.now) (g.E.Emit.faults c.args.emit.now) (g.E.Emit.took c.args.emit.now (g.St.Store.holds c.args.store.now)) c.requires.streams c.requires.emitter.lives in
     none.went
 
 pub returns-in_err-hold_next-clause-stands : goal.returns-in_err-hold_next-clause-stands
@@ -55,7 +55,7 @@ returns-clause-stands g c =
 
 pub returns-in_default-clause-streams : goal.returns-in_default-clause-streams
 returns-in_default-clause-streams g c =
-    let none = stay_none c.args.c.now c.args.reads.now c.args.builds.now (g.St.Store.holds c.args.store.now) (g.St.Store.signs c.args.store.now) (g.E.Emit.admits c.args.emit.now) (g.E.Emit.client c.args.emit.now) (g.E.Emit.faults c.args.emit.now) (g.E.Emit.took c.args.emit.now (g.St.Store.holds c.args.store.now)) c.requires.streams c.requires.emitter.lives in
+    let none = stay_none {m = g.E.Emit.creates c.args.emit.now} c.args.c.now c.args.reads.now c.args.builds.now (g.St.Store.holds c.args.store.now) (g.St.Store.signs c.args.store.now) (g.E.Emit.admits c.args.emit.now) (g.E.Emit.client c.args.emit.now) (g.E.Emit.faults c.args.emit.now) (g.E.Emit.took c.args.emit.now (g.St.Store.holds c.args.store.now)) c.requires.streams c.requires.emitter.lives in
     none.both
 
 pub returns-in_err-hold_next-clause-streams : goal.returns-in_err-hold_next-clause-streams
@@ -81,7 +81,7 @@ returns-clause-streams g c =
 
 pub returns-in_default-clause-emitter : goal.returns-in_default-clause-emitter
 returns-in_default-clause-emitter g c =
-    let none = stay_none c.args.c.now c.args.reads.now c.args.builds.now (g.St.Store.holds c.args.store.now) (g.St.Store.signs c.args.store.now) (g.E.Emit.admits c.args.emit.now) (g.E.Emit.client c.args.emit.now) (g.E.Emit.faults c.args.emit.now) (g.E.Emit.took c.args.emit.now (g.St.Store.holds c.args.store.now)) c.requires.streams c.requires.emitter.lives in
+    let none = stay_none {m = g.E.Emit.creates c.args.emit.now} c.args.c.now c.args.reads.now c.args.builds.now (g.St.Store.holds c.args.store.now) (g.St.Store.signs c.args.store.now) (g.E.Emit.admits c.args.emit.now) (g.E.Emit.client c.args.emit.now) (g.E.Emit.faults c.args.emit.now) (g.E.Emit.took c.args.emit.now (g.St.Store.holds c.args.store.now)) c.requires.streams c.requires.emitter.lives in
     none.emitter
 
 pub returns-in_err-hold_next-clause-emitter : goal.returns-in_err-hold_next-clause-emitter

@@ -10,7 +10,7 @@ abbrev pub invariant-chain : goal.invariant-chain
 invariant-chain g l = record {
   walking : IsWalking l.fn.turned l.fn.shape l.fn.row.row.items (hash_of l.fn.row.key.items % l.fn.table.heads) (g.E.Emit.took l.fn.emit (g.St.Store.holds l.fn.store)) (g.E.Emit.took l.emit (g.St.Store.holds l.store)) l.fn.table.nodes l.next;
   there : IfSome l.next (λ p. HasNode p l.fn.table.nodes);
-  stood : Stood (g.E.Emit.admits l.fn.emit) (g.E.Emit.admits l.emit) (g.E.Emit.client l.fn.emit) (g.E.Emit.client l.emit) (g.E.Emit.faults l.fn.emit) (g.E.Emit.faults l.emit) (g.St.Store.holds l.fn.store) (g.St.Store.holds l.store) (g.St.Store.signs l.fn.store) (g.St.Store.signs l.store);
+  stood : Stood (g.E.Emit.admits l.fn.emit) (g.E.Emit.admits l.emit) (g.E.Emit.client l.fn.emit) (g.E.Emit.client l.emit) (g.E.Emit.faults l.fn.emit) (g.E.Emit.faults l.emit) (g.E.Emit.creates l.fn.emit) (g.E.Emit.creates l.emit) (g.St.Store.holds l.fn.store) (g.St.Store.holds l.store) (g.St.Store.signs l.fn.store) (g.St.Store.signs l.store);
 }
 
 abbrev pub decreases-chain : goal.decreases-chain

@@ -1,10 +1,11 @@
-use Rattle.std.proofs.Common.{◌≡◌, ◌∙◌, List, Option, IfErr, OnErr, OnOk, true, ap, sym, subst, true≢false}
+use Rattle.std.proofs.Common.{◌≡◌, ◌∙◌, ◌+◌, ◌*◌, length, List, Option, IfErr, OnErr, OnOk, true, ap, sym, subst, true≢false}
 use Rattle.std.specs.Prelude.{slice_get}
 use Rattle.std.proofs.lemmas.Option.{none-some}
 use Rattle.pool_model.specs.declared.entry.Entry.{Entry}
 use Rattle.row_codec.specs.declared.values.Value.{Value}
 use Rattle.tuple_stream.specs.Trails.{EnteredEvents}
 use Rattle.partition_stack.specs.Causes.{CameOfEither}
+use Rattle.partition_stack.specs.Making.{MakesBeside}
 use Rattle.partition_stack.specs.Stack.{Stack, over}
 use Rattle.partition_stack.proofs.Shorts.{both_causes}
 use Rattle.join_op.specs.Handing.{Emitted, EmittedSome}
@@ -50,3 +51,10 @@ pub returns-clause-cause : goal.returns-clause-cause
 returns-clause-cause g c =
     subst (λ (op : Operator). IfErr c.finish_sides.result (CameOfEither op.left.page_blocks (g.E.Emit.client c.args.emit.now) (g.E.Emit.faults c.args.emit.now) (g.E.Emit.faults c.finish_sides.new.emit) (g.St.Store.signs c.args.store.now) (g.St.Store.signs c.finish_sides.new.store))) c.self.view_is
     (both_causes c.finish_sides.result _ _ _ _ _ _ c.finish_sides.ensures.cause c.finish_sides.ensures.short)
+
+pub returns-clause-made : goal.returns-clause-made
+returns-clause-made g c =
+    let h = g.St.Store.holds c.args.store.now in
+    let s = g.St.Store.signs c.args.store.now in
+    subst (λ (op : Operator). (start : Option (List Entry)) (lefts rights : List (List Value)) → Keeps start lefts rights op h s → h.told ≡ true → MakesBeside (15 * (length lefts + length rights)) (g.E.Emit.creates c.args.emit.now) (g.E.Emit.creates c.finish_sides.new.emit) s (g.St.Store.signs c.finish_sides.new.store)) c.self.view_is
+    c.finish_sides.ensures.made
