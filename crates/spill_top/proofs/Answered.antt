@@ -1,11 +1,12 @@
 -- What stands of a query once it was answered.
-use Rattle.std.proofs.Common.{◌≡◌, ◌∙◌, ◌<◌, inl, inr, ℕ, zero, suc, List, [], Option, Some, None, IfSome, IsSome, is_some, refl, sym, subst, arith}
+use Rattle.std.proofs.Common.{◌≡◌, ◌∙◌, ◌==◌, ◌<◌, inl, inr, ℕ, zero, suc, Bool, true, false, List, [], Option, Some, None, IfSome, IsSome, is_some, refl, sym, subst, ap, arith}
 use Rattle.std.specs.Option.{IsSomeAnd}
 use Rattle.std.specs.Prelude.{⊤}
 use Rattle.std.proofs.lemmas.Bool.{false≢true}
 use Rattle.outside.specs.Counts.{Rose}
 use Rattle.outside.specs.Names.{Written, fresh}
 use Rattle.outside.specs.Told.{GivesBytes}
+use Rattle.pin_core.specs.declared.tally.Tally.{Tally}
 use Rattle.query_plan.specs.Sizes.{joins, page_len}
 use Rattle.query_plan.specs.declared.plan.Query.{Query}
 use Rattle.query_plan.specs.declared.plan.Side.{Side}
@@ -18,14 +19,18 @@ use Rattle.query_run.specs.Input.{IsAccepted, IsRefusal, IsRefusalIn}
 use Rattle.query_run.specs.declared.outcome.QueryErr.{QueryErr}
 use Rattle.spill_top.specs.declared.ending.Ending.{Ending}
 use Rattle.spill_top.specs.declared.ending.Ending.TheVariants.{Lines, Stopped}
-use Rattle.spill_top.specs.Running.{HasLines, IsRefusedOn, IsStopped, Seen}
+use Rattle.spill_top.specs.Steps.{with_slots}
+use Rattle.spill_top.specs.Pooled.{ComeBack, HaveFailed, all_tell}
+use Rattle.spill_top.specs.Running.{HasLines, IsRefusedOn, IsStopped, Seen, told_over}
 use Rattle.spill_top.specs.declared.job.Job.{Job}
 use Rattle.spill_top.specs.Jobs.{HasFailedOn, HasSides, InputStands, IsWork, LeavesPart, Opened, SinkHolds, faults_of, work_of}
-use Rattle.spill_top.specs.Sides.{RoseOn, at_right, bytes_on, faults_on, on_sides, told_of}
+use Rattle.spill_top.specs.Sides.{RoseOn, at_right, bytes_on, faults_on, if_told, on_sides, told_of}
 use Rattle.spill_top.proofs.Causes.{told_some}
+use Rattle.spill_top.proofs.Loops.{went_slots}
 use Rattle.spill_top.proofs.Sides.{counted, ended_stand, shown, shown_some}
+use Rattle.spill_top.proofs.Works.{pool_later, slots_since, went_on}
 
--- ---- what sources give, where their files are told
+-- ---- what sources give, where their files are told and all slots tell what they hold
 
 -- what both give is what stands under their names, where both are told
 abbrev pub GivesTold : Option Told → Option Told → Type 0
@@ -36,6 +41,12 @@ gives-both : (left right given_left given_right : Option (List ℕ)) → GivesBy
 gives-both None right given_left given_right lefts rights = tt
 gives-both (Some left) None given_left given_right lefts rights = tt
 gives-both (Some left) (Some right) given_left given_right lefts rights = rw (lefts, rights) refl
+
+-- and where slots tell that still do
+gives-over : (tell tell_now : Bool) (told given : Option Told) → tell_now ≡ tell → GivesTold told given → GivesTold (if_told tell told) (if_told tell_now given)
+gives-over true true told given same gives = gives
+gives-over true false told given same gives = absurd (false≢true same)
+gives-over false tell_now told given same gives = tt
 
 told-answer : (plan : Query) (page : ℕ) (told given : Option Told) (before now : Option (List ℕ)) → GivesTold told given → WroteAnswer plan page given before now → WroteAnswer plan page told before now
 told-answer plan page None given before now gives is = tt
@@ -101,54 +112,58 @@ gives-on : (query : Query) (files : List ℕ → Option (List ℕ)) (left right 
 gives-on query files left right lefts rights Left = lefts
 gives-on query files left right lefts rights Right = rights
 
--- ---- the query is answered: its right source, if there is one, gives these bytes, and then has these faults
+-- ---- the query is answered over slots that are all there again: its right source, if there is one, gives these bytes, and then has these faults
 
-module _ (start now : Seen) (block_len : ℕ) (query : Query) (refused : Option Ending) (left left_now sink sink_now : Opened) (right right_now : Option Opened) (bytes : Option (List ℕ))
-    (gives : GivesBytes (bytes_on query start.files Right) bytes) (kept : is_some right_now ≡ is_some right) where
-  pub answered_so : (lines : ℕ) → WroteAnswer query (page_len query block_len) (both_told left.told bytes) sink.told sink_now.told
-      → IfSome (both_told left.told bytes) (HasLines query (page_len query block_len) lines)
-      → IsWork start now block_len query (record { refused = refused; left = Some left; right = right; output = Some sink; ended = None })
-      → IsWork start now block_len query (record { refused = refused; left = Some left_now; right = right_now; output = Some sink_now; ended = Some (Lines lines) })
-  answered_so lines wrote many is =
-      let both : GivesTold (told_of query start.files) (both_told left.told bytes) = gives-both (bytes_on query start.files Left) (bytes_on query start.files Right) left.told bytes ((is.inputs Left).0) gives in
-      record {
-        went = is.went;
-        ending = (is.ending, told-lines query (page_len query block_len) lines (told_of query start.files) (both_told left.told bytes) both many);
-        inputs = ended_stand (bytes_on query start.files) (Some left_now) right_now (Lines lines);
-        sides = record { only = λ some. is.sides.only (sym kept ∙ some); both = λ on some. absurd cc };
-        output = (
-          is.output.0,
-          sink-answer query (page_len query block_len) lines (told_of query start.files) (start.written query.output) (now.written query.output) sink.told sink_now.told
-              (told-answer query (page_len query block_len) (told_of query start.files) (both_told left.told bytes) sink.told sink_now.told both wrote) is.output.1,
-        );
-        fresh_sink = λ never. absurd cc;
-      }
+module _ (start seen : Seen) (slots slots_now : Tally) (back : ComeBack slots slots_now) (block_len : ℕ) (query : Query) (refused : Option Ending) (left left_now sink sink_now : Opened) (right right_now : Option Opened)
+    (bytes : Option (List ℕ)) (gives : GivesBytes (bytes_on query start.files Right) bytes) (kept : is_some right_now ≡ is_some right) where
+  -- what the query is given, where that is told
+  abbrev given : Option Told
+  given = if_told (all_tell slots) (both_told left.told bytes)
+
+  gives-given : IsWork start (with_slots slots seen) block_len query (record { refused = refused; left = Some left; right = right; output = Some sink; ended = None }) → GivesTold (told_over query start) given
+  gives-given is =
+      gives-over (all_tell start.slots) (all_tell slots) (told_of query start.files) (both_told left.told bytes) (ap (λ (n : ℕ). n == 0) is.went.slots.silent)
+      (gives-both (bytes_on query start.files Left) (bytes_on query start.files Right) left.told bytes ((is.inputs Left).0) gives)
+
+  pub answered_so : (lines : ℕ) → WroteAnswer query (page_len query block_len) given sink.told sink_now.told → IfSome given (HasLines query (page_len query block_len) lines)
+      → IsWork start (with_slots slots seen) block_len query (record { refused = refused; left = Some left; right = right; output = Some sink; ended = None })
+      → IsWork start (with_slots slots_now seen) block_len query (record { refused = refused; left = Some left_now; right = right_now; output = Some sink_now; ended = Some (Lines lines) })
+  answered_so lines wrote many is = record {
+    went = went_on start (with_slots slots seen) (with_slots slots_now seen) is.went (went_slots slots slots_now seen back);
+    ending = (is.ending, told-lines query (page_len query block_len) lines (told_over query start) given (gives-given is) many);
+    inputs = ended_stand (bytes_on query start.files) (Some left_now) right_now (Lines lines);
+    sides = record { only = λ some. is.sides.only (sym kept ∙ some); both = λ on some. absurd cc };
+    output = (
+      is.output.0,
+      sink-answer query (page_len query block_len) lines (told_over query start) (start.written query.output) (seen.written query.output) sink.told sink_now.told
+          (told-answer query (page_len query block_len) (told_over query start) given sink.told sink_now.told (gives-given is) wrote) is.output.1,
+    );
+    fresh_sink = λ never. absurd cc;
+  }
 
   pub stopped_so : (faults faults_now : ℕ) (why : QueryErr) → faults ≡ 0 → faults_of right_now ≡ faults_now
-      → IsStopped query (page_len query block_len) (on_sides left.told bytes) (RoseOn (on_sides left.faults faults) (on_sides left_now.faults faults_now)) (Rose sink.faults sink_now.faults) why
-      → LeavesPart query (page_len query block_len) (both_told left.told bytes) sink.told sink_now.told (side_of why)
-      → IsWork start now block_len query (record { refused = refused; left = Some left; right = right; output = Some sink; ended = None })
-      → IsWork start now block_len query (record { refused = refused; left = Some left_now; right = right_now; output = Some sink_now; ended = Some (Stopped why) })
-  stopped_so faults faults_now why none counted stopped part is =
-      let both : GivesTold (told_of query start.files) (both_told left.told bytes) = gives-both (bytes_on query start.files Left) (bytes_on query start.files Right) left.told bytes ((is.inputs Left).0) gives in
+      → IsStopped query (page_len query block_len) (on_sides left.told bytes) (RoseOn (on_sides left.faults faults) (on_sides left_now.faults faults_now)) (Rose sink.faults sink_now.faults) (HaveFailed slots slots_now) why
+      → LeavesPart query (page_len query block_len) given sink.told sink_now.told (side_of why)
+      → IsWork start (with_slots slots seen) block_len query (record { refused = refused; left = Some left; right = right; output = Some sink; ended = None })
+      → IsWork start (with_slots slots_now seen) block_len query (record { refused = refused; left = Some left_now; right = right_now; output = Some sink_now; ended = Some (Stopped why) })
+  stopped_so faults faults_now why none counted stopped part is = record {
+    went = went_on start (with_slots slots seen) (with_slots slots_now seen) is.went (went_slots slots slots_now seen back);
+    ending = (
+      is.ending,
       record {
-        went = is.went;
-        ending = (
-          is.ending,
-          record {
-            refused = λ of. told-refused query (page_len query block_len) why (bytes_on query start.files) (on_sides left.told bytes) (side_of why)
-                (gives-on query start.files left.told bytes ((is.inputs Left).0) gives) (stopped.refused of);
-            source_fault = λ side fault. failed-on (faults_on query start.reads) (faults_on query now.reads) left.faults left_now.faults faults faults_now left_now right_now
-                ((is.inputs Left).1) none refl counted side (stopped.source_fault side fault);
-            sink_fault = λ fault. inr (has-some sink.faults sink_now.faults (is.fresh_sink refl) (stopped.sink_fault fault));
-            memory = stopped.memory;
-          },
-        );
-        inputs = ended_stand (bytes_on query start.files) (Some left_now) right_now (Stopped why);
-        sides = record { only = λ some. is.sides.only (sym kept ∙ some); both = λ on some. absurd cc };
-        output = (is.output.0, sink-part query (page_len query block_len) (told_of query start.files) (both_told left.told bytes) (start.written query.output) (now.written query.output) sink.told sink_now.told why both part is.output.1);
-        fresh_sink = λ never. absurd cc;
-      }
+        refused = λ of. told-refused query (page_len query block_len) why (bytes_on query start.files) (on_sides left.told bytes) (side_of why)
+            (gives-on query start.files left.told bytes ((is.inputs Left).0) gives) (stopped.refused of);
+        source_fault = λ side fault. failed-on (faults_on query start.reads) (faults_on query seen.reads) left.faults left_now.faults faults faults_now left_now right_now
+            ((is.inputs Left).1) none refl counted side (stopped.source_fault side fault);
+        sink_fault = λ fault. inr (has-some sink.faults sink_now.faults (is.fresh_sink refl) (stopped.sink_fault fault));
+        pool = pool_later query (HaveFailed slots slots_now) (HaveFailed start.slots slots_now) why (slots_since start.slots slots slots_now is.went.slots) stopped.pool;
+      },
+    );
+    inputs = ended_stand (bytes_on query start.files) (Some left_now) right_now (Stopped why);
+    sides = record { only = λ some. is.sides.only (sym kept ∙ some); both = λ on some. absurd cc };
+    output = (is.output.0, sink-part query (page_len query block_len) (told_over query start) given (start.written query.output) (seen.written query.output) sink.told sink_now.told why (gives-given is) part is.output.1);
+    fresh_sink = λ never. absurd cc;
+  }
 
 -- ---- the same of what a job holds
 
@@ -170,22 +185,24 @@ module _ {S : Type 0} (remaining : S → Option (List ℕ)) (reads : S → ℕ) 
   held (Some s) None holds = absurd holds
   held (Some s) (Some later) holds = refl
 
-  module _ (start now : Seen) (block_len : ℕ) (query : Query) (refused : Option Ending) (left left_now sink sink_now : Opened) (right right_now : Option S) (holds : HoldsInput reads right right_now) where
-    pub job_answered : (lines : ℕ) → WroteAnswer query (page_len query block_len) (both_told left.told (told_in remaining right)) sink.told sink_now.told
-        → IfSome (both_told left.told (told_in remaining right)) (HasLines query (page_len query block_len) lines)
-        → IsWork start now block_len query (record { refused = refused; left = Some left; right = shown remaining reads right; output = Some sink; ended = None })
-        → IsWork start now block_len query (record { refused = refused; left = Some left_now; right = shown remaining reads right_now; output = Some sink_now; ended = Some (Lines lines) })
+  module _ (start seen : Seen) (slots slots_now : Tally) (back : ComeBack slots slots_now) (block_len : ℕ) (query : Query) (refused : Option Ending) (left left_now sink sink_now : Opened) (right right_now : Option S)
+      (holds : HoldsInput reads right right_now) where
+    pub job_answered : (lines : ℕ) → WroteAnswer query (page_len query block_len) (if_told (all_tell slots) (both_told left.told (told_in remaining right))) sink.told sink_now.told
+        → IfSome (if_told (all_tell slots) (both_told left.told (told_in remaining right))) (HasLines query (page_len query block_len) lines)
+        → IsWork start (with_slots slots seen) block_len query (record { refused = refused; left = Some left; right = shown remaining reads right; output = Some sink; ended = None })
+        → IsWork start (with_slots slots_now seen) block_len query (record { refused = refused; left = Some left_now; right = shown remaining reads right_now; output = Some sink_now; ended = Some (Lines lines) })
     job_answered lines wrote many is =
-        answered_so start now block_len query refused left left_now sink sink_now (shown remaining reads right) (shown remaining reads right_now) (told_in remaining right)
+        answered_so start seen slots slots_now back block_len query refused left left_now sink sink_now (shown remaining reads right) (shown remaining reads right_now) (told_in remaining right)
         (right-gives query.right start.files right (is.sides.both refl refl) (is.inputs Right)) (held right right_now holds) lines wrote many is
 
     pub job_stopped : (why : QueryErr)
-        → IsStopped query (page_len query block_len) (on_sides left.told (told_in remaining right)) (RoseOn (on_sides left.faults (faults_in reads right)) (on_sides left_now.faults (faults_in reads right_now))) (Rose sink.faults sink_now.faults) why
-        → LeavesPart query (page_len query block_len) (both_told left.told (told_in remaining right)) sink.told sink_now.told (side_of why)
-        → IsWork start now block_len query (record { refused = refused; left = Some left; right = shown remaining reads right; output = Some sink; ended = None })
-        → IsWork start now block_len query (record { refused = refused; left = Some left_now; right = shown remaining reads right_now; output = Some sink_now; ended = Some (Stopped why) })
+        → IsStopped query (page_len query block_len) (on_sides left.told (told_in remaining right)) (RoseOn (on_sides left.faults (faults_in reads right)) (on_sides left_now.faults (faults_in reads right_now))) (Rose sink.faults sink_now.faults)
+        (HaveFailed slots slots_now) why
+        → LeavesPart query (page_len query block_len) (if_told (all_tell slots) (both_told left.told (told_in remaining right))) sink.told sink_now.told (side_of why)
+        → IsWork start (with_slots slots seen) block_len query (record { refused = refused; left = Some left; right = shown remaining reads right; output = Some sink; ended = None })
+        → IsWork start (with_slots slots_now seen) block_len query (record { refused = refused; left = Some left_now; right = shown remaining reads right_now; output = Some sink_now; ended = Some (Stopped why) })
     job_stopped why stopped part is =
-        stopped_so start now block_len query refused left left_now sink sink_now (shown remaining reads right) (shown remaining reads right_now) (told_in remaining right)
+        stopped_so start seen slots slots_now back block_len query refused left left_now sink sink_now (shown remaining reads right) (shown remaining reads right_now) (told_in remaining right)
         (right-gives query.right start.files right (is.sides.both refl refl) (is.inputs Right)) (held right right_now holds) (faults_in reads right) (faults_in reads right_now) why
         (faultless (bytes_on query start.files Right) right (is.inputs Right)) (counted remaining reads right_now) stopped part is
 

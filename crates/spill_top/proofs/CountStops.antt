@@ -17,7 +17,7 @@ use Rattle.query_run.specs.declared.outcome.QueryErr.TheVariants as query
 use Rattle.spill_top.specs.Counting.{counting}
 use Rattle.spill_top.specs.Headline.{IsCause, page_bytes}
 use Rattle.spill_top.specs.OneInput.{WroteAnswerOver, WroteFrontOver}
-use Rattle.spill_top.specs.Pooled.{IsPoolStop}
+use Rattle.spill_top.specs.Pooled.{HaveFailed, IsPoolStop}
 use Rattle.spill_top.specs.Refusals.{IsOfPool, refusal_for, refusal_of_pool}
 use Rattle.spill_top.specs.Report.{Tells, TellsOrMisses}
 use Rattle.spill_top.specs.Words.{Command}
@@ -50,7 +50,7 @@ none-left : (quota : ℕ) → quota % 1 ≡ 0
 none-left quota = omega arith
 
 pool_cause : (told : Option (List ℕ)) (before now quota : ℕ) (slots slots_now : Tally) (command : Command) (why : PoolErr) (refusal : Refusal) → refusal_of_pool why ≡ Some refusal
-    → IsPoolStop (counting command) quota slots slots_now why → IsCause told before now slots slots_now command refusal
+    → IsPoolStop (counting command) quota (HaveFailed slots slots_now) why → IsCause told before now slots slots_now command refusal
 pool_cause told before now quota slots slots_now command (pool.NoReservation tracker wanted room) refusal is stop = absurd stop
 pool_cause told before now quota slots slots_now command (pool.ScratchFull need free) refusal is stop =
     subst (IsCause told before now slots slots_now command) (same_Some _ refusal is) (stop.0, stop.1 ∙ none-left quota)
@@ -60,7 +60,7 @@ pool_cause told before now quota slots slots_now command (pool.TooManyTrackers c
 pool_cause told before now quota slots slots_now command pool.NamesSpent refusal is stop = subst (IsCause told before now slots slots_now command) (same_Some _ refusal is) tt
 pool_cause told before now quota slots slots_now command pool.Memory refusal is stop = absurd (none-some refusal is)
 
-pool-answers : (plan : Query) (quota : ℕ) (slots slots_now : Tally) (why : PoolErr) → IsPoolStop plan quota slots slots_now why → (why ≡ pool.Memory) ⊎ IsSome (refusal_of_pool why)
+pool-answers : (plan : Query) (quota : ℕ) (slots slots_now : Tally) (why : PoolErr) → IsPoolStop plan quota (HaveFailed slots slots_now) why → (why ≡ pool.Memory) ⊎ IsSome (refusal_of_pool why)
 pool-answers plan quota slots slots_now (pool.NoReservation tracker wanted room) stop = absurd stop
 pool-answers plan quota slots slots_now (pool.ScratchFull need free) stop = inr refl
 pool-answers plan quota slots slots_now (pool.WriteFault entry) stop = inr refl
@@ -69,7 +69,7 @@ pool-answers plan quota slots slots_now (pool.TooManyTrackers count) stop = absu
 pool-answers plan quota slots slots_now pool.NamesSpent stop = inr refl
 pool-answers plan quota slots slots_now pool.Memory stop = inl refl
 
-pub answers_so : (plan : Query) (quota : ℕ) (slots slots_now : Tally) (e : QueryErr) → OfPool (IsPoolStop plan quota slots slots_now) e → OfPool (λ why. (why ≡ pool.Memory) ⊎ IsSome (refusal_of_pool why)) e
+pub answers_so : (plan : Query) (quota : ℕ) (slots slots_now : Tally) (e : QueryErr) → OfPool (IsPoolStop plan quota (HaveFailed slots slots_now)) e → OfPool (λ why. (why ≡ pool.Memory) ⊎ IsSome (refusal_of_pool why)) e
 answers_so plan quota slots slots_now (query.SourceFault side) stop = tt
 answers_so plan quota slots slots_now (query.BadHeader side) stop = tt
 answers_so plan quota slots slots_now (query.BadCsv side number) stop = tt
@@ -80,7 +80,7 @@ answers_so plan quota slots slots_now query.SinkFault stop = tt
 answers_so plan quota slots slots_now (query.Pool why) stop = pool-answers plan quota slots slots_now why stop
 
 -- the cause that it is to the command
-pub pool_causes : (told : Option (List ℕ)) (before now quota : ℕ) (slots slots_now : Tally) (command : Command) (plan : Query) (e : QueryErr) → plan ≡ counting command → OfPool (IsPoolStop plan quota slots slots_now) e
+pub pool_causes : (told : Option (List ℕ)) (before now quota : ℕ) (slots slots_now : Tally) (command : Command) (plan : Query) (e : QueryErr) → plan ≡ counting command → OfPool (IsPoolStop plan quota (HaveFailed slots slots_now)) e
     → OfPool (λ why. (refusal : Refusal) → refusal_of_pool why ≡ Some refusal → IsCause told before now slots slots_now command refusal) e
 pool_causes told before now quota slots slots_now command plan (query.SourceFault side) planned stop = tt
 pool_causes told before now quota slots slots_now command plan (query.BadHeader side) planned stop = tt
@@ -90,7 +90,7 @@ pool_causes told before now quota slots slots_now command plan (query.TooLarge s
 pool_causes told before now quota slots slots_now command plan (query.RowTooLong side number bytes) planned stop = tt
 pool_causes told before now quota slots slots_now command plan query.SinkFault planned stop = tt
 pool_causes told before now quota slots slots_now command plan (query.Pool why) planned stop = λ refusal is.
-    pool_cause told before now quota slots slots_now command why refusal is (subst (λ (q : Query). IsPoolStop q quota slots slots_now why) planned stop)
+    pool_cause told before now quota slots slots_now command why refusal is (subst (λ (q : Query). IsPoolStop q quota (HaveFailed slots slots_now) why) planned stop)
 
 -- where some of the answer was written, it is the pool's
 of-pool : (why : PoolErr) (refusal : Refusal) → refusal_of_pool why ≡ Some refusal → IsOfPool refusal

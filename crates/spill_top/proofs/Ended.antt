@@ -11,9 +11,8 @@ use Rattle.spill_top.specs.declared.ending.Ending.{Ending}
 use Rattle.spill_top.specs.declared.ending.Ending.TheVariants.{Lines, Reservation, Stopped}
 use Rattle.spill_top.specs.declared.job.Job.{Job}
 use Rattle.spill_top.specs.Endings.{is_answer}
-use Rattle.spill_top.specs.Running.{Seen, Went}
+use Rattle.spill_top.specs.Running.{Seen, Went, told_over}
 use Rattle.spill_top.specs.Jobs.{IsWork, Opened, opened, work_of}
-use Rattle.spill_top.specs.Sides.{told_of}
 use Rattle.spill_top.proofs.Finished.{finished_answer, finished_failed, finished_so, finished_stopped, not_finished}
 
 -- whether there is an answer
@@ -30,10 +29,10 @@ module _ (E : Type 0) (start old now : Seen) (block_len : ℕ) (query : Query) (
   short_so (Some (Lines lines)) result short some went faults takes is = absurd (false≢true (sym short))
   short_so (Some (Reservation root wanted room)) result short some went faults takes is =
       finished_so start old now block_len query refused left right sink (Reservation root wanted room) went faults
-      (finished_stopped query (page_len query block_len) (told_of query start.files) (start.written query.output) (old.written query.output) (now.written query.output) sink.told (Reservation root wanted room) result refl is.output.1 takes) is
+      (finished_stopped query (page_len query block_len) (told_over query start) (start.written query.output) (old.written query.output) (now.written query.output) sink.told (Reservation root wanted room) result refl is.output.1 takes) is
   short_so (Some (Stopped why)) result short some went faults takes is =
       finished_so start old now block_len query refused left right sink (Stopped why) went faults
-      (finished_stopped query (page_len query block_len) (told_of query start.files) (start.written query.output) (old.written query.output) (now.written query.output) sink.told (Stopped why) result refl is.output.1 takes) is
+      (finished_stopped query (page_len query block_len) (told_over query start) (start.written query.output) (old.written query.output) (now.written query.output) sink.told (Stopped why) result refl is.output.1 takes) is
 
   -- it was given back with an answer
   pub whole_so : (ended : Option Ending) → answered ended ≡ true → Went old now → TakesFaults sink.faults (old.writes query.output) (now.writes query.output)
@@ -43,7 +42,7 @@ module _ (E : Type 0) (start old now : Seen) (block_len : ℕ) (query : Query) (
   whole_so None whole went faults takes is = absurd (false≢true whole)
   whole_so (Some (Lines lines)) whole went faults takes is =
       finished_so start old now block_len query refused left right sink (Lines lines) went faults
-      (finished_answer E query (page_len query block_len) lines (told_of query start.files) (start.written query.output) (old.written query.output) (now.written query.output) sink.told is.output.1 takes) is
+      (finished_answer E query (page_len query block_len) lines (told_over query start) (start.written query.output) (old.written query.output) (now.written query.output) sink.told is.output.1 takes) is
   whole_so (Some (Reservation root wanted room)) whole went faults takes is = absurd (false≢true whole)
   whole_so (Some (Stopped why)) whole went faults takes is = absurd (false≢true whole)
 
@@ -55,7 +54,7 @@ module _ (E : Type 0) (start old now : Seen) (block_len : ℕ) (query : Query) (
   failed_so None e whole went rose takes is = absurd (false≢true whole)
   failed_so (Some (Lines lines)) e whole went rose takes is =
       not_finished start old now block_len lines query refused left right sink went rose
-      (finished_failed query (page_len query block_len) lines (told_of query start.files) (start.written query.output) (old.written query.output) (now.written query.output) sink.told e is.output.1 takes) is
+      (finished_failed query (page_len query block_len) lines (told_over query start) (start.written query.output) (old.written query.output) (now.written query.output) sink.told e is.output.1 takes) is
   failed_so (Some (Reservation root wanted room)) e whole went rose takes is = absurd (false≢true whole)
   failed_so (Some (Stopped why)) e whole went rose takes is = absurd (false≢true whole)
 

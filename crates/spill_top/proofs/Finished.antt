@@ -14,11 +14,12 @@ use Rattle.query_run.specs.declared.outcome.QueryErr.TheVariants.{SinkFault}
 use Rattle.spill_top.specs.declared.ending.Ending.{Ending}
 use Rattle.spill_top.specs.declared.ending.Ending.TheVariants.{Lines, Reservation, Stopped}
 use Rattle.spill_top.specs.Endings.{is_answer}
-use Rattle.spill_top.specs.Running.{HasOutput, Holds, HoldsPart, IsPart, Seen, Went}
+use Rattle.spill_top.specs.Pooled.{HaveFailed}
+use Rattle.spill_top.specs.Running.{HasOutput, Holds, HoldsPart, IsPart, Seen, Went, told_over}
 use Rattle.spill_top.specs.Jobs.{HasFailed, HasFailedOn, IsWork, LeavesPart, Opened, SinkHolds}
-use Rattle.spill_top.specs.Sides.{bytes_on, faults_on, on_sides, told_of}
+use Rattle.spill_top.specs.Sides.{bytes_on, faults_on, on_sides}
 use Rattle.spill_top.proofs.Sides.{ended_stand, faults_kept}
-use Rattle.spill_top.proofs.Works.{failed_later, rose_since, so_far_later, went_on, taken}
+use Rattle.spill_top.proofs.Works.{failed_later, rose_since, slots_later, so_far_later, went_on, taken}
 
 -- the sink's bytes, once they stand under the name
 given : {E : Type 0} (text : List ℕ) (now : Option Written) (contents : Option (List ℕ)) (whole : Bool) (result : Result Unit E)
@@ -80,16 +81,17 @@ finished_stopped {E} plan page told (Some before) old now contents (Stopped why)
 -- an output was given back, and the ending stays
 pub finished_so : (start old now : Seen) (block_len : ℕ) (query : Query) (refused : Option Ending) (left right : Option Opened) (sink : Opened) (ending : Ending) → Went old now
     → TakesFaults sink.faults (old.writes query.output) (now.writes query.output)
-    → HasOutput query (page_len query block_len) (told_of query start.files) (start.written query.output) (now.written query.output) ending
+    → HasOutput query (page_len query block_len) (told_over query start) (start.written query.output) (now.written query.output) ending
     → IsWork start old block_len query (record { refused = refused; left = left; right = right; output = Some sink; ended = Some ending })
     → IsWork start now block_len query (record { refused = refused; left = left; right = right; output = None; ended = Some ending })
 finished_so start old now block_len query refused left right sink ending went takes has is = record {
   went = went_on start old now is.went went;
-  ending = so_far_later query (page_len query block_len) (bytes_on query start.files)
-      (HasFailedOn (faults_on query start.reads) (faults_on query old.reads) (on_sides left right)) (HasFailed (start.writes query.output) (old.writes query.output) (Some sink))
-      (HasFailedOn (faults_on query start.reads) (faults_on query now.reads) (on_sides left right)) (HasFailed (start.writes query.output) (now.writes query.output) None) refused (Some ending)
+  ending = so_far_later query (page_len query block_len) (bytes_on query start.files) (told_over query start)
+      (HasFailedOn (faults_on query start.reads) (faults_on query old.reads) (on_sides left right)) (HasFailed (start.writes query.output) (old.writes query.output) (Some sink)) (HaveFailed start.slots old.slots)
+      (HasFailedOn (faults_on query start.reads) (faults_on query now.reads) (on_sides left right)) (HasFailed (start.writes query.output) (now.writes query.output) None) (HaveFailed start.slots now.slots) refused (Some ending)
       (λ side. failed_later (faults_on query start.reads side) (faults_on query old.reads side) (faults_on query now.reads side) (on_sides left right side) (faults_kept query old.reads now.reads went.reads side))
-      (taken (start.writes query.output) (old.writes query.output) (now.writes query.output) (Some sink) (is.went.writes query.output) (went.writes query.output) takes) is.ending;
+      (taken (start.writes query.output) (old.writes query.output) (now.writes query.output) (Some sink) (is.went.writes query.output) (went.writes query.output) takes)
+      (slots_later start.slots old.slots now.slots went.slots) is.ending;
   inputs = is.inputs;
   sides = record { only = is.sides.only; both = λ on some. absurd cc };
   output = inr has;
@@ -99,7 +101,7 @@ finished_so start old now block_len query refused left right sink ending went ta
 -- the end of an output failed, whose query had an answer
 pub not_finished : (start old now : Seen) (block_len lines : ℕ) (query : Query) (refused : Option Ending) (left right : Option Opened) (sink : Opened) → Went old now
     → Rose (old.writes query.output) (now.writes query.output)
-    → HasOutput query (page_len query block_len) (told_of query start.files) (start.written query.output) (now.written query.output) (Stopped SinkFault)
+    → HasOutput query (page_len query block_len) (told_over query start) (start.written query.output) (now.written query.output) (Stopped SinkFault)
     → IsWork start old block_len query (record { refused = refused; left = left; right = right; output = Some sink; ended = Some (Lines lines) })
     → IsWork start now block_len query (record { refused = refused; left = left; right = right; output = None; ended = Some (Stopped SinkFault) })
 not_finished start old now block_len lines query refused left right sink went rose has is = record {
@@ -110,7 +112,7 @@ not_finished start old now block_len lines query refused left right sink went ro
       refused = λ never. absurd never;
       source_fault = λ side fault. absurd cc;
       sink_fault = λ _. inl (rose_since (start.writes query.output) (old.writes query.output) (now.writes query.output) (is.went.writes query.output) rose);
-      memory = tt;
+      pool = tt;
     },
   );
   inputs = ended_stand (bytes_on query start.files) left right (Stopped SinkFault);

@@ -25,6 +25,7 @@ pub mod Ended
 pub mod Reserved
 pub mod Made
 pub mod Sided
+pub mod Fitting
 pub mod Phases
 pub mod Lines
 pub mod Plans

@@ -5,9 +5,12 @@ use Rattle.std.proofs.lemmas.List.{length-map, map-set}
 use Rattle.std.proofs.lemmas.Option.{same_Some}
 use Rattle.spill_top.specs.declared.ending.Ending.{Ending}
 use Rattle.query_plan.specs.declared.plan.Query.{Query}
+use Rattle.pin_core.specs.declared.tally.Tally.{Tally}
+use Rattle.pin_core.proofs.Tallied.{uncounted_yet}
+use Rattle.spill_top.specs.Pooled.{ComeBack}
 use Rattle.spill_top.specs.Running.{Seen, Went}
 use Rattle.spill_top.specs.Jobs.{IsWork, KeepsWork, Work}
-use Rattle.spill_top.specs.Steps.{AreAll, AreWorks, KeepRefused, KeepsWorks}
+use Rattle.spill_top.specs.Steps.{AreAll, AreWorks, KeepRefused, KeepsWorks, with_slots}
 use Rattle.spill_top.proofs.Places.{Passing, map_get, passing_end, passing_init, passing_step}
 use Rattle.spill_top.proofs.Works.{works_step}
 
@@ -46,7 +49,11 @@ kept_step start old now queries started works place query w w' at_query at went 
     works_step begin old now block_len queries works place query w' at_query went others now_are (call begin block_len (now_are place query w at_query at))
 
 pub went_nowhere : (now : Seen) → Went now now
-went_nowhere now = record { files = λ name. refl; reads = λ name. omega arith; created = λ name is. is; writes = λ name. omega arith }
+went_nowhere now = record { files = λ name. refl; reads = λ name. omega arith; created = λ name is. is; writes = λ name. omega arith; slots = uncounted_yet now.slots }
+
+-- calls that only use the slots
+pub went_slots : (before now : Tally) (at : Seen) → ComeBack before now → Went (with_slots before at) (with_slots now at)
+went_slots before now at back = record { files = λ name. refl; reads = λ name. omega arith; created = λ name is. is; writes = λ name. omega arith; slots = back }
 
 -- the same of what the jobs show
 module _ {J : Type 0} (f : J → Work) where
@@ -69,8 +76,10 @@ module _ {J : Type 0} (f : J → Work) where
       subst (λ (works : List Work). KeepsWorks start now queries started works) (sym (map-set f jobs place job'))
       (kept_step start old now queries started (map f jobs) place query (f job) (f job') at_query (map_get f jobs place job at) went others before call)
 
-  pub works_call : (start now : Seen) (block_len : ℕ) (queries : List Query) (jobs : List J) (place : ℕ) (query : Query) (job job' : J) → slice_get queries place ≡ Some query → slice_get jobs place ≡ Some job
-      → (IsWork start now block_len query (f job) → IsWork start now block_len query (f job')) → AreWorks start now block_len queries (map f jobs) → AreWorks start now block_len queries (map f (set jobs place job'))
-  works_call start now block_len queries jobs place query job job' at_query at call are =
-      subst (λ (works : List Work). AreWorks start now block_len queries works) (sym (map-set f jobs place job'))
-      (works_step start now now block_len queries (map f jobs) place query (f job') at_query (went_nowhere now) (λ j q at_q apart. refl) are (call (are place query (f job) at_query (map_get f jobs place job at))))
+  pub works_call : (start seen : Seen) (before now : Tally) (block_len : ℕ) (queries : List Query) (jobs : List J) (place : ℕ) (query : Query) (job job' : J) → slice_get queries place ≡ Some query → slice_get jobs place ≡ Some job
+      → ComeBack before now → (IsWork start (with_slots before seen) block_len query (f job) → IsWork start (with_slots now seen) block_len query (f job'))
+      → AreWorks start (with_slots before seen) block_len queries (map f jobs) → AreWorks start (with_slots now seen) block_len queries (map f (set jobs place job'))
+  works_call start seen before now block_len queries jobs place query job job' at_query at back call are =
+      subst (λ (works : List Work). AreWorks start (with_slots now seen) block_len queries works) (sym (map-set f jobs place job'))
+      (works_step start (with_slots before seen) (with_slots now seen) block_len queries (map f jobs) place query (f job') at_query (went_slots before now seen back) (λ j q at_q apart. refl) are
+      (call (are place query (f job) at_query (map_get f jobs place job at))))

@@ -1,18 +1,21 @@
 -- The calls for all queries of a plan, one kind after the other.
-use Rattle.std.proofs.Common.{◌≡◌, ◌∙◌, ℕ, suc, true, List, [], ◌∷◌, Option, Some, None, All, IsSome, length, map, refl, sym, subst, ap}
+use Rattle.std.proofs.Common.{◌≡◌, ◌∙◌, ◌≤◌, ◌*◌, ℕ, suc, true, List, [], ◌∷◌, Option, Some, None, All, IsSome, length, map, refl, sym, subst, ap}
+use Rattle.std.specs.List.{sum_by}
 use Rattle.std.specs.Option.{option_map}
 use Rattle.std.proofs.lemmas.Bool.{false≢true}
 use Rattle.std.proofs.lemmas.List.{length-map}
 use Rattle.std.proofs.lemmas.List.Elements.{All-cons, All-nil}
+use Rattle.pin_core.specs.Setup.{OpensWith}
+use Rattle.pin_core.specs.declared.conf.PoolConf.{PoolConf}
 use Rattle.query_plan.specs.Sizes.{least_of}
 use Rattle.query_plan.specs.declared.plan.Query.{Query}
 use Rattle.spill_top.specs.declared.ending.Ending.{Ending}
 use Rattle.spill_top.specs.declared.job.Job.{Job}
 use Rattle.spill_top.specs.Reserving.{refusal, refusals, room_behind}
-use Rattle.spill_top.specs.Running.{HaveEnded, Seen, Went}
-use Rattle.spill_top.specs.Jobs.{Opened, OutputStands, Work, begun, work_of}
-use Rattle.spill_top.specs.Steps.{AreAll, AreClosed, AreMade, AreSided, AreWorks, IsBegun, IsDone, KeepRefused, KeepsWorks}
-use Rattle.spill_top.specs.Sides.{told_of}
+use Rattle.spill_top.specs.Running.{HaveEnded, Seen, Went, told_over}
+use Rattle.spill_top.specs.Jobs.{HasSides, Opened, OutputStands, Work, begun, work_of}
+use Rattle.spill_top.specs.Steps.{AreAll, AreClosed, AreEach, AreMade, AreWorks, Fits, IsBegun, IsDone, KeepRefused, KeepsWorks}
+use Rattle.spill_top.proofs.Fitting.{all_fit}
 use Rattle.spill_top.proofs.Whole.{all_ended, begun_all, begun_works}
 use Rattle.spill_top.proofs.Works.{went_on}
 
@@ -28,7 +31,7 @@ begun_len {S} {K} block_len room queries jobs first =
 
 -- an output that is open was created
 open-made : (query : Query) (w : Work) (start now : Seen) (page : ℕ) (output : Option Opened) (ended : Option Ending) → IsSome output
-    → OutputStands query page (told_of query start.files) (start.written query.output) (now.written query.output) (now.created query.output) output ended → now.created query.output ≡ true
+    → OutputStands query page (told_over query start) (start.written query.output) (now.written query.output) (now.created query.output) output ended → now.created query.output ≡ true
 open-made query w start now page None ended some is = absurd (false≢true some)
 open-made query w start now page (Some sink) ended some is = is.0
 
@@ -37,7 +40,7 @@ made_of start now block_len queries works are = λ place query w at_query at som
     open-made query w start now _ w.output w.ended some ((are place query w at_query at).output)
 
 -- right inputs that are open are those of queries that join
-pub sided_of : (start now : Seen) (block_len : ℕ) (queries : List Query) (works : List Work) → AreWorks start now block_len queries works → AreSided queries works
+pub sided_of : (start now : Seen) (block_len : ℕ) (queries : List Query) (works : List Work) → AreWorks start now block_len queries works → AreEach HasSides queries works
 sided_of start now block_len queries works are = λ place query w at_query at. (are place query w at_query at).sides
 
 module _ {S K : Type 0} (remaining : S → Option (List ℕ)) (reads : S → ℕ) (contents : K → Option (List ℕ)) (writes : K → ℕ) where
@@ -45,6 +48,11 @@ module _ {S K : Type 0} (remaining : S → Option (List ℕ)) (reads : S → ℕ
   pub begun_refused : (all : List (Option Ending)) → map (λ (w : Work). w.refused) (map (work_of remaining reads contents writes) (map begun all)) ≡ all
   begun_refused [] = refl
   begun_refused (refused ∷ all) = ap (λ (rest : List (Option Ending)). refused ∷ rest) (begun_refused all)
+
+  first_refused : (block_len room : ℕ) (queries : List Query) (jobs : List (Job S K)) → jobs ≡ map begun (refusals block_len room queries)
+      → map (λ (w : Work). w.refused) (map (work_of remaining reads contents writes) jobs) ≡ refusals block_len room queries
+  first_refused block_len room queries jobs first =
+      subst (λ (js : List (Job S K)). map (λ (w : Work). w.refused) (map (work_of remaining reads contents writes) js) ≡ refusals block_len room queries) (sym first) (begun_refused (refusals block_len room queries))
 
   -- how the jobs ended
   pub jobs_ended : (jobs : List (Job S K)) → map (λ (w : Work). w.ended) (map (work_of remaining reads contents writes) jobs) ≡ map (λ job. job.ended) jobs
@@ -79,14 +87,14 @@ module _ {S K : Type 0} (remaining : S → Option (List ℕ)) (reads : S → ℕ
       subst (λ (js : List (Job S K)). AreWorks start start block_len queries (map (work_of remaining reads contents writes) js)) (sym first) (begun_works remaining reads contents writes start block_len room queries)
 
   -- what the five kinds of calls make of queries that have begun
-  pub ran_so : (start s1 s2 s3 s4 : Seen) (block_len room : ℕ) (queries : List Query) (j0 j1 j2 j3 j4 j5 : List (Job S K)) (ends : List Ending)
+  pub ran_so : (start s1 s2 s3 s4 s5 : Seen) (block_len room : ℕ) (queries : List Query) (j0 j1 j2 j3 j4 j5 : List (Job S K)) (ends : List Ending)
       → j0 ≡ map begun (refusals block_len room queries)
       → AreWorks start start block_len queries (map (work_of remaining reads contents writes) j0)
       → KeepsWorks start s1 queries (map (work_of remaining reads contents writes) j0) (map (work_of remaining reads contents writes) j1)
       → KeepsWorks s1 s2 queries (map (work_of remaining reads contents writes) j1) (map (work_of remaining reads contents writes) j2)
-      → (AreWorks start s2 block_len queries (map (work_of remaining reads contents writes) j2) → AreWorks start s2 block_len queries (map (work_of remaining reads contents writes) j3))
-      → KeepsWorks s2 s3 queries (map (work_of remaining reads contents writes) j3) (map (work_of remaining reads contents writes) j4)
-      → KeepsWorks s3 s4 queries (map (work_of remaining reads contents writes) j4) (map (work_of remaining reads contents writes) j5)
+      → (AreWorks start s2 block_len queries (map (work_of remaining reads contents writes) j2) → AreWorks start s3 block_len queries (map (work_of remaining reads contents writes) j3))
+      → KeepsWorks s3 s4 queries (map (work_of remaining reads contents writes) j3) (map (work_of remaining reads contents writes) j4)
+      → KeepsWorks s4 s5 queries (map (work_of remaining reads contents writes) j4) (map (work_of remaining reads contents writes) j5)
       → AreAll IsDone (map (work_of remaining reads contents writes) j5)
       → KeepRefused (map (work_of remaining reads contents writes) j0) (map (work_of remaining reads contents writes) j1)
       → KeepRefused (map (work_of remaining reads contents writes) j1) (map (work_of remaining reads contents writes) j2)
@@ -94,47 +102,59 @@ module _ {S K : Type 0} (remaining : S → Option (List ℕ)) (reads : S → ℕ
       → KeepRefused (map (work_of remaining reads contents writes) j3) (map (work_of remaining reads contents writes) j4)
       → KeepRefused (map (work_of remaining reads contents writes) j4) (map (work_of remaining reads contents writes) j5)
       → map (λ ending. Some ending) ends ≡ map (λ (job : Job S K). job.ended) j5
-      → HaveEnded start s4 block_len (refusals block_len room queries) queries ends
-  ran_so start s1 s2 s3 s4 block_len room queries j0 j1 j2 j3 j4 j5 ends first are created opened answered closed finished done r1 r2 r3 r4 r5 alike =
-      let refused : map (λ (w : Work). w.refused) (map (work_of remaining reads contents writes) j0) ≡ refusals block_len room queries =
-      subst (λ (jobs : List (Job S K)). map (λ (w : Work). w.refused) (map (work_of remaining reads contents writes) jobs) ≡ refusals block_len room queries) (sym first) (begun_refused (refusals block_len room queries)) in
-      all_ended start s4 block_len queries (map (work_of remaining reads contents writes) j5) (refusals block_len room queries) ends
+      → HaveEnded start s5 block_len (refusals block_len room queries) queries ends
+  ran_so start s1 s2 s3 s4 s5 block_len room queries j0 j1 j2 j3 j4 j5 ends first are created opened answered closed finished done r1 r2 r3 r4 r5 alike =
+      all_ended start s5 block_len queries (map (work_of remaining reads contents writes) j5) (refusals block_len room queries) ends
       (finished start block_len (closed start block_len (answered (opened start block_len (created start block_len are))))) done
-      (r5 ∙ (r4 ∙ (r3 ∙ (r2 ∙ (r1 ∙ refused))))) (alike ∙ sym (jobs_ended j5))
+      (r5 ∙ (r4 ∙ (r3 ∙ (r2 ∙ (r1 ∙ first_refused block_len room queries j0 first))))) (alike ∙ sym (jobs_ended j5))
 
   -- before the last of them, outputs that are open are created
-  pub made_so : (start s1 s2 s3 : Seen) (block_len : ℕ) (queries : List Query) (j0 j1 j2 j3 j4 : List (Job S K))
+  pub made_so : (start s1 s2 s3 s4 : Seen) (block_len : ℕ) (queries : List Query) (j0 j1 j2 j3 j4 : List (Job S K))
       → AreWorks start start block_len queries (map (work_of remaining reads contents writes) j0)
       → KeepsWorks start s1 queries (map (work_of remaining reads contents writes) j0) (map (work_of remaining reads contents writes) j1)
       → KeepsWorks s1 s2 queries (map (work_of remaining reads contents writes) j1) (map (work_of remaining reads contents writes) j2)
-      → (AreWorks start s2 block_len queries (map (work_of remaining reads contents writes) j2) → AreWorks start s2 block_len queries (map (work_of remaining reads contents writes) j3))
-      → KeepsWorks s2 s3 queries (map (work_of remaining reads contents writes) j3) (map (work_of remaining reads contents writes) j4)
-      → AreMade s3.created queries (map (work_of remaining reads contents writes) j4)
-  made_so start s1 s2 s3 block_len queries j0 j1 j2 j3 j4 are created opened answered closed =
-      made_of start s3 block_len queries (map (work_of remaining reads contents writes) j4) (closed start block_len (answered (opened start block_len (created start block_len are))))
+      → (AreWorks start s2 block_len queries (map (work_of remaining reads contents writes) j2) → AreWorks start s3 block_len queries (map (work_of remaining reads contents writes) j3))
+      → KeepsWorks s3 s4 queries (map (work_of remaining reads contents writes) j3) (map (work_of remaining reads contents writes) j4)
+      → AreMade s4.created queries (map (work_of remaining reads contents writes) j4)
+  made_so start s1 s2 s3 s4 block_len queries j0 j1 j2 j3 j4 are created opened answered closed =
+      made_of start s4 block_len queries (map (work_of remaining reads contents writes) j4) (closed start block_len (answered (opened start block_len (created start block_len are))))
 
   -- and the right inputs that are open are those of queries that join, before and after the queries are answered
   pub sided_so : (start s1 s2 : Seen) (block_len : ℕ) (queries : List Query) (j0 j1 j2 : List (Job S K))
       → AreWorks start start block_len queries (map (work_of remaining reads contents writes) j0)
       → KeepsWorks start s1 queries (map (work_of remaining reads contents writes) j0) (map (work_of remaining reads contents writes) j1)
       → KeepsWorks s1 s2 queries (map (work_of remaining reads contents writes) j1) (map (work_of remaining reads contents writes) j2)
-      → AreSided queries (map (work_of remaining reads contents writes) j2)
+      → AreEach HasSides queries (map (work_of remaining reads contents writes) j2)
   sided_so start s1 s2 block_len queries j0 j1 j2 are created opened =
       sided_of start s2 block_len queries (map (work_of remaining reads contents writes) j2) (opened start block_len (created start block_len are))
 
-  pub sided_then : (start s1 s2 : Seen) (block_len : ℕ) (queries : List Query) (j0 j1 j2 j3 : List (Job S K))
+  pub sided_then : (start s1 s2 s3 : Seen) (block_len : ℕ) (queries : List Query) (j0 j1 j2 j3 : List (Job S K))
       → AreWorks start start block_len queries (map (work_of remaining reads contents writes) j0)
       → KeepsWorks start s1 queries (map (work_of remaining reads contents writes) j0) (map (work_of remaining reads contents writes) j1)
       → KeepsWorks s1 s2 queries (map (work_of remaining reads contents writes) j1) (map (work_of remaining reads contents writes) j2)
-      → (AreWorks start s2 block_len queries (map (work_of remaining reads contents writes) j2) → AreWorks start s2 block_len queries (map (work_of remaining reads contents writes) j3))
-      → AreSided queries (map (work_of remaining reads contents writes) j3)
-  sided_then start s1 s2 block_len queries j0 j1 j2 j3 are created opened answered =
-      sided_of start s2 block_len queries (map (work_of remaining reads contents writes) j3) (answered (opened start block_len (created start block_len are)))
+      → (AreWorks start s2 block_len queries (map (work_of remaining reads contents writes) j2) → AreWorks start s3 block_len queries (map (work_of remaining reads contents writes) j3))
+      → AreEach HasSides queries (map (work_of remaining reads contents writes) j3)
+  sided_then start s1 s2 s3 block_len queries j0 j1 j2 j3 are created opened answered =
+      sided_of start s3 block_len queries (map (work_of remaining reads contents writes) j3) (answered (opened start block_len (created start block_len are)))
+
+  -- and those that go on fit their pools
+  pub fit_so : (start s1 s2 : Seen) (slots : ℕ) (conf : PoolConf) (queries : List Query) (j0 j1 j2 : List (Job S K)) → OpensWith conf → sum_by (λ query. query.quota) queries ≤ slots
+      → j0 ≡ map begun (refusals conf.block_len (conf.blocks * conf.block_len) queries)
+      → AreWorks start start conf.block_len queries (map (work_of remaining reads contents writes) j0)
+      → KeepsWorks start s1 queries (map (work_of remaining reads contents writes) j0) (map (work_of remaining reads contents writes) j1)
+      → KeepsWorks s1 s2 queries (map (work_of remaining reads contents writes) j1) (map (work_of remaining reads contents writes) j2)
+      → KeepRefused (map (work_of remaining reads contents writes) j0) (map (work_of remaining reads contents writes) j1)
+      → KeepRefused (map (work_of remaining reads contents writes) j1) (map (work_of remaining reads contents writes) j2)
+      → AreEach (Fits conf slots) queries (map (work_of remaining reads contents writes) j2)
+  fit_so start s1 s2 slots conf queries j0 j1 j2 opens quotas first are created opened r1 r2 =
+      let room = conf.blocks * conf.block_len in
+      all_fit start s2 slots conf queries (map (work_of remaining reads contents writes) j2) opens quotas (opened start conf.block_len (created start conf.block_len are))
+      (r2 ∙ (r1 ∙ first_refused conf.block_len room queries j0 first))
 
   -- as many endings as jobs
   pub as_many : (jobs : List (Job S K)) (ends : List Ending) → map (λ ending. Some ending) ends ≡ map (λ (job : Job S K). job.ended) jobs → length ends ≡ length jobs
   as_many jobs ends alike =
       sym (length-map ends (λ (ending : Ending). Some ending)) ∙ (ap (λ (list : List (Option Ending)). length list) alike ∙ length-map jobs (λ (job : Job S K). job.ended))
 
-pub went_thrice : (a b c d e : Seen) → Went a b → Went b c → Went c d → Went d e → Went a e
-went_thrice a b c d e one two three four = went_on a b e one (went_on b c e two (went_on c d e three four))
+pub went_through : (a b c d e f : Seen) → Went a b → Went b c → Went c d → Went d e → Went e f → Went a f
+went_through a b c d e f one two three four five = went_on a b f one (went_on b c f two (went_on c d f three (went_on d e f four five)))

@@ -2,12 +2,15 @@
 use Rattle.std.proofs.Common.{◌≡◌, ◌∙◌, ◌<◌, ◌≤◌, ◌*◌, ◌^◌, inl, inr, ℕ, Bool, true, false, List, Option, Some, None, IfSome, Result, Err, length, codes, refl, sym, subst, arith}
 use Rattle.std.specs.Prelude.{nat_le, if◌then◌else◌}
 use Rattle.std.proofs.lemmas.Bool.Decides.{leb_tells}
+use Rattle.pool_model.specs.Bytes.{bytes_of}
+use Rattle.pin_core.specs.Setup.{OpensWith}
 use Rattle.query_plan.specs.PlanOf.{document_of, plan_of, plan_of_table}
 use Rattle.query_plan.specs.Rules.{KeepsRules}
 use Rattle.query_plan.specs.declared.error.PlanErr.{PlanErr}
 use Rattle.query_plan.specs.declared.error.PlanErr.TheVariants.{Limit}
 use Rattle.query_plan.specs.declared.plan.Plan.{Plan}
 use Rattle.spill_top.specs.PlanFile.{IsEnough}
+use Rattle.spill_top.proofs.Runnable.{block_len_of}
 
 otherwise : (short : Bool) (then_this else_this : Result Plan PlanErr) → short ≡ false → (if short then then_this else else_this) ≡ else_this
 otherwise true then_this else_this is = cc
@@ -29,6 +32,11 @@ plan_same (Some bytes) text slots result (inr long) is = too-long bytes slots lo
 -- the bytes of a plan's blocks are a number of 32 bits
 pub fits_memory : (slots : ℕ) (plan : Plan) → KeepsRules slots plan → plan.blocks * plan.block_len < 2 ^ 32
 fits_memory slots plan keeps = let most = keeps.memory in let up : 2 ^ 32 ≡ 4294967296 = refl in omega (arith, most, up)
+
+-- a pool opens with them
+pub opens_with : (slots : ℕ) (plan : Plan) → KeepsRules slots plan → OpensWith (record { blocks = plan.blocks; block_len = plan.block_len; first_name = 0 })
+unfolding bytes_of
+opens_with slots plan keeps = record { block_len = block_len_of plan.block_len keeps.block_len; some = keeps.blocks.0; blocks = keeps.blocks.1; memory = keeps.memory }
 
 pub few_queries : (slots : ℕ) (plan : Plan) → KeepsRules slots plan → length plan.queries ≤ 16
 few_queries slots plan keeps = keeps.some.1

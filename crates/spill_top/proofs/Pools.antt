@@ -74,7 +74,7 @@ failed own old before now counted rose = λ free.
     omega (arith, rose, told, more)
 
 stop : {D : Type 0} (own : Owned D) (plan : Query) (quota : ℕ) (old : Signs) (before now : Tally) (e : PoolErr) → Counted (all_failures own.trail) (written_blocks own.trail) before now
-    → WasAnswered e old (signs_of own) → IsWantIn plan.right (groups plan) plan.page_blocks (Some quota) e → IsPoolStop plan quota before now e
+    → WasAnswered e old (signs_of own) → IsWantIn plan.right (groups plan) plan.page_blocks (Some quota) e → IsPoolStop plan quota (HaveFailed before now) e
 stop own plan quota old before now (pool.NoReservation tracker wanted room) counted answered want = absurd answered
 stop own plan quota old before now (pool.ScratchFull need free) counted answered want = want
 stop own plan quota old before now (pool.WriteFault entry) counted answered want = failed own old before now counted answered.rose
@@ -85,7 +85,7 @@ stop own plan quota old before now pool.Memory counted answered want = tt
 
 -- what the pool stopped the query with, as its slots tell it
 pub pool_stop : {D : Type 0} (own : Owned D) (plan : Query) (quota : ℕ) (start : Holdings) (old : Signs) (named : Option Tally) (before now : Tally) (e : QueryErr) → start.free_slots ≡ Some quota → named ≡ Some before
-    → SumsHold named own.trail now → MayStop plan start old (signs_of own) e → OfPool (IsPoolStop plan quota before now) e
+    → SumsHold named own.trail now → MayStop plan start old (signs_of own) e → OfPool (IsPoolStop plan quota (HaveFailed before now)) e
 pool_stop own plan quota start old named before now (query.SourceFault side) free is sums may = tt
 pool_stop own plan quota start old named before now (query.BadHeader side) free is sums may = tt
 pool_stop own plan quota start old named before now (query.BadCsv side number) free is sums may = tt

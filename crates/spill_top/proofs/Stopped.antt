@@ -1,13 +1,12 @@
--- Why a query stopped over a store in memory, and how many lines it has, by what it says of both inputs.
-use Rattle.std.proofs.Common.{◌≡◌, ℕ, Option, Some, None, IfSome, true, refl, ap}
+-- Why a query stopped over a pool of its own, what it left in its sink then, and how many lines it has, by what it says of both inputs.
+use Rattle.std.proofs.Common.{◌≡◌, ◌⊎◌, inl, inr, ℕ, Bool, true, false, List, Option, Some, None, IfSome, IsSome, refl, ap}
 use Rattle.std.specs.Option.{IsSomeAnd}
 use Rattle.outside.specs.Counts.{Rose}
-use Rattle.reservation_tree.specs.declared.errors.PoolErr.TheVariants.{Memory}
 use Rattle.query_plan.specs.declared.plan.Query.{Query}
 use Rattle.query_plan.specs.declared.plan.Side.{Side}
 use Rattle.query_plan.specs.declared.plan.Side.TheVariants.{Left, Right}
 use Rattle.query_plan.specs.declared.plan.SidePlan.{SidePlan}
-use Rattle.query_run.specs.Answer.{Numbers, answer_text}
+use Rattle.query_run.specs.Answer.{Numbers, WroteAnswer, WroteFront, answer_text}
 use Rattle.query_run.specs.Both.{Told}
 use Rattle.query_run.specs.Causes.{IsOfBytes, IsSourceFault, OfPool, side_of}
 use Rattle.query_run.specs.Input.{IsAccepted, IsRefusalIn}
@@ -15,8 +14,10 @@ use Rattle.query_run.specs.Refused.{SaysOfInputs, SaysOfRight, Source}
 use Rattle.query_run.specs.declared.outcome.QueryErr.{QueryErr}
 use Rattle.query_run.specs.declared.outcome.QueryErr.TheVariants as query
 use Rattle.query_run.specs.declared.outcome.Ran.{Ran}
+use Rattle.spill_top.specs.Jobs.{LeavesPart}
+use Rattle.spill_top.specs.Pooled.{IsPoolStop}
 use Rattle.spill_top.specs.Running.{HasLines, IsRefusedOn, IsStopped}
-use Rattle.spill_top.specs.Sides.{RoseOn, on_sides}
+use Rattle.spill_top.specs.Sides.{RoseOn, if_told, on_sides}
 
 -- what bytes are refused for names their side
 sided : (why : QueryErr) → IsOfBytes why → side_of why ≡ None → ⊥
@@ -55,14 +56,31 @@ module _ (plan : Query) (page : ℕ) (lefts rights : Source) (why : QueryErr) wh
   fault-of says Right is = fault-right plan.right (says.right (ap side_of is)) (Right, is)
 
   -- so it stopped for this
-  pub stopped_for : (write_failed : Type 0) → SaysOfInputs plan page lefts rights why → (why ≡ query.SinkFault → write_failed) → OfPool (λ e. e ≡ Memory) why
-      → IsStopped plan page (on_sides lefts.told rights.told) (RoseOn (on_sides lefts.faults rights.faults) (on_sides lefts.faults_now rights.faults_now)) write_failed why
-  stopped_for write_failed says sink memory = record { refused = refused-of says; source_fault = fault-of says; sink_fault = sink; memory = memory }
+  pub stopped_for : (write_failed slots_failed : Type 0) → SaysOfInputs plan page lefts rights why → (why ≡ query.SinkFault → write_failed) → OfPool (IsPoolStop plan plan.quota slots_failed) why
+      → IsStopped plan page (on_sides lefts.told rights.told) (RoseOn (on_sides lefts.faults rights.faults) (on_sides lefts.faults_now rights.faults_now)) write_failed slots_failed why
+  stopped_for write_failed slots_failed says sink stop = record { refused = refused-of says; source_fault = fault-of says; sink_fault = sink; pool = stop }
+
+-- what is said of what is told where slots tell what they hold
+pub answer_told : (plan : Query) (page : ℕ) (tell : Bool) (told : Option Told) (before now : Option (List ℕ)) → (tell ≡ true → WroteAnswer plan page told before now) → WroteAnswer plan page (if_told tell told) before now
+answer_told plan page true told before now wrote = wrote refl
+answer_told plan page false told before now wrote = tt
+
+front-told : (plan : Query) (page : ℕ) (tell : Bool) (told : Option Told) (before now : Option (List ℕ)) → (tell ≡ true → WroteFront plan page told before now) → WroteFront plan page (if_told tell told) before now
+front-told plan page true told before now front = front refl
+front-told plan page false told before now front = tt
+
+-- it left its sink as it was where an input was at fault, and else as it was or with a front
+pub part_left : {K A B : Type 0} (contents : K → Option (List ℕ)) (plan : Query) (page : ℕ) (tell : Bool) (told : Option Told) (before now : K) (side : Option Side) → (IsSome side → now ≡ before)
+    → (now ≡ before) ⊎ (A × B × (tell ≡ true → WroteFront plan page told (contents before) (contents now))) → LeavesPart plan page (if_told tell told) (contents before) (contents now) side
+part_left contents plan page tell told before now (Some side) untouched stopped = ap contents (untouched refl)
+part_left contents plan page tell told before now None untouched (inl same) = inl (ap contents same)
+part_left contents plan page tell told before now None untouched (inr part) = inr (front-told plan page tell told (contents before) (contents now) part.2)
 
 -- the lines of an answer over what is told
-pub lines_of : (plan : Query) (page : ℕ) (told : Option Told) (ran : Ran) → IfSome told (Numbers plan page true ran) → IfSome told (HasLines plan page ran.lines)
-lines_of plan page None ran numbers = tt
-lines_of plan page (Some both) ran numbers =
+pub lines_of : (plan : Query) (page : ℕ) (tell : Bool) (told : Option Told) (ran : Ran) → IfSome told (Numbers plan page tell ran) → IfSome (if_told tell told) (HasLines plan page ran.lines)
+lines_of plan page false told ran numbers = tt
+lines_of plan page true None ran numbers = tt
+lines_of plan page true (Some both) ran numbers =
     let lines = numbers.lines refl in
     record {
       text = answer_text plan lines.out;

@@ -5,6 +5,7 @@ use Rattle.std.specs.Option.{option_flatten}
 use Rattle.std.specs.Prelude.{nat_le, if◌then◌else◌, ⊤}
 use Rattle.std.proofs.lemmas.Option.{none-some, same_Some}
 use Rattle.outside.specs.Counts.{Rose}
+use Rattle.query_run.specs.Both.{Told}
 use Rattle.query_plan.specs.Sizes.{least_of, page_len}
 use Rattle.query_plan.specs.declared.plan.Query.{Query}
 use Rattle.query_plan.specs.declared.plan.Side.{Side}
@@ -12,7 +13,8 @@ use Rattle.query_plan.specs.declared.plan.Side.TheVariants.{Left, Right}
 use Rattle.spill_top.specs.declared.ending.Ending.{Ending}
 use Rattle.spill_top.specs.declared.ending.Ending.TheVariants.{Lines, Reservation, Stopped}
 use Rattle.spill_top.specs.Reserving.{refusal, refusals, room_behind}
-use Rattle.spill_top.specs.Running.{HasEnded, HaveEnded, Seen}
+use Rattle.spill_top.specs.Pooled.{HaveFailed}
+use Rattle.spill_top.specs.Running.{HasEnded, HaveEnded, Seen, told_over}
 use Rattle.spill_top.specs.Jobs.{HasFailed, HasFailedOn, HasNone, IsSoFar, IsWork, Opened, Work, begun, work_of}
 use Rattle.spill_top.specs.Sides.{RoseOn, bytes_on, faults_on, on_sides}
 use Rattle.spill_top.specs.Steps.{AreAll, AreWorks, IsBegun, IsDone}
@@ -40,11 +42,11 @@ reserved_at block_len room (query ∷ queries) zero refused at =
 reserved_at block_len room (query ∷ queries) (suc place) refused at =
     reserved_at block_len (room_behind (refusal query.limit (least_of query block_len) room) (least_of query block_len) room) queries place refused at
 
-first-so-far : (plan : Query) (page : ℕ) (bytes : Side → Option (List ℕ)) (R : Side → Type 0) (W : Type 0) (refused : Option Ending) → IsReserved refused → IsSoFar plan page bytes R W refused refused
-first-so-far plan page bytes R W None is = refl
-first-so-far plan page bytes R W (Some (Reservation root wanted room)) is = refl
-first-so-far plan page bytes R W (Some (Lines lines)) is = absurd is
-first-so-far plan page bytes R W (Some (Stopped why)) is = absurd is
+first-so-far : (plan : Query) (page : ℕ) (bytes : Side → Option (List ℕ)) (told : Option Told) (R : Side → Type 0) (W F : Type 0) (refused : Option Ending) → IsReserved refused → IsSoFar plan page bytes told R W F refused refused
+first-so-far plan page bytes told R W F None is = refl
+first-so-far plan page bytes told R W F (Some (Reservation root wanted room)) is = refl
+first-so-far plan page bytes told R W F (Some (Lines lines)) is = absurd is
+first-so-far plan page bytes told R W F (Some (Stopped why)) is = absurd is
 
 has-none : (refused : Option Ending) → IsReserved refused → HasNone refused
 has-none None is = tt
@@ -56,7 +58,7 @@ first-is : (start : Seen) (block_len : ℕ) (query : Query) (refused : Option En
     → IsWork start start block_len query (record { refused = refused; left = None; right = None; output = None; ended = refused })
 first-is start block_len query refused is = record {
   went = went_nowhere start;
-  ending = first-so-far query (page_len query block_len) (bytes_on query start.files) (HasFailedOn (faults_on query start.reads) (faults_on query start.reads) (on_sides None None)) _ refused is;
+  ending = first-so-far query (page_len query block_len) (bytes_on query start.files) (told_over query start) (HasFailedOn (faults_on query start.reads) (faults_on query start.reads) (on_sides None None)) _ _ refused is;
   inputs = none_stand (bytes_on query start.files) refused;
   sides = no_sides query refused refused None;
   output = inl (has-none refused is, refl);
@@ -109,10 +111,10 @@ none-more before now Right failed = no-more (before Right) (now Right) failed
 ended-work : (start now : Seen) (block_len : ℕ) (query : Query) (refused : Option Ending) (ending : Ending)
     → IsWork start now block_len query (record { refused = refused; left = None; right = None; output = None; ended = Some ending }) → HasEnded start now block_len refused query ending
 ended-work start now block_len query refused ending is = record {
-  so = ending_later query (page_len query block_len) (bytes_on query start.files)
-      (HasFailedOn (faults_on query start.reads) (faults_on query now.reads) (on_sides None None)) (HasFailed (start.writes query.output) (now.writes query.output) None)
-      (RoseOn (faults_on query start.reads) (faults_on query now.reads)) (Rose (start.writes query.output) (now.writes query.output)) refused ending
-      (none-more (faults_on query start.reads) (faults_on query now.reads)) (no-more (start.writes query.output) (now.writes query.output)) is.ending;
+  so = ending_later query (page_len query block_len) (bytes_on query start.files) (told_over query start)
+      (HasFailedOn (faults_on query start.reads) (faults_on query now.reads) (on_sides None None)) (HasFailed (start.writes query.output) (now.writes query.output) None) (HaveFailed start.slots now.slots)
+      (RoseOn (faults_on query start.reads) (faults_on query now.reads)) (Rose (start.writes query.output) (now.writes query.output)) (HaveFailed start.slots now.slots) refused ending
+      (none-more (faults_on query start.reads) (faults_on query now.reads)) (no-more (start.writes query.output) (now.writes query.output)) (λ failed. failed) is.ending;
   output = is.output;
 }
 

@@ -4,16 +4,23 @@ use Rattle.std.specs.List.{slice_get}
 use Rattle.std.specs.Option.{IsSomeAnd}
 use Rattle.outside.specs.Counts.{Rose}
 use Rattle.outside.specs.Names.{TakesFaults, Written, fresh}
+use Rattle.pin_core.specs.declared.tally.Tally.{Tally}
+use Rattle.pin_core.proofs.Tallied.{counted_more}
+use Rattle.reservation_tree.specs.declared.errors.PoolErr.{PoolErr}
+use Rattle.reservation_tree.specs.declared.errors.PoolErr.TheVariants as pool
 use Rattle.query_plan.specs.Sizes.{page_len}
 use Rattle.query_plan.specs.declared.plan.Query.{Query}
 use Rattle.query_plan.specs.declared.plan.Side.{Side}
 use Rattle.query_run.specs.Both.{Told}
+use Rattle.query_run.specs.Causes.{OfPool}
 use Rattle.query_run.specs.declared.outcome.QueryErr.{QueryErr}
+use Rattle.query_run.specs.declared.outcome.QueryErr.TheVariants as query
 use Rattle.spill_top.specs.declared.ending.Ending.{Ending}
 use Rattle.spill_top.specs.declared.ending.Ending.TheVariants.{Lines, Reservation, Stopped}
-use Rattle.spill_top.specs.Running.{HasOutput, IsEnding, IsStopped, Seen, Went}
+use Rattle.spill_top.specs.Pooled.{ComeBack, HaveFailed, IsPoolStop}
+use Rattle.spill_top.specs.Running.{HasOutput, IsEnding, IsStopped, Seen, Went, told_over}
 use Rattle.spill_top.specs.Jobs.{HasFailed, HasFailedOn, IsSoFar, IsWork, Opened, OutputStands, SinkHolds, Work, faults_of, inputs_of}
-use Rattle.spill_top.specs.Sides.{bytes_on, faults_on, told_of}
+use Rattle.spill_top.specs.Sides.{bytes_on, faults_on}
 use Rattle.spill_top.specs.Steps.{AreWorks}
 use Rattle.spill_top.proofs.Places.{set_get}
 use Rattle.spill_top.proofs.Sides.{faults_kept}
@@ -30,7 +37,22 @@ went_on a b c first then = record {
   reads = λ name. let one = first.reads name in let two = then.reads name in omega (arith, one, two);
   created = λ name is. then.created name (first.created name is);
   writes = λ name. let one = first.writes name in let two = then.writes name in omega (arith, one, two);
+  slots = counted_more 0 0 0 0 a.slots b.slots c.slots first.slots then.slots;
 }
+
+-- a slot that had failed still has
+pub slots_later : (before mid now : Tally) → ComeBack mid now → HaveFailed before mid → HaveFailed before now
+slots_later before mid now back failed = λ free.
+    let short = back.stays in
+    let more = back.never_fall in
+    let rose = failed (omega (arith, free, short)) in
+    omega (arith, rose, more)
+
+pub slots_since : (before mid now : Tally) → ComeBack before mid → HaveFailed mid now → HaveFailed before now
+slots_since before mid now back failed = λ free.
+    let less = back.never_fall in
+    let rose = failed free in
+    omega (arith, rose, less)
 
 pub failed_later : (before mid now : ℕ) (thing : Option Opened) → mid ≤ now → HasFailed before mid thing → HasFailed before now thing
 failed_later before mid now thing more (inl rose) = inl (rose_later before mid now rose more)
@@ -41,23 +63,43 @@ pub taken : (before old now : ℕ) (thing : Option Opened) → before ≤ old �
 taken before old now thing less more takes (inl rose) = inl (rose_later before old now rose more)
 taken before old now thing less more takes (inr has) = inl (rose_since before old now less (takes has))
 
-module _ (plan : Query) (page : ℕ) (bytes : Side → Option (List ℕ)) (R : Side → Type 0) (W : Type 0) (R' : Side → Type 0) (W' : Type 0) where
-  stopped-later : (why : QueryErr) → ((side : Side) → R side → R' side) → (W → W') → IsStopped plan page bytes R W why → IsStopped plan page bytes R' W' why
-  stopped-later why reads writes is = record {
+-- what a pool stopped a query with, once the failure is known by another fact
+stop-later : (plan : Query) (F F' : Type 0) (why : PoolErr) → (F → F') → IsPoolStop plan plan.quota F why → IsPoolStop plan plan.quota F' why
+stop-later plan F F' (pool.NoReservation tracker wanted room) slots is = is
+stop-later plan F F' (pool.ScratchFull need free) slots is = is
+stop-later plan F F' (pool.WriteFault entry) slots is = slots is
+stop-later plan F F' (pool.ReadFault entry) slots is = slots is
+stop-later plan F F' (pool.TooManyTrackers count) slots is = is
+stop-later plan F F' pool.NamesSpent slots is = is
+stop-later plan F F' pool.Memory slots is = is
+
+pub pool_later : (plan : Query) (F F' : Type 0) (why : QueryErr) → (F → F') → OfPool (IsPoolStop plan plan.quota F) why → OfPool (IsPoolStop plan plan.quota F') why
+pool_later plan F F' (query.SourceFault side) slots is = is
+pool_later plan F F' (query.BadHeader side) slots is = is
+pool_later plan F F' (query.BadCsv side number) slots is = is
+pool_later plan F F' (query.BadField side number column) slots is = is
+pool_later plan F F' (query.TooLarge side) slots is = is
+pool_later plan F F' (query.RowTooLong side number bytes) slots is = is
+pool_later plan F F' query.SinkFault slots is = is
+pool_later plan F F' (query.Pool why) slots is = stop-later plan F F' why slots is
+
+module _ (plan : Query) (page : ℕ) (bytes : Side → Option (List ℕ)) (told : Option Told) (R : Side → Type 0) (W F : Type 0) (R' : Side → Type 0) (W' F' : Type 0) where
+  stopped-later : (why : QueryErr) → ((side : Side) → R side → R' side) → (W → W') → (F → F') → IsStopped plan page bytes R W F why → IsStopped plan page bytes R' W' F' why
+  stopped-later why reads writes slots is = record {
     refused = is.refused;
     source_fault = λ side fault. reads side (is.source_fault side fault);
     sink_fault = λ fault. writes (is.sink_fault fault);
-    memory = is.memory;
+    pool = pool_later plan F F' why slots is.pool;
   }
 
-  pub ending_later : (refused : Option Ending) (ending : Ending) → ((side : Side) → R side → R' side) → (W → W') → IsEnding plan page bytes R W refused ending → IsEnding plan page bytes R' W' refused ending
-  ending_later refused (Lines lines) reads writes is = is
-  ending_later refused (Reservation root wanted room) reads writes is = is
-  ending_later refused (Stopped why) reads writes is = (is.0, stopped-later why reads writes is.1)
+  pub ending_later : (refused : Option Ending) (ending : Ending) → ((side : Side) → R side → R' side) → (W → W') → (F → F') → IsEnding plan page bytes told R W F refused ending → IsEnding plan page bytes told R' W' F' refused ending
+  ending_later refused (Lines lines) reads writes slots is = is
+  ending_later refused (Reservation root wanted room) reads writes slots is = is
+  ending_later refused (Stopped why) reads writes slots is = (is.0, stopped-later why reads writes slots is.1)
 
-  pub so_far_later : (refused ended : Option Ending) → ((side : Side) → R side → R' side) → (W → W') → IsSoFar plan page bytes R W refused ended → IsSoFar plan page bytes R' W' refused ended
-  so_far_later refused None reads writes is = is
-  so_far_later refused (Some ending) reads writes is = ending_later refused ending reads writes is
+  pub so_far_later : (refused ended : Option Ending) → ((side : Side) → R side → R' side) → (W → W') → (F → F') → IsSoFar plan page bytes told R W F refused ended → IsSoFar plan page bytes told R' W' F' refused ended
+  so_far_later refused None reads writes slots is = is
+  so_far_later refused (Some ending) reads writes slots is = ending_later refused ending reads writes slots is
 
 sink-later : (plan : Query) (page : ℕ) (told : Option Told) (before old now : Option Written) (sink : Opened) (ended : Option Ending) → now ≡ old
     → IfSome before (λ _. (old ≡ Some fresh) × SinkHolds plan page told sink.told ended) → IfSome before (λ _. (now ≡ Some fresh) × SinkHolds plan page told sink.told ended)
@@ -76,14 +118,15 @@ pub work_later : (start old now : Seen) (block_len : ℕ) (query : Query) (w : W
     → IsWork start old block_len query w → IsWork start now block_len query w
 work_later start old now block_len query w went same is = record {
   went = went_on start old now is.went went;
-  ending = so_far_later query (page_len query block_len) (bytes_on query start.files)
-      (HasFailedOn (faults_on query start.reads) (faults_on query old.reads) (inputs_of w)) (HasFailed (start.writes query.output) (old.writes query.output) w.output)
-      (HasFailedOn (faults_on query start.reads) (faults_on query now.reads) (inputs_of w)) (HasFailed (start.writes query.output) (now.writes query.output) w.output) w.refused w.ended
+  ending = so_far_later query (page_len query block_len) (bytes_on query start.files) (told_over query start)
+      (HasFailedOn (faults_on query start.reads) (faults_on query old.reads) (inputs_of w)) (HasFailed (start.writes query.output) (old.writes query.output) w.output) (HaveFailed start.slots old.slots)
+      (HasFailedOn (faults_on query start.reads) (faults_on query now.reads) (inputs_of w)) (HasFailed (start.writes query.output) (now.writes query.output) w.output) (HaveFailed start.slots now.slots) w.refused w.ended
       (λ side. failed_later (faults_on query start.reads side) (faults_on query old.reads side) (faults_on query now.reads side) (inputs_of w side) (faults_kept query old.reads now.reads went.reads side))
-      (failed_later (start.writes query.output) (old.writes query.output) (now.writes query.output) w.output (went.writes query.output)) is.ending;
+      (failed_later (start.writes query.output) (old.writes query.output) (now.writes query.output) w.output (went.writes query.output))
+      (slots_later start.slots old.slots now.slots went.slots) is.ending;
   inputs = is.inputs;
   sides = is.sides;
-  output = output-later query (page_len query block_len) (told_of query start.files) (start.written query.output) (old.written query.output) (now.written query.output)
+  output = output-later query (page_len query block_len) (told_over query start) (start.written query.output) (old.written query.output) (now.written query.output)
       (old.created query.output) (now.created query.output) w.output w.ended same (went.created query.output) is.output;
   fresh_sink = is.fresh_sink;
 }

@@ -1,5 +1,5 @@
 -- A query over a pool of its own. What slots count together is a tally: `before` the call, and `now` that they came back.
-use Rattle.std.specs.Prelude.{◌≡◌, ◌==◌, ◌<◌, ◌≤◌, ℕ, Bool, Option, Some, ⊤}
+use Rattle.std.specs.Prelude.{◌≡◌, ◌==◌, ◌<◌, ◌≤◌, ℕ, Bool, Some, ⊤}
 use Rattle.reservation_tree.specs.declared.errors.PoolErr.{PoolErr}
 use Rattle.reservation_tree.specs.declared.errors.PoolErr.TheVariants.{ScratchFull, WriteFault, ReadFault, NamesSpent, Memory}
 use Rattle.pin_core.specs.Setup.{OpensWith}
@@ -28,12 +28,12 @@ ComeBack before now = Counted 0 0 before now
 abbrev pub HaveFailed : Tally → Tally → Type 0
 HaveFailed before now = now.stuck ≡ 0 → before.faults < now.faults
 
--- why a pool stopped a query that may take so many slots: fewer were left than a page has blocks; a write or a read failed;
--- no name of a page was left; or memory was wanting
-abbrev pub IsPoolStop : Query → ℕ → Tally → Tally → PoolErr → Type 0
-IsPoolStop query quota before now (ScratchFull need free) = IsWantIn query.right (groups query) query.page_blocks (Some quota) (ScratchFull need free)
-IsPoolStop query quota before now (WriteFault entry) = HaveFailed before now
-IsPoolStop query quota before now (ReadFault entry) = HaveFailed before now
-IsPoolStop query quota before now NamesSpent = ⊤
-IsPoolStop query quota before now Memory = ⊤
-IsPoolStop query quota before now _ = ⊥
+-- why a pool stopped a query that may take so many slots: fewer were left than a page has blocks; a write or a read failed, so
+-- that `failed` holds; no name of a page was left; or memory was wanting
+abbrev pub IsPoolStop : Query → ℕ → Type 0 → PoolErr → Type 0
+IsPoolStop query quota failed (ScratchFull need free) = IsWantIn query.right (groups query) query.page_blocks (Some quota) (ScratchFull need free)
+IsPoolStop query quota failed (WriteFault entry) = failed
+IsPoolStop query quota failed (ReadFault entry) = failed
+IsPoolStop query quota failed NamesSpent = ⊤
+IsPoolStop query quota failed Memory = ⊤
+IsPoolStop query quota failed _ = ⊥

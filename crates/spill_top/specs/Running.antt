@@ -3,7 +3,7 @@ use Rattle.std.specs.Prelude.{◌≡◌, ◌⊎◌, ◌++◌, ℕ, Bool, true, f
 use Rattle.std.specs.Option.{IsSomeAnd, option_flatten}
 use Rattle.outside.specs.Counts.{NoneFell, Rose}
 use Rattle.outside.specs.Names.{AllStay, OthersStay, StaysCreated, Written}
-use Rattle.reservation_tree.specs.declared.errors.PoolErr.TheVariants.{Memory}
+use Rattle.pin_core.specs.declared.tally.Tally.{Tally}
 use Rattle.query_plan.specs.declared.plan.Query.{Query}
 use Rattle.query_plan.specs.declared.plan.Side.{Side}
 use Rattle.query_plan.specs.declared.plan.Side.TheVariants.{Left, Right}
@@ -16,25 +16,33 @@ use Rattle.query_run.specs.declared.outcome.QueryErr.{QueryErr}
 use Rattle.query_run.specs.declared.outcome.QueryErr.TheVariants.{SinkFault, SourceFault}
 use Rattle.spill_top.specs.declared.ending.Ending.{Ending}
 use Rattle.spill_top.specs.declared.ending.Ending.TheVariants.{Lines, Reservation, Stopped}
-use Rattle.spill_top.specs.Sides.{RoseOn, both_on, bytes_on, faults_on, told_of}
+use Rattle.spill_top.specs.Pooled.{ComeBack, HaveFailed, IsPoolStop, all_tell}
+use Rattle.spill_top.specs.Sides.{RoseOn, bytes_on, faults_on, if_told, told_of}
 
--- inputs and outputs at a time, by name: the bytes of files, and the faults of reading; what was written, which names were created, and the faults of writing
+-- inputs and outputs at a time, by name: the bytes of files, and the faults of reading; what was written, which names were created, and the faults of writing.
+-- And what the slots count together
 pub record Seen : Type 0 where
   pub files : List ℕ → Option (List ℕ)
   pub reads : List ℕ → ℕ
   pub written : List ℕ → Option Written
   pub created : List ℕ → Bool
   pub writes : List ℕ → ℕ
+  pub slots : Tally
 
-abbrev pub seen : (List ℕ → Option (List ℕ)) → (List ℕ → ℕ) → (List ℕ → Option Written) → (List ℕ → Bool) → (List ℕ → ℕ) → Seen
-seen files reads written created writes = record { files = files; reads = reads; written = written; created = created; writes = writes }
+abbrev pub seen : (List ℕ → Option (List ℕ)) → (List ℕ → ℕ) → (List ℕ → Option Written) → (List ℕ → Bool) → (List ℕ → ℕ) → Tally → Seen
+seen files reads written created writes slots = record { files = files; reads = reads; written = written; created = created; writes = writes; slots = slots }
 
--- the files stayed, no count fell, and what was created stays so
+-- the bytes of both inputs of a query, where they are told and all slots tell what they hold
+abbrev pub told_over : Query → Seen → Option Told
+told_over query start = if_told (all_tell start.slots) (told_of query start.files)
+
+-- the files stayed, no count fell, what was created stays so, and all slots are there again
 pub record Went (old new : Seen) : Type 0 where
   pub files : AllStay old.files new.files
   pub reads : NoneFell old.reads new.reads
   pub created : StaysCreated old.created new.created
   pub writes : NoneFell old.writes new.writes
+  pub slots : ComeBack old.slots new.slots
 
 -- and every output but this one stayed
 pub record WentAt (name : List ℕ) (old new : Seen) : Type 0 where
@@ -47,13 +55,13 @@ IsRefusedOn plan page bytes why Left = IfSome (bytes Left) (λ left. IsRefusal p
 IsRefusedOn plan page bytes why Right =
     IfSome (bytes Left) (IsAccepted plan page) × IsSomeAnd plan.right (λ asked. IfSome (bytes Right) (λ right. IsRefusalIn plan Right asked page right why))
 
--- why a query stopped over a store in memory: the bytes of the input that the cause names are refused for this; reading that input, or writing, has
--- failed; or memory was wanting
-pub record IsStopped (plan : Query) (page : ℕ) (bytes : Side → Option (List ℕ)) (read_failed : Side → Type 0) (write_failed : Type 0) (why : QueryErr) : Type 0 where
+-- why a query stopped over a pool of its own: the bytes of the input that the cause names are refused for this; reading that input, or writing, has
+-- failed; or the pool stopped it, whose pages may take as many slots as its quota
+pub record IsStopped (plan : Query) (page : ℕ) (bytes : Side → Option (List ℕ)) (read_failed : Side → Type 0) (write_failed slots_failed : Type 0) (why : QueryErr) : Type 0 where
   pub refused : IsOfBytes why → IsSomeAnd (side_of why) (IsRefusedOn plan page bytes why)
   pub source_fault : (side : Side) → why ≡ SourceFault side → read_failed side
   pub sink_fault : why ≡ SinkFault → write_failed
-  pub memory : OfPool (λ e. e ≡ Memory) why
+  pub pool : OfPool (IsPoolStop plan plan.quota slots_failed) why
 
 -- an answer over these bytes has so many lines behind its first one
 pub record HasLines (plan : Query) (page lines : ℕ) (told : Told) : Type 0 where
@@ -61,11 +69,11 @@ pub record HasLines (plan : Query) (page lines : ℕ) (told : Told) : Type 0 whe
   pub answer : IsAnswer plan page told text
   pub many : lines ≡ length answer.out
 
--- how a query ended is so: its least reservation was refused for exactly this, if it was
-abbrev pub IsEnding : Query → ℕ → (Side → Option (List ℕ)) → (Side → Type 0) → Type 0 → Option Ending → Ending → Type 0
-IsEnding plan page bytes read_failed write_failed refused (Lines lines) = (refused ≡ None) × IfSome (both_on bytes) (HasLines plan page lines)
-IsEnding plan page bytes read_failed write_failed refused (Reservation root wanted room) = refused ≡ Some (Reservation root wanted room)
-IsEnding plan page bytes read_failed write_failed refused (Stopped why) = (refused ≡ None) × IsStopped plan page bytes read_failed write_failed why
+-- how a query ended is so, where an answer is over the bytes that are told: its least reservation was refused for exactly this, if it was
+abbrev pub IsEnding : Query → ℕ → (Side → Option (List ℕ)) → Option Told → (Side → Type 0) → Type 0 → Type 0 → Option Ending → Ending → Type 0
+IsEnding plan page bytes told read_failed write_failed slots_failed refused (Lines lines) = (refused ≡ None) × IfSome told (HasLines plan page lines)
+IsEnding plan page bytes told read_failed write_failed slots_failed refused (Reservation root wanted room) = refused ≡ Some (Reservation root wanted room)
+IsEnding plan page bytes told read_failed write_failed slots_failed refused (Stopped why) = (refused ≡ None) × IsStopped plan page bytes read_failed write_failed slots_failed why
 
 -- an answer over these bytes, or a front of it, or nothing
 abbrev pub IsPart : Query → ℕ → Told → List ℕ → Type 0
@@ -95,10 +103,10 @@ HasNoOutput (Stopped why) = why ≡ SinkFault
 
 -- what became of a query, and of its output
 pub record HasEnded (start now : Seen) (block_len : ℕ) (refused : Option Ending) (query : Query) (ending : Ending) : Type 0 where
-  pub so : IsEnding query (page_len query block_len) (bytes_on query start.files)
-      (RoseOn (faults_on query start.reads) (faults_on query now.reads)) (Rose (start.writes query.output) (now.writes query.output)) refused ending
+  pub so : IsEnding query (page_len query block_len) (bytes_on query start.files) (told_over query start)
+      (RoseOn (faults_on query start.reads) (faults_on query now.reads)) (Rose (start.writes query.output) (now.writes query.output)) (HaveFailed start.slots now.slots) refused ending
   pub output : (HasNoOutput ending × (now.written query.output ≡ start.written query.output))
-      ⊎ HasOutput query (page_len query block_len) (told_of query start.files) (start.written query.output) (now.written query.output) ending
+      ⊎ HasOutput query (page_len query block_len) (told_over query start) (start.written query.output) (now.written query.output) ending
 
 -- of each query, in the order of the plan
 abbrev pub HaveEnded : Seen → Seen → ℕ → List (Option Ending) → List Query → List Ending → Type 0

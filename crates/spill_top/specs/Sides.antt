@@ -1,5 +1,5 @@
 -- The two inputs of a query, by side. Where it doesn't join there is no right one, which is as good as one without bytes and faults.
-use Rattle.std.specs.Prelude.{ℕ, List, [], Option, Some, None}
+use Rattle.std.specs.Prelude.{ℕ, Bool, true, false, List, [], Option, Some, None}
 use Rattle.outside.specs.Counts.{Rose}
 use Rattle.query_plan.specs.declared.plan.Query.{Query}
 use Rattle.query_plan.specs.declared.plan.Side.{Side}
@@ -36,3 +36,8 @@ both_on bytes = both_told (bytes Left) (bytes Right)
 -- those of a query's files
 abbrev pub told_of : Query → (List ℕ → Option (List ℕ)) → Option Told
 told_of query files = both_on (bytes_on query files)
+
+-- the same where this is so, and else nothing is told
+abbrev pub if_told : Bool → Option Told → Option Told
+if_told true told = told
+if_told false told = None

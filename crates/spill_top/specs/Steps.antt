@@ -1,14 +1,21 @@
 -- The queries of a plan in turn: what stands of all of them, and how far they are. About private fields.
-use Rattle.std.specs.Prelude.{◌≡◌, ℕ, Bool, true, List, Some, None, All, IsSome, map, slice_get}
+use Rattle.std.specs.Prelude.{◌≡◌, ◌≤◌, ℕ, Bool, true, List, Some, None, All, IsSome, map, slice_get}
+use Rattle.pin_core.specs.declared.conf.PoolConf.{PoolConf}
+use Rattle.pin_core.specs.declared.tally.Tally.{Tally}
 use Rattle.query_plan.specs.declared.plan.Query.{Query}
 use Rattle.spill_top.specs.declared.job.Job.{Job}
+use Rattle.spill_top.specs.Pooled.{HasMemoryFor}
 use Rattle.spill_top.specs.Running.{Seen}
-use Rattle.spill_top.specs.Jobs.{HasSides, IsWork, Work}
+use Rattle.spill_top.specs.Jobs.{IsWork, Work}
 
 -- what stands of all queries
 abbrev pub AreWorks : Seen → Seen → ℕ → List Query → List Work → Type 0
 AreWorks start now block_len queries works =
     (place : ℕ) (query : Query) (w : Work) → slice_get queries place ≡ Some query → slice_get works place ≡ Some w → IsWork start now block_len query w
+
+-- inputs and outputs at a time, while the slots count this
+abbrev pub with_slots : Tally → Seen → Seen
+with_slots slots at = record at { slots = slots }
 
 -- calls for them left it so, whenever the plan started
 abbrev pub KeepsWorks : Seen → Seen → List Query → List Work → List Work → Type 0
@@ -45,11 +52,16 @@ IsDone w = IsSome w.ended × (w.left ≡ None) × (w.right ≡ None) × (w.outpu
 abbrev pub AreClosed : {S K : Type 0} → List (Job S K) → Type 0
 AreClosed jobs = All (λ job. (job.left ≡ None) × (job.right ≡ None) × (job.sink ≡ None)) jobs
 
+-- a query may run over a pool with these numbers and so many slots, as long as it goes on
+pub record Fits (conf : PoolConf) (slots : ℕ) (query : Query) (w : Work) : Type 0 where
+  pub memory : w.ended ≡ None → HasMemoryFor query conf
+  pub quota : query.quota ≤ slots
+
 -- the names of the outputs that are open were created
 abbrev pub AreMade : (List ℕ → Bool) → List Query → List Work → Type 0
 AreMade created queries works =
     (place : ℕ) (query : Query) (w : Work) → slice_get queries place ≡ Some query → slice_get works place ≡ Some w → IsSome w.output → created query.output ≡ true
 
--- the right inputs that are open are those of queries that join
-abbrev pub AreSided : List Query → List Work → Type 0
-AreSided queries works = (place : ℕ) (query : Query) (w : Work) → slice_get queries place ≡ Some query → slice_get works place ≡ Some w → HasSides query w
+-- a fact of each query and what stands of it
+abbrev pub AreEach : (Query → Work → Type 0) → List Query → List Work → Type 0
+AreEach Fact queries works = (place : ℕ) (query : Query) (w : Work) → slice_get queries place ≡ Some query → slice_get works place ≡ Some w → Fact query w

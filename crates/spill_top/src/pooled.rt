@@ -10,7 +10,7 @@ ghost use Rattle.query_run.specs.Causes.{OfPool, side_of};
 ghost use Rattle.query_run.specs.Plans.{IsRunnable};
 ghost use Rattle.query_run.specs.Refused.{SaysOfInputs, source};
 ghost use Rattle.query_run.specs.Stopped.{CountsSink};
-ghost use Rattle.spill_top.specs.Pooled.{ComeBack, HasMemoryFor, IsPoolStop, all_tell};
+ghost use Rattle.spill_top.specs.Pooled.{ComeBack, HasMemoryFor, HaveFailed, IsPoolStop, all_tell};
 
 use local_pool::{LocalPool, OpenedWith};
 use outside::{Sink, Slot, Source};
@@ -44,7 +44,7 @@ pub(crate) fn run_pooled<S: Source, K: Sink, D: Slot + Drop>(
     ensures numbers { IfOk result (λ ran. IfSome (both_told (S.remaining left.old) (told_in S.remaining right.old)) (Numbers query.now (page_len query.now conf.now.block_len) (all_tell (tally_of D.Slot slots.old.items)) ran)) }
 
     ensures input { IfErr result (SaysOfInputs query.now (page_len query.now conf.now.block_len) (source (S.remaining left.old) (S.remaining left.new) (S.faults left.old) (S.faults left.new)) (source (told_in S.remaining right.old) (told_in S.remaining right.new) (faults_in S.faults right.old) (faults_in S.faults right.new))) }
-    ensures pool { IfErr result (OfPool (IsPoolStop query.now quota (tally_of D.Slot slots.old.items) (tally_of D.Slot slots.new.items))) }
+    ensures pool { IfErr result (OfPool (IsPoolStop query.now quota (HaveFailed (tally_of D.Slot slots.old.items) (tally_of D.Slot slots.new.items)))) }
     ensures front { all_tell (tally_of D.Slot slots.old.items) ≡ true → IsErrOf result QueryErr.SinkFault → WroteFront query.now (page_len query.now conf.now.block_len) (both_told (S.remaining left.old) (told_in S.remaining right.old)) (K.contents sink.old) (K.contents sink.new) }
     ensures untouched { IfErr result (λ e. IsSome (side_of e) → sink.new ≡ sink.old) }
     ensures stopped { IfErr result (λ _. (sink.new ≡ sink.old) ⊎ (IsAtEnd (S.remaining left.new) × IsAtEnd (told_in S.remaining right.new) × (all_tell (tally_of D.Slot slots.old.items) ≡ true → WroteFront query.now (page_len query.now conf.now.block_len) (both_told (S.remaining left.old) (told_in S.remaining right.old)) (K.contents sink.old) (K.contents sink.new)))) }
@@ -78,7 +78,7 @@ fn run_counted<S: Source, K: Sink, D: Slot + Drop, T: OpenedWith>(
     ensures read { OnOk result (IsAtEnd (S.remaining left.new) × IsAtEnd (told_in S.remaining right.new)) }
     ensures numbers { IfOk result (λ ran. IfSome (both_told (S.remaining left.old) (told_in S.remaining right.old)) (Numbers query.now (page_len query.now conf.now.block_len) (all_tell (tally_of D.Slot slots.old.items)) ran)) }
     ensures input { IfErr result (SaysOfInputs query.now (page_len query.now conf.now.block_len) (source (S.remaining left.old) (S.remaining left.new) (S.faults left.old) (S.faults left.new)) (source (told_in S.remaining right.old) (told_in S.remaining right.new) (faults_in S.faults right.old) (faults_in S.faults right.new))) }
-    ensures pool { IfErr result (OfPool (IsPoolStop query.now quota (tally_of D.Slot slots.old.items) (tally_of D.Slot slots.new.items))) }
+    ensures pool { IfErr result (OfPool (IsPoolStop query.now quota (HaveFailed (tally_of D.Slot slots.old.items) (tally_of D.Slot slots.new.items)))) }
     ensures front { all_tell (tally_of D.Slot slots.old.items) ≡ true → IsErrOf result QueryErr.SinkFault → WroteFront query.now (page_len query.now conf.now.block_len) (both_told (S.remaining left.old) (told_in S.remaining right.old)) (K.contents sink.old) (K.contents sink.new) }
     ensures untouched { IfErr result (λ e. IsSome (side_of e) → sink.new ≡ sink.old) }
     ensures stopped { IfErr result (λ _. (sink.new ≡ sink.old) ⊎ (IsAtEnd (S.remaining left.new) × IsAtEnd (told_in S.remaining right.new) × (all_tell (tally_of D.Slot slots.old.items) ≡ true → WroteFront query.now (page_len query.now conf.now.block_len) (both_told (S.remaining left.old) (told_in S.remaining right.old)) (K.contents sink.old) (K.contents sink.new)))) }

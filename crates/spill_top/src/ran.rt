@@ -1,6 +1,7 @@
 // The command `run`.
 
-ghost use Rattle.std.specs.Prelude.{◌≡◌, ◌<◌, ◌≤◌, ◌-◌, ◌^◌, ◌++◌, OnErr, OnOk, length};
+ghost use Rattle.std.specs.Prelude.{◌≡◌, ◌<◌, ◌≤◌, ◌-◌, ◌^◌, ◌++◌, OnErr, OnOk, length, vec_len};
+ghost use Rattle.pin_core.specs.Tallies.{tally_of};
 ghost use Rattle.spill_top.specs.Ran.{RanPlan, Reported, first_status, line_of_query, telling};
 ghost use Rattle.spill_top.specs.Running.{Went, seen};
 
@@ -9,24 +10,25 @@ use crate::plan_file::{Unread, read_file};
 use crate::report::{refuse_as, refuse_memory};
 use crate::run::run_queries;
 use csv_edge::write_whole;
-use outside::{Inputs, Outputs, Sink};
+use outside::{Inputs, Outputs, Sink, Slot};
 use query_plan::{PlanErr, Query, read_plan};
 use row_codec::Memory;
 use run_report::{Cause, outcome_line};
 use std::alloc::Global;
 
-// Runs the queries of a plan's file over so many slots, writes a line for each of them to the report, and answers the
-// status: the first that is not 0.
-pub(crate) fn run<I: Inputs, O: Outputs, R: Sink>(
+// Runs the queries of a plan's file over pools of these slots, writes a line for each of them to the report, and answers
+// the status: the first that is not 0.
+pub(crate) fn run<I: Inputs, O: Outputs, R: Sink, D: Slot + Drop>(
     alloc: Global,
     file: &str,
-    slots: u32,
     inputs: &mut I,
     outputs: &mut O,
     report: &mut R,
+    slots: &mut Vec<D>,
 ) -> u8
-    ensures ran { RanPlan file.now slots (seen (I.bytes_at inputs.old) (I.faults_at inputs.old) (O.written outputs.old) (O.is_created outputs.old) (O.faults_at outputs.old)) (seen (I.bytes_at inputs.new) (I.faults_at inputs.new) (O.written outputs.new) (O.is_created outputs.new) (O.faults_at outputs.new)) (telling (R.contents report.old) (R.faults report.old)) (telling (R.contents report.new) (R.faults report.new)) result }
-    ensures went { Went (seen (I.bytes_at inputs.old) (I.faults_at inputs.old) (O.written outputs.old) (O.is_created outputs.old) (O.faults_at outputs.old)) (seen (I.bytes_at inputs.new) (I.faults_at inputs.new) (O.written outputs.new) (O.is_created outputs.new) (O.faults_at outputs.new)) }
+    requires few { vec_len slots.old ≤ 1048576 }
+    ensures ran { RanPlan file.now (vec_len slots.old) (seen (I.bytes_at inputs.old) (I.faults_at inputs.old) (O.written outputs.old) (O.is_created outputs.old) (O.faults_at outputs.old) (tally_of D.Slot slots.old.items)) (seen (I.bytes_at inputs.new) (I.faults_at inputs.new) (O.written outputs.new) (O.is_created outputs.new) (O.faults_at outputs.new) (tally_of D.Slot slots.new.items)) (telling (R.contents report.old) (R.faults report.old)) (telling (R.contents report.new) (R.faults report.new)) result }
+    ensures went { Went (seen (I.bytes_at inputs.old) (I.faults_at inputs.old) (O.written outputs.old) (O.is_created outputs.old) (O.faults_at outputs.old) (tally_of D.Slot slots.old.items)) (seen (I.bytes_at inputs.new) (I.faults_at inputs.new) (O.written outputs.new) (O.is_created outputs.new) (O.faults_at outputs.new) (tally_of D.Slot slots.new.items)) }
     ensures report { R.faults report.old ≤ R.faults report.new }
 {
     let text = match read_file(alloc, file, inputs) {
@@ -34,12 +36,12 @@ pub(crate) fn run<I: Inputs, O: Outputs, R: Sink>(
         Err(Unread::Fault) => return refuse_as(alloc, report, 3, Cause::PlanInput),
         Err(Unread::Memory) => return refuse_memory(report),
     };
-    let plan = match read_plan(alloc, text.as_slice(), slots) {
+    let plan = match read_plan(alloc, text.as_slice(), slots.len() as u32) {
         Ok(plan) => plan,
         Err(PlanErr::Memory) => return refuse_memory(report),
         Err(error) => return refuse_as(alloc, report, 2, Cause::Plan { error }),
     };
-    match run_queries(alloc, &plan, inputs, outputs) {
+    match run_queries(alloc, &plan, inputs, outputs, slots) {
         Ok(ends) => report_all(alloc, report, plan.queries.as_slice(), ends.as_slice()),
         Err(Memory) => refuse_memory(report),
     }

@@ -1,20 +1,23 @@
 // What is done for one query of a plan.
 
-ghost use Rattle.std.specs.Prelude.{◌≡◌, ℕ, Bool, false, true, IsSome, List, Option, option_map, unwrap_or};
-ghost use Rattle.block_arena.specs.Blocks.{IsBlockLen};
+ghost use Rattle.std.specs.Prelude.{◌≡◌, ◌≤◌, ℕ, Bool, false, true, IsSome, List, Option, option_map, unwrap_or, vec_len};
 ghost use Rattle.outside.specs.Counts.{NoneFell};
 ghost use Rattle.outside.specs.Names.{AllStay, TakesFaults, Written};
+ghost use Rattle.pin_core.specs.Tallies.{tally_of};
+ghost use Rattle.pin_core.specs.declared.tally.Tally.{Tally};
 ghost use Rattle.query_plan.specs.Rules.{KeepsQuery};
 ghost use Rattle.query_run.specs.Both.{faults_in};
 ghost use Rattle.spill_top.specs.Endings.{is_answer};
 ghost use Rattle.spill_top.specs.Jobs.{HasSides, IsWork, KeepsWork, work_of};
-ghost use Rattle.spill_top.specs.Steps.{IsBegun, IsCreated, IsDone, IsEnded, IsOpen, IsRead};
+ghost use Rattle.spill_top.specs.Pooled.{ComeBack};
+ghost use Rattle.spill_top.specs.Steps.{Fits, IsBegun, IsCreated, IsDone, IsEnded, IsOpen, IsRead, with_slots};
 ghost use Rattle.spill_top.specs.Running.{Seen, Went, WentAt, seen};
 
 use crate::ending::Ending;
 use crate::job::{Job, let_go};
 use crate::over::run_over;
-use outside::{Inputs, Outputs, Sink, Source};
+use outside::{Inputs, Outputs, Sink, Slot, Source};
+use pin_core::PoolConf;
 use query_plan::{Query, Side};
 use query_run::QueryErr;
 use std::alloc::Global;
@@ -27,10 +30,10 @@ pub(crate) fn create<S: Source, O: Outputs>(
     outputs: &mut O,
 )
     requires begun { IsBegun (work_of S.remaining S.faults O.Snk.contents O.Snk.faults job.old) }
-    ensures work { (files : List ℕ → Option (List ℕ)) (reads : List ℕ → ℕ) → KeepsWork (seen files reads (O.written outputs.old) (O.is_created outputs.old) (O.faults_at outputs.old)) (seen files reads (O.written outputs.new) (O.is_created outputs.new) (O.faults_at outputs.new)) query.now (work_of S.remaining S.faults O.Snk.contents O.Snk.faults job.old) (work_of S.remaining S.faults O.Snk.contents O.Snk.faults job.new) }
+    ensures work { (files : List ℕ → Option (List ℕ)) (reads : List ℕ → ℕ) (slots : Tally) → KeepsWork (seen files reads (O.written outputs.old) (O.is_created outputs.old) (O.faults_at outputs.old) slots) (seen files reads (O.written outputs.new) (O.is_created outputs.new) (O.faults_at outputs.new) slots) query.now (work_of S.remaining S.faults O.Snk.contents O.Snk.faults job.old) (work_of S.remaining S.faults O.Snk.contents O.Snk.faults job.new) }
     ensures step { IsCreated (work_of S.remaining S.faults O.Snk.contents O.Snk.faults job.new) }
     ensures refused { job.new.refused ≡ job.old.refused }
-    ensures went { (files : List ℕ → Option (List ℕ)) (reads : List ℕ → ℕ) → WentAt query.now.output (seen files reads (O.written outputs.old) (O.is_created outputs.old) (O.faults_at outputs.old)) (seen files reads (O.written outputs.new) (O.is_created outputs.new) (O.faults_at outputs.new)) }
+    ensures went { (files : List ℕ → Option (List ℕ)) (reads : List ℕ → ℕ) (slots : Tally) → WentAt query.now.output (seen files reads (O.written outputs.old) (O.is_created outputs.old) (O.faults_at outputs.old) slots) (seen files reads (O.written outputs.new) (O.is_created outputs.new) (O.faults_at outputs.new) slots) }
 {
     if job.ended.is_some() {
         return;
@@ -44,10 +47,10 @@ pub(crate) fn create<S: Source, O: Outputs>(
 // Opens the inputs, the left one first, unless the query has ended. One that can't be opened ends it.
 pub(crate) fn open<I: Inputs, K: Sink>(query: &Query, job: &mut Job<I::Src, K>, inputs: &mut I)
     requires begun { IsCreated (work_of I.Src.remaining I.Src.faults K.contents K.faults job.old) }
-    ensures work { (written : List ℕ → Option Written) (created : List ℕ → Bool) (writes : List ℕ → ℕ) → KeepsWork (seen (I.bytes_at inputs.old) (I.faults_at inputs.old) written created writes) (seen (I.bytes_at inputs.new) (I.faults_at inputs.new) written created writes) query.now (work_of I.Src.remaining I.Src.faults K.contents K.faults job.old) (work_of I.Src.remaining I.Src.faults K.contents K.faults job.new) }
+    ensures work { (written : List ℕ → Option Written) (created : List ℕ → Bool) (writes : List ℕ → ℕ) (slots : Tally) → KeepsWork (seen (I.bytes_at inputs.old) (I.faults_at inputs.old) written created writes slots) (seen (I.bytes_at inputs.new) (I.faults_at inputs.new) written created writes slots) query.now (work_of I.Src.remaining I.Src.faults K.contents K.faults job.old) (work_of I.Src.remaining I.Src.faults K.contents K.faults job.new) }
     ensures step { IsOpen (work_of I.Src.remaining I.Src.faults K.contents K.faults job.new) }
     ensures refused { job.new.refused ≡ job.old.refused }
-    ensures went { (written : List ℕ → Option Written) (created : List ℕ → Bool) (writes : List ℕ → ℕ) → Went (seen (I.bytes_at inputs.old) (I.faults_at inputs.old) written created writes) (seen (I.bytes_at inputs.new) (I.faults_at inputs.new) written created writes) }
+    ensures went { (written : List ℕ → Option Written) (created : List ℕ → Bool) (writes : List ℕ → ℕ) (slots : Tally) → Went (seen (I.bytes_at inputs.old) (I.faults_at inputs.old) written created writes slots) (seen (I.bytes_at inputs.new) (I.faults_at inputs.new) written created writes slots) }
 {
     if job.ended.is_some() {
         return;
@@ -69,20 +72,24 @@ pub(crate) fn open<I: Inputs, K: Sink>(query: &Query, job: &mut Job<I::Src, K>, 
     let_go(mem::replace(&mut job.right, Some(right)));
 }
 
-// Runs the query, unless it has ended.
-pub(crate) fn answer<S: Source, K: Sink>(
+// Runs the query over a pool of these slots, unless it has ended.
+pub(crate) fn answer<S: Source, K: Sink, D: Slot + Drop>(
     alloc: Global,
     query: &Query,
     job: &mut Job<S, K>,
-    block_len: u32,
+    conf: &PoolConf,
+    slots: &mut Vec<D>,
 )
     requires query { KeepsQuery query.now }
-    requires block_len { IsBlockLen block_len }
+    requires fits { Fits conf.now (vec_len slots.old) query.now (work_of S.remaining S.faults K.contents K.faults job.old) }
+    requires few { vec_len slots.old ≤ 1048576 }
     requires open { IsOpen (work_of S.remaining S.faults K.contents K.faults job.old) }
     requires sides { HasSides query.now (work_of S.remaining S.faults K.contents K.faults job.old) }
-    ensures work { (start now : Seen) → IsWork start now block_len query.now (work_of S.remaining S.faults K.contents K.faults job.old) → IsWork start now block_len query.now (work_of S.remaining S.faults K.contents K.faults job.new) }
+    ensures work { (start at : Seen) → IsWork start (with_slots (tally_of D.Slot slots.old.items) at) conf.now.block_len query.now (work_of S.remaining S.faults K.contents K.faults job.old) → IsWork start (with_slots (tally_of D.Slot slots.new.items) at) conf.now.block_len query.now (work_of S.remaining S.faults K.contents K.faults job.new) }
     ensures step { IsEnded (work_of S.remaining S.faults K.contents K.faults job.new) }
     ensures refused { job.new.refused ≡ job.old.refused }
+    ensures slots { ComeBack (tally_of D.Slot slots.old.items) (tally_of D.Slot slots.new.items) }
+    ensures len { vec_len slots.new ≡ vec_len slots.old }
 {
     if job.ended.is_some() {
         return;
@@ -93,7 +100,7 @@ pub(crate) fn answer<S: Source, K: Sink>(
     let Some(sink) = &mut job.sink else {
         unreachable!();
     };
-    match run_over(alloc, query, block_len, left, &mut job.right, sink) {
+    match run_over(alloc, query, conf, slots, left, &mut job.right, sink) {
         Ok(lines) => job.ended = Some(Ending::Lines(lines)),
         Err(e) => job.ended = Some(Ending::Stopped(e)),
     }
@@ -103,10 +110,10 @@ pub(crate) fn answer<S: Source, K: Sink>(
 pub(crate) fn close<I: Inputs, K: Sink>(query: &Query, job: &mut Job<I::Src, K>, inputs: &mut I)
     requires begun { IsEnded (work_of I.Src.remaining I.Src.faults K.contents K.faults job.old) }
     requires sides { HasSides query.now (work_of I.Src.remaining I.Src.faults K.contents K.faults job.old) }
-    ensures work { (written : List ℕ → Option Written) (created : List ℕ → Bool) (writes : List ℕ → ℕ) → KeepsWork (seen (I.bytes_at inputs.old) (I.faults_at inputs.old) written created writes) (seen (I.bytes_at inputs.new) (I.faults_at inputs.new) written created writes) query.now (work_of I.Src.remaining I.Src.faults K.contents K.faults job.old) (work_of I.Src.remaining I.Src.faults K.contents K.faults job.new) }
+    ensures work { (written : List ℕ → Option Written) (created : List ℕ → Bool) (writes : List ℕ → ℕ) (slots : Tally) → KeepsWork (seen (I.bytes_at inputs.old) (I.faults_at inputs.old) written created writes slots) (seen (I.bytes_at inputs.new) (I.faults_at inputs.new) written created writes slots) query.now (work_of I.Src.remaining I.Src.faults K.contents K.faults job.old) (work_of I.Src.remaining I.Src.faults K.contents K.faults job.new) }
     ensures step { IsRead (work_of I.Src.remaining I.Src.faults K.contents K.faults job.new) }
     ensures refused { job.new.refused ≡ job.old.refused }
-    ensures went { (written : List ℕ → Option Written) (created : List ℕ → Bool) (writes : List ℕ → ℕ) → Went (seen (I.bytes_at inputs.old) (I.faults_at inputs.old) written created writes) (seen (I.bytes_at inputs.new) (I.faults_at inputs.new) written created writes) }
+    ensures went { (written : List ℕ → Option Written) (created : List ℕ → Bool) (writes : List ℕ → ℕ) (slots : Tally) → Went (seen (I.bytes_at inputs.old) (I.faults_at inputs.old) written created writes slots) (seen (I.bytes_at inputs.new) (I.faults_at inputs.new) written created writes slots) }
 {
     give_back(query.left.file.as_str(), job.left.take(), inputs);
     if let Some(right) = &query.right {
@@ -133,10 +140,10 @@ pub(crate) fn finish<S: Source, O: Outputs>(
 )
     requires begun { IsRead (work_of S.remaining S.faults O.Snk.contents O.Snk.faults job.old) }
     requires created { IsSome job.old.sink → O.is_created outputs.old query.now.output ≡ true }
-    ensures work { (files : List ℕ → Option (List ℕ)) (reads : List ℕ → ℕ) → KeepsWork (seen files reads (O.written outputs.old) (O.is_created outputs.old) (O.faults_at outputs.old)) (seen files reads (O.written outputs.new) (O.is_created outputs.new) (O.faults_at outputs.new)) query.now (work_of S.remaining S.faults O.Snk.contents O.Snk.faults job.old) (work_of S.remaining S.faults O.Snk.contents O.Snk.faults job.new) }
+    ensures work { (files : List ℕ → Option (List ℕ)) (reads : List ℕ → ℕ) (slots : Tally) → KeepsWork (seen files reads (O.written outputs.old) (O.is_created outputs.old) (O.faults_at outputs.old) slots) (seen files reads (O.written outputs.new) (O.is_created outputs.new) (O.faults_at outputs.new) slots) query.now (work_of S.remaining S.faults O.Snk.contents O.Snk.faults job.old) (work_of S.remaining S.faults O.Snk.contents O.Snk.faults job.new) }
     ensures step { IsDone (work_of S.remaining S.faults O.Snk.contents O.Snk.faults job.new) }
     ensures refused { job.new.refused ≡ job.old.refused }
-    ensures went { (files : List ℕ → Option (List ℕ)) (reads : List ℕ → ℕ) → WentAt query.now.output (seen files reads (O.written outputs.old) (O.is_created outputs.old) (O.faults_at outputs.old)) (seen files reads (O.written outputs.new) (O.is_created outputs.new) (O.faults_at outputs.new)) }
+    ensures went { (files : List ℕ → Option (List ℕ)) (reads : List ℕ → ℕ) (slots : Tally) → WentAt query.now.output (seen files reads (O.written outputs.old) (O.is_created outputs.old) (O.faults_at outputs.old) slots) (seen files reads (O.written outputs.new) (O.is_created outputs.new) (O.faults_at outputs.new) slots) }
 {
     let Some(sink) = job.sink.take() else {
         return;

@@ -7,6 +7,7 @@ use std::test::Fail;
 
 mod joins;
 mod plans;
+mod pools;
 mod runs;
 mod spills;
 

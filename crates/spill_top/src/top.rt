@@ -29,6 +29,9 @@ use std::alloc::Global;
 /// least reservations are asked first, in the order of the plan. Then outputs are created, inputs are opened, queries run one
 /// after the other, and sources and then sinks are given back, each in this order; of a query that joins the left input comes
 /// first. A query whose output or input can't be opened does not run. The status is the first that is not 0.
+/// Each query has a pool of its own, with all memory of the plan, and puts what that can't hold on at most as many slots as its
+/// quota, so an answer is promised where all slots tell what they hold. An output is said to be whole where its query has
+/// status 0; else it is empty, or after 7 to 10 a front of the answer.
 ///
 /// After a fault of the report nothing more is written to it. Whatever the status, all slots are there again, in any order.
 ///
@@ -41,7 +44,7 @@ use std::alloc::Global;
 /// | 4 | an input was refused: it is no table with such columns, a field is no int, or it is too large |
 /// | 5 | a row weighs more than a page has bytes |
 /// | 6 | the least reservation of a query was refused |
-/// | 7 | the slots don't suffice for the pages, or no name of a page is left |
+/// | 7 | the slots, for a run those of the query's quota, don't suffice for its pages, or no name of a page is left |
 /// | 8 | a store to a slot or a load failed |
 /// | 9 | an output, or the report, could not be written |
 /// | 10 | out of memory; when this comes is left open |
@@ -62,8 +65,8 @@ pub fn spill_top<I: Inputs, O: Outputs, R: Sink, D: Slot + Drop, G: Gate>(
     // A command has its answer, or a status with its cause.
     ensures count { IfSome (command_of (map string_bytes words.now)) (Counted (I.bytes_at inputs.old) (I.faults_at inputs.old) (I.faults_at inputs.new) (tally_of D.Slot slots.old.items) (tally_of D.Slot slots.new.items) (R.contents report.old) (R.contents report.new) (R.faults report.old) (R.faults report.new) result) }
     ensures run { IfSome (plan_file_of (map string_bytes words.now)) (λ file. RanPlan file (vec_len slots.old)
-        (seen (I.bytes_at inputs.old) (I.faults_at inputs.old) (O.written outputs.old) (O.is_created outputs.old) (O.faults_at outputs.old))
-        (seen (I.bytes_at inputs.new) (I.faults_at inputs.new) (O.written outputs.new) (O.is_created outputs.new) (O.faults_at outputs.new))
+        (seen (I.bytes_at inputs.old) (I.faults_at inputs.old) (O.written outputs.old) (O.is_created outputs.old) (O.faults_at outputs.old) (tally_of D.Slot slots.old.items))
+        (seen (I.bytes_at inputs.new) (I.faults_at inputs.new) (O.written outputs.new) (O.is_created outputs.new) (O.faults_at outputs.new) (tally_of D.Slot slots.new.items))
         (telling (R.contents report.old) (R.faults report.old)) (telling (R.contents report.new) (R.faults report.new)) result) }
 
     // All slots are there again, and their counts of faults did not fall.
@@ -81,7 +84,7 @@ pub fn spill_top<I: Inputs, O: Outputs, R: Sink, D: Slot + Drop, G: Gate>(
         Some(Task::Count { file, column }) => answer_count(
             alloc, file, column, inputs, report, slots,
         ),
-        Some(Task::Run { plan }) => run(alloc, plan, slots.len() as u32, inputs, outputs, report),
+        Some(Task::Run { plan }) => run(alloc, plan, inputs, outputs, report, slots),
         None => {
             refuse_words(report);
             1

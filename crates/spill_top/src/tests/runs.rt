@@ -3,7 +3,6 @@
 use crate::spill_top;
 use crate::tests::owned;
 use outside::{MemInputs, MemOutputs, MemSink, MemSlot, OpenGate};
-use std::alloc::Global;
 use std::process::Abort;
 use std::test::Fail;
 
@@ -26,22 +25,37 @@ pub(super) const NOWHERE: Fails = Fails {
     report: &[],
 };
 
-// What stands behind a run of which 2000 slots were handed in.
+// What stands behind a run.
 #[derive(Drop)]
 pub(super) struct Ended {
     pub(super) status: u8,
     pub(super) report: MemSink,
     pub(super) outputs: MemOutputs,
-    pub(super) slots: usize,
 }
 
-// Runs a plan, in which some texts are written anew, one after the other.
+// Runs a plan, in which some texts are written anew, one after the other, over 2000 slots that never fail.
 pub(super) fn run_plan<R: Abort + AllocGlobal>(
     rt: &R,
     text: &str,
     edits: &[(&str, &str)],
     files: &[File],
     fails: Fails,
+) -> Result<Ended, Fail> {
+    let mut slots = Vec::new(rt.alloc());
+    for _ in 0..2000u32 {
+        slots.push(MemSlot::new(rt.alloc(), &[])?)?;
+    }
+    run_over_slots(rt, text, edits, files, fails, &mut slots)
+}
+
+// The same over these slots.
+pub(super) fn run_over_slots<R: Abort + AllocGlobal>(
+    rt: &R,
+    text: &str,
+    edits: &[(&str, &str)],
+    files: &[File],
+    fails: Fails,
+    slots: &mut Vec<MemSlot>,
 ) -> Result<Ended, Fail> {
     let alloc = rt.alloc();
     let mut text = String::from_str(alloc, text)?;
@@ -57,31 +71,23 @@ pub(super) fn run_plan<R: Abort + AllocGlobal>(
     outputs.fail("out.csv", fails.writes)?;
     outputs.refuse("out.csv", fails.create, fails.done)?;
     let mut report = MemSink::new(alloc, 7, fails.report)?;
-    let mut slots = slots(alloc)?;
-    assert!(rt; slots.len() == 2000);
+    let count = slots.len();
+    assert!(rt; count <= 2000);
     let status = spill_top(
         alloc,
         owned(alloc, &["run", "plan.toml"])?.as_slice(),
         &mut inputs,
         &mut outputs,
         &mut report,
-        &mut slots,
+        slots,
         &OpenGate,
     );
+    assert_eq!(rt; slots.len(), count);
     Ok(Ended {
         status,
         report,
         outputs,
-        slots: slots.len(),
     })
-}
-
-fn slots(alloc: Global) -> Result<Vec<MemSlot>, Fail> {
-    let mut slots = Vec::new(alloc);
-    for _ in 0..2000u32 {
-        slots.push(MemSlot::new(alloc, &[])?)?;
-    }
-    Ok(slots)
 }
 
 // Sees how a run ended: its status, its report, and what each output holds, if it was created, and whether that is said to
@@ -103,5 +109,4 @@ pub(super) fn check<R: Abort>(
         assert_eq!(rt; ended.outputs.bytes(name), bytes, "{report}");
         assert_eq!(rt; ended.outputs.is_whole(name), *whole, "{report}");
     }
-    assert_eq!(rt; ended.slots, 2000);
 }

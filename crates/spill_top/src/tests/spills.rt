@@ -11,7 +11,7 @@ use std::process::Abort;
 use std::test::Fail;
 
 // The numbers of the keys `key000` to `key199`, in the order of their paths.
-const ORDER: [u8; 200] = [
+pub(super) const ORDER: [u8; 200] = [
     82, 129, 165, 103, 110, 37, 95, 51, 198, 136, 172, 68, 24, 70, 144, 157, 193, 179, 16, 1, 63,
     89, 180, 122, 45, 108, 22, 84, 163, 105, 48, 116, 31, 93, 57, 149, 130, 174, 111, 36, 94, 50,
     199, 137, 173, 69, 25, 83, 128, 164, 102, 194, 11, 6, 64, 28, 187, 125, 169, 42, 77, 99, 143,
@@ -24,7 +24,7 @@ const ORDER: [u8; 200] = [
     18, 21, 87, 160, 106, 115, 32, 90, 54,
 ];
 
-fn push_key(text: &mut Vec<u8>, number: u8) -> Result<(), AllocError> {
+pub(super) fn push_key(text: &mut Vec<u8>, number: u8) -> Result<(), AllocError> {
     let digit = |unit: u8| b'0' + number / unit % 10;
     text.extend_from_slice(&[b'k', b'e', b'y', digit(100), digit(10), digit(1)])
 }
@@ -52,7 +52,7 @@ fn answer(alloc: Global, rows: u8) -> Result<Vec<u8>, AllocError> {
 }
 
 // So many slots, of which those from `first` up to `end` fail at the stores and loads that are listed.
-fn slots(
+pub(super) fn slots(
     alloc: Global,
     count: u32,
     first: u32,
@@ -95,7 +95,7 @@ fn counted(
     Ok((ran, Vec::from_slice(alloc, sink.bytes())?))
 }
 
-fn stores(slots: &[MemSlot]) -> u64 {
+pub(super) fn stores(slots: &[MemSlot]) -> u64 {
     slots
         .iter()
         .fold(0, |sum, slot| u64::saturating_add(sum, slot.stores()))

@@ -13,7 +13,7 @@ use Rattle.query_run.specs.declared.outcome.QueryErr.TheVariants.{SinkFault}
 use Rattle.spill_top.specs.Counting.{counting}
 use Rattle.spill_top.specs.Headline.{Answers, AnswersInPart, IsCause}
 use Rattle.spill_top.specs.OneInput.{WroteAnswerOver, WroteFrontOver}
-use Rattle.spill_top.specs.Pooled.{HasMemoryFor, IsPoolStop, all_tell}
+use Rattle.spill_top.specs.Pooled.{HasMemoryFor, HaveFailed, IsPoolStop, all_tell}
 use Rattle.spill_top.specs.Refusals.{refusal_for}
 use Rattle.spill_top.specs.Stops.{IsStop}
 use Rattle.spill_top.specs.Words.{Command}
@@ -40,7 +40,7 @@ of-requires-clause-text g c =
 
 pub of-requires-clause-pool : goal.of-requires-clause-pool
 of-requires-clause-pool g c =
-    let stop : OfPool (IsPoolStop c.in-Ok.plan (vec_len c.args.slots.now) (tally_of g.D.Slot c.args.slots.now.items) (tally_of g.D.Slot c.run_watched-ran.new.slots.items)) c.in-Err.e = search rules in
+    let stop : OfPool (IsPoolStop c.in-Ok.plan (vec_len c.args.slots.now) (HaveFailed (tally_of g.D.Slot c.args.slots.now.items) (tally_of g.D.Slot c.run_watched-ran.new.slots.items))) c.in-Err.e = search rules in
     answers_so c.in-Ok.plan (vec_len c.args.slots.now) (tally_of g.D.Slot c.args.slots.now.items) (tally_of g.D.Slot c.run_watched-ran.new.slots.items) c.in-Err.e stop
 
 pub returns-in_default-ran-clause-answer : goal.returns-in_default-ran-clause-answer
@@ -66,7 +66,7 @@ returns-clause-stop g c =
     let written = c.run_watched-ran.result.1.written in
     let counts = c.run_watched-ran.ensures.sink in
     let says : SaysOfSide c.in-Ok.plan Left c.in-Ok.plan.left (page_len c.in-Ok.plan c.counting_pool-pool.result.block_len) (source (g.I.Src.Source.remaining c.in-Ok-open.left) (g.I.Src.Source.remaining c.run_watched-ran.new.left) (g.I.Src.Source.faults c.in-Ok-open.left) (g.I.Src.Source.faults c.run_watched-ran.new.left)) c.in-Err.e = search rules in
-    let stop : OfPool (IsPoolStop c.in-Ok.plan (vec_len c.args.slots.now) slots slots_now) c.in-Err.e = search rules in
+    let stop : OfPool (IsPoolStop c.in-Ok.plan (vec_len c.args.slots.now) (HaveFailed slots slots_now)) c.in-Err.e = search rules in
     let untouched : IsSome (side_of c.in-Err.e) → written ≡ false = search rules in
     let either : (written ≡ false) ⊎ (all_tell slots ≡ true → WroteFrontOver c.in-Ok.plan (page_len c.in-Ok.plan c.counting_pool-pool.result.block_len) (g.I.Src.Source.remaining c.in-Ok-open.left) old new) = search rules in
     let part : (all_tell slots ≡ true → WroteFrontOver c.in-Ok.plan (page_len c.in-Ok.plan c.counting_pool-pool.result.block_len) (g.I.Src.Source.remaining c.in-Ok-open.left) old new) → all_tell slots ≡ true → AnswersInPart (g.I.Inputs.bytes_at c.args.inputs.now) old new command =

@@ -2,10 +2,10 @@ use Rattle.std.proofs.Common.{◌≡◌, ◌<◌, ◌≤◌, Some, length, map, 
 use Rattle.std.specs.List.{slice_get}
 use Rattle.std.proofs.lemmas.Option.{slice_get_read}
 use Rattle.spill_top.specs.Running.{seen}
-use Rattle.spill_top.specs.Jobs.{work_of}
+use Rattle.spill_top.specs.Jobs.{HasSides, work_of}
 use Rattle.spill_top.specs.Steps.{IsEnded, IsRead}
 use Rattle.spill_top.proofs.Loops.{going_all, going_call, going_first, going_init, kept_call, went_nowhere}
-use Rattle.spill_top.proofs.Sided.{sided_call, sided_first, sided_now}
+use Rattle.spill_top.proofs.Sided.{each_call, each_first, each_now}
 use Rattle.spill_top.proofs.Works.{went_on}
 use Rattle.spill_top.proofs.run.close_all.Goals as goal
 
@@ -20,15 +20,15 @@ close-requires-clause-sides g c κs within =
     let inside : c.loop-place.place < length c.loop-place.jobs.items = search rules in
     let at : slice_get c.loop-place.jobs.items c.loop-place.place ≡ Some c.index_mut.result.now = slice_get_read c.loop-place.jobs.items (length c.loop-place.jobs.items) c.loop-place.place c.index_mut.result.now refl inside (search rules) in
     let at_query : slice_get c.args.queries.now c.loop-place.place ≡ Some c.index-queries-place.result = slice_get_read c.args.queries.now (length c.args.queries.now) c.loop-place.place c.index-queries-place.result refl c.loop-place-test.true c.index-queries-place.is in
-    sided_now (work_of g.I.Src.Source.remaining g.I.Src.Source.faults g.K.Sink.contents g.K.Sink.faults) c.args.queries.now c.loop-place.jobs.items c.loop-place.place c.index-queries-place.result c.index_mut.result.now at_query at c.loop-place.invariant.sided
+    each_now (work_of g.I.Src.Source.remaining g.I.Src.Source.faults g.K.Sink.contents g.K.Sink.faults) HasSides c.args.queries.now c.loop-place.jobs.items c.loop-place.place c.index-queries-place.result c.index_mut.result.now at_query at c.loop-place.invariant.sided
 
 pub loop-place-init : goal.loop-place-init
 loop-place-init g c = record {
   len = refl;
   going = going_init IsEnded IsRead (map (work_of g.I.Src.Source.remaining g.I.Src.Source.faults g.K.Sink.contents g.K.Sink.faults) c.args.jobs.now.items) c.requires.before;
-  sided = sided_first c.args.queries.now (map (work_of g.I.Src.Source.remaining g.I.Src.Source.faults g.K.Sink.contents g.K.Sink.faults) c.args.jobs.now.items) c.requires.sides;
-  works = λ written created writes start block_len are. are;
-  went = λ written created writes. went_nowhere (seen (g.I.Inputs.bytes_at c.args.inputs.now) (g.I.Inputs.faults_at c.args.inputs.now) written created writes);
+  sided = each_first HasSides c.args.queries.now (map (work_of g.I.Src.Source.remaining g.I.Src.Source.faults g.K.Sink.contents g.K.Sink.faults) c.args.jobs.now.items) c.requires.sides;
+  works = λ written created writes slots start block_len are. are;
+  went = λ written created writes slots. went_nowhere (seen (g.I.Inputs.bytes_at c.args.inputs.now) (g.I.Inputs.faults_at c.args.inputs.now) written created writes slots);
 }
 
 pub loop-place-preserved : goal.loop-place-preserved
@@ -39,10 +39,10 @@ loop-place-preserved g c =
     record {
       len = c.loop-place.invariant.len;
       going = going_call (work_of g.I.Src.Source.remaining g.I.Src.Source.faults g.K.Sink.contents g.K.Sink.faults) IsEnded IsRead c.loop-place.place _ c.loop-place.jobs.items c.index_mut.result.now c.close.new.job at c.close.ensures.refused c.close.ensures.step c.loop-place.invariant.going;
-      sided = sided_call (work_of g.I.Src.Source.remaining g.I.Src.Source.faults g.K.Sink.contents g.K.Sink.faults) c.args.queries.now c.loop-place.jobs.items c.loop-place.place c.close.new.job c.loop-place.invariant.sided;
-      works = λ written created writes. kept_call (work_of g.I.Src.Source.remaining g.I.Src.Source.faults g.K.Sink.contents g.K.Sink.faults) (seen (g.I.Inputs.bytes_at c.args.inputs.now) (g.I.Inputs.faults_at c.args.inputs.now) written created writes) (seen (g.I.Inputs.bytes_at c.loop-place.inputs) (g.I.Inputs.faults_at c.loop-place.inputs) written created writes) (seen (g.I.Inputs.bytes_at c.close.new.inputs) (g.I.Inputs.faults_at c.close.new.inputs) written created writes) c.args.queries.now _ c.loop-place.jobs.items c.loop-place.place c.index-queries-place.result c.index_mut.result.now c.close.new.job at_query at
-          (c.close.ensures.went written created writes) (λ j q at_q apart. refl) (c.loop-place.invariant.works written created writes) (c.close.ensures.work written created writes);
-      went = λ written created writes. went_on (seen (g.I.Inputs.bytes_at c.args.inputs.now) (g.I.Inputs.faults_at c.args.inputs.now) written created writes) (seen (g.I.Inputs.bytes_at c.loop-place.inputs) (g.I.Inputs.faults_at c.loop-place.inputs) written created writes) (seen (g.I.Inputs.bytes_at c.close.new.inputs) (g.I.Inputs.faults_at c.close.new.inputs) written created writes) (c.loop-place.invariant.went written created writes) (c.close.ensures.went written created writes);
+      sided = each_call (work_of g.I.Src.Source.remaining g.I.Src.Source.faults g.K.Sink.contents g.K.Sink.faults) HasSides c.args.queries.now c.loop-place.jobs.items c.loop-place.place c.close.new.job c.loop-place.invariant.sided;
+      works = λ written created writes slots. kept_call (work_of g.I.Src.Source.remaining g.I.Src.Source.faults g.K.Sink.contents g.K.Sink.faults) (seen (g.I.Inputs.bytes_at c.args.inputs.now) (g.I.Inputs.faults_at c.args.inputs.now) written created writes slots) (seen (g.I.Inputs.bytes_at c.loop-place.inputs) (g.I.Inputs.faults_at c.loop-place.inputs) written created writes slots) (seen (g.I.Inputs.bytes_at c.close.new.inputs) (g.I.Inputs.faults_at c.close.new.inputs) written created writes slots) c.args.queries.now _ c.loop-place.jobs.items c.loop-place.place c.index-queries-place.result c.index_mut.result.now c.close.new.job at_query at
+          (c.close.ensures.went written created writes slots) (λ j q at_q apart. refl) (c.loop-place.invariant.works written created writes slots) (c.close.ensures.work written created writes slots);
+      went = λ written created writes slots. went_on (seen (g.I.Inputs.bytes_at c.args.inputs.now) (g.I.Inputs.faults_at c.args.inputs.now) written created writes slots) (seen (g.I.Inputs.bytes_at c.loop-place.inputs) (g.I.Inputs.faults_at c.loop-place.inputs) written created writes slots) (seen (g.I.Inputs.bytes_at c.close.new.inputs) (g.I.Inputs.faults_at c.close.new.inputs) written created writes slots) (c.loop-place.invariant.went written created writes slots) (c.close.ensures.went written created writes slots);
     }
 
 pub returns-clause-step : goal.returns-clause-step

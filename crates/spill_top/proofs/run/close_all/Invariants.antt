@@ -1,17 +1,18 @@
 use Rattle.std.proofs.Common.{◌≡◌, ℕ, Bool, List, Option, map, vec_len}
 use Rattle.outside.specs.Names.{Written}
+use Rattle.pin_core.specs.declared.tally.Tally.{Tally}
 use Rattle.spill_top.specs.Running.{Went, seen}
-use Rattle.spill_top.specs.Jobs.{work_of}
+use Rattle.spill_top.specs.Jobs.{HasSides, work_of}
 use Rattle.spill_top.specs.Steps.{IsEnded, IsRead, KeepsWorks}
 use Rattle.spill_top.proofs.Loops.{Going}
-use Rattle.spill_top.proofs.Sided.{AreSidedFrom}
+use Rattle.spill_top.proofs.Sided.{AreEachFrom}
 use Rattle.spill_top.proofs.run.close_all.Given as goal
 
 abbrev pub invariant-loop-place : goal.invariant-loop-place
 invariant-loop-place g l = record {
   len : vec_len l.jobs ≡ vec_len l.initial.jobs;
   going : Going IsEnded IsRead l.place (map (work_of g.I.Src.Source.remaining g.I.Src.Source.faults g.K.Sink.contents g.K.Sink.faults) l.initial.jobs.items) (map (work_of g.I.Src.Source.remaining g.I.Src.Source.faults g.K.Sink.contents g.K.Sink.faults) l.jobs.items);
-  sided : AreSidedFrom l.place l.queries (map (work_of g.I.Src.Source.remaining g.I.Src.Source.faults g.K.Sink.contents g.K.Sink.faults) l.jobs.items);
-  works : (written : List ℕ → Option Written) (created : List ℕ → Bool) (writes : List ℕ → ℕ) → KeepsWorks (seen (g.I.Inputs.bytes_at l.initial.inputs) (g.I.Inputs.faults_at l.initial.inputs) written created writes) (seen (g.I.Inputs.bytes_at l.inputs) (g.I.Inputs.faults_at l.inputs) written created writes) l.queries (map (work_of g.I.Src.Source.remaining g.I.Src.Source.faults g.K.Sink.contents g.K.Sink.faults) l.initial.jobs.items) (map (work_of g.I.Src.Source.remaining g.I.Src.Source.faults g.K.Sink.contents g.K.Sink.faults) l.jobs.items);
-  went : (written : List ℕ → Option Written) (created : List ℕ → Bool) (writes : List ℕ → ℕ) → Went (seen (g.I.Inputs.bytes_at l.initial.inputs) (g.I.Inputs.faults_at l.initial.inputs) written created writes) (seen (g.I.Inputs.bytes_at l.inputs) (g.I.Inputs.faults_at l.inputs) written created writes);
+  sided : AreEachFrom HasSides l.place l.queries (map (work_of g.I.Src.Source.remaining g.I.Src.Source.faults g.K.Sink.contents g.K.Sink.faults) l.jobs.items);
+  works : (written : List ℕ → Option Written) (created : List ℕ → Bool) (writes : List ℕ → ℕ) (slots : Tally) → KeepsWorks (seen (g.I.Inputs.bytes_at l.initial.inputs) (g.I.Inputs.faults_at l.initial.inputs) written created writes slots) (seen (g.I.Inputs.bytes_at l.inputs) (g.I.Inputs.faults_at l.inputs) written created writes slots) l.queries (map (work_of g.I.Src.Source.remaining g.I.Src.Source.faults g.K.Sink.contents g.K.Sink.faults) l.initial.jobs.items) (map (work_of g.I.Src.Source.remaining g.I.Src.Source.faults g.K.Sink.contents g.K.Sink.faults) l.jobs.items);
+  went : (written : List ℕ → Option Written) (created : List ℕ → Bool) (writes : List ℕ → ℕ) (slots : Tally) → Went (seen (g.I.Inputs.bytes_at l.initial.inputs) (g.I.Inputs.faults_at l.initial.inputs) written created writes slots) (seen (g.I.Inputs.bytes_at l.inputs) (g.I.Inputs.faults_at l.inputs) written created writes slots);
 }

@@ -1,12 +1,16 @@
 use Rattle.std.proofs.Common.{◌≡◌, ◌∙◌, ◌*◌, ◌≤◌, All, IsSome, Some, List, length, map, vec_capacity, vec_len, sym, subst, ap, rules, arith}
+use Rattle.std.specs.List.{sum_by}
 use Rattle.std.proofs.lemmas.List.Elements.{All-same}
+use Rattle.pin_core.specs.Tallies.{tally_of}
 use Rattle.query_plan.specs.Rules.{KeepsQuery}
 use Rattle.query_plan.specs.declared.plan.Query.{Query}
 use Rattle.spill_top.specs.declared.ending.Ending.{Ending}
 use Rattle.spill_top.specs.Jobs.{begun}
 use Rattle.spill_top.specs.Reserving.{refusals}
 use Rattle.spill_top.specs.Running.{AreApart, HaveEnded, seen}
-use Rattle.spill_top.proofs.Phases.{all_begun, all_closed, all_have_ended, as_many, begun_len, made_so, ran_so, sided_so, sided_then, went_thrice, works_begin}
+use Rattle.spill_top.proofs.Loops.{went_slots}
+use Rattle.spill_top.proofs.Phases.{all_begun, all_closed, all_have_ended, as_many, begun_len, fit_so, made_so, ran_so, sided_so, sided_then, went_through, works_begin}
+use Rattle.spill_top.proofs.Plans.{opens_with}
 use Rattle.spill_top.proofs.run.run_queries.Goals as goal
 
 pub create_all-requires-clause-len : goal.create_all-requires-clause-len
@@ -43,14 +47,23 @@ answer_all-requires-clause-len g c =
 pub answer_all-requires-clause-queries : goal.answer_all-requires-clause-queries
 answer_all-requires-clause-queries g c =
     let queries_are : c.as_slice-queries.result.now ≡ c.args.plan.now.queries = search rules in
-    subst (λ (queries : List Query). All KeepsQuery queries) (sym queries_are) c.requires.queries
+    subst (λ (queries : List Query). All KeepsQuery queries) (sym queries_are) c.requires.rules.queries
+
+pub answer_all-requires-clause-fits : goal.answer_all-requires-clause-fits
+answer_all-requires-clause-fits g c =
+    let queries_are : c.as_slice-queries.result.now ≡ c.args.plan.now.queries = search rules in
+    let first : c.in_ok-jobs.jobs.items ≡ map begun (refusals c.args.plan.now.block_len (c.args.plan.now.blocks * c.args.plan.now.block_len) c.as_slice-queries.result.now) = search rules in
+    let are = works_begin g.I.Src.Source.remaining g.I.Src.Source.faults g.O.Snk.Sink.contents g.O.Snk.Sink.faults (seen (g.I.Inputs.bytes_at c.args.inputs.now) (g.I.Inputs.faults_at c.args.inputs.now) (g.O.Outputs.written c.args.outputs.now) (g.O.Outputs.is_created c.args.outputs.now) (g.O.Outputs.faults_at c.args.outputs.now) (tally_of g.D.Slot c.args.slots.now.items)) c.args.plan.now.block_len (c.args.plan.now.blocks * c.args.plan.now.block_len) c.as_slice-queries.result.now c.in_ok-jobs.jobs.items first in
+    fit_so g.I.Src.Source.remaining g.I.Src.Source.faults g.O.Snk.Sink.contents g.O.Snk.Sink.faults (seen (g.I.Inputs.bytes_at c.args.inputs.now) (g.I.Inputs.faults_at c.args.inputs.now) (g.O.Outputs.written c.args.outputs.now) (g.O.Outputs.is_created c.args.outputs.now) (g.O.Outputs.faults_at c.args.outputs.now) (tally_of g.D.Slot c.args.slots.now.items)) (seen (g.I.Inputs.bytes_at c.args.inputs.now) (g.I.Inputs.faults_at c.args.inputs.now) (g.O.Outputs.written c.create_all.new.outputs) (g.O.Outputs.is_created c.create_all.new.outputs) (g.O.Outputs.faults_at c.create_all.new.outputs) (tally_of g.D.Slot c.args.slots.now.items)) (seen (g.I.Inputs.bytes_at c.open_all.new.inputs) (g.I.Inputs.faults_at c.open_all.new.inputs) (g.O.Outputs.written c.create_all.new.outputs) (g.O.Outputs.is_created c.create_all.new.outputs) (g.O.Outputs.faults_at c.create_all.new.outputs) (tally_of g.D.Slot c.args.slots.now.items)) (vec_len c.args.slots.now) (record { blocks = c.args.plan.now.blocks; block_len = c.args.plan.now.block_len; first_name = 0 }) c.as_slice-queries.result.now c.in_ok-jobs.jobs.items c.create_all.new.jobs.items c.open_all.new.jobs.items
+    (opens_with (vec_len c.args.slots.now) c.args.plan.now c.requires.rules) (subst (λ (queries : List Query). sum_by (λ query. query.quota) queries ≤ vec_len c.args.slots.now) (sym queries_are) c.requires.rules.quotas)
+    first are (c.create_all.ensures.works (g.I.Inputs.bytes_at c.args.inputs.now) (g.I.Inputs.faults_at c.args.inputs.now) (tally_of g.D.Slot c.args.slots.now.items)) (c.open_all.ensures.works (g.O.Outputs.written c.create_all.new.outputs) (g.O.Outputs.is_created c.create_all.new.outputs) (g.O.Outputs.faults_at c.create_all.new.outputs) (tally_of g.D.Slot c.args.slots.now.items)) c.create_all.ensures.refused c.open_all.ensures.refused
 
 pub answer_all-requires-clause-sides : goal.answer_all-requires-clause-sides
 answer_all-requires-clause-sides g c =
     let first : c.in_ok-jobs.jobs.items ≡ map begun (refusals c.args.plan.now.block_len (c.args.plan.now.blocks * c.args.plan.now.block_len) c.as_slice-queries.result.now) = search rules in
-    let are = works_begin g.I.Src.Source.remaining g.I.Src.Source.faults g.O.Snk.Sink.contents g.O.Snk.Sink.faults (seen (g.I.Inputs.bytes_at c.args.inputs.now) (g.I.Inputs.faults_at c.args.inputs.now) (g.O.Outputs.written c.args.outputs.now) (g.O.Outputs.is_created c.args.outputs.now) (g.O.Outputs.faults_at c.args.outputs.now)) c.args.plan.now.block_len (c.args.plan.now.blocks * c.args.plan.now.block_len) c.as_slice-queries.result.now c.in_ok-jobs.jobs.items first in
-    sided_so g.I.Src.Source.remaining g.I.Src.Source.faults g.O.Snk.Sink.contents g.O.Snk.Sink.faults (seen (g.I.Inputs.bytes_at c.args.inputs.now) (g.I.Inputs.faults_at c.args.inputs.now) (g.O.Outputs.written c.args.outputs.now) (g.O.Outputs.is_created c.args.outputs.now) (g.O.Outputs.faults_at c.args.outputs.now)) (seen (g.I.Inputs.bytes_at c.args.inputs.now) (g.I.Inputs.faults_at c.args.inputs.now) (g.O.Outputs.written c.create_all.new.outputs) (g.O.Outputs.is_created c.create_all.new.outputs) (g.O.Outputs.faults_at c.create_all.new.outputs)) (seen (g.I.Inputs.bytes_at c.open_all.new.inputs) (g.I.Inputs.faults_at c.open_all.new.inputs) (g.O.Outputs.written c.create_all.new.outputs) (g.O.Outputs.is_created c.create_all.new.outputs) (g.O.Outputs.faults_at c.create_all.new.outputs)) c.args.plan.now.block_len c.as_slice-queries.result.now c.in_ok-jobs.jobs.items c.create_all.new.jobs.items c.open_all.new.jobs.items
-    are (c.create_all.ensures.works (g.I.Inputs.bytes_at c.args.inputs.now) (g.I.Inputs.faults_at c.args.inputs.now)) (c.open_all.ensures.works (g.O.Outputs.written c.create_all.new.outputs) (g.O.Outputs.is_created c.create_all.new.outputs) (g.O.Outputs.faults_at c.create_all.new.outputs))
+    let are = works_begin g.I.Src.Source.remaining g.I.Src.Source.faults g.O.Snk.Sink.contents g.O.Snk.Sink.faults (seen (g.I.Inputs.bytes_at c.args.inputs.now) (g.I.Inputs.faults_at c.args.inputs.now) (g.O.Outputs.written c.args.outputs.now) (g.O.Outputs.is_created c.args.outputs.now) (g.O.Outputs.faults_at c.args.outputs.now) (tally_of g.D.Slot c.args.slots.now.items)) c.args.plan.now.block_len (c.args.plan.now.blocks * c.args.plan.now.block_len) c.as_slice-queries.result.now c.in_ok-jobs.jobs.items first in
+    sided_so g.I.Src.Source.remaining g.I.Src.Source.faults g.O.Snk.Sink.contents g.O.Snk.Sink.faults (seen (g.I.Inputs.bytes_at c.args.inputs.now) (g.I.Inputs.faults_at c.args.inputs.now) (g.O.Outputs.written c.args.outputs.now) (g.O.Outputs.is_created c.args.outputs.now) (g.O.Outputs.faults_at c.args.outputs.now) (tally_of g.D.Slot c.args.slots.now.items)) (seen (g.I.Inputs.bytes_at c.args.inputs.now) (g.I.Inputs.faults_at c.args.inputs.now) (g.O.Outputs.written c.create_all.new.outputs) (g.O.Outputs.is_created c.create_all.new.outputs) (g.O.Outputs.faults_at c.create_all.new.outputs) (tally_of g.D.Slot c.args.slots.now.items)) (seen (g.I.Inputs.bytes_at c.open_all.new.inputs) (g.I.Inputs.faults_at c.open_all.new.inputs) (g.O.Outputs.written c.create_all.new.outputs) (g.O.Outputs.is_created c.create_all.new.outputs) (g.O.Outputs.faults_at c.create_all.new.outputs) (tally_of g.D.Slot c.args.slots.now.items)) c.args.plan.now.block_len c.as_slice-queries.result.now c.in_ok-jobs.jobs.items c.create_all.new.jobs.items c.open_all.new.jobs.items
+    are (c.create_all.ensures.works (g.I.Inputs.bytes_at c.args.inputs.now) (g.I.Inputs.faults_at c.args.inputs.now) (tally_of g.D.Slot c.args.slots.now.items)) (c.open_all.ensures.works (g.O.Outputs.written c.create_all.new.outputs) (g.O.Outputs.is_created c.create_all.new.outputs) (g.O.Outputs.faults_at c.create_all.new.outputs) (tally_of g.D.Slot c.args.slots.now.items))
 
 pub close_all-requires-clause-len : goal.close_all-requires-clause-len
 close_all-requires-clause-len g c κs within =
@@ -62,9 +75,9 @@ close_all-requires-clause-len g c κs within =
 pub close_all-requires-clause-sides : goal.close_all-requires-clause-sides
 close_all-requires-clause-sides g c κs within =
     let first : c.in_ok-jobs.jobs.items ≡ map begun (refusals c.args.plan.now.block_len (c.args.plan.now.blocks * c.args.plan.now.block_len) c.as_slice-queries.result.now) = search rules in
-    let are = works_begin g.I.Src.Source.remaining g.I.Src.Source.faults g.O.Snk.Sink.contents g.O.Snk.Sink.faults (seen (g.I.Inputs.bytes_at c.args.inputs.now) (g.I.Inputs.faults_at c.args.inputs.now) (g.O.Outputs.written c.args.outputs.now) (g.O.Outputs.is_created c.args.outputs.now) (g.O.Outputs.faults_at c.args.outputs.now)) c.args.plan.now.block_len (c.args.plan.now.blocks * c.args.plan.now.block_len) c.as_slice-queries.result.now c.in_ok-jobs.jobs.items first in
-    sided_then g.I.Src.Source.remaining g.I.Src.Source.faults g.O.Snk.Sink.contents g.O.Snk.Sink.faults (seen (g.I.Inputs.bytes_at c.args.inputs.now) (g.I.Inputs.faults_at c.args.inputs.now) (g.O.Outputs.written c.args.outputs.now) (g.O.Outputs.is_created c.args.outputs.now) (g.O.Outputs.faults_at c.args.outputs.now)) (seen (g.I.Inputs.bytes_at c.args.inputs.now) (g.I.Inputs.faults_at c.args.inputs.now) (g.O.Outputs.written c.create_all.new.outputs) (g.O.Outputs.is_created c.create_all.new.outputs) (g.O.Outputs.faults_at c.create_all.new.outputs)) (seen (g.I.Inputs.bytes_at c.open_all.new.inputs) (g.I.Inputs.faults_at c.open_all.new.inputs) (g.O.Outputs.written c.create_all.new.outputs) (g.O.Outputs.is_created c.create_all.new.outputs) (g.O.Outputs.faults_at c.create_all.new.outputs)) c.args.plan.now.block_len c.as_slice-queries.result.now c.in_ok-jobs.jobs.items c.create_all.new.jobs.items c.open_all.new.jobs.items c.answer_all.new.jobs.items
-    are (c.create_all.ensures.works (g.I.Inputs.bytes_at c.args.inputs.now) (g.I.Inputs.faults_at c.args.inputs.now)) (c.open_all.ensures.works (g.O.Outputs.written c.create_all.new.outputs) (g.O.Outputs.is_created c.create_all.new.outputs) (g.O.Outputs.faults_at c.create_all.new.outputs)) (c.answer_all.ensures.works (seen (g.I.Inputs.bytes_at c.args.inputs.now) (g.I.Inputs.faults_at c.args.inputs.now) (g.O.Outputs.written c.args.outputs.now) (g.O.Outputs.is_created c.args.outputs.now) (g.O.Outputs.faults_at c.args.outputs.now)) (seen (g.I.Inputs.bytes_at c.open_all.new.inputs) (g.I.Inputs.faults_at c.open_all.new.inputs) (g.O.Outputs.written c.create_all.new.outputs) (g.O.Outputs.is_created c.create_all.new.outputs) (g.O.Outputs.faults_at c.create_all.new.outputs)))
+    let are = works_begin g.I.Src.Source.remaining g.I.Src.Source.faults g.O.Snk.Sink.contents g.O.Snk.Sink.faults (seen (g.I.Inputs.bytes_at c.args.inputs.now) (g.I.Inputs.faults_at c.args.inputs.now) (g.O.Outputs.written c.args.outputs.now) (g.O.Outputs.is_created c.args.outputs.now) (g.O.Outputs.faults_at c.args.outputs.now) (tally_of g.D.Slot c.args.slots.now.items)) c.args.plan.now.block_len (c.args.plan.now.blocks * c.args.plan.now.block_len) c.as_slice-queries.result.now c.in_ok-jobs.jobs.items first in
+    sided_then g.I.Src.Source.remaining g.I.Src.Source.faults g.O.Snk.Sink.contents g.O.Snk.Sink.faults (seen (g.I.Inputs.bytes_at c.args.inputs.now) (g.I.Inputs.faults_at c.args.inputs.now) (g.O.Outputs.written c.args.outputs.now) (g.O.Outputs.is_created c.args.outputs.now) (g.O.Outputs.faults_at c.args.outputs.now) (tally_of g.D.Slot c.args.slots.now.items)) (seen (g.I.Inputs.bytes_at c.args.inputs.now) (g.I.Inputs.faults_at c.args.inputs.now) (g.O.Outputs.written c.create_all.new.outputs) (g.O.Outputs.is_created c.create_all.new.outputs) (g.O.Outputs.faults_at c.create_all.new.outputs) (tally_of g.D.Slot c.args.slots.now.items)) (seen (g.I.Inputs.bytes_at c.open_all.new.inputs) (g.I.Inputs.faults_at c.open_all.new.inputs) (g.O.Outputs.written c.create_all.new.outputs) (g.O.Outputs.is_created c.create_all.new.outputs) (g.O.Outputs.faults_at c.create_all.new.outputs) (tally_of g.D.Slot c.args.slots.now.items)) (seen (g.I.Inputs.bytes_at c.open_all.new.inputs) (g.I.Inputs.faults_at c.open_all.new.inputs) (g.O.Outputs.written c.create_all.new.outputs) (g.O.Outputs.is_created c.create_all.new.outputs) (g.O.Outputs.faults_at c.create_all.new.outputs) (tally_of g.D.Slot c.answer_all.new.slots.items)) c.args.plan.now.block_len c.as_slice-queries.result.now c.in_ok-jobs.jobs.items c.create_all.new.jobs.items c.open_all.new.jobs.items c.answer_all.new.jobs.items
+    are (c.create_all.ensures.works (g.I.Inputs.bytes_at c.args.inputs.now) (g.I.Inputs.faults_at c.args.inputs.now) (tally_of g.D.Slot c.args.slots.now.items)) (c.open_all.ensures.works (g.O.Outputs.written c.create_all.new.outputs) (g.O.Outputs.is_created c.create_all.new.outputs) (g.O.Outputs.faults_at c.create_all.new.outputs) (tally_of g.D.Slot c.args.slots.now.items)) (c.answer_all.ensures.works (seen (g.I.Inputs.bytes_at c.args.inputs.now) (g.I.Inputs.faults_at c.args.inputs.now) (g.O.Outputs.written c.args.outputs.now) (g.O.Outputs.is_created c.args.outputs.now) (g.O.Outputs.faults_at c.args.outputs.now) (tally_of g.D.Slot c.args.slots.now.items)) (seen (g.I.Inputs.bytes_at c.open_all.new.inputs) (g.I.Inputs.faults_at c.open_all.new.inputs) (g.O.Outputs.written c.create_all.new.outputs) (g.O.Outputs.is_created c.create_all.new.outputs) (g.O.Outputs.faults_at c.create_all.new.outputs) (tally_of g.D.Slot c.args.slots.now.items)))
 
 pub finish_all-requires-clause-len : goal.finish_all-requires-clause-len
 finish_all-requires-clause-len g c κs within =
@@ -81,9 +94,9 @@ finish_all-requires-clause-apart g c κs within =
 pub finish_all-requires-clause-created : goal.finish_all-requires-clause-created
 finish_all-requires-clause-created g c κs within =
     let first : c.in_ok-jobs.jobs.items ≡ map begun (refusals c.args.plan.now.block_len (c.args.plan.now.blocks * c.args.plan.now.block_len) c.as_slice-queries.result.now) = search rules in
-    let are = works_begin g.I.Src.Source.remaining g.I.Src.Source.faults g.O.Snk.Sink.contents g.O.Snk.Sink.faults (seen (g.I.Inputs.bytes_at c.args.inputs.now) (g.I.Inputs.faults_at c.args.inputs.now) (g.O.Outputs.written c.args.outputs.now) (g.O.Outputs.is_created c.args.outputs.now) (g.O.Outputs.faults_at c.args.outputs.now)) c.args.plan.now.block_len (c.args.plan.now.blocks * c.args.plan.now.block_len) c.as_slice-queries.result.now c.in_ok-jobs.jobs.items first in
-    made_so g.I.Src.Source.remaining g.I.Src.Source.faults g.O.Snk.Sink.contents g.O.Snk.Sink.faults (seen (g.I.Inputs.bytes_at c.args.inputs.now) (g.I.Inputs.faults_at c.args.inputs.now) (g.O.Outputs.written c.args.outputs.now) (g.O.Outputs.is_created c.args.outputs.now) (g.O.Outputs.faults_at c.args.outputs.now)) (seen (g.I.Inputs.bytes_at c.args.inputs.now) (g.I.Inputs.faults_at c.args.inputs.now) (g.O.Outputs.written c.create_all.new.outputs) (g.O.Outputs.is_created c.create_all.new.outputs) (g.O.Outputs.faults_at c.create_all.new.outputs)) (seen (g.I.Inputs.bytes_at c.open_all.new.inputs) (g.I.Inputs.faults_at c.open_all.new.inputs) (g.O.Outputs.written c.create_all.new.outputs) (g.O.Outputs.is_created c.create_all.new.outputs) (g.O.Outputs.faults_at c.create_all.new.outputs)) (seen (g.I.Inputs.bytes_at c.close_all.new.inputs) (g.I.Inputs.faults_at c.close_all.new.inputs) (g.O.Outputs.written c.create_all.new.outputs) (g.O.Outputs.is_created c.create_all.new.outputs) (g.O.Outputs.faults_at c.create_all.new.outputs)) c.args.plan.now.block_len c.as_slice-queries.result.now c.in_ok-jobs.jobs.items c.create_all.new.jobs.items c.open_all.new.jobs.items c.answer_all.new.jobs.items c.close_all.new.jobs.items
-    are (c.create_all.ensures.works (g.I.Inputs.bytes_at c.args.inputs.now) (g.I.Inputs.faults_at c.args.inputs.now)) (c.open_all.ensures.works (g.O.Outputs.written c.create_all.new.outputs) (g.O.Outputs.is_created c.create_all.new.outputs) (g.O.Outputs.faults_at c.create_all.new.outputs)) (c.answer_all.ensures.works (seen (g.I.Inputs.bytes_at c.args.inputs.now) (g.I.Inputs.faults_at c.args.inputs.now) (g.O.Outputs.written c.args.outputs.now) (g.O.Outputs.is_created c.args.outputs.now) (g.O.Outputs.faults_at c.args.outputs.now)) (seen (g.I.Inputs.bytes_at c.open_all.new.inputs) (g.I.Inputs.faults_at c.open_all.new.inputs) (g.O.Outputs.written c.create_all.new.outputs) (g.O.Outputs.is_created c.create_all.new.outputs) (g.O.Outputs.faults_at c.create_all.new.outputs))) (c.close_all.ensures.works (g.O.Outputs.written c.create_all.new.outputs) (g.O.Outputs.is_created c.create_all.new.outputs) (g.O.Outputs.faults_at c.create_all.new.outputs))
+    let are = works_begin g.I.Src.Source.remaining g.I.Src.Source.faults g.O.Snk.Sink.contents g.O.Snk.Sink.faults (seen (g.I.Inputs.bytes_at c.args.inputs.now) (g.I.Inputs.faults_at c.args.inputs.now) (g.O.Outputs.written c.args.outputs.now) (g.O.Outputs.is_created c.args.outputs.now) (g.O.Outputs.faults_at c.args.outputs.now) (tally_of g.D.Slot c.args.slots.now.items)) c.args.plan.now.block_len (c.args.plan.now.blocks * c.args.plan.now.block_len) c.as_slice-queries.result.now c.in_ok-jobs.jobs.items first in
+    made_so g.I.Src.Source.remaining g.I.Src.Source.faults g.O.Snk.Sink.contents g.O.Snk.Sink.faults (seen (g.I.Inputs.bytes_at c.args.inputs.now) (g.I.Inputs.faults_at c.args.inputs.now) (g.O.Outputs.written c.args.outputs.now) (g.O.Outputs.is_created c.args.outputs.now) (g.O.Outputs.faults_at c.args.outputs.now) (tally_of g.D.Slot c.args.slots.now.items)) (seen (g.I.Inputs.bytes_at c.args.inputs.now) (g.I.Inputs.faults_at c.args.inputs.now) (g.O.Outputs.written c.create_all.new.outputs) (g.O.Outputs.is_created c.create_all.new.outputs) (g.O.Outputs.faults_at c.create_all.new.outputs) (tally_of g.D.Slot c.args.slots.now.items)) (seen (g.I.Inputs.bytes_at c.open_all.new.inputs) (g.I.Inputs.faults_at c.open_all.new.inputs) (g.O.Outputs.written c.create_all.new.outputs) (g.O.Outputs.is_created c.create_all.new.outputs) (g.O.Outputs.faults_at c.create_all.new.outputs) (tally_of g.D.Slot c.args.slots.now.items)) (seen (g.I.Inputs.bytes_at c.open_all.new.inputs) (g.I.Inputs.faults_at c.open_all.new.inputs) (g.O.Outputs.written c.create_all.new.outputs) (g.O.Outputs.is_created c.create_all.new.outputs) (g.O.Outputs.faults_at c.create_all.new.outputs) (tally_of g.D.Slot c.answer_all.new.slots.items)) (seen (g.I.Inputs.bytes_at c.close_all.new.inputs) (g.I.Inputs.faults_at c.close_all.new.inputs) (g.O.Outputs.written c.create_all.new.outputs) (g.O.Outputs.is_created c.create_all.new.outputs) (g.O.Outputs.faults_at c.create_all.new.outputs) (tally_of g.D.Slot c.answer_all.new.slots.items)) c.args.plan.now.block_len c.as_slice-queries.result.now c.in_ok-jobs.jobs.items c.create_all.new.jobs.items c.open_all.new.jobs.items c.answer_all.new.jobs.items c.close_all.new.jobs.items
+    are (c.create_all.ensures.works (g.I.Inputs.bytes_at c.args.inputs.now) (g.I.Inputs.faults_at c.args.inputs.now) (tally_of g.D.Slot c.args.slots.now.items)) (c.open_all.ensures.works (g.O.Outputs.written c.create_all.new.outputs) (g.O.Outputs.is_created c.create_all.new.outputs) (g.O.Outputs.faults_at c.create_all.new.outputs) (tally_of g.D.Slot c.args.slots.now.items)) (c.answer_all.ensures.works (seen (g.I.Inputs.bytes_at c.args.inputs.now) (g.I.Inputs.faults_at c.args.inputs.now) (g.O.Outputs.written c.args.outputs.now) (g.O.Outputs.is_created c.args.outputs.now) (g.O.Outputs.faults_at c.args.outputs.now) (tally_of g.D.Slot c.args.slots.now.items)) (seen (g.I.Inputs.bytes_at c.open_all.new.inputs) (g.I.Inputs.faults_at c.open_all.new.inputs) (g.O.Outputs.written c.create_all.new.outputs) (g.O.Outputs.is_created c.create_all.new.outputs) (g.O.Outputs.faults_at c.create_all.new.outputs) (tally_of g.D.Slot c.args.slots.now.items))) (c.close_all.ensures.works (g.O.Outputs.written c.create_all.new.outputs) (g.O.Outputs.is_created c.create_all.new.outputs) (g.O.Outputs.faults_at c.create_all.new.outputs) (tally_of g.D.Slot c.answer_all.new.slots.items))
 
 pub endings-ends-requires-clause-ended : goal.endings-ends-requires-clause-ended
 endings-ends-requires-clause-ended g c =
@@ -122,14 +135,15 @@ pub returns-clause-ended : goal.returns-clause-ended
 returns-clause-ended g c =
     let queries_are : c.as_slice-queries.result.now ≡ c.args.plan.now.queries = search rules in
     let first : c.in_ok-jobs.jobs.items ≡ map begun (refusals c.args.plan.now.block_len (c.args.plan.now.blocks * c.args.plan.now.block_len) c.as_slice-queries.result.now) = search rules in
-    let are = works_begin g.I.Src.Source.remaining g.I.Src.Source.faults g.O.Snk.Sink.contents g.O.Snk.Sink.faults (seen (g.I.Inputs.bytes_at c.args.inputs.now) (g.I.Inputs.faults_at c.args.inputs.now) (g.O.Outputs.written c.args.outputs.now) (g.O.Outputs.is_created c.args.outputs.now) (g.O.Outputs.faults_at c.args.outputs.now)) c.args.plan.now.block_len (c.args.plan.now.blocks * c.args.plan.now.block_len) c.as_slice-queries.result.now c.in_ok-jobs.jobs.items first in
+    let are = works_begin g.I.Src.Source.remaining g.I.Src.Source.faults g.O.Snk.Sink.contents g.O.Snk.Sink.faults (seen (g.I.Inputs.bytes_at c.args.inputs.now) (g.I.Inputs.faults_at c.args.inputs.now) (g.O.Outputs.written c.args.outputs.now) (g.O.Outputs.is_created c.args.outputs.now) (g.O.Outputs.faults_at c.args.outputs.now) (tally_of g.D.Slot c.args.slots.now.items)) c.args.plan.now.block_len (c.args.plan.now.blocks * c.args.plan.now.block_len) c.as_slice-queries.result.now c.in_ok-jobs.jobs.items first in
     let alike : map (λ ending. Some ending) c.endings-ends.result.items ≡ map (λ job. job.ended) c.finish_all.new.jobs.items = search rules in
-    subst (λ (queries : List Query). HaveEnded (seen (g.I.Inputs.bytes_at c.args.inputs.now) (g.I.Inputs.faults_at c.args.inputs.now) (g.O.Outputs.written c.args.outputs.now) (g.O.Outputs.is_created c.args.outputs.now) (g.O.Outputs.faults_at c.args.outputs.now)) (seen (g.I.Inputs.bytes_at c.close_all.new.inputs) (g.I.Inputs.faults_at c.close_all.new.inputs) (g.O.Outputs.written c.finish_all.new.outputs) (g.O.Outputs.is_created c.finish_all.new.outputs) (g.O.Outputs.faults_at c.finish_all.new.outputs)) c.args.plan.now.block_len (refusals c.args.plan.now.block_len (c.args.plan.now.blocks * c.args.plan.now.block_len) queries) queries c.endings-ends.result.items) queries_are
-    (ran_so g.I.Src.Source.remaining g.I.Src.Source.faults g.O.Snk.Sink.contents g.O.Snk.Sink.faults (seen (g.I.Inputs.bytes_at c.args.inputs.now) (g.I.Inputs.faults_at c.args.inputs.now) (g.O.Outputs.written c.args.outputs.now) (g.O.Outputs.is_created c.args.outputs.now) (g.O.Outputs.faults_at c.args.outputs.now)) (seen (g.I.Inputs.bytes_at c.args.inputs.now) (g.I.Inputs.faults_at c.args.inputs.now) (g.O.Outputs.written c.create_all.new.outputs) (g.O.Outputs.is_created c.create_all.new.outputs) (g.O.Outputs.faults_at c.create_all.new.outputs)) (seen (g.I.Inputs.bytes_at c.open_all.new.inputs) (g.I.Inputs.faults_at c.open_all.new.inputs) (g.O.Outputs.written c.create_all.new.outputs) (g.O.Outputs.is_created c.create_all.new.outputs) (g.O.Outputs.faults_at c.create_all.new.outputs)) (seen (g.I.Inputs.bytes_at c.close_all.new.inputs) (g.I.Inputs.faults_at c.close_all.new.inputs) (g.O.Outputs.written c.create_all.new.outputs) (g.O.Outputs.is_created c.create_all.new.outputs) (g.O.Outputs.faults_at c.create_all.new.outputs)) (seen (g.I.Inputs.bytes_at c.close_all.new.inputs) (g.I.Inputs.faults_at c.close_all.new.inputs) (g.O.Outputs.written c.finish_all.new.outputs) (g.O.Outputs.is_created c.finish_all.new.outputs) (g.O.Outputs.faults_at c.finish_all.new.outputs)) c.args.plan.now.block_len (c.args.plan.now.blocks * c.args.plan.now.block_len) c.as_slice-queries.result.now c.in_ok-jobs.jobs.items c.create_all.new.jobs.items c.open_all.new.jobs.items c.answer_all.new.jobs.items c.close_all.new.jobs.items c.finish_all.new.jobs.items c.endings-ends.result.items
-    first are (c.create_all.ensures.works (g.I.Inputs.bytes_at c.args.inputs.now) (g.I.Inputs.faults_at c.args.inputs.now)) (c.open_all.ensures.works (g.O.Outputs.written c.create_all.new.outputs) (g.O.Outputs.is_created c.create_all.new.outputs) (g.O.Outputs.faults_at c.create_all.new.outputs)) (c.answer_all.ensures.works (seen (g.I.Inputs.bytes_at c.args.inputs.now) (g.I.Inputs.faults_at c.args.inputs.now) (g.O.Outputs.written c.args.outputs.now) (g.O.Outputs.is_created c.args.outputs.now) (g.O.Outputs.faults_at c.args.outputs.now)) (seen (g.I.Inputs.bytes_at c.open_all.new.inputs) (g.I.Inputs.faults_at c.open_all.new.inputs) (g.O.Outputs.written c.create_all.new.outputs) (g.O.Outputs.is_created c.create_all.new.outputs) (g.O.Outputs.faults_at c.create_all.new.outputs))) (c.close_all.ensures.works (g.O.Outputs.written c.create_all.new.outputs) (g.O.Outputs.is_created c.create_all.new.outputs) (g.O.Outputs.faults_at c.create_all.new.outputs)) (c.finish_all.ensures.works (g.I.Inputs.bytes_at c.close_all.new.inputs) (g.I.Inputs.faults_at c.close_all.new.inputs))
+    subst (λ (queries : List Query). HaveEnded (seen (g.I.Inputs.bytes_at c.args.inputs.now) (g.I.Inputs.faults_at c.args.inputs.now) (g.O.Outputs.written c.args.outputs.now) (g.O.Outputs.is_created c.args.outputs.now) (g.O.Outputs.faults_at c.args.outputs.now) (tally_of g.D.Slot c.args.slots.now.items)) (seen (g.I.Inputs.bytes_at c.close_all.new.inputs) (g.I.Inputs.faults_at c.close_all.new.inputs) (g.O.Outputs.written c.finish_all.new.outputs) (g.O.Outputs.is_created c.finish_all.new.outputs) (g.O.Outputs.faults_at c.finish_all.new.outputs) (tally_of g.D.Slot c.answer_all.new.slots.items)) c.args.plan.now.block_len (refusals c.args.plan.now.block_len (c.args.plan.now.blocks * c.args.plan.now.block_len) queries) queries c.endings-ends.result.items) queries_are
+    (ran_so g.I.Src.Source.remaining g.I.Src.Source.faults g.O.Snk.Sink.contents g.O.Snk.Sink.faults (seen (g.I.Inputs.bytes_at c.args.inputs.now) (g.I.Inputs.faults_at c.args.inputs.now) (g.O.Outputs.written c.args.outputs.now) (g.O.Outputs.is_created c.args.outputs.now) (g.O.Outputs.faults_at c.args.outputs.now) (tally_of g.D.Slot c.args.slots.now.items)) (seen (g.I.Inputs.bytes_at c.args.inputs.now) (g.I.Inputs.faults_at c.args.inputs.now) (g.O.Outputs.written c.create_all.new.outputs) (g.O.Outputs.is_created c.create_all.new.outputs) (g.O.Outputs.faults_at c.create_all.new.outputs) (tally_of g.D.Slot c.args.slots.now.items)) (seen (g.I.Inputs.bytes_at c.open_all.new.inputs) (g.I.Inputs.faults_at c.open_all.new.inputs) (g.O.Outputs.written c.create_all.new.outputs) (g.O.Outputs.is_created c.create_all.new.outputs) (g.O.Outputs.faults_at c.create_all.new.outputs) (tally_of g.D.Slot c.args.slots.now.items)) (seen (g.I.Inputs.bytes_at c.open_all.new.inputs) (g.I.Inputs.faults_at c.open_all.new.inputs) (g.O.Outputs.written c.create_all.new.outputs) (g.O.Outputs.is_created c.create_all.new.outputs) (g.O.Outputs.faults_at c.create_all.new.outputs) (tally_of g.D.Slot c.answer_all.new.slots.items)) (seen (g.I.Inputs.bytes_at c.close_all.new.inputs) (g.I.Inputs.faults_at c.close_all.new.inputs) (g.O.Outputs.written c.create_all.new.outputs) (g.O.Outputs.is_created c.create_all.new.outputs) (g.O.Outputs.faults_at c.create_all.new.outputs) (tally_of g.D.Slot c.answer_all.new.slots.items)) (seen (g.I.Inputs.bytes_at c.close_all.new.inputs) (g.I.Inputs.faults_at c.close_all.new.inputs) (g.O.Outputs.written c.finish_all.new.outputs) (g.O.Outputs.is_created c.finish_all.new.outputs) (g.O.Outputs.faults_at c.finish_all.new.outputs) (tally_of g.D.Slot c.answer_all.new.slots.items)) c.args.plan.now.block_len (c.args.plan.now.blocks * c.args.plan.now.block_len) c.as_slice-queries.result.now c.in_ok-jobs.jobs.items c.create_all.new.jobs.items c.open_all.new.jobs.items c.answer_all.new.jobs.items c.close_all.new.jobs.items c.finish_all.new.jobs.items c.endings-ends.result.items
+    first are (c.create_all.ensures.works (g.I.Inputs.bytes_at c.args.inputs.now) (g.I.Inputs.faults_at c.args.inputs.now) (tally_of g.D.Slot c.args.slots.now.items)) (c.open_all.ensures.works (g.O.Outputs.written c.create_all.new.outputs) (g.O.Outputs.is_created c.create_all.new.outputs) (g.O.Outputs.faults_at c.create_all.new.outputs) (tally_of g.D.Slot c.args.slots.now.items)) (c.answer_all.ensures.works (seen (g.I.Inputs.bytes_at c.args.inputs.now) (g.I.Inputs.faults_at c.args.inputs.now) (g.O.Outputs.written c.args.outputs.now) (g.O.Outputs.is_created c.args.outputs.now) (g.O.Outputs.faults_at c.args.outputs.now) (tally_of g.D.Slot c.args.slots.now.items)) (seen (g.I.Inputs.bytes_at c.open_all.new.inputs) (g.I.Inputs.faults_at c.open_all.new.inputs) (g.O.Outputs.written c.create_all.new.outputs) (g.O.Outputs.is_created c.create_all.new.outputs) (g.O.Outputs.faults_at c.create_all.new.outputs) (tally_of g.D.Slot c.args.slots.now.items))) (c.close_all.ensures.works (g.O.Outputs.written c.create_all.new.outputs) (g.O.Outputs.is_created c.create_all.new.outputs) (g.O.Outputs.faults_at c.create_all.new.outputs) (tally_of g.D.Slot c.answer_all.new.slots.items)) (c.finish_all.ensures.works (g.I.Inputs.bytes_at c.close_all.new.inputs) (g.I.Inputs.faults_at c.close_all.new.inputs) (tally_of g.D.Slot c.answer_all.new.slots.items))
     c.finish_all.ensures.step c.create_all.ensures.refused c.open_all.ensures.refused c.answer_all.ensures.refused c.close_all.ensures.refused c.finish_all.ensures.refused alike)
 
 pub returns-clause-went : goal.returns-clause-went
 returns-clause-went g c =
-    went_thrice (seen (g.I.Inputs.bytes_at c.args.inputs.now) (g.I.Inputs.faults_at c.args.inputs.now) (g.O.Outputs.written c.args.outputs.now) (g.O.Outputs.is_created c.args.outputs.now) (g.O.Outputs.faults_at c.args.outputs.now)) (seen (g.I.Inputs.bytes_at c.args.inputs.now) (g.I.Inputs.faults_at c.args.inputs.now) (g.O.Outputs.written c.create_all.new.outputs) (g.O.Outputs.is_created c.create_all.new.outputs) (g.O.Outputs.faults_at c.create_all.new.outputs)) (seen (g.I.Inputs.bytes_at c.open_all.new.inputs) (g.I.Inputs.faults_at c.open_all.new.inputs) (g.O.Outputs.written c.create_all.new.outputs) (g.O.Outputs.is_created c.create_all.new.outputs) (g.O.Outputs.faults_at c.create_all.new.outputs)) (seen (g.I.Inputs.bytes_at c.close_all.new.inputs) (g.I.Inputs.faults_at c.close_all.new.inputs) (g.O.Outputs.written c.create_all.new.outputs) (g.O.Outputs.is_created c.create_all.new.outputs) (g.O.Outputs.faults_at c.create_all.new.outputs)) (seen (g.I.Inputs.bytes_at c.close_all.new.inputs) (g.I.Inputs.faults_at c.close_all.new.inputs) (g.O.Outputs.written c.finish_all.new.outputs) (g.O.Outputs.is_created c.finish_all.new.outputs) (g.O.Outputs.faults_at c.finish_all.new.outputs)) (c.create_all.ensures.went (g.I.Inputs.bytes_at c.args.inputs.now) (g.I.Inputs.faults_at c.args.inputs.now)) (c.open_all.ensures.went (g.O.Outputs.written c.create_all.new.outputs) (g.O.Outputs.is_created c.create_all.new.outputs) (g.O.Outputs.faults_at c.create_all.new.outputs))
-    (c.close_all.ensures.went (g.O.Outputs.written c.create_all.new.outputs) (g.O.Outputs.is_created c.create_all.new.outputs) (g.O.Outputs.faults_at c.create_all.new.outputs)) (c.finish_all.ensures.went (g.I.Inputs.bytes_at c.close_all.new.inputs) (g.I.Inputs.faults_at c.close_all.new.inputs))
+    went_through (seen (g.I.Inputs.bytes_at c.args.inputs.now) (g.I.Inputs.faults_at c.args.inputs.now) (g.O.Outputs.written c.args.outputs.now) (g.O.Outputs.is_created c.args.outputs.now) (g.O.Outputs.faults_at c.args.outputs.now) (tally_of g.D.Slot c.args.slots.now.items)) (seen (g.I.Inputs.bytes_at c.args.inputs.now) (g.I.Inputs.faults_at c.args.inputs.now) (g.O.Outputs.written c.create_all.new.outputs) (g.O.Outputs.is_created c.create_all.new.outputs) (g.O.Outputs.faults_at c.create_all.new.outputs) (tally_of g.D.Slot c.args.slots.now.items)) (seen (g.I.Inputs.bytes_at c.open_all.new.inputs) (g.I.Inputs.faults_at c.open_all.new.inputs) (g.O.Outputs.written c.create_all.new.outputs) (g.O.Outputs.is_created c.create_all.new.outputs) (g.O.Outputs.faults_at c.create_all.new.outputs) (tally_of g.D.Slot c.args.slots.now.items)) (seen (g.I.Inputs.bytes_at c.open_all.new.inputs) (g.I.Inputs.faults_at c.open_all.new.inputs) (g.O.Outputs.written c.create_all.new.outputs) (g.O.Outputs.is_created c.create_all.new.outputs) (g.O.Outputs.faults_at c.create_all.new.outputs) (tally_of g.D.Slot c.answer_all.new.slots.items)) (seen (g.I.Inputs.bytes_at c.close_all.new.inputs) (g.I.Inputs.faults_at c.close_all.new.inputs) (g.O.Outputs.written c.create_all.new.outputs) (g.O.Outputs.is_created c.create_all.new.outputs) (g.O.Outputs.faults_at c.create_all.new.outputs) (tally_of g.D.Slot c.answer_all.new.slots.items)) (seen (g.I.Inputs.bytes_at c.close_all.new.inputs) (g.I.Inputs.faults_at c.close_all.new.inputs) (g.O.Outputs.written c.finish_all.new.outputs) (g.O.Outputs.is_created c.finish_all.new.outputs) (g.O.Outputs.faults_at c.finish_all.new.outputs) (tally_of g.D.Slot c.answer_all.new.slots.items)) (c.create_all.ensures.went (g.I.Inputs.bytes_at c.args.inputs.now) (g.I.Inputs.faults_at c.args.inputs.now) (tally_of g.D.Slot c.args.slots.now.items)) (c.open_all.ensures.went (g.O.Outputs.written c.create_all.new.outputs) (g.O.Outputs.is_created c.create_all.new.outputs) (g.O.Outputs.faults_at c.create_all.new.outputs) (tally_of g.D.Slot c.args.slots.now.items))
+    (went_slots (tally_of g.D.Slot c.args.slots.now.items) (tally_of g.D.Slot c.answer_all.new.slots.items) (seen (g.I.Inputs.bytes_at c.open_all.new.inputs) (g.I.Inputs.faults_at c.open_all.new.inputs) (g.O.Outputs.written c.create_all.new.outputs) (g.O.Outputs.is_created c.create_all.new.outputs) (g.O.Outputs.faults_at c.create_all.new.outputs) (tally_of g.D.Slot c.args.slots.now.items)) c.answer_all.ensures.slots)
+    (c.close_all.ensures.went (g.O.Outputs.written c.create_all.new.outputs) (g.O.Outputs.is_created c.create_all.new.outputs) (g.O.Outputs.faults_at c.create_all.new.outputs) (tally_of g.D.Slot c.answer_all.new.slots.items)) (c.finish_all.ensures.went (g.I.Inputs.bytes_at c.close_all.new.inputs) (g.I.Inputs.faults_at c.close_all.new.inputs) (tally_of g.D.Slot c.answer_all.new.slots.items))

@@ -12,7 +12,7 @@ pub returns-in_default-clause-count : goal.returns-in_default-clause-count
 returns-in_default-clause-count g c = of_each (command_of (map string_bytes c.args.words.now)) _ (λ command. counted_short _ _ _ _ _ _ _ _ _ _ command c.refuse_memory.ensures.status c.refuse_memory.ensures.tells)
 
 pub returns-in_default-clause-run : goal.returns-in_default-clause-run
-returns-in_default-clause-run g c = of_each (plan_file_of (map string_bytes c.args.words.now)) _ (λ file. ran_short file _ _ (seen (g.I.Inputs.bytes_at c.args.inputs.now) (g.I.Inputs.faults_at c.args.inputs.now) (g.O.Outputs.written c.args.outputs.now) (g.O.Outputs.is_created c.args.outputs.now) (g.O.Outputs.faults_at c.args.outputs.now)) (seen (g.I.Inputs.bytes_at c.args.inputs.now) (g.I.Inputs.faults_at c.args.inputs.now) (g.O.Outputs.written c.args.outputs.now) (g.O.Outputs.is_created c.args.outputs.now) (g.O.Outputs.faults_at c.args.outputs.now)) (telling (g.R.Sink.contents c.args.report.now) (g.R.Sink.faults c.args.report.now)) (telling (g.R.Sink.contents c.refuse_memory.new.report) (g.R.Sink.faults c.refuse_memory.new.report)) c.refuse_memory.ensures.status (λ name. refl) c.refuse_memory.ensures.tells)
+returns-in_default-clause-run g c = of_each (plan_file_of (map string_bytes c.args.words.now)) _ (λ file. ran_short file _ _ (seen (g.I.Inputs.bytes_at c.args.inputs.now) (g.I.Inputs.faults_at c.args.inputs.now) (g.O.Outputs.written c.args.outputs.now) (g.O.Outputs.is_created c.args.outputs.now) (g.O.Outputs.faults_at c.args.outputs.now) (tally_of g.D.Slot c.args.slots.now.items)) (seen (g.I.Inputs.bytes_at c.args.inputs.now) (g.I.Inputs.faults_at c.args.inputs.now) (g.O.Outputs.written c.args.outputs.now) (g.O.Outputs.is_created c.args.outputs.now) (g.O.Outputs.faults_at c.args.outputs.now) (tally_of g.D.Slot c.args.slots.now.items)) (telling (g.R.Sink.contents c.args.report.now) (g.R.Sink.faults c.args.report.now)) (telling (g.R.Sink.contents c.refuse_memory.new.report) (g.R.Sink.faults c.refuse_memory.new.report)) c.refuse_memory.ensures.status (λ name. refl) c.refuse_memory.ensures.tells)
 
 pub returns-in-Some-Count-clause-words : goal.returns-in-Some-Count-clause-words
 returns-in-Some-Count-clause-words g c =
