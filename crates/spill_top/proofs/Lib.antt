@@ -23,6 +23,7 @@ pub mod Whole
 pub mod Runnable
 pub mod Ended
 pub mod Reserved
+pub mod Trees
 pub mod Made
 pub mod Sided
 pub mod Fitting

@@ -1,6 +1,5 @@
 -- The least reservations, asked one after the other.
-use Rattle.std.proofs.Common.{◌≡◌, ◌∙◌, ◌-◌, ◌++◌, ℕ, true, false, List, [], ◌∷◌, Option, Some, None, is_none, map, refl, sym, ap}
-use Rattle.std.proofs.lemmas.Bool.{false≢true}
+use Rattle.std.proofs.Common.{◌≡◌, ◌∙◌, ◌++◌, ℕ, List, [], ◌∷◌, Option, map, refl, sym, ap}
 use Rattle.std.proofs.lemmas.List.{append_assoc}
 use Rattle.query_plan.specs.Sizes.{least_of}
 use Rattle.query_plan.specs.declared.plan.Query.{Query}
@@ -8,15 +7,6 @@ use Rattle.spill_top.specs.declared.ending.Ending.{Ending}
 use Rattle.spill_top.specs.declared.job.Job.{Job}
 use Rattle.spill_top.specs.Jobs.{begun}
 use Rattle.spill_top.specs.Reserving.{refusal, refusals, room_behind}
-
--- the room behind a query that was not refused, or was
-pub room_taken : (refused : Option Ending) (wanted room : ℕ) → is_none refused ≡ true → room_behind refused wanted room ≡ room - wanted
-room_taken None wanted room is = refl
-room_taken (Some ending) wanted room is = absurd (false≢true is)
-
-pub room_left : (refused : Option Ending) (wanted room : ℕ) → is_none refused ≡ false → room_behind refused wanted room ≡ room
-room_left None wanted room is = absurd (false≢true (sym is))
-room_left (Some ending) wanted room is = refl
 
 module _ {S K : Type 0} where
   front : (block_len room : ℕ) (queries rest : List Query) (query : Query) → queries ≡ query ∷ rest

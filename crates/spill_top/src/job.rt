@@ -1,13 +1,17 @@
 // The queries of a plan while it runs: what is open for each of them, and how it ended.
 
-ghost use Rattle.std.specs.Prelude.{◌≡◌, ◌≤◌, [], All, IfOk, IsSome, None, Some, length, map, vec_capacity, vec_len};
+ghost use Rattle.std.specs.Prelude.{◌≡◌, ◌+◌, ◌<◌, ◌≤◌, [], All, IfOk, IsSome, None, Some, length, map, vec_capacity, vec_len};
+ghost use Rattle.std.specs.FinMap.{len};
 ghost use Rattle.query_plan.specs.Rules.{KeepsQuery};
+ghost use Rattle.reservation_tree.specs.Tracker.{room_of, unused};
+ghost use Rattle.reservation_tree.specs.Tree.{charge_of};
 ghost use Rattle.spill_top.specs.Jobs.{begun};
 ghost use Rattle.spill_top.specs.Steps.{AreClosed};
-ghost use Rattle.spill_top.specs.Reserving.{refusal, refusals};
+ghost use Rattle.spill_top.specs.Reserving.{refusal, refusals, room_behind};
 
 use crate::ending::Ending;
 use query_plan::{Query, least};
+use reservation_tree::{PoolErr, Tree};
 use row_codec::Memory;
 use std::alloc::Global;
 
@@ -21,8 +25,8 @@ pub(crate) struct Job<S, K> {
     pub(crate) ended: Option<Ending>,
 }
 
-// Asks for the least reservation of each query in turn, where the root has so much room. A query that is refused has
-// ended.
+// Asks for the least reservation of each query in turn, on a tree whose root has so much room. A query that is refused
+// has ended.
 pub(crate) fn reserve<S, K>(
     alloc: Global,
     queries: &[Query],
@@ -30,47 +34,59 @@ pub(crate) fn reserve<S, K>(
     room: u64,
 ) -> Result<Vec<Job<S, K>>, Memory>
     requires queries { All KeepsQuery queries.now }
+    requires few { length queries.now ≤ 16 }
     requires block_len { block_len ≤ 65536 }
     ensures { IfOk result (λ jobs. jobs.items ≡ map begun (refusals block_len room queries.now)) }
 {
+    // The tree comes first, since it can be let go where there is no memory for the jobs, and they can't.
+    let Ok(mut tree) = Tree::open(alloc, room) else {
+        return Err(Memory);
+    };
     let mut jobs = Vec::with_capacity(alloc, queries.len())?;
-    let mut room = room;
     for query in queries {
-        let wanted = least(query, block_len);
-        let refused = refusal(query.limit, wanted, room);
-        if refused.is_none() {
-            room -= wanted;
-        }
+        let refused = ask(&mut tree, query.limit, least(query, block_len));
+        let ended = refused;
         jobs.push_reserved(Job {
             refused,
             left: None,
             right: None,
             sink: None,
-            ended: refused,
+            ended,
         });
     }
     Ok(jobs)
 }
 
-// Why a tracker with this limit, under a root with so much room, can't reserve so many bytes.
-fn refusal(limit: u64, wanted: u64, room: u64) -> Option<Ending>
-    ensures { result ≡ refusal limit wanted room }
+// Asks for so many bytes for a new tracker with this limit under the root. The root has nothing unused, so it grows by as
+// much.
+fn ask(tree: &mut Tree, limit: u64, wanted: u64) -> Option<Ending>
+    requires spent { unused (charge_of tree.old) tree.old.trackers 0 ≡ 0 }
+    requires few { len tree.old.trackers < 4096 }
+    ensures refused { result ≡ refusal limit wanted (room_of tree.old.trackers 0) }
+    ensures room { room_of tree.new.trackers 0 ≡ room_behind result wanted (room_of tree.old.trackers 0) }
+    ensures spent { unused (charge_of tree.new) tree.new.trackers 0 ≡ 0 }
+    ensures more { len tree.new.trackers ≡ len tree.old.trackers + 1 }
 {
-    if limit < wanted {
-        Some(Ending::Reservation {
-            root: false,
-            wanted,
-            room: limit,
-        })
-    } else if room < wanted {
-        Some(Ending::Reservation {
-            root: true,
-            wanted,
-            room,
-        })
-    } else {
-        None
-    }
+    tree.law_fits();
+    let root = tree.root();
+    // A tree has room for the trackers of all queries.
+    let own = tree.add_child(root, limit).unwrap();
+    let Err(error) = tree.increase(own, wanted) else {
+        return None;
+    };
+    let PoolErr::NoReservation {
+        tracker,
+        wanted,
+        room,
+    } = error
+    else {
+        unreachable!()
+    };
+    Some(Ending::Reservation {
+        root: tracker == root,
+        wanted,
+        room,
+    })
 }
 
 // How each of them ended.

@@ -13,6 +13,11 @@ use Rattle.spill_top.proofs.Phases.{all_begun, all_closed, all_have_ended, as_ma
 use Rattle.spill_top.proofs.Plans.{opens_with}
 use Rattle.spill_top.proofs.run.run_queries.Goals as goal
 
+pub reserve-requires-clause-few : goal.reserve-requires-clause-few
+reserve-requires-clause-few g c =
+    let queries_are : c.as_slice-queries.result.now ≡ c.args.plan.now.queries = search rules in
+    subst (λ (queries : List Query). length queries ≤ 16) (sym queries_are) c.requires.rules.some.1
+
 pub create_all-requires-clause-len : goal.create_all-requires-clause-len
 create_all-requires-clause-len g c κs within =
     let first : c.in_ok-jobs.jobs.items ≡ map begun (refusals c.args.plan.now.block_len (c.args.plan.now.blocks * c.args.plan.now.block_len) c.as_slice-queries.result.now) = search rules in
