@@ -33,11 +33,15 @@ pub(crate) fn advise<F: FileSystem + AllocGlobal>(
             tell_plan(files, rt, plan.as_str(), report)?;
             eprintln!(rt; "spill: not every answer of {plan} was written")
         }
+        (9, [_, _, _, _, _]) if !report.is_empty() => {
+            eprintln!(rt; "spill: the answer was not written to selfcheck.csv")
+        }
         (9, _) => eprintln!(rt;
             "spill: writing to standard output failed, so the answer is incomplete: the disk may be full, or the reader stopped early"
         ),
         (_, [_, plan]) => tell_plan(files, rt, plan.as_str(), report),
         (10, _) => eprintln!(rt; "spill: out of memory: give the program more, or a smaller file"),
+        (_, [_, _, _, _, _]) => tell_lines(rt, report, Files::Table),
         (_, [_, file, ..]) => tell_lines(rt, report, Files::One(file.as_str())),
         (status, _) => eprintln!(rt; "spill: ended with status {status}"),
     }

@@ -32,12 +32,14 @@ impl<'a> Refused<'a> {
     }
 }
 
-// Where the files of a line are told: by the plan that ran, which may not be read again, or by the one file of a count.
+// Where the files of a line are told: by the plan that ran, which may not be read again, or by the one file of a count. A check
+// reads none.
 #[derive(Clone, Copy)]
 pub(crate) enum Files<'a> {
     OfPlan { name: &'a str, plan: &'a Plan },
     Unread { name: &'a str },
     One(&'a str),
+    Table,
 }
 
 impl<'a> Files<'a> {
@@ -46,14 +48,14 @@ impl<'a> Files<'a> {
         match self {
             Files::OfPlan { name, plan: _ } => Some(name),
             Files::Unread { name } => Some(name),
-            Files::One(_) => None,
+            Files::One(_) | Files::Table => None,
         }
     }
 
     fn query(self, number: Option<usize>) -> Option<&'a Query> {
         match self {
             Files::OfPlan { plan, .. } => plan.queries.as_slice().get(number?.checked_sub(1)?),
-            Files::Unread { .. } | Files::One(_) => None,
+            Files::Unread { .. } | Files::One(_) | Files::Table => None,
         }
     }
 
@@ -85,7 +87,7 @@ fn tell(rt: &impl Eprint, line: &Refused<'_>, files: Files<'_>) -> io::Result<()
         ("4" | "5", cause) => tell_input(rt, line, cause, files),
         ("6", _) => {
             begin(rt, line, files)?;
-            tell_reservation(rt, line.numbers)
+            tell_reservation(rt, line.numbers, files)
         }
         ("7", "scratch") => {
             begin(rt, line, files)?;
@@ -143,12 +145,15 @@ fn tell_input(
     }
 }
 
-// The least reservation was refused, by the query's own limit or by what queries before it left.
-fn tell_reservation(rt: &impl Eprint, numbers: &str) -> io::Result<()> {
+// The least reservation was refused, by all memory of a check, by the query's own limit or by what queries before it left.
+fn tell_reservation(rt: &impl Eprint, numbers: &str, files: Files<'_>) -> io::Result<()> {
     let (who, behind) = numbers.split_once(' ').unwrap_or((numbers, ""));
     let (wanted, room) = behind.split_once(' ').unwrap_or((behind, ""));
-    match who {
-        "query" => eprintln!(rt;
+    match (files, who) {
+        (Files::Table, _) => eprintln!(rt;
+            "it needs {wanted} bytes, and its memory has {room}: more BLOCKS would do"
+        ),
+        (_, "query") => eprintln!(rt;
             "it needs {wanted} bytes, and its \"limit\" is {room}: a limit of {wanted} would do"
         ),
         _ => eprintln!(rt;
@@ -167,6 +172,11 @@ fn tell_scratch(rt: &impl Eprint, files: Files<'_>) -> io::Result<()> {
         Files::One(file) => {
             eprintln!(rt;
                 "{file} has more values than scratch holds: a plan with longer pages may do"
+            )
+        }
+        Files::Table => {
+            eprintln!(rt;
+                "the table has more groups than scratch holds: fewer GROUPS or more BLOCKS may do"
             )
         }
     }

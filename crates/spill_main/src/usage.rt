@@ -7,6 +7,7 @@ ghost use Rattle.std.specs.Prelude.{◌≡◌, OnSome, length};
 pub(crate) const USAGE: &str = "\
 usage: spill count FILE COLUMN
        spill run PLAN
+       spill selfcheck START ROWS GROUPS BLOCKS
        spill help
        spill --version
 
@@ -15,6 +16,10 @@ count FILE COLUMN   how often each value of a column occurs in a CSV file
     spill count /dev/stdin city < orders.csv
 run PLAN            the queries of a plan's file, one after the other, each into a file of its own
     spill run examples/cities.toml
+selfcheck START ROWS GROUPS BLOCKS
+                    groups a table that it makes, of so many ROWS in so many GROUPS, in a memory of BLOCKS of
+                    8192 bytes (20 or more), into the file selfcheck.csv, and tells the sums of the answer
+    spill selfcheck 3 1000000 50000 128
 help                this text; also --help and -h
     spill help
 --version           the name of the program and its version

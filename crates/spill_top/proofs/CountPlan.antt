@@ -21,7 +21,7 @@ use Rattle.spill_top.specs.Pooled.{HasMemoryFor}
 use Rattle.spill_top.specs.Words.{Command}
 use Rattle.spill_top.proofs.Causes.{told_some}
 
-none_distinct : IsDistinct {K = ℕ} eqb []
+pub none_distinct : IsDistinct {K = ℕ} eqb []
 unfolding IsDistinct
 none_distinct = tt
 

@@ -30,3 +30,9 @@ pub mod Fitting
 pub mod Phases
 pub mod Lines
 pub mod Plans
+mod TableRead
+mod TableRows
+mod TableAccepted
+mod CheckPlans
+mod CheckEnds
+mod CheckWords

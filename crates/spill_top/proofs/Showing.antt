@@ -1,9 +1,9 @@
 -- What a pool of one owner shows of its slots: whether it tells what pins show, and that its failures are among those of its trail.
-use Rattle.std.proofs.Common.{◌≡◌, ◌==◌, ℕ, ◌≤◌, Bool, true, false, if◌then◌else◌, List, [], ◌∷◌, length, filter, Option, Some, None, refl, sym, ap, ◌∙◌, arith}
+use Rattle.std.proofs.Common.{◌≡◌, ◌==◌, ℕ, ◌≤◌, Bool, true, false, if◌then◌else◌, List, [], ◌∷◌, length, filter, Some, None, refl, sym, ap, ◌∙◌, arith}
 use Rattle.std.proofs.lemmas.Bool.{false≢true}
 use Rattle.pool_model.specs.declared.entry.Entry.{Entry}
 use Rattle.pool_model.specs.declared.event.Event.{Event}
-use Rattle.pool_model.specs.LookingBack.{Made, maker_of}
+use Rattle.pool_model.specs.LookingBack.{maker_of}
 use Rattle.pool_model.specs.Failures.{failed_page, fails, is_own}
 use Rattle.outside.specs.declared.slot.Slot.{Ghosts}
 use Rattle.own_entries.proofs.Outsets.{outsets_stay}

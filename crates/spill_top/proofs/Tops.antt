@@ -106,8 +106,11 @@ run_never_one file slots start now before after status (inr (same, inl unread)) 
 run_never_one file slots start now before after status (inr (same, inr (inl no_plan))) one = let is = no_plan.status_is in omega (arith, is, one)
 run_never_one file slots start now before after status (inr (same, inr (inr wants))) one = let is = wants.status_is in omega (arith, is, one)
 
-pub words_count : {X Y : Type 0} (found : Option X) (plan : Option Y) (x : X) (status : ℕ) → found ≡ Some x → (status ≡ 1 → ⊥) → (status ≡ 1) ↔ ((found ≡ None) × (plan ≡ None))
-words_count found plan x status is never = ((λ one. absurd (never one)), (λ none. absurd (none-some x (sym none.0 ∙ is))))
+pub words_count : {X Y Z : Type 0} (found : Option X) (plan : Option Y) (check : Option Z) (x : X) (status : ℕ) → found ≡ Some x → (status ≡ 1 → ⊥) → (status ≡ 1) ↔ ((found ≡ None) × (plan ≡ None) × (check ≡ None))
+words_count found plan check x status is never = ((λ one. absurd (never one)), (λ none. absurd (none-some x (sym none.0 ∙ is))))
 
-pub words_run : {X Y : Type 0} (found : Option X) (plan : Option Y) (y : Y) (status : ℕ) → plan ≡ Some y → (status ≡ 1 → ⊥) → (status ≡ 1) ↔ ((found ≡ None) × (plan ≡ None))
-words_run found plan y status is never = ((λ one. absurd (never one)), (λ none. absurd (none-some y (sym none.1 ∙ is))))
+pub words_run : {X Y Z : Type 0} (found : Option X) (plan : Option Y) (check : Option Z) (y : Y) (status : ℕ) → plan ≡ Some y → (status ≡ 1 → ⊥) → (status ≡ 1) ↔ ((found ≡ None) × (plan ≡ None) × (check ≡ None))
+words_run found plan check y status is never = ((λ one. absurd (never one)), (λ none. absurd (none-some y (sym none.1 ∙ is))))
+
+pub words_check : {X Y Z : Type 0} (found : Option X) (plan : Option Y) (check : Option Z) (z : Z) (status : ℕ) → check ≡ Some z → (status ≡ 1 → ⊥) → (status ≡ 1) ↔ ((found ≡ None) × (plan ≡ None) × (check ≡ None))
+words_check found plan check z status is never = ((λ one. absurd (never one)), (λ none. absurd (none-some z (sym none.2 ∙ is))))

@@ -16,3 +16,5 @@ pub mod Jobs
 pub mod Steps
 pub mod Ran
 pub mod PlanFile
+pub mod CheckPlan
+pub mod Checking

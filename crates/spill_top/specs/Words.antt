@@ -3,24 +3,18 @@ use Rattle.std.specs.Prelude.{◌&&◌, ◌==◌, not, ℕ, Bool, false, List, [
 use Rattle.std.specs.List.{list_all}
 use Rattle.std.specs.Str.{bytes_eq}
 use Rattle.csv_edge.specs.Ints.{number_of}
+use Rattle.spill_top.specs.declared.words.Check.{Check}
 
 -- count the texts of a column of a file
 pub record Command : Type 0 where
   pub file : List ℕ
   pub column : List ℕ
 
--- check the program over rows that are generated: the number of the first one, how many there are, in how many groups, and the blocks of the pool
-pub record SelfChecking : Type 0 where
-  pub start : ℕ
-  pub rows : ℕ
-  pub groups : ℕ
-  pub blocks : ℕ
-
 -- what words may ask for: a count, the queries of a plan's file, or a check of the program
 pub data Request : Type 0 where
   Count : Command → Request
   Run : List ℕ → Request
-  SelfCheck : SelfChecking → Request
+  SelfCheck : Check → Request
 
 -- a word that is not empty and does not begin with a hyphen
 abbrev pub is_operand : List ℕ → Bool
@@ -70,7 +64,7 @@ abbrev pub count_asked : Option Request → Option Command
 count_asked None = None
 count_asked (Some (Count command)) = Some command
 count_asked (Some (Run plan)) = None
-count_asked (Some (SelfCheck checking)) = None
+count_asked (Some (SelfCheck check)) = None
 
 -- the count that words ask for, if they ask for one
 abbrev pub command_of : List (List ℕ) → Option Command
@@ -81,8 +75,19 @@ abbrev pub plan_asked : Option Request → Option (List ℕ)
 plan_asked None = None
 plan_asked (Some (Count command)) = None
 plan_asked (Some (Run plan)) = Some plan
-plan_asked (Some (SelfCheck checking)) = None
+plan_asked (Some (SelfCheck check)) = None
 
 -- the plan's file that words ask for, if they ask for a run
 abbrev pub plan_file_of : List (List ℕ) → Option (List ℕ)
 plan_file_of words = plan_asked (request_of words)
+
+-- the check that is asked for, if it is one
+abbrev pub check_asked : Option Request → Option Check
+check_asked None = None
+check_asked (Some (Count command)) = None
+check_asked (Some (Run plan)) = None
+check_asked (Some (SelfCheck check)) = Some check
+
+-- the check that words ask for, if they ask for one
+abbrev pub check_of : List (List ℕ) → Option Check
+check_of words = check_asked (request_of words)

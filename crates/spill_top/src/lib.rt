@@ -1,6 +1,7 @@
 //! The program's top call: from the words of a command to the bytes of its report.
 #![tactic(auto)]
 
+mod check_plan;
 mod command;
 mod count;
 mod counted;
@@ -15,6 +16,7 @@ mod pooled;
 mod ran;
 mod report;
 mod run;
+mod selfcheck;
 mod steps;
 mod top;
 mod watched;

@@ -161,7 +161,8 @@ pub(crate) fn refuse_words<R: Sink>(report: &mut R)
     tell(report, b"1 words\n");
 }
 
-fn tell<R: Sink>(report: &mut R, line: &[u8])
+// Appends a line.
+pub(crate) fn tell<R: Sink>(report: &mut R, line: &[u8])
     ensures tells { Tells line.now (R.contents report.old) (R.contents report.new) (R.faults report.old) (R.faults report.new) }
     ensures never_falls { R.faults report.old ≤ R.faults report.new }
 {

@@ -1,10 +1,11 @@
 use crate::spill_top;
-use crate::words::{Command, read_words};
+use crate::words::{Check, Command, read_words};
 use outside::{MemInputs, MemOutputs, MemSink, MemSlot, OpenGate};
 use std::alloc::{AllocError, Global};
 use std::process::Abort;
 use std::test::Fail;
 
+mod checks;
 mod joins;
 mod plans;
 mod pools;
@@ -198,12 +199,12 @@ fn to_run(plan: &str) -> Option<Command<'_>> {
 }
 
 fn to_self_check(start: u32, rows: u32, groups: u32, blocks: u32) -> Option<Command<'static>> {
-    Some(Command::SelfCheck {
+    Some(Command::SelfCheck(Check {
         start,
         rows,
         groups,
         blocks,
-    })
+    }))
 }
 
 // What words are read as.

@@ -4,17 +4,19 @@ ghost use Rattle.std.specs.Prelude.{◌≡◌, ◌≤◌, ◌↔◌, None, IfSom
 ghost use Rattle.outside.specs.Counts.{NoneFell};
 ghost use Rattle.outside.specs.Names.{AllStay};
 ghost use Rattle.pin_core.specs.Tallies.{tally_of};
+ghost use Rattle.spill_top.specs.Checking.{Checked};
 ghost use Rattle.spill_top.specs.Headline.{Counted};
 ghost use Rattle.spill_top.specs.Pooled.{ComeBack};
 ghost use Rattle.spill_top.specs.Ran.{RanPlan, telling};
 ghost use Rattle.spill_top.specs.Report.{Tells, usage};
 ghost use Rattle.spill_top.specs.Running.{seen};
-ghost use Rattle.spill_top.specs.Words.{command_of, plan_file_of};
+ghost use Rattle.spill_top.specs.Words.{check_of, command_of, plan_file_of};
 
 use crate::command::{Task, read_task};
 use crate::counted::answer_count;
 use crate::ran::run;
 use crate::report::{refuse_memory, refuse_words};
+use crate::selfcheck::self_check;
 use outside::{Gate, Inputs, Outputs, Sink, Slot};
 use std::alloc::Global;
 
@@ -33,11 +35,16 @@ use std::alloc::Global;
 /// quota, so an answer is promised where all slots tell what they hold. An output is said to be whole where its query has
 /// status 0; else it is empty, or after 7 to 10 a front of the answer.
 ///
+/// `selfcheck START ROWS GROUPS BLOCKS` makes a table of ROWS rows in GROUPS groups, groups it over a pool of BLOCKS blocks of 8192
+/// bytes, writes the answer to the output `selfcheck.csv` and appends a line of its numbers: the rows that were read, the groups,
+/// and the sums of the counts and of the totals of all groups. The least reservation is asked before the output is created. A
+/// refusal appends its line in its place, unless the line finds no memory.
+///
 /// After a fault of the report nothing more is written to it. Whatever the status, all slots are there again, in any order.
 ///
 /// | status | meaning |
 /// |---|---|
-/// | 0 | the report has the whole answer; for a run, each output has its own |
+/// | 0 | the report has the whole answer; for a run, each output has its own; for a check, the output has it and the report its numbers |
 /// | 1 | the words are no command |
 /// | 2 | the bytes of the plan are no plan |
 /// | 3 | an input, or the plan, could not be read |
@@ -59,7 +66,7 @@ pub fn spill_top<I: Inputs, O: Outputs, R: Sink, D: Slot + Drop, G: Gate>(
 ) -> u8
     requires { vec_len slots.old ≤ 1048576 }
     // Words that are no command are refused as such, and no others.
-    ensures words { (result ≡ 1) ↔ ((command_of (map string_bytes words.now) ≡ None) × (plan_file_of (map string_bytes words.now) ≡ None)) }
+    ensures words { (result ≡ 1) ↔ ((command_of (map string_bytes words.now) ≡ None) × (plan_file_of (map string_bytes words.now) ≡ None) × (check_of (map string_bytes words.now) ≡ None)) }
     ensures usage { result ≡ 1 → Tells usage (R.contents report.old) (R.contents report.new) (R.faults report.old) (R.faults report.new) }
 
     // A command has its answer, or a status with its cause.
@@ -68,10 +75,14 @@ pub fn spill_top<I: Inputs, O: Outputs, R: Sink, D: Slot + Drop, G: Gate>(
         (seen (I.bytes_at inputs.old) (I.faults_at inputs.old) (O.written outputs.old) (O.is_created outputs.old) (O.faults_at outputs.old) (tally_of D.Slot slots.old.items))
         (seen (I.bytes_at inputs.new) (I.faults_at inputs.new) (O.written outputs.new) (O.is_created outputs.new) (O.faults_at outputs.new) (tally_of D.Slot slots.new.items))
         (telling (R.contents report.old) (R.faults report.old)) (telling (R.contents report.new) (R.faults report.new)) result) }
+    ensures selfcheck { IfSome (check_of (map string_bytes words.now)) (Checked (vec_len slots.old)
+        (seen (I.bytes_at inputs.old) (I.faults_at inputs.old) (O.written outputs.old) (O.is_created outputs.old) (O.faults_at outputs.old) (tally_of D.Slot slots.old.items))
+        (seen (I.bytes_at inputs.new) (I.faults_at inputs.new) (O.written outputs.new) (O.is_created outputs.new) (O.faults_at outputs.new) (tally_of D.Slot slots.new.items))
+        (telling (R.contents report.old) (R.faults report.old)) (telling (R.contents report.new) (R.faults report.new)) result) }
 
     // All slots are there again, and their counts of faults did not fall.
     ensures slots { ComeBack (tally_of D.Slot slots.old.items) (tally_of D.Slot slots.new.items) }
-    ensures outputs { plan_file_of (map string_bytes words.now) ≡ None → outputs.new ≡ outputs.old }
+    ensures outputs { plan_file_of (map string_bytes words.now) ≡ None → check_of (map string_bytes words.now) ≡ None → outputs.new ≡ outputs.old }
     ensures inputs { AllStay (I.bytes_at inputs.old) (I.bytes_at inputs.new) }
     ensures never_falls { NoneFell (I.faults_at inputs.old) (I.faults_at inputs.new) }
     ensures outputs_never_fall { NoneFell (O.faults_at outputs.old) (O.faults_at outputs.new) }
@@ -85,6 +96,7 @@ pub fn spill_top<I: Inputs, O: Outputs, R: Sink, D: Slot + Drop, G: Gate>(
             alloc, file, column, inputs, report, slots,
         ),
         Some(Task::Run { plan }) => run(alloc, plan, inputs, outputs, report, slots),
+        Some(Task::Check(check)) => self_check(alloc, check, outputs, report, slots),
         None => {
             refuse_words(report);
             1

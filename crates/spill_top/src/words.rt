@@ -4,7 +4,7 @@ ghost use Rattle.std.specs.Prelude.{◌≡◌, IfOk, codes, true, map, option_ma
 ghost use Rattle.std.specs.List.{list_all};
 ghost use Rattle.clap.specs.Words.{first_of, found_of, rows_of, subcommand_rows_of};
 ghost use Rattle.spill_top.specs.Asked.{asked};
-ghost use Rattle.spill_top.specs.Words.{is_operand, request_of, spelled};
+ghost use Rattle.spill_top.specs.Words.{SelfCheck, is_operand, request_of, self_check_of, spelled};
 ghost use Rattle.spill_top.specs.Parsing.{check_from, count_from, request_met, run_from};
 
 use crate::number::number_in;
@@ -17,19 +17,19 @@ use std::alloc::Global;
 // What the words ask for.
 #[derive(Clone, Copy, Debug, PartialEq, Eq)]
 pub(crate) enum Command<'a> {
-    Count {
-        file: &'a str,
-        column: &'a str,
-    },
-    Run {
-        plan: &'a str,
-    },
-    SelfCheck {
-        start: u32,
-        rows: u32,
-        groups: u32,
-        blocks: u32,
-    },
+    Count { file: &'a str, column: &'a str },
+    Run { plan: &'a str },
+    SelfCheck(Check),
+}
+
+// A check of the program over rows that are generated: the number of the first one, how many there are, in how many
+// groups, and the blocks of the pool.
+#[derive(Clone, Copy, Debug, PartialEq, Eq)]
+pub(crate) struct Check {
+    pub(crate) start: u32,
+    pub(crate) rows: u32,
+    pub(crate) groups: u32,
+    pub(crate) blocks: u32,
 }
 
 // The command that words spell, if they are one.
@@ -123,7 +123,14 @@ fn read_self_check<'a>(found: &ArgMatches<'a>) -> Option<Command<'a>>
     let rows = text_of(found, "ROWS")?;
     let groups = text_of(found, "GROUPS")?;
     let blocks = text_of(found, "BLOCKS")?;
-    Some(Command::SelfCheck {
+    Some(Command::SelfCheck(spelled_check(start, rows, groups, blocks)?))
+}
+
+// The check whose numbers these words spell.
+pub(crate) fn spelled_check(start: &str, rows: &str, groups: &str, blocks: &str) -> Option<Check>
+    ensures { option_map SelfCheck result ≡ self_check_of start.now rows.now groups.now blocks.now }
+{
+    Some(Check {
         start: number_in(start, 0, 2147483647)?,
         rows: number_in(rows, 0, 2147483647)?,
         groups: number_in(groups, 1, 2147483647)?,

@@ -1,4 +1,4 @@
-use Rattle.std.proofs.Common.{◌≡◌, ◌∙◌, ◌⊎◌, ℕ, IsSome, Some, Result, Err, ap, false, true, rules, subst, sym, vec_len}
+use Rattle.std.proofs.Common.{◌≡◌, ◌∙◌, ◌⊎◌, IsSome, Some, Err, ap, false, true, rules, subst, sym, vec_len}
 use Rattle.outside.specs.Counts.{Rose}
 use Rattle.pin_core.specs.Tallies.{tally_of}
 use Rattle.pin_core.specs.declared.conf.PoolConf.{PoolConf}

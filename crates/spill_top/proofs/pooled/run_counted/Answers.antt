@@ -1,8 +1,6 @@
-use Rattle.std.proofs.Common.{◌≡◌, ◌∙◌, ℕ, Bool, List, IfErr, IfOk, IfSome, OnOk, inl, inr, length, true, vec_len, ap, subst, sym, rules}
+use Rattle.std.proofs.Common.{◌≡◌, ◌∙◌, ℕ, Bool, List, IfOk, IfSome, OnOk, inl, inr, length, true, ap, subst, rules}
 use Rattle.std.proofs.lemmas.Result.{IfErr-weaker}
 use Rattle.pin_core.specs.Tallies.{tally_of}
-use Rattle.pin_core.specs.declared.tally.Tally.{Tally}
-use Rattle.local_pool.specs.Beginning.{Begins}
 use Rattle.local_pool.specs.Told.{held_of}
 use Rattle.query_plan.specs.Sizes.{page_len}
 use Rattle.query_run.specs.Answer.{Numbers, WroteAnswer, WroteFront}

@@ -3,9 +3,11 @@ use Rattle.pin_core.specs.Tallies.{tally_of}
 use Rattle.spill_top.specs.Headline.{Counted}
 use Rattle.spill_top.specs.Ran.{telling}
 use Rattle.spill_top.specs.Running.{seen}
-use Rattle.spill_top.specs.Words.{Command, command_of, plan_file_of}
+use Rattle.spill_top.specs.Words.{Command, check_of, command_of, plan_file_of}
 use Rattle.spill_top.proofs.Causes.{device_fault}
-use Rattle.spill_top.proofs.Tops.{count_never_one, counted_short, of_each, ran_short, run_never_one, words_count, words_run}
+use Rattle.spill_top.proofs.CheckEnds.{check_never_one, checked_short, no_call}
+use Rattle.spill_top.proofs.CheckWords.{check_in_range}
+use Rattle.spill_top.proofs.Tops.{count_never_one, counted_short, of_each, ran_short, run_never_one, words_check, words_count, words_run}
 use Rattle.spill_top.proofs.top.spill_top.Goals as goal
 
 pub returns-in_default-clause-count : goal.returns-in_default-clause-count
@@ -17,7 +19,7 @@ returns-in_default-clause-run g c = of_each (plan_file_of (map string_bytes c.ar
 pub returns-in-Some-Count-clause-words : goal.returns-in-Some-Count-clause-words
 returns-in-Some-Count-clause-words g c =
     let is : command_of (map string_bytes c.args.words.now) ≡ Some (record { file = c.in-Some-Count.file.now; column = c.in-Some-Count.column.now }) = search rules in
-    words_count _ _ _ _ is (count_never_one c.answer_count.result c.answer_count.ensures.status)
+    words_count _ _ _ _ _ is (count_never_one c.answer_count.result c.answer_count.ensures.status)
 
 pub returns-in-Some-Count-clause-usage : goal.returns-in-Some-Count-clause-usage
 returns-in-Some-Count-clause-usage g c = λ one. absurd (count_never_one c.answer_count.result c.answer_count.ensures.status one)
@@ -45,7 +47,36 @@ returns-in-Some-Count-clause-count g c =
 pub returns-in-Some-Run-clause-words : goal.returns-in-Some-Run-clause-words
 returns-in-Some-Run-clause-words g c =
     let is : plan_file_of (map string_bytes c.args.words.now) ≡ Some c.in-Some-Run.plan.now = search rules in
-    words_run _ _ _ _ is (run_never_one _ _ _ _ _ _ _ c.run.ensures.ran)
+    words_run _ _ _ _ _ is (run_never_one _ _ _ _ _ _ _ c.run.ensures.ran)
 
 pub returns-in-Some-Run-clause-usage : goal.returns-in-Some-Run-clause-usage
 returns-in-Some-Run-clause-usage g c = λ one. absurd (run_never_one _ _ _ _ _ _ _ c.run.ensures.ran one)
+
+pub returns-in_default-clause-selfcheck : goal.returns-in_default-clause-selfcheck
+returns-in_default-clause-selfcheck g c = of_each (check_of (map string_bytes c.args.words.now)) _ (λ check. checked_short check _ _ _ (telling (g.R.Sink.contents c.args.report.now) (g.R.Sink.faults c.args.report.now)) (telling (g.R.Sink.contents c.refuse_memory.new.report) (g.R.Sink.faults c.refuse_memory.new.report)) _ c.refuse_memory.ensures.status c.refuse_memory.ensures.tells refl (no_call (seen (g.I.Inputs.bytes_at c.args.inputs.now) (g.I.Inputs.faults_at c.args.inputs.now) (g.O.Outputs.written c.args.outputs.now) (g.O.Outputs.is_created c.args.outputs.now) (g.O.Outputs.faults_at c.args.outputs.now) (tally_of g.D.Slot c.args.slots.now.items))))
+
+pub self_check-requires-clause-range : goal.self_check-requires-clause-range
+self_check-requires-clause-range g c κs within =
+    let is : check_of (map string_bytes c.args.words.now) ≡ Some c.in-Some-Check.check = search rules in
+    check_in_range (map string_bytes c.args.words.now) c.in-Some-Check.check is
+
+pub returns-in-Some-Check-clause-words : goal.returns-in-Some-Check-clause-words
+returns-in-Some-Check-clause-words g c =
+    let is : check_of (map string_bytes c.args.words.now) ≡ Some c.in-Some-Check.check = search rules in
+    let checked = c.self_check.ensures.checked (g.I.Inputs.bytes_at c.args.inputs.now) (g.I.Inputs.faults_at c.args.inputs.now) in
+    words_check _ _ _ _ _ is (check_never_one c.self_check.result checked.status_is)
+
+pub returns-in-Some-Check-clause-usage : goal.returns-in-Some-Check-clause-usage
+returns-in-Some-Check-clause-usage g c =
+    let checked = c.self_check.ensures.checked (g.I.Inputs.bytes_at c.args.inputs.now) (g.I.Inputs.faults_at c.args.inputs.now) in
+    λ one. absurd (check_never_one c.self_check.result checked.status_is one)
+
+pub returns-in-Some-Check-clause-selfcheck : goal.returns-in-Some-Check-clause-selfcheck
+returns-in-Some-Check-clause-selfcheck g c =
+    let is : check_of (map string_bytes c.args.words.now) ≡ Some c.in-Some-Check.check = search rules in
+    rw is (c.self_check.ensures.checked (g.I.Inputs.bytes_at c.args.inputs.now) (g.I.Inputs.faults_at c.args.inputs.now))
+
+pub returns-in-Some-Check-clause-outputs_never_fall : goal.returns-in-Some-Check-clause-outputs_never_fall
+returns-in-Some-Check-clause-outputs_never_fall g c =
+    let checked = c.self_check.ensures.checked (g.I.Inputs.bytes_at c.args.inputs.now) (g.I.Inputs.faults_at c.args.inputs.now) in
+    checked.went.went.writes
