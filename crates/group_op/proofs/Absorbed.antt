@@ -1,6 +1,7 @@
 -- Rows of the top partition are combined, one after the other.
 use Rattle.std.proofs.Common.{◌≡◌, ◌∙◌, ℕ, ◌+◌, ◌<◌, ◌==◌, Bool, true, false, List, [], ◌∷◌, ◌++◌, length, length-append, drop, refl, ap, ap₂, sym, subst, inl, arith, append-nil, append_assoc, ne_eqb, eq-eqb}
 use Rattle.std.specs.List.Sorted.{IsPermutation}
+use Rattle.std.specs.List.{concat}
 use Rattle.std.proofs.lemmas.Bool.{false≢true}
 use Rattle.std.proofs.lemmas.List.{map-append}
 use Rattle.std.proofs.lemmas.List.Elements.{All-append}
@@ -20,6 +21,7 @@ use Rattle.group_op.specs.Held.{State, rows_of, state, streams_of}
 use Rattle.group_op.specs.Putting.{HasGrown, HasPut}
 use Rattle.group_op.specs.Stored.{IsPartialRow, SameGroups, dealt, grouping_of, partial_at, partials_at, place_of}
 use Rattle.group_op.proofs.Same.{same_front, same_order, same_trans}
+use Rattle.group_op.proofs.Fewer.{concat_both, concat_one}
 
 -- ---- where rows are dealt
 
@@ -78,6 +80,13 @@ module _ (shape : Shape) (at level : ℕ) (d : Bool) (rows : ℕ → List (List 
             let all = length-append read.gone put.gone in
             let one = length-append some (row ∷ []) in
             omega (arith, was, less, all, one);
+        lighter =
+            let was = read.lighter in
+            let less = put.lighter in
+            let all = concat_both read.gone put.gone in
+            let both = concat_both some (row ∷ []) in
+            let one = concat_one row [] in
+            omega (arith, was, less, all, both, one);
       }
 
 module _ (shape : Shape) (t at level : ℕ) (d : Bool) (rows : ℕ → List (List ℕ)) (some rest : List (List ℕ)) (a b : State) where
@@ -97,6 +106,7 @@ module _ (shape : Shape) (t at level : ℕ) (d : Bool) (rows : ℕ → List (Lis
         same = subst (λ (rs : List (List ℕ)). SameGroups (grouping_of shape) (partials_at shape some) (partials_at shape (rs ++ read.gone))) (sym same) read.same;
         distinct = subst (λ (rs : List (List ℕ)). HaveDistinctKeys (partials_at shape rs)) (sym same) read.distinct;
         fewer = let was = read.fewer in let now = ap length same in omega (arith, was, now);
+        lighter = let was = read.lighter in let now = ap (λ (rs : List (List ℕ)). length (concat rs)) same in omega (arith, was, now);
       }
 
 -- ---- the partition is divided
@@ -117,6 +127,7 @@ module _ (shape : Shape) (t at level lent : ℕ) (rows : ℕ → List (List ℕ)
         same = read.same;
         distinct = read.distinct;
         fewer = read.fewer;
+        lighter = read.lighter;
       }
 
 -- ---- a row is taken out
@@ -140,5 +151,6 @@ module _ (shape : Shape) (t at level : ℕ) (d : Bool) (rows : ℕ → List (Lis
           same = read.same;
           distinct = read.distinct;
           fewer = read.fewer;
+          lighter = read.lighter;
         },
       )

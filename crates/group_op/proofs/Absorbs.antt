@@ -1,6 +1,7 @@
 -- The top partition is read, row after row.
 use Rattle.std.proofs.Common.{◌≡◌, ◌∙◌, ℕ, zero, suc, ◌+◌, ◌-◌, ◌<◌, ◌≤◌, Bool, true, false, if◌then◌else◌, List, [], ◌∷◌, ◌++◌, length, map, drop, Option, Some, None, IfSome, IsSome, refl, ap, sym, subst, arith, append-nil, append_assoc, leb}
 use Rattle.std.specs.Prelude.{slice_get}
+use Rattle.std.specs.List.{concat}
 use Rattle.std.proofs.lemmas.Bool.{le-leb, lt-leb}
 use Rattle.std.proofs.lemmas.List.Elements.{All-nil}
 use Rattle.std.proofs.lemmas.Option.{slice_get_within}
@@ -12,11 +13,11 @@ use Rattle.store_api.specs.declared.shapes.Shape.{Shape}
 use Rattle.tuple_stream.specs.Streamed.{Streamed}
 use Rattle.tuple_stream.specs.Streams.{HasRows}
 use Rattle.tuple_stream.specs.Families.{Family, FamilySteps, GoesAll, ShowAll}
-use Rattle.tuple_stream.specs.FamilyCalls.{SpendsIn}
+use Rattle.tuple_stream.specs.FamilyCalls.{ReadsIn, SpendsIn, shares}
 use Rattle.tuple_stream.specs.Trails.{EnteredEvents}
 use Rattle.bucket_table.specs.Tables.{Node, Table}
 use Rattle.partition_stack.specs.Changes.{ChangesAt, SpendsAt}
-use Rattle.partition_stack.specs.Stack.{Stack, over}
+use Rattle.partition_stack.specs.Stack.{IsPlaced, Stack, over}
 use Rattle.partition_stack.proofs.Making.{few_both, few_less, few_none, going_makes}
 use Rattle.group_op.specs.Finishing.{HasRead, IsBetween, IsRead, Serves, Stacked}
 use Rattle.group_rows.specs.Tables.{HaveDistinctKeys}
@@ -24,11 +25,13 @@ use Rattle.group_op.specs.Held.{AreEntries, IsHeld, State, page_len, rows_of, st
 use Rattle.group_op.specs.Making.{MakesFew, MakesLess}
 use Rattle.group_op.specs.Pinning.{HasBegun}
 use Rattle.group_op.specs.Stored.{IsPartialRow, SameGroups, grouping_of, partials_at}
+use Rattle.group_op.specs.Wanting.{ShowNoMore}
 use Rattle.group_op.proofs.Absorbed.{read_spent}
 use Rattle.group_op.proofs.Begun.{begun_more, begun_none, begun_over}
 use Rattle.group_op.proofs.Entering.{none_distinct, works_none}
 use Rattle.group_op.proofs.Same.{same_refl}
 use Rattle.group_op.proofs.Serving.{serves_of, serves_then, serves_touched}
+use Rattle.group_op.proofs.Shown.{rows_read, show_more, show_unspent}
 
 -- some rows were read, and so many are left
 pub record HasSome (shape : Shape) (at level : ℕ) (d : Bool) (left : ℕ) (rows : ℕ → List (List ℕ)) (b : State) : Type 0 where
@@ -85,6 +88,7 @@ module _ (t : ℕ) (shape : Shape) (at level left : ℕ) (a : State) (held : IsH
         same = subst (λ (rs : List (List ℕ)). SameGroups (grouping_of shape) [] (partials_at shape (rs ++ []))) (sym none) (same_refl (grouping_of shape) []);
         distinct = subst (λ (rs : List (List ℕ)). HaveDistinctKeys (partials_at shape rs)) (sym none) none_distinct;
         fewer = let long = ap length none in omega (arith, long);
+        lighter = let heavy = ap (λ (rs : List (List ℕ)). length (concat rs)) none in omega (arith, heavy);
       }
 
   count_there : (o : Option Streamed) → IfSome o (λ s. left ≡ s.count) → (rows : List (List ℕ)) → ((s : Streamed) → o ≡ Some s → HasRows rows s a.held) → IsSome o → left ≡ length rows
@@ -134,6 +138,7 @@ read_over shape at level d rows some rest table p q old new before after is read
       same = read.same;
       distinct = read.distinct;
       fewer = read.fewer;
+      lighter = read.lighter;
     }
 
 top_there : (d : Bool) (at level : ℕ) (was p : Stack) → IsRead d at level was p → IsSome (slice_get p.streams at)
@@ -271,3 +276,23 @@ module _ (t : ℕ) (shape : Shape) (at level : ℕ) (d : Bool) (left : ℕ) (a :
       let has = absorbs.rows rows stacked in
       let many = has.many in
       no_more rows has.some has.rest has.split has.read (no_length has.rest (omega (arith, many, none)))
+
+  -- ---- no more rows stand there
+
+  -- a row could not be taken out
+  pub stand_unspent : ReadsIn t (over p old before) (over q new after) → level < 16 → IsPlaced at level → (rows : ℕ → List (List ℕ)) → Stacked shape rows a → ShowNoMore (shares (at + 1) rows) (state table q new after)
+  stand_unspent reads deep placed rows stacked =
+      let has = absorbs.rows rows stacked in
+      show_unspent shape t at level d rows has.some has.rest table p q old new before after a.parts has.read absorbs.place deep placed (absorbs.serves.leaves.others.told ∙ stacked.told) has.split reads
+
+  -- one was taken out, and refused
+  pub stand_refused : (row : List ℕ) → SpendsIn t at row (over p old before) (over q new after) → (b : State)
+      → ((rows : ℕ → List (List ℕ)) (some rest : List (List ℕ)) → new.told ≡ true → HasRead shape at level d rows some rest (state table q new after) → ShowNoMore (shares at rows ++ (some ++ rest)) b)
+      → (rows : ℕ → List (List ℕ)) → Stacked shape rows a → ShowNoMore (shares (at + 1) rows) b
+  stand_refused row spends b stand rows stacked =
+      let has = absorbs.rows rows stacked in
+      let told : old.told ≡ true = absorbs.serves.leaves.others.told ∙ stacked.told in
+      let spent = read_spent shape t at level d rows has.some has.rest row table p q old new before after has.read told spends in
+      show_more (shares at rows ++ (has.some ++ drop 1 has.rest)) (shares (at + 1) rows) b
+      (rows_read at rows has.some (drop 1 has.rest) (row ∷ []) (has.split ∙ ap (λ (ys : List (List ℕ)). has.some ++ ys) spent.0))
+      (stand rows has.some (drop 1 has.rest) (spends.steps.touches.told ∙ told) spent.1)

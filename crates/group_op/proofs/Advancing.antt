@@ -9,15 +9,18 @@ use Rattle.store_api.specs.Signs.{Grows, Signs}
 use Rattle.store_api.specs.declared.op_err.OpErr.{OpErr}
 use Rattle.store_api.specs.declared.shapes.Shape.{Shape}
 use Rattle.tuple_stream.specs.Families.{ShowAll}
+use Rattle.tuple_stream.specs.FamilyCalls.{shares}
 use Rattle.group_rows.specs.Partials.{Partial, combined_of}
 use Rattle.group_op.specs.Emission.{Emitted, EmittedFront}
 use Rattle.group_op.specs.Finishing.{Advances, HasDivided, HasPopped, Stacked, said_down}
 use Rattle.group_op.specs.Held.{State, streams_of}
 use Rattle.group_op.specs.Stored.{grouping_of, partials_at}
+use Rattle.group_op.specs.Wanting.{AreNoMore}
 use Rattle.partition_stack.specs.Making.{MakesBeside, owed}
 use Rattle.partition_stack.proofs.Emitters.{came_behind}
 use Rattle.partition_stack.proofs.Making.{counts_both, counts_less, counts_none}
 use Rattle.group_op.proofs.Emitting.{emitted_behind, front_behind}
+use Rattle.group_op.proofs.Fewer.{no_more_last, no_more_same, no_more_then}
 
 -- nothing was handed on in between
 pub emitted_same : (shape : Shape) (was now : List (List Value) → Type 0) → ((rows : List (List Value)) → was rows → now rows) → Emitted shape was now []
@@ -59,6 +62,7 @@ module _ (shape : Shape) (at : ℕ) (rows : ℕ → List (List ℕ)) (a b : Stat
           most = n;
           deeper = let now = ap (λ (ls : List ℕ). owed ls rows) popped.levels in omega (arith, now, few);
           made = made;
+          no_more = no_more_last (length b.parts.streams) (length a.parts.streams) at rows popped.many top;
         }
 
     pub front_popped : EmittedFront shape mid now (combined_of (grouping_of shape) (partials_at shape (rows at))) → EmittedFront shape was now (said_down shape (length a.parts.streams) rows)
@@ -76,6 +80,7 @@ module _ (shape : Shape) (at : ℕ) (rows : ℕ → List (List ℕ)) (a b : Stat
         most = length (rows at);
         deeper = divided.deeper;
         made = made;
+        no_more = subst (λ (n : ℕ). AreNoMore (shares (length b.parts.streams) divided.left) (shares n rows)) (sym top) divided.no_more;
       }
 
 -- ---- one step after another
@@ -92,6 +97,7 @@ module _ {m0 m1 : ℕ} (shape : Shape) (was mid now : List (List Value) → Type
         most = first.most + second.most;
         deeper = let one = first.deeper in let two = second.deeper in omega (arith, one, two);
         made = counts_both first.most second.most (first.most + second.most) m0 m1 m2 a.signs b.signs c.signs (omega arith) first.made second.made;
+        no_more = no_more_then (shares (length c.parts.streams) second.left) (shares (length b.parts.streams) first.left) (shares (length a.parts.streams) rows) second.no_more first.no_more;
       }
 
   pub advances_front : EmittedFront shape mid now (said_down shape (length b.parts.streams) first.left) → EmittedFront shape was now (said_down shape (length a.parts.streams) rows)
@@ -113,7 +119,7 @@ module _ {m0 m1 : ℕ} (shape : Shape) (was mid now : List (List Value) → Type
 
 pub advances_none : {m : ℕ} (shape : Shape) (was : List (List Value) → Type 0) (rows : ℕ → List (List ℕ)) (a : State) → Stacked shape rows a → Advances shape was was m m rows a a
 advances_none {m} shape was rows a stacked =
-    record { left = rows; stacked = stacked; done = []; split = refl; emitted = emitted_same shape was was (λ taken took. took); most = 0; deeper = omega arith; made = counts_none m a.signs }
+    record { left = rows; stacked = stacked; done = []; split = refl; emitted = emitted_same shape was was (λ taken took. took); most = 0; deeper = omega arith; made = counts_none m a.signs; no_more = no_more_same (shares (length a.parts.streams) rows) }
 
 -- ---- what both of two clauses say
 

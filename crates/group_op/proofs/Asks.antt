@@ -128,6 +128,7 @@ asks_own op old new before after own is =
             distinct = holds.distinct;
             fresh = holds.fresh;
             few = holds.few;
+            light = holds.light;
             small = λ low. holds.small (let long = ap (λ (n : ℕ). 2 * n) (pages_long op.client.tracker old new same own.block_len op.parts.page_blocks) in omega (arith, low, long));
             at_end = holds.at_end;
             whole = holds.whole;

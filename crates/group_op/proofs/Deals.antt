@@ -80,7 +80,7 @@ deals_fed t fed f g feeds =
       laid = λ start ends was. since_joined (HaveLaid f) (LaysAll (AllAtEnd f) ⊥ f g) (HaveLaid g) start f.signs.trail g.signs.trail (laid_on f g ends) was feeds.steps.trail;
     }
 
-sure_dealt : (fed : ℕ → List (List ℕ)) (f g : Family) → Deals fed f g → AreSure f → AreSure g
+pub sure_dealt : (fed : ℕ → List (List ℕ)) (f g : Family) → Deals fed f g → AreSure f → AreSure g
 sure_dealt fed f g deals sure = elim sure [ inl tells ↦ inl (deals.told ∙ tells) | inr all ↦ inr (deals.at_end all) ]
 
 -- one lot after the other

@@ -1,6 +1,7 @@
 -- The top partition was divided: its rows, and those of the table, are in the sixteen above it.
 use Rattle.std.proofs.Common.{◌≡◌, ◌∙◌, inl, inr, ℕ, ◌+◌, ◌-◌, ◌<◌, ◌≤◌, ◌==◌, true, List, [], ◌∷◌, ◌++◌, cond, Bool, length, replicate, reverse, set, Some, refl, ap, ap₂, sym, subst, arith, append-nil, length-append, ne_eqb}
 use Rattle.std.specs.Prelude.{All, map, slice_get}
+use Rattle.std.specs.List.{concat}
 use Rattle.std.proofs.lemmas.Bool.{cases_eq}
 use Rattle.std.proofs.lemmas.List.{length-replicate, length-reverse, length-set}
 use Rattle.std.proofs.lemmas.List.Elements.{All-append, All-cons, All-head, All-nil, All-tail, filter-append}
@@ -22,9 +23,11 @@ use Rattle.group_op.specs.Finishing.{HasDivided, HasRead, IsPart, IsRead, Serves
 use Rattle.group_op.specs.Held.{AreEntries, IsEntry, State, rows_of, state, streams_of}
 use Rattle.group_op.specs.Putting.{HasFlushed, Works}
 use Rattle.group_op.specs.Stored.{IsPartialRow, SameGroups, dealt, grouping_of, partials_at, place_of}
+use Rattle.group_op.specs.Wanting.{AreNoMore}
 use Rattle.group_op.proofs.Chained.{leaves_then}
 use Rattle.group_op.proofs.Same.{same_order, same_trans}
 use Rattle.group_op.proofs.Sixteen.{down_divided, part_none, parts_above}
+use Rattle.group_op.proofs.Fewer.{concat_both, concat_moved, no_more_read, shares_last}
 
 pub serves_works : (t : ℕ) (shape : Shape) (a b c : State) → Serves t shape a b → Works t shape b c → Serves t shape a c
 serves_works t shape a b c serves works =
@@ -135,6 +138,26 @@ module _ (t : ℕ) (shape : Shape) (at level len : ℕ) (rows : ℕ → List (Li
       let fewer = read.fewer in
       omega (arith, are, some, both, back, fewer)
 
+  no_more_left : AreNoMore (shares (length q.streams) left) (shares (at + 1) rows)
+  no_more_left =
+      let stand : AreNoMore (shares (length q.streams) left) (shares at rows ++ ([] ++ gone)) = no_more_read shape level at (length q.streams) 16 rows left [] gone (omega (arith, many)) left_below left_here left_above in
+      let few = stand.fewer in
+      let light = stand.lighter in
+      let less = read.fewer in
+      let lighter = read.lighter in
+      let back = length-reverse (rows_of b.table) in
+      let turned = concat_moved (rows_of b.table) (reverse (rows_of b.table)) (IsPermutation-reverse (rows_of b.table)) in
+      let last = shares_last at rows in
+      let a0 = ap length last in
+      let a1 = length-append (shares at rows) (rows at) in
+      let a2 = length-append (shares at rows) gone in
+      let a3 = length-append read.gone (reverse (rows_of b.table)) in
+      let b0 = ap (λ (rs : List (List ℕ)). length (concat rs)) last in
+      let b1 = concat_both (shares at rows) (rows at) in
+      let b2 = concat_both (shares at rows) gone in
+      let b3 = concat_both read.gone (reverse (rows_of b.table)) in
+      record { fewer = omega (arith, few, less, back, a0, a1, a2, a3); lighter = omega (arith, light, lighter, turned, b0, b1, b2, b3) }
+
   pub has_divided : HasDivided shape at rows a.parts (state table q k r)
   has_divided =
       record {
@@ -151,4 +174,5 @@ module _ (t : ℕ) (shape : Shape) (at level len : ℕ) (rows : ℕ → List (Li
             sym (ap (λ (x : ℕ). said_down shape x left) many
             ∙ down_divided shape at level rows left gone left_below left_here left_above same part_here deep);
         deeper = owed_divided a.parts.levels q.levels at level rows left there levels_long deep levels_now left_below left_here few_above;
+        no_more = no_more_left;
       }

@@ -1,7 +1,7 @@
 -- A partial row is in the table, one way or another.
 use Rattle.std.proofs.Common.{◌≡◌, ◌≢◌, ◌∙◌, ℕ, ◌+◌, ◌*◌, ◌%◌, ◌≤◌, zero, suc, Bool, true, false, List, [], ◌∷◌, ◌++◌, length, map, set, reverse, Some, Result, Ok, Err, OnOk, IfErr, option_map, refl, ap, sym, subst, arith, append-nil, inl, inr}
 use Rattle.std.specs.Prelude.{All, slice_get}
-use Rattle.std.specs.List.{AllByRecursion, IsDistinct}
+use Rattle.std.specs.List.{AllByRecursion, IsDistinct, concat}
 use Rattle.std.proofs.lemmas.Map.Keys.{IsDistinct-cons}
 use Rattle.std.specs.Str.{bytes_eq}
 use Rattle.std.proofs.lemmas.List.{length-set, map-set, length-reverse}
@@ -38,6 +38,7 @@ use Rattle.group_op.proofs.Paging.{few_same, made_none}
 use Rattle.group_op.proofs.RowForms.{partial_is_framed}
 use Rattle.group_op.proofs.Rewriting.{NodeAt, rewritten_at, with_own}
 use Rattle.group_op.proofs.Same.{same_back, same_into, same_order, same_refl}
+use Rattle.group_op.proofs.Fewer.{concat_moved, concat_one, concat_set}
 
 -- what follows of an answer
 pub so_ok : (P Q : Type 0) (result : Result Unit PoolErr) → (P → Q) → OnOk result P → OnOk result Q
@@ -144,6 +145,10 @@ module _ (back : RowBack) (shape : Shape) (len node : ℕ) (table : Table) (row 
       ∙ ap (option_map (partial_at shape)) (slice_get-map (λ (n : Node). n.row) table.nodes entry.0.index ∙ ap (option_map (λ (n : Node). n.row)) entry.0.there)
       ∙ ap (λ (r : List ℕ). Some (partial_at shape r)) (sym entry.0.row)
 
+  row_there : slice_get (rows_of table) entry.0.index ≡ Some (row_of node table.nodes)
+  row_there =
+      slice_get-map (λ (n : Node). n.row) table.nodes entry.0.index ∙ ap (option_map (λ (n : Node). n.row)) entry.0.there ∙ ap (λ (r : List ℕ). Some r) (sym entry.0.row)
+
   pub here_found : (t : ℕ) (parts : Stack) (h : Holdings) (signs : Signs) → AreShaped t (over parts h signs) → HasPutHere shape row (state table parts h signs) (state (with_nodes (with_row node (joined shape (row_of node table.nodes) row) table.nodes) table) parts h signs)
   here_found t parts h signs shaped =
       record {
@@ -154,6 +159,10 @@ module _ (back : RowBack) (shape : Shape) (len node : ℕ) (table : Table) (row 
         distinct = λ apart. subst HaveDistinctKeys (sym partials_are)
             ((into_entry path_order path_is_order (grouping_of shape) (partials_at shape (rows_of table)) [] entry.0.index (partial_at shape (row_of node table.nodes)) (partial_at shape row) there key).distinct apart);
         fewer = let rows = ap length rows_are in let long = length-set (rows_of table) entry.0.index (joined shape (row_of node table.nodes) row) in omega (arith, rows, long);
+        lighter =
+            let rows = ap (λ (rs : List (List ℕ)). length (concat rs)) rows_are in
+            let same = concat_set (rows_of table) entry.0.index (row_of node table.nodes) (joined shape (row_of node table.nodes) row) row_there are.long in
+            omega (arith, rows, same);
       }
 
 -- ---- a new one
@@ -207,6 +216,7 @@ here_new shape hash row a table parts h signs rows deals lacks =
           subst (λ (rs : List (List ℕ)). HaveDistinctKeys (partials_at shape (row ∷ rs))) (sym rows)
           (IsDistinct-cons bytes_eq (key_of (partial_at shape row)) (map key_of (partials_at shape (rows_of a.table))) (one_apart shape row a.table.nodes lacks) apart);
       fewer = let long = ap length rows in omega (arith, long);
+      lighter = let heavy = ap (λ (rs : List (List ℕ)). length (concat rs)) rows in let one = concat_one row (rows_of table) in omega (arith, heavy, one);
     }
 
 -- no row went to partitions
@@ -220,6 +230,7 @@ put_of_here shape level base row a b here =
           subst (λ (rs : List (List ℕ)). SameGroups (grouping_of shape) (partials_at shape (row ∷ rows_of a.table)) (partials_at shape rs)) (sym (append-nil (rows_of b.table))) here.same;
       distinct = here.distinct;
       fewer = let fewer = here.fewer in omega (arith, fewer);
+      lighter = let lighter = here.lighter in omega (arith, lighter);
       full = inl refl;
     }
 
@@ -236,6 +247,7 @@ pub record HasMoved (shape : Shape) (level base : ℕ) (a b : State) : Type 0 wh
   pub distinct : HaveDistinctKeys (partials_at shape (rows_of a.table)) → HaveDistinctKeys (partials_at shape (rows_of b.table))
   pub lacks : (key : List ℕ) → Lacks shape key a.table → Lacks shape key b.table
   pub fewer : length (rows_of b.table) + length gone ≤ length (rows_of a.table)
+  pub lighter : length (concat (rows_of b.table)) + length (concat gone) ≤ length (concat (rows_of a.table))
 
 -- they all went
 pub flushed_moved : (t : ℕ) (shape : Shape) (level base : ℕ) (a b : State) → All (IsPartialRow shape) (rows_of a.table) → HasFlushed t shape level base a b → HasMoved shape level base a b
@@ -253,6 +265,10 @@ flushed_moved t shape level base a b formed flushed =
       distinct = λ apart. subst (λ (rs : List (List ℕ)). HaveDistinctKeys (partials_at shape rs)) (sym rows) none_distinct;
       lacks = λ key lacks. subst (All (λ (n : Node). key_at shape n.row ≢ key)) (sym none) (All-nil (λ n. key_at shape n.row ≢ key));
       fewer = let one = ap length rows in let long = length-reverse (rows_of a.table) in omega (arith, one, long);
+      lighter =
+          let none : length (concat (rows_of b.table)) ≡ 0 = ap (λ (rs : List (List ℕ)). length (concat rs)) rows in
+          let back = concat_moved (rows_of a.table) (reverse (rows_of a.table)) (IsPermutation-reverse (rows_of a.table)) in
+          omega (arith, none, back);
     }
 
 -- one move after a growth
@@ -266,6 +282,7 @@ moved_then t shape level base a b c rows deals moved =
       distinct = subst (λ (rs : List (List ℕ)). HaveDistinctKeys (partials_at shape rs) → HaveDistinctKeys (partials_at shape (rows_of c.table))) rows moved.distinct;
       lacks = λ key lacks. moved.lacks key (lacks_same shape key a.table b.table rows lacks);
       fewer = let long = ap length rows in let fewer = moved.fewer in omega (arith, long, fewer);
+      lighter = let heavy = ap (λ (rs : List (List ℕ)). length (concat rs)) rows in let lighter = moved.lighter in omega (arith, heavy, lighter);
     }
 
 -- and a new entry
@@ -279,6 +296,7 @@ put_moved shape level base hash row a table parts h signs lacks full moved =
       same = same_back (grouping_of shape) (partial_at shape row ∷ []) (partials_at shape (rows_of a.table)) (partials_at shape (rows_of table ++ moved.gone)) moved.same;
       distinct = λ apart. IsDistinct-cons bytes_eq (key_of (partial_at shape row)) (map key_of (partials_at shape (rows_of table))) (one_apart shape row table.nodes (moved.lacks (key_at shape row) lacks)) (moved.distinct apart);
       fewer = let fewer = moved.fewer in omega (arith, fewer);
+      lighter = let lighter = moved.lighter in let one = concat_one row (rows_of table) in omega (arith, lighter, one);
       full = inr full;
     }
 

@@ -1,7 +1,8 @@
 -- What a grouping keeps of the rows that were fed, over one more of them.
-use Rattle.std.proofs.Common.{◌≡◌, ◌∙◌, ℕ, ◌*◌, ◌≤◌, ◌==◌, List, [], ◌∷◌, ◌++◌, length, Bool, true, false, Option, Some, Result, Ok, Err, OnOk, refl, ap, sym, subst, inl, inr, arith, length-append}
+use Rattle.std.proofs.Common.{◌≡◌, ◌∙◌, ℕ, ◌+◌, ◌*◌, ◌≤◌, ◌==◌, List, [], ◌∷◌, ◌++◌, length, Bool, true, false, Option, Some, Result, Ok, Err, OnOk, refl, ap, sym, subst, inl, inr, arith, length-append}
 use Rattle.std.specs.Prelude.{All}
 use Rattle.std.specs.List.Sorted.{IsPermutation}
+use Rattle.std.specs.List.{concat}
 use Rattle.std.proofs.lemmas.List.Elements.{All-append, All-cons, All-filter, All-nil}
 use Rattle.std.proofs.lemmas.Bool.{eqb-true}
 use Rattle.std.proofs.lemmas.Option.{none-some}
@@ -10,9 +11,11 @@ use Rattle.reservation_tree.specs.declared.errors.PoolErr.{PoolErr}
 use Rattle.pool_model.specs.declared.entry.Entry.{Entry}
 use Rattle.row_codec.specs.declared.values.Value.{Value}
 use Rattle.row_codec.specs.Row.{IsValue}
+use Rattle.row_codec.specs.RowBytes.{row_bytes}
 use Rattle.store_api.specs.Conditions.{IsBlockCount}
 use Rattle.store_api.specs.Shapes.{IsShape}
 use Rattle.std.proofs.lemmas.List.{nil_from_length}
+use Rattle.std.proofs.lemmas.List.Sums.{sum_by-append, sum_by-cons}
 use Rattle.group_rows.specs.Tables.{HaveDistinctKeys}
 use Rattle.store_api.specs.Holdings.{Holdings, account_of, length_of}
 use Rattle.store_api.specs.Signs.{Signs}
@@ -24,7 +27,7 @@ use Rattle.bucket_table.specs.Tables.{Table}
 use Rattle.partition_stack.specs.Stack.{Stack, over}
 use Rattle.group_op.specs.Held.{rows_of, state}
 use Rattle.group_op.specs.Feeding.{HasOpened, Spells}
-use Rattle.group_op.specs.Operator.{Holds, IsOperator, Keeps, entries_in, operator}
+use Rattle.group_op.specs.Operator.{Holds, IsOperator, Keeps, bytes_for, entries_in, operator}
 use Rattle.group_op.specs.Putting.{Deals, HasPut, IsTooLong, Works}
 use Rattle.group_op.specs.Stored.{IsPartialRow, SameGroups, dealt, grouping_of, keys_len, partials_at, place_of}
 use Rattle.group_op.proofs.Deals.{deals_as, deals_then}
@@ -32,6 +35,7 @@ use Rattle.group_op.proofs.Dividing.{more_shares}
 use Rattle.group_op.proofs.Entering.{rows_formed}
 use Rattle.group_op.proofs.Fed.{fed_stands}
 use Rattle.group_op.proofs.Weighing.{fed_long, keys_len_more}
+use Rattle.group_op.proofs.Fewer.{concat_both, concat_moved}
 
 go : (shape : Shape) (i : ℕ) (r : List ℕ) (rows : List (List ℕ)) (b : Bool) → (place_of shape 0 0 r == i) ≡ b → All (λ x. place_of shape 0 0 x ≡ i) (dealt shape 0 0 rows i) → All (λ x. place_of shape 0 0 x ≡ i) (dealt shape 0 0 (r ∷ rows) i)
 go shape i r rows true is rest = rw is (All-cons (λ x. place_of shape 0 0 x ≡ i) r (dealt shape 0 0 rows i) (eqb-true (place_of shape 0 0 r) i is) rest)
@@ -100,6 +104,16 @@ module _ (c : ClientToken) (shape : Shape) (fed : List (List Value)) (row : List
             let both = length-append (shares 16 holds.rows) put.gone in
             let all = length-append fed (row ∷ []) in
             omega (arith, long, few, fewer, shares_long, both, all);
+        light =
+            let heavy = ap (λ (rs : List (List ℕ)). length (concat rs)) opened.rows in
+            let light = holds.light in
+            let lighter = put.lighter in
+            let shares_heavy = concat_moved (shares 16 rows_now) (shares 16 holds.rows ++ put.gone) moved in
+            let both = concat_both (shares 16 holds.rows) put.gone in
+            let own = spells.light in
+            let all : bytes_for shape (fed ++ row ∷ []) ≡ bytes_for shape fed + bytes_for shape (row ∷ []) = sum_by-append (λ (r : List Value). length (row_bytes r) + 16 * length shape.aggs) fed (row ∷ []) in
+            let one : bytes_for shape (row ∷ []) ≡ length (row_bytes row) + 16 * length shape.aggs + 0 = sum_by-cons (λ (r : List Value). length (row_bytes r) + 16 * length shape.aggs) row [] in
+            omega (arith, heavy, light, lighter, shares_heavy, both, own, all, one);
         small = none_shared;
         at_end = deals.at_end holds.at_end;
         whole = deals.whole holds.whole;

@@ -21,6 +21,9 @@ pub mod Joins
 pub mod Finding
 pub mod Entering
 pub mod Dividing
+pub mod Fewer
+pub mod Wants
+pub mod Shown
 pub mod Fed
 pub mod KeyReading
 pub mod Chained

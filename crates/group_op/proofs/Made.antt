@@ -109,7 +109,7 @@ page_slots s h (p ∷ pages) =
     let more : suc (length pages) * s.page_blocks ≡ s.page_blocks + length pages * s.page_blocks = omega arith in
     omega (arith, rest, one, sum, more)
 
-stream_slots : (blocks : ℕ) (streams : List Streamed) (h : Holdings) → ((i : ℕ) (s : Streamed) → slice_get streams i ≡ Some s → s.page_blocks ≡ blocks) → sum_by (λ s. sum_by (slots_of s h) s.pages) streams ≤ sum_by (λ s. length s.pages) streams * blocks
+pub stream_slots : (blocks : ℕ) (streams : List Streamed) (h : Holdings) → ((i : ℕ) (s : Streamed) → slice_get streams i ≡ Some s → s.page_blocks ≡ blocks) → sum_by (λ s. sum_by (slots_of s h) s.pages) streams ≤ sum_by (λ s. length s.pages) streams * blocks
 stream_slots blocks [] h sized = omega arith
 stream_slots blocks (s ∷ streams) h sized =
     let rest = stream_slots blocks streams h (λ i r at. sized (suc i) r at) in

@@ -104,7 +104,7 @@ few_fed t shape level base xs a b less feeds = λ rows ends shows.
     let few = few_dealt shape level base (length a.parts.streams) xs rows (streams_of b) feeds.steps.long (feeds.rows rows (inr ends) shows) in
     omega (arith, few, less)
 
-same_rows : (i : ℕ) (rows : ℕ → List (List ℕ)) (j : ℕ) → with_rows i (rows i ++ []) rows j ≡ rows j
+pub same_rows : (i : ℕ) (rows : ℕ → List (List ℕ)) (j : ℕ) → with_rows i (rows i ++ []) rows j ≡ rows j
 same_rows i rows j =
     elim (cases_eq j i) [
       | inl same ↦ rw (eq-eqb j i same) (append-nil (rows i) ∙ ap rows (sym same))

@@ -1,5 +1,5 @@
 -- Steps that serve a grouping, one after the other, and the division of its top partition.
-use Rattle.std.proofs.Common.{◌≡◌, ◌∙◌, ℕ, ◌+◌, ◌-◌, ◌<◌, false, List, length, replicate, option_map, Result, Ok, Err, OnOk, refl, ap, sym, subst, inl, inr, arith, length-append}
+use Rattle.std.proofs.Common.{◌≡◌, ◌∙◌, ℕ, ◌+◌, ◌-◌, ◌<◌, true, false, List, length, replicate, option_map, Result, Ok, Err, OnErr, OnOk, refl, ap, sym, subst, inl, inr, arith, length-append}
 use Rattle.std.proofs.lemmas.List.{length-replicate}
 use Rattle.std.specs.Result.{is_err}
 use Rattle.std.proofs.lemmas.Bool.{false≢true}
@@ -98,3 +98,7 @@ module _ (t : ℕ) (shape : Shape) (at level : ℕ) (table : Table) (p : Stack) 
 pub unless_err : {P : Type 0} {X E : Type 0} (result : Result X E) → is_err result ≡ false → OnOk result P → P
 unless_err (Ok x) well p = p
 unless_err (Err e) well p = absurd (false≢true (sym well))
+
+pub where_err : {P : Type 0} {X E : Type 0} (result : Result X E) → is_err result ≡ true → OnErr result P → P
+where_err (Ok x) ill p = absurd (false≢true ill)
+where_err (Err e) ill p = p

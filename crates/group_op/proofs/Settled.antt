@@ -4,7 +4,7 @@ use Rattle.std.specs.Prelude.{All, slice_get}
 use Rattle.std.specs.List.Sorted.{IsPermutation}
 use Rattle.std.proofs.lemmas.List.{length-append, length-replicate, length-reverse, map-append}
 use Rattle.std.proofs.lemmas.List.Elements.{All-append, All-filter}
-use Rattle.std.proofs.lemmas.List.Sorted.{IsPermutation-append_comm, IsPermutation-append_left, IsPermutation-map, IsPermutation-reverse, IsPermutation-trans, length_permutation}
+use Rattle.std.proofs.lemmas.List.Sorted.{IsPermutation-append_comm, IsPermutation-append_left, IsPermutation-map, IsPermutation-reverse, IsPermutation-sym, IsPermutation-trans, length_permutation}
 use Rattle.std.proofs.lemmas.Option.{slice_get_within}
 use Rattle.reservation_tree.specs.declared.errors.PoolErr.{PoolErr}
 use Rattle.row_codec.specs.Order.{path_order}
@@ -25,10 +25,12 @@ use Rattle.group_op.specs.Finishing.{IsPart, Serves, said_down}
 use Rattle.group_op.specs.Held.{AreEntries, State, rows_of, state}
 use Rattle.group_op.specs.Putting.{HasFlushed, Works}
 use Rattle.group_op.specs.Stored.{IsPartialRow, dealt, grouping_of, partial_at, partials_at, place_of}
+use Rattle.group_op.specs.Wanting.{AreNoMore}
 use Rattle.group_op.proofs.Divided.{formed_back}
 use Rattle.group_op.proofs.Dividing.{more_shares}
 use Rattle.group_op.proofs.Kept.{placed_there}
 use Rattle.group_op.proofs.Sixteen.{down_first, parts_first}
+use Rattle.group_op.proofs.Fewer.{no_more_moved}
 
 -- the same rows in another order have the same groups
 pub same_groups_of : (shape : Shape) (xs ys : List (List ℕ)) → IsPermutation xs ys → combined_of (grouping_of shape) (partials_at shape xs) ≡ combined_of (grouping_of shape) (partials_at shape ys)
@@ -83,6 +85,12 @@ module _ (t : ℕ) (shape : Shape) (len : ℕ) (rows : ℕ → List (List ℕ)) 
             let both = length-append (shares 16 rows) gone in
             let back = length-reverse (rows_of a.table) in
             omega (arith, owes, moved, both, back);
+        no_more =
+            subst (λ (m : ℕ). AreNoMore (shares m left) (rows_of a.table ++ shares 16 rows)) (sym many)
+            (no_more_moved (shares 16 left) (rows_of a.table ++ shares 16 rows)
+            (IsPermutation-trans (shares 16 left) (shares 16 rows ++ gone) (rows_of a.table ++ shares 16 rows) (more_shares shape 0 rows gone)
+            (IsPermutation-trans (shares 16 rows ++ gone) (gone ++ shares 16 rows) (rows_of a.table ++ shares 16 rows) (IsPermutation-append_comm (shares 16 rows) gone)
+            (IsPermutation-append_left (shares 16 rows) gone (rows_of a.table) (IsPermutation-sym (rows_of a.table) gone (IsPermutation-reverse (rows_of a.table)))))));
       }
 
 pub answered_later : {X : Type 0} (r : Result X PoolErr) (s0 s1 s2 : Signs) → Grows s0 s1 → IfErr r (λ e. WasAnswered e s1 s2) → IfErr r (λ e. WasAnswered e s0 s2)

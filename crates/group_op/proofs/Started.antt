@@ -39,6 +39,7 @@ all_start c blocks shape h signs is sized may =
           stand = (keeps_standing path_order path_is_order (grouping_of shape)).none;
           distinct = none_distinct;
           few = omega arith;
+          light = omega arith;
           small = λ low. refl;
           at_end = λ i s there. empty_at_end blocks s (each_empty blocks i s there);
           whole = λ i s there. ap (λ (r : Streamed). r.spent) (each_empty blocks i s there);

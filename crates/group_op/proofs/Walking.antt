@@ -1,14 +1,14 @@
 -- The rows of a table go to partitions one after the other, the oldest first.
-use Rattle.std.proofs.Common.{◌≡◌, ◌∙◌, ℕ, ◌+◌, ◌<◌, ◌≤◌, List, [], ◌∷◌, ◌++◌, length, map, reverse, Option, Some, None, IsSome, refl, ap, sym, subst, arith, append_assoc, append-nil, length-append}
+use Rattle.std.proofs.Common.{◌≡◌, ◌∙◌, inl, inr, ℕ, ◌+◌, ◌<◌, ◌≤◌, List, [], ◌∷◌, ◌++◌, length, map, reverse, Option, Some, None, IsSome, refl, ap, sym, subst, arith, append_assoc, append-nil, length-append}
 use Rattle.std.specs.Prelude.{All}
 use Rattle.std.specs.List.{slice_get}
-use Rattle.std.proofs.lemmas.List.{length-map, length-reverse, reverse-append}
+use Rattle.std.proofs.lemmas.List.{length-map, length-reverse, map-append, reverse-append}
 use Rattle.store_api.specs.Holdings.{Holdings}
 use Rattle.store_api.specs.Signs.{Signs}
 use Rattle.store_api.specs.declared.shapes.Shape.{Shape}
-use Rattle.tuple_stream.specs.Families.{AreShaped, Family, pages_in}
-use Rattle.tuple_stream.specs.FamilyCalls.{AllAtEnd, Feeds, FeedsAll}
-use Rattle.tuple_stream.proofs.FamilyWords.{feeds_more, feeds_none}
+use Rattle.tuple_stream.specs.Families.{AreShaped, Family, ShowAll, pages_in}
+use Rattle.tuple_stream.specs.FamilyCalls.{AllAtEnd, AreSure, Feeds, FeedsAll, shares, with_rows}
+use Rattle.tuple_stream.proofs.FamilyWords.{feeds_more, feeds_none, shown_as}
 use Rattle.tuple_stream.proofs.Chosen.{at_place}
 use Rattle.bucket_table.specs.Tables.{HasNode, Node, Table, from_node, newer_than, oldest, row_of}
 use Rattle.partition_stack.specs.Stack.{Stack, over}
@@ -16,9 +16,11 @@ use Rattle.partition_stack.specs.Changes.{ChangesAt}
 use Rattle.group_op.specs.Held.{StandBehind, state}
 use Rattle.group_op.specs.Putting.{HasFew, IsFan}
 use Rattle.group_op.specs.Stored.{dealt, place_of}
+use Rattle.group_op.specs.Wanting.{AreNoMore, ShowNoMore, StandNoMore, rows_with}
 use Rattle.group_op.proofs.Dealing.{dealt_more}
 use Rattle.group_op.proofs.NodeLists.{Ends, ends, from_there, left_from, nearer, newer_there, none_left, row_there}
-use Rattle.group_op.proofs.Paging.{few_fed, few_refused}
+use Rattle.group_op.proofs.Paging.{few_fed, few_refused, same_rows}
+use Rattle.group_op.proofs.Fewer.{no_more_all, no_more_back, no_more_behind, no_more_shares, no_more_swapped, no_more_then}
 
 -- the rows of some nodes, the oldest first
 abbrev pub rows_in : List Node → List (List ℕ)
@@ -159,3 +161,52 @@ walked_all t shape level base from nodes next f p q h signs walked end =
     let none : walked.newer ≡ [] = none_left walked.newer (sym walked.next_is ∙ end) in
     let all : walked.older ≡ nodes = sym (walked.split ∙ ap (λ (ms : List Node). ms ++ walked.older) none) in
     subst (λ (ms : List Node). FeedsAll t (dealt shape level base (rows_in ms)) f (over q h signs)) all walked.feeds
+
+-- ---- and no more stand there
+
+-- the older nodes' rows are no more than those of all
+walked_no_more : (t : ℕ) (shape : Shape) (level base from : ℕ) (nodes : List Node) (next : Option ℕ) (f : Family) (p q : Stack) (h : Holdings) (signs : Signs) → (walked : HasWalked t shape level base from nodes next f p q h signs) → AreNoMore (rows_in walked.older) (map (λ n. n.row) nodes)
+walked_no_more t shape level base from nodes next f p q h signs walked =
+    let older : List (List ℕ) = map (λ (n : Node). n.row) walked.older in
+    let newer : List (List ℕ) = map (λ (n : Node). n.row) walked.newer in
+    no_more_then (rows_in walked.older) older (map (λ (n : Node). n.row) nodes) (no_more_back older)
+    (subst (AreNoMore older) (sym (map-append (λ (n : Node). n.row) walked.newer walked.older) ∙ ap (map (λ (n : Node). n.row)) (sym walked.split)) (no_more_behind newer older))
+
+shown_no_more : (t : ℕ) (shape : Shape) (level base from : ℕ) (next : Option ℕ) (table : Table) (p q : Stack) (h k : Holdings) (s r : Signs) (walked : HasWalked t shape level base from table.nodes next (over p h s) p q k r)
+    → (now : Stack) (j : Holdings) (u : Signs) → length now.streams ≡ length q.streams → (rows : ℕ → List (List ℕ)) → ShowAll (λ i. rows i ++ dealt shape level base (rows_in walked.older) i) (over now j u) → ShowNoMore (rows_with (state table p h s) rows) (state table now j u)
+shown_no_more t shape level base from next table p q h k s r walked now j u long rows shows =
+    record {
+      many = let sixteen = walked.fan.sixteen in let low = walked.fan.low in omega (arith, long, sixteen, low);
+      rows = λ i. rows i ++ dealt shape level base (rows_in walked.older) i;
+      shows = shows;
+      no_more =
+          let n : ℕ = length p.streams in
+          let same : length now.streams ≡ length p.streams = long ∙ walked.feeds.steps.long in
+          subst (λ (m : ℕ). AreNoMore (shares m (λ i. rows i ++ dealt shape level base (rows_in walked.older) i)) (rows_with (state table p h s) rows)) (sym same)
+          (no_more_then (shares (length p.streams) (λ i. rows i ++ dealt shape level base (rows_in walked.older) i)) (shares (length p.streams) rows ++ map (λ n. n.row) table.nodes) (rows_with (state table p h s) rows)
+          (no_more_shares (length p.streams) rows (dealt shape level base (rows_in walked.older)) (map (λ n. n.row) table.nodes)
+          (no_more_then (shares (length p.streams) (dealt shape level base (rows_in walked.older))) (rows_in walked.older) (map (λ n. n.row) table.nodes) (no_more_all shape level base (length p.streams) (rows_in walked.older))
+          (walked_no_more t shape level base from table.nodes next (over p h s) p q k r walked)))
+          (no_more_swapped (shares (length p.streams) rows) (map (λ n. n.row) table.nodes)));
+    }
+
+pub stand_walked : (t : ℕ) (shape : Shape) (level base from : ℕ) (next : Option ℕ) (table : Table) (p q : Stack) (h k : Holdings) (s r : Signs) → HasWalked t shape level base from table.nodes next (over p h s) p q k r → StandNoMore (state table p h s) (state table q k r)
+stand_walked t shape level base from next table p q h k s r walked =
+    record {
+      whole = walked.feeds.whole;
+      show = λ rows sure shows. shown_no_more t shape level base from next table p q h k s r walked q k r refl rows (walked.feeds.rows rows sure shows);
+    }
+
+sure_fed : (t : ℕ) (fed : ℕ → List (List ℕ)) (f g : Family) → FeedsAll t fed f g → AreSure f → AreSure g
+sure_fed t fed f g feeds sure = elim sure [ inl tells ↦ inl (feeds.steps.touches.told ∙ tells) | inr all ↦ inr (feeds.at_end all) ]
+
+pub stand_stopped : (t : ℕ) (shape : Shape) (level base from at : ℕ) (next : Option ℕ) (table : Table) (p q now : Stack) (h k j : Holdings) (s r u : Signs) → HasWalked t shape level base from table.nodes next (over p h s) p q k r → Feeds t at [] (over q k r) (over now j u) → StandNoMore (state table p h s) (state table now j u)
+stand_stopped t shape level base from at next table p q now h k j s r u walked last =
+    record {
+      whole = λ all. last.whole (walked.feeds.whole all);
+      show = λ rows sure shows.
+          let dealt_rows : ℕ → List (List ℕ) = λ i. rows i ++ dealt shape level base (rows_in walked.older) i in
+          shown_no_more t shape level base from next table p q h k s r walked now j u last.steps.long rows
+          (shown_as (with_rows at (dealt_rows at ++ []) dealt_rows) dealt_rows (over now j u) (same_rows at dealt_rows)
+          (last.rows dealt_rows (sure_fed t (dealt shape level base (rows_in walked.older)) (over p h s) (over q k r) walked.feeds sure) (walked.feeds.rows rows sure shows)));
+    }

@@ -1,7 +1,8 @@
 -- One row is fed to a grouping. Lengths are in bytes.
-use Rattle.std.specs.Prelude.{◌≡◌, ℕ, ◌≤◌, List, [], All, length, Option}
+use Rattle.std.specs.Prelude.{◌≡◌, ℕ, ◌+◌, ◌*◌, ◌≤◌, List, [], All, length, Option}
 use Rattle.row_codec.specs.declared.values.Value.{Value}
 use Rattle.row_codec.specs.Row.{IsValue}
+use Rattle.row_codec.specs.RowBytes.{row_bytes}
 use Rattle.store_api.specs.declared.shapes.Shape.{Shape}
 use Rattle.bucket_table.specs.Tables.{Table}
 use Rattle.group_rows.specs.Partials.{partial_of}
@@ -10,10 +11,11 @@ use Rattle.group_op.specs.Operator.{entries_in}
 use Rattle.group_op.specs.Putting.{Deals}
 use Rattle.group_op.specs.Stored.{IsPartialRow, grouping_of, key_at, partial_at}
 
--- the bytes say what a row of values says by itself
+-- the bytes say what a row of values says by itself, and are no more than its own and sixteen for each aggregate
 pub record Spells (shape : Shape) (bytes : List ℕ) (row : List Value) : Type 0 where
   pub values : All IsValue row
   pub says : partial_at shape bytes ≡ partial_of (grouping_of shape) row
+  pub light : length bytes ≤ length (row_bytes row) + 16 * length shape.aggs
 
 -- bytes are a partial row that fits in so many, beside its key
 pub record IsSpelled (shape : Shape) (len : ℕ) (bytes key : List ℕ) : Type 0 where

@@ -8,6 +8,7 @@ use Rattle.group_rows.specs.Partials.{Partial, combined_of}
 use Rattle.group_op.specs.Finishing.{Stacked, said_down}
 use Rattle.group_op.specs.Held.{State, rows_of, streams_of}
 use Rattle.group_op.specs.Stored.{IsPartialRow, grouping_of, partials_at, place_of}
+use Rattle.group_op.specs.Wanting.{AreNoMore}
 
 -- partial rows in sixteen partitions, each in the one of its path's first nibble
 pub record ShowsFirst (shape : Shape) (rows : ℕ → List (List ℕ)) (b : State) : Type 0 where
@@ -20,9 +21,10 @@ pub record ShowsFirst (shape : Shape) (rows : ℕ → List (List ℕ)) (b : Stat
 abbrev pub groups_of_all : Shape → (ℕ → List (List ℕ)) → State → List Partial
 groups_of_all shape rows a = combined_of (grouping_of shape) (partials_at shape (rows_of a.table) ++ partials_at shape (shares 16 rows))
 
--- all rows are in partitions, and nothing is lost
+-- all rows are in partitions, no more than there were, and nothing is lost
 pub record HasSettled (shape : Shape) (rows : ℕ → List (List ℕ)) (a b : State) : Type 0 where
   pub left : ℕ → List (List ℕ)
   pub stacked : Stacked shape left b
   pub same : groups_of_all shape rows a ≡ said_down shape (length b.parts.streams) left
   pub few : owed b.parts.levels left ≤ 15 * (length (rows_of a.table) + length (shares 16 rows))
+  pub no_more : AreNoMore (shares (length b.parts.streams) left) (rows_of a.table ++ shares 16 rows)

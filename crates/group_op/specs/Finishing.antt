@@ -1,8 +1,10 @@
 -- Partitions are read from the top, each through a table. `a` is before a call and `b` behind it.
 use Rattle.std.specs.Prelude.{◌≡◌, ℕ, zero, suc, ◌+◌, ◌<◌, ◌≤◌, Bool, true, false, List, [], ◌++◌, All, length, slice_get, set, replicate, take, Option, Some}
+use Rattle.std.specs.List.{concat}
 use Rattle.row_codec.specs.declared.values.Value.{Value}
 use Rattle.store_api.specs.declared.shapes.Shape.{Shape}
 use Rattle.tuple_stream.specs.Families.{AllClosed, Family, ShowAll, slots_in}
+use Rattle.tuple_stream.specs.FamilyCalls.{shares}
 pub use Rattle.partition_stack.specs.Emitting.{LeavesBeside, StandsStill}
 use Rattle.partition_stack.specs.Making.{MakesBeside, owed}
 use Rattle.partition_stack.specs.Slots.{KeepSlots, SameSlots}
@@ -14,6 +16,7 @@ use Rattle.group_op.specs.Emission.{Emitted}
 use Rattle.group_op.specs.Held.{AreEntries, IsHeld, Leaves, State, page_len, rows_of, streams_of}
 use Rattle.group_op.specs.Putting.{IsFan}
 use Rattle.group_op.specs.Stored.{IsPartialRow, SameGroups, dealt, grouping_of, partials_at}
+use Rattle.group_op.specs.Wanting.{AreNoMore}
 
 -- what the first so many partitions say, the highest one first, each combined by itself
 abbrev pub said_down : Shape → ℕ → (ℕ → List (List ℕ)) → List Partial
@@ -65,16 +68,19 @@ pub record HasRead (shape : Shape) (at level : ℕ) (divided : Bool) (rows : ℕ
   pub same : SameGroups (grouping_of shape) (partials_at shape some) (partials_at shape (rows_of b.table ++ gone))
   pub distinct : HaveDistinctKeys (partials_at shape (rows_of b.table))
   pub fewer : length (rows_of b.table) + length gone ≤ length some
+  pub lighter : length (concat (rows_of b.table)) + length (concat gone) ≤ length (concat some)
 
--- the rows of the top partition are in sixteen above it, and nothing is lost; each of them went a level deeper
+-- the rows of the top partition are in sixteen above it, and nothing is lost; each of them went a level deeper, and no more rows
+-- stand in all partitions
 pub record HasDivided (shape : Shape) (at : ℕ) (rows : ℕ → List (List ℕ)) (old : Stack) (b : State) : Type 0 where
   pub left : ℕ → List (List ℕ)
   pub stacked : Stacked shape left b
   pub same : said_down shape (at + 1) rows ≡ said_down shape (length b.parts.streams) left
   pub deeper : length (rows at) + owed b.parts.levels left ≤ owed old.levels rows
+  pub no_more : AreNoMore (shares (length b.parts.streams) left) (shares (at + 1) rows)
 
--- the first groups were handed on, and the others are there still; for each page that was made, but for those that the emitter
--- counts, a row went a level deeper
+-- the first groups were handed on, and the others are there still, in no more rows; for each page that was made, but for those
+-- that the emitter counts, a row went a level deeper
 pub record Advances (shape : Shape) (was now : List (List Value) → Type 0) (creates_old creates : ℕ) (rows : ℕ → List (List ℕ)) (a b : State) : Type 0 where
   pub left : ℕ → List (List ℕ)
   pub stacked : Stacked shape left b
@@ -84,6 +90,7 @@ pub record Advances (shape : Shape) (was now : List (List Value) → Type 0) (cr
   pub most : ℕ
   pub deeper : most + owed b.parts.levels left ≤ owed a.parts.levels rows
   pub made : MakesBeside most creates_old creates a.signs b.signs
+  pub no_more : AreNoMore (shares (length b.parts.streams) left) (shares (length a.parts.streams) rows)
 
 -- what calls with an emitter leave: to the query and other clients, and of the slots, with those of the emitter's pages
 pub record LeavesWith (t : ℕ) (client : Option ℕ) (theirs_old theirs : ℕ) (f g : Family) : Type 0 where

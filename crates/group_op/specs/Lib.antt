@@ -1,6 +1,7 @@
 pub mod Stored
 pub mod Held
 pub mod Putting
+pub mod Wanting
 pub mod Emission
 pub mod Operator
 pub mod Feeding

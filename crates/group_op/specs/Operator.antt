@@ -1,5 +1,6 @@
 -- A grouping over a store: what it has, and what it keeps of the rows that were fed. Lengths are in bytes.
-use Rattle.std.specs.Prelude.{◌≡◌, ℕ, ◌+◌, ◌*◌, ◌≤◌, List, [], ◌++◌, All, length, replicate, Option, Some, None}
+use Rattle.std.specs.Prelude.{◌≡◌, ℕ, ◌+◌, ◌*◌, ◌≤◌, List, [], ◌++◌, All, length, replicate, sum_by, Option, Some, None}
+use Rattle.std.specs.List.{concat}
 use Rattle.pool_model.specs.declared.entry.Entry.{Entry}
 use Rattle.row_codec.specs.declared.values.Value.{Value}
 use Rattle.row_codec.specs.Order.{path_order}
@@ -21,6 +22,7 @@ use Rattle.bucket_table.specs.Tables.{Table}
 use Rattle.partition_stack.specs.Stack.{Stack, first_sixteen, over}
 use Rattle.partition_stack.specs.Changes.{Owns}
 pub use Rattle.partition_stack.specs.Leaving.{HasNoLoan}
+use Rattle.partition_stack.specs.Slots.{most_pages}
 use Rattle.group_op.specs.Held.{AreEntries, IsHeld, rows_of, state}
 use Rattle.group_op.specs.Stored.{IsPartialRow, grouping_of, keys_len, partials_at, place_of}
 
@@ -60,6 +62,10 @@ pub record MayBeFed (op : Operator) (h : Holdings) (row : List Value) : Type 0 w
   pub kinds : kinds_of row ≡ op.shape.kinds
   pub short : length (row_bytes row) + 16 * length op.shape.aggs ≤ page_of op h
 
+-- the bytes of rows, with sixteen more for each aggregate: their partial rows have no more
+abbrev pub bytes_for : Shape → List (List Value) → ℕ
+bytes_for shape rows = sum_by (λ row. length (row_bytes row) + 16 * length shape.aggs) rows
+
 -- the rows of its table
 abbrev pub entries_in : Option Table → List (List ℕ)
 entries_in None = []
@@ -77,6 +83,7 @@ pub record Holds (fed : List (List Value)) (op : Operator) (h : Holdings) (signs
   pub distinct : HaveDistinctKeys (partials_at op.shape (entries_in op.table))
   pub fresh : op.table ≡ None → fed ≡ []
   pub few : length (entries_in op.table) + length (shares 16 rows) ≤ length fed
+  pub light : length (concat (entries_in op.table)) + length (concat (shares 16 rows)) ≤ bytes_for op.shape fed
   -- where the partial rows of all keys, with four bytes more each, fit in two pages, none has gone to the partitions
   pub small : keys_len op.shape fed ≤ 2 * page_of op h → shares 16 rows ≡ []
   -- in each partition the page to which rows come is pinned, and nothing is spent
@@ -101,3 +108,8 @@ pub record IsSame (old new : Operator) : Type 0 where
   pub blocks : new.parts.page_blocks ≡ old.parts.page_blocks
   pub levels : new.parts.levels ≡ old.parts.levels
   pub many : length new.parts.streams ≡ length old.parts.streams
+
+-- the slots that its pages and one more have at most, where it was fed these rows: by their bytes, so many pages more for partitions
+-- that are not full
+abbrev pub slots_for : ℕ → Operator → Holdings → List (List Value) → ℕ
+slots_for more op h rows = (most_pages (page_of op h) more (length rows) (bytes_for op.shape rows) + 1) * op.parts.page_blocks

@@ -1,5 +1,6 @@
 -- A partial row goes into a table, or those of the table to partitions. `a` is before the call and `b` behind it.
 use Rattle.std.specs.Prelude.{◌≡◌, ◌≢◌, ◌⊎◌, ℕ, ◌+◌, ◌*◌, ◌<◌, ◌≤◌, List, [], ◌∷◌, ◌++◌, All, Option, length, reverse, sum_by}
+use Rattle.std.specs.List.{concat}
 use Rattle.pool_model.specs.declared.entry.Entry.{Entry}
 use Rattle.store_api.specs.declared.shapes.Shape.{Shape}
 use Rattle.tuple_stream.specs.Families.{Family, ShowAll, pages_in}
@@ -76,6 +77,7 @@ pub record HasPut (shape : Shape) (level base : ℕ) (row : List ℕ) (a b : Sta
   pub same : SameGroups (grouping_of shape) (partials_at shape (row ∷ rows_of a.table)) (partials_at shape (rows_of b.table ++ gone))
   pub distinct : HaveDistinctKeys (partials_at shape (rows_of a.table)) → HaveDistinctKeys (partials_at shape (rows_of b.table))
   pub fewer : length (rows_of b.table) + length gone ≤ length (rows_of a.table) + 1
+  pub lighter : length (concat (rows_of b.table)) + length (concat gone) ≤ length (concat (rows_of a.table)) + length row
   pub full : (gone ≡ []) ⊎ IsTooLong shape (page_len a) row (rows_of a.table)
 
 -- the table has what it had and this row, and no row went to partitions
@@ -84,6 +86,7 @@ pub record HasPutHere (shape : Shape) (row : List ℕ) (a b : State) : Type 0 wh
   pub same : SameGroups (grouping_of shape) (partials_at shape (row ∷ rows_of a.table)) (partials_at shape (rows_of b.table))
   pub distinct : HaveDistinctKeys (partials_at shape (rows_of a.table)) → HaveDistinctKeys (partials_at shape (rows_of b.table))
   pub fewer : length (rows_of b.table) ≤ length (rows_of a.table) + 1
+  pub lighter : length (concat (rows_of b.table)) ≤ length (concat (rows_of a.table)) + length row
 
 -- the table got more memory or not, and has the rows that it had
 pub record HasGrown (t : ℕ) (shape : Shape) (a b : State) : Type 0 where

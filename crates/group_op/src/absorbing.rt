@@ -8,12 +8,14 @@ ghost use Rattle.store_api.specs.Signs.{WasAnswered};
 ghost use Rattle.tuple_stream.specs.Streamed.{Streamed};
 ghost use Rattle.tuple_stream.specs.Touches.{IsFull};
 ghost use Rattle.tuple_stream.specs.Trails.{EnteredEvents};
+ghost use Rattle.tuple_stream.specs.FamilyCalls.{shares};
 ghost use Rattle.partition_stack.specs.Stack.{IsPlaced, Stack};
 ghost use Rattle.group_op.specs.Finishing.{HasRead, IsBetween, IsRead, Serves, Stacked};
 ghost use Rattle.group_op.specs.Held.{AreEntries, IsHeld, page_len, rows_of, state};
 ghost use Rattle.group_op.specs.Making.{MakesFew, MakesLess};
 ghost use Rattle.group_op.specs.Pinning.{HasBegun};
 ghost use Rattle.group_op.specs.Stored.{IsPartialRow, key_at};
+ghost use Rattle.group_op.specs.Wanting.{ShowNoMore};
 
 use crate::flushing::{Fan, Spare};
 use crate::keying::key_of_partial;
@@ -50,6 +52,7 @@ pub(crate) fn absorb<St: Store>(
     ensures read { IfOk result (λ divided. IsRead divided at level parts.old parts.new) }
     ensures first { IfOk result (λ divided. EnteredEvents (HasBegun divided (state table.new parts.new (St.holds store.new) (St.signs store.new))) (St.signs store.old).trail (St.signs store.new).trail) }
     ensures serves { Serves c.now.tracker shape.now (state table.old parts.old (St.holds store.old) (St.signs store.old)) (state table.new parts.new (St.holds store.new) (St.signs store.new)) }
+    ensures stand { OnErr result ((rows : ℕ → List (List ℕ)) → Stacked shape.now rows (state table.old parts.old (St.holds store.old) (St.signs store.old)) → ShowNoMore (shares (at + 1) rows) (state table.new parts.new (St.holds store.new) (St.signs store.new))) }
     ensures made { (s : Streamed) → slice_get parts.old.streams at ≡ Some s → MakesFew s.count (St.signs store.old) (St.signs store.new) }
     ensures less { OnOk result ((s : Streamed) → slice_get parts.old.streams at ≡ Some s → MakesLess s.count table.new (St.signs store.old) (St.signs store.new)) }
     ensures cause { IfErr result (λ e. WasAnswered e (St.signs store.old) (St.signs store.new)) }
@@ -92,6 +95,7 @@ fn take_in<St: Store>(
     ensures rows { IfOk result (λ now. (rows : ℕ → List (List ℕ)) → (some : List (List ℕ)) → (rest : List (List ℕ)) → (St.holds store.old).told ≡ true → HasRead shape.now at level divided rows some rest (state table.old parts.old (St.holds store.old) (St.signs store.old)) → HasRead shape.now at level now rows (some ++ fed.old.row.items ∷ []) rest (state table.new parts.new (St.holds store.new) (St.signs store.new))) }
     ensures read { IfOk result (λ now. (was : Stack) → IsRead divided at level was parts.old → IsRead now at level was parts.new) }
     ensures serves { Serves c.now.tracker shape.now (state table.old parts.old (St.holds store.old) (St.signs store.old)) (state table.new parts.new (St.holds store.new) (St.signs store.new)) }
+    ensures stand { OnErr result ((rows : ℕ → List (List ℕ)) → (some : List (List ℕ)) → (rest : List (List ℕ)) → (St.holds store.old).told ≡ true → HasRead shape.now at level divided rows some rest (state table.old parts.old (St.holds store.old) (St.signs store.old)) → ShowNoMore (shares at rows ++ (some ++ rest)) (state table.new parts.new (St.holds store.new) (St.signs store.new))) }
     ensures made { OnErr result (MakesFew (length (rows_of table.old)) (St.signs store.old) (St.signs store.new)) }
     ensures less { OnOk result (MakesLess (length (rows_of table.old) + 1) table.new (St.signs store.old) (St.signs store.new)) }
     ensures cause { IfErr result (λ e. WasAnswered e (St.signs store.old) (St.signs store.new)) }

@@ -1,5 +1,5 @@
 //! Rows are fed to a grouping.
-ghost use Rattle.std.specs.Prelude.{◌≡◌, ◌++◌, ◌∷◌, [], List, None, Option, IfErr, IfOk, OnErr, OnOk};
+ghost use Rattle.std.specs.Prelude.{◌≡◌, ◌<◌, ◌++◌, ◌∷◌, [], List, None, Option, IfErr, IfOk, OnErr, OnOk};
 ghost use Rattle.pool_model.specs.declared.entry.Entry.{Entry};
 ghost use Rattle.row_codec.specs.declared.values.Value.{Value};
 ghost use Rattle.store_api.specs.Holdings.{length_of};
@@ -9,10 +9,10 @@ ghost use Rattle.tuple_stream.specs.Touches.{IsFull};
 ghost use Rattle.partition_stack.specs.Slots.{SameSlots};
 ghost use Rattle.partition_stack.specs.Stack.{over};
 ghost use Rattle.group_op.specs.Held.{IsHeld, LeavesOthers, state};
-ghost use Rattle.group_op.specs.Causes.{CameOfStore, IsWantOf};
+ghost use Rattle.group_op.specs.Causes.{CameOfStore, IsWantBelow, IsWantBelowOf, IsWantOf};
 ghost use Rattle.group_op.specs.Feeding.{HasOpened, IsSpelled, Spells};
 ghost use Rattle.group_op.specs.Making.{Makes};
-ghost use Rattle.group_op.specs.Operator.{Holds, IsFeeding, IsOperator, IsSame, Keeps, MayBeFed, operator};
+ghost use Rattle.group_op.specs.Operator.{Holds, IsFeeding, IsOperator, IsSame, Keeps, MayBeFed, operator, page_of, slots_for};
 ghost use Rattle.group_op.specs.Putting.{HaveMade};
 
 use crate::flushing::{FIRST, Spare};
@@ -20,7 +20,7 @@ use crate::operator::GroupOp;
 use crate::own_row::spell;
 use crate::putting::put;
 use bucket_table::BucketTable;
-use partition_stack::Partitions;
+use partition_stack::{Partitions, law_scratch};
 use reservation_tree::PoolErr;
 use row_codec::{Value, hash64};
 use std::alloc::Global;
@@ -52,6 +52,7 @@ impl GroupOp {
         ensures slots { slots_in (over self.new.parts (St.holds store.new) (St.signs store.new)) ≡ slots_in (over self.old.parts (St.holds store.old) (St.signs store.old)) }
         ensures cause { IfErr result (CameOfStore self.old.parts.page_blocks (St.holds store.new) (St.signs store.old) (St.signs store.new)) }
         ensures want { IfErr result (IsWantOf self.old.parts.page_blocks (slots_in (over self.old.parts (St.holds store.old) (St.signs store.old)))) }
+        ensures enough { IfErr result (λ e. (fed : List (List Value)) → Holds fed self.old (St.holds store.old) (St.signs store.old) → IsWantBelowOf (slots_for 16 self.old (St.holds store.old) (fed ++ row.now ∷ [])) (slots_in (over self.old.parts (St.holds store.old) (St.signs store.old))) e) }
     {
         self.parts.law_stack();
         let _len = store.block_len();
@@ -97,7 +98,10 @@ fn feed_row<St: Store>(
     ensures slots { SameSlots parts.old.page_blocks (over parts.old (St.holds store.old) (St.signs store.old)) (over parts.new (St.holds store.new) (St.signs store.new)) }
     ensures cause { IfErr result (λ e. WasAnswered e (St.signs store.old) (St.signs store.new)) }
     ensures full { IfErr result (IsFull parts.old.page_blocks (St.holds store.new).free_slots) }
+    ensures enough { IfErr result (λ e. (rows : List (List Value)) → Holds rows (operator c.now shape.now parts.old table.old) (St.holds store.old) (St.signs store.old) → 0 < page_of (operator c.now shape.now parts.old table.old) (St.holds store.old) → IsWantBelow (slots_for 16 (operator c.now shape.now parts.old table.old) (St.holds store.old) rows) (slots_in (over parts.old (St.holds store.old) (St.signs store.old))) e) }
 {
+    law_scratch();
+    parts.law_stack();
     let hash = hash64(&fed.key);
     let mut own = table_or_new(alloc, store, c, shape, parts, table.take())?;
     let result = put(

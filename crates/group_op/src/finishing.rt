@@ -1,5 +1,5 @@
 //! The groups of all rows that were fed are handed on.
-ghost use Rattle.std.specs.Prelude.{◌≡◌, ◌+◌, ◌<◌, ℕ, [], List, Some, None, true, false, IfErr, IfOk, OnErr, OnOk, length, slice_get};
+ghost use Rattle.std.specs.Prelude.{◌≡◌, ◌+◌, ◌<◌, ℕ, [], List, Option, Some, None, true, false, IfErr, IfOk, OnErr, OnOk, length, slice_get};
 ghost use Rattle.row_codec.specs.declared.values.Value.{Value};
 ghost use Rattle.store_api.specs.Emitters.{CameOf};
 ghost use Rattle.store_api.specs.Shapes.{IsShape};
@@ -7,23 +7,25 @@ ghost use Rattle.store_api.specs.Signs.{WasAnswered};
 ghost use Rattle.tuple_stream.specs.Families.{ShowAll, slots_in};
 ghost use Rattle.tuple_stream.specs.Streamed.{Streamed};
 ghost use Rattle.tuple_stream.specs.Trails.{EnteredEvents, PinsFirst};
+ghost use Rattle.tuple_stream.specs.FamilyCalls.{shares};
 ghost use Rattle.partition_stack.specs.Making.{owed};
 ghost use Rattle.partition_stack.specs.Stack.{IsPlaced, RestBelow, over, weight};
 ghost use Rattle.group_rows.specs.Partials.{combined_of};
-ghost use Rattle.group_op.specs.Causes.{IsWant, IsWantOf};
+ghost use Rattle.group_op.specs.Causes.{IsWant, IsWantBelowOf, IsWantOf};
 ghost use Rattle.group_op.specs.Emission.{AdmitsKinds, Emitted, EmittedFront, IsBeside};
 ghost use Rattle.group_op.specs.Finishing.{Advances, HasDivided, HasPopped, HasRead, IsBetween, IsRead, Serves, ServesBeside, Stacked, StandsStill, said_down};
 ghost use Rattle.group_op.specs.Held.{AreEntries, IsHeld, page_len, state, streams_of};
 ghost use Rattle.group_op.specs.Making.{MakesBeside, MakesFew};
 ghost use Rattle.group_op.specs.Pinning.{AreShallow, HasBegun, HasGoneOn};
 ghost use Rattle.group_op.specs.Stored.{grouping_of, partials_at};
+ghost use Rattle.group_op.specs.Wanting.{IsWantAmong, IsWantAmongOf};
 
 use crate::absorbing::absorb;
 use crate::emission::emit_table;
 use crate::flushing::{Fan, Spare, flush};
 use crate::scanning::leaf_by_scan;
 use bucket_table::BucketTable;
-use partition_stack::Partitions;
+use partition_stack::{Partitions, law_few_partitions, law_scratch};
 use reservation_tree::PoolErr;
 use std::alloc::Global;
 use store_api::{Client, Emit, OpErr, Shape, Store};
@@ -58,8 +60,10 @@ fn spend_top<St: Store>(
     ensures serves { Serves c.now.tracker shape.now (state table.old parts.old (St.holds store.old) (St.signs store.old)) (state table.new parts.new (St.holds store.new) (St.signs store.new)) }
     ensures made { (s : Streamed) → slice_get parts.old.streams at ≡ Some s → MakesFew s.count (St.signs store.old) (St.signs store.new) }
     ensures want { IfErr result (IsWant parts.old.page_blocks (slots_in (over parts.old (St.holds store.old) (St.signs store.old)))) }
+    ensures enough { IfErr result (λ e. (rows : ℕ → List (List ℕ)) → Stacked shape.now rows (state table.old parts.old (St.holds store.old) (St.signs store.old)) → IsWantAmong 544 (shares (at + 1) rows) (state table.old parts.old (St.holds store.old) (St.signs store.old)) e) }
     ensures cause { IfErr result (λ e. WasAnswered e (St.signs store.old) (St.signs store.new)) }
 {
+    law_scratch();
     parts.law_stack();
     if !absorb(alloc, store, c, shape, table, parts, at, level, fed, moved)? {
         return Ok(false);
@@ -100,6 +104,8 @@ fn hand_on<St: Store, E: Emit<St>>(
     ensures made { MakesBeside 0 (E.creates emit.old) (E.creates emit.new) (St.signs store.old) (St.signs store.new) }
     ensures emitter { StandsStill (E.admits emit.old) (E.admits emit.new) (E.client emit.old) (E.client emit.new) (E.faults emit.old) (E.faults emit.new) (E.took emit.old (St.holds store.old)) (E.took emit.new (St.holds store.new)) (St.holds store.new) }
     ensures want { E.client emit.old ≡ None → IfErr result (IsWantOf parts.old.page_blocks (slots_in (over parts.old (St.holds store.old) (St.signs store.old)))) }
+    // Nothing is asked of the store but by the emitter.
+    ensures enough { E.client emit.old ≡ None → IfErr result (λ e. (most : ℕ) → (total : Option ℕ) → IsWantBelowOf most total e) }
     ensures cause { IfErr result (CameOf (E.faults emit.old) (E.faults emit.new) (St.signs store.old) (St.signs store.new)) }
 {
     emit_table(alloc, store, emit, shape, table)?;
@@ -137,8 +143,11 @@ fn leaf<St: Store, E: Emit<St>>(
     ensures made { MakesBeside 0 (E.creates emit.old) (E.creates emit.new) (St.signs store.old) (St.signs store.new) }
     ensures emitter { StandsStill (E.admits emit.old) (E.admits emit.new) (E.client emit.old) (E.client emit.new) (E.faults emit.old) (E.faults emit.new) (E.took emit.old (St.holds store.old)) (E.took emit.new (St.holds store.new)) (St.holds store.new) }
     ensures want { E.client emit.old ≡ None → IfErr result (IsWantOf parts.old.page_blocks (slots_in (over parts.old (St.holds store.old) (St.signs store.old)))) }
+    ensures enough { E.client emit.old ≡ None → IfErr result (λ e. (rows : ℕ → List (List ℕ)) → Stacked shape.now rows (state _table.now parts.old (St.holds store.old) (St.signs store.old)) → IsWantAmongOf 544 (shares (_at + 1) rows) (state _table.now parts.old (St.holds store.old) (St.signs store.old)) e) }
     ensures cause { IfErr result (CameOf (E.faults emit.old) (E.faults emit.new) (St.signs store.old) (St.signs store.new)) }
 {
+    law_scratch();
+    law_few_partitions();
     parts.law_stack();
     let mut top = parts.pop();
     let result = leaf_by_scan(alloc, store, c, &mut top, shape, LEAF_GROUPS, emit);
@@ -175,6 +184,7 @@ pub(crate) fn advance<St: Store, E: Emit<St>>(
     ensures made { (rows : ℕ → List (List ℕ)) → Stacked shape.now rows (state table.old parts.old (St.holds store.old) (St.signs store.old)) → MakesBeside (owed parts.old.levels rows) (E.creates emit.old) (E.creates emit.new) (St.signs store.old) (St.signs store.new) }
     ensures emitter { StandsStill (E.admits emit.old) (E.admits emit.new) (E.client emit.old) (E.client emit.new) (E.faults emit.old) (E.faults emit.new) (E.took emit.old (St.holds store.old)) (E.took emit.new (St.holds store.new)) (St.holds store.new) }
     ensures want { E.client emit.old ≡ None → IfErr result (IsWantOf parts.old.page_blocks (slots_in (over parts.old (St.holds store.old) (St.signs store.old)))) }
+    ensures enough { E.client emit.old ≡ None → IfErr result (λ e. (rows : ℕ → List (List ℕ)) → Stacked shape.now rows (state table.old parts.old (St.holds store.old) (St.signs store.old)) → IsWantAmongOf 544 (shares (length parts.old.streams) rows) (state table.old parts.old (St.holds store.old) (St.signs store.old)) e) }
     ensures cause { IfErr result (CameOf (E.faults emit.old) (E.faults emit.new) (St.signs store.old) (St.signs store.new)) }
 {
     let at = parts.len() - 1;

@@ -1,5 +1,5 @@
 //! The rows of a table go to partitions.
-ghost use Rattle.std.specs.Prelude.{◌+◌, ◌<◌, ◌≤◌, length, OnOk, IfErr};
+ghost use Rattle.std.specs.Prelude.{◌+◌, ◌<◌, ◌≤◌, length, OnErr, OnOk, IfErr};
 ghost use Rattle.store_api.specs.Conditions.{IsLiveClient};
 ghost use Rattle.store_api.specs.Holdings.{length_of};
 ghost use Rattle.store_api.specs.Signs.{WasAnswered};
@@ -12,6 +12,7 @@ ghost use Rattle.partition_stack.specs.Changes.{ChangesAt};
 ghost use Rattle.group_op.specs.Held.{AreEntries, IsHeld, page_len, state};
 ghost use Rattle.group_op.specs.Putting.{FewCame, HasFlushed, IsFan, Works};
 ghost use Rattle.group_op.specs.Stored.{IsPartialRow, place_of};
+ghost use Rattle.group_op.specs.Wanting.{StandNoMore};
 
 use crate::keying::key_of_partial;
 use bucket_table::BucketTable;
@@ -81,6 +82,7 @@ pub fn flush<St: Store>(
     ensures works { Works c.now.tracker shape.now (state table.old parts.old (St.holds store.old) (St.signs store.old)) (state table.new parts.new (St.holds store.new) (St.signs store.new)) }
     ensures few { FewCame (state table.old parts.old (St.holds store.old) (St.signs store.old)) (state table.new parts.new (St.holds store.new) (St.signs store.new)) }
     ensures fan { IsFan fan.level fan.base fan.from parts.new }
+    ensures stand { OnErr result (StandNoMore (state table.old parts.old (St.holds store.old) (St.signs store.old)) (state table.new parts.new (St.holds store.new) (St.signs store.new))) }
     ensures cause { IfErr result (λ e. WasAnswered e (St.signs store.old) (St.signs store.new)) }
     ensures full { IfErr result (IsFull parts.old.page_blocks (St.holds store.new).free_slots) }
 {

@@ -1,5 +1,5 @@
 //! All groups are handed on.
-ghost use Rattle.std.specs.Prelude.{◌≡◌, ◌++◌, ℕ, ◌+◌, ◌*◌, List, Option, Some, None, true, replicate, IfErr, OnErr, OnOk, length};
+ghost use Rattle.std.specs.Prelude.{◌≡◌, ◌++◌, ℕ, ◌+◌, ◌*◌, ◌<◌, List, Option, Some, None, true, replicate, IfErr, OnErr, OnOk, length};
 ghost use Rattle.pool_model.specs.declared.entry.Entry.{Entry};
 ghost use Rattle.row_codec.specs.declared.values.Value.{Value};
 ghost use Rattle.row_codec.specs.Order.{path_order};
@@ -12,22 +12,23 @@ ghost use Rattle.tuple_stream.specs.Trails.{EnteredEvents};
 ghost use Rattle.partition_stack.specs.Making.{owed};
 ghost use Rattle.partition_stack.specs.Stack.{over};
 ghost use Rattle.group_rows.specs.Partials.{groups_by};
-ghost use Rattle.group_op.specs.Causes.{CameBeside, IsWant, IsWantOf};
+ghost use Rattle.group_op.specs.Causes.{CameBeside, IsWant, IsWantBelowOf, IsWantOf};
 ghost use Rattle.group_op.specs.Emission.{AdmitsKinds, Emitted, EmittedFront, IsBeside};
 ghost use Rattle.group_op.specs.Finished.{HasSettled, ShowsFirst, groups_of_all};
 ghost use Rattle.group_op.specs.Finishing.{IsBetween, LeavesWith, Serves, ServesBeside, Stacked, StandsStill, said_down};
 ghost use Rattle.group_op.specs.Held.{AreEntries, IsHeld, page_len, rows_of, state, streams_of};
 ghost use Rattle.group_op.specs.Laid.{AreBuilt, HasLeft, HasLeftFirst, HoldsGroups};
 ghost use Rattle.group_op.specs.Making.{MakesBeside, MakesFew};
-ghost use Rattle.group_op.specs.Operator.{Holds, IsFeeding, IsOperator, Keeps, entries_in, operator, page_of};
+ghost use Rattle.group_op.specs.Operator.{Holds, IsFeeding, IsOperator, Keeps, entries_in, operator, page_of, slots_for};
 ghost use Rattle.group_op.specs.Pinning.{AreShallow};
 ghost use Rattle.group_op.specs.Stored.{grouping_of};
+ghost use Rattle.group_op.specs.Wanting.{IsWantAmong, IsWantAmongOf};
 
 use crate::finishing::advance;
 use crate::flushing::{FIRST, Spare, flush};
 use crate::operator::GroupOp;
 use bucket_table::BucketTable;
-use partition_stack::Partitions;
+use partition_stack::{Partitions, law_scratch};
 use reservation_tree::PoolErr;
 use std::alloc::Global;
 use std::mem;
@@ -54,8 +55,10 @@ fn settle<St: Store>(
     ensures made { MakesFew (length (rows_of table.old)) (St.signs store.old) (St.signs store.new) }
     ensures levels { parts.new.levels ≡ parts.old.levels }
     ensures want { IfErr result (IsWant parts.old.page_blocks (slots_in (over parts.old (St.holds store.old) (St.signs store.old)))) }
+    ensures enough { IfErr result (λ e. (rows : ℕ → List (List ℕ)) → ShowsFirst shape.now rows (state table.old parts.old (St.holds store.old) (St.signs store.old)) → IsWantAmong 544 (rows_of table.old ++ shares 16 rows) (state table.old parts.old (St.holds store.old) (St.signs store.old)) e) }
     ensures cause { IfErr result (λ e. WasAnswered e (St.signs store.old) (St.signs store.new)) }
 {
+    law_scratch();
     parts.law_stack();
     flush(alloc, store, c, shape, table, parts, FIRST, moved)?;
     parts.rest_from(store, c, 0)
@@ -87,6 +90,7 @@ fn empty_parts<St: Store, E: Emit<St>>(
     ensures made { (rows : ℕ → List (List ℕ)) → Stacked shape.now rows (state table.old parts.old (St.holds store.old) (St.signs store.old)) → MakesBeside (owed parts.old.levels rows) (E.creates emit.old) (E.creates emit.new) (St.signs store.old) (St.signs store.new) }
     ensures emitter { StandsStill (E.admits emit.old) (E.admits emit.new) (E.client emit.old) (E.client emit.new) (E.faults emit.old) (E.faults emit.new) (E.took emit.old (St.holds store.old)) (E.took emit.new (St.holds store.new)) (St.holds store.new) }
     ensures want { E.client emit.old ≡ None → IfErr result (IsWantOf parts.old.page_blocks (slots_in (over parts.old (St.holds store.old) (St.signs store.old)))) }
+    ensures enough { E.client emit.old ≡ None → IfErr result (λ e. (rows : ℕ → List (List ℕ)) → Stacked shape.now rows (state table.old parts.old (St.holds store.old) (St.signs store.old)) → IsWantAmongOf 544 (shares (length parts.old.streams) rows) (state table.old parts.old (St.holds store.old) (St.signs store.old)) e) }
     ensures cause { IfErr result (CameOf (E.faults emit.old) (E.faults emit.new) (St.signs store.old) (St.signs store.new)) }
 {
     'down: while parts.len() > 0 {
@@ -119,6 +123,7 @@ fn finish_parts<St: Store, E: Emit<St>>(
     ensures made { (rows : ℕ → List (List ℕ)) → ShowsFirst shape.now rows (state table.old parts.old (St.holds store.old) (St.signs store.old)) → MakesBeside (16 * length (rows_of table.old) + 15 * length (shares 16 rows)) (E.creates emit.old) (E.creates emit.new) (St.signs store.old) (St.signs store.new) }
     ensures emitter { StandsStill (E.admits emit.old) (E.admits emit.new) (E.client emit.old) (E.client emit.new) (E.faults emit.old) (E.faults emit.new) (E.took emit.old (St.holds store.old)) (E.took emit.new (St.holds store.new)) (St.holds store.new) }
     ensures want { E.client emit.old ≡ None → IfErr result (IsWantOf parts.old.page_blocks (slots_in (over parts.old (St.holds store.old) (St.signs store.old)))) }
+    ensures enough { E.client emit.old ≡ None → IfErr result (λ e. (rows : ℕ → List (List ℕ)) → ShowsFirst shape.now rows (state table.old parts.old (St.holds store.old) (St.signs store.old)) → IsWantAmongOf 544 (rows_of table.old ++ shares 16 rows) (state table.old parts.old (St.holds store.old) (St.signs store.old)) e) }
     ensures cause { IfErr result (CameOf (E.faults emit.old) (E.faults emit.new) (St.signs store.old) (St.signs store.new)) }
 {
     settle(alloc, store, c, shape, table, parts, moved)?;
@@ -151,6 +156,7 @@ fn finish_op<St: Store, E: Emit<St>>(
     ensures quiet { table.old ≡ None → (parts.new ≡ parts.old) × (table.new ≡ None) × (St.signs store.new ≡ St.signs store.old) }
     ensures emitter { StandsStill (E.admits emit.old) (E.admits emit.new) (E.client emit.old) (E.client emit.new) (E.faults emit.old) (E.faults emit.new) (E.took emit.old (St.holds store.old)) (E.took emit.new (St.holds store.new)) (St.holds store.new) }
     ensures want { E.client emit.old ≡ None → IfErr result (IsWantOf parts.old.page_blocks (slots_in (over parts.old (St.holds store.old) (St.signs store.old)))) }
+    ensures enough { E.client emit.old ≡ None → IfErr result (λ e. (rows : List (List Value)) → Holds rows (operator c.now shape.now parts.old table.old) (St.holds store.old) (St.signs store.old) → (St.holds store.old).told ≡ true → 0 < page_of (operator c.now shape.now parts.old table.old) (St.holds store.old) → IsWantBelowOf (slots_for 544 (operator c.now shape.now parts.old table.old) (St.holds store.old) rows) (slots_in (over parts.old (St.holds store.old) (St.signs store.old))) e) }
     ensures cause { IfErr result (CameOf (E.faults emit.old) (E.faults emit.new) (St.signs store.old) (St.signs store.new)) }
 {
     let Some(mut own) = table.take() else {
@@ -195,7 +201,10 @@ impl GroupOp {
         // Where nothing was fed, there is no table, and the store isn't called.
         ensures quiet { self.old.table ≡ None → (self.new ≡ self.old) × (St.signs store.new ≡ St.signs store.old) }
         ensures cause { IfErr result (CameBeside self.old.parts.page_blocks (slots_in (over self.old.parts (St.holds store.old) (St.signs store.old))) (E.client emit.old) (E.faults emit.old) (E.faults emit.new) (St.signs store.old) (St.signs store.new)) }
+        // It has at most 272 partitions, each with a page that is not full, and one more while it is read.
+        ensures enough { E.client emit.old ≡ None → IfErr result (λ e. (fed : List (List Value)) → Holds fed self.old (St.holds store.old) (St.signs store.old) → (St.holds store.old).told ≡ true → IsWantBelowOf (slots_for 544 self.old (St.holds store.old) fed) (slots_in (over self.old.parts (St.holds store.old) (St.signs store.old))) e) }
     {
+        let _len = store.block_len();
         finish_op(
             alloc,
             store,

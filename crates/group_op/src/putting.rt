@@ -1,5 +1,5 @@
 //! A partial row goes into a table.
-ghost use Rattle.std.specs.Prelude.{◌≡◌, true, false, ℕ, ◌+◌, ◌%◌, ◌<◌, ◌≤◌, ◌∷◌, length, IfNone, IfSome, IfErr, OnOk};
+ghost use Rattle.std.specs.Prelude.{◌≡◌, true, false, ℕ, ◌+◌, ◌%◌, ◌<◌, ◌≤◌, ◌∷◌, length, IfNone, IfSome, IfErr, OnErr, OnOk};
 ghost use Rattle.row_codec.specs.Order.{hash_of};
 ghost use Rattle.store_api.specs.Shapes.{IsShape};
 ghost use Rattle.store_api.specs.Signs.{WasAnswered};
@@ -8,6 +8,7 @@ ghost use Rattle.bucket_table.specs.Tables.{HasNode, IsFramed, new_node, row_of,
 ghost use Rattle.group_op.specs.Held.{AreEntries, IsHeld, page_len, state};
 ghost use Rattle.group_op.specs.Putting.{AsManyLeft, FewCame, HasGrown, HasPut, HasPutHere, IsFan, Lacks, Works};
 ghost use Rattle.group_op.specs.Stored.{IsPartialRow, key_at};
+ghost use Rattle.group_op.specs.Wanting.{StandNoMore};
 
 use crate::flushing::{Fan, Spare, flush};
 use crate::growing::grow;
@@ -67,6 +68,7 @@ pub fn put<St: Store>(
     ensures few { FewCame (state table.old parts.old (St.holds store.old) (St.signs store.old)) (state table.new parts.new (St.holds store.new) (St.signs store.new)) }
     ensures left { OnOk result (AsManyLeft (state table.old parts.old (St.holds store.old) (St.signs store.old)) (state table.new parts.new (St.holds store.new) (St.signs store.new))) }
     ensures fan { IsFan fan.level fan.base fan.from parts.new }
+    ensures stand { OnErr result (StandNoMore (state table.old parts.old (St.holds store.old) (St.signs store.old)) (state table.new parts.new (St.holds store.new) (St.signs store.new))) }
     ensures cause { IfErr result (λ e. WasAnswered e (St.signs store.old) (St.signs store.new)) }
     ensures full { IfErr result (IsFull parts.old.page_blocks (St.holds store.new).free_slots) }
 {

@@ -1,5 +1,5 @@
 //! The groups of a stream of partial rows, where their table has room for a part of them only.
-ghost use Rattle.std.specs.Prelude.{◌≡◌, ◌≤◌, ◌<◌, ℕ, List, [], ◌∷◌, All, length, true, IfErr, OnOk, OnErr};
+ghost use Rattle.std.specs.Prelude.{◌≡◌, ◌+◌, ◌*◌, ◌≤◌, ◌<◌, ℕ, List, None, [], ◌∷◌, All, length, true, IfErr, OnOk, OnErr};
 ghost use Rattle.std.specs.Cmp.Lexicographic.{slice_cmp};
 ghost use Rattle.std.specs.Ordering.{nat_cmp};
 ghost use Rattle.row_codec.specs.declared.values.Value.{Value};
@@ -11,7 +11,7 @@ ghost use Rattle.tuple_stream.specs.Streams.{HasRows};
 ghost use Rattle.tuple_stream.specs.Touches.{slots_with};
 ghost use Rattle.partition_stack.specs.Slots.{KeepSlots};
 ghost use Rattle.group_rows.specs.Kept.{AreOrdered};
-ghost use Rattle.group_op.specs.Causes.{CameBeside, IsWant};
+ghost use Rattle.group_op.specs.Causes.{CameBeside, IsWant, IsWantBelow, IsWantBelowOf};
 ghost use Rattle.group_op.specs.Emission.{AdmitsAll, Emitted, EmittedFront, IsBeside, Says, Stood, WentOn};
 ghost use Rattle.group_op.specs.Keepings.{HasKept, IsKept, is_above, kept_in, key_in, taken_in};
 ghost use Rattle.group_op.specs.Stored.{IsPartialRow, grouping_of, partial_at, partial_kinds};
@@ -21,6 +21,7 @@ use crate::keying::key_of_partial;
 use crate::lowest::{Entry, keep};
 use crate::reading::Reading;
 use crate::stored::kinds_of;
+use partition_stack::law_scratch;
 use reservation_tree::PoolErr;
 use row_codec::{Kind, Memory};
 use row_reading::decode_into;
@@ -55,6 +56,7 @@ pub fn leaf_by_scan<St: Store, E: Emit<St>>(
     ensures err { OnErr result ((read : List (List ℕ)) → (St.holds store.old).told ≡ true → HasRows read rows.old (St.holds store.old) → EmittedFront shape.now (E.took emit.old (St.holds store.old)) (E.took emit.new (St.holds store.new)) (groups_by_bytes shape.now read)) }
     ensures stands { WentOn (E.took emit.old (St.holds store.old)) (E.took emit.new (St.holds store.new)) }
     ensures cause { IfErr result (CameBeside rows.old.page_blocks (slots_with rows.old (St.holds store.old)) (E.client emit.old) (E.faults emit.old) (E.faults emit.new) (St.signs store.old) (St.signs store.new)) }
+    ensures enough { E.client emit.old ≡ None → IfErr result (IsWantBelowOf ((length rows.old.pages + 1) * rows.old.page_blocks) (slots_with rows.old (St.holds store.old))) }
     ensures stream { ReadWith c.now.tracker (E.client emit.old) (E.slots emit.old (St.holds store.old)) (E.slots emit.new (St.holds store.new)) rows.old rows.new (St.holds store.old) (St.holds store.new) }
     ensures emitter { StaysEmitter (E.admits emit.old) (E.admits emit.new) (E.client emit.old) (E.client emit.new) (E.faults emit.old) (E.faults emit.new) (E.creates emit.old) (E.creates emit.new) (St.holds store.new) (St.signs store.old) (St.signs store.new) }
 {
@@ -107,7 +109,9 @@ fn keep_lowest<St: Store>(
     ensures same { rows.new ≡ record rows.old { pinned = rows.new.pinned } }
     ensures cause { IfErr result (λ e. WasAnswered e (St.signs store.old) (St.signs store.new)) }
     ensures want { IfErr result (IsWant rows.old.page_blocks (slots_with rows.old (St.holds store.old))) }
+    ensures enough { IfErr result (IsWantBelow ((length rows.old.pages + 1) * rows.old.page_blocks) (slots_with rows.old (St.holds store.old))) }
 {
+    law_scratch();
     entries.clear();
     let mut spare = Entry::new(alloc);
     let mut place = At::first();

@@ -12,10 +12,11 @@ use Rattle.partition_stack.proofs.Owing.{owed_less, owed_popped}
 use Rattle.join_op.specs.Joining.{Advances, Both, ShowBoth, owed_both, pairs_down}
 use Rattle.join_op.specs.Handing.{Emitted, EmittedSome}
 use Rattle.join_op.proofs.Handed.{came_more, some_more}
+use Rattle.join_op.proofs.Moved.{weigh_first}
 
 pub advances_none : {m : ℕ} (shape : JoinShape) (was : List (List Value) → Type 0) (lefts rights : ℕ → List (List ℕ)) (a : Both) → ShowBoth lefts rights a → Advances shape was was m m lefts rights a a
 advances_none {m} shape was lefts rights a shows =
-    record { lefts_now = lefts; rights_now = rights; shows = shows; rows = []; came = λ taken took. subst was (sym (append-nil taken)) took; same = λ count. refl; most = 0; deeper = omega arith; made = counts_none m a.signs }
+    record { lefts_now = lefts; rights_now = rights; shows = shows; rows = []; came = λ taken took. subst was (sym (append-nil taken)) took; same = λ count. refl; lighter = λ w. omega arith; most = 0; deeper = omega arith; made = counts_none m a.signs }
 
 pub advances_then : {m0 m1 m2 : ℕ} (shape : JoinShape) (was mid now : List (List Value) → Type 0) (lefts rights : ℕ → List (List ℕ)) (a b c : Both) → (first : Advances shape was mid m0 m1 lefts rights a b) → Advances shape mid now m1 m2 first.lefts_now first.rights_now b c → Advances shape was now m0 m2 lefts rights a c
 advances_then {m0} {m1} {m2} shape was mid now lefts rights a b c first second =
@@ -37,6 +38,7 @@ advances_then {m0} {m1} {m2} shape was mid now lefts rights a b c first second =
           let five : sum_by count (x ++ p) ≡ sum_by count x + sum_by count p = sum_by-append count x p in
           let six = first.same count in
           omega (arith, one, two, three, four, five, six);
+      lighter = λ w. let one = first.lighter w in let two = second.lighter w in omega (arith, one, two);
       most = first.most + second.most;
       deeper = let one = first.deeper in let two = second.deeper in omega (arith, one, two);
       made = counts_both first.most second.most (first.most + second.most) m0 m1 m2 a.signs b.signs c.signs (omega arith) first.made second.made;
@@ -69,9 +71,9 @@ advances_some shape was mid now lefts rights a b has some =
 -- ---- the top partitions go
 
 -- their pairs were handed on
-pub advances_popped : {m0 m1 : ℕ} (shape : JoinShape) (was now : List (List Value) → Type 0) (lefts rights : ℕ → List (List ℕ)) (a b : Both) (at : ℕ) → length a.left.streams ≡ at + 1 → length b.left.streams ≡ at → ShowBoth lefts rights b
+pub advances_popped : {m0 m1 : ℕ} (shape : JoinShape) (was now : List (List Value) → Type 0) (lefts rights : ℕ → List (List ℕ)) (a b : Both) (at : ℕ) → length a.left.streams ≡ at + 1 → length b.left.streams ≡ at → length b.right.streams ≤ length a.right.streams → ShowBoth lefts rights b
     → Emitted was now (stored_pairs shape (lefts at) (rights at)) → owed_both b lefts rights ≤ owed_both a lefts rights → MakesBeside 0 m0 m1 a.signs b.signs → Advances shape was now m0 m1 lefts rights a b
-advances_popped shape was now lefts rights a b at top low shows emitted less made =
+advances_popped shape was now lefts rights a b at top low fewer shows emitted less made =
     record {
       lefts_now = lefts;
       rights_now = rights;
@@ -86,6 +88,10 @@ advances_popped shape was now lefts rights a b at top low shows emitted less mad
           let now : sum_by count (emitted.rows ++ pairs_down shape (length b.left.streams) lefts rights) ≡ sum_by count (emitted.rows ++ rest) = ap (λ (n : ℕ). sum_by count (emitted.rows ++ pairs_down shape n lefts rights)) low in
           let both : sum_by count (emitted.rows ++ rest) ≡ sum_by count emitted.rows + sum_by count rest = sum_by-append count emitted.rows rest in
           omega (arith, all, sum, same, now, both);
+      lighter = λ w.
+          let one = weigh_first w (length b.left.streams) (length a.left.streams) lefts (omega (arith, top, low)) in
+          let two = weigh_first w (length b.right.streams) (length a.right.streams) rights fewer in
+          omega (arith, one, two);
       most = 0;
       deeper = omega (arith, less);
       made = made;

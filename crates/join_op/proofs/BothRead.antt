@@ -61,7 +61,7 @@ module _ (t : ℕ) (client : Option ℕ) (ls rs : List Streamed) (l r l1 r1 : St
     in_left : slice_get (ls ++ l ∷ []) i ≡ Some x
     in_left = still_at ls l x i front
 
-    left_agrees : (k : ℕ) (o : PageToken) → slice_get x.pages k ≡ Some o → h1.pages o.name ≡ h.pages o.name
+    pub left_agrees : (k : ℕ) (o : PageToken) → slice_get x.pages k ≡ Some o → h1.pages o.name ≡ h.pages o.name
     left_agrees =
         let inside : i < length ls = slice_get_within ls i x front in
         page_stays x (own.left_shaped.each i x in_left)
@@ -78,7 +78,7 @@ module _ (t : ℕ) (client : Option ℕ) (ls rs : List Streamed) (l r l1 r1 : St
     in_right : slice_get (rs ++ r ∷ []) i ≡ Some x
     in_right = still_at rs r x i front
 
-    right_agrees : (k : ℕ) (o : PageToken) → slice_get x.pages k ≡ Some o → h1.pages o.name ≡ h.pages o.name
+    pub right_agrees : (k : ℕ) (o : PageToken) → slice_get x.pages k ≡ Some o → h1.pages o.name ≡ h.pages o.name
     right_agrees =
         let inside : i < length rs = slice_get_within rs i x front in
         page_stays x (own.right_shaped.each i x in_right)

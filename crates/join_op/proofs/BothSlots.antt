@@ -1,5 +1,5 @@
 -- Slots of the pages of both sides of a join.
-use Rattle.std.proofs.Common.{◌≡◌, ◌∙◌, inl, inr, ℕ, suc, ◌+◌, ◌-◌, List, [], ◌∷◌, ◌++◌, length, Option, Some, None, option_map, refl, ap, sym, arith}
+use Rattle.std.proofs.Common.{◌≡◌, ◌∙◌, inl, inr, ℕ, suc, ◌+◌, ◌-◌, List, [], ◌∷◌, ◌++◌, length, replicate, Option, Some, None, option_map, refl, ap, sym, arith}
 use Rattle.std.specs.List.{slice_get, sum_by}
 use Rattle.std.proofs.lemmas.List.Sums.{sum_by-append}
 use Rattle.reservation_tree.specs.declared.errors.PoolErr.{PoolErr}
@@ -11,12 +11,13 @@ use Rattle.tuple_stream.specs.Streamed.{Streamed}
 use Rattle.tuple_stream.specs.Streams.{IsApart, IsOwnPage}
 use Rattle.tuple_stream.specs.Touches.{IsFull, slots_of}
 use Rattle.tuple_stream.proofs.Chosen.{at_place}
+use Rattle.tuple_stream.proofs.PageLists.{still_at}
 use Rattle.pool_model.specs.declared.event.Event.{Event}
 use Rattle.partition_stack.specs.Sides.{OwnBoth}
 use Rattle.partition_stack.specs.Slots.{IsWant, SameSlots}
-use Rattle.partition_stack.specs.Stack.{IsStack, Stack, over}
-use Rattle.partition_stack.proofs.ListPlaces.{front_or_behind, in_front}
-use Rattle.partition_stack.proofs.Slots.{all_taken, full_since, taken}
+use Rattle.partition_stack.specs.Stack.{IsStack, Stack, divided, empty, no_stack, over}
+use Rattle.partition_stack.proofs.ListPlaces.{front_or_behind, in_front, of_replicate}
+use Rattle.partition_stack.proofs.Slots.{all_taken, full_since, more_taken, slots_then, taken}
 use Rattle.join_op.specs.Operator.{over_both}
 
 twice : (o : Option ℕ) (a m x : ℕ) → x ≡ m + a → option_map (λ n. n + x) o ≡ option_map (λ n. n + a) (option_map (λ n. n + m) o)
@@ -52,10 +53,10 @@ module _ (blocks : ℕ) (xs ys : List Streamed) (h : Holdings) (signs : Signs) w
     | inr behind ↦ two (i - length xs) s behind.1
   ]
 
-  sized_front : AllSized blocks (family (xs ++ ys) h signs) → AllSized blocks (family xs h signs)
+  pub sized_front : AllSized blocks (family (xs ++ ys) h signs) → AllSized blocks (family xs h signs)
   sized_front all i s there = all i s (in_front xs ys i s there)
 
-  sized_behind : AllSized blocks (family (xs ++ ys) h signs) → AllSized blocks (family ys h signs)
+  pub sized_behind : AllSized blocks (family (xs ++ ys) h signs) → AllSized blocks (family ys h signs)
   sized_behind all j s there = all (length xs + j) s (in_behind xs ys j s there)
 
   sized_turned : AllSized blocks (family (xs ++ ys) h signs) → AllSized blocks (family (ys ++ xs) h signs)
@@ -97,6 +98,13 @@ slots_stepped t p now other old new before after own steps =
       sized = λ all. sized_both p.page_blocks now.streams other.streams new after (steps.sized p.page_blocks (sized_front p.page_blocks p.streams other.streams old before all)) (sized_behind p.page_blocks p.streams other.streams old before all);
     }
 
+-- the left side is called, and then the right one
+pub sides_slots : (left right l1 r1 : Stack) (h h1 h2 : Holdings) (s s1 s2 : Signs) → right.page_blocks ≡ left.page_blocks → SameSlots left.page_blocks (over_both left right h s) (over_both l1 right h1 s1) → SameSlots right.page_blocks (over_both right l1 h1 s1) (over_both r1 l1 h2 s2)
+    → SameSlots left.page_blocks (over_both left right h s) (over_both l1 r1 h2 s2)
+sides_slots left right l1 r1 h h1 h2 s s1 s2 alike one two =
+    slots_then left.page_blocks right.page_blocks (over_both left right h s) (over_both l1 right h1 s1) (over_both l1 r1 h2 s2) alike one
+    (slots_turned right.page_blocks right.streams l1.streams r1.streams l1.streams h1 h2 s1 s2 two)
+
 -- what stopped calls of either side
 pub want_since : (blocks now : ℕ) (left right : Stack) (old new : Holdings) (before after : Signs) (us vs : List Streamed) → IsStack left → IsStack right → left.page_blocks ≡ blocks → right.page_blocks ≡ blocks
     → SameSlots blocks (over_both left right old before) (family (us ++ vs) new after) → now ≡ blocks → (e : PoolErr) → IsFull now new.free_slots e → IsWant blocks (slots_in (over_both left right old before)) e
@@ -104,9 +112,30 @@ want_since blocks now left right old new before after us vs one two left_is righ
     full_since blocks now (over_both left right old before) (family (us ++ vs) new after) same
     (sized_both blocks left.streams right.streams old before (λ i s there. one.each i s there ∙ left_is) (λ i s there. two.each i s there ∙ right_is)) is e full
 
+-- ---- partitions come and go
+
+-- sixteen more without pages have no slots
+pub slots_divided : (at level : ℕ) (p other : Stack) (h : Holdings) (signs : Signs) → SameSlots p.page_blocks (over_both p other h signs) (over_both (divided at level p) other h signs)
+slots_divided at level p other h signs =
+    record {
+      sum =
+          both_slots (p.streams ++ replicate 16 (empty p.page_blocks)) other.streams h signs
+          ∙ ap (option_map (λ (n : ℕ). n + taken other.streams h)) (ap (λ (m : ℕ). option_map (λ (n : ℕ). n + m) h.free_slots) (more_taken p.streams p.page_blocks 16 h))
+          ∙ sym (both_slots p.streams other.streams h signs);
+      sized = λ all.
+          sized_both p.page_blocks (p.streams ++ replicate 16 (empty p.page_blocks)) other.streams h signs
+          (sized_both p.page_blocks p.streams (replicate 16 (empty p.page_blocks)) h signs (sized_front p.page_blocks p.streams other.streams h signs all) (λ i s there. ap (λ (r : Streamed). r.page_blocks) (of_replicate 16 (empty p.page_blocks) i s there)))
+          (sized_behind p.page_blocks p.streams other.streams h signs all);
+    }
+
+-- the others keep the length of their pages where the top one goes
+pub sized_gone : (blocks : ℕ) (front : List Streamed) (s : Streamed) (other : List Streamed) (old new : Holdings) (before after : Signs) → AllSized blocks (family ((front ++ s ∷ []) ++ other) old before) → AllSized blocks (family (front ++ other) new after)
+sized_gone blocks front s other old new before after all =
+    sized_both blocks front other new after (λ i x there. sized_front blocks (front ++ s ∷ []) other old before all i x (still_at front s x i there)) (sized_behind blocks (front ++ s ∷ []) other old before all)
+
 -- ---- both sides end
 
-none_added : (o : Option ℕ) → option_map (λ n. n + 0) o ≡ o
+pub none_added : (o : Option ℕ) → option_map (λ n. n + 0) o ≡ o
 none_added None = refl
 none_added (Some n) = ap Some (no_more n)
   where
@@ -116,3 +145,9 @@ none_added (Some n) = ap Some (no_more n)
 pub ended_slots : (t : ℕ) (left right : List Streamed) (h h1 h2 : Holdings) (s s1 s2 : Signs) → OwnBoth t 0 left right h s → TouchesAll t (family left h s) (family [] h1 s1) → TouchesAll t (family right h1 s1) (family [] h2 s2) → h2.free_slots ≡ slots_in (family (left ++ right) h s)
 ended_slots t left right h h1 h2 s s1 s2 own first second =
     sym (none_added h2.free_slots) ∙ second.slots ∙ slots_called t 0 left [] right h h1 s s1 own first
+
+pub cleared_slots : (t : ℕ) (left right l2 r2 : Stack) (h h1 h2 : Holdings) (s s1 s2 : Signs) → OwnBoth t 0 left.streams right.streams h s → TouchesAll t (over left h s) (family [] h1 s1) → TouchesAll t (over right h1 s1) (family [] h2 s2)
+    → l2 ≡ no_stack left.page_blocks → r2 ≡ no_stack right.page_blocks → slots_in (over_both l2 r2 h2 s2) ≡ slots_in (over_both left right h s)
+cleared_slots t left right l2 r2 h h1 h2 s s1 s2 own first second none_left none_right =
+    ap (λ (p : Stack). slots_in (over_both p r2 h2 s2)) none_left ∙ ap (λ (p : Stack). slots_in (over_both (no_stack left.page_blocks) p h2 s2)) none_right ∙ none_added h2.free_slots
+    ∙ ended_slots t left.streams right.streams h h1 h2 s s1 s2 own first second

@@ -18,6 +18,7 @@ use Rattle.partition_stack.specs.Stack.{HasRoomFrom, Stack, over}
 use Rattle.partition_stack.proofs.Left.{touched_leaves}
 use Rattle.partition_stack.proofs.Sides.{other_shows, other_weighs, own_called, own_turned}
 use Rattle.join_op.specs.Beside.{CallsBeside, MayCall}
+use Rattle.join_op.specs.Dividing.{HasCalled}
 use Rattle.join_op.specs.Operator.{IsOperator, operator}
 use Rattle.join_op.proofs.BothSlots.{slots_stepped}
 
@@ -67,6 +68,11 @@ calls_beside {laid} t p now other old new before after own steps blocks levels =
 pub calls_none : (t : ℕ) (p other : Stack) (h : Holdings) (signs : Signs) → OwnBoth t 0 p.streams other.streams h signs → CallsBeside t p p other h h signs signs
 calls_none t p other h signs own = calls_beside t p p other h h signs signs own (goes_none t (over p h signs) own.left_shaped) refl refl
 
+-- of what is known of calls, what is known of a division
+pub called_of : (t : ℕ) (p now other : Stack) (old new : Holdings) (before after : Signs) → CallsBeside t p now other old new before after → HasCalled t p now other old new before after
+called_of t p now other old new before after called =
+    record { own = called.own; shows = called.shows; leaves = called.leaves; loans = called.loans; lives = called.lives; blocks = called.blocks; slots = called.slots }
+
 module _ (c : ClientToken) (shape : JoinShape) (left right : Stack) (old new : Holdings) (before after : Signs) (is : IsOperator (operator c shape left right) old before) where
   no_loan : new.loans ≡ old.loans → HasNoLoan c.tracker new
   no_loan loans q loan there = is.loans q loan (sym (ap (λ (f : ℕ → Option LiveLoan). f q) loans) ∙ there)
@@ -75,8 +81,8 @@ module _ (c : ClientToken) (shape : JoinShape) (left right : Stack) (old new : H
   same_len blocks now same block_len = ap (λ (n : ℕ). n * new.block_len) same ∙ ap (λ (n : ℕ). blocks * n) block_len
 
   -- a join stays one where its left side was called
-  pub left_called : (now : Stack) → CallsBeside c.tracker left now right old new before after → IsOperator (operator c shape now right) new after
-  left_called now called =
+  pub left_has : (now : Stack) → HasCalled c.tracker left now right old new before after → IsOperator (operator c shape now right) new after
+  left_has now called =
       record {
         shape = is.shape;
         sized = subst IsBlockCount (sym called.blocks) is.sized;
@@ -91,9 +97,12 @@ module _ (c : ClientToken) (shape : JoinShape) (left right : Stack) (old new : H
         loans = no_loan called.loans;
       }
 
+  pub left_called : (now : Stack) → CallsBeside c.tracker left now right old new before after → IsOperator (operator c shape now right) new after
+  left_called now called = left_has now (called_of c.tracker left now right old new before after called)
+
   -- and where its right side was
-  pub right_called : (now : Stack) → CallsBeside c.tracker right now left old new before after → IsOperator (operator c shape left now) new after
-  right_called now called =
+  pub right_has : (now : Stack) → HasCalled c.tracker right now left old new before after → IsOperator (operator c shape left now) new after
+  right_has now called =
       record {
         shape = is.shape;
         sized = is.sized;
@@ -107,3 +116,6 @@ module _ (c : ClientToken) (shape : JoinShape) (left right : Stack) (old new : H
         owns = own_turned c.tracker 0 now.streams left.streams new after called.own;
         loans = no_loan called.loans;
       }
+
+  pub right_called : (now : Stack) → CallsBeside c.tracker right now left old new before after → IsOperator (operator c shape left now) new after
+  right_called now called = right_has now (called_of c.tracker right now left old new before after called)

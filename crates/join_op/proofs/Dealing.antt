@@ -1,8 +1,10 @@
 -- Rows of one partition are dealt to sixteen above it, one after the other.
-use Rattle.std.proofs.Common.{◌≡◌, ◌∙◌, ◌⊎◌, inl, inr, ℕ, zero, suc, ◌+◌, ◌-◌, ◌<◌, ◌≤◌, ◌==◌, Bool, true, false, if◌then◌else◌, List, [], ◌∷◌, ◌++◌, length, drop, Option, Some, None, IfSome, IsSome, refl, ap, sym, subst, arith, append-nil, append_assoc, ne_eqb, eq-eqb, leb}
-use Rattle.std.specs.Prelude.{slice_get}
+use Rattle.std.proofs.Common.{◌≡◌, ◌∙◌, ◌⊎◌, inl, inr, ℕ, zero, suc, ◌+◌, ◌-◌, ◌<◌, ◌≤◌, ◌==◌, Bool, true, false, if◌then◌else◌, List, [], ◌∷◌, ◌++◌, length, drop, Option, Some, None, IfSome, IsSome, Result, Ok, Err, OnErr, refl, ap, sym, subst, arith, append-nil, append_assoc, ne_eqb, eq-eqb, leb}
+use Rattle.std.specs.Prelude.{slice_get, sum_by, map}
+use Rattle.std.proofs.lemmas.List.Sums.{sum_by-append, sum_by-cons}
 use Rattle.std.proofs.lemmas.Bool.{cases_eq, le-leb, lt-leb}
 use Rattle.std.proofs.lemmas.Option.{slice_get_within}
+use Rattle.reservation_tree.specs.declared.errors.PoolErr.{PoolErr}
 use Rattle.pool_model.specs.declared.entry.Entry.{Entry}
 use Rattle.pool_model.specs.declared.event.Event.{Event}
 use Rattle.store_api.proofs.Growing.{grows_trans}
@@ -12,7 +14,8 @@ use Rattle.tuple_stream.specs.Spending.{PinsAgain}
 use Rattle.tuple_stream.specs.Streamed.{Streamed}
 use Rattle.tuple_stream.specs.Streams.{HasRows}
 use Rattle.tuple_stream.specs.Families.{AllClosed, Family, FamilySteps, GoesAll, ShowAll}
-use Rattle.tuple_stream.specs.FamilyCalls.{Feeds, RestsSome, SpendsIn, with_rows}
+use Rattle.tuple_stream.specs.FamilyCalls.{AllWhole, Feeds, ReadsIn, RestsSome, SpendsIn, with_rows}
+use Rattle.tuple_stream.specs.Steps.{came}
 use Rattle.tuple_stream.specs.Trails.{EnteredEvents, HasPin, PinsFirst, events_of}
 use Rattle.tuple_stream.proofs.FamilyChains.{goes_none}
 use Rattle.tuple_stream.proofs.PageLists.{no_length}
@@ -25,10 +28,12 @@ use Rattle.partition_stack.specs.Stack.{IsStack, Stack, divided, over}
 use Rattle.partition_stack.proofs.Coming.{sixteen_come}
 use Rattle.partition_stack.proofs.Making.{few_both, few_less, few_none, going_makes}
 use Rattle.join_op.specs.Beside.{CallsBeside}
-use Rattle.join_op.specs.Dividing.{DealsAll, DealsNew, HasDealt, IsFan}
+use Rattle.join_op.specs.Dividing.{DealsAll, DealsNew, HasDealt, HasPart, IsFan, WholeBut}
 use Rattle.join_op.specs.Stored.{Side, dealt, place_of}
 use Rattle.join_op.proofs.Calls.{calls_beside}
 use Rattle.join_op.proofs.Fans.{beside_then, fan_kept}
+use Rattle.join_op.proofs.Shares.{no_more}
+use Rattle.join_op.proofs.Spent.{whole_called, whole_sent}
 use Rattle.std.specs.Bool.{⊤}
 
 -- ---- where rows are dealt
@@ -126,6 +131,17 @@ pub record Begun (left all : ℕ) (p now : Stack) (events : List Event) : Type 0
   pub first : PinsFirst events
   pub pinned : HasPin events ⊎ ((left ≡ all) × (now.streams ≡ p.streams))
 
+-- a row that wasn't taken leaves those that are there
+pub fed_still : {X : Type 0} (r : Result X PoolErr) (t k : ℕ) (row : List ℕ) (f g : Family) → Feeds t k (came r row) f g → OnErr r ((rows : ℕ → List (List ℕ)) → f.held.told ≡ true → ShowAll rows f → ShowAll rows g)
+fed_still (Ok x) t k row f g feeds = tt
+fed_still (Err e) t k row f g feeds = λ rows told shows i s there. subst (λ (rs : List (List ℕ)). HasRows rs s g.held) (no_more k rows i) (feeds.rows rows (inl told) shows i s there)
+
+parts_weigh : (w : List ℕ → ℕ) (all some rest : List (List ℕ)) → all ≡ some ++ rest → sum_by w some + sum_by w rest ≤ sum_by w all
+parts_weigh w all some rest split =
+    let same = ap (sum_by w) split in
+    let sum = sum_by-append w some rest in
+    omega (arith, same, sum)
+
 -- ---- the loop
 
 -- some rows were dealt, and so many are left
@@ -147,6 +163,7 @@ pub record Deals (t : ℕ) (side : Side) (level at all left : ℕ) (p now other 
   pub fan : IsFan level at now
   pub first : AllClosed (over p h0 s0) → EnteredEvents (Begun left all p now) s0.trail s.trail
   pub made : HasMade all left s0 s
+  pub whole : AllWhole (over p h0 s0) → WholeBut at (over now h s)
   pub rows : (rows : ℕ → List (List ℕ)) → h0.told ≡ true → NoneFrom (at + 1) rows → ShowAll rows (over p h0 s0) → HasSome side level at left rows (over now h s)
 
 there_is : {X : Type 0} (xs : List X) (k : ℕ) → k < length xs → IsSome (slice_get xs k)
@@ -192,6 +209,7 @@ deals_none t side level at left p other h s beside fan counted =
       fan = fan;
       first = λ closed. since_now (Begun left (count_at at p) p p) s.trail (record { first = tt; pinned = inr (left_all left (slice_get p.streams at) counted (there_is p.streams at (let many = fan.sixteen in omega (arith, many))), refl) });
       made = let counted_all = left_all left (slice_get p.streams at) counted (there_is p.streams at (let many = fan.sixteen in omega (arith, many))) in record { made = 0; short = omega (arith, counted_all); few = few_none s };
+      whole = λ all i x there apart. all i x there;
       rows = λ rows told none shows. record {
         some = [];
         rest = rows at;
@@ -212,6 +230,10 @@ module _ (t : ℕ) (side : Side) (level at left : ℕ) (p0 p q other : Stack) (h
 
   pub fan_more : ChangesAt at p q → length q.streams ≡ length p.streams → IsFan level at q
   fan_more changes long = fan_kept level at at p q deals.fan (omega arith) changes long
+
+  -- nothing of the others is spent
+  pub whole_more : ChangesAt at p q → AllWhole (over p0 h0 s0) → WholeBut at (over q h1 s1)
+  whole_more changes none = whole_called at p q h h1 s s1 changes (deals.whole none)
 
   -- which made no page
   made_till : FamilySteps (GoesAll (over p h s) (over q h1 s1)) t (over p h s) (over q h1 s1) → MakesFew deals.made.made s0 s1
@@ -285,10 +307,51 @@ module _ (t : ℕ) (side : Side) (level at left : ℕ) (p0 p q other : Stack) (h
   none_beside none changes =
       beside_then t p0 p q other h0 h h1 s0 s s1 deals.beside (calls_beside t p q other h h1 s s1 deals.beside.own (subst (λ (f : Family). FamilySteps (GoesAll (over p h s) f) t (over p h s) f) (sym none.1) (goes_none t (over p h s) deals.beside.own.left_shaped)) changes.blocks changes.levels)
 
+  -- where reading on failed, some are dealt
+  pub part_read : ReadsIn t (over p h s) (over q h1 s1) → (rows : ℕ → List (List ℕ)) → h0.told ≡ true → NoneFrom (at + 1) rows → ShowAll rows (over p0 h0 s0) → HasPart side level at rows (over q h1 s1)
+  part_read reads rows told none shows =
+      let has = deals.rows rows told none shows in
+      record {
+        some = has.some;
+        rest = has.rest;
+        lighter = λ w. parts_weigh w (rows at) has.some has.rest has.split;
+        dealt = record {
+          now = has.dealt.now;
+          shows = reads.rows has.dealt.now (deals.beside.leaves.others.told ∙ told) has.dealt.shows;
+          below = has.dealt.below;
+          here = has.dealt.here;
+          above = has.dealt.above;
+        };
+      }
+
+  -- and where a row was taken out, which couldn't be sent on
+  pub part_sent : (row : List ℕ) → SpendsIn t at row (over p h s) (over q h1 s1) → (r : Stack) (h2 : Holdings) (s2 : Signs) → ((rows : ℕ → List (List ℕ)) → h1.told ≡ true → ShowAll rows (over q h1 s1) → ShowAll rows (over r h2 s2))
+      → (rows : ℕ → List (List ℕ)) → h0.told ≡ true → NoneFrom (at + 1) rows → ShowAll rows (over p0 h0 s0) → HasPart side level at rows (over r h2 s2)
+  part_sent row spends r h2 s2 stays rows told none shows =
+      let has = deals.rows rows told none shows in
+      let tells : h.told ≡ true = deals.beside.leaves.others.told ∙ told in
+      let spent = dealt_spent side level at rows has.some has.rest row (over p h s) (over q h1 s1) has.dealt tells t spends in
+      record {
+        some = has.some;
+        rest = drop 1 has.rest;
+        lighter = λ w.
+            let all = parts_weigh w (rows at) has.some has.rest has.split in
+            let first : sum_by w has.rest ≡ sum_by w (row ∷ drop 1 has.rest) = ap (sum_by w) spent.0 in
+            let one : sum_by w (row ∷ drop 1 has.rest) ≡ w row + sum_by w (drop 1 has.rest) = sum_by-cons w row (drop 1 has.rest) in
+            omega (arith, all, first, one);
+        dealt = record {
+          now = spent.1.now;
+          shows = stays spent.1.now (spends.steps.touches.told ∙ tells) spent.1.shows;
+          below = spent.1.below;
+          here = spent.1.here;
+          above = spent.1.above;
+        };
+      }
+
   -- a row was taken out, and then sent on
   pub more_deals : (row : List ℕ) → (spends : SpendsIn t at row (over p h s) (over q h1 s1)) → (changes : ChangesAt at p q) → (r : Stack) (h2 : Holdings) (s2 : Signs) → CallsBeside t q r other h1 h2 s1 s2 → IsFan level at r
-      → Feeds t (place_of side level (at + 1) row) (row ∷ []) (over q h1 s1) (over r h2 s2) → MakesFew 1 s1 s2 → 0 < left → Deals t side level at all (left - 1) p0 r other h0 h2 s0 s2
-  more_deals row spends changes r h2 s2 sent fan feeds more some_left =
+      → Feeds t (place_of side level (at + 1) row) (row ∷ []) (over q h1 s1) (over r h2 s2) → MakesFew 1 s1 s2 → map (λ x. x.spent) r.streams ≡ map (λ x. x.spent) q.streams → 0 < left → Deals t side level at all (left - 1) p0 r other h0 h2 s0 s2
+  more_deals row spends changes r h2 s2 sent fan feeds more same some_left =
       record {
         beside = beside_then t p0 q r other h0 h1 h2 s0 s1 s2 (calls_more spends.steps changes) sent;
         fan = fan;
@@ -300,6 +363,7 @@ module _ (t : ℕ) (side : Side) (level at left : ℕ) (p0 p q other : Stack) (h
             (λ x y begun next. record { first = both_pin_first x y begun.first next.first; pinned = inl (has_pin_back x y next.pinned) })
             (deals.first closed) grows (λ still. pinned_then s.trail s1.trail s2.trail (spends.pins (closed_now still.1)) sent.leaves.grows.trail);
         made = let short = deals.made.short in record { made = deals.made.made + 1; short = omega (arith, short, some_left); few = few_both deals.made.made 1 (deals.made.made + 1) s0 s1 s2 (omega arith) (made_till spends.steps) more };
+        whole = λ none. whole_sent at q r h1 h2 s1 s2 same (whole_more changes none);
         rows = λ rows told none shows.
             let has = deals.rows rows told none shows in
             let tells : h.told ≡ true = deals.beside.leaves.others.told ∙ told in
@@ -337,6 +401,26 @@ module _ (t : ℕ) (side : Side) (level at : ℕ) (p : Stack) (h : Holdings) (s 
         below = λ i low. has.below i low ∙ here_row rows i (omega (arith, low));
         here = has.here;
         above = λ i high. has.above i high ∙ ap (λ (rs : List (List ℕ)). dealt side level (at + 1) rs i) (here_row rows at (omega arith));
+      }
+
+  -- of those of which some were dealt
+  pub part_all : (q : Stack) → q ≡ divided at level p → ((rows : ℕ → List (List ℕ)) → h.told ≡ true → NoneFrom (at + 1) rows → ShowAll rows (over q h s) → HasPart side level at rows g) → (rows : ℕ → List (List ℕ)) → h.told ≡ true → ShowAll rows (over p h s)
+      → HasPart side level at rows g
+  part_all q same new rows told shows =
+      let these : ShowAll (first_rows rows) (over p h s) = λ i r there. subst (λ (rs : List (List ℕ)). HasRows rs r h) (sym (here_row rows i (let inside = slice_get_within p.streams i r there in omega (arith, inside, top)))) (shows i r there) in
+      let come : ShowAll (first_rows rows) (over (divided at level p) h s) = (sixteen_come t 0 at level p h s is).rows (first_rows rows) (λ i high. high_row rows i (omega (arith, high, top))) these in
+      let has = new (first_rows rows) told (λ i high. high_row rows i (omega (arith, high))) (subst (λ (r : Stack). ShowAll (first_rows rows) (over r h s)) (sym same) come) in
+      record {
+        some = has.some;
+        rest = has.rest;
+        lighter = λ w. subst (λ (rs : List (List ℕ)). sum_by w has.some + sum_by w has.rest ≤ sum_by w rs) (here_row rows at (omega arith)) (has.lighter w);
+        dealt = record {
+          now = has.dealt.now;
+          shows = has.dealt.shows;
+          below = λ i low. has.dealt.below i low ∙ here_row rows i (omega (arith, low));
+          here = has.dealt.here;
+          above = has.dealt.above;
+        };
       }
 
   pub deals_all : (q : Stack) → q ≡ divided at level p → DealsNew side level at (over q h s) g → DealsAll side level at (over p h s) g

@@ -65,7 +65,7 @@ module _ {m0 m1 : ℕ} (still : Type 0) (c : ClientToken) (shape : JoinShape) (a
               let one = down.rows lefts rights shown in
               advances_then shape was mid now lefts rights a b (both b.left b.right h s) one
               (advances_divided shape mid now one.lefts_now one.rights_now stays b (both b.left b.right h s)
-              (record { lefts_now = one.lefts_now; rights_now = one.rights_now; shows = shows one.lefts_now one.rights_now one.shows; same = λ count. refl; most = 0; deeper = omega arith; made = made }));
+              (record { lefts_now = one.lefts_now; rights_now = one.rights_now; shows = shows one.lefts_now one.rights_now one.shows; same = λ count. refl; lighter = λ w. omega arith; most = 0; deeper = omega arith; made = made }));
         }
 
   -- and a step more was taken

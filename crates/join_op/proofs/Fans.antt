@@ -21,6 +21,7 @@ use Rattle.join_op.specs.Beside.{CallsBeside, MayCall}
 use Rattle.join_op.specs.Operator.{over_both}
 use Rattle.join_op.specs.Dividing.{HasCalled, IsFan}
 use Rattle.join_op.specs.Joining.{HasRowsAt}
+use Rattle.join_op.proofs.BothSlots.{slots_divided}
 use Rattle.join_op.proofs.Calls.{all_rest, calls_none}
 
 pub room_of_fan : (c : ClientToken) (level at : ℕ) (p other : Stack) (h : Holdings) (signs : Signs) → MayCall c p other h signs → IsFan level at p → HasRoomFrom c.tracker at p h signs
@@ -50,10 +51,6 @@ fan_kept level at k p q fan high changes long =
       rests = λ i s there below. fan.rests i s (sym (changes.others i (λ same. omega (arith, same, below, high))) ∙ there) below;
     }
 
-pub called_of : (t : ℕ) (p now other : Stack) (old new : Holdings) (before after : Signs) → CallsBeside t p now other old new before after → HasCalled t p now other old new before after
-called_of t p now other old new before after called =
-    record { own = called.own; shows = called.shows; leaves = called.leaves; loans = called.loans; lives = called.lives; blocks = called.blocks }
-
 pub called_then : (t : ℕ) (p q r other : Stack) (h0 h1 h2 : Holdings) (s0 s1 s2 : Signs) → HasCalled t p q other h0 h1 s0 s1 → HasCalled t q r other h1 h2 s1 s2 → HasCalled t p r other h0 h2 s0 s2
 called_then t p q r other h0 h1 h2 s0 s1 s2 one two =
     record {
@@ -63,6 +60,7 @@ called_then t p q r other h0 h1 h2 s0 s1 s2 one two =
       loans = two.loans ∙ one.loans;
       lives = λ c is live. two.lives c is (one.lives c is live);
       blocks = two.blocks ∙ one.blocks;
+      slots = slots_then p.page_blocks q.page_blocks (over_both p other h0 s0) (over_both q other h1 s1) (over_both r other h2 s2) one.blocks one.slots two.slots;
     }
 
 pub beside_then : (t : ℕ) (p q r other : Stack) (h0 h1 h2 : Holdings) (s0 s1 s2 : Signs) → CallsBeside t p q other h0 h1 s0 s1 → CallsBeside t q r other h1 h2 s1 s2 → CallsBeside t p r other h0 h2 s0 s2
@@ -149,6 +147,7 @@ called_divided t at level p other h signs is own =
       loans = refl;
       lives = λ c is live. live;
       blocks = refl;
+      slots = slots_divided at level p other h signs;
     }
 
 none_is : (o : Option Streamed) → o ≡ None → IsSome o → ⊥

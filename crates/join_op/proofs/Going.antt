@@ -22,9 +22,11 @@ use Rattle.tuple_stream.proofs.Sinces.{since_so}
 use Rattle.partition_stack.specs.Changes.{HaveEnded}
 use Rattle.partition_stack.specs.Leaving.{LeavesOthers}
 use Rattle.partition_stack.specs.Sides.{OwnBoth}
+use Rattle.partition_stack.specs.Slots.{SameSlots}
 use Rattle.partition_stack.proofs.Away.{Left, none_left, one_left}
 use Rattle.partition_stack.proofs.Left.{touched_leaves}
 use Rattle.partition_stack.proofs.Sides.{other_shows, own_called}
+use Rattle.join_op.proofs.BothSlots.{sized_gone, slots_called}
 
 module _ (t : ℕ) (front : List Streamed) (s : Streamed) (other : List Streamed) (h : Holdings) (signs : Signs) (b : Scene) (own : OwnBoth t 0 (front ++ s ∷ []) other h signs)
     (empties : Empties t (scene s h signs) b) (gone : b.stream ≡ empty s.page_blocks) where
@@ -41,6 +43,13 @@ module _ (t : ℕ) (front : List Streamed) (s : Streamed) (other : List Streamed
 
   pub gone_leaves : LeavesOthers t h b.held signs b.signs
   gone_leaves = touched_leaves t (family (front ++ s ∷ []) h signs) (family front b.held b.signs) own.left_shaped went.shaped went.touches own.lives went.grows
+
+  pub gone_slots : (blocks : ℕ) → SameSlots blocks (family ((front ++ s ∷ []) ++ other) h signs) (family (front ++ other) b.held b.signs)
+  gone_slots blocks =
+      record {
+        sum = slots_called t 0 (front ++ s ∷ []) front other h b.held signs b.signs own went.touches;
+        sized = λ all. sized_gone blocks front s other h b.held signs b.signs all;
+      }
 
   pub gone_loans : b.held.loans ≡ h.loans
   gone_loans = went.touches.loans

@@ -1,5 +1,6 @@
 -- Pairs that an emitter took, some behind others.
 use Rattle.std.proofs.Common.{◌≡◌, ◌∙◌, ◌+◌, List, [], ◌++◌, Result, Ok, Err, IfErr, OnOk, refl, sym, subst, arith, append-nil, append_assoc}
+use Rattle.std.specs.Prelude.{IsErr, IsErrAnd}
 use Rattle.std.specs.List.{sum_by}
 use Rattle.std.proofs.lemmas.List.Sums.{sum_by-append}
 use Rattle.row_codec.specs.declared.values.Value.{Value}
@@ -66,3 +67,8 @@ any_ok (Err e) holds = tt
 pub from_two : {X E P Q R : Type 0} (r : Result X E) → (P → Q → R) → OnOk r P → OnOk r Q → OnOk r R
 from_two (Ok x) so p q = so p q
 from_two (Err e) so p q = tt
+
+-- an error that was handed on
+pub handed_err : {X E : Type 0} (P : E → Type 0) (r : Result X E) (e : E) → IsErr r × IsErrAnd r (λ f. f ≡ e) → P e → IfErr r P
+handed_err P (Ok x) e gives so = tt
+handed_err P (Err f) e gives so = subst P (sym gives.1) so

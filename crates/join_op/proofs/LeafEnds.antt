@@ -5,40 +5,21 @@ use Rattle.std.specs.Result.{result_ok}
 use Rattle.reservation_tree.specs.declared.errors.PoolErr.{PoolErr}
 use Rattle.store_api.specs.Alike.{Alike}
 use Rattle.row_codec.specs.declared.values.Value.{Value}
-use Rattle.store_api.specs.declared.op_err.OpErr.{OpErr}
-use Rattle.store_api.specs.declared.op_err.OpErr.TheVariants.{Pool, Sink}
-use Rattle.store_api.specs.Emitters.{CameOf}
 use Rattle.store_api.specs.Holdings.{Holdings, account_of, unused_of}
 use Rattle.store_api.specs.Signs.{Grows, Signs}
-use Rattle.store_api.proofs.Answered.{answered_after}
 use Rattle.store_api.proofs.Growing.{grows_trans}
 use Rattle.bucket_table.specs.Tables.{Lent, Table}
 use Rattle.bucket_table.specs.Lending.{IsOpened, Lends}
 use Rattle.bucket_table.specs.Entering.{EnteredLoans, IsOfLoans}
 use Rattle.bucket_table.proofs.Entered.{loans_leave_pages}
 use Rattle.bucket_table.proofs.Widened.{alike_same}
-use Rattle.partition_stack.specs.Causes.{CameOfEither}
 use Rattle.partition_stack.specs.Emitting.{IsBeside, StaysEmitter, WentOn}
 use Rattle.partition_stack.specs.Making.{MakesFew}
-use Rattle.partition_stack.proofs.Emitters.{came_behind}
 use Rattle.partition_stack.proofs.Making.{counts_both, few_counts, few_entries}
 use Rattle.partition_stack.proofs.ReadFrames.{client_stays}
 use Rattle.join_op.specs.Handing.{Emitted, EmittedSome}
 use Rattle.join_op.specs.Holding.{IsSameTable, loans_in}
 use Rattle.join_op.proofs.LentBoth.{loans_same, own_given, own_lent}
-
-came_later : (f g : ℕ) (a b k : Signs) (e : OpErr) → Grows b k → CameOf f g a b e → CameOf f g a k e
-came_later f g a b k (Pool e) grows came = answered_after e a b k came grows
-came_later f g a b k Sink grows came = came
-
-pub cause_later : (blocks : ℕ) (client : Option ℕ) (f g : ℕ) (a b k : Signs) (e : OpErr) → Grows b k → CameOfEither blocks client f g a b e → CameOfEither blocks client f g a k e
-cause_later blocks client f g a b k e grows came = record { came = came_later f g a b k e grows came.came; short = came.short }
-
-pub cause_since : (blocks : ℕ) (client : Option ℕ) (f g : ℕ) (a b k : Signs) (e : OpErr) → Grows a b → CameOfEither blocks client f g b k e → CameOfEither blocks client f g a k e
-cause_since blocks client f g a b k e grows came = record { came = came_behind f f g a b k e (omega arith) grows came.came; short = came.short }
-
-pub cause_as : (blocks other : ℕ) (client : Option ℕ) (f g : ℕ) (a k : Signs) (e : OpErr) → other ≡ blocks → CameOfEither other client f g a k e → CameOfEither blocks client f g a k e
-cause_as blocks other client f g a k e same came = subst (λ (n : ℕ). CameOfEither n client f g a k e) same came
 
 module _ (first was now : List (List Value) → Type 0) (still : (rows : List (List Value)) → first rows → was rows) where
   pub emitted_since : (pairs : List (List Value)) → Emitted was now pairs → Emitted first now pairs

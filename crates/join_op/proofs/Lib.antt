@@ -3,6 +3,7 @@ pub mod Counts
 pub mod OneRow
 pub mod Calls
 pub mod Shares
+pub mod Spent
 pub mod FedSide
 pub mod Spellable
 pub mod KeepsRows
@@ -39,3 +40,8 @@ pub mod Cleared
 pub mod Reserving
 pub mod Downward
 pub mod BothSlots
+pub mod LeafSlots
+pub mod Crowding
+pub mod PairedSlots
+pub mod Enough
+pub mod Moved

@@ -1,5 +1,5 @@
 -- The client of a join reserves more, and nothing else changes.
-use Rattle.std.proofs.Common.{◌≡◌, ◌≢◌, ◌∙◌, ℕ, ◌+◌, ◌-◌, ◌*◌, ◌≤◌, [], ◌∷◌, List, Option, Some, IsSome, is_some, Result, Ok, Err, OnOk, OnErr, if◌then◌else◌, refl, ap, sym, subst, arith, eq-eqb, ne_eqb}
+use Rattle.std.proofs.Common.{◌≡◌, ◌≢◌, ◌∙◌, ℕ, ◌+◌, ◌-◌, ◌*◌, ◌≤◌, [], ◌∷◌, ◌++◌, List, Option, Some, option_map, IsSome, is_some, Result, Ok, Err, OnOk, OnErr, if◌then◌else◌, refl, ap, sym, subst, arith, eq-eqb, ne_eqb}
 use Rattle.std.specs.List.{slice_get, sum_by}
 use Rattle.std.proofs.lemmas.Option.{none-some}
 use Rattle.pool_model.specs.declared.event.Event.TheVariants.{IncreaseToFit}
@@ -14,7 +14,7 @@ use Rattle.store_api.specs.Tokens.{ClientToken, PageToken}
 use Rattle.store_api.specs.declared.shapes.JoinShape.{JoinShape}
 use Rattle.store_api.proofs.Names.{these_make}
 use Rattle.store_api.proofs.Untouched.{others_stay}
-use Rattle.tuple_stream.specs.Families.{AreShaped, ShowAll, family, held_in}
+use Rattle.tuple_stream.specs.Families.{AreShaped, ShowAll, family, held_in, slots_in}
 use Rattle.tuple_stream.specs.Streamed.{Streamed}
 use Rattle.tuple_stream.specs.Trails.{EnteredEvents, PinsFirst}
 use Rattle.tuple_stream.proofs.Sinces.{since_so, since_these}
@@ -23,8 +23,9 @@ use Rattle.partition_stack.specs.Making.{MakesFew}
 use Rattle.partition_stack.specs.Sides.{OwnBoth}
 use Rattle.partition_stack.specs.Stack.{Stack}
 use Rattle.partition_stack.proofs.Agreeing.{agreeing_rows, agreeing_shape}
+use Rattle.partition_stack.proofs.Slots.{all_taken, taken}
 use Rattle.join_op.specs.Joining.{ShowBoth, both}
-use Rattle.join_op.specs.Operator.{IsOperator, operator}
+use Rattle.join_op.specs.Operator.{IsOperator, operator, over_both}
 
 -- a client may have reserved more: of its store nothing else changed
 pub record Reserves (t : ℕ) (old new : Holdings) : Type 0 where
@@ -120,6 +121,11 @@ module _ (t : ℕ) (old new : Holdings) (before after : Signs) (more : Reserves 
             omega (arith, even, moved, one, two);
       }
 
+  pub reserved_slots : (left right : Stack) → slots_in (over_both left right new after) ≡ slots_in (over_both left right old before)
+  reserved_slots left right =
+      ap (option_map (λ (n : ℕ). n + taken (left.streams ++ right.streams) new)) more.free_slots
+      ∙ ap (λ (m : ℕ). option_map (λ (n : ℕ). n + m) old.free_slots) (all_taken (left.streams ++ right.streams) old new (λ i s at. agree s))
+
   pub reserved_leaves : Grows before after → LeavesOthers t old new before after
   reserved_leaves grows = record { others = more.others; grows = grows; reserved = more.reservation; room = more.room }
 
@@ -146,4 +152,6 @@ module _ (c : ClientToken) (shape : JoinShape) (left right : Stack) (old new : H
         told = more.others.told ∙ shows.told;
         left = shown_still c.tracker old new before after more left.streams lefts is.owns.left_shaped shows.left;
         right = shown_still c.tracker old new before after more right.streams rights is.owns.right_shaped shows.right;
+        left_whole = shows.left_whole;
+        right_whole = shows.right_whole;
       }

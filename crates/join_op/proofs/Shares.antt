@@ -1,5 +1,5 @@
 -- One more row in one of the partitions.
-use Rattle.std.proofs.Common.{◌≡◌, ◌≢◌, ℕ, zero, suc, ◌+◌, ◌<◌, List, [], ◌∷◌, ◌++◌, refl, ap, ap₂, inl, inr, arith, ne_eqb, eq-eqb}
+use Rattle.std.proofs.Common.{◌≡◌, ◌≢◌, ◌∙◌, ℕ, zero, suc, ◌+◌, ◌<◌, List, [], ◌∷◌, ◌++◌, refl, ap, ap₂, sym, inl, inr, arith, append-nil, ne_eqb, eq-eqb}
 use Rattle.std.specs.List.{sum_by}
 use Rattle.std.proofs.lemmas.Bool.{cases_eq}
 use Rattle.std.proofs.lemmas.List.Sums.{sum_by-append, sum_by_push}
@@ -46,3 +46,10 @@ one_more w (suc n) (suc k) rows row inside =
     let rest : sum_by w (shares n (with_rows k (rows (suc k) ++ row ∷ []) (λ i. rows (suc i)))) ≡ sum_by w (shares n (λ i. rows (suc i))) + w row = one_more w n k (λ i. rows (suc i)) row (omega (arith, inside)) in
     let was : sum_by w (rows 0 ++ shares n (λ i. rows (suc i))) ≡ sum_by w (rows 0) + sum_by w (shares n (λ i. rows (suc i))) = sum_by-append w (rows 0) (shares n (λ i. rows (suc i))) in
     omega (arith, all, one, two, rest, was)
+
+-- where nothing came they are as before
+pub no_more : (k : ℕ) (rows : ℕ → List (List ℕ)) (i : ℕ) → with_rows k (rows k ++ []) rows i ≡ rows i
+no_more k rows i = elim (cases_eq i k) [
+  | inl same ↦ rw (eq-eqb i k same) (append-nil (rows k) ∙ ap rows (sym same))
+  | inr apart ↦ rw (ne_eqb i k apart) refl
+]

@@ -46,10 +46,10 @@ no_pairs shape at left right h s lefts rights shows inside inside_right (inr non
     sym (ap (λ (rs : List (List ℕ)). stored_pairs shape (lefts at) rs) is ∙ no_right shape (rows_in (left_side shape) (lefts at)))
 
 module _ (shape : JoinShape) (was now : List (List Value) → Type 0) (lefts rights : ℕ → List (List ℕ)) (still : (taken : List (List Value)) → was taken → now taken) where
-  pub advances_gone : {m : ℕ} (at : ℕ) (left right : Stack) (h : Holdings) (s : Signs) (b : Both) → length left.streams ≡ at + 1 → length right.streams ≡ length left.streams → length b.left.streams ≡ at → ShowBoth lefts rights (both left right h s) → ShowBoth lefts rights b
+  pub advances_gone : {m : ℕ} (at : ℕ) (left right : Stack) (h : Holdings) (s : Signs) (b : Both) → length left.streams ≡ at + 1 → length right.streams ≡ length left.streams → length b.left.streams ≡ at → length b.right.streams ≤ length right.streams → ShowBoth lefts rights (both left right h s) → ShowBoth lefts rights b
       → HasNoRowsAt at left ⊎ HasNoRowsAt at right → owed_both b lefts rights ≤ owed_both (both left right h s) lefts rights → MakesFew 0 s b.signs → Advances shape was now m m lefts rights (both left right h s) b
-  advances_gone {m} at left right h s b top many low was_shown shows none less made =
-      advances_popped shape was now lefts rights (both left right h s) b at top low shows
+  advances_gone {m} at left right h s b top many low fewer was_shown shows none less made =
+      advances_popped shape was now lefts rights (both left right h s) b at top low fewer shows
       (subst (Emitted was now) (no_pairs shape at left right h s lefts rights was_shown (omega (arith, top)) (omega (arith, top, many)) none) (emitted_on was was now [] still (emitted_none was))) less (few_counts 0 m s b.signs made)
 
   pub advances_divided : {m : ℕ} (a b : Both) → SharesPairs shape lefts rights a b → Advances shape was now m m lefts rights a b
@@ -61,6 +61,7 @@ module _ (shape : JoinShape) (was now : List (List Value) → Type 0) (lefts rig
         rows = [];
         came = λ taken took. subst now (sym (append-nil taken)) (still taken took);
         same = shares.same;
+        lighter = shares.lighter;
         most = shares.most;
         deeper = shares.deeper;
         made = few_counts shares.most m a.signs b.signs shares.made;

@@ -36,7 +36,7 @@ module _ (was mid now : List (List Value) → Type 0) (xs ys : List (List Value)
 
 module _ (start : Option (List Entry)) (shape : JoinShape) (lefts rights : List (List Value)) (b : Both) (keeps : KeepsRested start shape lefts rights b) where
   pub shows_rested : b.held.told ≡ true → ShowBoth keeps.left.rows keeps.right.rows b
-  shows_rested told = record { told = told; left = keeps.left.shows; right = keeps.right.shows }
+  shows_rested told = record { told = told; left = keeps.left.shows; right = keeps.right.shows; left_whole = keeps.left.whole; right_whole = keeps.right.whole }
 
   pub pairs_rested : (many : ℕ) → many ≡ 16 → SameRows (pairs_down shape many keeps.left.rows keeps.right.rows) (pairs_of shape lefts rights)
   pairs_rested many sixteen = subst (λ (n : ℕ). SameRows (pairs_down shape n keeps.left.rows keeps.right.rows) (pairs_of shape lefts rights)) (sym sixteen)
@@ -50,7 +50,7 @@ ones : (xs : List (List Value)) → sum_by (λ _. 1) xs ≡ length xs
 ones [] = refl
 ones (x ∷ xs) = let one = sum_by-cons (λ _. 1) x xs in let rest = ones xs in omega (arith, one, rest)
 
-side_many : (side : Side) (fed : List (List Value)) (f : Family) → (keeps : KeepsSide side fed f) → length (shares 16 keeps.rows) ≡ length fed
+pub side_many : (side : Side) (fed : List (List Value)) (f : Family) → (keeps : KeepsSide side fed f) → length (shares 16 keeps.rows) ≡ length fed
 side_many side fed f keeps =
     let same = keeps.same (λ _. 1) in
     let mine = ones (rows_in side (shares 16 keeps.rows)) in

@@ -13,3 +13,4 @@ pub mod Rested
 pub mod Chunks
 pub mod Holding
 pub mod Alone
+pub mod Slots

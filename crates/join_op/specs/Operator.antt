@@ -1,5 +1,5 @@
 -- A join over a store: what it has, and what it keeps of the rows that were fed. Lengths are in bytes.
-use Rattle.std.specs.Prelude.{◌≡◌, ℕ, ◌*◌, ◌≤◌, List, ◌++◌, All, length, replicate, Option}
+use Rattle.std.specs.Prelude.{◌≡◌, ℕ, ◌+◌, ◌*◌, ◌≤◌, List, ◌++◌, All, length, replicate, sum_by, Option}
 use Rattle.pool_model.specs.declared.event.Event.{Event}
 use Rattle.pool_model.specs.declared.entry.Entry.{Entry}
 use Rattle.row_codec.specs.declared.values.Value.{Value}
@@ -17,6 +17,7 @@ use Rattle.tuple_stream.specs.Trails.{EnteredEvents, creates_in}
 use Rattle.row_reading.specs.Reading.{IsRowOf}
 use Rattle.partition_stack.specs.Leaving.{HasNoLoan}
 use Rattle.partition_stack.specs.Sides.{OwnBoth}
+use Rattle.partition_stack.specs.Slots.{most_pages}
 use Rattle.partition_stack.specs.Stack.{Stack, first_sixteen, over}
 use Rattle.join_op.specs.Pairs.{SameRows}
 use Rattle.join_op.specs.Stored.{Side, left_side, place_of, right_side, rows_in}
@@ -107,3 +108,12 @@ pub record IsSame (old new : Operator) : Type 0 where
   pub shape : new.shape ≡ old.shape
   pub left_blocks : new.left.page_blocks ≡ old.left.page_blocks
   pub right_blocks : new.right.page_blocks ≡ old.right.page_blocks
+
+-- the bytes of rows
+abbrev pub bytes_of : List (List Value) → ℕ
+bytes_of rows = sum_by (λ row. length (row_bytes row)) rows
+
+-- the slots that its pages and one more have at most, where it was fed these rows: each side has at most 272 partitions, of which one
+-- is being read
+abbrev pub slots_for : Operator → Holdings → List (List Value) → List (List Value) → ℕ
+slots_for op h lefts rights = (most_pages (page_of op h) 546 (length lefts + length rights) (bytes_of lefts + bytes_of rights) + 1) * op.left.page_blocks

@@ -2,6 +2,7 @@
 ghost use Rattle.std.specs.Prelude.{◌≡◌};
 ghost use Rattle.store_api.specs.Conditions.{IsIdle};
 ghost use Rattle.partition_stack.specs.Leaving.{LeavesOthers};
+ghost use Rattle.partition_stack.specs.Making.{MakesFew};
 ghost use Rattle.partition_stack.specs.Stack.{over};
 ghost use Rattle.tuple_stream.specs.Families.{AllClosed, slots_in};
 ghost use Rattle.tuple_stream.specs.Trails.{EnteredEvents, PinsFirst};
@@ -18,6 +19,7 @@ impl JoinOp {
         // Where no page was pinned, none is left before one is pinned again.
         ensures first { AllClosed (over self.left (St.holds store.old) (St.signs store.old)) → AllClosed (over self.right (St.holds store.old) (St.signs store.old)) → EnteredEvents PinsFirst (St.signs store.old).trail (St.signs store.new).trail }
         ensures idle { IsIdle self.client.tracker (St.holds store.new) }
+        ensures few { MakesFew 0 (St.signs store.old) (St.signs store.new) }
         ensures slots { (St.holds store.new).free_slots ≡ slots_in (over_both self.left self.right (St.holds store.old) (St.signs store.old)) }
         ensures leaves { LeavesOthers self.client.tracker (St.holds store.old) (St.holds store.new) (St.signs store.old) (St.signs store.new) }
     {

@@ -6,22 +6,22 @@ ghost use Rattle.row_codec.specs.RowLaws.{IsRow};
 ghost use Rattle.row_codec.specs.RowBytes.{key_bytes, row_bytes};
 ghost use Rattle.store_api.specs.Holdings.{length_of};
 ghost use Rattle.store_api.specs.Signs.{WasAnswered};
-ghost use Rattle.tuple_stream.specs.Families.{slots_in};
+ghost use Rattle.tuple_stream.specs.Families.{pages_in, slots_in};
 ghost use Rattle.tuple_stream.specs.FamilyCalls.{AllAtEnd, Feeds, RestsSome};
 ghost use Rattle.tuple_stream.specs.PageRows.{IsOneRow};
 ghost use Rattle.tuple_stream.specs.Steps.{came};
 ghost use Rattle.tuple_stream.specs.Touches.{IsFull};
 ghost use Rattle.partition_stack.specs.Leaving.{CameOfStore, LeavesOthers};
-ghost use Rattle.partition_stack.specs.Slots.{IsWantOf};
+ghost use Rattle.partition_stack.specs.Slots.{IsWantBelowOf, IsWantOf};
 ghost use Rattle.partition_stack.specs.Making.{MakesFew};
 ghost use Rattle.partition_stack.specs.Stack.{RestBelow, over};
-ghost use Rattle.join_op.specs.Operator.{HasNoRight, IsFeeding, IsOperator, IsSame, Keeps, MayBeFed, over_both};
+ghost use Rattle.join_op.specs.Operator.{HasNoRight, IsFeeding, IsOperator, IsSame, Keeps, MayBeFed, over_both, slots_for};
 ghost use Rattle.join_op.specs.Stored.{left_side, right_side};
 ghost use Rattle.join_op.specs.Beside.{CallsBeside, IsSpellable, MayCall, first_place};
 ghost use Rattle.partition_stack.specs.Sides.{OwnBoth};
 
 use crate::operator::JoinOp;
-use partition_stack::Partitions;
+use partition_stack::{Partitions, law_scratch};
 use reservation_tree::PoolErr;
 use row_codec::{Memory, Value, encode_row, hash64, key_bytes, nibble};
 use std::alloc::Global;
@@ -69,10 +69,13 @@ impl JoinOp {
         ensures leaves { LeavesOthers self.old.client.tracker (St.holds store.old) (St.holds store.new) (St.signs store.old) (St.signs store.new) }
         ensures slots { slots_in (over_both self.new.left self.new.right (St.holds store.new) (St.signs store.new)) ≡ slots_in (over_both self.old.left self.old.right (St.holds store.old) (St.signs store.old)) }
         ensures cause { IfErr result (CameOfStore self.old.left.page_blocks (St.holds store.new) (St.signs store.old) (St.signs store.new)) }
+        ensures few { MakesFew 1 (St.signs store.old) (St.signs store.new) }
         ensures want { IfErr result (IsWantOf self.old.left.page_blocks (slots_in (over_both self.old.left self.old.right (St.holds store.old) (St.signs store.old)))) }
+        ensures enough { IfErr result (λ e. (start : Option (List Entry)) → (lefts rights : List (List Value)) → Keeps start lefts rights self.old (St.holds store.old) (St.signs store.old) → IsWantBelowOf (slots_for self.old (St.holds store.old) (lefts ++ row.now ∷ []) rights) (slots_in (over_both self.old.left self.old.right (St.holds store.old) (St.signs store.old))) e) }
     {
         self.left.law_stack();
         self.right.law_stack();
+        law_scratch();
         let _len = store.block_len();
         self.left_rests = false;
         match put_row(
@@ -111,10 +114,13 @@ impl JoinOp {
         ensures leaves { LeavesOthers self.old.client.tracker (St.holds store.old) (St.holds store.new) (St.signs store.old) (St.signs store.new) }
         ensures slots { slots_in (over_both self.new.left self.new.right (St.holds store.new) (St.signs store.new)) ≡ slots_in (over_both self.old.left self.old.right (St.holds store.old) (St.signs store.old)) }
         ensures cause { IfErr result (CameOfStore self.old.left.page_blocks (St.holds store.new) (St.signs store.old) (St.signs store.new)) }
+        ensures few { MakesFew 1 (St.signs store.old) (St.signs store.new) }
         ensures want { IfErr result (IsWantOf self.old.left.page_blocks (slots_in (over_both self.old.left self.old.right (St.holds store.old) (St.signs store.old)))) }
+        ensures enough { IfErr result (λ e. (start : Option (List Entry)) → (lefts rights : List (List Value)) → Keeps start lefts rights self.old (St.holds store.old) (St.signs store.old) → IsWantBelowOf (slots_for self.old (St.holds store.old) lefts (rights ++ row.now ∷ [])) (slots_in (over_both self.old.left self.old.right (St.holds store.old) (St.signs store.old))) e) }
     {
         self.left.law_stack();
         self.right.law_stack();
+        law_scratch();
         let _len = store.block_len();
         if let Err(e) = rest_left(
             store,
@@ -154,6 +160,7 @@ pub(crate) fn rest_left<St: Store>(
     ensures still { left_rests.old ≡ true → (left.new ≡ left.old) × (St.holds store.new ≡ St.holds store.old) × (St.signs store.new ≡ St.signs store.old) }
     ensures beside { CallsBeside c.now.tracker left.old left.new _right.now (St.holds store.old) (St.holds store.new) (St.signs store.old) (St.signs store.new) }
     ensures made { MakesFew 0 (St.signs store.old) (St.signs store.new) }
+    ensures pages { pages_in (over left.new (St.holds store.new) (St.signs store.new)) ≡ pages_in (over left.old (St.holds store.old) (St.signs store.old)) }
     ensures rested { OnOk result (RestsSome c.now.tracker (length left.old.streams) (over left.old (St.holds store.old) (St.signs store.old)) (over left.new (St.holds store.new) (St.signs store.new))) }
     ensures rests { OnOk result (RestBelow (length left.new.streams) left.new) }
     ensures flag { left_rests.new ≡ true → RestBelow (length left.new.streams) left.new }
@@ -186,6 +193,7 @@ fn put_row<St: Store>(
     ensures beside { CallsBeside c.now.tracker parts.old parts.new _other.now (St.holds store.old) (St.holds store.new) (St.signs store.old) (St.signs store.new) }
     ensures went { Feeds c.now.tracker (first_place columns.now row.now) (came result (row_bytes row.now)) (over parts.old (St.holds store.old) (St.signs store.old)) (over parts.new (St.holds store.new) (St.signs store.new)) }
     ensures at_end { OnOk result (AllAtEnd (over parts.old (St.holds store.old) (St.signs store.old)) → AllAtEnd (over parts.new (St.holds store.new) (St.signs store.new))) }
+    ensures few { MakesFew 1 (St.signs store.old) (St.signs store.new) }
     ensures is_row { OnOk result (IsRow row.now) }
     ensures answers { IfErr result (λ e. WasAnswered e (St.signs store.old) (St.signs store.new) × IsFull parts.old.page_blocks (St.holds store.new).free_slots e) }
 {

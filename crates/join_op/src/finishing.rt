@@ -5,23 +5,26 @@ ghost use Rattle.row_codec.specs.declared.values.Value.{Value};
 ghost use Rattle.store_api.specs.Emitters.{CameOf};
 ghost use Rattle.store_api.specs.Signs.{WasAnswered};
 ghost use Rattle.tuple_stream.specs.Trails.{EnteredEvents};
-ghost use Rattle.partition_stack.specs.Causes.{CameOfEither, IsShort, IsShortOf};
+ghost use Rattle.partition_stack.specs.Causes.{CameBeside};
 ghost use Rattle.partition_stack.specs.Emitting.{IsBeside, LeavesBeside, StandsStill};
 ghost use Rattle.partition_stack.specs.Leaving.{LeavesOthers};
 ghost use Rattle.partition_stack.specs.Making.{MakesBeside, MakesFew};
+ghost use Rattle.partition_stack.specs.Slots.{IsWant, IsWantBelow, IsWantBelowOf, IsWantOf, KeepSlots, with_more};
+ghost use Rattle.tuple_stream.specs.Families.{slots_in};
 ghost use Rattle.partition_stack.specs.Stack.{RestBelow, first_sixteen, no_stack, over};
+ghost use Rattle.join_op.specs.Slots.{Crowds};
 ghost use Rattle.join_op.specs.Chunks.{AdmitsJoined};
-ghost use Rattle.join_op.specs.Handing.{Emitted, EmittedSome};
-ghost use Rattle.join_op.specs.Joining.{AreColumnsOfBoth, IsBetween, both};
+ghost use Rattle.join_op.specs.Handing.{Emitted, EmittedSome, IsWantAmong};
+ghost use Rattle.join_op.specs.Joining.{AreColumnsOfBoth, IsBetween, both, slots_both};
 ghost use Rattle.join_op.specs.Laid.{HoldsSides};
-ghost use Rattle.join_op.specs.Operator.{IsFeeding, IsOperator, Keeps, operator};
+ghost use Rattle.join_op.specs.Operator.{IsFeeding, IsOperator, Keeps, operator, over_both, slots_for};
 ghost use Rattle.join_op.specs.Pairs.{pairs_of};
 ghost use Rattle.join_op.specs.Rested.{HasRested, KeepsRested};
 
 use crate::feeding::{Spare, rest_left};
 use crate::joining::join_parts;
 use crate::operator::JoinOp;
-use partition_stack::Partitions;
+use partition_stack::{Partitions, law_scratch};
 use reservation_tree::PoolErr;
 use std::alloc::Global;
 use store_api::{Client, Emit, JoinShape, OpErr, Store};
@@ -45,9 +48,15 @@ fn rest_both<St: Store>(
     ensures rested { OnOk result (HasRested (both left.new right.new (St.holds store.new) (St.signs store.new))) }
     ensures kept { OnOk result ((start : Option (List Entry)) → (lefts rights : List (List Value)) → Keeps start lefts rights (operator c.now _shape.now left.old right.old) (St.holds store.old) (St.signs store.old) → KeepsRested start _shape.now lefts rights (both left.new right.new (St.holds store.new) (St.signs store.new))) }
     ensures blocks { left.new.page_blocks ≡ left.old.page_blocks }
-    ensures short { IfErr result (IsShort left.old.page_blocks) }
+    ensures slots { slots_both (both left.new right.new (St.holds store.new) (St.signs store.new)) ≡ slots_both (both left.old right.old (St.holds store.old) (St.signs store.old)) }
+    ensures want { IfErr result (IsWant left.old.page_blocks (slots_both (both left.old right.old (St.holds store.old) (St.signs store.old)))) }
+    ensures enough { IfErr result (λ e. (start : Option (List Entry)) → (lefts rights : List (List Value)) → Keeps start lefts rights (operator c.now _shape.now left.old right.old) (St.holds store.old) (St.signs store.old) → IsWantBelow (slots_for (operator c.now _shape.now left.old right.old) (St.holds store.old) lefts rights) (slots_both (both left.old right.old (St.holds store.old) (St.signs store.old))) e) }
     ensures cause { IfErr result (λ e. WasAnswered e (St.signs store.old) (St.signs store.new)) }
 {
+    left.law_stack();
+    right.law_stack();
+    law_scratch();
+    let _len = store.block_len();
     rest_left(store, c, left, left_rests, right)?;
     right.rest_from(store, c, 0)
 }
@@ -81,10 +90,14 @@ fn join_sides<St: Store, E: Emit<St>>(
     ensures leaves { LeavesBeside c.now.tracker (E.client emit.old) (St.holds store.old) (St.holds store.new) (St.signs store.old) (St.signs store.new) }
     ensures made { (start : Option (List Entry)) → (lefts rights : List (List Value)) → Keeps start lefts rights (operator c.now shape.now left.old right.old) (St.holds store.old) (St.signs store.old) → (St.holds store.old).told ≡ true → MakesBeside (15 * (length lefts + length rights)) (E.creates emit.old) (E.creates emit.new) (St.signs store.old) (St.signs store.new) }
     ensures emitter { StandsStill (E.admits emit.old) (E.admits emit.new) (E.client emit.old) (E.client emit.new) (E.faults emit.old) (E.faults emit.new) (E.took emit.old (St.holds store.old)) (E.took emit.new (St.holds store.new)) (St.holds store.new) }
-    ensures short { E.client emit.old ≡ None → IfErr result (IsShortOf left.old.page_blocks) }
+    ensures slots { KeepSlots (E.client emit.old) (slots_both (both left.old right.old (St.holds store.old) (St.signs store.old))) (slots_both (both left.new right.new (St.holds store.new) (St.signs store.new))) (E.slots emit.old (St.holds store.old)) (E.slots emit.new (St.holds store.new)) }
+    ensures alone { E.client emit.old ≡ None → IfErr result (IsWantOf left.old.page_blocks (slots_both (both left.old right.old (St.holds store.old) (St.signs store.old)))) }
+    ensures want { E.page_blocks ≡ left.old.page_blocks → IfErr result (IsWantOf left.old.page_blocks (with_more (E.slots emit.old (St.holds store.old)) (slots_both (both left.old right.old (St.holds store.old) (St.signs store.old))))) }
+    ensures enough { IfErr result (λ e. (start : Option (List Entry)) → (lefts rights : List (List Value)) → Keeps start lefts rights (operator c.now shape.now left.old right.old) (St.holds store.old) (St.signs store.old) → (St.holds store.old).told ≡ true → EmittedSome (E.took emit.old (St.holds store.old)) (Crowds (E.slots_for emit.old) (slots_for (operator c.now shape.now left.old right.old) (St.holds store.old) lefts rights) (with_more (E.slots emit.old (St.holds store.old)) (slots_both (both left.old right.old (St.holds store.old) (St.signs store.old)))) e) (pairs_of shape.now lefts rights)) }
     ensures cause { IfErr result (CameOf (E.faults emit.old) (E.faults emit.new) (St.signs store.old) (St.signs store.new)) }
     ensures closed { OnOk result (IsBetween (both left.new right.new (St.holds store.new) (St.signs store.new))) }
 {
+    let _len = store.block_len();
     rest_both(store, c, shape, left, left_rests, right)?;
     join_parts(
         alloc,
@@ -129,7 +142,10 @@ fn finish_sides<St: Store, E: Emit<St>>(
     ensures leaves { LeavesBeside c.now.tracker (E.client emit.old) (St.holds store.old) (St.holds store.new) (St.signs store.old) (St.signs store.new) }
     ensures made { (start : Option (List Entry)) → (lefts rights : List (List Value)) → Keeps start lefts rights (operator c.now shape.now left.old right.old) (St.holds store.old) (St.signs store.old) → (St.holds store.old).told ≡ true → MakesBeside (15 * (length lefts + length rights)) (E.creates emit.old) (E.creates emit.new) (St.signs store.old) (St.signs store.new) }
     ensures emitter { StandsStill (E.admits emit.old) (E.admits emit.new) (E.client emit.old) (E.client emit.new) (E.faults emit.old) (E.faults emit.new) (E.took emit.old (St.holds store.old)) (E.took emit.new (St.holds store.new)) (St.holds store.new) }
-    ensures short { E.client emit.old ≡ None → IfErr result (IsShortOf left.old.page_blocks) }
+    ensures slots { KeepSlots (E.client emit.old) (slots_both (both left.old right.old (St.holds store.old) (St.signs store.old))) (slots_both (both left.new right.new (St.holds store.new) (St.signs store.new))) (E.slots emit.old (St.holds store.old)) (E.slots emit.new (St.holds store.new)) }
+    ensures alone { E.client emit.old ≡ None → IfErr result (IsWantOf left.old.page_blocks (slots_both (both left.old right.old (St.holds store.old) (St.signs store.old)))) }
+    ensures want { E.page_blocks ≡ left.old.page_blocks → IfErr result (IsWantOf left.old.page_blocks (with_more (E.slots emit.old (St.holds store.old)) (slots_both (both left.old right.old (St.holds store.old) (St.signs store.old))))) }
+    ensures enough { IfErr result (λ e. (start : Option (List Entry)) → (lefts rights : List (List Value)) → Keeps start lefts rights (operator c.now shape.now left.old right.old) (St.holds store.old) (St.signs store.old) → (St.holds store.old).told ≡ true → EmittedSome (E.took emit.old (St.holds store.old)) (Crowds (E.slots_for emit.old) (slots_for (operator c.now shape.now left.old right.old) (St.holds store.old) lefts rights) (with_more (E.slots emit.old (St.holds store.old)) (slots_both (both left.old right.old (St.holds store.old) (St.signs store.old)))) e) (pairs_of shape.now lefts rights)) }
     ensures cause { IfErr result (CameOf (E.faults emit.old) (E.faults emit.new) (St.signs store.old) (St.signs store.new)) }
     ensures none { (left.new ≡ no_stack left.new.page_blocks) × (left_rests.new ≡ true) }
 {
@@ -180,7 +196,11 @@ impl JoinOp {
         // Each row goes to deeper partitions at most fifteen times.
         ensures made { (start : Option (List Entry)) → (lefts rights : List (List Value)) → Keeps start lefts rights self.old (St.holds store.old) (St.signs store.old) → (St.holds store.old).told ≡ true → MakesBeside (15 * (length lefts + length rights)) (E.creates emit.old) (E.creates emit.new) (St.signs store.old) (St.signs store.new) }
         ensures emitter { StandsStill (E.admits emit.old) (E.admits emit.new) (E.client emit.old) (E.client emit.new) (E.faults emit.old) (E.faults emit.new) (E.took emit.old (St.holds store.old)) (E.took emit.new (St.holds store.new)) (St.holds store.new) }
-        ensures cause { IfErr result (CameOfEither self.old.left.page_blocks (E.client emit.old) (E.faults emit.old) (E.faults emit.new) (St.signs store.old) (St.signs store.new)) }
+        ensures cause { IfErr result (CameBeside self.old.left.page_blocks (slots_in (over_both self.old.left self.old.right (St.holds store.old) (St.signs store.old))) (E.client emit.old) (E.faults emit.old) (E.faults emit.new) (St.signs store.old) (St.signs store.new)) }
+        ensures slots { KeepSlots (E.client emit.old) (slots_in (over_both self.old.left self.old.right (St.holds store.old) (St.signs store.old))) (slots_in (over_both self.new.left self.new.right (St.holds store.new) (St.signs store.new))) (E.slots emit.old (St.holds store.old)) (E.slots emit.new (St.holds store.new)) }
+        // Where the emitter's pages have as many blocks, so it is of the slots of both.
+        ensures want { E.page_blocks ≡ self.old.left.page_blocks → IfErr result (IsWantOf self.old.left.page_blocks (with_more (E.slots emit.old (St.holds store.old)) (slots_in (over_both self.old.left self.old.right (St.holds store.old) (St.signs store.old))))) }
+        ensures enough { IfErr result (λ e. (start : Option (List Entry)) → (lefts rights taken : List (List Value)) → Keeps start lefts rights self.old (St.holds store.old) (St.signs store.old) → (St.holds store.old).told ≡ true → E.took emit.old (St.holds store.old) taken → IsWantAmong (E.slots_for emit.old) taken (pairs_of self.old.shape lefts rights) (slots_for self.old (St.holds store.old) lefts rights) (with_more (E.slots emit.old (St.holds store.old)) (slots_in (over_both self.old.left self.old.right (St.holds store.old) (St.signs store.old)))) e) }
     {
         finish_sides(
             alloc,

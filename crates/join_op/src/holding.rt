@@ -7,8 +7,8 @@ ghost use Rattle.bucket_table.specs.Lending.{Lends};
 ghost use Rattle.bucket_table.specs.Tables.{with_nodes};
 ghost use Rattle.tuple_stream.specs.Places.{IsWithin};
 ghost use Rattle.tuple_stream.specs.Steps.{Reads, scene};
+ghost use Rattle.tuple_stream.specs.Touches.{IsFull};
 ghost use Rattle.partition_stack.specs.Making.{MakesFew};
-ghost use Rattle.partition_stack.specs.Causes.{IsShort};
 ghost use Rattle.partition_stack.specs.Reading.{IsReadable};
 ghost use Rattle.join_op.specs.Chunks.{AreColumns, IsKept, ReadsMore, kept_rows};
 ghost use Rattle.join_op.specs.Holding.{AreStored, HoldsOf, IsSameHeld, IsTableAt, LeavesRoom, MayHold, held_rows, held_side, loans_in, stored};
@@ -193,7 +193,7 @@ pub(crate) fn hold_next<St: Store>(
     ensures went { Reads c.now.tracker (scene builds.old (St.holds store.old) (St.signs store.old)) (scene builds.new (St.holds store.new) (St.signs store.new)) }
     ensures same { builds.new ≡ record builds.old { pinned = builds.new.pinned } }
     ensures cause { IfErr result (λ e. WasAnswered e (St.signs store.old) (St.signs store.new)) }
-    ensures short { IfErr result (IsShort builds.old.page_blocks) }
+    ensures full { IfErr result (IsFull builds.old.page_blocks (St.holds store.new).free_slots) }
 {
     match &mut held.table {
         Some(table) => fill_table(
@@ -251,7 +251,7 @@ fn keep_chunk<St: Store>(
     ensures went { Reads c.now.tracker (scene builds.old (St.holds store.old) (St.signs store.old)) (scene builds.new (St.holds store.new) (St.signs store.new)) }
     ensures same { builds.new ≡ record builds.old { pinned = builds.new.pinned } }
     ensures cause { IfErr result (λ e. WasAnswered e (St.signs store.old) (St.signs store.new)) }
-    ensures short { IfErr result (IsShort builds.old.page_blocks) }
+    ensures full { IfErr result (IsFull builds.old.page_blocks (St.holds store.new).free_slots) }
 {
     kept.clear();
     'more: while kept.len() < chunk {
@@ -332,7 +332,7 @@ fn fill_table<St: Store>(
     ensures went { Reads c.now.tracker (scene builds.old (St.holds store.old) (St.signs store.old)) (scene builds.new (St.holds store.new) (St.signs store.new)) }
     ensures same { builds.new ≡ record builds.old { pinned = builds.new.pinned } }
     ensures cause { IfErr result (λ e. WasAnswered e (St.signs store.old) (St.signs store.new)) }
-    ensures short { IfErr result (IsShort builds.old.page_blocks) }
+    ensures full { IfErr result (IsFull builds.old.page_blocks (St.holds store.new).free_slots) }
 {
     table.clear();
     'more: while table.has_room(longest) {

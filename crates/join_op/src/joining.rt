@@ -5,24 +5,26 @@ ghost use Rattle.store_api.specs.Conditions.{IsLiveClient};
 ghost use Rattle.store_api.specs.Emitters.{CameOf};
 ghost use Rattle.store_api.specs.Signs.{WasAnswered};
 ghost use Rattle.tuple_stream.specs.Families.{AllClosed, ShowAll};
+ghost use Rattle.tuple_stream.specs.FamilyCalls.{AllWhole};
 ghost use Rattle.tuple_stream.specs.Trails.{EnteredEvents, PinsFirst};
-ghost use Rattle.partition_stack.specs.Causes.{IsShort, IsShortOf};
 ghost use Rattle.partition_stack.specs.Emitting.{IsBeside, LeavesBeside, StandsStill};
 ghost use Rattle.partition_stack.specs.Leaving.{LeavesOthers};
 ghost use Rattle.partition_stack.specs.Making.{MakesBeside, MakesFew};
 ghost use Rattle.partition_stack.specs.Sides.{OwnBoth};
+ghost use Rattle.partition_stack.specs.Slots.{IsWant, IsWantBelow, IsWantBelowOf, IsWantOf, KeepSlots, with_more};
 ghost use Rattle.partition_stack.specs.Stack.{over, weight};
+ghost use Rattle.join_op.specs.Slots.{Crowds, SameMost};
 ghost use Rattle.join_op.specs.Chunks.{AdmitsJoined, stored_pairs};
 ghost use Rattle.join_op.specs.Dividing.{HasCalled};
 ghost use Rattle.join_op.specs.Handing.{Emitted, EmittedSome};
-ghost use Rattle.join_op.specs.Joining.{Advances, AreColumnsOfBoth, AreShallow, HasDivided, HasGoneOn, HasPopped, HasNoRowsAt, HasRowsAt, IsBetween, PinsBefore, ShowBoth, both, owed_both, pairs_down};
+ghost use Rattle.join_op.specs.Joining.{Advances, AreColumnsOfBoth, AreShallow, HasDivided, HasGoneOn, HasPopped, HasNoRowsAt, HasRowsAt, IsBetween, PinsBefore, ShowBoth, both, owed_both, pairs_down, slots_both, slots_by};
 ghost use Rattle.join_op.specs.Operator.{IsOperator, operator};
 
 use crate::chunks::leaf_by_table;
 use crate::dividing::divide_side;
 use crate::feeding::Spare;
 use crate::holding::buffers_in;
-use partition_stack::Partitions;
+use partition_stack::{Partitions, law_scratch};
 use reservation_tree::PoolErr;
 use std::alloc::Global;
 use store_api::{Client, Emit, JoinShape, OpErr, Store};
@@ -34,6 +36,7 @@ fn drop_one<St: Store>(store: &mut St, c: &Client, parts: &mut Partitions, _othe
     ensures called { HasCalled c.now.tracker parts.old parts.new _other.now (St.holds store.old) (St.holds store.new) (St.signs store.old) (St.signs store.new) }
     ensures made { MakesFew 0 (St.signs store.old) (St.signs store.new) }
     ensures shows { (rows : ℕ → List (List ℕ)) → ShowAll rows (over parts.old (St.holds store.old) (St.signs store.old)) → ShowAll rows (over parts.new (St.holds store.new) (St.signs store.new)) }
+    ensures whole { AllWhole (over parts.old (St.holds store.old) (St.signs store.old)) → AllWhole (over parts.new (St.holds store.new) (St.signs store.new)) }
     ensures popped { (at : ℕ) → length parts.old.streams ≡ at + 1 → HasPopped at parts.old parts.new }
     ensures closed { AllClosed (over parts.old (St.holds store.old) (St.signs store.old)) → AllClosed (over parts.new (St.holds store.new) (St.signs store.new)) }
     ensures first { AllClosed (over parts.old (St.holds store.old) (St.signs store.old)) → EnteredEvents PinsFirst (St.signs store.old).trail (St.signs store.new).trail }
@@ -62,6 +65,7 @@ fn drop_top<St: Store>(
     ensures between { IsBetween (both left.new right.new (St.holds store.new) (St.signs store.new)) }
     ensures shows { (lefts rights : ℕ → List (List ℕ)) → ShowBoth lefts rights (both left.old right.old (St.holds store.old) (St.signs store.old)) → ShowBoth lefts rights (both left.new right.new (St.holds store.new) (St.signs store.new)) }
     ensures popped { HasPopped _at left.old left.new }
+    ensures slots { slots_both (both left.new right.new (St.holds store.new) (St.signs store.new)) ≡ slots_both (both left.old right.old (St.holds store.old) (St.signs store.old)) }
     ensures first { EnteredEvents PinsFirst (St.signs store.old).trail (St.signs store.new).trail }
 {
     drop_one(store, c, left, right);
@@ -94,10 +98,15 @@ fn divide_both<St: Store>(
     ensures made { (lefts rights : ℕ → List (List ℕ)) → ShowBoth lefts rights (both left.old right.old (St.holds store.old) (St.signs store.old)) → MakesFew (length (lefts at) + length (rights at)) (St.signs store.old) (St.signs store.new) }
     ensures blocks { left.new.page_blocks ≡ left.old.page_blocks }
     ensures divided { OnOk result (HasDivided shape.now at level (both left.old right.old (St.holds store.old) (St.signs store.old)) (both left.new right.new (St.holds store.new) (St.signs store.new))) }
-    ensures short { IfErr result (IsShort left.old.page_blocks) }
+    ensures slots { slots_both (both left.new right.new (St.holds store.new) (St.signs store.new)) ≡ slots_both (both left.old right.old (St.holds store.old) (St.signs store.old)) }
+    ensures want { IfErr result (IsWant left.old.page_blocks (slots_both (both left.old right.old (St.holds store.old) (St.signs store.old)))) }
+    ensures enough { IfErr result (λ e. (lefts rights : ℕ → List (List ℕ)) → ShowBoth lefts rights (both left.old right.old (St.holds store.old) (St.signs store.old)) → IsWantBelow (slots_by (both left.old right.old (St.holds store.old) (St.signs store.old)) lefts rights) (slots_both (both left.old right.old (St.holds store.old) (St.signs store.old))) e) }
     ensures cause { IfErr result (λ e. WasAnswered e (St.signs store.old) (St.signs store.new)) }
 {
     left.law_stack();
+    right.law_stack();
+    law_scratch();
+    let _len = store.block_len();
     let left_kinds = shape.left.as_slice();
     let right_kinds = shape.right.as_slice();
     divide_side(
@@ -151,11 +160,17 @@ fn pair_top<St: Store, E: Emit<St>>(
     ensures made { MakesBeside 0 (E.creates emit.old) (E.creates emit.new) (St.signs store.old) (St.signs store.new) }
     ensures blocks { left.new.page_blocks ≡ left.old.page_blocks }
     ensures emitter { StandsStill (E.admits emit.old) (E.admits emit.new) (E.client emit.old) (E.client emit.new) (E.faults emit.old) (E.faults emit.new) (E.took emit.old (St.holds store.old)) (E.took emit.new (St.holds store.new)) (St.holds store.new) }
-    ensures short { E.client emit.old ≡ None → IfErr result (IsShortOf left.old.page_blocks) }
+    ensures slots { KeepSlots (E.client emit.old) (slots_both (both left.old right.old (St.holds store.old) (St.signs store.old))) (slots_both (both left.new right.new (St.holds store.new) (St.signs store.new))) (E.slots emit.old (St.holds store.old)) (E.slots emit.new (St.holds store.new)) }
+    ensures alone { E.client emit.old ≡ None → IfErr result (IsWantOf left.old.page_blocks (slots_both (both left.old right.old (St.holds store.old) (St.signs store.old)))) }
+    ensures want { E.page_blocks ≡ left.old.page_blocks → IfErr result (IsWantOf left.old.page_blocks (with_more (E.slots emit.old (St.holds store.old)) (slots_both (both left.old right.old (St.holds store.old) (St.signs store.old))))) }
+    ensures enough { IfErr result (λ e. (lefts rights : ℕ → List (List ℕ)) → ShowBoth lefts rights (both left.old right.old (St.holds store.old) (St.signs store.old)) → EmittedSome (E.took emit.old (St.holds store.old)) (Crowds (E.slots_for emit.old) (slots_by (both left.old right.old (St.holds store.old) (St.signs store.old)) lefts rights) (with_more (E.slots emit.old (St.holds store.old)) (slots_both (both left.old right.old (St.holds store.old) (St.signs store.old)))) e) (stored_pairs shape.now (lefts _at) (rights _at))) }
+    ensures most { SameMost (E.slots_for emit.old) (E.slots_for emit.new) }
     ensures cause { IfErr result (CameOf (E.faults emit.old) (E.faults emit.new) (St.signs store.old) (St.signs store.new)) }
 {
     left.law_stack();
     right.law_stack();
+    law_scratch();
+    let _len = store.block_len();
     let blocks = left.page_blocks();
     let mut one = left.pop();
     let mut other = right.pop();
@@ -206,6 +221,7 @@ fn reserve_top<St: Store>(
     ensures op { IsOperator (operator c.now _shape.now left.now right.now) (St.holds store.new) (St.signs store.new) }
     ensures between { IsBetween (both left.now right.now (St.holds store.new) (St.signs store.new)) }
     ensures shows { (lefts rights : ℕ → List (List ℕ)) → ShowBoth lefts rights (both left.now right.now (St.holds store.old) (St.signs store.old)) → ShowBoth lefts rights (both left.now right.now (St.holds store.new) (St.signs store.new)) }
+    ensures slots { slots_both (both left.now right.now (St.holds store.new) (St.signs store.new)) ≡ slots_both (both left.now right.now (St.holds store.old) (St.signs store.old)) }
     ensures leaves { LeavesOthers c.now.tracker (St.holds store.old) (St.holds store.new) (St.signs store.old) (St.signs store.new) }
     ensures made { MakesFew 0 (St.signs store.old) (St.signs store.new) }
     ensures first { EnteredEvents PinsFirst (St.signs store.old).trail (St.signs store.new).trail }
@@ -279,7 +295,11 @@ fn advance<St: Store, E: Emit<St>>(
     ensures made { (lefts rights : ℕ → List (List ℕ)) → ShowBoth lefts rights (both left.old right.old (St.holds store.old) (St.signs store.old)) → MakesBeside (owed_both (both left.old right.old (St.holds store.old) (St.signs store.old)) lefts rights) (E.creates emit.old) (E.creates emit.new) (St.signs store.old) (St.signs store.new) }
     ensures blocks { left.new.page_blocks ≡ left.old.page_blocks }
     ensures emitter { StandsStill (E.admits emit.old) (E.admits emit.new) (E.client emit.old) (E.client emit.new) (E.faults emit.old) (E.faults emit.new) (E.took emit.old (St.holds store.old)) (E.took emit.new (St.holds store.new)) (St.holds store.new) }
-    ensures short { E.client emit.old ≡ None → IfErr result (IsShortOf left.old.page_blocks) }
+    ensures slots { KeepSlots (E.client emit.old) (slots_both (both left.old right.old (St.holds store.old) (St.signs store.old))) (slots_both (both left.new right.new (St.holds store.new) (St.signs store.new))) (E.slots emit.old (St.holds store.old)) (E.slots emit.new (St.holds store.new)) }
+    ensures alone { E.client emit.old ≡ None → IfErr result (IsWantOf left.old.page_blocks (slots_both (both left.old right.old (St.holds store.old) (St.signs store.old)))) }
+    ensures want { E.page_blocks ≡ left.old.page_blocks → IfErr result (IsWantOf left.old.page_blocks (with_more (E.slots emit.old (St.holds store.old)) (slots_both (both left.old right.old (St.holds store.old) (St.signs store.old))))) }
+    ensures enough { IfErr result (λ e. (lefts rights : ℕ → List (List ℕ)) → ShowBoth lefts rights (both left.old right.old (St.holds store.old) (St.signs store.old)) → EmittedSome (E.took emit.old (St.holds store.old)) (Crowds (E.slots_for emit.old) (slots_by (both left.old right.old (St.holds store.old) (St.signs store.old)) lefts rights) (with_more (E.slots emit.old (St.holds store.old)) (slots_both (both left.old right.old (St.holds store.old) (St.signs store.old)))) e) (pairs_down shape.now (length left.old.streams) lefts rights)) }
+    ensures most { SameMost (E.slots_for emit.old) (E.slots_for emit.new) }
     ensures cause { IfErr result (CameOf (E.faults emit.old) (E.faults emit.new) (St.signs store.old) (St.signs store.new)) }
 {
     let at = left.len() - 1;
@@ -334,9 +354,14 @@ pub(crate) fn join_parts<St: Store, E: Emit<St>>(
     ensures made { (lefts rights : ℕ → List (List ℕ)) → ShowBoth lefts rights (both left.old right.old (St.holds store.old) (St.signs store.old)) → MakesBeside (owed_both (both left.old right.old (St.holds store.old) (St.signs store.old)) lefts rights) (E.creates emit.old) (E.creates emit.new) (St.signs store.old) (St.signs store.new) }
     ensures closed { OnOk result (IsBetween (both left.new right.new (St.holds store.new) (St.signs store.new))) }
     ensures emitter { StandsStill (E.admits emit.old) (E.admits emit.new) (E.client emit.old) (E.client emit.new) (E.faults emit.old) (E.faults emit.new) (E.took emit.old (St.holds store.old)) (E.took emit.new (St.holds store.new)) (St.holds store.new) }
-    ensures short { E.client emit.old ≡ None → IfErr result (IsShortOf left.old.page_blocks) }
+    ensures slots { KeepSlots (E.client emit.old) (slots_both (both left.old right.old (St.holds store.old) (St.signs store.old))) (slots_both (both left.new right.new (St.holds store.new) (St.signs store.new))) (E.slots emit.old (St.holds store.old)) (E.slots emit.new (St.holds store.new)) }
+    ensures alone { E.client emit.old ≡ None → IfErr result (IsWantOf left.old.page_blocks (slots_both (both left.old right.old (St.holds store.old) (St.signs store.old)))) }
+    ensures want { E.page_blocks ≡ left.old.page_blocks → IfErr result (IsWantOf left.old.page_blocks (with_more (E.slots emit.old (St.holds store.old)) (slots_both (both left.old right.old (St.holds store.old) (St.signs store.old))))) }
+    ensures enough { IfErr result (λ e. (lefts rights : ℕ → List (List ℕ)) → ShowBoth lefts rights (both left.old right.old (St.holds store.old) (St.signs store.old)) → EmittedSome (E.took emit.old (St.holds store.old)) (Crowds (E.slots_for emit.old) (slots_by (both left.old right.old (St.holds store.old) (St.signs store.old)) lefts rights) (with_more (E.slots emit.old (St.holds store.old)) (slots_both (both left.old right.old (St.holds store.old) (St.signs store.old)))) e) (pairs_down shape.now (length left.old.streams) lefts rights)) }
+    ensures most { SameMost (E.slots_for emit.old) (E.slots_for emit.new) }
     ensures cause { IfErr result (CameOf (E.faults emit.old) (E.faults emit.new) (St.signs store.old) (St.signs store.new)) }
 {
+    let _len = store.block_len();
     'down: while left.len() > 0 {
         reserve_top(store, c, shape, left, right);
         advance(

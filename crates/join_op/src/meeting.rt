@@ -5,12 +5,14 @@ ghost use Rattle.store_api.specs.Emitters.{CameOf, HasClient};
 ghost use Rattle.store_api.specs.Shapes.{IsJoinShape};
 ghost use Rattle.bucket_table.specs.Tables.{HasNode, row_of};
 ghost use Rattle.tuple_stream.specs.Streams.{HasRows};
-ghost use Rattle.partition_stack.specs.Causes.{CameOfEither};
+ghost use Rattle.tuple_stream.specs.Touches.{slots_with};
 ghost use Rattle.partition_stack.specs.Emitting.{IsBeside, StaysEmitter, Stood, WentOn};
 ghost use Rattle.partition_stack.specs.Reading.{IsReadable};
+ghost use Rattle.partition_stack.specs.Slots.{IsWantOf, KeepSlots, with_more};
 ghost use Rattle.join_op.specs.Chunks.{AdmitsJoined, AreColumns, AreReadable, IsKept, ReadBoth, ReadOne, kept_rows, stored_pairs};
 ghost use Rattle.join_op.specs.Handing.{Emitted, EmittedSome};
 ghost use Rattle.join_op.specs.Holding.{AreStored, HoldsOf, IsSameHeld, MayHold, held_rows, held_side, pairs_with, read_side, stored};
+ghost use Rattle.join_op.specs.Slots.{CameFull, Crowds, SameMost, slots_of_two};
 ghost use Rattle.join_op.specs.Stored.{left_side, right_side};
 
 use crate::feeding::Spare;
@@ -74,8 +76,12 @@ pub(crate) fn join_held<St: Store, E: Emit<St>>(
     ensures ok { OnOk result ((firsts seconds : List (List ℕ)) → (St.holds store.old).told ≡ true → HasRows firsts reads.old (St.holds store.old) → HasRows seconds builds.old (St.holds store.old) → Emitted (E.took emit.old (St.holds store.old)) (E.took emit.new (St.holds store.new)) (pairs_with turned shape.now firsts seconds)) }
     ensures err { OnErr result ((firsts seconds : List (List ℕ)) → (St.holds store.old).told ≡ true → HasRows firsts reads.old (St.holds store.old) → HasRows seconds builds.old (St.holds store.old) → EmittedSome (E.took emit.old (St.holds store.old)) (E.took emit.new (St.holds store.new)) (pairs_with turned shape.now firsts seconds)) }
     ensures stands { WentOn (E.took emit.old (St.holds store.old)) (E.took emit.new (St.holds store.new)) }
-    ensures cause { IfErr result (CameOfEither reads.old.page_blocks (E.client emit.old) (E.faults emit.old) (E.faults emit.new) (St.signs store.old) (St.signs store.new)) }
+    ensures cause { IfErr result (CameFull reads.old.page_blocks (St.holds store.new).free_slots (E.client emit.old) (E.faults emit.old) (E.faults emit.new) (St.signs store.old) (St.signs store.new)) }
+    ensures want { E.page_blocks ≡ reads.old.page_blocks → IfErr result (IsWantOf reads.old.page_blocks (with_more (E.slots emit.new (St.holds store.new)) (St.holds store.new).free_slots)) }
+    ensures crowded { IfErr result (λ e. (firsts seconds : List (List ℕ)) → (St.holds store.old).told ≡ true → HasRows firsts reads.old (St.holds store.old) → HasRows seconds builds.old (St.holds store.old) → EmittedSome (E.took emit.old (St.holds store.old)) (Crowds (E.slots_for emit.old) reads.old.page_blocks (with_more (E.slots emit.new (St.holds store.new)) (St.holds store.new).free_slots) e) (pairs_with turned shape.now firsts seconds)) }
+    ensures most { SameMost (E.slots_for emit.old) (E.slots_for emit.new) }
     ensures streams { ReadBoth c.now.tracker (E.client emit.old) reads.old reads.new builds.old builds.new (St.holds store.old) (St.holds store.new) }
+    ensures slots { KeepSlots (E.client emit.old) (slots_of_two reads.old builds.old (St.holds store.old)) (slots_of_two reads.new builds.new (St.holds store.new)) (E.slots emit.old (St.holds store.old)) (E.slots emit.new (St.holds store.new)) }
     ensures held { IsSameHeld held.old held.new }
     ensures emitter { StaysEmitter (E.admits emit.old) (E.admits emit.new) (E.client emit.old) (E.client emit.new) (E.faults emit.old) (E.faults emit.new) (E.creates emit.old) (E.creates emit.new) (St.holds store.new) (St.signs store.old) (St.signs store.new) }
 {
@@ -145,8 +151,12 @@ fn join_chunk<St: Store, E: Emit<St>>(
     ensures ok { OnOk result ((firsts : List (List ℕ)) → (St.holds store.old).told ≡ true → HasRows firsts reads.old (St.holds store.old) → Emitted (E.took emit.old (St.holds store.old)) (E.took emit.new (St.holds store.new)) (pairs_with turned shape.now firsts (held_rows held.now))) }
     ensures err { OnErr result ((firsts : List (List ℕ)) → (St.holds store.old).told ≡ true → HasRows firsts reads.old (St.holds store.old) → EmittedSome (E.took emit.old (St.holds store.old)) (E.took emit.new (St.holds store.new)) (pairs_with turned shape.now firsts (held_rows held.now))) }
     ensures stands { WentOn (E.took emit.old (St.holds store.old)) (E.took emit.new (St.holds store.new)) }
-    ensures cause { IfErr result (CameOfEither reads.old.page_blocks (E.client emit.old) (E.faults emit.old) (E.faults emit.new) (St.signs store.old) (St.signs store.new)) }
+    ensures cause { IfErr result (CameFull reads.old.page_blocks (St.holds store.new).free_slots (E.client emit.old) (E.faults emit.old) (E.faults emit.new) (St.signs store.old) (St.signs store.new)) }
+    ensures want { E.page_blocks ≡ reads.old.page_blocks → IfErr result (IsWantOf reads.old.page_blocks (with_more (E.slots emit.new (St.holds store.new)) (St.holds store.new).free_slots)) }
+    ensures crowded { IfErr result (λ e. (firsts : List (List ℕ)) → (St.holds store.old).told ≡ true → HasRows firsts reads.old (St.holds store.old) → EmittedSome (E.took emit.old (St.holds store.old)) (Crowds (E.slots_for emit.old) reads.old.page_blocks (with_more (E.slots emit.new (St.holds store.new)) (St.holds store.new).free_slots) e) (pairs_with turned shape.now firsts (held_rows held.now))) }
+    ensures most { SameMost (E.slots_for emit.old) (E.slots_for emit.new) }
     ensures stream { ReadOne c.now.tracker (E.client emit.old) reads.old reads.new (St.holds store.old) (St.holds store.new) }
+    ensures slots { KeepSlots (E.client emit.old) (slots_with reads.old (St.holds store.old)) (slots_with reads.new (St.holds store.new)) (E.slots emit.old (St.holds store.old)) (E.slots emit.new (St.holds store.new)) }
     ensures emitter { StaysEmitter (E.admits emit.old) (E.admits emit.new) (E.client emit.old) (E.client emit.new) (E.faults emit.old) (E.faults emit.new) (E.creates emit.old) (E.creates emit.new) (St.holds store.new) (St.signs store.old) (St.signs store.new) }
 {
     let mut place = At::first();
@@ -197,7 +207,11 @@ fn meet<St: Store, E: Emit<St>>(
     ensures ok { OnOk result (Emitted (E.took emit.old (St.holds store.old)) (E.took emit.new (St.holds store.new)) (pairs_with turned shape.now (row.now.row.items ∷ []) (held_rows held.now))) }
     ensures err { OnErr result (EmittedSome (E.took emit.old (St.holds store.old)) (E.took emit.new (St.holds store.new)) (pairs_with turned shape.now (row.now.row.items ∷ []) (held_rows held.now))) }
     ensures cause { IfErr result (CameOf (E.faults emit.old) (E.faults emit.new) (St.signs store.old) (St.signs store.new)) }
+    ensures want { IfErr result (IsWantOf E.page_blocks (with_more (E.slots emit.new (St.holds store.new)) (St.holds store.new).free_slots)) }
+    ensures crowded { IfErr result (λ e. EmittedSome (E.took emit.old (St.holds store.old)) (Crowds (E.slots_for emit.old) 0 (with_more (E.slots emit.new (St.holds store.new)) (St.holds store.new).free_slots) e) (pairs_with turned shape.now (row.now.row.items ∷ []) (held_rows held.now))) }
+    ensures most { SameMost (E.slots_for emit.old) (E.slots_for emit.new) }
     ensures stood { Stood (E.admits emit.old) (E.admits emit.new) (E.client emit.old) (E.client emit.new) (E.faults emit.old) (E.faults emit.new) (E.creates emit.old) (E.creates emit.new) (St.holds store.old) (St.holds store.new) (St.signs store.old) (St.signs store.new) }
+    ensures slots { KeepSlots (E.client emit.old) (St.holds store.old).free_slots (St.holds store.new).free_slots (E.slots emit.old (St.holds store.old)) (E.slots emit.new (St.holds store.new)) }
 {
     match &held.table {
         Some(table) => meet_chain(
@@ -226,7 +240,11 @@ fn meet_kept<St: Store, E: Emit<St>>(
     ensures ok { OnOk result (Emitted (E.took emit.old (St.holds store.old)) (E.took emit.new (St.holds store.new)) (pairs_with turned shape.now (row.now.row.items ∷ []) (kept_rows kept.now))) }
     ensures err { OnErr result (EmittedSome (E.took emit.old (St.holds store.old)) (E.took emit.new (St.holds store.new)) (pairs_with turned shape.now (row.now.row.items ∷ []) (kept_rows kept.now))) }
     ensures cause { IfErr result (CameOf (E.faults emit.old) (E.faults emit.new) (St.signs store.old) (St.signs store.new)) }
+    ensures want { IfErr result (IsWantOf E.page_blocks (with_more (E.slots emit.new (St.holds store.new)) (St.holds store.new).free_slots)) }
+    ensures crowded { IfErr result (λ e. EmittedSome (E.took emit.old (St.holds store.old)) (Crowds (E.slots_for emit.old) 0 (with_more (E.slots emit.new (St.holds store.new)) (St.holds store.new).free_slots) e) (pairs_with turned shape.now (row.now.row.items ∷ []) (kept_rows kept.now))) }
+    ensures most { SameMost (E.slots_for emit.old) (E.slots_for emit.new) }
     ensures stood { Stood (E.admits emit.old) (E.admits emit.new) (E.client emit.old) (E.client emit.new) (E.faults emit.old) (E.faults emit.new) (E.creates emit.old) (E.creates emit.new) (St.holds store.old) (St.holds store.new) (St.signs store.old) (St.signs store.new) }
+    ensures slots { KeepSlots (E.client emit.old) (St.holds store.old).free_slots (St.holds store.new).free_slots (E.slots emit.old (St.holds store.old)) (E.slots emit.new (St.holds store.new)) }
 {
     for right in kept {
         join_two(alloc, store, shape, turned, row, right, pair, emit)?;
@@ -256,7 +274,11 @@ fn meet_chain<St: Store, E: Emit<St>>(
     ensures ok { OnOk result (Emitted (E.took emit.old (St.holds store.old)) (E.took emit.new (St.holds store.new)) (pairs_with turned shape.now (row.now.row.items ∷ []) (stored table.now.nodes))) }
     ensures err { OnErr result (EmittedSome (E.took emit.old (St.holds store.old)) (E.took emit.new (St.holds store.new)) (pairs_with turned shape.now (row.now.row.items ∷ []) (stored table.now.nodes))) }
     ensures cause { IfErr result (CameOf (E.faults emit.old) (E.faults emit.new) (St.signs store.old) (St.signs store.new)) }
+    ensures want { IfErr result (IsWantOf E.page_blocks (with_more (E.slots emit.new (St.holds store.new)) (St.holds store.new).free_slots)) }
+    ensures crowded { IfErr result (λ e. EmittedSome (E.took emit.old (St.holds store.old)) (Crowds (E.slots_for emit.old) 0 (with_more (E.slots emit.new (St.holds store.new)) (St.holds store.new).free_slots) e) (pairs_with turned shape.now (row.now.row.items ∷ []) (stored table.now.nodes))) }
+    ensures most { SameMost (E.slots_for emit.old) (E.slots_for emit.new) }
     ensures stood { Stood (E.admits emit.old) (E.admits emit.new) (E.client emit.old) (E.client emit.new) (E.faults emit.old) (E.faults emit.new) (E.creates emit.old) (E.creates emit.new) (St.holds store.old) (St.holds store.new) (St.signs store.old) (St.signs store.new) }
+    ensures slots { KeepSlots (E.client emit.old) (St.holds store.old).free_slots (St.holds store.new).free_slots (E.slots emit.old (St.holds store.old)) (E.slots emit.new (St.holds store.new)) }
 {
     let mut next = table.find_first(hash64(&row.key));
     'chain: while let Some(node) = next {
@@ -308,7 +330,11 @@ fn join_two<St: Store, E: Emit<St>>(
     ensures ok { OnOk result (Emitted (E.took emit.old (St.holds store.old)) (E.took emit.new (St.holds store.new)) (pairs_with turned shape.now (row.now.row.items ∷ []) (other.now.row.items ∷ []))) }
     ensures err { OnErr result (EmittedSome (E.took emit.old (St.holds store.old)) (E.took emit.new (St.holds store.new)) (pairs_with turned shape.now (row.now.row.items ∷ []) (other.now.row.items ∷ []))) }
     ensures cause { IfErr result (CameOf (E.faults emit.old) (E.faults emit.new) (St.signs store.old) (St.signs store.new)) }
+    ensures want { IfErr result (IsWantOf E.page_blocks (with_more (E.slots emit.new (St.holds store.new)) (St.holds store.new).free_slots)) }
+    ensures crowded { IfErr result (λ e. EmittedSome (E.took emit.old (St.holds store.old)) (Crowds (E.slots_for emit.old) 0 (with_more (E.slots emit.new (St.holds store.new)) (St.holds store.new).free_slots) e) (pairs_with turned shape.now (row.now.row.items ∷ []) (other.now.row.items ∷ []))) }
+    ensures most { SameMost (E.slots_for emit.old) (E.slots_for emit.new) }
     ensures stood { Stood (E.admits emit.old) (E.admits emit.new) (E.client emit.old) (E.client emit.new) (E.faults emit.old) (E.faults emit.new) (E.creates emit.old) (E.creates emit.new) (St.holds store.old) (St.holds store.new) (St.signs store.old) (St.signs store.new) }
+    ensures slots { KeepSlots (E.client emit.old) (St.holds store.old).free_slots (St.holds store.new).free_slots (E.slots emit.old (St.holds store.old)) (E.slots emit.new (St.holds store.new)) }
 {
     if turned {
         return join_one(alloc, store, shape, other, row, pair, emit);
@@ -334,7 +360,11 @@ fn join_one<St: Store, E: Emit<St>>(
     ensures ok { OnOk result (Emitted (E.took emit.old (St.holds store.old)) (E.took emit.new (St.holds store.new)) (stored_pairs shape.now (left.now.row.items ∷ []) (right.now.row.items ∷ []))) }
     ensures err { OnErr result (EmittedSome (E.took emit.old (St.holds store.old)) (E.took emit.new (St.holds store.new)) (stored_pairs shape.now (left.now.row.items ∷ []) (right.now.row.items ∷ []))) }
     ensures cause { IfErr result (CameOf (E.faults emit.old) (E.faults emit.new) (St.signs store.old) (St.signs store.new)) }
+    ensures want { IfErr result (IsWantOf E.page_blocks (with_more (E.slots emit.new (St.holds store.new)) (St.holds store.new).free_slots)) }
+    ensures crowded { IfErr result (λ e. EmittedSome (E.took emit.old (St.holds store.old)) (Crowds (E.slots_for emit.old) 0 (with_more (E.slots emit.new (St.holds store.new)) (St.holds store.new).free_slots) e) (stored_pairs shape.now (left.now.row.items ∷ []) (right.now.row.items ∷ []))) }
+    ensures most { SameMost (E.slots_for emit.old) (E.slots_for emit.new) }
     ensures stood { Stood (E.admits emit.old) (E.admits emit.new) (E.client emit.old) (E.client emit.new) (E.faults emit.old) (E.faults emit.new) (E.creates emit.old) (E.creates emit.new) (St.holds store.old) (St.holds store.new) (St.signs store.old) (St.signs store.new) }
+    ensures slots { KeepSlots (E.client emit.old) (St.holds store.old).free_slots (St.holds store.new).free_slots (E.slots emit.old (St.holds store.old)) (E.slots emit.new (St.holds store.new)) }
 {
     if left.key.as_slice() != right.key.as_slice() {
         return Ok(());

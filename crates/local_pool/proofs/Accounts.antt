@@ -38,7 +38,7 @@ use Rattle.pin_core.specs.Standing.{Enters}
 use Rattle.pin_core.specs.Entering.{unused_of, growth_refusal, fit_refusal, client_entry, move_entry}
 use Rattle.pin_core.specs.Opening.{leaving_entries}
 use Rattle.local_pool.specs.declared.owned.Owned.{Owned}
-use Rattle.pin_core.specs.declared.tally.Tally.{Tally}
+use Rattle.local_pool.specs.Counting.{AtOpening}
 use Rattle.local_pool.specs.Told.{all_tell, held_of}
 use Rattle.local_pool.specs.Making.{Goes, Makes, is_calm, rests}
 use Rattle.local_pool.specs.Standing.{IsStill, Stands}
@@ -143,7 +143,7 @@ pub asked_then : {D : Type 0} (slot : Ghosts D) (t : ℕ) (e : Event) (start now
 asked_then slot t e start now new asked last =
     makes_more slot start now new asked last (subst (λ (es : List Event). IsAsked t (held_of slot start) (e ∷ []) (asked.events ++ es)) (sym last.is) (asked_last t (held_of slot start) asked.events (e ∷ []) asked.is))
 
-module _ {D : Type 0} (slot : Ghosts D) (own : Owned D) {tally : Option Tally} (is : Stands slot tally own) where
+module _ {D : Type 0} (slot : Ghosts D) (own : Owned D) {tally : Option AtOpening} (is : Stands slot tally own) where
   abbrev s : State
   s = state_of own.pool
 

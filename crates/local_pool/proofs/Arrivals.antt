@@ -30,7 +30,7 @@ use Rattle.pin_core.specs.Standing.{Enters}
 use Rattle.pin_core.specs.Evictions.{MakesRoom, blocks_in, evictions, names_gone}
 use Rattle.pin_core.specs.Coming.{CanHold, zeros}
 use Rattle.local_pool.specs.declared.owned.Owned.{Owned}
-use Rattle.pin_core.specs.declared.tally.Tally.{Tally}
+use Rattle.local_pool.specs.Counting.{AtOpening}
 use Rattle.local_pool.specs.Told.{held_of, signs_of}
 use Rattle.local_pool.specs.Making.{Goes, Makes, is_calm, rests}
 use Rattle.local_pool.specs.Needing.{IsNeeded, EntersNeeded}
@@ -116,7 +116,7 @@ module _ {D : Type 0} (slot : Ghosts D) where
       ∙ append_assoc own.trail (by m evicts) (by m (e ∷ [])) ∙ ap (λ (es : List Entry). own.trail ++ es) (sym both)) session
       (subst (λ (es : List Entry). Enters slot es [] [] own.pool new.pool) (ap (λ (es : List Entry). es ++ by m (e ∷ [])) (sym (evicts_by m (names_gone blocks own.pool))) ∙ sym both) enters)
 
-  module _ (own new : Owned D) {first : Option Tally} (is : Stands slot first own) (blocks : ℕ) (e : Event) (went : Goes slot (evicts_for blocks own ++ e ∷ []) own new)
+  module _ (own new : Owned D) {first : Option AtOpening} (is : Stands slot first own) (blocks : ℕ) (e : Event) (went : Goes slot (evicts_for blocks own ++ e ∷ []) own new)
       (calm : is_calm e ≡ true) (rest : rests e ≡ true) (live : is_some (after_events (held_of slot own) (e ∷ [])).free_slots ≡ true) where
     abbrev names : List ℕ
     names = names_gone blocks own.pool
@@ -143,7 +143,7 @@ module _ {D : Type 0} (slot : Ghosts D) where
         (needed_then t amount own.session (evicts_for blocks own) (e ∷ []) s (needed_evicts t amount own.session names s fewest)
         (always (run s (by own.session (evicts_for blocks own))), tt))
 
-  module _ (own : Owned D) {first : Option Tally} (is : Stands slot first own) (t blocks : ℕ) where
+  module _ (own : Owned D) {first : Option AtOpening} (is : Stands slot first own) (t blocks : ℕ) where
     abbrev s : State
     s = state_of own.pool
 
@@ -195,7 +195,7 @@ module _ {D : Type 0} (slot : Ghosts D) where
     names_spent last = le-leb 18446744073709551615 s.next_name (omega (arith, last))
 
   -- the page that came, or the refusal for want of a name
-  module _ (own new : Owned D) {first : Option Tally} (is : Stands slot first own) (t blocks : ℕ) where
+  module _ (own new : Owned D) {first : Option AtOpening} (is : Stands slot first own) (t blocks : ℕ) where
     abbrev Came : PageToken × Buffer → Type 0
     Came made = Goes slot (evicts_for blocks own ++ Create made.0.name t blocks made.0.key ∷ []) own new
 

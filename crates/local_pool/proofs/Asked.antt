@@ -30,7 +30,7 @@ use Rattle.pin_core.specs.Refusing.{MayEnter, refusal_of}
 use Rattle.pin_core.specs.PinTurns.{IsStored}
 use Rattle.pin_core.specs.Turns.{failure_of}
 use Rattle.local_pool.specs.declared.owned.Owned.{Owned}
-use Rattle.pin_core.specs.declared.tally.Tally.{Tally}
+use Rattle.local_pool.specs.Counting.{AtOpening}
 use Rattle.local_pool.specs.Told.{held_of}
 use Rattle.pin_core.specs.Tallies.{silence}
 use Rattle.local_pool.specs.Making.{Goes, Makes, is_calm, rests}
@@ -40,7 +40,7 @@ use Rattle.local_pool.proofs.Growing.{grown, makes, sums_rest}
 use Rattle.local_pool.proofs.Knowing.{Knows, knows, left_of}
 use Rattle.local_pool.proofs.Still.{still_run}
 
-module _ {D : Type 0} (slot : Ghosts D) (own new : Owned D) {first : Option Tally} (is : Stands slot first own) (e : Event) (went : Goes slot (e ∷ []) own new) (calm : is_calm e ≡ true) (rest : rests e ≡ true) where
+module _ {D : Type 0} (slot : Ghosts D) (own new : Owned D) {first : Option AtOpening} (is : Stands slot first own) (e : Event) (went : Goes slot (e ∷ []) own new) (calm : is_calm e ≡ true) (rest : rests e ≡ true) where
   -- one entry more, after which nothing is in a job
   pub one_more : is_some (after_events (held_of slot own) (e ∷ [])).free_slots ≡ true → Stands slot first new
   one_more live = grown slot own new (e ∷ []) went is (calm, tt) live (subst IsStill (sym went.state) (still_run own.session (e ∷ []) (state_of own.pool) (rest, tt) is.still)) (sums_rest slot own new (e ∷ []) went is (rest, tt))
@@ -102,7 +102,7 @@ more_in_all m c h more rose =
     let others : failures_in (others_of m c) h ≤ failures_in (others_of m c) (h ++ more) = failures_grow (others_of m c) refl h more in
     omega (arith, rose, before, now, others)
 
-module _ {D : Type 0} (slot : Ghosts D) (own : Owned D) {first : Option Tally} (is : Stands slot first own) where
+module _ {D : Type 0} (slot : Ghosts D) (own : Owned D) {first : Option AtOpening} (is : Stands slot first own) where
   -- a failure that is kept since the owner asked was counted since
   pub rose : (c j : ℕ) → failure_of (state_of own.pool) own.session c ≡ Some j → (h more : List Entry) → own.trail ≡ h ++ more → asks_in own.session more ≡ true → Rose c h own
   rose c j failed h more same asked =

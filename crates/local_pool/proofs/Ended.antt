@@ -25,14 +25,14 @@ use Rattle.pin_core.specs.Sessions.{query_of}
 use Rattle.pin_core.specs.Standing.{StandsFor, Enters}
 use Rattle.pin_core.specs.Opening.{ending_entries}
 use Rattle.local_pool.specs.declared.owned.Owned.{Owned}
-use Rattle.pin_core.specs.declared.tally.Tally.{Tally}
+use Rattle.local_pool.specs.Counting.{AtOpening}
 use Rattle.local_pool.specs.Told.{outset_of, held_of}
 use Rattle.local_pool.specs.Standing.{Stands}
 use Rattle.local_pool.proofs.Growing.{alone_more}
 use Rattle.local_pool.proofs.Knowing.{Knows, knows, opening_len}
 use Rattle.local_pool.proofs.Begun.{none_when}
 
-module _ {D : Type 0} (slot : Ghosts D) (own : Owned D) {first : Option Tally} (is : Stands slot first own) where
+module _ {D : Type 0} (slot : Ghosts D) (own : Owned D) {first : Option AtOpening} (is : Stands slot first own) where
   abbrev s : State
   s = state_of own.pool
 

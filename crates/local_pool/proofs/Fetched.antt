@@ -44,7 +44,7 @@ use Rattle.local_pool.specs.declared.owned.Owned.{Owned}
 use Rattle.pin_core.specs.declared.tally.Tally.{Tally}
 use Rattle.local_pool.specs.Told.{held_of}
 use Rattle.pin_core.specs.Tallies.{silence, Counted, all_failures, tally_in}
-use Rattle.local_pool.specs.Counting.{SumsHold}
+use Rattle.local_pool.specs.Counting.{AtOpening, SumsHold}
 use Rattle.local_pool.specs.Making.{Goes, Makes}
 use Rattle.local_pool.specs.Needing.{IsNeeded, AreNeeded, EntersNeeded}
 use Rattle.local_pool.specs.Standing.{Stands, IsStill}
@@ -107,7 +107,7 @@ failure_kept s m c p before now session lives whose client =
     let there : get new.sessions m ≡ Some changed = ap (λ (ss : Sessions). get ss m) (noted ∙ now_is) ∙ get_same s.sessions m changed in
     ap (λ (o : Option Session). is_some (option_and_then (λ x. get x.failures c) o)) there ∙ ap is_some (first_kept c s.entries session.failures) ∙ some_or (get session.failures c) s.entries
 
-module _ {D : Type 0} (slot : Ghosts D) (own : Owned D) {first : Option Tally} (is : Stands slot first own) (p : PageToken) (can : CanBePinned p (held_of slot own)) (job : ReadJob D) (went : Owned D)
+module _ {D : Type 0} (slot : Ghosts D) (own : Owned D) {first : Option AtOpening} (is : Stands slot first own) (p : PageToken) (can : CanBePinned p (held_of slot own)) (job : ReadJob D) (went : Owned D)
     (load : IsLoad slot p job own.pool went.pool) (evicted : (page_at (state_of own.pool) p.name).place ≡ Evicted)
     (enters : Enters slot (load_entries own.session p.name (page_at (state_of own.pool) p.name).blocks own.pool) job.row [] own.pool went.pool)
     (entered : went.trail ≡ own.trail ++ load_entries own.session p.name (page_at (state_of own.pool) p.name).blocks own.pool) (fixed_is : went.session ≡ own.session) where

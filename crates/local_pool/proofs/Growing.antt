@@ -24,7 +24,7 @@ use Rattle.local_pool.specs.declared.owned.Owned.{Owned}
 use Rattle.pin_core.specs.declared.tally.Tally.{Tally}
 use Rattle.local_pool.specs.Told.{all_tell, outset_of, held_of}
 use Rattle.pin_core.specs.Tallies.{silence, Counted, all_failures, stored_by, tally_in, written_blocks}
-use Rattle.local_pool.specs.Counting.{SumsHold}
+use Rattle.local_pool.specs.Counting.{AtOpening, SumsHold}
 use Rattle.local_pool.specs.Making.{Makes, Goes, is_calm, rests}
 use Rattle.local_pool.specs.Standing.{IsStill, Stands}
 use Rattle.local_pool.proofs.Sized.{run_len, run_memory}
@@ -96,12 +96,12 @@ names_more : (a b : List Entry) → length (names_in (a ++ b)) ≡ length (names
 names_more a b = ap length (filter_map-append (λ (e : Entry). name_in e.event) a b) ∙ length-append (names_in a) (names_in b)
 
 -- the sums hold on, where the slots count so much more
-sums_more : (first : Option Tally) (old new : List Entry) (failures blocks : ℕ) (before now : Tally) → all_failures old + failures ≡ all_failures new → written_blocks old + blocks ≡ written_blocks new
+sums_more : (first : Option AtOpening) (old new : List Entry) (failures blocks : ℕ) (before now : Tally) → all_failures old + failures ≡ all_failures new → written_blocks old + blocks ≡ written_blocks new
     → SumsHold first old before → Counted failures blocks before now → SumsHold first new now
 sums_more None old new failures blocks before now failed stored was more = tt
-sums_more (Some t) old new failures blocks before now failed stored was more =
-    counted_as (all_failures old + failures) (all_failures new) (written_blocks old + blocks) (written_blocks new) t now failed stored
-    (counted_more (all_failures old) failures (written_blocks old) blocks t before now was more)
+sums_more (Some first) old new failures blocks before now failed stored was more =
+    counted_as (all_failures old + failures) (all_failures new) (written_blocks old + blocks) (written_blocks new) first.tally now failed stored
+    (counted_more (all_failures old) failures (written_blocks old) blocks first.tally before now was more)
 
 module _ {D : Type 0} (slot : Ghosts D) where
   -- a call of the pool that moves no slots
@@ -138,7 +138,7 @@ module _ {D : Type 0} (slot : Ghosts D) where
         ∙ calls_run_on (state_of old.pool).block_len old.session (outset_of slot old.pool) old.trail events
 
     -- the sums hold where the slots count as the events have it
-    pub sums_by : {first : Option Tally} → Stands slot first old → (failures blocks : ℕ) → all_failures (by old.session events) ≡ failures → sum_by (λ e. stored_by new.trail e.event) (by old.session events) ≡ blocks
+    pub sums_by : {first : Option AtOpening} → Stands slot first old → (failures blocks : ℕ) → all_failures (by old.session events) ≡ failures → sum_by (λ e. stored_by new.trail e.event) (by old.session events) ≡ blocks
         → Counted failures blocks (tally_in slot old.pool) (tally_in slot new.pool) → SumsHold first new.trail (tally_in slot new.pool)
     sums_by {first} was failures blocks fail_so store_so more =
         let es : List Entry = by old.session events in
@@ -154,13 +154,13 @@ module _ {D : Type 0} (slot : Ghosts D) where
         sums_more first old.trail new.trail failures blocks (tally_in slot old.pool) (tally_in slot new.pool) failed stored was.sums more
 
     -- as they do where no job began or ended
-    pub sums_rest : {first : Option Tally} → Stands slot first old → AllByRecursion (λ e. rests e ≡ true) events → SumsHold first new.trail (tally_in slot new.pool)
+    pub sums_rest : {first : Option AtOpening} → Stands slot first old → AllByRecursion (λ e. rests e ≡ true) events → SumsHold first new.trail (tally_in slot new.pool)
     sums_rest was rest =
         sums_by was 0 0 (plain_failures old.session events (rest_plain events rest)) (plain_stores new.trail old.session events (rest_plain events rest))
         (subst (Counted 0 0 (tally_in slot old.pool)) (tally_same slot (λ measure. slots_home measure old.pool) (λ measure. slots_home measure new.pool) (λ measure. sym (went.slots rest measure))) (uncounted_yet (tally_in slot old.pool)))
 
     -- what is kept between calls is kept
-    pub grown_by : {first : Option Tally} → Stands slot first old → NoneOpens events → is_some (after_events (held_of slot old) events).free_slots ≡ true → (after_events (held_of slot old) events).live_clients ≤ 16 → IsStill (state_of new.pool) → SumsHold first new.trail (tally_in slot new.pool) → Stands slot first new
+    pub grown_by : {first : Option AtOpening} → Stands slot first old → NoneOpens events → is_some (after_events (held_of slot old) events).free_slots ≡ true → (after_events (held_of slot old) events).live_clients ≤ 16 → IsStill (state_of new.pool) → SumsHold first new.trail (tally_in slot new.pool) → Stands slot first new
     grown_by was none live few still sums = record {
       opening = was.opening;
       stands = went.stands was.opening was.stands;
@@ -171,14 +171,15 @@ module _ {D : Type 0} (slot : Ghosts D) where
       few = subst (λ (h : Holdings). h.live_clients ≤ 16) (sym goes_held) few;
       still = still;
       sums = sums;
+      names = was.names;
     }
 
-    pub grown : {first : Option Tally} → Stands slot first old → AllCalm events → is_some (after_events (held_of slot old) events).free_slots ≡ true → IsStill (state_of new.pool) → SumsHold first new.trail (tally_in slot new.pool) → Stands slot first new
+    pub grown : {first : Option AtOpening} → Stands slot first old → AllCalm events → is_some (after_events (held_of slot old) events).free_slots ≡ true → IsStill (state_of new.pool) → SumsHold first new.trail (tally_in slot new.pool) → Stands slot first new
     grown was calm live still sums =
         grown_by was (none_opens events calm) live (subst (λ (n : ℕ). n ≤ 16) (sym (calm_counts events (held_of slot old) calm)) was.few) still sums
 
     -- and the call made these events
-    pub makes : {P : List Event → Type 0} {first : Option Tally} → Stands slot first old → Stands slot first new → P events → Makes slot P old new
+    pub makes : {P : List Event → Type 0} {first : Option AtOpening} → Stands slot first old → Stands slot first new → P events → Makes slot P old new
     makes was now is = record {
       events = events;
       is = is;

@@ -31,7 +31,7 @@ use Rattle.pin_core.specs.Ending.{IsPinnedWith, IsUnpinned, is_flying}
 use Rattle.pin_core.specs.Lending.{IsLoan as IsPoolLoan}
 use Rattle.pin_core.specs.Unpinning.{LacksSlots as PoolLacks}
 use Rattle.local_pool.specs.declared.owned.Owned.{Owned}
-use Rattle.pin_core.specs.declared.tally.Tally.{Tally}
+use Rattle.local_pool.specs.Counting.{AtOpening}
 use Rattle.local_pool.specs.Told.{held_of, signs_of}
 use Rattle.local_pool.specs.Making.{Goes, Makes}
 use Rattle.local_pool.specs.Standing.{Stands, is_moving}
@@ -74,7 +74,7 @@ flying_moves Loading is = refl
 flying_moves Clean is = is
 flying_moves Evicted is = is
 
-module _ {D : Type 0} (slot : Ghosts D) (own : Owned D) {first : Option Tally} (is : Stands slot first own) where
+module _ {D : Type 0} (slot : Ghosts D) (own : Owned D) {first : Option AtOpening} (is : Stands slot first own) where
   abbrev s : State
   s = state_of own.pool
 
@@ -226,7 +226,7 @@ pub goes_whose : {D : Type 0} (slot : Ghosts D) (old new : Owned D) (e : Event) 
 goes_whose slot old new e maker whose trail session enters = goes slot old new (e ∷ []) trail session (subst (λ (m : ℕ). Enters slot (by m (e ∷ [])) [] [] old.pool new.pool) whose enters)
 
 -- an unpin, or its refusal
-module _ {D : Type 0} (slot : Ghosts D) (own new : Owned D) {first : Option Tally} (is : Stands slot first own) (p : PageToken) (buf : Buffer) (held : IsPage p (held_of slot own)) (once : (page_of p.name (held_of slot own)).pins ≡ 1) where
+module _ {D : Type 0} (slot : Ghosts D) (own new : Owned D) {first : Option AtOpening} (is : Stands slot first own) (p : PageToken) (buf : Buffer) (held : IsPage p (held_of slot own)) (once : (page_of p.name (held_of slot own)).pins ≡ 1) where
   went_refused : Goes slot (UnpinRefused p.name ∷ []) own new → Makes slot (λ events. events ≡ UnpinRefused p.name ∷ []) own new
   went_refused went = makes_one slot own new is (UnpinRefused p.name) went refl refl is.live refl
 

@@ -30,7 +30,7 @@ use Rattle.own_entries.proofs.Fresh.{legal_holds_only_live}
 use Rattle.own_entries.proofs.Idle.{legal_idle_is_whole}
 use Rattle.pin_core.specs.StateOf.{state_of}
 use Rattle.local_pool.specs.declared.owned.Owned.{Owned}
-use Rattle.pin_core.specs.declared.tally.Tally.{Tally}
+use Rattle.local_pool.specs.Counting.{AtOpening}
 use Rattle.local_pool.specs.Told.{outset_of, held_of}
 use Rattle.local_pool.specs.Standing.{Stands}
 use Rattle.local_pool.proofs.Sized.{run_len}
@@ -52,7 +52,7 @@ pub record Knows {D : Type 0} (slot : Ghosts D) (own : Owned D) : Type 0 where
   pub page : (p : ℕ) → IsSome ((held_of slot own).pages p) → IsTold (state_of own.pool) own.session p ((held_of slot own).pages p) (left_of own.trail p)
   pub loan : (f : ℕ) → IsSome ((held_of slot own).loans f) → IsLent (state_of own.pool) own.session f ((held_of slot own).loans f)
 
-module _ {D : Type 0} (slot : Ghosts D) (own : Owned D) {first : Option Tally} (is : Stands slot first own) where
+module _ {D : Type 0} (slot : Ghosts D) (own : Owned D) {first : Option AtOpening} (is : Stands slot first own) where
   abbrev pub outset : Outset
   outset = outset_of slot own.pool
 

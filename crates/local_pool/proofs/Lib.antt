@@ -1,6 +1,7 @@
 pub mod Sized
 pub mod Counting
 pub mod Growing
+pub mod Naming
 pub mod Knowing
 pub mod Still
 pub mod Written

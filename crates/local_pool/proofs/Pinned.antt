@@ -29,7 +29,7 @@ use Rattle.pin_core.specs.Refusing.{MayEnter, refusal_of}
 use Rattle.pin_core.specs.PinTurns.{CanPin, LacksRoomFor, IsContent as HasContent}
 use Rattle.pin_core.specs.Turns.{LacksRoom, IsStarted, IsWriting}
 use Rattle.local_pool.specs.declared.owned.Owned.{Owned}
-use Rattle.pin_core.specs.declared.tally.Tally.{Tally}
+use Rattle.local_pool.specs.Counting.{AtOpening}
 use Rattle.local_pool.specs.Told.{held_of}
 use Rattle.pin_core.specs.Tallies.{silence}
 use Rattle.local_pool.specs.Making.{Goes, Makes}
@@ -54,7 +54,7 @@ left_shows Loading left never = refl
 left_shows Clean left never = refl
 left_shows Evicted left never = refl
 
-module _ {D : Type 0} (slot : Ghosts D) (own : Owned D) {first : Option Tally} (is : Stands slot first own) (p : PageToken) (can : CanBePinned p (held_of slot own)) where
+module _ {D : Type 0} (slot : Ghosts D) (own : Owned D) {first : Option AtOpening} (is : Stands slot first own) (p : PageToken) (can : CanBePinned p (held_of slot own)) where
   abbrev s : State
   s = state_of own.pool
 
@@ -160,7 +160,7 @@ module _ {D : Type 0} (slot : Ghosts D) (own : Owned D) {first : Option Tally} (
   waits_never (inr other) = none_flies slot own is x.client other.1
 
 -- a call was refused for a failure
-module _ {D : Type 0} (slot : Ghosts D) (own new : Owned D) {first : Option Tally} (is : Stands slot first own) (call : Call) (entry : ℕ) (may : MayFollow own.trail (state_of own.pool) (refusal_of own.session call entry)) where
+module _ {D : Type 0} (slot : Ghosts D) (own new : Owned D) {first : Option AtOpening} (is : Stands slot first own) (call : Call) (entry : ℕ) (may : MayFollow own.trail (state_of own.pool) (refusal_of own.session call entry)) where
   pub may_refuse_it : MayEnter slot own.pool (refusal_of own.session call entry)
   may_refuse_it = record { opening = is.opening; history = own.trail; stands = is.stands; may = may }
 

@@ -23,7 +23,7 @@ use Rattle.pin_core.specs.Needs.{IsPage}
 use Rattle.pin_core.specs.Pins.{IsPinned, HasPinToSpare, HasRoomFor}
 use Rattle.pin_core.specs.Lending.{IsLoan, CanMoveTo, move_entry}
 use Rattle.local_pool.specs.declared.owned.Owned.{Owned}
-use Rattle.pin_core.specs.declared.tally.Tally.{Tally}
+use Rattle.local_pool.specs.Counting.{AtOpening}
 use Rattle.local_pool.specs.Told.{held_of}
 use Rattle.local_pool.specs.Making.{Goes}
 use Rattle.local_pool.specs.Standing.{Stands}
@@ -51,7 +51,7 @@ pub moved_live : (f t : ℕ) (h : Holdings) → is_some h.free_slots ≡ true �
 moved_live f t h live =
     either_lives h (with_loan f (Some (record (loan_of f h) { client = t })) (charged t (loan_len f h) (released (loan_of f h).client (loan_len f h) h))) ((loan_of f h).client == t) live live
 
-module _ {D : Type 0} (slot : Ghosts D) (own : Owned D) {first : Option Tally} (is : Stands slot first own) where
+module _ {D : Type 0} (slot : Ghosts D) (own : Owned D) {first : Option AtOpening} (is : Stands slot first own) where
   abbrev s : State
   s = state_of own.pool
 

@@ -34,7 +34,7 @@ use Rattle.local_pool.specs.declared.owned.Owned.{Owned}
 use Rattle.pin_core.specs.declared.tally.Tally.{Tally}
 use Rattle.local_pool.specs.Told.{held_of}
 use Rattle.pin_core.specs.Tallies.{silence, Counted, all_failures, blocks_of, stored_by, tally_in, tally_with}
-use Rattle.local_pool.specs.Counting.{SumsHold}
+use Rattle.local_pool.specs.Counting.{AtOpening, SumsHold}
 use Rattle.local_pool.specs.Making.{Goes, Makes}
 use Rattle.local_pool.specs.Needing.{EntersNeeded}
 use Rattle.local_pool.specs.Standing.{Stands, IsStill, is_moving}
@@ -78,7 +78,7 @@ stored_end h m p blocks (WriteOk q) is same = let here : blocks_of (maker_of h q
 stored_end h m p blocks (WriteFailed q before now) is same = refl
 stored_end h m p blocks _ is same = absurd is
 
-module _ {D : Type 0} (slot : Ghosts D) (own : Owned D) {first : Option Tally} (is : Stands slot first own) where
+module _ {D : Type 0} (slot : Ghosts D) (own : Owned D) {first : Option AtOpening} (is : Stands slot first own) where
   -- a page of one of its clients is the owner's
   pub owner_is : (c p : ℕ) (x : Page) → IsSome ((held_of slot own).clients c) → get (state_of own.pool).pages p ≡ Some x → x.client ≡ c → x.session ≡ own.session
   owner_is c p x some lives for =
@@ -205,11 +205,11 @@ module _ {D : Type 0} (slot : Ghosts D) (own : Owned D) {first : Option Tally} (
           (unwritten_left s own.session c job.id.name waits started.older started.newest lacks.failed k.session k.lives whose)))
 
 -- while no call is under way, no page of a client is written
-pub none_flies : {D : Type 0} {first : Option Tally} (slot : Ghosts D) (own : Owned D) → Stands slot first own → (c : ℕ) → IsWriting (state_of own.pool) c → ⊥
+pub none_flies : {D : Type 0} {first : Option AtOpening} (slot : Ghosts D) (own : Owned D) → Stands slot first own → (c : ℕ) → IsWriting (state_of own.pool) c → ⊥
 none_flies slot own is c writing =
     let moves : is_moving writing.page.place ≡ true = ap is_moving writing.flies in
     false≢true (sym (is.still writing.name writing.page writing.lives) ∙ moves)
 
 -- the same pool stands as it did
-pub same_stands : {D : Type 0} {first : Option Tally} (slot : Ghosts D) (own : Owned D) (pool : Parts D) → Stands slot first own → pool ≡ own.pool → Stands slot first (record own { pool = pool })
+pub same_stands : {D : Type 0} {first : Option AtOpening} (slot : Ghosts D) (own : Owned D) (pool : Parts D) → Stands slot first own → pool ≡ own.pool → Stands slot first (record own { pool = pool })
 same_stands {D} {first} slot own pool is same = subst (λ (v : Parts D). Stands slot first (record own { pool = v })) (sym same) is

@@ -16,7 +16,7 @@ use Rattle.pool_model.proofs.Keeping.{first_kept}
 use Rattle.pin_core.specs.StateOf.{state_of}
 use Rattle.pin_core.specs.Turns.{failure_of}
 use Rattle.local_pool.specs.declared.owned.Owned.{Owned}
-use Rattle.pin_core.specs.declared.tally.Tally.{Tally}
+use Rattle.local_pool.specs.Counting.{AtOpening}
 use Rattle.local_pool.specs.Standing.{Stands}
 use Rattle.local_pool.specs.Turning.{writes_left}
 
@@ -46,7 +46,7 @@ dirty_by s c p (Some x) there is = record {
   is = ap (λ (o : Option Page). unwrap_or o no_page) there;
 }
 
-pub newest_is : {D : Type 0} {first : Option Tally} (slot : Ghosts D) (own : Owned D) → Stands slot first own → (c p : ℕ) (older : List ℕ) → dirty_of (state_of own.pool) c ≡ older ++ p ∷ [] → IsDirtyOf (state_of own.pool) c p
+pub newest_is : {D : Type 0} {first : Option AtOpening} (slot : Ghosts D) (own : Owned D) → Stands slot first own → (c p : ℕ) (older : List ℕ) → dirty_of (state_of own.pool) c ≡ older ++ p ∷ [] → IsDirtyOf (state_of own.pool) c p
 newest_is slot own is c p older newest =
     let s : State = state_of own.pool in
     let queues : AreQueues own.trail s = subst (AreQueues own.trail) (sym is.stands.state) (legal_keeps_queues is.opening own.trail is.stands.legal) in

@@ -1,10 +1,29 @@
--- What a trail makes of the sums over the slots of its pool.
-use Rattle.std.specs.Prelude.{List, Option, Some, None, ⊤}
+-- What is named of the opening of a pool, and what its trail makes of that: of the sums over its slots, and of the names of pages.
+use Rattle.std.specs.Prelude.{◌≡◌, ◌+◌, ◌≤◌, ℕ, Bool, true, List, Option, Some, None, length, ⊤}
+use Rattle.pool_model.specs.LookingBack.{names_in}
 use Rattle.pool_model.specs.declared.entry.Entry.{Entry}
 use Rattle.pin_core.specs.declared.tally.Tally.{Tally}
 use Rattle.pin_core.specs.Tallies.{Counted, all_failures, written_blocks}
 
--- where it is named what the slots counted when the pool opened, they count so now, by what its trail tells
-abbrev pub SumsHold : Option Tally → List Entry → Tally → Type 0
+-- what the slots of a pool counted when it opened, and the name of its first page
+pub record AtOpening : Type 0 where
+  pub tally : Tally
+  pub first_name : ℕ
+
+abbrev pub at_opening : Tally → ℕ → AtOpening
+at_opening tally first_name = record { tally = tally; first_name = first_name }
+
+-- where it is named, the slots count so now, by what the trail tells
+abbrev pub SumsHold : Option AtOpening → List Entry → Tally → Type 0
 SumsHold None trail now = ⊤
-SumsHold (Some first) trail now = Counted (all_failures trail) (written_blocks trail) first now
+SumsHold (Some first) trail now = Counted (all_failures trail) (written_blocks trail) first.tally now
+
+-- where it is named, the first page had this name
+abbrev pub BeginsNames : Option AtOpening → ℕ → Type 0
+BeginsNames None name = ⊤
+BeginsNames (Some first) name = name ≡ first.first_name
+
+-- where it is named, no name is left only when the trail has made a page of each
+abbrev pub SpendsNames : Option AtOpening → List Entry → Bool → Type 0
+SpendsNames None trail spent = ⊤
+SpendsNames (Some first) trail spent = spent ≡ true → 18446744073709551615 ≤ first.first_name + length (names_in trail)

@@ -8,9 +8,8 @@ use Rattle.own_entries.specs.AboveLaws.{AllBy}
 use Rattle.pin_core.specs.StateOf.{state_of}
 use Rattle.pin_core.specs.Standing.{StandsFor}
 use Rattle.local_pool.specs.declared.owned.Owned.{Owned}
-use Rattle.pin_core.specs.declared.tally.Tally.{Tally}
 use Rattle.local_pool.specs.Told.{held_of}
-use Rattle.local_pool.specs.Counting.{SumsHold}
+use Rattle.local_pool.specs.Counting.{AtOpening, BeginsNames, SumsHold}
 use Rattle.pin_core.specs.Tallies.{tally_in}
 
 -- the page is in a job
@@ -32,8 +31,8 @@ abbrev pub IsStillBut : ℕ → State → Type 0
 IsStillBut p s = (q : ℕ) (x : Page) → q ≢ p → get s.pages q ≡ Some x → is_moving x.place ≡ false
 
 -- the pool's value stands for the trail, which the one owner made alone from its opening on; `first` names what the
--- slots counted when the pool opened, or nothing
-pub record Stands {D : Type 0} (slot : Ghosts D) (first : Option Tally) (own : Owned D) : Type 0 where
+-- slots counted when the pool opened, and the name of its first page, or nothing
+pub record Stands {D : Type 0} (slot : Ghosts D) (first : Option AtOpening) (own : Owned D) : Type 0 where
   pub opening : Opening
   pub stands : StandsFor slot opening own.trail own.pool
   pub alone : AllBy own.session own.trail
@@ -43,3 +42,4 @@ pub record Stands {D : Type 0} (slot : Ghosts D) (first : Option Tally) (own : O
   pub few : (held_of slot own).live_clients ≤ 16
   pub still : IsStill (state_of own.pool)
   pub sums : SumsHold first own.trail (tally_in slot own.pool)
+  pub names : BeginsNames first opening.first_name

@@ -6,8 +6,8 @@ ghost use Rattle.pin_core.specs.Setup.{IsOpeningOf, OpensWith};
 ghost use Rattle.pin_core.specs.Standing.{StandsFor, slots_home};
 ghost use Rattle.pin_core.specs.Opening.{spare_of};
 ghost use Rattle.store_api.specs.Entries.{by};
-ghost use Rattle.local_pool.specs.Told.{held_of};
-ghost use Rattle.local_pool.specs.Counting.{SumsHold};
+ghost use Rattle.local_pool.specs.Told.{held_of, signs_of};
+ghost use Rattle.local_pool.specs.Counting.{SpendsNames, SumsHold, at_opening};
 ghost use Rattle.pin_core.specs.Tallies.{tally_in, tally_of};
 ghost use Rattle.local_pool.specs.Beginning.{Begins, IsBegun, IsLeastRefusal, LacksLeast, first_events};
 
@@ -40,7 +40,7 @@ impl<D: Slot + Drop, T: OpenedWith> Alone<D, T> {
         requires conf { OpensWith conf.now }
         requires slots { vec_len slots ≤ 1048576 }
         requires quota { quota ≤ vec_len slots }
-        requires tally { IfSome T.tally (λ first. first ≡ tally_of D.Slot slots.items) }
+        requires opened { IfSome T.opened (λ first. first ≡ at_opening (tally_of D.Slot slots.items) conf.now.first_name) }
         ensures ok { IfOk result (Begins D.Slot conf.now slots.items limit quota least) }
         ensures refused { LacksLeast conf.now limit least → IsErr result }
         ensures cause { IfErr result (λ e. IsLeastRefusal conf.now limit least e.1) }
@@ -59,7 +59,8 @@ impl<D: Slot + Drop, T: OpenedWith> Alone<D, T> {
     pub fn close(self) -> Vec<D>
         requires { (held_of D.Slot self).live_clients ≡ 0 }
         ensures slots { (measure : D → ℕ) → sum_by measure result.items ≡ slots_home measure self.pool }
-        ensures sums { SumsHold T.tally self.trail (tally_of D.Slot result.items) }
+        ensures sums { SumsHold T.opened self.trail (tally_of D.Slot result.items) }
+        ensures names { SpendsNames T.opened self.trail (signs_of self).spent }
     {
         let Owned {
             mut pool,
@@ -84,7 +85,7 @@ fn begin<D: Slot + Drop, T: OpenedWith>(
     requires fresh { (o : Opening) → IsOpeningOf _conf.now (spare_of pool) o → StandsFor D.Slot o [] pool }
     requires empty { trail ≡ [] }
     requires quota { quota ≤ spare_of pool }
-    requires opens { IfSome T.tally (λ first. first ≡ tally_in D.Slot pool) }
+    requires opens { IfSome T.opened (λ first. first ≡ at_opening (tally_in D.Slot pool) _conf.now.first_name) }
     ensures ok { IfOk result (λ own. IsBegun _conf.now limit quota least (held_of D.Slot own)) }
     ensures trail { IfOk result (λ own. own.trail ≡ by own.session (first_events (held_of D.Slot own).query limit quota least)) }
     ensures slots { IfOk result (λ own. (measure : D → ℕ) → slots_home measure own.pool ≡ slots_home measure pool) }

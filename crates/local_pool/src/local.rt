@@ -5,9 +5,9 @@ ghost use Rattle.block_arena.specs.Blocks.{IsBlockLen};
 ghost use Rattle.pin_core.specs.Setup.{OpensWith};
 ghost use Rattle.pin_core.specs.Standing.{slots_home};
 ghost use Rattle.own_entries.specs.ClientLaws.{IsWholeIdle};
-ghost use Rattle.local_pool.specs.Told.{held_of};
+ghost use Rattle.local_pool.specs.Told.{held_of, signs_of};
 ghost use Rattle.local_pool.specs.Agreeing.{AgreesWith};
-ghost use Rattle.local_pool.specs.Counting.{SumsHold};
+ghost use Rattle.local_pool.specs.Counting.{SpendsNames, SumsHold, at_opening};
 ghost use Rattle.pin_core.specs.Tallies.{tally_of};
 ghost use Rattle.local_pool.specs.Beginning.{Begins, IsLeastRefusal, LacksLeast};
 
@@ -52,7 +52,7 @@ impl<D: Slot + Drop, T: OpenedWith> LocalPool<D, T> {
         requires conf { OpensWith conf.now }
         requires slots { vec_len slots ≤ 1048576 }
         requires quota { quota ≤ vec_len slots }
-        requires tally { IfSome T.tally (λ first. first ≡ tally_of D.Slot slots.items) }
+        requires opened { IfSome T.opened (λ first. first ≡ at_opening (tally_of D.Slot slots.items) conf.now.first_name) }
         ensures ok { IfOk result (λ pool. Begins D.Slot conf.now slots.items limit quota least pool.alone) }
         ensures refused { LacksLeast conf.now limit least → IsErr result }
         ensures cause { IfErr result (λ e. IsLeastRefusal conf.now limit least e.1) }
@@ -85,14 +85,14 @@ impl<D: Slot + Drop, T: OpenedWith> LocalPool<D, T> {
     pub fn close(self) -> Vec<D>
         requires { (held_of D.Slot self.alone).live_clients ≡ 0 }
         ensures slots { (measure : D → ℕ) → sum_by measure result.items ≡ slots_home measure self.alone.pool }
-        ensures sums { SumsHold T.tally self.alone.trail (tally_of D.Slot result.items) }
+        ensures sums { SumsHold T.opened self.alone.trail (tally_of D.Slot result.items) }
+        ensures names { SpendsNames T.opened self.alone.trail (signs_of self.alone).spent }
     {
         self.alone.close()
     }
 }
 
 impl<D: Slot + Drop, T: OpenedWith> Store for LocalPool<D, T> {
-    ghost use Rattle.local_pool.specs.Told.{signs_of};
     ghost use Rattle.local_pool.specs.Laws.{tells_left};
 
     ghost holds = { λ s. held_of D.Slot s.alone };

@@ -36,5 +36,5 @@ impl<D: Slot, T: OpenedWith> Model for Alone<D, T> {
 
     ghost view = { λ s. s.own };
 
-    ghost invariant = { λ s. Stands D.Slot T.tally s.own };
+    ghost invariant = { λ s. Stands D.Slot T.opened s.own };
 }

@@ -99,11 +99,11 @@ impl<D: Slot + Drop, T: OpenedWith> Alone<D, T> {
 // One turn, with the entries of a load, which `G` names, since they evict what the turn finds to evict.
 fn step<G: Adds<Entry>, D: Slot + Drop, T: OpenedWith>(own: &mut Owned<D>, p: &Page) -> PinStep
     requires named { G.entries ≡ load_entries own.old.session p.now.name (page_at (state_of own.old.pool) p.now.name).blocks own.old.pool }
-    requires stands { Stands D.Slot T.tally own.old }
+    requires stands { Stands D.Slot T.opened own.old }
     requires can { CanBePinned p.now (held_of D.Slot own.old) }
     requires asked { has_asked own.old.trail ≡ true }
     ensures turn { PinIs D.Slot p.now result own.old own.new }
-    ensures stands { Stands D.Slot T.tally own.new }
+    ensures stands { Stands D.Slot T.opened own.new }
 {
     match own.pool.pin_turn(own.session, 0, p) {
         PinTurn::Here(buf) => {

@@ -13,7 +13,6 @@ pub mod Sides
 pub mod Nothing
 pub mod First
 pub mod Results
-pub mod Shorts
 pub mod Making
 pub mod Owing
 pub mod SharedRows

@@ -1,5 +1,5 @@
 -- Elements of lists by their places.
-use Rattle.std.proofs.Common.{◌≡◌, ◌⊎◌, inl, inr, ℕ, zero, suc, ◌-◌, ◌≤◌, List, [], ◌∷◌, ◌++◌, length, replicate, set, Some, refl, ap, sym, ◌∙◌, arith}
+use Rattle.std.proofs.Common.{◌≡◌, ◌⊎◌, inl, inr, ℕ, zero, suc, ◌-◌, ◌≤◌, List, [], ◌∷◌, ◌++◌, length, replicate, set, Some, refl, ap, sym, ◌∙◌, arith, map}
 use Rattle.std.specs.List.{slice_get}
 use Rattle.std.proofs.lemmas.List.{get_or-replicate, length-replicate}
 use Rattle.std.proofs.lemmas.Option.{get_or_from_slice_get, none-some, same_Some, slice_get_within}
@@ -40,6 +40,12 @@ module _ {X : Type 0} where
   set_same [] i x at = refl
   set_same (y ∷ xs) zero x at = ap (λ (z : X). z ∷ xs) (sym (same_Some y x at))
   set_same (y ∷ xs) (suc i) x at = ap (λ (zs : List X). y ∷ zs) (set_same xs i x at)
+
+  -- one element changed, and a function of it didn't
+  pub map_set_same : {Y : Type 0} (f : X → Y) (xs : List X) (i : ℕ) (x y : X) → slice_get xs i ≡ Some x → f y ≡ f x → map f (set xs i y) ≡ map f xs
+  map_set_same f [] i x y at is = refl
+  map_set_same f (z ∷ xs) zero x y at is = ap (λ w. w ∷ map f xs) (is ∙ sym (ap f (same_Some z x at)))
+  map_set_same f (z ∷ xs) (suc i) x y at is = ap (λ ws. f z ∷ ws) (map_set_same f xs i x y at is)
 
 -- ---- one stream stands for another with the same pages
 

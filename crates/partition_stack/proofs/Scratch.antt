@@ -1,17 +1,22 @@
 -- How many pages and slots partitions have together.
-use Rattle.std.proofs.Common.{◌≡◌, inl, inr, ℕ, suc, ◌+◌, ◌*◌, ◌≤◌, ◌==◌, Bool, true, false, List, [], ◌∷◌, ◌++◌, length, Some, option_map, if◌then◌else◌, refl, ap, sym, ◌∙◌, subst, arith, length-append, eq-eqb, ne_eqb}
+use Rattle.std.proofs.Common.{◌≡◌, inl, inr, ℕ, zero, suc, ◌+◌, ◌*◌, ◌/◌, ◌<◌, ◌≤◌, ◌==◌, Bool, true, false, List, [], ◌∷◌, ◌++◌, length, Option, Some, None, IfSome, option_map, if◌then◌else◌, refl, ap, sym, ◌∙◌, subst, arith, length-append, eq-eqb, ne_eqb}
 use Rattle.std.specs.List.{concat, slice_get, sum_by}
 use Rattle.std.proofs.lemmas.List.Folds.{concat-append}
 use Rattle.std.proofs.lemmas.List.Sums.{sum_by-cons}
 use Rattle.std.proofs.lemmas.Bool.{cases_eq}
 use Rattle.std.proofs.lemmas.Option.{same_Some}
+use Rattle.std.proofs.Math.Nat.{add-mul-div_right, div-mul-le_self, le-div_iff_mul-le, mul-le-mul_right}
+use Rattle.reservation_tree.specs.declared.errors.PoolErr.{PoolErr}
+use Rattle.reservation_tree.specs.declared.errors.PoolErr.TheVariants.{NoReservation, ScratchFull, WriteFault, ReadFault, TooManyTrackers, NamesSpent, Memory}
 use Rattle.store_api.specs.Tokens.{PageToken}
 use Rattle.store_api.specs.Holdings.{Holdings, length_of, page_of}
 use Rattle.tuple_stream.specs.Bounds.{AllFew, FewPages}
 use Rattle.tuple_stream.specs.Streamed.{Streamed, len_in}
-use Rattle.tuple_stream.specs.Touches.{slots_of}
-use Rattle.tuple_stream.specs.FamilyCalls.{shares}
-use Rattle.partition_stack.specs.Laws.{AllFewInAll, SlotsSuffice, begun_in}
+use Rattle.tuple_stream.specs.Touches.{IsFull, slots_of}
+use Rattle.tuple_stream.specs.FamilyCalls.{AllWhole, shares}
+use Rattle.tuple_stream.specs.Families.{AllSized, Family, pages_in, slots_in}
+use Rattle.partition_stack.specs.Laws.{AllFewInAll, CountFor, PagesAreFew, SlotsSuffice, WantComesLate, begun_in}
+use Rattle.partition_stack.specs.Slots.{IsWantBelow, most_pages}
 
 two_sums : (a b len : ℕ) → (a + b) * len ≡ a * len + b * len
 two_sums a b len = omega arith
@@ -92,3 +97,72 @@ slots_suffice t blocks total free f shaped sized all told enough =
     let taken = sum_by (λ s. sum_by (slots_of s f.held) s.pages) f.streams in
     let sum : Some (free + taken) ≡ Some total = sym (ap (option_map (λ (n : ℕ). n + taken)) told) ∙ all in
     enough_free blocks total free (sum_by (λ s. length s.pages) f.streams) taken (slots_few blocks f.streams f.held sized) (same_Some (free + taken) total sum) enough
+
+-- ---- the most pages
+
+none_begun : (streams : List Streamed) → ((i : ℕ) (s : Streamed) → slice_get streams i ≡ Some s → s.spent ≡ 0) → begun_in streams ≡ 0
+none_begun [] whole = refl
+none_begun (s ∷ streams) whole =
+    let rest = none_begun streams (λ i r at. whole (suc i) r at) in
+    let one : ◌≡◌ {A = ℕ} (if s.spent == 0 then 0 else 1) 0 = rw (eq-eqb s.spent 0 (whole 0 s refl)) refl in
+    let all : begun_in (s ∷ streams) ≡ (if s.spent == 0 then 0 else 1) + begun_in streams = sum_by-cons (λ (s : Streamed). if s.spent == 0 then 0 else 1) s streams in
+    omega (arith, rest, one, all)
+
+one_begun : (b : Bool) → (if b then 0 else 1) ≤ 1
+one_begun true = omega arith
+one_begun false = omega arith
+
+some_begun : (streams : List Streamed) → begun_in streams ≤ length streams
+some_begun [] = omega arith
+some_begun (s ∷ streams) =
+    let rest = some_begun streams in
+    let one = one_begun (s.spent == 0) in
+    let all : begun_in (s ∷ streams) ≡ (if s.spent == 0 then 0 else 1) + begun_in streams = sum_by-cons (λ (s : Streamed). if s.spent == 0 then 0 else 1) s streams in
+    omega (arith, rest, one, all)
+
+-- where nothing is spent they count once, and in any case no more than twice
+pub counts_once : (more : ℕ) (f : Family) → AllWhole f → length f.streams ≤ more → CountFor more f
+counts_once more f whole few = let none = none_begun f.streams whole in omega (arith, none, few)
+
+pub counts_twice : (more : ℕ) (f : Family) → 2 * length f.streams ≤ more → CountFor more f
+counts_twice more f few = let some = some_begun f.streams in omega (arith, some, few)
+
+pub by_both : (len more count bytes pages : ℕ) → 0 < len → pages ≤ count → pages * len ≤ 2 * bytes + more * len → pages ≤ most_pages len more count bytes
+by_both len more count bytes pages some few low =
+    let wide : (2 * bytes + more * len) / len ≡ 2 * bytes / len + more = add-mul-div_right (2 * bytes) more some in
+    let most : pages ≤ (2 * bytes + more * len) / len = (le-div_iff_mul-le some).1 low in
+    omega (arith, few, wide, most)
+
+-- for rows that are no fewer, and no lighter, they are no fewer
+pub most_more : (len more count bytes rows heavy : ℕ) → 0 < len → count ≤ rows → bytes ≤ heavy → most_pages len more count bytes ≤ most_pages len more rows heavy
+most_more len more count bytes rows heavy some few light =
+    let times = div-mul-le_self (2 * bytes) len in
+    let wide : 2 * bytes / len ≤ 2 * heavy / len = (le-div_iff_mul-le some).1 (let low : 2 * bytes / len * len ≤ 2 * heavy = omega (arith, times, light) in low) in
+    omega (arith, few, wide)
+
+pub pages_are_few : AllFew → PagesAreFew
+pages_are_few few_pages t blocks more count bytes rows f shaped sized shows some counts few light =
+    let all = all_few_in_all few_pages t blocks rows f shaped sized shows in
+    let by_rows = all.by_rows in
+    let by_bytes = all.by_bytes in
+    let wide : (length f.streams + begun_in f.streams) * length_of blocks f.held ≤ more * length_of blocks f.held = mul-le-mul_right (length_of blocks f.held) counts in
+    by_both (length_of blocks f.held) more count bytes (pages_in f) some (omega (arith, by_rows, few)) (omega (arith, by_bytes, wide, light))
+
+below_by : (blocks most pages few taken : ℕ) → few < blocks → taken ≤ pages * blocks → pages ≤ most → few + taken < (most + 1) * blocks
+below_by blocks most pages few taken less low many =
+    let wide : pages * blocks ≤ most * blocks = mul-le-mul_right blocks many in
+    let one = two_sums most 1 blocks in
+    omega (arith, less, low, wide, one)
+
+pub want_comes_late : WantComesLate
+want_comes_late blocks most f (ScratchFull need few) sized many full =
+    let taken = sum_by (λ s. sum_by (slots_of s f.held) s.pages) f.streams in
+    let all : slots_in f ≡ Some (few + taken) = ap (option_map (λ (n : ℕ). n + taken)) full.2 in
+    subst (λ (o : Option ℕ). IfSome o (λ n. n < (most + 1) * blocks)) (sym all)
+    (below_by blocks most (pages_in f) few taken full.1 (slots_few blocks f.streams f.held sized) many)
+want_comes_late blocks most f (NoReservation tracker wanted room) sized many full = tt
+want_comes_late blocks most f (WriteFault entry) sized many full = tt
+want_comes_late blocks most f (ReadFault entry) sized many full = tt
+want_comes_late blocks most f (TooManyTrackers trackers) sized many full = tt
+want_comes_late blocks most f NamesSpent sized many full = tt
+want_comes_late blocks most f Memory sized many full = tt

@@ -1,6 +1,7 @@
 -- What is so of partitions, as laws. Statements alone. Lengths are in bytes.
-use Rattle.std.specs.Prelude.{◌≡◌, ◌≢◌, ℕ, ◌+◌, ◌*◌, ◌≤◌, ◌==◌, List, [], ◌∷◌, ◌++◌, length, sum_by, slice_get, if◌then◌else◌, Option, Some, None, ⊤}
+use Rattle.std.specs.Prelude.{◌≡◌, ◌≢◌, ℕ, ◌+◌, ◌*◌, ◌<◌, ◌≤◌, ◌==◌, List, [], ◌∷◌, ◌++◌, length, sum_by, slice_get, if◌then◌else◌, Option, Some, None, ⊤}
 use Rattle.std.specs.List.{concat}
+use Rattle.reservation_tree.specs.declared.errors.PoolErr.{PoolErr}
 use Rattle.store_api.specs.Holdings.{Holdings, length_of}
 use Rattle.store_api.specs.Emitters.{OthersStay}
 use Rattle.store_api.specs.Signs.{Signs}
@@ -8,8 +9,10 @@ use Rattle.tuple_stream.specs.Streamed.{Streamed}
 use Rattle.tuple_stream.specs.Streams.{HasPageRoom}
 use Rattle.tuple_stream.specs.Families.{AllSized, AreShaped, Family, ShowAll, TouchesAll, family, pages_in, slots_in}
 use Rattle.tuple_stream.specs.FamilyCalls.{shares}
+use Rattle.tuple_stream.specs.Touches.{IsFull}
 use Rattle.partition_stack.specs.Stack.{HasRoomFrom, IsStack, Stack, divided, over}
 use Rattle.partition_stack.specs.Changes.{ChangesAt, Owns}
+use Rattle.partition_stack.specs.Slots.{IsWantBelow, most_pages}
 
 -- how many streams were begun to be spent
 abbrev pub begun_in : List Streamed → ℕ
@@ -32,6 +35,23 @@ abbrev pub SlotsSuffice : Type 0
 SlotsSuffice =
     (t blocks total free : ℕ) (f : Family) → AreShaped t f → AllSized blocks f → slots_in f ≡ Some total → f.held.free_slots ≡ Some free
     → (pages_in f + 1) * blocks ≤ total → blocks ≤ free
+
+-- the streams count for so many pages that are not full: one of each, and one more of each that was begun to be spent
+abbrev pub CountFor : ℕ → Family → Type 0
+CountFor more f = length f.streams + begun_in f.streams ≤ more
+
+-- where their rows are no more than so many, and have no more than so many bytes, their pages are no more than such rows have at most
+abbrev pub PagesAreFew : Type 0
+PagesAreFew =
+    (t blocks more count bytes : ℕ) (rows : ℕ → List (List ℕ)) (f : Family) → AreShaped t f → AllSized blocks f → ShowAll rows f
+    → 0 < length_of blocks f.held → CountFor more f → length (shares (length f.streams) rows) ≤ count
+    → length (concat (shares (length f.streams) rows)) ≤ bytes → pages_in f ≤ most_pages (length_of blocks f.held) more count bytes
+
+-- want of slots comes only where there are fewer than those of one page more than there are
+abbrev pub WantComesLate : Type 0
+WantComesLate =
+    (blocks most : ℕ) (f : Family) (e : PoolErr) → AllSized blocks f → pages_in f ≤ most → IsFull blocks f.held.free_slots e
+    → IsWantBelow ((most + 1) * blocks) (slots_in f) e
 
 -- a stack has few partitions
 abbrev pub FewPartitions : Type 0

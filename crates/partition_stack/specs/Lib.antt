@@ -6,5 +6,5 @@ pub mod Sides
 pub mod Making
 pub mod Emitting
 pub mod Reading
-pub mod Causes
 pub mod Slots
+pub mod Causes

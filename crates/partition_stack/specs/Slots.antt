@@ -1,5 +1,5 @@
 -- Slots of the quota: those that are free, and those of an operator's pages. `f` is before calls and `g` behind them.
-use Rattle.std.specs.Prelude.{◌≡◌, ℕ, ◌+◌, ◌%◌, Option, Some, None, option_map, ⊤}
+use Rattle.std.specs.Prelude.{◌≡◌, ℕ, ◌+◌, ◌*◌, ◌/◌, ◌%◌, ◌<◌, min, Option, Some, None, IfSome, option_map, ⊤}
 use Rattle.reservation_tree.specs.declared.errors.PoolErr.{PoolErr}
 use Rattle.reservation_tree.specs.declared.errors.PoolErr.TheVariants.{ScratchFull}
 use Rattle.store_api.specs.declared.op_err.OpErr.{OpErr}
@@ -35,3 +35,17 @@ with_more more total = option_map (λ n. n + more) total
 pub record KeepSlots (client mine_old mine : Option ℕ) (theirs_old theirs : ℕ) : Type 0 where
   pub sum : with_more theirs mine ≡ with_more theirs_old mine_old
   pub alone : client ≡ None → mine ≡ mine_old
+
+-- the most pages of so many bytes each that rows have which stand in so many streams: no more than there are rows, and but for one
+-- a stream no more than twice the bytes of the rows fill
+abbrev pub most_pages : ℕ → ℕ → ℕ → ℕ → ℕ
+most_pages len streams rows bytes = min rows (2 * bytes / len + streams)
+
+-- a want of slots comes only where there are fewer than so many, the free ones and those of an operator's pages together
+abbrev pub IsWantBelow : ℕ → Option ℕ → PoolErr → Type 0
+IsWantBelow most total (ScratchFull need free) = IfSome total (λ n. n < most)
+IsWantBelow most total _ = ⊤
+
+abbrev pub IsWantBelowOf : ℕ → Option ℕ → OpErr → Type 0
+IsWantBelowOf most total (Pool e) = IsWantBelow most total e
+IsWantBelowOf most total Sink = ⊤

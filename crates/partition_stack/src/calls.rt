@@ -1,5 +1,5 @@
 //! Calls of one partition, and of the streams beside each other.
-ghost use Rattle.std.specs.Prelude.{◌≡◌, ℕ, ◌+◌, ◌≤◌, ◌<◌, [], Some, None, length, slice_get, if◌then◌else◌, true, IfErr, IfOk, OnOk, OnErr, ⊤};
+ghost use Rattle.std.specs.Prelude.{◌≡◌, ℕ, ◌+◌, ◌≤◌, ◌<◌, [], Some, None, length, map, slice_get, if◌then◌else◌, true, IfErr, IfOk, OnOk, OnErr, ⊤};
 ghost use Rattle.store_api.specs.Conditions.{IsLiveClient};
 ghost use Rattle.store_api.specs.Holdings.{length_of};
 ghost use Rattle.store_api.specs.Signs.{WasAnswered};
@@ -41,6 +41,7 @@ impl Partitions {
         ensures went { Feeds c.now.tracker at (came result row.now) (over self.old (St.holds store.old) (St.signs store.old)) (over self.new (St.holds store.new) (St.signs store.new)) }
         ensures at_end { OnOk result (AllAtEnd (over self.old (St.holds store.old) (St.signs store.old)) → AllAtEnd (over self.new (St.holds store.new) (St.signs store.new))) }
         ensures few { pages_in (over self.new (St.holds store.new) (St.signs store.new)) ≤ pages_in (over self.old (St.holds store.old) (St.signs store.old)) + 1 }
+        ensures spent { map (λ s. s.spent) self.new.streams ≡ map (λ s. s.spent) self.old.streams }
         ensures changes { ChangesAt at self.old self.new }
         ensures cause { IfErr result (λ e. WasAnswered e (St.signs store.old) (St.signs store.new)) }
         ensures full { IfErr result (IsFull self.old.page_blocks (St.holds store.new).free_slots) }

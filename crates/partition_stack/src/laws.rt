@@ -1,5 +1,5 @@
 //! Laws of partitions: each is the contract of a function that does nothing.
-ghost use Rattle.partition_stack.specs.Laws.{AllFewInAll, FewPartitions, OthersLeaveOwned, OwnedStay, RoomForEach, RoomStays, SixteenCome, SlotsSuffice, TopGoes};
+ghost use Rattle.partition_stack.specs.Laws.{AllFewInAll, FewPartitions, OthersLeaveOwned, OwnedStay, PagesAreFew, RoomForEach, RoomStays, SixteenCome, SlotsSuffice, TopGoes, WantComesLate};
 
 use tuple_stream::law_few_pages;
 
@@ -27,10 +27,12 @@ pub fn law_top()
 {}
 
 /// How many pages partitions have together, by their rows; and with slots for one page more than there are, none is
-/// lacking.
+/// lacking: so want of slots comes only where there are fewer.
 pub fn law_scratch()
     ensures few { AllFewInAll }
     ensures slots { SlotsSuffice }
+    ensures pages { PagesAreFew }
+    ensures want { WantComesLate }
 {
     law_few_pages();
 }

@@ -1,10 +1,11 @@
 -- A client of the query comes, its grouping works, and both end.
-use Rattle.std.proofs.Common.{arith, ◌≡◌, ◌∙◌, ◌+◌, ◌*◌, ℕ, List, [], ◌∷◌, ◌++◌, ◌⊎◌, replicate, Option, Some, None, IfSome, option_map, refl, ap, sym, subst, inl, inr, append_assoc}
+use Rattle.std.proofs.Common.{arith, ◌≡◌, ◌∙◌, ◌+◌, ◌*◌, ℕ, List, [], ◌∷◌, ◌++◌, ◌⊎◌, true, replicate, Option, Some, None, IfSome, option_map, refl, ap, sym, subst, inl, inr, append_assoc}
 use Rattle.std.proofs.lemmas.List.{append_cancel_left}
 use Rattle.std.proofs.lemmas.List.Elements.{All-cons}
 use Rattle.pool_model.specs.declared.event.Event.{Event}
 use Rattle.pool_model.specs.declared.event.Event.TheVariants.{AddTracker, CloseTracker, Increase, MoveReservation}
 use Rattle.row_codec.specs.declared.values.Value.{Value}
+use Rattle.reservation_tree.specs.declared.errors.PoolErr.{PoolErr}
 use Rattle.store_api.proofs.Answered.{answered_after, answered_before}
 use Rattle.store_api.specs.Changes.{after_end_client}
 use Rattle.store_api.specs.Entries.{MadeThese}
@@ -23,13 +24,16 @@ use Rattle.group_op.specs.Laid.{HoldsGroups}
 use Rattle.group_op.specs.Starting.{AllStart, HasStarted}
 use Rattle.query_plan.specs.Sizes.{least_of, page_len}
 use Rattle.query_plan.specs.declared.plan.Query.{Query}
+use Rattle.query_run.specs.Both.{Told}
+use Rattle.query_run.specs.Causes.{OfPool}
 use Rattle.query_run.specs.Input.{IsAccepted, passing}
 use Rattle.query_run.specs.Inside.{HasOwn}
 use Rattle.query_run.specs.Plans.{IsGrouping, shape_of}
-use Rattle.query_run.specs.Stopped.{IsLeft, MayStop, StoppedBy, StoppedOver, StoppedQuery, amounts_of}
+use Rattle.query_run.specs.Stopped.{IsLeft, IsWantBelow, MayStop, StoppedBy, StoppedOver, StoppedQuery, amounts_of}
+use Rattle.query_run.specs.Through.{need}
 use Rattle.query_run.specs.Trail.{HoldsPartials, KeptAndRead, KeptGroups}
 use Rattle.query_run.specs.declared.outcome.QueryErr.{QueryErr}
-use Rattle.query_run.proofs.Going.{of_pool_so}
+use Rattle.query_run.proofs.Going.{of_pool_both}
 use Rattle.query_run.proofs.KeptFirst.{coming}
 
 -- ---- the client comes
@@ -58,21 +62,28 @@ starts_here plan c most bytes old new signs all grouping own is =
     } in
     all c plan.page_blocks (shape_of plan) new signs grouping.shape grouping.paged may
 
+-- no more slots
+pub no_more_slots : (n : ℕ) → n ≡ 0 → (free : Option ℕ) → option_map (λ (m : ℕ). m + n) free ≡ free
+no_more_slots n is None = refl
+no_more_slots n is (Some m) = let same : m + n ≡ m = omega (arith, is) in ap Some same
+
 -- the free slots at the start are all there are
 pub slots_first : (blocks : ℕ) (h : Holdings) (signs : Signs) → slots_in (over (first_sixteen blocks) h signs) ≡ h.free_slots
-slots_first blocks h signs = with-none (taken (replicate 16 (empty blocks)) h) (more_taken [] blocks 16 h) h.free_slots where
-  with-none : (n : ℕ) → n ≡ 0 → (free : Option ℕ) → option_map (λ (m : ℕ). m + n) free ≡ free
-  with-none n is None = refl
-  with-none n is (Some m) = let same : m + n ≡ m = omega (arith, is) in ap Some same
+slots_first blocks h signs = no_more_slots (taken (replicate 16 (empty blocks)) h) (more_taken [] blocks 16 h) h.free_slots
 
 -- ---- what stopped it
 
-pub stopped_around : (plan : Query) (blocks' : ℕ) (total : Option ℕ) (first : Holdings) (s0 s1 s2 s3 : Signs) (e : QueryErr) → plan.right ≡ None → blocks' ≡ plan.page_blocks → total ≡ first.free_slots → Grows s0 s1 → Grows s2 s3
-    → StoppedOver blocks' total s1 s2 e → MayStop plan first s0 s3 e
-stopped_around plan blocks' total first s0 s1 s2 s3 e alone same-blocks same-total grows later = of_pool_so (StoppedBy blocks' total s1 s2) (StoppedQuery plan first.free_slots s0 s3)
-    (λ why stopped. record {
+-- for want of slots it was stopped only where there were fewer than it needs
+abbrev pub WantsEnough : Query → Option Told → Holdings → PoolErr → Type 0
+WantsEnough plan told first e = first.told ≡ true → IfSome told (λ both. IsWantBelow (need plan (page_len plan first.block_len) both * plan.page_blocks) first.free_slots e)
+
+pub stopped_around : (plan : Query) (told : Option Told) (blocks' : ℕ) (total : Option ℕ) (first : Holdings) (s0 s1 s2 s3 : Signs) (e : QueryErr) → blocks' ≡ plan.page_blocks → total ≡ first.free_slots → Grows s0 s1 → Grows s2 s3
+    → StoppedOver blocks' total s1 s2 e → OfPool (WantsEnough plan told first) e → MayStop plan told first s0 s3 e
+stopped_around plan told blocks' total first s0 s1 s2 s3 e same-blocks same-total grows later = of_pool_both (StoppedBy blocks' total s1 s2) (WantsEnough plan told first) (StoppedQuery plan told first s0 s3)
+    (λ why stopped enough. record {
       answered = answered_after why s0 s2 s3 (answered_before why s0 s1 s2 grows stopped.answered) later;
-      want = rw alone (rw (same-total, same-blocks) at (stopped.want));
+      want = rw (same-total, same-blocks) at (stopped.want);
+      enough = enough;
     }) e
 
 -- ---- what is left

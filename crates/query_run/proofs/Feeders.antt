@@ -1,7 +1,7 @@
 -- One row goes to a grouping of an emitter.
 use Rattle.std.proofs.Common.{◌≡◌, ◌≢◌, ◌∙◌, ◌+◌, ◌-◌, ◌*◌, ◌^◌, ◌<◌, ◌≤◌, ◌==◌, ℕ, zero, suc, List, [], ◌∷◌, ◌++◌, All, length, true, Option, Some, None, Result, Ok, Err, IfErr, option_map, if◌then◌else◌, refl, ap, sym, subst, arith, append_assoc, eq-eqb}
 use Rattle.std.specs.Prelude.{IfSome, slice_get}
-use Rattle.std.specs.List.{sum_by}
+use Rattle.std.specs.List.{concat, sum_by}
 use Rattle.std.proofs.lemmas.List.{length-append}
 use Rattle.std.proofs.lemmas.List.Elements.{All-head, All-nil, All-push, All-tail}
 use Rattle.std.proofs.lemmas.List.Sums.{sum_by-cons}
@@ -13,7 +13,7 @@ use Rattle.row_codec.specs.RowBytes.{row_bytes}
 use Rattle.store_api.proofs.Answered.{answered_after}
 use Rattle.store_api.proofs.Growing.{grows_trans}
 use Rattle.store_api.proofs.Names.{names_both}
-use Rattle.store_api.specs.Emitters.{CameOf, GrowsBy, OthersStay, SameOwn, slots_with}
+use Rattle.store_api.specs.Emitters.{CameOf, GrowsBy, OthersStay, SameOwn, WantsSlots, slots_with}
 use Rattle.store_api.specs.Holdings.{Holdings, length_of, page_of}
 use Rattle.store_api.specs.Signs.{Entered, Grows, Signs}
 use Rattle.store_api.specs.Tokens.{ClientToken, PageToken}
@@ -21,27 +21,33 @@ use Rattle.store_api.specs.declared.op_err.OpErr.{OpErr}
 use Rattle.store_api.specs.declared.op_err.OpErr.TheVariants as op_err
 use Rattle.store_api.specs.declared.shapes.Shape.{Shape}
 use Rattle.tuple_stream.specs.Families.{AreShaped, slots_in as all_slots_in}
+use Rattle.tuple_stream.specs.FamilyCalls.{shares}
 use Rattle.tuple_stream.specs.Streamed.{Streamed}
 use Rattle.tuple_stream.specs.Streams.{IsOwnPage}
 use Rattle.tuple_stream.specs.Touches.{slots_of}
 use Rattle.partition_stack.specs.Leaving.{CameOfStore, LeavesOthers}
+use Rattle.partition_stack.specs.Laws.{PagesAreFew}
+use Rattle.partition_stack.specs.Slots.{IsWantBelowOf, IsWantOf, most_pages}
 use Rattle.partition_stack.specs.Stack.{IsStack, Stack, over}
 use Rattle.partition_stack.proofs.Left.{leaves_both}
-use Rattle.group_op.specs.Asking.{AsksOwn, FewSlots, StaysSame, slots_on}
-use Rattle.group_op.specs.Making.{Makes, pages_on}
-use Rattle.group_op.specs.Operator.{HasTable, Holds, IsFeeding, IsOperator, IsSame, MayBeFed, Operator, started}
+use Rattle.group_op.specs.Asking.{AsksOwn, StaysSame, slots_on}
+use Rattle.group_op.specs.Making.{FewPages, Makes, pages_on}
+use Rattle.group_op.specs.Operator.{HasTable, Holds, IsFeeding, IsOperator, IsSame, MayBeFed, Operator, bytes_for, slots_for as group_slots, started}
 use Rattle.group_op.specs.Starting.{HasStarted}
 use Rattle.join_op.specs.Pairs.{SameRows}
+use Rattle.partition_stack.proofs.Scratch.{counts_once}
 use Rattle.partition_stack.proofs.Slots.{more_taken}
+use Rattle.partition_stack.proofs.Stacking.{first_is_stack}
 use Rattle.outside.specs.Counts.{Rose}
-use Rattle.reservation_tree.specs.declared.errors.PoolErr.TheVariants.{Memory}
+use Rattle.reservation_tree.specs.declared.errors.PoolErr.TheVariants.{NoReservation, ScratchFull, WriteFault, ReadFault, TooManyTrackers, NamesSpent, Memory}
 use Rattle.query_run.specs.Ending.{cause_of_handed}
 use Rattle.query_run.specs.FedRows.{AreFed, IsFed}
-use Rattle.query_run.specs.Feeder.{Feeds, HasEnded, Took, TookOf, own_slots, pages_made, slots_in}
+use Rattle.query_run.specs.Feeder.{Feeds, HasEnded, HasStopped, Took, TookOf, own_slots, pages_made, slots_for_rows, slots_in}
 use Rattle.query_run.specs.Inside.{IsOfStore}
 use Rattle.query_run.specs.Writing.{HoldsFor}
 use Rattle.query_run.specs.declared.outcome.QueryErr.{QueryErr}
 use Rattle.query_run.specs.declared.feeder.Feeder.{Feeder}
+use Rattle.query_run.proofs.EndedFirst.{some_page}
 use Rattle.query_run.proofs.Going.{feeds_still}
 use Rattle.query_run.proofs.Orders.{holds_ordered}
 
@@ -114,27 +120,44 @@ slots_mine c op h signs same is = subst (λ (x : ClientToken). slots_in (Some op
 with-same : (m n : ℕ) (free : Option ℕ) → m ≡ n → option_map (λ (x : ℕ). x + m) free ≡ option_map (λ (x : ℕ). x + n) free
 with-same m n free same = ap (λ (k : ℕ). option_map (λ (x : ℕ). x + k) free) same
 
+-- no more slots
+pub none_with : (free : Option ℕ) → option_map (λ (x : ℕ). x + 0) free ≡ free
+none_with None = refl
+none_with (Some n) = let same : n + 0 ≡ n = omega arith in ap Some same
+
 -- the free slots, and with them its pages', are as many
 module _ (c : ClientToken) (a b : Operator) (h0 h1 : Holdings) (s0 s1 : Signs) (first : a.client ≡ c) (is : IsOperator a h0 s0) where
   pub slots_fed : (o : Option Operator) → o ≡ Some a → b.client ≡ c → IsOperator b h1 s1 → all_slots_in (over b.parts h1 s1) ≡ all_slots_in (over a.parts h0 s0) → slots_with (slots_in (Some b) c.tracker h1) h1 ≡ slots_with (slots_in o c.tracker h0) h0
   slots_fed o there second so same =
       rw there (with-same _ _ h1.free_slots (slots_mine c b h1 s1 second so) ∙ same ∙ sym (with-same _ _ h0.free_slots (slots_mine c a h0 s0 first is)))
 
-  none-more : (free : Option ℕ) → option_map (λ (x : ℕ). x + 0) free ≡ free
-  none-more None = refl
-  none-more (Some n) = let same : n + 0 ≡ n = omega arith in ap Some same
-
   -- so they are once it ended
   pub slots_ended : (o op : Option Operator) → o ≡ Some a → op ≡ None → h1.free_slots ≡ all_slots_in (over a.parts h0 s0) → slots_with (slots_in op c.tracker h1) h1 ≡ slots_with (slots_in o c.tracker h0) h0
-  slots_ended o op there none same = rw (there, none) (none-more h1.free_slots ∙ same ∙ sym (with-same _ _ h0.free_slots (slots_mine c a h0 s0 first is)))
+  slots_ended o op there none same = rw (there, none) (none_with h1.free_slots ∙ same ∙ sym (with-same _ _ h0.free_slots (slots_mine c a h0 s0 first is)))
+
+-- those of a grouping that is there are all slots of its client
+pub slots_here : (c : ClientToken) (a : Operator) (h : Holdings) (signs : Signs) → a.client ≡ c → IsOperator a h signs → (o : Option Operator) → o ≡ Some a → all_slots_in (over a.parts h signs) ≡ slots_with (slots_in o c.tracker h) h
+slots_here c a h signs same is o there = rw there (sym (with-same _ _ h.free_slots (slots_mine c a h signs same is)))
 
 -- ---- the row was taken
 
-module _ (c : ClientToken) (shape : Shape) (blocks : ℕ) (a b : Operator) (e e' : Feeder) (h h' : Holdings) (s s' : Signs) (row : List Value) (asks : AsksOwn) (few : FewSlots) where
-  pub took_one : kinds_of row ≡ shape.kinds → length (row_bytes row) + e.extra ≤ e.page → e'.taken ≡ e.taken + 1 → e'.extra ≡ e.extra → e'.page ≡ e.page
+-- its pages are few for the rows that it was fed
+few_pages : PagesAreFew → (fed : List (List Value)) (op : Operator) (h : Holdings) (signs : Signs) → IsStack op.parts → IsFeeding op → IsOperator op h signs → Holds fed op h signs → 0 < length_of op.parts.page_blocks h
+    → pages_on op ≤ most_pages (length_of op.parts.page_blocks h) 16 (length fed) (bytes_for op.shape fed)
+few_pages pages fed op h signs stack feeding is holds some =
+    let few = holds.few in
+    let light = holds.light in
+    let sixteen = feeding.sixteen in
+    let many = ap (λ (n : ℕ). length (shares n holds.rows)) feeding.sixteen in
+    let heavy = ap (λ (n : ℕ). length (concat (shares n holds.rows))) feeding.sixteen in
+    pages op.client.tracker op.parts.page_blocks 16 (length fed) (bytes_for op.shape fed) holds.rows (over op.parts h signs) (shaped op.client op.shape op.parts op.table h signs is.has) stack.each holds.shows some
+    (counts_once 16 (over op.parts h signs) holds.whole (omega (arith, sixteen))) (omega (arith, few, many)) (omega (arith, light, heavy))
+
+module _ (c : ClientToken) (shape : Shape) (blocks : ℕ) (a b : Operator) (e e' : Feeder) (h h' : Holdings) (s s' : Signs) (row : List Value) (asks : AsksOwn) (few : PagesAreFew) where
+  pub took_one : 0 < h.block_len → kinds_of row ≡ shape.kinds → length (row_bytes row) + e.extra ≤ e.page → e'.taken ≡ e.taken + 1 → e'.extra ≡ e.extra → e'.page ≡ e.page
       → IsSame a b → LeavesOthers a.client.tracker h h' s s' → IsOperator b h' s' → IsStack b.parts → ((fed : List (List Value)) → Holds fed a h s → Holds (fed ++ row ∷ []) b h' s')
       → (rows : List (List Value)) → Feeds c shape blocks a e h rows → Feeds c shape blocks b e' h' (rows ++ row ∷ [])
-  took_one kinds fits next same_extra same_page same leaves is stack holds rows feeds =
+  took_one long kinds fits next same_extra same_page same leaves is stack holds rows feeds =
       let feeding = feeds_still a b feeds.feeding same in
       let client : b.client ≡ c = same.client ∙ feeds.client in
       let sized : b.parts.page_blocks ≡ blocks = same.blocks ∙ feeds.blocks_are in
@@ -157,11 +180,14 @@ module _ (c : ClientToken) (shape : Shape) (blocks : ℕ) (a b : Operator) (e e'
         alike = same_own (Some c.tracker) h';
         is = is;
         holds = held;
+        stack = stack;
         few =
-            let own = slots_mine c b h' s' client is in
-            let most = few (rows ++ row ∷ []) b h' s' stack feeding held in
-            let bound : b.parts.page_blocks * length (rows ++ row ∷ []) ≡ blocks * length (rows ++ row ∷ []) = ap (λ (n : ℕ). n * length (rows ++ row ∷ [])) sized in
-            omega (arith, own, most, bound);
+            let some : 0 < length_of b.parts.page_blocks h' = some_page b.parts.page_blocks h' stack.sized (subst (λ (n : ℕ). 0 < n) (sym leaves.others.block_len) long) in
+            let long_is : length_of b.parts.page_blocks h' ≡ e'.page = ap (λ (n : ℕ). n * h'.block_len) sized ∙ ap (λ (n : ℕ). blocks * n) leaves.others.block_len ∙ sym (same_page ∙ feeds.page) in
+            let shape_is : b.shape ≡ shape = same.shape ∙ feeds.shape_is in
+            subst (λ (n : ℕ). pages_on b ≤ most_pages n 16 (length (rows ++ row ∷ [])) (bytes_for shape (rows ++ row ∷ []))) long_is
+            (subst (λ (x : Shape). pages_on b ≤ most_pages (length_of b.parts.page_blocks h') 16 (length (rows ++ row ∷ [])) (bytes_for x (rows ++ row ∷ []))) shape_is
+            (few_pages few (rows ++ row ∷ []) b h' s' stack feeding is held some));
       }
 
 -- ---- what the calls showed
@@ -210,20 +236,60 @@ module _ (c : ClientToken) (shape : Shape) (blocks : ℕ) (a b : Operator) (e : 
       subst (λ (x : ClientToken). LeavesOthers x.tracker h h2 s s2) feeds.client
       (leaves_both a.client.tracker h h' h2 s s' s2 leaves (subst (λ (x : ClientToken). LeavesOthers x.tracker h' h2 s' s2) same ended.leaves))
 
+-- once it ended, it stopped
+pub took_ended : (o : Option Operator) (back : Option ClientToken) (op : Operator) (c : ClientToken) (shape : Shape) (blocks : ℕ) (e : Feeder) (h h2 : Holdings) (s s2 : Signs) (rows : List (List Value)) → o ≡ None → back ≡ Some op.client → op.client ≡ c
+    → HasEnded op h h2 s s2 → e.taken ≤ length rows → TookOf o back c shape blocks e h2 rows
+took_ended o back op c shape blocks e h h2 s s2 rows none there same ended few =
+    let stopped : HasStopped c op.client h2 = record { same = same; lives = ended.lives; idle = ended.idle } in
+    subst (λ (x : Option Operator). TookOf x back c shape blocks e h2 rows) (sym none)
+    (subst (λ (b : Option ClientToken). TookOf None b c shape blocks e h2 rows) (sym there) (stopped, few))
+
+-- the pages that it is known to have made are no more than the rows that it took
+pub made_few : (o : Option Operator) (back : Option ClientToken) (c : ClientToken) (shape : Shape) (blocks : ℕ) (e : Feeder) (h : Holdings) (rows : List (List Value)) → FewPages → TookOf o back c shape blocks e h rows → pages_made o e.taken ≤ length rows
+made_few (Some op) None c shape blocks e h rows few took = let most = few rows op took.at took.signs took.feeding took.holds in omega (arith, most)
+made_few None (Some back) c shape blocks e h rows few took = took.1
+made_few (Some op) (Some back) c shape blocks e h rows few took = absurd took
+made_few None None c shape blocks e h rows few took = absurd took
+
 -- an error is one of the store
 pub came_so : (blocks : ℕ) (h : Holdings) (s0 s1 s2 : Signs) (e : OpErr) → Grows s1 s2 → CameOfStore blocks h s0 s1 e → CameOf 0 0 s0 s2 e
 came_so blocks h s0 s1 s2 (op_err.Pool e) grows came = answered_after e s0 s1 s2 came.0 grows
 came_so blocks h s0 s1 s2 op_err.Sink grows came = absurd came
 
+-- a want of slots is told with what pages leave over, where there are too few
+wants_slots : (blocks most : ℕ) (total : Option ℕ) (e : OpErr) → IsWantOf blocks total e → IsWantBelowOf most total e → WantsSlots blocks most total e
+wants_slots blocks most None (op_err.Pool (ScratchFull need free)) want below = absurd want.1
+wants_slots blocks most (Some n) (op_err.Pool (ScratchFull need free)) want below = (want.0, (want.1, below))
+wants_slots blocks most total (op_err.Pool (NoReservation tracker wanted room)) want below = tt
+wants_slots blocks most total (op_err.Pool (WriteFault entry)) want below = tt
+wants_slots blocks most total (op_err.Pool (ReadFault entry)) want below = tt
+wants_slots blocks most total (op_err.Pool (TooManyTrackers count)) want below = tt
+wants_slots blocks most total (op_err.Pool NamesSpent) want below = tt
+wants_slots blocks most total (op_err.Pool Memory) want below = tt
+wants_slots blocks most total op_err.Sink want below = tt
+
+-- so it is of what stopped the grouping
+pub row_wants : (c : ClientToken) (shape : Shape) (blocks : ℕ) (a : Operator) (e : Feeder) (h : Holdings) (signs : Signs) (row : List Value) (o : Option ℕ) (why : OpErr) → AsksOwn → (rows : List (List Value)) → Feeds c shape blocks a e h rows
+    → o ≡ all_slots_in (over a.parts h signs) → IsWantOf a.parts.page_blocks (all_slots_in (over a.parts h signs)) why
+    → ((fed : List (List Value)) → Holds fed a h signs → IsWantBelowOf (group_slots 16 a h (fed ++ row ∷ [])) (all_slots_in (over a.parts h signs)) why)
+    → WantsSlots blocks (slots_for_rows shape blocks e.page (rows ++ row ∷ [])) o why
+row_wants c shape blocks a e h signs row o why asks rows feeds total want enough =
+    let all = rows ++ row ∷ [] in
+    let most : group_slots 16 a h all ≡ slots_for_rows shape blocks e.page all = rw (feeds.shape_is, feeds.page, feeds.blocks_are) refl in
+    subst (λ (t : Option ℕ). WantsSlots blocks (slots_for_rows shape blocks e.page all) t why) (sym total)
+    (wants_slots blocks (slots_for_rows shape blocks e.page all) (all_slots_in (over a.parts h signs)) why
+    (subst (λ (n : ℕ). IsWantOf n (all_slots_in (over a.parts h signs)) why) feeds.blocks_are want)
+    (subst (λ (n : ℕ). IsWantBelowOf n (all_slots_in (over a.parts h signs)) why) most (enough rows (holds_here c shape blocks a e h signs asks rows feeds))))
+
 -- ---- a grouping that took nothing yet, and one that went through
 
-none-slots : (c : ClientToken) (shape : Shape) (blocks : ℕ) (h : Holdings) (signs : Signs) → IsOperator (started c blocks shape) h signs → slots_in (Some (started c blocks shape)) c.tracker h ≡ 0
-none-slots c shape blocks h signs is = slots_mine c (started c blocks shape) h signs refl is ∙ more_taken [] blocks 16 h
+-- none of the slots are its pages'
+pub none_slots : (c : ClientToken) (shape : Shape) (blocks : ℕ) (h : Holdings) (signs : Signs) → IsOperator (started c blocks shape) h signs → slots_in (Some (started c blocks shape)) c.tracker h ≡ 0
+none_slots c shape blocks h signs is = slots_mine c (started c blocks shape) h signs refl is ∙ more_taken [] blocks 16 h
 
 pub took_none : (c : ClientToken) (shape : Shape) (blocks : ℕ) (e : Feeder) (h : Holdings) (signs : Signs) → HasStarted c blocks shape h signs → e.op ≡ Some (started c blocks shape) → e.client ≡ None
     → e.page ≡ length_of blocks h → e.page < 2 ^ 32 → e.extra ≡ 16 * length shape.aggs → e.taken ≡ 0 → Took c shape blocks e h []
 took_none c shape blocks e h signs has there none page short extra taken =
-    let few = none-slots c shape blocks h signs has.op in
     let feeds : Feeds c shape blocks (started c blocks shape) e h [] = record {
       client = refl;
       shape_is = refl;
@@ -239,7 +305,8 @@ took_none c shape blocks e h signs has there none page short extra taken =
       alike = same_own (Some c.tracker) h;
       is = has.op;
       holds = has.keeps.holds;
-      few = omega (arith, few);
+      stack = first_is_stack blocks has.op.sized;
+      few = let none : pages_on (started c blocks shape) ≡ 0 = refl in omega (arith, none);
     } in
     subst (λ (o : Option Operator). TookOf o e.client c shape blocks e h []) (sym there)
     (subst (λ (b : Option ClientToken). TookOf (Some (started c blocks shape)) b c shape blocks e h []) (sym none) feeds)

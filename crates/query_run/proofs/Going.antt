@@ -25,6 +25,16 @@ of_pool_so P Q so (query.TooLarge side) holds = holds
 of_pool_so P Q so (query.RowTooLong side number bytes) holds = holds
 of_pool_so P Q so query.SinkFault holds = holds
 
+pub of_pool_both : (P Q R : PoolErr → Type 0) → ((e : PoolErr) → P e → Q e → R e) → (e : QueryErr) → OfPool P e → OfPool Q e → OfPool R e
+of_pool_both P Q R so (query.Pool e) one two = so e one two
+of_pool_both P Q R so (query.SourceFault side) one two = one
+of_pool_both P Q R so (query.BadHeader side) one two = one
+of_pool_both P Q R so (query.BadCsv side number) one two = one
+of_pool_both P Q R so (query.BadField side number column) one two = one
+of_pool_both P Q R so (query.TooLarge side) one two = one
+of_pool_both P Q R so (query.RowTooLong side number bytes) one two = one
+of_pool_both P Q R so query.SinkFault one two = one
+
 -- what stopped a later call stopped both
 pub stopped_later : (blocks blocks' : ℕ) (total total' : Option ℕ) (a b c : Signs) (e : QueryErr) → blocks' ≡ blocks → total' ≡ total → Grows a b
     → StoppedOver blocks' total' b c e → StoppedOver blocks total a c e

@@ -6,8 +6,6 @@ use Rattle.pool_model.specs.declared.entry.Entry.{Entry}
 use Rattle.pool_model.specs.declared.event.Event.{Event}
 use Rattle.pool_model.specs.declared.event.Event.TheVariants.{AddTracker, Increase}
 use Rattle.row_codec.specs.declared.values.Value.{Value}
-use Rattle.reservation_tree.specs.declared.errors.PoolErr.{PoolErr}
-use Rattle.store_api.proofs.Answered.{answered_after, answered_before}
 use Rattle.store_api.specs.Entries.{MadeThese}
 use Rattle.store_api.specs.Holdings.{Account, Holdings, account_of}
 use Rattle.store_api.specs.Signs.{Grows, Signs}
@@ -17,7 +15,6 @@ use Rattle.tuple_stream.specs.Families.{AllClosed, Family}
 use Rattle.tuple_stream.specs.Trails.{EnteredEvents, HasPin, IsBuilding, PinsFirst}
 use Rattle.tuple_stream.proofs.PinsFirst.{both_pin_first, pins_first_join}
 use Rattle.tuple_stream.proofs.Sinces.{since_joined, since_so, since_these}
-use Rattle.partition_stack.specs.Causes.{IsShort}
 use Rattle.partition_stack.specs.Leaving.{MayStart}
 use Rattle.join_op.specs.Laid.{HoldsSides, LeavesSide}
 use Rattle.join_op.specs.Starting.{AllStart, HasStarted}
@@ -26,16 +23,13 @@ use Rattle.query_plan.specs.Sizes.{groups, joins, least_of, operators, page_len}
 use Rattle.query_plan.specs.declared.plan.Query.{Query}
 use Rattle.query_plan.specs.declared.plan.Side.TheVariants.{Right}
 use Rattle.query_plan.specs.declared.plan.SidePlan.{SidePlan}
-use Rattle.query_run.specs.Causes.{OfPool}
 use Rattle.query_run.specs.Input.{IsAccepted, IsAcceptedIn, passing, passing_in}
 use Rattle.query_run.specs.Inside.{HasOwn}
 use Rattle.query_run.specs.Joined.{KeptBoth}
 use Rattle.query_run.specs.Plans.{IsRunnable, join_shape_of}
-use Rattle.query_run.specs.Stopped.{MayStop, StoppedQuery, StoppedShort, amounts_of}
+use Rattle.query_run.specs.Stopped.{amounts_of}
 use Rattle.query_run.specs.Trail.{HoldsRows, KeptRows, KeptSides, KeptWith}
-use Rattle.query_run.specs.declared.outcome.QueryErr.{QueryErr}
 use Rattle.query_run.proofs.Around.{ending, entered-if, own_account}
-use Rattle.query_run.proofs.Going.{of_pool_so}
 use Rattle.query_run.proofs.KeptFirst.{coming}
 
 -- ---- the join starts
@@ -65,16 +59,6 @@ joins_here plan right c most bytes old new signs all is planned alone own same =
       free = ap (λ (a : Account). a.unused) account ∙ sym (ap (λ (a : Account). a.reservation) account);
     } in
     all c plan.page_blocks (join_shape_of plan right) new signs (rw planned at is.join) is.paged may
-
--- ---- what stopped it
-
-pub stopped_join : (plan : Query) (right : SidePlan) (blocks : ℕ) (first : Holdings) (s0 s1 s2 s3 : Signs) (e : QueryErr) → plan.right ≡ Some right → groups plan ≡ false → blocks ≡ plan.page_blocks → Grows s0 s1 → Grows s2 s3
-    → OfPool (StoppedShort blocks s1 s2) e → MayStop plan first s0 s3 e
-stopped_join plan right blocks first s0 s1 s2 s3 e planned alone same grows later = of_pool_so (StoppedShort blocks s1 s2) (StoppedQuery plan first.free_slots s0 s3)
-    (λ why stopped. record {
-      answered = answered_after why s0 s2 s3 (answered_before why s0 s1 s2 grows stopped.answered) later;
-      want = rw (planned, alone) (subst (λ n. IsShort n why) same stopped.short);
-    }) e
 
 -- ---- what was kept
 

@@ -1,13 +1,18 @@
 pub mod Alone
 mod Around
+mod BothWants
+mod Counted
 mod Ended
 mod EndedFirst
 mod Feeders
+mod Fronts
 mod Going
 mod Handed
+mod JoinWants
 mod Joining
 mod KeptFirst
 mod KeptPairs
+mod Made
 mod Names
 mod Orders
 mod Pairing
@@ -21,5 +26,6 @@ mod Taken
 mod Taking
 mod Telling
 mod TwoClients
+mod Wants
 mod Weighing
 mod Whole

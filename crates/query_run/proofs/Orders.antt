@@ -1,5 +1,5 @@
 -- Rows in another order have the same groups.
-use Rattle.std.proofs.Common.{◌≡◌, ◌∙◌, ℕ, ◌+◌, ◌<◌, Bool, true, false, List, [], ◌∷◌, ◌++◌, Decides, if◌then◌else◌, map, refl, ap, sym, subst, arith, inl, inr, bytes_eq}
+use Rattle.std.proofs.Common.{◌≡◌, ◌∙◌, ℕ, ◌+◌, ◌*◌, ◌<◌, Bool, true, false, List, [], ◌∷◌, ◌++◌, Decides, if◌then◌else◌, length, map, refl, ap, sym, subst, arith, inl, inr, bytes_eq}
 use Rattle.std.proofs.lemmas.Bool.{false≢true}
 use Rattle.std.specs.List.{sum_by}
 use Rattle.std.specs.List.Sorted.{IsPermutation}
@@ -14,6 +14,7 @@ use Rattle.row_codec.specs.declared.values.Value.{Value}
 use Rattle.row_codec.specs.declared.values.Value.TheVariants.{Int, Text, Wide}
 use Rattle.row_codec.specs.Order.{path_order}
 use Rattle.row_codec.specs.Row.{IsValue}
+use Rattle.row_codec.specs.RowBytes.{row_bytes}
 use Rattle.store_api.specs.Holdings.{Holdings}
 use Rattle.store_api.specs.Signs.{Signs}
 use Rattle.group_rows.specs.Combining.{AreValues}
@@ -100,6 +101,17 @@ groups-in-order grouping xs ys first second same =
     ∙ sym (any_order path_order path_is_order grouping (map (partial_of grouping) xs) (map (partial_of grouping) ys) (IsPermutation-map (partial_of grouping) xs ys same))
     ∙ gives path_order path_is_order grouping ys second
 
+ones : (rows : List (List Value)) → sum_by (λ row. 1) rows ≡ length rows
+ones [] = refl
+ones (row ∷ rows) =
+    let all : sum_by (λ row. 1) (row ∷ rows) ≡ 1 + sum_by (λ row. 1) rows = sum_by-cons (λ (row : List Value). 1) row rows in
+    let rest = ones rows in
+    omega (arith, all, rest)
+
+-- the same rows in any order are as many
+pub same_many : (xs ys : List (List Value)) → SameRows xs ys → length xs ≡ length ys
+same_many xs ys same = sym (ones xs) ∙ same (λ row. 1) ∙ ones ys
+
 -- a grouping that was fed these rows in some order
 pub holds_ordered : (fed rows : List (List Value)) (op : Operator) (h : Holdings) (signs : Signs) → Holds fed op h signs → AreFed op.shape.kinds fed → SameRows fed rows → HoldsFor rows op h signs
 holds_ordered fed rows op h signs holds formed same =
@@ -107,6 +119,8 @@ holds_ordered fed rows op h signs holds formed same =
     let values : AreValues rows = All-permutation (λ row. All IsValue row) fed rows order holds.values in
     record {
       fed = fed;
+      many = same_many fed rows same;
+      weigh = same (λ row. length (row_bytes row) + 16 * length op.shape.aggs);
       holds = holds;
       same = groups-in-order (grouping_of op.shape) fed rows holds.values values order;
       values = values;

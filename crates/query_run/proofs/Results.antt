@@ -5,6 +5,10 @@ pub both_ok : {A E : Type 0} (P Q : A → Type 0) (r : Result A E) → IfOk r P 
 both_ok P Q (Ok x) first second = (first, second)
 both_ok P Q (Err e) first second = first
 
+pub both_err : {A E : Type 0} (P Q : E → Type 0) (r : Result A E) → IfErr r P → IfErr r Q → IfErr r (λ e. P e × Q e)
+both_err P Q (Ok x) first second = first
+both_err P Q (Err e) first second = (first, second)
+
 pub of_err : {A E : Type 0} {P : Type 0} {R : E → Type 0} → (r : Result A E) → (P → (e : E) → R e) → OnErr r P → IfErr r R
 of_err (Ok x) more holds = holds
 of_err (Err e) more holds = more holds e

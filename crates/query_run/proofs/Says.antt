@@ -1,8 +1,8 @@
 -- What errors say of the inputs of a query.
-use Rattle.std.proofs.Common.{◌≡◌, ◌≢◌, ◌∙◌, ℕ, Bool, false, true, Option, Some, None, IfSome, ap, sym, subst, refl}
+use Rattle.std.proofs.Common.{◌≡◌, ◌≢◌, ◌∙◌, ◌*◌, ℕ, Bool, false, true, Option, Some, None, IfSome, ap, sym, subst, refl}
 use Rattle.std.specs.Prelude.{IsSomeAnd}
 use Rattle.std.specs.Io.KnownBytes.{IsAtEnd}
-use Rattle.query_plan.specs.Sizes.{groups}
+use Rattle.query_plan.specs.Sizes.{groups, page_len}
 use Rattle.query_plan.specs.declared.plan.Query.{Query}
 use Rattle.query_plan.specs.declared.plan.Side.{Side}
 use Rattle.query_plan.specs.declared.plan.Side.TheVariants.{Left, Right}
@@ -10,10 +10,12 @@ use Rattle.query_plan.specs.declared.plan.SidePlan.{SidePlan}
 use Rattle.reservation_tree.specs.declared.errors.PoolErr.TheVariants.{Memory}
 use Rattle.store_api.specs.Holdings.{Holdings}
 use Rattle.store_api.specs.Signs.{Signs}
+use Rattle.query_run.specs.Both.{Told}
 use Rattle.query_run.specs.Causes.{side_of}
 use Rattle.query_run.specs.Input.{IsAccepted}
 use Rattle.query_run.specs.Refused.{SaysOfInputs, SaysOfRight, SaysOfSide, Source}
-use Rattle.query_run.specs.Stopped.{IsWantIn, MayStop}
+use Rattle.query_run.specs.Stopped.{IsWantBelow, MayStop}
+use Rattle.query_run.specs.Through.{need}
 use Rattle.query_run.specs.declared.outcome.QueryErr.{QueryErr}
 use Rattle.query_run.specs.declared.outcome.QueryErr.TheVariants as query
 
@@ -45,10 +47,9 @@ says_right plan right page lefts rights why planned accepted read says = record 
 }
 
 -- there may be no memory at any time
-no-want : (o : Option SidePlan) (grouped : Bool) (blocks : ℕ) (start : Option ℕ) → IsWantIn o grouped blocks start Memory
-no-want None grouped blocks start = tt
-no-want (Some right) false blocks start = tt
-no-want (Some right) true blocks start = tt
+any-told : (plan : Query) (start : Holdings) (told : Option Told) → IfSome told (λ both. IsWantBelow (need plan (page_len plan start.block_len) both * plan.page_blocks) start.free_slots Memory)
+any-told plan start None = tt
+any-told plan start (Some both) = tt
 
-pub memory_stops : (plan : Query) (start : Holdings) (old new : Signs) → MayStop plan start old new (query.Pool Memory)
-memory_stops plan start old new = record { answered = tt; want = no-want plan.right (groups plan) plan.page_blocks start.free_slots }
+pub memory_stops : (plan : Query) (told : Option Told) (start : Holdings) (old new : Signs) → MayStop plan told start old new (query.Pool Memory)
+memory_stops plan told start old new = record { answered = tt; want = tt; enough = λ tells. any-told plan start told }

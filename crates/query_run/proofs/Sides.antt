@@ -2,6 +2,7 @@
 use Rattle.std.proofs.Common.{◌≡◌, ◌∙◌, ◌+◌, ◌<◌, ◌≤◌, ◌^◌, ℕ, Bool, false, true, not, List, Option, Some, None, IfSome, filter, length, ap, sym, subst, refl, arith}
 use Rattle.std.specs.Prelude.{⊤}
 use Rattle.std.specs.Io.KnownBytes.{Appends}
+use Rattle.std.proofs.lemmas.List.{length-append}
 use Rattle.std.proofs.lemmas.List.Filters.{length-filter_both}
 use Rattle.pool_model.specs.declared.entry.Entry.{Entry}
 use Rattle.row_codec.specs.declared.values.Value.{Value}
@@ -17,7 +18,7 @@ use Rattle.query_plan.specs.declared.plan.Side.{Side}
 use Rattle.query_plan.specs.declared.plan.Side.TheVariants.{Left, Right}
 use Rattle.query_plan.specs.declared.plan.SidePlan.{SidePlan}
 use Rattle.query_run.specs.Answer.{AreLines, IsAnswer, LineNumbers, Numbers, WroteAnswer, WroteFront, answer_text, group_rows}
-use Rattle.query_run.specs.Both.{answered, both_told, right_passing, right_rows}
+use Rattle.query_run.specs.Both.{answered, both_told, passing_of_both, right_passing, right_rows}
 use Rattle.query_run.specs.Feeding.{HasFed}
 use Rattle.query_run.specs.Input.{IsAccepted, IsAcceptedIn, passing, passing_in}
 use Rattle.query_run.specs.Joined.{HasFedBoth, KeptBoth, WrotePairs, WroteSomePairs}
@@ -50,7 +51,21 @@ few_kept plan side asked page told fed feeds has =
     let few = has.few in
     omega (arith, fewer, kept, few)
 
+-- they are those that pass
+pub both_are : (plan : Query) (right : SidePlan) (page : ℕ) (l r : List ℕ) (left_fed right_fed : Fed) (keeps : List (List Value) → List (List Value) → Type 0) (has : HasFedBoth plan right page (Some l) (Some r) left_fed right_fed keeps)
+    → (has.lefts ≡ passing plan l) × (has.rights ≡ passing_in right r)
+both_are plan right page l r left_fed right_fed keeps has = (rows-are plan Left plan.left page l left_fed has.lefts has.lefts_fed, rows-are plan Right right page r right_fed has.rights has.rights_fed)
+
 module _ (plan : Query) (right : SidePlan) (page : ℕ) (planned : plan.right ≡ Some right) where
+  -- as many were fed as pass
+  pub fed_many : (l r : List ℕ) (left_fed right_fed : Fed) (keeps : List (List Value) → List (List Value) → Type 0) (has : HasFedBoth plan right page (Some l) (Some r) left_fed right_fed keeps)
+      → length has.lefts + length has.rights ≡ length (passing_of_both plan (record { left = l; right = r }))
+  fed_many l r left_fed right_fed keeps has =
+      let lefts : length has.lefts ≡ length (passing plan l) = ap length (rows-are plan Left plan.left page l left_fed has.lefts has.lefts_fed) in
+      let rights : length has.rights ≡ length (right_passing plan.right r) = rw planned (ap length (rows-are plan Right right page r right_fed has.rights has.rights_fed)) in
+      let sum = length-append (passing plan l) (right_passing plan.right r) in
+      omega (arith, lefts, rights, sum)
+
   pub shows : (l r : List ℕ) (left_fed right_fed : Fed) (keeps : List (List Value) → List (List Value) → Type 0) (has : HasFedBoth plan right page (Some l) (Some r) left_fed right_fed keeps)
       → pairs_of (join_shape_of plan right) has.lefts has.rights ≡ answered plan (record { left = l; right = r })
   shows l r left_fed right_fed keeps has =

@@ -2,7 +2,6 @@
 use Rattle.std.proofs.Common.{◌≡◌, ◌∙◌, ◌*◌, ◌++◌, ℕ, List, [], Option, length, sym, ap, refl, subst, arith, append_assoc, append-nil}
 use Rattle.pool_model.specs.declared.entry.Entry.{Entry}
 use Rattle.reservation_tree.specs.declared.errors.PoolErr.{PoolErr}
-use Rattle.reservation_tree.specs.declared.errors.PoolErr.TheVariants.{NoReservation, ScratchFull, WriteFault, ReadFault, TooManyTrackers, NamesSpent, Memory}
 use Rattle.row_codec.specs.declared.values.Kind.{Kind}
 use Rattle.row_codec.specs.declared.values.Value.{Value}
 use Rattle.store_api.proofs.Answered.{answered_before}
@@ -12,8 +11,6 @@ use Rattle.store_api.specs.Holdings.{Holdings, length_of}
 use Rattle.store_api.specs.Signs.{Signs}
 use Rattle.store_api.specs.declared.shapes.JoinShape.{JoinShape}
 use Rattle.store_api.specs.declared.shapes.Shape.{Shape}
-use Rattle.tuple_stream.specs.Touches.{IsFull}
-use Rattle.partition_stack.specs.Causes.{IsShort}
 use Rattle.store_api.specs.declared.op_err.OpErr.{OpErr}
 use Rattle.store_api.specs.declared.op_err.OpErr.TheVariants as op
 use Rattle.partition_stack.specs.Leaving.{CameOfStore}
@@ -21,7 +18,7 @@ use Rattle.partition_stack.specs.Slots.{IsWant, IsWantOf}
 use Rattle.partition_stack.proofs.Left.{leaves_both}
 use Rattle.group_op.specs.Operator as group
 use Rattle.join_op.specs.Operator as join
-use Rattle.query_run.specs.Stopped.{StoppedBy, StoppedShort}
+use Rattle.query_run.specs.Stopped.{StoppedBy}
 use Rattle.query_run.specs.Taking.{GroupFeeds, GroupGoes, GroupStands, GroupStops, JoinGoes, JoinStands, JoinStops, LeftFeeds, RightFeeds, TakesStill}
 use Rattle.query_run.proofs.Going.{goes_none, goes_then, same_none, same_then}
 
@@ -64,12 +61,14 @@ group_stops a b h0 h1 s0 s1 s2 e goes stopped = record {
 pub join_goes_none : (a : join.Operator) (h : Holdings) (s : Signs) → JoinStands a h s → JoinGoes a a h h s s
 join_goes_none a h s stands = record {
   leaves = record { others = others_stay _ h; grows = grows_refl s; reserved = omega arith; room = omega arith };
+  slots = refl;
   same = record { client = refl; shape = refl; left_blocks = refl; right_blocks = refl };
 }
 
 pub join_goes_then : (a b c : join.Operator) (h0 h1 h2 : Holdings) (s0 s1 s2 : Signs) → JoinGoes a b h0 h1 s0 s1 → JoinGoes b c h1 h2 s1 s2 → JoinGoes a c h0 h2 s0 s2
 join_goes_then a b c h0 h1 h2 s0 s1 s2 first then = record {
   leaves = leaves_both a.client.tracker h0 h1 h2 s0 s1 s2 first.leaves (rw first.same.client at then.leaves);
+  slots = then.slots ∙ first.slots;
   same = record {
     client = then.same.client ∙ first.same.client;
     shape = then.same.shape ∙ first.same.shape;
@@ -89,10 +88,10 @@ pub right_still : (a b : join.Operator) (h0 h1 : Holdings) (s0 s1 : Signs) → J
 right_still a b h0 h1 s0 s1 goes =
     record { kinds_same = ap (λ (s : JoinShape). s.right) goes.same.shape; extra_same = refl; page_same = page-same a b h0 h1 s0 s1 goes }
 
-pub join_stops : (a b : join.Operator) (h0 h1 : Holdings) (s0 s1 s2 : Signs) (e : PoolErr) → JoinGoes a b h0 h1 s0 s1 → JoinStops b s1 s2 e → JoinStops a s0 s2 e
+pub join_stops : (a b : join.Operator) (h0 h1 : Holdings) (s0 s1 s2 : Signs) (e : PoolErr) → JoinGoes a b h0 h1 s0 s1 → JoinStops b h1 s1 s2 e → JoinStops a h0 s0 s2 e
 join_stops a b h0 h1 s0 s1 s2 e goes stopped = record {
   answered = answered_before e s0 s1 s2 goes.leaves.grows stopped.answered;
-  short = subst (λ n. IsShort n e) goes.same.left_blocks stopped.short;
+  want = subst (λ t. IsWant a.left.page_blocks t e) goes.slots (rw goes.same.left_blocks at stopped.want);
 }
 
 pub left_feeds_none : (a : join.Operator) (h : Holdings) (s : Signs) → LeftFeeds a a [] h h s s
@@ -113,22 +112,7 @@ right_feeds_then a b c xs ys h0 h1 h2 s0 s1 s2 first then = λ start lefts right
 pub no_right : (a b : join.Operator) → join.HasNoRight a → b.right ≡ a.right → join.HasNoRight b
 no_right a b none same = rw same none
 
--- a want of slots is told with fewer that are free
-pub short_of : (blocks : ℕ) (free : Option ℕ) (e : PoolErr) → IsFull blocks free e → IsShort blocks e
-short_of blocks free (ScratchFull need few) full = (full.0, full.1)
-short_of blocks free (NoReservation tracker wanted room) full = tt
-short_of blocks free (WriteFault entry) full = tt
-short_of blocks free (ReadFault entry) full = tt
-short_of blocks free (TooManyTrackers count) full = tt
-short_of blocks free NamesSpent full = tt
-short_of blocks free Memory full = tt
-
--- what the store answered a side of a join
-pub short_pool : (blocks : ℕ) (h : Holdings) (before after : Signs) (why : OpErr) (e : PoolErr) → why ≡ op.Pool e → CameOfStore blocks h before after why → StoppedShort blocks before after e
-short_pool blocks h before after (op.Pool other) e is came = let same : other ≡ e = cc in subst (StoppedShort blocks before after) same (record { answered = came.0; short = short_of blocks h.free_slots other came.1 })
-short_pool blocks h before after op.Sink e is came = absurd came
-
--- and a grouping
-pub group_pool : (blocks : ℕ) (total : Option ℕ) (h : Holdings) (before after : Signs) (why : OpErr) (e : PoolErr) → why ≡ op.Pool e → CameOfStore blocks h before after why → IsWantOf blocks total why → StoppedBy blocks total before after e
-group_pool blocks total h before after (op.Pool other) e is came want = let same : other ≡ e = cc in subst (StoppedBy blocks total before after) same (record { answered = came.0; want = want })
-group_pool blocks total h before after op.Sink e is came want = absurd came
+-- what the store answered
+pub pool_stops : (blocks : ℕ) (total : Option ℕ) (h : Holdings) (before after : Signs) (why : OpErr) (e : PoolErr) → why ≡ op.Pool e → CameOfStore blocks h before after why → IsWantOf blocks total why → StoppedBy blocks total before after e
+pool_stops blocks total h before after (op.Pool other) e is came want = let same : other ≡ e = cc in subst (StoppedBy blocks total before after) same (record { answered = came.0; want = want })
+pool_stops blocks total h before after op.Sink e is came want = absurd came

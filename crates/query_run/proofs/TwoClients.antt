@@ -1,22 +1,17 @@
 -- Two clients of a query come, and end.
 use Rattle.std.proofs.Common.{◌≡◌, ◌≢◌, ◌∙◌, ◌+◌, ◌-◌, ◌*◌, ◌/◌, ◌≤◌, ℕ, [], ◌∷◌, true, Option, Some, None, ap, refl, subst, sym, arith}
-use Rattle.store_api.proofs.Answered.{answered_after, answered_before}
 use Rattle.store_api.specs.Changes.{after_end_client}
 use Rattle.store_api.specs.Emitters.{SameOwn}
 use Rattle.store_api.specs.Holdings.{Account, Holdings, account_of, length_of, no_account, or_else}
-use Rattle.store_api.specs.Signs.{Grows, Signs, WasAnswered}
+use Rattle.store_api.specs.Signs.{Signs}
 use Rattle.store_api.specs.Tokens.{ClientToken}
 use Rattle.partition_stack.specs.Leaving.{MayStart}
 use Rattle.query_plan.specs.Sizes.{groups, joins, least_of, page_len}
 use Rattle.query_plan.specs.declared.plan.Query.{Query}
-use Rattle.query_plan.specs.declared.plan.SidePlan.{SidePlan}
-use Rattle.query_run.specs.Causes.{OfPool}
 use Rattle.query_run.specs.Inside.{HasEndedFirst, HasOwn}
-use Rattle.query_run.specs.Stopped.{IsLeft, MayStop, StoppedQuery, amounts_of}
-use Rattle.query_run.specs.declared.outcome.QueryErr.{QueryErr}
+use Rattle.query_run.specs.Stopped.{IsLeft, amounts_of}
 use Rattle.query_run.proofs.Around.{own_account}
 use Rattle.query_run.proofs.EndedFirst.{may_start_still}
-use Rattle.query_run.proofs.Going.{of_pool_so}
 
 -- half of the least reservation is twenty pages
 pub share_is : (plan : Query) (block_len bytes : ℕ) → joins plan ≡ true → groups plan ≡ true → bytes ≡ least_of plan block_len → bytes / 2 ≡ 20 * page_len plan block_len
@@ -94,12 +89,3 @@ module _ (first second : ClientToken) (most bytes blocks : ℕ) (h0 h1 h2 : Hold
         block_len = ended.block_len ∙ two.block_len ∙ one.block_len;
         told = ended.told ∙ two.told ∙ one.told;
       }
-
--- where a query joins and groups, the store may stop it in any way that shows
-pub stopped_both : (plan : Query) (right : SidePlan) (first : Holdings) (s0 s1 s2 s3 : Signs) (e : QueryErr) → plan.right ≡ Some right → groups plan ≡ true → Grows s0 s1 → Grows s2 s3
-    → OfPool (λ why. WasAnswered why s1 s2) e → MayStop plan first s0 s3 e
-stopped_both plan right first s0 s1 s2 s3 e planned grouped grows later = of_pool_so (λ why. WasAnswered why s1 s2) (StoppedQuery plan first.free_slots s0 s3)
-    (λ why was. record {
-      answered = answered_after why s0 s2 s3 (answered_before why s0 s1 s2 grows was) later;
-      want = rw (planned, grouped) tt;
-    }) e

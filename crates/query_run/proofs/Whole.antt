@@ -108,7 +108,7 @@ fed_as plan shape rows alone same fed =
 
 -- what was fed is of its own groups
 pub holds_for : (start : Option (List Entry)) (rows : List (List Value)) (op : Operator) (h : Holdings) (signs : Signs) → Keeps start rows op h signs → AreFed op.shape.kinds rows → HoldsFor rows op h signs
-holds_for start rows op h signs keeps formed = record { fed = rows; holds = keeps.holds; same = refl; values = keeps.holds.values; formed = formed }
+holds_for start rows op h signs keeps formed = record { fed = rows; many = refl; weigh = refl; holds = keeps.holds; same = refl; values = keeps.holds.values; formed = formed }
 
 -- pages are as long as they were
 pub same_page : (a b : Operator) (old new : Holdings) (before after : Signs) → IsSame a b → GoesOn a b old new before after → page_of b new ≡ page_of a old

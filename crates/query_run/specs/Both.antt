@@ -1,5 +1,5 @@
 -- Both inputs of a query. Where it doesn't join there is no right one, which is as good as one without bytes and faults.
-use Rattle.std.specs.Prelude.{◌≡◌, ◌≤◌, ℕ, List, [], Option, Some, None, IfSome, IsSomeAnd}
+use Rattle.std.specs.Prelude.{◌≡◌, ◌≤◌, ◌++◌, ℕ, List, [], Option, Some, None, IfSome, IsSomeAnd}
 use Rattle.row_codec.specs.declared.values.Value.{Value}
 use Rattle.join_op.specs.Pairs.{pairs_of}
 use Rattle.query_plan.specs.declared.plan.Query.{Query}
@@ -53,3 +53,7 @@ answered_with (Some right) plan told = pairs_of (join_shape_of plan right) (pass
 
 abbrev pub answered : Query → Told → List (List Value)
 answered plan told = answered_with plan.right plan told
+
+-- the rows of both inputs that pass
+abbrev pub passing_of_both : Query → Told → List (List Value)
+passing_of_both plan told = passing plan told.left ++ right_passing plan.right told.right

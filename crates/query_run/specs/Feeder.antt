@@ -1,6 +1,6 @@
 -- An emitter that feeds its rows to a grouping. `c` is the grouping's client, and its pages have `blocks` blocks. Lengths are in
 -- bytes.
-use Rattle.std.specs.Prelude.{◌≡◌, ℕ, ◌*◌, ◌^◌, ◌<◌, ◌≤◌, ◌==◌, List, [], length, sum_by, if◌then◌else◌, Option, Some, None}
+use Rattle.std.specs.Prelude.{◌≡◌, ℕ, ◌+◌, ◌*◌, ◌^◌, ◌<◌, ◌≤◌, ◌==◌, List, [], length, sum_by, if◌then◌else◌, Option, Some, None}
 use Rattle.pool_model.specs.LookingBack.{names_in}
 use Rattle.row_codec.specs.declared.values.Value.{Value}
 use Rattle.store_api.specs.Conditions.{IsIdle, IsLiveClient}
@@ -13,9 +13,10 @@ use Rattle.tuple_stream.specs.Streamed.{Streamed}
 use Rattle.tuple_stream.specs.Families.{slots_in as all_slots_in}
 use Rattle.tuple_stream.specs.Touches.{slots_of}
 use Rattle.partition_stack.specs.Leaving.{LeavesOthers}
-use Rattle.partition_stack.specs.Stack.{over}
+use Rattle.partition_stack.specs.Slots.{most_pages}
+use Rattle.partition_stack.specs.Stack.{IsStack, over}
 use Rattle.group_op.specs.Making.{pages_on}
-use Rattle.group_op.specs.Operator.{Holds, IsFeeding, IsOperator, Operator}
+use Rattle.group_op.specs.Operator.{Holds, IsFeeding, IsOperator, Operator, bytes_for}
 use Rattle.query_run.specs.FedRows.{AreFed}
 use Rattle.query_run.specs.declared.feeder.Feeder.{Feeder}
 
@@ -27,6 +28,10 @@ own_slots t s h p = if (page_of p.name h).client == t then slots_of s h p else 0
 abbrev pub slots_in : Option Operator → ℕ → Holdings → ℕ
 slots_in None t h = 0
 slots_in (Some op) t h = sum_by (λ s. sum_by (own_slots t s h) s.pages) op.parts.streams
+
+-- the slots that the pages of a grouping and one more have at most, once it was fed these rows, where a page has so many bytes
+abbrev pub slots_for_rows : Shape → ℕ → ℕ → List (List Value) → ℕ
+slots_for_rows shape blocks page rows = (most_pages page 16 (length rows) (bytes_for shape rows) + 1) * blocks
 
 -- the pages that the grouping is known to have made, which are those that it has: once it ended, as many as rows were taken
 abbrev pub pages_made : Option Operator → ℕ → ℕ
@@ -49,7 +54,8 @@ pub record Feeds (c : ClientToken) (shape : Shape) (blocks : ℕ) (op : Operator
   pub alike : SameOwn (Some c.tracker) at h
   pub is : IsOperator op at signs
   pub holds : Holds rows op at signs
-  pub few : slots_in (Some op) c.tracker at ≤ blocks * length rows
+  pub stack : IsStack op.parts
+  pub few : pages_on op ≤ most_pages e.page 16 (length rows) (bytes_for shape rows)
 
 -- the grouping ended: its client is live and has nothing, and the slots of its pages are free
 pub record HasEnded (op : Operator) (old new : Holdings) (before after : Signs) : Type 0 where
@@ -65,10 +71,10 @@ pub record HasStopped (c back : ClientToken) (h : Holdings) : Type 0 where
   pub lives : IsLiveClient back h
   pub idle : IsIdle back.tracker h
 
--- these rows were taken; once it stopped, any
+-- these rows were taken; once it stopped, any that are no fewer than it counted
 abbrev pub TookOf : Option Operator → Option ClientToken → ClientToken → Shape → ℕ → Feeder → Holdings → List (List Value) → Type 0
 TookOf (Some op) None c shape blocks e h rows = Feeds c shape blocks op e h rows
-TookOf None (Some back) c shape blocks e h rows = HasStopped c back h
+TookOf None (Some back) c shape blocks e h rows = HasStopped c back h × (e.taken ≤ length rows)
 TookOf op back c shape blocks e h rows = ⊥
 
 abbrev pub Took : ClientToken → Shape → ℕ → Feeder → Holdings → List (List Value) → Type 0

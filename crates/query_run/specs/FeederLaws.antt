@@ -1,18 +1,22 @@
 -- An emitter that feeds its rows to a grouping asks nothing of its store but what is its client's. Laws of emitters cite this.
-use Rattle.std.specs.Prelude.{◌≡◌, ◌↔◌, ℕ, ◌*◌, ◌≤◌, ◌==◌, Bool, true, false, List, length, if◌then◌else◌, Option, Some, None, refl}
+use Rattle.std.specs.Prelude.{◌≡◌, ◌↔◌, ℕ, suc, ◌+◌, ◌*◌, ◌≤◌, ◌==◌, Bool, true, false, List, [], ◌∷◌, length, slice_get, sum_by, if◌then◌else◌, Option, Some, None, refl}
 use Rattle.std.proofs.Common.{◌∙◌, ◌⊎◌, inl, inr, ap, sym, subst, arith, zero-le, eqb-true}
 use Rattle.std.proofs.lemmas.Bool.{cases_Bool}
+use Rattle.std.proofs.lemmas.List.Sums.{sum_by-cons}
+use Rattle.std.proofs.Math.Nat.{mul-le-mul_right}
 use Rattle.row_codec.specs.declared.values.Value.{Value}
 use Rattle.store_api.specs.Emitters.{SameFor, SameOwn}
-use Rattle.store_api.specs.Holdings.{Account, Holdings, LivePage, no_page, or_else, length_of}
+use Rattle.store_api.specs.Holdings.{Account, Holdings, LivePage, no_page, or_else, length_of, page_of}
 use Rattle.store_api.specs.OwnLaws.{still_idle}
 use Rattle.store_api.specs.Tokens.{ClientToken, PageToken}
 use Rattle.store_api.specs.declared.shapes.Shape.{Shape}
 use Rattle.tuple_stream.specs.Streamed.{Streamed}
 use Rattle.partition_stack.proofs.Left.{same_then}
 use Rattle.join_op.proofs.Sums.{sum_alike}
-use Rattle.group_op.specs.Operator.{Operator}
-use Rattle.query_run.specs.Feeder.{Feeds, TookOf, own_slots, slots_in}
+use Rattle.partition_stack.specs.Slots.{most_pages}
+use Rattle.group_op.specs.Making.{pages_on}
+use Rattle.group_op.specs.Operator.{Operator, bytes_for}
+use Rattle.query_run.specs.Feeder.{Feeds, TookOf, own_slots, slots_for_rows, slots_in}
 use Rattle.query_run.specs.declared.feeder.Feeder.{Feeder}
 
 -- ---- the slots of a page
@@ -77,21 +81,78 @@ took_same (Some op) None c shape blocks e old new rows same took = record {
   alike = alike_then c.tracker took.at old new took.alike same;
   is = took.is;
   holds = took.holds;
+  stack = took.stack;
   few = took.few;
 }
 took_same None (Some back) c shape blocks e old new rows same took =
-    let own : SameOwn (Some back.tracker) old new = subst (λ (b : ClientToken). SameOwn (Some b.tracker) old new) (sym took.same) same in
-    record {
-      same = took.same;
-      lives = rw (own.own back.tracker refl).account (took.lives);
-      idle = still_idle back.tracker old new own took.idle;
-    }
+    let stopped = took.0 in
+    let own : SameOwn (Some back.tracker) old new = subst (λ (b : ClientToken). SameOwn (Some b.tracker) old new) (sym stopped.same) same in (
+      record {
+        same = stopped.same;
+        lives = rw (own.own back.tracker refl).account (stopped.lives);
+        idle = still_idle back.tracker old new own stopped.idle;
+      },
+      took.1,
+    )
 took_same (Some op) (Some back) c shape blocks e old new rows same took = absurd took
 took_same None None c shape blocks e old new rows same took = absurd took
 
--- the slots of its pages are few for the rows that it took
+-- ---- how many slots its pages have
+
+own_one : (blocks : ℕ) (mine has : Bool) → (n : ℕ) × (n ≤ 1) × ((if mine then (if has then blocks else 0) else 0) ≡ n * blocks)
+own_one blocks true true = (1, omega arith, omega arith)
+own_one blocks true false = (0, omega arith, omega arith)
+own_one blocks false has = (0, omega arith, omega arith)
+
+own_pages : (t : ℕ) (s : Streamed) (h : Holdings) (pages : List PageToken) → (n : ℕ) × (n ≤ length pages) × (sum_by (own_slots t s h) pages ≡ n * s.page_blocks)
+own_pages t s h [] = (0, omega arith, omega arith)
+own_pages t s h (p ∷ pages) =
+    let rest = own_pages t s h pages in
+    let one = own_one s.page_blocks ((page_of p.name h).client == t) (page_of p.name h).has_slots in
+    let first : own_slots t s h p ≡ one.0 * s.page_blocks = one.2 in
+    let few = one.1 in
+    let fewer = rest.1 in
+    let more = rest.2 in
+    let sum : sum_by (own_slots t s h) (p ∷ pages) ≡ own_slots t s h p + sum_by (own_slots t s h) pages = sum_by-cons (own_slots t s h) p pages in
+    let both : (one.0 + rest.0) * s.page_blocks ≡ one.0 * s.page_blocks + rest.0 * s.page_blocks = omega arith in
+    (one.0 + rest.0, omega (arith, few, fewer), omega (arith, first, more, sum, both))
+
+own_all : (t blocks : ℕ) (h : Holdings) (streams : List Streamed) → ((i : ℕ) (s : Streamed) → slice_get streams i ≡ Some s → s.page_blocks ≡ blocks)
+    → (n : ℕ) × (n ≤ sum_by (λ s. length s.pages) streams) × (sum_by (λ s. sum_by (own_slots t s h) s.pages) streams ≡ n * blocks)
+own_all t blocks h [] sized = (0, omega arith, omega arith)
+own_all t blocks h (s ∷ streams) sized =
+    let rest = own_all t blocks h streams (λ i r there. sized (suc i) r there) in
+    let one = own_pages t s h s.pages in
+    let few = one.1 in
+    let fewer = rest.1 in
+    let first : sum_by (own_slots t s h) s.pages ≡ one.0 * blocks = one.2 ∙ ap (λ (n : ℕ). one.0 * n) (sized 0 s refl) in
+    let more = rest.2 in
+    let pages : sum_by (λ s. length s.pages) (s ∷ streams) ≡ length s.pages + sum_by (λ s. length s.pages) streams = sum_by-cons (λ (s : Streamed). length s.pages) s streams in
+    let slots : sum_by (λ s. sum_by (own_slots t s h) s.pages) (s ∷ streams) ≡ sum_by (own_slots t s h) s.pages + sum_by (λ s. sum_by (own_slots t s h) s.pages) streams = sum_by-cons (λ (s : Streamed). sum_by (own_slots t s h) s.pages) s streams in
+    let both : (one.0 + rest.0) * blocks ≡ one.0 * blocks + rest.0 * blocks = omega arith in
+    (one.0 + rest.0, omega (arith, few, fewer, pages), omega (arith, first, more, slots, both))
+
+-- those of each page are its blocks, or none
+module _ (c : ClientToken) (shape : Shape) (blocks : ℕ) (op : Operator) (e : Feeder) (h : Holdings) (rows : List (List Value)) (feeds : Feeds c shape blocks op e h rows) where
+  pub pages_own : (n : ℕ) × (n ≤ pages_on op) × (slots_in (Some op) c.tracker h ≡ n * blocks)
+  pages_own = own_all c.tracker blocks h op.parts.streams (λ i s there. feeds.stack.each i s there ∙ feeds.blocks_are)
+
+-- they are few for the rows that it took
 pub slots_few : (op : Option Operator) (back : Option ClientToken) (c : ClientToken) (shape : Shape) (blocks : ℕ) (e : Feeder) (h : Holdings) (rows : List (List Value)) → TookOf op back c shape blocks e h rows
-    → slots_in op c.tracker h ≤ blocks * length rows
-slots_few (Some op) None c shape blocks e h rows took = subst (λ (n : ℕ). n ≤ blocks * length rows) (sym (slots_same c.tracker took.at h took.alike (Some op))) took.few
+    → slots_in op c.tracker h ≤ slots_for_rows shape blocks e.page rows
+slots_few (Some op) None c shape blocks e h rows took =
+    let own = pages_own c shape blocks op e h rows took in
+    let few = own.1 in
+    let are = own.2 in
+    let most = took.few in
+    let wide : own.0 * blocks ≤ slots_for_rows shape blocks e.page rows = mul-le-mul_right blocks (let less : own.0 ≤ most_pages e.page 16 (length rows) (bytes_for shape rows) + 1 = omega (arith, few, most) in less) in
+    omega (arith, are, wide)
 slots_few None back c shape blocks e h rows took = zero-le
 slots_few (Some op) (Some back) c shape blocks e h rows took = absurd took
+
+-- and those of some pages
+pub slots_whole : (op : Option Operator) (back : Option ClientToken) (c : ClientToken) (shape : Shape) (blocks : ℕ) (e : Feeder) (h : Holdings) (rows : List (List Value)) → TookOf op back c shape blocks e h rows
+    → (pages : ℕ) × (slots_in op c.tracker h ≡ pages * blocks)
+slots_whole (Some op) None c shape blocks e h rows took = let own = pages_own c shape blocks op e h rows took in (own.0, own.2)
+slots_whole None back c shape blocks e h rows took = (0, omega arith)
+slots_whole (Some op) (Some back) c shape blocks e h rows took = absurd took

@@ -1,5 +1,5 @@
 -- Rows of an input that were read, and fed to an operator.
-use Rattle.std.specs.Prelude.{◌≡◌, ◌<◌, ◌+◌, ◌-◌, ◌^◌, ◌⊎◌, ◌≤◌, ℕ, List, Option, IfSome, filter, length, min}
+use Rattle.std.specs.Prelude.{◌≡◌, ◌<◌, ◌+◌, ◌-◌, ◌^◌, ◌++◌, ◌⊎◌, ◌≤◌, ℕ, List, Option, IfSome, filter, length, min}
 use Rattle.row_codec.specs.declared.values.Kind.{Kind}
 use Rattle.row_codec.specs.declared.values.Value.{Value}
 use Rattle.row_codec.specs.Row.{kinds_of}
@@ -11,7 +11,7 @@ use Rattle.query_plan.specs.declared.plan.SidePlan.{SidePlan}
 use Rattle.reservation_tree.specs.declared.errors.PoolErr.{PoolErr}
 use Rattle.query_run.specs.FedRows.{AreFed}
 use Rattle.query_run.specs.Plans.{kinds_of_columns}
-use Rattle.query_run.specs.Input.{IsAcceptedIn, rows_read, weight_of}
+use Rattle.query_run.specs.Input.{IsAcceptedIn, passing_in, rows_read, weight_of}
 use Rattle.query_run.specs.declared.outcome.QueryErr.{QueryErr}
 use Rattle.query_run.specs.declared.outcome.QueryErr.TheVariants.{Pool, RowTooLong}
 use Rattle.query_run.specs.declared.feeding.Fed.{Fed}
@@ -30,6 +30,16 @@ pub record HasFed (plan : Query) (side : Side) (asked : SidePlan) (page : ℕ) (
   pub formed : AreFed (kinds_of_columns asked.columns) (filter (passes asked.preds) rows)
   pub came : feeds (filter (passes asked.preds) rows)
   pub are : IfSome told (λ bytes. IsAcceptedIn plan side asked page bytes × (rows ≡ rows_read asked bytes))
+
+-- rows are the first ones of these
+abbrev pub AreFirstOf : List (List Value) → List (List Value) → Type 0
+AreFirstOf rows all = (rest : List (List Value)) × (all ≡ rows ++ rest)
+
+-- this holds of rows that were taken: the first ones of those that pass, where the bytes of the input are told
+pub record OfTaken (asked : SidePlan) (told : Option (List ℕ)) (holds : List (List Value) → Type 0) : Type 0 where
+  pub rows : List (List Value)
+  pub first : IfSome told (λ bytes. AreFirstOf rows (passing_in asked bytes))
+  pub so : holds rows
 
 -- a row of this number is refused: it weighs too much, or the store answered so
 abbrev pub RefusesRow : Query → Side → ℕ → ℕ → List Value → QueryErr → Type 0

@@ -1,5 +1,6 @@
 -- The clients of a query, and its grouping. About inner calls; no public clause cites this. Lengths are in bytes.
-use Rattle.std.specs.Prelude.{◌≡◌, ◌≢◌, ◌+◌, ◌-◌, ◌≤◌, ℕ, None, Some}
+use Rattle.std.specs.Prelude.{◌≡◌, ◌≢◌, ◌+◌, ◌-◌, ◌*◌, ◌/◌, ◌≤◌, ℕ, List, length, min, None, Some}
+use Rattle.row_codec.specs.declared.values.Value.{Value}
 use Rattle.store_api.specs.Conditions.{IsIdle}
 use Rattle.store_api.specs.Holdings.{Holdings, account_of}
 use Rattle.store_api.specs.Signs.{Grows, Signs, WasAnswered}
@@ -7,7 +8,8 @@ use Rattle.store_api.specs.Tokens.{ClientToken}
 use Rattle.tuple_stream.specs.Families.{slots_in}
 use Rattle.partition_stack.specs.Leaving.{LeavesOthers}
 use Rattle.partition_stack.specs.Stack.{over}
-use Rattle.group_op.specs.Operator.{IsFeeding, IsOperator, Operator}
+use Rattle.group_op.specs.Operator.{IsFeeding, IsOperator, Operator, bytes_for}
+use Rattle.join_op.specs.Operator.{bytes_of}
 use Rattle.query_plan.specs.declared.plan.Query.{Query}
 use Rattle.query_run.specs.Plans.{shape_of}
 use Rattle.query_run.specs.declared.outcome.QueryErr.{QueryErr}
@@ -65,6 +67,13 @@ pub record IsFedFor (c : ClientToken) (plan : Query) (op : Operator) (h : Holdin
   pub feeding : IsFeeding op
   pub client : op.client ≡ c
   pub shape_is : op.shape ≡ shape_of plan
+  pub blocks_are : op.parts.page_blocks ≡ plan.page_blocks
+
+-- the slots that a join of these rows and a grouping of their pairs need at most together, and a page more for each of them: a page for
+-- each row, or those that twice the bytes fill and 600 more
+abbrev pub slots_of_both : Query → ℕ → List (List Value) → List (List Value) → List (List Value) → ℕ
+slots_of_both plan page lefts rights pairs =
+    min (length lefts + length rights + length pairs + 2) (2 * (bytes_of lefts + bytes_of rights) / page + 2 * bytes_for (shape_of plan) pairs / page + 600) * plan.page_blocks
 
 -- it is an answer of the store, which gave it
 pub record IsOfStore (e : QueryErr) (old new : Signs) : Type 0 where

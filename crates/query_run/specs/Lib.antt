@@ -2,6 +2,7 @@ pub mod Causes
 pub mod Plans
 pub mod Input
 pub mod Both
+pub mod Through
 pub mod Refused
 pub mod Answer
 pub mod Trail

@@ -7,7 +7,7 @@ use Rattle.row_codec.specs.Order.{path_order}
 use Rattle.group_rows.specs.Aggregates.{aggregate}
 use Rattle.group_rows.specs.Combining.{AreValues}
 use Rattle.group_rows.specs.Partials.{groups_by}
-use Rattle.group_op.specs.Operator.{Holds, Operator}
+use Rattle.group_op.specs.Operator.{Holds, Operator, bytes_for}
 use Rattle.group_op.specs.Stored.{grouping_of}
 use Rattle.store_api.specs.Holdings.{Holdings}
 use Rattle.store_api.specs.Signs.{Signs}
@@ -66,9 +66,11 @@ pub record HasTakenSome (shape : Shape) (rows : List (List Value)) (before : Beg
 abbrev pub HasTakenGroups : Shape → List (List Value) → Begun → Written → Type 0
 HasTakenGroups shape rows before now = HasTaken before (group_rows (record { keys = shape.keys; aggs = shape.aggs }) rows) now
 
--- a grouping that was fed rows of the same groups as these
+-- a grouping that was fed as many rows, with as many bytes, of the same groups as these
 pub record HoldsFor (rows : List (List Value)) (op : Operator) (h : Holdings) (signs : Signs) : Type 0 where
   pub fed : List (List Value)
+  pub many : length fed ≡ length rows
+  pub weigh : bytes_for op.shape fed ≡ bytes_for op.shape rows
   pub holds : Holds fed op h signs
   pub same : groups_by path_order (grouping_of op.shape) fed ≡ groups_by path_order (grouping_of op.shape) rows
   pub values : AreValues rows

@@ -107,6 +107,8 @@ impl<'a, St: Store, K: Sink, B: Start> Emit<St> for Taker<'a, K, B> {
 
     ghost slots_for = { λ e rows. 0 };
 
+    ghost page_blocks = { 0 };
+
     ghost creates = { λ e. 0 };
 
     #[tactic(auto, using(store_api::proofs::Growing::grows_refl, store_api::proofs::Untouched::others_stay))]
@@ -119,4 +121,6 @@ impl<'a, St: Store, K: Sink, B: Start> Emit<St> for Taker<'a, K, B> {
     ghost slots_own = { λ e old new same. refl };
 
     ghost slots_fit = { λ e h rows took. zero-le };
+
+    ghost slots_whole = { λ e h rows took. (0, refl) };
 }

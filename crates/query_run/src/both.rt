@@ -1,14 +1,18 @@
 // A query that joins the rows of its two inputs, and groups their pairs.
 
-ghost use Rattle.std.specs.Prelude.{◌≡◌, ◌≢◌, ◌++◌, ◌≤◌, ◌<◌, ◌^◌, ◌⊎◌, [], List, Option, IfErr, IfOk, IfSome, IsErrOf, IsSome, None, OnErr, OnOk, Some, true};
+ghost use Rattle.std.specs.Prelude.{◌≡◌, ◌≢◌, ◌+◌, ◌*◌, ◌++◌, ◌≤◌, ◌<◌, ◌^◌, ◌⊎◌, [], List, Option, IfErr, IfOk, IfSome, IsErrOf, IsSome, None, OnErr, OnOk, Some, length, true};
 ghost use Rattle.std.specs.Io.KnownBytes.{Appends, IsAtEnd};
 ghost use Rattle.pool_model.specs.declared.entry.Entry.{Entry};
 ghost use Rattle.row_codec.specs.declared.values.Value.{Value};
 ghost use Rattle.csv_edge.specs.Written.{AppendsFront};
 ghost use Rattle.store_api.specs.Holdings.{length_of};
-ghost use Rattle.store_api.specs.Signs.{WasAnswered};
+ghost use Rattle.tuple_stream.specs.Families.{slots_in};
 ghost use Rattle.tuple_stream.specs.Trails.{EnteredEvents};
 ghost use Rattle.partition_stack.specs.Leaving.{MayStart};
+ghost use Rattle.partition_stack.specs.Making.{MakesBeside, MakesFew};
+ghost use Rattle.partition_stack.specs.Slots.{IsWant, IsWantBelow};
+ghost use Rattle.partition_stack.specs.Stack.{over};
+ghost use Rattle.group_op.specs.Making.{pages_on};
 ghost use Rattle.group_op.specs.Operator as group;
 ghost use Rattle.join_op.specs.Operator.{IsFeeding, IsOperator, Keeps};
 ghost use Rattle.join_op.specs.Pairs.{pairs_of};
@@ -17,12 +21,14 @@ ghost use Rattle.query_run.specs.Answer.{LineNumbers, Numbers, WroteAnswer, Wrot
 ghost use Rattle.query_run.specs.Both.{both_told};
 ghost use Rattle.query_run.specs.Causes.{OfPool, side_of};
 ghost use Rattle.query_run.specs.Feeder.{HasStopped};
-ghost use Rattle.query_run.specs.Inside.{HasEndedFirst, IsFedFor, IsOfStore};
+ghost use Rattle.query_run.specs.Input.{passing, passing_in};
+ghost use Rattle.query_run.specs.Inside.{HasEndedFirst, IsFedFor, IsOfStore, slots_of_both};
 ghost use Rattle.query_run.specs.Joined.{HoldsRowsWhile};
 ghost use Rattle.query_run.specs.Plans.{HasGroups, IsRunnable, grouping_of, join_shape_of, shape_of};
 ghost use Rattle.query_run.specs.Refused.{SaysOfInputs, source};
-ghost use Rattle.query_run.specs.Stopped.{CountsSink, HasRoomFor, MayStop, RanOver};
-ghost use Rattle.query_run.specs.Taking.{LeftStands};
+ghost use Rattle.query_run.specs.Stopped.{CountsSink, HasRoomFor, MayStop, RanOver, StoppedOver};
+ghost use Rattle.query_run.specs.Taking.{LeftStands, join_slots};
+ghost use Rattle.query_run.specs.Through.{rows_through};
 ghost use Rattle.query_run.specs.Trail.{HoldsRows, KeptRows, KeptSides};
 ghost use Rattle.query_run.specs.Writing.{HoldsFor};
 
@@ -32,7 +38,7 @@ use crate::grouped::start_grouping;
 use crate::grouping::{Read, write_groups};
 use crate::joined::{feed_both, start};
 use crate::outcome::{QueryErr, Ran};
-use group_op::{GroupOp, law_asks_own, law_starts};
+use group_op::{GroupOp, law_asks_own, law_few, law_starts};
 use join_op::JoinOp;
 use outside::{Sink, Source};
 use query_plan::{Query, SidePlan, least};
@@ -59,11 +65,18 @@ fn join_into<B: Whose, St: Store>(
     requires kinds { (shape_of plan.now).kinds ≡ join.shape.left ++ join.shape.right }
     requires page { (page ≡ length_of plan.now.page_blocks (St.holds store.old)) × (page < 2 ^ 32) }
     requires long { 0 < (St.holds store.old).block_len }
+    requires blocks { join.left.page_blocks ≡ plan.now.page_blocks }
     ensures ok { IfOk result (λ op. IsFedFor second plan.now op (St.holds store.new) (St.signs store.new)) }
     ensures holds { IfOk result (λ op. (start : Option (List Entry)) → (lefts rights : List (List Value)) → Keeps start lefts rights join (St.holds store.old) (St.signs store.old) → (St.holds store.old).told ≡ true → HoldsFor (pairs_of join.shape lefts rights) op (St.holds store.new) (St.signs store.new)) }
     ensures kept { IfOk result (λ op. (start : Option (List Entry)) → (lefts rights : List (List Value)) → Keeps start lefts rights join (St.holds store.old) (St.signs store.old) → EnteredEvents (HoldsRowsWhile (op ≡ group.started second plan.now.page_blocks (shape_of plan.now)) join.shape lefts rights) start (St.signs store.new).trail) }
+    ensures made { IfOk result (λ op. (start : Option (List Entry)) → (lefts rights : List (List Value)) → Keeps start lefts rights join (St.holds store.old) (St.signs store.old) → (St.holds store.old).told ≡ true → MakesBeside (15 * (length lefts + length rights)) 0 (pages_on op) (St.signs store.old) (St.signs store.new)) }
+    ensures few { OnErr result ((start : Option (List Entry)) → (lefts rights : List (List Value)) → Keeps start lefts rights join (St.holds store.old) (St.signs store.old) → (St.holds store.old).told ≡ true → MakesFew (15 * (length lefts + length rights) + length (pairs_of join.shape lefts rights)) (St.signs store.old) (St.signs store.new)) }
     ensures err { IfErr result (λ e. HasStopped second e.1 (St.holds store.new)) }
     ensures cause { IfErr result (λ e. IsOfStore e.0 (St.signs store.old) (St.signs store.new)) }
+    ensures want { IfErr result (λ e. OfPool (IsWant plan.now.page_blocks (join_slots join (St.holds store.old) (St.signs store.old))) e.0) }
+    ensures enough { IfErr result (λ e. OfPool (λ e. (start : Option (List Entry)) → (lefts rights : List (List Value)) → Keeps start lefts rights join (St.holds store.old) (St.signs store.old) → (St.holds store.old).told ≡ true → IsWantBelow (slots_of_both plan.now page lefts rights (pairs_of join.shape lefts rights)) (join_slots join (St.holds store.old) (St.signs store.old)) e) e.0) }
+    ensures slots { IfOk result (λ op. slots_in (over op.parts (St.holds store.new) (St.signs store.new)) ≡ join_slots join (St.holds store.old) (St.signs store.old)) }
+    ensures free { OnErr result ((St.holds store.new).free_slots ≡ join_slots join (St.holds store.old) (St.signs store.old)) }
     ensures gone { HasEndedFirst join.client.tracker second.tracker (St.holds store.old) (St.holds store.new) (St.signs store.old) (St.signs store.new) }
 {
     let mut join = join;
@@ -77,6 +90,7 @@ fn join_into<B: Whose, St: Store>(
     };
     law_starts();
     law_asks_own();
+    law_few();
     let (handed, feeder) = hand_pairs::<B, St>(alloc, store, &mut join, feeder);
     let first = join.end(store);
     store.end_client(first);
@@ -103,17 +117,22 @@ fn write_both<St: Store, K: Sink>(
     requires kinds { (shape_of plan.now).kinds ≡ join.shape.left ++ join.shape.right }
     requires page { (page ≡ length_of plan.now.page_blocks (St.holds store.old)) × (page < 2 ^ 32) }
     requires long { 0 < (St.holds store.old).block_len }
+    requires blocks { join.left.page_blocks ≡ plan.now.page_blocks }
     ensures ok { OnOk result.0 ((start : Option (List Entry)) → (lefts rights : List (List Value)) → Keeps start lefts rights join (St.holds store.old) (St.signs store.old) → (St.holds store.old).told ≡ true → Appends (K.contents sink.old) (K.contents sink.new) (answer_text plan.now (group_rows (grouping_of plan.now) (pairs_of join.shape lefts rights)))) }
     ensures err { OnErr result.0 ((start : Option (List Entry)) → (lefts rights : List (List Value)) → Keeps start lefts rights join (St.holds store.old) (St.signs store.old) → (St.holds store.old).told ≡ true → AppendsFront (K.contents sink.old) (K.contents sink.new) (answer_text plan.now (group_rows (grouping_of plan.now) (pairs_of join.shape lefts rights)))) }
     ensures read { IfOk result.0 (λ ran. (ran.left ≡ read.left) × (ran.right ≡ read.right) × (ran.kept ≡ read.kept)) }
     ensures lines { IfOk result.0 (λ ran. (start : Option (List Entry)) → (lefts rights : List (List Value)) → Keeps start lefts rights join (St.holds store.old) (St.signs store.old) → (St.holds store.old).told ≡ true → LineNumbers plan.now (pairs_of join.shape lefts rights) ran) }
     ensures kept { OnOk result.0 ((start : Option (List Entry)) → (lefts rights : List (List Value)) → Keeps start lefts rights join (St.holds store.old) (St.signs store.old) → EnteredEvents (HoldsRows join.shape lefts rights) start (St.signs store.new).trail) }
+    ensures made { (start : Option (List Entry)) → (lefts rights : List (List Value)) → Keeps start lefts rights join (St.holds store.old) (St.signs store.old) → (St.holds store.old).told ≡ true → MakesFew (15 * (length lefts + length rights) + 16 * length (pairs_of join.shape lefts rights)) (St.signs store.old) (St.signs store.new) }
     ensures cause { IfErr result.0 (λ e. side_of e ≡ None) }
-    ensures pool { IfErr result.0 (OfPool (λ e. WasAnswered e (St.signs store.old) (St.signs store.new))) }
+    ensures pool { IfErr result.0 (StoppedOver plan.now.page_blocks (join_slots join (St.holds store.old) (St.signs store.old)) (St.signs store.old) (St.signs store.new)) }
+    ensures enough { IfErr result.0 (OfPool (λ e. (start : Option (List Entry)) → (lefts rights : List (List Value)) → Keeps start lefts rights join (St.holds store.old) (St.signs store.old) → (St.holds store.old).told ≡ true → IsWantBelow (slots_of_both plan.now page lefts rights (pairs_of join.shape lefts rights)) (join_slots join (St.holds store.old) (St.signs store.old)) e)) }
+    ensures free { (St.holds store.new).free_slots ≡ join_slots join (St.holds store.old) (St.signs store.old) }
     ensures sink { CountsSink (IsErrOf result.0 QueryErr.SinkFault) (K.faults sink.old) (K.faults sink.new) }
     ensures second { HasStopped second result.1 (St.holds store.new) }
     ensures gone { HasEndedFirst join.client.tracker second.tracker (St.holds store.old) (St.holds store.new) (St.signs store.old) (St.signs store.new) }
 {
+    law_few();
     let mut op = match join_into::<Brand, St>(alloc, store, join, second, plan, page) {
         Ok(op) => op,
         Err((why, second)) => return (Err(why), second),
@@ -151,7 +170,10 @@ fn answer<St: Store, S: Source, K: Sink>(
     ensures read { OnOk result.0 (IsAtEnd (S.remaining left.new) × IsAtEnd (S.remaining right.new)) }
     ensures numbers { IfOk result.0 (λ ran. IfSome (both_told (S.remaining left.old) (S.remaining right.old)) (Numbers plan.now page (St.holds store.old).told ran)) }
     ensures input { IfErr result.0 (SaysOfInputs plan.now page (source (S.remaining left.old) (S.remaining left.new) (S.faults left.old) (S.faults left.new)) (source (S.remaining right.old) (S.remaining right.new) (S.faults right.old) (S.faults right.new))) }
-    ensures pool { IfErr result.0 (OfPool (λ e. WasAnswered e (St.signs store.old) (St.signs store.new))) }
+    ensures pool { IfErr result.0 (StoppedOver plan.now.page_blocks (join_slots join (St.holds store.old) (St.signs store.old)) (St.signs store.old) (St.signs store.new)) }
+    ensures enough { IfErr result.0 (OfPool (λ e. (St.holds store.old).told ≡ true → IfSome (both_told (S.remaining left.old) (S.remaining right.old)) (λ both. IsWantBelow (slots_of_both plan.now page (passing plan.now both.left) (passing_in asked.now both.right) (pairs_of (join_shape_of plan.now asked.now) (passing plan.now both.left) (passing_in asked.now both.right))) (join_slots join (St.holds store.old) (St.signs store.old)) e))) }
+    ensures free { (St.holds store.new).free_slots ≡ join_slots join (St.holds store.old) (St.signs store.old) }
+    ensures made { (St.holds store.old).told ≡ true → IfSome (both_told (S.remaining left.old) (S.remaining right.old)) (λ both. MakesFew (16 * rows_through plan.now both) (St.signs store.old) (St.signs store.new)) }
     ensures untouched { IfErr result.0 (λ e. IsSome (side_of e) → sink.new ≡ sink.old) }
     ensures stopped { IfErr result.0 (λ _. (sink.new ≡ sink.old) ⊎ (IsAtEnd (S.remaining left.new) × IsAtEnd (S.remaining right.new) × ((St.holds store.old).told ≡ true → WroteFront plan.now page (both_told (S.remaining left.old) (S.remaining right.old)) (K.contents sink.old) (K.contents sink.new)))) }
     ensures front { (St.holds store.old).told ≡ true → IsErrOf result.0 QueryErr.SinkFault → WroteFront plan.now page (both_told (S.remaining left.old) (S.remaining right.old)) (K.contents sink.old) (K.contents sink.new) }
@@ -194,13 +216,13 @@ pub(crate) fn run_both<St: Store, S: Source, K: Sink>(
     ensures read { OnOk result (IsAtEnd (S.remaining left.new) × IsAtEnd (S.remaining right.new)) }
     ensures numbers { IfOk result (λ ran. IfSome (both_told (S.remaining left.old) (S.remaining right.old)) (Numbers plan.now (page_len plan.now (St.holds store.old).block_len) (St.holds store.old).told ran)) }
     ensures input { IfErr result (SaysOfInputs plan.now (page_len plan.now (St.holds store.old).block_len) (source (S.remaining left.old) (S.remaining left.new) (S.faults left.old) (S.faults left.new)) (source (S.remaining right.old) (S.remaining right.new) (S.faults right.old) (S.faults right.new))) }
-    ensures pool { IfErr result (MayStop plan.now (St.holds store.old) (St.signs store.old) (St.signs store.new)) }
+    ensures pool { IfErr result (MayStop plan.now (both_told (S.remaining left.old) (S.remaining right.old)) (St.holds store.old) (St.signs store.old) (St.signs store.new)) }
     ensures front { (St.holds store.old).told ≡ true → IsErrOf result QueryErr.SinkFault → WroteFront plan.now (page_len plan.now (St.holds store.old).block_len) (both_told (S.remaining left.old) (S.remaining right.old)) (K.contents sink.old) (K.contents sink.new) }
     ensures untouched { IfErr result (λ e. IsSome (side_of e) → sink.new ≡ sink.old) }
     ensures stopped { IfErr result (λ _. (sink.new ≡ sink.old) ⊎ (IsAtEnd (S.remaining left.new) × IsAtEnd (S.remaining right.new) × ((St.holds store.old).told ≡ true → WroteFront plan.now (page_len plan.now (St.holds store.old).block_len) (both_told (S.remaining left.old) (S.remaining right.old)) (K.contents sink.old) (K.contents sink.new)))) }
     ensures sink { CountsSink (IsErrOf result QueryErr.SinkFault) (K.faults sink.old) (K.faults sink.new) }
     ensures kept { OnOk result (KeptRows plan.now (page_len plan.now (St.holds store.old).block_len) (S.remaining left.old) (S.remaining right.old) (St.signs store.old).trail (St.signs store.new).trail) }
-    ensures store { RanOver plan.now (St.holds store.old) (St.holds store.new) (St.signs store.old) (St.signs store.new) }
+    ensures store { RanOver plan.now (both_told (S.remaining left.old) (S.remaining right.old)) (St.holds store.old) (St.holds store.new) (St.signs store.old) (St.signs store.new) }
     ensures sources_kept { (S.faults left.old ≤ S.faults left.new) × (S.faults right.old ≤ S.faults right.new) }
 {
     let Some(asked) = &plan.right else {

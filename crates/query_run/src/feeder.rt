@@ -1,30 +1,35 @@
 // The pairs of a join go to a grouping.
 
-ghost use Rattle.std.specs.Prelude.{◌≡◌, ◌+◌, ◌-◌, ◌*◌, ◌++◌, ◌^◌, ◌<◌, ◌≤◌, [], List, IfErr, IfOk, IfSome, IsOk, None, OnOk, Option, Some, length, true};
+ghost use Rattle.std.specs.Prelude.{◌≡◌, ◌+◌, ◌-◌, ◌*◌, ◌++◌, ◌^◌, ◌<◌, ◌≤◌, [], List, IfErr, IfOk, IfSome, IsOk, None, OnErr, OnOk, Option, Some, length, true};
 ghost use Rattle.std.specs.Option.{option_map};
 ghost use Rattle.pool_model.specs.declared.entry.Entry.{Entry};
 ghost use Rattle.row_codec.specs.declared.values.Value.{Value};
 ghost use Rattle.row_codec.specs.Row.{kinds_of};
 ghost use Rattle.row_codec.specs.RowBytes.{row_bytes};
-ghost use Rattle.store_api.specs.Emitters.{CameOf};
+ghost use Rattle.store_api.specs.Emitters.{CameOf, slots_with};
+ghost use Rattle.tuple_stream.specs.Families.{slots_in as all_slots_in};
 ghost use Rattle.tuple_stream.specs.Trails.{EnteredEvents};
 ghost use Rattle.partition_stack.specs.Emitting.{IsBeside, LeavesBeside};
 ghost use Rattle.partition_stack.specs.Leaving.{LeavesOthers};
+ghost use Rattle.partition_stack.specs.Making.{MakesBeside, MakesFew};
+ghost use Rattle.partition_stack.specs.Slots.{IsWantBelowOf, IsWantOf, with_more};
 ghost use Rattle.partition_stack.specs.Stack.{over};
 ghost use Rattle.group_op.specs.Operator.{IsOperator};
 ghost use Rattle.join_op.specs.Laid.{HoldsSides};
 ghost use Rattle.join_op.specs.Operator as join;
 ghost use Rattle.join_op.specs.Pairs.{pairs_of};
 ghost use Rattle.query_run.specs.Ending.{cause_of_handed};
-ghost use Rattle.query_run.specs.Feeder.{HasEnded, HasStopped, Took, pages_made, slots_in};
+ghost use Rattle.query_run.specs.Feeder.{HasEnded, HasStopped, Took, pages_made, slots_for_rows, slots_in};
 ghost use Rattle.query_run.specs.Joined.{TookPairs};
-ghost use Rattle.query_run.specs.FeederLaws.{slots_few, slots_same, took_same};
+ghost use Rattle.query_run.specs.FeederLaws.{slots_few, slots_same, slots_whole, took_same};
+ghost use Rattle.query_run.specs.Taking.{join_slots};
 
 use crate::feeding::AGGREGATE;
 use crate::grouping::of_op;
 use crate::outcome::QueryErr;
-use group_op::{GroupOp, law_asks_own, law_few};
+use group_op::{GroupOp, law_asks_own};
 use join_op::JoinOp;
+use partition_stack::law_scratch;
 use query_plan::Query;
 use reservation_tree::PoolErr;
 use row_codec::{Value, encoded_len};
@@ -79,7 +84,7 @@ impl Feeder {
         requires op { IfSome self.old.op (λ op. IsOperator op (St.holds store.old) (St.signs store.old)) }
         requires alone { self.old.client ≡ None }
         ensures none { self.new.op ≡ None }
-        ensures taken { self.new.taken ≡ self.old.taken }
+        ensures numbers { (self.new.taken ≡ self.old.taken) × (self.new.page ≡ self.old.page) }
         ensures client { self.new.client ≡ option_map (λ op. op.client) self.old.op }
         ensures ended { IfSome self.old.op (λ op. HasEnded op (St.holds store.old) (St.holds store.new) (St.signs store.old) (St.signs store.new)) }
     {
@@ -134,13 +139,16 @@ impl<St: Store, B: Whose> Emit<St> for FeederOf<B> {
 
     ghost slots = { λ e h. slots_in e.feeder.op B.client.tracker h };
 
-    ghost slots_for = { λ e rows. B.blocks * length rows };
+    ghost slots_for = { λ e rows. slots_for_rows B.shape B.blocks e.feeder.page rows };
+
+    ghost page_blocks = { B.blocks };
 
     ghost creates = { λ e. pages_made e.feeder.op e.feeder.taken };
 
     fn row(&mut self, store: &mut St, row: &[Value]) -> Result<(), OpErr> {
         law_asks_own();
-        law_few();
+        law_scratch();
+        let _len = store.block_len();
         if !self.feeder.may_take(row) {
             return Err(MEMORY);
         }
@@ -163,6 +171,8 @@ impl<St: Store, B: Whose> Emit<St> for FeederOf<B> {
     ghost slots_own = { λ e old new same. slots_same B.client.tracker old new same e.feeder.op };
 
     ghost slots_fit = { λ e h rows took. slots_few e.feeder.op e.feeder.client B.client B.shape B.blocks e.feeder h rows took };
+
+    ghost slots_whole = { λ e h rows took. slots_whole e.feeder.op e.feeder.client B.client B.shape B.blocks e.feeder h rows took };
 }
 
 // Hands the pairs of a join on to a grouping that took no row yet.
@@ -177,13 +187,20 @@ pub(crate) fn hand_pairs<B: Whose, St: Store>(
     requires beside { IsBeside op.old.client.tracker (Some B.client.tracker) (St.holds store.old) }
     requires kinds { B.shape.kinds ≡ op.old.shape.left ++ op.old.shape.right }
     requires none { Took B.client B.shape B.blocks feeder (St.holds store.old) [] }
+    requires blocks { B.blocks ≡ op.old.left.page_blocks }
+    requires long { 0 < feeder.page }
     ensures ok { OnOk result.0 ((start : Option (List Entry)) → (lefts rights : List (List Value)) → join.Keeps start lefts rights op.old (St.holds store.old) (St.signs store.old) → (St.holds store.old).told ≡ true → TookPairs (pairs_of op.old.shape lefts rights) (Took B.client B.shape B.blocks result.1 (St.holds store.new))) }
     ensures any { (rows : List (List Value)) × Took B.client B.shape B.blocks result.1 (St.holds store.new) rows }
+    ensures few { (start : Option (List Entry)) → (lefts rights : List (List Value)) → join.Keeps start lefts rights op.old (St.holds store.old) (St.signs store.old) → (St.holds store.old).told ≡ true → (rows : List (List Value)) × Took B.client B.shape B.blocks result.1 (St.holds store.new) rows × (length rows ≤ length (pairs_of op.old.shape lefts rights)) }
+    ensures made { (start : Option (List Entry)) → (lefts rights : List (List Value)) → join.Keeps start lefts rights op.old (St.holds store.old) (St.signs store.old) → (St.holds store.old).told ≡ true → MakesBeside (15 * (length lefts + length rights)) 0 (pages_made result.1.op result.1.taken) (St.signs store.old) (St.signs store.new) }
     ensures kept { OnOk result.0 ((start : Option (List Entry)) → (lefts rights : List (List Value)) → join.Keeps start lefts rights op.old (St.holds store.old) (St.signs store.old) → EnteredEvents (HoldsSides op.old.shape lefts rights (over op.new.left (St.holds store.new) (St.signs store.new)) (over op.new.right (St.holds store.new) (St.signs store.new)) (result.1 ≡ feeder)) start (St.signs store.new).trail) }
     ensures op { join.IsOperator op.new (St.holds store.new) (St.signs store.new) }
     ensures client { op.new.client ≡ op.old.client }
     ensures leaves { LeavesBeside op.old.client.tracker (Some B.client.tracker) (St.holds store.old) (St.holds store.new) (St.signs store.old) (St.signs store.new) }
     ensures cause { IfErr result.0 (CameOf 0 0 (St.signs store.old) (St.signs store.new)) }
+    ensures slots { with_more (slots_in result.1.op B.client.tracker (St.holds store.new)) (join_slots op.new (St.holds store.new) (St.signs store.new)) ≡ join_slots op.old (St.holds store.old) (St.signs store.old) }
+    ensures want { IfErr result.0 (IsWantOf B.blocks (join_slots op.old (St.holds store.old) (St.signs store.old))) }
+    ensures enough { IfErr result.0 (λ e. (start : Option (List Entry)) → (lefts rights : List (List Value)) → join.Keeps start lefts rights op.old (St.holds store.old) (St.signs store.old) → (St.holds store.old).told ≡ true → IsWantBelowOf (join.slots_for op.old (St.holds store.old) lefts rights + slots_for_rows B.shape B.blocks feeder.page (pairs_of op.old.shape lefts rights)) (join_slots op.old (St.holds store.old) (St.signs store.old)) e) }
 {
     let mut taker = FeederOf::<B> {
         feeder,
@@ -206,6 +223,9 @@ pub(crate) fn into_grouping<B: Whose, St: Store>(
     ensures same { OnOk result ((St.holds store.new ≡ St.holds store.old) × (St.signs store.new ≡ St.signs store.old)) }
     ensures err { IfErr result (λ e. (e.0 ≡ cause_of_handed handed) × HasStopped B.client e.1 (St.holds store.new)) }
     ensures leaves { LeavesOthers B.client.tracker (St.holds store.old) (St.holds store.new) (St.signs store.old) (St.signs store.new) }
+    ensures made { MakesFew 0 (St.signs store.old) (St.signs store.new) }
+    ensures slots { IfOk result (λ op. all_slots_in (over op.parts (St.holds store.new) (St.signs store.new)) ≡ slots_with (slots_in feeder.op B.client.tracker (St.holds store.old)) (St.holds store.old)) }
+    ensures free { OnErr result ((St.holds store.new).free_slots ≡ slots_with (slots_in feeder.op B.client.tracker (St.holds store.old)) (St.holds store.old)) }
 {
     law_asks_own();
     let op = match still_there::<B, St>(store, feeder) {

@@ -1,6 +1,6 @@
 // The rows of an input go to an operator.
 
-ghost use Rattle.std.specs.Prelude.{◌≡◌, ◌≢◌, ◌*◌, ◌-◌, ◌≤◌, ◌<◌, ◌^◌, ◌∷◌, ◌++◌, [], List, IfErr, IfOk, OnOk, filter, length, min};
+ghost use Rattle.std.specs.Prelude.{◌≡◌, ◌≢◌, ◌*◌, ◌-◌, ◌≤◌, ◌<◌, ◌^◌, ◌∷◌, ◌++◌, [], List, IfErr, IfOk, OnErr, OnOk, filter, length, min};
 ghost use Rattle.std.specs.Io.KnownBytes.{IsAtEnd};
 ghost use Rattle.row_codec.specs.declared.values.Value.{Value};
 ghost use Rattle.row_codec.specs.Row.{kinds_of};
@@ -8,7 +8,7 @@ ghost use Rattle.scan_filter.specs.Passes.{passes as passes_all};
 ghost use Rattle.store_api.specs.Holdings.{Holdings};
 ghost use Rattle.store_api.specs.Signs.{Signs};
 ghost use Rattle.query_run.specs.Causes.{OfPool};
-ghost use Rattle.query_run.specs.Feeding.{HasFed, RefusesRow};
+ghost use Rattle.query_run.specs.Feeding.{AreFirstOf, HasFed, OfTaken, RefusesRow};
 ghost use Rattle.query_run.specs.Input.{weight_of};
 ghost use Rattle.query_run.specs.Plans.{IsSide, kinds_of_columns};
 ghost use Rattle.query_run.specs.Refused.{SaysOfSide, source as source_over};
@@ -59,7 +59,9 @@ pub(crate) fn feed_side<St: Store, T: Takes<St>, S: Source>(
     requires stands { T.stands op.old (St.holds store.old) (St.signs store.old) }
     requires feeds { T.feeds op.old op.old [] (St.holds store.old) (St.holds store.old) (St.signs store.old) (St.signs store.old) }
     requires goes { T.goes op.old op.old (St.holds store.old) (St.holds store.old) (St.signs store.old) (St.signs store.old) }
+    requires makes { T.makes op.old op.old [] (St.holds store.old) (St.signs store.old) (St.signs store.old) }
     requires memory { (after : Signs) → T.stops op.old (St.holds store.old) (St.signs store.old) after PoolErr.Memory }
+    requires none { T.wants op.old [] (St.holds store.old) (St.signs store.old) PoolErr.Memory }
     requires page { page ≡ T.page op.old (St.holds store.old) }
     requires short { page < 2 ^ 32 }
     ensures ok { IfOk result (λ fed. HasFed plan.now side asked.now page (S.remaining source.old) fed (λ rows. T.feeds op.old op.new rows (St.holds store.old) (St.holds store.new) (St.signs store.old) (St.signs store.new))) }
@@ -67,6 +69,8 @@ pub(crate) fn feed_side<St: Store, T: Takes<St>, S: Source>(
     ensures input { IfErr result (SaysOfSide plan.now side asked.now page (source_over (S.remaining source.old) (S.remaining source.new) (S.faults source.old) (S.faults source.new))) }
     ensures cause { IfErr result (λ e. e ≢ QueryErr.SinkFault) }
     ensures pool { IfErr result (OfPool (T.stops op.old (St.holds store.old) (St.signs store.old) (St.signs store.new))) }
+    ensures enough { IfErr result (OfPool (λ e. OfTaken asked.now (S.remaining source.old) (λ rows. T.wants op.old rows (St.holds store.old) (St.signs store.old) e))) }
+    ensures few { OfTaken asked.now (S.remaining source.old) (λ rows. T.makes op.old op.new rows (St.holds store.old) (St.signs store.old) (St.signs store.new)) }
     ensures stands { T.stands op.new (St.holds store.new) (St.signs store.new) }
     ensures goes { T.goes op.old op.new (St.holds store.old) (St.holds store.new) (St.signs store.old) (St.signs store.new) }
     ensures source_kept { S.faults source.old ≤ S.faults source.new }
@@ -113,8 +117,11 @@ fn feed_row<St: Store, T: Takes<St>>(
     requires kinds { kinds_of row.now ≡ kinds_of_columns asked.now.columns }
     ensures light { OnOk result (weight_of plan.now row.now ≤ page) }
     ensures feeds { IfOk result (λ passed. (passed ≡ passes_all asked.now.preds row.now) × ((first : T) (rows : List (List Value)) (h : Holdings) (s : Signs) → T.feeds first op.old rows h (St.holds store.old) s (St.signs store.old) → T.feeds first op.new (rows ++ filter (passes_all asked.now.preds) (row.now ∷ [])) h (St.holds store.new) s (St.signs store.new))) }
+    ensures few { OnOk result ((first : T) (rows : List (List Value)) (h : Holdings) (s : Signs) → T.feeds first op.old rows h (St.holds store.old) s (St.signs store.old) → T.makes first op.old rows h s (St.signs store.old) → T.makes first op.new (rows ++ filter (passes_all asked.now.preds) (row.now ∷ [])) h s (St.signs store.new)) }
+    ensures few_then { OnErr result ((first : T) (rows : List (List Value)) (h : Holdings) (s : Signs) → T.feeds first op.old rows h (St.holds store.old) s (St.signs store.old) → T.makes first op.old rows h s (St.signs store.old) → (some : List (List Value)) × AreFirstOf some (filter (passes_all asked.now.preds) (row.now ∷ [])) × T.makes first op.new (rows ++ some) h s (St.signs store.new)) }
     ensures refused { IfErr result (RefusesRow plan.now side page number row.now) }
     ensures pool { IfErr result (λ e. (first : T) (h : Holdings) (s : Signs) → T.goes first op.old h (St.holds store.old) s (St.signs store.old) → OfPool (T.stops first h s (St.signs store.new)) e) }
+    ensures enough { IfErr result (λ e. (first : T) (rows : List (List Value)) (h : Holdings) (s : Signs) → T.feeds first op.old rows h (St.holds store.old) s (St.signs store.old) → T.goes first op.old h (St.holds store.old) s (St.signs store.old) → OfPool (λ why. (some : List (List Value)) × AreFirstOf some (filter (passes_all asked.now.preds) (row.now ∷ [])) × T.wants first (rows ++ some) h s why) e) }
     ensures stands { T.stands op.new (St.holds store.new) (St.signs store.new) }
     ensures goes { (first : T) (h : Holdings) (s : Signs) → T.goes first op.old h (St.holds store.old) s (St.signs store.old) → T.goes first op.new h (St.holds store.new) s (St.signs store.new) }
     ensures still { TakesStill (T.kinds op.old) (T.kinds op.new) (T.extra op.old) (T.extra op.new) (T.page op.old (St.holds store.old)) (T.page op.new (St.holds store.new)) }

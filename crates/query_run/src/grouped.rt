@@ -1,25 +1,29 @@
 // A query that groups the rows of its left input, and has no other one.
 
-ghost use Rattle.std.specs.Prelude.{◌≡◌, ◌++◌, ◌≤◌, ◌<◌, ◌^◌, ◌⊎◌, [], Some, IfErr, IfOk, IfSome, IsErrOf, IsSome, OnOk, true};
+ghost use Rattle.std.specs.Prelude.{◌≡◌, ◌*◌, ◌++◌, ◌≤◌, ◌<◌, ◌^◌, ◌⊎◌, [], Some, IfErr, IfOk, IfSome, IsErrOf, IsSome, OnOk, true};
 ghost use Rattle.std.specs.Io.KnownBytes.{IsAtEnd};
 ghost use Rattle.tuple_stream.specs.Families.{slots_in};
+ghost use Rattle.partition_stack.specs.Making.{MakesFew};
+ghost use Rattle.partition_stack.specs.Slots.{IsWantBelow};
 ghost use Rattle.partition_stack.specs.Stack.{over};
-ghost use Rattle.group_op.specs.Operator.{IsFeeding, IsOperator, Keeps, page_of, started};
+ghost use Rattle.group_op.specs.Operator.{IsFeeding, IsOperator, Keeps, page_of, slots_for, started};
 ghost use Rattle.query_plan.specs.Sizes.{page_len};
 ghost use Rattle.query_run.specs.Answer.{Numbers, WroteAnswer, WroteFront};
 ghost use Rattle.query_run.specs.Both.{both_told};
-ghost use Rattle.query_run.specs.Causes.{side_of};
+ghost use Rattle.query_run.specs.Causes.{OfPool, side_of};
+ghost use Rattle.query_run.specs.Input.{passing};
 ghost use Rattle.query_run.specs.Inside.{GoesOn};
 ghost use Rattle.query_run.specs.Plans.{HasGroups, IsGrouping, kinds_of_columns, row_columns, shape_of};
 ghost use Rattle.query_run.specs.Refused.{SaysOfSide, source};
 ghost use Rattle.query_run.specs.Stopped.{CountsSink, HasRoomFor, MayStop, RanOver, StoppedOver};
+ghost use Rattle.query_run.specs.Through.{rows_through};
 ghost use Rattle.query_run.specs.Trail.{KeptAndRead, KeptGroups};
 
 use crate::client::own_client;
 use crate::feeding::feed_side;
 use crate::grouping::{Read, write_groups};
 use crate::outcome::{QueryErr, Ran};
-use group_op::{GroupOp, law_starts};
+use group_op::{GroupOp, law_few, law_starts};
 use outside::{Sink, Source};
 use query_plan::{Query, Side, least};
 use reservation_tree::PoolErr;
@@ -41,13 +45,13 @@ pub(crate) fn run_grouped<St: Store, S: Source, K: Sink>(
     ensures read { OnOk result (IsAtEnd (S.remaining left.new)) }
     ensures numbers { IfOk result (λ ran. IfSome (both_told (S.remaining left.old) (Some [])) (Numbers plan.now (page_len plan.now (St.holds store.old).block_len) (St.holds store.old).told ran)) }
     ensures input { IfErr result (SaysOfSide plan.now Side.Left plan.now.left (page_len plan.now (St.holds store.old).block_len) (source (S.remaining left.old) (S.remaining left.new) (S.faults left.old) (S.faults left.new))) }
-    ensures pool { IfErr result (MayStop plan.now (St.holds store.old) (St.signs store.old) (St.signs store.new)) }
+    ensures pool { IfErr result (MayStop plan.now (both_told (S.remaining left.old) (Some [])) (St.holds store.old) (St.signs store.old) (St.signs store.new)) }
     ensures front { (St.holds store.old).told ≡ true → IsErrOf result QueryErr.SinkFault → WroteFront plan.now (page_len plan.now (St.holds store.old).block_len) (both_told (S.remaining left.old) (Some [])) (K.contents sink.old) (K.contents sink.new) }
     ensures untouched { IfErr result (λ e. IsSome (side_of e) → sink.new ≡ sink.old) }
     ensures stopped { IfErr result (λ _. (sink.new ≡ sink.old) ⊎ (IsAtEnd (S.remaining left.new) × ((St.holds store.old).told ≡ true → WroteFront plan.now (page_len plan.now (St.holds store.old).block_len) (both_told (S.remaining left.old) (Some [])) (K.contents sink.old) (K.contents sink.new)))) }
     ensures sink { CountsSink (IsErrOf result QueryErr.SinkFault) (K.faults sink.old) (K.faults sink.new) }
     ensures kept { OnOk result (KeptGroups plan.now (page_len plan.now (St.holds store.old).block_len) (S.remaining left.old) (St.signs store.old).trail (St.signs store.new).trail) }
-    ensures store { RanOver plan.now (St.holds store.old) (St.holds store.new) (St.signs store.old) (St.signs store.new) }
+    ensures store { RanOver plan.now (both_told (S.remaining left.old) (Some [])) (St.holds store.old) (St.holds store.new) (St.signs store.old) (St.signs store.new) }
     ensures source_kept { S.faults left.old ≤ S.faults left.new }
 {
     let block_len = store.block_len();
@@ -142,11 +146,14 @@ fn answer<St: Store, S: Source, K: Sink>(
     requires keeps { Keeps (St.signs store.old).trail [] op.old (St.holds store.old) (St.signs store.old) }
     requires page { page ≡ page_of op.old (St.holds store.old) }
     requires short { page < 2 ^ 32 }
+    requires long { 0 < page }
     ensures answer { (St.holds store.old).told ≡ true → OnOk result (WroteAnswer plan.now page (both_told (S.remaining left.old) (Some [])) (K.contents sink.old) (K.contents sink.new)) }
     ensures read { OnOk result (IsAtEnd (S.remaining left.new)) }
     ensures numbers { IfOk result (λ ran. IfSome (both_told (S.remaining left.old) (Some [])) (Numbers plan.now page (St.holds store.old).told ran)) }
     ensures input { IfErr result (SaysOfSide plan.now Side.Left plan.now.left page (source (S.remaining left.old) (S.remaining left.new) (S.faults left.old) (S.faults left.new))) }
     ensures pool { IfErr result (StoppedOver op.old.parts.page_blocks (slots_in (over op.old.parts (St.holds store.old) (St.signs store.old))) (St.signs store.old) (St.signs store.new)) }
+    ensures enough { IfErr result (OfPool (λ e. (St.holds store.old).told ≡ true → IfSome (S.remaining left.old) (λ bytes. IsWantBelow (slots_for 544 op.old (St.holds store.old) (passing plan.now bytes)) (slots_in (over op.old.parts (St.holds store.old) (St.signs store.old))) e))) }
+    ensures made { (St.holds store.old).told ≡ true → IfSome (both_told (S.remaining left.old) (Some [])) (λ both. MakesFew (16 * rows_through plan.now both) (St.signs store.old) (St.signs store.new)) }
     ensures front { (St.holds store.old).told ≡ true → IsErrOf result QueryErr.SinkFault → WroteFront plan.now page (both_told (S.remaining left.old) (Some [])) (K.contents sink.old) (K.contents sink.new) }
     ensures untouched { IfErr result (λ e. IsSome (side_of e) → sink.new ≡ sink.old) }
     ensures stopped { IfErr result (λ _. (sink.new ≡ sink.old) ⊎ (IsAtEnd (S.remaining left.new) × ((St.holds store.old).told ≡ true → WroteFront plan.now page (both_told (S.remaining left.old) (Some [])) (K.contents sink.old) (K.contents sink.new)))) }
@@ -155,6 +162,7 @@ fn answer<St: Store, S: Source, K: Sink>(
     ensures went { GoesOn op.old op.new (St.holds store.old) (St.holds store.new) (St.signs store.old) (St.signs store.new) }
     ensures source_kept { S.faults left.old ≤ S.faults left.new }
 {
+    law_few();
     let fed = feed_side(alloc, store, op, plan, Side::Left, &plan.left, page, left)?;
     let read = Read {
         left: fed.read,

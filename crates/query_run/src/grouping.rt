@@ -1,6 +1,6 @@
 // The groups of what was fed become the lines of an answer.
 
-ghost use Rattle.std.specs.Prelude.{◌≡◌, ◌+◌, ◌≤◌, [], List, Option, None, Some, true, map, length, pos, replicate, IfErr, IfOk, IsErrOf, OnErr, OnOk};
+ghost use Rattle.std.specs.Prelude.{◌≡◌, ◌+◌, ◌*◌, ◌≤◌, [], List, Option, None, Some, true, map, length, pos, replicate, IfErr, IfOk, IsErrOf, OnErr, OnOk};
 ghost use Rattle.std.specs.List.{range_with_len};
 ghost use Rattle.std.specs.Io.KnownBytes.{Appends};
 ghost use Rattle.pool_model.specs.declared.entry.Entry.{Entry};
@@ -8,14 +8,16 @@ ghost use Rattle.row_codec.specs.declared.values.Agg.TheVariants.{Sum};
 ghost use Rattle.row_codec.specs.declared.values.Value.{Value};
 ghost use Rattle.tuple_stream.specs.Families.{slots_in};
 ghost use Rattle.tuple_stream.specs.Trails.{EnteredEvents};
+ghost use Rattle.partition_stack.specs.Making.{MakesFew};
+ghost use Rattle.partition_stack.specs.Slots.{IsWantBelow};
 ghost use Rattle.partition_stack.specs.Stack.{over};
-ghost use Rattle.group_op.specs.Causes.{CameBeside};
+ghost use Rattle.group_op.specs.Causes.{CameBeside, IsWantBelowOf};
 ghost use Rattle.group_op.specs.Laid.{HoldsGroups};
-ghost use Rattle.group_op.specs.Operator.{IsFeeding, IsOperator, Keeps, page_of};
+ghost use Rattle.group_op.specs.Operator.{Holds, IsFeeding, IsOperator, Keeps, entries_in, page_of, slots_for};
 ghost use Rattle.csv_edge.specs.Lines.{line_of};
 ghost use Rattle.csv_edge.specs.Written.{AppendsFront};
 ghost use Rattle.query_run.specs.Answer.{LineNumbers, answer_text, group_rows, header_of};
-ghost use Rattle.query_run.specs.Causes.{side_of};
+ghost use Rattle.query_run.specs.Causes.{OfPool, side_of};
 ghost use Rattle.query_run.specs.Ending.{IsEndedBy, WentThrough, cause_of_op};
 ghost use Rattle.query_run.specs.Inside.{HandedOn};
 ghost use Rattle.query_run.specs.Plans.{HasGroups, grouping_of, shape_of};
@@ -60,8 +62,10 @@ pub(crate) fn write_groups<St: Store, K: Sink>(
     ensures read { IfOk result (λ ran. (ran.left ≡ read.left) × (ran.right ≡ read.right) × (ran.kept ≡ read.kept)) }
     ensures lines { IfOk result (λ ran. (rows : List (List Value)) → HoldsFor rows op.old (St.holds store.old) (St.signs store.old) → (St.holds store.old).told ≡ true → LineNumbers plan.now rows ran) }
     ensures kept { OnOk result ((start : Option (List Entry)) (rows : List (List Value)) → Keeps start rows op.old (St.holds store.old) (St.signs store.old) → EnteredEvents (HoldsGroups (shape_of plan.now) (page_of op.old (St.holds store.old)) rows (over op.new.parts (St.holds store.new) (St.signs store.new))) start (St.signs store.new).trail) }
+    ensures made { (fed : List (List Value)) → Holds fed op.old (St.holds store.old) (St.signs store.old) → (St.holds store.old).told ≡ true → MakesFew (15 * length fed + length (entries_in op.old.table)) (St.signs store.old) (St.signs store.new) }
     ensures cause { IfErr result (λ e. side_of e ≡ None) }
     ensures pool { IfErr result (StoppedOver op.old.parts.page_blocks (slots_in (over op.old.parts (St.holds store.old) (St.signs store.old))) (St.signs store.old) (St.signs store.new)) }
+    ensures enough { IfErr result (OfPool (λ e. (fed : List (List Value)) → Holds fed op.old (St.holds store.old) (St.signs store.old) → (St.holds store.old).told ≡ true → IsWantBelow (slots_for 544 op.old (St.holds store.old) fed) (slots_in (over op.old.parts (St.holds store.old) (St.signs store.old))) e)) }
     ensures sink { CountsSink (IsErrOf result QueryErr.SinkFault) (K.faults sink.old) (K.faults sink.new) }
     ensures went { HandedOn op.old op.new (St.holds store.old) (St.holds store.new) (St.signs store.old) (St.signs store.new) }
 {
@@ -172,6 +176,8 @@ fn drive<'a, B: Start, St: Store, K: Sink>(
     ensures err { OnErr result.0 ((rows : List (List Value)) → HoldsFor rows op.old (St.holds store.old) (St.signs store.old) → (St.holds store.old).told ≡ true → HasTakenSome op.old.shape rows B.before (written (K.contents result.1.sink.now) (K.faults result.1.sink.now) result.1.stopped result.1.part.lines result.1.rows result.1.totals.items)) }
     ensures any { (rows : List (List Value)) × HasTaken B.before rows (written (K.contents result.1.sink.now) (K.faults result.1.sink.now) result.1.stopped result.1.part.lines result.1.rows result.1.totals.items) }
     ensures kept { OnOk result.0 ((start : Option (List Entry)) (rows : List (List Value)) → Keeps start rows op.old (St.holds store.old) (St.signs store.old) → EnteredEvents (HoldsGroups op.old.shape (page_of op.old (St.holds store.old)) rows (over op.new.parts (St.holds store.new) (St.signs store.new))) start (St.signs store.new).trail) }
+    ensures made { (fed : List (List Value)) → Holds fed op.old (St.holds store.old) (St.signs store.old) → (St.holds store.old).told ≡ true → MakesFew (15 * length fed + length (entries_in op.old.table)) (St.signs store.old) (St.signs store.new) }
+    ensures enough { IfErr result.0 (λ e. (fed : List (List Value)) → Holds fed op.old (St.holds store.old) (St.signs store.old) → (St.holds store.old).told ≡ true → IsWantBelowOf (slots_for 544 op.old (St.holds store.old) fed) (slots_in (over op.old.parts (St.holds store.old) (St.signs store.old))) e) }
     ensures went { HandedOn op.old op.new (St.holds store.old) (St.holds store.new) (St.signs store.old) (St.signs store.new) }
     ensures cause { IfErr result.0 (CameBeside op.old.parts.page_blocks (slots_in (over op.old.parts (St.holds store.old) (St.signs store.old))) None (K.faults lines.entry.sink.now) (K.faults result.1.sink.now) (St.signs store.old) (St.signs store.new)) }
     ensures never_falls { K.faults lines.entry.sink.now ≤ K.faults result.1.sink.now }

@@ -1,19 +1,23 @@
 // A query that joins the rows of its two inputs.
 
-ghost use Rattle.std.specs.Prelude.{◌≡◌, ◌≢◌, ◌≤◌, ◌<◌, ◌^◌, ◌⊎◌, [], Some, IfErr, IfOk, IfSome, IsErrOf, IsSome, OnOk, false, true};
+ghost use Rattle.std.specs.Prelude.{◌≡◌, ◌≢◌, ◌*◌, ◌≤◌, ◌<◌, ◌^◌, ◌⊎◌, [], Some, IfErr, IfOk, IfSome, IsErrOf, IsSome, OnOk, false, length, true};
 ghost use Rattle.std.specs.Io.KnownBytes.{IsAtEnd};
 ghost use Rattle.partition_stack.specs.Leaving.{LeavesOthers};
+ghost use Rattle.partition_stack.specs.Making.{MakesFew};
+ghost use Rattle.partition_stack.specs.Slots.{IsWantBelow};
 ghost use Rattle.partition_stack.specs.Stack.{over};
-ghost use Rattle.join_op.specs.Operator.{IsOperator, Keeps, page_of, started};
+ghost use Rattle.join_op.specs.Operator.{IsOperator, Keeps, page_of, slots_for, started};
 ghost use Rattle.query_plan.specs.Sizes.{groups, joins, page_len};
 ghost use Rattle.query_run.specs.Answer.{Numbers, WroteAnswer, WroteFront};
-ghost use Rattle.query_run.specs.Both.{both_told};
+ghost use Rattle.query_run.specs.Both.{both_told, passing_of_both};
 ghost use Rattle.query_run.specs.Causes.{OfPool, side_of};
+ghost use Rattle.query_run.specs.Input.{passing, passing_in};
 ghost use Rattle.query_run.specs.Joined.{HasFedBoth, KeptBoth};
 ghost use Rattle.query_run.specs.Plans.{IsRunnable, join_shape_of};
 ghost use Rattle.query_run.specs.Refused.{SaysOfInputs, source};
-ghost use Rattle.query_run.specs.Stopped.{CountsSink, HasRoomFor, MayStop, RanOver, StoppedShort};
-ghost use Rattle.query_run.specs.Taking.{JoinGoes, JoinStands, LeftStands};
+ghost use Rattle.query_run.specs.Stopped.{CountsSink, HasRoomFor, MayStop, RanOver, StoppedOver};
+ghost use Rattle.query_run.specs.Taking.{JoinGoes, JoinStands, LeftStands, join_slots};
+ghost use Rattle.query_run.specs.Through.{rows_through};
 ghost use Rattle.query_run.specs.Trail.{KeptRows};
 
 use crate::client::own_client;
@@ -54,13 +58,13 @@ pub(crate) fn run_joined<St: Store, S: Source, K: Sink>(
     ensures read { OnOk result (IsAtEnd (S.remaining left.new) × IsAtEnd (S.remaining right.new)) }
     ensures numbers { IfOk result (λ ran. IfSome (both_told (S.remaining left.old) (S.remaining right.old)) (Numbers plan.now (page_len plan.now (St.holds store.old).block_len) (St.holds store.old).told ran)) }
     ensures input { IfErr result (SaysOfInputs plan.now (page_len plan.now (St.holds store.old).block_len) (source (S.remaining left.old) (S.remaining left.new) (S.faults left.old) (S.faults left.new)) (source (S.remaining right.old) (S.remaining right.new) (S.faults right.old) (S.faults right.new))) }
-    ensures pool { IfErr result (MayStop plan.now (St.holds store.old) (St.signs store.old) (St.signs store.new)) }
+    ensures pool { IfErr result (MayStop plan.now (both_told (S.remaining left.old) (S.remaining right.old)) (St.holds store.old) (St.signs store.old) (St.signs store.new)) }
     ensures front { (St.holds store.old).told ≡ true → IsErrOf result QueryErr.SinkFault → WroteFront plan.now (page_len plan.now (St.holds store.old).block_len) (both_told (S.remaining left.old) (S.remaining right.old)) (K.contents sink.old) (K.contents sink.new) }
     ensures untouched { IfErr result (λ e. IsSome (side_of e) → sink.new ≡ sink.old) }
     ensures stopped { IfErr result (λ _. (sink.new ≡ sink.old) ⊎ (IsAtEnd (S.remaining left.new) × IsAtEnd (S.remaining right.new) × ((St.holds store.old).told ≡ true → WroteFront plan.now (page_len plan.now (St.holds store.old).block_len) (both_told (S.remaining left.old) (S.remaining right.old)) (K.contents sink.old) (K.contents sink.new)))) }
     ensures sink { CountsSink (IsErrOf result QueryErr.SinkFault) (K.faults sink.old) (K.faults sink.new) }
     ensures kept { OnOk result (KeptRows plan.now (page_len plan.now (St.holds store.old).block_len) (S.remaining left.old) (S.remaining right.old) (St.signs store.old).trail (St.signs store.new).trail) }
-    ensures store { RanOver plan.now (St.holds store.old) (St.holds store.new) (St.signs store.old) (St.signs store.new) }
+    ensures store { RanOver plan.now (both_told (S.remaining left.old) (S.remaining right.old)) (St.holds store.old) (St.holds store.new) (St.signs store.old) (St.signs store.new) }
     ensures sources_kept { (S.faults left.old ≤ S.faults left.new) × (S.faults right.old ≤ S.faults right.new) }
 {
     let Some(asked) = &plan.right else {
@@ -136,11 +140,14 @@ fn answer<St: Store, S: Source, K: Sink>(
     requires keeps { Keeps (St.signs store.old).trail [] [] op (St.holds store.old) (St.signs store.old) }
     requires page { page ≡ page_of op (St.holds store.old) }
     requires short { page < 2 ^ 32 }
+    requires long { 0 < page }
     ensures answer { (St.holds store.old).told ≡ true → OnOk result.0 (WroteAnswer plan.now page (both_told (S.remaining left.old) (S.remaining right.old)) (K.contents sink.old) (K.contents sink.new)) }
     ensures read { OnOk result.0 (IsAtEnd (S.remaining left.new) × IsAtEnd (S.remaining right.new)) }
     ensures numbers { IfOk result.0 (λ ran. IfSome (both_told (S.remaining left.old) (S.remaining right.old)) (Numbers plan.now page (St.holds store.old).told ran)) }
     ensures input { IfErr result.0 (SaysOfInputs plan.now page (source (S.remaining left.old) (S.remaining left.new) (S.faults left.old) (S.faults left.new)) (source (S.remaining right.old) (S.remaining right.new) (S.faults right.old) (S.faults right.new))) }
-    ensures pool { IfErr result.0 (OfPool (StoppedShort op.left.page_blocks (St.signs store.old) (St.signs store.new))) }
+    ensures pool { IfErr result.0 (StoppedOver op.left.page_blocks (join_slots op (St.holds store.old) (St.signs store.old)) (St.signs store.old) (St.signs store.new)) }
+    ensures enough { IfErr result.0 (OfPool (λ e. (St.holds store.old).told ≡ true → IfSome (both_told (S.remaining left.old) (S.remaining right.old)) (λ both. IsWantBelow (slots_for op (St.holds store.old) (passing plan.now both.left) (passing_in asked.now both.right)) (join_slots op (St.holds store.old) (St.signs store.old)) e))) }
+    ensures made { (St.holds store.old).told ≡ true → IfSome (both_told (S.remaining left.old) (S.remaining right.old)) (λ both. MakesFew (16 * rows_through plan.now both) (St.signs store.old) (St.signs store.new)) }
     ensures untouched { IfErr result.0 (λ e. IsSome (side_of e) → sink.new ≡ sink.old) }
     ensures stopped { IfErr result.0 (λ _. (sink.new ≡ sink.old) ⊎ (IsAtEnd (S.remaining left.new) × IsAtEnd (S.remaining right.new) × ((St.holds store.old).told ≡ true → WroteFront plan.now page (both_told (S.remaining left.old) (S.remaining right.old)) (K.contents sink.old) (K.contents sink.new)))) }
     ensures front { (St.holds store.old).told ≡ true → IsErrOf result.0 QueryErr.SinkFault → WroteFront plan.now page (both_told (S.remaining left.old) (S.remaining right.old)) (K.contents sink.old) (K.contents sink.new) }
@@ -148,6 +155,7 @@ fn answer<St: Store, S: Source, K: Sink>(
     ensures kept { OnOk result.0 (KeptBoth plan.now asked.now page (S.remaining left.old) (S.remaining right.old) (over result.1.left (St.holds store.new) (St.signs store.new)) (over result.1.right (St.holds store.new) (St.signs store.new)) (St.signs store.old).trail (St.signs store.new).trail) }
     ensures op { IsOperator result.1 (St.holds store.new) (St.signs store.new) × (result.1.client ≡ op.client) }
     ensures leaves { LeavesOthers op.client.tracker (St.holds store.old) (St.holds store.new) (St.signs store.old) (St.signs store.new) }
+    ensures slots { join_slots result.1 (St.holds store.new) (St.signs store.new) ≡ join_slots op (St.holds store.old) (St.signs store.old) }
     ensures sources_kept { (S.faults left.old ≤ S.faults left.new) × (S.faults right.old ≤ S.faults right.new) }
 {
     let (fed, mut op) = feed_both(alloc, store, op, plan, asked, page, left, right);
@@ -177,11 +185,14 @@ pub(crate) fn feed_both<St: Store, S: Source>(
     requires keeps { Keeps (St.signs store.old).trail [] [] op (St.holds store.old) (St.signs store.old) }
     requires page { page ≡ page_of op (St.holds store.old) }
     requires short { page < 2 ^ 32 }
+    requires long { 0 < page }
     ensures ok { IfOk result.0 (λ fed. HasFedBoth plan.now asked.now page (S.remaining left.old) (S.remaining right.old) fed.left fed.right (λ lefts rights. Keeps (St.signs store.old).trail lefts rights result.1 (St.holds store.new) (St.signs store.new))) }
     ensures read { OnOk result.0 (IsAtEnd (S.remaining left.new) × IsAtEnd (S.remaining right.new)) }
     ensures input { IfErr result.0 (SaysOfInputs plan.now page (source (S.remaining left.old) (S.remaining left.new) (S.faults left.old) (S.faults left.new)) (source (S.remaining right.old) (S.remaining right.new) (S.faults right.old) (S.faults right.new))) }
     ensures cause { IfErr result.0 (λ e. e ≢ QueryErr.SinkFault) }
-    ensures pool { IfErr result.0 (OfPool (StoppedShort op.left.page_blocks (St.signs store.old) (St.signs store.new))) }
+    ensures pool { IfErr result.0 (StoppedOver op.left.page_blocks (join_slots op (St.holds store.old) (St.signs store.old)) (St.signs store.old) (St.signs store.new)) }
+    ensures enough { IfErr result.0 (OfPool (λ e. IfSome (both_told (S.remaining left.old) (S.remaining right.old)) (λ both. IsWantBelow (slots_for op (St.holds store.old) (passing plan.now both.left) (passing_in asked.now both.right)) (join_slots op (St.holds store.old) (St.signs store.old)) e))) }
+    ensures made { IfSome (both_told (S.remaining left.old) (S.remaining right.old)) (λ both. MakesFew (length (passing_of_both plan.now both)) (St.signs store.old) (St.signs store.new)) }
     ensures stands { JoinStands result.1 (St.holds store.new) (St.signs store.new) }
     ensures goes { JoinGoes op result.1 (St.holds store.old) (St.holds store.new) (St.signs store.old) (St.signs store.new) }
     ensures sources_kept { (S.faults left.old ≤ S.faults left.new) × (S.faults right.old ≤ S.faults right.new) }

@@ -1,21 +1,24 @@
 // The pairs of what was fed become the lines of an answer.
 
-ghost use Rattle.std.specs.Prelude.{◌≡◌, ◌+◌, ◌≤◌, ◌<◌, ◌^◌, [], List, Option, None, Some, false, true, ⊤, map, IfErr, IfOk, IsErrOf, OnErr, OnOk};
+ghost use Rattle.std.specs.Prelude.{◌≡◌, ◌+◌, ◌*◌, ◌≤◌, ◌<◌, ◌^◌, [], List, Option, None, Some, false, length, true, ⊤, map, IfErr, IfOk, IsErrOf, OnErr, OnOk};
 ghost use Rattle.pool_model.specs.declared.entry.Entry.{Entry};
 ghost use Rattle.row_codec.specs.declared.values.Agg.TheVariants.{Sum};
 ghost use Rattle.row_codec.specs.declared.values.Value.{Value};
 ghost use Rattle.tuple_stream.specs.Trails.{EnteredEvents};
-ghost use Rattle.partition_stack.specs.Causes.{CameOfEither};
+ghost use Rattle.partition_stack.specs.Causes.{CameBeside};
 ghost use Rattle.partition_stack.specs.Leaving.{LeavesOthers};
+ghost use Rattle.partition_stack.specs.Making.{MakesFew};
+ghost use Rattle.partition_stack.specs.Slots.{IsWantBelow, IsWantBelowOf};
 ghost use Rattle.partition_stack.specs.Stack.{over};
 ghost use Rattle.join_op.specs.Laid.{HoldsSides};
-ghost use Rattle.join_op.specs.Operator.{IsFeeding, IsOperator, Keeps};
+ghost use Rattle.join_op.specs.Operator.{IsFeeding, IsOperator, Keeps, slots_for};
 ghost use Rattle.join_op.specs.Pairs.{pairs_of};
 ghost use Rattle.query_plan.specs.Sizes.{groups};
 ghost use Rattle.query_run.specs.Answer.{LineNumbers};
 ghost use Rattle.query_run.specs.Causes.{OfPool, side_of};
 ghost use Rattle.query_run.specs.Joined.{HasTakenPairs, HasTakenSomePairs, WrotePairs, WroteSomePairs};
-ghost use Rattle.query_run.specs.Stopped.{CountsSink, StoppedShort};
+ghost use Rattle.query_run.specs.Stopped.{CountsSink, StoppedOver};
+ghost use Rattle.query_run.specs.Taking.{join_slots};
 ghost use Rattle.query_run.specs.Writing.{HasTaken, written};
 
 use crate::answering::{AnswerLines, Start, Taker};
@@ -52,12 +55,15 @@ pub(crate) fn write_pairs<St: Store, K: Sink>(
     ensures read { IfOk result (λ ran. (ran.left ≡ fed.left.read) × (ran.right ≡ fed.right.read) × (ran.kept ≡ fed.left.kept + fed.right.kept)) }
     ensures lines { IfOk result (λ ran. (start : Option (List Entry)) → (lefts rights : List (List Value)) → Keeps start lefts rights op.old (St.holds store.old) (St.signs store.old) → (St.holds store.old).told ≡ true → LineNumbers plan.now (pairs_of op.old.shape lefts rights) ran) }
     ensures kept { OnOk result ((start : Option (List Entry)) → (lefts rights : List (List Value)) → Keeps start lefts rights op.old (St.holds store.old) (St.signs store.old) → EnteredEvents (HoldsSides op.old.shape lefts rights (over op.new.left (St.holds store.new) (St.signs store.new)) (over op.new.right (St.holds store.new) (St.signs store.new)) ⊤) start (St.signs store.new).trail) }
+    ensures made { (start : Option (List Entry)) → (lefts rights : List (List Value)) → Keeps start lefts rights op.old (St.holds store.old) (St.signs store.old) → (St.holds store.old).told ≡ true → MakesFew (15 * (length lefts + length rights)) (St.signs store.old) (St.signs store.new) }
     ensures cause { IfErr result (λ e. side_of e ≡ None) }
-    ensures pool { IfErr result (OfPool (StoppedShort op.old.left.page_blocks (St.signs store.old) (St.signs store.new))) }
+    ensures pool { IfErr result (StoppedOver op.old.left.page_blocks (join_slots op.old (St.holds store.old) (St.signs store.old)) (St.signs store.old) (St.signs store.new)) }
+    ensures enough { IfErr result (OfPool (λ e. (start : Option (List Entry)) → (lefts rights : List (List Value)) → Keeps start lefts rights op.old (St.holds store.old) (St.signs store.old) → (St.holds store.old).told ≡ true → IsWantBelow (slots_for op.old (St.holds store.old) lefts rights) (join_slots op.old (St.holds store.old) (St.signs store.old)) e)) }
     ensures sink { CountsSink (IsErrOf result QueryErr.SinkFault) (K.faults sink.old) (K.faults sink.new) }
     ensures op { IsOperator op.new (St.holds store.new) (St.signs store.new) }
     ensures client { op.new.client ≡ op.old.client }
     ensures leaves { LeavesOthers op.old.client.tracker (St.holds store.old) (St.holds store.new) (St.signs store.old) (St.signs store.new) }
+    ensures slots { join_slots op.new (St.holds store.new) (St.signs store.new) ≡ join_slots op.old (St.holds store.old) (St.signs store.old) }
 {
     let names = joined_header(alloc, plan, asked)?;
     let part = Part::with(alloc, names.as_slice())?;
@@ -110,7 +116,10 @@ fn drive_pairs<'a, B: Start, St: Store, K: Sink>(
     ensures op { IsOperator op.new (St.holds store.new) (St.signs store.new) }
     ensures client { op.new.client ≡ op.old.client }
     ensures leaves { LeavesOthers op.old.client.tracker (St.holds store.old) (St.holds store.new) (St.signs store.old) (St.signs store.new) }
-    ensures cause { IfErr result.0 (CameOfEither op.old.left.page_blocks None (K.faults lines.entry.sink.now) (K.faults result.1.sink.now) (St.signs store.old) (St.signs store.new)) }
+    ensures slots { join_slots op.new (St.holds store.new) (St.signs store.new) ≡ join_slots op.old (St.holds store.old) (St.signs store.old) }
+    ensures made { (start : Option (List Entry)) → (lefts rights : List (List Value)) → Keeps start lefts rights op.old (St.holds store.old) (St.signs store.old) → (St.holds store.old).told ≡ true → MakesFew (15 * (length lefts + length rights)) (St.signs store.old) (St.signs store.new) }
+    ensures enough { IfErr result.0 (λ e. (start : Option (List Entry)) → (lefts rights : List (List Value)) → Keeps start lefts rights op.old (St.holds store.old) (St.signs store.old) → (St.holds store.old).told ≡ true → IsWantBelowOf (slots_for op.old (St.holds store.old) lefts rights) (join_slots op.old (St.holds store.old) (St.signs store.old)) e) }
+    ensures cause { IfErr result.0 (CameBeside op.old.left.page_blocks (join_slots op.old (St.holds store.old) (St.signs store.old)) None (K.faults lines.entry.sink.now) (K.faults result.1.sink.now) (St.signs store.old) (St.signs store.new)) }
     ensures never_falls { K.faults lines.entry.sink.now ≤ K.faults result.1.sink.now }
     ensures name { result.1.sink.ghost_name ≡ lines.entry.sink.ghost_name }
 {

@@ -2,14 +2,13 @@
 
 ghost use Rattle.std.specs.Prelude.{◌≡◌, ◌≤◌, ◌⊎◌, IfErr, IfOk, IfSome, IsErrOf, IsSome, OnOk, is_some, true};
 ghost use Rattle.std.specs.Io.KnownBytes.{IsAtEnd};
-ghost use Rattle.outside.specs.Counts.{Rose};
 ghost use Rattle.query_plan.specs.Sizes.{joins, page_len};
 ghost use Rattle.query_run.specs.Answer.{Numbers, WroteAnswer, WroteFront};
 ghost use Rattle.query_run.specs.Both.{HoldsInput, both_told, faults_in, told_in};
 ghost use Rattle.query_run.specs.Causes.{side_of};
 ghost use Rattle.query_run.specs.Plans.{IsRunnable};
 ghost use Rattle.query_run.specs.Refused.{SaysOfInputs, source};
-ghost use Rattle.query_run.specs.Stopped.{HasRoomFor, MayStop, RanOver};
+ghost use Rattle.query_run.specs.Stopped.{CountsSink, HasRoomFor, MayStop, RanOver};
 ghost use Rattle.query_run.specs.Trail.{KeptRows};
 
 use crate::both::run_both;
@@ -40,8 +39,9 @@ use store_api::Store;
 /// # Errors
 ///
 /// Those of the inputs, each with its place; `SinkFault`; and `Pool`, where the store answered so in this call or
-/// there was no memory: a growth of a client that is refused is no error, and there are few clients. `ScratchFull` names
-/// the blocks of a page and the slots that were free; where the query joins and groups, these numbers are not promised.
+/// there was no memory: a growth of a client that is refused is no error, and there are few clients. Whatever the query
+/// does, `ScratchFull` names the blocks of a page and what is left of the slots that were free at the start; it comes only
+/// where these were too few for the pages that the query needs.
 pub fn run_query<St: Store, S: Source, K: Sink>(
     alloc: Global,
     store: &mut St,
@@ -58,18 +58,15 @@ pub fn run_query<St: Store, S: Source, K: Sink>(
     ensures numbers { IfOk result (λ ran. IfSome (both_told (S.remaining left.old) (told_in S.remaining right.old)) (Numbers plan.now (page_len plan.now (St.holds store.old).block_len) (St.holds store.old).told ran)) }
 
     ensures input { IfErr result (SaysOfInputs plan.now (page_len plan.now (St.holds store.old).block_len) (source (S.remaining left.old) (S.remaining left.new) (S.faults left.old) (S.faults left.new)) (source (told_in S.remaining right.old) (told_in S.remaining right.new) (faults_in S.faults right.old) (faults_in S.faults right.new))) }
-    ensures pool { IfErr result (MayStop plan.now (St.holds store.old) (St.signs store.old) (St.signs store.new)) }
-    ensures sink_fault { IsErrOf result QueryErr.SinkFault → Rose (K.faults sink.old) (K.faults sink.new) }
+    ensures pool { IfErr result (MayStop plan.now (both_told (S.remaining left.old) (told_in S.remaining right.old)) (St.holds store.old) (St.signs store.old) (St.signs store.new)) }
     ensures front { (St.holds store.old).told ≡ true → IsErrOf result QueryErr.SinkFault → WroteFront plan.now (page_len plan.now (St.holds store.old).block_len) (both_told (S.remaining left.old) (told_in S.remaining right.old)) (K.contents sink.old) (K.contents sink.new) }
     ensures untouched { IfErr result (λ e. IsSome (side_of e) → sink.new ≡ sink.old) }
     ensures stopped { IfErr result (λ _. (sink.new ≡ sink.old) ⊎ (IsAtEnd (S.remaining left.new) × IsAtEnd (told_in S.remaining right.new) × ((St.holds store.old).told ≡ true → WroteFront plan.now (page_len plan.now (St.holds store.old).block_len) (both_told (S.remaining left.old) (told_in S.remaining right.old)) (K.contents sink.old) (K.contents sink.new)))) }
-    ensures quiet { IsErrOf result QueryErr.SinkFault ⊎ (K.faults sink.new ≡ K.faults sink.old) }
+    ensures sink { CountsSink (IsErrOf result QueryErr.SinkFault) (K.faults sink.old) (K.faults sink.new) }
 
     ensures kept { OnOk result (KeptRows plan.now (page_len plan.now (St.holds store.old).block_len) (S.remaining left.old) (told_in S.remaining right.old) (St.signs store.old).trail (St.signs store.new).trail) }
-    ensures store { RanOver plan.now (St.holds store.old) (St.holds store.new) (St.signs store.old) (St.signs store.new) }
-    ensures right { HoldsInput S.faults right.old right.new }
-    ensures source_kept { S.faults left.old ≤ S.faults left.new }
-    ensures sink_kept { K.faults sink.old ≤ K.faults sink.new }
+    ensures store { RanOver plan.now (both_told (S.remaining left.old) (told_in S.remaining right.old)) (St.holds store.old) (St.holds store.new) (St.signs store.old) (St.signs store.new) }
+    ensures sources { (S.faults left.old ≤ S.faults left.new) × HoldsInput S.faults right.old right.new }
 {
     let source = match right {
         Some(source) => source,

@@ -9,7 +9,7 @@ ghost use Rattle.store_api.specs.Signs.{Signs};
 ghost use Rattle.group_op.specs.Operator.{page_of as group_page};
 ghost use Rattle.join_op.specs.Operator.{page_of as join_page};
 ghost use Rattle.query_run.specs.Feeding.{MayBeTaken};
-ghost use Rattle.query_run.specs.Taking.{GroupFeeds, GroupGoes, GroupStands, GroupStops, JoinGoes, JoinStands, JoinStops, LeftFeeds, LeftStands, RightFeeds, TakesStill};
+ghost use Rattle.query_run.specs.Taking.{GroupFeeds, GroupGoes, GroupMakes, GroupStands, GroupStops, GroupWants, JoinGoes, JoinMakes, JoinStands, JoinStops, LeftFeeds, LeftStands, LeftWants, RightFeeds, RightWants, TakesStill};
 
 use group_op::GroupOp;
 use join_op::JoinOp;
@@ -36,8 +36,14 @@ pub(crate) trait Takes<St: Store> {
     // What it left since then.
     ghost goes: { Self → Self → Holdings → Holdings → Signs → Signs → Type 0 };
 
+    // The pages that it made since then are few for these rows.
+    ghost makes: { Self → Self → List (List Value) → Holdings → Signs → Signs → Type 0 };
+
     // How the store may stop it since a state of the store.
     ghost stops: { Self → Holdings → Signs → Signs → PoolErr → Type 0 };
+
+    // For want of slots it stops it only so, while these rows come.
+    ghost wants: { Self → List (List Value) → Holdings → Signs → PoolErr → Type 0 };
 
     // Takes a row. Behind an error it can only end.
     fn take(&mut self, alloc: Global, store: &mut St, row: &[Value]) -> Result<(), PoolErr>
@@ -46,8 +52,10 @@ pub(crate) trait Takes<St: Store> {
         ensures ok { OnOk result ((first : Self) (rows : List (List Value)) (h : Holdings) (s : Signs) → feeds first self.old rows h (St.holds store.old) s (St.signs store.old) → feeds first self.new (rows ++ row.now ∷ []) h (St.holds store.new) s (St.signs store.new)) }
         ensures stands { stands self.new (St.holds store.new) (St.signs store.new) }
         ensures goes { (first : Self) (h : Holdings) (s : Signs) → goes first self.old h (St.holds store.old) s (St.signs store.old) → goes first self.new h (St.holds store.new) s (St.signs store.new) }
+        ensures few { (first : Self) (rows : List (List Value)) (h : Holdings) (s : Signs) → feeds first self.old rows h (St.holds store.old) s (St.signs store.old) → makes first self.old rows h s (St.signs store.old) → makes first self.new (rows ++ row.now ∷ []) h s (St.signs store.new) }
         ensures still { TakesStill (kinds self.old) (kinds self.new) (extra self.old) (extra self.new) (page self.old (St.holds store.old)) (page self.new (St.holds store.new)) }
-        ensures cause { IfErr result (λ e. (first : Self) (h : Holdings) (s : Signs) → goes first self.old h (St.holds store.old) s (St.signs store.old) → stops first h s (St.signs store.new) e) };
+        ensures cause { IfErr result (λ e. (first : Self) (h : Holdings) (s : Signs) → goes first self.old h (St.holds store.old) s (St.signs store.old) → stops first h s (St.signs store.new) e) }
+        ensures enough { IfErr result (λ e. (first : Self) (rows : List (List Value)) (h : Holdings) (s : Signs) → feeds first self.old rows h (St.holds store.old) s (St.signs store.old) → goes first self.old h (St.holds store.old) s (St.signs store.old) → wants first (rows ++ row.now ∷ []) h s e) };
 }
 
 impl<St: Store> Takes<St> for GroupOp {
@@ -63,7 +71,11 @@ impl<St: Store> Takes<St> for GroupOp {
 
     ghost goes = { GroupGoes };
 
+    ghost makes = { GroupMakes };
+
     ghost stops = { GroupStops };
+
+    ghost wants = { GroupWants };
 
     fn take(&mut self, alloc: Global, store: &mut St, row: &[Value]) -> Result<(), PoolErr> {
         match self.feed(alloc, store, row) {
@@ -92,7 +104,11 @@ impl<St: Store> Takes<St> for Lefts {
 
     ghost goes = { λ a b. JoinGoes a.op b.op };
 
-    ghost stops = { λ e h. JoinStops e.op };
+    ghost makes = { λ a b rows h. JoinMakes rows };
+
+    ghost stops = { λ e. JoinStops e.op };
+
+    ghost wants = { λ e. LeftWants e.op };
 
     fn take(&mut self, alloc: Global, store: &mut St, row: &[Value]) -> Result<(), PoolErr> {
         match self.op.feed_left(alloc, store, row) {
@@ -121,7 +137,11 @@ impl<St: Store> Takes<St> for Rights {
 
     ghost goes = { λ a b. JoinGoes a.op b.op };
 
-    ghost stops = { λ e h. JoinStops e.op };
+    ghost makes = { λ a b rows h. JoinMakes rows };
+
+    ghost stops = { λ e. JoinStops e.op };
+
+    ghost wants = { λ e. RightWants e.op };
 
     fn take(&mut self, alloc: Global, store: &mut St, row: &[Value]) -> Result<(), PoolErr> {
         match self.op.feed_right(alloc, store, row) {

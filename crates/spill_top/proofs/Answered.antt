@@ -60,6 +60,10 @@ told-lines : (plan : Query) (page lines : ℕ) (told given : Option Told) → Gi
 told-lines plan page lines None given gives is = tt
 told-lines plan page lines (Some told) given gives is = subst (λ (o : Option Told). IfSome o (HasLines plan page lines)) gives is
 
+told-so : (told given : Option Told) → GivesTold told given → (A : Told → Type 0) → IfSome given A → IfSome told A
+told-so None given gives A is = tt
+told-so (Some told) given gives A is = subst (λ (o : Option Told). IfSome o A) gives is
+
 told-right : (plan : Query) (page : ℕ) (why : QueryErr) (asked : Option SidePlan) (told given : Option (List ℕ)) → GivesBytes told given
     → IsSomeAnd asked (λ side. IfSome given (λ bytes. IsRefusalIn plan Right side page bytes why)) → IsSomeAnd asked (λ side. IfSome told (λ bytes. IsRefusalIn plan Right side page bytes why))
 told-right plan page why None told given gives is = is
@@ -142,7 +146,7 @@ module _ (start seen : Seen) (slots slots_now : Tally) (back : ComeBack slots sl
   }
 
   pub stopped_so : (faults faults_now : ℕ) (why : QueryErr) → faults ≡ 0 → faults_of right_now ≡ faults_now
-      → IsStopped query (page_len query block_len) (on_sides left.told bytes) (RoseOn (on_sides left.faults faults) (on_sides left_now.faults faults_now)) (Rose sink.faults sink_now.faults) (HaveFailed slots slots_now) why
+      → IsStopped query (page_len query block_len) (on_sides left.told bytes) given (RoseOn (on_sides left.faults faults) (on_sides left_now.faults faults_now)) (Rose sink.faults sink_now.faults) (HaveFailed slots slots_now) why
       → LeavesPart query (page_len query block_len) given sink.told sink_now.told (side_of why)
       → IsWork start (with_slots slots seen) block_len query (record { refused = refused; left = Some left; right = right; output = Some sink; ended = None })
       → IsWork start (with_slots slots_now seen) block_len query (record { refused = refused; left = Some left_now; right = right_now; output = Some sink_now; ended = Some (Stopped why) })
@@ -156,7 +160,7 @@ module _ (start seen : Seen) (slots slots_now : Tally) (back : ComeBack slots sl
         source_fault = λ side fault. failed-on (faults_on query start.reads) (faults_on query seen.reads) left.faults left_now.faults faults faults_now left_now right_now
             ((is.inputs Left).1) none refl counted side (stopped.source_fault side fault);
         sink_fault = λ fault. inr (has-some sink.faults sink_now.faults (is.fresh_sink refl) (stopped.sink_fault fault));
-        pool = pool_later query (HaveFailed slots slots_now) (HaveFailed start.slots slots_now) why (slots_since start.slots slots slots_now is.went.slots) stopped.pool;
+        pool = pool_later query (page_len query block_len) given (told_over query start) (HaveFailed slots slots_now) (HaveFailed start.slots slots_now) why (told-so (told_over query start) given (gives-given is)) (slots_since start.slots slots slots_now is.went.slots) stopped.pool;
       },
     );
     inputs = ended_stand (bytes_on query start.files) (Some left_now) right_now (Stopped why);
@@ -196,7 +200,7 @@ module _ {S : Type 0} (remaining : S → Option (List ℕ)) (reads : S → ℕ) 
         (right-gives query.right start.files right (is.sides.both refl refl) (is.inputs Right)) (held right right_now holds) lines wrote many is
 
     pub job_stopped : (why : QueryErr)
-        → IsStopped query (page_len query block_len) (on_sides left.told (told_in remaining right)) (RoseOn (on_sides left.faults (faults_in reads right)) (on_sides left_now.faults (faults_in reads right_now))) (Rose sink.faults sink_now.faults)
+        → IsStopped query (page_len query block_len) (on_sides left.told (told_in remaining right)) (if_told (all_tell slots) (both_told left.told (told_in remaining right))) (RoseOn (on_sides left.faults (faults_in reads right)) (on_sides left_now.faults (faults_in reads right_now))) (Rose sink.faults sink_now.faults)
         (HaveFailed slots slots_now) why
         → LeavesPart query (page_len query block_len) (if_told (all_tell slots) (both_told left.told (told_in remaining right))) sink.told sink_now.told (side_of why)
         → IsWork start (with_slots slots seen) block_len query (record { refused = refused; left = Some left; right = shown remaining reads right; output = Some sink; ended = None })

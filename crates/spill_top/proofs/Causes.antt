@@ -1,9 +1,11 @@
 -- Why a command was refused.
-use Rattle.std.proofs.Common.{◌≡◌, ◌∙◌, ℕ, List, Option, Some, None, IfSome, sym, refl, subst, arith}
+use Rattle.std.proofs.Common.{◌≡◌, ◌≢◌, ◌∙◌, ◌*◌, ◌^◌, ◌<◌, ◌≤◌, ℕ, List, Option, Some, None, IfSome, sym, refl, subst, arith}
 use Rattle.std.proofs.lemmas.Option.{none-some, same_Some}
 use Rattle.outside.specs.Counts.{Rose}
 use Rattle.outside.specs.Told.{GivesBytes}
 use Rattle.pin_core.specs.declared.tally.Tally.{Tally}
+use Rattle.query_run.specs.Both.{Told}
+use Rattle.query_run.specs.Through.{need, rows_through}
 use Rattle.query_run.specs.Causes.{IsOfBytes, IsSourceFault, OfPool}
 use Rattle.query_run.specs.Input.{IsRefusal}
 use Rattle.query_run.specs.declared.outcome.QueryErr.{QueryErr}
@@ -11,7 +13,7 @@ use Rattle.query_run.specs.declared.outcome.QueryErr.TheVariants as query
 use Rattle.spill_top.specs.declared.report.Refusal.{Refusal}
 use Rattle.spill_top.specs.declared.report.Refusal.TheVariants.{InputFault, Header, Csv, Large, Row, Scratch, Names, Write, Read}
 use Rattle.spill_top.specs.Counting.{counting}
-use Rattle.spill_top.specs.Headline.{IsCause, IsOfInput, Refuses, page_bytes}
+use Rattle.spill_top.specs.Headline.{IsCause, IsOfInput, Refuses, Suffices, page_bytes}
 use Rattle.spill_top.specs.Pooled.{HaveFailed}
 use Rattle.spill_top.specs.Report.{status_of}
 use Rattle.spill_top.specs.Refusals.{refusal_for, refusal_of_pool}
@@ -61,3 +63,28 @@ pub device_fault : (status : ℕ) (command : Command) (told : Option (List ℕ))
     → Refuses status command told faults faults_now slots slots_now report report_now writes writes_now → HaveFailed slots slots_now
 device_fault status command told faults faults_now slots slots_now report report_now writes writes_now eight refuses =
     device told faults faults_now slots slots_now command refuses.why refuses.cause (sym refuses.status_is ∙ eight)
+
+-- where slots suffice, none is wanting, and no name
+wants : (told : Option (List ℕ)) (before now : ℕ) (slots slots_now : Tally) (command : Command) (refusal : Refusal) → IsCause told before now slots slots_now command refusal → status_of refusal ≡ 7 → Suffices told slots command → ⊥
+wants told before now slots slots_now command InputFault cause seven enough = absurd (omega (arith, seven))
+wants told before now slots slots_now command Header cause seven enough = absurd (omega (arith, seven))
+wants told before now slots slots_now command (Csv number) cause seven enough = absurd (omega (arith, seven))
+wants told before now slots slots_now command Large cause seven enough = absurd (omega (arith, seven))
+wants told before now slots slots_now command (Row number weight) cause seven enough = absurd (omega (arith, seven))
+wants told before now slots slots_now command (Scratch blocks free) cause seven enough =
+    let lacks : slots.slots < need (counting command) page_bytes enough.both * 1 =
+    subst (λ (o : Option Told). IfSome o (λ both. slots.slots < need (counting command) page_bytes both * 1)) enough.told_is cause.2 in
+    let has = enough.enough in
+    omega (arith, lacks, has)
+wants told before now slots slots_now command Names cause seven enough =
+    let many : 2 ^ 55 ≤ rows_through (counting command) enough.both = subst (λ (o : Option Told). IfSome o (λ both. 2 ^ 55 ≤ rows_through (counting command) both)) enough.told_is cause in
+    let few = enough.few in
+    omega (arith, many, few)
+wants told before now slots slots_now command (Write entry) cause seven enough = absurd (omega (arith, seven))
+wants told before now slots slots_now command (Read entry) cause seven enough = absurd (omega (arith, seven))
+
+pub never_wants : (status : ℕ) (command : Command) (told : Option (List ℕ)) (faults faults_now : ℕ) (slots slots_now : Tally) (report report_now : Option (List ℕ)) (writes writes_now : ℕ)
+    → (status ≢ 0 → status ≢ 9 → status ≢ 10 → Refuses status command told faults faults_now slots slots_now report report_now writes writes_now) → Suffices told slots command → status ≢ 7
+never_wants status command told faults faults_now slots slots_now report report_now writes writes_now refused enough = λ seven.
+    let refuses = refused (λ (is : status ≡ 0). omega (arith, is, seven)) (λ (is : status ≡ 9). omega (arith, is, seven)) (λ (is : status ≡ 10). omega (arith, is, seven)) in
+    wants told faults faults_now slots slots_now command refuses.why refuses.cause (sym refuses.status_is ∙ seven) enough

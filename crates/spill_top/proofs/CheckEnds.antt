@@ -1,5 +1,5 @@
 -- How a check ends: what becomes of its output, and what it comes to.
-use Rattle.std.proofs.Common.{◌≡◌, ◌∙◌, ◌-◌, ◌^◌, ℕ, List, [], Option, Some, None, IfSome, IsSome, inl, inr, arith, refl, subst}
+use Rattle.std.proofs.Common.{◌≡◌, ◌∙◌, ◌-◌, ◌^◌, ℕ, Bool, List, [], Option, Some, None, IfSome, IsSome, inl, inr, arith, refl, subst}
 use Rattle.std.specs.Prelude.{◌⊎◌}
 use Rattle.std.proofs.lemmas.Bool.{cases_lt, false≢true}
 use Rattle.outside.specs.Counts.{Rose}
@@ -7,6 +7,7 @@ use Rattle.outside.specs.Names.{NowWritten, StartsEmpty, TakesFaults, Written, f
 use Rattle.pin_core.proofs.Tallied.{uncounted_yet}
 use Rattle.reservation_tree.specs.declared.errors.PoolErr.{PoolErr}
 use Rattle.reservation_tree.specs.declared.errors.PoolErr.TheVariants as pool
+use Rattle.query_run.specs.Both.{Told}
 use Rattle.query_run.specs.declared.outcome.QueryErr.{QueryErr}
 use Rattle.query_run.specs.declared.outcome.QueryErr.TheVariants as query
 use Rattle.query_run.specs.declared.outcome.Ran.{Ran}
@@ -36,15 +37,15 @@ sink_failed start now before after none takes rose = takes (elim (cases_lt now (
 ])
 
 -- why a query stopped stays so, if a failure of its sink is one of its output
-pub stop_later : (check : Check) (quota : ℕ) (S W W' : Type 0) (why : QueryErr) → (W → W') → IsCheckStop check quota S W why → IsCheckStop check quota S W' why
-stop_later check quota S W W' (query.SourceFault side) later stop = stop
-stop_later check quota S W W' (query.BadHeader side) later stop = stop
-stop_later check quota S W W' (query.BadCsv side number) later stop = stop
-stop_later check quota S W W' (query.BadField side number column) later stop = stop
-stop_later check quota S W W' (query.TooLarge side) later stop = stop
-stop_later check quota S W W' (query.RowTooLong side number bytes) later stop = stop
-stop_later check quota S W W' query.SinkFault later stop = later stop
-stop_later check quota S W W' (query.Pool e) later stop = stop
+pub stop_later : (check : Check) (tell : Bool) (quota : ℕ) (S W W' : Type 0) (why : QueryErr) → (W → W') → IsCheckStop check tell quota S W why → IsCheckStop check tell quota S W' why
+stop_later check tell quota S W W' (query.SourceFault side) later stop = stop
+stop_later check tell quota S W W' (query.BadHeader side) later stop = stop
+stop_later check tell quota S W W' (query.BadCsv side number) later stop = stop
+stop_later check tell quota S W W' (query.BadField side number column) later stop = stop
+stop_later check tell quota S W W' (query.TooLarge side) later stop = stop
+stop_later check tell quota S W W' (query.RowTooLong side number bytes) later stop = stop
+stop_later check tell quota S W W' query.SinkFault later stop = later stop
+stop_later check tell quota S W W' (query.Pool e) later stop = stop
 
 -- no other output is touched, and no input
 pub no_call : (at : Seen) → WentAt output_name at at
@@ -77,24 +78,24 @@ module _ (check : Check) (quota : ℕ) (start now : Seen) (before after : Tellin
       not-six (inr (inl front)) six = let is = front.0 in omega (arith, is, six)
       not-six (inr (inr missing)) six = let is = missing.0 in omega (arith, is, six)
 
-  pool-status : (S : Type 0) (e : PoolErr) → IsPoolStop (checking check) quota S e → (status_of_pool e ≡ 7) ⊎ (status_of_pool e ≡ 8) ⊎ (status_of_pool e ≡ 10)
-  pool-status S (pool.NoReservation tracker wanted room) stop = absurd stop
-  pool-status S (pool.ScratchFull need free) stop = inl refl
-  pool-status S (pool.WriteFault entry) stop = inr (inl refl)
-  pool-status S (pool.ReadFault entry) stop = inr (inl refl)
-  pool-status S (pool.TooManyTrackers count) stop = absurd stop
-  pool-status S pool.NamesSpent stop = inl refl
-  pool-status S pool.Memory stop = inr (inr refl)
+  pool-status : (page : ℕ) (told : Option Told) (S : Type 0) (e : PoolErr) → IsPoolStop (checking check) page told quota S e → (status_of_pool e ≡ 7) ⊎ (status_of_pool e ≡ 8) ⊎ (status_of_pool e ≡ 10)
+  pool-status page told S (pool.NoReservation tracker wanted room) stop = absurd stop
+  pool-status page told S (pool.ScratchFull need free) stop = inl refl
+  pool-status page told S (pool.WriteFault entry) stop = inr (inl refl)
+  pool-status page told S (pool.ReadFault entry) stop = inr (inl refl)
+  pool-status page told S (pool.TooManyTrackers count) stop = absurd stop
+  pool-status page told S pool.NamesSpent stop = inl refl
+  pool-status page told S pool.Memory stop = inr (inr refl)
 
-  stop-status : (why : QueryErr) (S failed : Type 0) → IsCheckStop check quota S failed why → (status_of_error why ≡ 7) ⊎ (status_of_error why ≡ 8) ⊎ (status_of_error why ≡ 9) ⊎ (status_of_error why ≡ 10)
-  stop-status (query.SourceFault side) S failed stop = absurd stop
-  stop-status (query.BadHeader side) S failed stop = absurd stop
-  stop-status (query.BadCsv side number) S failed stop = absurd stop
-  stop-status (query.BadField side number column) S failed stop = absurd stop
-  stop-status (query.TooLarge side) S failed stop = absurd stop
-  stop-status (query.RowTooLong side number bytes) S failed stop = absurd stop
-  stop-status query.SinkFault S failed stop = inr (inr (inl refl))
-  stop-status (query.Pool e) S failed stop = elim (pool-status S e stop) [
+  stop-status : (tell : Bool) (why : QueryErr) (S failed : Type 0) → IsCheckStop check tell quota S failed why → (status_of_error why ≡ 7) ⊎ (status_of_error why ≡ 8) ⊎ (status_of_error why ≡ 9) ⊎ (status_of_error why ≡ 10)
+  stop-status tell (query.SourceFault side) S failed stop = absurd stop
+  stop-status tell (query.BadHeader side) S failed stop = absurd stop
+  stop-status tell (query.BadCsv side number) S failed stop = absurd stop
+  stop-status tell (query.BadField side number column) S failed stop = absurd stop
+  stop-status tell (query.TooLarge side) S failed stop = absurd stop
+  stop-status tell (query.RowTooLong side number bytes) S failed stop = absurd stop
+  stop-status tell query.SinkFault S failed stop = inr (inr (inl refl))
+  stop-status tell (query.Pool e) S failed stop = elim (pool-status _ _ S e stop) [
     | inl seven ↦ inl seven
     | inr (inl eight) ↦ inr (inl eight)
     | inr (inr ten) ↦ inr (inr (inr ten))
@@ -124,7 +125,7 @@ module _ (check : Check) (quota : ℕ) (start now : Seen) (before after : Tellin
     went = went;
   }
   checked_none (Stopped why) has is tells went =
-      let stop = stop-status why _ _ has.why.1 in
+      let stop = stop-status _ why _ _ has.why.1 in
       record {
         comes_to = inr (inl (record { ending = Stopped why; has = has; status_is = is; tells = tells }));
         status_is = status-of-stop (status_of_error why) is stop;

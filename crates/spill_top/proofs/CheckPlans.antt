@@ -27,6 +27,7 @@ use Rattle.spill_top.specs.Checking.{IsCheckStop}
 use Rattle.spill_top.specs.Headline.{page_bytes}
 use Rattle.spill_top.specs.Jobs.{LeavesPart}
 use Rattle.spill_top.specs.Pooled.{HasMemoryFor, IsPoolStop}
+use Rattle.spill_top.specs.Sides.{if_told}
 use Rattle.spill_top.specs.Reserving.{refusal}
 use Rattle.spill_top.specs.declared.words.Check.{Check}
 use Rattle.spill_top.proofs.CountPlan.{none_distinct}
@@ -77,6 +78,7 @@ check_fits check range none =
     let few = range.blocks in
     record {
       opens = record { block_len = refl; some = some; blocks = omega (arith, few); memory = omega (arith, few) };
+      first = refl;
       least = fits (check.blocks * 8192) 163840 none;
     }
 
@@ -101,35 +103,42 @@ never-refused check why range (inr large) = let accepted = table_accepted check 
 never-rose : Rose 0 0 → ⊥
 never-rose rose = let more = rose (omega arith) in omega (arith, more)
 
+if-table : (tell : Bool) (check : Check) (both : Option Told) → both ≡ Some (table_of check) → if_told tell both ≡ table_if tell check
+if-table true check both is = is
+if-table false check both is = refl
+
 -- why its query stopped
-pub check_stop : (check : Check) (quota : ℕ) (slots_failed write_failed : Type 0) (rest : Option (List ℕ)) (rights : Source) (why : QueryErr) → IsInRange check
-    → SaysOfInputs (checking check) page_bytes (source (Some (table_of check).left) rest 0 0) rights why → OfPool (IsPoolStop (checking check) quota slots_failed) why → (why ≡ query.SinkFault → write_failed)
-    → IsCheckStop check quota slots_failed write_failed why
-check_stop check quota slots_failed write_failed rest rights (query.SourceFault side) range says stop failed = absurd (never-rose (fault_alone (checking check) (query.SourceFault side) refl says (side, refl)))
-check_stop check quota slots_failed write_failed rest rights (query.BadHeader side) range says stop failed = absurd (never-refused check (query.BadHeader side) range (refused_alone (checking check) (query.BadHeader side) refl says tt))
-check_stop check quota slots_failed write_failed rest rights (query.BadCsv side number) range says stop failed = absurd (never-refused check (query.BadCsv side number) range (refused_alone (checking check) (query.BadCsv side number) refl says tt))
-check_stop check quota slots_failed write_failed rest rights (query.BadField side number column) range says stop failed =
+pub check_stop : (check : Check) (tell : Bool) (quota : ℕ) (slots_failed write_failed : Type 0) (rest : Option (List ℕ)) (rights : Source) (why : QueryErr) → IsInRange check
+    → SaysOfInputs (checking check) page_bytes (source (Some (table_of check).left) rest 0 0) rights why → OfPool (IsPoolStop (checking check) page_bytes (table_if tell check) quota slots_failed) why → (why ≡ query.SinkFault → write_failed)
+    → IsCheckStop check tell quota slots_failed write_failed why
+check_stop check tell quota slots_failed write_failed rest rights (query.SourceFault side) range says stop failed = absurd (never-rose (fault_alone (checking check) (query.SourceFault side) refl says (side, refl)))
+check_stop check tell quota slots_failed write_failed rest rights (query.BadHeader side) range says stop failed = absurd (never-refused check (query.BadHeader side) range (refused_alone (checking check) (query.BadHeader side) refl says tt))
+check_stop check tell quota slots_failed write_failed rest rights (query.BadCsv side number) range says stop failed = absurd (never-refused check (query.BadCsv side number) range (refused_alone (checking check) (query.BadCsv side number) refl says tt))
+check_stop check tell quota slots_failed write_failed rest rights (query.BadField side number column) range says stop failed =
     absurd (never-refused check (query.BadField side number column) range (refused_alone (checking check) (query.BadField side number column) refl says tt))
-check_stop check quota slots_failed write_failed rest rights (query.TooLarge side) range says stop failed = absurd (never-refused check (query.TooLarge side) range (refused_alone (checking check) (query.TooLarge side) refl says tt))
-check_stop check quota slots_failed write_failed rest rights (query.RowTooLong side number bytes) range says stop failed =
+check_stop check tell quota slots_failed write_failed rest rights (query.TooLarge side) range says stop failed = absurd (never-refused check (query.TooLarge side) range (refused_alone (checking check) (query.TooLarge side) refl says tt))
+check_stop check tell quota slots_failed write_failed rest rights (query.RowTooLong side number bytes) range says stop failed =
     absurd (never-refused check (query.RowTooLong side number bytes) range (refused_alone (checking check) (query.RowTooLong side number bytes) refl says tt))
-check_stop check quota slots_failed write_failed rest rights query.SinkFault range says stop failed = failed refl
-check_stop check quota slots_failed write_failed rest rights (query.Pool e) range says stop failed = stop
+check_stop check tell quota slots_failed write_failed rest rights query.SinkFault range says stop failed = failed refl
+check_stop check tell quota slots_failed write_failed rest rights (query.Pool e) range says stop failed = stop
 
 -- as many rows were read as the table has
 pub all_rows : (check : Check) (tell : Bool) (ran : Ran) → IsInRange check → Numbers (checking check) page_bytes tell ran (table_of check) → ran.left ≡ check.rows
 all_rows check tell ran range numbers = numbers.left ∙ table_long check range
 
 -- the same of what a query says of its own plan, pages and bytes
-pub check_stop_of : (check : Check) (quota : ℕ) (slots_failed write_failed : Type 0) (plan : Query) (page : ℕ) (told rest : Option (List ℕ)) (rights : Source) (why : QueryErr) → plan ≡ checking check → page ≡ page_bytes
-    → told ≡ Some (table_of check).left → IsInRange check → SaysOfInputs plan page (source told rest 0 0) rights why → OfPool (IsPoolStop plan quota slots_failed) why → (why ≡ query.SinkFault → write_failed)
-    → IsCheckStop check quota slots_failed write_failed why
-check_stop_of check quota slots_failed write_failed plan page told rest rights why planned paged is range says stop failed =
-    check_stop check quota slots_failed write_failed rest rights why range
+pub check_stop_of : (check : Check) (tell : Bool) (quota : ℕ) (slots_failed write_failed : Type 0) (plan : Query) (page : ℕ) (both : Option Told) (told rest : Option (List ℕ)) (rights : Source) (why : QueryErr) → plan ≡ checking check → page ≡ page_bytes
+    → told ≡ Some (table_of check).left → both ≡ Some (table_of check) → IsInRange check → SaysOfInputs plan page (source told rest 0 0) rights why
+    → OfPool (IsPoolStop plan page (if_told tell both) quota slots_failed) why → (why ≡ query.SinkFault → write_failed)
+    → IsCheckStop check tell quota slots_failed write_failed why
+check_stop_of check tell quota slots_failed write_failed plan page both told rest rights why planned paged is table range says stop failed =
+    check_stop check tell quota slots_failed write_failed rest rights why range
     (subst (λ (o : Option (List ℕ)). SaysOfInputs (checking check) page_bytes (source o rest 0 0) rights why) is
     (subst (λ (n : ℕ). SaysOfInputs (checking check) n (source told rest 0 0) rights why) paged
     (subst (λ (q : Query). SaysOfInputs q page (source told rest 0 0) rights why) planned says)))
-    (subst (λ (q : Query). OfPool (IsPoolStop q quota slots_failed) why) planned stop) failed
+    (subst (λ (o : Option Told). OfPool (IsPoolStop (checking check) page_bytes o quota slots_failed) why) (if-table tell check both table)
+    (subst (λ (n : ℕ). OfPool (IsPoolStop (checking check) n (if_told tell both) quota slots_failed) why) paged
+    (subst (λ (q : Query). OfPool (IsPoolStop q page (if_told tell both) quota slots_failed) why) planned stop))) failed
 
 pub part_of : {K : Type 0} (contents : K → Option (List ℕ)) (old new : K) (tell : Bool) (check : Check) (plan : Query) (page : ℕ) (told : Option Told) (A B : Type 0) (side : Option Side) → plan ≡ checking check → page ≡ page_bytes
     → told ≡ Some (table_of check) → (IsSome side → new ≡ old) → (new ≡ old) ⊎ (A × B × (tell ≡ true → WroteFront plan page told (contents old) (contents new)))

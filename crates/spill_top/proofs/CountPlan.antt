@@ -58,6 +58,7 @@ pub pool_fits : (command : Command) → HasMemoryFor (counting command) counting
 unfolding bytes_of
 pool_fits command = record {
   opens = record { block_len = refl; some = omega arith; blocks = omega arith; memory = omega arith };
+  first = refl;
   least = omega arith;
 }
 

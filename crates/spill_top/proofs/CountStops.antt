@@ -1,5 +1,5 @@
 -- Why a count stopped, and what stands in its report then.
-use Rattle.std.proofs.Common.{◌≡◌, ◌∙◌, ◌⊎◌, ◌%◌, inl, inr, ℕ, Bool, true, false, List, Option, Some, None, IsSome, Result, Err, refl, sym, ap, subst, arith}
+use Rattle.std.proofs.Common.{◌≡◌, ◌∙◌, ◌⊎◌, ◌*◌, ◌<◌, ◌%◌, inl, inr, ℕ, Bool, true, false, List, [], Option, Some, None, IfSome, IsSome, Result, Err, refl, sym, ap, subst, arith}
 use Rattle.std.specs.Io.KnownBytes.{Appends, Keeps}
 use Rattle.std.proofs.lemmas.Bool.{false≢true}
 use Rattle.std.proofs.lemmas.Option.{none-some, same_Some}
@@ -11,13 +11,16 @@ use Rattle.reservation_tree.specs.declared.errors.PoolErr.TheVariants as pool
 use Rattle.pin_core.specs.declared.tally.Tally.{Tally}
 use Rattle.query_plan.specs.Sizes.{page_len}
 use Rattle.query_plan.specs.declared.plan.Query.{Query}
+use Rattle.query_run.specs.Both.{Told, both_told}
 use Rattle.query_run.specs.Causes.{OfPool, side_of}
+use Rattle.query_run.specs.Through.{need}
 use Rattle.query_run.specs.declared.outcome.QueryErr.{QueryErr}
 use Rattle.query_run.specs.declared.outcome.QueryErr.TheVariants as query
 use Rattle.spill_top.specs.Counting.{counting}
-use Rattle.spill_top.specs.Headline.{IsCause, page_bytes}
+use Rattle.spill_top.specs.Headline.{IsCause, page_bytes, told_with}
 use Rattle.spill_top.specs.OneInput.{WroteAnswerOver, WroteFrontOver}
-use Rattle.spill_top.specs.Pooled.{HaveFailed, IsPoolStop}
+use Rattle.spill_top.specs.Pooled.{HaveFailed, IsPoolStop, all_tell}
+use Rattle.spill_top.specs.Sides.{if_told}
 use Rattle.spill_top.specs.Refusals.{IsOfPool, refusal_for, refusal_of_pool}
 use Rattle.spill_top.specs.Report.{Tells, TellsOrMisses}
 use Rattle.spill_top.specs.Words.{Command}
@@ -46,56 +49,69 @@ front_so command plan block_len (Some bytes) given before now planned len gives 
 
 -- ---- what a pool stopped it with
 
+-- what is so of the bytes that the source gives is so of those under the file
+untold : (tell : Bool) (P : Told → Type 0) → IfSome (if_told tell None) P
+untold true P = tt
+untold false P = tt
+
+with-told : (tell : Bool) (told given : Option (List ℕ)) (P : Told → Type 0) → GivesBytes told given → IfSome (if_told tell (both_told given (Some []))) P → IfSome (if_told tell (both_told told (Some []))) P
+with-told tell None given P gives is = untold tell P
+with-told tell (Some bytes) given P gives is = subst (λ (o : Option (List ℕ)). IfSome (if_told tell (both_told o (Some []))) P) gives is
+
 none-left : (quota : ℕ) → quota % 1 ≡ 0
 none-left quota = omega arith
 
-pool_cause : (told : Option (List ℕ)) (before now quota : ℕ) (slots slots_now : Tally) (command : Command) (why : PoolErr) (refusal : Refusal) → refusal_of_pool why ≡ Some refusal
-    → IsPoolStop (counting command) quota (HaveFailed slots slots_now) why → IsCause told before now slots slots_now command refusal
-pool_cause told before now quota slots slots_now command (pool.NoReservation tracker wanted room) refusal is stop = absurd stop
-pool_cause told before now quota slots slots_now command (pool.ScratchFull need free) refusal is stop =
-    subst (IsCause told before now slots slots_now command) (same_Some _ refusal is) (stop.0, stop.1 ∙ none-left quota)
-pool_cause told before now quota slots slots_now command (pool.WriteFault entry) refusal is stop = subst (IsCause told before now slots slots_now command) (same_Some _ refusal is) stop
-pool_cause told before now quota slots slots_now command (pool.ReadFault entry) refusal is stop = subst (IsCause told before now slots slots_now command) (same_Some _ refusal is) stop
-pool_cause told before now quota slots slots_now command (pool.TooManyTrackers count) refusal is stop = absurd stop
-pool_cause told before now quota slots slots_now command pool.NamesSpent refusal is stop = subst (IsCause told before now slots slots_now command) (same_Some _ refusal is) tt
-pool_cause told before now quota slots slots_now command pool.Memory refusal is stop = absurd (none-some refusal is)
+pool_cause : (told given : Option (List ℕ)) (before now quota : ℕ) (slots slots_now : Tally) (command : Command) (why : PoolErr) (refusal : Refusal) → refusal_of_pool why ≡ Some refusal
+    → GivesBytes told given → quota ≡ slots.slots → IsPoolStop (counting command) page_bytes (told_with slots given) quota (HaveFailed slots slots_now) why → IsCause told before now slots slots_now command refusal
+pool_cause told given before now quota slots slots_now command (pool.NoReservation tracker wanted room) refusal is gives many stop = absurd stop
+pool_cause told given before now quota slots slots_now command (pool.ScratchFull blocks free) refusal is gives many stop =
+    subst (IsCause told before now slots slots_now command) (same_Some _ refusal is) (stop.0.0, stop.0.1 ∙ none-left quota, subst (λ (n : ℕ). IfSome (told_with slots told) (λ both. n < need (counting command) page_bytes both * 1)) many (with-told (all_tell slots) told given _ gives stop.1))
+pool_cause told given before now quota slots slots_now command (pool.WriteFault entry) refusal is gives many stop = subst (IsCause told before now slots slots_now command) (same_Some _ refusal is) stop
+pool_cause told given before now quota slots slots_now command (pool.ReadFault entry) refusal is gives many stop = subst (IsCause told before now slots slots_now command) (same_Some _ refusal is) stop
+pool_cause told given before now quota slots slots_now command (pool.TooManyTrackers count) refusal is gives many stop = absurd stop
+pool_cause told given before now quota slots slots_now command pool.NamesSpent refusal is gives many stop =
+    subst (IsCause told before now slots slots_now command) (same_Some _ refusal is) (with-told (all_tell slots) told given _ gives stop)
+pool_cause told given before now quota slots slots_now command pool.Memory refusal is gives many stop = absurd (none-some refusal is)
 
-pool-answers : (plan : Query) (quota : ℕ) (slots slots_now : Tally) (why : PoolErr) → IsPoolStop plan quota (HaveFailed slots slots_now) why → (why ≡ pool.Memory) ⊎ IsSome (refusal_of_pool why)
-pool-answers plan quota slots slots_now (pool.NoReservation tracker wanted room) stop = absurd stop
-pool-answers plan quota slots slots_now (pool.ScratchFull need free) stop = inr refl
-pool-answers plan quota slots slots_now (pool.WriteFault entry) stop = inr refl
-pool-answers plan quota slots slots_now (pool.ReadFault entry) stop = inr refl
-pool-answers plan quota slots slots_now (pool.TooManyTrackers count) stop = absurd stop
-pool-answers plan quota slots slots_now pool.NamesSpent stop = inr refl
-pool-answers plan quota slots slots_now pool.Memory stop = inl refl
+pool-answers : (plan : Query) (page quota : ℕ) (told : Option Told) (slots slots_now : Tally) (why : PoolErr) → IsPoolStop plan page told quota (HaveFailed slots slots_now) why → (why ≡ pool.Memory) ⊎ IsSome (refusal_of_pool why)
+pool-answers plan page quota told slots slots_now (pool.NoReservation tracker wanted room) stop = absurd stop
+pool-answers plan page quota told slots slots_now (pool.ScratchFull blocks free) stop = inr refl
+pool-answers plan page quota told slots slots_now (pool.WriteFault entry) stop = inr refl
+pool-answers plan page quota told slots slots_now (pool.ReadFault entry) stop = inr refl
+pool-answers plan page quota told slots slots_now (pool.TooManyTrackers count) stop = absurd stop
+pool-answers plan page quota told slots slots_now pool.NamesSpent stop = inr refl
+pool-answers plan page quota told slots slots_now pool.Memory stop = inl refl
 
-pub answers_so : (plan : Query) (quota : ℕ) (slots slots_now : Tally) (e : QueryErr) → OfPool (IsPoolStop plan quota (HaveFailed slots slots_now)) e → OfPool (λ why. (why ≡ pool.Memory) ⊎ IsSome (refusal_of_pool why)) e
-answers_so plan quota slots slots_now (query.SourceFault side) stop = tt
-answers_so plan quota slots slots_now (query.BadHeader side) stop = tt
-answers_so plan quota slots slots_now (query.BadCsv side number) stop = tt
-answers_so plan quota slots slots_now (query.BadField side number column) stop = tt
-answers_so plan quota slots slots_now (query.TooLarge side) stop = tt
-answers_so plan quota slots slots_now (query.RowTooLong side number bytes) stop = tt
-answers_so plan quota slots slots_now query.SinkFault stop = tt
-answers_so plan quota slots slots_now (query.Pool why) stop = pool-answers plan quota slots slots_now why stop
+pub answers_so : (plan : Query) (page quota : ℕ) (told : Option Told) (slots slots_now : Tally) (e : QueryErr) → OfPool (IsPoolStop plan page told quota (HaveFailed slots slots_now)) e → OfPool (λ why. (why ≡ pool.Memory) ⊎ IsSome (refusal_of_pool why)) e
+answers_so plan page quota told slots slots_now (query.SourceFault side) stop = tt
+answers_so plan page quota told slots slots_now (query.BadHeader side) stop = tt
+answers_so plan page quota told slots slots_now (query.BadCsv side number) stop = tt
+answers_so plan page quota told slots slots_now (query.BadField side number column) stop = tt
+answers_so plan page quota told slots slots_now (query.TooLarge side) stop = tt
+answers_so plan page quota told slots slots_now (query.RowTooLong side number bytes) stop = tt
+answers_so plan page quota told slots slots_now query.SinkFault stop = tt
+answers_so plan page quota told slots slots_now (query.Pool why) stop = pool-answers plan page quota told slots slots_now why stop
 
 -- the cause that it is to the command
-pub pool_causes : (told : Option (List ℕ)) (before now quota : ℕ) (slots slots_now : Tally) (command : Command) (plan : Query) (e : QueryErr) → plan ≡ counting command → OfPool (IsPoolStop plan quota (HaveFailed slots slots_now)) e
+pub pool_causes : (told given : Option (List ℕ)) (before now quota block_len : ℕ) (slots slots_now : Tally) (command : Command) (plan : Query) (e : QueryErr) → plan ≡ counting command → block_len ≡ 8192 → GivesBytes told given → quota ≡ slots.slots
+    → OfPool (IsPoolStop plan (page_len plan block_len) (told_with slots given) quota (HaveFailed slots slots_now)) e
     → OfPool (λ why. (refusal : Refusal) → refusal_of_pool why ≡ Some refusal → IsCause told before now slots slots_now command refusal) e
-pool_causes told before now quota slots slots_now command plan (query.SourceFault side) planned stop = tt
-pool_causes told before now quota slots slots_now command plan (query.BadHeader side) planned stop = tt
-pool_causes told before now quota slots slots_now command plan (query.BadCsv side number) planned stop = tt
-pool_causes told before now quota slots slots_now command plan (query.BadField side number column) planned stop = tt
-pool_causes told before now quota slots slots_now command plan (query.TooLarge side) planned stop = tt
-pool_causes told before now quota slots slots_now command plan (query.RowTooLong side number bytes) planned stop = tt
-pool_causes told before now quota slots slots_now command plan query.SinkFault planned stop = tt
-pool_causes told before now quota slots slots_now command plan (query.Pool why) planned stop = λ refusal is.
-    pool_cause told before now quota slots slots_now command why refusal is (subst (λ (q : Query). IsPoolStop q quota (HaveFailed slots slots_now) why) planned stop)
+pool_causes told given before now quota block_len slots slots_now command plan (query.SourceFault side) planned len gives many stop = tt
+pool_causes told given before now quota block_len slots slots_now command plan (query.BadHeader side) planned len gives many stop = tt
+pool_causes told given before now quota block_len slots slots_now command plan (query.BadCsv side number) planned len gives many stop = tt
+pool_causes told given before now quota block_len slots slots_now command plan (query.BadField side number column) planned len gives many stop = tt
+pool_causes told given before now quota block_len slots slots_now command plan (query.TooLarge side) planned len gives many stop = tt
+pool_causes told given before now quota block_len slots slots_now command plan (query.RowTooLong side number bytes) planned len gives many stop = tt
+pool_causes told given before now quota block_len slots slots_now command plan query.SinkFault planned len gives many stop = tt
+pool_causes told given before now quota block_len slots slots_now command plan (query.Pool why) planned len gives many stop = λ refusal is.
+    pool_cause told given before now quota slots slots_now command why refusal is gives many
+    (subst (λ (n : ℕ). IsPoolStop (counting command) n (told_with slots given) quota (HaveFailed slots slots_now) why) (page_is command plan block_len planned len)
+    (subst (λ (q : Query). IsPoolStop q (page_len plan block_len) (told_with slots given) quota (HaveFailed slots slots_now) why) planned stop))
 
 -- where some of the answer was written, it is the pool's
 of-pool : (why : PoolErr) (refusal : Refusal) → refusal_of_pool why ≡ Some refusal → IsOfPool refusal
 of-pool (pool.NoReservation tracker wanted room) refusal is = absurd (none-some refusal is)
-of-pool (pool.ScratchFull need free) refusal is = subst IsOfPool (same_Some _ refusal is) tt
+of-pool (pool.ScratchFull blocks free) refusal is = subst IsOfPool (same_Some _ refusal is) tt
 of-pool (pool.WriteFault entry) refusal is = subst IsOfPool (same_Some _ refusal is) tt
 of-pool (pool.ReadFault entry) refusal is = subst IsOfPool (same_Some _ refusal is) tt
 of-pool (pool.TooManyTrackers count) refusal is = absurd (none-some refusal is)

@@ -68,18 +68,18 @@ goes-unrefused : (plan : Query) (page : ℕ) (bytes : Side → Option (List ℕ)
 goes-unrefused plan page bytes told R W F refused None on is = is
 goes-unrefused plan page bytes told R W F refused (Some ending) on is = cc
 
-has-memory : (query : Query) (conf : PoolConf) → OpensWith conf → least_of query conf.block_len ≤ conf.blocks * conf.block_len → HasMemoryFor query conf
+has-memory : (query : Query) (conf : PoolConf) → OpensWith conf → conf.first_name ≡ 0 → least_of query conf.block_len ≤ conf.blocks * conf.block_len → HasMemoryFor query conf
 unfolding bytes_of
-has-memory query conf opens least = record { opens = opens; least = least }
+has-memory query conf opens first least = record { opens = opens; first = first; least = least }
 
-pub all_fit : (start now : Seen) (slots : ℕ) (conf : PoolConf) (queries : List Query) (works : List Work) → OpensWith conf → sum_by (λ query. query.quota) queries ≤ slots
+pub all_fit : (start now : Seen) (slots : ℕ) (conf : PoolConf) (queries : List Query) (works : List Work) → OpensWith conf → conf.first_name ≡ 0 → sum_by (λ query. query.quota) queries ≤ slots
     → AreWorks start now conf.block_len queries works → map (λ (w : Work). w.refused) works ≡ refusals conf.block_len (conf.blocks * conf.block_len) queries → AreEach (Fits conf slots) queries works
-all_fit start now slots conf queries works opens quotas are same = λ place query w at_query at. record {
+all_fit start now slots conf queries works opens first quotas are same = λ place query w at_query at. record {
   memory = λ on.
       let room = conf.blocks * conf.block_len in
       let refused : slice_get (refusals conf.block_len room queries) place ≡ Some w.refused =
       subst (λ (list : List (Option Ending)). slice_get list place ≡ Some w.refused) same (map_get (λ (x : Work). x.refused) works place w at) in
       let none : w.refused ≡ None = goes-unrefused query _ _ _ _ _ _ w.refused w.ended on ((are place query w at_query at).ending) in
-      has-memory query conf opens (unrefused-fits conf.block_len room queries place query at_query (subst (λ (r : Option Ending). slice_get (refusals conf.block_len room queries) place ≡ Some r) none refused));
+      has-memory query conf opens first (unrefused-fits conf.block_len room queries place query at_query (subst (λ (r : Option Ending). slice_get (refusals conf.block_len room queries) place ≡ Some r) none refused));
   quota = quota-within queries slots place query quotas at_query;
 }

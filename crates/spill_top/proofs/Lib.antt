@@ -19,6 +19,7 @@ pub mod Finished
 pub mod Loops
 pub mod Tops
 pub mod Apart
+pub mod Complete
 pub mod Whole
 pub mod Runnable
 pub mod Ended

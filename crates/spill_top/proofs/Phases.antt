@@ -138,7 +138,7 @@ module _ {S K : Type 0} (remaining : S → Option (List ℕ)) (reads : S → ℕ
       sided_of start s3 block_len queries (map (work_of remaining reads contents writes) j3) (answered (opened start block_len (created start block_len are)))
 
   -- and those that go on fit their pools
-  pub fit_so : (start s1 s2 : Seen) (slots : ℕ) (conf : PoolConf) (queries : List Query) (j0 j1 j2 : List (Job S K)) → OpensWith conf → sum_by (λ query. query.quota) queries ≤ slots
+  pub fit_so : (start s1 s2 : Seen) (slots : ℕ) (conf : PoolConf) (queries : List Query) (j0 j1 j2 : List (Job S K)) → OpensWith conf → conf.first_name ≡ 0 → sum_by (λ query. query.quota) queries ≤ slots
       → j0 ≡ map begun (refusals conf.block_len (conf.blocks * conf.block_len) queries)
       → AreWorks start start conf.block_len queries (map (work_of remaining reads contents writes) j0)
       → KeepsWorks start s1 queries (map (work_of remaining reads contents writes) j0) (map (work_of remaining reads contents writes) j1)
@@ -146,9 +146,9 @@ module _ {S K : Type 0} (remaining : S → Option (List ℕ)) (reads : S → ℕ
       → KeepRefused (map (work_of remaining reads contents writes) j0) (map (work_of remaining reads contents writes) j1)
       → KeepRefused (map (work_of remaining reads contents writes) j1) (map (work_of remaining reads contents writes) j2)
       → AreEach (Fits conf slots) queries (map (work_of remaining reads contents writes) j2)
-  fit_so start s1 s2 slots conf queries j0 j1 j2 opens quotas first are created opened r1 r2 =
+  fit_so start s1 s2 slots conf queries j0 j1 j2 opens from_zero quotas first are created opened r1 r2 =
       let room = conf.blocks * conf.block_len in
-      all_fit start s2 slots conf queries (map (work_of remaining reads contents writes) j2) opens quotas (opened start conf.block_len (created start conf.block_len are))
+      all_fit start s2 slots conf queries (map (work_of remaining reads contents writes) j2) opens from_zero quotas (opened start conf.block_len (created start conf.block_len are))
       (r2 ∙ (r1 ∙ first_refused conf.block_len room queries j0 first))
 
   -- as many endings as jobs

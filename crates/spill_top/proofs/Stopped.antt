@@ -56,9 +56,10 @@ module _ (plan : Query) (page : ℕ) (lefts rights : Source) (why : QueryErr) wh
   fault-of says Right is = fault-right plan.right (says.right (ap side_of is)) (Right, is)
 
   -- so it stopped for this
-  pub stopped_for : (write_failed slots_failed : Type 0) → SaysOfInputs plan page lefts rights why → (why ≡ query.SinkFault → write_failed) → OfPool (IsPoolStop plan plan.quota slots_failed) why
-      → IsStopped plan page (on_sides lefts.told rights.told) (RoseOn (on_sides lefts.faults rights.faults) (on_sides lefts.faults_now rights.faults_now)) write_failed slots_failed why
-  stopped_for write_failed slots_failed says sink stop = record { refused = refused-of says; source_fault = fault-of says; sink_fault = sink; pool = stop }
+  pub stopped_for : (told : Option Told) (write_failed slots_failed : Type 0) → SaysOfInputs plan page lefts rights why → (why ≡ query.SinkFault → write_failed)
+      → OfPool (IsPoolStop plan page told plan.quota slots_failed) why
+      → IsStopped plan page (on_sides lefts.told rights.told) told (RoseOn (on_sides lefts.faults rights.faults) (on_sides lefts.faults_now rights.faults_now)) write_failed slots_failed why
+  stopped_for told write_failed slots_failed says sink stop = record { refused = refused-of says; source_fault = fault-of says; sink_fault = sink; pool = stop }
 
 -- what is said of what is told where slots tell what they hold
 pub answer_told : (plan : Query) (page : ℕ) (tell : Bool) (told : Option Told) (before now : Option (List ℕ)) → (tell ≡ true → WroteAnswer plan page told before now) → WroteAnswer plan page (if_told tell told) before now

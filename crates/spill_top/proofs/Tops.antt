@@ -31,6 +31,7 @@ short-count bytes_at faults faults_now slots slots_now report report_now writes 
   refuses = λ tell why refuses. inr (inr (inr (inr refl)));
   too_many = λ tell many. inr (inr (inr (inr (inr refl))));
   succeeds = λ accepts. inr (inr (inr refl));
+  suffices = λ enough (is : 10 ≡ 7). omega (arith, is);
 }
 
 short-run : (file : List ℕ) (slots : ℕ) (start now : Seen) (before after : Telling) → ((name : List ℕ) → now.written name ≡ start.written name) → Tells shortage before.text after.text before.faults after.faults

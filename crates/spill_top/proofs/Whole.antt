@@ -13,13 +13,14 @@ use Rattle.query_plan.specs.declared.plan.Side.TheVariants.{Left, Right}
 use Rattle.spill_top.specs.declared.ending.Ending.{Ending}
 use Rattle.spill_top.specs.declared.ending.Ending.TheVariants.{Lines, Reservation, Stopped}
 use Rattle.spill_top.specs.Reserving.{refusal, refusals, room_behind}
-use Rattle.spill_top.specs.Pooled.{HaveFailed}
-use Rattle.spill_top.specs.Running.{HasEnded, HaveEnded, Seen, told_over}
+use Rattle.spill_top.specs.Pooled.{HaveFailed, all_tell}
+use Rattle.spill_top.specs.Running.{HasEnded, HaveEnded, IsEnding, Seen, told_over}
 use Rattle.spill_top.specs.Jobs.{HasFailed, HasFailedOn, HasNone, IsSoFar, IsWork, Opened, Work, begun, work_of}
 use Rattle.spill_top.specs.Sides.{RoseOn, bytes_on, faults_on, on_sides}
 use Rattle.spill_top.specs.Steps.{AreAll, AreWorks, IsBegun, IsDone}
 use Rattle.spill_top.proofs.Loops.{went_nowhere}
 use Rattle.spill_top.proofs.Sides.{no_sides, none_stand}
+use Rattle.spill_top.proofs.Complete.{complete}
 use Rattle.spill_top.proofs.Works.{ending_later}
 
 -- a query that is refused before it begins is refused for its least reservation
@@ -110,13 +111,19 @@ none-more before now Right failed = no-more (before Right) (now Right) failed
 
 ended-work : (start now : Seen) (block_len : ℕ) (query : Query) (refused : Option Ending) (ending : Ending)
     → IsWork start now block_len query (record { refused = refused; left = None; right = None; output = None; ended = Some ending }) → HasEnded start now block_len refused query ending
-ended-work start now block_len query refused ending is = record {
-  so = ending_later query (page_len query block_len) (bytes_on query start.files) (told_over query start)
-      (HasFailedOn (faults_on query start.reads) (faults_on query now.reads) (on_sides None None)) (HasFailed (start.writes query.output) (now.writes query.output) None) (HaveFailed start.slots now.slots)
-      (RoseOn (faults_on query start.reads) (faults_on query now.reads)) (Rose (start.writes query.output) (now.writes query.output)) (HaveFailed start.slots now.slots) refused ending
-      (none-more (faults_on query start.reads) (faults_on query now.reads)) (no-more (start.writes query.output) (now.writes query.output)) (λ failed. failed) is.ending;
-  output = is.output;
-}
+ended-work start now block_len query refused ending is =
+    let so : IsEnding query (page_len query block_len) (bytes_on query start.files) (told_over query start) (RoseOn (faults_on query start.reads) (faults_on query now.reads)) (Rose (start.writes query.output) (now.writes query.output))
+    (HaveFailed start.slots now.slots) refused ending =
+    ending_later query (page_len query block_len) (bytes_on query start.files) (told_over query start)
+    (HasFailedOn (faults_on query start.reads) (faults_on query now.reads) (on_sides None None)) (HasFailed (start.writes query.output) (now.writes query.output) None) (HaveFailed start.slots now.slots)
+    (RoseOn (faults_on query start.reads) (faults_on query now.reads)) (Rose (start.writes query.output) (now.writes query.output)) (HaveFailed start.slots now.slots) refused ending
+    (none-more (faults_on query start.reads) (faults_on query now.reads)) (no-more (start.writes query.output) (now.writes query.output)) (λ failed. failed) is.ending in
+    record {
+      so = so;
+      completes = λ clear. complete query (page_len query block_len) (all_tell start.slots) (bytes_on query start.files) (RoseOn (faults_on query start.reads) (faults_on query now.reads)) (Rose (start.writes query.output) (now.writes query.output))
+          (HaveFailed start.slots now.slots) refused clear ending so;
+      output = is.output;
+    }
 
 same-work : (refused : Option Ending) (left right output : Option Opened) (ended : Option Ending) (ending : Ending) → left ≡ None → right ≡ None → output ≡ None → ended ≡ Some ending
     → Same (record { refused = refused; left = left; right = right; output = output; ended = ended }) (record { refused = refused; left = None; right = None; output = None; ended = Some ending })

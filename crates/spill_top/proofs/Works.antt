@@ -64,32 +64,34 @@ taken before old now thing less more takes (inl rose) = inl (rose_later before o
 taken before old now thing less more takes (inr has) = inl (rose_since before old now less (takes has))
 
 -- what a pool stopped a query with, once the failure is known by another fact
-stop-later : (plan : Query) (F F' : Type 0) (why : PoolErr) → (F → F') → IsPoolStop plan plan.quota F why → IsPoolStop plan plan.quota F' why
-stop-later plan F F' (pool.NoReservation tracker wanted room) slots is = is
-stop-later plan F F' (pool.ScratchFull need free) slots is = is
-stop-later plan F F' (pool.WriteFault entry) slots is = slots is
-stop-later plan F F' (pool.ReadFault entry) slots is = slots is
-stop-later plan F F' (pool.TooManyTrackers count) slots is = is
-stop-later plan F F' pool.NamesSpent slots is = is
-stop-later plan F F' pool.Memory slots is = is
+stop-later : (plan : Query) (page : ℕ) (given told : Option Told) (F F' : Type 0) (why : PoolErr) → ((A : Told → Type 0) → IfSome given A → IfSome told A) → (F → F')
+    → IsPoolStop plan page given plan.quota F why → IsPoolStop plan page told plan.quota F' why
+stop-later plan page given told F F' (pool.NoReservation tracker wanted room) tells slots is = is
+stop-later plan page given told F F' (pool.ScratchFull blocks free) tells slots is = (is.0, tells _ is.1)
+stop-later plan page given told F F' (pool.WriteFault entry) tells slots is = slots is
+stop-later plan page given told F F' (pool.ReadFault entry) tells slots is = slots is
+stop-later plan page given told F F' (pool.TooManyTrackers count) tells slots is = is
+stop-later plan page given told F F' pool.NamesSpent tells slots is = tells _ is
+stop-later plan page given told F F' pool.Memory tells slots is = is
 
-pub pool_later : (plan : Query) (F F' : Type 0) (why : QueryErr) → (F → F') → OfPool (IsPoolStop plan plan.quota F) why → OfPool (IsPoolStop plan plan.quota F') why
-pool_later plan F F' (query.SourceFault side) slots is = is
-pool_later plan F F' (query.BadHeader side) slots is = is
-pool_later plan F F' (query.BadCsv side number) slots is = is
-pool_later plan F F' (query.BadField side number column) slots is = is
-pool_later plan F F' (query.TooLarge side) slots is = is
-pool_later plan F F' (query.RowTooLong side number bytes) slots is = is
-pool_later plan F F' query.SinkFault slots is = is
-pool_later plan F F' (query.Pool why) slots is = stop-later plan F F' why slots is
+pub pool_later : (plan : Query) (page : ℕ) (given told : Option Told) (F F' : Type 0) (why : QueryErr) → ((A : Told → Type 0) → IfSome given A → IfSome told A) → (F → F')
+    → OfPool (IsPoolStop plan page given plan.quota F) why → OfPool (IsPoolStop plan page told plan.quota F') why
+pool_later plan page given told F F' (query.SourceFault side) tells slots is = is
+pool_later plan page given told F F' (query.BadHeader side) tells slots is = is
+pool_later plan page given told F F' (query.BadCsv side number) tells slots is = is
+pool_later plan page given told F F' (query.BadField side number column) tells slots is = is
+pool_later plan page given told F F' (query.TooLarge side) tells slots is = is
+pool_later plan page given told F F' (query.RowTooLong side number bytes) tells slots is = is
+pool_later plan page given told F F' query.SinkFault tells slots is = is
+pool_later plan page given told F F' (query.Pool why) tells slots is = stop-later plan page given told F F' why tells slots is
 
 module _ (plan : Query) (page : ℕ) (bytes : Side → Option (List ℕ)) (told : Option Told) (R : Side → Type 0) (W F : Type 0) (R' : Side → Type 0) (W' F' : Type 0) where
-  stopped-later : (why : QueryErr) → ((side : Side) → R side → R' side) → (W → W') → (F → F') → IsStopped plan page bytes R W F why → IsStopped plan page bytes R' W' F' why
+  stopped-later : (why : QueryErr) → ((side : Side) → R side → R' side) → (W → W') → (F → F') → IsStopped plan page bytes told R W F why → IsStopped plan page bytes told R' W' F' why
   stopped-later why reads writes slots is = record {
     refused = is.refused;
     source_fault = λ side fault. reads side (is.source_fault side fault);
     sink_fault = λ fault. writes (is.sink_fault fault);
-    pool = pool_later plan F F' why slots is.pool;
+    pool = pool_later plan page told told F F' why (λ A so. so) slots is.pool;
   }
 
   pub ending_later : (refused : Option Ending) (ending : Ending) → ((side : Side) → R side → R' side) → (W → W') → (F → F') → IsEnding plan page bytes told R W F refused ending → IsEnding plan page bytes told R' W' F' refused ending

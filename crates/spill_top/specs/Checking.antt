@@ -1,5 +1,5 @@
 -- What a check of the program comes to: its status, its report, and what its output holds.
-use Rattle.std.specs.Prelude.{◌≡◌, ◌⊎◌, pos, ℕ, List, Option, Some, None, IsSome, slice_index_or}
+use Rattle.std.specs.Prelude.{◌≡◌, ◌⊎◌, pos, ℕ, Bool, List, Option, Some, None, IsSome, slice_index_or}
 use Rattle.std.specs.Io.KnownBytes.{Appends, Keeps}
 use Rattle.outside.specs.Counts.{Rose}
 use Rattle.outside.specs.Names.{Written}
@@ -23,17 +23,18 @@ use Rattle.spill_top.specs.Ran.{Telling, WantsMemory}
 use Rattle.spill_top.specs.Report.{TellsOrMisses}
 use Rattle.spill_top.specs.Running.{HasNoOutput, HasOutput, Seen, WentAt}
 
--- why its query stopped: writing has failed; or its pool stopped it, which may take so many slots. The table itself is never refused
-abbrev pub IsCheckStop : Check → ℕ → Type 0 → Type 0 → QueryErr → Type 0
-IsCheckStop check quota slots_failed write_failed SinkFault = write_failed
-IsCheckStop check quota slots_failed write_failed (Pool why) = IsPoolStop (checking check) quota slots_failed why
-IsCheckStop check quota slots_failed write_failed _ = ⊥
+-- why its query stopped: writing has failed; or its pool stopped it, which may take so many slots, and tells what they hold or not. The
+-- table itself is never refused
+abbrev pub IsCheckStop : Check → Bool → ℕ → Type 0 → Type 0 → QueryErr → Type 0
+IsCheckStop check tell quota slots_failed write_failed SinkFault = write_failed
+IsCheckStop check tell quota slots_failed write_failed (Pool why) = IsPoolStop (checking check) page_bytes (table_if tell check) quota slots_failed why
+IsCheckStop check tell quota slots_failed write_failed _ = ⊥
 
 -- why it has no answer: the least reservation was refused for exactly this, or else its query stopped
-abbrev pub IsCheckEnding : Check → ℕ → Type 0 → Type 0 → Ending → Type 0
-IsCheckEnding check quota slots_failed write_failed (Lines lines) = ⊥
-IsCheckEnding check quota slots_failed write_failed (Reservation root wanted room) = refused_of check ≡ Some (Reservation root wanted room)
-IsCheckEnding check quota slots_failed write_failed (Stopped why) = (refused_of check ≡ None) × IsCheckStop check quota slots_failed write_failed why
+abbrev pub IsCheckEnding : Check → Bool → ℕ → Type 0 → Type 0 → Ending → Type 0
+IsCheckEnding check tell quota slots_failed write_failed (Lines lines) = ⊥
+IsCheckEnding check tell quota slots_failed write_failed (Reservation root wanted room) = refused_of check ≡ Some (Reservation root wanted room)
+IsCheckEnding check tell quota slots_failed write_failed (Stopped why) = (refused_of check ≡ None) × IsCheckStop check tell quota slots_failed write_failed why
 
 -- the output at a time: what stands there, where that is told, and the faults of writing there
 pub record Output : Type 0 where
@@ -52,7 +53,7 @@ pub record HasAnswer (check : Check) (slots : Tally) (start now : Output) (ran :
 
 -- it ended without an answer, and its output was not created, or holds a part of the answer
 pub record HasNoAnswer (check : Check) (quota : ℕ) (slots slots_now : Tally) (start now : Output) (ending : Ending) : Type 0 where
-  pub why : IsCheckEnding check quota (HaveFailed slots slots_now) (Rose start.faults now.faults) ending
+  pub why : IsCheckEnding check (all_tell slots) quota (HaveFailed slots slots_now) (Rose start.faults now.faults) ending
   pub output : (HasNoOutput ending × (now.written ≡ start.written)) ⊎ HasOutput (checking check) page_bytes (table_if (all_tell slots) check) start.written now.written ending
 
 -- the report's numbers: the rows that were read, the groups, and the sums of both aggregates over the groups

@@ -1,17 +1,20 @@
 -- When each status comes, and what the report says then.
-use Rattle.std.specs.Prelude.{◌≡◌, ◌≢◌, ◌≤◌, ◌<◌, ◌⊎◌, ℕ, List, Option, Some, IfSome, length, option_map, true, ⊤}
+use Rattle.std.specs.Prelude.{◌≡◌, ◌≢◌, ◌^◌, ◌≤◌, ◌<◌, ◌⊎◌, ℕ, List, [], Option, Some, IfSome, length, option_map, true, ⊤}
 use Rattle.std.specs.Io.KnownBytes.{Keeps}
 use Rattle.outside.specs.Counts.{Rose}
 use Rattle.pin_core.specs.declared.tally.Tally.{Tally}
+use Rattle.query_run.specs.Both.{Told, both_told}
 use Rattle.query_run.specs.Input.{IsAccepted, IsRefusal, most_bytes, refusal_of}
+use Rattle.query_run.specs.Through.{need, rows_through}
 use Rattle.query_run.specs.declared.outcome.QueryErr.{QueryErr}
 use Rattle.spill_top.specs.declared.report.Refusal.{Refusal}
 use Rattle.spill_top.specs.declared.report.Refusal.TheVariants.{InputFault, Header, Csv, Large, Row, Scratch, Names, Write, Read}
 use Rattle.spill_top.specs.Counting.{counting}
 use Rattle.spill_top.specs.OneInput.{WroteAnswerOver, WroteFrontOver}
-use Rattle.spill_top.specs.Pooled.{HaveFailed, all_tell}
+use Rattle.spill_top.specs.Pooled.{HaveFailed, LacksSlots, MaySpendNames, all_tell}
 use Rattle.spill_top.specs.Refusals.{IsOfPool, refusal_for}
 use Rattle.spill_top.specs.Report.{Lengthens, Tells, TellsOrMisses, line_of, shortage, status_of}
+use Rattle.spill_top.specs.Sides.{if_told}
 use Rattle.spill_top.specs.Words.{Command}
 
 -- the bytes of a page of a count, which no row may pass
@@ -39,16 +42,20 @@ AnswersInPart bytes_at before now command = WroteFrontOver (counting command) pa
 abbrev pub IsOfInput : Option (List ℕ) → Command → Refusal → Type 0
 IsOfInput told command refusal = IfSome told (λ bytes. (why : QueryErr) × IsRefusal (counting command) page_bytes bytes why × (refusal_for why ≡ Some refusal))
 
--- why a command was refused: its file had a fault, or its bytes are refused; no slot was left for a page, which has one block;
--- no name was left; or a write or a read of a page failed
+-- the bytes of the input, where they are told and all slots tell what they hold
+abbrev pub told_with : Tally → Option (List ℕ) → Option Told
+told_with slots told = if_told (all_tell slots) (both_told told (Some []))
+
+-- why a command was refused: its file had a fault, or its bytes are refused; no slot was left for a page, which has one block, and there
+-- are too few; no name was left; or a write or a read of a page failed
 abbrev pub IsCause : Option (List ℕ) → ℕ → ℕ → Tally → Tally → Command → Refusal → Type 0
 IsCause told before now slots slots_now command InputFault = Rose before now
 IsCause told before now slots slots_now command Header = IsOfInput told command Header
 IsCause told before now slots slots_now command (Csv number) = IsOfInput told command (Csv number)
 IsCause told before now slots slots_now command Large = IsOfInput told command Large
 IsCause told before now slots slots_now command (Row number weight) = IsOfInput told command (Row number weight)
-IsCause told before now slots slots_now command (Scratch need free) = (need ≡ 1) × (free ≡ 0)
-IsCause told before now slots slots_now command Names = ⊤
+IsCause told before now slots slots_now command (Scratch need free) = (need ≡ 1) × (free ≡ 0) × LacksSlots (counting command) page_bytes (told_with slots told) slots.slots
+IsCause told before now slots slots_now command Names = MaySpendNames (counting command) (told_with slots told)
 IsCause told before now slots slots_now command (Write entry) = HaveFailed slots slots_now
 IsCause told before now slots slots_now command (Read entry) = HaveFailed slots slots_now
 
@@ -93,13 +100,21 @@ pub record AcceptsInput (told : Option (List ℕ)) (command : Command) : Type 0 
   pub told_is : told ≡ Some bytes
   pub accepted : IsAccepted (counting command) page_bytes bytes
 
+-- the bytes of the input are told, all slots tell what they hold, and there are as many as the pages that the command needs; its rows are
+-- fewer than names of pages last for
+pub record Suffices (told : Option (List ℕ)) (slots : Tally) (command : Command) : Type 0 where
+  pub both : Told
+  pub told_is : told_with slots told ≡ Some both
+  pub enough : need (counting command) page_bytes both ≤ slots.slots
+  pub few : rows_through (counting command) both < 2 ^ 55
+
 -- the status is that of this cause
 abbrev pub IsStatusOf : QueryErr → ℕ → Type 0
 IsStatusOf why status = option_map status_of (refusal_for why) ≡ Some status
 
 -- a count: its answer, where all slots tell what they hold, or the cause of its status. Where they do and the bytes of the input
 -- are refused, that is answered, unless it can't be read or the pool stopped the count before; where these are accepted and no
--- count rises, slots or memory can be wanting
+-- count rises, slots or memory can be wanting, and slots only where they don't suffice
 pub record Counted (bytes_at : List ℕ → Option (List ℕ)) (faults faults_now : List ℕ → ℕ) (slots slots_now : Tally) (report report_now : Option (List ℕ)) (writes writes_now status : ℕ) (command : Command) : Type 0 where
   pub status_is : IsStatus status
   pub answer : all_tell slots ≡ true → status ≡ 0 → Answers bytes_at report report_now command
@@ -113,3 +128,4 @@ pub record Counted (bytes_at : List ℕ → Option (List ℕ)) (faults faults_no
   pub refuses : all_tell slots ≡ true → (why : QueryErr) → RefusesBytes (bytes_at command.file) command why → IsStatusOf why status ⊎ (status ≡ 3) ⊎ IsPoolStatus status
   pub too_many : all_tell slots ≡ true → HasTooMany (bytes_at command.file) → (status ≡ 4) ⊎ (status ≡ 5) ⊎ (status ≡ 3) ⊎ IsPoolStatus status
   pub succeeds : AcceptsInput (bytes_at command.file) command → (Rose (faults command.file) (faults_now command.file) ⊎ Rose writes writes_now ⊎ HaveFailed slots slots_now) ⊎ ((status ≡ 0) ⊎ (status ≡ 7) ⊎ (status ≡ 10))
+  pub suffices : Suffices (bytes_at command.file) slots command → status ≢ 7

@@ -1,5 +1,5 @@
 -- A query over a pool of its own. What slots count together is a tally: `before` the call, and `now` that they came back.
-use Rattle.std.specs.Prelude.{◌≡◌, ◌==◌, ◌<◌, ◌≤◌, ℕ, Bool, Some, ⊤}
+use Rattle.std.specs.Prelude.{◌≡◌, ◌*◌, ◌^◌, ◌==◌, ◌<◌, ◌≤◌, ℕ, Bool, Option, Some, IfSome, ⊤}
 use Rattle.reservation_tree.specs.declared.errors.PoolErr.{PoolErr}
 use Rattle.reservation_tree.specs.declared.errors.PoolErr.TheVariants.{ScratchFull, WriteFault, ReadFault, NamesSpent, Memory}
 use Rattle.pin_core.specs.Setup.{OpensWith}
@@ -7,13 +7,16 @@ use Rattle.pin_core.specs.Tallies.{Counted}
 use Rattle.pin_core.specs.declared.conf.PoolConf.{PoolConf}
 use Rattle.pin_core.specs.declared.tally.Tally.{Tally}
 use Rattle.local_pool.specs.Beginning.{memory_of}
-use Rattle.query_plan.specs.Sizes.{groups, least_of}
+use Rattle.query_plan.specs.Sizes.{least_of}
 use Rattle.query_plan.specs.declared.plan.Query.{Query}
-use Rattle.query_run.specs.Stopped.{IsWantIn}
+use Rattle.query_run.specs.Both.{Told}
+use Rattle.query_run.specs.Stopped.{IsWant}
+use Rattle.query_run.specs.Through.{need, rows_through}
 
--- a pool may open with these numbers, and has the least reservation of the query
+-- a pool may open with these numbers, which name its first page 0, and has the least reservation of the query
 pub record HasMemoryFor (query : Query) (conf : PoolConf) : Type 0 where
   pub opens : OpensWith conf
+  pub first : conf.first_name ≡ 0
   pub least : least_of query conf.block_len ≤ memory_of conf
 
 -- each of these slots tells what it holds
@@ -28,12 +31,21 @@ ComeBack before now = Counted 0 0 before now
 abbrev pub HaveFailed : Tally → Tally → Type 0
 HaveFailed before now = now.stuck ≡ 0 → before.faults < now.faults
 
--- why a pool stopped a query that may take so many slots: fewer were left than a page has blocks; a write or a read failed, so
--- that `failed` holds; no name of a page was left; or memory was wanting
-abbrev pub IsPoolStop : Query → ℕ → Type 0 → PoolErr → Type 0
-IsPoolStop query quota failed (ScratchFull need free) = IsWantIn query.right (groups query) query.page_blocks (Some quota) (ScratchFull need free)
-IsPoolStop query quota failed (WriteFault entry) = failed
-IsPoolStop query quota failed (ReadFault entry) = failed
-IsPoolStop query quota failed NamesSpent = ⊤
-IsPoolStop query quota failed Memory = ⊤
-IsPoolStop query quota failed _ = ⊥
+-- so many slots are fewer than those of the pages that a query needs, over bytes that are told
+abbrev pub LacksSlots : Query → ℕ → Option Told → ℕ → Type 0
+LacksSlots query page told slots = IfSome told (λ both. slots < need query page both * query.page_blocks)
+
+-- and its rows are so many that no name of a page may be left
+abbrev pub MaySpendNames : Query → Option Told → Type 0
+MaySpendNames query told = IfSome told (λ both. 2 ^ 55 ≤ rows_through query both)
+
+-- why a pool stopped a query over these bytes, which may take so many slots: of these no more were left than pages leave over, and it lacks
+-- slots; a write or a read failed, so that `failed` holds; no name of a page was left; or memory was wanting
+abbrev pub IsPoolStop : Query → ℕ → Option Told → ℕ → Type 0 → PoolErr → Type 0
+IsPoolStop query page told quota failed (ScratchFull need free) =
+    IsWant query.page_blocks (Some quota) (ScratchFull need free) × LacksSlots query page told quota
+IsPoolStop query page told quota failed (WriteFault entry) = failed
+IsPoolStop query page told quota failed (ReadFault entry) = failed
+IsPoolStop query page told quota failed NamesSpent = MaySpendNames query told
+IsPoolStop query page told quota failed Memory = ⊤
+IsPoolStop query page told quota failed _ = ⊥

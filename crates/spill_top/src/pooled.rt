@@ -2,6 +2,7 @@
 
 ghost use Rattle.std.specs.Prelude.{◌≡◌, ◌≤◌, ◌⊎◌, IfErr, IfOk, IfSome, IsErrOf, IsSome, OnOk, Some, is_some, true, vec_len};
 ghost use Rattle.std.specs.Io.KnownBytes.{IsAtEnd};
+ghost use Rattle.local_pool.specs.Counting.{at_opening};
 ghost use Rattle.pin_core.specs.Tallies.{tally_of};
 ghost use Rattle.query_plan.specs.Sizes.{joins, page_len};
 ghost use Rattle.query_run.specs.Answer.{Numbers, WroteAnswer, WroteFront};
@@ -11,6 +12,7 @@ ghost use Rattle.query_run.specs.Plans.{IsRunnable};
 ghost use Rattle.query_run.specs.Refused.{SaysOfInputs, source};
 ghost use Rattle.query_run.specs.Stopped.{CountsSink};
 ghost use Rattle.spill_top.specs.Pooled.{ComeBack, HasMemoryFor, HaveFailed, IsPoolStop, all_tell};
+ghost use Rattle.spill_top.specs.Sides.{if_told};
 
 use local_pool::{LocalPool, OpenedWith};
 use outside::{Sink, Slot, Source};
@@ -44,7 +46,7 @@ pub(crate) fn run_pooled<S: Source, K: Sink, D: Slot + Drop>(
     ensures numbers { IfOk result (λ ran. IfSome (both_told (S.remaining left.old) (told_in S.remaining right.old)) (Numbers query.now (page_len query.now conf.now.block_len) (all_tell (tally_of D.Slot slots.old.items)) ran)) }
 
     ensures input { IfErr result (SaysOfInputs query.now (page_len query.now conf.now.block_len) (source (S.remaining left.old) (S.remaining left.new) (S.faults left.old) (S.faults left.new)) (source (told_in S.remaining right.old) (told_in S.remaining right.new) (faults_in S.faults right.old) (faults_in S.faults right.new))) }
-    ensures pool { IfErr result (OfPool (IsPoolStop query.now quota (HaveFailed (tally_of D.Slot slots.old.items) (tally_of D.Slot slots.new.items)))) }
+    ensures pool { IfErr result (OfPool (IsPoolStop query.now (page_len query.now conf.now.block_len) (if_told (all_tell (tally_of D.Slot slots.old.items)) (both_told (S.remaining left.old) (told_in S.remaining right.old))) quota (HaveFailed (tally_of D.Slot slots.old.items) (tally_of D.Slot slots.new.items)))) }
     ensures front { all_tell (tally_of D.Slot slots.old.items) ≡ true → IsErrOf result QueryErr.SinkFault → WroteFront query.now (page_len query.now conf.now.block_len) (both_told (S.remaining left.old) (told_in S.remaining right.old)) (K.contents sink.old) (K.contents sink.new) }
     ensures untouched { IfErr result (λ e. IsSome (side_of e) → sink.new ≡ sink.old) }
     ensures stopped { IfErr result (λ _. (sink.new ≡ sink.old) ⊎ (IsAtEnd (S.remaining left.new) × IsAtEnd (told_in S.remaining right.new) × (all_tell (tally_of D.Slot slots.old.items) ≡ true → WroteFront query.now (page_len query.now conf.now.block_len) (both_told (S.remaining left.old) (told_in S.remaining right.old)) (K.contents sink.old) (K.contents sink.new)))) }
@@ -57,7 +59,7 @@ pub(crate) fn run_pooled<S: Source, K: Sink, D: Slot + Drop>(
     run_counted::<S, K, D, Brand>(alloc, query, conf, quota, slots, left, right, sink)
 }
 
-// The same, where `T` names what the slots counted before, for contracts alone.
+// The same, where `T` names what the slots counted before, and the first page, for contracts alone.
 fn run_counted<S: Source, K: Sink, D: Slot + Drop, T: OpenedWith>(
     alloc: Global,
     query: &Query,
@@ -73,12 +75,12 @@ fn run_counted<S: Source, K: Sink, D: Slot + Drop, T: OpenedWith>(
     requires few { vec_len slots.old ≤ 1048576 }
     requires quota { quota ≤ vec_len slots.old }
     requires right { is_some right.old ≡ joins query.now }
-    requires tally { T.tally ≡ Some (tally_of D.Slot slots.old.items) }
+    requires opened { T.opened ≡ Some (at_opening (tally_of D.Slot slots.old.items) conf.now.first_name) }
     ensures answer { all_tell (tally_of D.Slot slots.old.items) ≡ true → OnOk result (WroteAnswer query.now (page_len query.now conf.now.block_len) (both_told (S.remaining left.old) (told_in S.remaining right.old)) (K.contents sink.old) (K.contents sink.new)) }
     ensures read { OnOk result (IsAtEnd (S.remaining left.new) × IsAtEnd (told_in S.remaining right.new)) }
     ensures numbers { IfOk result (λ ran. IfSome (both_told (S.remaining left.old) (told_in S.remaining right.old)) (Numbers query.now (page_len query.now conf.now.block_len) (all_tell (tally_of D.Slot slots.old.items)) ran)) }
     ensures input { IfErr result (SaysOfInputs query.now (page_len query.now conf.now.block_len) (source (S.remaining left.old) (S.remaining left.new) (S.faults left.old) (S.faults left.new)) (source (told_in S.remaining right.old) (told_in S.remaining right.new) (faults_in S.faults right.old) (faults_in S.faults right.new))) }
-    ensures pool { IfErr result (OfPool (IsPoolStop query.now quota (HaveFailed (tally_of D.Slot slots.old.items) (tally_of D.Slot slots.new.items)))) }
+    ensures pool { IfErr result (OfPool (IsPoolStop query.now (page_len query.now conf.now.block_len) (if_told (all_tell (tally_of D.Slot slots.old.items)) (both_told (S.remaining left.old) (told_in S.remaining right.old))) quota (HaveFailed (tally_of D.Slot slots.old.items) (tally_of D.Slot slots.new.items)))) }
     ensures front { all_tell (tally_of D.Slot slots.old.items) ≡ true → IsErrOf result QueryErr.SinkFault → WroteFront query.now (page_len query.now conf.now.block_len) (both_told (S.remaining left.old) (told_in S.remaining right.old)) (K.contents sink.old) (K.contents sink.new) }
     ensures untouched { IfErr result (λ e. IsSome (side_of e) → sink.new ≡ sink.old) }
     ensures stopped { IfErr result (λ _. (sink.new ≡ sink.old) ⊎ (IsAtEnd (S.remaining left.new) × IsAtEnd (told_in S.remaining right.new) × (all_tell (tally_of D.Slot slots.old.items) ≡ true → WroteFront query.now (page_len query.now conf.now.block_len) (both_told (S.remaining left.old) (told_in S.remaining right.old)) (K.contents sink.old) (K.contents sink.new)))) }

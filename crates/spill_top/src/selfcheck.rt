@@ -106,7 +106,7 @@ fn run_table<K: Sink, D: Slot + Drop>(
     requires few { vec_len slots.old ≤ 1048576 }
     ensures answer { OnOk result (WroteAnswer (checking check) page_bytes (table_if (all_tell (tally_of D.Slot slots.old.items)) check) (K.contents sink.old) (K.contents sink.new)) }
     ensures numbers { IfOk result (λ ran. Numbers (checking check) page_bytes (all_tell (tally_of D.Slot slots.old.items)) ran (table_of check)) }
-    ensures stop { IfErr result (IsCheckStop check (vec_len slots.old) (HaveFailed (tally_of D.Slot slots.old.items) (tally_of D.Slot slots.new.items)) (Rose (K.faults sink.old) (K.faults sink.new))) }
+    ensures stop { IfErr result (IsCheckStop check (all_tell (tally_of D.Slot slots.old.items)) (vec_len slots.old) (HaveFailed (tally_of D.Slot slots.old.items) (tally_of D.Slot slots.new.items)) (Rose (K.faults sink.old) (K.faults sink.new))) }
     ensures part { IfErr result (λ why. LeavesPart (checking check) page_bytes (table_if (all_tell (tally_of D.Slot slots.old.items)) check) (K.contents sink.old) (K.contents sink.new) (side_of why)) }
     ensures slots { ComeBack (tally_of D.Slot slots.old.items) (tally_of D.Slot slots.new.items) }
 {

@@ -1,6 +1,6 @@
 // A count's query, whose report is watched for whether anything was written to it.
 
-ghost use Rattle.std.specs.Prelude.{◌≡◌, ◌≤◌, ◌⊎◌, ℕ, List, None, Option, IfErr, IsErrOf, IsSome, OnOk, false, true, vec_len};
+ghost use Rattle.std.specs.Prelude.{◌≡◌, ◌≤◌, ◌⊎◌, ℕ, [], List, None, Option, Some, IfErr, IsErrOf, IsSome, OnOk, false, true, vec_len};
 ghost use Rattle.std.specs.Io.KnownBytes.{Keeps};
 ghost use Rattle.pin_core.specs.Tallies.{tally_of};
 ghost use Rattle.query_plan.specs.Sizes.{page_len};
@@ -10,6 +10,8 @@ ghost use Rattle.query_run.specs.Refused.{SaysOfSide, source};
 ghost use Rattle.query_run.specs.Stopped.{CountsSink};
 ghost use Rattle.spill_top.specs.OneInput.{WroteAnswerOver, WroteFrontOver};
 ghost use Rattle.spill_top.specs.Pooled.{ComeBack, HasMemoryFor, HaveFailed, IsPoolStop, all_tell};
+ghost use Rattle.spill_top.specs.Sides.{if_told};
+ghost use Rattle.query_run.specs.Both.{both_told};
 ghost use Rattle.spill_top.specs.Report.{Lengthens, LongerTold, StillTold};
 
 use crate::job::let_go;
@@ -82,7 +84,7 @@ pub(crate) fn run_watched<'a, B: Start, S: Source, R: Sink, D: Slot + Drop>(
     requires unwritten { watched.written ≡ false }
     ensures answer { all_tell (tally_of D.Slot slots.old.items) ≡ true → OnOk result.0 (WroteAnswerOver plan.now (page_len plan.now conf.now.block_len) (S.remaining left.old) (R.contents watched.entry.sink.now) (R.contents result.1.sink.now)) }
     ensures says { IfErr result.0 (SaysOfSide plan.now Side.Left plan.now.left (page_len plan.now conf.now.block_len) (source (S.remaining left.old) (S.remaining left.new) (S.faults left.old) (S.faults left.new))) }
-    ensures pool { IfErr result.0 (OfPool (IsPoolStop plan.now (vec_len slots.old) (HaveFailed (tally_of D.Slot slots.old.items) (tally_of D.Slot slots.new.items)))) }
+    ensures pool { IfErr result.0 (OfPool (IsPoolStop plan.now (page_len plan.now conf.now.block_len) (if_told (all_tell (tally_of D.Slot slots.old.items)) (both_told (S.remaining left.old) (Some []))) (vec_len slots.old) (HaveFailed (tally_of D.Slot slots.old.items) (tally_of D.Slot slots.new.items)))) }
     ensures front { all_tell (tally_of D.Slot slots.old.items) ≡ true → IsErrOf result.0 QueryErr.SinkFault → WroteFrontOver plan.now (page_len plan.now conf.now.block_len) (S.remaining left.old) (R.contents watched.entry.sink.now) (R.contents result.1.sink.now) }
     ensures untouched { IfErr result.0 (λ e. IsSome (side_of e) → result.1.written ≡ false) }
     ensures stopped { IfErr result.0 (λ _. (result.1.written ≡ false) ⊎ (all_tell (tally_of D.Slot slots.old.items) ≡ true → WroteFrontOver plan.now (page_len plan.now conf.now.block_len) (S.remaining left.old) (R.contents watched.entry.sink.now) (R.contents result.1.sink.now))) }

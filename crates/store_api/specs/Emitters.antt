@@ -1,11 +1,12 @@
 -- What an emitter asks of a store, and what it leaves.
-use Rattle.std.specs.Prelude.{◌≡◌, ◌≢◌, ℕ, ◌+◌, ◌≤◌, ◌↔◌, List, length, Option, Some, None, IsSome, option_map, ⊤}
+use Rattle.std.specs.Prelude.{◌≡◌, ◌≢◌, ℕ, ◌+◌, ◌%◌, ◌<◌, ◌≤◌, ◌↔◌, List, length, Option, Some, None, IsSome, option_map, ⊤}
 use Rattle.outside.specs.Counts.{Rose}
 use Rattle.pool_model.specs.LookingBack.{names_in}
 use Rattle.row_codec.specs.declared.values.Value.{Value}
 use Rattle.store_api.specs.Holdings.{LivePage, LiveLoan, Holdings, account_of}
 use Rattle.store_api.specs.Alike.{Alike}
 use Rattle.store_api.specs.Signs.{Signs, Grows, Entered, WasAnswered}
+use Rattle.reservation_tree.specs.declared.errors.PoolErr.TheVariants.{ScratchFull}
 use Rattle.store_api.specs.declared.op_err.OpErr.{OpErr}
 use Rattle.store_api.specs.declared.op_err.OpErr.TheVariants.{Pool, Sink}
 
@@ -62,6 +63,16 @@ pub record GrowsBy (client : Option ℕ) (creates_old creates : ℕ) (old new : 
   pub grows : Grows old new
   pub alone : client ≡ None → new ≡ old
   pub pages : Entered (λ more. creates_old + length (names_in more) ≤ creates) old.trail new.trail
+
+-- of so many slots, where there is a quota, pages of so many blocks leave these over; and they are fewer than `most`
+abbrev pub LeavesOver : ℕ → ℕ → Option ℕ → ℕ → Type 0
+LeavesOver blocks most None free = ⊥
+LeavesOver blocks most (Some total) free = (free ≡ total % blocks) × (total < most)
+
+-- an error that is a want of slots tells the blocks of a page, and the free slots: those that pages leave over
+abbrev pub WantsSlots : ℕ → ℕ → Option ℕ → OpErr → Type 0
+WantsSlots blocks most total (Pool (ScratchFull need free)) = (need ≡ blocks) × LeavesOver blocks most total free
+WantsSlots blocks most total _ = ⊤
 
 -- an error came of the store, or of a fault of the sink, in this call
 abbrev pub CameOf : ℕ → ℕ → Signs → Signs → OpErr → Type 0

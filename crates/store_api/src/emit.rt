@@ -1,8 +1,8 @@
 //! Who takes an operator's rows.
-ghost use Rattle.std.specs.Prelude.{◌≡◌, ◌⊎◌, ℕ, ◌≤◌, [], ◌∷◌, ◌++◌, List, Option, IfErr, OnOk, OnErr};
+ghost use Rattle.std.specs.Prelude.{◌≡◌, ◌⊎◌, ℕ, ◌*◌, ◌≤◌, [], ◌∷◌, ◌++◌, List, Option, IfErr, OnOk, OnErr};
 ghost use Rattle.row_codec.specs.declared.values.Value.{Value};
 ghost use Rattle.store_api.specs.Holdings.{Holdings};
-ghost use Rattle.store_api.specs.Emitters.{SameOwn, OthersStay, HasClient, IsSameEmitter, KeepsRoom, GrowsBy, CameOf, slots_with};
+ghost use Rattle.store_api.specs.Emitters.{SameOwn, OthersStay, HasClient, IsSameEmitter, KeepsRoom, GrowsBy, CameOf, WantsSlots, slots_with};
 
 use crate::op_err::OpErr;
 use crate::store::Store;
@@ -29,6 +29,9 @@ pub trait Emit<St: Store> {
     // The most slots that they have once it took these rows. This never changes.
     ghost slots_for: { Self → List (List Value) → ℕ };
 
+    // The blocks of each of them.
+    ghost page_blocks: { ℕ };
+
     // How many pages it is known to have made, as a count that no row lowers: it rises at least by those that a row makes.
     ghost creates: { Self → ℕ };
 
@@ -46,6 +49,8 @@ pub trait Emit<St: Store> {
         ensures ok { OnOk result ((rows : List (List Value)) → took self.old (St.holds store.old) rows → took self.new (St.holds store.new) (rows ++ row.now ∷ [])) }
         ensures err { OnErr result ((rows : List (List Value)) → took self.old (St.holds store.old) rows → took self.new (St.holds store.new) rows ⊎ took self.new (St.holds store.new) (rows ++ row.now ∷ [])) }
         ensures cause { IfErr result (CameOf (faults self.old) (faults self.new) (St.signs store.old) (St.signs store.new)) }
+        // Slots are wanting only where the free ones and those of its pages are fewer than it may need with the row.
+        ensures want { (rows : List (List Value)) → took self.old (St.holds store.old) rows → IfErr result (WantsSlots page_blocks (slots_for self.old (rows ++ row.now ∷ [])) (slots_with (slots self.new (St.holds store.new)) (St.holds store.new))) }
 
         ensures same { IsSameEmitter (admits self.old) (admits self.new) (client self.old) (client self.new) (slots_for self.old) (slots_for self.new) }
         ensures client_lives { HasClient (client self.old) (St.holds store.new) }
@@ -64,4 +69,7 @@ pub trait Emit<St: Store> {
 
     // They are no more than the rows that it took may have.
     ghost slots_fit: { (e : Self) (h : Holdings) (rows : List (List Value)) → took e h rows → slots e h ≤ slots_for e rows };
+
+    // Each page has those of its blocks, or none.
+    ghost slots_whole: { (e : Self) (h : Holdings) (rows : List (List Value)) → took e h rows → (pages : ℕ) × (slots e h ≡ pages * page_blocks) };
 }

@@ -34,6 +34,8 @@ impl<St: Store> Emit<St> for PageRows {
 
     ghost slots_for = { λ e rows. 0 };
 
+    ghost page_blocks = { 1 };
+
     ghost creates = { λ e. e.rows };
 
     #[tactic(auto, using(crate::proofs::Growing::grows_trans, crate::proofs::Growing::grows_refl))]
@@ -52,4 +54,6 @@ impl<St: Store> Emit<St> for PageRows {
     ghost slots_own = { λ e old new same. refl };
 
     ghost slots_fit = { λ e h rows took. zero-le };
+
+    ghost slots_whole = { λ e h rows took. (0, refl) };
 }

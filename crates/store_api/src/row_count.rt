@@ -27,6 +27,8 @@ impl<St: Store> Emit<St> for RowCount {
 
     ghost slots_for = { λ e rows. 0 };
 
+    ghost page_blocks = { 0 };
+
     ghost creates = { λ e. 0 };
 
     #[tactic(auto, using(crate::proofs::Growing::grows_refl, crate::proofs::Untouched::others_stay))]
@@ -45,4 +47,6 @@ impl<St: Store> Emit<St> for RowCount {
     ghost slots_own = { λ e old new same. refl };
 
     ghost slots_fit = { λ e h rows took. zero-le };
+
+    ghost slots_whole = { λ e h rows took. (0, refl) };
 }

@@ -43,6 +43,8 @@ impl<St: Store> Emit<St> for Seen {
 
     ghost slots_for = { λ e rows. 0 };
 
+    ghost page_blocks = { 0 };
+
     ghost creates = { λ e. 0 };
 
     #[tactic(auto, using(store_api::proofs::Growing::grows_refl, store_api::proofs::Untouched::others_stay))]
@@ -62,6 +64,8 @@ impl<St: Store> Emit<St> for Seen {
     ghost slots_own = { λ e old new same. refl };
 
     ghost slots_fit = { λ e h rows took. zero-le };
+
+    ghost slots_whole = { λ e h rows took. (0, refl) };
 }
 
 // A text and a number a side, and the texts are to be equal.

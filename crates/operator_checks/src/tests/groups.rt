@@ -57,6 +57,8 @@ impl<St: Store> Emit<St> for Told {
 
     ghost slots_for = { λ e rows. 0 };
 
+    ghost page_blocks = { 0 };
+
     ghost creates = { λ e. 0 };
 
     #[tactic(auto, using(store_api::proofs::Growing::grows_refl, store_api::proofs::Untouched::others_stay))]
@@ -71,6 +73,8 @@ impl<St: Store> Emit<St> for Told {
     ghost slots_own = { λ e old new same. refl };
 
     ghost slots_fit = { λ e h rows took. zero-le };
+
+    ghost slots_whole = { λ e h rows took. (0, refl) };
 }
 
 // Rows to be fed: so many, of so many first and second texts; without second ones there is no number either. The numbers are

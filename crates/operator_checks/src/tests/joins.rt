@@ -125,6 +125,8 @@ impl<St: Store> Emit<St> for Counted {
 
     ghost slots_for = { λ e rows. 0 };
 
+    ghost page_blocks = { 0 };
+
     ghost creates = { λ e. 0 };
 
     #[tactic(auto, using(store_api::proofs::Growing::grows_refl, store_api::proofs::Untouched::others_stay))]
@@ -138,6 +140,8 @@ impl<St: Store> Emit<St> for Counted {
     ghost slots_own = { λ e old new same. refl };
 
     ghost slots_fit = { λ e h rows took. zero-le };
+
+    ghost slots_whole = { λ e h rows took. (0, refl) };
 }
 
 // How many pairs the rows of both sides have, once they were fed and the join was finished.

@@ -2,6 +2,7 @@
 ghost use Rattle.std.specs.Prelude.{◌≡◌, ◌≤◌, Some, IfOk, vec_len};
 ghost use Rattle.store_api.specs.Conditions.{IsLiveClient};
 ghost use Rattle.store_api.specs.Alike.{AlikeButClients};
+ghost use Rattle.local_pool.specs.Counting.{at_opening};
 ghost use Rattle.pin_core.specs.Tallies.{Counted, tally_of};
 ghost use Rattle.tuple_stream.specs.PageRows.{IsOneRow};
 ghost use Rattle.tuple_stream.specs.Places.{IsWithin};
@@ -174,7 +175,7 @@ fn slots_after<D: Slot + Drop, T: OpenedWith>(
     slots: Vec<D>,
 ) -> Result<Vec<D>, StreamErr>
     requires few { vec_len slots ≤ 1024 }
-    requires tally { T.tally ≡ Some (tally_of D.Slot slots.items) }
+    requires opened { T.opened ≡ Some (at_opening (tally_of D.Slot slots.items) 0) }
     ensures { IfOk result (λ back. Counted 0 0 (tally_of D.Slot slots.items) (tally_of D.Slot back.items)) }
 {
     let conf = PoolConf {

@@ -1,7 +1,8 @@
 use Rattle.std.proofs.Common.{◌≡◌, Err, arith, rules}
 use Rattle.store_api.proofs.Answered.{answered_before}
+use Rattle.partition_stack.proofs.Results.{any_err}
 use Rattle.group_op.specs.Held.{state}
-use Rattle.group_op.proofs.Absorbs.{all_rows, first_absorbs, less_none, less_read, made_refused, made_unspent, more_absorbs, none_first, none_place, none_rows, place_called, serves_called, spent_none, spent_row}
+use Rattle.group_op.proofs.Absorbs.{all_rows, first_absorbs, less_none, less_read, made_refused, made_unspent, more_absorbs, none_first, none_place, none_rows, place_called, serves_called, spent_none, spent_row, stand_refused, stand_unspent}
 use Rattle.group_op.proofs.Keeping.{room_of_read}
 use Rattle.group_op.proofs.Makings.{less_few}
 use Rattle.group_op.proofs.Serving.{serves_then}
@@ -134,3 +135,20 @@ returns-clause-less g c =
 
 pub returns-clause-made : goal.returns-clause-made
 returns-clause-made g c = λ s there. less_few _ _ _ _ (returns-clause-less g c s there)
+
+pub returns-in_err-spend-clause-stand : goal.returns-in_err-spend-clause-stand
+returns-in_err-spend-clause-stand g c =
+    any_err c.from_residual.result
+    (stand_unspent c.args.c.now.tracker c.args.shape.now c.args.at c.args.level c.loop-left.divided c.loop-left.left (state c.args.table.now c.args.parts.now (g.St.Store.holds c.args.store.now) (g.St.Store.signs c.args.store.now)) c.loop-left.table c.loop-left.parts c.spend.new.self
+    (g.St.Store.holds c.loop-left.store) (g.St.Store.holds c.spend.new.store) (g.St.Store.signs c.loop-left.store) (g.St.Store.signs c.spend.new.store) c.loop-left.invariant
+    c.in_err-spend.ensures.err c.requires.deep.0 c.requires.deep.1)
+
+pub returns-in_err-divided-clause-stand : goal.returns-in_err-divided-clause-stand
+returns-in_err-divided-clause-stand g c =
+    any_err c.from_residual-in_err-divided.result
+    (stand_refused c.args.c.now.tracker c.args.shape.now c.args.at c.args.level c.loop-left.divided c.loop-left.left (state c.args.table.now c.args.parts.now (g.St.Store.holds c.args.store.now) (g.St.Store.signs c.args.store.now)) c.loop-left.table c.loop-left.parts c.spend.new.self
+    (g.St.Store.holds c.loop-left.store) (g.St.Store.holds c.spend.new.store) (g.St.Store.signs c.loop-left.store) (g.St.Store.signs c.spend.new.store) c.loop-left.invariant
+    c.spend.new.out.items (spent_row c.args.c.now.tracker c.args.shape.now c.args.at c.args.level c.loop-left.divided c.loop-left.left (state c.args.table.now c.args.parts.now (g.St.Store.holds c.args.store.now) (g.St.Store.signs c.args.store.now)) c.loop-left.table c.loop-left.parts c.spend.new.self
+    (g.St.Store.holds c.loop-left.store) (g.St.Store.holds c.spend.new.store) (g.St.Store.signs c.loop-left.store) (g.St.Store.signs c.spend.new.store) c.loop-left.invariant
+    c.in_ok-spend.field-0 c.spend.new.out.items c.in_ok-spend.ensures.ok c.if-not-branch.false)
+    (state c.take_in.new.table c.take_in.new.parts (g.St.Store.holds c.take_in.new.store) (g.St.Store.signs c.take_in.new.store)) c.in_err-divided.ensures.stand)

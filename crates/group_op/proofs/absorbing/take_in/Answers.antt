@@ -1,17 +1,20 @@
-use Rattle.std.proofs.Common.{◌≡◌, ◌∙◌, ◌+◌, ℕ, Bool, true, false, List, Err, length, ap, sym, subst, arith, rules}
+use Rattle.std.proofs.Common.{◌≡◌, ◌∙◌, ◌+◌, ◌++◌, ℕ, Bool, true, false, List, Err, length, ap, sym, subst, arith, rules}
 use Rattle.std.proofs.lemmas.Bool.{false≢true}
 use Rattle.store_api.specs.Holdings.{Holdings}
 use Rattle.store_api.specs.Signs.{Signs}
 use Rattle.store_api.proofs.Answered.{answered_before}
+use Rattle.tuple_stream.specs.FamilyCalls.{shares}
 use Rattle.partition_stack.specs.Stack.{Stack}
 use Rattle.group_op.specs.Finishing.{HasRead, IsRead, Serves}
 use Rattle.group_op.specs.Held.{IsHeld, State, lent, rows_of, state, streams_of}
 use Rattle.group_op.specs.Putting.{HasGrown, HasPut, HasPutHere, IsFan}
 use Rattle.group_op.proofs.Absorbed.{read_divided, read_grown, read_more}
 use Rattle.group_op.proofs.Entering.{here_gone, put_of_here}
-use Rattle.group_op.proofs.Serving.{fan_divided, held_divided, serves_divided, serves_of, serves_then, unless_err}
+use Rattle.group_op.proofs.Serving.{fan_divided, held_divided, serves_divided, serves_of, serves_then, unless_err, where_err}
 use Rattle.group_op.specs.Making.{MakesFew, MakesLess}
+use Rattle.group_op.specs.Wanting.{ShowNoMore}
 use Rattle.group_op.proofs.Makings.{less_since, made_few, none_made, put_less}
+use Rattle.group_op.proofs.Shown.{read_long, show_read, show_refused}
 use Rattle.partition_stack.proofs.Making.{few_both, few_less, few_none}
 use Rattle.partition_stack.proofs.Results.{any_err}
 use Rattle.group_op.proofs.absorbing.take_in.Goals as goal
@@ -160,3 +163,52 @@ returns-clause-less g c =
     subst (λ (k : ℕ). MakesLess k c.put-2.new.table (g.St.Store.signs c.args.store.now) b.signs) same
     (less_since (length (rows_of c.put_here.new.table) + 1) c.put-2.new.table (g.St.Store.signs c.args.store.now) s b.signs none
     (put_less c.args.c.now.tracker c.args.shape.now c.args.level (c.args.at + 1) c.deref-3.result.now n b c.put-2.ensures.works c.in_ok-put-2.ensures.ok c.in_ok-put-2.ensures.left))
+
+pub returns-in_err-hash-clause-stand : goal.returns-in_err-hash-clause-stand
+returns-in_err-hash-clause-stand g c =
+    let a : State = state c.args.table.now c.args.parts.now (g.St.Store.holds c.args.store.now) (g.St.Store.signs c.args.store.now) in
+    any_err c.from_residual.result (λ rows some rest told read. show_read c.args.shape.now c.args.at c.args.level c.args.divided rows some rest a c.requires.read.0 read c.requires.read.2 c.requires.deep.0 c.requires.deep.1)
+
+pub returns-in_err-put-clause-stand : goal.returns-in_err-put-clause-stand
+returns-in_err-put-clause-stand g c =
+    let a : State = state c.args.table.now c.args.parts.now (g.St.Store.holds c.args.store.now) (g.St.Store.signs c.args.store.now) in
+    let b : State = state c.put.new.table c.put.new.parts (g.St.Store.holds c.put.new.store) (g.St.Store.signs c.put.new.store) in
+    let long = read_long c.args.divided c.args.at c.args.level c.requires.read.0 c.args.parts.now c.requires.read.2 c.requires.deep.0 c.requires.deep.1 in
+    any_err c.from_residual-in_err-put.result (λ rows some rest told read. show_refused c.args.shape.now c.args.at c.args.level c.args.divided rows some rest a b long.0 read long.1 told c.in_err-put.ensures.stand)
+
+pub returns-then-is_err-clause-stand : goal.returns-then-is_err-clause-stand
+returns-then-is_err-clause-stand g c = λ rows some rest told read.
+    let t : ℕ = c.args.c.now.tracker in
+    let shape = c.args.shape.now in
+    let h : Holdings = g.St.Store.holds c.put_here.new.store in
+    let s : Signs = g.St.Store.signs c.put_here.new.store in
+    let a : State = state c.args.table.now c.args.parts.now (g.St.Store.holds c.args.store.now) (g.St.Store.signs c.args.store.now) in
+    let m : State = state c.put_here.new.table c.args.parts.now h s in
+    let same : c.divide.new.self ≡ c.args.parts.now = where_err c.divide.result (sym c.is_err.ensures.value ∙ c.if-is_err.true) c.divide.ensures.err in
+    let grown : HasGrown t shape a m = c.put_here.ensures.grown c.if-put_here.false in
+    subst (λ (p : Stack). ShowNoMore (shares c.args.at rows ++ (some ++ rest)) (state c.put_here.new.table p h s)) (sym same)
+    (show_read shape c.args.at c.args.level c.args.divided rows some rest m c.requires.read.0 (read_grown shape t c.args.at c.args.level c.args.divided rows some rest a m read told grown) c.requires.read.2 c.requires.deep.0 c.requires.deep.1)
+
+pub returns-in_err-put-2-clause-stand : goal.returns-in_err-put-2-clause-stand
+returns-in_err-put-2-clause-stand g c =
+    let t : ℕ = c.args.c.now.tracker in
+    let shape = c.args.shape.now in
+    let made = unless_err c.divide.result (sym c.is_err.ensures.value ∙ c.if-is_err.false) c.divide.ensures.ok in
+    let h : Holdings = g.St.Store.holds c.put_here.new.store in
+    let s : Signs = g.St.Store.signs c.put_here.new.store in
+    let a : State = state c.args.table.now c.args.parts.now (g.St.Store.holds c.args.store.now) (g.St.Store.signs c.args.store.now) in
+    let m : State = state c.put_here.new.table c.args.parts.now h s in
+    let n : State = state c.put_here.new.table c.divide.new.self h s in
+    let b : State = state c.put-2.new.table c.put-2.new.parts (g.St.Store.holds c.put-2.new.store) (g.St.Store.signs c.put-2.new.store) in
+    let grown : HasGrown t shape a m = c.put_here.ensures.grown c.if-put_here.false in
+    let was : Stack = c.requires.read.0 in
+    let place : IsRead false c.args.at c.args.level was c.args.parts.now = subst (λ (d : Bool). IsRead d c.args.at c.args.level was c.args.parts.now) c.if-divided.false c.requires.read.2 in
+    let fan : IsFan c.args.level (c.args.at + 1) c.args.at c.divide.new.self = subst (IsFan c.args.level (c.args.at + 1) c.args.at) (sym made)
+    (fan_divided t shape c.args.at c.args.level c.put_here.new.table c.args.parts.now h s c.law_stack.ensures place.0 c.requires.deep.0 c.requires.deep.1 place.2) in
+    any_err c.from_residual-in_err-put-2.result
+    (λ rows some rest told read.
+    let first : HasRead shape c.args.at c.args.level false rows some rest m = read_grown shape t c.args.at c.args.level false rows some rest a m (subst (λ (d : Bool). HasRead shape c.args.at c.args.level d rows some rest a) c.if-divided.false read) told grown in
+    let second : HasRead shape c.args.at c.args.level true rows some rest n = subst (λ (p : Stack). HasRead shape c.args.at c.args.level true rows some rest (state c.put_here.new.table p h s)) (sym made)
+    (read_divided shape t c.args.at c.args.level (lent m) rows some rest c.put_here.new.table c.args.parts.now h s c.law_stack.ensures place.0 first) in
+    let sixteen = fan.sixteen in
+    show_refused shape c.args.at c.args.level true rows some rest n b 16 second (omega (arith, sixteen)) (grown.deals.told ∙ told) c.in_err-put-2.ensures.stand)

@@ -1,12 +1,15 @@
-use Rattle.std.proofs.Common.{rules, ◌≡◌, ◌∙◌, ◌+◌, ◌-◌, ◌<◌, ℕ, Bool, List, length, take, Some, ap, subst, arith}
+use Rattle.std.proofs.Common.{rules, ◌≡◌, ◌∙◌, ◌+◌, ◌-◌, ◌<◌, ℕ, Bool, List, Err, length, take, Some, ap, sym, subst, arith}
 use Rattle.std.specs.Prelude.{slice_get}
+use Rattle.store_api.specs.declared.op_err.OpErr.TheVariants.{Pool}
 use Rattle.tuple_stream.specs.Trails.{EnteredEvents}
 use Rattle.group_op.specs.Emission.{EmittedFront}
 use Rattle.group_op.specs.Finishing.{Stacked, said_down}
-use Rattle.group_op.specs.Held.{state}
+use Rattle.group_op.specs.Held.{State, state, streams_of}
 use Rattle.group_op.specs.Causes.{IsWant}
 use Rattle.group_op.specs.Pinning.{HasBegun}
+use Rattle.group_op.specs.Wanting.{IsWantAmongOf, slots_among}
 use Rattle.tuple_stream.specs.Families.{slots_in}
+use Rattle.tuple_stream.specs.FamilyCalls.{shares}
 use Rattle.partition_stack.specs.Stack.{over}
 use Rattle.group_op.proofs.Sharing.{want_as}
 use Rattle.group_op.proofs.Begun.{gone_divided, gone_handed, not_last}
@@ -17,7 +20,7 @@ use Rattle.partition_stack.proofs.Emitters.{stands_then}
 use Rattle.partition_stack.proofs.Making.{counts_both, counts_less, few_counted, few_counts, few_less}
 use Rattle.partition_stack.proofs.Owing.{owed_less, owed_popped}
 use Rattle.group_op.proofs.Divided.{less_popped}
-use Rattle.partition_stack.proofs.Results.{on_err, on_ok}
+use Rattle.partition_stack.proofs.Results.{if_err, on_err, on_ok}
 use Rattle.group_op.proofs.finishing.advance.Goals as goal
 
 pub returns-then-level-eq16-clause-ok : goal.returns-then-level-eq16-clause-ok
@@ -183,3 +186,25 @@ returns-clause-made g c = λ rows stacked.
     (few_less (length (rows (c.len-at.result - 1))) (owed c.args.parts.now.levels rows) (g.St.Store.signs c.args.store.now) (g.St.Store.signs c.spend_top.new.store) (let all = owed_less c.args.parts.now.levels (c.len-at.result - 1) c.level-level.result rows c.level-level.ensures.value deep in omega (arith, all))
     (few_counted rows (over c.args.parts.now (g.St.Store.holds c.args.store.now) (g.St.Store.signs c.args.store.now)) (c.len-at.result - 1) (g.St.Store.signs c.args.store.now) (g.St.Store.signs c.spend_top.new.store) (omega (arith, top)) stacked.shows c.spend_top.ensures.made)))
     c.hand_on.ensures.made
+
+pub returns-then-level-eq16-clause-enough : goal.returns-then-level-eq16-clause-enough
+returns-then-level-eq16-clause-enough g c =
+    let a : State = (state c.args.table.now c.args.parts.now (g.St.Store.holds c.args.store.now) (g.St.Store.signs c.args.store.now)) in
+    let some = c.requires.some in
+    let len = c.len-at.ensures in
+    let top : length c.args.parts.now.streams ≡ c.len-at.result - 1 + 1 = omega (arith, some, len) in
+    λ none. if_err c.leaf.result (λ e want rows stacked. subst (λ (n : ℕ). IsWantAmongOf 544 (shares n rows) a e) (sym top) (want rows stacked)) (c.leaf.ensures.enough none)
+
+pub returns-in_err-spend_top-clause-enough : goal.returns-in_err-spend_top-clause-enough
+returns-in_err-spend_top-clause-enough g c = λ none.
+    let a : State = (state c.args.table.now c.args.parts.now (g.St.Store.holds c.args.store.now) (g.St.Store.signs c.args.store.now)) in
+    let some = c.requires.some in
+    let len = c.len-at.ensures in
+    let top : length c.args.parts.now.streams ≡ c.len-at.result - 1 + 1 = omega (arith, some, len) in
+    let same : c.from_residual.result ≡ Err (Pool c.in_err-spend_top.field-0.0) = search rules in
+    rw same (λ rows stacked. subst (λ (n : ℕ). IsWantAmongOf 544 (shares n rows) a (Pool c.in_err-spend_top.field-0.0)) (sym top) (c.in_err-spend_top.ensures.enough rows stacked))
+
+pub returns-clause-enough : goal.returns-clause-enough
+returns-clause-enough g c =
+    let a : State = (state c.args.table.now c.args.parts.now (g.St.Store.holds c.args.store.now) (g.St.Store.signs c.args.store.now)) in
+    λ none. if_err c.hand_on.result (λ e want rows stacked long. want (slots_among 544 (shares (length c.args.parts.now.streams) rows) a) (slots_in (streams_of a))) (c.hand_on.ensures.enough none)

@@ -1,4 +1,4 @@
-use Rattle.std.proofs.Common.{rules, false, ◌∙◌, [], ℕ, List, length, take, ap, subst, arith}
+use Rattle.std.proofs.Common.{rules, ◌≡◌, Err, false, ◌∙◌, [], ℕ, List, length, take, ap, subst, arith}
 use Rattle.std.specs.Prelude.{slice_get}
 use Rattle.tuple_stream.specs.Streamed.{Streamed}
 use Rattle.tuple_stream.specs.Steps.{scene}
@@ -18,6 +18,7 @@ use Rattle.partition_stack.proofs.Making.{counts_both, emptied_makes, few_counts
 use Rattle.group_op.proofs.Besides.{closed_popped, leaves_popped, own_same, serves_emit, stands_own}
 use Rattle.group_op.proofs.Begun.{top_goes}
 use Rattle.group_op.proofs.HandedOn.{emitted_on, groups_read, popped_long, serves_handed, shows_handed}
+use Rattle.group_op.proofs.Wants.{alone_below}
 use Rattle.group_op.proofs.finishing.hand_on.Goals as goal
 
 pub returns-in_err-emit_table-clause-err : goal.returns-in_err-emit_table-clause-err
@@ -110,3 +111,8 @@ returns-clause-made g c =
     counts_both 0 0 0 (g.E.Emit.creates c.args.emit.now) (g.E.Emit.creates c.emit_table.new.emit) (g.E.Emit.creates c.emit_table.new.emit) (g.St.Store.signs c.args.store.now) (g.St.Store.signs c.emit_table.new.store) (g.St.Store.signs c.drop_all.new.store) (omega arith) stood.made
     (few_counts 0 (g.E.Emit.creates c.emit_table.new.emit) (g.St.Store.signs c.emit_table.new.store) (g.St.Store.signs c.drop_all.new.store)
     (emptied_makes c.args.c.now.tracker (scene c.pop-top.result (g.St.Store.holds c.emit_table.new.store) (g.St.Store.signs c.emit_table.new.store)) (scene c.drop_all.new.self (g.St.Store.holds c.drop_all.new.store) (g.St.Store.signs c.drop_all.new.store)) (c.drop_all.ensures.went c.args.c.now.tracker shape)))
+
+pub returns-in_err-emit_table-clause-enough : goal.returns-in_err-emit_table-clause-enough
+returns-in_err-emit_table-clause-enough g c = λ none.
+    let same : c.from_residual.result ≡ Err c.in_err-emit_table.field-0.0 = search rules in
+    rw same (λ most total. alone_below _ _ most total _ _ c.in_err-emit_table.field-0.0 (c.emit_table.ensures.stood.alone none) c.in_err-emit_table.ensures.cause)

@@ -13,6 +13,7 @@ use Rattle.partition_stack.proofs.Emitters.{stands_then}
 use Rattle.partition_stack.proofs.Making.{counts_both, emptied_makes, few_counts}
 use Rattle.group_op.proofs.HandedOn.{emitted_on, front_on, popped_long}
 use Rattle.group_op.proofs.TopRead.{beside_read, came_till, groups_last, leaves_gone, of_any, own_gone, serves_read, shows_gone, stands_gone, stands_read, top_readable, top_rows, want_top}
+use Rattle.group_op.proofs.Wants.{top_among}
 use Rattle.group_op.proofs.finishing.leaf.Goals as goal
 
 pub leaf_by_scan-result-requires-clause-stream : goal.leaf_by_scan-result-requires-clause-stream
@@ -88,3 +89,13 @@ returns-clause-made g c =
     counts_both 0 0 0 (g.E.Emit.creates c.args.emit.now) (g.E.Emit.creates c.leaf_by_scan-result.new.emit) (g.E.Emit.creates c.leaf_by_scan-result.new.emit) (g.St.Store.signs c.args.store.now) (g.St.Store.signs c.leaf_by_scan-result.new.store) (g.St.Store.signs c.drop_all.new.store) (omega arith) c.leaf_by_scan-result.ensures.emitter.made
     (few_counts 0 (g.E.Emit.creates c.leaf_by_scan-result.new.emit) (g.St.Store.signs c.leaf_by_scan-result.new.store) (g.St.Store.signs c.drop_all.new.store)
     (emptied_makes c.args.c.now.tracker (scene read (g.St.Store.holds c.leaf_by_scan-result.new.store) (g.St.Store.signs c.leaf_by_scan-result.new.store)) (scene c.drop_all.new.self (g.St.Store.holds c.drop_all.new.store) (g.St.Store.signs c.drop_all.new.store)) (c.drop_all.ensures.went c.args.c.now.tracker c.leaf_by_scan-result.ensures.stream.read.shape)))
+
+pub returns-clause-enough : goal.returns-clause-enough
+returns-clause-enough g c =
+    let blocks : c.pop-top.result.page_blocks ≡ c.args.parts.now.page_blocks =
+    c.law_stack.ensures.each (length c.pop-top.new.self.streams) c.pop-top.result (ap (λ (ss : List Streamed). slice_get ss (length c.pop-top.new.self.streams)) c.pop-top.ensures.streams ∙ at_end c.pop-top.new.self.streams c.pop-top.result) in
+    λ none. if_err c.leaf_by_scan-result.result
+    (λ e want rows stacked.
+    top_among c.law_scratch.ensures.pages c.args.c.now.tracker c.args.shape.now c.args._table.now c.args._at c.args.parts.now c.pop-top.new.self.streams c.pop-top.result (g.St.Store.holds c.args.store.now) (g.St.Store.signs c.args.store.now) e c.pop-top.ensures.streams c.law_stack.ensures
+    (c.law_few_partitions.ensures.law c.args.parts.now c.law_stack.ensures) blocks c.requires.held.owns.shaped c.requires.top rows stacked.shows want)
+    (c.leaf_by_scan-result.ensures.enough none)

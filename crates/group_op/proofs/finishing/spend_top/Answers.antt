@@ -1,4 +1,4 @@
-use Rattle.std.proofs.Common.{rules, ◌≡◌, ◌∙◌, Bool, [], true, false, length, refl, ap, subst, arith}
+use Rattle.std.proofs.Common.{rules, ◌≡◌, ◌∙◌, ◌+◌, Err, Bool, [], true, false, length, refl, ap, subst, arith}
 use Rattle.std.proofs.lemmas.Option.{slice_get_within}
 use Rattle.store_api.specs.Signs.{WasAnswered}
 use Rattle.store_api.proofs.Answered.{answered_before}
@@ -7,9 +7,10 @@ use Rattle.tuple_stream.specs.Trails.{EnteredEvents}
 use Rattle.bucket_table.specs.Tables.{Table}
 use Rattle.partition_stack.specs.Stack.{Stack, over}
 use Rattle.group_op.specs.Finishing.{HasRead, IsRead}
-use Rattle.group_op.specs.Held.{rows_of, state}
+use Rattle.group_op.specs.Held.{State, rows_of, state}
 use Rattle.group_op.specs.Making.{MakesFew}
 use Rattle.tuple_stream.specs.Families.{slots_in}
+use Rattle.tuple_stream.specs.FamilyCalls.{shares}
 use Rattle.group_op.specs.Causes.{IsWant}
 use Rattle.group_op.specs.Pinning.{HasBegun}
 use Rattle.partition_stack.proofs.Making.{few_both, laying_makes}
@@ -18,6 +19,8 @@ use Rattle.group_op.proofs.Begun.{begun_divided}
 use Rattle.group_op.proofs.Divided.{has_divided, less_divided, serves_works}
 use Rattle.group_op.proofs.Makings.{made_few}
 use Rattle.group_op.proofs.Serving.{serves_then, serves_touched}
+use Rattle.group_op.proofs.Shown.{show_flushed, stand_flushed}
+use Rattle.group_op.proofs.Wants.{want_shown}
 use Rattle.group_op.proofs.finishing.spend_top.Goals as goal
 
 pub returns-in_err-flush-clause-serves : goal.returns-in_err-flush-clause-serves
@@ -122,3 +125,48 @@ returns-clause-made g c = λ s there.
     let spent : MakesFew s.count (g.St.Store.signs c.args.store.now) (g.St.Store.signs c.flush.new.store) = few_both less.made (length (rows_of c.absorb.new.table)) s.count (g.St.Store.signs c.args.store.now) (g.St.Store.signs c.absorb.new.store) (g.St.Store.signs c.flush.new.store) (omega (arith, fewer)) less.few flushed in
     few_both s.count 0 s.count (g.St.Store.signs c.args.store.now) (g.St.Store.signs c.flush.new.store) (g.St.Store.signs c.rest_from.new.store) (omega arith) spent
     (laying_makes 0 c.args.c.now.tracker (over c.flush.new.parts (g.St.Store.holds c.flush.new.store) (g.St.Store.signs c.flush.new.store)) (over c.rest_from.new.self (g.St.Store.holds c.rest_from.new.store) (g.St.Store.signs c.rest_from.new.store)) (let same = c.rest_from.ensures.pages in omega (arith, same)) c.rest_from.ensures.went)
+
+pub returns-in_err-absorb-clause-enough : goal.returns-in_err-absorb-clause-enough
+returns-in_err-absorb-clause-enough g c =
+    let a : State = (state c.args.table.now c.args.parts.now (g.St.Store.holds c.args.store.now) (g.St.Store.signs c.args.store.now)) in
+    let b : State = (state c.absorb.new.table c.absorb.new.parts (g.St.Store.holds c.absorb.new.store) (g.St.Store.signs c.absorb.new.store)) in
+    let same : c.from_residual.result ≡ Err c.in_err-absorb.field-0.0 = search rules in
+    rw same
+    (λ rows stacked.
+    want_shown c.law_scratch.ensures.pages c.law_scratch.ensures.want c.args.c.now.tracker c.args.shape.now (shares (c.args.at + 1) rows) a b b c.args.parts.now.page_blocks c.in_err-absorb.field-0.0 c.law_stack.ensures.each c.absorb.ensures.serves c.absorb.ensures.serves.slots
+    (c.in_err-absorb.ensures.stand rows stacked) refl refl c.in_err-absorb.ensures.full)
+
+pub returns-in_err-flush-clause-enough : goal.returns-in_err-flush-clause-enough
+returns-in_err-flush-clause-enough g c =
+    let a : State = (state c.args.table.now c.args.parts.now (g.St.Store.holds c.args.store.now) (g.St.Store.signs c.args.store.now)) in
+    let b : State = (state c.absorb.new.table c.absorb.new.parts (g.St.Store.holds c.absorb.new.store) (g.St.Store.signs c.absorb.new.store)) in
+    let f : State = (state c.flush.new.table c.flush.new.parts (g.St.Store.holds c.flush.new.store) (g.St.Store.signs c.flush.new.store)) in
+    let yes : c.in_ok-absorb.field-0 ≡ true = search (rules, c.if-not-branch.false) in
+    let place : IsRead true c.args.at c.args.level c.args.parts.now c.absorb.new.parts = rw yes at c.in_ok-absorb.ensures.read in
+    let serves = serves_works _ _ _ _ _ c.absorb.ensures.serves c.flush.ensures.works in
+    let same : c.from_residual-in_err-flush.result ≡ Err c.in_err-flush.field-0.0 = search rules in
+    rw same
+    (λ rows stacked.
+    let read : HasRead c.args.shape.now c.args.at c.args.level true rows (rows c.args.at) [] b = rw yes at (c.in_ok-absorb.ensures.rows rows stacked) in
+    want_shown c.law_scratch.ensures.pages c.law_scratch.ensures.want c.args.c.now.tracker c.args.shape.now (shares (c.args.at + 1) rows) a f f c.absorb.new.parts.page_blocks c.in_err-flush.field-0.0 c.law_stack.ensures.each serves serves.slots
+    (show_flushed c.args.shape.now c.args.at c.args.level rows b f c.args.parts.now read place (c.absorb.ensures.serves.leaves.others.told ∙ stacked.told) c.in_err-flush.ensures.stand) refl c.absorb.ensures.serves.blocks c.in_err-flush.ensures.full)
+
+pub returns-in_err-rest_from-clause-enough : goal.returns-in_err-rest_from-clause-enough
+returns-in_err-rest_from-clause-enough g c =
+    let a : State = (state c.args.table.now c.args.parts.now (g.St.Store.holds c.args.store.now) (g.St.Store.signs c.args.store.now)) in
+    let b : State = (state c.absorb.new.table c.absorb.new.parts (g.St.Store.holds c.absorb.new.store) (g.St.Store.signs c.absorb.new.store)) in
+    let f : State = (state c.flush.new.table c.flush.new.parts (g.St.Store.holds c.flush.new.store) (g.St.Store.signs c.flush.new.store)) in
+    let r : State = (state c.flush.new.table c.rest_from.new.self (g.St.Store.holds c.rest_from.new.store) (g.St.Store.signs c.rest_from.new.store)) in
+    let yes : c.in_ok-absorb.field-0 ≡ true = search (rules, c.if-not-branch.false) in
+    let place : IsRead true c.args.at c.args.level c.args.parts.now c.absorb.new.parts = rw yes at c.in_ok-absorb.ensures.read in
+    let serves = serves_works _ _ _ _ _ c.absorb.ensures.serves c.flush.ensures.works in
+    let same : c.from_residual-in_err-rest_from.result ≡ Err c.in_err-rest_from.field-0.0 = search rules in
+    rw same
+    (λ rows stacked.
+    let read : HasRead c.args.shape.now c.args.at c.args.level true rows (rows c.args.at) [] b = rw yes at (c.in_ok-absorb.ensures.rows rows stacked) in
+    let sixteen = place.0.sixteen in
+    let low = place.0.low in
+    want_shown c.law_scratch.ensures.pages c.law_scratch.ensures.want c.args.c.now.tracker c.args.shape.now (shares (c.args.at + 1) rows) a f r c.flush.new.parts.page_blocks c.in_err-rest_from.field-0.0 c.law_stack.ensures.each serves (returns-in_err-rest_from-clause-serves g c).slots
+    (show_flushed c.args.shape.now c.args.at c.args.level rows b f c.args.parts.now read place (c.absorb.ensures.serves.leaves.others.told ∙ stacked.told)
+    (stand_flushed c.args.c.now.tracker c.args.shape.now c.args.level (c.args.at + 1) b f (omega (arith, sixteen, low)) c.in_ok-flush.ensures.ok))
+    c.rest_from.ensures.pages (c.flush.ensures.works.blocks ∙ c.absorb.ensures.serves.blocks) c.in_err-rest_from.ensures.full)

@@ -6,10 +6,11 @@ use Rattle.tuple_stream.proofs.FamilyChains.{lays_both}
 use Rattle.bucket_table.specs.Tables.{newer_than}
 use Rattle.group_op.proofs.NodeLists.{left_from}
 use Rattle.partition_stack.specs.Stack.{over}
+use Rattle.partition_stack.proofs.Results.{any_err}
 use Rattle.group_op.specs.Stored.{IsPartialRow}
 use Rattle.group_op.specs.Held.{IsEntry}
 use Rattle.group_op.proofs.Keeping.{emptied_entries, works_nodes, works_touched}
-use Rattle.group_op.proofs.Walking.{HasWalked, entry_is, few_stopped, few_walked, fan_kept, has_node, less, row_is, walked_all, walked_more, walked_next, walked_none, walked_pages}
+use Rattle.group_op.proofs.Walking.{HasWalked, entry_is, few_stopped, few_walked, fan_kept, has_node, less, row_is, stand_stopped, stand_walked, walked_all, walked_more, walked_next, walked_none, walked_pages}
 use Rattle.group_op.proofs.flushing.flush.Goals as goal
 
 pub loop-next-init : goal.loop-next-init
@@ -112,3 +113,11 @@ returns-in_err-send-clause-few g c =
 
 pub returns-clause-few : goal.returns-clause-few
 returns-clause-few g c = walked_pages _ _ _ _ _ _ _ _ _ _ _ _ c.loop-next.invariant
+
+pub returns-in_err-row_at-clause-stand : goal.returns-in_err-row_at-clause-stand
+returns-in_err-row_at-clause-stand g c = any_err c.from_residual.result (stand_walked _ _ _ _ _ _ c.args.table.now c.args.parts.now c.loop-next.parts _ _ _ _ c.loop-next.invariant)
+
+pub returns-in_err-send-clause-stand : goal.returns-in_err-send-clause-stand
+returns-in_err-send-clause-stand g c =
+    any_err c.from_residual-in_err-send.result
+    (stand_stopped _ _ _ _ _ _ _ c.args.table.now c.args.parts.now c.loop-next.parts c.send.new.parts _ _ _ _ _ _ c.loop-next.invariant c.in_err-send.ensures.went)

@@ -1,15 +1,17 @@
-use Rattle.std.proofs.Common.{rules, ◌∙◌, ◌++◌, ℕ, List, Option, length, subst, arith}
+use Rattle.std.proofs.Common.{rules, ◌≡◌, Err, ◌∙◌, ◌++◌, ℕ, List, Option, length, subst, arith}
 use Rattle.store_api.specs.Emitters.{CameOf}
 use Rattle.group_op.specs.Causes.{IsWantOf}
 use Rattle.group_op.specs.Emission.{EmittedFront}
 use Rattle.group_op.specs.Finishing.{Stacked, said_down}
 use Rattle.tuple_stream.specs.Families.{slots_in}
+use Rattle.tuple_stream.specs.FamilyCalls.{shares}
 use Rattle.partition_stack.specs.Stack.{over}
-use Rattle.group_op.specs.Held.{state}
+use Rattle.group_op.specs.Held.{State, state}
 use Rattle.group_op.proofs.Advancing.{advances_all, advances_few, advances_front, advances_made, advances_none, advances_then}
 use Rattle.partition_stack.proofs.Emitters.{beside_stands, came_behind, stands_none, stands_then}
 use Rattle.group_op.proofs.Besides.{serves_more, serves_none}
 use Rattle.group_op.proofs.Begun.{gone_all, gone_more, gone_none}
+use Rattle.group_op.proofs.Wants.{among_more_of, among_since}
 use Rattle.group_op.proofs.handing.empty_parts.Goals as goal
 
 pub down-init : goal.down-init
@@ -112,3 +114,16 @@ returns-in_err-advance-clause-made g c = λ rows stacked.
 pub returns-clause-made : goal.returns-clause-made
 returns-clause-made g c = λ rows stacked.
     advances_few c.args.shape.now (g.E.Emit.took c.args.emit.now (g.St.Store.holds c.args.store.now)) (g.E.Emit.took c.down.emit (g.St.Store.holds c.down.store)) (g.E.Emit.took c.down.emit (g.St.Store.holds c.down.store)) rows (state c.args.table.now c.args.parts.now (g.St.Store.holds c.args.store.now) (g.St.Store.signs c.args.store.now)) (state c.down.table c.down.parts (g.St.Store.holds c.down.store) (g.St.Store.signs c.down.store)) (state c.down.table c.down.parts (g.St.Store.holds c.down.store) (g.St.Store.signs c.down.store)) (c.down.invariant.rows rows stacked)
+
+pub returns-in_err-advance-clause-enough : goal.returns-in_err-advance-clause-enough
+returns-in_err-advance-clause-enough g c = λ none.
+    let a : State = (state c.args.table.now c.args.parts.now (g.St.Store.holds c.args.store.now) (g.St.Store.signs c.args.store.now)) in
+    let b : State = (state c.down.table c.down.parts (g.St.Store.holds c.down.store) (g.St.Store.signs c.down.store)) in
+    let was = c.down.invariant in
+    let same : c.from_residual.result ≡ Err c.in_err-advance.field-0.0 = search rules in
+    rw same
+    (λ rows stacked.
+    let first = was.rows rows stacked in
+    among_since 544 (shares (length c.args.parts.now.streams) rows) a b c.in_err-advance.field-0.0 was.serves.blocks was.serves.leaves.block_len (was.serves.slots.alone none)
+    (among_more_of 544 (shares (length c.down.parts.streams) first.left) (shares (length c.args.parts.now.streams) rows) b c.in_err-advance.field-0.0 first.no_more
+    (c.in_err-advance.ensures.enough (was.stands.client_same ∙ none) first.left first.stacked)))

@@ -1,8 +1,9 @@
-use Rattle.std.proofs.Common.{rules, ◌∙◌, ◌+◌, ◌*◌, ◌++◌, [], ℕ, List, length, sym, subst, arith, append-nil}
+use Rattle.std.proofs.Common.{rules, ◌≡◌, Err, ◌∙◌, ◌+◌, ◌*◌, ◌++◌, [], ℕ, List, length, sym, subst, arith, append-nil}
+use Rattle.store_api.specs.declared.op_err.OpErr.TheVariants.{Pool}
 use Rattle.group_op.specs.Emission.{Emitted, EmittedFront}
 use Rattle.group_op.specs.Finished.{ShowsFirst, groups_of_all}
 use Rattle.partition_stack.specs.Stack.{over}
-use Rattle.group_op.specs.Held.{rows_of, state}
+use Rattle.group_op.specs.Held.{State, rows_of, state}
 use Rattle.tuple_stream.specs.FamilyCalls.{shares}
 use Rattle.group_op.proofs.Advancing.{came_later, emitted_same, front_same}
 use Rattle.group_op.proofs.Besides.{own_same, serves_own, serves_then, stands_own}
@@ -13,7 +14,8 @@ use Rattle.group_op.proofs.Laying.{left_first}
 use Rattle.tuple_stream.specs.Families.{slots_in}
 use Rattle.group_op.proofs.Sharing.{want_as}
 use Rattle.group_op.proofs.Emitting.{emitted_behind, front_behind}
-use Rattle.partition_stack.proofs.Results.{on_err, on_ok}
+use Rattle.group_op.proofs.Wants.{among_more_of, among_since}
+use Rattle.partition_stack.proofs.Results.{if_err, on_err, on_ok}
 use Rattle.partition_stack.specs.Making.{owed}
 use Rattle.partition_stack.proofs.Making.{counts_both, counts_less, few_counts}
 use Rattle.group_op.proofs.handing.finish_parts.Goals as goal
@@ -89,3 +91,20 @@ returns-clause-made g c = λ rows shows.
     (g.St.Store.signs c.args.store.now) (g.St.Store.signs c.settle.new.store) (g.St.Store.signs c.empty_parts.new.store) (omega (arith, few))
     (few_counts (length (rows_of c.args.table.now)) (g.E.Emit.creates c.args.emit.now) (g.St.Store.signs c.args.store.now) (g.St.Store.signs c.settle.new.store) c.settle.ensures.made)
     (c.empty_parts.ensures.made settled.left settled.stacked)
+
+pub returns-in_err-settle-clause-enough : goal.returns-in_err-settle-clause-enough
+returns-in_err-settle-clause-enough g c = λ none.
+    let same : c.from_residual.result ≡ Err (Pool c.in_err-settle.field-0.0) = search rules in
+    rw same c.in_err-settle.ensures.enough
+
+pub returns-clause-enough : goal.returns-clause-enough
+returns-clause-enough g c =
+    let a : State = (state c.args.table.now c.args.parts.now (g.St.Store.holds c.args.store.now) (g.St.Store.signs c.args.store.now)) in
+    let b : State = (state c.settle.new.table c.settle.new.parts (g.St.Store.holds c.settle.new.store) (g.St.Store.signs c.settle.new.store)) in
+    let serves = c.settle.ensures.serves in
+    λ none. if_err c.empty_parts.result
+    (λ e want rows shows.
+    let settled = c.in_ok-settle.ensures.ok rows shows in
+    among_since 544 (rows_of c.args.table.now ++ shares 16 rows) a b e serves.blocks serves.leaves.others.block_len serves.slots.sum
+    (among_more_of 544 (shares (length c.settle.new.parts.streams) settled.left) (rows_of c.args.table.now ++ shares 16 rows) b e settled.no_more (want settled.left settled.stacked)))
+    (c.empty_parts.ensures.enough none)

@@ -1,18 +1,22 @@
-use Rattle.std.proofs.Common.{rules, ◌∙◌, length, refl, ap, arith}
+use Rattle.std.proofs.Common.{rules, ◌≡◌, ◌∙◌, ◌++◌, ℕ, Err, inl, subst, length, refl, ap, arith}
 use Rattle.std.proofs.lemmas.Option.{slice_get_within}
 use Rattle.bucket_table.specs.Tables.{Table}
 use Rattle.tuple_stream.specs.Families.{slots_in}
+use Rattle.tuple_stream.specs.FamilyCalls.{shares}
 use Rattle.partition_stack.specs.Stack.{Stack, over}
 use Rattle.partition_stack.proofs.Results.{if_err, on_ok}
 use Rattle.group_op.proofs.Serving.{serves_then, serves_touched}
 use Rattle.group_op.specs.Causes.{IsWant}
-use Rattle.group_op.specs.Held.{rows_of, state}
+use Rattle.group_op.specs.Held.{State, rows_of, state}
 use Rattle.group_op.specs.Making.{MakesFew}
+use Rattle.group_op.specs.Wanting.{ShowNoMore}
 use Rattle.group_op.proofs.Laying.{settled_left}
 use Rattle.group_op.proofs.Makings.{made_few}
 use Rattle.partition_stack.proofs.Making.{few_both, laying_makes}
 use Rattle.partition_stack.proofs.Slots.{full_since}
 use Rattle.group_op.proofs.Settled.{answered_later, has_settled, serves_of}
+use Rattle.group_op.proofs.Shown.{stand_flushed}
+use Rattle.group_op.proofs.Wants.{want_shown}
 use Rattle.group_op.proofs.handing.settle.Goals as goal
 
 pub returns-clause-between : goal.returns-clause-between
@@ -78,3 +82,28 @@ returns-clause-made g c =
     made_few (over c.args.parts.now (g.St.Store.holds c.args.store.now) (g.St.Store.signs c.args.store.now)) (over c.flush.new.parts (g.St.Store.holds c.flush.new.store) (g.St.Store.signs c.flush.new.store)) (length (rows_of c.args.table.now)) c.flush.ensures.works.made c.flush.ensures.few in
     few_both (length (rows_of c.args.table.now)) 0 (length (rows_of c.args.table.now)) (g.St.Store.signs c.args.store.now) (g.St.Store.signs c.flush.new.store) (g.St.Store.signs c.rest_from.new.store) (omega arith) flushed
     (laying_makes 0 c.args.c.now.tracker (over c.flush.new.parts (g.St.Store.holds c.flush.new.store) (g.St.Store.signs c.flush.new.store)) (over c.rest_from.new.self (g.St.Store.holds c.rest_from.new.store) (g.St.Store.signs c.rest_from.new.store)) (let same = c.rest_from.ensures.pages in omega (arith, same)) c.rest_from.ensures.went)
+
+pub returns-in_err-flush-clause-enough : goal.returns-in_err-flush-clause-enough
+returns-in_err-flush-clause-enough g c =
+    let a : State = (state c.args.table.now c.args.parts.now (g.St.Store.holds c.args.store.now) (g.St.Store.signs c.args.store.now)) in
+    let f : State = (state c.flush.new.table c.flush.new.parts (g.St.Store.holds c.flush.new.store) (g.St.Store.signs c.flush.new.store)) in
+    let serves = serves_of _ _ _ _ c.flush.ensures.works in
+    let same : c.from_residual.result ≡ Err c.in_err-flush.field-0.0 = search rules in
+    rw same
+    (λ rows shows.
+    want_shown c.law_scratch.ensures.pages c.law_scratch.ensures.want c.args.c.now.tracker c.args.shape.now (rows_of c.args.table.now ++ shares 16 rows) a f f c.args.parts.now.page_blocks c.in_err-flush.field-0.0 c.law_stack.ensures.each serves serves.slots
+    (subst (λ (n : ℕ). ShowNoMore (rows_of c.args.table.now ++ shares n rows) f) c.requires.sixteen (c.in_err-flush.ensures.stand.show rows (inl shows.told) shows.shows)) refl refl c.in_err-flush.ensures.full)
+
+pub returns-clause-enough : goal.returns-clause-enough
+returns-clause-enough g c =
+    let a : State = (state c.args.table.now c.args.parts.now (g.St.Store.holds c.args.store.now) (g.St.Store.signs c.args.store.now)) in
+    let f : State = (state c.flush.new.table c.flush.new.parts (g.St.Store.holds c.flush.new.store) (g.St.Store.signs c.flush.new.store)) in
+    let r : State = (state c.flush.new.table c.rest_from.new.self (g.St.Store.holds c.rest_from.new.store) (g.St.Store.signs c.rest_from.new.store)) in
+    let serves = serves_of _ _ _ _ c.flush.ensures.works in
+    let sixteen = c.requires.sixteen in
+    if_err c.rest_from.result
+    (λ e full rows shows.
+    let stand = stand_flushed c.args.c.now.tracker c.args.shape.now 0 0 a f (omega (arith, sixteen)) c.in_ok-flush.ensures.ok in
+    want_shown c.law_scratch.ensures.pages c.law_scratch.ensures.want c.args.c.now.tracker c.args.shape.now (rows_of c.args.table.now ++ shares 16 rows) a f r c.flush.new.parts.page_blocks e c.law_stack.ensures.each serves (returns-clause-serves g c).slots
+    (subst (λ (n : ℕ). ShowNoMore (rows_of c.args.table.now ++ shares n rows) f) c.requires.sixteen (stand.show rows (inl shows.told) shows.shows)) c.rest_from.ensures.pages c.flush.ensures.works.blocks full)
+    c.rest_from.ensures.full

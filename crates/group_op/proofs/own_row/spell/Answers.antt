@@ -29,3 +29,9 @@ returns-clause-short c =
     let few = own_long c.args.shape.now c.args.row.now c.requires.shape in
     let same = ap length c.in_ok-spell_own.ensures.row in
     any_ok c.key_bytes.result (omega (arith, few, same))
+
+pub returns-clause-spells : goal.returns-clause-spells
+returns-clause-spells c =
+    let few = own_long c.args.shape.now c.args.row.now c.requires.shape in
+    let same = ap length c.in_ok-spell_own.ensures.row in
+    any_ok c.key_bytes.result (record { values = c.law_values.ensures; says = c.in_ok-spell_own.ensures.says; light = omega (arith, few, same) })

@@ -1,6 +1,7 @@
 use Rattle.std.proofs.Common.{◌≡◌, ◌≤◌, ℕ, Err, length, ap, sym, subst, arith, rules}
 use Rattle.store_api.proofs.Answered.{answered_before}
 use Rattle.bucket_table.specs.Tables.{Table, used_by}
+use Rattle.partition_stack.proofs.Results.{any_err}
 use Rattle.group_op.specs.Held.{State, page_len, rows_of, state}
 use Rattle.group_op.specs.Putting.{HasGrown, IsTooLong}
 use Rattle.group_op.proofs.Growth.{grown_then_works}
@@ -8,6 +9,7 @@ use Rattle.group_op.proofs.Entering.{entries_new, flushed_moved, four_long, put_
 use Rattle.group_op.proofs.Keeping.{works_nodes}
 use Rattle.group_op.proofs.RowForms.{partial_is_framed}
 use Rattle.group_op.proofs.Weighing.{too_long}
+use Rattle.group_op.proofs.Wants.{stand_after}
 use Rattle.group_op.proofs.putting.put.Goals as goal
 
 pub returns-in_err-flush-clause-works : goal.returns-in_err-flush-clause-works
@@ -92,3 +94,11 @@ returns-clause-left g c =
     let rows = ap length (c.put_here.ensures.grown c.if-put_here.false).rows in
     let none : length (rows_of c.flush.new.table) ≡ 0 = ap (λ (x : Table). length (rows_of x)) c.in_ok-flush.ensures.ok.table in
     rw c.add_entry.ensures (omega (arith, few, rows, none))
+
+pub returns-in_err-flush-clause-stand : goal.returns-in_err-flush-clause-stand
+returns-in_err-flush-clause-stand g c =
+    let a : State = state c.args.table.now c.args.parts.now (g.St.Store.holds c.args.store.now) (g.St.Store.signs c.args.store.now) in
+    let m : State = state c.put_here.new.table c.args.parts.now (g.St.Store.holds c.put_here.new.store) (g.St.Store.signs c.put_here.new.store) in
+    let b : State = state c.flush.new.table c.flush.new.parts (g.St.Store.holds c.flush.new.store) (g.St.Store.signs c.flush.new.store) in
+    let grown = c.put_here.ensures.grown c.if-put_here.false in
+    any_err c.from_residual.result (stand_after a m b grown.rows grown.works.many grown.deals c.in_err-flush.ensures.stand)

@@ -1,14 +1,16 @@
-use Rattle.std.proofs.Common.{rules}
+use Rattle.std.proofs.Common.{rules, ◌≡◌, ◌∙◌, ◌+◌, ◌*◌, length, ap}
 use Rattle.store_api.specs.Signs.{WasAnswered}
 use Rattle.store_api.proofs.Answered.{answered_before}
 use Rattle.tuple_stream.specs.Reading.{ReadsRow}
 use Rattle.tuple_stream.specs.Steps.{scene}
 use Rattle.tuple_stream.specs.Touches.{slots_with}
+use Rattle.tuple_stream.specs.Streamed.{Streamed}
 use Rattle.tuple_stream.proofs.ReadRow.{reads_trans}
-use Rattle.group_op.specs.Causes.{IsWant}
+use Rattle.group_op.specs.Causes.{IsWant, IsWantBelow}
 use Rattle.group_op.specs.Keepings.{key_in}
 use Rattle.group_op.proofs.Readings.{keeping_all, keeping_more, keeping_none, kept_few, kept_ordered, none_found, row_found}
 use Rattle.group_op.proofs.Sharing.{want_read}
+use Rattle.group_op.proofs.Wants.{below_read}
 use Rattle.group_op.proofs.scanning.keep_lowest.Goals as goal
 
 pub loop-spare-init : goal.loop-spare-init
@@ -53,4 +55,12 @@ returns-in_err-keep_into-clause-want g c =
     let want : IsWant c.args.rows.now.page_blocks (slots_with c.args.rows.now (g.St.Store.holds c.args.store.now)) c.in_err-keep_into.field-0.0 =
     want_read c.args.c.now.tracker c.loop-spare.rows.page_blocks c.args.rows.now c.keep_into.new.self (g.St.Store.holds c.args.store.now) (g.St.Store.holds c.keep_into.new.store) (g.St.Store.signs c.args.store.now) (g.St.Store.signs c.keep_into.new.store) c.in_err-keep_into.field-0.0
     (reads_trans c.args.c.now.tracker _ _ _ c.loop-spare.invariant.read.went c.keep_into.ensures.went) c.loop-spare.invariant.read.went.step.sized c.in_err-keep_into.ensures.cause.full in
+    search (rules, want)
+
+pub returns-in_err-keep_into-clause-enough : goal.returns-in_err-keep_into-clause-enough
+returns-in_err-keep_into-clause-enough g c =
+    let same : c.keep_into.new.self ≡ record c.args.rows.now { pinned = c.keep_into.new.self.pinned } = c.keep_into.ensures.same ∙ ap (λ (s : Streamed). record s { pinned = c.keep_into.new.self.pinned }) c.loop-spare.invariant.read.same in
+    let want : IsWantBelow ((length c.args.rows.now.pages + 1) * c.args.rows.now.page_blocks) (slots_with c.args.rows.now (g.St.Store.holds c.args.store.now)) c.in_err-keep_into.field-0.0 =
+    below_read c.law_scratch.ensures.want c.args.c.now.tracker c.loop-spare.rows.page_blocks c.args.rows.now c.keep_into.new.self (g.St.Store.holds c.args.store.now) (g.St.Store.holds c.keep_into.new.store) (g.St.Store.signs c.args.store.now) (g.St.Store.signs c.keep_into.new.store) c.in_err-keep_into.field-0.0
+    (reads_trans c.args.c.now.tracker _ _ _ c.loop-spare.invariant.read.went c.keep_into.ensures.went) same c.loop-spare.invariant.read.went.step.sized c.in_err-keep_into.ensures.cause.full in
     search (rules, want)

@@ -1,4 +1,4 @@
-use Rattle.std.proofs.Common.{rules, ◌≡◌, ◌∙◌, ℕ, ◌<◌, ◌-◌, List, ◌++◌, Option, true, length, take, ap, sym, subst, arith}
+use Rattle.std.proofs.Common.{rules, ◌≡◌, ◌∙◌, ℕ, ◌+◌, ◌*◌, ◌<◌, ◌-◌, List, ◌++◌, Option, true, length, take, ap, sym, subst, arith}
 use Rattle.std.specs.Prelude.{IsSome}
 use Rattle.row_codec.specs.declared.values.Value.{Value}
 use Rattle.store_api.specs.Emitters.{CameOf}
@@ -9,7 +9,7 @@ use Rattle.tuple_stream.specs.Streamed.{Streamed}
 use Rattle.tuple_stream.specs.Streams.{HasRows}
 use Rattle.tuple_stream.specs.Touches.{slots_with}
 use Rattle.group_op.specs.declared.lowest.Entry.{Entry}
-use Rattle.group_op.specs.Causes.{CameBeside, IsWant}
+use Rattle.group_op.specs.Causes.{CameBeside, IsWant, IsWantBelow, IsWantBelowOf}
 use Rattle.group_op.specs.Emission.{AdmitsAll, Emitted, EmittedFront, WentOn}
 use Rattle.group_op.specs.Keepings.{all_above, key_in, kept_in}
 use Rattle.group_op.specs.Scanning.{groups_by_bytes}
@@ -19,6 +19,7 @@ use Rattle.partition_stack.proofs.ReadFrames.{free_now, reads_own, stays_handed,
 use Rattle.group_op.proofs.Emitting.{went_emitted, went_front}
 use Rattle.group_op.proofs.Scans.{HasHanded, handed_all, handed_end, handed_first, handed_front, handed_none, handed_popped, handed_still, kept_admitted, kept_known}
 use Rattle.group_op.proofs.Sharing.{alone_want, shares_handed, shares_none, shares_read}
+use Rattle.group_op.proofs.Wants.{alone_below}
 use Rattle.group_op.proofs.scanning.leaf_by_scan.Goals as goal
 
 pub loop-left-init : goal.loop-left-init
@@ -289,3 +290,18 @@ returns-clause-ok g c = λ rows told has.
 
 pub returns-clause-stream : goal.returns-clause-stream
 returns-clause-stream g c = record { read = c.loop-left.invariant.stays.beside; shares = c.loop-left.invariant.shares }
+
+pub returns-in_err-keep_lowest-clause-enough : goal.returns-in_err-keep_lowest-clause-enough
+returns-in_err-keep_lowest-clause-enough g c = λ none.
+    let stays = c.loop-left.invariant.stays in
+    let pages : (length c.loop-left.rows.pages + 1) * c.loop-left.rows.page_blocks ≡ (length c.args.rows.now.pages + 1) * c.args.rows.now.page_blocks = ap (λ (s : Streamed). (length s.pages + 1) * s.page_blocks) stays.beside.same in
+    let want : IsWantBelowOf ((length c.args.rows.now.pages + 1) * c.args.rows.now.page_blocks) (slots_with c.args.rows.now (g.St.Store.holds c.args.store.now)) (Pool c.in_err-keep_lowest.field-0.0) =
+    subst (λ (n : ℕ). IsWantBelow n (slots_with c.args.rows.now (g.St.Store.holds c.args.store.now)) c.in_err-keep_lowest.field-0.0) pages
+    (subst (λ (o : Option ℕ). IsWantBelow ((length c.loop-left.rows.pages + 1) * c.loop-left.rows.page_blocks) o c.in_err-keep_lowest.field-0.0) (c.loop-left.invariant.shares.slots.alone none) c.in_err-keep_lowest.ensures.enough) in
+    search (rules, want)
+
+pub returns-in_err-hand_on-clause-enough : goal.returns-in_err-hand_on-clause-enough
+returns-in_err-hand_on-clause-enough g c = λ none.
+    let want : IsWantBelowOf ((length c.args.rows.now.pages + 1) * c.args.rows.now.page_blocks) (slots_with c.args.rows.now (g.St.Store.holds c.args.store.now)) c.in_err-hand_on.field-0.0 =
+    alone_below _ _ _ _ _ _ c.in_err-hand_on.field-0.0 (c.hand_on.ensures.stood.alone (c.loop-left.invariant.stays.emitter.client_same ∙ none)) c.in_err-hand_on.ensures.cause in
+    search (rules, want)

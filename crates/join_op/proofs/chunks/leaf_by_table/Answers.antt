@@ -3,9 +3,12 @@ use Rattle.row_codec.specs.declared.values.Value.{Value}
 use Rattle.store_api.specs.Conditions.{IsBlockCount}
 use Rattle.bucket_table.specs.Lending.{Lends}
 use Rattle.partition_stack.proofs.Results.{if_err, on_err, on_ok}
+use Rattle.partition_stack.specs.Slots.{with_more}
+use Rattle.join_op.specs.Slots.{Crowds}
 use Rattle.join_op.specs.Chunks.{stored_pairs}
 use Rattle.join_op.specs.Holding.{LeavesRoom, loans_in}
-use Rattle.join_op.proofs.LeafEnds.{beside_lent, cause_since, emitted_since, some_since, stays_since, went_since}
+use Rattle.join_op.proofs.LeafEnds.{beside_lent, emitted_since, some_since, stays_since, went_since}
+use Rattle.join_op.proofs.LeafSlots.{full_since, keep_lent}
 use Rattle.join_op.proofs.LentBoth.{own_lent, readable_lent, rows_stay, told_lent}
 use Rattle.join_op.proofs.chunks.leaf_by_table.Goals as goal
 
@@ -61,10 +64,30 @@ returns-clause-stands g c =
     went_since (g.E.Emit.took c.args.emit.now h0) (g.E.Emit.took c.args.emit.now h1) (g.E.Emit.took c.join_pair.new.emit (g.St.Store.holds c.join_pair.new.store)) still c.join_pair.ensures.stands
 
 pub returns-clause-cause : goal.returns-clause-cause
-returns-clause-cause g c = if_err c.join_pair.result (λ e came. cause_since _ _ _ _ _ _ _ e c.hold-held.ensures.grows came) c.join_pair.ensures.cause
+returns-clause-cause g c = if_err c.join_pair.result (λ e came. full_since _ _ _ _ _ _ _ _ e c.hold-held.ensures.grows came) c.join_pair.ensures.cause
 
 pub returns-clause-streams : goal.returns-clause-streams
 returns-clause-streams g c = c.join_pair.ensures.streams _ c.hold-held.ensures.lends c.requires.streams
 
 pub returns-clause-emitter : goal.returns-clause-emitter
 returns-clause-emitter g c = stays_since _ _ _ _ _ _ _ _ _ _ c.hold-held.ensures.grows c.hold-held.ensures.made c.join_pair.ensures.emitter
+
+pub returns-clause-slots : goal.returns-clause-slots
+returns-clause-slots g c =
+    let t = c.args.c.now.tracker in
+    let h0 = g.St.Store.holds c.args.store.now in
+    let h1 = g.St.Store.holds c.hold-held.new.store in
+    let lends : Lends t (loans_in c.hold-held.result.table) h0 h1 = c.hold-held.ensures.lends in
+    keep_lent t (loans_in c.hold-held.result.table) h0 h1 (g.St.Store.holds c.join_pair.new.store) c.args.left.now c.args.right.now c.join_pair.new.left c.join_pair.new.right (g.E.Emit.client c.args.emit.now) _ _ _ lends (g.met.E.Emit.slots_own c.args.emit.now h0 h1 (own_lent t (loans_in c.hold-held.result.table) h0 h1 lends (g.E.Emit.client c.args.emit.now) c.requires.emitter.apart)) c.join_pair.ensures.slots
+
+pub returns-clause-crowded : goal.returns-clause-crowded
+returns-clause-crowded g c =
+    let t = c.args.c.now.tracker in
+    let h0 = g.St.Store.holds c.args.store.now in
+    let h1 = g.St.Store.holds c.hold-held.new.store in
+    let lends : Lends t (loans_in c.hold-held.result.table) h0 h1 = c.hold-held.ensures.lends in
+    let still : (rows : List (List Value)) → g.E.Emit.took c.args.emit.now h0 rows → g.E.Emit.took c.args.emit.now h1 rows =
+    λ rows. g.met.E.Emit.asks_own c.args.emit.now h0 h1 rows (own_lent t (loans_in c.hold-held.result.table) h0 h1 lends (g.E.Emit.client c.args.emit.now) c.requires.emitter.apart) in
+    if_err c.join_pair.result
+    (λ e came lefts rights told one two. some_since (g.E.Emit.took c.args.emit.now h0) (g.E.Emit.took c.args.emit.now h1) (Crowds (g.E.Emit.slots_for c.args.emit.now) c.args.left.now.page_blocks (with_more (g.E.Emit.slots c.join_pair.new.emit (g.St.Store.holds c.join_pair.new.store)) (g.St.Store.holds c.join_pair.new.store).free_slots) e) still (stored_pairs c.args.shape.now lefts rights) (came lefts rights (told_lent t (loans_in c.hold-held.result.table) h0 h1 lends ∙ told) (rows_stay t (loans_in c.hold-held.result.table) h0 h1 lends c.args.left.now lefts c.requires.streams.left_shape one) (rows_stay t (loans_in c.hold-held.result.table) h0 h1 lends c.args.right.now rights c.requires.streams.right_shape two)))
+    c.join_pair.ensures.crowded

@@ -1,17 +1,23 @@
-use Rattle.std.proofs.Common.{◌≡◌, ◌∙◌, ℕ, ap, sym, subst, arith}
+use Rattle.std.proofs.Common.{◌≡◌, ◌∙◌, ℕ, ◌+◌, ◌≤◌, [], length, refl, ap, sym, subst, arith}
 use Rattle.std.proofs.lemmas.Option.{slice_get_within}
 use Rattle.store_api.proofs.Answered.{answered_before}
-use Rattle.tuple_stream.specs.Families.{AllClosed}
+use Rattle.tuple_stream.specs.Families.{AllClosed, AllSized, Family, pages_in}
+use Rattle.tuple_stream.specs.FamilyCalls.{AllWhole, shares}
 use Rattle.tuple_stream.specs.Touches.{IsFull}
 use Rattle.partition_stack.specs.Stack.{Stack, over}
 use Rattle.partition_stack.proofs.Making.{few_both, few_less, few_none, laying_makes}
 use Rattle.partition_stack.proofs.Results.{on_ok}
-use Rattle.join_op.specs.Dividing.{HasCalled, IsFan, side_of}
+use Rattle.join_op.specs.Dividing.{AreFewPages, HasCalled, HasDealt, IsFan, WholeBut, side_of}
 use Rattle.join_op.specs.Joining.{HasRowsAt}
-use Rattle.join_op.proofs.Calls.{calls_beside}
-use Rattle.join_op.proofs.Dealing.{deals_all, deals_rested, pinned_then}
+use Rattle.partition_stack.proofs.Stacking.{few_partitions}
+use Rattle.join_op.proofs.BothSlots.{sized_front}
+use Rattle.join_op.proofs.Calls.{called_of, calls_beside}
+use Rattle.join_op.proofs.Dealing.{deals_all, deals_rested, part_all, pinned_then}
+use Rattle.join_op.proofs.Enough.{all_sized, few_dealt, few_stay, few_whole}
+use Rattle.join_op.proofs.Moved.{none_left}
+use Rattle.join_op.proofs.Spent.{whole_again, whole_divided}
 use Rattle.join_op.proofs.Handed.{both_errs}
-use Rattle.join_op.proofs.Fans.{called_divided, called_of, called_then, closed_divided, fan_divided, may_divided, rows_divided, still_there}
+use Rattle.join_op.proofs.Fans.{called_divided, called_then, closed_divided, fan_divided, may_divided, rows_divided, still_there}
 use Rattle.join_op.proofs.dividing.divide_side.Goals as goal
 
 pub spend_side-requires-clause-may : goal.spend_side-requires-clause-may
@@ -52,6 +58,17 @@ returns-clause-first g c =
     rests.steps.grows.trail)
     c.rest_from.ensures.ok
 
+pub returns-in_err-spend_side-clause-called : goal.returns-in_err-spend_side-clause-called
+returns-in_err-spend_side-clause-called g c =
+    let t = c.args.c.now.tracker in
+    let h = g.St.Store.holds c.args.store.now in
+    let s = g.St.Store.signs c.args.store.now in
+    let h1 = g.St.Store.holds c.spend_side.new.store in
+    let s1 = g.St.Store.signs c.spend_side.new.store in
+    let begun : HasCalled t c.args.parts.now c.divide.new.self c.args.other.now h h s s =
+    subst (λ (p : Stack). HasCalled t c.args.parts.now p c.args.other.now h h s s) (sym c.in-Ok.ensures.ok) (called_divided t c.args.at c.args.level c.args.parts.now c.args.other.now h s c.law_stack.ensures c.requires.may.own) in
+    called_then t c.args.parts.now c.divide.new.self c.spend_side.new.parts c.args.other.now h h h1 s s s1 begun (called_of t c.divide.new.self c.spend_side.new.parts c.args.other.now h h1 s s1 c.spend_side.ensures.beside)
+
 pub returns-clause-called : goal.returns-clause-called
 returns-clause-called g c =
     let t = c.args.c.now.tracker in
@@ -89,3 +106,68 @@ pub returns-clause-made : goal.returns-clause-made
 returns-clause-made g c = λ x there.
     (few_both x.count 0 x.count (g.St.Store.signs c.args.store.now) (g.St.Store.signs c.spend_side.new.store) (g.St.Store.signs c.rest_from.new.store) (omega arith) (c.spend_side.ensures.made x (still_there c.args.at c.args.level c.args.parts.now c.divide.new.self x c.in-Ok.ensures.ok there))
     (laying_makes 0 c.args.c.now.tracker (over c.spend_side.new.parts (g.St.Store.holds c.spend_side.new.store) (g.St.Store.signs c.spend_side.new.store)) (over c.rest_from.new.self (g.St.Store.holds c.rest_from.new.store) (g.St.Store.signs c.rest_from.new.store)) (let same = c.rest_from.ensures.pages in omega (arith, same)) c.rest_from.ensures.went))
+
+pub returns-in_default-clause-few : goal.returns-in_default-clause-few
+returns-in_default-clause-few g c = λ rows told shows whole.
+    few_stay c.args.parts.now.page_blocks 273 (shares (length c.args.parts.now.streams) rows) (over c.args.parts.now (g.St.Store.holds c.args.store.now) (g.St.Store.signs c.args.store.now)) (over c.divide.new.self (g.St.Store.holds c.args.store.now) (g.St.Store.signs c.args.store.now))
+    (ap (λ (p : Stack). pages_in (over p (g.St.Store.holds c.args.store.now) (g.St.Store.signs c.args.store.now))) c.in_default.ensures.err) refl
+    (few_whole c.law_scratch.ensures.few c.args.c.now.tracker c.args.parts.now.page_blocks rows (over c.args.parts.now (g.St.Store.holds c.args.store.now) (g.St.Store.signs c.args.store.now)) c.requires.may.own.left_shaped c.law_stack.ensures.each shows (few_partitions c.args.parts.now c.law_stack.ensures) whole)
+
+pub returns-in_err-spend_side-clause-few : goal.returns-in_err-spend_side-clause-few
+returns-in_err-spend_side-clause-few g c = λ rows told shows whole.
+    let t = c.args.c.now.tracker in
+    let h = g.St.Store.holds c.args.store.now in
+    let s = g.St.Store.signs c.args.store.now in
+    let h1 = g.St.Store.holds c.spend_side.new.store in
+    let s1 = g.St.Store.signs c.spend_side.new.store in
+    let begun : HasCalled t c.args.parts.now c.divide.new.self c.args.other.now h h s s =
+    subst (λ (p : Stack). HasCalled t c.args.parts.now p c.args.other.now h h s s) (sym c.in-Ok.ensures.ok) (called_divided t c.args.at c.args.level c.args.parts.now c.args.other.now h s c.law_stack.ensures c.requires.may.own) in
+    let called : HasCalled t c.args.parts.now c.spend_side.new.parts c.args.other.now h h1 s s1 = called_then t c.args.parts.now c.divide.new.self c.spend_side.new.parts c.args.other.now h h h1 s s s1 begun (called_of t c.divide.new.self c.spend_side.new.parts c.args.other.now h h1 s s1 c.spend_side.ensures.beside) in
+    let side = side_of c.args.kinds.now c.args.columns.now in
+    let f : Family = over c.spend_side.new.parts h1 s1 in
+    let sized : AllSized c.args.parts.now.page_blocks f = sized_front c.args.parts.now.page_blocks c.spend_side.new.parts.streams c.args.other.now.streams h1 s1 (called.slots.sized (all_sized c.args.parts.now c.args.other.now h s c.law_stack.ensures c.law_stack-2.ensures c.requires.alike)) in
+    let sixteen : length c.spend_side.new.parts.streams ≡ c.args.at + 17 = c.spend_side.ensures.fan.sixteen in
+    let many : c.args.at + 17 ≤ 272 = (let few = few_partitions c.divide.new.self c.law_stack-3.ensures in let long = c.spend_side.ensures.beside.many in omega (arith, few, long, sixteen)) in
+    let but : WholeBut c.args.at f = c.spend_side.ensures.whole (subst (λ (p : Stack). AllWhole (over p h s)) (sym c.in-Ok.ensures.ok) (whole_divided c.args.at c.args.level c.args.parts.now h s whole)) in
+    let has = part_all t side c.args.level c.args.at c.args.parts.now h s c.law_stack.ensures c.requires.top f c.divide.new.self c.in-Ok.ensures.ok c.in_err-spend_side.ensures.part rows told shows in
+    subst (λ (n : ℕ). AreFewPages c.args.parts.now.page_blocks 273 (shares n rows) f) (sym c.requires.top)
+    (few_dealt c.law_scratch.ensures.few t c.args.parts.now.page_blocks side c.args.level c.args.at rows has.some has.rest f c.spend_side.ensures.beside.own.left_shaped sized sixteen many but has.dealt has.lighter)
+
+pub returns-clause-few : goal.returns-clause-few
+returns-clause-few g c = λ rows told shows whole.
+    let t = c.args.c.now.tracker in
+    let h = g.St.Store.holds c.args.store.now in
+    let s = g.St.Store.signs c.args.store.now in
+    let h1 = g.St.Store.holds c.spend_side.new.store in
+    let s1 = g.St.Store.signs c.spend_side.new.store in
+    let begun : HasCalled t c.args.parts.now c.divide.new.self c.args.other.now h h s s =
+    subst (λ (p : Stack). HasCalled t c.args.parts.now p c.args.other.now h h s s) (sym c.in-Ok.ensures.ok) (called_divided t c.args.at c.args.level c.args.parts.now c.args.other.now h s c.law_stack.ensures c.requires.may.own) in
+    let called : HasCalled t c.args.parts.now c.spend_side.new.parts c.args.other.now h h1 s s1 = called_then t c.args.parts.now c.divide.new.self c.spend_side.new.parts c.args.other.now h h h1 s s s1 begun (called_of t c.divide.new.self c.spend_side.new.parts c.args.other.now h h1 s s1 c.spend_side.ensures.beside) in
+    let side = side_of c.args.kinds.now c.args.columns.now in
+    let f : Family = over c.spend_side.new.parts h1 s1 in
+    let sized : AllSized c.args.parts.now.page_blocks f = sized_front c.args.parts.now.page_blocks c.spend_side.new.parts.streams c.args.other.now.streams h1 s1 (called.slots.sized (all_sized c.args.parts.now c.args.other.now h s c.law_stack.ensures c.law_stack-2.ensures c.requires.alike)) in
+    let sixteen : length c.spend_side.new.parts.streams ≡ c.args.at + 17 = c.spend_side.ensures.fan.sixteen in
+    let many : c.args.at + 17 ≤ 272 = (let few = few_partitions c.divide.new.self c.law_stack-3.ensures in let long = c.spend_side.ensures.beside.many in omega (arith, few, long, sixteen)) in
+    let but : WholeBut c.args.at f = c.spend_side.ensures.whole (subst (λ (p : Stack). AllWhole (over p h s)) (sym c.in-Ok.ensures.ok) (whole_divided c.args.at c.args.level c.args.parts.now h s whole)) in
+    let has : HasDealt side c.args.level c.args.at rows (rows c.args.at) [] f =
+    deals_all t side c.args.level c.args.at c.args.parts.now h s c.law_stack.ensures c.requires.top f c.divide.new.self c.in-Ok.ensures.ok c.in_ok-spend_side.ensures.dealt rows told shows in
+    few_stay c.args.parts.now.page_blocks 273 (shares (length c.args.parts.now.streams) rows) f (over c.rest_from.new.self (g.St.Store.holds c.rest_from.new.store) (g.St.Store.signs c.rest_from.new.store)) c.rest_from.ensures.pages c.rest_from.ensures.went.touches.block_len
+    (subst (λ (n : ℕ). AreFewPages c.args.parts.now.page_blocks 273 (shares n rows) f) (sym c.requires.top)
+    (few_dealt c.law_scratch.ensures.few t c.args.parts.now.page_blocks side c.args.level c.args.at rows (rows c.args.at) [] f c.spend_side.ensures.beside.own.left_shaped sized sixteen many but has (λ w. none_left w (rows c.args.at))))
+
+pub returns-clause-whole : goal.returns-clause-whole
+returns-clause-whole g c =
+    let t = c.args.c.now.tracker in
+    let h = g.St.Store.holds c.args.store.now in
+    let s = g.St.Store.signs c.args.store.now in
+    let h1 = g.St.Store.holds c.spend_side.new.store in
+    let s1 = g.St.Store.signs c.spend_side.new.store in
+    let side = side_of c.args.kinds.now c.args.columns.now in
+    let f : Family = over c.spend_side.new.parts h1 s1 in
+    on_ok c.rest_from.result
+    (λ rests rows told shows whole.
+    let but : WholeBut c.args.at f = c.spend_side.ensures.whole (subst (λ (p : Stack). AllWhole (over p h s)) (sym c.in-Ok.ensures.ok) (whole_divided c.args.at c.args.level c.args.parts.now h s whole)) in
+    let has : HasDealt side c.args.level c.args.at rows (rows c.args.at) [] f =
+    deals_all t side c.args.level c.args.at c.args.parts.now h s c.law_stack.ensures c.requires.top f c.divide.new.self c.in-Ok.ensures.ok c.in_ok-spend_side.ensures.dealt rows told shows in
+    rests.whole (whole_again c.law_few_pages.ensures.law t side c.args.level c.args.at rows f c.spend_side.ensures.beside.own.left_shaped has but))
+    c.rest_from.ensures.ok

@@ -3,6 +3,7 @@ use Rattle.tuple_stream.specs.PageRows.{IsOneRow}
 use Rattle.partition_stack.specs.Stack.{over}
 use Rattle.partition_stack.proofs.Making.{few_less, few_none, laying_makes}
 use Rattle.join_op.proofs.Calls.{calls_beside}
+use Rattle.join_op.proofs.Dealing.{fed_still}
 use Rattle.join_op.proofs.Fans.{room_of_fan}
 use Rattle.join_op.proofs.OneRow.{read_is_one}
 use Rattle.join_op.proofs.dividing.send.Goals as goal
@@ -30,3 +31,7 @@ returns-clause-made g c =
 
 pub returns-in_default-clause-made : goal.returns-in_default-clause-made
 returns-in_default-clause-made g c = few_less 0 1 (g.St.Store.signs c.args.store.now) (g.St.Store.signs c.args.store.now) (omega arith) (few_none (g.St.Store.signs c.args.store.now))
+
+pub returns-clause-stays : goal.returns-clause-stays
+returns-clause-stays g c =
+    fed_still c.append.result c.args.c.now.tracker _ _ (over c.args.parts.now (g.St.Store.holds c.args.store.now) (g.St.Store.signs c.args.store.now)) (over c.append.new.self (g.St.Store.holds c.append.new.store) (g.St.Store.signs c.append.new.store)) c.append.ensures.went

@@ -1,10 +1,12 @@
 use Rattle.std.proofs.Common.{◌≡◌, ℕ, Err, subst, arith, rules}
 use Rattle.store_api.proofs.Answered.{answered_before}
 use Rattle.tuple_stream.specs.Touches.{IsFull}
+use Rattle.partition_stack.proofs.Results.{any_err}
 use Rattle.join_op.specs.Dividing.{side_of}
-use Rattle.join_op.proofs.Calls.{calls_none}
-use Rattle.join_op.proofs.Dealing.{all_dealt, all_first, calls_more, deals_none, fan_more, made_all, made_none, made_sent, made_unspent, more_deals, none_beside, none_dealt, none_fan, none_first, some_all, spent_none, spent_row}
-use Rattle.join_op.proofs.Fans.{beside_then, called_of, may_after, room_of_fan}
+use Rattle.join_op.proofs.Calls.{called_of, calls_none}
+use Rattle.join_op.proofs.Dealing.{all_dealt, all_first, calls_more, deals_none, fan_more, made_all, made_none, made_sent, made_unspent, more_deals, none_beside, none_dealt, none_fan, none_first, part_read, part_sent, some_all, spent_none, spent_row, whole_more}
+use Rattle.join_op.proofs.Fans.{beside_then, may_after, room_of_fan}
+use Rattle.join_op.proofs.Spent.{whole_sent}
 use Rattle.join_op.proofs.dividing.spend_side.Goals as goal
 
 pub loop-left-init : goal.loop-left-init
@@ -106,7 +108,7 @@ loop-left-preserved g c =
     more_deals c.args.c.now.tracker (side_of c.args.kinds.now c.args.columns.now) c.args.level c.args.at c.loop-left.left c.args.parts.now c.loop-left.parts c.spend.new.self c.args.other.now _ _ (g.St.Store.holds c.spend.new.store) _ _ (g.St.Store.signs c.spend.new.store) c.loop-left.invariant c.spend.new.out.items
     (spent_row c.args.c.now.tracker (side_of c.args.kinds.now c.args.columns.now) c.args.level c.args.at c.loop-left.left c.args.parts.now c.loop-left.parts c.spend.new.self c.args.other.now _ _ (g.St.Store.holds c.spend.new.store) _ _ (g.St.Store.signs c.spend.new.store) c.loop-left.invariant
     c.in_ok-spend.field-0 c.spend.new.out.items c.in_ok-spend.ensures.ok c.if-not-branch.false)
-    c.spend.ensures.changes c.send.new.parts (g.St.Store.holds c.send.new.store) (g.St.Store.signs c.send.new.store) c.send.ensures.beside c.send.ensures.fan c.in_ok-send.ensures.went c.send.ensures.made (omega (arith, c.loop-left-test.true))
+    c.spend.ensures.changes c.send.new.parts (g.St.Store.holds c.send.new.store) (g.St.Store.signs c.send.new.store) c.send.ensures.beside c.send.ensures.fan c.in_ok-send.ensures.went c.send.ensures.made c.send.ensures.spent (omega (arith, c.loop-left-test.true))
 
 pub returns-clause-dealt : goal.returns-clause-dealt
 returns-clause-dealt g c =
@@ -138,3 +140,28 @@ returns-in_err-send-clause-made g c =
 pub returns-clause-made : goal.returns-clause-made
 returns-clause-made g c =
     made_all c.args.c.now.tracker (side_of c.args.kinds.now c.args.columns.now) c.args.level c.args.at c.loop-left.left c.args.parts.now c.loop-left.parts c.loop-left.parts c.args.other.now _ _ (g.St.Store.holds c.loop-left.store) _ _ (g.St.Store.signs c.loop-left.store) c.loop-left.invariant
+
+pub returns-in_err-spend-clause-part : goal.returns-in_err-spend-clause-part
+returns-in_err-spend-clause-part g c =
+    any_err c.from_residual.result (part_read c.args.c.now.tracker (side_of c.args.kinds.now c.args.columns.now) c.args.level c.args.at c.loop-left.left c.args.parts.now c.loop-left.parts c.spend.new.self c.args.other.now _ _ (g.St.Store.holds c.spend.new.store) _ _ (g.St.Store.signs c.spend.new.store) c.loop-left.invariant c.in_err-spend.ensures.err)
+
+pub returns-in_err-send-clause-part : goal.returns-in_err-send-clause-part
+returns-in_err-send-clause-part g c =
+    let spent = spent_row c.args.c.now.tracker (side_of c.args.kinds.now c.args.columns.now) c.args.level c.args.at c.loop-left.left c.args.parts.now c.loop-left.parts c.spend.new.self c.args.other.now _ _ (g.St.Store.holds c.spend.new.store) _ _ (g.St.Store.signs c.spend.new.store) c.loop-left.invariant
+    c.in_ok-spend.field-0 c.spend.new.out.items c.in_ok-spend.ensures.ok c.if-not-branch.false in
+    any_err c.from_residual-in_err-send.result
+    (part_sent c.args.c.now.tracker (side_of c.args.kinds.now c.args.columns.now) c.args.level c.args.at c.loop-left.left c.args.parts.now c.loop-left.parts c.spend.new.self c.args.other.now _ _ (g.St.Store.holds c.spend.new.store) _ _ (g.St.Store.signs c.spend.new.store) c.loop-left.invariant c.spend.new.out.items spent c.send.new.parts (g.St.Store.holds c.send.new.store) (g.St.Store.signs c.send.new.store) c.in_err-send.ensures.stays)
+
+pub returns-in_err-spend-clause-whole : goal.returns-in_err-spend-clause-whole
+returns-in_err-spend-clause-whole g c = λ none. whole_more c.args.c.now.tracker (side_of c.args.kinds.now c.args.columns.now) c.args.level c.args.at c.loop-left.left c.args.parts.now c.loop-left.parts c.spend.new.self c.args.other.now _ _ (g.St.Store.holds c.spend.new.store) _ _ (g.St.Store.signs c.spend.new.store) c.loop-left.invariant c.spend.ensures.changes none
+
+pub returns-then-not-branch-clause-whole : goal.returns-then-not-branch-clause-whole
+returns-then-not-branch-clause-whole g c = λ none. whole_more c.args.c.now.tracker (side_of c.args.kinds.now c.args.columns.now) c.args.level c.args.at c.loop-left.left c.args.parts.now c.loop-left.parts c.spend.new.self c.args.other.now _ _ (g.St.Store.holds c.spend.new.store) _ _ (g.St.Store.signs c.spend.new.store) c.loop-left.invariant c.spend.ensures.changes none
+
+pub returns-in_err-send-clause-whole : goal.returns-in_err-send-clause-whole
+returns-in_err-send-clause-whole g c = λ none.
+    whole_sent c.args.at c.spend.new.self c.send.new.parts (g.St.Store.holds c.spend.new.store) (g.St.Store.holds c.send.new.store) (g.St.Store.signs c.spend.new.store) (g.St.Store.signs c.send.new.store) c.send.ensures.spent
+    (whole_more c.args.c.now.tracker (side_of c.args.kinds.now c.args.columns.now) c.args.level c.args.at c.loop-left.left c.args.parts.now c.loop-left.parts c.spend.new.self c.args.other.now _ _ (g.St.Store.holds c.spend.new.store) _ _ (g.St.Store.signs c.spend.new.store) c.loop-left.invariant c.spend.ensures.changes none)
+
+pub returns-clause-whole : goal.returns-clause-whole
+returns-clause-whole g c = c.loop-left.invariant.whole

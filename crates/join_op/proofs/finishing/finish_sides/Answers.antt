@@ -6,7 +6,10 @@ use Rattle.partition_stack.proofs.Emitters.{beside_stands, beside_then, left_bes
 use Rattle.tuple_stream.specs.Families.{family}
 use Rattle.partition_stack.proofs.Making.{counts_both, ending_makes, few_both, few_counts}
 use Rattle.partition_stack.proofs.Results.{on_err, on_ok}
+use Rattle.partition_stack.proofs.Slots.{keep_own, keep_then}
+use Rattle.join_op.specs.Joining.{both, slots_both}
 use Rattle.join_op.specs.Pairs.{pairs_of}
+use Rattle.join_op.proofs.BothSlots.{cleared_slots}
 use Rattle.join_op.proofs.Cleared.{cleared_closed, cleared_first, cleared_leaves, cleared_op, right_still}
 use Rattle.join_op.proofs.Handed.{emitted_on, from_two, some_on}
 use Rattle.join_op.proofs.LaidSides.{holds_more}
@@ -70,3 +73,16 @@ returns-clause-made g c = λ start lefts rights keeps told.
     (few_both 0 0 0 (g.St.Store.signs c.join_sides-result.new.store) (g.St.Store.signs c.clear.new.store) (g.St.Store.signs c.clear-2.new.store) (omega arith)
     (ending_makes c.args.c.now.tracker (over c.join_sides-result.new.left (g.St.Store.holds c.join_sides-result.new.store) (g.St.Store.signs c.join_sides-result.new.store)) (family [] (g.St.Store.holds c.clear.new.store) (g.St.Store.signs c.clear.new.store)) c.clear.ensures.ends)
     (ending_makes c.args.c.now.tracker (over c.join_sides-result.new.right (g.St.Store.holds c.clear.new.store) (g.St.Store.signs c.clear.new.store)) (family [] (g.St.Store.holds c.clear-2.new.store) (g.St.Store.signs c.clear-2.new.store)) c.clear-2.ensures.ends)))
+
+pub returns-clause-slots : goal.returns-clause-slots
+returns-clause-slots g c =
+    let gone = cleared_leaves c.args.c.now c.args.shape.now c.join_sides-result.new.left c.join_sides-result.new.right c.clear.new.self c.clear-2.new.self (g.St.Store.holds c.join_sides-result.new.store) (g.St.Store.holds c.clear.new.store) (g.St.Store.holds c.clear-2.new.store) (g.St.Store.signs c.join_sides-result.new.store) (g.St.Store.signs c.clear.new.store) (g.St.Store.signs c.clear-2.new.store) c.join_sides-result.ensures.op c.clear.ensures.ends c.clear-2.ensures.ends c.clear.ensures.none c.clear-2.ensures.none in
+    let beside : IsBeside c.args.c.now.tracker (g.E.Emit.client c.join_sides-result.new.emit) (g.St.Store.holds c.join_sides-result.new.store) = beside_stands c.args.c.now.tracker _ _ _ _ _ _ _ _ _ _ c.requires.emitter c.join_sides-result.ensures.emitter in
+    let h1 = g.St.Store.holds c.join_sides-result.new.store in
+    let h3 = g.St.Store.holds c.clear-2.new.store in
+    let s1 = g.St.Store.signs c.join_sides-result.new.store in
+    let s3 = g.St.Store.signs c.clear-2.new.store in
+    keep_then (g.E.Emit.client c.args.emit.now) _ (slots_both (both c.join_sides-result.new.left c.join_sides-result.new.right h1 s1)) (slots_both (both c.clear.new.self c.clear-2.new.self h3 s3)) _ _ _ c.join_sides-result.ensures.slots
+    (keep_own (g.E.Emit.client c.args.emit.now) (slots_both (both c.join_sides-result.new.left c.join_sides-result.new.right h1 s1)) (slots_both (both c.clear.new.self c.clear-2.new.self h3 s3)) _ _
+    (cleared_slots c.args.c.now.tracker c.join_sides-result.new.left c.join_sides-result.new.right c.clear.new.self c.clear-2.new.self h1 (g.St.Store.holds c.clear.new.store) h3 s1 (g.St.Store.signs c.clear.new.store) s3 c.join_sides-result.ensures.op.owns c.clear.ensures.ends.touches c.clear-2.ensures.ends.touches c.clear.ensures.none c.clear-2.ensures.none)
+    (g.met.E.Emit.slots_own c.join_sides-result.new.emit h1 h3 (same_beside c.args.c.now.tracker (g.E.Emit.client c.join_sides-result.new.emit) h1 h3 s1 s3 beside.apart gone)))

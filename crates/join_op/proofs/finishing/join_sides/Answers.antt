@@ -1,16 +1,21 @@
-use Rattle.std.proofs.Common.{rules, ◌≡◌, ◌∙◌, ◌+◌, ◌*◌, List, Option, true, length, arith}
+use Rattle.std.proofs.Common.{rules, ◌≡◌, ◌∙◌, ℕ, ◌+◌, ◌*◌, List, Option, true, length, subst, arith, ap, refl, sym}
 use Rattle.pool_model.specs.declared.entry.Entry.{Entry}
 use Rattle.row_codec.specs.declared.values.Value.{Value}
+use Rattle.store_api.specs.declared.op_err.OpErr.TheVariants.{Pool}
+use Rattle.partition_stack.specs.Slots.{IsWantOf, with_more}
 use Rattle.partition_stack.specs.Stack.{over}
 use Rattle.partition_stack.proofs.Emitters.{beside_then, came_behind, left_beside, same_beside, stands_left, stands_then}
 use Rattle.partition_stack.proofs.Making.{counts_both, counts_less, few_counts}
 use Rattle.partition_stack.proofs.Results.{if_err, on_err, on_ok}
-use Rattle.partition_stack.proofs.Shorts.{short_as}
+use Rattle.partition_stack.proofs.Slots.{keep_own, keep_then}
+use Rattle.join_op.proofs.Crowding.{own_some, same_total, some_more_of, want_more}
+use Rattle.join_op.specs.Slots.{Crowds}
 use Rattle.join_op.specs.Handing.{EmittedSome}
-use Rattle.join_op.specs.Joining.{both, owed_both}
-use Rattle.join_op.specs.Operator.{Keeps, operator}
+use Rattle.join_op.specs.Joining.{both, owed_both, slots_both, slots_by}
+use Rattle.join_op.specs.Operator.{Keeps, operator, slots_for}
 use Rattle.join_op.specs.Pairs.{pairs_of}
-use Rattle.join_op.proofs.Handed.{from_two, some_none, some_on}
+use Rattle.join_op.proofs.Enough.{by_rested}
+use Rattle.join_op.proofs.Handed.{from_two, handed_err, some_none, some_on}
 use Rattle.join_op.proofs.LaidSides.{holds_sides}
 use Rattle.join_op.proofs.Stepped.{first_shallow}
 use Rattle.join_op.proofs.Wholes.{beside_left, emitted_from, owed_rested, pairs_rested, shows_rested, some_from}
@@ -87,8 +92,22 @@ returns-clause-emitter g c =
     stands_then _ _ _ _ _ _ _ _ _ (g.E.Emit.took c.args.emit.now (g.St.Store.holds c.args.store.now)) (g.E.Emit.took c.args.emit.now (g.St.Store.holds c.rest_both.new.store)) (g.E.Emit.took c.join_parts.new.emit (g.St.Store.holds c.join_parts.new.store)) (g.St.Store.holds c.rest_both.new.store) (g.St.Store.holds c.join_parts.new.store)
     (stands_left _ _ _ (g.E.Emit.took c.args.emit.now (g.St.Store.holds c.args.store.now)) (g.E.Emit.took c.args.emit.now (g.St.Store.holds c.rest_both.new.store)) c.args.c.now.tracker (g.St.Store.holds c.args.store.now) (g.St.Store.holds c.rest_both.new.store) (g.St.Store.signs c.args.store.now) (g.St.Store.signs c.rest_both.new.store) c.requires.emitter c.rest_both.ensures.leaves still) c.join_parts.ensures.emitter
 
-pub returns-clause-short : goal.returns-clause-short
-returns-clause-short g c = λ none. short_as c.join_parts.result c.rest_both.new.left.page_blocks c.args.left.now.page_blocks c.rest_both.ensures.blocks (c.join_parts.ensures.short none)
+pub returns-in_err-rest_both-clause-slots : goal.returns-in_err-rest_both-clause-slots
+returns-in_err-rest_both-clause-slots g c =
+    keep_own (g.E.Emit.client c.args.emit.now) (slots_both (both c.args.left.now c.args.right.now (g.St.Store.holds c.args.store.now) (g.St.Store.signs c.args.store.now))) (slots_both (both c.rest_both.new.left c.rest_both.new.right (g.St.Store.holds c.rest_both.new.store) (g.St.Store.signs c.rest_both.new.store))) _ _ c.rest_both.ensures.slots
+    (g.met.E.Emit.slots_own c.args.emit.now (g.St.Store.holds c.args.store.now) (g.St.Store.holds c.rest_both.new.store) (same_beside c.args.c.now.tracker (g.E.Emit.client c.args.emit.now) (g.St.Store.holds c.args.store.now) (g.St.Store.holds c.rest_both.new.store) (g.St.Store.signs c.args.store.now) (g.St.Store.signs c.rest_both.new.store) c.requires.emitter.apart c.rest_both.ensures.leaves))
+
+pub returns-clause-slots : goal.returns-clause-slots
+returns-clause-slots g c =
+    keep_then (g.E.Emit.client c.args.emit.now) _ _ _ _ _ _
+    (keep_own (g.E.Emit.client c.args.emit.now) (slots_both (both c.args.left.now c.args.right.now (g.St.Store.holds c.args.store.now) (g.St.Store.signs c.args.store.now))) (slots_both (both c.rest_both.new.left c.rest_both.new.right (g.St.Store.holds c.rest_both.new.store) (g.St.Store.signs c.rest_both.new.store))) _ _ c.rest_both.ensures.slots
+    (g.met.E.Emit.slots_own c.args.emit.now (g.St.Store.holds c.args.store.now) (g.St.Store.holds c.rest_both.new.store) (same_beside c.args.c.now.tracker (g.E.Emit.client c.args.emit.now) (g.St.Store.holds c.args.store.now) (g.St.Store.holds c.rest_both.new.store) (g.St.Store.signs c.args.store.now) (g.St.Store.signs c.rest_both.new.store) c.requires.emitter.apart c.rest_both.ensures.leaves)))
+    c.join_parts.ensures.slots
+
+pub returns-clause-alone : goal.returns-clause-alone
+returns-clause-alone g c = λ none.
+    let total : Option ℕ = slots_both (both c.args.left.now c.args.right.now (g.St.Store.holds c.args.store.now) (g.St.Store.signs c.args.store.now)) in
+    if_err c.join_parts.result (λ e want. subst (λ (n : ℕ). IsWantOf n total e) c.rest_both.ensures.blocks (subst (λ (o : Option ℕ). IsWantOf c.rest_both.new.left.page_blocks o e) c.rest_both.ensures.slots want)) (c.join_parts.ensures.alone none)
 
 pub returns-clause-cause : goal.returns-clause-cause
 returns-clause-cause g c = if_err c.join_parts.result (λ e came. came_behind _ _ _ (g.St.Store.signs c.args.store.now) (g.St.Store.signs c.rest_both.new.store) (g.St.Store.signs c.join_parts.new.store) e (omega arith) c.rest_both.ensures.leaves.grows came) c.join_parts.ensures.cause
@@ -103,3 +122,47 @@ returns-clause-made g c = λ start lefts rights keeps told.
     let few = owed_rested start c.args.shape.now lefts rights (both c.rest_both.new.left c.rest_both.new.right (g.St.Store.holds c.rest_both.new.store) (g.St.Store.signs c.rest_both.new.store)) rested c.in_ok-rest_both.ensures.rested in
     counts_both 0 (owed_both (both c.rest_both.new.left c.rest_both.new.right (g.St.Store.holds c.rest_both.new.store) (g.St.Store.signs c.rest_both.new.store)) rested.left.rows rested.right.rows) (15 * (length lefts + length rights)) (g.E.Emit.creates c.args.emit.now) (g.E.Emit.creates c.args.emit.now) (g.E.Emit.creates c.join_parts.new.emit) (g.St.Store.signs c.args.store.now) (g.St.Store.signs c.rest_both.new.store) (g.St.Store.signs c.join_parts.new.store) (omega (arith, few)) (few_counts 0 (g.E.Emit.creates c.args.emit.now) (g.St.Store.signs c.args.store.now) (g.St.Store.signs c.rest_both.new.store) c.rest_both.ensures.made)
     (c.join_parts.ensures.made rested.left.rows rested.right.rows (shows_rested start c.args.shape.now lefts rights (both c.rest_both.new.left c.rest_both.new.right (g.St.Store.holds c.rest_both.new.store) (g.St.Store.signs c.rest_both.new.store)) rested (c.rest_both.ensures.leaves.others.told ∙ told)))
+
+pub returns-in_err-rest_both-clause-want : goal.returns-in_err-rest_both-clause-want
+returns-in_err-rest_both-clause-want g c = λ same.
+    let whole = g.met.E.Emit.slots_whole c.args.emit.now (g.St.Store.holds c.args.store.now) c.requires.stands.0 c.requires.stands.1 in
+    handed_err _ c.from_residual.result (Pool c.in_err-rest_both.field-0.0) c.from_residual.ensures
+    (want_more c.args.left.now.page_blocks whole.0 (g.E.Emit.slots c.args.emit.now (g.St.Store.holds c.args.store.now)) (slots_both (both c.args.left.now c.args.right.now (g.St.Store.holds c.args.store.now) (g.St.Store.signs c.args.store.now))) c.in_err-rest_both.field-0.0 (whole.1 ∙ ap (λ (n : ℕ). whole.0 * n) same) c.in_err-rest_both.ensures.want)
+
+pub returns-in_err-rest_both-clause-enough : goal.returns-in_err-rest_both-clause-enough
+returns-in_err-rest_both-clause-enough g c =
+    handed_err _ c.from_residual.result (Pool c.in_err-rest_both.field-0.0) c.from_residual.ensures
+    (λ start lefts rights keeps told. own_some (g.E.Emit.took c.args.emit.now (g.St.Store.holds c.args.store.now)) (g.E.Emit.slots_for c.args.emit.now) (slots_for (operator c.args.c.now c.args.shape.now c.args.left.now c.args.right.now) (g.St.Store.holds c.args.store.now) lefts rights) (g.E.Emit.slots c.args.emit.now (g.St.Store.holds c.args.store.now)) (slots_both (both c.args.left.now c.args.right.now (g.St.Store.holds c.args.store.now) (g.St.Store.signs c.args.store.now))) c.in_err-rest_both.field-0.0 (pairs_of c.args.shape.now lefts rights)
+    (λ rows took. g.met.E.Emit.slots_fit c.args.emit.now (g.St.Store.holds c.args.store.now) rows took) (c.in_err-rest_both.ensures.enough start lefts rights keeps))
+
+pub returns-clause-want : goal.returns-clause-want
+returns-clause-want g c = λ same.
+    let total : with_more (g.E.Emit.slots c.args.emit.now (g.St.Store.holds c.rest_both.new.store)) (slots_both (both c.rest_both.new.left c.rest_both.new.right (g.St.Store.holds c.rest_both.new.store) (g.St.Store.signs c.rest_both.new.store))) ≡ with_more (g.E.Emit.slots c.args.emit.now (g.St.Store.holds c.args.store.now)) (slots_both (both c.args.left.now c.args.right.now (g.St.Store.holds c.args.store.now) (g.St.Store.signs c.args.store.now))) =
+    same_total _ _ _ _
+    (sym (g.met.E.Emit.slots_own c.args.emit.now (g.St.Store.holds c.args.store.now) (g.St.Store.holds c.rest_both.new.store) (same_beside c.args.c.now.tracker (g.E.Emit.client c.args.emit.now) (g.St.Store.holds c.args.store.now) (g.St.Store.holds c.rest_both.new.store) (g.St.Store.signs c.args.store.now) (g.St.Store.signs c.rest_both.new.store) c.requires.emitter.apart c.rest_both.ensures.leaves)))
+    c.rest_both.ensures.slots in
+    if_err c.join_parts.result
+    (λ e want. subst (λ (o : Option ℕ). IsWantOf c.args.left.now.page_blocks o e) total (subst (λ (n : ℕ). IsWantOf n (with_more (g.E.Emit.slots c.args.emit.now (g.St.Store.holds c.rest_both.new.store)) (slots_both (both c.rest_both.new.left c.rest_both.new.right (g.St.Store.holds c.rest_both.new.store) (g.St.Store.signs c.rest_both.new.store)))) e) c.rest_both.ensures.blocks want))
+    (c.join_parts.ensures.want (same ∙ sym c.rest_both.ensures.blocks))
+
+pub returns-clause-enough : goal.returns-clause-enough
+returns-clause-enough g c =
+    let still : (taken : List (List Value)) → (g.E.Emit.took c.args.emit.now (g.St.Store.holds c.args.store.now)) taken → (g.E.Emit.took c.args.emit.now (g.St.Store.holds c.rest_both.new.store)) taken =
+    λ taken. g.met.E.Emit.asks_own c.args.emit.now (g.St.Store.holds c.args.store.now) (g.St.Store.holds c.rest_both.new.store) taken (same_beside c.args.c.now.tracker (g.E.Emit.client c.args.emit.now) (g.St.Store.holds c.args.store.now) (g.St.Store.holds c.rest_both.new.store) (g.St.Store.signs c.args.store.now) (g.St.Store.signs c.rest_both.new.store) c.requires.emitter.apart c.rest_both.ensures.leaves) in
+    let total : with_more (g.E.Emit.slots c.args.emit.now (g.St.Store.holds c.rest_both.new.store)) (slots_both (both c.rest_both.new.left c.rest_both.new.right (g.St.Store.holds c.rest_both.new.store) (g.St.Store.signs c.rest_both.new.store))) ≡ with_more (g.E.Emit.slots c.args.emit.now (g.St.Store.holds c.args.store.now)) (slots_both (both c.args.left.now c.args.right.now (g.St.Store.holds c.args.store.now) (g.St.Store.signs c.args.store.now))) =
+    same_total _ _ _ _
+    (sym (g.met.E.Emit.slots_own c.args.emit.now (g.St.Store.holds c.args.store.now) (g.St.Store.holds c.rest_both.new.store) (same_beside c.args.c.now.tracker (g.E.Emit.client c.args.emit.now) (g.St.Store.holds c.args.store.now) (g.St.Store.holds c.rest_both.new.store) (g.St.Store.signs c.args.store.now) (g.St.Store.signs c.rest_both.new.store) c.requires.emitter.apart c.rest_both.ensures.leaves)))
+    c.rest_both.ensures.slots in
+    if_err c.join_parts.result
+    (λ e enough start lefts rights keeps told.
+    let rested = c.in_ok-rest_both.ensures.kept start lefts rights keeps in
+    let first = c.in_ok-rest_both.ensures.rested in
+    let most : slots_by (both c.rest_both.new.left c.rest_both.new.right (g.St.Store.holds c.rest_both.new.store) (g.St.Store.signs c.rest_both.new.store)) rested.left.rows rested.right.rows ≡ slots_for (operator c.args.c.now c.args.shape.now c.args.left.now c.args.right.now) (g.St.Store.holds c.args.store.now) lefts rights =
+    by_rested c.args.c.now c.args.shape.now c.args.left.now c.args.right.now c.rest_both.new.left c.rest_both.new.right (g.St.Store.holds c.args.store.now) (g.St.Store.holds c.rest_both.new.store) (g.St.Store.signs c.args.store.now) (g.St.Store.signs c.rest_both.new.store) start lefts rights rested first.first.sixteen (first.between.many ∙ first.first.sixteen)
+    c.rest_both.ensures.blocks c.rest_both.ensures.leaves.others.block_len in
+    some_from (g.E.Emit.took c.args.emit.now (g.St.Store.holds c.args.store.now)) (g.E.Emit.took c.args.emit.now (g.St.Store.holds c.rest_both.new.store))
+    (Crowds (g.E.Emit.slots_for c.args.emit.now) (slots_for (operator c.args.c.now c.args.shape.now c.args.left.now c.args.right.now) (g.St.Store.holds c.args.store.now) lefts rights) (with_more (g.E.Emit.slots c.args.emit.now (g.St.Store.holds c.args.store.now)) (slots_both (both c.args.left.now c.args.right.now (g.St.Store.holds c.args.store.now) (g.St.Store.signs c.args.store.now)))) e) _ (pairs_of c.args.shape.now lefts rights) still
+    (pairs_rested start c.args.shape.now lefts rights (both c.rest_both.new.left c.rest_both.new.right (g.St.Store.holds c.rest_both.new.store) (g.St.Store.signs c.rest_both.new.store)) rested (length c.rest_both.new.left.streams) c.in_ok-rest_both.ensures.rested.first.sixteen)
+    (some_more_of (g.E.Emit.took c.args.emit.now (g.St.Store.holds c.rest_both.new.store)) _ (g.E.Emit.slots_for c.args.emit.now) (g.E.Emit.slots_for c.args.emit.now) (slots_by (both c.rest_both.new.left c.rest_both.new.right (g.St.Store.holds c.rest_both.new.store) (g.St.Store.signs c.rest_both.new.store)) rested.left.rows rested.right.rows) (slots_for (operator c.args.c.now c.args.shape.now c.args.left.now c.args.right.now) (g.St.Store.holds c.args.store.now) lefts rights) _ _ e (λ rows. refl) (omega (arith, most)) total
+    (enough rested.left.rows rested.right.rows (shows_rested start c.args.shape.now lefts rights (both c.rest_both.new.left c.rest_both.new.right (g.St.Store.holds c.rest_both.new.store) (g.St.Store.signs c.rest_both.new.store)) rested (c.rest_both.ensures.leaves.others.told ∙ told)))))
+    c.join_parts.ensures.enough

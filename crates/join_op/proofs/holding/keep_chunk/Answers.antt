@@ -3,9 +3,8 @@ use Rattle.store_api.specs.Signs.{WasAnswered}
 use Rattle.store_api.proofs.Answered.{answered_before}
 use Rattle.tuple_stream.specs.Reading.{ReadsRow}
 use Rattle.tuple_stream.specs.Steps.{scene}
+use Rattle.tuple_stream.specs.Touches.{IsFull}
 use Rattle.tuple_stream.proofs.ReadRow.{reads_trans}
-use Rattle.partition_stack.specs.Causes.{IsShort}
-use Rattle.partition_stack.proofs.Shorts.{full_short}
 use Rattle.join_op.specs.Holding.{held_side}
 use Rattle.join_op.proofs.ChunkJoins.{row_found}
 use Rattle.join_op.proofs.ChunkRounds.{keeping_more, keeping_none}
@@ -23,11 +22,11 @@ returns-in_err-keep_into-clause-cause g c =
     answered_before _ _ _ _ c.more.invariant.went.step.grows c.in_err-keep_into.ensures.cause.answered in
     search (rules, came)
 
-pub returns-in_err-keep_into-clause-short : goal.returns-in_err-keep_into-clause-short
-returns-in_err-keep_into-clause-short g c =
-    let short : IsShort c.args.builds.now.page_blocks c.in_err-keep_into.field-0.0 =
-    subst (λ (n : ℕ). IsShort n c.in_err-keep_into.field-0.0) c.more.invariant.went.step.sized (full_short _ _ c.in_err-keep_into.field-0.0 c.in_err-keep_into.ensures.cause.full) in
-    search (rules, short)
+pub returns-in_err-keep_into-clause-full : goal.returns-in_err-keep_into-clause-full
+returns-in_err-keep_into-clause-full g c =
+    let full : IsFull c.args.builds.now.page_blocks (g.St.Store.holds c.keep_into.new.store).free_slots c.in_err-keep_into.field-0.0 =
+    subst (λ (n : ℕ). IsFull n (g.St.Store.holds c.keep_into.new.store).free_slots c.in_err-keep_into.field-0.0) c.more.invariant.went.step.sized c.in_err-keep_into.ensures.cause.full in
+    search (rules, full)
 
 pub returns-then-not-branch-clause-went : goal.returns-then-not-branch-clause-went
 returns-then-not-branch-clause-went g c = reads_trans c.args.c.now.tracker _ _ _ c.more.invariant.went c.keep_into.ensures.went

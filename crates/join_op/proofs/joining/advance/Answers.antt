@@ -1,13 +1,18 @@
-use Rattle.std.proofs.Common.{rules, ◌≡◌, refl, ◌+◌, ◌-◌, ◌<◌, ℕ, List, length, arith}
+use Rattle.std.proofs.Common.{rules, ◌≡◌, refl, ◌+◌, ◌-◌, ◌<◌, ℕ, ◌*◌, ◌∙◌, List, length, arith, ap}
 use Rattle.row_codec.specs.declared.values.Value.{Value}
+use Rattle.store_api.specs.declared.op_err.OpErr.TheVariants.{Pool}
 use Rattle.partition_stack.proofs.Emitters.{left_beside, same_beside, stands_left}
 use Rattle.partition_stack.proofs.Making.{counts_less, few_counts, few_less}
-use Rattle.partition_stack.proofs.Results.{on_err, on_ok}
+use Rattle.partition_stack.proofs.Results.{if_err, on_err, on_ok}
+use Rattle.partition_stack.proofs.Slots.{keep_own}
 use Rattle.partition_stack.proofs.Weights.{less_popped}
+use Rattle.partition_stack.specs.Slots.{with_more}
+use Rattle.join_op.proofs.Crowding.{own_some, want_more}
+use Rattle.join_op.specs.Slots.{Crowds}
 use Rattle.join_op.specs.Handing.{EmittedSome}
-use Rattle.join_op.specs.Joining.{ShowBoth, both, owed_both, pairs_down}
+use Rattle.join_op.specs.Joining.{ShowBoth, both, owed_both, pairs_down, slots_both, slots_by}
 use Rattle.join_op.proofs.Advances.{advances_popped, owed_gone, owed_top, some_top}
-use Rattle.join_op.proofs.Handed.{any_ok, some_none, some_on}
+use Rattle.join_op.proofs.Handed.{any_ok, handed_err, some_none, some_on}
 use Rattle.join_op.proofs.Stepped.{advances_divided, advances_gone, gone_on_pinned, gone_on_popped, not_shallow}
 use Rattle.join_op.proofs.joining.advance.Goals as goal
 
@@ -18,7 +23,7 @@ returns-then-not-have_rows-clause-ok g c =
     λ taken. g.met.E.Emit.asks_own c.args.emit.now (g.St.Store.holds c.args.store.now) (g.St.Store.holds c.drop_top.new.store) taken (same_beside c.args.c.now.tracker (g.E.Emit.client c.args.emit.now) (g.St.Store.holds c.args.store.now) (g.St.Store.holds c.drop_top.new.store) (g.St.Store.signs c.args.store.now) (g.St.Store.signs c.drop_top.new.store) c.requires.emitter.apart c.drop_top.ensures.leaves) in (
       c.drop_top.ensures.between,
       λ lefts rights shows.
-          advances_gone c.args.shape.now (g.E.Emit.took c.args.emit.now (g.St.Store.holds c.args.store.now)) (g.E.Emit.took c.args.emit.now (g.St.Store.holds c.drop_top.new.store)) lefts rights still (c.len-at.result - 1) c.args.left.now c.args.right.now (g.St.Store.holds c.args.store.now) (g.St.Store.signs c.args.store.now) (both c.drop_top.new.left c.drop_top.new.right (g.St.Store.holds c.drop_top.new.store) (g.St.Store.signs c.drop_top.new.store)) top c.requires.between.many c.drop_top.ensures.popped.many shows
+          advances_gone c.args.shape.now (g.E.Emit.took c.args.emit.now (g.St.Store.holds c.args.store.now)) (g.E.Emit.took c.args.emit.now (g.St.Store.holds c.drop_top.new.store)) lefts rights still (c.len-at.result - 1) c.args.left.now c.args.right.now (g.St.Store.holds c.args.store.now) (g.St.Store.signs c.args.store.now) (both c.drop_top.new.left c.drop_top.new.right (g.St.Store.holds c.drop_top.new.store) (g.St.Store.signs c.drop_top.new.store)) top c.requires.between.many c.drop_top.ensures.popped.many (let now = c.drop_top.ensures.between.many in let low = c.drop_top.ensures.popped.many in let many = c.requires.between.many in omega (arith, now, low, many, top)) shows
           (c.drop_top.ensures.shows lefts rights shows) (c.have_rows.ensures.none c.if-not-have_rows.true)
           (owed_gone lefts rights (both c.args.left.now c.args.right.now (g.St.Store.holds c.args.store.now) (g.St.Store.signs c.args.store.now)) (both c.drop_top.new.left c.drop_top.new.right (g.St.Store.holds c.drop_top.new.store) (g.St.Store.signs c.drop_top.new.store)) (c.len-at.result - 1) c.level-level.result c.level-level.ensures.value c.requires.between.levels c.drop_top.ensures.popped.levels c.drop_top.ensures.between.levels) c.drop_top.ensures.made,
     )
@@ -86,7 +91,7 @@ returns-clause-ok g c =
       c.pair_top.ensures.popped.1,
       λ lefts rights shows.
           let came = handed lefts rights shows in
-          advances_popped c.args.shape.now (g.E.Emit.took c.args.emit.now (g.St.Store.holds c.args.store.now)) (g.E.Emit.took c.pair_top.new.emit (g.St.Store.holds c.pair_top.new.store)) lefts rights (both c.args.left.now c.args.right.now (g.St.Store.holds c.args.store.now) (g.St.Store.signs c.args.store.now)) (both c.pair_top.new.left c.pair_top.new.right (g.St.Store.holds c.pair_top.new.store) (g.St.Store.signs c.pair_top.new.store)) (c.len-at.result - 1) top c.pair_top.ensures.popped.0.many came.0 came.1
+          advances_popped c.args.shape.now (g.E.Emit.took c.args.emit.now (g.St.Store.holds c.args.store.now)) (g.E.Emit.took c.pair_top.new.emit (g.St.Store.holds c.pair_top.new.store)) lefts rights (both c.args.left.now c.args.right.now (g.St.Store.holds c.args.store.now) (g.St.Store.signs c.args.store.now)) (both c.pair_top.new.left c.pair_top.new.right (g.St.Store.holds c.pair_top.new.store) (g.St.Store.signs c.pair_top.new.store)) (c.len-at.result - 1) top c.pair_top.ensures.popped.0.many (let now = c.pair_top.ensures.popped.1.many in let low = c.pair_top.ensures.popped.0.many in let many = c.requires.between.many in omega (arith, now, low, many, top)) came.0 came.1
           (owed_gone lefts rights (both c.args.left.now c.args.right.now (g.St.Store.holds c.args.store.now) (g.St.Store.signs c.args.store.now)) (both c.pair_top.new.left c.pair_top.new.right (g.St.Store.holds c.pair_top.new.store) (g.St.Store.signs c.pair_top.new.store)) (c.len-at.result - 1) c.level-level.result c.level-level.ensures.value c.requires.between.levels c.pair_top.ensures.popped.0.levels c.pair_top.ensures.popped.1.levels) c.pair_top.ensures.made,
     ))
     c.pair_top.ensures.ok
@@ -122,3 +127,34 @@ returns-then-not-is_few-clause-made g c = λ lefts rights shows.
 
 pub returns-clause-made : goal.returns-clause-made
 returns-clause-made g c = λ lefts rights shows. counts_less 0 (owed_both (both c.args.left.now c.args.right.now (g.St.Store.holds c.args.store.now) (g.St.Store.signs c.args.store.now)) lefts rights) (g.E.Emit.creates c.args.emit.now) (g.E.Emit.creates c.pair_top.new.emit) (g.St.Store.signs c.args.store.now) (g.St.Store.signs c.pair_top.new.store) (omega arith) c.pair_top.ensures.made
+
+pub returns-then-not-have_rows-clause-slots : goal.returns-then-not-have_rows-clause-slots
+returns-then-not-have_rows-clause-slots g c =
+    keep_own (g.E.Emit.client c.args.emit.now) _ _ _ _ c.drop_top.ensures.slots (g.met.E.Emit.slots_own c.args.emit.now (g.St.Store.holds c.args.store.now) (g.St.Store.holds c.drop_top.new.store) (same_beside c.args.c.now.tracker (g.E.Emit.client c.args.emit.now) (g.St.Store.holds c.args.store.now) (g.St.Store.holds c.drop_top.new.store) (g.St.Store.signs c.args.store.now) (g.St.Store.signs c.drop_top.new.store) c.requires.emitter.apart c.drop_top.ensures.leaves))
+
+pub returns-in_err-divide_both-clause-slots : goal.returns-in_err-divide_both-clause-slots
+returns-in_err-divide_both-clause-slots g c =
+    keep_own (g.E.Emit.client c.args.emit.now) _ _ _ _ c.divide_both.ensures.slots (g.met.E.Emit.slots_own c.args.emit.now (g.St.Store.holds c.args.store.now) (g.St.Store.holds c.divide_both.new.store) (same_beside c.args.c.now.tracker (g.E.Emit.client c.args.emit.now) (g.St.Store.holds c.args.store.now) (g.St.Store.holds c.divide_both.new.store) (g.St.Store.signs c.args.store.now) (g.St.Store.signs c.divide_both.new.store) c.requires.emitter.apart c.divide_both.ensures.leaves))
+
+pub returns-then-not-is_few-clause-slots : goal.returns-then-not-is_few-clause-slots
+returns-then-not-is_few-clause-slots g c =
+    keep_own (g.E.Emit.client c.args.emit.now) _ _ _ _ c.divide_both.ensures.slots (g.met.E.Emit.slots_own c.args.emit.now (g.St.Store.holds c.args.store.now) (g.St.Store.holds c.divide_both.new.store) (same_beside c.args.c.now.tracker (g.E.Emit.client c.args.emit.now) (g.St.Store.holds c.args.store.now) (g.St.Store.holds c.divide_both.new.store) (g.St.Store.signs c.args.store.now) (g.St.Store.signs c.divide_both.new.store) c.requires.emitter.apart c.divide_both.ensures.leaves))
+
+pub returns-in_err-divide_both-clause-want : goal.returns-in_err-divide_both-clause-want
+returns-in_err-divide_both-clause-want g c = λ same.
+    let whole = g.met.E.Emit.slots_whole c.args.emit.now (g.St.Store.holds c.args.store.now) c.requires.stands.0 c.requires.stands.1 in
+    handed_err _ c.from_residual.result (Pool c.in_err-divide_both.field-0.0) c.from_residual.ensures
+    (want_more c.args.left.now.page_blocks whole.0 (g.E.Emit.slots c.args.emit.now (g.St.Store.holds c.args.store.now)) (slots_both (both c.args.left.now c.args.right.now (g.St.Store.holds c.args.store.now) (g.St.Store.signs c.args.store.now))) c.in_err-divide_both.field-0.0 (whole.1 ∙ ap (λ (n : ℕ). whole.0 * n) same) c.in_err-divide_both.ensures.want)
+
+pub returns-in_err-divide_both-clause-enough : goal.returns-in_err-divide_both-clause-enough
+returns-in_err-divide_both-clause-enough g c =
+    handed_err _ c.from_residual.result (Pool c.in_err-divide_both.field-0.0) c.from_residual.ensures
+    (λ lefts rights shows. own_some (g.E.Emit.took c.args.emit.now (g.St.Store.holds c.args.store.now)) (g.E.Emit.slots_for c.args.emit.now) (slots_by (both c.args.left.now c.args.right.now (g.St.Store.holds c.args.store.now) (g.St.Store.signs c.args.store.now)) lefts rights) (g.E.Emit.slots c.args.emit.now (g.St.Store.holds c.args.store.now)) (slots_both (both c.args.left.now c.args.right.now (g.St.Store.holds c.args.store.now) (g.St.Store.signs c.args.store.now))) c.in_err-divide_both.field-0.0 (pairs_down c.args.shape.now (length c.args.left.now.streams) lefts rights)
+    (λ rows took. g.met.E.Emit.slots_fit c.args.emit.now (g.St.Store.holds c.args.store.now) rows took) (c.in_err-divide_both.ensures.enough lefts rights shows))
+
+pub returns-clause-enough : goal.returns-clause-enough
+returns-clause-enough g c =
+    let top : length c.args.left.now.streams ≡ (c.len-at.result - 1) + 1 = (let len = c.len-at.ensures in let some = c.requires.some in omega (arith, len, some)) in
+    if_err c.pair_top.result
+    (λ e enough lefts rights shows. some_top c.args.shape.now (g.E.Emit.took c.args.emit.now (g.St.Store.holds c.args.store.now)) (Crowds (g.E.Emit.slots_for c.args.emit.now) (slots_by (both c.args.left.now c.args.right.now (g.St.Store.holds c.args.store.now) (g.St.Store.signs c.args.store.now)) lefts rights) (with_more (g.E.Emit.slots c.args.emit.now (g.St.Store.holds c.args.store.now)) (slots_both (both c.args.left.now c.args.right.now (g.St.Store.holds c.args.store.now) (g.St.Store.signs c.args.store.now)))) e) lefts rights (length c.args.left.now.streams) (c.len-at.result - 1) top (enough lefts rights shows))
+    c.pair_top.ensures.enough

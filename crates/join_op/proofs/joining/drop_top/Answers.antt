@@ -4,6 +4,7 @@ use Rattle.tuple_stream.proofs.PinsFirst.{both_pin_first}
 use Rattle.tuple_stream.proofs.Sinces.{since_joined}
 use Rattle.partition_stack.proofs.Left.{leaves_both}
 use Rattle.partition_stack.proofs.Making.{few_both}
+use Rattle.join_op.proofs.BothSlots.{sides_slots}
 use Rattle.join_op.proofs.joining.drop_top.Goals as goal
 
 pub returns-clause-leaves : goal.returns-clause-leaves
@@ -26,6 +27,8 @@ returns-clause-shows g c = λ lefts rights shows.
       told = c.drop_one-2.ensures.called.leaves.others.told ∙ c.drop_one.ensures.called.leaves.others.told ∙ shows.told;
       left = c.drop_one-2.ensures.called.shows lefts (c.drop_one.ensures.shows lefts shows.left);
       right = c.drop_one-2.ensures.shows rights (c.drop_one.ensures.called.shows rights shows.right);
+      left_whole = c.drop_one.ensures.whole shows.left_whole;
+      right_whole = c.drop_one-2.ensures.whole shows.right_whole;
     }
 
 pub returns-clause-first : goal.returns-clause-first
@@ -34,3 +37,8 @@ returns-clause-first g c =
 
 pub returns-clause-made : goal.returns-clause-made
 returns-clause-made g c = few_both 0 0 0 (g.St.Store.signs c.args.store.now) (g.St.Store.signs c.drop_one.new.store) (g.St.Store.signs c.drop_one-2.new.store) (omega arith) c.drop_one.ensures.made c.drop_one-2.ensures.made
+
+pub returns-clause-slots : goal.returns-clause-slots
+returns-clause-slots g c =
+    (sides_slots c.args.left.now c.args.right.now c.drop_one.new.parts c.drop_one-2.new.parts (g.St.Store.holds c.args.store.now) (g.St.Store.holds c.drop_one.new.store) (g.St.Store.holds c.drop_one-2.new.store) (g.St.Store.signs c.args.store.now) (g.St.Store.signs c.drop_one.new.store) (g.St.Store.signs c.drop_one-2.new.store)
+    c.requires.op.alike c.drop_one.ensures.called.slots c.drop_one-2.ensures.called.slots).sum

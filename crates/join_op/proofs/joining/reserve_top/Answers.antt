@@ -1,4 +1,4 @@
-use Rattle.join_op.proofs.Reserving.{Reserves, reserved_first, reserved_leaves, reserved_made, reserved_op, reserved_shows, reserves}
+use Rattle.join_op.proofs.Reserving.{Reserves, reserved_first, reserved_leaves, reserved_made, reserved_op, reserved_shows, reserved_slots, reserves}
 use Rattle.partition_stack.proofs.Making.{few_none}
 use Rattle.join_op.proofs.joining.reserve_top.Goals as goal
 
@@ -50,3 +50,12 @@ returns-then-level-le1-clause-made g c = few_none (g.St.Store.signs c.args.store
 
 pub returns-in_default-clause-made : goal.returns-in_default-clause-made
 returns-in_default-clause-made g c = few_none (g.St.Store.signs c.args.store.now)
+
+pub returns-clause-slots : goal.returns-clause-slots
+returns-clause-slots g c =
+    let h = g.St.Store.holds c.args.store.now in
+    let h1 = g.St.Store.holds c.reserve_to_fit-reserved.new.self in
+    let s = g.St.Store.signs c.args.store.now in
+    let s1 = g.St.Store.signs c.reserve_to_fit-reserved.new.self in
+    let more : Reserves c.args.c.now.tracker h h1 = reserves c.reserve_to_fit-reserved.result c.args.c.now.tracker _ h h1 s s1 c.requires.op.client c.reserve_to_fit-reserved.ensures.ok c.reserve_to_fit-reserved.ensures.err in
+    reserved_slots c.args.c.now.tracker h h1 s s1 more c.args.left.now c.args.right.now

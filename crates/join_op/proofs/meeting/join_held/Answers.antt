@@ -1,17 +1,25 @@
-use Rattle.std.proofs.Common.{rules, ◌≡◌, ◌∙◌, ℕ, ◌-◌, List, ◌++◌, length, ap, subst, arith}
+use Rattle.std.proofs.Common.{rules, ◌≡◌, ◌∙◌, ℕ, ◌-◌, List, ◌++◌, length, ap, sym, subst, arith, refl}
 use Rattle.row_codec.specs.declared.values.Value.{Value}
 use Rattle.store_api.specs.Emitters.{CameOf}
 use Rattle.store_api.specs.Signs.{WasAnswered}
 use Rattle.store_api.specs.declared.op_err.OpErr.TheVariants.{Pool}
 use Rattle.store_api.proofs.Answered.{answered_before}
 use Rattle.tuple_stream.specs.Streamed.{Streamed}
-use Rattle.partition_stack.specs.Causes.{CameOfEither, IsShort, IsShortOf}
+use Rattle.tuple_stream.specs.Touches.{IsFull}
+use Rattle.partition_stack.specs.Slots.{IsWantOf, KeepSlots, with_more}
 use Rattle.partition_stack.proofs.Emitters.{came_behind}
+use Rattle.partition_stack.proofs.ReadFrames.{reads_own}
 use Rattle.partition_stack.proofs.Results.{any_err}
+use Rattle.partition_stack.proofs.Sides.{disjoint_back}
+use Rattle.partition_stack.proofs.Slots.{keep_none}
+use Rattle.reservation_tree.specs.declared.errors.PoolErr.TheVariants.{Memory}
+use Rattle.join_op.proofs.Crowding.{own_below, own_want, some_more_of}
 use Rattle.join_op.specs.Holding.{held_rows}
+use Rattle.join_op.specs.Slots.{CameFull, Crowds, IsFullOf, slots_of_two}
 use Rattle.join_op.proofs.BothFrames.{beside_now, left_readable, other_place, right_readable, stay_left, stay_none, stay_right, still_right}
 use Rattle.join_op.proofs.ChunkRounds.{met_all, met_more, met_none, met_part, met_some}
-use Rattle.join_op.proofs.Handed.{some_none}
+use Rattle.join_op.proofs.Handed.{handed_err, some_none, some_on}
+use Rattle.join_op.proofs.LeafSlots.{two_handed, two_read}
 use Rattle.join_op.proofs.HeldSame.{held_itself, held_then, may_still}
 use Rattle.join_op.proofs.meeting.join_held.Goals as goal
 
@@ -20,6 +28,8 @@ rounds-init g c =
     record {
       held = held_itself c.args.held.now;
       stays = stay_none c.args.c.now c.args.reads.now c.args.builds.now (g.St.Store.holds c.args.store.now) (g.St.Store.signs c.args.store.now) (g.E.Emit.admits c.args.emit.now) (g.E.Emit.client c.args.emit.now) (g.E.Emit.faults c.args.emit.now) (g.E.Emit.took c.args.emit.now (g.St.Store.holds c.args.store.now)) c.requires.streams c.requires.emitter.lives;
+      slots = keep_none _ _ _;
+      most = λ rows. refl;
       met = met_none c.args.turned c.args.shape.now c.args.c.now.tracker c.args.reads.now c.args.builds.now (g.St.Store.holds c.args.store.now) (g.St.Store.signs c.args.store.now) (g.E.Emit.took c.args.emit.now (g.St.Store.holds c.args.store.now)) c.first-place.result c.rows-waiting.result c.first-place.ensures c.rows-waiting.ensures c.requires.streams.right_shape;
     }
 
@@ -149,10 +159,11 @@ pub returns-in_err-hold_next-clause-cause : goal.returns-in_err-hold_next-clause
 returns-in_err-hold_next-clause-cause g c =
     let stays = c.rounds.invariant.stays in
     let came : WasAnswered c.in_err-hold_next.field-0.0 (g.St.Store.signs c.args.store.now) (g.St.Store.signs c.hold_next.new.store) = answered_before _ _ _ _ stays.emitter.grows c.in_err-hold_next.ensures.cause in
-    let short : IsShort c.args.reads.now.page_blocks c.in_err-hold_next.field-0.0 =
-    subst (λ (n : ℕ). IsShort n c.in_err-hold_next.field-0.0) (ap (λ (s : Streamed). s.page_blocks) stays.both.right_same ∙ c.requires.streams.alike) c.in_err-hold_next.ensures.short in
-    let both : CameOfEither c.args.reads.now.page_blocks (g.E.Emit.client c.args.emit.now) (g.E.Emit.faults c.args.emit.now) (g.E.Emit.faults c.rounds.emit) (g.St.Store.signs c.args.store.now) (g.St.Store.signs c.hold_next.new.store) (Pool c.in_err-hold_next.field-0.0) =
-    record { came = came; short = λ none. short } in
+    let free = (g.St.Store.holds c.hold_next.new.store).free_slots in
+    let full : IsFull c.args.reads.now.page_blocks free c.in_err-hold_next.field-0.0 =
+    subst (λ (n : ℕ). IsFull n free c.in_err-hold_next.field-0.0) (ap (λ (s : Streamed). s.page_blocks) stays.both.right_same ∙ c.requires.streams.alike) c.in_err-hold_next.ensures.full in
+    let both : CameFull c.args.reads.now.page_blocks free (g.E.Emit.client c.args.emit.now) (g.E.Emit.faults c.args.emit.now) (g.E.Emit.faults c.rounds.emit) (g.St.Store.signs c.args.store.now) (g.St.Store.signs c.hold_next.new.store) (Pool c.in_err-hold_next.field-0.0) =
+    record { came = came; full = λ none. full } in
     search (rules, both)
 
 pub returns-in_err-join_chunk-clause-err : goal.returns-in_err-join_chunk-clause-err
@@ -173,8 +184,9 @@ returns-in_err-join_chunk-clause-cause g c =
     let read = stay_right _ _ _ _ _ _ _ _ _ _ _ _ _ _ _ _ _ c.requires.streams.client c.requires.emitter.apart stays c.hold_next.new.builds (g.St.Store.holds c.hold_next.new.store) (g.St.Store.signs c.hold_next.new.store) (g.E.Emit.took c.rounds.emit (g.St.Store.holds c.hold_next.new.store)) c.hold_next.ensures.went c.hold_next.ensures.same still in
     let came : CameOf (g.E.Emit.faults c.args.emit.now) (g.E.Emit.faults c.join_chunk.new.emit) (g.St.Store.signs c.args.store.now) (g.St.Store.signs c.join_chunk.new.store) c.in_err-join_chunk.field-0.0 =
     came_behind _ _ _ _ _ _ _ read.emitter.never_falls read.emitter.grows c.in_err-join_chunk.ensures.cause.came in
-    let both : CameOfEither c.args.reads.now.page_blocks (g.E.Emit.client c.args.emit.now) (g.E.Emit.faults c.args.emit.now) (g.E.Emit.faults c.join_chunk.new.emit) (g.St.Store.signs c.args.store.now) (g.St.Store.signs c.join_chunk.new.store) c.in_err-join_chunk.field-0.0 =
-    record { came = came; short = λ none. subst (λ (n : ℕ). IsShortOf n c.in_err-join_chunk.field-0.0) (ap (λ (s : Streamed). s.page_blocks) stays.both.left_same) (c.in_err-join_chunk.ensures.cause.short (stays.emitter.client_same ∙ none)) } in
+    let free = (g.St.Store.holds c.join_chunk.new.store).free_slots in
+    let both : CameFull c.args.reads.now.page_blocks free (g.E.Emit.client c.args.emit.now) (g.E.Emit.faults c.args.emit.now) (g.E.Emit.faults c.join_chunk.new.emit) (g.St.Store.signs c.args.store.now) (g.St.Store.signs c.join_chunk.new.store) c.in_err-join_chunk.field-0.0 =
+    record { came = came; full = λ none. subst (λ (n : ℕ). IsFullOf n free c.in_err-join_chunk.field-0.0) (ap (λ (s : Streamed). s.page_blocks) stays.both.left_same) (c.in_err-join_chunk.ensures.cause.full (stays.emitter.client_same ∙ none)) } in
     search (rules, both)
 
 pub rounds-preserved : goal.rounds-preserved
@@ -186,9 +198,16 @@ rounds-preserved g c =
     let all = stay_left _ _ _ _ _ _ _ _ _ _ _ _ _ _ _ _ _ c.requires.streams.client c.requires.emitter.apart read c.join_chunk.new.reads (g.St.Store.holds c.join_chunk.new.store) (g.St.Store.signs c.join_chunk.new.store) (g.E.Emit.admits c.join_chunk.new.emit) (g.E.Emit.client c.join_chunk.new.emit) (g.E.Emit.faults c.join_chunk.new.emit) (g.E.Emit.took c.join_chunk.new.emit (g.St.Store.holds c.join_chunk.new.store)) c.join_chunk.ensures.stream c.join_chunk.ensures.emitter c.join_chunk.ensures.stands in
     let handed = c.in_ok-join_chunk.ensures.ok in
     let fewer : c.saturating_sub-waiting.result ≡ c.rounds.waiting - length (held_rows c.hold_next.new.held) = search rules in
+    let same : g.E.Emit.slots c.rounds.emit (g.St.Store.holds c.hold_next.new.store) ≡ g.E.Emit.slots c.rounds.emit (g.St.Store.holds c.rounds.store) =
+    g.met.E.Emit.slots_own c.rounds.emit (g.St.Store.holds c.rounds.store) (g.St.Store.holds c.hold_next.new.store)
+    (reads_own c.args.c.now.tracker c.rounds.builds c.hold_next.new.builds (g.St.Store.holds c.rounds.store) (g.St.Store.holds c.hold_next.new.store) (g.St.Store.signs c.rounds.store) (g.St.Store.signs c.hold_next.new.store) stays.readable.right_shape c.hold_next.ensures.went (g.E.Emit.client c.rounds.emit) (λ is. c.requires.emitter.apart (sym stays.emitter.client_same ∙ is))) in
+    let slots_read : KeepSlots (g.E.Emit.client c.args.emit.now) (slots_of_two c.args.reads.now c.args.builds.now (g.St.Store.holds c.args.store.now)) (slots_of_two c.rounds.reads c.hold_next.new.builds (g.St.Store.holds c.hold_next.new.store)) (g.E.Emit.slots c.args.emit.now (g.St.Store.holds c.args.store.now)) (g.E.Emit.slots c.rounds.emit (g.St.Store.holds c.hold_next.new.store)) =
+    two_read c.args.c.now.tracker (g.E.Emit.client c.args.emit.now) _ _ c.args.reads.now c.rounds.reads c.args.builds.now c.rounds.builds (g.St.Store.holds c.args.store.now) (g.St.Store.holds c.rounds.store) c.rounds.invariant.slots c.hold_next.new.builds (g.St.Store.holds c.hold_next.new.store) _ stays.readable.left_shape (disjoint_back c.rounds.reads c.rounds.builds stays.readable.apart) c.hold_next.ensures.went.step.touches same in
     record {
+      most = λ rows. c.join_chunk.ensures.most rows ∙ c.rounds.invariant.most rows;
       held = held_then _ _ _ c.rounds.invariant.held c.hold_next.ensures.held;
       stays = all;
+      slots = two_handed c.args.c.now.tracker (g.E.Emit.client c.args.emit.now) _ _ c.args.reads.now c.rounds.reads c.args.builds.now c.hold_next.new.builds (g.St.Store.holds c.args.store.now) (g.St.Store.holds c.hold_next.new.store) slots_read (g.E.Emit.client c.rounds.emit) (g.E.Emit.client c.rounds.emit) c.join_chunk.new.reads (g.St.Store.holds c.join_chunk.new.store) _ stays.emitter.client_same read.readable.right_shape read.readable.apart c.join_chunk.ensures.stream.beside c.join_chunk.ensures.slots;
       met = met_more c.args.turned c.args.shape.now c.args.reads.now c.args.builds.now c.rounds.builds (g.St.Store.holds c.args.store.now) (g.St.Store.holds c.rounds.store) (g.E.Emit.took c.args.emit.now (g.St.Store.holds c.args.store.now)) (g.E.Emit.took c.rounds.emit (g.St.Store.holds c.rounds.store)) c.rounds.place c.rounds.waiting c.rounds.invariant.met c.hold_next.new.builds (g.St.Store.holds c.hold_next.new.store) (g.St.Store.signs c.rounds.store) (g.St.Store.signs c.hold_next.new.store) c.hold_next.new.place (held_rows c.hold_next.new.held) stays.both.query.told stays.both.right_rows
           c.in_ok-hold_next.ensures.reads (g.E.Emit.took c.rounds.emit (g.St.Store.holds c.hold_next.new.store)) still read.both.query.told c.rounds.reads read.both.left_rows (g.St.Store.holds c.join_chunk.new.store) (g.E.Emit.took c.join_chunk.new.emit (g.St.Store.holds c.join_chunk.new.store)) c.saturating_sub-waiting.result
           (other_place c.args.c.now.tracker (g.E.Emit.client c.rounds.emit) c.rounds.reads c.join_chunk.new.reads c.hold_next.new.builds (g.St.Store.holds c.hold_next.new.store) (g.St.Store.holds c.join_chunk.new.store) read.readable.right_shape read.readable.apart c.join_chunk.ensures.stream.beside)
@@ -210,3 +229,85 @@ returns-in_err-join_chunk-clause-held g c = held_then _ _ _ c.rounds.invariant.h
 
 pub hold_next-requires-clause-may : goal.hold_next-requires-clause-may
 hold_next-requires-clause-may g c = may_still _ _ c.rounds.invariant.held c.requires.may
+
+pub returns-in_default-clause-slots : goal.returns-in_default-clause-slots
+returns-in_default-clause-slots g c = keep_none _ _ _
+
+pub returns-clause-slots : goal.returns-clause-slots
+returns-clause-slots g c = c.rounds.invariant.slots
+
+pub returns-in_err-hold_next-clause-slots : goal.returns-in_err-hold_next-clause-slots
+returns-in_err-hold_next-clause-slots g c =
+    let stays = c.rounds.invariant.stays in
+    let same : g.E.Emit.slots c.rounds.emit (g.St.Store.holds c.hold_next.new.store) ≡ g.E.Emit.slots c.rounds.emit (g.St.Store.holds c.rounds.store) =
+    g.met.E.Emit.slots_own c.rounds.emit (g.St.Store.holds c.rounds.store) (g.St.Store.holds c.hold_next.new.store)
+    (reads_own c.args.c.now.tracker c.rounds.builds c.hold_next.new.builds (g.St.Store.holds c.rounds.store) (g.St.Store.holds c.hold_next.new.store) (g.St.Store.signs c.rounds.store) (g.St.Store.signs c.hold_next.new.store) stays.readable.right_shape c.hold_next.ensures.went (g.E.Emit.client c.rounds.emit) (λ is. c.requires.emitter.apart (sym stays.emitter.client_same ∙ is))) in
+    let slots_read : KeepSlots (g.E.Emit.client c.args.emit.now) (slots_of_two c.args.reads.now c.args.builds.now (g.St.Store.holds c.args.store.now)) (slots_of_two c.rounds.reads c.hold_next.new.builds (g.St.Store.holds c.hold_next.new.store)) (g.E.Emit.slots c.args.emit.now (g.St.Store.holds c.args.store.now)) (g.E.Emit.slots c.rounds.emit (g.St.Store.holds c.hold_next.new.store)) =
+    two_read c.args.c.now.tracker (g.E.Emit.client c.args.emit.now) _ _ c.args.reads.now c.rounds.reads c.args.builds.now c.rounds.builds (g.St.Store.holds c.args.store.now) (g.St.Store.holds c.rounds.store) c.rounds.invariant.slots c.hold_next.new.builds (g.St.Store.holds c.hold_next.new.store) _ stays.readable.left_shape (disjoint_back c.rounds.reads c.rounds.builds stays.readable.apart) c.hold_next.ensures.went.step.touches same in
+    slots_read
+
+pub returns-in_err-join_chunk-clause-slots : goal.returns-in_err-join_chunk-clause-slots
+returns-in_err-join_chunk-clause-slots g c =
+    let stays = c.rounds.invariant.stays in
+    let still : (rows : List (List Value)) → g.E.Emit.took c.rounds.emit (g.St.Store.holds c.rounds.store) rows → g.E.Emit.took c.rounds.emit (g.St.Store.holds c.hold_next.new.store) rows =
+    still_right _ _ _ _ _ _ _ _ _ _ _ _ _ _ _ _ _ c.requires.streams.client c.requires.emitter.apart stays c.hold_next.new.builds (g.St.Store.holds c.hold_next.new.store) (g.St.Store.signs c.hold_next.new.store) (g.E.Emit.took c.rounds.emit (g.St.Store.holds c.hold_next.new.store)) c.hold_next.ensures.went (λ rows own. g.met.E.Emit.asks_own c.rounds.emit (g.St.Store.holds c.rounds.store) (g.St.Store.holds c.hold_next.new.store) rows own) in
+    let read = stay_right _ _ _ _ _ _ _ _ _ _ _ _ _ _ _ _ _ c.requires.streams.client c.requires.emitter.apart stays c.hold_next.new.builds (g.St.Store.holds c.hold_next.new.store) (g.St.Store.signs c.hold_next.new.store) (g.E.Emit.took c.rounds.emit (g.St.Store.holds c.hold_next.new.store)) c.hold_next.ensures.went c.hold_next.ensures.same still in
+    let same : g.E.Emit.slots c.rounds.emit (g.St.Store.holds c.hold_next.new.store) ≡ g.E.Emit.slots c.rounds.emit (g.St.Store.holds c.rounds.store) =
+    g.met.E.Emit.slots_own c.rounds.emit (g.St.Store.holds c.rounds.store) (g.St.Store.holds c.hold_next.new.store)
+    (reads_own c.args.c.now.tracker c.rounds.builds c.hold_next.new.builds (g.St.Store.holds c.rounds.store) (g.St.Store.holds c.hold_next.new.store) (g.St.Store.signs c.rounds.store) (g.St.Store.signs c.hold_next.new.store) stays.readable.right_shape c.hold_next.ensures.went (g.E.Emit.client c.rounds.emit) (λ is. c.requires.emitter.apart (sym stays.emitter.client_same ∙ is))) in
+    let slots_read : KeepSlots (g.E.Emit.client c.args.emit.now) (slots_of_two c.args.reads.now c.args.builds.now (g.St.Store.holds c.args.store.now)) (slots_of_two c.rounds.reads c.hold_next.new.builds (g.St.Store.holds c.hold_next.new.store)) (g.E.Emit.slots c.args.emit.now (g.St.Store.holds c.args.store.now)) (g.E.Emit.slots c.rounds.emit (g.St.Store.holds c.hold_next.new.store)) =
+    two_read c.args.c.now.tracker (g.E.Emit.client c.args.emit.now) _ _ c.args.reads.now c.rounds.reads c.args.builds.now c.rounds.builds (g.St.Store.holds c.args.store.now) (g.St.Store.holds c.rounds.store) c.rounds.invariant.slots c.hold_next.new.builds (g.St.Store.holds c.hold_next.new.store) _ stays.readable.left_shape (disjoint_back c.rounds.reads c.rounds.builds stays.readable.apart) c.hold_next.ensures.went.step.touches same in
+    two_handed c.args.c.now.tracker (g.E.Emit.client c.args.emit.now) _ _ c.args.reads.now c.rounds.reads c.args.builds.now c.hold_next.new.builds (g.St.Store.holds c.args.store.now) (g.St.Store.holds c.hold_next.new.store) slots_read (g.E.Emit.client c.rounds.emit) (g.E.Emit.client c.rounds.emit) c.join_chunk.new.reads (g.St.Store.holds c.join_chunk.new.store) _ stays.emitter.client_same read.readable.right_shape read.readable.apart c.join_chunk.ensures.stream.beside c.join_chunk.ensures.slots
+
+pub returns-in_default-clause-crowded : goal.returns-in_default-clause-crowded
+returns-in_default-clause-crowded g c = λ lefts rights told one two.
+    some_on (g.E.Emit.took c.args.emit.now (g.St.Store.holds c.args.store.now)) (g.E.Emit.took c.args.emit.now (g.St.Store.holds c.args.store.now))
+    (Crowds (g.E.Emit.slots_for c.args.emit.now) c.args.reads.now.page_blocks (with_more (g.E.Emit.slots c.args.emit.now (g.St.Store.holds c.args.store.now)) (g.St.Store.holds c.args.store.now).free_slots) (Pool Memory)) _ (λ rows took. tt) (some_none _ _)
+
+pub returns-in_err-hold_next-clause-want : goal.returns-in_err-hold_next-clause-want
+returns-in_err-hold_next-clause-want g c = λ same.
+    let stays = c.rounds.invariant.stays in
+    let still : (rows : List (List Value)) → g.E.Emit.took c.rounds.emit (g.St.Store.holds c.rounds.store) rows → g.E.Emit.took c.rounds.emit (g.St.Store.holds c.hold_next.new.store) rows =
+    still_right _ _ _ _ _ _ _ _ _ _ _ _ _ _ _ _ _ c.requires.streams.client c.requires.emitter.apart stays c.hold_next.new.builds (g.St.Store.holds c.hold_next.new.store) (g.St.Store.signs c.hold_next.new.store) (g.E.Emit.took c.rounds.emit (g.St.Store.holds c.hold_next.new.store)) c.hold_next.ensures.went (λ rows own. g.met.E.Emit.asks_own c.rounds.emit (g.St.Store.holds c.rounds.store) (g.St.Store.holds c.hold_next.new.store) rows own) in
+    let free = (g.St.Store.holds c.hold_next.new.store).free_slots in
+    let full : IsFull c.args.reads.now.page_blocks free c.in_err-hold_next.field-0.0 =
+    subst (λ (n : ℕ). IsFull n free c.in_err-hold_next.field-0.0) (ap (λ (s : Streamed). s.page_blocks) stays.both.right_same ∙ c.requires.streams.alike) c.in_err-hold_next.ensures.full in
+    let more = stays.went c.requires.stands.0 c.requires.stands.1 in
+    let whole = g.met.E.Emit.slots_whole c.rounds.emit (g.St.Store.holds c.hold_next.new.store) (c.requires.stands.0 ++ more.0) (still (c.requires.stands.0 ++ more.0) more.1) in
+    handed_err _ c.from_residual.result (Pool c.in_err-hold_next.field-0.0) c.from_residual.ensures (own_want c.args.reads.now.page_blocks g.E.Emit.page_blocks (g.E.Emit.slots c.rounds.emit (g.St.Store.holds c.hold_next.new.store)) whole.0 free c.in_err-hold_next.field-0.0 same whole.1 full)
+
+pub returns-in_err-hold_next-clause-crowded : goal.returns-in_err-hold_next-clause-crowded
+returns-in_err-hold_next-clause-crowded g c =
+    let stays = c.rounds.invariant.stays in
+    let still : (rows : List (List Value)) → g.E.Emit.took c.rounds.emit (g.St.Store.holds c.rounds.store) rows → g.E.Emit.took c.rounds.emit (g.St.Store.holds c.hold_next.new.store) rows =
+    still_right _ _ _ _ _ _ _ _ _ _ _ _ _ _ _ _ _ c.requires.streams.client c.requires.emitter.apart stays c.hold_next.new.builds (g.St.Store.holds c.hold_next.new.store) (g.St.Store.signs c.hold_next.new.store) (g.E.Emit.took c.rounds.emit (g.St.Store.holds c.hold_next.new.store)) c.hold_next.ensures.went (λ rows own. g.met.E.Emit.asks_own c.rounds.emit (g.St.Store.holds c.rounds.store) (g.St.Store.holds c.hold_next.new.store) rows own) in
+    let free = (g.St.Store.holds c.hold_next.new.store).free_slots in
+    let full : IsFull c.args.reads.now.page_blocks free c.in_err-hold_next.field-0.0 =
+    subst (λ (n : ℕ). IsFull n free c.in_err-hold_next.field-0.0) (ap (λ (s : Streamed). s.page_blocks) stays.both.right_same ∙ c.requires.streams.alike) c.in_err-hold_next.ensures.full in
+    let now : List (List Value) → Type 0 = Crowds (g.E.Emit.slots_for c.args.emit.now) c.args.reads.now.page_blocks (with_more (g.E.Emit.slots c.rounds.emit (g.St.Store.holds c.hold_next.new.store)) (g.St.Store.holds c.hold_next.new.store).free_slots) (Pool c.in_err-hold_next.field-0.0) in
+    let below : (rows : List (List Value)) → g.E.Emit.took c.rounds.emit (g.St.Store.holds c.rounds.store) rows → now rows = λ rows took.
+    own_below c.args.reads.now.page_blocks (g.E.Emit.slots c.rounds.emit (g.St.Store.holds c.hold_next.new.store)) (g.E.Emit.slots_for c.args.emit.now rows) free c.in_err-hold_next.field-0.0
+    (let fit = g.met.E.Emit.slots_fit c.rounds.emit (g.St.Store.holds c.hold_next.new.store) rows (still rows took) in let same = c.rounds.invariant.most rows in omega (arith, fit, same)) full in
+    handed_err _ c.from_residual.result (Pool c.in_err-hold_next.field-0.0) c.from_residual.ensures
+    (met_some c.args.turned c.args.shape.now c.args.reads.now c.args.builds.now c.rounds.builds (g.St.Store.holds c.args.store.now) (g.St.Store.holds c.rounds.store) (g.E.Emit.took c.args.emit.now (g.St.Store.holds c.args.store.now)) (g.E.Emit.took c.rounds.emit (g.St.Store.holds c.rounds.store)) c.rounds.place c.rounds.waiting c.rounds.invariant.met now below)
+
+pub returns-in_err-join_chunk-clause-want : goal.returns-in_err-join_chunk-clause-want
+returns-in_err-join_chunk-clause-want g c = λ same.
+    let blocks : c.rounds.reads.page_blocks ≡ c.args.reads.now.page_blocks = ap (λ (s : Streamed). s.page_blocks) c.rounds.invariant.stays.both.left_same in
+    handed_err _ c.from_residual-in_err-join_chunk.result c.in_err-join_chunk.field-0.0 c.from_residual-in_err-join_chunk.ensures (subst (λ (n : ℕ). IsWantOf n (with_more (g.E.Emit.slots c.join_chunk.new.emit (g.St.Store.holds c.join_chunk.new.store)) (g.St.Store.holds c.join_chunk.new.store).free_slots) c.in_err-join_chunk.field-0.0) blocks (c.in_err-join_chunk.ensures.want (same ∙ sym blocks)))
+
+pub returns-in_err-join_chunk-clause-crowded : goal.returns-in_err-join_chunk-clause-crowded
+returns-in_err-join_chunk-clause-crowded g c =
+    let stays = c.rounds.invariant.stays in
+    let still : (rows : List (List Value)) → g.E.Emit.took c.rounds.emit (g.St.Store.holds c.rounds.store) rows → g.E.Emit.took c.rounds.emit (g.St.Store.holds c.hold_next.new.store) rows =
+    still_right _ _ _ _ _ _ _ _ _ _ _ _ _ _ _ _ _ c.requires.streams.client c.requires.emitter.apart stays c.hold_next.new.builds (g.St.Store.holds c.hold_next.new.store) (g.St.Store.signs c.hold_next.new.store) (g.E.Emit.took c.rounds.emit (g.St.Store.holds c.hold_next.new.store)) c.hold_next.ensures.went (λ rows own. g.met.E.Emit.asks_own c.rounds.emit (g.St.Store.holds c.rounds.store) (g.St.Store.holds c.hold_next.new.store) rows own) in
+    let read = stay_right _ _ _ _ _ _ _ _ _ _ _ _ _ _ _ _ _ c.requires.streams.client c.requires.emitter.apart stays c.hold_next.new.builds (g.St.Store.holds c.hold_next.new.store) (g.St.Store.signs c.hold_next.new.store) (g.E.Emit.took c.rounds.emit (g.St.Store.holds c.hold_next.new.store)) c.hold_next.ensures.went c.hold_next.ensures.same still in
+    let blocks : c.rounds.reads.page_blocks ≡ c.args.reads.now.page_blocks = ap (λ (s : Streamed). s.page_blocks) c.rounds.invariant.stays.both.left_same in
+    let now : List (List Value) → Type 0 = Crowds (g.E.Emit.slots_for c.args.emit.now) c.args.reads.now.page_blocks (with_more (g.E.Emit.slots c.join_chunk.new.emit (g.St.Store.holds c.join_chunk.new.store)) (g.St.Store.holds c.join_chunk.new.store).free_slots) c.in_err-join_chunk.field-0.0 in
+    handed_err _ c.from_residual-in_err-join_chunk.result c.in_err-join_chunk.field-0.0 c.from_residual-in_err-join_chunk.ensures
+    (met_part c.args.turned c.args.shape.now c.args.reads.now c.args.builds.now c.rounds.builds (g.St.Store.holds c.args.store.now) (g.St.Store.holds c.rounds.store) (g.E.Emit.took c.args.emit.now (g.St.Store.holds c.args.store.now)) (g.E.Emit.took c.rounds.emit (g.St.Store.holds c.rounds.store)) c.rounds.place c.rounds.waiting c.rounds.invariant.met c.hold_next.new.builds (g.St.Store.holds c.hold_next.new.store) (g.St.Store.signs c.rounds.store) (g.St.Store.signs c.hold_next.new.store) c.hold_next.new.place (held_rows c.hold_next.new.held) stays.both.query.told stays.both.right_rows
+    c.in_ok-hold_next.ensures.reads (g.E.Emit.took c.rounds.emit (g.St.Store.holds c.hold_next.new.store)) still read.both.query.told c.rounds.reads read.both.left_rows now
+    (λ lefts told has. some_more_of _ _ (g.E.Emit.slots_for c.args.emit.now) (g.E.Emit.slots_for c.rounds.emit) c.rounds.reads.page_blocks c.args.reads.now.page_blocks (with_more (g.E.Emit.slots c.join_chunk.new.emit (g.St.Store.holds c.join_chunk.new.store)) (g.St.Store.holds c.join_chunk.new.store).free_slots) (with_more (g.E.Emit.slots c.join_chunk.new.emit (g.St.Store.holds c.join_chunk.new.store)) (g.St.Store.holds c.join_chunk.new.store).free_slots) c.in_err-join_chunk.field-0.0 c.rounds.invariant.most (omega (arith, blocks)) refl (c.in_err-join_chunk.ensures.crowded lefts told has)))
+
+pub returns-in_err-join_chunk-clause-most : goal.returns-in_err-join_chunk-clause-most
+returns-in_err-join_chunk-clause-most g c = λ rows. c.join_chunk.ensures.most rows ∙ c.rounds.invariant.most rows

@@ -1,4 +1,6 @@
-use Rattle.std.proofs.Common.{Bool, [], ◌∷◌, OnOk, OnErr, sym, subst}
+use Rattle.std.proofs.Common.{Bool, [], ◌∷◌, ℕ, OnOk, OnErr, sym, subst, IfErr, Option}
+use Rattle.partition_stack.specs.Slots.{with_more}
+use Rattle.join_op.specs.Slots.{Crowds}
 use Rattle.join_op.specs.Handing.{Emitted, EmittedSome}
 use Rattle.join_op.specs.Holding.{pairs_with}
 use Rattle.join_op.proofs.HeldSame.{kept_left, kept_left_turned, kept_right, kept_right_turned}
@@ -27,3 +29,13 @@ returns-clause-ok g c = subst (λ (b : Bool). OnOk c.join_one-2.result (Emitted 
 
 pub returns-clause-err : goal.returns-clause-err
 returns-clause-err g c = subst (λ (b : Bool). OnErr c.join_one-2.result (EmittedSome (g.E.Emit.took c.args.emit.now (g.St.Store.holds c.args.store.now)) (g.E.Emit.took c.join_one-2.new.emit (g.St.Store.holds c.join_one-2.new.store)) (pairs_with b c.args.shape.now (c.args.row.now.row.items ∷ []) (c.args.other.now.row.items ∷ [])))) (sym c.if-turned.false) c.join_one-2.ensures.err
+
+pub returns-then-turned-clause-crowded : goal.returns-then-turned-clause-crowded
+returns-then-turned-clause-crowded g c =
+    let total : Option ℕ = with_more (g.E.Emit.slots c.join_one.new.emit (g.St.Store.holds c.join_one.new.store)) (g.St.Store.holds c.join_one.new.store).free_slots in
+    subst (λ (b : Bool). IfErr c.join_one.result (λ e. EmittedSome (g.E.Emit.took c.args.emit.now (g.St.Store.holds c.args.store.now)) (Crowds (g.E.Emit.slots_for c.args.emit.now) 0 total e) (pairs_with b c.args.shape.now (c.args.row.now.row.items ∷ []) (c.args.other.now.row.items ∷ [])))) (sym c.if-turned.true) c.join_one.ensures.crowded
+
+pub returns-clause-crowded : goal.returns-clause-crowded
+returns-clause-crowded g c =
+    let total : Option ℕ = with_more (g.E.Emit.slots c.join_one-2.new.emit (g.St.Store.holds c.join_one-2.new.store)) (g.St.Store.holds c.join_one-2.new.store).free_slots in
+    subst (λ (b : Bool). IfErr c.join_one-2.result (λ e. EmittedSome (g.E.Emit.took c.args.emit.now (g.St.Store.holds c.args.store.now)) (Crowds (g.E.Emit.slots_for c.args.emit.now) 0 total e) (pairs_with b c.args.shape.now (c.args.row.now.row.items ∷ []) (c.args.other.now.row.items ∷ [])))) (sym c.if-turned.false) c.join_one-2.ensures.crowded

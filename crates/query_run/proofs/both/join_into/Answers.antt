@@ -1,4 +1,5 @@
-use Rattle.std.proofs.Common.{◌≡◌, ◌≢◌, ◌∙◌, ◌<◌, ℕ, [], List, Some, IsSome, ap, refl, subst, sym}
+use Rattle.std.proofs.Common.{◌≡◌, ◌≢◌, ◌∙◌, ◌+◌, ◌*◌, ◌<◌, ◌≤◌, ℕ, [], List, Option, Some, IsSome, IfErr, true, length, ap, refl, subst, sym, arith}
+use Rattle.pool_model.specs.declared.entry.Entry.{Entry}
 use Rattle.row_codec.specs.declared.values.Value.{Value}
 use Rattle.store_api.proofs.Growing.{grows_trans}
 use Rattle.store_api.specs.Changes.{after_end_client}
@@ -6,20 +7,29 @@ use Rattle.store_api.specs.Emitters.{SameOwn}
 use Rattle.store_api.specs.Holdings.{Holdings, account_of}
 use Rattle.store_api.specs.Tokens.{ClientToken}
 use Rattle.partition_stack.specs.Leaving.{LeavesOthers}
+use Rattle.partition_stack.specs.Slots.{IsWantBelowOf, IsWantOf}
 use Rattle.partition_stack.specs.Stack.{over}
 use Rattle.partition_stack.proofs.Emitters.{beside_then, left_beside}
-use Rattle.partition_stack.proofs.Results.{if_err}
+use Rattle.partition_stack.proofs.Making.{few_both}
+use Rattle.partition_stack.proofs.Results.{any_err, if_err, if_ok, on_err}
+use Rattle.group_op.proofs.Wants.{below_more_of}
 use Rattle.group_op.specs.Operator.{Operator, started}
-use Rattle.query_run.specs.Feeder.{Took}
+use Rattle.join_op.specs.Operator.{Keeps, slots_for}
+use Rattle.join_op.specs.Pairs.{pairs_of}
+use Rattle.query_run.specs.Feeder.{Took, pages_made, slots_for_rows}
 use Rattle.query_run.specs.FeederLaws.{took_same}
-use Rattle.query_run.specs.Inside.{HasEndedFirst}
+use Rattle.query_run.specs.Inside.{HasEndedFirst, slots_of_both}
 use Rattle.query_run.specs.Plans.{shape_of}
+use Rattle.query_run.specs.Taking.{join_slots}
 use Rattle.query_run.specs.declared.feeder.Feeder.{Feeder}
-use Rattle.query_run.proofs.EndedFirst.{ended_first, ended_more, lives_ended, own_after, stopped_still}
-use Rattle.query_run.proofs.Feeders.{feeds_here, holds_taken, it_feeds, of_handed, took_none}
+use Rattle.query_run.proofs.BothWants.{both_fewer, slots_behind, want_handed}
+use Rattle.query_run.proofs.EndedFirst.{ended_first, ended_more, lives_ended, own_after, some_page, stopped_still}
+use Rattle.query_run.proofs.Feeders.{feeds_here, holds_taken, it_feeds, made_few, of_handed, took_none}
+use Rattle.query_run.proofs.JoinWants.{handed_pairs}
 use Rattle.query_run.proofs.Joining.{both_end_first}
 use Rattle.query_run.proofs.KeptPairs.{both_ended, holds_while}
 use Rattle.query_run.proofs.Results.{at_ok, done_both, done_so}
+use Rattle.query_run.proofs.Counted.{counted_all, counted_on, counted_then, ending_makes}
 use Rattle.query_run.proofs.both.join_into.Goals as goal
 
 pub end_client-requires-clause-client : goal.end_client-requires-clause-client
@@ -90,6 +100,7 @@ returns-clause-ok g c =
       feeding = feeds.feeding;
       client = feeds.client ∙ c.requires.whose.0;
       shape_is = feeds.shape_is ∙ c.requires.whose.1;
+      blocks_are = feeds.blocks_are ∙ c.requires.whose.2;
     })
     c.into_grouping.ensures.ok c.into_grouping.ensures.same
 
@@ -158,3 +169,108 @@ returns-clause-gone g c =
     let gone : HasEndedFirst t u h0 (g.St.Store.holds c.into_grouping.new.store) s0 (g.St.Store.signs c.into_grouping.new.store) =
     ended_more t u apart h0 (g.St.Store.holds c.end_client-2.new.self) (g.St.Store.holds c.into_grouping.new.store) s0 s3 (g.St.Store.signs c.into_grouping.new.store) (subst (λ (h : Holdings). HasEndedFirst t u h0 h s0 s3) (sym ended) first) c.into_grouping.ensures.leaves in
     subst (λ (x : ClientToken). HasEndedFirst t x.tracker h0 (g.St.Store.holds c.into_grouping.new.store) s0 (g.St.Store.signs c.into_grouping.new.store)) c.requires.whose.0 gone
+
+pub returns-in-Err-clause-few : goal.returns-in-Err-clause-few
+returns-in-Err-clause-few g c = λ start lefts rights keeps told.
+    let s0 = g.St.Store.signs c.args.store.now in
+    let s1 = g.St.Store.signs c.end-first.new.store in
+    let s2 = g.St.Store.signs c.end_client.new.self in
+    few_both 0 0 (15 * (length lefts + length rights) + length (pairs_of c.args.join.shape lefts rights)) s0 s1 s2 (omega arith) c.end-first.ensures.few (ending_makes _ _ _ _ s1 s2 c.end_client.ensures.entries)
+
+pub returns-clause-made : goal.returns-clause-made
+returns-clause-made g c =
+    let feeder = c.hand_pairs-handed.result.1 in
+    let s0 = g.St.Store.signs c.args.store.now in
+    let s1 = g.St.Store.signs c.hand_pairs-handed.new.store in
+    let s2 = g.St.Store.signs c.end-first-2.new.store in
+    let s3 = g.St.Store.signs c.end_client-2.new.self in
+    let none = few_both 0 0 0 s1 s2 s3 (omega arith) c.end-first-2.ensures.few (ending_makes _ _ _ _ s2 s3 c.end_client-2.ensures.entries) in
+    done_so c.into_grouping.result (λ op there same start lefts rights keeps told.
+    rw (same.1) (counted_on (15 * (length lefts + length rights)) feeder.taken feeder.op op s0 s1 s3 there.0 (c.hand_pairs-handed.ensures.made start lefts rights keeps told) none))
+    c.into_grouping.ensures.ok c.into_grouping.ensures.same
+
+pub returns-clause-few : goal.returns-clause-few
+returns-clause-few g c =
+    let feeder = c.hand_pairs-handed.result.1 in
+    let h1 = g.St.Store.holds c.hand_pairs-handed.new.store in
+    let s0 = g.St.Store.signs c.args.store.now in
+    let s1 = g.St.Store.signs c.hand_pairs-handed.new.store in
+    let s2 = g.St.Store.signs c.end-first-2.new.store in
+    let s3 = g.St.Store.signs c.end_client-2.new.self in
+    let s4 = g.St.Store.signs c.into_grouping.new.store in
+    let none = few_both 0 0 0 s1 s2 s4 (omega arith) c.end-first-2.ensures.few (few_both 0 0 0 s2 s3 s4 (omega arith) (ending_makes _ _ _ _ s2 s3 c.end_client-2.ensures.entries) c.into_grouping.ensures.made) in
+    any_err c.into_grouping.result (λ start lefts rights keeps told.
+    let took = c.hand_pairs-handed.ensures.few start lefts rights keeps told in
+    let taken = made_few feeder.op feeder.client g.B.Whose.client g.B.Whose.shape g.B.Whose.blocks feeder h1 took.0 c.law_few.ensures.pages took.1 in
+    let fewer = took.2 in
+    let most = 15 * (length lefts + length rights) in
+    let pairs = pairs_of c.args.join.shape lefts rights in
+    counted_all (most + 0) (pages_made feeder.op feeder.taken) (most + length pairs) s0 s4 (omega (arith, taken, fewer)) (counted_then most 0 (pages_made feeder.op feeder.taken) s0 s1 s4 (c.hand_pairs-handed.ensures.made start lefts rights keeps told) none))
+
+pub hand_pairs-handed-requires-clause-blocks : goal.hand_pairs-handed-requires-clause-blocks
+hand_pairs-handed-requires-clause-blocks g c = c.requires.whose.2 ∙ sym c.requires.blocks
+
+pub hand_pairs-handed-requires-clause-long : goal.hand_pairs-handed-requires-clause-long
+hand_pairs-handed-requires-clause-long g c =
+    subst (λ (n : ℕ). 0 < n) (sym (c.with-feeder.ensures.numbers.0 ∙ c.requires.page.0)) (some_page c.args.plan.now.page_blocks (g.St.Store.holds c.args.store.now) c.requires.plan.paged c.requires.long)
+
+pub returns-in-Err-clause-free : goal.returns-in-Err-clause-free
+returns-in-Err-clause-free g c = ap (λ (h : Holdings). h.free_slots) c.end_client.ensures.value ∙ c.end-first.ensures.slots
+
+pub returns-clause-slots : goal.returns-clause-slots
+returns-clause-slots g c =
+    let t = c.args.join.client.tracker in
+    let u = g.B.Whose.client.tracker in
+    let h1 = g.St.Store.holds c.hand_pairs-handed.new.store in
+    let h2 = g.St.Store.holds c.end-first-2.new.store in
+    let h3 = g.St.Store.holds c.end_client-2.new.self in
+    let s1 = g.St.Store.signs c.hand_pairs-handed.new.store in
+    let apart : u ≢ t = subst (λ (x : ClientToken). x.tracker ≢ t) (sym c.requires.whose.0) c.requires.apart in
+    let leaves : LeavesOthers t h1 h2 s1 (g.St.Store.signs c.end-first-2.new.store) = subst (λ (x : ClientToken). LeavesOthers x.tracker h1 h2 s1 (g.St.Store.signs c.end-first-2.new.store)) c.hand_pairs-handed.ensures.client c.end-first-2.ensures.leaves in
+    let ended : h3 ≡ after_end_client t h2 = c.end_client-2.ensures.value ∙ ap (λ (x : ClientToken). after_end_client x.tracker h2) (c.end-first-2.ensures.client ∙ c.hand_pairs-handed.ensures.client) in
+    let own : SameOwn (Some u) h1 h3 = rw ended (own_after t u apart h1 h2 _ _ leaves) in
+    let total = join_slots c.args.join (g.St.Store.holds c.args.store.now) (g.St.Store.signs c.args.store.now) in
+    let free : h3.free_slots ≡ join_slots c.hand_pairs-handed.new.op h1 s1 = ap (λ (h : Holdings). h.free_slots) ended ∙ c.end-first-2.ensures.slots in
+    let behind = slots_behind u c.hand_pairs-handed.result.1.op h1 h3 (join_slots c.hand_pairs-handed.new.op h1 s1) total own free c.hand_pairs-handed.ensures.slots in
+    if_ok c.into_grouping.result (λ op slots. slots ∙ behind) c.into_grouping.ensures.slots
+
+pub returns-clause-free : goal.returns-clause-free
+returns-clause-free g c =
+    let t = c.args.join.client.tracker in
+    let u = g.B.Whose.client.tracker in
+    let h1 = g.St.Store.holds c.hand_pairs-handed.new.store in
+    let h2 = g.St.Store.holds c.end-first-2.new.store in
+    let h3 = g.St.Store.holds c.end_client-2.new.self in
+    let s1 = g.St.Store.signs c.hand_pairs-handed.new.store in
+    let apart : u ≢ t = subst (λ (x : ClientToken). x.tracker ≢ t) (sym c.requires.whose.0) c.requires.apart in
+    let leaves : LeavesOthers t h1 h2 s1 (g.St.Store.signs c.end-first-2.new.store) = subst (λ (x : ClientToken). LeavesOthers x.tracker h1 h2 s1 (g.St.Store.signs c.end-first-2.new.store)) c.hand_pairs-handed.ensures.client c.end-first-2.ensures.leaves in
+    let ended : h3 ≡ after_end_client t h2 = c.end_client-2.ensures.value ∙ ap (λ (x : ClientToken). after_end_client x.tracker h2) (c.end-first-2.ensures.client ∙ c.hand_pairs-handed.ensures.client) in
+    let own : SameOwn (Some u) h1 h3 = rw ended (own_after t u apart h1 h2 _ _ leaves) in
+    let total = join_slots c.args.join (g.St.Store.holds c.args.store.now) (g.St.Store.signs c.args.store.now) in
+    let free : h3.free_slots ≡ join_slots c.hand_pairs-handed.new.op h1 s1 = ap (λ (h : Holdings). h.free_slots) ended ∙ c.end-first-2.ensures.slots in
+    let behind = slots_behind u c.hand_pairs-handed.result.1.op h1 h3 (join_slots c.hand_pairs-handed.new.op h1 s1) total own free c.hand_pairs-handed.ensures.slots in
+    on_err c.into_grouping.result (λ slots. slots ∙ behind) c.into_grouping.ensures.free
+
+pub returns-clause-want : goal.returns-clause-want
+returns-clause-want g c =
+    let total = join_slots c.args.join (g.St.Store.holds c.args.store.now) (g.St.Store.signs c.args.store.now) in
+    let want : IfErr c.hand_pairs-handed.result.0 (IsWantOf c.args.plan.now.page_blocks total) = subst (λ (n : ℕ). IfErr c.hand_pairs-handed.result.0 (IsWantOf n total)) c.requires.whose.2 c.hand_pairs-handed.ensures.want in
+    if_err c.into_grouping.result (λ e stopped. want_handed c.args.plan.now.page_blocks total c.hand_pairs-handed.result.0 e.0 want stopped.0) c.into_grouping.ensures.err
+
+pub returns-clause-enough : goal.returns-clause-enough
+returns-clause-enough g c =
+    let plan = c.args.plan.now in
+    let page = c.args.page in
+    let join = c.args.join in
+    let h = g.St.Store.holds c.args.store.now in
+    let s = g.St.Store.signs c.args.store.now in
+    let total = join_slots join h s in
+    let page_is : c.with-feeder.result.page ≡ page = c.with-feeder.ensures.numbers.0 in
+    let most : IfErr c.hand_pairs-handed.result.0 (λ e. (start : Option (List Entry)) (lefts rights : List (List Value)) → Keeps start lefts rights join h s → h.told ≡ true → IsWantBelowOf (slots_of_both plan page lefts rights (pairs_of join.shape lefts rights)) total e) =
+    if_err c.hand_pairs-handed.result.0 (λ e wants start lefts rights keeps told.
+    let pairs = pairs_of join.shape lefts rights in
+    let both = both_fewer plan page lefts rights pairs join h c.requires.blocks c.requires.page.0 in
+    let same : slots_for_rows g.B.Whose.shape g.B.Whose.blocks c.with-feeder.result.page pairs ≡ slots_for_rows (shape_of plan) plan.page_blocks page pairs = rw (c.requires.whose.1, c.requires.whose.2, page_is) refl in
+    below_more_of (slots_for join h lefts rights + slots_for_rows g.B.Whose.shape g.B.Whose.blocks c.with-feeder.result.page pairs) (slots_of_both plan page lefts rights pairs) total e
+    (subst (λ (n : ℕ). slots_for join h lefts rights + n ≤ slots_of_both plan page lefts rights pairs) (sym same) both) (wants start lefts rights keeps told)) c.hand_pairs-handed.ensures.enough in
+    if_err c.into_grouping.result (λ e stopped. handed_pairs (λ start lefts rights. Keeps start lefts rights join h s) (h.told ≡ true) (λ lefts rights. slots_of_both plan page lefts rights (pairs_of join.shape lefts rights)) total c.hand_pairs-handed.result.0 e.0 most stopped.0) c.into_grouping.ensures.err

@@ -1,23 +1,34 @@
-use Rattle.std.proofs.Common.{◌≡◌, ◌∙◌, ◌+◌, ◌*◌, ◌/◌, ◌≤◌, ◌<◌, Some, [], ◌∷◌, inl, inr, ap, arith, refl, rules, subst, sym}
+use Rattle.std.proofs.Common.{◌≡◌, ◌∙◌, ◌+◌, ◌*◌, ◌/◌, ◌≤◌, ◌<◌, ℕ, IfSome, Some, true, [], ◌∷◌, inl, inr, ap, arith, refl, rules, subst, sym}
 use Rattle.store_api.proofs.Growing.{grows_refl, grows_trans}
 use Rattle.store_api.specs.Changes.{after_end_client}
 use Rattle.store_api.specs.Holdings.{Holdings, account_of}
 use Rattle.store_api.specs.Tokens.{ClientToken}
+use Rattle.reservation_tree.specs.declared.errors.PoolErr.{PoolErr}
+use Rattle.partition_stack.specs.Slots.{IsWantBelow}
+use Rattle.partition_stack.proofs.Making.{few_both}
 use Rattle.partition_stack.proofs.Results.{if_err, on_ok}
 use Rattle.join_op.proofs.Besides.{beside_none}
 use Rattle.join_op.specs.Operator.{Operator}
 use Rattle.query_plan.specs.Sizes.{least_of, page_len}
 use Rattle.query_run.specs.Answer.{WroteFront}
 use Rattle.query_run.specs.Both.{both_told}
+use Rattle.query_run.specs.Causes.{OfPool}
 use Rattle.query_run.specs.Inside.{HasEndedFirst}
 use Rattle.query_run.specs.Plans.{join_shape_of}
-use Rattle.query_run.specs.Stopped.{IsLeft}
-use Rattle.query_run.proofs.Alone.{not_joined}
+use Rattle.query_run.specs.Stopped.{IsLeft, StoppedOver}
+use Rattle.query_run.specs.Taking.{join_slots}
+use Rattle.query_run.proofs.Around.{WantsEnough, stopped_around}
+use Rattle.query_run.proofs.BothWants.{both_wants, slots_told}
+use Rattle.query_run.proofs.Counted.{coming_makes, ending_makes, none_through, through_around}
 use Rattle.query_run.proofs.EndedFirst.{ended_first, own_after, stopped_still}
+use Rattle.query_run.proofs.Going.{of_pool_so}
+use Rattle.query_run.proofs.JoinWants.{none_joined}
 use Rattle.query_run.proofs.KeptFirst.{reserves_first, reserves_more}
 use Rattle.query_run.proofs.KeptPairs.{kept_two}
+use Rattle.query_run.proofs.Results.{both_err}
 use Rattle.query_run.proofs.Says.{memory_stops, says_neither}
-use Rattle.query_run.proofs.TwoClients.{first_still, left_both, second_may, share_is, stopped_both, two_apart, two_shares}
+use Rattle.query_run.proofs.TwoClients.{first_still, left_both, second_may, share_is, two_apart, two_shares}
+use Rattle.query_run.proofs.Wants.{long_page}
 use Rattle.query_run.proofs.both.run_both.Goals as goal
 
 pub own_client-second-requires-clause-room : goal.own_client-second-requires-clause-room
@@ -52,8 +63,16 @@ returns-in-Err-clause-store g c =
     record {
       reserves = rw (two_shares c.args.plan.now was.block_len c.least-bytes.result c.requires.joins c.requires.groups (search rules)) (reserves_more was.session one.result.tracker was.query c.max-limit.result share share (share ∷ []) (g.St.Store.signs c.args.store.now) (g.St.Store.signs one.new.store) (g.St.Store.signs c.end_client-in-Err.new.self) one.ensures.entries (rw one.ensures.own.query at more) fits refl);
       left = rw (c.end_client-in-Err.ensures.value, ended) left;
-      free = λ alone. absurd (not_joined c.args.plan.now alone c.requires.joins);
+      free = rw (c.end_client-in-Err.ensures.value, ended) (two.ensures.own.free_slots ∙ one.ensures.own.free_slots);
       grows = grows_trans _ _ _ one.ensures.grows (grows_trans _ _ _ two.ensures.grows last);
+      made = λ tells.
+          let s0 = g.St.Store.signs c.args.store.now in
+          let s1 = g.St.Store.signs one.new.store in
+          let s3 = g.St.Store.signs c.end_client.new.self in
+          let s4 = g.St.Store.signs c.end_client-in-Err.new.self in
+          let came = few_both 0 0 0 s0 s1 s2 (omega arith) (coming_makes _ _ _ _ _ s0 s1 one.ensures.entries) (coming_makes _ _ _ _ _ s1 s2 two.ensures.entries) in
+          let ends = few_both 0 0 0 s2 s3 s4 (omega arith) (ending_makes _ _ _ _ s2 s3 c.end_client.ensures.entries) (ending_makes _ _ _ _ s3 s4 c.end_client-in-Err.ensures.entries) in
+          none_through c.args.plan.now (both_told (g.S.Source.remaining c.args.left.now) (g.S.Source.remaining c.args.right.now)) s0 s4 (few_both 0 0 0 s0 s2 s4 (omega arith) came ends);
     }
 
 pub answer-result-requires-clause-stands : goal.answer-result-requires-clause-stands
@@ -81,8 +100,26 @@ answer-result-requires-clause-keeps g c =
 pub returns-clause-pool : goal.returns-clause-pool
 returns-clause-pool g c =
     let planned : c.args.plan.now.right ≡ Some c.in-Some.asked = search rules in
-    let grows = grows_trans _ _ _ c.own_client-first.ensures.grows c.own_client-second.ensures.grows in
-    if_err c.answer-result.result.0 (λ e came. stopped_both c.args.plan.now c.in-Some.asked (g.St.Store.holds c.args.store.now) _ _ _ _ e planned c.requires.groups grows c.end_client-2.ensures.grows came) c.answer-result.ensures.pool
+    let one = c.own_client-first in
+    let two = c.own_client-second in
+    let plan = c.args.plan.now in
+    let asked = c.in-Some.asked in
+    let join = c.in-Ok.join in
+    let lefts = g.S.Source.remaining c.args.left.now in
+    let rights = g.S.Source.remaining c.args.right.now in
+    let h0 = g.St.Store.holds c.args.store.now in
+    let h2 = g.St.Store.holds two.new.store in
+    let s2 = g.St.Store.signs two.new.store in
+    let grows = grows_trans _ _ _ one.ensures.grows two.ensures.grows in
+    let page = c.from.result * c.from-2.result in
+    let len : page ≡ page_len plan h0.block_len = search rules in
+    let long : 0 < page = subst (λ (n : ℕ). 0 < n) (sym len) (long_page plan h0.block_len c.requires.plan.paged (search rules)) in
+    let slots : join_slots join h2 s2 ≡ h0.free_slots = ap (λ (o : Operator). join_slots o h2 s2) c.in-Ok.ensures.ok ∙ none_joined one.result plan.page_blocks (join_shape_of plan asked) h2 s2 ∙ two.ensures.own.free_slots ∙ one.ensures.own.free_slots in
+    let tells = two.ensures.own.told ∙ one.ensures.own.told in
+    let wants : PoolErr → Type 0 = λ why. h2.told ≡ true → IfSome (both_told lefts rights) (λ both. IsWantBelow (slots_told plan asked page both) (join_slots join h2 s2) why) in
+    if_err c.answer-result.result.0 (λ e both. stopped_around plan (both_told lefts rights) plan.page_blocks (join_slots join h2 s2) h0 _ _ _ _ e refl slots grows c.end_client-2.ensures.grows both.0
+    (of_pool_so wants (WantsEnough plan (both_told lefts rights) h0) (λ why below told. both_wants plan asked lefts rights h0 (join_slots join h2 s2) page why planned c.requires.groups len long slots (below (tells ∙ told))) e both.1))
+    (both_err (StoppedOver plan.page_blocks (join_slots join h2 s2) s2 (g.St.Store.signs c.answer-result.new.store)) (OfPool wants) c.answer-result.result.0 c.answer-result.ensures.pool c.answer-result.ensures.enough)
 
 pub returns-clause-stopped : goal.returns-clause-stopped
 returns-clause-stopped g c =
@@ -118,6 +155,7 @@ returns-clause-store g c =
     let h3 = g.St.Store.holds c.answer-result.new.store in
     let s2 = g.St.Store.signs two.new.store in
     let s3 = g.St.Store.signs c.answer-result.new.store in
+    let slots : join_slots c.in-Ok.join h2 s2 ≡ was.free_slots = ap (λ (o : Operator). join_slots o h2 s2) c.in-Ok.ensures.ok ∙ none_joined one.result c.args.plan.now.page_blocks (join_shape_of c.args.plan.now c.in-Some.asked) h2 s2 ∙ two.ensures.own.free_slots ∙ one.ensures.own.free_slots in
     let share = c.least-bytes.result / 2 in
     let client : c.in-Ok.join.client ≡ one.result = ap (λ (op : Operator). op.client) c.in-Ok.ensures.ok in
     let gone : HasEndedFirst one.result.tracker two.result.tracker h2 h3 s2 s3 = subst (λ (x : ClientToken). HasEndedFirst x.tracker two.result.tracker h2 h3 s2 s3) client c.answer-result.ensures.clients.1 in
@@ -129,6 +167,12 @@ returns-clause-store g c =
     record {
       reserves = rw (two_shares c.args.plan.now was.block_len c.least-bytes.result c.requires.joins c.requires.groups (search rules)) (reserves_more was.session one.result.tracker was.query c.max-limit.result share share (share ∷ []) (g.St.Store.signs c.args.store.now) (g.St.Store.signs one.new.store) (g.St.Store.signs c.end_client-2.new.self) one.ensures.entries (rw one.ensures.own.query at more) fits refl);
       left = rw ended left;
-      free = λ alone. absurd (not_joined c.args.plan.now alone c.requires.joins);
+      free = rw ended (c.answer-result.ensures.free ∙ slots);
       grows = grows_trans _ _ _ one.ensures.grows (grows_trans _ _ _ two.ensures.grows last);
+      made = λ tells.
+          let s0 = g.St.Store.signs c.args.store.now in
+          let s1 = g.St.Store.signs one.new.store in
+          let s4 = g.St.Store.signs c.end_client-2.new.self in
+          let came = few_both 0 0 0 s0 s1 s2 (omega arith) (coming_makes _ _ _ _ _ s0 s1 one.ensures.entries) (coming_makes _ _ _ _ _ s1 s2 two.ensures.entries) in
+          through_around c.args.plan.now (both_told (g.S.Source.remaining c.args.left.now) (g.S.Source.remaining c.args.right.now)) s0 s2 s3 s4 came (c.answer-result.ensures.made (two.ensures.own.told ∙ one.ensures.own.told ∙ tells)) (ending_makes _ _ _ _ s3 s4 c.end_client-2.ensures.entries);
     }

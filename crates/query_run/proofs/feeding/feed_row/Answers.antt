@@ -1,4 +1,4 @@
-use Rattle.std.proofs.Common.{◌≡◌, ◌++◌, ◌∷◌, [], List, false, true, append-nil, refl, rules, subst, sym}
+use Rattle.std.proofs.Common.{◌≡◌, ◌∷◌, [], List, false, true, append-nil, refl, rules, subst, sym}
 use Rattle.row_codec.specs.declared.values.Value.{Value}
 use Rattle.scan_filter.specs.Passes.{passes}
 use Rattle.query_run.proofs.Weighing.{counted_light, fits_rows, may_be_taken}
@@ -29,3 +29,26 @@ pub returns-in-Ok-clause-feeds : goal.returns-in-Ok-clause-feeds
 returns-in-Ok-clause-feeds g c =
     let passed : passes c.args.asked.now.preds c.args.row.now ≡ true = search rules in
     (sym passed, λ first rows h s fed. rw passed (c.in-Ok.ensures.ok first rows h s fed))
+
+pub returns-then-not-passes-clause-few : goal.returns-then-not-passes-clause-few
+returns-then-not-passes-clause-few g c =
+    let passed : passes c.args.asked.now.preds c.args.row.now ≡ false = search rules in
+    λ first rows h s fed made. rw (passed, append-nil rows) made
+
+pub returns-in-Ok-clause-few : goal.returns-in-Ok-clause-few
+returns-in-Ok-clause-few g c =
+    let passed : passes c.args.asked.now.preds c.args.row.now ≡ true = search rules in
+    λ first rows h s fed made. rw passed (c.take.ensures.few first rows h s fed made)
+
+pub returns-in-Err-clause-few_then : goal.returns-in-Err-clause-few_then
+returns-in-Err-clause-few_then g c =
+    let passed : passes c.args.asked.now.preds c.args.row.now ≡ true = search rules in
+    λ first rows h s fed made. (c.args.row.now ∷ [], ([], rw passed refl), c.take.ensures.few first rows h s fed made)
+
+pub returns-in-Err-clause-enough : goal.returns-in-Err-clause-enough
+returns-in-Err-clause-enough g c =
+    let passed : passes c.args.asked.now.preds c.args.row.now ≡ true = search rules in
+    λ first rows h s fed goes. (c.args.row.now ∷ [], ([], rw passed refl), c.in-Err.ensures.enough first rows h s fed goes)
+
+pub returns-then-bytes-page-clause-few_then : goal.returns-then-bytes-page-clause-few_then
+returns-then-bytes-page-clause-few_then g c = λ first rows h s fed made. ([], (_, refl), subst (λ (all : List (List Value)). g.T.Takes.makes first c.args.op.now all h s (g.St.Store.signs c.args.store.now)) (sym (append-nil rows)) made)

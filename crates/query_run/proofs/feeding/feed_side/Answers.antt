@@ -1,4 +1,4 @@
-use Rattle.std.proofs.Common.{rules, ◌≡◌, ◌∙◌, ◌⊎◌, ◌+◌, ◌*◌, ◌<◌, ◌≤◌, ◌^◌, ◌∷◌, ◌++◌, [], List, Some, true, false, not, arith, filter, length, subst, sym, refl}
+use Rattle.std.proofs.Common.{rules, ◌≡◌, ◌∙◌, ◌⊎◌, ◌+◌, ◌<◌, ◌≤◌, ◌^◌, ◌∷◌, ◌++◌, [], List, Some, true, false, not, arith, filter, length, subst, sym, refl}
 use Rattle.std.proofs.lemmas.List.Elements.{All-filter}
 use Rattle.std.proofs.lemmas.List.Filters.{length-filter_both}
 use Rattle.std.specs.Option.{option_map}
@@ -8,13 +8,17 @@ use Rattle.csv_edge.specs.Typed.{nothing_more, refused_here, row_then}
 use Rattle.csv_edge.specs.declared.refusal.InputErr.TheVariants as input
 use Rattle.row_codec.specs.declared.values.Value.{Value}
 use Rattle.row_codec.specs.Row.{kinds_of}
+use Rattle.reservation_tree.specs.declared.errors.PoolErr.{PoolErr}
 use Rattle.scan_filter.specs.Passes.{passes}
+use Rattle.csv_edge.proofs.Steps.{row-handed}
 use Rattle.query_run.specs.Causes.{OfPool}
 use Rattle.query_run.specs.FedRows.{IsFed}
-use Rattle.query_run.specs.Feeding.{RefusesRow}
+use Rattle.query_run.specs.Feeding.{AreFirstOf, OfTaken, RefusesRow}
 use Rattle.query_run.specs.Input.{most_bytes, rows_of, weight_of}
 use Rattle.query_run.specs.Plans.{kinds_of_columns}
 use Rattle.query_run.specs.Refused.{SaysOfSide, source}
+use Rattle.query_run.proofs.Fronts.{next_taken, none_taken, so_far_taken}
+use Rattle.query_run.proofs.Going.{of_pool_so}
 use Rattle.query_run.proofs.Taken.{still_then}
 use Rattle.query_run.proofs.Weighing.{is_fed}
 use Rattle.query_run.proofs.Reading.{ended_at, int_of_input, no_sums, refusal_of_header, refusal_of_input, refusal_of_row, row_fault, row_field, row_side, side_of_input, started, stops_input, went_on}
@@ -46,7 +50,7 @@ loop-rows-init g c =
     let told = g.S.Source.remaining c.args.source.now in
     let ok : Becomes (λ t. t) (option_map (rows_of c.args.asked.now.columns) told) (rest_of g.S.Source.remaining c.start.new.self) = search rules in
     let counts : CountsBytes most_bytes told (bytes_allowed c.start.new.self) (g.S.Source.remaining c.start.new.self.src.now) = search rules in (
-      started c.args.plan.now c.args.side c.args.asked.now c.args.page told _ _ _ _ c.requires.feeds ok counts,
+      started c.args.plan.now c.args.side c.args.asked.now c.args.page told _ _ _ _ (c.requires.feeds, c.requires.makes) ok counts,
       c.requires.stands,
       c.requires.goes,
       record { kinds_same = refl; extra_same = refl; page_same = refl },
@@ -70,7 +74,7 @@ returns-in-Ok-false-clause-ok g c =
       kept = before.kept;
       few = omega (arith, count, read);
       formed = All-filter (passes c.args.asked.now.preds) (IsFed (kinds_of_columns c.args.asked.now.columns)) before.rows before.formed;
-      came = before.came;
+      came = before.came.0;
       are = ended_at c.args.plan.now c.args.side c.args.asked.now c.args.page (g.S.Source.remaining c.args.source.now) _ _ before.rows _ before.light before.so_far before.counts here few;
     }
 
@@ -148,11 +152,17 @@ loop-rows-preserved-then-branch g c =
     let passed : test row ≡ true = search rules in
     let one : length (filter test (row ∷ [])) ≡ 1 = rw passed refl in
     let kept : c.loop-rows.fed.kept + 1 ≡ c.loop-rows.fed.kept + length (filter test (row ∷ [])) = omega (arith, one) in
-    let feeds : (rows : List (List Value)) → g.T.Takes.feeds c.args.op.now c.loop-rows.op rows (g.St.Store.holds c.args.store.now) (g.St.Store.holds c.loop-rows.store) (g.St.Store.signs c.args.store.now) (g.St.Store.signs c.loop-rows.store)
-    → g.T.Takes.feeds c.args.op.now c.feed_row.new.op (rows ++ filter test (row ∷ [])) (g.St.Store.holds c.args.store.now) (g.St.Store.holds c.feed_row.new.store) (g.St.Store.signs c.args.store.now) (g.St.Store.signs c.feed_row.new.store) =
+    let h0 = g.St.Store.holds c.args.store.now in
+    let s0 = g.St.Store.signs c.args.store.now in
+    let h1 = g.St.Store.holds c.loop-rows.store in
+    let s1 = g.St.Store.signs c.loop-rows.store in
+    let h2 = g.St.Store.holds c.feed_row.new.store in
+    let s2 = g.St.Store.signs c.feed_row.new.store in
+    let feeds : (rows : List (List Value)) → g.T.Takes.feeds c.args.op.now c.loop-rows.op rows h0 h1 s0 s1 × g.T.Takes.makes c.args.op.now c.loop-rows.op rows h0 s0 s1
+    → g.T.Takes.feeds c.args.op.now c.feed_row.new.op (rows ++ filter test (row ∷ [])) h0 h2 s0 s2 × g.T.Takes.makes c.args.op.now c.feed_row.new.op (rows ++ filter test (row ∷ [])) h0 s0 s2 =
     let row-is : c.deref.result.now ≡ row = search rules in
-    λ rows came. subst (λ (r : List Value). g.T.Takes.feeds c.args.op.now c.feed_row.new.op (rows ++ filter test (r ∷ [])) (g.St.Store.holds c.args.store.now) (g.St.Store.holds c.feed_row.new.store) (g.St.Store.signs c.args.store.now) (g.St.Store.signs c.feed_row.new.store)) row-is
-    (c.in_ok-feed_row.ensures.feeds.1 c.args.op.now rows _ _ came) in (
+    λ rows came. subst (λ (r : List Value). g.T.Takes.feeds c.args.op.now c.feed_row.new.op (rows ++ filter test (r ∷ [])) h0 h2 s0 s2 × g.T.Takes.makes c.args.op.now c.feed_row.new.op (rows ++ filter test (r ∷ [])) h0 s0 s2) row-is
+    (c.in_ok-feed_row.ensures.feeds.1 c.args.op.now rows h0 s0 came.0, c.in_ok-feed_row.ensures.few c.args.op.now rows h0 s0 came.0 came.1) in (
       went_on c.args.plan.now c.args.side c.args.asked.now c.args.page _ c.loop-rows.fed _ _ row _ _ _ _ _ _ _ _ c.loop-rows.invariant.0 light formed
           feeds refl kept next counts,
       c.feed_row.ensures.stands,
@@ -177,11 +187,17 @@ loop-rows-preserved g c =
     let passed : test row ≡ false = search rules in
     let none : length (filter test (row ∷ [])) ≡ 0 = rw passed refl in
     let kept : c.loop-rows.fed.kept ≡ c.loop-rows.fed.kept + length (filter test (row ∷ [])) = omega (arith, none) in
-    let feeds : (rows : List (List Value)) → g.T.Takes.feeds c.args.op.now c.loop-rows.op rows (g.St.Store.holds c.args.store.now) (g.St.Store.holds c.loop-rows.store) (g.St.Store.signs c.args.store.now) (g.St.Store.signs c.loop-rows.store)
-    → g.T.Takes.feeds c.args.op.now c.feed_row.new.op (rows ++ filter test (row ∷ [])) (g.St.Store.holds c.args.store.now) (g.St.Store.holds c.feed_row.new.store) (g.St.Store.signs c.args.store.now) (g.St.Store.signs c.feed_row.new.store) =
+    let h0 = g.St.Store.holds c.args.store.now in
+    let s0 = g.St.Store.signs c.args.store.now in
+    let h1 = g.St.Store.holds c.loop-rows.store in
+    let s1 = g.St.Store.signs c.loop-rows.store in
+    let h2 = g.St.Store.holds c.feed_row.new.store in
+    let s2 = g.St.Store.signs c.feed_row.new.store in
+    let feeds : (rows : List (List Value)) → g.T.Takes.feeds c.args.op.now c.loop-rows.op rows h0 h1 s0 s1 × g.T.Takes.makes c.args.op.now c.loop-rows.op rows h0 s0 s1
+    → g.T.Takes.feeds c.args.op.now c.feed_row.new.op (rows ++ filter test (row ∷ [])) h0 h2 s0 s2 × g.T.Takes.makes c.args.op.now c.feed_row.new.op (rows ++ filter test (row ∷ [])) h0 s0 s2 =
     let row-is : c.deref.result.now ≡ row = search rules in
-    λ rows came. subst (λ (r : List Value). g.T.Takes.feeds c.args.op.now c.feed_row.new.op (rows ++ filter test (r ∷ [])) (g.St.Store.holds c.args.store.now) (g.St.Store.holds c.feed_row.new.store) (g.St.Store.signs c.args.store.now) (g.St.Store.signs c.feed_row.new.store)) row-is
-    (c.in_ok-feed_row.ensures.feeds.1 c.args.op.now rows _ _ came) in (
+    λ rows came. subst (λ (r : List Value). g.T.Takes.feeds c.args.op.now c.feed_row.new.op (rows ++ filter test (r ∷ [])) h0 h2 s0 s2 × g.T.Takes.makes c.args.op.now c.feed_row.new.op (rows ++ filter test (r ∷ [])) h0 s0 s2) row-is
+    (c.in_ok-feed_row.ensures.feeds.1 c.args.op.now rows h0 s0 came.0, c.in_ok-feed_row.ensures.few c.args.op.now rows h0 s0 came.0 came.1) in (
       went_on c.args.plan.now c.args.side c.args.asked.now c.args.page _ c.loop-rows.fed _ _ row _ _ _ _ _ _ _ _ c.loop-rows.invariant.0 light formed
           feeds refl kept next counts,
       c.feed_row.ensures.stands,
@@ -193,3 +209,58 @@ loop-rows-preserved g c =
       search rules,
       search rules,
     )
+
+pub returns-in-Err-clause-enough : goal.returns-in-Err-clause-enough
+returns-in-Err-clause-enough g c =
+    let asked = c.args.asked.now in
+    let told = g.S.Source.remaining c.args.source.now in
+    rw c.of_input.ensures (stops_input (λ (why : PoolErr). OfTaken asked told (λ rows. g.T.Takes.wants c.args.op.now rows (g.St.Store.holds c.args.store.now) (g.St.Store.signs c.args.store.now) why)) (none_taken asked told _ c.requires.none) c.args.side c.in-Err.e)
+
+pub returns-in-Err-clause-few : goal.returns-in-Err-clause-few
+returns-in-Err-clause-few g c = none_taken c.args.asked.now (g.S.Source.remaining c.args.source.now) _ c.requires.makes
+
+pub returns-in-Ok-false-clause-few : goal.returns-in-Ok-false-clause-few
+returns-in-Ok-false-clause-few g c =
+    let before = c.loop-rows.invariant.0 in
+    so_far_taken c.args.asked.now (g.S.Source.remaining c.args.source.now) before.rows _ _ before.so_far before.came.1
+
+pub returns-in-Err-next_into-clause-enough : goal.returns-in-Err-next_into-clause-enough
+returns-in-Err-next_into-clause-enough g c =
+    let asked = c.args.asked.now in
+    let told = g.S.Source.remaining c.args.source.now in
+    rw c.of_input-in-Err-next_into.ensures (stops_input (λ (why : PoolErr). OfTaken asked told (λ rows. g.T.Takes.wants c.args.op.now rows (g.St.Store.holds c.args.store.now) (g.St.Store.signs c.args.store.now) why)) (none_taken asked told _ c.requires.none) c.args.side c.in-Err-next_into.e)
+
+pub returns-in-Err-next_into-clause-few : goal.returns-in-Err-next_into-clause-few
+returns-in-Err-next_into-clause-few g c =
+    let before = c.loop-rows.invariant.0 in
+    so_far_taken c.args.asked.now (g.S.Source.remaining c.args.source.now) before.rows _ _ before.so_far before.came.1
+
+pub returns-in_err-feed_row-clause-few : goal.returns-in_err-feed_row-clause-few
+returns-in_err-feed_row-clause-few g c =
+    let before = c.loop-rows.invariant.0 in
+    let test = passes c.args.asked.now.preds in
+    let told = g.S.Source.remaining c.args.source.now in
+    let row = c.next_into.new.row.items in
+    let row-is : c.deref.result.now ≡ row = search rules in
+    let next : Becomes (row_then row) (rest_of g.S.Source.remaining c.loop-rows.rows) (rest_of g.S.Source.remaining c.next_into.new.self) = search rules in
+    let some = c.in_err-feed_row.ensures.few_then c.args.op.now (filter test before.rows) _ _ before.came.0 before.came.1 in
+    let part : AreFirstOf some.0 (filter test (row ∷ [])) = subst (λ (r : List Value). AreFirstOf some.0 (filter test (r ∷ []))) row-is some.1 in
+    next_taken c.args.asked.now told before.rows (row ∷ []) some.0 _ _ (row-handed before.rows row (option_map (rows_of c.args.asked.now.columns) told) _ _ before.so_far next) part some.2
+
+pub returns-in_err-feed_row-clause-enough : goal.returns-in_err-feed_row-clause-enough
+returns-in_err-feed_row-clause-enough g c =
+    let e = c.in_err-feed_row.field-0.0 in
+    let before = c.loop-rows.invariant.0 in
+    let asked = c.args.asked.now in
+    let test = passes asked.preds in
+    let told = g.S.Source.remaining c.args.source.now in
+    let row = c.next_into.new.row.items in
+    let row-is : c.deref.result.now ≡ row = search rules in
+    let next : Becomes (row_then row) (rest_of g.S.Source.remaining c.loop-rows.rows) (rest_of g.S.Source.remaining c.next_into.new.self) = search rules in
+    let handed = row-handed before.rows row (option_map (rows_of asked.columns) told) _ _ before.so_far next in
+    let wants : List (List Value) → PoolErr → Type 0 = λ rows why. g.T.Takes.wants c.args.op.now rows (g.St.Store.holds c.args.store.now) (g.St.Store.signs c.args.store.now) why in
+    let all : OfPool (λ why. OfTaken asked told (λ rows. wants rows why)) e =
+    of_pool_so (λ why. (some : List (List Value)) × AreFirstOf some (filter test (c.deref.result.now ∷ [])) × wants (filter test before.rows ++ some) why) (λ why. OfTaken asked told (λ rows. wants rows why))
+    (λ why some. next_taken asked told before.rows (row ∷ []) some.0 _ _ handed (subst (λ (r : List Value). AreFirstOf some.0 (filter test (r ∷ []))) row-is some.1) some.2) e
+    (c.in_err-feed_row.ensures.enough c.args.op.now (filter test before.rows) _ _ before.came.0 c.loop-rows.invariant.2) in
+    search (rules, all)

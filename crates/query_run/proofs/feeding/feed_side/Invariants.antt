@@ -9,7 +9,7 @@ use Rattle.query_run.proofs.feeding.feed_side.Given as goal
 abbrev pub invariant-loop-rows : goal.invariant-loop-rows
 invariant-loop-rows g l =
     IsReading l.fn.plan l.fn.side l.fn.asked l.fn.page (g.S.Source.remaining l.fn.source) l.fed
-    (λ rows. g.T.Takes.feeds l.fn.op l.op rows (g.St.Store.holds l.fn.store) (g.St.Store.holds l.store) (g.St.Store.signs l.fn.store) (g.St.Store.signs l.store))
+    (λ rows. g.T.Takes.feeds l.fn.op l.op rows (g.St.Store.holds l.fn.store) (g.St.Store.holds l.store) (g.St.Store.signs l.fn.store) (g.St.Store.signs l.store) × g.T.Takes.makes l.fn.op l.op rows (g.St.Store.holds l.fn.store) (g.St.Store.signs l.fn.store) (g.St.Store.signs l.store))
     (rest_of g.S.Source.remaining l.rows) (g.S.Source.remaining l.rows.src.now) (bytes_allowed l.rows)
     × g.T.Takes.stands l.op (g.St.Store.holds l.store) (g.St.Store.signs l.store)
     × g.T.Takes.goes l.fn.op l.op (g.St.Store.holds l.fn.store) (g.St.Store.holds l.store) (g.St.Store.signs l.fn.store) (g.St.Store.signs l.store)

@@ -1,14 +1,26 @@
-use Rattle.std.proofs.Common.{[], ◌∙◌, ap, inr, sym, subst, arith}
+use Rattle.std.proofs.Common.{◌≡◌, ◌<◌, [], ◌∙◌, ℕ, IfSome, true, ap, inr, length, sym, subst, arith, rules}
+use Rattle.tuple_stream.specs.Families.{slots_in}
+use Rattle.partition_stack.specs.Slots.{IsWantBelow}
+use Rattle.group_op.specs.Operator.{slots_for}
+use Rattle.query_run.specs.Causes.{OfPool}
+use Rattle.query_run.specs.Feeding.{OfTaken}
+use Rattle.query_run.specs.Input.{passing}
+use Rattle.partition_stack.specs.Making.{MakesFew}
 use Rattle.tuple_stream.specs.Trails.{EnteredEvents}
 use Rattle.partition_stack.specs.Stack.{over}
 use Rattle.group_op.specs.Laid.{HoldsGroups}
 use Rattle.store_api.specs.declared.shapes.Shape.{Shape}
 use Rattle.query_run.specs.Plans.{shape_of}
-use Rattle.query_run.proofs.Going.{goes_then, stopped_later}
+use Rattle.query_run.specs.Taking.{GroupMakes, GroupWants}
+use Rattle.query_run.proofs.Fronts.{taken_so}
+use Rattle.query_run.proofs.Going.{feeds_still, goes_then, of_pool_so, stopped_later}
+use Rattle.query_run.proofs.Made.{group_makes_none}
 use Rattle.partition_stack.proofs.Results.{if_err, if_ok, on_ok}
 use Rattle.query_run.proofs.Results.{at_err, both_ok, of_err}
 use Rattle.query_run.proofs.Whole.{all_numbers, fed_as, grouped, groups_alone, holds_for, left_kinds, part_answer, passing_are, passing_of, same_page, whole_answer}
 use Rattle.query_run.proofs.Taken.{group_feeds_none, group_goes_none}
+use Rattle.query_run.proofs.Wants.{front_wants, whole_wants}
+use Rattle.query_run.proofs.Counted.{alone_taken, alone_whole, fed_makes, whole_makes}
 use Rattle.query_run.proofs.grouped.answer.Goals as goal
 
 pub returns-clause-answer : goal.returns-clause-answer
@@ -83,3 +95,64 @@ feed_side-requires-clause-memory g c = λ after. record { answered = tt; want = 
 
 pub write_groups-requires-clause-plan : goal.write_groups-requires-clause-plan
 write_groups-requires-clause-plan g c = groups_alone c.args.plan.now c.requires.plan
+
+pub feed_side-requires-clause-makes : goal.feed_side-requires-clause-makes
+feed_side-requires-clause-makes g c = group_makes_none c.args.op.now (g.St.Store.holds c.args.store.now) (g.St.Store.signs c.args.store.now) c.law_few.ensures.pages c.requires.feeding
+
+pub feed_side-requires-clause-none : goal.feed_side-requires-clause-none
+feed_side-requires-clause-none g c = λ start fed keeps. tt
+
+pub returns-in_err-fed-clause-made : goal.returns-in_err-fed-clause-made
+returns-in_err-fed-clause-made g c = λ told.
+    let s0 = g.St.Store.signs c.args.store.now in
+    let s1 = g.St.Store.signs c.feed_side.new.store in
+    let h = g.St.Store.holds c.args.store.now in
+    alone_taken c.args.plan.now (g.S.Source.remaining c.args.left.now) s0 s1 (taken_so _ _ (λ rows. GroupMakes c.args.op.now c.feed_side.new.op rows h s0 s1) (λ rows. MakesFew (length rows) s0 s1)
+    (λ rows makes. fed_makes c.args.op.now c.feed_side.new.op rows h s0.trail s0 s1 c.requires.keeps makes) c.feed_side.ensures.few)
+
+pub returns-clause-made : goal.returns-clause-made
+returns-clause-made g c = λ told.
+    let has = c.in_ok-fed.ensures.ok in
+    let keeps = has.came _ [] c.requires.keeps in
+    let goes = c.feed_side.ensures.goes in
+    let taken = c.feed_side.ensures.few in
+    let fed = passing_of c.args.plan.now has.rows in
+    let h1 = g.St.Store.holds c.feed_side.new.store in
+    let s0 = g.St.Store.signs c.args.store.now in
+    let s1 = g.St.Store.signs c.feed_side.new.store in
+    let s2 = g.St.Store.signs c.write_groups.new.store in
+    let later = c.write_groups.ensures.made fed keeps.holds (goes.went.leaves.others.told ∙ told) in
+    alone_whole c.args.plan.now c.args.page (g.S.Source.remaining c.args.left.now) fed s0 s2 (passing_are c.args.plan.now c.args.page _ has.rows has.are)
+    (whole_makes c.args.op.now c.feed_side.new.op taken.rows fed (g.St.Store.holds c.args.store.now) h1 s0 s1 s2 c.law_few.ensures.pages (feeds_still c.args.op.now c.feed_side.new.op c.requires.feeding goes.same) keeps.holds taken.so later)
+
+pub returns-in_err-fed-clause-enough : goal.returns-in_err-fed-clause-enough
+returns-in_err-fed-clause-enough g c =
+    let e = c.in_err-fed.field-0.0 in
+    let plan = c.args.plan.now in
+    let op = c.args.op.now in
+    let h = g.St.Store.holds c.args.store.now in
+    let s = g.St.Store.signs c.args.store.now in
+    let told = g.S.Source.remaining c.args.left.now in
+    let total = slots_in (over op.parts h s) in
+    let long = subst (λ (n : ℕ). 0 < n) c.requires.page c.requires.long in
+    let all : OfPool (λ why. h.told ≡ true → IfSome told (λ bytes. IsWantBelow (slots_for 544 op h (passing plan bytes)) total why)) e =
+    of_pool_so (λ why. OfTaken plan.left told (λ rows. GroupWants op rows h s why)) (λ why. h.told ≡ true → IfSome told (λ bytes. IsWantBelow (slots_for 544 op h (passing plan bytes)) total why))
+    (λ why taken tells. front_wants plan told op h s s.trail why long c.requires.keeps taken) e c.in_err-fed.ensures.enough in
+    search (rules, all)
+
+pub returns-clause-enough : goal.returns-clause-enough
+returns-clause-enough g c =
+    let has = c.in_ok-fed.ensures.ok in
+    let plan = c.args.plan.now in
+    let keeps = has.came _ [] c.requires.keeps in
+    let goes = c.feed_side.ensures.goes in
+    let fed = passing_of plan has.rows in
+    let a = c.args.op.now in
+    let b = c.feed_side.new.op in
+    let h0 = g.St.Store.holds c.args.store.now in
+    let h1 = g.St.Store.holds c.feed_side.new.store in
+    let s0 = g.St.Store.signs c.args.store.now in
+    let s1 = g.St.Store.signs c.feed_side.new.store in
+    let told = g.S.Source.remaining c.args.left.now in
+    if_err c.write_groups.result (λ e enough. of_pool_so _ (λ why. h0.told ≡ true → IfSome told (λ bytes. IsWantBelow (slots_for 544 a h0 (passing plan bytes)) (slots_in (over a.parts h0 s0)) why))
+    (λ why below tells. whole_wants plan c.args.page told fed a b h0 h1 s0 s1 why goes (passing_are plan c.args.page _ has.rows has.are) (below fed keeps.holds (goes.went.leaves.others.told ∙ tells))) e enough) c.write_groups.ensures.enough

@@ -1,18 +1,29 @@
-use Rattle.std.proofs.Common.{rules, [], Some, ◌≡◌, ◌∙◌, ◌*◌, inl, inr, ap, subst}
+use Rattle.std.proofs.Common.{rules, [], Some, ◌≡◌, ◌∙◌, ◌*◌, ◌<◌, IfSome, true, inl, inr, ap, arith, subst}
 use Rattle.store_api.proofs.Growing.{grows_trans}
 use Rattle.tuple_stream.specs.Families.{slots_in}
 use Rattle.partition_stack.specs.Stack.{over}
-use Rattle.group_op.specs.Operator.{Operator}
+use Rattle.partition_stack.specs.Slots.{IsWantBelow}
+use Rattle.group_op.specs.Operator.{Operator, slots_for}
+use Rattle.reservation_tree.specs.declared.errors.PoolErr.{PoolErr}
 use Rattle.query_plan.specs.Sizes.{least_of, page_len}
 use Rattle.store_api.specs.Changes.{after_end_client}
 use Rattle.store_api.specs.Holdings.{account_of}
 use Rattle.store_api.specs.Tokens.{ClientToken}
 use Rattle.query_run.specs.Answer.{WroteFront}
 use Rattle.query_run.specs.Both.{both_told}
-use Rattle.query_run.specs.Stopped.{IsLeft}
-use Rattle.query_run.proofs.Around.{ends_first, kept_whole, left_around, left_behind, one_amount, slots_first, starts_here, stopped_around}
+use Rattle.query_run.specs.Causes.{OfPool}
+use Rattle.query_run.specs.Input.{passing}
+use Rattle.query_run.specs.Plans.{shape_of}
+use Rattle.query_run.specs.Stopped.{IsLeft, StoppedOver}
+use Rattle.query_run.proofs.Around.{WantsEnough, ends_first, kept_whole, left_around, left_behind, one_amount, slots_first, starts_here, stopped_around}
+use Rattle.query_run.proofs.Counted.{coming_makes, ending_makes, names_none, none_through, through_around}
+use Rattle.query_run.proofs.Going.{of_pool_so}
 use Rattle.query_run.proofs.KeptFirst.{reserves_first}
+use Rattle.query_run.proofs.Results.{both_err}
+use Rattle.query_run.proofs.Says.{memory_stops}
+use Rattle.query_run.proofs.Wants.{all_wants, long_page}
 use Rattle.query_run.proofs.Whole.{groups_alone}
+use Rattle.partition_stack.proofs.Making.{few_both}
 use Rattle.partition_stack.proofs.Results.{if_err, on_ok}
 use Rattle.query_run.proofs.grouped.run_grouped.Goals as goal
 
@@ -33,7 +44,24 @@ returns-clause-pool g c =
     let slots : slots_in (over c.in-Ok.op.parts (g.St.Store.holds c.own_client-c.new.store) (g.St.Store.signs c.own_client-c.new.store)) ≡ (g.St.Store.holds c.args.store.now).free_slots =
     ap (λ (op : Operator). slots_in (over op.parts (g.St.Store.holds c.own_client-c.new.store) (g.St.Store.signs c.own_client-c.new.store))) start ∙ slots_first c.args.plan.now.page_blocks (g.St.Store.holds c.own_client-c.new.store) (g.St.Store.signs c.own_client-c.new.store) ∙ c.own_client-c.ensures.own.free_slots in
     let later = grows_trans _ _ _ c.end-c.ensures.leaves.grows c.end_client-2.ensures.grows in
-    if_err c.answer-result.result (λ e came. stopped_around c.args.plan.now _ _ (g.St.Store.holds c.args.store.now) _ _ _ _ e c.requires.plan.alone blocks slots c.own_client-c.ensures.grows later came) c.answer-result.ensures.pool
+    let plan = c.args.plan.now in
+    let h0 = g.St.Store.holds c.args.store.now in
+    let told = g.S.Source.remaining c.args.left.now in
+    let own = c.own_client-c.ensures.own in
+    let shape : c.in-Ok.op.shape ≡ shape_of plan = ap (λ (op : Operator). op.shape) start in
+    let len : c.from.result * c.from-2.result ≡ page_len plan h0.block_len = search rules in
+    let long : 0 < page_len plan h0.block_len = long_page plan h0.block_len c.requires.plan.paged (search rules) in
+    let h1 = g.St.Store.holds c.own_client-c.new.store in
+    let s0 = g.St.Store.signs c.args.store.now in
+    let s1 = g.St.Store.signs c.own_client-c.new.store in
+    let s2 = g.St.Store.signs c.answer-result.new.store in
+    let s4 = g.St.Store.signs c.end_client-2.new.self in
+    let op = c.in-Ok.op in
+    let total = slots_in (over op.parts h1 s1) in
+    let wants : PoolErr → Type 0 = λ why. h1.told ≡ true → IfSome told (λ bytes. IsWantBelow (slots_for 544 op h1 (passing plan bytes)) total why) in
+    if_err c.answer-result.result (λ e both. stopped_around plan (both_told told (Some [])) op.parts.page_blocks total h0 s0 s1 s2 s4 e blocks slots c.own_client-c.ensures.grows later both.0
+    (of_pool_so wants (WantsEnough plan (both_told told (Some [])) h0) (λ why below tells. all_wants plan told op h0 h1 s1 why shape blocks own.block_len long slots (below (own.told ∙ tells))) e both.1))
+    (both_err (StoppedOver op.parts.page_blocks total s1 s2) (OfPool wants) c.answer-result.result c.answer-result.ensures.pool c.answer-result.ensures.enough)
 
 pub returns-clause-stopped : goal.returns-clause-stopped
 returns-clause-stopped g c =
@@ -81,8 +109,16 @@ returns-clause-store g c =
     record {
       reserves = rw (one_amount c.args.plan.now was.block_len c.requires.plan.alone) (reserves_first was.session c.own_client-c.result.tracker was.query c.max.result c.least-bytes.result (least_of c.args.plan.now was.block_len) (g.St.Store.signs c.args.store.now) (g.St.Store.signs c.own_client-c.new.store) (g.St.Store.signs c.end_client-2.new.self) c.own_client-c.ensures.entries grows (search rules) (search rules));
       left = rw ended left;
-      free = λ alone. rw ended (free ∙ own.free_slots);
+      free = rw ended (free ∙ own.free_slots);
       grows = grows_trans _ _ _ c.own_client-c.ensures.grows grows;
+      made = λ tells.
+          let s0 = g.St.Store.signs c.args.store.now in
+          let s1 = g.St.Store.signs c.own_client-c.new.store in
+          let s2 = g.St.Store.signs c.answer-result.new.store in
+          let s3 = g.St.Store.signs c.end-c.new.store in
+          let s4 = g.St.Store.signs c.end_client-2.new.self in
+          through_around c.args.plan.now (both_told (g.S.Source.remaining c.args.left.now) (Some [])) s0 s1 s2 s4 (coming_makes _ _ _ _ _ s0 s1 c.own_client-c.ensures.entries) (c.answer-result.ensures.made (own.told ∙ tells))
+          (few_both 0 0 0 s2 s3 s4 (omega arith) (names_none s2 s3 c.end-c.ensures.entries) (ending_makes _ _ _ _ s3 s4 c.end_client-2.ensures.entries));
     }
 
 pub returns-in-Err-clause-store : goal.returns-in-Err-clause-store
@@ -94,9 +130,23 @@ returns-in-Err-clause-store g c =
     record {
       reserves = rw (one_amount c.args.plan.now was.block_len c.requires.plan.alone) (reserves_first was.session c.own_client-c.result.tracker was.query c.max.result c.least-bytes.result (least_of c.args.plan.now was.block_len) (g.St.Store.signs c.args.store.now) (g.St.Store.signs c.own_client-c.new.store) (g.St.Store.signs c.end_client.new.self) c.own_client-c.ensures.entries c.end_client.ensures.grows (search rules) (search rules));
       left = rw ended (left_behind c.own_client-c.result _ _ was _ c.requires.store.idle own);
-      free = λ alone. rw ended own.free_slots;
+      free = rw ended own.free_slots;
       grows = grows_trans _ _ _ c.own_client-c.ensures.grows c.end_client.ensures.grows;
+      made = λ tells.
+          let s0 = g.St.Store.signs c.args.store.now in
+          let s1 = g.St.Store.signs c.own_client-c.new.store in
+          let s2 = g.St.Store.signs c.end_client.new.self in
+          none_through c.args.plan.now (both_told (g.S.Source.remaining c.args.left.now) (Some [])) s0 s2 (few_both 0 0 0 s0 s1 s2 (omega arith) (coming_makes _ _ _ _ _ s0 s1 c.own_client-c.ensures.entries) (ending_makes _ _ _ _ s1 s2 c.end_client.ensures.entries));
     }
 
 pub start_grouping-requires : goal.start_grouping-requires
 start_grouping-requires g c = groups_alone c.args.plan.now c.requires.plan
+
+pub returns-in-Err-clause-pool : goal.returns-in-Err-clause-pool
+returns-in-Err-clause-pool g c = memory_stops c.args.plan.now (both_told (g.S.Source.remaining c.args.left.now) (Some [])) (g.St.Store.holds c.args.store.now) _ _
+
+pub answer-result-requires-clause-long : goal.answer-result-requires-clause-long
+answer-result-requires-clause-long g c =
+    let len : c.from.result * c.from-2.result ≡ page_len c.args.plan.now (g.St.Store.holds c.args.store.now).block_len = search rules in
+    let long = long_page c.args.plan.now (g.St.Store.holds c.args.store.now).block_len c.requires.plan.paged (search rules) in
+    omega (arith, len, long)

@@ -1,6 +1,9 @@
+use Rattle.std.proofs.Common.{◌+◌, ◌*◌, length, refl}
 use Rattle.partition_stack.proofs.Results.{on_err, on_ok}
+use Rattle.group_op.specs.Operator.{entries_in}
 use Rattle.query_run.proofs.Handed.{goes_handed}
 use Rattle.query_run.proofs.Telling.{took_groups_of, took_some_of}
+use Rattle.query_run.proofs.Counted.{counted_few}
 use Rattle.query_run.proofs.grouping.drive.Goals as goal
 
 pub returns-clause-ok : goal.returns-clause-ok
@@ -20,3 +23,9 @@ returns-clause-went g c = record {
   went = goes_handed c.args.op.now c.finish-result.new.self _ _ _ _ 0 0 c.finish-result.ensures.op c.finish-result.ensures.client c.finish-result.ensures.leaves;
   quiet = c.finish-result.ensures.quiet;
 }
+
+pub returns-clause-made : goal.returns-clause-made
+returns-clause-made g c = λ fed holds told. counted_few (15 * length fed + length (entries_in c.args.op.now.table)) (g.St.Store.signs c.args.store.now) (g.St.Store.signs c.finish-result.new.store) (c.finish-result.ensures.made fed holds told)
+
+pub returns-clause-enough : goal.returns-clause-enough
+returns-clause-enough g c = c.finish-result.ensures.enough refl

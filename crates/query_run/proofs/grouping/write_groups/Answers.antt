@@ -1,9 +1,18 @@
-use Rattle.std.proofs.Common.{◌∙◌, length, pos, replicate, ap, sym, refl, rules}
+use Rattle.std.proofs.Common.{◌≡◌, ◌∙◌, ◌+◌, ◌*◌, List, true, length, pos, replicate, ap, sym, refl, arith, rules}
+use Rattle.row_codec.specs.declared.values.Value.{Value}
+use Rattle.tuple_stream.specs.Families.{slots_in}
+use Rattle.partition_stack.specs.Slots.{IsWantBelow}
+use Rattle.partition_stack.specs.Stack.{over}
+use Rattle.partition_stack.proofs.Making.{few_less, few_none}
+use Rattle.group_op.specs.Operator.{Holds, entries_in, slots_for}
+use Rattle.query_run.specs.Causes.{OfPool}
+use Rattle.query_run.specs.Ending.{IsEndedBy}
 use Rattle.store_api.specs.declared.shapes.Shape.{Shape}
 use Rattle.partition_stack.proofs.Results.{any_err, on_err, on_ok}
 use Rattle.query_run.specs.Answer.{answer_text, group_rows}
 use Rattle.query_run.specs.Plans.{grouping_of}
 use Rattle.query_run.proofs.Ended.{all_handed, not_stopped, numbers_are, some_anyhow, stopped_front, took_none, unsent_front, untouched, whole_answer}
+use Rattle.query_run.proofs.Wants.{ended_wants}
 use Rattle.query_run.proofs.Whole.{grouped}
 use Rattle.query_run.proofs.grouping.write_groups.Goals as goal
 
@@ -43,3 +52,18 @@ pub returns-clause-lines : goal.returns-clause-lines
 returns-clause-lines g c = λ rows holds told.
     numbers_are c.args.plan.now c.args.op.now.shape _ rows c.drive-handed.result.1.stopped _ _ _ c.drive-handed.result.1.totals.items _ (grouped c.args.plan.now c.requires.plan) c.requires.shape refl c.of.ensures
     (all_handed c.drive-handed.result.1.stopped c.drive-handed.result.0 c.in_ok-went_through.ensures.ok (on_ok c.drive-handed.result.0 (λ all. all rows holds told) c.drive-handed.ensures.ok))
+
+pub returns-in_err-part-clause-made : goal.returns-in_err-part-clause-made
+returns-in_err-part-clause-made g c = λ fed holds told. few_less 0 (15 * length fed + length (entries_in c.args.op.now.table)) (g.St.Store.signs c.args.store.now) (g.St.Store.signs c.args.store.now) (omega arith) (few_none (g.St.Store.signs c.args.store.now))
+
+pub returns-in_err-went_through-clause-enough : goal.returns-in_err-went_through-clause-enough
+returns-in_err-went_through-clause-enough g c =
+    let e = c.in_err-went_through.field-0.0 in
+    let op = c.args.op.now in
+    let h = g.St.Store.holds c.args.store.now in
+    let s = g.St.Store.signs c.args.store.now in
+    let total = slots_in (over op.parts h s) in
+    let ended : IsEndedBy c.drive-handed.result.1.stopped c.drive-handed.result.0 e = search rules in
+    let all : OfPool (λ why. (fed : List (List Value)) → Holds fed op h s → h.told ≡ true → IsWantBelow (slots_for 544 op h fed) total why) e =
+    ended_wants (λ fed. Holds fed op h s) (h.told ≡ true) (slots_for 544 op h) total _ _ _ _ c.drive-handed.result.1.stopped _ _ _ c.drive-handed.result.0 e c.drive-handed.ensures.enough c.drive-handed.ensures.any.1 ended in
+    search (rules, all)

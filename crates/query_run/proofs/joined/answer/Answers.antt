@@ -1,6 +1,7 @@
 use Rattle.std.proofs.Common.{◌≡◌, ◌∙◌, ◌<◌, ◌+◌, ◌^◌, List, inr, sym, subst, arith}
 use Rattle.std.specs.Prelude.{⊤}
 use Rattle.partition_stack.proofs.Left.{leaves_both}
+use Rattle.partition_stack.proofs.Making.{few_none}
 use Rattle.partition_stack.proofs.Results.{if_err, if_ok, on_ok}
 use Rattle.partition_stack.specs.Leaving.{LeavesOthers}
 use Rattle.partition_stack.specs.Stack.{over}
@@ -11,10 +12,12 @@ use Rattle.join_op.specs.Pairs.{pairs_of}
 use Rattle.query_run.specs.Answer.{LineNumbers}
 use Rattle.query_run.specs.Joined.{WrotePairs, WroteSomePairs}
 use Rattle.query_run.proofs.Going.{of_pool_so}
-use Rattle.query_run.proofs.Results.{at_err, both_ok, of_done, of_err, of_ok}
+use Rattle.query_run.proofs.JoinWants.{pairs_below}
+use Rattle.query_run.proofs.Results.{at_err, both_ok, of_bad, of_done, of_err, of_ok}
 use Rattle.query_run.proofs.Says.{says_neither}
 use Rattle.query_run.proofs.Sides.{both_kept, few_kept, joined_answer, joined_front, joined_numbers}
 use Rattle.query_run.proofs.Taken.{join_stops}
+use Rattle.query_run.proofs.Counted.{both_fed, joined_whole}
 use Rattle.query_run.proofs.joined.answer.Goals as goal
 
 pub write_pairs-result-requires-clause-few : goal.write_pairs-result-requires-clause-few
@@ -50,6 +53,19 @@ returns-clause-input g c = if_err c.write_pairs-result.result (λ e none. says_n
 pub returns-clause-pool : goal.returns-clause-pool
 returns-clause-pool g c = if_err c.write_pairs-result.result (λ e stopped. of_pool_so _ _ (λ why by. join_stops _ _ _ _ _ _ _ why c.feed_both-fed.ensures.goes by) e stopped) c.write_pairs-result.ensures.pool
 
+pub returns-in-Err-clause-enough : goal.returns-in-Err-clause-enough
+returns-in-Err-clause-enough g c =
+    of_pool_so _ _ (λ why wants told. wants) c.in-Err.e (of_bad _ c.feed_both-fed.result.0 c.in-Err.e c.in-Err.is c.feed_both-fed.ensures.enough)
+
+pub returns-clause-enough : goal.returns-clause-enough
+returns-clause-enough g c =
+    let has = of_ok _ c.feed_both-fed.result.0 c.in-Ok.fed c.in-Ok.is c.feed_both-fed.ensures.ok in
+    let goes = c.feed_both-fed.ensures.goes in
+    if_err c.write_pairs-result.result (λ e enough. of_pool_so _ _ (λ why wants told. pairs_below c.args.plan.now c.args.asked.now c.args.page _ _ _ _ _ has c.args.op c.feed_both-fed.result.1 _ _ _ _ why goes (wants _ _ _ has.kept (goes.leaves.others.told ∙ told))) e enough) c.write_pairs-result.ensures.enough
+
+pub returns-clause-slots : goal.returns-clause-slots
+returns-clause-slots g c = c.write_pairs-result.ensures.slots ∙ c.feed_both-fed.ensures.goes.slots
+
 pub returns-clause-front : goal.returns-clause-front
 returns-clause-front g c = λ told failed.
     let has = of_ok _ c.feed_both-fed.result.0 c.in-Ok.fed c.in-Ok.is c.feed_both-fed.ensures.ok in
@@ -83,3 +99,15 @@ returns-clause-leaves g c =
     let goes = c.feed_both-fed.ensures.goes in
     let then = c.write_pairs-result.ensures.leaves in
     leaves_both _ _ _ _ _ _ _ goes.leaves (rw goes.same.client at then)
+
+pub returns-in-Err-clause-made : goal.returns-in-Err-clause-made
+returns-in-Err-clause-made g c = λ told.
+    let s1 = g.St.Store.signs c.feed_both-fed.new.store in
+    both_fed c.args.plan.now c.args.asked.now c.requires.right (g.S.Source.remaining c.args.left.now) (g.S.Source.remaining c.args.right.now) (g.St.Store.signs c.args.store.now) s1 s1 c.feed_both-fed.ensures.made (few_none s1)
+
+pub returns-clause-made : goal.returns-clause-made
+returns-clause-made g c = λ told.
+    let has = of_ok _ c.feed_both-fed.result.0 c.in-Ok.fed c.in-Ok.is c.feed_both-fed.ensures.ok in
+    let goes = c.feed_both-fed.ensures.goes in
+    joined_whole c.args.plan.now c.args.asked.now c.requires.right c.args.page _ _ _ (g.S.Source.remaining c.args.left.now) (g.S.Source.remaining c.args.right.now) has (g.St.Store.signs c.args.store.now) (g.St.Store.signs c.feed_both-fed.new.store) (g.St.Store.signs c.write_pairs-result.new.store)
+    c.feed_both-fed.ensures.made (c.write_pairs-result.ensures.made _ has.lefts has.rights has.kept (goes.leaves.others.told ∙ told))

@@ -1,9 +1,18 @@
-use Rattle.std.proofs.Common.{◌≡◌, refl, rules}
+use Rattle.std.proofs.Common.{◌≡◌, ◌+◌, ◌*◌, List, Option, true, length, refl, arith, rules}
+use Rattle.pool_model.specs.declared.entry.Entry.{Entry}
+use Rattle.row_codec.specs.declared.values.Value.{Value}
+use Rattle.partition_stack.specs.Slots.{IsWantBelow}
+use Rattle.partition_stack.proofs.Making.{few_less, few_none}
 use Rattle.partition_stack.proofs.Results.{any_err, on_err, on_ok}
+use Rattle.join_op.specs.Operator.{Keeps, slots_for}
 use Rattle.join_op.specs.Pairs.{pairs_of}
 use Rattle.csv_edge.specs.Lines.{line_of}
 use Rattle.query_run.specs.Answer.{answer_text, header_of}
+use Rattle.query_run.specs.Causes.{OfPool}
+use Rattle.query_run.specs.Ending.{IsEndedBy}
+use Rattle.query_run.specs.Taking.{join_slots}
 use Rattle.query_run.proofs.Ended.{all_handed, not_stopped, took_none, untouched}
+use Rattle.query_run.proofs.JoinWants.{ended_pairs}
 use Rattle.query_run.proofs.Pairing.{no_pairs, pair_numbers, some_pairs, stopped_pairs, unsent_pairs, whole_pairs}
 use Rattle.query_run.proofs.pairs.write_pairs.Goals as goal
 
@@ -50,3 +59,21 @@ pub returns-clause-lines : goal.returns-clause-lines
 returns-clause-lines g c = λ start lefts rights keeps told.
     pair_numbers c.args.plan.now (pairs_of c.args.op.now.shape lefts rights) _ c.drive_pairs-handed.result.1.stopped _ _ _ c.drive_pairs-handed.result.1.totals.items _ c.requires.groups c.requires.aggs refl c.of.ensures
     (all_handed c.drive_pairs-handed.result.1.stopped c.drive_pairs-handed.result.0 c.in_ok-went_through.ensures.ok (on_ok c.drive_pairs-handed.result.0 (λ all. all start lefts rights keeps told) c.drive_pairs-handed.ensures.ok))
+
+pub returns-in_err-names-clause-made : goal.returns-in_err-names-clause-made
+returns-in_err-names-clause-made g c = λ start lefts rights keeps told. few_less 0 (15 * (length lefts + length rights)) (g.St.Store.signs c.args.store.now) (g.St.Store.signs c.args.store.now) (omega arith) (few_none (g.St.Store.signs c.args.store.now))
+
+pub returns-in_err-part-clause-made : goal.returns-in_err-part-clause-made
+returns-in_err-part-clause-made g c = λ start lefts rights keeps told. few_less 0 (15 * (length lefts + length rights)) (g.St.Store.signs c.args.store.now) (g.St.Store.signs c.args.store.now) (omega arith) (few_none (g.St.Store.signs c.args.store.now))
+
+pub returns-in_err-went_through-clause-enough : goal.returns-in_err-went_through-clause-enough
+returns-in_err-went_through-clause-enough g c =
+    let e = c.in_err-went_through.field-0.0 in
+    let op = c.args.op.now in
+    let h = g.St.Store.holds c.args.store.now in
+    let s = g.St.Store.signs c.args.store.now in
+    let total = join_slots op h s in
+    let ended : IsEndedBy c.drive_pairs-handed.result.1.stopped c.drive_pairs-handed.result.0 e = search rules in
+    let all : OfPool (λ why. (start : Option (List Entry)) (lefts rights : List (List Value)) → Keeps start lefts rights op h s → h.told ≡ true → IsWantBelow (slots_for op h lefts rights) total why) e =
+    ended_pairs (λ start lefts rights. Keeps start lefts rights op h s) (h.told ≡ true) (slots_for op h) total _ _ _ _ c.drive_pairs-handed.result.1.stopped _ _ _ c.drive_pairs-handed.result.0 e c.drive_pairs-handed.ensures.enough c.drive_pairs-handed.ensures.any.1 ended in
+    search (rules, all)

@@ -35,3 +35,9 @@ returns-in-None-clause-kept g c =
     rw none (on_ok c.run_grouped.result
     (λ kept. subst (λ (o : Option SidePlan). KeptWith o c.args.plan.now (page_len c.args.plan.now old.block_len) (g.S.Source.remaining c.args.left.now) (Some []) (g.St.Store.signs c.args.store.now).trail (g.St.Store.signs c.run_grouped.new.store).trail) (sym alone) kept)
     c.run_grouped.ensures.kept)
+
+pub returns-in-None-clause-pool : goal.returns-in-None-clause-pool
+returns-in-None-clause-pool g c = let none : c.args.right.now ≡ None = search rules in rw none c.run_grouped.ensures.pool
+
+pub returns-in-None-clause-store : goal.returns-in-None-clause-store
+returns-in-None-clause-store g c = let none : c.args.right.now ≡ None = search rules in rw none c.run_grouped.ensures.store

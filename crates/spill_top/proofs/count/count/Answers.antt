@@ -11,9 +11,10 @@ use Rattle.query_run.specs.Refused.{SaysOfSide, source}
 use Rattle.query_run.specs.declared.outcome.QueryErr.{QueryErr}
 use Rattle.query_run.specs.declared.outcome.QueryErr.TheVariants.{SinkFault}
 use Rattle.spill_top.specs.Counting.{counting}
-use Rattle.spill_top.specs.Headline.{Answers, AnswersInPart, IsCause}
+use Rattle.spill_top.specs.Headline.{Answers, AnswersInPart, IsCause, told_with}
 use Rattle.spill_top.specs.OneInput.{WroteAnswerOver, WroteFrontOver}
 use Rattle.spill_top.specs.Pooled.{HasMemoryFor, HaveFailed, IsPoolStop, all_tell}
+use Rattle.spill_top.proofs.Pools.{slots_counted}
 use Rattle.spill_top.specs.Refusals.{refusal_for}
 use Rattle.spill_top.specs.Stops.{IsStop}
 use Rattle.spill_top.specs.Words.{Command}
@@ -40,8 +41,8 @@ of-requires-clause-text g c =
 
 pub of-requires-clause-pool : goal.of-requires-clause-pool
 of-requires-clause-pool g c =
-    let stop : OfPool (IsPoolStop c.in-Ok.plan (vec_len c.args.slots.now) (HaveFailed (tally_of g.D.Slot c.args.slots.now.items) (tally_of g.D.Slot c.run_watched-ran.new.slots.items))) c.in-Err.e = search rules in
-    answers_so c.in-Ok.plan (vec_len c.args.slots.now) (tally_of g.D.Slot c.args.slots.now.items) (tally_of g.D.Slot c.run_watched-ran.new.slots.items) c.in-Err.e stop
+    let stop : OfPool (IsPoolStop c.in-Ok.plan (page_len c.in-Ok.plan c.counting_pool-pool.result.block_len) (told_with (tally_of g.D.Slot c.args.slots.now.items) (g.I.Src.Source.remaining c.in-Ok-open.left)) (vec_len c.args.slots.now) (HaveFailed (tally_of g.D.Slot c.args.slots.now.items) (tally_of g.D.Slot c.run_watched-ran.new.slots.items))) c.in-Err.e = search rules in
+    answers_so c.in-Ok.plan _ (vec_len c.args.slots.now) _ (tally_of g.D.Slot c.args.slots.now.items) (tally_of g.D.Slot c.run_watched-ran.new.slots.items) c.in-Err.e stop
 
 pub returns-in_default-ran-clause-answer : goal.returns-in_default-ran-clause-answer
 returns-in_default-ran-clause-answer g c = λ tell.
@@ -66,15 +67,16 @@ returns-clause-stop g c =
     let written = c.run_watched-ran.result.1.written in
     let counts = c.run_watched-ran.ensures.sink in
     let says : SaysOfSide c.in-Ok.plan Left c.in-Ok.plan.left (page_len c.in-Ok.plan c.counting_pool-pool.result.block_len) (source (g.I.Src.Source.remaining c.in-Ok-open.left) (g.I.Src.Source.remaining c.run_watched-ran.new.left) (g.I.Src.Source.faults c.in-Ok-open.left) (g.I.Src.Source.faults c.run_watched-ran.new.left)) c.in-Err.e = search rules in
-    let stop : OfPool (IsPoolStop c.in-Ok.plan (vec_len c.args.slots.now) (HaveFailed slots slots_now)) c.in-Err.e = search rules in
+    let stop : OfPool (IsPoolStop c.in-Ok.plan (page_len c.in-Ok.plan c.counting_pool-pool.result.block_len) (told_with slots (g.I.Src.Source.remaining c.in-Ok-open.left)) (vec_len c.args.slots.now) (HaveFailed slots slots_now)) c.in-Err.e = search rules in
     let untouched : IsSome (side_of c.in-Err.e) → written ≡ false = search rules in
     let either : (written ≡ false) ⊎ (all_tell slots ≡ true → WroteFrontOver c.in-Ok.plan (page_len c.in-Ok.plan c.counting_pool-pool.result.block_len) (g.I.Src.Source.remaining c.in-Ok-open.left) old new) = search rules in
     let part : (all_tell slots ≡ true → WroteFrontOver c.in-Ok.plan (page_len c.in-Ok.plan c.counting_pool-pool.result.block_len) (g.I.Src.Source.remaining c.in-Ok-open.left) old new) → all_tell slots ≡ true → AnswersInPart (g.I.Inputs.bytes_at c.args.inputs.now) old new command =
     λ front tell. front_so command c.in-Ok.plan c.counting_pool-pool.result.block_len told _ old new c.in-Ok.ensures len c.in-Ok-open.ensures.gives (front tell) in
     let counted : IsSourceFault c.in-Err.e → Rose faults faults_now = let fault = says.source_fault in search (rules, fault) in
+    let many : vec_len c.args.slots.now ≡ slots.slots = let counted = slots_counted g.D.Slot c.args.slots.now.items in search (rules, counted) in
     let cause : (why : Refusal) → refusal_for c.in-Err.e ≡ Some why → IsCause told faults faults_now slots slots_now command why =
     λ why is. cause_is told faults faults_now slots slots_now command c.in-Err.e why is (refused_so command c.in-Ok.plan c.counting_pool-pool.result.block_len told _ c.in-Err.e c.in-Ok.ensures len c.in-Ok-open.ensures.gives says.refused) counted
-    (pool_causes told faults faults_now (vec_len c.args.slots.now) slots slots_now command c.in-Ok.plan c.in-Err.e c.in-Ok.ensures stop) in
+    (pool_causes told _ faults faults_now (vec_len c.args.slots.now) c.counting_pool-pool.result.block_len slots slots_now command c.in-Ok.plan c.in-Err.e c.in-Ok.ensures len c.in-Ok-open.ensures.gives many stop) in
     let here : IsStop (g.I.Inputs.bytes_at c.args.inputs.now) faults faults_now slots slots_now old new (g.R.Sink.faults c.args.report.now) (g.R.Sink.faults c.run_watched-ran.result.1.sink.now) command c.of.result =
     stop_is (IsStop (g.I.Inputs.bytes_at c.args.inputs.now) faults faults_now slots slots_now old new (g.R.Sink.faults c.args.report.now) (g.R.Sink.faults c.run_watched-ran.result.1.sink.now) command) c.of.result
     (λ is. let failed : result ≡ Err SinkFault = c.in-Err.is ∙ ap (λ (e : QueryErr). Err e) (c.of.ensures.report is) in

@@ -1,4 +1,4 @@
-use Rattle.std.proofs.Common.{◌≡◌, ◌∙◌, ◌*◌, ◌≤◌, All, IsSome, Some, List, length, map, vec_capacity, vec_len, sym, subst, ap, rules, arith}
+use Rattle.std.proofs.Common.{◌≡◌, ◌∙◌, ◌*◌, ◌≤◌, All, IsSome, Some, List, length, map, refl, vec_capacity, vec_len, sym, subst, ap, rules, arith}
 use Rattle.std.specs.List.{sum_by}
 use Rattle.std.proofs.lemmas.List.Elements.{All-same}
 use Rattle.pin_core.specs.Tallies.{tally_of}
@@ -60,7 +60,7 @@ answer_all-requires-clause-fits g c =
     let first : c.in_ok-jobs.jobs.items ≡ map begun (refusals c.args.plan.now.block_len (c.args.plan.now.blocks * c.args.plan.now.block_len) c.as_slice-queries.result.now) = search rules in
     let are = works_begin g.I.Src.Source.remaining g.I.Src.Source.faults g.O.Snk.Sink.contents g.O.Snk.Sink.faults (seen (g.I.Inputs.bytes_at c.args.inputs.now) (g.I.Inputs.faults_at c.args.inputs.now) (g.O.Outputs.written c.args.outputs.now) (g.O.Outputs.is_created c.args.outputs.now) (g.O.Outputs.faults_at c.args.outputs.now) (tally_of g.D.Slot c.args.slots.now.items)) c.args.plan.now.block_len (c.args.plan.now.blocks * c.args.plan.now.block_len) c.as_slice-queries.result.now c.in_ok-jobs.jobs.items first in
     fit_so g.I.Src.Source.remaining g.I.Src.Source.faults g.O.Snk.Sink.contents g.O.Snk.Sink.faults (seen (g.I.Inputs.bytes_at c.args.inputs.now) (g.I.Inputs.faults_at c.args.inputs.now) (g.O.Outputs.written c.args.outputs.now) (g.O.Outputs.is_created c.args.outputs.now) (g.O.Outputs.faults_at c.args.outputs.now) (tally_of g.D.Slot c.args.slots.now.items)) (seen (g.I.Inputs.bytes_at c.args.inputs.now) (g.I.Inputs.faults_at c.args.inputs.now) (g.O.Outputs.written c.create_all.new.outputs) (g.O.Outputs.is_created c.create_all.new.outputs) (g.O.Outputs.faults_at c.create_all.new.outputs) (tally_of g.D.Slot c.args.slots.now.items)) (seen (g.I.Inputs.bytes_at c.open_all.new.inputs) (g.I.Inputs.faults_at c.open_all.new.inputs) (g.O.Outputs.written c.create_all.new.outputs) (g.O.Outputs.is_created c.create_all.new.outputs) (g.O.Outputs.faults_at c.create_all.new.outputs) (tally_of g.D.Slot c.args.slots.now.items)) (vec_len c.args.slots.now) (record { blocks = c.args.plan.now.blocks; block_len = c.args.plan.now.block_len; first_name = 0 }) c.as_slice-queries.result.now c.in_ok-jobs.jobs.items c.create_all.new.jobs.items c.open_all.new.jobs.items
-    (opens_with (vec_len c.args.slots.now) c.args.plan.now c.requires.rules) (subst (λ (queries : List Query). sum_by (λ query. query.quota) queries ≤ vec_len c.args.slots.now) (sym queries_are) c.requires.rules.quotas)
+    (opens_with (vec_len c.args.slots.now) c.args.plan.now c.requires.rules) refl (subst (λ (queries : List Query). sum_by (λ query. query.quota) queries ≤ vec_len c.args.slots.now) (sym queries_are) c.requires.rules.quotas)
     first are (c.create_all.ensures.works (g.I.Inputs.bytes_at c.args.inputs.now) (g.I.Inputs.faults_at c.args.inputs.now) (tally_of g.D.Slot c.args.slots.now.items)) (c.open_all.ensures.works (g.O.Outputs.written c.create_all.new.outputs) (g.O.Outputs.is_created c.create_all.new.outputs) (g.O.Outputs.faults_at c.create_all.new.outputs) (tally_of g.D.Slot c.args.slots.now.items)) c.create_all.ensures.refused c.open_all.ensures.refused
 
 pub answer_all-requires-clause-sides : goal.answer_all-requires-clause-sides

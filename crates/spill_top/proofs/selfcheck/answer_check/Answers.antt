@@ -47,7 +47,7 @@ returns-in-Err-clause-none g c =
     let failed : Rose (g.O.Snk.Sink.faults c.in-Ok.sink) (g.O.Snk.Sink.faults c.run_table.new.sink) → Rose (g.O.Outputs.faults_at c.args.outputs.now output_name) (g.O.Outputs.faults_at c.done-in-Err.new.self output_name) =
     λ rose. rose_since _ _ _ (c.create.ensures.never_falls output_name) (sink_failed _ _ _ _ c.in-Ok.ensures.fresh c.done-in-Err.ensures.takes rose) in
     record {
-      why = (none, stop_later c.args.check (vec_len c.args.slots.now) (HaveFailed (tally_of g.D.Slot c.args.slots.now.items) (tally_of g.D.Slot c.run_table.new.slots.items)) _ _ c.in-Err.e failed c.in-Err.ensures.stop);
+      why = (none, stop_later c.args.check (all_tell (tally_of g.D.Slot c.args.slots.now.items)) (vec_len c.args.slots.now) (HaveFailed (tally_of g.D.Slot c.args.slots.now.items) (tally_of g.D.Slot c.run_table.new.slots.items)) _ _ c.in-Err.e failed c.in-Err.ensures.stop);
       output = inr (finished_stopped (checking c.args.check) page_bytes (table_if tell c.args.check) (g.O.Outputs.written c.args.outputs.now output_name) (g.O.Outputs.written c.create.new.self output_name) (g.O.Outputs.written c.done-in-Err.new.self output_name) contents (Stopped c.in-Err.e) c.done-in-Err.result refl
           (since_created _ _ _ (λ (o : Option (List ℕ)). LeavesPart (checking c.args.check) page_bytes (table_if tell c.args.check) o contents (side_of c.in-Err.e)) c.in-Ok.ensures.ok c.in-Ok.ensures.empty c.in-Err.ensures.part) c.done-in-Err.ensures.bytes);
     }

@@ -4,7 +4,7 @@ use Rattle.spill_top.specs.Headline.{Counted}
 use Rattle.spill_top.specs.Ran.{telling}
 use Rattle.spill_top.specs.Running.{seen}
 use Rattle.spill_top.specs.Words.{Command, check_of, command_of, plan_file_of}
-use Rattle.spill_top.proofs.Causes.{device_fault}
+use Rattle.spill_top.proofs.Causes.{device_fault, never_wants}
 use Rattle.spill_top.proofs.CheckEnds.{check_never_one, checked_short, no_call}
 use Rattle.spill_top.proofs.CheckWords.{check_in_range}
 use Rattle.spill_top.proofs.Tops.{count_never_one, counted_short, of_each, ran_short, run_never_one, words_check, words_count, words_run}
@@ -41,6 +41,7 @@ returns-in-Some-Count-clause-count g c =
       refuses = c.answer_count.ensures.refuses;
       too_many = c.answer_count.ensures.too_many;
       succeeds = c.answer_count.ensures.succeeds;
+      suffices = never_wants _ _ _ _ _ _ _ _ _ _ _ c.answer_count.ensures.refused;
     } in
     rw is counted
 

@@ -1,14 +1,17 @@
-use Rattle.std.proofs.Common.{◌≡◌, ◌∙◌, ◌*◌, ℕ, IfErr, length, refl, ap, sym, subst, arith}
+use Rattle.std.proofs.Common.{◌≡◌, ◌∙◌, ◌*◌, ◌<◌, ℕ, List, [], ◌∷◌, ◌++◌, IfErr, length, refl, ap, sym, subst, arith}
+use Rattle.row_codec.specs.declared.values.Value.{Value}
+use Rattle.store_api.specs.Conditions.{IsBlockCount}
 use Rattle.bucket_table.proofs.Opened.{most_len}
 use Rattle.tuple_stream.specs.Families.{slots_in}
 use Rattle.partition_stack.specs.Stack.{over}
 use Rattle.partition_stack.proofs.Slots.{full_since}
-use Rattle.group_op.specs.Causes.{IsWantOf}
+use Rattle.group_op.specs.Causes.{IsWantBelowOf, IsWantOf}
 use Rattle.group_op.specs.Making.{Makes}
-use Rattle.group_op.specs.Operator.{IsFeeding, Keeps, Operator, operator}
+use Rattle.group_op.specs.Operator.{Holds, IsFeeding, Keeps, Operator, operator, page_of, slots_for}
 use Rattle.group_op.proofs.Made.{makes_unput}
 use Rattle.group_op.proofs.Paging.{made_none}
 use Rattle.group_op.proofs.Serving.{unless_err}
+use Rattle.group_op.proofs.Wants.{fed_below, some_page}
 use Rattle.group_op.proofs.operator.GroupOp.feed.Goals as goal
 use Rattle.group_op.proofs.operator.GroupOp.feed.Goals.{in-Err, in-Ok}
 
@@ -55,3 +58,21 @@ returns-then-is_err-clause-makes g c =
     let p = c.self.inside.parts in
     subst (λ (o : Operator). Makes o (operator c.self.inside.client c.self.inside.shape p c.self.inside.table) h s s) c.self.view_is
     (makes_unput c.self.inside.client c.self.inside.shape c.self.inside.table p h s (subst IsFeeding (sym c.self.view_is) c.requires.feeding) c.self.inside.table h s (made_none (over p h s)))
+
+pub returns-then-is_err-clause-enough : goal.returns-then-is_err-clause-enough
+returns-then-is_err-clause-enough g c = λ fed holds. tt
+
+pub returns-clause-enough : goal.returns-clause-enough
+returns-clause-enough g c =
+    let h = g.St.Store.holds c.args.store.now in
+    let s = g.St.Store.signs c.args.store.now in
+    let p = c.self.inside.parts in
+    let inside : Operator = operator c.self.inside.client c.self.inside.shape p c.self.inside.table in
+    let least = c.block_len-len.ensures.least in
+    let value = c.block_len-len.ensures.value in
+    let some : 0 < page_of inside h = some_page p.page_blocks h (subst (λ (o : Operator). IsBlockCount o.parts.page_blocks) (sym c.self.view_is) c.requires.op.sized) (omega (arith, least, value)) in
+    subst (λ (o : Operator). IfErr c.match-feed_row.result (λ e. (fed : List (List Value)) → Holds fed o h s → IsWantBelowOf (slots_for 16 o h (fed ++ c.args.row.now ∷ [])) (slots_in (over o.parts h s)) e)) c.self.view_is
+    (elim c.match-feed_row.branch [
+      | in-Ok w ↦ rw w.result-is tt
+      | in-Err w ↦ rw w.result-is (λ fed holds. fed_below inside h fed c.args.row.now (slots_in (over p h s)) w.in-Err.e some (w.in-Err.ensures.enough fed holds some))
+    ])

@@ -1,19 +1,22 @@
-use Rattle.std.proofs.Common.{◌≡◌, ◌+◌, ◌*◌, length, List, Option, IfErr, OnErr, OnOk, true, subst}
+use Rattle.std.proofs.Common.{◌≡◌, ◌+◌, ◌*◌, ◌<◌, length, List, Option, None, IfErr, OnErr, OnOk, true, sym, subst, arith}
 use Rattle.pool_model.specs.declared.entry.Entry.{Entry}
 use Rattle.row_codec.specs.declared.values.Value.{Value}
 use Rattle.row_codec.specs.Order.{path_order}
+use Rattle.store_api.specs.Conditions.{IsBlockCount}
 use Rattle.tuple_stream.specs.Families.{slots_in}
 use Rattle.tuple_stream.specs.Trails.{EnteredEvents}
 use Rattle.partition_stack.specs.Stack.{over}
+use Rattle.partition_stack.proofs.Results.{if_err}
 use Rattle.group_rows.specs.Partials.{groups_by}
 use Rattle.group_op.specs.Emission.{Emitted, EmittedFront}
-use Rattle.group_op.specs.Causes.{CameBeside}
+use Rattle.group_op.specs.Causes.{CameBeside, IsWantBelowOf}
 use Rattle.group_op.specs.Finishing.{LeavesWith}
 use Rattle.group_op.specs.Laid.{HoldsGroups}
 use Rattle.group_op.specs.Making.{MakesBeside}
-use Rattle.group_op.specs.Operator.{Holds, Keeps, Operator, entries_in, page_of}
+use Rattle.group_op.specs.Operator.{Holds, Keeps, Operator, entries_in, operator, page_of, slots_for}
 use Rattle.group_op.specs.Stored.{grouping_of}
 use Rattle.group_op.proofs.Sharing.{both_came}
+use Rattle.group_op.proofs.Wants.{some_page}
 use Rattle.group_op.proofs.operator.GroupOp.finish.Goals as goal
 
 pub returns-clause-ok : goal.returns-clause-ok
@@ -61,3 +64,14 @@ returns-clause-made g c =
     let s = g.St.Store.signs c.args.store.now in
     subst (λ (op : Operator). (fed : List (List Value)) → Holds fed op h s → h.told ≡ true → MakesBeside (15 * length fed + length (entries_in op.table)) (g.E.Emit.creates c.args.emit.now) (g.E.Emit.creates c.finish_op.new.emit) s (g.St.Store.signs c.finish_op.new.store)) c.self.view_is
     c.finish_op.ensures.made
+
+pub returns-clause-enough : goal.returns-clause-enough
+returns-clause-enough g c =
+    let h = g.St.Store.holds c.args.store.now in
+    let s = g.St.Store.signs c.args.store.now in
+    let least = c.block_len-len.ensures.least in
+    let value = c.block_len-len.ensures.value in
+    let inside : Operator = operator c.self.inside.client c.self.inside.shape c.self.inside.parts c.self.inside.table in
+    let some : 0 < page_of inside h = some_page c.self.inside.parts.page_blocks h (subst (λ (o : Operator). IsBlockCount o.parts.page_blocks) (sym c.self.view_is) c.requires.op.sized) (omega (arith, least, value)) in
+    subst (λ (o : Operator). g.E.Emit.client c.args.emit.now ≡ None → IfErr c.finish_op.result (λ e. (fed : List (List Value)) → Holds fed o h s → h.told ≡ true → IsWantBelowOf (slots_for 544 o h fed) (slots_in (over o.parts h s)) e)) c.self.view_is
+    (λ none. if_err c.finish_op.result (λ e want fed holds told. want fed holds told some) (c.finish_op.ensures.enough none))

@@ -1,11 +1,12 @@
-use Rattle.std.proofs.Common.{◌≡◌, ℕ, ap, sym, subst}
+use Rattle.std.proofs.Common.{◌≡◌, ℕ, [], ap, sym, subst, arith}
 use Rattle.store_api.specs.Conditions.{IsIdle}
 use Rattle.store_api.specs.Holdings.{Holdings}
 use Rattle.store_api.specs.Signs.{Signs}
 use Rattle.partition_stack.specs.Leaving.{LeavesOthers}
 use Rattle.join_op.specs.Operator.{IsOperator, Operator, operator, over_both}
-use Rattle.tuple_stream.specs.Families.{AllClosed, slots_in}
+use Rattle.tuple_stream.specs.Families.{AllClosed, family, slots_in}
 use Rattle.partition_stack.specs.Stack.{over}
+use Rattle.partition_stack.proofs.Making.{ending_makes, few_both}
 use Rattle.join_op.proofs.BothSlots.{ended_slots}
 use Rattle.join_op.proofs.Ended.{ended_first, ended_idle, ended_leaves, left_ended}
 use Rattle.join_op.proofs.operator.JoinOp.end.Goals as goal
@@ -54,3 +55,13 @@ returns-clause-slots g c =
     let is : IsOperator (operator me.client me.shape me.left me.right) h s = subst (λ (o : Operator). IsOperator o h s) (sym c.self.view_is) c.requires in
     subst (λ (o : Operator). h2.free_slots ≡ slots_in (over_both o.left o.right h s)) c.self.view_is
     (ended_slots me.client.tracker me.left.streams me.right.streams h (g.St.Store.holds c.end.new.store) h2 s (g.St.Store.signs c.end.new.store) (g.St.Store.signs c.end-2.new.store) is.owns c.end.ensures.touches c.end-2.ensures.touches)
+
+pub returns-clause-few : goal.returns-clause-few
+returns-clause-few g c =
+    let me = c.self.inside in
+    let h = g.St.Store.holds c.args.store.now in
+    let s = g.St.Store.signs c.args.store.now in
+    let h1 = g.St.Store.holds c.end.new.store in
+    let s1 = g.St.Store.signs c.end.new.store in
+    let s2 = g.St.Store.signs c.end-2.new.store in
+    few_both 0 0 0 s s1 s2 (omega arith) (ending_makes me.client.tracker (over me.left h s) (family [] h1 s1) c.end.ensures) (ending_makes me.client.tracker (over me.right h1 s1) (family [] (g.St.Store.holds c.end-2.new.store) s2) c.end-2.ensures)

@@ -1,4 +1,4 @@
-use Rattle.std.proofs.Common.{◌≡◌, ◌∙◌, ◌*◌, inl, inr, ℕ, List, [], ◌∷◌, ◌++◌, Option, OnOk, IfErr, refl, ap, sym, subst, arith, true≢false}
+use Rattle.std.proofs.Common.{◌≡◌, ◌∙◌, ◌+◌, ◌*◌, inl, inr, ℕ, List, [], ◌∷◌, ◌++◌, length, Option, OnOk, IfErr, refl, ap, sym, subst, arith, true≢false}
 use Rattle.std.specs.Prelude.{All}
 use Rattle.std.proofs.lemmas.Bool.{cases_Bool}
 use Rattle.pool_model.specs.declared.entry.Entry.{Entry}
@@ -8,23 +8,25 @@ use Rattle.store_api.proofs.Answered.{answered_before}
 use Rattle.store_api.specs.Holdings.{Holdings, length_of}
 use Rattle.store_api.specs.Signs.{Signs}
 use Rattle.store_api.specs.Shapes.{IsKeyColumn}
+use Rattle.store_api.specs.declared.op_err.OpErr.TheVariants.{Pool}
 use Rattle.tuple_stream.specs.FamilyCalls.{Feeds}
 use Rattle.tuple_stream.specs.Steps.{came}
 use Rattle.tuple_stream.specs.Touches.{IsFull}
 use Rattle.tuple_stream.specs.Trails.{EnteredEvents}
 use Rattle.partition_stack.proofs.Sides.{own_turned}
 use Rattle.partition_stack.proofs.Left.{leaves_both}
+use Rattle.partition_stack.proofs.Making.{few_both}
 use Rattle.partition_stack.specs.Leaving.{CameOfStore, LeavesOthers}
 use Rattle.tuple_stream.specs.Families.{slots_in}
-use Rattle.partition_stack.proofs.Slots.{slots_then}
 use Rattle.partition_stack.specs.Slots.{IsWant, IsWantOf, SameSlots}
 use Rattle.partition_stack.specs.Stack.{Stack, over}
 use Rattle.join_op.specs.Beside.{first_place}
-use Rattle.join_op.specs.Operator.{IsOperator, Keeps, LaidBoth, MayBeFed, Operator, operator, over_both}
-use Rattle.join_op.specs.Stored.{right_side}
-use Rattle.join_op.proofs.BothSlots.{slots_turned, want_since}
+use Rattle.join_op.specs.Operator.{IsFeeding, IsOperator, Keeps, LaidBoth, MayBeFed, Operator, bytes_of, operator, over_both}
+use Rattle.join_op.specs.Stored.{left_side, right_side}
+use Rattle.join_op.proofs.BothSlots.{sides_slots, want_since}
 use Rattle.join_op.proofs.Calls.{left_called, right_called}
-use Rattle.join_op.proofs.KeepsRows.{keeps_right, keeps_right_first}
+use Rattle.join_op.proofs.Enough.{IsBelowFed, below_fed, below_rested, kept_still, more_fed, some_len}
+use Rattle.join_op.proofs.KeepsRows.{keeps_right, keeps_right_first, kept_beside, rested}
 use Rattle.join_op.proofs.Spellable.{right_keyed, spellable}
 use Rattle.join_op.proofs.operator.JoinOp.feed_right.Goals as goal
 use Rattle.join_op.proofs.operator.JoinOp.feed_right.Goals.{in-Ok, in-Err-put_row}
@@ -169,8 +171,7 @@ returns-clause-slots g c =
     let right2 : Stack = c.put_row.new.parts in
     let is : IsOperator (operator me.client me.shape me.left me.right) h s = subst (λ (o : Operator). IsOperator o h s) (sym c.self.view_is) c.requires.op in
     let all : SameSlots me.left.page_blocks (over_both me.left me.right h s) (over_both left1 right2 h2 s2) =
-    slots_then me.left.page_blocks me.right.page_blocks (over_both me.left me.right h s) (over_both left1 me.right h1 s1) (over_both left1 right2 h2 s2) is.alike c.rest_left.ensures.beside.slots
-    (slots_turned me.right.page_blocks me.right.streams left1.streams right2.streams left1.streams h1 h2 s1 s2 c.put_row.ensures.beside.slots) in
+    sides_slots me.left me.right left1 right2 h h1 h2 s s1 s2 is.alike c.rest_left.ensures.beside.slots c.put_row.ensures.beside.slots in
     subst (λ (o : Operator). slots_in (over_both left1 right2 h2 s2) ≡ slots_in (over_both o.left o.right h s)) c.self.view_is all.sum
 
 pub returns-clause-want : goal.returns-clause-want
@@ -186,8 +187,7 @@ returns-clause-want g c =
     let right2 : Stack = c.put_row.new.parts in
     let is : IsOperator (operator me.client me.shape me.left me.right) h s = subst (λ (o : Operator). IsOperator o h s) (sym c.self.view_is) c.requires.op in
     let all : SameSlots me.left.page_blocks (over_both me.left me.right h s) (over_both left1 right2 h2 s2) =
-    slots_then me.left.page_blocks me.right.page_blocks (over_both me.left me.right h s) (over_both left1 me.right h1 s1) (over_both left1 right2 h2 s2) is.alike c.rest_left.ensures.beside.slots
-    (slots_turned me.right.page_blocks me.right.streams left1.streams right2.streams left1.streams h1 h2 s1 s2 c.put_row.ensures.beside.slots) in
+    sides_slots me.left me.right left1 right2 h h1 h2 s s1 s2 is.alike c.rest_left.ensures.beside.slots c.put_row.ensures.beside.slots in
     elim c.match-put_row.branch [
       | in-Ok w ↦ subst (λ r. IfErr r (IsWantOf c.args.self.now.left.page_blocks (slots_in (over_both c.args.self.now.left c.args.self.now.right h s)))) (sym w.result-is) tt
       | in-Err-put_row w ↦
@@ -226,3 +226,64 @@ put_row-requires-clause-may g c =
           let least = op.least in
           omega (arith, least, ap (λ (n : ℕ). 20 * n) len);
     }
+
+pub returns-in-Err-clause-enough : goal.returns-in-Err-clause-enough
+returns-in-Err-clause-enough g c =
+    let me = c.self.inside in
+    let h : Holdings = g.St.Store.holds c.args.store.now in
+    let s : Signs = g.St.Store.signs c.args.store.now in
+    let h1 : Holdings = g.St.Store.holds c.rest_left.new.store in
+    let s1 : Signs = g.St.Store.signs c.rest_left.new.store in
+    let left1 : Stack = c.rest_left.new.left in
+    let row : List Value = c.args.row.now in
+    let is : IsOperator (operator me.client me.shape me.left me.right) h s = subst (λ (o : Operator). IsOperator o h s) (sym c.self.view_is) c.requires.op in
+    let feeding : IsFeeding (operator me.client me.shape me.left me.right) = subst IsFeeding (sym c.self.view_is) c.requires.feeding in
+    subst (λ (o : Operator). IsBelowFed o h s (λ lefts. lefts) (λ rights. rights ++ row ∷ []) (Pool c.in-Err.e)) c.self.view_is
+    (λ start lefts rights keeps.
+    let more = more_fed rights row in
+    let long = more.0 in
+    let heavy = more.1 in
+    below_rested c.law_scratch.ensures.few me.client.tracker me.left.page_blocks me.left me.right left1 me.right h h1 s s1 c.rest_left.ensures.beside.slots c.law_stack.ensures c.law_stack-2.ensures is.alike c.rest_left.ensures.beside.leaves.others.block_len
+    (some_len me.left.page_blocks h.block_len is.sized (let least = c.block_len-len.ensures.least in let value = c.block_len-len.ensures.value in omega (arith, least, value))) refl c.in-Err.e c.in-Err.ensures.answers.1
+    (left_side me.shape) (right_side me.shape) lefts rights (length lefts + length (rights ++ row ∷ [])) (bytes_of lefts + bytes_of (rights ++ row ∷ [])) is.owns keeps.left keeps.right feeding.left.sixteen feeding.right.sixteen
+    c.rest_left.ensures.pages refl (omega (arith, long)) (omega (arith, heavy)))
+
+pub returns-clause-enough : goal.returns-clause-enough
+returns-clause-enough g c =
+    let me = c.self.inside in
+    let t = me.client.tracker in
+    let h : Holdings = g.St.Store.holds c.args.store.now in
+    let s : Signs = g.St.Store.signs c.args.store.now in
+    let h1 : Holdings = g.St.Store.holds c.rest_left.new.store in
+    let s1 : Signs = g.St.Store.signs c.rest_left.new.store in
+    let h2 : Holdings = g.St.Store.holds c.put_row.new.store in
+    let s2 : Signs = g.St.Store.signs c.put_row.new.store in
+    let left1 : Stack = c.rest_left.new.left in
+    let right2 : Stack = c.put_row.new.parts in
+    let row : List Value = c.args.row.now in
+    let first = c.rest_left.ensures.beside in
+    let beside = c.put_row.ensures.beside in
+    let is : IsOperator (operator me.client me.shape me.left me.right) h s = subst (λ (o : Operator). IsOperator o h s) (sym c.self.view_is) c.requires.op in
+    let feeding : IsFeeding (operator me.client me.shape me.left me.right) = subst IsFeeding (sym c.self.view_is) c.requires.feeding in
+    let all : SameSlots me.left.page_blocks (over_both me.left me.right h s) (over_both left1 right2 h2 s2) = sides_slots me.left me.right left1 right2 h h1 h2 s s1 s2 is.alike first.slots beside.slots in
+    elim c.match-put_row.branch [
+      | in-Ok w ↦ subst (λ r. IfErr r (IsBelowFed c.args.self.now h s (λ lefts. lefts) (λ rights. rights ++ row ∷ []))) (sym w.result-is) tt
+      | in-Err-put_row w ↦
+          subst (λ r. IfErr r (IsBelowFed c.args.self.now h s (λ lefts. lefts) (λ rights. rights ++ row ∷ []))) (sym w.result-is)
+          (subst (λ (o : Operator). IsBelowFed o h s (λ lefts. lefts) (λ rights. rights ++ row ∷ []) (Pool w.in-Err-put_row.e)) c.self.view_is
+          (λ start lefts rights keeps.
+          let feeds : Feeds t (first_place c.deref.result.now row) [] (over me.right h1 s1) (over right2 h2 s2) =
+          subst (λ (more : List (List ℕ)). Feeds t (first_place c.deref.result.now row) more (over me.right h1 s1) (over right2 h2 s2)) (ap (λ r. came r (row_bytes row)) w.in-Err-put_row.is) c.put_row.ensures.went in
+          let more = more_fed rights row in
+          let long = more.0 in
+          let heavy = more.1 in
+          below_fed c.law_scratch.ensures.few t me.right.page_blocks me.left me.right left1 right2 h h2 s s2 all c.law_stack.ensures c.law_stack-2.ensures is.alike (beside.leaves.others.block_len ∙ first.leaves.others.block_len)
+          (some_len me.left.page_blocks h.block_len is.sized (let least = c.block_len-len.ensures.least in let value = c.block_len-len.ensures.value in omega (arith, least, value))) is.alike w.in-Err-put_row.e w.in-Err-put_row.ensures.answers.1
+          (left_side me.shape) (right_side me.shape) lefts rights (length lefts + length (rights ++ row ∷ [])) (bytes_of lefts + bytes_of (rights ++ row ∷ [])) (own_turned t 0 right2.streams left1.streams h2 s2 beside.own)
+          (kept_beside t (left_side me.shape) lefts me.right right2 left1 h1 h2 s1 s2 beside (rested t (length me.left.streams) (left_side me.shape) lefts (over me.left h s) (over left1 h1 s1) c.in_default.ensures.rested keeps.left))
+          (kept_still t (first_place c.deref.result.now row) (right_side me.shape) rights (over me.right h1 s1) (over right2 h2 s2) (inr keeps.right_ends) feeds (kept_beside t (right_side me.shape) rights me.left left1 me.right h h1 s s1 first keeps.right))
+          (first.many ∙ feeding.left.sixteen) (beside.many ∙ feeding.right.sixteen) (omega (arith, long)) (omega (arith, heavy))))
+    ]
+
+pub returns-clause-few : goal.returns-clause-few
+returns-clause-few g c = few_both 0 1 1 (g.St.Store.signs c.args.store.now) (g.St.Store.signs c.rest_left.new.store) (g.St.Store.signs c.put_row.new.store) (omega arith) c.rest_left.ensures.made c.put_row.ensures.few

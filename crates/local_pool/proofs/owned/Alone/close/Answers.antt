@@ -2,12 +2,13 @@ use Rattle.std.proofs.Common.{◌≡◌, is_some, sym, ap, subst, arith}
 use Rattle.std.specs.List.{sum_by}
 use Rattle.pin_core.specs.Standing.{slots_home}
 use Rattle.local_pool.specs.declared.owned.Owned.{Owned}
-use Rattle.local_pool.specs.Told.{held_of}
-use Rattle.local_pool.specs.Counting.{SumsHold}
+use Rattle.local_pool.specs.Told.{held_of, signs_of}
+use Rattle.local_pool.specs.Counting.{SpendsNames, SumsHold}
 use Rattle.pin_core.specs.Tallies.{tally_in, tally_of}
 use Rattle.pin_core.proofs.Tallied.{tally_same}
 use Rattle.local_pool.proofs.Knowing.{knows}
 use Rattle.local_pool.proofs.Ended.{no_child, none_left}
+use Rattle.local_pool.proofs.Naming.{spends_all}
 use Rattle.local_pool.proofs.owned.Alone.close.Goals as goal
 
 pub end_session-requires-clause-live : goal.end_session-requires-clause-live
@@ -27,10 +28,14 @@ returns-clause-slots g c measure =
     let same : sum_by measure c.close.result.items ≡ slots_home measure c.self.inside.own.pool = omega (arith, home, given) in
     subst (λ (o : Owned g.row.D.Denot). sum_by measure c.close.result.items ≡ slots_home measure o.pool) c.self.view_is same
 
+pub returns-clause-names : goal.returns-clause-names
+returns-clause-names g c =
+    subst (λ (o : Owned g.row.D.Denot). SpendsNames g.T.OpenedWith.opened o.trail (signs_of o).spent) c.self.view_is (spends_all g.D.Slot g.T.OpenedWith.opened c.self.inside.own c.self.invariant)
+
 pub returns-clause-sums : goal.returns-clause-sums
 returns-clause-sums g c =
     let own : Owned g.row.D.Denot = c.self.inside.own in
     let same : tally_in g.D.Slot own.pool ≡ tally_of g.D.Slot c.close.result.items =
     tally_same g.D.Slot (λ measure. slots_home measure own.pool) (λ measure. sum_by measure c.close.result.items)
     (λ measure. let home = c.end_session.ensures.enters.slots measure in let given = c.close.ensures.slots measure in omega (arith, home, given)) in
-    subst (λ (o : Owned g.row.D.Denot). SumsHold g.T.OpenedWith.tally o.trail (tally_of g.D.Slot c.close.result.items)) c.self.view_is (subst (SumsHold g.T.OpenedWith.tally own.trail) same c.self.invariant.sums)
+    subst (λ (o : Owned g.row.D.Denot). SumsHold g.T.OpenedWith.opened o.trail (tally_of g.D.Slot c.close.result.items)) c.self.view_is (subst (SumsHold g.T.OpenedWith.opened own.trail) same c.self.invariant.sums)

@@ -35,11 +35,11 @@ unreachable-requires g c = none_flies g.D.Slot c.self.inside.own c.self.invarian
 
 pub invariant_of-self : goal.invariant_of-self
 invariant_of-self g c = elim c.match-room_turn.branch [
-  | in-Ready w ↦ subst (λ i. Stands g.D.Slot g.T.OpenedWith.tally i.own) (sym w.self-inside-is) (same_stands g.D.Slot c.self.inside.own c.room_turn.new.self c.self.invariant w.in-Ready.ensures.turn.1)
-  | in-Refused w ↦ subst (λ i. Stands g.D.Slot g.T.OpenedWith.tally i.own) (sym w.self-inside-is) (same_stands g.D.Slot c.self.inside.own c.room_turn.new.self c.self.invariant w.in-Refused.ensures.turn.1)
+  | in-Ready w ↦ subst (λ i. Stands g.D.Slot g.T.OpenedWith.opened i.own) (sym w.self-inside-is) (same_stands g.D.Slot c.self.inside.own c.room_turn.new.self c.self.invariant w.in-Ready.ensures.turn.1)
+  | in-Refused w ↦ subst (λ i. Stands g.D.Slot g.T.OpenedWith.opened i.own) (sym w.self-inside-is) (same_stands g.D.Slot c.self.inside.own c.room_turn.new.self c.self.invariant w.in-Refused.ensures.turn.1)
   | in-Write w ↦
       let it = w.in-Write.ensures in
-      subst (λ i. Stands g.D.Slot g.T.OpenedWith.tally i.own) (sym w.self-inside-is)
+      subst (λ i. Stands g.D.Slot g.T.OpenedWith.opened i.own) (sym w.self-inside-is)
       (stands_write g.D.Slot c.self.inside.own c.self.invariant c.args.c.now.tracker (amount_of c.args.want) (subst (λ (o : Owned g.row.D.Denot). IsSome ((held_of g.D.Slot o).clients c.args.c.now.tracker)) (sym c.self.view_is) c.requires.client)
       w.in-Write.job c.room_turn.new.self (record { pool = c.room_turn.new.self; trail = w.enter_started.new.trail; session = c.self.inside.own.session })
       it.turn.0 it.turn.1 it.enters refl w.enter_started.ensures refl w.write_out.new.own w.write_out.ensures.ends)

@@ -12,6 +12,7 @@ use Rattle.tuple_stream.proofs.FamilyWords.{at_end_kept, feeds}
 use Rattle.partition_stack.proofs.Stacking.{changed_is_stack}
 use Rattle.partition_stack.proofs.Room.{room_for_each}
 use Rattle.partition_stack.proofs.Called.{changes_at}
+use Rattle.partition_stack.proofs.ListPlaces.{map_set_same}
 use Rattle.partition_stack.proofs.stack.Partitions.append.Goals as goal
 
 -- one page more of one stream is one more of all
@@ -102,3 +103,15 @@ returns-clause-few g c =
     let inside : c.args.at < length c.self.inside.streams.items = rw (← c.self.view_is) at c.requires.inside in
     let at : slice_get c.self.inside.streams.items c.args.at ≡ Some c.index_mut.result.now = slice_get_read c.self.inside.streams.items (length c.self.inside.streams.items) c.args.at c.index_mut.result.now refl inside c.index_mut.ensures.value in
     rw (← c.self.view_is) (one_more c.args.at (family c.self.inside.streams.items (g.St.Store.holds c.args.store.now) (g.St.Store.signs c.args.store.now)) c.index_mut.result.now (scene c.append.new.self (g.St.Store.holds c.append.new.store) (g.St.Store.signs c.append.new.store)) at c.append.ensures.few)
+
+pub returns-clause-spent : goal.returns-clause-spent
+returns-clause-spent g c =
+    let inside : c.args.at < length c.self.inside.streams.items = rw (← c.self.view_is) at c.requires.inside in
+    let at : slice_get c.self.inside.streams.items c.args.at ≡ Some c.index_mut.result.now = slice_get_read c.self.inside.streams.items (length c.self.inside.streams.items) c.args.at c.index_mut.result.now refl inside c.index_mut.ensures.value in
+    rw (← c.self.view_is) (map_set_same (λ (s : Streamed). s.spent) c.self.inside.streams.items c.args.at c.index_mut.result.now c.append.new.self at c.append.ensures.went.spent)
+
+pub returns-in_default-clause-spent : goal.returns-in_default-clause-spent
+returns-in_default-clause-spent g c =
+    let inside : c.args.at < length c.self.inside.streams.items = rw (← c.self.view_is) at c.requires.inside in
+    let at : slice_get c.self.inside.streams.items c.args.at ≡ Some c.index_mut.result.now = slice_get_read c.self.inside.streams.items (length c.self.inside.streams.items) c.args.at c.index_mut.result.now refl inside c.index_mut.ensures.value in
+    rw (← c.self.view_is) (map_set_same (λ (s : Streamed). s.spent) c.self.inside.streams.items c.args.at c.index_mut.result.now c.append.new.self at c.append.ensures.went.spent)

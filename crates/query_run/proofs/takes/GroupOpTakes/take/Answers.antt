@@ -1,12 +1,15 @@
-use Rattle.std.proofs.Common.{◌≡◌, [], ◌∷◌, rules}
+use Rattle.std.proofs.Common.{◌≡◌, [], ◌∷◌, ◌++◌, List, rules}
 use Rattle.partition_stack.specs.Leaving.{CameOfStore}
-use Rattle.partition_stack.specs.Slots.{IsWantOf}
+use Rattle.partition_stack.specs.Slots.{IsWantBelowOf, IsWantOf}
 use Rattle.partition_stack.specs.Stack.{over}
 use Rattle.tuple_stream.specs.Families.{slots_in}
 use Rattle.store_api.specs.declared.op_err.OpErr.TheVariants as op
+use Rattle.row_codec.specs.declared.values.Value.{Value}
+use Rattle.group_op.specs.Operator.{Holds, slots_for}
 use Rattle.query_run.specs.Taking.{GroupGoes}
 use Rattle.query_run.proofs.Going.{feeds_still}
-use Rattle.query_run.proofs.Taken.{group_feeds_then, group_goes_then, group_pool, group_still, group_stops}
+use Rattle.query_run.proofs.Made.{group_makes_then, group_wants}
+use Rattle.query_run.proofs.Taken.{group_feeds_then, group_goes_then, pool_stops, group_still, group_stops}
 use Rattle.query_run.proofs.takes.GroupOpTakes.take.Goals as goal
 
 pub feed-requires-clause-op : goal.feed-requires-clause-op
@@ -52,4 +55,18 @@ returns-in-Err-Pool-clause-cause g c = λ first h s before.
     let is : c.in-Err-Pool.field-0 ≡ op.Pool c.in-Err-Pool.e = search rules in
     let came : CameOfStore c.args.self.now.parts.page_blocks (g.St.Store.holds c.feed.new.store) (g.St.Store.signs c.args.store.now) (g.St.Store.signs c.feed.new.store) c.in-Err-Pool.field-0 = search rules in
     let want : IsWantOf c.args.self.now.parts.page_blocks (slots_in (over c.args.self.now.parts (g.St.Store.holds c.args.store.now) (g.St.Store.signs c.args.store.now))) c.in-Err-Pool.field-0 = search rules in
-    group_stops first c.args.self.now h _ s _ _ c.in-Err-Pool.e before (group_pool _ _ (g.St.Store.holds c.feed.new.store) _ _ _ c.in-Err-Pool.e is came want)
+    group_stops first c.args.self.now h _ s _ _ c.in-Err-Pool.e before (pool_stops _ _ (g.St.Store.holds c.feed.new.store) _ _ _ c.in-Err-Pool.e is came want)
+
+pub returns-in-Ok-clause-few : goal.returns-in-Ok-clause-few
+returns-in-Ok-clause-few g c = λ first rows h s fed made. group_makes_then first _ _ rows c.args.row.now h _ s _ _ fed made c.feed.ensures.makes
+
+pub returns-in-Err-Pool-clause-few : goal.returns-in-Err-Pool-clause-few
+returns-in-Err-Pool-clause-few g c = λ first rows h s fed made. group_makes_then first _ _ rows c.args.row.now h _ s _ _ fed made c.feed.ensures.makes
+
+pub returns-in-Err-Pool-clause-enough : goal.returns-in-Err-Pool-clause-enough
+returns-in-Err-Pool-clause-enough g c = λ first rows h s fed goes.
+    let is : c.in-Err-Pool.field-0 ≡ op.Pool c.in-Err-Pool.e = search rules in
+    let enough : (all : List (List Value)) → Holds all c.args.self.now (g.St.Store.holds c.args.store.now) (g.St.Store.signs c.args.store.now)
+    → IsWantBelowOf (slots_for 16 c.args.self.now (g.St.Store.holds c.args.store.now) (all ++ c.args.row.now ∷ [])) (slots_in (over c.args.self.now.parts (g.St.Store.holds c.args.store.now) (g.St.Store.signs c.args.store.now))) c.in-Err-Pool.field-0 =
+    search rules in
+    group_wants first c.args.self.now rows c.args.row.now h _ s _ c.in-Err-Pool.field-0 c.in-Err-Pool.e is fed goes enough

@@ -13,6 +13,7 @@ small_fits : (command : Command) → HasMemoryFor (counting command) (record { b
 unfolding bytes_of
 small_fits command = record {
   opens = record { block_len = refl; some = omega arith; blocks = omega arith; memory = omega arith };
+  first = refl;
   least = omega arith;
 }
 

@@ -1,0 +1,172 @@
+-- Want of slots of a join, by the rows that were fed.
+use Rattle.std.proofs.Common.{◌≡◌, ◌∙◌, ◌+◌, ◌-◌, ◌*◌, ◌/◌, ◌<◌, ◌≤◌, ◌++◌, ℕ, List, [], Option, Some, None, IfSome, Result, Ok, Err, IfErr, inl, inr, ℤ, filter, length, replicate, refl, ap, sym, subst, arith, mul-le-mul_right}
+use Rattle.std.specs.List.{sum_by}
+use Rattle.std.proofs.lemmas.List.{length-append}
+use Rattle.std.proofs.lemmas.List.Sums.{sum_by-append}
+use Rattle.pool_model.specs.declared.entry.Entry.{Entry}
+use Rattle.reservation_tree.specs.declared.errors.PoolErr.{PoolErr}
+use Rattle.row_codec.specs.declared.values.Value.{Value}
+use Rattle.row_codec.specs.RowBytes.{row_bytes}
+use Rattle.scan_filter.specs.Passes.{passes}
+use Rattle.store_api.specs.Holdings.{Holdings}
+use Rattle.store_api.specs.Signs.{Signs}
+use Rattle.partition_stack.proofs.Scratch.{most_more}
+use Rattle.partition_stack.proofs.Slots.{more_taken}
+use Rattle.partition_stack.specs.Slots.{IsWantBelow, IsWantBelowOf, most_pages, with_more}
+use Rattle.partition_stack.specs.Stack.{empty}
+use Rattle.join_op.specs.Operator.{Keeps, Operator, bytes_of, page_of, slots_for, started}
+use Rattle.store_api.specs.Tokens.{ClientToken}
+use Rattle.store_api.specs.declared.op_err.OpErr.{OpErr}
+use Rattle.store_api.specs.declared.op_err.OpErr.TheVariants as op
+use Rattle.store_api.specs.declared.shapes.JoinShape.{JoinShape}
+use Rattle.query_plan.specs.Sizes.{page_len}
+use Rattle.query_plan.specs.declared.plan.Query.{Query}
+use Rattle.query_plan.specs.declared.plan.Side.TheVariants.{Left}
+use Rattle.query_plan.specs.declared.plan.SidePlan.{SidePlan}
+use Rattle.query_run.specs.Both.{Told, both_told, passing_of_both}
+use Rattle.query_run.specs.Causes.{OfPool}
+use Rattle.query_run.specs.Ending.{IsEndedBy, cause_of_handed}
+use Rattle.query_run.specs.Feeding.{AreFirstOf, HasFed, OfTaken}
+use Rattle.query_run.specs.Input.{passing, passing_in, weight_of}
+use Rattle.query_run.specs.Joined.{HasFedBoth}
+use Rattle.query_run.specs.Taking.{JoinGoes, LeftFeeds, LeftWants, RightWants, join_slots}
+use Rattle.query_run.specs.Through.{need, rows_through, weight_through}
+use Rattle.query_run.specs.Writing.{Begun, HasTaken, written}
+use Rattle.query_run.specs.declared.feeding.Fed.{Fed}
+use Rattle.query_run.specs.declared.outcome.QueryErr.{QueryErr}
+use Rattle.query_run.proofs.Around.{no_more_slots}
+use Rattle.query_run.proofs.Fronts.{first_few}
+use Rattle.query_run.proofs.Made.{want_before}
+use Rattle.query_run.proofs.Sides.{both_are}
+use Rattle.query_run.proofs.Wants.{div_more, sum_more, want_more}
+use Rattle.query_run.proofs.Weighing.{weighs_more}
+
+-- the first ones of some rows have no more bytes
+first_light : (rows all : List (List Value)) → AreFirstOf rows all → bytes_of rows ≤ bytes_of all
+first_light rows all first =
+    let same : bytes_of all ≡ bytes_of (rows ++ first.0) = ap bytes_of first.1 in
+    let sum : bytes_of (rows ++ first.0) ≡ bytes_of rows + bytes_of first.0 = sum_by-append (λ (row : List Value). length (row_bytes row)) rows first.0 in
+    omega (arith, same, sum)
+
+-- fewer rows need no more slots
+slots_fewer : (op : Operator) (h : Holdings) → 0 < page_of op h → (ls rs lefts rights : List (List Value)) → length ls + length rs ≤ length lefts + length rights → bytes_of ls + bytes_of rs ≤ bytes_of lefts + bytes_of rights
+    → slots_for op h ls rs ≤ slots_for op h lefts rights
+slots_fewer op h long ls rs lefts rights few light =
+    let most = most_more (page_of op h) 546 (length ls + length rs) (bytes_of ls + bytes_of rs) (length lefts + length rights) (bytes_of lefts + bytes_of rights) long few light in
+    mul-le-mul_right op.left.page_blocks
+    (let next : most_pages (page_of op h) 546 (length ls + length rs) (bytes_of ls + bytes_of rs) + 1 ≤ most_pages (page_of op h) 546 (length lefts + length rights) (bytes_of lefts + bytes_of rights) + 1 = omega (arith, most) in next)
+
+-- while left rows are fed
+pub left_below : (plan : Query) (asked : SidePlan) (lefts rights : Option (List ℕ)) (op : Operator) (h : Holdings) (s : Signs) (start : Option (List Entry)) (e : PoolErr) → 0 < page_of op h → Keeps start [] [] op h s
+    → OfTaken plan.left lefts (λ rows. LeftWants op rows h s e) → IfSome (both_told lefts rights) (λ both. IsWantBelow (slots_for op h (passing plan both.left) (passing_in asked both.right)) (join_slots op h s) e)
+left_below plan asked None rights op h s start e long keeps taken = tt
+left_below plan asked (Some l) None op h s start e long keeps taken = tt
+left_below plan asked (Some l) (Some r) op h s start e long keeps taken =
+    let few = first_few taken.rows (passing plan l) taken.first in
+    let light = first_light taken.rows (passing plan l) taken.first in
+    let none : bytes_of [] ≡ 0 = refl in
+    want_more (slots_for op h taken.rows []) (slots_for op h (passing plan l) (passing_in asked r)) (join_slots op h s) e
+    (slots_fewer op h long taken.rows [] (passing plan l) (passing_in asked r) (omega (arith, few)) (omega (arith, light, none))) (taken.so start [] keeps)
+
+-- and while right ones are
+pub right_below : (plan : Query) (asked : SidePlan) (page : ℕ) (lefts rights : Option (List ℕ)) (fed : Fed) (a b : Operator) (h0 h1 : Holdings) (s0 s1 : Signs) (start : Option (List Entry)) (e : PoolErr) → 0 < page_of a h0 → Keeps start [] [] a h0 s0
+    → JoinGoes a b h0 h1 s0 s1 → HasFed plan Left plan.left page lefts fed (λ rows. LeftFeeds a b rows h0 h1 s0 s1) → OfTaken asked rights (λ rows. RightWants b rows h1 s1 e)
+    → IfSome (both_told lefts rights) (λ both. IsWantBelow (slots_for a h0 (passing plan both.left) (passing_in asked both.right)) (join_slots a h0 s0) e)
+right_below plan asked page None rights fed a b h0 h1 s0 s1 start e long keeps goes has taken = tt
+right_below plan asked page (Some l) None fed a b h0 h1 s0 s1 start e long keeps goes has taken = tt
+right_below plan asked page (Some l) (Some r) fed a b h0 h1 s0 s1 start e long keeps goes has taken =
+    let few = first_few taken.rows (passing_in asked r) taken.first in
+    let light = first_light taken.rows (passing_in asked r) taken.first in
+    let ls = filter (passes plan.left.preds) has.rows in
+    let same : ls ≡ passing plan l = ap (filter (passes plan.left.preds)) has.are.1 in
+    let many = ap length same in
+    let heavy = ap bytes_of same in
+    want_more (slots_for a h0 ls taken.rows) (slots_for a h0 (passing plan l) (passing_in asked r)) (join_slots a h0 s0) e
+    (slots_fewer a h0 long ls taken.rows (passing plan l) (passing_in asked r) (omega (arith, few, many)) (omega (arith, light, heavy)))
+    (want_before a b h0 h1 s0 s1 ls taken.rows e goes (taken.so start ls [] (has.came start [] keeps)))
+
+-- while pairs are handed on
+pub pairs_below : (plan : Query) (asked : SidePlan) (page : ℕ) (lefts rights : Option (List ℕ)) (left_fed right_fed : Fed) (keeps : List (List Value) → List (List Value) → Type 0) (has : HasFedBoth plan asked page lefts rights left_fed right_fed keeps)
+    → (a b : Operator) (h0 h1 : Holdings) (s0 s1 : Signs) (e : PoolErr) → JoinGoes a b h0 h1 s0 s1 → IsWantBelow (slots_for b h1 has.lefts has.rights) (join_slots b h1 s1) e
+    → IfSome (both_told lefts rights) (λ both. IsWantBelow (slots_for a h0 (passing plan both.left) (passing_in asked both.right)) (join_slots a h0 s0) e)
+pairs_below plan asked page None rights left_fed right_fed keeps has a b h0 h1 s0 s1 e goes below = tt
+pairs_below plan asked page (Some l) None left_fed right_fed keeps has a b h0 h1 s0 s1 e goes below = tt
+pairs_below plan asked page (Some l) (Some r) left_fed right_fed keeps has a b h0 h1 s0 s1 e goes below =
+    let are = both_are plan asked page l r left_fed right_fed keeps has in
+    subst (λ (ls : List (List Value)). IsWantBelow (slots_for a h0 ls (passing_in asked r)) (join_slots a h0 s0) e) are.0
+    (subst (λ (rs : List (List Value)). IsWantBelow (slots_for a h0 has.lefts rs) (join_slots a h0 s0) e) are.1 (want_before a b h0 h1 s0 s1 has.lefts has.rights e goes below))
+
+-- the emitter of lines takes no slots
+pub wants_alone : (most : ℕ) (total : Option ℕ) (e : OpErr) → IsWantBelowOf (most + 0) (with_more 0 total) e → IsWantBelowOf most total e
+wants_alone most total e want = subst (λ (n : ℕ). IsWantBelowOf n total e) (let same : most + 0 ≡ most = omega arith in same) (subst (λ (o : Option ℕ). IsWantBelowOf (most + 0) o e) (no_more_slots 0 refl total) want)
+
+-- what ended the lines of an answer wants slots only where its join does
+module _ (keeps : Option (List Entry) → List (List Value) → List (List Value) → Type 0) (tells : Type 0) (most : List (List Value) → List (List Value) → ℕ) (total : Option ℕ) where
+  abbrev Wants : PoolErr → Type 0
+  Wants why = (start : Option (List Entry)) (lefts rights : List (List Value)) → keeps start lefts rights → tells → IsWantBelow (most lefts rights) total why
+
+  pub ended_pairs : (before : Begun) (rows : List (List Value)) (contents : Option (List ℕ)) (faults : ℕ) (stopped : Option QueryErr) (waits : List ℕ) (count : ℕ) (totals : List ℤ) (handed : Result Unit OpErr) (e : QueryErr)
+      → IfErr handed (λ why. (start : Option (List Entry)) (lefts rights : List (List Value)) → keeps start lefts rights → tells → IsWantBelowOf (most lefts rights) total why) → HasTaken before rows (written contents faults stopped waits count totals) → IsEndedBy stopped handed e → OfPool Wants e
+  ended_pairs before rows contents faults None waits count totals (Ok done) e wants taken ended = absurd ended
+  ended_pairs before rows contents faults None waits count totals (Err (op.Pool why)) e wants taken ended = subst (OfPool Wants) (sym ended) wants
+  ended_pairs before rows contents faults None waits count totals (Err op.Sink) e wants taken ended = subst (OfPool Wants) (sym ended) tt
+  ended_pairs before rows contents faults (Some why) waits count totals handed e wants taken ended = subst (OfPool Wants) (sym ended) (elim taken.sent.3 [
+    | inl sink ↦ subst (OfPool Wants) (sym sink) tt
+    | inr memory ↦ subst (OfPool Wants) (sym memory) (λ start lefts rights kept told. tt)
+  ])
+
+  -- so it is of what ended pairs that were handed on
+  pub handed_pairs : (handed : Result Unit OpErr) (e : QueryErr) → IfErr handed (λ why. (start : Option (List Entry)) (lefts rights : List (List Value)) → keeps start lefts rights → tells → IsWantBelowOf (most lefts rights) total why) → e ≡ cause_of_handed handed → OfPool Wants e
+  handed_pairs (Ok done) e wants is = subst (OfPool Wants) (sym is) (λ start lefts rights kept told. tt)
+  handed_pairs (Err (op.Pool why)) e wants is = subst (OfPool Wants) (sym is) wants
+  handed_pairs (Err op.Sink) e wants is = subst (OfPool Wants) (sym is) tt
+
+-- ---- by what a query needs
+
+-- the rows that pass are as many, and weigh at least their bytes
+pub many_both : (plan : Query) (asked : SidePlan) (l r : List ℕ) → plan.right ≡ Some asked → length (passing_of_both plan (record { left = l; right = r })) ≡ length (passing plan l) + length (passing_in asked r)
+many_both plan asked l r planned = rw planned (length-append (passing plan l) (passing_in asked r))
+
+pub weigh_both : (plan : Query) (asked : SidePlan) (l r : List ℕ) → plan.right ≡ Some asked → bytes_of (passing plan l) + bytes_of (passing_in asked r) ≤ sum_by (weight_of plan) (passing_of_both plan (record { left = l; right = r }))
+weigh_both plan asked l r planned =
+    let lefts = passing plan l in
+    let rights = passing_in asked r in
+    let are : passing_of_both plan (record { left = l; right = r }) ≡ lefts ++ rights = rw planned refl in
+    let all : sum_by (weight_of plan) (passing_of_both plan (record { left = l; right = r })) ≡ sum_by (weight_of plan) lefts + sum_by (weight_of plan) rights = ap (sum_by (weight_of plan)) are ∙ sum_by-append (weight_of plan) lefts rights in
+    let one = sum_more (λ row. length (row_bytes row)) (weight_of plan) lefts (λ row. let w = weighs_more plan row in omega (arith, w)) in
+    let two = sum_more (λ row. length (row_bytes row)) (weight_of plan) rights (λ row. let w = weighs_more plan row in omega (arith, w)) in
+    omega (arith, all, one, two)
+
+-- a join's pages and one more are no more than it needs
+need_join : (plan : Query) (asked : SidePlan) (len : ℕ) (l r : List ℕ) → plan.right ≡ Some asked → 0 < len
+    → most_pages len 546 (length (passing plan l) + length (passing_in asked r)) (bytes_of (passing plan l) + bytes_of (passing_in asked r)) + 1 ≤ need plan len (record { left = l; right = r })
+need_join plan asked len l r planned long =
+    let told : Told = record { left = l; right = r } in
+    let lefts = passing plan l in
+    let rights = passing_in asked r in
+    let many = many_both plan asked l r planned in
+    let weigh = weigh_both plan asked l r planned in
+    let light : bytes_of lefts + bytes_of rights ≤ weight_through plan told = omega (arith, weigh) in
+    let pages = div_more (2 * (bytes_of lefts + bytes_of rights)) (2 * weight_through plan told + len - 1) len long (omega (arith, light, long)) in
+    let count : length lefts + length rights + 1 ≤ rows_through plan told + 16 = omega (arith, many) in
+    omega (arith, pages, count)
+
+-- a join of which nothing was called has no slots
+pub none_joined : (c : ClientToken) (blocks : ℕ) (shape : JoinShape) (h : Holdings) (signs : Signs) → join_slots (started c blocks shape) h signs ≡ h.free_slots
+none_joined c blocks shape h signs = no_more_slots _ (more_taken (replicate 16 (empty blocks)) blocks 16 h ∙ more_taken [] blocks 16 h) h.free_slots
+
+pub join_wants : (plan : Query) (asked : SidePlan) (lefts rights : Option (List ℕ)) (op : Operator) (h0 h1 : Holdings) (s1 : Signs) (e : PoolErr) → plan.right ≡ Some asked → op.left.page_blocks ≡ plan.page_blocks → h1.block_len ≡ h0.block_len
+    → 0 < page_len plan h0.block_len → join_slots op h1 s1 ≡ h0.free_slots
+    → IfSome (both_told lefts rights) (λ both. IsWantBelow (slots_for op h1 (passing plan both.left) (passing_in asked both.right)) (join_slots op h1 s1) e)
+    → IfSome (both_told lefts rights) (λ both. IsWantBelow (need plan (page_len plan h0.block_len) both * plan.page_blocks) h0.free_slots e)
+join_wants plan asked None rights op h0 h1 s1 e planned blocks len long total wants = tt
+join_wants plan asked (Some l) None op h0 h1 s1 e planned blocks len long total wants = tt
+join_wants plan asked (Some l) (Some r) op h0 h1 s1 e planned blocks len long total wants =
+    let both : Told = record { left = l; right = r } in
+    let page = page_len plan h0.block_len in
+    let lefts = passing plan l in
+    let rights = passing_in asked r in
+    let here : slots_for op h1 lefts rights ≡ (most_pages page 546 (length lefts + length rights) (bytes_of lefts + bytes_of rights) + 1) * plan.page_blocks = rw (blocks, len) refl in
+    let most : slots_for op h1 lefts rights ≤ need plan page both * plan.page_blocks =
+    subst (λ (n : ℕ). n ≤ need plan page both * plan.page_blocks) (sym here) (mul-le-mul_right plan.page_blocks (need_join plan asked page l r planned long)) in
+    want_more (slots_for op h1 lefts rights) (need plan page both * plan.page_blocks) h0.free_slots e most (subst (λ (n : Option ℕ). IsWantBelow (slots_for op h1 lefts rights) n e) total wants)
