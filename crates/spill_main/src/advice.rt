@@ -1,5 +1,6 @@
 // What a person is told on standard error: sentences that say what went wrong and what to do.
 
+use crate::quota::quotas;
 use crate::sentences::{Files, tell_lines};
 use crate::usage::USAGE;
 use query_plan::{Plan, read_plan};
@@ -54,7 +55,11 @@ fn tell_plan<F: FileSystem + AllocGlobal>(
     report: &str,
 ) -> io::Result<()> {
     match &plan_of(files, name) {
-        Some(plan) => tell_lines(rt, report, Files::OfPlan { name, plan }),
+        Some(plan) => {
+            let quotas = quotas(files, plan)?;
+            let quotas = quotas.as_slice();
+            tell_lines(rt, report, Files::OfPlan { name, plan, quotas })
+        }
         None => tell_lines(rt, report, Files::Unread { name }),
     }
 }

@@ -11,6 +11,7 @@ mod files;
 mod in_use;
 mod output;
 mod progress;
+mod quota;
 mod report;
 mod scratch;
 mod sentences;

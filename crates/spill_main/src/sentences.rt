@@ -36,8 +36,15 @@ impl<'a> Refused<'a> {
 // reads none.
 #[derive(Clone, Copy)]
 pub(crate) enum Files<'a> {
-    OfPlan { name: &'a str, plan: &'a Plan },
-    Unread { name: &'a str },
+    OfPlan {
+        name: &'a str,
+        plan: &'a Plan,
+        // For each query the slots that are sure to suffice, if that is known.
+        quotas: &'a [Option<u64>],
+    },
+    Unread {
+        name: &'a str,
+    },
     One(&'a str),
     Table,
 }
@@ -46,7 +53,7 @@ impl<'a> Files<'a> {
     // The name of the plan's file.
     fn plan_name(self) -> Option<&'a str> {
         match self {
-            Files::OfPlan { name, plan: _ } => Some(name),
+            Files::OfPlan { name, .. } => Some(name),
             Files::Unread { name } => Some(name),
             Files::One(_) | Files::Table => None,
         }
@@ -55,6 +62,14 @@ impl<'a> Files<'a> {
     fn query(self, number: Option<usize>) -> Option<&'a Query> {
         match self {
             Files::OfPlan { plan, .. } => plan.queries.as_slice().get(number?.checked_sub(1)?),
+            Files::Unread { .. } | Files::One(_) | Files::Table => None,
+        }
+    }
+
+    // The slots that are sure to suffice for a query, if that is known.
+    fn quota(self, number: Option<usize>) -> Option<u64> {
+        match self {
+            Files::OfPlan { quotas, .. } => *quotas.get(number?.checked_sub(1)?)?,
             Files::Unread { .. } | Files::One(_) | Files::Table => None,
         }
     }
@@ -91,7 +106,7 @@ fn tell(rt: &impl Eprint, line: &Refused<'_>, files: Files<'_>) -> io::Result<()
         }
         ("7", "scratch") => {
             begin(rt, line, files)?;
-            tell_scratch(rt, files)
+            tell_scratch(rt, files.quota(line.query), files)
         }
         ("7", _) => {
             begin(rt, line, files)?;
@@ -162,7 +177,12 @@ fn tell_reservation(rt: &impl Eprint, numbers: &str, files: Files<'_>) -> io::Re
     }
 }
 
-fn tell_scratch(rt: &impl Eprint, files: Files<'_>) -> io::Result<()> {
+fn tell_scratch(rt: &impl Eprint, quota: Option<u64>, files: Files<'_>) -> io::Result<()> {
+    if let Some(quota) = quota {
+        return eprintln!(rt;
+            "the scratch slots set aside for it were used up: a \"quota\" of {quota} would do, and where that is too much, longer pages may"
+        );
+    }
     match files {
         Files::OfPlan { .. } | Files::Unread { .. } => {
             eprintln!(rt;
