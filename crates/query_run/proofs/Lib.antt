@@ -21,6 +21,7 @@ mod Results
 mod Says
 mod Sending
 mod Sides
+mod Spilled
 mod Summing
 mod Taken
 mod Taking

@@ -17,3 +17,5 @@ pub mod Writing
 pub mod Joined
 pub mod Feeder
 pub mod FeederLaws
+pub mod Spilling
+pub mod Completing

@@ -15,6 +15,7 @@ mod grouped;
 mod grouping;
 mod header;
 mod joined;
+mod laws;
 mod outcome;
 mod pairs;
 mod parts;
@@ -23,6 +24,7 @@ mod takes;
 #[cfg(test)]
 mod tests;
 
+pub use laws::{law_completes, law_spill};
 pub use outcome::{QueryErr, Ran, Totals};
 pub use query_plan::Side;
 pub use run::run_query;

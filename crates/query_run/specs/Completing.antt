@@ -1,0 +1,48 @@
+-- A query in whose way nothing stands.
+use Rattle.std.specs.Prelude.{◌≡◌, ◌*◌, ◌≤◌, ℕ, false, true, Option, Some, IfSome}
+use Rattle.reservation_tree.specs.declared.errors.PoolErr.TheVariants.{Memory}
+use Rattle.outside.specs.Counts.{Rose}
+use Rattle.store_api.specs.Holdings.{Holdings}
+use Rattle.store_api.specs.Signs.{Signs}
+use Rattle.query_plan.specs.declared.plan.Query.{Query}
+use Rattle.query_plan.specs.Sizes.{page_len}
+use Rattle.query_run.specs.Both.{AreAccepted, Told, both_told}
+use Rattle.query_run.specs.Refused.{SaysOfInputs, Source}
+use Rattle.query_run.specs.Stopped.{CountsSink, MayStop}
+use Rattle.query_run.specs.Through.{need}
+use Rattle.query_run.specs.declared.outcome.QueryErr.{QueryErr}
+use Rattle.query_run.specs.declared.outcome.QueryErr.TheVariants.{Pool, SinkFault}
+
+-- a source had no fault over a call
+abbrev pub IsQuiet : Source → Type 0
+IsQuiet input = Rose input.faults input.faults_now → ⊥
+
+-- the store tells what a pin shows, and its quota has the slots of the pages that the query needs over these bytes; no write and no
+-- read of a page failed, and a name is left
+pub record StoreSuffices (plan : Query) (both : Told) (start : Holdings) (old new : Signs) : Type 0 where
+  pub tells : start.told ≡ true
+  pub enough : IfSome start.free_slots (λ free. need plan (page_len plan start.block_len) both * plan.page_blocks ≤ free)
+  pub failures : new.failures ≡ old.failures
+  pub names : new.spent ≡ false
+
+-- nothing stands in the way of an answer: the bytes of the inputs are told, and accepted to their ends, the store suffices for them, and neither
+-- a source nor the sink had a fault
+pub record IsClear (plan : Query) (lefts rights : Source) (start : Holdings) (old new : Signs) (writes writes_now : ℕ) : Type 0 where
+  pub both : Told
+  pub told_is : both_told lefts.told rights.told ≡ Some both
+  pub accepted : AreAccepted plan (page_len plan start.block_len) both
+  pub store : StoreSuffices plan both start old new
+  pub lefts_quiet : IsQuiet lefts
+  pub rights_quiet : IsQuiet rights
+  pub sink_quiet : Rose writes writes_now → ⊥
+
+-- what the query says of its inputs, of the pool, and of the sink, where it ended so
+pub record HasSaid (plan : Query) (lefts rights : Source) (start : Holdings) (old new : Signs) (writes writes_now : ℕ) (why : QueryErr) : Type 0 where
+  pub inputs : SaysOfInputs plan (page_len plan start.block_len) lefts rights why
+  pub pool : MayStop plan (both_told lefts.told rights.told) start old new why
+  pub sink : CountsSink (why ≡ SinkFault) writes writes_now
+
+-- then only memory can have been wanting
+abbrev pub Completes : Type 0
+Completes = (plan : Query) (lefts rights : Source) (start : Holdings) (old new : Signs) (writes writes_now : ℕ) (why : QueryErr)
+    → IsClear plan lefts rights start old new writes writes_now → HasSaid plan lefts rights start old new writes writes_now why → why ≡ Pool Memory
