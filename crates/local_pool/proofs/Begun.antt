@@ -35,7 +35,7 @@ use Rattle.std.specs.List.{sum_by}
 use Rattle.local_pool.specs.declared.owned.Owned.{Owned}
 use Rattle.pin_core.specs.declared.tally.Tally.{Tally}
 use Rattle.local_pool.specs.Told.{outset_of, held_of}
-use Rattle.local_pool.specs.Counting.{AtOpening, BeginsNames, SumsHold, at_opening}
+use Rattle.local_pool.specs.Counting.{AtOpening, BeginsNames, HasBlocks, SumsHold, at_opening}
 use Rattle.pin_core.specs.Tallies.{Counted, all_failures, tally_in, written_blocks}
 use Rattle.local_pool.specs.Standing.{Stands}
 use Rattle.local_pool.specs.Beginning.{memory_of, first_events, IsBegun, Begins, LacksLeast, IsLeastRefusal}
@@ -97,18 +97,23 @@ module _ {D : Type 0} (slot : Ghosts D) (own : Owned D) (q limit quota least : �
     no_page p = ap (λ (s : State). get s.pages p) stood.state ∙ ap (λ (h : List Entry). get (state_after o h).pages p) trail ∙ get-empty nat_cmp p
 
     -- the slots count as they did when they were counted
-    sums_first : (first : Option AtOpening) → IfSome first (λ f. f ≡ at_opening (tally_in slot own.pool) conf.first_name) → SumsHold first own.trail (tally_in slot own.pool)
+    sums_first : (first : Option AtOpening) → IfSome first (λ f. f ≡ at_opening (tally_in slot own.pool) conf.first_name conf.blocks) → SumsHold first own.trail (tally_in slot own.pool)
     sums_first None same = tt
     sums_first (Some f) same =
         counted_as 0 (all_failures own.trail) 0 (written_blocks own.trail) f.tally (tally_in slot own.pool) (sym (ap all_failures trail)) (sym (ap written_blocks trail))
         (subst (Counted 0 0 f.tally) (ap (λ (x : AtOpening). x.tally) same) (uncounted_yet f.tally))
 
     -- and the first page is named as the pool was asked to
-    names_first : (first : Option AtOpening) → IfSome first (λ f. f ≡ at_opening (tally_in slot own.pool) conf.first_name) → BeginsNames first o.first_name
+    names_first : (first : Option AtOpening) → IfSome first (λ f. f ≡ at_opening (tally_in slot own.pool) conf.first_name conf.blocks) → BeginsNames first o.first_name
     names_first None same = tt
     names_first (Some f) same = is.first_name ∙ sym (ap (λ (x : AtOpening). x.first_name) same)
 
-    pub stands_first : own.session < 240 → (first : Option AtOpening) → IfSome first (λ f. f ≡ at_opening (tally_in slot own.pool) conf.first_name) → Stands slot first own
+    -- and it has as many blocks
+    blocks_first : (first : Option AtOpening) → IfSome first (λ f. f ≡ at_opening (tally_in slot own.pool) conf.first_name conf.blocks) → HasBlocks first o.blocks
+    blocks_first None same = tt
+    blocks_first (Some f) same = is.blocks ∙ sym (ap (λ (x : AtOpening). x.blocks) same)
+
+    pub stands_first : own.session < 240 → (first : Option AtOpening) → IfSome first (λ f. f ≡ at_opening (tally_in slot own.pool) conf.first_name conf.blocks) → Stands slot first own
     stands_first number first same = record {
       opening = o;
       stands = stood;
@@ -120,6 +125,7 @@ module _ {D : Type 0} (slot : Ghosts D) (own : Owned D) (q limit quota least : �
       still = λ p x there. let none : None ≡ Some x = sym (no_page p) ∙ there in cc;
       sums = sums_first first same;
       names = names_first first same;
+      blocks = blocks_first first same;
     }
 
 -- a session that came sits
@@ -201,6 +207,6 @@ begins slot conf slots limit quota least pool count (Ok own) held trail home = r
 begins slot conf slots limit quota least pool count (Err e) held trail home = tt
 
 -- slots that are counted alike
-pub counted_alike : (first : Option AtOpening) (a b : Tally) (name : ℕ) → a ≡ b → IfSome first (λ f. f ≡ at_opening a name) → IfSome first (λ f. f ≡ at_opening b name)
-counted_alike None a b name same is = tt
-counted_alike (Some f) a b name same is = is ∙ ap (λ (t : Tally). at_opening t name) same
+pub counted_alike : (first : Option AtOpening) (a b : Tally) (name blocks : ℕ) → a ≡ b → IfSome first (λ f. f ≡ at_opening a name blocks) → IfSome first (λ f. f ≡ at_opening b name blocks)
+counted_alike None a b name blocks same is = tt
+counted_alike (Some f) a b name blocks same is = is ∙ ap (λ (t : Tally). at_opening t name blocks) same

@@ -172,6 +172,7 @@ module _ {D : Type 0} (slot : Ghosts D) where
       still = still;
       sums = sums;
       names = was.names;
+      blocks = was.blocks;
     }
 
     pub grown : {first : Option AtOpening} → Stands slot first old → AllCalm events → is_some (after_events (held_of slot old) events).free_slots ≡ true → IsStill (state_of new.pool) → SumsHold first new.trail (tally_in slot new.pool) → Stands slot first new

@@ -52,7 +52,8 @@ module _ {A E : Type 0} where
   none_fails Q None (Err e) is = let never : false ≡ true = is in cc
 
 module _ {D : Type 0} (slot : Ghosts D) where
-  len_is : (own : Owned D) → (held_of slot own).block_len ≡ (state_of own.pool).block_len
+  -- the owner holds blocks of the pool's length
+  pub len_is : (own : Owned D) → (held_of slot own).block_len ≡ (state_of own.pool).block_len
   unfolding held_of
   len_is own = (outsets_stay (state_of own.pool).block_len own.session (outset_of slot own.pool) own.trail).block
 

@@ -13,6 +13,7 @@ pub mod Lasting
 pub mod Roomed
 pub mod Begun
 pub mod Ended
+pub mod Lawful
 pub mod Accounts
 pub mod Reaching
 pub mod Arrivals

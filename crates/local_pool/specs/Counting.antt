@@ -5,13 +5,14 @@ use Rattle.pool_model.specs.declared.entry.Entry.{Entry}
 use Rattle.pin_core.specs.declared.tally.Tally.{Tally}
 use Rattle.pin_core.specs.Tallies.{Counted, all_failures, written_blocks}
 
--- what the slots of a pool counted when it opened, and the name of its first page
+-- what the slots of a pool counted when it opened, the name of its first page, and how many blocks it has
 pub record AtOpening : Type 0 where
   pub tally : Tally
   pub first_name : ℕ
+  pub blocks : ℕ
 
-abbrev pub at_opening : Tally → ℕ → AtOpening
-at_opening tally first_name = record { tally = tally; first_name = first_name }
+abbrev pub at_opening : Tally → ℕ → ℕ → AtOpening
+at_opening tally first_name blocks = record { tally = tally; first_name = first_name; blocks = blocks }
 
 -- where it is named, the slots count so now, by what the trail tells
 abbrev pub SumsHold : Option AtOpening → List Entry → Tally → Type 0
@@ -22,6 +23,11 @@ SumsHold (Some first) trail now = Counted (all_failures trail) (written_blocks t
 abbrev pub BeginsNames : Option AtOpening → ℕ → Type 0
 BeginsNames None name = ⊤
 BeginsNames (Some first) name = name ≡ first.first_name
+
+-- where it is named, it has so many blocks
+abbrev pub HasBlocks : Option AtOpening → ℕ → Type 0
+HasBlocks None blocks = ⊤
+HasBlocks (Some first) blocks = blocks ≡ first.blocks
 
 -- where it is named, no name is left only when the trail has made a page of each
 abbrev pub SpendsNames : Option AtOpening → List Entry → Bool → Type 0

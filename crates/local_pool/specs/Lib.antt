@@ -1,5 +1,6 @@
 pub mod Told
 pub mod Counting
+pub mod History
 pub mod Agreeing
 pub mod Making
 pub mod Refusing

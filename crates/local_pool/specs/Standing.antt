@@ -9,7 +9,7 @@ use Rattle.pin_core.specs.StateOf.{state_of}
 use Rattle.pin_core.specs.Standing.{StandsFor}
 use Rattle.local_pool.specs.declared.owned.Owned.{Owned}
 use Rattle.local_pool.specs.Told.{held_of}
-use Rattle.local_pool.specs.Counting.{AtOpening, BeginsNames, SumsHold}
+use Rattle.local_pool.specs.Counting.{AtOpening, BeginsNames, HasBlocks, SumsHold}
 use Rattle.pin_core.specs.Tallies.{tally_in}
 
 -- the page is in a job
@@ -31,7 +31,7 @@ abbrev pub IsStillBut : ℕ → State → Type 0
 IsStillBut p s = (q : ℕ) (x : Page) → q ≢ p → get s.pages q ≡ Some x → is_moving x.place ≡ false
 
 -- the pool's value stands for the trail, which the one owner made alone from its opening on; `first` names what the
--- slots counted when the pool opened, and the name of its first page, or nothing
+-- slots counted when the pool opened, the name of its first page and how many blocks it has, or nothing
 pub record Stands {D : Type 0} (slot : Ghosts D) (first : Option AtOpening) (own : Owned D) : Type 0 where
   pub opening : Opening
   pub stands : StandsFor slot opening own.trail own.pool
@@ -43,3 +43,4 @@ pub record Stands {D : Type 0} (slot : Ghosts D) (first : Option AtOpening) (own
   pub still : IsStill (state_of own.pool)
   pub sums : SumsHold first own.trail (tally_in slot own.pool)
   pub names : BeginsNames first opening.first_name
+  pub blocks : HasBlocks first opening.blocks

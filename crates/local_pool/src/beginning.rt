@@ -8,6 +8,7 @@ ghost use Rattle.pin_core.specs.Opening.{spare_of};
 ghost use Rattle.store_api.specs.Entries.{by};
 ghost use Rattle.local_pool.specs.Told.{held_of, signs_of};
 ghost use Rattle.local_pool.specs.Counting.{SpendsNames, SumsHold, at_opening};
+ghost use Rattle.local_pool.specs.History.{IsHistory};
 ghost use Rattle.pin_core.specs.Tallies.{tally_in, tally_of};
 ghost use Rattle.local_pool.specs.Beginning.{Begins, IsBegun, IsLeastRefusal, LacksLeast, first_events};
 
@@ -40,7 +41,7 @@ impl<D: Slot + Drop, T: OpenedWith> Alone<D, T> {
         requires conf { OpensWith conf.now }
         requires slots { vec_len slots ≤ 1048576 }
         requires quota { quota ≤ vec_len slots }
-        requires opened { IfSome T.opened (λ first. first ≡ at_opening (tally_of D.Slot slots.items) conf.now.first_name) }
+        requires opened { IfSome T.opened (λ first. first ≡ at_opening (tally_of D.Slot slots.items) conf.now.first_name conf.now.blocks) }
         ensures ok { IfOk result (Begins D.Slot conf.now slots.items limit quota least) }
         ensures refused { LacksLeast conf.now limit least → IsErr result }
         ensures cause { IfErr result (λ e. IsLeastRefusal conf.now limit least e.1) }
@@ -61,6 +62,7 @@ impl<D: Slot + Drop, T: OpenedWith> Alone<D, T> {
         ensures slots { (measure : D → ℕ) → sum_by measure result.items ≡ slots_home measure self.pool }
         ensures sums { SumsHold T.opened self.trail (tally_of D.Slot result.items) }
         ensures names { SpendsNames T.opened self.trail (signs_of self).spent }
+        ensures history { IsHistory T.opened (held_of D.Slot self).block_len self.session self.trail }
     {
         let Owned {
             mut pool,
@@ -85,7 +87,7 @@ fn begin<D: Slot + Drop, T: OpenedWith>(
     requires fresh { (o : Opening) → IsOpeningOf _conf.now (spare_of pool) o → StandsFor D.Slot o [] pool }
     requires empty { trail ≡ [] }
     requires quota { quota ≤ spare_of pool }
-    requires opens { IfSome T.opened (λ first. first ≡ at_opening (tally_in D.Slot pool) _conf.now.first_name) }
+    requires opens { IfSome T.opened (λ first. first ≡ at_opening (tally_in D.Slot pool) _conf.now.first_name _conf.now.blocks) }
     ensures ok { IfOk result (λ own. IsBegun _conf.now limit quota least (held_of D.Slot own)) }
     ensures trail { IfOk result (λ own. own.trail ≡ by own.session (first_events (held_of D.Slot own).query limit quota least)) }
     ensures slots { IfOk result (λ own. (measure : D → ℕ) → slots_home measure own.pool ≡ slots_home measure pool) }

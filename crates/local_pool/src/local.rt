@@ -8,6 +8,7 @@ ghost use Rattle.own_entries.specs.ClientLaws.{IsWholeIdle};
 ghost use Rattle.local_pool.specs.Told.{held_of, signs_of};
 ghost use Rattle.local_pool.specs.Agreeing.{AgreesWith};
 ghost use Rattle.local_pool.specs.Counting.{SpendsNames, SumsHold, at_opening};
+ghost use Rattle.local_pool.specs.History.{IsHistory};
 ghost use Rattle.pin_core.specs.Tallies.{tally_of};
 ghost use Rattle.local_pool.specs.Beginning.{Begins, IsLeastRefusal, LacksLeast};
 
@@ -52,7 +53,7 @@ impl<D: Slot + Drop, T: OpenedWith> LocalPool<D, T> {
         requires conf { OpensWith conf.now }
         requires slots { vec_len slots ≤ 1048576 }
         requires quota { quota ≤ vec_len slots }
-        requires opened { IfSome T.opened (λ first. first ≡ at_opening (tally_of D.Slot slots.items) conf.now.first_name) }
+        requires opened { IfSome T.opened (λ first. first ≡ at_opening (tally_of D.Slot slots.items) conf.now.first_name conf.now.blocks) }
         ensures ok { IfOk result (λ pool. Begins D.Slot conf.now slots.items limit quota least pool.alone) }
         ensures refused { LacksLeast conf.now limit least → IsErr result }
         ensures cause { IfErr result (λ e. IsLeastRefusal conf.now limit least e.1) }
@@ -87,6 +88,7 @@ impl<D: Slot + Drop, T: OpenedWith> LocalPool<D, T> {
         ensures slots { (measure : D → ℕ) → sum_by measure result.items ≡ slots_home measure self.alone.pool }
         ensures sums { SumsHold T.opened self.alone.trail (tally_of D.Slot result.items) }
         ensures names { SpendsNames T.opened self.alone.trail (signs_of self.alone).spent }
+        ensures history { IsHistory T.opened (held_of D.Slot self.alone).block_len self.alone.session self.alone.trail }
     {
         self.alone.close()
     }

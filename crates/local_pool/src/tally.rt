@@ -1,7 +1,7 @@
 //! What is known of a pool from when it opened, for contracts alone.
 use std::marker::Brand;
 
-/// Names what the slots of a pool counted when it opened, and the name of its first page, for contracts alone. A call at
+/// Names what the slots of a pool counted when it opened, the name of its first page and how many blocks it has, for contracts alone. A call at
 /// `Brand` picks it; where none is picked it names nothing.
 pub trait OpenedWith {
     ghost use Rattle.std.specs.Prelude.{Option};

@@ -37,10 +37,10 @@ abbrev pub GivesTold : Option Told → Option Told → Type 0
 GivesTold None given = ⊤
 GivesTold (Some told) given = given ≡ Some told
 
-gives-both : (left right given_left given_right : Option (List ℕ)) → GivesBytes left given_left → GivesBytes right given_right → GivesTold (both_told left right) (both_told given_left given_right)
-gives-both None right given_left given_right lefts rights = tt
-gives-both (Some left) None given_left given_right lefts rights = tt
-gives-both (Some left) (Some right) given_left given_right lefts rights = rw (lefts, rights) refl
+pub gives_both : (left right given_left given_right : Option (List ℕ)) → GivesBytes left given_left → GivesBytes right given_right → GivesTold (both_told left right) (both_told given_left given_right)
+gives_both None right given_left given_right lefts rights = tt
+gives_both (Some left) None given_left given_right lefts rights = tt
+gives_both (Some left) (Some right) given_left given_right lefts rights = rw (lefts, rights) refl
 
 -- and where slots tell that still do
 gives-over : (tell tell_now : Bool) (told given : Option Told) → tell_now ≡ tell → GivesTold told given → GivesTold (if_told tell told) (if_told tell_now given)
@@ -127,7 +127,7 @@ module _ (start seen : Seen) (slots slots_now : Tally) (back : ComeBack slots sl
   gives-given : IsWork start (with_slots slots seen) block_len query (record { refused = refused; left = Some left; right = right; output = Some sink; ended = None }) → GivesTold (told_over query start) given
   gives-given is =
       gives-over (all_tell start.slots) (all_tell slots) (told_of query start.files) (both_told left.told bytes) (ap (λ (n : ℕ). n == 0) is.went.slots.silent)
-      (gives-both (bytes_on query start.files Left) (bytes_on query start.files Right) left.told bytes ((is.inputs Left).0) gives)
+      (gives_both (bytes_on query start.files Left) (bytes_on query start.files Right) left.told bytes ((is.inputs Left).0) gives)
 
   pub answered_so : (lines : ℕ) → WroteAnswer query (page_len query block_len) given sink.told sink_now.told → IfSome given (HasLines query (page_len query block_len) lines)
       → IsWork start (with_slots slots seen) block_len query (record { refused = refused; left = Some left; right = right; output = Some sink; ended = None })

@@ -15,13 +15,14 @@ use Rattle.run_report.specs.Report.{outcome_text}
 use Rattle.spill_top.specs.declared.ending.Ending.{Ending}
 use Rattle.spill_top.specs.declared.ending.Ending.TheVariants.{Lines, Reservation, Stopped}
 use Rattle.spill_top.specs.declared.words.Check.{Check}
-use Rattle.spill_top.specs.CheckPlan.{checking, output_name, refused_of}
+use Rattle.spill_top.specs.CheckPlan.{IsInRange, checking, output_name, refused_of}
 use Rattle.spill_top.specs.Checking.{Checked, HasAnswer, HasNoAnswer, IsCheckStatus, IsCheckStop, TellsAnswer, output_at, summary_of}
 use Rattle.spill_top.specs.Endings.{outcome_of, status_of, status_of_error, status_of_pool}
 use Rattle.spill_top.specs.Pooled.{IsPoolStop}
 use Rattle.spill_top.specs.Ran.{Telling}
 use Rattle.spill_top.specs.Report.{Tells, TellsOrMisses, shortage}
 use Rattle.spill_top.specs.Running.{Seen, WentAt}
+use Rattle.spill_top.proofs.CheckClear.{none_clear, told_clear}
 
 -- an output that was created, and whose sink began empty, is fresh until it is given back
 pub since_created : (before mid : Option Written) (first : Option (List ℕ)) (holds : Option (List ℕ) → Type 0) → NowWritten before mid fresh → StartsEmpty before first → holds first
@@ -58,13 +59,14 @@ some-or-none None none some = absurd (false≢true some)
 some-or-none (Some x) none some = cc
 
 module _ (check : Check) (quota : ℕ) (start now : Seen) (before after : Telling) (status : ℕ) where
-  pub checked_answer : (ran : Ran) → HasAnswer check start.slots (output_at start.written start.writes) (output_at now.written now.writes) ran
+  pub checked_answer : (ran : Ran) → HasAnswer check start.slots now.slots (output_at start.written start.writes) (output_at now.written now.writes) ran
       → TellsAnswer (outcome_text None (summary_of ran)) before after status → WentAt output_name start now → Checked quota start now before after status check
   checked_answer ran has tells went = record {
     comes_to = inl (record { ran = ran; has = has; tells = tells });
     status_is = status-is tells;
     refused = λ six. absurd (not-six tells six);
     refuses = λ some. some-or-none (refused_of check) has.reserved some;
+    completes = λ clear. told_clear _ before after status clear.told tells;
     went = went;
   }
     where
@@ -113,24 +115,26 @@ module _ (check : Check) (quota : ℕ) (start now : Seen) (before after : Tellin
   not-six-of-stop n is (inr (inr (inl nine))) six = omega (arith, is, nine, six)
   not-six-of-stop n is (inr (inr (inr ten))) six = omega (arith, is, ten, six)
 
-  pub checked_none : (ending : Ending) → HasNoAnswer check quota start.slots now.slots (output_at start.written start.writes) (output_at now.written now.writes) ending
+  pub checked_none : IsInRange check → (ending : Ending) → HasNoAnswer check quota start.slots now.slots (output_at start.written start.writes) (output_at now.written now.writes) ending
       → status ≡ status_of ending → TellsOrMisses (outcome_text None (outcome_of (checking check) ending)) before.text after.text before.faults after.faults → WentAt output_name start now
       → Checked quota start now before after status check
-  checked_none (Lines lines) has is tells went = absurd has.why
-  checked_none (Reservation root wanted room) has is tells went = record {
+  checked_none range (Lines lines) has is tells went = absurd has.why
+  checked_none range (Reservation root wanted room) has is tells went = record {
     comes_to = inr (inl (record { ending = Reservation root wanted room; has = has; status_is = is; tells = tells }));
     status_is = inr (inl is);
     refused = λ six. let why : refused_of check ≡ Some (Reservation root wanted room) = has.why in rw why refl;
     refuses = λ some. inl is;
+    completes = λ clear. inr (none_clear check range quota start now before after clear (Reservation root wanted room) _ _ status clear.written has is);
     went = went;
   }
-  checked_none (Stopped why) has is tells went =
+  checked_none range (Stopped why) has is tells went =
       let stop = stop-status _ why _ _ has.why.1 in
       record {
         comes_to = inr (inl (record { ending = Stopped why; has = has; status_is = is; tells = tells }));
         status_is = status-of-stop (status_of_error why) is stop;
         refused = λ six. absurd (not-six-of-stop (status_of_error why) is stop six);
         refuses = λ some. some-or-none (refused_of check) has.why.0 some;
+        completes = λ clear. inr (none_clear check range quota start now before after clear (Stopped why) _ _ status clear.written has is);
         went = went;
       }
 
@@ -141,6 +145,7 @@ module _ (check : Check) (quota : ℕ) (start now : Seen) (before after : Tellin
     status_is = inr (inr (inr (inr (inr is))));
     refused = λ six. absurd (omega (arith, is, six));
     refuses = λ some. inr is;
+    completes = λ clear. inr is;
     went = went;
   }
 

@@ -80,6 +80,7 @@ check_fits check range none =
       opens = record { block_len = refl; some = some; blocks = omega (arith, few); memory = omega (arith, few) };
       first = refl;
       least = fits (check.blocks * 8192) 163840 none;
+      allowed = fits (check.blocks * 8192) 163840 none;
     }
 
 -- what holds where nothing is told, and where the table is told if slots tell, holds of what they tell

@@ -60,6 +60,7 @@ pool_fits command = record {
   opens = record { block_len = refl; some = omega arith; blocks = omega arith; memory = omega arith };
   first = refl;
   least = omega arith;
+  allowed = omega arith;
 }
 
 -- its pages over a store of such blocks

@@ -8,7 +8,9 @@ use Rattle.outside.specs.Told.{GivesBytes}
 use Rattle.csv_edge.specs.Written.{AppendsFront}
 use Rattle.reservation_tree.specs.declared.errors.PoolErr.{PoolErr}
 use Rattle.reservation_tree.specs.declared.errors.PoolErr.TheVariants as pool
+use Rattle.pin_core.specs.declared.conf.PoolConf.{PoolConf}
 use Rattle.pin_core.specs.declared.tally.Tally.{Tally}
+use Rattle.local_pool.specs.Beginning.{memory_of}
 use Rattle.query_plan.specs.Sizes.{page_len}
 use Rattle.query_plan.specs.declared.plan.Query.{Query}
 use Rattle.query_run.specs.Both.{Told, both_told}
@@ -16,13 +18,14 @@ use Rattle.query_run.specs.Causes.{OfPool, side_of}
 use Rattle.query_run.specs.Through.{need}
 use Rattle.query_run.specs.declared.outcome.QueryErr.{QueryErr}
 use Rattle.query_run.specs.declared.outcome.QueryErr.TheVariants as query
-use Rattle.spill_top.specs.Counting.{counting}
-use Rattle.spill_top.specs.Headline.{IsCause, page_bytes, told_with}
+use Rattle.spill_top.specs.Counting.{counting, counting_conf}
+use Rattle.spill_top.specs.Headline.{IsCause, StoresCount, page_bytes, told_with}
 use Rattle.spill_top.specs.OneInput.{WroteAnswerOver, WroteFrontOver}
 use Rattle.spill_top.specs.Pooled.{HaveFailed, IsPoolStop, all_tell}
 use Rattle.spill_top.specs.Sides.{if_told}
 use Rattle.spill_top.specs.Refusals.{IsOfPool, refusal_for, refusal_of_pool}
 use Rattle.spill_top.specs.Report.{Tells, TellsOrMisses}
+use Rattle.spill_top.specs.Storing.{HaveStored, owed}
 use Rattle.spill_top.specs.Words.{Command}
 use Rattle.spill_top.specs.declared.count.Stop.{Stop}
 use Rattle.spill_top.specs.declared.count.Stop.TheVariants.{Report, Memory, Short, Refused, Broken}
@@ -46,6 +49,21 @@ front_so command plan block_len (Some bytes) given before now planned len gives 
     subst (λ (o : Option (List ℕ)). WroteFrontOver (counting command) page_bytes o before now) gives
     (subst (λ (n : ℕ). WroteFrontOver (counting command) n given before now) (page_is command plan block_len planned len)
     (subst (λ (q : Query). WroteFrontOver q (page_len plan block_len) given before now) planned wrote))
+
+-- what was stored beside what it must keep is more than nothing
+least-stored : (block_len bytes : ℕ) (before now : Tally) → HaveStored block_len bytes before now → HaveStored block_len 0 before now
+least-stored block_len bytes before now stored = λ all. let more = stored all in omega (arith, more)
+
+pub stored_so : (command : Command) (plan : Query) (conf : PoolConf) (told given : Option (List ℕ)) (slots slots_now : Tally) → plan ≡ counting command → conf ≡ counting_conf → GivesBytes told given
+    → HaveStored conf.block_len (owed plan (memory_of conf) (both_told given (Some []))) slots slots_now → StoresCount told slots slots_now command
+stored_so command plan conf told given slots slots_now planned pooled gives stored =
+    stored-over told given gives
+    (subst (λ (q : Query). HaveStored page_bytes (owed q (memory_of counting_conf) (both_told given (Some []))) slots slots_now) planned
+    (subst (λ (c : PoolConf). HaveStored c.block_len (owed plan (memory_of c) (both_told given (Some []))) slots slots_now) pooled stored))
+  where
+    stored-over : (told given : Option (List ℕ)) → GivesBytes told given → HaveStored page_bytes (owed (counting command) (memory_of counting_conf) (both_told given (Some []))) slots slots_now → StoresCount told slots slots_now command
+    stored-over None given gives stored = least-stored page_bytes _ slots slots_now stored
+    stored-over (Some bytes) given gives stored = subst (λ (o : Option (List ℕ)). HaveStored page_bytes (owed (counting command) (memory_of counting_conf) (both_told o (Some []))) slots slots_now) gives stored
 
 -- ---- what a pool stopped it with
 

@@ -27,6 +27,18 @@ refused-more true true limit wanted room more none = cc
 refused-more true false limit wanted room more none = cc
 refused-more false below limit wanted room more none = cc
 
+-- and so is what passes the limit
+refused-over : (within below : Bool) (limit wanted room : ℕ) → within ≡ false → (if within then (if below then None else Some (Reservation true wanted room)) else Some (Reservation false wanted limit)) ≡ None → ⊥
+refused-over true below limit wanted room over none = cc
+refused-over false below limit wanted room over none = cc
+
+within-limit : (limit wanted room : ℕ) → refusal limit wanted room ≡ None → wanted ≤ limit
+within-limit limit wanted room none =
+    elim (leb_tells wanted limit) [
+      | inl fits ↦ fits.1
+      | inr over ↦ absurd (refused-over (nat_le wanted limit) (nat_le wanted room) limit wanted room over.0 none)
+    ]
+
 within-room : (limit wanted room : ℕ) → refusal limit wanted room ≡ None → wanted ≤ room
 within-room limit wanted room none =
     elim (leb_tells wanted room) [
@@ -52,6 +64,16 @@ unrefused-fits block_len room (first ∷ queries) (suc place) query at_query at 
     let behind = room_behind (refusal first.limit (least_of first block_len) room) (least_of first block_len) room in
     below (least_of query block_len) behind room (unrefused-fits block_len behind queries place query at_query at) (room-falls (refusal first.limit (least_of first block_len) room) (least_of first block_len) room)
 
+-- a query that was not refused is allowed its least reservation
+unrefused-allowed : (block_len room : ℕ) (queries : List Query) (place : ℕ) (query : Query) → slice_get queries place ≡ Some query → slice_get (refusals block_len room queries) place ≡ Some None
+    → least_of query block_len ≤ query.limit
+unrefused-allowed block_len room [] place query at_query at = absurd (none-some query at_query)
+unrefused-allowed block_len room (first ∷ queries) zero query at_query at =
+    subst (λ (q : Query). least_of q block_len ≤ q.limit) (same_Some first query at_query)
+    (within-limit first.limit (least_of first block_len) room (same_Some (refusal first.limit (least_of first block_len) room) None at))
+unrefused-allowed block_len room (first ∷ queries) (suc place) query at_query at =
+    unrefused-allowed block_len (room_behind (refusal first.limit (least_of first block_len) room) (least_of first block_len) room) queries place query at_query at
+
 -- one quota is at most their sum
 quota-within : (queries : List Query) (slots place : ℕ) (query : Query) → sum_by (λ query. query.quota) queries ≤ slots → slice_get queries place ≡ Some query → query.quota ≤ slots
 quota-within [] slots place query sum at = absurd (none-some query at)
@@ -68,9 +90,9 @@ goes-unrefused : (plan : Query) (page : ℕ) (bytes : Side → Option (List ℕ)
 goes-unrefused plan page bytes told R W F refused None on is = is
 goes-unrefused plan page bytes told R W F refused (Some ending) on is = cc
 
-has-memory : (query : Query) (conf : PoolConf) → OpensWith conf → conf.first_name ≡ 0 → least_of query conf.block_len ≤ conf.blocks * conf.block_len → HasMemoryFor query conf
+has-memory : (query : Query) (conf : PoolConf) → OpensWith conf → conf.first_name ≡ 0 → least_of query conf.block_len ≤ conf.blocks * conf.block_len → least_of query conf.block_len ≤ query.limit → HasMemoryFor query conf
 unfolding bytes_of
-has-memory query conf opens first least = record { opens = opens; first = first; least = least }
+has-memory query conf opens first least allowed = record { opens = opens; first = first; least = least; allowed = allowed }
 
 pub all_fit : (start now : Seen) (slots : ℕ) (conf : PoolConf) (queries : List Query) (works : List Work) → OpensWith conf → conf.first_name ≡ 0 → sum_by (λ query. query.quota) queries ≤ slots
     → AreWorks start now conf.block_len queries works → map (λ (w : Work). w.refused) works ≡ refusals conf.block_len (conf.blocks * conf.block_len) queries → AreEach (Fits conf slots) queries works
@@ -80,6 +102,7 @@ all_fit start now slots conf queries works opens first quotas are same = λ plac
       let refused : slice_get (refusals conf.block_len room queries) place ≡ Some w.refused =
       subst (λ (list : List (Option Ending)). slice_get list place ≡ Some w.refused) same (map_get (λ (x : Work). x.refused) works place w at) in
       let none : w.refused ≡ None = goes-unrefused query _ _ _ _ _ _ w.refused w.ended on ((are place query w at_query at).ending) in
-      has-memory query conf opens first (unrefused-fits conf.block_len room queries place query at_query (subst (λ (r : Option Ending). slice_get (refusals conf.block_len room queries) place ≡ Some r) none refused));
+      let granted : slice_get (refusals conf.block_len room queries) place ≡ Some None = subst (λ (r : Option Ending). slice_get (refusals conf.block_len room queries) place ≡ Some r) none refused in
+      has-memory query conf opens first (unrefused-fits conf.block_len room queries place query at_query granted) (unrefused-allowed conf.block_len room queries place query at_query granted);
   quota = quota-within queries slots place query quotas at_query;
 }

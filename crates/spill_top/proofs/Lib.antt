@@ -4,6 +4,7 @@ mod OneInput
 mod OnlyMemory
 mod Showing
 mod Pools
+mod Stored
 mod Watching
 mod CountStops
 mod Plain
@@ -29,11 +30,17 @@ pub mod Made
 pub mod Sided
 pub mod Fitting
 pub mod Phases
+pub mod Owing
 pub mod Lines
 pub mod Plans
 mod TableRead
 mod TableRows
 mod TableAccepted
 mod CheckPlans
+mod CheckClear
 mod CheckEnds
 mod CheckWords
+mod LaidPages
+mod HeldPages
+mod OneOpening
+mod Laid

@@ -14,7 +14,7 @@ use Rattle.pin_core.proofs.Tallied.{tally_same, uncounted_yet}
 use Rattle.pool_model.specs.LookingBack.{name_in, names_in}
 use Rattle.pool_model.specs.declared.entry.Entry.{Entry}
 use Rattle.store_api.specs.Holdings.{Holdings}
-use Rattle.store_api.specs.Signs.{Entered, Signs, WasAnswered}
+use Rattle.store_api.specs.Signs.{Entered, Signs}
 use Rattle.local_pool.specs.Beginning.{Begins}
 use Rattle.local_pool.specs.Counting.{AtOpening, SpendsNames, SumsHold, at_opening}
 use Rattle.local_pool.specs.Told.{held_of, signs_of}
@@ -72,8 +72,8 @@ less failures blocks before now counted = record {
   slots = counted.slots;
 }
 
-pub come_back : (named : Option AtOpening) (trail : List Entry) (before now : Tally) (first : ℕ) → named ≡ Some (at_opening before first) → SumsHold named trail now → ComeBack before now
-come_back named trail before now first is sums =
+pub come_back : (named : Option AtOpening) (trail : List Entry) (before now : Tally) (first blocks : ℕ) → named ≡ Some (at_opening before first blocks) → SumsHold named trail now → ComeBack before now
+come_back named trail before now first blocks is sums =
     less (all_failures trail) (written_blocks trail) before now (subst (λ (o : Option AtOpening). SumsHold o trail now) is sums)
 
 -- a failure that the pool shows is one of its slots
@@ -99,10 +99,10 @@ many-names : (rows made : ℕ) → 18446744073709551615 ≤ made → made ≤ 16
 many-names rows made all few = omega (arith, all, few)
 
 -- where no name is left of a pool that began without a page, its query has many rows
-pub spent_names : (plan : Query) (told : Option Told) (tell : Bool) (first : ℕ) (named : Option AtOpening) (tally : Tally) (before now : List Entry) (spent : Bool) → named ≡ Some (at_opening tally first) → first ≡ 0
+pub spent_names : (plan : Query) (told : Option Told) (tell : Bool) (first blocks : ℕ) (named : Option AtOpening) (tally : Tally) (before now : List Entry) (spent : Bool) → named ≡ Some (at_opening tally first blocks) → first ≡ 0
     → names_in before ≡ [] → SpendsNames named now spent → (tell ≡ true → IfSome told (λ both. Entered (λ more. length (names_in more) ≤ 16 * rows_through plan both) (Some before) (Some now)))
     → spent ≡ true → MaySpendNames plan (if_told tell told)
-spent_names plan told tell first named tally before now spent is zero none names made all =
+spent_names plan told tell first blocks named tally before now spent is zero none names made all =
     if-tells tell told _ (λ tells. some-so _ _ told (λ both few.
     let more : List Entry = few.0 in
     let split : now ≡ before ++ more = same_Some _ _ few.1 in
@@ -145,16 +145,16 @@ stop own plan page quota told tell start old before now pool.NamesSpent counted 
 stop own plan page quota told tell start old before now pool.Memory counted free paged tells names stopped = tt
 
 -- what the pool stopped the query with, as its slots tell it
-pub pool_stop : {D : Type 0} (own : Owned D) (plan : Query) (page quota : ℕ) (told : Option Told) (start : Holdings) (old : Signs) (named : Option AtOpening) (before now : Tally) (first : ℕ) (e : QueryErr) → start.free_slots ≡ Some quota
-    → page_len plan start.block_len ≡ page → (all_tell before ≡ true → start.told ≡ true) → named ≡ Some (at_opening before first) → SumsHold named own.trail now
+pub pool_stop : {D : Type 0} (own : Owned D) (plan : Query) (page quota : ℕ) (told : Option Told) (start : Holdings) (old : Signs) (named : Option AtOpening) (before now : Tally) (first blocks : ℕ) (e : QueryErr) → start.free_slots ≡ Some quota
+    → page_len plan start.block_len ≡ page → (all_tell before ≡ true → start.told ≡ true) → named ≡ Some (at_opening before first blocks) → SumsHold named own.trail now
     → ((signs_of own).spent ≡ true → MaySpendNames plan (if_told (all_tell before) told)) → MayStop plan told start old (signs_of own) e
     → OfPool (IsPoolStop plan page (if_told (all_tell before) told) quota (HaveFailed before now)) e
-pool_stop own plan page quota told start old named before now first (query.SourceFault side) free paged tells is sums names may = tt
-pool_stop own plan page quota told start old named before now first (query.BadHeader side) free paged tells is sums names may = tt
-pool_stop own plan page quota told start old named before now first (query.BadCsv side number) free paged tells is sums names may = tt
-pool_stop own plan page quota told start old named before now first (query.BadField side number column) free paged tells is sums names may = tt
-pool_stop own plan page quota told start old named before now first (query.TooLarge side) free paged tells is sums names may = tt
-pool_stop own plan page quota told start old named before now first (query.RowTooLong side number bytes) free paged tells is sums names may = tt
-pool_stop own plan page quota told start old named before now first query.SinkFault free paged tells is sums names may = tt
-pool_stop own plan page quota told start old named before now first (query.Pool why) free paged tells is sums names may =
+pool_stop own plan page quota told start old named before now first blocks (query.SourceFault side) free paged tells is sums names may = tt
+pool_stop own plan page quota told start old named before now first blocks (query.BadHeader side) free paged tells is sums names may = tt
+pool_stop own plan page quota told start old named before now first blocks (query.BadCsv side number) free paged tells is sums names may = tt
+pool_stop own plan page quota told start old named before now first blocks (query.BadField side number column) free paged tells is sums names may = tt
+pool_stop own plan page quota told start old named before now first blocks (query.TooLarge side) free paged tells is sums names may = tt
+pool_stop own plan page quota told start old named before now first blocks (query.RowTooLong side number bytes) free paged tells is sums names may = tt
+pool_stop own plan page quota told start old named before now first blocks query.SinkFault free paged tells is sums names may = tt
+pool_stop own plan page quota told start old named before now first blocks (query.Pool why) free paged tells is sums names may =
     stop own plan page quota told (all_tell before) start old before now why (subst (λ (o : Option AtOpening). SumsHold o own.trail now) is sums) free paged tells names may

@@ -26,6 +26,7 @@ short-count bytes_at faults faults_now slots slots_now report report_now writes 
   refused = λ zero nine ten. absurd (ten refl);
   lacks_memory = λ is. inl tells;
   quiet = λ (is : 10 ≡ 0). absurd (omega (arith, is));
+  stored = λ (is : 10 ≡ 0). absurd (omega (arith, is));
   output_fault = λ (is : 10 ≡ 9). absurd (omega (arith, is));
   part = λ tell (is : 10 ≡ 9). absurd (omega (arith, is));
   refuses = λ tell why refuses. inr (inr (inr (inr refl)));

@@ -1,20 +1,22 @@
 -- When each status comes, and what the report says then.
-use Rattle.std.specs.Prelude.{◌≡◌, ◌≢◌, ◌^◌, ◌≤◌, ◌<◌, ◌⊎◌, ℕ, List, [], Option, Some, IfSome, length, option_map, true, ⊤}
+use Rattle.std.specs.Prelude.{◌≡◌, ◌≢◌, ◌^◌, ◌≤◌, ◌<◌, ◌⊎◌, ℕ, List, [], Option, Some, IfSome, length, option_map, true}
 use Rattle.std.specs.Io.KnownBytes.{Keeps}
 use Rattle.outside.specs.Counts.{Rose}
 use Rattle.pin_core.specs.declared.tally.Tally.{Tally}
+use Rattle.local_pool.specs.Beginning.{memory_of}
 use Rattle.query_run.specs.Both.{Told, both_told}
 use Rattle.query_run.specs.Input.{IsAccepted, IsRefusal, most_bytes, refusal_of}
 use Rattle.query_run.specs.Through.{need, rows_through}
 use Rattle.query_run.specs.declared.outcome.QueryErr.{QueryErr}
 use Rattle.spill_top.specs.declared.report.Refusal.{Refusal}
 use Rattle.spill_top.specs.declared.report.Refusal.TheVariants.{InputFault, Header, Csv, Large, Row, Scratch, Names, Write, Read}
-use Rattle.spill_top.specs.Counting.{counting}
+use Rattle.spill_top.specs.Counting.{counting, counting_conf}
 use Rattle.spill_top.specs.OneInput.{WroteAnswerOver, WroteFrontOver}
 use Rattle.spill_top.specs.Pooled.{HaveFailed, LacksSlots, MaySpendNames, all_tell}
 use Rattle.spill_top.specs.Refusals.{IsOfPool, refusal_for}
 use Rattle.spill_top.specs.Report.{Lengthens, Tells, TellsOrMisses, line_of, shortage, status_of}
 use Rattle.spill_top.specs.Sides.{if_told}
+use Rattle.spill_top.specs.Storing.{HaveStored, owed}
 use Rattle.spill_top.specs.Words.{Command}
 
 -- the bytes of a page of a count, which no row may pass
@@ -112,6 +114,10 @@ pub record Suffices (told : Option (List ℕ)) (slots : Tally) (command : Comman
 abbrev pub IsStatusOf : QueryErr → ℕ → Type 0
 IsStatusOf why status = option_map status_of (refusal_for why) ≡ Some status
 
+-- the slots stored what a count of these bytes must keep beyond its memory
+abbrev pub StoresCount : Option (List ℕ) → Tally → Tally → Command → Type 0
+StoresCount told slots slots_now command = HaveStored page_bytes (owed (counting command) (memory_of counting_conf) (both_told told (Some []))) slots slots_now
+
 -- a count: its answer, where all slots tell what they hold, or the cause of its status. Where they do and the bytes of the input
 -- are refused, that is answered, unless it can't be read or the pool stopped the count before; where these are accepted and no
 -- count rises, slots or memory can be wanting, and slots only where they don't suffice
@@ -123,6 +129,7 @@ pub record Counted (bytes_at : List ℕ → Option (List ℕ)) (faults faults_no
   pub refused : status ≢ 0 → status ≢ 9 → status ≢ 10 → Refuses status command (bytes_at command.file) (faults command.file) (faults_now command.file) slots slots_now report report_now writes writes_now
   pub lacks_memory : status ≡ 10 → LacksMemory bytes_at slots report report_now writes writes_now command
   pub quiet : status ≡ 0 → writes_now ≡ writes
+  pub stored : status ≡ 0 → StoresCount (bytes_at command.file) slots slots_now command
   pub output_fault : status ≡ 9 → Rose writes writes_now
   pub part : all_tell slots ≡ true → status ≡ 9 → AnswersInPart bytes_at report report_now command
   pub refuses : all_tell slots ≡ true → (why : QueryErr) → RefusesBytes (bytes_at command.file) command why → IsStatusOf why status ⊎ (status ≡ 3) ⊎ IsPoolStatus status

@@ -13,11 +13,12 @@ use Rattle.query_run.specs.Both.{Told}
 use Rattle.query_run.specs.Stopped.{IsWant}
 use Rattle.query_run.specs.Through.{need, rows_through}
 
--- a pool may open with these numbers, which name its first page 0, and has the least reservation of the query
+-- a pool may open with these numbers, which name its first page 0, and has the least reservation of the query, which fits its limit
 pub record HasMemoryFor (query : Query) (conf : PoolConf) : Type 0 where
   pub opens : OpensWith conf
   pub first : conf.first_name ≡ 0
   pub least : least_of query conf.block_len ≤ memory_of conf
+  pub allowed : least_of query conf.block_len ≤ query.limit
 
 -- each of these slots tells what it holds
 abbrev pub all_tell : Tally → Bool

@@ -1,5 +1,5 @@
 -- What a run of a plan comes to: its status, its report, and what became of each query.
-use Rattle.std.specs.Prelude.{◌≡◌, ◌≢◌, ◌+◌, ◌++◌, ◌==◌, ◌⊎◌, ℕ, Bool, true, false, List, [], ◌∷◌, Option, Some, None, Ok, Err, IfSome, length, if◌then◌else◌}
+use Rattle.std.specs.Prelude.{◌≡◌, ◌≢◌, ◌+◌, ◌*◌, ◌++◌, ◌==◌, ◌⊎◌, ℕ, Bool, true, false, List, [], ◌∷◌, Option, Some, None, Ok, Err, IfSome, length, if◌then◌else◌}
 use Rattle.std.specs.List.{list_all}
 use Rattle.outside.specs.Counts.{Rose}
 use Rattle.query_plan.specs.PlanOf.{plan_of}
@@ -14,6 +14,7 @@ use Rattle.spill_top.specs.Endings.{outcome_of, status_of}
 use Rattle.spill_top.specs.Report.{Tells, TellsOrMisses, shortage}
 use Rattle.spill_top.specs.Reserving.{refusals_of}
 use Rattle.spill_top.specs.Running.{HaveEnded, Seen, Went}
+use Rattle.spill_top.specs.Storing.{HaveStored, all_owed}
 
 -- the report's bytes, where they are told, and its faults
 pub record Telling : Type 0 where
@@ -72,7 +73,7 @@ pub record WantsMemory (before after : Telling) (status : ℕ) : Type 0 where
   pub status_is : status ≡ 10
   pub tells : Tells shortage before.text after.text before.faults after.faults
 
--- the queries of the plan ran, once its file was given back
+-- the queries of the plan ran, once its file was given back, and what those with an answer must keep beyond their memory was stored
 pub record RanQueries (told : Option (List ℕ)) (slots : ℕ) (start now : Seen) (before after : Telling) (status : ℕ) : Type 0 where
   pub plan : Plan
   pub is_plan : IfSome told (λ bytes. plan_of bytes slots ≡ Ok plan)
@@ -82,6 +83,7 @@ pub record RanQueries (told : Option (List ℕ)) (slots : ℕ) (start now : Seen
   pub ends : List Ending
   pub as_many : length ends ≡ length plan.queries
   pub ended : HaveEnded ready now plan.block_len (refusals_of plan) plan.queries ends
+  pub stored : HaveStored plan.block_len (all_owed (plan.blocks * plan.block_len) ready.files plan.queries ends) start.slots now.slots
   pub reported : Reported plan.queries ends before after status
 
 -- one of the four; unless queries ran, nothing was done to outputs

@@ -1,12 +1,17 @@
 -- The queries of a plan in turn: what stands of all of them, and how far they are. About private fields.
-use Rattle.std.specs.Prelude.{◌≡◌, ◌≤◌, ℕ, Bool, true, List, Some, None, All, IsSome, map, slice_get}
+use Rattle.std.specs.Prelude.{◌≡◌, ◌+◌, ◌-◌, ◌≤◌, ◌⊎◌, ℕ, Bool, true, false, List, ◌∷◌, Option, Some, None, All, IsSome, map, slice_get}
+use Rattle.std.specs.Option.{option_map, unwrap_or}
 use Rattle.pin_core.specs.declared.conf.PoolConf.{PoolConf}
 use Rattle.pin_core.specs.declared.tally.Tally.{Tally}
 use Rattle.query_plan.specs.declared.plan.Query.{Query}
+use Rattle.query_run.specs.Both.{Told, both_told, told_in}
+use Rattle.spill_top.specs.declared.ending.Ending.{Ending}
 use Rattle.spill_top.specs.declared.job.Job.{Job}
+use Rattle.spill_top.specs.Endings.{is_answer}
 use Rattle.spill_top.specs.Pooled.{HasMemoryFor}
 use Rattle.spill_top.specs.Running.{Seen}
 use Rattle.spill_top.specs.Jobs.{IsWork, Work}
+use Rattle.spill_top.specs.Storing.{HaveStored, owed, owed_by}
 
 -- what stands of all queries
 abbrev pub AreWorks : Seen → Seen → ℕ → List Query → List Work → Type 0
@@ -65,3 +70,38 @@ AreMade created queries works =
 -- a fact of each query and what stands of it
 abbrev pub AreEach : (Query → Work → Type 0) → List Query → List Work → Type 0
 AreEach Fact queries works = (place : ℕ) (query : Query) (w : Work) → slice_get queries place ≡ Some query → slice_get works place ≡ Some w → Fact query w
+
+-- whether a query has ended with an answer
+abbrev pub has_answer : Option Ending → Bool
+has_answer ended = unwrap_or (option_map is_answer ended) false
+
+-- a call gave a query no answer: it ended as before, or without one
+abbrev pub GivesNoAnswer : Option Ending → Option Ending → Type 0
+GivesNoAnswer before now = (now ≡ before) ⊎ (has_answer now ≡ false)
+
+-- the bytes that its inputs still give, where both are told
+abbrev pub given_to : Work → Option Told
+given_to w = both_told (told_in (λ source. source.told) w.left) (told_in (λ source. source.told) w.right)
+
+-- the call that gave a query its answer had slots store what the query must keep beyond all memory
+abbrev pub StoresForAnswer : ℕ → ℕ → Query → Work → Option Ending → Tally → Tally → Type 0
+StoresForAnswer block_len memory query w now slots slots_now = w.ended ≡ None → has_answer now ≡ true → HaveStored block_len (owed query memory (given_to w)) slots slots_now
+
+-- what a query owes that has ended or goes on, over the bytes of its files
+abbrev pub owed_yet : ℕ → (List ℕ → Option (List ℕ)) → Query → Option Ending → ℕ
+owed_yet memory files query None = 0
+owed_yet memory files query (Some ending) = owed_by memory files query ending
+
+-- and all queries together
+abbrev pub owed_together : ℕ → (List ℕ → Option (List ℕ)) → List Query → List Work → ℕ
+owed_together memory files (query ∷ queries) (w ∷ works) = owed_yet memory files query w.ended + owed_together memory files queries works
+owed_together memory files _ _ = 0
+
+-- calls for them made them owe nothing more
+abbrev pub OweNoMore : List Query → List Work → List Work → Type 0
+OweNoMore queries before after = (memory : ℕ) (files : List ℕ → Option (List ℕ)) → owed_together memory files queries after ≤ owed_together memory files queries before
+
+-- what calls for them made them owe, slots stored meanwhile
+abbrev pub StoreOwed : ℕ → ℕ → (List ℕ → Option (List ℕ)) → List Query → List Work → List Work → Tally → Tally → Type 0
+StoreOwed block_len memory files queries before after slots slots_now =
+    HaveStored block_len (owed_together memory files queries after - owed_together memory files queries before) slots slots_now

@@ -6,7 +6,7 @@ ghost use Rattle.outside.specs.Names.{AllStay};
 ghost use Rattle.pin_core.specs.Tallies.{tally_of};
 ghost use Rattle.row_codec.specs.declared.values.Kind.TheVariants.{Text};
 ghost use Rattle.query_run.specs.Causes.{NamesInt, OfPool};
-ghost use Rattle.spill_top.specs.Headline.{Answers};
+ghost use Rattle.spill_top.specs.Headline.{Answers, StoresCount};
 ghost use Rattle.spill_top.specs.Pooled.{ComeBack, all_tell};
 ghost use Rattle.spill_top.specs.Refusals.{refusal_for, refusal_of_pool};
 ghost use Rattle.spill_top.specs.Stops.{IsStop};
@@ -49,6 +49,7 @@ pub(crate) fn count<I: Inputs, R: Sink, D: Slot + Drop>(
     ensures answer { all_tell (tally_of D.Slot slots.old.items) ≡ true → OnOk result (Answers (I.bytes_at inputs.old) (R.contents report.old) (R.contents report.new) (record { file = file.now; column = column.now })) }
     ensures quiet { OnOk result (R.faults report.new ≡ R.faults report.old) }
     ensures stop { IfErr result (IsStop (I.bytes_at inputs.old) (I.faults_at inputs.old file.now) (I.faults_at inputs.new file.now) (tally_of D.Slot slots.old.items) (tally_of D.Slot slots.new.items) (R.contents report.old) (R.contents report.new) (R.faults report.old) (R.faults report.new) (record { file = file.now; column = column.now })) }
+    ensures stored { OnOk result (StoresCount (I.bytes_at inputs.old file.now) (tally_of D.Slot slots.old.items) (tally_of D.Slot slots.new.items) (record { file = file.now; column = column.now })) }
     ensures inputs { AllStay (I.bytes_at inputs.old) (I.bytes_at inputs.new) }
     ensures never_falls { NoneFell (I.faults_at inputs.old) (I.faults_at inputs.new) }
     ensures report { R.faults report.old ≤ R.faults report.new }

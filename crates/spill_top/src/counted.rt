@@ -5,7 +5,7 @@ ghost use Rattle.outside.specs.Counts.{NoneFell, Rose};
 ghost use Rattle.outside.specs.Names.{AllStay};
 ghost use Rattle.pin_core.specs.Tallies.{tally_of};
 ghost use Rattle.query_run.specs.declared.outcome.QueryErr.{QueryErr};
-ghost use Rattle.spill_top.specs.Headline.{AcceptsInput, Answers, AnswersInPart, HasTooMany, IsPoolStatus, IsStatus, IsStatusOf, LacksMemory, Refuses, RefusesBytes};
+ghost use Rattle.spill_top.specs.Headline.{AcceptsInput, Answers, AnswersInPart, HasTooMany, IsPoolStatus, IsStatus, IsStatusOf, LacksMemory, Refuses, RefusesBytes, StoresCount};
 ghost use Rattle.spill_top.specs.Pooled.{ComeBack, HaveFailed, all_tell};
 
 use crate::count::{Stop, count};
@@ -32,6 +32,7 @@ pub(crate) fn answer_count<I: Inputs, R: Sink, D: Slot + Drop>(
     ensures refused { result ≢ 0 → result ≢ 9 → result ≢ 10 → Refuses result (record { file = file.now; column = column.now }) (I.bytes_at inputs.old file.now) (I.faults_at inputs.old file.now) (I.faults_at inputs.new file.now) (tally_of D.Slot slots.old.items) (tally_of D.Slot slots.new.items) (R.contents report.old) (R.contents report.new) (R.faults report.old) (R.faults report.new) }
     ensures lacks_memory { result ≡ 10 → LacksMemory (I.bytes_at inputs.old) (tally_of D.Slot slots.old.items) (R.contents report.old) (R.contents report.new) (R.faults report.old) (R.faults report.new) (record { file = file.now; column = column.now }) }
     ensures quiet { result ≡ 0 → R.faults report.new ≡ R.faults report.old }
+    ensures stored { result ≡ 0 → StoresCount (I.bytes_at inputs.old file.now) (tally_of D.Slot slots.old.items) (tally_of D.Slot slots.new.items) (record { file = file.now; column = column.now }) }
     ensures output_fault { result ≡ 9 → Rose (R.faults report.old) (R.faults report.new) }
     ensures part { all_tell (tally_of D.Slot slots.old.items) ≡ true → result ≡ 9 → AnswersInPart (I.bytes_at inputs.old) (R.contents report.old) (R.contents report.new) (record { file = file.now; column = column.now }) }
 

@@ -18,6 +18,7 @@ mod report;
 mod run;
 mod selfcheck;
 mod steps;
+mod storing;
 mod top;
 mod watched;
 mod words;

@@ -2,6 +2,7 @@
 
 ghost use Rattle.std.specs.Prelude.{◌≡◌, ◌≤◌, IfErr, IfOk, IfSome, OnOk, is_some, vec_len};
 ghost use Rattle.outside.specs.Counts.{Rose};
+ghost use Rattle.local_pool.specs.Beginning.{memory_of};
 ghost use Rattle.pin_core.specs.Tallies.{tally_of};
 ghost use Rattle.query_plan.specs.Rules.{KeepsQuery};
 ghost use Rattle.query_plan.specs.Sizes.{joins, page_len};
@@ -12,6 +13,7 @@ ghost use Rattle.spill_top.specs.Jobs.{LeavesPart};
 ghost use Rattle.spill_top.specs.Pooled.{ComeBack, HasMemoryFor, HaveFailed, all_tell};
 ghost use Rattle.spill_top.specs.Running.{HasLines, IsStopped};
 ghost use Rattle.spill_top.specs.Sides.{RoseOn, if_told, on_sides};
+ghost use Rattle.spill_top.specs.Storing.{HaveStored, owed};
 
 use crate::pooled::run_pooled;
 use outside::{Sink, Slot, Source};
@@ -41,6 +43,7 @@ pub(crate) fn run_over<S: Source, K: Sink, D: Slot + Drop>(
     ensures part { IfErr result (λ why. LeavesPart query.now (page_len query.now conf.now.block_len) (if_told (all_tell (tally_of D.Slot slots.old.items)) (both_told (S.remaining left.old) (told_in S.remaining right.old))) (K.contents sink.old) (K.contents sink.new) (side_of why)) }
     ensures right { HoldsInput S.faults right.old right.new }
     ensures slots { ComeBack (tally_of D.Slot slots.old.items) (tally_of D.Slot slots.new.items) }
+    ensures stored { OnOk result (HaveStored conf.now.block_len (owed query.now (memory_of conf.now) (both_told (S.remaining left.old) (told_in S.remaining right.old))) (tally_of D.Slot slots.old.items) (tally_of D.Slot slots.new.items)) }
     ensures len { vec_len slots.new ≡ vec_len slots.old }
 {
     let ran = run_pooled(alloc, query, conf, query.quota, slots, left, right, sink)?;

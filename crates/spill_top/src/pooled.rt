@@ -2,6 +2,7 @@
 
 ghost use Rattle.std.specs.Prelude.{◌≡◌, ◌≤◌, ◌⊎◌, IfErr, IfOk, IfSome, IsErrOf, IsSome, OnOk, Some, is_some, true, vec_len};
 ghost use Rattle.std.specs.Io.KnownBytes.{IsAtEnd};
+ghost use Rattle.local_pool.specs.Beginning.{memory_of};
 ghost use Rattle.local_pool.specs.Counting.{at_opening};
 ghost use Rattle.pin_core.specs.Tallies.{tally_of};
 ghost use Rattle.query_plan.specs.Sizes.{joins, page_len};
@@ -13,12 +14,14 @@ ghost use Rattle.query_run.specs.Refused.{SaysOfInputs, source};
 ghost use Rattle.query_run.specs.Stopped.{CountsSink};
 ghost use Rattle.spill_top.specs.Pooled.{ComeBack, HasMemoryFor, HaveFailed, IsPoolStop, all_tell};
 ghost use Rattle.spill_top.specs.Sides.{if_told};
+ghost use Rattle.spill_top.specs.Storing.{HaveStored, owed};
 
+use crate::storing::law_stored;
 use local_pool::{LocalPool, OpenedWith};
 use outside::{Sink, Slot, Source};
 use pin_core::PoolConf;
 use query_plan::{Query, least};
-use query_run::{QueryErr, Ran, run_query};
+use query_run::{QueryErr, Ran, law_spill, run_query};
 use reservation_tree::PoolErr;
 use std::alloc::Global;
 use std::marker::Brand;
@@ -54,6 +57,7 @@ pub(crate) fn run_pooled<S: Source, K: Sink, D: Slot + Drop>(
     ensures sink { CountsSink (IsErrOf result QueryErr.SinkFault) (K.faults sink.old) (K.faults sink.new) }
     ensures sources { (S.faults left.old ≤ S.faults left.new) × HoldsInput S.faults right.old right.new }
     ensures slots { ComeBack (tally_of D.Slot slots.old.items) (tally_of D.Slot slots.new.items) }
+    ensures stored { OnOk result (HaveStored conf.now.block_len (owed query.now (memory_of conf.now) (both_told (S.remaining left.old) (told_in S.remaining right.old))) (tally_of D.Slot slots.old.items) (tally_of D.Slot slots.new.items)) }
     ensures len { vec_len slots.new ≡ vec_len slots.old }
 {
     run_counted::<S, K, D, Brand>(alloc, query, conf, quota, slots, left, right, sink)
@@ -75,7 +79,7 @@ fn run_counted<S: Source, K: Sink, D: Slot + Drop, T: OpenedWith>(
     requires few { vec_len slots.old ≤ 1048576 }
     requires quota { quota ≤ vec_len slots.old }
     requires right { is_some right.old ≡ joins query.now }
-    requires opened { T.opened ≡ Some (at_opening (tally_of D.Slot slots.old.items) conf.now.first_name) }
+    requires opened { T.opened ≡ Some (at_opening (tally_of D.Slot slots.old.items) conf.now.first_name conf.now.blocks) }
     ensures answer { all_tell (tally_of D.Slot slots.old.items) ≡ true → OnOk result (WroteAnswer query.now (page_len query.now conf.now.block_len) (both_told (S.remaining left.old) (told_in S.remaining right.old)) (K.contents sink.old) (K.contents sink.new)) }
     ensures read { OnOk result (IsAtEnd (S.remaining left.new) × IsAtEnd (told_in S.remaining right.new)) }
     ensures numbers { IfOk result (λ ran. IfSome (both_told (S.remaining left.old) (told_in S.remaining right.old)) (Numbers query.now (page_len query.now conf.now.block_len) (all_tell (tally_of D.Slot slots.old.items)) ran)) }
@@ -87,12 +91,12 @@ fn run_counted<S: Source, K: Sink, D: Slot + Drop, T: OpenedWith>(
     ensures sink { CountsSink (IsErrOf result QueryErr.SinkFault) (K.faults sink.old) (K.faults sink.new) }
     ensures sources { (S.faults left.old ≤ S.faults left.new) × HoldsInput S.faults right.old right.new }
     ensures slots { ComeBack (tally_of D.Slot slots.old.items) (tally_of D.Slot slots.new.items) }
+    ensures stored { OnOk result (HaveStored conf.now.block_len (owed query.now (memory_of conf.now) (both_told (S.remaining left.old) (told_in S.remaining right.old))) (tally_of D.Slot slots.old.items) (tally_of D.Slot slots.new.items)) }
     ensures len { vec_len slots.new ≡ vec_len slots.old }
 {
     let wanted = least(query, conf.block_len);
     let taken = mem::replace(slots, Vec::new(alloc));
-    let limit = query.limit.max(wanted);
-    let mut pool = match LocalPool::<D, T>::open(alloc, conf, taken, limit, quota, wanted) {
+    let mut pool = match LocalPool::<D, T>::open(alloc, conf, taken, query.limit, quota, wanted) {
         Ok(pool) => pool,
         Err((back, _)) => {
             *slots = back;
@@ -101,5 +105,7 @@ fn run_counted<S: Source, K: Sink, D: Slot + Drop, T: OpenedWith>(
     };
     let ran = run_query(alloc, &mut pool, query, left, right, sink);
     *slots = pool.close();
+    law_spill();
+    law_stored();
     ran
 }

@@ -1,15 +1,17 @@
 // The queries of a plan, one after the other.
 
-ghost use Rattle.std.specs.Prelude.{◌≡◌, ◌≤◌, ℕ, Bool, List, Option, All, IfOk, OnErr, length, map, vec_len};
+ghost use Rattle.std.specs.Prelude.{◌≡◌, ◌*◌, ◌≤◌, ℕ, Bool, List, Option, All, IfOk, OnErr, length, map, vec_len};
 ghost use Rattle.outside.specs.Names.{Written};
+ghost use Rattle.local_pool.specs.Beginning.{memory_of};
 ghost use Rattle.pin_core.specs.Tallies.{tally_of};
 ghost use Rattle.pin_core.specs.declared.tally.Tally.{Tally};
 ghost use Rattle.query_plan.specs.Rules.{KeepsQuery, KeepsRules};
 ghost use Rattle.spill_top.specs.Jobs.{HasSides, work_of};
 ghost use Rattle.spill_top.specs.Pooled.{ComeBack};
-ghost use Rattle.spill_top.specs.Steps.{AreAll, AreEach, AreMade, AreWorks, Fits, IsBegun, IsCreated, IsDone, IsEnded, IsOpen, IsRead, KeepRefused, KeepsWorks, with_slots};
+ghost use Rattle.spill_top.specs.Steps.{AreAll, AreEach, AreMade, AreWorks, Fits, IsBegun, IsCreated, IsDone, IsEnded, IsOpen, IsRead, KeepRefused, KeepsWorks, OweNoMore, StoreOwed, with_slots};
 ghost use Rattle.spill_top.specs.Reserving.{refusals_of};
 ghost use Rattle.spill_top.specs.Running.{AreApart, HaveEnded, Seen, Went, seen};
+ghost use Rattle.spill_top.specs.Storing.{HaveStored, all_owed};
 
 use crate::ending::Ending;
 use crate::job::{Job, discard, endings, reserve};
@@ -34,6 +36,7 @@ pub(crate) fn run_queries<I: Inputs, O: Outputs, D: Slot + Drop>(
     ensures len { IfOk result (λ ends. vec_len ends ≡ length plan.now.queries) }
     ensures ended { IfOk result (λ ends. HaveEnded (seen (I.bytes_at inputs.old) (I.faults_at inputs.old) (O.written outputs.old) (O.is_created outputs.old) (O.faults_at outputs.old) (tally_of D.Slot slots.old.items))
         (seen (I.bytes_at inputs.new) (I.faults_at inputs.new) (O.written outputs.new) (O.is_created outputs.new) (O.faults_at outputs.new) (tally_of D.Slot slots.new.items)) plan.now.block_len (refusals_of plan.now) plan.now.queries ends.items) }
+    ensures stored { IfOk result (λ ends. HaveStored plan.now.block_len (all_owed (plan.now.blocks * plan.now.block_len) (I.bytes_at inputs.old) plan.now.queries ends.items) (tally_of D.Slot slots.old.items) (tally_of D.Slot slots.new.items)) }
     ensures err { OnErr result (outputs.new ≡ outputs.old) }
     ensures went { Went (seen (I.bytes_at inputs.old) (I.faults_at inputs.old) (O.written outputs.old) (O.is_created outputs.old) (O.faults_at outputs.old) (tally_of D.Slot slots.old.items))
         (seen (I.bytes_at inputs.new) (I.faults_at inputs.new) (O.written outputs.new) (O.is_created outputs.new) (O.faults_at outputs.new) (tally_of D.Slot slots.new.items)) }
@@ -70,6 +73,7 @@ fn create_all<S: Source, O: Outputs>(
     ensures works { (files : List ℕ → Option (List ℕ)) (reads : List ℕ → ℕ) (slots : Tally) → KeepsWorks (seen files reads (O.written outputs.old) (O.is_created outputs.old) (O.faults_at outputs.old) slots) (seen files reads (O.written outputs.new) (O.is_created outputs.new) (O.faults_at outputs.new) slots) queries.now (map (work_of S.remaining S.faults O.Snk.contents O.Snk.faults) jobs.old.items) (map (work_of S.remaining S.faults O.Snk.contents O.Snk.faults) jobs.new.items) }
     ensures step { AreAll IsCreated (map (work_of S.remaining S.faults O.Snk.contents O.Snk.faults) jobs.new.items) }
     ensures refused { KeepRefused (map (work_of S.remaining S.faults O.Snk.contents O.Snk.faults) jobs.old.items) (map (work_of S.remaining S.faults O.Snk.contents O.Snk.faults) jobs.new.items) }
+    ensures owed { OweNoMore queries.now (map (work_of S.remaining S.faults O.Snk.contents O.Snk.faults) jobs.old.items) (map (work_of S.remaining S.faults O.Snk.contents O.Snk.faults) jobs.new.items) }
     ensures len { vec_len jobs.new ≡ vec_len jobs.old }
     ensures went { (files : List ℕ → Option (List ℕ)) (reads : List ℕ → ℕ) (slots : Tally) → Went (seen files reads (O.written outputs.old) (O.is_created outputs.old) (O.faults_at outputs.old) slots) (seen files reads (O.written outputs.new) (O.is_created outputs.new) (O.faults_at outputs.new) slots) }
 {
@@ -85,6 +89,7 @@ fn open_all<I: Inputs, K: Sink>(queries: &[Query], jobs: &mut Vec<Job<I::Src, K>
     ensures works { (written : List ℕ → Option Written) (created : List ℕ → Bool) (writes : List ℕ → ℕ) (slots : Tally) → KeepsWorks (seen (I.bytes_at inputs.old) (I.faults_at inputs.old) written created writes slots) (seen (I.bytes_at inputs.new) (I.faults_at inputs.new) written created writes slots) queries.now (map (work_of I.Src.remaining I.Src.faults K.contents K.faults) jobs.old.items) (map (work_of I.Src.remaining I.Src.faults K.contents K.faults) jobs.new.items) }
     ensures step { AreAll IsOpen (map (work_of I.Src.remaining I.Src.faults K.contents K.faults) jobs.new.items) }
     ensures refused { KeepRefused (map (work_of I.Src.remaining I.Src.faults K.contents K.faults) jobs.old.items) (map (work_of I.Src.remaining I.Src.faults K.contents K.faults) jobs.new.items) }
+    ensures owed { OweNoMore queries.now (map (work_of I.Src.remaining I.Src.faults K.contents K.faults) jobs.old.items) (map (work_of I.Src.remaining I.Src.faults K.contents K.faults) jobs.new.items) }
     ensures len { vec_len jobs.new ≡ vec_len jobs.old }
     ensures went { (written : List ℕ → Option Written) (created : List ℕ → Bool) (writes : List ℕ → ℕ) (slots : Tally) → Went (seen (I.bytes_at inputs.old) (I.faults_at inputs.old) written created writes slots) (seen (I.bytes_at inputs.new) (I.faults_at inputs.new) written created writes slots) }
 {
@@ -112,6 +117,7 @@ fn answer_all<S: Source, K: Sink, D: Slot + Drop>(
     ensures refused { KeepRefused (map (work_of S.remaining S.faults K.contents K.faults) jobs.old.items) (map (work_of S.remaining S.faults K.contents K.faults) jobs.new.items) }
     ensures len { vec_len jobs.new ≡ vec_len jobs.old }
     ensures slots { ComeBack (tally_of D.Slot slots.old.items) (tally_of D.Slot slots.new.items) }
+    ensures stored { (start at : Seen) → AreWorks start (with_slots (tally_of D.Slot slots.old.items) at) conf.now.block_len queries.now (map (work_of S.remaining S.faults K.contents K.faults) jobs.old.items) → StoreOwed conf.now.block_len (memory_of conf.now) start.files queries.now (map (work_of S.remaining S.faults K.contents K.faults) jobs.old.items) (map (work_of S.remaining S.faults K.contents K.faults) jobs.new.items) (tally_of D.Slot slots.old.items) (tally_of D.Slot slots.new.items) }
 {
     for place in 0..queries.len() {
         answer(alloc, &queries[place], &mut jobs[place], conf, slots);
@@ -126,6 +132,7 @@ fn close_all<I: Inputs, K: Sink>(queries: &[Query], jobs: &mut Vec<Job<I::Src, K
     ensures works { (written : List ℕ → Option Written) (created : List ℕ → Bool) (writes : List ℕ → ℕ) (slots : Tally) → KeepsWorks (seen (I.bytes_at inputs.old) (I.faults_at inputs.old) written created writes slots) (seen (I.bytes_at inputs.new) (I.faults_at inputs.new) written created writes slots) queries.now (map (work_of I.Src.remaining I.Src.faults K.contents K.faults) jobs.old.items) (map (work_of I.Src.remaining I.Src.faults K.contents K.faults) jobs.new.items) }
     ensures step { AreAll IsRead (map (work_of I.Src.remaining I.Src.faults K.contents K.faults) jobs.new.items) }
     ensures refused { KeepRefused (map (work_of I.Src.remaining I.Src.faults K.contents K.faults) jobs.old.items) (map (work_of I.Src.remaining I.Src.faults K.contents K.faults) jobs.new.items) }
+    ensures owed { OweNoMore queries.now (map (work_of I.Src.remaining I.Src.faults K.contents K.faults) jobs.old.items) (map (work_of I.Src.remaining I.Src.faults K.contents K.faults) jobs.new.items) }
     ensures len { vec_len jobs.new ≡ vec_len jobs.old }
     ensures went { (written : List ℕ → Option Written) (created : List ℕ → Bool) (writes : List ℕ → ℕ) (slots : Tally) → Went (seen (I.bytes_at inputs.old) (I.faults_at inputs.old) written created writes slots) (seen (I.bytes_at inputs.new) (I.faults_at inputs.new) written created writes slots) }
 {
@@ -147,6 +154,7 @@ fn finish_all<S: Source, O: Outputs>(
     ensures works { (files : List ℕ → Option (List ℕ)) (reads : List ℕ → ℕ) (slots : Tally) → KeepsWorks (seen files reads (O.written outputs.old) (O.is_created outputs.old) (O.faults_at outputs.old) slots) (seen files reads (O.written outputs.new) (O.is_created outputs.new) (O.faults_at outputs.new) slots) queries.now (map (work_of S.remaining S.faults O.Snk.contents O.Snk.faults) jobs.old.items) (map (work_of S.remaining S.faults O.Snk.contents O.Snk.faults) jobs.new.items) }
     ensures step { AreAll IsDone (map (work_of S.remaining S.faults O.Snk.contents O.Snk.faults) jobs.new.items) }
     ensures refused { KeepRefused (map (work_of S.remaining S.faults O.Snk.contents O.Snk.faults) jobs.old.items) (map (work_of S.remaining S.faults O.Snk.contents O.Snk.faults) jobs.new.items) }
+    ensures owed { OweNoMore queries.now (map (work_of S.remaining S.faults O.Snk.contents O.Snk.faults) jobs.old.items) (map (work_of S.remaining S.faults O.Snk.contents O.Snk.faults) jobs.new.items) }
     ensures len { vec_len jobs.new ≡ vec_len jobs.old }
     ensures went { (files : List ℕ → Option (List ℕ)) (reads : List ℕ → ℕ) (slots : Tally) → Went (seen files reads (O.written outputs.old) (O.is_created outputs.old) (O.faults_at outputs.old) slots) (seen files reads (O.written outputs.new) (O.is_created outputs.new) (O.faults_at outputs.new) slots) }
 {

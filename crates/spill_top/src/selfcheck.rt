@@ -1,12 +1,13 @@
 // The command `selfcheck`.
 
-ghost use Rattle.std.specs.Prelude.{◌≡◌, ◌≤◌, ℕ, List, Option, IfErr, IfOk, OnOk, None, vec_len};
+ghost use Rattle.std.specs.Prelude.{◌≡◌, ◌≤◌, ℕ, List, Option, IfErr, IfOk, OnOk, None, Some, vec_len};
 ghost use Rattle.outside.specs.Counts.{Rose};
+ghost use Rattle.local_pool.specs.Beginning.{memory_of};
 ghost use Rattle.pin_core.specs.Tallies.{tally_of};
 ghost use Rattle.query_run.specs.Answer.{Numbers, WroteAnswer};
 ghost use Rattle.query_run.specs.Causes.{side_of};
 ghost use Rattle.run_report.specs.Report.{outcome_text};
-ghost use Rattle.spill_top.specs.CheckPlan.{IsInRange, checking, output_name, refused_of, table_if, table_of};
+ghost use Rattle.spill_top.specs.CheckPlan.{IsInRange, checking, checking_conf, output_name, refused_of, table_if, table_of};
 ghost use Rattle.spill_top.specs.Checking.{Checked, HasAnswer, HasNoAnswer, IsCheckStop, TellsAnswer, output_at, summary_of};
 ghost use Rattle.spill_top.specs.Endings.{outcome_of, status_of};
 ghost use Rattle.spill_top.specs.Headline.{page_bytes};
@@ -15,6 +16,7 @@ ghost use Rattle.spill_top.specs.Pooled.{ComeBack, HaveFailed, all_tell};
 ghost use Rattle.spill_top.specs.Ran.{telling};
 ghost use Rattle.spill_top.specs.Report.{TellsOrMisses};
 ghost use Rattle.spill_top.specs.Running.{WentAt, seen};
+ghost use Rattle.spill_top.specs.Storing.{HaveStored, owed};
 
 use crate::check_plan::{BLOCK_LEN, checking_plan, checking_pool};
 use crate::ending::Ending;
@@ -66,7 +68,7 @@ fn answer_check<O: Outputs, D: Slot + Drop>(
     requires plan { plan.now ≡ checking check }
     requires range { IsInRange check }
     requires few { vec_len slots.old ≤ 1048576 }
-    ensures answer { IfOk result (HasAnswer check (tally_of D.Slot slots.old.items) (output_at (O.written outputs.old) (O.faults_at outputs.old)) (output_at (O.written outputs.new) (O.faults_at outputs.new))) }
+    ensures answer { IfOk result (HasAnswer check (tally_of D.Slot slots.old.items) (tally_of D.Slot slots.new.items) (output_at (O.written outputs.old) (O.faults_at outputs.old)) (output_at (O.written outputs.new) (O.faults_at outputs.new))) }
     ensures none { IfErr result (HasNoAnswer check (vec_len slots.old) (tally_of D.Slot slots.old.items) (tally_of D.Slot slots.new.items) (output_at (O.written outputs.old) (O.faults_at outputs.old)) (output_at (O.written outputs.new) (O.faults_at outputs.new))) }
     ensures went { (files : List ℕ → Option (List ℕ)) (reads : List ℕ → ℕ) → WentAt output_name (seen files reads (O.written outputs.old) (O.is_created outputs.old) (O.faults_at outputs.old) (tally_of D.Slot slots.old.items)) (seen files reads (O.written outputs.new) (O.is_created outputs.new) (O.faults_at outputs.new) (tally_of D.Slot slots.new.items)) }
     ensures slots { ComeBack (tally_of D.Slot slots.old.items) (tally_of D.Slot slots.new.items) }
@@ -106,6 +108,7 @@ fn run_table<K: Sink, D: Slot + Drop>(
     requires few { vec_len slots.old ≤ 1048576 }
     ensures answer { OnOk result (WroteAnswer (checking check) page_bytes (table_if (all_tell (tally_of D.Slot slots.old.items)) check) (K.contents sink.old) (K.contents sink.new)) }
     ensures numbers { IfOk result (λ ran. Numbers (checking check) page_bytes (all_tell (tally_of D.Slot slots.old.items)) ran (table_of check)) }
+    ensures stored { OnOk result (HaveStored page_bytes (owed (checking check) (memory_of (checking_conf check)) (Some (table_of check))) (tally_of D.Slot slots.old.items) (tally_of D.Slot slots.new.items)) }
     ensures stop { IfErr result (IsCheckStop check (all_tell (tally_of D.Slot slots.old.items)) (vec_len slots.old) (HaveFailed (tally_of D.Slot slots.old.items) (tally_of D.Slot slots.new.items)) (Rose (K.faults sink.old) (K.faults sink.new))) }
     ensures part { IfErr result (λ why. LeavesPart (checking check) page_bytes (table_if (all_tell (tally_of D.Slot slots.old.items)) check) (K.contents sink.old) (K.contents sink.new) (side_of why)) }
     ensures slots { ComeBack (tally_of D.Slot slots.old.items) (tally_of D.Slot slots.new.items) }

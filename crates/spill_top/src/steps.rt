@@ -1,16 +1,16 @@
 // What is done for one query of a plan.
 
-ghost use Rattle.std.specs.Prelude.{◌≡◌, ◌≤◌, ℕ, Bool, false, true, IsSome, List, Option, option_map, unwrap_or, vec_len};
+ghost use Rattle.std.specs.Prelude.{◌≡◌, ◌≤◌, ℕ, Bool, true, IsSome, List, Option, vec_len};
 ghost use Rattle.outside.specs.Counts.{NoneFell};
 ghost use Rattle.outside.specs.Names.{AllStay, TakesFaults, Written};
+ghost use Rattle.local_pool.specs.Beginning.{memory_of};
 ghost use Rattle.pin_core.specs.Tallies.{tally_of};
 ghost use Rattle.pin_core.specs.declared.tally.Tally.{Tally};
 ghost use Rattle.query_plan.specs.Rules.{KeepsQuery};
 ghost use Rattle.query_run.specs.Both.{faults_in};
-ghost use Rattle.spill_top.specs.Endings.{is_answer};
 ghost use Rattle.spill_top.specs.Jobs.{HasSides, IsWork, KeepsWork, work_of};
 ghost use Rattle.spill_top.specs.Pooled.{ComeBack};
-ghost use Rattle.spill_top.specs.Steps.{Fits, IsBegun, IsCreated, IsDone, IsEnded, IsOpen, IsRead, with_slots};
+ghost use Rattle.spill_top.specs.Steps.{Fits, GivesNoAnswer, IsBegun, IsCreated, IsDone, IsEnded, IsOpen, IsRead, StoresForAnswer, has_answer, with_slots};
 ghost use Rattle.spill_top.specs.Running.{Seen, Went, WentAt, seen};
 
 use crate::ending::Ending;
@@ -33,6 +33,7 @@ pub(crate) fn create<S: Source, O: Outputs>(
     ensures work { (files : List ℕ → Option (List ℕ)) (reads : List ℕ → ℕ) (slots : Tally) → KeepsWork (seen files reads (O.written outputs.old) (O.is_created outputs.old) (O.faults_at outputs.old) slots) (seen files reads (O.written outputs.new) (O.is_created outputs.new) (O.faults_at outputs.new) slots) query.now (work_of S.remaining S.faults O.Snk.contents O.Snk.faults job.old) (work_of S.remaining S.faults O.Snk.contents O.Snk.faults job.new) }
     ensures step { IsCreated (work_of S.remaining S.faults O.Snk.contents O.Snk.faults job.new) }
     ensures refused { job.new.refused ≡ job.old.refused }
+    ensures ended { GivesNoAnswer job.old.ended job.new.ended }
     ensures went { (files : List ℕ → Option (List ℕ)) (reads : List ℕ → ℕ) (slots : Tally) → WentAt query.now.output (seen files reads (O.written outputs.old) (O.is_created outputs.old) (O.faults_at outputs.old) slots) (seen files reads (O.written outputs.new) (O.is_created outputs.new) (O.faults_at outputs.new) slots) }
 {
     if job.ended.is_some() {
@@ -50,6 +51,7 @@ pub(crate) fn open<I: Inputs, K: Sink>(query: &Query, job: &mut Job<I::Src, K>, 
     ensures work { (written : List ℕ → Option Written) (created : List ℕ → Bool) (writes : List ℕ → ℕ) (slots : Tally) → KeepsWork (seen (I.bytes_at inputs.old) (I.faults_at inputs.old) written created writes slots) (seen (I.bytes_at inputs.new) (I.faults_at inputs.new) written created writes slots) query.now (work_of I.Src.remaining I.Src.faults K.contents K.faults job.old) (work_of I.Src.remaining I.Src.faults K.contents K.faults job.new) }
     ensures step { IsOpen (work_of I.Src.remaining I.Src.faults K.contents K.faults job.new) }
     ensures refused { job.new.refused ≡ job.old.refused }
+    ensures ended { GivesNoAnswer job.old.ended job.new.ended }
     ensures went { (written : List ℕ → Option Written) (created : List ℕ → Bool) (writes : List ℕ → ℕ) (slots : Tally) → Went (seen (I.bytes_at inputs.old) (I.faults_at inputs.old) written created writes slots) (seen (I.bytes_at inputs.new) (I.faults_at inputs.new) written created writes slots) }
 {
     if job.ended.is_some() {
@@ -88,7 +90,9 @@ pub(crate) fn answer<S: Source, K: Sink, D: Slot + Drop>(
     ensures work { (start at : Seen) → IsWork start (with_slots (tally_of D.Slot slots.old.items) at) conf.now.block_len query.now (work_of S.remaining S.faults K.contents K.faults job.old) → IsWork start (with_slots (tally_of D.Slot slots.new.items) at) conf.now.block_len query.now (work_of S.remaining S.faults K.contents K.faults job.new) }
     ensures step { IsEnded (work_of S.remaining S.faults K.contents K.faults job.new) }
     ensures refused { job.new.refused ≡ job.old.refused }
+    ensures kept { IsSome job.old.ended → job.new.ended ≡ job.old.ended }
     ensures slots { ComeBack (tally_of D.Slot slots.old.items) (tally_of D.Slot slots.new.items) }
+    ensures stored { StoresForAnswer conf.now.block_len (memory_of conf.now) query.now (work_of S.remaining S.faults K.contents K.faults job.old) job.new.ended (tally_of D.Slot slots.old.items) (tally_of D.Slot slots.new.items) }
     ensures len { vec_len slots.new ≡ vec_len slots.old }
 {
     if job.ended.is_some() {
@@ -113,6 +117,7 @@ pub(crate) fn close<I: Inputs, K: Sink>(query: &Query, job: &mut Job<I::Src, K>,
     ensures work { (written : List ℕ → Option Written) (created : List ℕ → Bool) (writes : List ℕ → ℕ) (slots : Tally) → KeepsWork (seen (I.bytes_at inputs.old) (I.faults_at inputs.old) written created writes slots) (seen (I.bytes_at inputs.new) (I.faults_at inputs.new) written created writes slots) query.now (work_of I.Src.remaining I.Src.faults K.contents K.faults job.old) (work_of I.Src.remaining I.Src.faults K.contents K.faults job.new) }
     ensures step { IsRead (work_of I.Src.remaining I.Src.faults K.contents K.faults job.new) }
     ensures refused { job.new.refused ≡ job.old.refused }
+    ensures ended { GivesNoAnswer job.old.ended job.new.ended }
     ensures went { (written : List ℕ → Option Written) (created : List ℕ → Bool) (writes : List ℕ → ℕ) (slots : Tally) → Went (seen (I.bytes_at inputs.old) (I.faults_at inputs.old) written created writes slots) (seen (I.bytes_at inputs.new) (I.faults_at inputs.new) written created writes slots) }
 {
     give_back(query.left.file.as_str(), job.left.take(), inputs);
@@ -143,6 +148,7 @@ pub(crate) fn finish<S: Source, O: Outputs>(
     ensures work { (files : List ℕ → Option (List ℕ)) (reads : List ℕ → ℕ) (slots : Tally) → KeepsWork (seen files reads (O.written outputs.old) (O.is_created outputs.old) (O.faults_at outputs.old) slots) (seen files reads (O.written outputs.new) (O.is_created outputs.new) (O.faults_at outputs.new) slots) query.now (work_of S.remaining S.faults O.Snk.contents O.Snk.faults job.old) (work_of S.remaining S.faults O.Snk.contents O.Snk.faults job.new) }
     ensures step { IsDone (work_of S.remaining S.faults O.Snk.contents O.Snk.faults job.new) }
     ensures refused { job.new.refused ≡ job.old.refused }
+    ensures ended { GivesNoAnswer job.old.ended job.new.ended }
     ensures went { (files : List ℕ → Option (List ℕ)) (reads : List ℕ → ℕ) (slots : Tally) → WentAt query.now.output (seen files reads (O.written outputs.old) (O.is_created outputs.old) (O.faults_at outputs.old) slots) (seen files reads (O.written outputs.new) (O.is_created outputs.new) (O.faults_at outputs.new) slots) }
 {
     let Some(sink) = job.sink.take() else {
@@ -160,7 +166,7 @@ pub(crate) fn finish<S: Source, O: Outputs>(
 }
 
 fn is_answered(ended: Option<Ending>) -> bool
-    ensures { result ≡ unwrap_or (option_map is_answer ended) false }
+    ensures { result ≡ has_answer ended }
 {
     match ended {
         Some(ending) => ending.is_answer(),

@@ -2,6 +2,7 @@
 
 ghost use Rattle.std.specs.Prelude.{◌≡◌, ◌≤◌, ◌⊎◌, ℕ, [], List, None, Option, Some, IfErr, IsErrOf, IsSome, OnOk, false, true, vec_len};
 ghost use Rattle.std.specs.Io.KnownBytes.{Keeps};
+ghost use Rattle.local_pool.specs.Beginning.{memory_of};
 ghost use Rattle.pin_core.specs.Tallies.{tally_of};
 ghost use Rattle.query_plan.specs.Sizes.{page_len};
 ghost use Rattle.query_run.specs.Causes.{OfPool, side_of};
@@ -13,6 +14,7 @@ ghost use Rattle.spill_top.specs.Pooled.{ComeBack, HasMemoryFor, HaveFailed, IsP
 ghost use Rattle.spill_top.specs.Sides.{if_told};
 ghost use Rattle.query_run.specs.Both.{both_told};
 ghost use Rattle.spill_top.specs.Report.{Lengthens, LongerTold, StillTold};
+ghost use Rattle.spill_top.specs.Storing.{HaveStored, owed};
 
 use crate::job::let_go;
 use crate::pooled::run_pooled;
@@ -94,6 +96,7 @@ pub(crate) fn run_watched<'a, B: Start, S: Source, R: Sink, D: Slot + Drop>(
     ensures sink { CountsSink (IsErrOf result.0 QueryErr.SinkFault) (R.faults watched.entry.sink.now) (R.faults result.1.sink.now) }
     ensures source_kept { S.faults left.old ≤ S.faults left.new }
     ensures slots { ComeBack (tally_of D.Slot slots.old.items) (tally_of D.Slot slots.new.items) }
+    ensures stored { OnOk result.0 (HaveStored conf.now.block_len (owed plan.now (memory_of conf.now) (both_told (S.remaining left.old) (Some []))) (tally_of D.Slot slots.old.items) (tally_of D.Slot slots.new.items)) }
     ensures name { result.1.sink.ghost_name ≡ watched.entry.sink.ghost_name }
 {
     let quota = slots.len() as u32;

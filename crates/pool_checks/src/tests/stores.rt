@@ -175,7 +175,7 @@ fn slots_after<D: Slot + Drop, T: OpenedWith>(
     slots: Vec<D>,
 ) -> Result<Vec<D>, StreamErr>
     requires few { vec_len slots ≤ 1024 }
-    requires opened { T.opened ≡ Some (at_opening (tally_of D.Slot slots.items) 0) }
+    requires opened { T.opened ≡ Some (at_opening (tally_of D.Slot slots.items) 0 20) }
     ensures { IfOk result (λ back. Counted 0 0 (tally_of D.Slot slots.items) (tally_of D.Slot back.items)) }
 {
     let conf = PoolConf {

@@ -1,6 +1,7 @@
 // Whole runs of plans whose queries join.
 
-use crate::tests::runs::{File, NOWHERE, check, run_plan};
+use crate::tests::runs::{File, NOWHERE, check, run_over_slots, run_plan};
+use crate::tests::spills::{slots, stores};
 use std::alloc::{AllocError, Global};
 use std::process::Abort;
 use std::test::Fail;
@@ -197,9 +198,12 @@ fn a_key_that_fits_no_table_is_joined_too(rt: HostRuntime) -> Result<(), Fail> {
         ("2048", "1280"),
         ("700", "975"),
     ];
-    let ended = run_plan(&rt, PAIRS, &edits, &files, NOWHERE)?;
+    let mut slots = slots(alloc, 975, 0, 0, &[])?;
+    let ended = run_over_slots(&rt, PAIRS, &edits, &files, NOWHERE, &mut slots)?;
     check(&rt, &ended, 0, "query 1: 0 lines 90000\n", &[]);
     let times = tally(alloc, ended.outputs.bytes("out.csv").unwrap_or(b""))?;
     assert!(rt; times.as_slice().iter().all(|count| *count == 1));
+    // Its 600 rows of 20 bytes don't fit in 1280 bytes, and a block has 64.
+    assert!(rt; stores(slots.as_slice()) >= 168);
     Ok(())
 }

@@ -65,7 +65,7 @@ invariant_of-result g c =
     trail_is c.args.trail c.enter.new.trail c.enter-2.new.trail c.in-Ok.session c.tracker-tracker.result q c.of.result c.args.limit c.args.quota c.args.least c.requires.empty c.tracker-tracker.ensures c.of.ensures c.enter.ensures c.enter-2.ensures in
     stands_first g.D.Slot own q c.args.limit c.args.quota c.args.least trail c.args._conf.now o (is_opening c.args._conf.now (spare_of c.args.pool))
     (subst (λ (h : List Entry). StandsFor g.D.Slot o h own.pool) (sym trail) (c.in-Ok.ensures.ok.stands o [] fresh)) c.in-Ok.ensures.fresh.0
-    g.T.OpenedWith.opened (counted_alike g.T.OpenedWith.opened (tally_in g.D.Slot c.args.pool) (tally_in g.D.Slot own.pool) c.args._conf.now.first_name
+    g.T.OpenedWith.opened (counted_alike g.T.OpenedWith.opened (tally_in g.D.Slot c.args.pool) (tally_in g.D.Slot own.pool) c.args._conf.now.first_name _
     (tally_same g.D.Slot (λ measure. slots_home measure c.args.pool) (λ measure. slots_home measure own.pool) (λ measure. let home = c.in-Ok.ensures.ok.slots measure in omega (arith, home))) c.requires.opens)
 
 pub returns-clause-ok : goal.returns-clause-ok

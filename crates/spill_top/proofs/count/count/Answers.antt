@@ -1,10 +1,12 @@
-use Rattle.std.proofs.Common.{◌≡◌, ◌∙◌, ◌⊎◌, IsSome, Some, Err, ap, false, true, rules, subst, sym, vec_len}
+use Rattle.std.proofs.Common.{◌≡◌, ◌∙◌, ◌⊎◌, IsSome, Some, Err, [], ap, false, true, rules, subst, sym, vec_len}
 use Rattle.outside.specs.Counts.{Rose}
 use Rattle.pin_core.specs.Tallies.{tally_of}
 use Rattle.pin_core.specs.declared.conf.PoolConf.{PoolConf}
+use Rattle.local_pool.specs.Beginning.{memory_of}
 use Rattle.query_plan.specs.Sizes.{page_len}
 use Rattle.query_plan.specs.declared.plan.Query.{Query}
 use Rattle.query_plan.specs.declared.plan.Side.TheVariants.{Left}
+use Rattle.query_run.specs.Both.{both_told}
 use Rattle.query_run.specs.Causes.{IsSourceFault, NamesInt, OfPool, side_of}
 use Rattle.query_run.specs.Plans.{IsRunnable, kinds_of_columns}
 use Rattle.query_run.specs.Refused.{SaysOfSide, source}
@@ -17,11 +19,12 @@ use Rattle.spill_top.specs.Pooled.{HasMemoryFor, HaveFailed, IsPoolStop, all_tel
 use Rattle.spill_top.proofs.Pools.{slots_counted}
 use Rattle.spill_top.specs.Refusals.{refusal_for}
 use Rattle.spill_top.specs.Stops.{IsStop}
+use Rattle.spill_top.specs.Storing.{HaveStored, owed}
 use Rattle.spill_top.specs.Words.{Command}
 use Rattle.spill_top.specs.declared.report.Refusal.{Refusal}
 use Rattle.spill_top.proofs.Causes.{cause_is}
 use Rattle.spill_top.proofs.CountPlan.{pool_fits, refused_so, runs}
-use Rattle.spill_top.proofs.CountStops.{answer_so, answers_so, front_of, front_so, less_so, memory_alone, no_fault, pool_alone, pool_causes, stays_so, stop_is}
+use Rattle.spill_top.proofs.CountStops.{answer_so, answers_so, front_of, front_so, less_so, memory_alone, no_fault, pool_alone, pool_causes, stays_so, stop_is, stored_so}
 use Rattle.spill_top.proofs.count.count.Goals as goal
 
 pub run_watched-ran-requires-clause-plan : goal.run_watched-ran-requires-clause-plan
@@ -50,6 +53,11 @@ returns-in_default-ran-clause-answer g c = λ tell.
     let here : Answers (g.I.Inputs.bytes_at c.args.inputs.now) (g.R.Sink.contents c.args.report.now) (g.R.Sink.contents c.run_watched-ran.result.1.sink.now) (record { file = c.args.file.now; column = c.args.column.now }) =
     answer_so (record { file = c.args.file.now; column = c.args.column.now }) c.in-Ok.plan c.counting_pool-pool.result.block_len _ _ _ _ c.in-Ok.ensures (ap (λ (conf : PoolConf). conf.block_len) c.counting_pool-pool.ensures) c.in-Ok-open.ensures.gives wrote in
     search (rules, here)
+
+pub returns-in_default-ran-clause-stored : goal.returns-in_default-ran-clause-stored
+returns-in_default-ran-clause-stored g c =
+    let stored : HaveStored c.counting_pool-pool.result.block_len (owed c.in-Ok.plan (memory_of c.counting_pool-pool.result) (both_told (g.I.Src.Source.remaining c.in-Ok-open.left) (Some []))) (tally_of g.D.Slot c.args.slots.now.items) (tally_of g.D.Slot c.run_watched-ran.new.slots.items) = search rules in
+    stored_so (record { file = c.args.file.now; column = c.args.column.now }) c.in-Ok.plan c.counting_pool-pool.result _ _ (tally_of g.D.Slot c.args.slots.now.items) (tally_of g.D.Slot c.run_watched-ran.new.slots.items) c.in-Ok.ensures c.counting_pool-pool.ensures c.in-Ok-open.ensures.gives stored
 
 pub returns-clause-stop : goal.returns-clause-stop
 returns-clause-stop g c =

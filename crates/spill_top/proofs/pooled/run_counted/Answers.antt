@@ -1,5 +1,5 @@
 use Rattle.std.proofs.Common.{◌≡◌, ◌∙◌, ℕ, Bool, List, IfOk, IfSome, OnOk, inl, inr, length, true, ap, subst, rules}
-use Rattle.std.proofs.lemmas.Result.{IfErr-weaker}
+use Rattle.std.proofs.lemmas.Result.{IfErr-weaker, on_ok_weaker}
 use Rattle.pin_core.specs.Tallies.{tally_of}
 use Rattle.local_pool.specs.Told.{held_of, signs_of}
 use Rattle.query_plan.specs.Sizes.{page_len}
@@ -9,6 +9,7 @@ use Rattle.spill_top.specs.Pooled.{ComeBack, MaySpendNames, all_tell}
 use Rattle.spill_top.specs.Sides.{if_told}
 use Rattle.spill_top.proofs.Showing.{tells_first}
 use Rattle.spill_top.proofs.Pools.{as_many, come_back, made_over, pool_stop, room_for, same_slots, spent_names, unnamed_first}
+use Rattle.spill_top.proofs.Stored.{has_stored}
 use Rattle.spill_top.proofs.pooled.run_counted.Goals as goal
 
 pub run_query-ran-requires-clause-store : goal.run_query-ran-requires-clause-store
@@ -49,11 +50,11 @@ returns-in-Err-clause-len g c =
     search (rules, all, taken)
 
 pub returns-clause-slots : goal.returns-clause-slots
-returns-clause-slots g c = come_back g.T.OpenedWith.opened c.run_query-ran.new.store.alone.trail _ _ _ c.requires.opened c.close.ensures.sums
+returns-clause-slots g c = come_back g.T.OpenedWith.opened c.run_query-ran.new.store.alone.trail _ _ _ _ c.requires.opened c.close.ensures.sums
 
 pub returns-clause-len : goal.returns-clause-len
 returns-clause-len g c =
-    let all : length c.close.result.items ≡ length c.args.slots.now.items = as_many g.D.Slot c.args.slots.now.items c.close.result.items (come_back g.T.OpenedWith.opened c.run_query-ran.new.store.alone.trail _ _ _ c.requires.opened c.close.ensures.sums) in
+    let all : length c.close.result.items ≡ length c.args.slots.now.items = as_many g.D.Slot c.args.slots.now.items c.close.result.items (come_back g.T.OpenedWith.opened c.run_query-ran.new.store.alone.trail _ _ _ _ c.requires.opened c.close.ensures.sums) in
     search (rules, all)
 
 pub returns-clause-pool : goal.returns-clause-pool
@@ -64,12 +65,12 @@ returns-clause-pool g c =
     let tells : begun.told ≡ all_tell (tally_of g.D.Slot c.args.slots.now.items) =
     tells_first g.D.Slot c.in-Ok.pool.alone c.replace-taken.result.items c.in-Ok.ensures.ok.home ∙ ap (λ (ds : List g.row.D.Denot). all_tell (tally_of g.D.Slot ds)) taken in
     let names : (signs_of c.run_query-ran.new.store.alone).spent ≡ true → MaySpendNames c.args.query.now (if_told (all_tell (tally_of g.D.Slot c.args.slots.now.items)) told) =
-    spent_names c.args.query.now told (all_tell (tally_of g.D.Slot c.args.slots.now.items)) c.args.conf.now.first_name g.T.OpenedWith.opened _ c.in-Ok.pool.alone.trail c.run_query-ran.new.store.alone.trail _ c.requires.opened c.requires.memory.first
+    spent_names c.args.query.now told (all_tell (tally_of g.D.Slot c.args.slots.now.items)) c.args.conf.now.first_name _ g.T.OpenedWith.opened _ c.in-Ok.pool.alone.trail c.run_query-ran.new.store.alone.trail _ c.requires.opened c.requires.memory.first
     (unnamed_first g.D.Slot c.args.conf.now _ _ _ _ c.in-Ok.pool.alone c.in-Ok.ensures.ok) c.close.ensures.names
     (λ tell. made_over c.in-Ok.pool.alone c.run_query-ran.new.store.alone told _ (c.run_query-ran.ensures.store.made (tells ∙ tell))) in
     IfErr-weaker c.run_query-ran.result _ _
     (λ e may. pool_stop c.run_query-ran.new.store.alone c.args.query.now (page_len c.args.query.now c.args.conf.now.block_len) c.args.quota told
-    begun _ g.T.OpenedWith.opened _ _ c.args.conf.now.first_name e c.in-Ok.ensures.ok.held.free_slots (ap (page_len c.args.query.now) c.in-Ok.ensures.ok.held.block_len) (λ tell. tells ∙ tell) c.requires.opened c.close.ensures.sums names may)
+    begun _ g.T.OpenedWith.opened _ _ c.args.conf.now.first_name _ e c.in-Ok.ensures.ok.held.free_slots (ap (page_len c.args.query.now) c.in-Ok.ensures.ok.held.block_len) (λ tell. tells ∙ tell) c.requires.opened c.close.ensures.sums names may)
     c.run_query-ran.ensures.pool
 
 pub returns-clause-front : goal.returns-clause-front
@@ -88,3 +89,10 @@ returns-clause-numbers g c =
     subst (λ (n : ℕ). IfOk c.run_query-ran.result (λ ran. IfSome told (Numbers c.args.query.now (page_len c.args.query.now n) (all_tell (tally_of g.D.Slot c.args.slots.now.items)) ran)))
     c.in-Ok.ensures.ok.held.block_len
     (subst (λ (b : Bool). IfOk c.run_query-ran.result (λ ran. IfSome told (Numbers c.args.query.now (page_len c.args.query.now (held_of g.D.Slot c.in-Ok.pool.alone).block_len) b ran))) tells c.run_query-ran.ensures.numbers)
+
+pub returns-clause-stored : goal.returns-clause-stored
+returns-clause-stored g c =
+    on_ok_weaker c.run_query-ran.result
+    (has_stored g.D.Slot c.args.query.now c.args.conf.now c.replace-taken.result.items c.args.quota c.least-wanted.result _ c.in-Ok.pool.alone c.run_query-ran.new.store.alone g.T.OpenedWith.opened (tally_of g.D.Slot c.args.slots.now.items) (tally_of g.D.Slot c.close.result.items)
+    (g.S.Source.remaining c.args.left.now) (told_in g.S.Source.remaining c.args.right.now) c.law_spill.ensures.law c.law_stored.ensures.law c.requires.query c.in-Ok.ensures.ok c.run_query-ran.ensures.store.left c.requires.opened c.close.ensures.sums c.close.ensures.history)
+    c.run_query-ran.ensures.kept

@@ -58,6 +58,7 @@ returns-in-Ok-run_queries-clause-ran g c =
       ends = c.in-Ok-run_queries.ends.items;
       as_many = many;
       ended = c.in-Ok-run_queries.ensures.ended;
+      stored = c.in-Ok-run_queries.ensures.stored;
       reported = subst (λ (queries : List Query). Reported queries c.in-Ok-run_queries.ends.items (telling (g.R.Sink.contents c.args.report.now) (g.R.Sink.faults c.args.report.now)) (telling (g.R.Sink.contents c.report_all.new.report) (g.R.Sink.faults c.report_all.new.report)) c.report_all.result) queries_are
           (subst (λ (ends : List Ending). Reported c.as_slice-in-Ok-run_queries.result.now ends (telling (g.R.Sink.contents c.args.report.now) (g.R.Sink.faults c.args.report.now)) (telling (g.R.Sink.contents c.report_all.new.report) (g.R.Sink.faults c.report_all.new.report)) c.report_all.result) ends_are c.report_all.ensures.reported);
     })

@@ -8,7 +8,9 @@ use Rattle.spill_top.specs.declared.ending.Ending.{Ending}
 use Rattle.spill_top.specs.Jobs.{begun}
 use Rattle.spill_top.specs.Reserving.{refusals}
 use Rattle.spill_top.specs.Running.{AreApart, HaveEnded, seen}
+use Rattle.spill_top.specs.Storing.{HaveStored, all_owed}
 use Rattle.spill_top.proofs.Loops.{went_slots}
+use Rattle.spill_top.proofs.Owing.{stored_so}
 use Rattle.spill_top.proofs.Phases.{all_begun, all_closed, all_have_ended, as_many, begun_len, fit_so, made_so, ran_so, sided_so, sided_then, went_through, works_begin}
 use Rattle.spill_top.proofs.Plans.{opens_with}
 use Rattle.spill_top.proofs.run.run_queries.Goals as goal
@@ -146,6 +148,21 @@ returns-clause-ended g c =
     (ran_so g.I.Src.Source.remaining g.I.Src.Source.faults g.O.Snk.Sink.contents g.O.Snk.Sink.faults (seen (g.I.Inputs.bytes_at c.args.inputs.now) (g.I.Inputs.faults_at c.args.inputs.now) (g.O.Outputs.written c.args.outputs.now) (g.O.Outputs.is_created c.args.outputs.now) (g.O.Outputs.faults_at c.args.outputs.now) (tally_of g.D.Slot c.args.slots.now.items)) (seen (g.I.Inputs.bytes_at c.args.inputs.now) (g.I.Inputs.faults_at c.args.inputs.now) (g.O.Outputs.written c.create_all.new.outputs) (g.O.Outputs.is_created c.create_all.new.outputs) (g.O.Outputs.faults_at c.create_all.new.outputs) (tally_of g.D.Slot c.args.slots.now.items)) (seen (g.I.Inputs.bytes_at c.open_all.new.inputs) (g.I.Inputs.faults_at c.open_all.new.inputs) (g.O.Outputs.written c.create_all.new.outputs) (g.O.Outputs.is_created c.create_all.new.outputs) (g.O.Outputs.faults_at c.create_all.new.outputs) (tally_of g.D.Slot c.args.slots.now.items)) (seen (g.I.Inputs.bytes_at c.open_all.new.inputs) (g.I.Inputs.faults_at c.open_all.new.inputs) (g.O.Outputs.written c.create_all.new.outputs) (g.O.Outputs.is_created c.create_all.new.outputs) (g.O.Outputs.faults_at c.create_all.new.outputs) (tally_of g.D.Slot c.answer_all.new.slots.items)) (seen (g.I.Inputs.bytes_at c.close_all.new.inputs) (g.I.Inputs.faults_at c.close_all.new.inputs) (g.O.Outputs.written c.create_all.new.outputs) (g.O.Outputs.is_created c.create_all.new.outputs) (g.O.Outputs.faults_at c.create_all.new.outputs) (tally_of g.D.Slot c.answer_all.new.slots.items)) (seen (g.I.Inputs.bytes_at c.close_all.new.inputs) (g.I.Inputs.faults_at c.close_all.new.inputs) (g.O.Outputs.written c.finish_all.new.outputs) (g.O.Outputs.is_created c.finish_all.new.outputs) (g.O.Outputs.faults_at c.finish_all.new.outputs) (tally_of g.D.Slot c.answer_all.new.slots.items)) c.args.plan.now.block_len (c.args.plan.now.blocks * c.args.plan.now.block_len) c.as_slice-queries.result.now c.in_ok-jobs.jobs.items c.create_all.new.jobs.items c.open_all.new.jobs.items c.answer_all.new.jobs.items c.close_all.new.jobs.items c.finish_all.new.jobs.items c.endings-ends.result.items
     first are (c.create_all.ensures.works (g.I.Inputs.bytes_at c.args.inputs.now) (g.I.Inputs.faults_at c.args.inputs.now) (tally_of g.D.Slot c.args.slots.now.items)) (c.open_all.ensures.works (g.O.Outputs.written c.create_all.new.outputs) (g.O.Outputs.is_created c.create_all.new.outputs) (g.O.Outputs.faults_at c.create_all.new.outputs) (tally_of g.D.Slot c.args.slots.now.items)) (c.answer_all.ensures.works (seen (g.I.Inputs.bytes_at c.args.inputs.now) (g.I.Inputs.faults_at c.args.inputs.now) (g.O.Outputs.written c.args.outputs.now) (g.O.Outputs.is_created c.args.outputs.now) (g.O.Outputs.faults_at c.args.outputs.now) (tally_of g.D.Slot c.args.slots.now.items)) (seen (g.I.Inputs.bytes_at c.open_all.new.inputs) (g.I.Inputs.faults_at c.open_all.new.inputs) (g.O.Outputs.written c.create_all.new.outputs) (g.O.Outputs.is_created c.create_all.new.outputs) (g.O.Outputs.faults_at c.create_all.new.outputs) (tally_of g.D.Slot c.args.slots.now.items))) (c.close_all.ensures.works (g.O.Outputs.written c.create_all.new.outputs) (g.O.Outputs.is_created c.create_all.new.outputs) (g.O.Outputs.faults_at c.create_all.new.outputs) (tally_of g.D.Slot c.answer_all.new.slots.items)) (c.finish_all.ensures.works (g.I.Inputs.bytes_at c.close_all.new.inputs) (g.I.Inputs.faults_at c.close_all.new.inputs) (tally_of g.D.Slot c.answer_all.new.slots.items))
     c.finish_all.ensures.step c.create_all.ensures.refused c.open_all.ensures.refused c.answer_all.ensures.refused c.close_all.ensures.refused c.finish_all.ensures.refused alike)
+
+pub returns-clause-stored : goal.returns-clause-stored
+returns-clause-stored g c =
+    let queries_are : c.as_slice-queries.result.now ≡ c.args.plan.now.queries = search rules in
+    let first : c.in_ok-jobs.jobs.items ≡ map begun (refusals c.args.plan.now.block_len (c.args.plan.now.blocks * c.args.plan.now.block_len) c.as_slice-queries.result.now) = search rules in
+    let alike : map (λ ending. Some ending) c.endings-ends.result.items ≡ map (λ job. job.ended) c.finish_all.new.jobs.items = search rules in
+    let start = (seen (g.I.Inputs.bytes_at c.args.inputs.now) (g.I.Inputs.faults_at c.args.inputs.now) (g.O.Outputs.written c.args.outputs.now) (g.O.Outputs.is_created c.args.outputs.now) (g.O.Outputs.faults_at c.args.outputs.now) (tally_of g.D.Slot c.args.slots.now.items)) in
+    let opened = (seen (g.I.Inputs.bytes_at c.open_all.new.inputs) (g.I.Inputs.faults_at c.open_all.new.inputs) (g.O.Outputs.written c.create_all.new.outputs) (g.O.Outputs.is_created c.create_all.new.outputs) (g.O.Outputs.faults_at c.create_all.new.outputs) (tally_of g.D.Slot c.args.slots.now.items)) in
+    let are = works_begin g.I.Src.Source.remaining g.I.Src.Source.faults g.O.Snk.Sink.contents g.O.Snk.Sink.faults start c.args.plan.now.block_len (c.args.plan.now.blocks * c.args.plan.now.block_len) c.as_slice-queries.result.now c.in_ok-jobs.jobs.items first in
+    subst (λ (queries : List Query). HaveStored c.args.plan.now.block_len (all_owed (c.args.plan.now.blocks * c.args.plan.now.block_len) (g.I.Inputs.bytes_at c.args.inputs.now) queries c.endings-ends.result.items) (tally_of g.D.Slot c.args.slots.now.items) (tally_of g.D.Slot c.answer_all.new.slots.items)) queries_are
+    (stored_so g.I.Src.Source.remaining g.I.Src.Source.faults g.O.Snk.Sink.contents g.O.Snk.Sink.faults c.args.plan.now.blocks c.args.plan.now.block_len (g.I.Inputs.bytes_at c.args.inputs.now) c.as_slice-queries.result.now c.in_ok-jobs.jobs.items c.create_all.new.jobs.items c.open_all.new.jobs.items c.answer_all.new.jobs.items c.close_all.new.jobs.items c.finish_all.new.jobs.items c.endings-ends.result.items
+    (tally_of g.D.Slot c.args.slots.now.items) (tally_of g.D.Slot c.answer_all.new.slots.items) first c.create_all.ensures.owed c.open_all.ensures.owed
+    (c.answer_all.ensures.stored start opened (c.open_all.ensures.works (g.O.Outputs.written c.create_all.new.outputs) (g.O.Outputs.is_created c.create_all.new.outputs) (g.O.Outputs.faults_at c.create_all.new.outputs) (tally_of g.D.Slot c.args.slots.now.items) start c.args.plan.now.block_len
+    (c.create_all.ensures.works (g.I.Inputs.bytes_at c.args.inputs.now) (g.I.Inputs.faults_at c.args.inputs.now) (tally_of g.D.Slot c.args.slots.now.items) start c.args.plan.now.block_len are)))
+    c.close_all.ensures.owed c.finish_all.ensures.owed alike)
 
 pub returns-clause-went : goal.returns-clause-went
 returns-clause-went g c =

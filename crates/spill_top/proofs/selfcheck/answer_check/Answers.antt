@@ -26,6 +26,7 @@ returns-in-Ok-done-clause-answer g c =
       numbers = c.in-Ok-run_table.ensures.numbers;
       output = finished_answer Failed (checking c.args.check) page_bytes c.in-Ok-run_table.ran.lines (table_if tell c.args.check) (g.O.Outputs.written c.args.outputs.now output_name) (g.O.Outputs.written c.create.new.self output_name) (g.O.Outputs.written c.done.new.self output_name) contents
           (since_created _ _ _ (λ (o : Option (List ℕ)). WroteAnswer (checking c.args.check) page_bytes (table_if tell c.args.check) o contents) c.in-Ok.ensures.ok c.in-Ok.ensures.empty c.in-Ok-run_table.ensures.answer) c.in-Ok-done.ensures.bytes;
+      stored = c.in-Ok-run_table.ensures.stored;
     }
 
 pub returns-in-Err-done-clause-none : goal.returns-in-Err-done-clause-none

@@ -15,6 +15,6 @@ returns-in-Ok-answer_check-clause-checked g c = λ files reads.
 pub returns-clause-checked : goal.returns-clause-checked
 returns-clause-checked g c = λ files reads.
     checked_none c.args.check _ _ _ (telling (g.R.Sink.contents c.args.report.now) (g.R.Sink.faults c.args.report.now)) (telling (g.R.Sink.contents c.tell_ending.new.report) (g.R.Sink.faults c.tell_ending.new.report)) _
-    c.in-Err.ending c.in-Err.ensures.none c.tell_ending.ensures.status
+    c.requires.range c.in-Err.ending c.in-Err.ensures.none c.tell_ending.ensures.status
     (subst (λ (plan : Query). TellsOrMisses (outcome_text None (outcome_of plan c.in-Err.ending)) (g.R.Sink.contents c.args.report.now) (g.R.Sink.contents c.tell_ending.new.report) (g.R.Sink.faults c.args.report.now) (g.R.Sink.faults c.tell_ending.new.report)) c.in-Ok.ensures c.tell_ending.ensures.tells)
     (c.answer_check.ensures.went files reads)

@@ -36,6 +36,7 @@ returns-in-Some-Count-clause-count g c =
       refused = c.answer_count.ensures.refused;
       lacks_memory = c.answer_count.ensures.lacks_memory;
       quiet = c.answer_count.ensures.quiet;
+      stored = c.answer_count.ensures.stored;
       output_fault = c.answer_count.ensures.output_fault;
       part = c.answer_count.ensures.part;
       refuses = c.answer_count.ensures.refuses;

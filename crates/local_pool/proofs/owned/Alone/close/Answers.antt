@@ -4,11 +4,13 @@ use Rattle.pin_core.specs.Standing.{slots_home}
 use Rattle.local_pool.specs.declared.owned.Owned.{Owned}
 use Rattle.local_pool.specs.Told.{held_of, signs_of}
 use Rattle.local_pool.specs.Counting.{SpendsNames, SumsHold}
+use Rattle.local_pool.specs.History.{IsHistory}
 use Rattle.pin_core.specs.Tallies.{tally_in, tally_of}
 use Rattle.pin_core.proofs.Tallied.{tally_same}
 use Rattle.local_pool.proofs.Knowing.{knows}
 use Rattle.local_pool.proofs.Ended.{no_child, none_left}
 use Rattle.local_pool.proofs.Naming.{spends_all}
+use Rattle.local_pool.proofs.Lawful.{history_of}
 use Rattle.local_pool.proofs.owned.Alone.close.Goals as goal
 
 pub end_session-requires-clause-live : goal.end_session-requires-clause-live
@@ -31,6 +33,10 @@ returns-clause-slots g c measure =
 pub returns-clause-names : goal.returns-clause-names
 returns-clause-names g c =
     subst (λ (o : Owned g.row.D.Denot). SpendsNames g.T.OpenedWith.opened o.trail (signs_of o).spent) c.self.view_is (spends_all g.D.Slot g.T.OpenedWith.opened c.self.inside.own c.self.invariant)
+
+pub returns-clause-history : goal.returns-clause-history
+returns-clause-history g c =
+    subst (λ (o : Owned g.row.D.Denot). IsHistory g.T.OpenedWith.opened (held_of g.D.Slot o).block_len o.session o.trail) c.self.view_is (history_of g.D.Slot g.T.OpenedWith.opened c.self.inside.own c.self.invariant)
 
 pub returns-clause-sums : goal.returns-clause-sums
 returns-clause-sums g c =

@@ -19,5 +19,5 @@ pub begin-requires-clause-opens : goal.begin-requires-clause-opens
 begin-requires-clause-opens g c =
     let slots = c.args.slots.items in
     let pool = c.in-Ok-open.pool in
-    counted_alike g.T.OpenedWith.opened (tally_of g.D.Slot slots) (tally_in g.D.Slot pool) c.args.conf.now.first_name
+    counted_alike g.T.OpenedWith.opened (tally_of g.D.Slot slots) (tally_in g.D.Slot pool) c.args.conf.now.first_name _
     (tally_same g.D.Slot (λ measure. sum_by measure slots) (λ measure. slots_home measure pool) (λ measure. sym (c.in-Ok-open.ensures.slots measure))) c.requires.opened

@@ -15,6 +15,7 @@ small_fits command = record {
   opens = record { block_len = refl; some = omega arith; blocks = omega arith; memory = omega arith };
   first = refl;
   least = omega arith;
+  allowed = omega arith;
 }
 
 pub run_pooled-ran-requires-clause-query : goal.run_pooled-ran-requires-clause-query
