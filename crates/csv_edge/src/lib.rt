@@ -27,6 +27,3 @@ pub use reading::Rows;
 pub use refusal::InputErr;
 pub use sink::write_whole;
 pub use writing::{Lines, row_text};
-
-#[cfg(test)]
-mod tests;

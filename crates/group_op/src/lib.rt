@@ -28,8 +28,6 @@ mod reading;
 mod scanning;
 mod spelling;
 mod stored;
-#[cfg(test)]
-mod tests;
 
 pub use flushing::{Fan, Spare, flush};
 pub use laws::{law_asks_own, law_few, law_lengths, law_starts};

@@ -9,7 +9,7 @@ pub mod Spellable
 pub mod KeepsRows
 mod Started
 pub mod Ended
-mod TwoStreams
+pub mod TwoStreams
 pub mod Handed
 pub mod Fans
 pub mod Dealing

@@ -18,8 +18,6 @@ mod laws;
 mod meeting;
 mod operator;
 mod pairing;
-#[cfg(test)]
-mod tests;
 
 pub use chunks::leaf_by_chunks;
 pub use laws::{law_pairs, law_starts};

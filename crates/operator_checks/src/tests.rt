@@ -2,8 +2,10 @@
 ghost use Rattle.std.specs.Prelude.{◌≡◌, ◌<◌, ◌≤◌, IfOk, vec_len};
 ghost use Rattle.local_pool.specs.Told.{held_of};
 
+mod chunks;
 mod groups;
 mod joins;
+mod scans;
 
 use local_pool::LocalPool;
 use outside::{MemSlot, Slot};

@@ -30,8 +30,6 @@ mod scalar;
 mod section;
 mod sides;
 mod sizes;
-#[cfg(test)]
-mod tests;
 mod texts;
 mod whole;
 mod words;

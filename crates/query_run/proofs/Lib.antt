@@ -13,7 +13,7 @@ mod Joining
 mod KeptFirst
 mod KeptPairs
 mod Made
-mod Names
+pub mod Names
 mod Orders
 mod Pairing
 mod Reading

@@ -21,8 +21,6 @@ mod pairs;
 mod parts;
 mod run;
 mod takes;
-#[cfg(test)]
-mod tests;
 
 pub use laws::{law_completes, law_spill};
 pub use outcome::{QueryErr, Ran, Totals};

@@ -1,0 +1,5 @@
+//! Records of inputs, plans, and whole queries over a store in memory, against worked rows.
+#![tactic(auto)]
+
+#[cfg(test)]
+mod tests;
