@@ -5,6 +5,8 @@ ghost use Rattle.std.specs.Prelude.{◌≡◌, IfOk, None, true};
 use crate::in_use::InUse;
 use crate::output::Output;
 use crate::progress::Progress;
+use crate::quotes::Quotes;
+use crate::shown::Shown;
 use crate::watched::Watched;
 use outside::{Failed, Inputs, Outputs, Sink, Source};
 use std::fs::{File, Metadata};
@@ -22,6 +24,7 @@ pub(crate) struct Input<R> {
     faults: u64,
     // Why it failed, where the last read did.
     failed: Option<io::Error>,
+    quotes: Quotes,
 }
 
 impl<R: Read> Source for Input<R> {
@@ -31,7 +34,10 @@ impl<R: Read> Source for Input<R> {
 
     fn read(&mut self, buf: &mut [u8]) -> Result<usize, Failed> {
         match self.reader.read(buf) {
-            Ok(count) => Ok(count),
+            Ok(count) => {
+                self.quotes.pass(buf.get(..count).unwrap_or(&[]));
+                Ok(count)
+            }
             Err(e) => {
                 self.faults = self.faults.saturating_add(1);
                 self.failed = Some(e);
@@ -47,15 +53,23 @@ pub(crate) struct FileInputs<'a, F> {
     files: &'a F,
     in_use: &'a InUse,
     shows_progress: bool,
+    // The file of a plan, which is no table.
+    plan: Option<&'a str>,
     faults: u64,
 }
 
 impl<'a, F: Files<File = File> + Clock + Eprint + AllocGlobal> FileInputs<'a, F> {
-    pub(crate) fn new(files: &'a F, in_use: &'a InUse, shows_progress: bool) -> FileInputs<'a, F> {
+    pub(crate) fn new(
+        files: &'a F,
+        in_use: &'a InUse,
+        shows_progress: bool,
+        plan: Option<&'a str>,
+    ) -> FileInputs<'a, F> {
         FileInputs {
             files,
             in_use,
             shows_progress,
+            plan,
             faults: 0,
         }
     }
@@ -64,7 +78,9 @@ impl<'a, F: Files<File = File> + Clock + Eprint + AllocGlobal> FileInputs<'a, F>
     fn file(&self, name: &str) -> io::Result<File> {
         let file = fs::open(self.files, name)?;
         if !self.in_use.reads(&file.metadata()?)? {
-            return Err(io::Error::other("an output of the same plan would replace it"));
+            return Err(io::Error::other(
+                "an output of the same plan would replace it: choose another output",
+            ));
         }
         Ok(file)
     }
@@ -79,7 +95,17 @@ impl<'a, F: Files<File = File> + Clock + Eprint + AllocGlobal> FileInputs<'a, F>
     }
 
     fn tell(&self, name: &str, why: &io::Error) {
-        let _ = eprintln!(self.files; "spill: {name} could not be read: {why}");
+        let _ = eprintln!(self.files; "spill: {} could not be read: {why}", Shown(name));
+    }
+
+    // Quotes pair up in a table, so one that has no other may have hidden the ends of records.
+    fn warn(&self, name: &str) {
+        if self.plan != Some(name) {
+            let _ = eprintln!(self.files;
+                "spill: {} has an odd number of quotes: one may not be closed, so several records may have been read as one",
+                Shown(name)
+            );
+        }
     }
 }
 
@@ -104,6 +130,7 @@ impl<'a, F: Files<File = File> + Clock + Eprint + AllocGlobal + Sync> Inputs for
                 reader: self.watched(name, file),
                 faults: 0,
                 failed: None,
+                quotes: Quotes::new(),
             }),
             Err(e) => {
                 self.tell(name, &e);
@@ -118,6 +145,9 @@ impl<'a, F: Files<File = File> + Clock + Eprint + AllocGlobal + Sync> Inputs for
         src.reader.finish();
         if let Some(e) = &src.failed {
             self.tell(name, e);
+        }
+        if src.quotes.has_single() {
+            self.warn(name);
         }
     }
 }
@@ -187,15 +217,19 @@ impl<'a, F: Files<File = File> + Clock + Eprint + AllocGlobal> FileOutputs<'a, F
                 Err(e) => return Err(e),
             }
         }
-        Err(io::Error::other("the places beside it are taken"))
+        Err(io::Error::other(
+            "files of earlier runs are beside it: remove those whose names have .spill-part- at the end",
+        ))
     }
 
     fn may_replace(&self, data: &Metadata) -> io::Result<()> {
         if !data.is_file() {
-            return Err(io::Error::other("something else than a file stands there"));
+            return Err(io::Error::other("it is not a regular file: choose another output"));
         }
         if !self.in_use.replaces(data)? {
-            return Err(io::Error::other("it would replace an input of the same run"));
+            return Err(io::Error::other(
+                "it would replace an input of the same run: choose another output",
+            ));
         }
         Ok(())
     }
@@ -213,7 +247,7 @@ impl<'a, F: Files<File = File> + Clock + Eprint + AllocGlobal> FileOutputs<'a, F
     }
 
     fn tell(&self, name: &str, why: &io::Error) {
-        let _ = eprintln!(self.files; "spill: {name} could not be written: {why}");
+        let _ = eprintln!(self.files; "spill: {} could not be written: {why}", Shown(name));
     }
 }
 
@@ -242,6 +276,9 @@ impl<'a, F: Files<File = File> + Clock + Eprint + AllocGlobal + Sync> Outputs
         self.faults = self.faults.saturating_add(snk.output.faults());
         let PartFile { mut output, place } = snk;
         output.writer().finish();
+        if let Some(e) = output.failed() {
+            self.tell(name, e);
+        }
         drop(output);
         match self.settle(name, place.as_str(), whole) {
             Ok(()) => Ok(()),

@@ -7,14 +7,23 @@
 #![tactic(auto)]
 
 mod advice;
+mod again;
 mod files;
+mod header_words;
 mod in_use;
+mod input_words;
+mod memory_words;
+mod mistake;
 mod output;
+mod plan_words;
 mod progress;
 mod quota;
+mod quotes;
 mod report;
+mod row_words;
 mod scratch;
 mod sentences;
+mod shown;
 mod usage;
 mod watched;
 
@@ -50,15 +59,18 @@ fn run<R: Files<File = File> + Clock + Env + Print + Eprint + AllocGlobal + Sync
 ) -> Result<u8, AllocError> {
     let words = words(rt)?;
     match usage::about(words.as_slice()) {
-        Some(text) => Ok(status_of(rt.print(text))),
+        Some(text) => Ok(status_of(rt, rt.print(text))),
         None => Ok(run_command(rt, words.as_slice(), shows_progress)),
     }
 }
 
-fn status_of(printed: io::Result<()>) -> u8 {
+fn status_of(rt: &impl Eprint, printed: io::Result<()>) -> u8 {
     match printed {
         Ok(()) => 0,
-        Err(_) => OUTPUT_FAULT,
+        Err(why) => {
+            let _ = advice::tell_output(rt, &why);
+            OUTPUT_FAULT
+        }
     }
 }
 
@@ -74,17 +86,25 @@ fn run_command<R: Files<File = File> + Clock + Env + Print + Eprint + AllocGloba
         return NO_MEMORY;
     };
     let in_use = InUse::new(rt.alloc());
+    // The command `run` alone has one operand.
+    let plan = match words {
+        [_, plan] => Some(plan.as_str()),
+        _ => None,
+    };
     let mut report = Report::new(rt.alloc(), io::writer(rt));
     let status = spill_top(
         rt.alloc(),
         words,
-        &mut FileInputs::new(rt, &in_use, shows_progress),
+        &mut FileInputs::new(rt, &in_use, shows_progress, plan),
         &mut FileOutputs::new(rt, &in_use, shows_progress),
         &mut report,
         &mut slots,
         &OpenGate,
     );
     let _ = advice::advise(rt, rt, status, words, report.text());
+    if let Some(why) = report.failed() {
+        let _ = advice::tell_output(rt, why);
+    }
     status
 }
 
@@ -100,7 +120,9 @@ fn words<R: Env + Eprint + AllocGlobal>(rt: &R) -> Result<Vec<String>, AllocErro
         }
         Err(e) if e.kind() == io::ErrorKind::OutOfMemory => return Err(AllocError),
         Err(_) => {
-            let _ = eprintln!(rt; "spill: an argument is not valid UTF-8");
+            let _ = eprintln!(rt;
+                "spill: an argument is not valid UTF-8: rename the file, or read it from /dev/stdin"
+            );
         }
     }
     Ok(words)

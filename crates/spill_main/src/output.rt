@@ -3,6 +3,7 @@
 ghost use Rattle.std.specs.Prelude.{◌≡◌};
 
 use outside::{Failed, Sink};
+use std::io;
 use std::io::Write;
 
 // Bytes that go to a writer, such as a file or standard output. It tells what its writer tells.
@@ -10,13 +11,19 @@ use std::io::Write;
 pub(crate) struct Output<W> {
     writer: W,
     faults: u64,
+    // Why the last write failed that did.
+    failed: Option<io::Error>,
 }
 
 impl<W: Write> Output<W> {
     pub(crate) fn new(writer: W) -> Output<W>
         ensures { result.faults ≡ 0 }
     {
-        Output { writer, faults: 0 }
+        Output {
+            writer,
+            faults: 0,
+            failed: None,
+        }
     }
 
     pub(crate) fn writer(&mut self) -> &mut W {
@@ -28,6 +35,10 @@ impl<W: Write> Output<W> {
     {
         self.faults
     }
+
+    pub(crate) fn failed(&self) -> Option<&io::Error> {
+        self.failed.as_ref()
+    }
 }
 
 impl<W: Write> Sink for Output<W> {
@@ -38,10 +49,19 @@ impl<W: Write> Sink for Output<W> {
     fn write(&mut self, piece: &[u8]) -> Result<usize, Failed> {
         match self.writer.write(piece) {
             Ok(count) if count > 0 => Ok(count),
-            _ => {
+            written => {
                 self.faults = self.faults.saturating_add(1);
+                self.failed = Some(why(written));
                 Err(Failed)
             }
         }
+    }
+}
+
+// A writer that takes nothing more has no room.
+fn why(written: io::Result<usize>) -> io::Error {
+    match written {
+        Ok(_) => io::Error::from(io::ErrorKind::WriteZero),
+        Err(e) => e,
     }
 }

@@ -2,6 +2,7 @@
 
 ghost use Rattle.std.specs.Prelude.{◌≡◌, ◌<◌, ◌*◌, ◌/◌, ◌==◌, count_by};
 
+use crate::shown::Shown;
 use std::alloc::{AllocError, Global};
 use std::fmt::{Display, Formatter};
 use std::rt::Clock;
@@ -41,6 +42,7 @@ impl<'a, R: Clock + Eprint + AllocGlobal> Progress<'a, R> {
         name: &str,
         size: Option<u64>,
     ) -> io::Result<Progress<'a, R>> {
+        let name = format!(in rt.alloc(); "{}", Shown(name))?;
         let phase = match name.len() {
             0..=24 => format!(in rt.alloc(); "{phase} {name}")?,
             _ => String::from_str(rt.alloc(), phase)?,

@@ -5,6 +5,7 @@ ghost use Rattle.std.specs.Prelude.{◌≡◌};
 use crate::output::Output;
 use outside::{Failed, Sink};
 use std::alloc::Global;
+use std::io;
 use std::io::Write;
 
 // Lines of a run, and a refusal of a count, are shorter together, but for names of columns that are very long.
@@ -25,9 +26,14 @@ impl<W: Write> Report<W> {
         }
     }
 
-    // The first bytes of it, if they are text.
+    // The first bytes of it, if they are text, with those that could not be written.
     pub(crate) fn text(&self) -> &str {
         str::from_utf8(self.kept.as_slice()).unwrap_or("")
+    }
+
+    // Why the last write failed that did, if one did.
+    pub(crate) fn failed(&self) -> Option<&io::Error> {
+        self.output.failed()
     }
 
     // Where there is no memory, a person is told less.
@@ -47,10 +53,11 @@ impl<W: Write> Sink for Report<W> {
     ghost faults = { λ s. s.output.faults };
 
     fn write(&mut self, piece: &[u8]) -> Result<usize, Failed> {
-        let count = self.output.write(piece)?;
-        if let Some(written) = piece.get(..count) {
-            self.keep(written);
+        let written = self.output.write(piece);
+        match written {
+            Ok(count) => self.keep(piece.get(..count).unwrap_or(&[])),
+            Err(_) => self.keep(piece),
         }
-        Ok(count)
+        written
     }
 }

@@ -2,6 +2,7 @@
 
 ghost use Rattle.std.specs.Prelude.{◌≡◌, IfOk, None, false, vec_len};
 
+use crate::shown::Shown;
 use outside::{Failed, Slot};
 use std::alloc::{AllocError, Global};
 use std::fs::{File, OpenOptions};
@@ -111,7 +112,9 @@ impl<'a, R: Files<File = File> + Env + Eprint + AllocGlobal + Wait> Scratch<'a, 
                 Err(e) => return Err(e),
             }
         }
-        Err(io::Error::other("its names are taken"))
+        Err(io::Error::other(
+            "its 64 names are taken: remove the files spill-scratch-0 to spill-scratch-63",
+        ))
     }
 
     // Once is enough: what failed is likely to fail again.
@@ -121,9 +124,9 @@ impl<'a, R: Files<File = File> + Env + Eprint + AllocGlobal + Wait> Scratch<'a, 
         }
         opened.told = true;
         if let Ok(folder) = env::temp_dir(self.rt) {
-            let folder = folder.as_str();
             let _ = eprintln!(self.rt;
-                "spill: what memory can't hold goes to a file in {folder}, and that failed: {why}: free space there, or name another folder in TMPDIR"
+                "spill: the scratch file in {} failed: {why}: free space there, or name another folder in TMPDIR",
+                Shown(folder.as_str())
             );
         }
     }

@@ -1,15 +1,25 @@
 // A line of a report as a sentence for a person: which query, which file, which record, and what would do.
 
-use query_plan::{Plan, Query};
-use std::io;
+use crate::input_words::tell_input;
+use crate::memory_words::{tell_reservation, tell_scratch};
+use crate::row_words::Page;
+use crate::shown::Shown;
+use query_plan::{Plan, Query, SidePlan};
+use row_codec::Column;
+use std::fmt::{Display, Formatter};
+use std::rt::Files;
+use std::{fmt, io};
+
+pub(crate) const OUT_OF_MEMORY: &str =
+    "out of memory: end other programs, or raise the limit of memory";
 
 // A line without an answer, in parts: the query's number, its status, and what stands behind it.
 #[derive(Clone, Copy)]
-struct Refused<'a> {
-    query: Option<usize>,
+pub(crate) struct Refused<'a> {
+    pub(crate) query: Option<usize>,
     status: &'a str,
-    cause: &'a str,
-    numbers: &'a str,
+    pub(crate) cause: &'a str,
+    pub(crate) numbers: &'a str,
 }
 
 impl<'a> Refused<'a> {
@@ -32,11 +42,10 @@ impl<'a> Refused<'a> {
     }
 }
 
-// Where the files of a line are told: by the plan that ran, which may not be read again, or by the one file of a count. A check
-// reads none.
+// What ran: the queries of a plan, which may not be read again, or the count of a column, or a check, which reads no file.
 #[derive(Clone, Copy)]
-pub(crate) enum Files<'a> {
-    OfPlan {
+pub(crate) enum Ran<'a> {
+    Plan {
         name: &'a str,
         plan: &'a Plan,
         // For each query the slots that are sure to suffice, if that is known.
@@ -45,159 +54,157 @@ pub(crate) enum Files<'a> {
     Unread {
         name: &'a str,
     },
-    One(&'a str),
-    Table,
+    Count {
+        file: &'a str,
+        column: &'a str,
+    },
+    Check,
 }
 
-impl<'a> Files<'a> {
-    // The name of the plan's file.
-    fn plan_name(self) -> Option<&'a str> {
+impl<'a> Ran<'a> {
+    // How each sentence of a line begins.
+    pub(crate) fn front(self, query: Option<usize>) -> Front<'a> {
+        let plan = match self {
+            Ran::Plan { name, .. } => Some(name),
+            Ran::Unread { name } => Some(name),
+            Ran::Count { .. } | Ran::Check => None,
+        };
+        Front { plan, query }
+    }
+
+    pub(crate) fn query(self, number: Option<usize>) -> Option<&'a Query> {
         match self {
-            Files::OfPlan { name, .. } => Some(name),
-            Files::Unread { name } => Some(name),
-            Files::One(_) | Files::Table => None,
+            Ran::Plan { plan, .. } => plan.queries.as_slice().get(number?.checked_sub(1)?),
+            Ran::Unread { .. } | Ran::Count { .. } | Ran::Check => None,
         }
     }
 
-    fn query(self, number: Option<usize>) -> Option<&'a Query> {
+    // The pages of a query.
+    pub(crate) fn page(self, number: Option<usize>) -> Option<Page> {
         match self {
-            Files::OfPlan { plan, .. } => plan.queries.as_slice().get(number?.checked_sub(1)?),
-            Files::Unread { .. } | Files::One(_) | Files::Table => None,
+            Ran::Plan { plan, .. } => Some(Page {
+                blocks: u64::from(self.query(number)?.page_blocks),
+                block_len: u64::from(plan.block_len),
+            }),
+            Ran::Unread { .. } | Ran::Count { .. } | Ran::Check => None,
         }
     }
 
     // The slots that are sure to suffice for a query, if that is known.
-    fn quota(self, number: Option<usize>) -> Option<u64> {
+    pub(crate) fn enough(self, number: Option<usize>) -> Option<u64> {
         match self {
-            Files::OfPlan { quotas, .. } => *quotas.get(number?.checked_sub(1)?)?,
-            Files::Unread { .. } | Files::One(_) | Files::Table => None,
+            Ran::Plan { quotas, .. } => *quotas.get(number?.checked_sub(1)?)?,
+            Ran::Unread { .. } | Ran::Count { .. } | Ran::Check => None,
         }
     }
 
-    // The file of a side, as the line names it.
-    fn of_side(self, number: Option<usize>, side: &str) -> &'a str {
-        match (self, self.query(number)) {
-            (Files::One(file), _) => file,
-            (_, Some(query)) => match (side, &query.right) {
-                ("right", Some(right)) => right.file.as_str(),
-                _ => query.left.file.as_str(),
-            },
-            _ => "an input",
+    // The input on a side, as the line names it.
+    pub(crate) fn input(self, number: Option<usize>, side: &str) -> Option<Input<'a>> {
+        if let Ran::Count { file, column } = self {
+            let asked = Asked::One(column);
+            return Some(Input { file, asked });
+        }
+        let query = self.query(number)?;
+        match (side, &query.right) {
+            ("right", Some(right)) => Some(Input::of(right)),
+            _ => Some(Input::of(&query.left)),
+        }
+    }
+}
+
+// A file, and the columns that are asked of it.
+#[derive(Clone, Copy)]
+pub(crate) struct Input<'a> {
+    pub(crate) file: &'a str,
+    pub(crate) asked: Asked<'a>,
+}
+
+impl<'a> Input<'a> {
+    fn of(side: &'a SidePlan) -> Input<'a> {
+        Input {
+            file: side.file.as_str(),
+            asked: Asked::All(side.columns.as_slice()),
+        }
+    }
+}
+
+#[derive(Clone, Copy)]
+pub(crate) enum Asked<'a> {
+    One(&'a str),
+    All(&'a [Column]),
+}
+
+// The program's name, and of a run the query.
+#[derive(Clone, Copy)]
+pub(crate) struct Front<'a> {
+    plan: Option<&'a str>,
+    query: Option<usize>,
+}
+
+impl Display for Front<'_> {
+    fn fmt<W: fmt::Write>(&self, f: &mut Formatter<W>) -> fmt::Result {
+        match (self.plan, self.query) {
+            (Some(name), Some(number)) => write!(f, "spill: query {number} of {}: ", Shown(name)),
+            _ => f.write_str("spill: "),
         }
     }
 }
 
 // Tells each line that has no answer, but for those of files, which were told where the fault came.
-pub(crate) fn tell_lines(rt: &impl Eprint, report: &str, files: Files<'_>) -> io::Result<()> {
+pub(crate) fn tell_lines<F: Files + AllocGlobal>(
+    rt: &impl Eprint,
+    files: &F,
+    report: &str,
+    ran: Ran<'_>,
+) -> io::Result<()> {
     for line in report.lines() {
         if let Some(refused) = Refused::of(line) {
-            tell(rt, &refused, files)?;
+            tell(rt, files, &refused, ran)?;
         }
     }
     Ok(())
 }
 
-fn tell(rt: &impl Eprint, line: &Refused<'_>, files: Files<'_>) -> io::Result<()> {
+fn tell<F: Files + AllocGlobal>(
+    rt: &impl Eprint,
+    files: &F,
+    line: &Refused<'_>,
+    ran: Ran<'_>,
+) -> io::Result<()> {
+    let front = ran.front(line.query);
     match (line.status, line.cause) {
-        ("4" | "5", cause) => tell_input(rt, line, cause, files),
-        ("6", _) => {
-            begin(rt, line, files)?;
-            tell_reservation(rt, line.numbers, files)
-        }
-        ("7", "scratch") => {
-            begin(rt, line, files)?;
-            tell_scratch(rt, files.quota(line.query), files)
-        }
-        ("7", _) => {
-            begin(rt, line, files)?;
-            eprintln!(rt; "no page name is left: it is too large")
-        }
-        ("8", _) => {
-            begin(rt, line, files)?;
-            eprintln!(rt; "a page could not be written to scratch, or read from it")
-        }
-        ("10", _) => {
-            begin(rt, line, files)?;
-            eprintln!(rt; "there was no memory for it")
-        }
+        ("4" | "5", _) => tell_input(rt, files, line, ran),
+        ("6", _) => tell_reservation(rt, line, ran),
+        ("7", "scratch") => tell_scratch(rt, line, ran),
+        ("7", _) => eprintln!(rt;
+            "{front}the input is too large: all numbers of pages were used up: split the input"
+        ),
+        ("8", "write") => eprintln!(rt;
+            "{front}a page could not be written to the scratch file: see the reason above"
+        ),
+        ("8", _) => eprintln!(rt;
+            "{front}a page could not be read from the scratch file: see the reason above"
+        ),
+        ("9", _) => tell_unwritten(rt, front, ran, line.query),
+        ("10", _) => eprintln!(rt; "{front}{OUT_OF_MEMORY}"),
         _ => Ok(()),
     }
 }
 
-// Which query, where there are several.
-fn begin(rt: &impl Eprint, line: &Refused<'_>, files: Files<'_>) -> io::Result<()> {
-    match (files.plan_name(), line.query) {
-        (Some(name), Some(number)) => eprint!(rt; "spill: query {number} of {name}: "),
-        _ => eprint!(rt; "spill: "),
-    }
-}
-
-// An input was refused. Records are numbered from 0, the header.
-fn tell_input(
+// Why it was not was told where the fault came.
+fn tell_unwritten(
     rt: &impl Eprint,
-    line: &Refused<'_>,
-    cause: &str,
-    files: Files<'_>,
+    front: Front<'_>,
+    ran: Ran<'_>,
+    number: Option<usize>,
 ) -> io::Result<()> {
-    let (side, behind) = line.numbers.split_once(' ').unwrap_or((line.numbers, ""));
-    let (record, last) = behind.split_once(' ').unwrap_or((behind, ""));
-    let file = files.of_side(line.query, side);
-    begin(rt, line, files)?;
-    match cause {
-        "header" => eprintln!(rt;
-            "the header of {file}, split at commas, must have each column that is asked for exactly once"
-        ),
-        "csv" => eprintln!(rt;
-            "record {record} of {file} (the header is 0) must have as many fields as the header"
-        ),
-        "field" => eprintln!(rt;
-            "record {record} of {file} (the header is 0) must have a whole number of 64 bits in the column \"{last}\""
-        ),
-        "row" => eprintln!(rt;
-            "record {record} of {file} (the header is 0) is too long: its row weighs {last} bytes, and a page has fewer"
-        ),
-        _ => eprintln!(rt; "{file} is too large: it has too many records or bytes"),
-    }
-}
-
-// The least reservation was refused, by all memory of a check, by the query's own limit or by what queries before it left.
-fn tell_reservation(rt: &impl Eprint, numbers: &str, files: Files<'_>) -> io::Result<()> {
-    let (who, behind) = numbers.split_once(' ').unwrap_or((numbers, ""));
-    let (wanted, room) = behind.split_once(' ').unwrap_or((behind, ""));
-    match (files, who) {
-        (Files::Table, _) => eprintln!(rt;
-            "it needs {wanted} bytes, and its memory has {room}: more BLOCKS would do"
-        ),
-        (_, "query") => eprintln!(rt;
-            "it needs {wanted} bytes, and its \"limit\" is {room}: a limit of {wanted} would do"
-        ),
-        _ => eprintln!(rt;
-            "it needs {wanted} bytes, and the queries before it left {room} of the plan's memory: more \"blocks\" would do"
-        ),
-    }
-}
-
-fn tell_scratch(rt: &impl Eprint, quota: Option<u64>, files: Files<'_>) -> io::Result<()> {
-    if let Some(quota) = quota {
-        return eprintln!(rt;
-            "the scratch slots set aside for it were used up: a \"quota\" of {quota} would do, and where that is too much, longer pages may"
-        );
-    }
-    match files {
-        Files::OfPlan { .. } | Files::Unread { .. } => {
-            eprintln!(rt;
-                "the scratch slots set aside for it were used up: a higher \"quota\" may do"
-            )
-        }
-        Files::One(file) => {
-            eprintln!(rt;
-                "{file} has more values than scratch holds: a plan with longer pages may do"
-            )
-        }
-        Files::Table => {
-            eprintln!(rt;
-                "the table has more groups than scratch holds: fewer GROUPS or more BLOCKS may do"
-            )
-        }
-    }
+    let output = match (ran, ran.query(number)) {
+        (Ran::Check, _) => "selfcheck.csv",
+        (_, Some(query)) => query.output.as_str(),
+        _ => "its output",
+    };
+    eprintln!(rt;
+        "{front}the answer was not written to {}: see the reason above",
+        Shown(output)
+    )
 }

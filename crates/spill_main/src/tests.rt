@@ -1,11 +1,14 @@
 use crate::files::{FileInputs, FileOutputs};
 use crate::in_use::InUse;
 use crate::output::Output;
+use crate::report::Report;
 use outside::{Inputs, Outputs, Sink, Source};
 use std::io::Write;
 use std::test::Fail;
 use std::{env, fs, io, process};
 
+mod again;
+mod lines;
 mod people;
 mod scratch;
 
@@ -24,7 +27,7 @@ fn place(rt: &HostRuntime, name: &str) -> Result<String, Fail> {
 fn a_file_is_read_to_its_end_and_a_missing_one_is_a_fault(rt: HostRuntime) -> Result<(), Fail> {
     let name = place(&rt, "in.csv")?;
     let in_use = InUse::new(rt.alloc());
-    let mut inputs = FileInputs::new(&rt, &in_use, false);
+    let mut inputs = FileInputs::new(&rt, &in_use, false, None);
     assert!(rt; inputs.open(name.as_str()).is_err());
     fs::write(&rt, name.as_str(), "k\na\n")?;
     let mut source = inputs.open(name.as_str())?;
@@ -71,7 +74,7 @@ fn no_output_replaces_an_input(rt: HostRuntime) -> Result<(), Fail> {
     fs::write(&rt, name.as_str(), "k\na\n")?;
     fs::hard_link(&rt, name.as_str(), link.as_str())?;
     let in_use = InUse::new(rt.alloc());
-    let mut inputs = FileInputs::new(&rt, &in_use, false);
+    let mut inputs = FileInputs::new(&rt, &in_use, false, None);
     let mut outputs = FileOutputs::new(&rt, &in_use, false);
     let source = inputs.open(name.as_str())?;
     assert!(rt; outputs.create(link.as_str()).is_err());
@@ -79,7 +82,7 @@ fn no_output_replaces_an_input(rt: HostRuntime) -> Result<(), Fail> {
     assert!(rt; outputs.create(link.as_str()).is_err());
 
     let in_use = InUse::new(rt.alloc());
-    let mut inputs = FileInputs::new(&rt, &in_use, false);
+    let mut inputs = FileInputs::new(&rt, &in_use, false, None);
     let mut outputs = FileOutputs::new(&rt, &in_use, false);
     let sink = outputs.create(link.as_str())?;
     assert!(rt; inputs.open(name.as_str()).is_err());
@@ -127,4 +130,13 @@ fn a_writer_that_fails_is_a_fault_that_counts(rt: HostRuntime) {
     assert!(rt; report.write(b"x").is_err());
     assert!(rt; report.write(b"x").is_err());
     assert_eq!(rt; report.faults(), 2);
+}
+
+#[test]
+fn a_line_that_is_not_written_is_told_all_the_same(rt: HostRuntime) {
+    let mut report = Report::new(rt.alloc(), Full);
+    assert!(rt; report.write(b"4 header left\n").is_err());
+    assert_eq!(rt; report.text(), "4 header left\n");
+    let why = report.failed().map(|why| why.kind());
+    assert_eq!(rt; why, Some(io::ErrorKind::StorageFull));
 }
