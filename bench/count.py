@@ -31,7 +31,7 @@ def tools(table):
         ("mawk", "mawk", ["mawk", "-F", ",", awk, table]),
         ("sqlite3", "sqlite3", ["sqlite3", "-csv", ":memory:", f".import --csv {table} rows", query]),
         ("mlr", "mlr", ["mlr", "--csv", "count-distinct", "-f", "value", table]),
-        ("plain", "cargo", [os.path.join(PLAIN, "target", "release", "plain"), table]),
+        ("plain", "cargo", [os.path.join(PLAIN, "target", "release", "plain"), "count", table]),
     ]
 
 
@@ -130,4 +130,5 @@ def main():
             print(f"{name:14} {least[name]:8.3f} s  {memory[name]:9} KiB  {ratio:5.2f} times  {same}")
 
 
-main()
+if __name__ == "__main__":
+    main()
