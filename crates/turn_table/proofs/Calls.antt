@@ -14,7 +14,7 @@ use Rattle.turn_table.specs.Knowledge.{first_at, NeedsOnly, GrewBeside}
 use Rattle.turn_table.specs.Rule.{ticket_at, turn_at, live_at, out_at, InTurn, Knows, Turning}
 use Rattle.turn_table.specs.Steps.{opened, waiting, taking, grown, parted, newcomer, joined, spent, Drew, Looked, Served, Recalled}
 use Rattle.turn_table.proofs.Sums.{same_is}
-use Rattle.turn_table.proofs.Knowing.{knows_grew, knows_made, knows_serves}
+use Rattle.turn_table.proofs.Knowing.{told_nothing, knows_grew, knows_made, knows_serves}
 use Rattle.turn_table.proofs.Counts.{first_of, one_served, none_turns, none_out}
 use Rattle.turn_table.proofs.Keeps.{live_idle, draw_hit, look_hit, serve_keeps, split_keeps, join_keeps, unmoved}
 
@@ -96,7 +96,7 @@ module _ {V E : Type 0} (stands : V → List E → Type 0) (needs : E → List �
   serves slots id m new x ticket turn holds stood only =
       subst (λ (c : List (ℕ × Option V)). Allows Rule slots id (m.0, c) 1 (λ n. (n + 1) % 2 ^ 64) (λ _. Served new (m.0, c))) (sym holds) (serves_at slots id m.0 new x ticket turn stood only)
 
-  pub recalls : (slots id : ℕ) (m : Me (Option V) (View E)) → m.0.stage ≡ Idle → Allows Rule slots id m 1 (λ n. n) (λ _. Recalled m)
+  pub recalls : (slots id : ℕ) (m : Me (Option V) (View E)) → m.0.stage ≡ Idle → Allows Rule slots id m 1 (λ n. n) (λ _. Recalled needs m)
   recalls slots id m idle s rule long at small = (m.0, keeps, tt, unmoved stands needs rule id at 1, (refl, (rule.trails.each id m.0 at (live_idle m.0.stage idle)).told))
 
   pub splits : (id : ℕ) (v : View E) (right : Option ℕ) → v.stage ≡ Idle → first_of v ≡ 1 → IsAmong right v.rights → Splits Rule id v (parted right v) (newcomer right v)
@@ -107,7 +107,7 @@ module _ {V E : Type 0} (stands : V → List E → Type 0) (needs : E → List �
 
   knows_opened : (rights : List ℕ) (j : ℕ) (v : View E) → get_elem? (opened rights ∷ []) j ≡ some v → Knows needs j [] 0 v
   knows_opened rights zero v there = subst (λ (u : View E). Knows needs zero [] 0 u) (some-injective (opened rights) v there)
-      record { front = []; behind = []; whole = refl; seen = refl; made = refl; not_made = refl; beside = λ r h. refl; in_turn = tt; told = ([], refl) }
+      record { front = []; behind = []; whole = refl; seen = refl; made = refl; not_made = refl; beside = λ r h. refl; in_turn = tt; told = told_nothing needs [] }
   knows_opened rights (suc j) v there = absurd (some-ne-none v (sym there))
 
   pub opens : (x : V) (rights : List ℕ) → stands x [] → ((r : ℕ) → times r rights ≤ 1) → Rule (opening (0 ∷ 0 ∷ []) (Some x ∷ []) (opened rights))

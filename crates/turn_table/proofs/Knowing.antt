@@ -1,12 +1,12 @@
 -- What each step leaves of what a seat knows.
-use Rattle.std.proofs.Common.{◌≡◌, ℕ, ◌+◌, ◌<◌, ◌≤◌, ◌≢◌, Bool, true, false, cond, nat_lt, List, [], ◌++◌, length, sym, refl, ap, subst, ◌∙◌, arith, append-nil, append_assoc, ltb-true, ltb-false, Option}
+use Rattle.std.proofs.Common.{◌≡◌, ℕ, ◌+◌, ◌<◌, ◌≤◌, ◌≢◌, Bool, true, false, cond, nat_lt, List, [], ◌++◌, length, sym, refl, ap, ◌∙◌, arith, append-nil, append_assoc, ltb-true, ltb-false, Option}
 use native.Mathlib.Decide.{dec_lt}
 use mathlib.Core.Logic.{dite}
 use Rattle.turn_table.specs.declared.view.Role.{Role}
 use Rattle.turn_table.specs.declared.view.Stage.{Stage}
 use Rattle.turn_table.specs.declared.view.Stage.TheVariants.{Idle, Waiting, Turn, Spent}
 use Rattle.turn_table.specs.declared.view.View.{View}
-use Rattle.turn_table.specs.Lists.{same, times, needed, entries, by, tagged, Begins, IsAmong}
+use Rattle.turn_table.specs.Lists.{same, times, needed, entries, by, tagged, IsAmong}
 use Rattle.turn_table.specs.Knowledge.{NeedsNone, GrewBeside, MadeWithin}
 use Rattle.turn_table.specs.Rule.{turn_at, InTurn, Knows}
 use Rattle.turn_table.specs.Steps.{one_less, taking, grown, newcomer, joined}
@@ -14,12 +14,6 @@ use Rattle.turn_table.proofs.Sums.{total-append, parts}
 use Rattle.turn_table.proofs.Authors.{entries-append, entries-tagged, entries-length, by-append, by-tagged, by-tagged_other, nothing_twice, between}
 
 module _ {A : Type 0} where
-  pub begins_itself : (xs : List A) → Begins xs xs
-  begins_itself xs = ([], sym (append-nil xs))
-
-  pub begins_more : (xs ys zs : List A) → Begins xs ys → Begins xs (ys ++ zs)
-  begins_more xs ys zs b = (b.0 ++ zs, ap (λ (l : List A). l ++ zs) b.1 ∙ append_assoc xs b.0 zs)
-
   pub resting : (s : ℕ) (b : List A) (stage : Stage) → turn_at stage ≡ 0 → InTurn s b stage
   resting s b Idle z = tt
   resting s b (Waiting t) z = tt
@@ -33,6 +27,10 @@ module _ {E : Type 0} (needs : E → List ℕ) where
   needed_both : (r : ℕ) (a b : List (ℕ × E)) → needed needs r (entries (a ++ b)) ≡ needed needs r (entries a) + needed needs r (entries b)
   needed_both r a b = ap (needed needs r) (entries-append a b) ∙ needed-append r (entries a) (entries b)
 
+  -- where nothing was told and no right is spared, it is so of each list
+  pub told_nothing : (seen : List E) → GrewBeside needs [] [] seen
+  told_nothing seen = record { behind = seen; grew = refl; beside = λ r h. absurd (omega arith) }
+
   module _ {j : ℕ} {written : List (ℕ × E)} {serving : ℕ} {v : View E} (k : Knows needs j written serving v) where
     pub all_entries : entries written ≡ v.seen ++ entries k.behind
     all_entries = ap (λ (z : List (ℕ × E)). entries z) k.whole ∙ entries-append k.front k.behind ∙ ap (λ (z : List E). z ++ entries k.behind) k.seen
@@ -42,7 +40,7 @@ module _ {E : Type 0} (needs : E → List ℕ) where
 
     -- nothing of what the seat knows is new, and its stage fits
     pub same_trail : (role : Role) (stage : Stage) (rights : List ℕ) → ((r : ℕ) → 0 < times r rights → 0 < times r v.rights) → InTurn serving k.behind stage
-        → Knows needs j written serving record { role = role; stage = stage; seen = v.seen; made = v.made; told = v.told; rights = rights }
+        → Knows needs j written serving record { role = role; stage = stage; seen = v.seen; made = v.made; told = v.told; spared = v.spared; rights = rights }
     same_trail role stage rights fewer fits = record {
       front = k.front;
       behind = k.behind;
@@ -65,7 +63,7 @@ module _ {E : Type 0} (needs : E → List ℕ) where
       not_made = refl;
       beside = λ r h. refl;
       in_turn = (refl, refl);
-      told = subst (Begins v.told) (sym all_entries) (begins_more v.told v.seen (entries k.behind) k.told);
+      told = told_nothing (entries written);
     }
 
     pub knows_grew : GrewBeside needs v.rights v.seen (entries written)
@@ -84,7 +82,7 @@ module _ {E : Type 0} (needs : E → List ℕ) where
       not_made = refl;
       beside = λ r h. refl;
       in_turn = tt;
-      told = begins_more v.told v.seen new k.told;
+      told = told_nothing (v.seen ++ new);
     }
 
     -- another seat adds entries, which need no right of this one
@@ -114,18 +112,42 @@ module _ {E : Type 0} (needs : E → List ℕ) where
           not_made = two.1;
           beside = λ r h. k.beside r (let p = parts right v.rights among r in omega arith);
           in_turn = tt;
-          told = (v.seen, refl);
+          told = told_nothing v.seen;
         }
+
+  -- where entries need none of these rights, no part of them does
+  none_parts : (rights : List ℕ) (all a b : List (ℕ × E)) → all ≡ a ++ b → NeedsNone needs rights (entries all) → NeedsNone needs rights (entries a) × NeedsNone needs rights (entries b)
+  none_parts rights all a b parted none =
+      let sum = λ (r : ℕ). ap (λ (z : List (ℕ × E)). needed needs r (entries z)) parted ∙ needed_both r a b in
+      (λ r h. let s = sum r in let z = none r h in omega arith, λ r h. let s = sum r in let z = none r h in omega arith)
+
+  -- of two seats, the first has seen no more than the second
+  module _ {i j : ℕ} {written : List (ℕ × E)} {serving : ℕ} {v w : View E} (k : Knows needs i written serving v) (l : Knows needs j written serving w) where
+    further : length v.seen ≤ length w.seen → (more : List (ℕ × E)) × (l.front ≡ k.front ++ more) × (k.behind ≡ more ++ l.behind)
+    further less = between k.front l.front k.behind l.behind (sym k.whole ∙ l.whole) (omega (arith, entries-length k.front, entries-length l.front, ap (λ (z : List E). length z) k.seen, ap (λ (z : List E). length z) l.seen))
+
+    saw_beside : length v.seen ≤ length w.seen → GrewBeside needs v.rights v.seen w.seen
+    saw_beside less =
+        let b = further less in
+        record {
+          behind = entries b.0;
+          grew = sym l.seen ∙ ap (λ (z : List (ℕ × E)). entries z) b.1 ∙ entries-append k.front b.0 ∙ ap (λ (z : List E). z ++ entries b.0) k.seen;
+          beside = (none_parts v.rights k.behind b.0 l.behind b.2 k.beside).0;
+        }
+
+    rest_beside : length v.seen ≤ length w.seen → NeedsNone needs v.rights (entries l.behind)
+    rest_beside less = let b = further less in (none_parts v.rights k.behind b.0 l.behind b.2 k.beside).1
 
   -- the first of two seats after a join, by which of them has seen more
   module _ {i j : ℕ} {written : List (ℕ × E)} {serving : ℕ} {v w : View E} (k : Knows needs i written serving v) (l : Knows needs j written serving w) where
-    one_needs : (r : ℕ) → 0 < times r (v.rights ++ w.rights) → ¬ (0 < times r v.rights) → 0 < times r w.rights
-    one_needs r h not_first = let sum = total-append (same r) v.rights w.rights in omega arith
+    -- what needs no right of the one and none of the other needs none of both
+    none_of_both : (log : List E) → NeedsNone needs v.rights log → NeedsNone needs w.rights log → NeedsNone needs (v.rights ++ w.rights) log
+    none_of_both log free free_too r h = let sum = total-append (same r) v.rights w.rights in dite (dec_lt 0 (times r v.rights)) (λ yes. free r yes) (λ no. free_too r (omega arith))
 
     seen_more : length v.seen ≤ length w.seen → v.stage ≡ Idle
-        → Knows needs i written serving record { role = one_less v.role; stage = v.stage; seen = w.seen; made = v.made; told = v.seen; rights = v.rights ++ w.rights }
+        → Knows needs i written serving record { role = one_less v.role; stage = v.stage; seen = w.seen; made = v.made; told = v.seen; spared = v.rights; rights = v.rights ++ w.rights }
     seen_more less idle =
-        let b = between k.front l.front k.behind l.behind (sym k.whole ∙ l.whole) (omega (arith, entries-length k.front, entries-length l.front, ap (λ (z : List E). length z) k.seen, ap (λ (z : List E). length z) l.seen)) in
+        let b = further k l less in
         let none = nothing_twice (by i b.0) (by i l.behind) (sym (by-append i b.0 l.behind) ∙ ap (λ (z : List (ℕ × E)). by i z) (sym b.2) ∙ k.not_made) in
         record {
           front = l.front;
@@ -134,32 +156,27 @@ module _ {E : Type 0} (needs : E → List ℕ) where
           seen = l.seen;
           made = ap (λ (z : List (ℕ × E)). by i z) b.1 ∙ by-append i k.front b.0 ∙ ap (λ (z : List E). by i k.front ++ z) none.0 ∙ append-nil (by i k.front) ∙ k.made;
           not_made = none.1;
-          beside = λ r h. dite (dec_lt 0 (times r v.rights))
-              (λ yes. let free = k.beside r yes in let both = needed_both r b.0 l.behind in let same_behind : needed needs r (entries k.behind) ≡ needed needs r (entries (b.0 ++ l.behind)) = ap (λ (z : List (ℕ × E)). needed needs r (entries z)) b.2 in omega arith)
-              (λ no. l.beside r (one_needs r h no));
+          beside = none_of_both (entries l.behind) (rest_beside k l less) l.beside;
           in_turn = resting serving l.behind v.stage (ap turn_at idle);
-          told = (entries b.0, sym l.seen ∙ ap (λ (z : List (ℕ × E)). entries z) b.1 ∙ entries-append k.front b.0 ∙ ap (λ (z : List E). z ++ entries b.0) k.seen);
+          told = saw_beside k l less;
         }
 
     seen_less : length w.seen ≤ length v.seen → v.stage ≡ Idle
-        → Knows needs i written serving record { role = one_less v.role; stage = v.stage; seen = v.seen; made = v.made; told = w.seen; rights = v.rights ++ w.rights }
-    seen_less less idle =
-        let b = between l.front k.front l.behind k.behind (sym l.whole ∙ k.whole) (omega (arith, entries-length k.front, entries-length l.front, ap (λ (z : List E). length z) k.seen, ap (λ (z : List E). length z) l.seen)) in
-        record {
-          front = k.front;
-          behind = k.behind;
-          whole = k.whole;
-          seen = k.seen;
-          made = k.made;
-          not_made = k.not_made;
-          beside = λ r h. dite (dec_lt 0 (times r v.rights)) (λ yes. k.beside r yes)
-              (λ no. let free = l.beside r (one_needs r h no) in let both = needed_both r b.0 k.behind in let same_behind : needed needs r (entries l.behind) ≡ needed needs r (entries (b.0 ++ k.behind)) = ap (λ (z : List (ℕ × E)). needed needs r (entries z)) b.2 in omega arith);
-          in_turn = resting serving k.behind v.stage (ap turn_at idle);
-          told = (entries b.0, sym k.seen ∙ ap (λ (z : List (ℕ × E)). entries z) b.1 ∙ entries-append l.front b.0 ∙ ap (λ (z : List E). z ++ entries b.0) l.seen);
-        }
+        → Knows needs i written serving record { role = one_less v.role; stage = v.stage; seen = v.seen; made = v.made; told = w.seen; spared = w.rights; rights = v.rights ++ w.rights }
+    seen_less less idle = record {
+      front = k.front;
+      behind = k.behind;
+      whole = k.whole;
+      seen = k.seen;
+      made = k.made;
+      not_made = k.not_made;
+      beside = none_of_both (entries k.behind) k.beside (rest_beside l k less);
+      in_turn = resting serving k.behind v.stage (ap turn_at idle);
+      told = saw_beside l k less;
+    }
 
     joined_at : (t : Bool) → nat_lt (length v.seen) (length w.seen) ≡ t → v.stage ≡ Idle
-        → Knows needs i written serving record { role = one_less v.role; stage = v.stage; seen = cond t w.seen v.seen; made = v.made; told = cond t v.seen w.seen; rights = v.rights ++ w.rights }
+        → Knows needs i written serving record { role = one_less v.role; stage = v.stage; seen = cond t w.seen v.seen; made = v.made; told = cond t v.seen w.seen; spared = cond t v.rights w.rights; rights = v.rights ++ w.rights }
     joined_at true less idle = seen_more (let lt = ltb-true (length v.seen) (length w.seen) less in omega arith) idle
     joined_at false less idle = seen_less (ltb-false (length v.seen) (length w.seen) less) idle
 

@@ -1,6 +1,6 @@
 -- Words on lists, for the rule and for what a seat knows. Each list of entries runs from the oldest to the newest.
 -- An author is the number of a seat.
-use Rattle.std.specs.Prelude.{◌≡◌, ℕ, ◌+◌, ◌<◌, List, [], ◌∷◌, ◌++◌, map, length, cond, ◌==◌, nat_lt, Option, None, Some}
+use Rattle.std.specs.Prelude.{ℕ, ◌+◌, ◌<◌, List, [], ◌∷◌, map, length, cond, ◌==◌, nat_lt, Option, None, Some}
 
 -- the sum of a number of each
 abbrev pub total : {A : Type 0} → (A → ℕ) → List A → ℕ
@@ -38,10 +38,6 @@ handed (Some right) = right ∷ []
 abbrev pub IsAmong : Option ℕ → List ℕ → Type 0
 IsAmong None rights = Unit {0}
 IsAmong (Some right) rights = 0 < times right rights
-
--- the second list is the first with something behind it
-abbrev pub Begins : {A : Type 0} → List A → List A → Type 0
-Begins {A} front whole = (behind : List A) × (whole ≡ front ++ behind)
 
 -- the longer of two lists, the first where they are as long
 abbrev pub longer : {A : Type 0} → List A → List A → List A

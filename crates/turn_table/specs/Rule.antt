@@ -10,8 +10,8 @@ use Rattle.turn_table.specs.declared.view.Role.TheVariants.{First, Other}
 use Rattle.turn_table.specs.declared.view.Stage.{Stage}
 use Rattle.turn_table.specs.declared.view.Stage.TheVariants.{Idle, Waiting, Turn, Spent}
 use Rattle.turn_table.specs.declared.view.View.{View}
-use Rattle.turn_table.specs.Lists.{total, same, times, entries, by, Begins}
-use Rattle.turn_table.specs.Knowledge.{first_at, NeedsNone}
+use Rattle.turn_table.specs.Lists.{total, same, times, entries, by}
+use Rattle.turn_table.specs.Knowledge.{first_at, NeedsNone, GrewBeside}
 
 -- 1 where the seat has this ticket
 abbrev pub ticket_at : ℕ → Stage → ℕ
@@ -71,7 +71,8 @@ module _ {E : Type 0} where
     pub away : 0 < turns views → homes ≡ none ∷ []
 
   -- what the seat of this author has seen begins the one list, and what it made stands within that;
-  -- nothing behind it was made by the seat or needs a right of it
+  -- nothing behind it was made by the seat or needs a right of it; what the seat was told of begins what it has seen,
+  -- and nothing behind that needs a spared right
   pub record Knows (needs : E → List ℕ) (author : ℕ) (written : List (ℕ × E)) (serving : ℕ) (v : View E) : Type 0 where
     pub front : List (ℕ × E)
     pub behind : List (ℕ × E)
@@ -81,7 +82,7 @@ module _ {E : Type 0} where
     pub not_made : by author behind ≡ []
     pub beside : NeedsNone needs v.rights (entries behind)
     pub in_turn : InTurn serving behind v.stage
-    pub told : Begins v.told v.seen
+    pub told : GrewBeside needs v.spared v.told v.seen
 
   -- each seat that isn't spent knows its part of the one list, one of them knows all, and nobody else made any of it
   pub record Trails (needs : E → List ℕ) (written : List (ℕ × E)) (serving : ℕ) (views : List (View E)) : Type 0 where

@@ -1,11 +1,11 @@
 -- What each step does to a view, and what it tells the seat that takes it.
-use Rattle.std.specs.Prelude.{◌≡◌, ◌≢◌, ℕ, ◌+◌, ◌-◌, List, [], ◌∷◌, ◌++◌, Option, Some}
+use Rattle.std.specs.Prelude.{◌≡◌, ◌≢◌, ℕ, ◌+◌, ◌-◌, List, [], ◌∷◌, ◌++◌, length, cond, nat_lt, Option, Some}
 use Rattle.atomic_table.specs.Table.{Me, Step}
 use Rattle.turn_table.specs.declared.view.Role.{Role}
 use Rattle.turn_table.specs.declared.view.Role.TheVariants.{First, Other}
 use Rattle.turn_table.specs.declared.view.Stage.TheVariants.{Idle, Waiting, Turn, Spent}
 use Rattle.turn_table.specs.declared.view.View.{View}
-use Rattle.turn_table.specs.Lists.{left_of, handed, longer, shorter, Begins}
+use Rattle.turn_table.specs.Lists.{left_of, handed, longer, shorter}
 use Rattle.turn_table.specs.Knowledge.{MadeWithin, GrewBeside}
 
 -- one seat more is out
@@ -21,35 +21,39 @@ one_less Other = Other
 module _ {E : Type 0} where
   -- the first seat at the start, with all rights
   abbrev pub opened : List ℕ → View E
-  opened rights = record { role = First 0; stage = Idle; seen = []; made = []; told = []; rights = rights }
+  opened rights = record { role = First 0; stage = Idle; seen = []; made = []; told = []; spared = []; rights = rights }
 
   -- a ticket is drawn
   abbrev pub waiting : ℕ → View E → View E
-  waiting ticket v = record { role = v.role; stage = Waiting ticket; seen = v.seen; made = v.made; told = v.told; rights = v.rights }
+  waiting ticket v = record { role = v.role; stage = Waiting ticket; seen = v.seen; made = v.made; told = v.told; spared = v.spared; rights = v.rights }
 
-  -- the ticket is served: the seat has its turn, and has seen the one list
+  -- the ticket is served: the seat has its turn, has seen the one list, and drops what the last join told
   abbrev pub taking : ℕ → List E → View E → View E
-  taking ticket log v = record { role = v.role; stage = Turn ticket; seen = log; made = v.made; told = v.told; rights = v.rights }
+  taking ticket log v = record { role = v.role; stage = Turn ticket; seen = log; made = v.made; told = []; spared = []; rights = v.rights }
 
   -- the next ticket is served: what the seat has seen and made grew by the new entries
   abbrev pub grown : List E → View E → View E
-  grown new v = record { role = v.role; stage = Idle; seen = v.seen ++ new; made = v.made ++ new; told = v.told; rights = v.rights }
+  grown new v = record { role = v.role; stage = Idle; seen = v.seen ++ new; made = v.made ++ new; told = []; spared = []; rights = v.rights }
 
   -- the first seat after a split, which hands out a right
   abbrev pub parted : Option ℕ → View E → View E
-  parted right v = record { role = one_more v.role; stage = v.stage; seen = v.seen; made = v.made; told = v.told; rights = left_of right v.rights }
+  parted right v = record { role = one_more v.role; stage = v.stage; seen = v.seen; made = v.made; told = v.told; spared = v.spared; rights = left_of right v.rights }
 
   -- the new seat
   abbrev pub newcomer : Option ℕ → View E → View E
-  newcomer right v = record { role = Other; stage = Idle; seen = v.seen; made = []; told = []; rights = handed right }
+  newcomer right v = record { role = Other; stage = Idle; seen = v.seen; made = []; told = []; spared = []; rights = handed right }
 
-  -- the first seat after a join; it is told the shorter list too
+  -- the rights of the seat whose list is the shorter one, of the second where they are as long
+  abbrev pub rights_of_shorter : View E → View E → List ℕ
+  rights_of_shorter v w = cond (nat_lt (length v.seen) (length w.seen)) v.rights w.rights
+
+  -- the first seat after a join; it is told the shorter list too, and spares the rights of the seat that had it
   abbrev pub joined : View E → View E → View E
-  joined v w = record { role = one_less v.role; stage = v.stage; seen = longer v.seen w.seen; made = v.made; told = shorter v.seen w.seen; rights = v.rights ++ w.rights }
+  joined v w = record { role = one_less v.role; stage = v.stage; seen = longer v.seen w.seen; made = v.made; told = shorter v.seen w.seen; spared = rights_of_shorter v w; rights = v.rights ++ w.rights }
 
   -- the seat that was joined
   abbrev pub spent : View E
-  spent = record { role = Other; stage = Spent; seen = []; made = []; told = []; rights = [] }
+  spent = record { role = Other; stage = Spent; seen = []; made = []; told = []; spared = []; rights = [] }
 
 module _ {V E : Type 0} where
   -- drawing: where the number found is the one expected, it is the seat's ticket
@@ -60,9 +64,9 @@ module _ {V E : Type 0} where
   abbrev pub Served : List E → Me (Option V) (View E) → Me (Option V) (View E) → Type 0
   Served new me now = (now ≡ (grown new me.0, [])) × MadeWithin now.0.made now.0.seen
 
-  -- recalling: what the seat was told of begins what it has seen
-  abbrev pub Recalled : Me (Option V) (View E) → Me (Option V) (View E) → Type 0
-  Recalled me now = (now ≡ me) × Begins me.0.told me.0.seen
+  -- recalling: what the seat was told of begins what it has seen, and nothing behind that needs a spared right
+  abbrev pub Recalled : (E → List ℕ) → Me (Option V) (View E) → Me (Option V) (View E) → Type 0
+  Recalled needs me now = (now ≡ me) × GrewBeside needs me.0.spared me.0.told me.0.seen
 
 module _ {V E : Type 0} (stands : V → List E → Type 0) (needs : E → List ℕ) where
   -- the seat took the slot with the value, and saw the one list

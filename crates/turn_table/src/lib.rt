@@ -28,8 +28,9 @@
 //! - The seats that aren't spent are the first one and as many others as it has out. Only the first
 //!   splits and joins.
 //!
-//! `join` takes one load more than the seats' two lists need: it changes nothing, and tells that
-//! both begin one list. A glance at `ticket` before a draw tells nothing at all.
+//! After a join the seat loads `serving` once more. The load changes nothing, but by the rule it
+//! tells that one of the two lists begins the other, and that nothing in between needs a right of
+//! the seat with the shorter list. A glance at `ticket` before a draw tells nothing at all.
 //!
 //! `Solo` is the same trail for one owner, who waits for nobody.
 #![tactic(auto)]

@@ -42,7 +42,7 @@ impl<V: Logged, N: Adds<V::Entry>> Play<Option<V>, View<V::Entry>> for Serve<N> 
 pub(crate) struct Recall;
 
 impl<V: Logged> Play<Option<V>, View<V::Entry>> for Recall {
-    ghost then = { λ _ me _. Recalled me };
+    ghost then = { λ _ me _. Recalled V.needs me };
 }
 
 // Parts a new seat from the first.

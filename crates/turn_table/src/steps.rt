@@ -1,7 +1,8 @@
 //! The atomic steps of a turn, and the two plain ones on the slot.
 //!
-//! `draw` and `await_turn` wait; the others are one step each. `recall` changes nothing: it brings to
-//! light that what a join put together belongs to one list.
+//! `draw` and `await_turn` wait; the others are one step each. `recall` comes after a join: the seat
+//! loads `serving` once more. The load changes nothing, but by the rule it tells that one of the two
+//! lists begins the other, and that nothing in between needs a right of the seat with the shorter list.
 
 ghost use Rattle.std.specs.Prelude.{◌≡◌, [], ◌∷◌, ◌++◌, None, Some};
 ghost use Rattle.turn_table.specs.Face.{IsAt};
@@ -111,12 +112,12 @@ pub(crate) fn serve<V: Logged, N: Adds<V::Entry>>(board: &Board<V>, place: &mut 
     board.shared.fetch_add::<Serve<N>>(place, SERVING, 1);
 }
 
-// Brings to light that what the seat was told of begins what it has seen.
+// Loads `serving`, for what the rule then tells of the two lists that met in the last join.
 pub(crate) fn recall<V: Logged>(board: &Board<V>, place: &mut Place<V>)
     requires table { IsAt place.old.table_id board.now.shared.table_id }
     requires idle { IsIdle place.old.me.0 }
     ensures place { (place.new.table_id ≡ place.old.table_id) × (place.new.id ≡ place.old.id) }
-    ensures recalled { Recalled place.old.me place.new.me }
+    ensures recalled { Recalled V.needs place.old.me place.new.me }
 {
     board.shared.load::<Recall>(place, SERVING);
 }

@@ -2,7 +2,7 @@
 
 ghost use Rattle.std.specs.Prelude.{◌≡◌, ℕ, ◌≤◌, List, [], ◌++◌, IfOk, IfErr, IsSome, Some};
 ghost use Rattle.atomic_table.specs.Seated.{TableId};
-ghost use Rattle.turn_table.specs.Lists.{times, Begins, IsAmong};
+ghost use Rattle.turn_table.specs.Lists.{times, IsAmong};
 ghost use Rattle.turn_table.specs.Knowledge.{IsIdle, HasTurn, IsFirst, IsAlone, MadeWithin, NeedsOnly, GrewBeside};
 ghost use Rattle.turn_table.specs.Steps.{opened, taking, grown, parted, newcomer, joined};
 
@@ -128,8 +128,9 @@ impl<V: Logged> Turns<V> {
         ensures table { seat.new.table ≡ self.now }
         ensures joined { seat.new.knows ≡ joined seat.old.knows other.knows }
 
-        // What either seat has seen begins what the first seat has seen now.
-        ensures seen { Begins seat.old.knows.seen seat.new.knows.seen × Begins other.knows.seen seat.new.knows.seen }
+        // What either seat has seen begins what the first seat has seen now, and behind that stands nothing that needs a right which that seat had.
+        ensures seen { GrewBeside V.needs seat.old.knows.rights seat.old.knows.seen seat.new.knows.seen }
+        ensures other { GrewBeside V.needs other.knows.rights other.knows.seen seat.new.knows.seen }
     {
         let board = &self.board;
         let place = &mut seat.place;

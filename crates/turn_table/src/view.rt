@@ -30,8 +30,11 @@ pub struct View<E> {
     pub seen: LinkedList<E>,
     /// The entries that were added in the seat's own turns.
     pub made: LinkedList<E>,
-    /// The shorter of the two lists that the last join brought together.
+    /// The shorter of the two lists that met in the last join. Empty before that, and again from the next turn on.
     pub told: LinkedList<E>,
+    /// The rights of the seat that had this shorter list: no entry of `seen` behind it needs one of them. Entries of a
+    /// later turn may, so each turn empties both fields.
+    pub spared: LinkedList<u32>,
     /// An entry that needs one of these stands in `seen`, or nowhere.
     pub rights: LinkedList<u32>,
 }
