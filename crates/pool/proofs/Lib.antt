@@ -1,0 +1,11 @@
+pub mod AllRights
+pub mod AtClose
+pub mod Begun
+pub mod Beside
+pub mod Came
+pub mod Ended
+pub mod Needed
+pub mod Passes
+pub mod Refusals
+pub mod Seated
+pub mod Stood

@@ -1,0 +1,27 @@
+use Rattle.std.proofs.Common.{not, refl, ap, ◌∙◌, inl}
+use Rattle.pin_core.specs.StateOf.{state_of}
+use Rattle.pool.proofs.Refusals.{full, vacant, refused, granted}
+use Rattle.pool.proofs.seating.check_session.Goals as goal
+
+pub returns-then-is_none-clause-err : goal.returns-then-is_none-clause-err
+returns-then-is_none-clause-err g c = (full c.parts.result.now c.args.state.now c.parts.ensures.parts c.vacant.result (c.is_none.ensures ∙ ap not c.if-is_none.true) c.vacant.ensures.none, refl)
+
+pub returns-then-limit-least-clause-err : goal.returns-then-limit-least-clause-err
+returns-then-limit-least-clause-err g c = (
+  vacant c.parts.result.now c.args.state.now c.parts.ensures.parts c.vacant.result (c.is_none.ensures ∙ ap not c.if-is_none.false) c.vacant.ensures.vacant,
+  inl (c.if-limit-least.true, c.of.ensures, refl, refl),
+)
+
+pub returns-then-room-growth-clause-err : goal.returns-then-room-growth-clause-err
+returns-then-room-growth-clause-err g c =
+    refused (state_of c.args.state.now) c.args.limit c.args.least c.of-root.result c.unused.result c.saturating_sub-growth.result c.limit.result c.reservation.result
+    c.of-root.ensures c.unused.ensures c.saturating_sub-growth.ensures c.limit.ensures c.reservation.ensures
+    (vacant c.parts.result.now c.args.state.now c.parts.ensures.parts c.vacant.result (c.is_none.ensures ∙ ap not c.if-is_none.false) c.vacant.ensures.vacant)
+    c.if-limit-least.false c.if-room-growth.true
+
+pub returns-clause-ok : goal.returns-clause-ok
+returns-clause-ok g c =
+    granted (state_of c.args.state.now) c.args.limit c.args.least c.of-root.result c.unused.result c.saturating_sub-growth.result c.limit.result c.reservation.result
+    c.of-root.ensures c.unused.ensures c.saturating_sub-growth.ensures c.limit.ensures c.reservation.ensures
+    (vacant c.parts.result.now c.args.state.now c.parts.ensures.parts c.vacant.result (c.is_none.ensures ∙ ap not c.if-is_none.false) c.vacant.ensures.vacant)
+    c.if-limit-least.false c.if-room-growth.false

@@ -1,0 +1,64 @@
+//! A session goes.
+ghost use Rattle.std.specs.Prelude.{◌≡◌, ◌<◌, ◌+◌};
+ghost use Rattle.reservation_tree.specs.Tracker.{HasNoChild};
+ghost use Rattle.pin_core.specs.StateOf.{state_of};
+ghost use Rattle.pin_core.specs.Sessions.{IsSeat, query_of};
+ghost use Rattle.turn_table.specs.Lists.{times};
+ghost use Rattle.turn_table.specs.Knowledge.{HasTurn};
+ghost use Rattle.turn_table.specs.Steps.{grown};
+ghost use Rattle.pool.specs.Items.{door};
+ghost use Rattle.pool.specs.Seats.{taken_in};
+ghost use Rattle.pool.specs.Standing.{StandsAs};
+ghost use Rattle.pool.specs.Sitting.{held_by};
+ghost use Rattle.pool.specs.Seating.{Ends, ending_items};
+
+use crate::item::Item;
+use crate::opened::OpenedAs;
+use crate::pass::Pass;
+use crate::seat::SessionSeat;
+use crate::shared::Shared;
+use outside::Slot;
+use std::marker::Brand;
+use std::sync::Wait;
+use turn_table::{Adds, TurnSeat, Turns};
+
+// The session's seat is joined to the pass's, which then has both rights that the end needs; and one turn ends it.
+pub(crate) fn unseat_session<D: Slot + Drop, T: OpenedAs, R: Wait>(
+    rt: &R,
+    turns: &Turns<Shared<D, T>>,
+    pass: &mut Pass<D, T>,
+    seat: SessionSeat<D, T>,
+)
+    requires table { (pass.old.table ≡ turns.now) × (seat.spot.table ≡ turns.now) }
+    requires no_client { (held_by T.opening T.told seat).live_clients ≡ 0 }
+    ensures { Ends T.opening seat pass.old pass.new }
+{
+    let SessionSeat { number, spot } = seat;
+    turns.join(&mut pass.seat, spot);
+    let shared = turns.enter(rt, &mut pass.seat);
+    pass.spare = leave_ended::<Brand, D, T>(turns, &mut pass.seat, shared, number);
+}
+
+// The session ends, and so does the turn, with its last items, which `N` names. It tells how many slots are spare then.
+fn leave_ended<N: Adds<Item>, D: Slot + Drop, T: OpenedAs>(
+    turns: &Turns<Shared<D, T>>,
+    seat: &mut TurnSeat<Shared<D, T>>,
+    mut shared: Shared<D, T>,
+    number: u32,
+) -> u32
+    requires named { N.entries ≡ ending_items (state_of shared.state) number }
+    requires table { seat.old.table ≡ turns.now }
+    requires turn { HasTurn seat.old.knows }
+    requires stands { StandsAs D.Slot T.opening T.told seat.old.knows.seen shared.state }
+    requires live { IsSeat (state_of shared.state) number }
+    requires no_client { HasNoChild (state_of shared.state).trackers (query_of (state_of shared.state) number) }
+    requires rights { (0 < times door seat.old.knows.rights) × (0 < times number seat.old.knows.rights) }
+    ensures table { seat.new.table ≡ turns.now }
+    ensures grown { seat.new.knows ≡ grown (ending_items (state_of shared.state) number) seat.old.knows }
+    ensures spare { result + taken_in seat.new.knows.seen ≡ T.opening.slots }
+{
+    shared.state.end_session(number);
+    let spare = shared.state.spare();
+    turns.leave::<N>(seat, shared);
+    spare
+}

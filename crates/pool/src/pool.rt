@@ -1,0 +1,107 @@
+//! A pool that sessions share.
+ghost use Rattle.std.specs.Prelude.{◌≡◌, ◌≤◌, ◌+◌, [], IfOk, IfErr, vec_len};
+ghost use Rattle.atomic_table.specs.Seated.{TableId};
+ghost use Rattle.pin_core.specs.Setup.{OpensWith};
+ghost use Rattle.pool.specs.Opening.{ClosesWith, OpensAs};
+ghost use Rattle.pool.specs.Seats.{live_in, taken_in};
+ghost use Rattle.pool.specs.Seating.{Begins, TurnsAway};
+
+use crate::opened::OpenedAs;
+use crate::pass::Pass;
+use crate::seating::seat_session;
+use crate::session::Session;
+use crate::shared::Shared;
+use outside::Slot;
+use pin_core::{PoolConf, PoolState};
+use reservation_tree::{Memory, PoolErr};
+use std::alloc::Global;
+use std::marker::{Brand, Model, PhantomData};
+use std::sync::Wait;
+use turn_table::Turns;
+
+/// A pool that sessions share, one turn after the other. `T` names with what it opened.
+///
+/// Contracts see which turn lock it is. It can't be let go: it ends by `close`.
+pub struct Pool<D: Slot, T: OpenedAs = Brand> {
+    pub(crate) turns: Turns<Shared<D, T>>,
+}
+
+impl<D: Slot, T: OpenedAs> Model for Pool<D, T> {
+    ghost Value = { TableId };
+
+    ghost view = { λ p. p.turns };
+}
+
+impl<D: Slot + Drop, T: OpenedAs> Pool<D, T> {
+    /// A pool with these numbers and slots, without sessions, and its pass. Takes all the memory that it will ever
+    /// use, but for what sessions bring.
+    ///
+    /// # Errors
+    ///
+    /// `Memory`: there was not so much. The slots come back.
+    pub fn open(
+        alloc: Global,
+        conf: &PoolConf,
+        slots: Vec<D>,
+    ) -> Result<(Pool<D, T>, Pass<D, T>), (Vec<D>, Memory)>
+        requires conf { OpensWith conf.now }
+        requires slots { vec_len slots ≤ 1048576 }
+        requires opens { OpensAs D.Slot conf.now slots.items T.opening T.told }
+        ensures table { IfOk result (λ p. p.1.table ≡ p.0) }
+        ensures seen { IfOk result (λ p. p.1.knows.seen ≡ []) }
+        ensures back { IfErr result (λ e. vec_len e.0 ≡ vec_len slots) }
+    {
+        let spare = slots.len() as u32;
+        let state = match PoolState::open(alloc, conf, slots) {
+            Ok(state) => state,
+            Err((slots, _)) => return Err((slots, Memory)),
+        };
+        let shared = Shared {
+            state,
+            first: PhantomData,
+        };
+        match Turns::with(alloc, shared) {
+            Ok((turns, seat)) => Ok((Pool { turns }, Pass { seat, spare })),
+            Err((shared, _)) => Err((shared.state.close(), Memory)),
+        }
+    }
+
+    /// Lets a session in, which may reserve up to `limit` bytes and has `least` of them, and whose pages may take
+    /// `quota` slots.
+    ///
+    /// # Errors
+    ///
+    /// `TooManyTrackers`: each of 240 numbers has a session, which is looked at first. `NoReservation`: `least` passes
+    /// the limit, or the root would have to grow by more than it may.
+    pub fn session<'a, R: Wait>(
+        &'a self,
+        rt: &'a R,
+        pass: &mut Pass<D, T>,
+        limit: u64,
+        quota: u32,
+        least: u64,
+    ) -> Result<Session<'a, D, R, T>, PoolErr>
+        requires table { pass.old.table ≡ self.now }
+        requires spare { quota + taken_in pass.old.knows.seen ≤ T.opening.slots }
+        ensures ok { IfOk result (λ s. Begins T.opening T.told limit quota least pass.old pass.new s) }
+        ensures err { IfErr result (λ e. TurnsAway T.opening limit least pass.old pass.new e) }
+    {
+        let seat = seat_session(rt, &self.turns, pass, limit, quota, least)?;
+        Ok(Session {
+            rt,
+            turns: &self.turns,
+            seat,
+        })
+    }
+
+    /// Ends a pool whose sessions have all ended into its pass, and gives back its slots.
+    pub fn close(self, pass: Pass<D, T>) -> Vec<D>
+        requires table { pass.table ≡ self }
+        requires none { live_in pass.knows.seen ≡ 0 }
+        ensures { ClosesWith D.Slot T.opening T.told pass result.items }
+    {
+        let Pool { turns } = self;
+        let Pass { seat, spare: _ } = pass;
+        turns.close(seat).state.close()
+    }
+}

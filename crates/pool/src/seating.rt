@@ -1,0 +1,106 @@
+//! A session is let in.
+ghost use Rattle.std.specs.Prelude.{◌≡◌, ◌≤◌, ◌<◌, ◌+◌, ◌++◌, IfOk, IfErr, OnOk};
+ghost use Rattle.pin_core.specs.StateOf.{state_of};
+ghost use Rattle.pin_core.specs.Sessions.{query_of};
+ghost use Rattle.turn_table.specs.Lists.{times};
+ghost use Rattle.turn_table.specs.Knowledge.{HasTurn};
+ghost use Rattle.turn_table.specs.Steps.{grown};
+ghost use Rattle.pool.specs.Items.{door};
+ghost use Rattle.pool.specs.Seats.{taken_in};
+ghost use Rattle.pool.specs.Standing.{StandsAs};
+ghost use Rattle.pool.specs.Seating.{Begins, IsSessionRefusal, MustTurnAway, TurnsAway, beginning_items};
+
+use crate::item::Item;
+use crate::opened::OpenedAs;
+use crate::pass::Pass;
+use crate::seat::SessionSeat;
+use crate::shared::Shared;
+use outside::Slot;
+use pin_core::PoolState;
+use reservation_tree::{PoolErr, TrackerId};
+use session_table::MAX_SESSIONS;
+use std::marker::Brand;
+use std::sync::Wait;
+use turn_table::{Adds, TurnSeat, Turns};
+
+// One turn of the pass: it finds what is against the session, or lets it in.
+pub(crate) fn seat_session<D: Slot + Drop, T: OpenedAs, R: Wait>(
+    rt: &R,
+    turns: &Turns<Shared<D, T>>,
+    pass: &mut Pass<D, T>,
+    limit: u64,
+    quota: u32,
+    least: u64,
+) -> Result<SessionSeat<D, T>, PoolErr>
+    requires table { pass.old.table ≡ turns.now }
+    requires spare { quota + taken_in pass.old.knows.seen ≤ T.opening.slots }
+    ensures ok { IfOk result (λ s. Begins T.opening T.told limit quota least pass.old pass.new s) }
+    ensures err { IfErr result (λ e. TurnsAway T.opening limit least pass.old pass.new e) }
+{
+    let mut shared = turns.enter(rt, &mut pass.seat);
+    if let Err(refusal) = check_session(&shared.state, limit, least) {
+        turns.leave::<Brand>(&mut pass.seat, shared);
+        return Err(refusal);
+    }
+    let number = shared.state.open_session(limit, quota, least).unwrap();
+    pass.spare -= quota;
+    leave_begun::<Brand, D, T>(turns, &mut pass.seat, shared, number, limit, quota, least);
+    let spot = turns.split(&mut pass.seat, Some(number));
+    Ok(SessionSeat { number, spot })
+}
+
+// Whether nothing is against a session: a number is left, and so much can be reserved.
+fn check_session<D: Slot + Drop>(
+    state: &PoolState<D>,
+    limit: u64,
+    least: u64,
+) -> Result<(), PoolErr>
+    ensures ok { OnOk result (MustTurnAway (state_of state.now) limit least → ⊥) }
+    ensures err { IfErr result (λ e. IsSessionRefusal (state_of state.now) limit least e) }
+{
+    if state.parts().seats.vacant().is_none() {
+        return Err(PoolErr::TooManyTrackers {
+            count: MAX_SESSIONS,
+        });
+    }
+    // No tracker has this number: the session's would be refused before it came.
+    if limit < least {
+        return Err(PoolErr::NoReservation {
+            tracker: TrackerId::of(u32::MAX),
+            wanted: least,
+            room: limit,
+        });
+    }
+    let root = TrackerId::of(0);
+    let growth = least.saturating_sub(state.unused(root));
+    let room = state.limit(root) - state.reservation(root);
+    if room < growth {
+        return Err(PoolErr::NoReservation {
+            tracker: root,
+            wanted: growth,
+            room,
+        });
+    }
+    Ok(())
+}
+
+// The turn ends with the session's first items, which `N` names.
+fn leave_begun<N: Adds<Item>, D: Slot + Drop, T: OpenedAs>(
+    turns: &Turns<Shared<D, T>>,
+    seat: &mut TurnSeat<Shared<D, T>>,
+    shared: Shared<D, T>,
+    _number: u32,
+    _limit: u64,
+    _quota: u32,
+    _least: u64,
+)
+    requires named { N.entries ≡ beginning_items _number (query_of (state_of shared.state) _number) _limit _quota _least }
+    requires table { seat.old.table ≡ turns.now }
+    requires turn { HasTurn seat.old.knows }
+    requires stands { StandsAs D.Slot T.opening T.told (seat.old.knows.seen ++ beginning_items _number (query_of (state_of shared.state) _number) _limit _quota _least) shared.state }
+    requires rights { (0 < times door seat.old.knows.rights) × (0 < times _number seat.old.knows.rights) }
+    ensures table { seat.new.table ≡ turns.now }
+    ensures grown { seat.new.knows ≡ grown (beginning_items _number (query_of (state_of shared.state) _number) _limit _quota _least) seat.old.knows }
+{
+    turns.leave::<N>(seat, shared);
+}

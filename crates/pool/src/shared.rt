@@ -1,0 +1,27 @@
+//! The pool's value, as it stands under the turn lock.
+use crate::item::Item;
+use crate::opened::OpenedAs;
+use outside::Slot;
+use pin_core::PoolState;
+use std::marker::{Brand, PhantomData};
+use turn_table::Logged;
+
+/// A pool's value under a turn lock. `T` names with what the pool opened.
+#[derive(Drop)]
+pub struct Shared<D: Slot, T: OpenedAs = Brand> {
+    pub(crate) state: PoolState<D>,
+    pub(crate) first: PhantomData<T>,
+}
+
+impl<D: Slot, T: OpenedAs> Logged for Shared<D, T> {
+    ghost use Rattle.pool.specs.Items.{all_rights, needs_of};
+    ghost use Rattle.pool.specs.Standing.{StandsAs};
+
+    type Entry = Item;
+
+    ghost stands = { λ value items. StandsAs D.Slot T.opening T.told items value.state };
+
+    ghost rights = { all_rights };
+
+    ghost needs = { needs_of };
+}
