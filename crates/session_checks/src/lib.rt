@@ -1,0 +1,5 @@
+//! A pool that sessions share: tests.
+#![tactic(auto)]
+
+#[cfg(test)]
+mod tests;

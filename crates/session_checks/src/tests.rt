@@ -1,0 +1,74 @@
+//! Worked rows of sessions that come and go.
+
+mod seats;
+
+use outside::MemSlot;
+use pin_core::PoolConf;
+use reservation_tree::{PoolErr, TrackerId};
+use seats::{Row, Scene, played};
+use std::alloc::Global;
+use std::marker::Brand;
+use std::process::Abort;
+use std::sync::Wait;
+use std::test::Fail;
+
+// Plays a scene over eight blocks of 64 bytes and eight slots in memory.
+#[tactic(auto, unfolding(pool_model::specs::Bytes::bytes_of))]
+fn play<R: Wait + Abort>(rt: &R, alloc: Global, scene: &Scene) {
+    let mut slots = Vec::new(alloc);
+    for _ in 0..8 {
+        let slot = MemSlot::new(alloc, &[]).expect(rt, "a slot");
+        slots.push(slot).expect(rt, "a slot");
+    }
+    assert!(rt; slots.len() <= 8);
+    let conf = PoolConf {
+        blocks: 8,
+        block_len: 64,
+        first_name: 1,
+    };
+    played::<Brand, MemSlot, R>(rt, alloc, &conf, slots, scene);
+}
+
+#[test]
+fn a_third_session_comes_once_one_has_ended(rt: HostRuntime) -> Result<(), Fail> {
+    play(&rt, rt.alloc(), &Scene::ThirdWaits);
+    Ok(())
+}
+
+#[test]
+fn each_of_240_numbers_has_a_session_before_one_is_turned_away(
+    rt: HostRuntime,
+) -> Result<(), Fail> {
+    play(&rt, rt.alloc(), &Scene::Numbers(240));
+    Ok(())
+}
+
+#[test]
+fn sessions_that_come_in_turn_get_what_is_left(rt: HostRuntime) -> Result<(), Fail> {
+    let root = TrackerId::of(0);
+    let none = TrackerId::of(u32::MAX);
+    let rows = [
+        (512, 8, 64, Ok(())),
+        (63, 0, 64, refusal(none, 64, 63)),
+        (4096, 0, 512, refusal(root, 512, 448)),
+        (4096, 0, 448, Ok(())),
+        (64, 0, 0, Ok(())),
+        (64, 0, 1, refusal(root, 1, 0)),
+    ];
+    let rows = rows.map(|(limit, quota, least, answer)| Row {
+        limit,
+        quota,
+        least,
+        answer,
+    });
+    play(&rt, rt.alloc(), &Scene::Rows(&rows));
+    Ok(())
+}
+
+fn refusal(tracker: TrackerId, wanted: u64, room: u64) -> Result<(), PoolErr> {
+    Err(PoolErr::NoReservation {
+        tracker,
+        wanted,
+        room,
+    })
+}

@@ -1,0 +1,175 @@
+// Sessions of one pool, whatever slots it has. A pool, its pass and its sessions can't be let go, so each scene opens
+// and closes a pool of its own, and ends the sessions that came.
+ghost use Rattle.std.specs.Prelude.{◌≡◌, ◌≤◌, length, vec_len};
+ghost use Rattle.pin_core.specs.Setup.{OpensWith};
+ghost use Rattle.pool.specs.Opening.{OpensAs};
+ghost use Rattle.pool.specs.Seats.{live_in};
+ghost use Rattle.pool.specs.Seating.{Begins};
+
+use outside::Slot;
+use pin_core::PoolConf;
+use pool::{OpenedAs, Pass, Pool, Session};
+use reservation_tree::{PoolErr, TrackerId};
+use std::alloc::Global;
+use std::process::Abort;
+use std::sync::Wait;
+
+// What a session asks for, and what it is answered.
+#[derive(Drop)]
+pub struct Row {
+    pub limit: u64,
+    pub quota: u32,
+    pub least: u64,
+    pub answer: Result<(), PoolErr>,
+}
+
+// Which sessions come and go.
+#[derive(Drop)]
+pub enum Scene<'a> {
+    // Two take all memory and all slots. A third is turned away, and comes once one of them has ended.
+    ThirdWaits,
+    // So many come, and the next is turned away.
+    Numbers(u32),
+    // Each asks for what its row says, and is answered as the row says; those that came end last.
+    Rows(&'a [Row]),
+}
+
+// A pool opens, the scene is played, and all slots come back.
+pub fn played<T: OpenedAs, D: Slot + Drop, R: Wait + Abort>(
+    rt: &R,
+    alloc: Global,
+    conf: &PoolConf,
+    slots: Vec<D>,
+    scene: &Scene,
+)
+    requires conf { OpensWith conf.now }
+    requires slots { vec_len slots ≤ 1048576 }
+    requires opens { OpensAs D.Slot conf.now slots.items T.opening T.told }
+{
+    let count = slots.len();
+    let Ok((pool, mut pass)) = Pool::<D, T>::open(alloc, conf, slots) else {
+        panic!(rt; "no memory for a pool");
+    };
+    assert_eq!(rt; pass.spare() as usize, count);
+    match scene {
+        Scene::ThirdWaits => third_waits(rt, &pool, &mut pass),
+        Scene::Numbers(count) => seat_more(rt, &pool, &mut pass, *count),
+        Scene::Rows(rows) => seat_rows(rt, &pool, &mut pass, rows, 0),
+    }
+    assert_eq!(rt; pass.spare() as usize, count);
+    assert_eq!(rt; pool.close(pass).len(), count);
+}
+
+fn third_waits<T: OpenedAs, D: Slot + Drop, R: Wait + Abort>(
+    rt: &R,
+    pool: &Pool<D, T>,
+    pass: &mut Pass<D, T>,
+)
+    requires table { pass.old.table ≡ pool.now }
+    ensures table { pass.new.table ≡ pool.now }
+    ensures count { live_in pass.new.knows.seen ≡ live_in pass.old.knows.seen }
+{
+    let one = seated(rt, pool, pass, 256, 4);
+    let two = seated(rt, pool, pass, 256, 4);
+    assert_eq!(rt; pass.spare(), 0);
+    let full = PoolErr::NoReservation {
+        tracker: TrackerId::of(0),
+        wanted: 64,
+        room: 0,
+    };
+    assert_eq!(rt; turned_away(rt, pool, pass, 64), full);
+    one.end(pass);
+    assert_eq!(rt; pass.spare(), 4);
+    let three = seated(rt, pool, pass, 64, 0);
+    three.end(pass);
+    two.end(pass);
+}
+
+fn seat_more<T: OpenedAs, D: Slot + Drop, R: Wait + Abort>(
+    rt: &R,
+    pool: &Pool<D, T>,
+    pass: &mut Pass<D, T>,
+    more: u32,
+)
+    requires table { pass.old.table ≡ pool.now }
+    ensures table { pass.new.table ≡ pool.now }
+    ensures count { live_in pass.new.knows.seen ≡ live_in pass.old.knows.seen }
+{
+    if more == 0 {
+        let full = PoolErr::TooManyTrackers { count: 240 };
+        assert_eq!(rt; turned_away(rt, pool, pass, 0), full);
+        return;
+    }
+    let session = seated(rt, pool, pass, 0, 0);
+    seat_more(rt, pool, pass, more - 1);
+    session.end(pass);
+}
+
+fn seat_rows<T: OpenedAs, D: Slot + Drop, R: Wait + Abort>(
+    rt: &R,
+    pool: &Pool<D, T>,
+    pass: &mut Pass<D, T>,
+    rows: &[Row],
+    at: usize,
+)
+    requires table { pass.old.table ≡ pool.now }
+    requires at { at ≤ length rows.now }
+    ensures table { pass.new.table ≡ pool.now }
+    ensures count { live_in pass.new.knows.seen ≡ live_in pass.old.knows.seen }
+{
+    if at == rows.len() {
+        return;
+    }
+    let row = &rows[at];
+    assert!(rt; row.quota <= pass.spare());
+    match pool.session(rt, pass, row.limit, row.quota, row.least) {
+        Ok(session) => {
+            assert_eq!(rt; row.answer, Ok(()));
+            seat_rows(rt, pool, pass, rows, at + 1);
+            session.end(pass);
+        }
+        Err(refusal) => {
+            assert_eq!(rt; row.answer, Err(refusal));
+            seat_rows(rt, pool, pass, rows, at + 1);
+        }
+    }
+}
+
+// A session that has so many bytes, and so many slots.
+fn seated<'a, T: OpenedAs, D: Slot + Drop, R: Wait + Abort>(
+    rt: &'a R,
+    pool: &'a Pool<D, T>,
+    pass: &mut Pass<D, T>,
+    bytes: u64,
+    quota: u32,
+) -> Session<'a, D, R, T>
+    requires table { pass.old.table ≡ pool.now }
+    ensures begins { Begins T.opening T.told bytes quota bytes pass.old pass.new result }
+{
+    assert!(rt; quota <= pass.spare());
+    match pool.session(rt, pass, bytes, quota, bytes) {
+        Ok(session) => session,
+        Err(_) => panic!(rt; "the session was turned away"),
+    }
+}
+
+// Why no session comes that asks for so many bytes and no slot.
+fn turned_away<T: OpenedAs, D: Slot + Drop, R: Wait + Abort>(
+    rt: &R,
+    pool: &Pool<D, T>,
+    pass: &mut Pass<D, T>,
+    bytes: u64,
+) -> PoolErr
+    requires table { pass.old.table ≡ pool.now }
+    ensures table { pass.new.table ≡ pool.now }
+    ensures count { live_in pass.new.knows.seen ≡ live_in pass.old.knows.seen }
+{
+    assert!(rt; pass.spare() <= 8);
+    match pool.session(rt, pass, bytes, 0, bytes) {
+        Ok(session) => {
+            session.end(pass);
+            panic!(rt; "the session came")
+        }
+        Err(refusal) => refusal,
+    }
+}
