@@ -1,20 +1,22 @@
 -- Chunks of right rows are joined with all left rows, one after the other.
-use Rattle.std.proofs.Common.{◌≡◌, ◌∙◌, ℕ, ◌+◌, ◌-◌, ◌≤◌, ◌<◌, Bool, true, false, List, [], ◌∷◌, ◌++◌, length, map, take, drop, refl, ap, sym, subst, arith, append-nil, append_assoc, length-append}
+use Rattle.std.proofs.Common.{◌≡◌, ◌∙◌, ℕ, ◌+◌, ◌-◌, ◌≤◌, ◌<◌, Bool, true, false, List, [], ◌∷◌, ◌++◌, length, map, take, drop, None, option_map, refl, ap, sym, subst, arith, append-nil, append_assoc, length-append}
 use Rattle.std.specs.Prelude.{All}
 use Rattle.std.specs.List.{sum_by}
 use Rattle.std.proofs.lemmas.List.{length-map, take-append-drop, take_all}
 use Rattle.std.proofs.lemmas.List.Sums.{sum_by-append}
+use Rattle.std.proofs.lemmas.Option.{none-some}
 use Rattle.row_codec.specs.declared.values.Value.{Value}
 use Rattle.store_api.specs.declared.shapes.JoinShape.{JoinShape}
 use Rattle.row_reading.specs.Reading.{IsKeyColumn}
 use Rattle.store_api.specs.Holdings.{Holdings}
 use Rattle.store_api.specs.Shapes.{IsJoinShape}
 use Rattle.store_api.specs.Signs.{Signs}
+use Rattle.store_api.proofs.Growing.{grows_refl}
 use Rattle.tuple_stream.specs.Places.{IsPlace, IsWithin, Place, first}
 use Rattle.tuple_stream.specs.Reading.{ReadsRow}
 use Rattle.tuple_stream.specs.Steps.{Reads, Scene, Shaped, Shows, scene}
-use Rattle.tuple_stream.specs.Streamed.{Streamed}
-use Rattle.tuple_stream.specs.Streams.{HasRows, IsShaped}
+use Rattle.tuple_stream.specs.Streamed.{OpenPage, Streamed}
+use Rattle.tuple_stream.specs.Streams.{HasRows, IsOpenAt, IsShaped}
 use Rattle.tuple_stream.proofs.ReadAll.{read_first}
 use Rattle.tuple_stream.proofs.ReadRow.{reads_trans, still_shows}
 use Rattle.join_op.specs.declared.feeding.Spare.{Spare}
@@ -25,6 +27,8 @@ use Rattle.join_op.specs.Pairs.{SameRows}
 use Rattle.join_op.specs.Stored.{Side, left_side, right_side}
 use Rattle.join_op.proofs.ChunkPairs.{emitted_still, emitted_then, none_held, some_first, some_then, with_helds}
 use Rattle.join_op.proofs.ChunkJoins.{take_one}
+use Rattle.join_op.proofs.Dealing.{pinned_then}
+use Rattle.join_op.proofs.PinsRows.{pins_read}
 use Rattle.join_op.proofs.Spellable.{left_keyed, right_keyed}
 use Rattle.join_op.proofs.Handed.{emitted_as, emitted_none}
 
@@ -43,10 +47,13 @@ keeping_none t chunk side kept place a none is within =
     (record {
       each = λ k d inside. absurd (omega (arith, inside));
       few = omega arith;
-      reads = record { moved = omega arith; within = within; rows_are = λ rows tells shows stands. (sym (append-nil (take place.row rows)), stands) };
+      reads = record { moved = omega arith; within = within; pins = λ some closed. absurd (omega (arith, some)); rows_are = λ rows tells shows stands. (sym (append-nil (take place.row rows)), stands) };
       went = (read_first t [] first a refl is).went;
       same = refl;
     })
+
+not_open : (s : Streamed) (place : ℕ) → s.pinned ≡ None → IsOpenAt place s → ⊥
+not_open s place closed open_is = none-some place (sym (ap (option_map (λ (p : OpenPage). p.place)) closed) ∙ open_is)
 
 module _ (more : List (List ℕ)) (start place : Place) (t : ℕ) (a b c : Scene) (one : ReadsMore more start place a b) (went : Reads t a b) (next : Reads t b c) where
   pub more_row : (behind : Place) (row : List ℕ) → ReadsRow place behind row b c → ReadsMore (more ++ row ∷ []) start behind a c
@@ -54,12 +61,26 @@ module _ (more : List (List ℕ)) (start place : Place) (t : ℕ) (a b c : Scene
       record {
         moved = let long : length (more ++ row ∷ []) ≡ length more + 1 = length-append more (row ∷ []) in let first = one.moved in let second = reads.moved in omega (arith, long, first, second);
         within = reads.within;
+        pins = λ some closed. pins_read t a c c.signs (reads_trans t a b c went next) (grows_refl c.signs) closed (λ none. not_open c.stream behind.page none reads.open_page.pinned);
         rows_are = λ rows tells shows stands.
             let was = one.rows_are rows tells shows stands in
             let mid : Shows b rows = still_shows went rows tells shows in
             let found = reads.row_is rows (went.step.touches.told ∙ tells) mid was.1 in
             (take_one rows place.row behind.row row reads.moved found.0 ∙ ap (λ (rs : List (List ℕ)). rs ++ row ∷ []) was.0 ∙ append_assoc (take start.row rows) more (row ∷ []), found.1);
       }
+
+  -- or there was none
+  pub no_row : (behind : Place) → (place.row ≡ b.stream.count) × (behind ≡ place) → ReadsMore more start behind a c
+  no_row behind none =
+      subst (λ (p : Place). ReadsMore more start p a c) (sym none.1)
+      (record {
+        moved = one.moved;
+        within = next.within place one.within;
+        pins = λ some closed. pinned_then a.signs.trail b.signs.trail c.signs.trail (one.pins some closed) next.step.grows.trail;
+        rows_are = λ rows tells shows stands.
+            let was = one.rows_are rows tells shows stands in
+            (was.0, (next.places rows (went.step.touches.told ∙ tells) (still_shows went rows tells shows) place was.1).0);
+      })
 
 pub keeping_more : (t chunk : ℕ) (side : Side) (kept now : List Spare) (start place behind : Place) (row : List ℕ) (a b c : Scene) → IsKeeping t chunk side kept start place a b → length kept < chunk → Reads t b c → c.stream ≡ record b.stream { pinned = c.stream.pinned } → ReadsRow place behind row b c
     → All (IsKept side) now → kept_rows now ≡ kept_rows kept ++ row ∷ [] → IsKeeping t chunk side now start behind a c

@@ -1,5 +1,5 @@
 -- Partitions are joined from the top, one step after another, and before each more may be reserved.
-use Rattle.std.proofs.Common.{◌≡◌, ◌∙◌, inr, ℕ, List, Option, refl, arith}
+use Rattle.std.proofs.Common.{◌≡◌, ◌∙◌, ℕ, List, Option, refl, arith}
 use Rattle.std.specs.Prelude.{⊤}
 use Rattle.row_codec.specs.declared.values.Value.{Value}
 use Rattle.store_api.specs.Emitters.{HasClient}
@@ -8,16 +8,15 @@ use Rattle.store_api.specs.Signs.{Signs}
 use Rattle.store_api.specs.Tokens.{ClientToken}
 use Rattle.store_api.specs.declared.shapes.JoinShape.{JoinShape}
 use Rattle.tuple_stream.specs.Trails.{EnteredEvents, PinsFirst}
-use Rattle.tuple_stream.proofs.Sinces.{since_so}
 use Rattle.partition_stack.specs.Emitting.{IsBeside, LeavesBeside, StandsStill}
 use Rattle.partition_stack.specs.Leaving.{LeavesOthers}
 use Rattle.partition_stack.specs.Making.{MakesFew}
 use Rattle.partition_stack.proofs.Emitters.{beside_stands, left_beside, stands_left, stands_none, stands_then}
-use Rattle.join_op.specs.Joining.{Advances, AreShallow, Both, HasGoneOn, IsBetween, ShowBoth, both}
+use Rattle.join_op.specs.Joining.{Advances, Both, IsBetween, PinsBefore, ShowBoth, both}
 use Rattle.join_op.specs.Operator.{IsOperator, operator}
 use Rattle.join_op.proofs.Advances.{advances_none, advances_then}
 use Rattle.join_op.proofs.Besides.{beside_more, beside_none}
-use Rattle.join_op.proofs.Stepped.{advances_divided, gone_on_more, gone_on_none}
+use Rattle.join_op.proofs.Stepped.{advances_divided, before_more, before_none, before_still}
 
 -- what is so between two steps: `a` is before the first one, and `b` behind the last; `still` is so while no page was pinned
 pub record HasGoneDown (still : Type 0) (c : ClientToken) (shape : JoinShape) (admits_old admits : List Value → Type 0) (client_old client : Option ℕ) (faults_old faults creates_old creates : ℕ) (was now : List (List Value) → Type 0) (a b : Both) : Type 0 where
@@ -26,7 +25,7 @@ pub record HasGoneDown (still : Type 0) (c : ClientToken) (shape : JoinShape) (a
   pub leaves : LeavesBeside c.tracker client_old a.held b.held a.signs b.signs
   pub blocks : b.left.page_blocks ≡ a.left.page_blocks
   pub stands : StandsStill admits_old admits client_old client faults_old faults was now b.held
-  pub first : AreShallow a.left.levels → EnteredEvents (HasGoneOn b.left.levels still) a.signs.trail b.signs.trail
+  pub first : EnteredEvents (PinsBefore still) a.signs.trail b.signs.trail
   pub rows : (lefts rights : ℕ → List (List ℕ)) → ShowBoth lefts rights a → Advances shape was now creates_old creates lefts rights a b
 
 pub gone_none : {m : ℕ} (still : Type 0) → still → (c : ClientToken) (shape : JoinShape) (admits : List Value → Type 0) (client : Option ℕ) (faults : ℕ) (was : List (List Value) → Type 0) (a : Both) → IsBetween a → IsOperator (operator c shape a.left a.right) a.held a.signs → HasClient client a.held
@@ -38,7 +37,7 @@ gone_none still so c shape admits client faults was a between op lives =
       leaves = beside_none c.tracker client a.held a.signs;
       blocks = refl;
       stands = stands_none admits client faults was a.held lives;
-      first = λ shallow. gone_on_none still a.left.levels a.signs.trail so shallow;
+      first = before_none still a.signs.trail so;
       rows = λ lefts rights shows. advances_none shape was lefts rights a shows;
     }
 
@@ -58,9 +57,7 @@ module _ {m0 m1 : ℕ} (still : Type 0) (c : ClientToken) (shape : JoinShape) (a
           leaves = beside_more c.tracker client0 client1 a.held b.held h a.signs b.signs s down.stands.client_same down.leaves (left_beside c.tracker client1 b.held h b.signs s leaves);
           blocks = down.blocks;
           stands = stands_then admits0 admits1 admits1 client0 client1 client1 f0 f1 f1 was mid now b.held h down.stands (stands_left admits1 client1 f1 mid now c.tracker b.held h b.signs s (down_beside beside) leaves stays);
-          first = λ shallow.
-              gone_on_more still ⊤ still b.left.levels b.left.levels a.signs.trail b.signs.trail s.trail (λ so any. so) (down.first shallow) leaves.grows.trail
-              (λ low. since_so PinsFirst (HasGoneOn b.left.levels ⊤) b.signs.trail s.trail (λ x pins. record { first = pins; pinned = inr (low, tt) }) first);
+          first = before_more still ⊤ still a.signs.trail b.signs.trail s.trail (λ so any. so) down.first (before_still ⊤ b.signs.trail s.trail tt first);
           rows = λ lefts rights shown.
               let one = down.rows lefts rights shown in
               advances_then shape was mid now lefts rights a b (both b.left b.right h s) one
@@ -71,7 +68,7 @@ module _ {m0 m1 : ℕ} (still : Type 0) (c : ClientToken) (shape : JoinShape) (a
   -- and a step more was taken
   pub down_stepped : {m2 : ℕ} (next all : Type 0) → (still → next → all) → (admits2 : List Value → Type 0) (client2 : Option ℕ) (f2 : ℕ) (now : List (List Value) → Type 0) (d : Both) → IsBetween d × ((lefts rights : ℕ → List (List ℕ)) → ShowBoth lefts rights b → Advances shape mid now m1 m2 lefts rights b d)
       → IsOperator (operator c shape d.left d.right) d.held d.signs → LeavesBeside c.tracker client1 b.held d.held b.signs d.signs → d.left.page_blocks ≡ b.left.page_blocks → StandsStill admits1 admits2 client1 client2 f1 f2 mid now d.held
-      → (AreShallow b.left.levels → EnteredEvents (HasGoneOn d.left.levels next) b.signs.trail d.signs.trail) → HasGoneDown all c shape admits0 admits2 client0 client2 f0 f2 m0 m2 was now a d
+      → EnteredEvents (PinsBefore next) b.signs.trail d.signs.trail → HasGoneDown all c shape admits0 admits2 client0 client2 f0 f2 m0 m2 was now a d
   down_stepped next all both admits2 client2 f2 now d ok op leaves blocks stands first =
       record {
         between = ok.0;
@@ -79,7 +76,7 @@ module _ {m0 m1 : ℕ} (still : Type 0) (c : ClientToken) (shape : JoinShape) (a
         leaves = beside_more c.tracker client0 client1 a.held b.held d.held a.signs b.signs d.signs down.stands.client_same down.leaves leaves;
         blocks = blocks ∙ down.blocks;
         stands = stands_then admits0 admits1 admits2 client0 client1 client2 f0 f1 f2 was mid now b.held d.held down.stands stands;
-        first = λ shallow. gone_on_more still next all b.left.levels d.left.levels a.signs.trail b.signs.trail d.signs.trail both (down.first shallow) leaves.grows.trail first;
+        first = before_more still next all a.signs.trail b.signs.trail d.signs.trail both down.first first;
         rows = λ lefts rights shows.
             let one = down.rows lefts rights shows in
             advances_then shape was mid now lefts rights a b d one (ok.1 one.lefts_now one.rights_now one.shows);

@@ -62,7 +62,7 @@ filling_none t side old table place a none is within =
     (record {
       each = tt;
       same_table = refl;
-      reads = record { moved = omega arith; within = within; rows_are = λ rows tells shows stands. (sym (append-nil (take place.row rows)), stands) };
+      reads = record { moved = omega arith; within = within; pins = λ some closed. absurd (omega (arith, some)); rows_are = λ rows tells shows stands. (sym (append-nil (take place.row rows)), stands) };
       went = (read_first t [] first a refl is).went;
       same = refl;
     })

@@ -32,6 +32,7 @@ pub mod ChainWalks
 pub mod LentBoth
 pub mod HeldSame
 pub mod LeafEnds
+pub mod PinsRows
 pub mod Stepped
 pub mod Rests
 pub mod LaidSides

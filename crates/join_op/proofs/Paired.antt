@@ -1,5 +1,5 @@
 -- The pairs of the top partitions were handed on, and these went.
-use Rattle.std.proofs.Common.{◌≡◌, ◌∙◌, ℕ, ◌+◌, ◌*◌, ◌≤◌, List, [], ◌∷◌, ◌++◌, length, length-append, take, ◌<◌, Option, Some, None, Result, Ok, Err, IfErr, ap, sym, subst, arith}
+use Rattle.std.proofs.Common.{◌≡◌, ◌∙◌, ℕ, ◌+◌, ◌*◌, ◌≤◌, List, [], ◌∷◌, ◌++◌, length, length-append, take, ◌<◌, Option, Some, None, Result, Ok, Err, IfErr, IfSome, ap, sym, subst, arith}
 use Rattle.std.specs.Prelude.{slice_get, sum_by}
 use Rattle.std.proofs.lemmas.List.Sums.{sum_by-append, sum_by-cons}
 use Rattle.row_codec.specs.declared.values.Value.{Value}
@@ -34,8 +34,8 @@ use Rattle.partition_stack.proofs.Slots.{keep_own, keep_then, taken, times_all}
 use Rattle.partition_stack.proofs.Stacking.{few_partitions}
 use Rattle.std.proofs.Math.Nat.{mul-le-mul_right}
 use Rattle.join_op.proofs.Crowding.{crowd_beside, want_beside}
-use Rattle.join_op.specs.Chunks.{AreReadable, ReadBoth}
-use Rattle.join_op.specs.Joining.{HasPopped, IsBetween, ShowBoth, both, rows_weigh, slots_both, slots_by}
+use Rattle.join_op.specs.Chunks.{AreReadable, IsResting, ReadBoth}
+use Rattle.join_op.specs.Joining.{HasPopped, HasRowsAt, IsBetween, ShowBoth, both, rows_weigh, slots_both, slots_by}
 use Rattle.join_op.specs.Operator.{IsOperator, operator, over_both}
 use Rattle.join_op.specs.Slots.{Crowds, IsFullOf, slots_of_two}
 use Rattle.join_op.proofs.Spent.{whole_front}
@@ -89,6 +89,12 @@ module _ (c : ClientToken) (shape : JoinShape) (at : ℕ) (left right ql qr : St
 
   right_there : slice_get right.streams at ≡ Some r
   right_there = ap (λ (ss : List Streamed). slice_get ss at) split_r ∙ ap (slice_get (qr.streams ++ r ∷ [])) (sym right_low) ∙ at_end qr.streams r
+
+  pub left_rests : HasRowsAt at left → IsResting l
+  left_rests some = record { some = subst (λ (o : Option Streamed). IfSome o (λ x. 0 < x.count)) left_there some; closed = between.left_closed at l left_there }
+
+  pub right_rests : HasRowsAt at right → IsResting r
+  right_rests some = record { some = subst (λ (o : Option Streamed). IfSome o (λ x. 0 < x.count)) right_there some; closed = between.right_closed at r right_there }
 
   pub left_rows : (lefts rights : ℕ → List (List ℕ)) → ShowBoth lefts rights (both left right h s) → HasRows (lefts at) l h
   left_rows lefts rights shows = shows.left at l left_there

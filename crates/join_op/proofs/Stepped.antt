@@ -1,30 +1,27 @@
 -- One step of a join: partitions of which one has no rows go, or both are divided, or their pairs are handed on.
-use Rattle.std.proofs.Common.{◌≡◌, ◌∙◌, ◌⊎◌, inl, inr, ℕ, zero, suc, ◌+◌, ◌<◌, ◌≤◌, List, [], ◌∷◌, length, replicate, take, Option, Some, None, IfSome, IsSome, refl, ap, sym, subst, arith, append-nil}
+use Rattle.std.proofs.Common.{◌≡◌, ◌∙◌, ◌⊎◌, inl, inr, ℕ, zero, suc, ◌+◌, ◌<◌, ◌≤◌, List, [], ◌∷◌, length, Option, Some, None, IfSome, IsSome, refl, ap, sym, subst, arith, append-nil}
 use Rattle.std.specs.Prelude.{slice_get}
-use Rattle.std.proofs.lemmas.List.Elements.{All-head, All-replicate, All-tail, All-take}
-use Rattle.std.proofs.lemmas.Option.{none-some, same_Some}
 use Rattle.pool_model.specs.declared.entry.Entry.{Entry}
 use Rattle.row_codec.specs.declared.values.Value.{Value}
 use Rattle.store_api.specs.declared.shapes.JoinShape.{JoinShape}
 use Rattle.store_api.specs.Holdings.{Holdings}
-use Rattle.store_api.specs.Signs.{Prolongs, Signs}
+use Rattle.store_api.specs.Signs.{Signs}
 use Rattle.tuple_stream.specs.Spending.{PinsAgain}
 use Rattle.tuple_stream.specs.Streamed.{Streamed}
 use Rattle.tuple_stream.specs.Streams.{HasRows}
 use Rattle.tuple_stream.specs.Trails.{EnteredEvents, PinsFirst}
 use Rattle.tuple_stream.proofs.PageLists.{no_length}
-use Rattle.tuple_stream.proofs.Sinces.{since_now, since_so}
-use Rattle.tuple_stream.proofs.PinsFirst.{both_pin_first, has_pin_back, has_pin_front, pins_first_join}
+use Rattle.tuple_stream.proofs.Sinces.{since_joined, since_now, since_so}
+use Rattle.tuple_stream.proofs.PinsFirst.{both_pin_first, has_pin_back, has_pin_front}
 use Rattle.partition_stack.specs.Making.{MakesFew}
 use Rattle.partition_stack.specs.Stack.{Stack}
 use Rattle.partition_stack.proofs.Making.{few_counts}
 use Rattle.join_op.specs.Handing.{Emitted}
 use Rattle.join_op.specs.Chunks.{stored_pairs}
-use Rattle.join_op.specs.Joining.{Advances, AreShallow, Both, HasGoneOn, HasNoRowsAt, PinsBefore, SharesPairs, ShowBoth, both, owed_both}
+use Rattle.join_op.specs.Joining.{Advances, Both, HasNoRowsAt, PinsBefore, SharesPairs, ShowBoth, both, owed_both}
 use Rattle.join_op.specs.Stored.{left_side, rows_in}
 use Rattle.join_op.proofs.Advances.{advances_popped}
 use Rattle.join_op.proofs.Counts.{no_right}
-use Rattle.join_op.proofs.Dealing.{pinned_or}
 use Rattle.join_op.proofs.Handed.{emitted_none, emitted_on}
 
 there_is : (xs : List Streamed) (k : ℕ) → k < length xs → IsSome (slice_get xs k)
@@ -69,37 +66,22 @@ module _ (shape : JoinShape) (was now : List (List Value) → Type 0) (lefts rig
 
 -- ---- what was pinned
 
-pub gone_on_popped : (still : Type 0) (levels now : List ℕ) (at : ℕ) (t0 t1 : Option (List Entry)) → still → now ≡ take at levels → AreShallow levels → EnteredEvents PinsFirst t0 t1 → EnteredEvents (HasGoneOn now still) t0 t1
-gone_on_popped still levels now at t0 t1 so is shallow first =
-    since_so PinsFirst (HasGoneOn now still) t0 t1 (λ x pins. record { first = pins; pinned = inr (subst AreShallow (sym is) (All-take (λ level. level < 2) at levels shallow), so) }) first
+-- a page was pinned before any was left, or none was left
+pub before_pinned : (still : Type 0) (t0 t1 : Option (List Entry)) → EnteredEvents PinsAgain t0 t1 → EnteredEvents (PinsBefore still) t0 t1
+before_pinned still t0 t1 pins = since_so PinsAgain (PinsBefore still) t0 t1 (λ x again. record { first = again.first; pinned = inl again.pinned }) pins
 
-pub gone_on_pinned : (still : Type 0) (now : List ℕ) (t0 t1 : Option (List Entry)) → EnteredEvents PinsAgain t0 t1 → EnteredEvents (HasGoneOn now still) t0 t1
-gone_on_pinned still now t0 t1 pins = since_so PinsAgain (HasGoneOn now still) t0 t1 (λ x again. record { first = again.first; pinned = inl again.pinned }) pins
+pub before_still : (still : Type 0) (t0 t1 : Option (List Entry)) → still → EnteredEvents PinsFirst t0 t1 → EnteredEvents (PinsBefore still) t0 t1
+before_still still t0 t1 so first = since_so PinsFirst (PinsBefore still) t0 t1 (λ x pins. record { first = pins; pinned = inr so }) first
 
--- a partition of a level above the first isn't of those
-pub not_shallow : (levels : List ℕ) (at level : ℕ) → AreShallow levels → slice_get levels at ≡ Some level → 1 < level → ⊥
-not_shallow [] at level shallow there high = none-some level there
-not_shallow (l ∷ levels) zero level shallow there high =
-    let low = All-head (λ level. level < 2) l levels shallow in
-    let is : l ≡ level = same_Some l level there in
-    omega (arith, low, is, high)
-not_shallow (l ∷ levels) (suc at) level shallow there high = not_shallow levels at level (All-tail (λ level. level < 2) l levels shallow) there high
+pub before_none : (still : Type 0) (trail : Option (List Entry)) → still → EnteredEvents (PinsBefore still) trail trail
+before_none still trail so = since_now (PinsBefore still) trail (record { first = tt; pinned = inr so })
 
-pub gone_on_none : (still : Type 0) (levels : List ℕ) (trail : Option (List Entry)) → still → AreShallow levels → EnteredEvents (HasGoneOn levels still) trail trail
-gone_on_none still levels trail so shallow = since_now (HasGoneOn levels still) trail (record { first = tt; pinned = inr (shallow, so) })
-
-pub gone_on_more : (still next all : Type 0) (m n : List ℕ) (t0 t1 t2 : Option (List Entry)) → (still → next → all) → EnteredEvents (HasGoneOn m still) t0 t1 → Prolongs t1 t2 → (AreShallow m → EnteredEvents (HasGoneOn n next) t1 t2)
-    → EnteredEvents (HasGoneOn n all) t0 t2
-gone_on_more still next all m n t0 t1 t2 both was more then =
-    pinned_or (AreShallow m × still) (HasGoneOn m still) (HasGoneOn n all) (HasGoneOn n all) t0 t1 t2 (λ x on. on.pinned)
-    (λ x y on pin. record { first = pins_first_join x y on.first (inl pin); pinned = inl (has_pin_front x y pin) })
-    (λ x y on next. record { first = both_pin_first x y on.first next.first; pinned = elim next.pinned [ inl pin ↦ inl (has_pin_back x y pin) | inr low ↦ inr low ] })
-    was more
-    (λ low. since_so (HasGoneOn n next) (HasGoneOn n all) t1 t2 (λ x on. record { first = on.first; pinned = elim on.pinned [ inl pin ↦ inl pin | inr so ↦ inr (so.0, both low.1 so.1) ] }) (then low.0))
-
-pub gone_on_all : (still : Type 0) (levels : List ℕ) (t0 t1 : Option (List Entry)) → EnteredEvents (HasGoneOn levels still) t0 t1 → EnteredEvents (PinsBefore still) t0 t1
-gone_on_all still levels t0 t1 on =
-    since_so (HasGoneOn levels still) (PinsBefore still) t0 t1 (λ x gone. record { first = gone.first; pinned = elim gone.pinned [ inl pin ↦ inl pin | inr so ↦ inr so.1 ] }) on
-
-pub first_shallow : (levels : List ℕ) → levels ≡ replicate 16 1 → AreShallow levels
-first_shallow levels is = subst AreShallow (sym is) (All-replicate (λ level. level < 2) 16 1 (omega arith))
+pub before_more : (still next all : Type 0) (t0 t1 t2 : Option (List Entry)) → (still → next → all) → EnteredEvents (PinsBefore still) t0 t1 → EnteredEvents (PinsBefore next) t1 t2 → EnteredEvents (PinsBefore all) t0 t2
+before_more still next all t0 t1 t2 both was then =
+    since_joined (PinsBefore still) (PinsBefore next) (PinsBefore all) t0 t1 t2
+    (λ x y one two.
+    record {
+      first = both_pin_first x y one.first two.first;
+      pinned = elim one.pinned [ inl pin ↦ inl (has_pin_front x y pin) | inr so ↦ elim two.pinned [ inl pin ↦ inl (has_pin_back x y pin) | inr too ↦ inr (both so too) ] ];
+    })
+    was then

@@ -1,5 +1,5 @@
 -- The pairs of two streams of stored rows, of which the right one is kept a chunk at a time.
-use Rattle.std.specs.Prelude.{All, ◌≡◌, ◌↔◌, ℕ, ◌+◌, ◌*◌, ◌≤◌, ◌≢◌, List, ◌++◌, length, map, take, Option, Some, IsSome, option_map, true}
+use Rattle.std.specs.Prelude.{All, ◌≡◌, ◌↔◌, ℕ, ◌+◌, ◌*◌, ◌<◌, ◌≤◌, ◌≢◌, List, ◌++◌, length, map, take, Option, Some, None, IsSome, option_map, true}
 use Rattle.row_codec.specs.declared.values.Value.{Value}
 use Rattle.row_codec.specs.Row.{kinds_of}
 use Rattle.row_codec.specs.RowLaws.{IsRow}
@@ -11,10 +11,12 @@ use Rattle.store_api.specs.Holdings.{Holdings, LiveLoan, LivePage, unused_of}
 use Rattle.store_api.specs.Tokens.{ClientToken}
 use Rattle.tuple_stream.specs.Families.{AreDisjoint}
 use Rattle.tuple_stream.specs.Places.{IsWithin, Place}
+use Rattle.tuple_stream.specs.Spending.{PinsAgain}
 use Rattle.tuple_stream.specs.Steps.{Scene, Shows, Stands, Tells}
 use Rattle.tuple_stream.specs.Streamed.{Streamed, len_in}
 use Rattle.tuple_stream.specs.Streams.{HasRows, IsApart, IsShaped}
 use Rattle.tuple_stream.specs.Touches.{held, with_unused}
+use Rattle.tuple_stream.specs.Trails.{EnteredEvents}
 use Rattle.partition_stack.specs.Emitting.{room_with}
 use Rattle.partition_stack.specs.Reading.{IsSameQuery, ReadBeside}
 use Rattle.join_op.specs.declared.feeding.Spare.{Spare}
@@ -47,11 +49,18 @@ pub record IsKept (side : Side) (e : Spare) : Type 0 where
 abbrev pub kept_rows : List Spare → List (List ℕ)
 kept_rows kept = map (λ e. e.row.items) kept
 
--- these rows were read, and the place is behind them; where pins are told, they are the next ones
+-- these rows were read, and the place is behind them; where there are any, and no page was pinned before, one was pinned again;
+-- where pins are told, they are the next ones
 pub record ReadsMore (more : List (List ℕ)) (place behind : Place) (a b : Scene) : Type 0 where
   pub moved : behind.row ≡ place.row + length more
   pub within : IsWithin behind b.stream
+  pub pins : 0 < length more → a.stream.pinned ≡ None → EnteredEvents PinsAgain a.signs.trail b.signs.trail
   pub rows_are : (rows : List (List ℕ)) → Tells a → Shows a rows → Stands a place → (take behind.row rows ≡ take place.row rows ++ more) × Stands b behind
+
+-- the stream has rows, and none of its pages is pinned
+pub record IsResting (s : Streamed) : Type 0 where
+  pub some : 0 < s.count
+  pub closed : s.pinned ≡ None
 
 -- two streams of a live client have no page in common, and there is room for a page of each, those counted that are pinned
 pub record AreReadable (c : ClientToken) (left right : Streamed) (h : Holdings) : Type 0 where

@@ -1,5 +1,5 @@
 -- Partitions of both sides are joined from the top, each with the one of its number.
-use Rattle.std.specs.Prelude.{◌≡◌, ◌⊎◌, ◌+◌, ◌*◌, ◌<◌, ◌≤◌, ℕ, zero, suc, List, [], ◌++◌, All, IfSome, Option, length, slice_get, sum_by, take, true}
+use Rattle.std.specs.Prelude.{◌≡◌, ◌⊎◌, ◌+◌, ◌*◌, ◌<◌, ◌≤◌, ℕ, zero, suc, List, [], ◌++◌, IfSome, Option, length, slice_get, sum_by, take, true}
 use Rattle.row_codec.specs.declared.values.Value.{Value}
 use Rattle.store_api.specs.declared.shapes.JoinShape.{JoinShape}
 use Rattle.store_api.specs.Holdings.{Holdings, length_of}
@@ -51,18 +51,10 @@ HasRowsAt at p = IfSome (slice_get p.streams at) (λ s. 0 < s.count)
 abbrev pub HasNoRowsAt : ℕ → Stack → Type 0
 HasNoRowsAt at p = IfSome (slice_get p.streams at) (λ s. s.count ≡ 0)
 
--- all partitions are of the first level
-abbrev pub AreShallow : List ℕ → Type 0
-AreShallow levels = All (λ level. level < 2) levels
-
 -- no page was left before one was pinned again; and while none was, `still` is so
 pub record PinsBefore (still : Type 0) (events : List Event) : Type 0 where
   pub first : PinsFirst events
   pub pinned : HasPin events ⊎ still
-
--- the same, and while none was, all partitions are of the first level
-abbrev pub HasGoneOn : List ℕ → Type 0 → List Event → Type 0
-HasGoneOn levels still events = PinsBefore (AreShallow levels × still) events
 
 -- the partitions have these rows, and nothing of any is spent
 pub record ShowBoth (lefts rights : ℕ → List (List ℕ)) (b : Both) : Type 0 where

@@ -4,11 +4,13 @@ ghost use Rattle.row_codec.specs.declared.values.Value.{Value};
 ghost use Rattle.store_api.specs.Holdings.{Holdings};
 ghost use Rattle.store_api.specs.Shapes.{IsJoinShape};
 ghost use Rattle.bucket_table.specs.Lending.{Lends};
+ghost use Rattle.tuple_stream.specs.Spending.{PinsAgain};
 ghost use Rattle.tuple_stream.specs.Streams.{HasRows};
+ghost use Rattle.tuple_stream.specs.Trails.{EnteredEvents};
 ghost use Rattle.partition_stack.specs.Causes.{CameBeside};
 ghost use Rattle.partition_stack.specs.Emitting.{IsBeside, StaysEmitter, WentOn};
 ghost use Rattle.partition_stack.specs.Slots.{IsWantOf, KeepSlots, with_more};
-ghost use Rattle.join_op.specs.Chunks.{AdmitsJoined, AreReadable, ReadBoth, stored_pairs};
+ghost use Rattle.join_op.specs.Chunks.{AdmitsJoined, AreReadable, IsResting, ReadBoth, stored_pairs};
 ghost use Rattle.join_op.specs.Handing.{Emitted, EmittedSome};
 ghost use Rattle.join_op.specs.Holding.{IsSameHeld, IsTableAt, MayHold, loans_in};
 ghost use Rattle.join_op.specs.Slots.{CameFull, Crowds, SameMost, slots_of_two};
@@ -79,6 +81,7 @@ pub(crate) fn leaf_by_table<St: Store, E: Emit<St>>(
     ensures want { E.page_blocks ≡ left.old.page_blocks → IfErr result (IsWantOf left.old.page_blocks (with_more (E.slots emit.new (St.holds store.new)) (St.holds store.new).free_slots)) }
     ensures crowded { IfErr result (λ e. (lefts rights : List (List ℕ)) → (St.holds store.old).told ≡ true → HasRows lefts left.old (St.holds store.old) → HasRows rights right.old (St.holds store.old) → EmittedSome (E.took emit.old (St.holds store.old)) (Crowds (E.slots_for emit.old) left.old.page_blocks (with_more (E.slots emit.new (St.holds store.new)) (St.holds store.new).free_slots) e) (stored_pairs shape.now lefts rights)) }
     ensures most { SameMost (E.slots_for emit.old) (E.slots_for emit.new) }
+    ensures first { OnOk result (IsResting left.old → IsResting right.old → EnteredEvents PinsAgain (St.signs store.old).trail (St.signs store.new).trail) }
     ensures streams { ReadBoth c.now.tracker (E.client emit.old) left.old left.new right.old right.new (St.holds store.old) (St.holds store.new) }
     ensures slots { KeepSlots (E.client emit.old) (slots_of_two left.old right.old (St.holds store.old)) (slots_of_two left.new right.new (St.holds store.new)) (E.slots emit.old (St.holds store.old)) (E.slots emit.new (St.holds store.new)) }
     ensures emitter { StaysEmitter (E.admits emit.old) (E.admits emit.new) (E.client emit.old) (E.client emit.new) (E.faults emit.old) (E.faults emit.new) (E.creates emit.old) (E.creates emit.new) (St.holds store.new) (St.signs store.old) (St.signs store.new) }
@@ -119,6 +122,7 @@ fn join_pair<St: Store, E: Emit<St>>(
     ensures want { E.page_blocks ≡ left.old.page_blocks → IfErr result (IsWantOf left.old.page_blocks (with_more (E.slots emit.new (St.holds store.new)) (St.holds store.new).free_slots)) }
     ensures crowded { IfErr result (λ e. (lefts rights : List (List ℕ)) → (St.holds store.old).told ≡ true → HasRows lefts left.old (St.holds store.old) → HasRows rights right.old (St.holds store.old) → EmittedSome (E.took emit.old (St.holds store.old)) (Crowds (E.slots_for emit.old) left.old.page_blocks (with_more (E.slots emit.new (St.holds store.new)) (St.holds store.new).free_slots) e) (stored_pairs shape.now lefts rights)) }
     ensures most { SameMost (E.slots_for emit.old) (E.slots_for emit.new) }
+    ensures first { OnOk result (IsResting left.old → IsResting right.old → EnteredEvents PinsAgain (St.signs store.old).trail (St.signs store.new).trail) }
     ensures streams { (less : Holdings) → Lends c.now.tracker (loans_in held.table) less (St.holds store.old) → AreReadable c.now left.old right.old less → ReadBoth c.now.tracker (E.client emit.old) left.old left.new right.old right.new less (St.holds store.new) }
     ensures slots { KeepSlots (E.client emit.old) (slots_of_two left.old right.old (St.holds store.old)) (slots_of_two left.new right.new (St.holds store.new)) (E.slots emit.old (St.holds store.old)) (E.slots emit.new (St.holds store.new)) }
     ensures emitter { StaysEmitter (E.admits emit.old) (E.admits emit.new) (E.client emit.old) (E.client emit.new) (E.faults emit.old) (E.faults emit.new) (E.creates emit.old) (E.creates emit.new) (St.holds store.new) (St.signs store.old) (St.signs store.new) }
@@ -154,6 +158,7 @@ fn join_streams<St: Store, E: Emit<St>>(
     ensures want { E.page_blocks ≡ left.old.page_blocks → IfErr result (IsWantOf left.old.page_blocks (with_more (E.slots emit.new (St.holds store.new)) (St.holds store.new).free_slots)) }
     ensures crowded { IfErr result (λ e. (lefts rights : List (List ℕ)) → (St.holds store.old).told ≡ true → HasRows lefts left.old (St.holds store.old) → HasRows rights right.old (St.holds store.old) → EmittedSome (E.took emit.old (St.holds store.old)) (Crowds (E.slots_for emit.old) left.old.page_blocks (with_more (E.slots emit.new (St.holds store.new)) (St.holds store.new).free_slots) e) (stored_pairs shape.now lefts rights)) }
     ensures most { SameMost (E.slots_for emit.old) (E.slots_for emit.new) }
+    ensures first { OnOk result (IsResting left.old → IsResting right.old → EnteredEvents PinsAgain (St.signs store.old).trail (St.signs store.new).trail) }
     ensures streams { ReadBoth c.now.tracker (E.client emit.old) left.old left.new right.old right.new (St.holds store.old) (St.holds store.new) }
     ensures slots { KeepSlots (E.client emit.old) (slots_of_two left.old right.old (St.holds store.old)) (slots_of_two left.new right.new (St.holds store.new)) (E.slots emit.old (St.holds store.old)) (E.slots emit.new (St.holds store.new)) }
     ensures held { IsSameHeld held.old held.new }

@@ -8,6 +8,7 @@ ghost use Rattle.bucket_table.specs.Tables.{with_nodes};
 ghost use Rattle.tuple_stream.specs.Places.{IsWithin};
 ghost use Rattle.tuple_stream.specs.Steps.{Reads, scene};
 ghost use Rattle.tuple_stream.specs.Touches.{IsFull};
+ghost use Rattle.tuple_stream.specs.Trails.{EnteredEvents, PinsFirst};
 ghost use Rattle.partition_stack.specs.Making.{MakesFew};
 ghost use Rattle.partition_stack.specs.Reading.{IsReadable};
 ghost use Rattle.join_op.specs.Chunks.{AreColumns, IsKept, ReadsMore, kept_rows};
@@ -110,6 +111,7 @@ pub(crate) fn hold<St: Store>(
     ensures room { LeavesRoom c.now.tracker blocks (St.holds store.old) (St.holds store.new) }
     ensures grows { Grows (St.signs store.old) (St.signs store.new) }
     ensures made { MakesFew 0 (St.signs store.old) (St.signs store.new) }
+    ensures first { EnteredEvents PinsFirst (St.signs store.old).trail (St.signs store.new).trail }
 {
     let longest = blocks as usize * store.block_len() as usize;
     let table = table_for(alloc, store, c, blocks, pages, rows);
@@ -163,6 +165,7 @@ fn table_for<St: Store>(
     ensures room { LeavesRoom c.now.tracker blocks (St.holds store.old) (St.holds store.new) }
     ensures grows { Grows (St.signs store.old) (St.signs store.new) }
     ensures made { MakesFew 0 (St.signs store.old) (St.signs store.new) }
+    ensures first { EnteredEvents PinsFirst (St.signs store.old).trail (St.signs store.new).trail }
 {
     let len = u64::from(blocks) * u64::from(store.block_len());
     let (heads, nodes) = buffers_in(len, pages, rows, store.unused(c))?;

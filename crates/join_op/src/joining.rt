@@ -6,6 +6,7 @@ ghost use Rattle.store_api.specs.Emitters.{CameOf};
 ghost use Rattle.store_api.specs.Signs.{WasAnswered};
 ghost use Rattle.tuple_stream.specs.Families.{AllClosed, ShowAll};
 ghost use Rattle.tuple_stream.specs.FamilyCalls.{AllWhole};
+ghost use Rattle.tuple_stream.specs.Spending.{PinsAgain};
 ghost use Rattle.tuple_stream.specs.Trails.{EnteredEvents, PinsFirst};
 ghost use Rattle.partition_stack.specs.Emitting.{IsBeside, LeavesBeside, StandsStill};
 ghost use Rattle.partition_stack.specs.Leaving.{LeavesOthers};
@@ -17,7 +18,7 @@ ghost use Rattle.join_op.specs.Slots.{Crowds, SameMost};
 ghost use Rattle.join_op.specs.Chunks.{AdmitsJoined, stored_pairs};
 ghost use Rattle.join_op.specs.Dividing.{HasCalled};
 ghost use Rattle.join_op.specs.Handing.{Emitted, EmittedSome};
-ghost use Rattle.join_op.specs.Joining.{Advances, AreColumnsOfBoth, AreShallow, HasDivided, HasGoneOn, HasPopped, HasNoRowsAt, HasRowsAt, IsBetween, PinsBefore, ShowBoth, both, owed_both, pairs_down, slots_both, slots_by};
+ghost use Rattle.join_op.specs.Joining.{Advances, AreColumnsOfBoth, HasDivided, HasPopped, HasNoRowsAt, HasRowsAt, IsBetween, PinsBefore, ShowBoth, both, owed_both, pairs_down, slots_both, slots_by};
 ghost use Rattle.join_op.specs.Operator.{IsOperator, operator};
 
 use crate::chunks::leaf_by_table;
@@ -165,6 +166,7 @@ fn pair_top<St: Store, E: Emit<St>>(
     ensures want { E.page_blocks ≡ left.old.page_blocks → IfErr result (IsWantOf left.old.page_blocks (with_more (E.slots emit.old (St.holds store.old)) (slots_both (both left.old right.old (St.holds store.old) (St.signs store.old))))) }
     ensures enough { IfErr result (λ e. (lefts rights : ℕ → List (List ℕ)) → ShowBoth lefts rights (both left.old right.old (St.holds store.old) (St.signs store.old)) → EmittedSome (E.took emit.old (St.holds store.old)) (Crowds (E.slots_for emit.old) (slots_by (both left.old right.old (St.holds store.old) (St.signs store.old)) lefts rights) (with_more (E.slots emit.old (St.holds store.old)) (slots_both (both left.old right.old (St.holds store.old) (St.signs store.old)))) e) (stored_pairs shape.now (lefts _at) (rights _at))) }
     ensures most { SameMost (E.slots_for emit.old) (E.slots_for emit.new) }
+    ensures first { OnOk result (HasRowsAt _at left.old → HasRowsAt _at right.old → EnteredEvents PinsAgain (St.signs store.old).trail (St.signs store.new).trail) }
     ensures cause { IfErr result (CameOf (E.faults emit.old) (E.faults emit.new) (St.signs store.old) (St.signs store.new)) }
 {
     left.law_stack();
@@ -207,7 +209,6 @@ fn fewer(left: &Partitions, right: &Partitions, at: usize) -> (usize, u64)
 }
 
 // Reserves what a table of the rows of the smaller top partition lacks, and two pages beside it. What is refused is no error.
-// Partitions of the first level are divided, whatever is reserved.
 fn reserve_top<St: Store>(
     store: &mut St,
     c: &Client,
@@ -227,7 +228,7 @@ fn reserve_top<St: Store>(
     ensures first { EnteredEvents PinsFirst (St.signs store.old).trail (St.signs store.new).trail }
 {
     let at = left.len() - 1;
-    if left.level(at) <= 1 || !have_rows(left, right, at) {
+    if !have_rows(left, right, at) {
         return;
     }
     let len = u64::from(left.page_blocks()) * u64::from(store.block_len());
@@ -240,7 +241,7 @@ fn reserve_top<St: Store>(
 }
 
 // Whether the top partitions are joined: of the last level, or a table of the client's memory has room for the rows of the
-// smaller one. Partitions of the first level are divided first, so that a page is pinned again before any is left by others.
+// smaller one.
 fn is_few<St: Store>(
     store: &St,
     c: &Client,
@@ -252,12 +253,8 @@ fn is_few<St: Store>(
     requires client { IsLiveClient c.now (St.holds store.now) }
     requires left { at < length left.now.streams }
     requires right { at < length right.now.streams }
-    ensures later { result ≡ true → 1 < level }
     ensures last { result ≡ false → level ≢ 16 }
 {
-    if level <= 1 {
-        return false;
-    }
     if level == 16 {
         return true;
     }
@@ -289,7 +286,7 @@ fn advance<St: Store, E: Emit<St>>(
     ensures ok { OnOk result (IsBetween (both left.new right.new (St.holds store.new) (St.signs store.new)) × ((lefts rights : ℕ → List (List ℕ)) → ShowBoth lefts rights (both left.old right.old (St.holds store.old) (St.signs store.old)) → Advances shape.now (E.took emit.old (St.holds store.old)) (E.took emit.new (St.holds store.new)) (E.creates emit.old) (E.creates emit.new) lefts rights (both left.old right.old (St.holds store.old) (St.signs store.old)) (both left.new right.new (St.holds store.new) (St.signs store.new)))) }
     ensures err { OnErr result ((lefts rights : ℕ → List (List ℕ)) → ShowBoth lefts rights (both left.old right.old (St.holds store.old) (St.signs store.old)) → EmittedSome (E.took emit.old (St.holds store.old)) (E.took emit.new (St.holds store.new)) (pairs_down shape.now (length left.old.streams) lefts rights)) }
     ensures less { OnOk result (weight left.new < weight left.old) }
-    ensures first { OnOk result (AreShallow left.old.levels → EnteredEvents (HasGoneOn left.new.levels (emit.new ≡ emit.old)) (St.signs store.old).trail (St.signs store.new).trail) }
+    ensures first { OnOk result (EnteredEvents (PinsBefore (emit.new ≡ emit.old)) (St.signs store.old).trail (St.signs store.new).trail) }
     ensures op { IsOperator (operator c.now shape.now left.new right.new) (St.holds store.new) (St.signs store.new) }
     ensures leaves { LeavesBeside c.now.tracker (E.client emit.old) (St.holds store.old) (St.holds store.new) (St.signs store.old) (St.signs store.new) }
     ensures made { (lefts rights : ℕ → List (List ℕ)) → ShowBoth lefts rights (both left.old right.old (St.holds store.old) (St.signs store.old)) → MakesBeside (owed_both (both left.old right.old (St.holds store.old) (St.signs store.old)) lefts rights) (E.creates emit.old) (E.creates emit.new) (St.signs store.old) (St.signs store.new) }
@@ -348,7 +345,7 @@ pub(crate) fn join_parts<St: Store, E: Emit<St>>(
     requires stands { (rows : List (List Value)) × E.took emit.old (St.holds store.old) rows }
     ensures ok { OnOk result ((lefts rights : ℕ → List (List ℕ)) → ShowBoth lefts rights (both left.old right.old (St.holds store.old) (St.signs store.old)) → Emitted (E.took emit.old (St.holds store.old)) (E.took emit.new (St.holds store.new)) (pairs_down shape.now (length left.old.streams) lefts rights)) }
     ensures err { OnErr result ((lefts rights : ℕ → List (List ℕ)) → ShowBoth lefts rights (both left.old right.old (St.holds store.old) (St.signs store.old)) → EmittedSome (E.took emit.old (St.holds store.old)) (E.took emit.new (St.holds store.new)) (pairs_down shape.now (length left.old.streams) lefts rights)) }
-    ensures first { OnOk result (AreShallow left.old.levels → EnteredEvents (PinsBefore (emit.new ≡ emit.old)) (St.signs store.old).trail (St.signs store.new).trail) }
+    ensures first { OnOk result (EnteredEvents (PinsBefore (emit.new ≡ emit.old)) (St.signs store.old).trail (St.signs store.new).trail) }
     ensures op { IsOperator (operator c.now shape.now left.new right.new) (St.holds store.new) (St.signs store.new) }
     ensures leaves { LeavesBeside c.now.tracker (E.client emit.old) (St.holds store.old) (St.holds store.new) (St.signs store.old) (St.signs store.new) }
     ensures made { (lefts rights : ℕ → List (List ℕ)) → ShowBoth lefts rights (both left.old right.old (St.holds store.old) (St.signs store.old)) → MakesBeside (owed_both (both left.old right.old (St.holds store.old) (St.signs store.old)) lefts rights) (E.creates emit.old) (E.creates emit.new) (St.signs store.old) (St.signs store.new) }

@@ -4,12 +4,14 @@ ghost use Rattle.row_codec.specs.declared.values.Value.{Value};
 ghost use Rattle.store_api.specs.Emitters.{CameOf, HasClient};
 ghost use Rattle.store_api.specs.Shapes.{IsJoinShape};
 ghost use Rattle.bucket_table.specs.Tables.{HasNode, row_of};
+ghost use Rattle.tuple_stream.specs.Spending.{PinsAgain};
 ghost use Rattle.tuple_stream.specs.Streams.{HasRows};
 ghost use Rattle.tuple_stream.specs.Touches.{slots_with};
+ghost use Rattle.tuple_stream.specs.Trails.{EnteredEvents};
 ghost use Rattle.partition_stack.specs.Emitting.{IsBeside, StaysEmitter, Stood, WentOn};
 ghost use Rattle.partition_stack.specs.Reading.{IsReadable};
 ghost use Rattle.partition_stack.specs.Slots.{IsWantOf, KeepSlots, with_more};
-ghost use Rattle.join_op.specs.Chunks.{AdmitsJoined, AreColumns, AreReadable, IsKept, ReadBoth, ReadOne, kept_rows, stored_pairs};
+ghost use Rattle.join_op.specs.Chunks.{AdmitsJoined, AreColumns, AreReadable, IsKept, IsResting, ReadBoth, ReadOne, kept_rows, stored_pairs};
 ghost use Rattle.join_op.specs.Handing.{Emitted, EmittedSome};
 ghost use Rattle.join_op.specs.Holding.{AreStored, HoldsOf, IsSameHeld, MayHold, held_rows, held_side, pairs_with, read_side, stored};
 ghost use Rattle.join_op.specs.Slots.{CameFull, Crowds, SameMost, slots_of_two};
@@ -80,6 +82,7 @@ pub(crate) fn join_held<St: Store, E: Emit<St>>(
     ensures want { E.page_blocks ≡ reads.old.page_blocks → IfErr result (IsWantOf reads.old.page_blocks (with_more (E.slots emit.new (St.holds store.new)) (St.holds store.new).free_slots)) }
     ensures crowded { IfErr result (λ e. (firsts seconds : List (List ℕ)) → (St.holds store.old).told ≡ true → HasRows firsts reads.old (St.holds store.old) → HasRows seconds builds.old (St.holds store.old) → EmittedSome (E.took emit.old (St.holds store.old)) (Crowds (E.slots_for emit.old) reads.old.page_blocks (with_more (E.slots emit.new (St.holds store.new)) (St.holds store.new).free_slots) e) (pairs_with turned shape.now firsts seconds)) }
     ensures most { SameMost (E.slots_for emit.old) (E.slots_for emit.new) }
+    ensures first { OnOk result (IsResting builds.old → EnteredEvents PinsAgain (St.signs store.old).trail (St.signs store.new).trail) }
     ensures streams { ReadBoth c.now.tracker (E.client emit.old) reads.old reads.new builds.old builds.new (St.holds store.old) (St.holds store.new) }
     ensures slots { KeepSlots (E.client emit.old) (slots_of_two reads.old builds.old (St.holds store.old)) (slots_of_two reads.new builds.new (St.holds store.new)) (E.slots emit.old (St.holds store.old)) (E.slots emit.new (St.holds store.new)) }
     ensures held { IsSameHeld held.old held.new }

@@ -6,6 +6,7 @@ use Rattle.partition_stack.specs.Slots.{IsWantOf, with_more}
 use Rattle.join_op.proofs.Crowding.{same_total, some_more_of}
 use Rattle.join_op.specs.Chunks.{stored_pairs}
 use Rattle.join_op.specs.Holding.{IsTableAt, loans_in}
+use Rattle.join_op.proofs.Dealing.{pinned_then}
 use Rattle.join_op.proofs.Handed.{emitted_on, some_on}
 use Rattle.join_op.proofs.LeafEnds.{lends_as, stays_later, went_later}
 use Rattle.join_op.proofs.LeafSlots.{free_lent, full_later, keep_given}
@@ -127,3 +128,6 @@ returns-clause-crowded g c =
     if_err c.join_streams-result.result
     (λ e came lefts rights told one two. some_more_of (g.E.Emit.took c.args.emit.now h1) (stored_pairs c.args.shape.now lefts rights) (g.E.Emit.slots_for c.args.emit.now) (g.E.Emit.slots_for c.args.emit.now) c.args.left.now.page_blocks c.args.left.now.page_blocks _ _ e (λ rows. refl) (omega arith) total (came lefts rights told one two))
     c.join_streams-result.ensures.crowded
+
+pub returns-clause-first : goal.returns-clause-first
+returns-clause-first g c = on_ok c.join_streams-result.result (λ pins left right. pinned_then _ _ _ (pins left right) c.give.ensures.grows.trail) c.join_streams-result.ensures.first

@@ -39,3 +39,9 @@ returns-then-turned-clause-crowded g c =
 
 pub returns-clause-crowded : goal.returns-clause-crowded
 returns-clause-crowded g c = if_err c.join_held-2.result (λ e came lefts rights told one two. came lefts rights told one two) c.join_held-2.ensures.crowded
+
+pub returns-then-turned-clause-first : goal.returns-then-turned-clause-first
+returns-then-turned-clause-first g c = on_ok c.join_held.result (λ pins left right. pins left) c.join_held.ensures.first
+
+pub returns-clause-first : goal.returns-clause-first
+returns-clause-first g c = on_ok c.join_held-2.result (λ pins left right. pins right) c.join_held-2.ensures.first

@@ -10,6 +10,7 @@ use Rattle.join_op.specs.Holding.{LeavesRoom, loans_in}
 use Rattle.join_op.proofs.LeafEnds.{beside_lent, emitted_since, some_since, stays_since, went_since}
 use Rattle.join_op.proofs.LeafSlots.{full_since, keep_lent}
 use Rattle.join_op.proofs.LentBoth.{own_lent, readable_lent, rows_stay, told_lent}
+use Rattle.join_op.proofs.PinsRows.{pins_later}
 use Rattle.join_op.proofs.chunks.leaf_by_table.Goals as goal
 
 pub hold-held-requires-clause-blocks : goal.hold-held-requires-clause-blocks
@@ -91,3 +92,6 @@ returns-clause-crowded g c =
     if_err c.join_pair.result
     (λ e came lefts rights told one two. some_since (g.E.Emit.took c.args.emit.now h0) (g.E.Emit.took c.args.emit.now h1) (Crowds (g.E.Emit.slots_for c.args.emit.now) c.args.left.now.page_blocks (with_more (g.E.Emit.slots c.join_pair.new.emit (g.St.Store.holds c.join_pair.new.store)) (g.St.Store.holds c.join_pair.new.store).free_slots) e) still (stored_pairs c.args.shape.now lefts rights) (came lefts rights (told_lent t (loans_in c.hold-held.result.table) h0 h1 lends ∙ told) (rows_stay t (loans_in c.hold-held.result.table) h0 h1 lends c.args.left.now lefts c.requires.streams.left_shape one) (rows_stay t (loans_in c.hold-held.result.table) h0 h1 lends c.args.right.now rights c.requires.streams.right_shape two)))
     c.join_pair.ensures.crowded
+
+pub returns-clause-first : goal.returns-clause-first
+returns-clause-first g c = on_ok c.join_pair.result (λ pins left right. pins_later _ _ _ c.hold-held.ensures.first (pins left right)) c.join_pair.ensures.first

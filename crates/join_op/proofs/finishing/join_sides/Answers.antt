@@ -17,7 +17,6 @@ use Rattle.join_op.specs.Pairs.{pairs_of}
 use Rattle.join_op.proofs.Enough.{by_rested}
 use Rattle.join_op.proofs.Handed.{from_two, handed_err, some_none, some_on}
 use Rattle.join_op.proofs.LaidSides.{holds_sides}
-use Rattle.join_op.proofs.Stepped.{first_shallow}
 use Rattle.join_op.proofs.Wholes.{beside_left, emitted_from, owed_rested, pairs_rested, shows_rested, some_from}
 use Rattle.join_op.proofs.finishing.join_sides.Goals as goal
 
@@ -78,7 +77,7 @@ returns-clause-kept g c =
     let rested = c.in_ok-rest_both.ensures.kept start lefts rights keeps in
     holds_sides c.args.c.now.tracker c.args.shape.now lefts rights start (both c.rest_both.new.left c.rest_both.new.right (g.St.Store.holds c.rest_both.new.store) (g.St.Store.signs c.rest_both.new.store)) c.rest_both.ensures.op.owns c.in_ok-rest_both.ensures.rested.between c.in_ok-rest_both.ensures.rested.first.sixteen rested
     (c.join_parts.new.emit ≡ c.args.emit.now) (over c.join_parts.new.left (g.St.Store.holds c.join_parts.new.store) (g.St.Store.signs c.join_parts.new.store)) (over c.join_parts.new.right (g.St.Store.holds c.join_parts.new.store) (g.St.Store.signs c.join_parts.new.store)) (g.St.Store.signs c.join_parts.new.store).trail between.left_closed between.right_closed
-    (first (first_shallow c.rest_both.new.left.levels c.in_ok-rest_both.ensures.rested.first.first)))
+    first)
     c.join_parts.ensures.first c.join_parts.ensures.closed
 
 pub returns-clause-leaves : goal.returns-clause-leaves

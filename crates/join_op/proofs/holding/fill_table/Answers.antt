@@ -1,12 +1,13 @@
-use Rattle.std.proofs.Common.{rules, ◌≡◌, ℕ, true, subst}
+use Rattle.std.proofs.Common.{rules, ◌≡◌, ℕ, true, false, subst}
 use Rattle.store_api.specs.Signs.{WasAnswered}
 use Rattle.store_api.proofs.Answered.{answered_before}
 use Rattle.tuple_stream.specs.Reading.{ReadsRow}
 use Rattle.tuple_stream.specs.Steps.{scene}
 use Rattle.tuple_stream.specs.Touches.{IsFull}
 use Rattle.tuple_stream.proofs.ReadRow.{reads_trans}
-use Rattle.join_op.specs.Holding.{held_side}
-use Rattle.join_op.proofs.ChunkJoins.{row_found}
+use Rattle.join_op.specs.Holding.{held_side, stored}
+use Rattle.join_op.proofs.ChunkJoins.{none_found, row_found}
+use Rattle.join_op.proofs.ChunkRounds.{no_row}
 use Rattle.join_op.proofs.Fillings.{filling_more, filling_none}
 use Rattle.join_op.proofs.holding.fill_table.Goals as goal
 
@@ -42,3 +43,10 @@ more-preserved g c =
     let reads : ReadsRow c.more.place c.keep_into.new.place c.keep_into.new.out.items b d = row_found c.in_ok-keep_into.field-0 _ _ _ b d found c.in_ok-keep_into.ensures.ok in
     filling_more c.args.c.now.tracker (held_side c.args.turned c.args.shape.now) c.args.table.now c.more.table c.put.new.table c.args.place.now c.more.place c.keep_into.new.place c.keep_into.new.out.items _ b d
     c.more.invariant c.keep_into.ensures.went c.keep_into.ensures.same reads c.put.ensures.each c.put.ensures.table c.in-Ok.ensures.rows
+
+pub returns-then-not-branch-clause-reads : goal.returns-then-not-branch-clause-reads
+returns-then-not-branch-clause-reads g c =
+    let b = scene c.more.builds (g.St.Store.holds c.more.store) (g.St.Store.signs c.more.store) in
+    let d = scene c.keep_into.new.self (g.St.Store.holds c.keep_into.new.store) (g.St.Store.signs c.keep_into.new.store) in
+    let found : c.in_ok-keep_into.field-0 ≡ false = search rules in
+    no_row (stored c.more.table.nodes) c.args.place.now c.more.place c.args.c.now.tracker _ b d c.more.invariant.reads c.more.invariant.went c.keep_into.ensures.went c.keep_into.new.place (none_found c.in_ok-keep_into.field-0 _ _ _ b d found c.in_ok-keep_into.ensures.ok)

@@ -13,7 +13,7 @@ use Rattle.join_op.specs.Handing.{EmittedSome}
 use Rattle.join_op.specs.Joining.{ShowBoth, both, owed_both, pairs_down, slots_both, slots_by}
 use Rattle.join_op.proofs.Advances.{advances_popped, owed_gone, owed_top, some_top}
 use Rattle.join_op.proofs.Handed.{any_ok, handed_err, some_none, some_on}
-use Rattle.join_op.proofs.Stepped.{advances_divided, advances_gone, gone_on_pinned, gone_on_popped, not_shallow}
+use Rattle.join_op.proofs.Stepped.{advances_divided, advances_gone, before_pinned, before_still}
 use Rattle.join_op.proofs.joining.advance.Goals as goal
 
 pub returns-then-not-have_rows-clause-ok : goal.returns-then-not-have_rows-clause-ok
@@ -32,7 +32,7 @@ pub returns-then-not-have_rows-clause-less : goal.returns-then-not-have_rows-cla
 returns-then-not-have_rows-clause-less g c = less_popped c.args.left.now.levels c.drop_top.new.left.levels (c.len-at.result - 1) c.level-level.result c.level-level.ensures.value c.drop_top.ensures.popped.levels
 
 pub returns-then-not-have_rows-clause-first : goal.returns-then-not-have_rows-clause-first
-returns-then-not-have_rows-clause-first g c = λ shallow. gone_on_popped (c.args.emit.now ≡ c.args.emit.now) c.args.left.now.levels c.drop_top.new.left.levels (c.len-at.result - 1) _ _ refl c.drop_top.ensures.popped.levels shallow c.drop_top.ensures.first
+returns-then-not-have_rows-clause-first g c = before_still (c.args.emit.now ≡ c.args.emit.now) _ _ refl c.drop_top.ensures.first
 
 pub returns-then-not-have_rows-clause-leaves : goal.returns-then-not-have_rows-clause-leaves
 returns-then-not-have_rows-clause-leaves g c = left_beside c.args.c.now.tracker (g.E.Emit.client c.args.emit.now) _ _ _ _ c.drop_top.ensures.leaves
@@ -72,7 +72,7 @@ pub returns-then-not-is_few-clause-less : goal.returns-then-not-is_few-clause-le
 returns-then-not-is_few-clause-less g c = c.in_ok-divide_both.ensures.divided.less
 
 pub returns-then-not-is_few-clause-first : goal.returns-then-not-is_few-clause-first
-returns-then-not-is_few-clause-first g c = λ shallow. gone_on_pinned (c.args.emit.now ≡ c.args.emit.now) c.divide_both.new.left.levels _ _ c.in_ok-divide_both.ensures.divided.first
+returns-then-not-is_few-clause-first g c = before_pinned (c.args.emit.now ≡ c.args.emit.now) _ _ c.in_ok-divide_both.ensures.divided.first
 
 pub returns-then-not-is_few-clause-leaves : goal.returns-then-not-is_few-clause-leaves
 returns-then-not-is_few-clause-leaves g c = left_beside c.args.c.now.tracker (g.E.Emit.client c.args.emit.now) _ _ _ _ c.divide_both.ensures.leaves
@@ -105,7 +105,9 @@ pub returns-clause-less : goal.returns-clause-less
 returns-clause-less g c = any_ok c.pair_top.result (less_popped c.args.left.now.levels c.pair_top.new.left.levels (c.len-at.result - 1) c.level-level.result c.level-level.ensures.value c.pair_top.ensures.popped.0.levels)
 
 pub returns-clause-first : goal.returns-clause-first
-returns-clause-first g c = any_ok c.pair_top.result (λ shallow. absurd (not_shallow c.args.left.now.levels (c.len-at.result - 1) c.level-level.result shallow c.level-level.ensures.value (c.is_few.ensures.later c.if-not-is_few.false)))
+returns-clause-first g c =
+    let some = c.have_rows.ensures.some c.if-not-have_rows.false in
+    on_ok c.pair_top.result (λ pins. before_pinned (c.pair_top.new.emit ≡ c.args.emit.now) _ _ (pins some.0 some.1)) c.pair_top.ensures.first
 
 pub returns-then-not-have_rows-clause-made : goal.returns-then-not-have_rows-clause-made
 returns-then-not-have_rows-clause-made g c = λ lefts rights shows.

@@ -16,7 +16,6 @@ use Rattle.join_op.proofs.Besides.{beside_more}
 use Rattle.join_op.proofs.Downward.{HasGoneDown, down_beside, down_reserved, down_stepped, gone_none}
 use Rattle.join_op.proofs.Enough.{by_fewer, some_len}
 use Rattle.join_op.proofs.Handed.{handed_err}
-use Rattle.join_op.proofs.Stepped.{gone_on_all}
 use Rattle.join_op.proofs.joining.join_parts.Goals as goal
 
 pub down-init : goal.down-init
@@ -215,7 +214,7 @@ returns-clause-ok g c =
     advances_all c.args.shape.now (g.E.Emit.took c.args.emit.now h0) (g.E.Emit.took c.down.emit h) lefts rights (both c.args.left.now c.args.right.now h0 s0) (both c.down.left c.down.right h s) (omega (arith, end, len)) (c.down.invariant.gone.rows lefts rights shows)
 
 pub returns-clause-first : goal.returns-clause-first
-returns-clause-first g c = λ shallow. gone_on_all (c.down.emit ≡ c.args.emit.now) c.down.left.levels _ _ (c.down.invariant.gone.first shallow)
+returns-clause-first g c = c.down.invariant.gone.first
 
 pub returns-clause-op : goal.returns-clause-op
 returns-clause-op g c = c.down.invariant.gone.op

@@ -7,8 +7,9 @@ use Rattle.partition_stack.proofs.Results.{if_err, on_err, on_ok}
 use Rattle.partition_stack.specs.Slots.{with_more}
 use Rattle.join_op.specs.Slots.{Crowds}
 use Rattle.join_op.specs.Joining.{both, slots_both, slots_by}
+use Rattle.join_op.proofs.Dealing.{pinned_then}
 use Rattle.join_op.proofs.Enough.{some_len}
-use Rattle.join_op.proofs.Paired.{came_till, crowd_paired, leaves_gone, leaves_paired, left_rows, op_paired, popped, readable, right_rows, right_still, shows_paired, slots_paired, stands_read, beside_read, left_there, want_beside_paired, want_paired}
+use Rattle.join_op.proofs.Paired.{came_till, crowd_paired, leaves_gone, leaves_paired, left_rows, op_paired, popped, left_rests, readable, right_rests, right_rows, right_still, shows_paired, slots_paired, stands_read, beside_read, left_there, want_beside_paired, want_paired}
 use Rattle.join_op.specs.Chunks.{stored_pairs}
 use Rattle.join_op.proofs.Handed.{emitted_on, some_on}
 use Rattle.partition_stack.proofs.Making.{counts_both, emptied_makes, few_both, few_counts}
@@ -133,3 +134,10 @@ returns-clause-enough g c =
     (some_len c.args.left.now.page_blocks (g.St.Store.holds c.args.store.now).block_len c.requires.op.sized (let least = c.block_len-len.ensures.least in let value = c.block_len-len.ensures.value in omega (arith, least, value))) lefts rights shows (g.E.Emit.slots_for c.args.emit.now) e)
     (came (lefts c.args._at) (rights c.args._at) shows.told (left_rows c.args.c.now c.args.shape.now c.args._at c.args.left.now c.args.right.now c.pop-one.new.self c.pop-other.new.self c.pop-one.result c.pop-other.result (g.St.Store.holds c.args.store.now) (g.St.Store.signs c.args.store.now) c.requires.op c.requires.between c.requires.top c.pop-one.ensures.streams c.pop-other.ensures.streams lefts rights shows) (right_rows c.args.c.now c.args.shape.now c.args._at c.args.left.now c.args.right.now c.pop-one.new.self c.pop-other.new.self c.pop-one.result c.pop-other.result (g.St.Store.holds c.args.store.now) (g.St.Store.signs c.args.store.now) c.requires.op c.requires.between c.requires.top c.pop-one.ensures.streams c.pop-other.ensures.streams lefts rights shows)))
     c.leaf_by_table-result.ensures.crowded
+
+pub returns-clause-first : goal.returns-clause-first
+returns-clause-first g c =
+    let gone = leaves_gone c.args.c.now c.args.shape.now c.args._at c.args.left.now c.args.right.now c.pop-one.new.self c.pop-other.new.self c.pop-one.result c.pop-other.result (g.St.Store.holds c.args.store.now) (g.St.Store.signs c.args.store.now) c.requires.op c.requires.between c.requires.top c.pop-one.ensures.streams c.pop-other.ensures.streams (g.E.Emit.client c.args.emit.now) c.leaf_by_table-result.new.left c.leaf_by_table-result.new.right (g.St.Store.holds c.leaf_by_table-result.new.store) (g.St.Store.signs c.leaf_by_table-result.new.store) c.leaf_by_table-result.ensures.streams c.leaf_by_table-result.ensures.emitter.grows (scene c.drop_all.new.self (g.St.Store.holds c.drop_all.new.store) (g.St.Store.signs c.drop_all.new.store)) (c.drop_all.ensures.went c.args.c.now.tracker c.leaf_by_table-result.ensures.streams.left_shape) c.drop_all.ensures.value (scene c.drop_all-2.new.self (g.St.Store.holds c.drop_all-2.new.store) (g.St.Store.signs c.drop_all-2.new.store)) (c.drop_all-2.ensures.went c.args.c.now.tracker (right_still c.args.c.now c.args.shape.now c.args._at c.args.left.now c.args.right.now c.pop-one.new.self c.pop-other.new.self c.pop-one.result c.pop-other.result (g.St.Store.holds c.args.store.now) (g.St.Store.signs c.args.store.now) c.requires.op c.requires.between c.requires.top c.pop-one.ensures.streams c.pop-other.ensures.streams (g.E.Emit.client c.args.emit.now) c.leaf_by_table-result.new.left c.leaf_by_table-result.new.right (g.St.Store.holds c.leaf_by_table-result.new.store) (g.St.Store.signs c.leaf_by_table-result.new.store) c.leaf_by_table-result.ensures.streams c.leaf_by_table-result.ensures.emitter.grows (scene c.drop_all.new.self (g.St.Store.holds c.drop_all.new.store) (g.St.Store.signs c.drop_all.new.store)) (c.drop_all.ensures.went c.args.c.now.tracker c.leaf_by_table-result.ensures.streams.left_shape) c.drop_all.ensures.value)) c.drop_all-2.ensures.value c.pop-one.ensures.blocks c.pop-other.ensures.blocks c.pop-one.ensures.levels c.pop-other.ensures.levels in
+    on_ok c.leaf_by_table-result.result
+    (λ pins left right. pinned_then _ _ _ (pins (left_rests c.args.c.now c.args.shape.now c.args._at c.args.left.now c.args.right.now c.pop-one.new.self c.pop-other.new.self c.pop-one.result c.pop-other.result (g.St.Store.holds c.args.store.now) (g.St.Store.signs c.args.store.now) c.requires.op c.requires.between c.requires.top c.pop-one.ensures.streams c.pop-other.ensures.streams left) (right_rests c.args.c.now c.args.shape.now c.args._at c.args.left.now c.args.right.now c.pop-one.new.self c.pop-other.new.self c.pop-one.result c.pop-other.result (g.St.Store.holds c.args.store.now) (g.St.Store.signs c.args.store.now) c.requires.op c.requires.between c.requires.top c.pop-one.ensures.streams c.pop-other.ensures.streams right)) gone.grows.trail)
+    c.leaf_by_table-result.ensures.first

@@ -45,8 +45,8 @@ returns-clause-made g c =
     let s1 = g.St.Store.signs c.reserve_to_fit-reserved.new.self in
     reserved_made c.reserve_to_fit-reserved.result c.args.c.now.tracker _ _ h h1 s s1 c.reserve_to_fit-reserved.ensures.entries c.reserve_to_fit-reserved.ensures.err
 
-pub returns-then-level-le1-clause-made : goal.returns-then-level-le1-clause-made
-returns-then-level-le1-clause-made g c = few_none (g.St.Store.signs c.args.store.now)
+pub returns-then-not-have_rows-clause-made : goal.returns-then-not-have_rows-clause-made
+returns-then-not-have_rows-clause-made g c = few_none (g.St.Store.signs c.args.store.now)
 
 pub returns-in_default-clause-made : goal.returns-in_default-clause-made
 returns-in_default-clause-made g c = few_none (g.St.Store.signs c.args.store.now)

@@ -21,6 +21,7 @@ use Rattle.join_op.proofs.ChunkRounds.{met_all, met_more, met_none, met_part, me
 use Rattle.join_op.proofs.Handed.{handed_err, some_none, some_on}
 use Rattle.join_op.proofs.LeafSlots.{two_handed, two_read}
 use Rattle.join_op.proofs.HeldSame.{held_itself, held_then, may_still}
+use Rattle.join_op.proofs.PinsRows.{begun_all, begun_more, begun_none}
 use Rattle.join_op.proofs.meeting.join_held.Goals as goal
 
 pub rounds-init : goal.rounds-init
@@ -30,6 +31,7 @@ rounds-init g c =
       stays = stay_none c.args.c.now c.args.reads.now c.args.builds.now (g.St.Store.holds c.args.store.now) (g.St.Store.signs c.args.store.now) (g.E.Emit.admits c.args.emit.now) (g.E.Emit.client c.args.emit.now) (g.E.Emit.faults c.args.emit.now) (g.E.Emit.took c.args.emit.now (g.St.Store.holds c.args.store.now)) c.requires.streams c.requires.emitter.lives;
       slots = keep_none _ _ _;
       most = λ rows. refl;
+      begun = λ rests. begun_none c.args.builds.now c.first-place.result (g.St.Store.signs c.args.store.now) c.first-place.ensures;
       met = met_none c.args.turned c.args.shape.now c.args.c.now.tracker c.args.reads.now c.args.builds.now (g.St.Store.holds c.args.store.now) (g.St.Store.signs c.args.store.now) (g.E.Emit.took c.args.emit.now (g.St.Store.holds c.args.store.now)) c.first-place.result c.rows-waiting.result c.first-place.ensures c.rows-waiting.ensures c.requires.streams.right_shape;
     }
 
@@ -205,6 +207,9 @@ rounds-preserved g c =
     two_read c.args.c.now.tracker (g.E.Emit.client c.args.emit.now) _ _ c.args.reads.now c.rounds.reads c.args.builds.now c.rounds.builds (g.St.Store.holds c.args.store.now) (g.St.Store.holds c.rounds.store) c.rounds.invariant.slots c.hold_next.new.builds (g.St.Store.holds c.hold_next.new.store) _ stays.readable.left_shape (disjoint_back c.rounds.reads c.rounds.builds stays.readable.apart) c.hold_next.ensures.went.step.touches same in
     record {
       most = λ rows. c.join_chunk.ensures.most rows ∙ c.rounds.invariant.most rows;
+      begun = λ rests.
+          begun_more c.args.c.now.tracker c.args.builds.now c.rounds.builds c.hold_next.new.builds (g.St.Store.holds c.rounds.store) (g.St.Store.holds c.hold_next.new.store) (g.St.Store.signs c.args.store.now) (g.St.Store.signs c.rounds.store) (g.St.Store.signs c.hold_next.new.store) (g.St.Store.signs c.join_chunk.new.store)
+          c.rounds.place c.hold_next.new.place (held_rows c.hold_next.new.held) rests (c.rounds.invariant.begun rests) c.hold_next.ensures.went c.hold_next.ensures.same c.in_ok-hold_next.ensures.reads c.in_ok-hold_next.ensures.last c.join_chunk.ensures.emitter.grows;
       held = held_then _ _ _ c.rounds.invariant.held c.hold_next.ensures.held;
       stays = all;
       slots = two_handed c.args.c.now.tracker (g.E.Emit.client c.args.emit.now) _ _ c.args.reads.now c.rounds.reads c.args.builds.now c.hold_next.new.builds (g.St.Store.holds c.args.store.now) (g.St.Store.holds c.hold_next.new.store) slots_read (g.E.Emit.client c.rounds.emit) (g.E.Emit.client c.rounds.emit) c.join_chunk.new.reads (g.St.Store.holds c.join_chunk.new.store) _ stays.emitter.client_same read.readable.right_shape read.readable.apart c.join_chunk.ensures.stream.beside c.join_chunk.ensures.slots;
@@ -311,3 +316,6 @@ returns-in_err-join_chunk-clause-crowded g c =
 
 pub returns-in_err-join_chunk-clause-most : goal.returns-in_err-join_chunk-clause-most
 returns-in_err-join_chunk-clause-most g c = λ rows. c.join_chunk.ensures.most rows ∙ c.rounds.invariant.most rows
+
+pub returns-clause-first : goal.returns-clause-first
+returns-clause-first g c = λ rests. begun_all c.args.builds.now c.rounds.builds c.rounds.place _ _ c.rounds.waiting rests (c.rounds.invariant.begun rests) c.rounds.invariant.met.waits (let end = c.rounds-test.false in omega (arith, end))
