@@ -1,39 +1,33 @@
--- What the pool has for the owner's query and clients, as the owner holds it, and why a growth or a move is refused.
-use Rattle.std.proofs.Common.{◌≡◌, ◌≢◌, ℕ, ◌+◌, ◌-◌, ◌<◌, ◌≤◌, ◌==◌, Bool, true, false, if◌then◌else◌, List, [], ◌∷◌, ◌++◌, Option, Some, None, IsSome, IfSome, IfNone, is_some, option_map, unwrap_or, Result, Ok, Err, is_ok, IsOk, IsErr, OnOk, refl, sym, ap, ◌∙◌, subst, arith, le-leb}
-use Rattle.std.proofs.lemmas.Bool.{false≢true, lt-leb}
+-- What calls on the clients of the owner and on their reservations enter, and why such calls are refused.
+use Rattle.std.proofs.Common.{◌≡◌, ℕ, ◌-◌, ◌<◌, ◌≤◌, ◌==◌, Bool, true, false, if◌then◌else◌, List, [], ◌∷◌, ◌++◌, Option, Some, None, IsSome, is_some, option_map, refl, sym, ap, ◌∙◌, subst, arith}
+use Rattle.std.proofs.lemmas.Bool.{false≢true}
 use Rattle.std.proofs.lemmas.List.{append_assoc}
 use Rattle.std.specs.FinMap.{get}
 use Rattle.outside.specs.declared.slot.Slot.{Ghosts}
 use Rattle.reservation_tree.specs.declared.errors.PoolErr.{PoolErr}
 use Rattle.reservation_tree.specs.declared.errors.PoolErr.TheVariants.{NoReservation}
 use Rattle.reservation_tree.specs.Answer.{no_reservation, IsFrom}
-use Rattle.reservation_tree.specs.Change.{Refusal, move_refusal as tree_move_refusal}
-use Rattle.reservation_tree.specs.Tracker.{Tracker, IsLive, no_tracker, limit_of, reservation_of}
+use Rattle.reservation_tree.specs.Change.{move_refusal as tree_move_refusal}
+use Rattle.reservation_tree.specs.Tracker.{IsLive, limit_of, reservation_of}
 use Rattle.pool_model.specs.declared.event.Event.{Event}
 use Rattle.pool_model.specs.declared.event.Event.TheVariants.{AddTracker, CloseTracker, Increase, IncreaseToFit, Decrease, MoveReservation, PinLoad, StartWrite, ReadOk, ReadFailed, WriteOk, WriteFailed}
 use Rattle.pool_model.specs.declared.entry.Entry.{Entry}
-use Rattle.pool_model.specs.State.{Opening, Session, State}
-use Rattle.pool_model.specs.Sums.{charge_of, memory}
+use Rattle.pool_model.specs.State.{Opening, State}
+use Rattle.pool_model.specs.Sums.{memory}
 use Rattle.pool_model.specs.Owning.{IsClientOf}
-use Rattle.pool_model.specs.Sound.{IsQuery}
 use Rattle.pool_model.specs.Legal.{state_after}
 use Rattle.store_api.specs.Tokens.{ClientToken}
-use Rattle.store_api.specs.Holdings.{Account, Holdings, Room, or_else, no_account, account_of, unused_of as unused_in}
+use Rattle.store_api.specs.Holdings.{Holdings, Room, account_of, unused_of as unused_in}
 use Rattle.store_api.specs.Changes.{shortfall, after_end_client}
 use Rattle.store_api.specs.Entries.{by, IsAsked}
-use Rattle.store_api.specs.Conditions.{FitsAccount, IsIdle}
-use Rattle.store_api.specs.Refusals.{client_room, unless_fits, reserve_refusal, move_refusal}
+use Rattle.store_api.specs.Conditions.{IsIdle}
+use Rattle.store_api.specs.Refusals.{client_room, reserve_refusal, move_refusal}
 use Rattle.own_entries.specs.OwnHoldings.{after_events, has_client, moved_between}
 use Rattle.own_entries.specs.HeldLaws.{own_holdings}
-use Rattle.own_entries.specs.LiveParts.{count_under}
 use Rattle.own_entries.proofs.AloneRefused.{legal_refuses_alone}
-use Rattle.own_entries.proofs.ByItself.{room_is}
 use Rattle.own_entries.proofs.Calls.{calls_tell}
-use Rattle.own_entries.proofs.Facts.{own_under}
-use Rattle.own_entries.proofs.Idle.{no_page, no_buffer}
-use Rattle.own_entries.proofs.Views.{account_is}
 use Rattle.pin_core.specs.StateOf.{state_of}
-use Rattle.pin_core.specs.Sessions.{IsSeat, query_of, client_count, IsIdle as HasNothing}
+use Rattle.pin_core.specs.Sessions.{query_of, client_count, IsIdle as HasNothing}
 use Rattle.pin_core.specs.Standing.{Enters}
 use Rattle.pin_core.specs.Entering.{unused_of, growth_refusal, fit_refusal, client_entry, move_entry}
 use Rattle.pin_core.specs.Opening.{leaving_entries}
@@ -46,45 +40,9 @@ use Rattle.local_pool.proofs.Growing.{goes, grown_by, makes, sums_rest}
 use Rattle.local_pool.proofs.Asked.{one_more, makes_one}
 use Rattle.local_pool.proofs.Making.{asked_last, makes_more}
 use Rattle.local_pool.proofs.Still.{still_run}
-use Rattle.local_pool.proofs.Knowing.{Knows, knows, held_is, sound, owned, left_of}
-
--- an error of the pool is the store's
-refused_so : (r : Option Refusal) (o : Option PoolErr) (e : PoolErr) → option_map no_reservation r ≡ o → IsFrom r e → o ≡ Some e
-refused_so None o e same from = absurd from
-refused_so (Some x) o e same from = sym same ∙ ap Some (sym from)
-
--- and nothing refuses where the pool refuses nothing
-granted_so : (r : Option Refusal) (o : Option PoolErr) → option_map no_reservation r ≡ o → (IsSome r → ⊥) → o ≡ None
-granted_so None o same none = sym same
-granted_so (Some x) o same none = absurd (none refl)
-
-unrefused : (r : Option Refusal) → option_map no_reservation r ≡ None → r ≡ None
-unrefused None none = refl
-unrefused (Some x) none = let never : Some (no_reservation x) ≡ None = none in cc
-
--- what follows of a result where the store's clause tells the error, and where it tells none
-pub with_error : (o : Option PoolErr) (r : Result (Unit {0}) PoolErr) (e : PoolErr) → o ≡ Some e → r ≡ Err e → IfSome o (λ x. r ≡ Err x)
-with_error o r e is same = subst (λ (z : Option PoolErr). IfSome z (λ x. r ≡ Err x)) (sym is) same
-
-pub but_error : (o : Option PoolErr) (r : Result (Unit {0}) PoolErr) (e : PoolErr) → o ≡ Some e → IfNone o (IsOk r)
-but_error o r e is = subst (λ (z : Option PoolErr). IfNone z (IsOk r)) (sym is) tt
-
-pub no_error : (o : Option PoolErr) (r : Result (Unit {0}) PoolErr) → o ≡ None → IfSome o (λ x. r ≡ Err x)
-no_error o r is = subst (λ (z : Option PoolErr). IfSome z (λ x. r ≡ Err x)) (sym is) tt
-
--- the clause tells no error of a call that answered Ok
-pub no_error_told : (o : Option PoolErr) (r : Result (Unit {0}) PoolErr) → IsOk r → IfSome o (λ x. r ≡ Err x) → o ≡ None
-no_error_told None r ok told = refl
-no_error_told (Some e) r ok told = absurd (false≢true (ap is_ok (sym told) ∙ ok))
-
--- a call that nothing refuses answers Ok, and did what it does then
-pub unrefused_ok : (r : Result (Unit {0}) PoolErr) (o : Option Refusal) → (IsErr r → IsSome o) → o ≡ None → IsOk r
-unrefused_ok (Ok x) o refused none = refl
-unrefused_ok (Err e) o refused none = absurd (false≢true (ap is_some (sym none) ∙ refused refl))
-
-pub of_ok : (P : Type 0) (r : Result (Unit {0}) PoolErr) → IsOk r → OnOk r P → P
-of_ok P (Ok x) ok is = is
-of_ok P (Err e) ok is = absurd (false≢true ok)
+use Rattle.local_pool.proofs.Knowing.{Knows, knows, held_is}
+use Rattle.local_pool.proofs.Clients.{query_is, fewer, client_here, client_lives, unused_here, reservation_here, leaving_is, within_limit, room_is_here, has_nothing}
+use Rattle.local_pool.proofs.Refusals.{refused_so, granted_so, move_granted, fit_is, move_fits, move_passes}
 
 -- events that raise, lower or move reservation
 abbrev is_of_bytes : Event → Bool
@@ -125,18 +83,6 @@ bytes_live (Decrease t bytes) h of live = either_live (has_client t h) _ _ live 
 bytes_live (MoveReservation from to bytes) h of live = move_live (has_client from h) (has_client to h) from to bytes h live
 bytes_live _ h of live = let never : false ≡ true = of in cc
 
--- a move to another client, by whether it has room
-apart_refusal : (from to bytes : ℕ) (h : Holdings) → (from == to) ≡ false → move_refusal from to bytes h ≡ unless_fits to bytes (client_room to h) None
-apart_refusal from to bytes h apart = ap (λ (b : Bool). if b then None else unless_fits to bytes (client_room to h) None) apart
-
-move_fits : (from to bytes room : ℕ) (h : Holdings) → (from == to) ≡ false → room ≡ client_room to h → bytes ≤ room → move_refusal from to bytes h ≡ None
-move_fits from to bytes room h apart is fits =
-    apart_refusal from to bytes h apart ∙ ap (λ (n : ℕ). unless_fits to bytes n None) (sym is) ∙ ap (λ (b : Bool). if b then None else Some (NoReservation to bytes room)) (le-leb bytes room fits)
-
-move_passes : (from to bytes room : ℕ) (h : Holdings) → (from == to) ≡ false → room ≡ client_room to h → room < bytes → move_refusal from to bytes h ≡ Some (NoReservation to bytes room)
-move_passes from to bytes room h apart is passes =
-    apart_refusal from to bytes h apart ∙ ap (λ (n : ℕ). unless_fits to bytes n None) (sym is) ∙ ap (λ (b : Bool). if b then None else Some (NoReservation to bytes room)) (lt-leb bytes room passes)
-
 -- a call that asked and wrote, and then made this entry
 pub asked_then : {D : Type 0} (slot : Ghosts D) (t : ℕ) (e : Event) (start now new : Owned D) → Makes slot (IsAsked t (held_of slot start) []) start now → Makes slot (λ events. events ≡ e ∷ []) now new
     → Makes slot (IsAsked t (held_of slot start) (e ∷ [])) start new
@@ -150,104 +96,23 @@ module _ {D : Type 0} (slot : Ghosts D) (own : Owned D) {tally : Option AtOpenin
   abbrev held : Holdings
   held = held_of slot own
 
-  pub seat_lives : IsSeat s own.session
-  seat_lives = ap is_some (knows slot own is).lives
-
-  query_there : query_of s own.session ≡ (knows slot own is).session.query
-  query_there = ap (λ (o : Option Session). unwrap_or (option_map (λ x. x.query) o) 0) (knows slot own is).lives
-
-  query_is : query_of s own.session ≡ held.query
-  query_is = query_there ∙ sym (knows slot own is).told.tracker
-
-  pub query_lives : IsLive s.trackers (query_of s own.session)
-  query_lives =
-      let its : IsQuery s.trackers (knows slot own is).session.query = (sound slot own is).seated.seats own.session (knows slot own is).session (knows slot own is).lives in
-      subst (IsLive s.trackers) (sym query_there) (ap is_some its.lives)
-
-  pub room_here : unused_of s (query_of s own.session) ≡ held.room
-  room_here =
-      let k : Knows slot own = knows slot own is in
-      ap (unused_of s) query_there ∙ room_is (left_of own.trail) own.trail s (sound slot own is) (owned slot own is) own.session k.session k.lives held k.told
+  its : Knows slot own
+  its = knows slot own is
 
   module _ (c : ℕ) (some : IsSome (held.clients c)) where
-    client_here : IsClientOf s own.session c
-    client_here = (knows slot own is).client c some
-
-    client_lives : IsLive s.trackers c
-    client_lives = ap is_some client_here.lives
-
-    unused_here : (bytes : ℕ) → bytes ≤ unused_in c held → bytes ≤ unused_of s c
-    unused_here bytes fits = subst (λ (n : ℕ). bytes ≤ n) (sym ((knows slot own is).unused_is c some)) fits
-
-    account_here : account_of c held ≡ record { limit = client_here.tracker.limit; reservation = client_here.tracker.reservation; unused = client_here.tracker.reservation - charge_of s c }
-    account_here =
-        let k : Knows slot own = knows slot own is in
-        ap (or_else no_account) (k.told.clients c ∙ account_is k.session.query (charge_of s c) (get s.trackers c) client_here.tracker client_here.lives (own_under s (sound slot own is) own.session k.session k.lives c client_here))
-
-    limit_here : limit_of s.trackers c ≡ (account_of c held).limit
-    limit_here = ap (λ (o : Option Tracker). (unwrap_or o no_tracker).limit) client_here.lives ∙ sym (ap (λ (a : Account). a.limit) account_here)
-
-    reservation_here : reservation_of s.trackers c ≡ (account_of c held).reservation
-    reservation_here = ap (λ (o : Option Tracker). (unwrap_or o no_tracker).reservation) client_here.lives ∙ sym (ap (λ (a : Account). a.reservation) account_here)
-
-    within_limit : reservation_of s.trackers c ≤ limit_of s.trackers c
-    within_limit =
-        let fits : FitsAccount (account_of c held) held = (knows slot own is).fits.accounts c some in
-        let low : (account_of c held).reservation ≤ (account_of c held).limit = fits.reservation in
-        let limit = limit_here in
-        let has = reservation_here in
-        omega (arith, low, limit, has)
-
-    room_is_here : limit_of s.trackers c - reservation_of s.trackers c ≡ client_room c held
-    room_is_here = ap (λ (n : ℕ). n - reservation_of s.trackers c) limit_here ∙ ap (λ (n : ℕ). (account_of c held).limit - n) reservation_here
-
-    -- a growth is refused as the store's clauses say it
+    -- no other takes room above, so a growth is refused exactly as the store's clauses say it
     growth_refused : (bytes : ℕ) → option_map no_reservation (growth_refusal s c bytes) ≡ reserve_refusal c bytes held
     growth_refused bytes =
         let o : Opening = is.opening in
-        let k : Knows slot own = knows slot own is in
         let alone : State → Holdings = λ z. own_holdings o (record { above = Room (memory z); told = all_tell slot own.pool }) own.trail own.session in
-        let there : get (state_after o own.trail).sessions own.session ≡ Some k.session = ap (λ (z : State). get z.sessions own.session) (sym is.stands.state) ∙ k.lives in
+        let there : get (state_after o own.trail).sessions own.session ≡ Some its.session = ap (λ (z : State). get z.sessions own.session) (sym is.stands.state) ∙ its.lives in
         let here : IsSome ((alone s).clients c) → option_map no_reservation (growth_refusal s c bytes) ≡ reserve_refusal c bytes (alone s) =
         subst (λ (z : State). IsSome ((alone z).clients c) → option_map no_reservation (growth_refusal z c bytes) ≡ reserve_refusal c bytes (alone z)) (sym is.stands.state)
-        (legal_refuses_alone o (all_tell slot own.pool) own.trail is.stands.legal own.session is.alone k.session there c bytes) in
+        (legal_refuses_alone o (all_tell slot own.pool) own.trail is.stands.legal own.session is.alone its.session there c bytes) in
         subst (λ (h : Holdings). IsSome (h.clients c) → option_map no_reservation (growth_refusal s c bytes) ≡ reserve_refusal c bytes h) (held_is slot own is) here some
 
     fit_refused : (bytes : ℕ) → option_map no_reservation (fit_refusal s c bytes) ≡ reserve_refusal c (shortfall c bytes held) held
-    fit_refused bytes =
-        ap (λ (n : ℕ). option_map no_reservation (growth_refusal s c (bytes - n))) ((knows slot own is).unused_is c some) ∙ growth_refused (shortfall c bytes held)
-
-    -- a move of which nothing refuses
-    move_granted : (to bytes : ℕ) → IsSome (held.clients to) → move_refusal c to bytes held ≡ None → tree_move_refusal bytes c to s.trackers ≡ None
-    move_granted to bytes some_to none = unrefused (tree_move_refusal bytes c to s.trackers) ((knows slot own is).refuses.move c to bytes some some_to ∙ none)
-
-    -- the owner's client has nothing in the pool either
-    has_nothing : IsIdle c held → HasNothing s c
-    has_nothing idle =
-        let k : Knows slot own = knows slot own is in
-        record {
-          pages = no_page (left_of own.trail) s (sound slot own is) (owned slot own is) own.session k.session k.lives held k.told c client_here idle;
-          buffers = no_buffer (left_of own.trail) s (sound slot own is) (owned slot own is) own.session k.session k.lives held k.told c client_here idle;
-        }
-
-  count_is : client_count s own.session ≡ held.live_clients
-  unfolding count_under
-  count_is =
-      let k : Knows slot own = knows slot own is in
-      ap (λ (q : ℕ). count_under q s.trackers) query_there ∙ sym k.told.live_clients
-
-  -- fewer than 16, so one may come
-  fewer : (client_count s own.session ≡ 16 → ⊥) → held.live_clients + 1 ≤ 16
-  fewer free =
-      let few : held.live_clients ≤ 16 = is.few in
-      let apart : held.live_clients ≢ 16 = λ all. free (count_is ∙ all) in
-      omega (arith, few, apart)
-
-  pub all_come : client_count s own.session ≡ 16 → 16 ≤ held.live_clients
-  all_come full = let count = count_is in omega (arith, count, full)
-
-  pub not_all : 16 ≤ held.live_clients → client_count s own.session ≡ 16
-  not_all full = let count = count_is in let few : held.live_clients ≤ 16 = is.few in omega (arith, count, full, few)
+    fit_refused bytes = ap (option_map no_reservation) (fit_is its c bytes some) ∙ growth_refused (shortfall c bytes held)
 
   -- one entry more that grows or moves reservation
   reserved_so : (e : Event) → is_of_bytes e ≡ true → (new : Owned D) → Enters slot (record { maker = own.session; event = e } ∷ []) [] [] own.pool new.pool
@@ -264,11 +129,11 @@ module _ {D : Type 0} (slot : Ghosts D) (own : Owned D) {tally : Option AtOpenin
       → Stands slot tally new × Makes slot (λ events. events ≡ AddTracker t held.query limit None ∷ []) own new
   came t u q limit new same_t same_q free enters trail session =
       let e : Event = AddTracker t held.query limit None in
-      let entered : Enters slot (by own.session (e ∷ [])) [] [] own.pool new.pool = subst (λ (k : ℕ). Enters slot (client_entry own.session k limit t ∷ []) [] [] own.pool new.pool) query_is enters in
-      let grew : new.trail ≡ own.trail ++ by own.session (e ∷ []) = trail ∙ ap (λ (k : ℕ). own.trail ++ client_entry own.session q limit k ∷ []) same_t ∙ ap (λ (k : ℕ). own.trail ++ client_entry own.session k limit t ∷ []) (same_q ∙ query_is) in
+      let entered : Enters slot (by own.session (e ∷ [])) [] [] own.pool new.pool = subst (λ (k : ℕ). Enters slot (client_entry own.session k limit t ∷ []) [] [] own.pool new.pool) (query_is its) enters in
+      let grew : new.trail ≡ own.trail ++ by own.session (e ∷ []) = trail ∙ ap (λ (k : ℕ). own.trail ++ client_entry own.session q limit k ∷ []) same_t ∙ ap (λ (k : ℕ). own.trail ++ client_entry own.session k limit t ∷ []) (same_q ∙ query_is its) in
       let went : Goes slot (e ∷ []) own new = goes slot own new (e ∷ []) grew session entered in
       let still : IsStill (state_of new.pool) = subst IsStill (sym went.state) (still_run own.session (e ∷ []) s (refl, tt) is.still) in
-      let stands : Stands slot tally new = grown_by slot own new (e ∷ []) went is (refl, tt) is.live (fewer free) still (sums_rest slot own new (e ∷ []) went is (refl, tt)) in
+      let stands : Stands slot tally new = grown_by slot own new (e ∷ []) went is (refl, tt) is.live (fewer its is.few free) still (sums_rest slot own new (e ∷ []) went is (refl, tt)) in
       (stands, makes slot own new (e ∷ []) went is stands refl)
 
   -- a client went
@@ -280,16 +145,15 @@ module _ {D : Type 0} (slot : Ghosts D) (own : Owned D) {tally : Option AtOpenin
   left c t q bytes new first some idle same_t same_q same_bytes enters trail_first trail session =
       let m : ℕ = own.session in
       let events : List Event = MoveReservation c held.query (account_of c held).reservation ∷ CloseTracker c ∷ [] in
-      let has : reservation_of s.trackers c ≡ (account_of c held).reservation = reservation_here c some in
+      let has : reservation_of s.trackers c ≡ (account_of c held).reservation = reservation_here its c some in
       let goes_away : ℕ → ℕ → ℕ → List Entry = λ who to n. record { maker = m; event = MoveReservation who to n } ∷ record { maker = m; event = CloseTracker who } ∷ [] in
-      let entered : Enters slot (by m events) [] [] own.pool new.pool =
-      subst (λ (k : ℕ). Enters slot (goes_away c k (account_of c held).reservation) [] [] own.pool new.pool) query_is (subst (λ (n : ℕ). Enters slot (goes_away c (query_of s m) n) [] [] own.pool new.pool) has enters) in
+      let entered : Enters slot (by m events) [] [] own.pool new.pool = subst (λ (es : List Entry). Enters slot es [] [] own.pool new.pool) (leaving_is its c some) enters in
       let two : new.trail ≡ own.trail ++ goes_away t q bytes =
       trail ∙ ap (λ (h : List Entry). h ++ record { maker = m; event = CloseTracker t } ∷ []) trail_first ∙ append_assoc own.trail (record { maker = m; event = MoveReservation t q bytes } ∷ []) (record { maker = m; event = CloseTracker t } ∷ []) in
       let grew : new.trail ≡ own.trail ++ by m events =
-      two ∙ ap (λ (who : ℕ). own.trail ++ goes_away who q bytes) same_t ∙ ap (λ (to : ℕ). own.trail ++ goes_away c to bytes) (same_q ∙ query_is) ∙ ap (λ (n : ℕ). own.trail ++ goes_away c held.query n) (same_bytes ∙ has) in
+      two ∙ ap (λ (who : ℕ). own.trail ++ goes_away who q bytes) same_t ∙ ap (λ (to : ℕ). own.trail ++ goes_away c to bytes) (same_q ∙ query_is its) ∙ ap (λ (n : ℕ). own.trail ++ goes_away c held.query n) (same_bytes ∙ has) in
       let went : Goes slot events own new = goes slot own new events grew session entered in
-      let ends : after_events held events ≡ after_end_client c held = (calls_tell m held).end_client c some (knows slot own is).fits.apart in
+      let ends : after_events held events ≡ after_end_client c held = (calls_tell m held).end_client c some its.fits.apart in
       let few : (after_end_client c held).live_clients ≤ 16 = let now : held.live_clients ≤ 16 = is.few in omega (arith, now) in
       let still : IsStill (state_of new.pool) = subst IsStill (sym went.state) (still_run m events s (refl, (refl, tt)) is.still) in
       let stands : Stands slot tally new =
@@ -320,11 +184,11 @@ module _ {D : Type 0} (slot : Ghosts D) (own : Owned D) {tally : Option AtOpenin
 
       module _ (some : IsSome ((held_of slot now).clients c)) where
         pub token_client : IsClientOf s mine.session mine.tracker
-        token_client = subst (λ (k : ClientToken). IsClientOf s k.session k.tracker) (sym token_is) (client_here c (lives_here c some))
+        token_client = subst (λ (k : ClientToken). IsClientOf s k.session k.tracker) (sym token_is) (client_here its c (lives_here c some))
 
         pub token_unused : (bytes : ℕ) → bytes ≤ unused_in c (held_of slot now) → bytes ≤ unused_of s mine.tracker
         token_unused bytes fits =
-            subst (λ (k : ClientToken). bytes ≤ unused_of s k.tracker) (sym token_is) (unused_here c (lives_here c some) bytes (subst (λ (o : Owned D). bytes ≤ unused_in c (held_of slot o)) (sym view) fits))
+            subst (λ (k : ClientToken). bytes ≤ unused_of s k.tracker) (sym token_is) (unused_here its c (lives_here c some) bytes (subst (λ (o : Owned D). bytes ≤ unused_in c (held_of slot o)) (sym view) fits))
 
         -- why it can't grow, if it can't
         growth_told : (bytes : ℕ) → option_map no_reservation (growth_refusal s mine.tracker bytes) ≡ reserve_refusal c bytes (held_of slot now)
@@ -348,7 +212,7 @@ module _ {D : Type 0} (slot : Ghosts D) (own : Owned D) {tally : Option AtOpenin
         fit_free bytes none = granted_so (fit_refusal s mine.tracker bytes) (reserve_refusal c (shortfall c bytes (held_of slot now)) (held_of slot now)) (fit_told bytes) (λ is. false≢true (none is))
 
         pub token_idle : IsIdle c (held_of slot now) → HasNothing s mine.tracker
-        token_idle idle = subst (λ (k : ClientToken). HasNothing s k.tracker) (sym token_is) (has_nothing c (lives_here c some) (idle_here c idle))
+        token_idle idle = subst (λ (k : ClientToken). HasNothing s k.tracker) (sym token_is) (has_nothing its c (lives_here c some) (idle_here c idle))
 
         -- it went
         pub went : IsIdle c (held_of slot now) → (u q bytes : ℕ) (new : Owned D) (first : List Entry) → u ≡ c → q ≡ query_of s own.session → bytes ≡ reservation_of s.trackers u
@@ -377,30 +241,30 @@ module _ {D : Type 0} (slot : Ghosts D) (own : Owned D) {tally : Option AtOpenin
 
         pub other_client : IsSome ((held_of slot now).clients to) → IsClientOf s mine.session other.tracker
         other_client some =
-            subst (λ (k : ClientToken). IsClientOf s k.session other.tracker) (sym made) (subst (λ (k : ClientToken). IsClientOf s own.session k.tracker) (sym other_is) (client_here to (lives_here to some)))
+            subst (λ (k : ClientToken). IsClientOf s k.session other.tracker) (sym made) (subst (λ (k : ClientToken). IsClientOf s own.session k.tracker) (sym other_is) (client_here its to (lives_here to some)))
 
         pub unrefused_here : IsSome ((held_of slot now).clients c) → IsSome ((held_of slot now).clients to) → (bytes : ℕ) → move_refusal c to bytes (held_of slot now) ≡ None
             → tree_move_refusal bytes mine.tracker other.tracker s.trackers ≡ None
         unrefused_here some some_to bytes none =
             ap (λ (k : ClientToken). tree_move_refusal bytes k.tracker other.tracker s.trackers) token_is ∙ ap (λ (k : ClientToken). tree_move_refusal bytes c k.tracker s.trackers) other_is
-            ∙ move_granted c (lives_here c some) to bytes (lives_here to some_to) (subst (λ (o : Owned D). move_refusal c to bytes (held_of slot o) ≡ None) (sym view) none)
+            ∙ move_granted its c to bytes (lives_here c some) (lives_here to some_to) (subst (λ (o : Owned D). move_refusal c to bytes (held_of slot o) ≡ None) (sym view) none)
 
     -- a client that is read
     module _ (t c : ℕ) (same : t ≡ c) (some : IsSome ((held_of slot now).clients c)) where
       pub read_lives : IsLive s.trackers t
-      read_lives = subst (IsLive s.trackers) (sym same) (client_lives c (lives_here c some))
+      read_lives = subst (IsLive s.trackers) (sym same) (client_lives its c (lives_here c some))
 
       -- and its limit and reservation
       module _ (limit reservation : ℕ) (limit_is : limit ≡ limit_of s.trackers t) (reservation_is : reservation ≡ reservation_of s.trackers t) where
         pub no_less : reservation ≤ limit
         no_less =
-            let low : reservation_of s.trackers t ≤ limit_of s.trackers t = subst (λ (k : ℕ). reservation_of s.trackers k ≤ limit_of s.trackers k) (sym same) (within_limit c (lives_here c some)) in
+            let low : reservation_of s.trackers t ≤ limit_of s.trackers t = subst (λ (k : ℕ). reservation_of s.trackers k ≤ limit_of s.trackers k) (sym same) (within_limit its c (lives_here c some)) in
             omega (arith, low, limit_is, reservation_is)
 
         read_room : limit - reservation ≡ client_room c (held_of slot now)
         read_room =
             ap (λ (n : ℕ). n - reservation) limit_is ∙ ap (λ (n : ℕ). limit_of s.trackers t - n) reservation_is ∙ ap (λ (k : ℕ). limit_of s.trackers k - reservation_of s.trackers k) same
-            ∙ room_is_here c (lives_here c some) ∙ ap (λ (o : Owned D). client_room c (held_of slot o)) view
+            ∙ room_is_here its c (lives_here c some) ∙ ap (λ (o : Owned D). client_room c (held_of slot o)) view
 
         module _ (u from : ℕ) (same_from : u ≡ from) (apart : false ≡ (u == t)) where
           apart_here : (from == c) ≡ false

@@ -1,9 +1,8 @@
 -- What a call made that asked first, and what comes while clean pages go.
-use Rattle.std.proofs.Common.{◌≡◌, ℕ, zero, suc, ◌+◌, ◌≤◌, ◌<◌, length, take, List, [], ◌∷◌, ◌++◌, map, replicate, Result, Ok, Err, None, IsSome, is_some, true, IfOk, IfErr, OnOk, All, refl, sym, ap, ◌∙◌, subst, arith, le-leb, inl, inr, Option}
+use Rattle.std.proofs.Common.{◌≡◌, ℕ, zero, suc, ◌+◌, ◌≤◌, ◌<◌, length, take, List, [], ◌∷◌, ◌++◌, map, Result, Ok, Err, is_some, true, IfOk, IfErr, OnOk, All, refl, sym, ap, ◌∙◌, subst, arith, le-leb, inl, inr, Option}
 use Rattle.std.proofs.lemmas.Bool.{leb-true, cases_lt, false≢true, ne_eqb}
-use Rattle.std.proofs.lemmas.List.{append_assoc, length-replicate}
+use Rattle.std.proofs.lemmas.List.{append_assoc}
 use Rattle.std.proofs.lemmas.List.Elements.{All-from_recursion, All-head, All-tail, filter_map-append}
-use Rattle.std.specs.FinMap.{get}
 use Rattle.std.specs.List.{AllByRecursion}
 use Rattle.block_arena.specs.Memory.{Buffer}
 use Rattle.outside.specs.declared.slot.Slot.{Ghosts}
@@ -15,20 +14,19 @@ use Rattle.pool_model.specs.declared.event.Event.TheVariants.{Evict, Create}
 use Rattle.pool_model.specs.declared.entry.Entry.{Entry}
 use Rattle.pool_model.specs.Bytes.{bytes_of}
 use Rattle.pool_model.specs.State.{Opening, State}
-use Rattle.pool_model.specs.Sums.{HasRoom, free_bytes, length_of as length_in}
+use Rattle.pool_model.specs.Sums.{free_bytes, length_of as length_in}
 use Rattle.pool_model.specs.Legal.{run, state_after}
 use Rattle.pool_model.specs.LookingBack.{name_in, names_in}
 use Rattle.pool_model.proofs.Names.{legal_names_are_new}
-use Rattle.store_api.specs.Tokens.{PageToken, LoanToken}
+use Rattle.store_api.specs.Tokens.{PageToken}
 use Rattle.store_api.specs.Holdings.{Holdings, length_of}
 use Rattle.store_api.specs.Conditions.{IsBlockCount, IsZeroed}
 use Rattle.store_api.specs.Entries.{by, IsEvict, IsAsked, IsTaken}
 use Rattle.own_entries.specs.OwnHoldings.{after_events}
-use Rattle.own_entries.proofs.ByOthers.{none_there}
 use Rattle.pin_core.specs.StateOf.{state_of}
 use Rattle.pin_core.specs.Standing.{Enters}
 use Rattle.pin_core.specs.Evictions.{MakesRoom, blocks_in, evictions, names_gone}
-use Rattle.pin_core.specs.Coming.{CanHold, zeros}
+use Rattle.pin_core.specs.Coming.{zeros}
 use Rattle.local_pool.specs.declared.owned.Owned.{Owned}
 use Rattle.local_pool.specs.Counting.{AtOpening}
 use Rattle.local_pool.specs.Told.{held_of, signs_of}
@@ -36,13 +34,14 @@ use Rattle.local_pool.specs.Making.{Goes, Makes, is_calm, rests}
 use Rattle.local_pool.specs.Needing.{IsNeeded, EntersNeeded}
 use Rattle.local_pool.specs.Refusing.{Refuses}
 use Rattle.local_pool.specs.Standing.{IsStill, Stands}
-use Rattle.local_pool.specs.Calling.{Evicts, evicts_for, IsFreshPage, IsFreshLoan}
+use Rattle.local_pool.specs.Calling.{Evicts, evicts_for, IsFreshPage}
 use Rattle.local_pool.proofs.Growing.{by_append, goes, grown, makes, sums_rest}
 use Rattle.local_pool.proofs.Needed.{needed_evicts, needed_then, needs_all, needs_none}
-use Rattle.local_pool.proofs.Knowing.{knows, sound}
+use Rattle.local_pool.proofs.Knowing.{knows}
+use Rattle.local_pool.proofs.Pages.{len_here}
+use Rattle.local_pool.proofs.Fresh.{zeroed, fresh_name}
 use Rattle.local_pool.proofs.Still.{still_run}
 use Rattle.local_pool.proofs.Making.{makes_more, makes_grows, makes_made, asked_last, asked_held}
-use Rattle.local_pool.proofs.Reaching.{len_here, room_here}
 
 some_blocks : (blocks : ℕ) → IsBlockCount blocks → 0 < blocks
 some_blocks zero is = absurd (false≢true is)
@@ -138,7 +137,7 @@ module _ {D : Type 0} (slot : Ghosts D) where
         let s : State = state_of own.pool in
         let amount : ℕ = length_of blocks (held_of slot own) in
         let fewest : (k : ℕ) → k < length names → free_bytes s + length_in s (blocks_in s (take k names)) < amount =
-        subst (λ (n : ℕ). (k : ℕ) → k < length names → free_bytes s + length_in s (blocks_in s (take k names)) < n) (sym (len_here slot own is blocks)) room.needed in
+        subst (λ (n : ℕ). (k : ℕ) → k < length names → free_bytes s + length_in s (blocks_in s (take k names)) < n) (sym (len_here (knows slot own is) blocks)) room.needed in
         needs_all t amount slot own new (evicts_for blocks own ++ e ∷ []) went
         (needed_then t amount own.session (evicts_for blocks own) (e ∷ []) s (needed_evicts t amount own.session names s fewest)
         (always (run s (by own.session (evicts_for blocks own))), tt))
@@ -147,47 +146,21 @@ module _ {D : Type 0} (slot : Ghosts D) where
     abbrev s : State
     s = state_of own.pool
 
-    -- the client can hold so many blocks more
-    pub may_hold : (u : ℕ) → u ≡ t → IsSome ((held_of slot own).clients t) → IsBlockCount blocks → HasRoom s t (length_of blocks (held_of slot own)) → CanHold s (record { session = own.session; tracker = u }) blocks
-    may_hold u same live sized room = subst (λ (c : ℕ). CanHold s (record { session = own.session; tracker = c }) blocks) (sym same) (record {
-      client = (knows slot own is).client t live;
-      some = some_blocks blocks sized;
-      few = few_blocks blocks sized;
-      room = room_here slot own is t (length_of blocks (held_of slot own)) _ (len_here slot own is blocks) room;
-    })
-
-    -- a buffer of the pool's zeros is one of zeros
-    zeroed : (buf : Buffer) → buf ≡ zeros blocks s.block_len → IsZeroed blocks (held_of slot own) buf
-    zeroed buf same =
-        let bytes : bytes_of s.block_len blocks ≡ length_of blocks (held_of slot own) = sym (len_here slot own is blocks) in
-        subst (IsZeroed blocks (held_of slot own)) (sym same) (record {
-          fits = record { blocks = refl; block_len = sym (knows slot own is).told.block_len; whole = length-replicate (bytes_of s.block_len blocks) 0 ∙ bytes };
-          zeros = ap (λ (n : ℕ). replicate n 0) bytes;
-        })
-
     pub fresh_page : (made : PageToken × Buffer) → made.0 ≡ record { name = s.next_name; key = made.0.key; client = t } → made.1 ≡ zeros blocks s.block_len → made.0.name < 18446744073709551615
         → IsFreshPage t blocks made own (held_of slot own)
     unfolding signs_of
     fresh_page made page buf left =
         let o : Opening = is.opening in
         let named : made.0.name ≡ s.next_name = ap (λ (p : PageToken). p.name) page in
-        let none : get s.pages s.next_name ≡ None = none_there (get s.pages s.next_name) (λ y there. let low : s.next_name < s.next_name = (sound slot own is).owned.names s.next_name y there in omega (arith, low)) in
         let next : (state_after o own.trail).next_name ≡ made.0.name = ap (λ (x : State). x.next_name) (sym is.stands.state) ∙ sym named in
         record {
-          fresh = ap (held_of slot own).pages named ∙ (knows slot own is).fresh.pages s.next_name none;
+          fresh = ap (held_of slot own).pages named ∙ fresh_name (knows slot own is);
           client = ap (λ (p : PageToken). p.client) page;
-          buffer = zeroed made.1 buf;
+          buffer = zeroed (knows slot own is) blocks made.1 buf;
           unspent = λ spent. let all : 18446744073709551615 ≤ s.next_name = leb-true 18446744073709551615 s.next_name spent in omega (arith, all, named, left);
           above = All-from_recursion (λ q. q < made.0.name) (names_in own.trail)
               (subst (λ (n : ℕ). AllByRecursion (λ q. q < n) (names_in own.trail)) next (legal_names_are_new o own.trail is.stands.legal).below);
         }
-
-    pub fresh_loan : (loan : LoanToken) → get s.buffers loan.number ≡ None → loan ≡ record { number = loan.number; client = t; buf = zeros blocks s.block_len } → IsFreshLoan t blocks loan (held_of slot own)
-    fresh_loan loan none same = record {
-      fresh = (knows slot own is).fresh.loans loan.number none;
-      client = ap (λ (l : LoanToken). l.client) same;
-      buffer = zeroed loan.buf (ap (λ (l : LoanToken). l.buf) same);
-    }
 
     -- the greatest name is never given
     pub names_spent : s.next_name ≡ 18446744073709551615 → (signs_of own).spent ≡ true

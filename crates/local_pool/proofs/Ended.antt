@@ -1,13 +1,13 @@
 -- One owner's pool ends.
-use Rattle.std.proofs.Common.{◌≡◌, ℕ, Bool, false, if◌then◌else◌, List, [], ◌∷◌, ◌++◌, Option, None, is_some, unwrap_or, option_map, inl, inr, refl, sym, ap, ◌∙◌, subst}
+use Rattle.std.proofs.Common.{◌≡◌, ℕ, Bool, false, if◌then◌else◌, List, [], ◌∷◌, ◌++◌, Option, None, is_some, inl, inr, refl, sym, ap, ◌∙◌}
 use Rattle.std.proofs.lemmas.List.{append_assoc}
 use Rattle.std.specs.FinMap.{get}
 use Rattle.outside.specs.declared.slot.Slot.{Ghosts}
-use Rattle.reservation_tree.specs.Tracker.{HasNoChild, reservation_of}
+use Rattle.reservation_tree.specs.Tracker.{reservation_of}
 use Rattle.reservation_tree.proofs.Maps.{same_or_other}
 use Rattle.pool_model.specs.declared.event.Event.TheVariants.{Decrease, CloseTracker}
 use Rattle.pool_model.specs.declared.entry.Entry.{Entry}
-use Rattle.pool_model.specs.State.{Session, State}
+use Rattle.pool_model.specs.State.{State}
 use Rattle.pool_model.specs.Legal.{state_after}
 use Rattle.pool_model.specs.LookingBack.{made_by}
 use Rattle.pool_model.proofs.OwnEntries.{made_more}
@@ -16,7 +16,6 @@ use Rattle.store_api.specs.Changes.{after_give_back}
 use Rattle.own_entries.specs.OwnHoldings.{step, after_events, query_fallen, session_ended, client_ended, has_client, holdings_of}
 use Rattle.own_entries.specs.HeldLaws.{own_holdings}
 use Rattle.own_entries.proofs.Calls.{calls_run_on}
-use Rattle.own_entries.proofs.Idle.{none_under}
 use Rattle.own_entries.proofs.Lives.{legal_lives_as_told}
 use Rattle.own_entries.proofs.Alone.{legal_alone_sits}
 use Rattle.pin_core.specs.declared.parts.Parts.{Parts}
@@ -29,20 +28,13 @@ use Rattle.local_pool.specs.Counting.{AtOpening}
 use Rattle.local_pool.specs.Told.{outset_of, held_of}
 use Rattle.local_pool.specs.Standing.{Stands}
 use Rattle.local_pool.proofs.Growing.{alone_more}
-use Rattle.local_pool.proofs.Knowing.{Knows, knows, opening_len}
+use Rattle.local_pool.proofs.Knowing.{knows, opening_len}
+use Rattle.local_pool.proofs.Clients.{query_is}
 use Rattle.local_pool.proofs.Begun.{none_when}
 
 module _ {D : Type 0} (slot : Ghosts D) (own : Owned D) {first : Option AtOpening} (is : Stands slot first own) where
   abbrev s : State
   s = state_of own.pool
-
-  query_here : query_of s own.session ≡ (held_of slot own).query
-  query_here = ap (λ (o : Option Session). unwrap_or (option_map (λ x. x.query) o) 0) (knows slot own is).lives ∙ sym (knows slot own is).told.tracker
-
-  pub no_child : (held_of slot own).live_clients ≡ 0 → HasNoChild s.trackers (query_of s own.session)
-  no_child none =
-      let k : Knows slot own = knows slot own is in
-      subst (HasNoChild s.trackers) (sym (query_here ∙ k.told.tracker)) (none_under k.session.query s.trackers (sym k.told.live_clients ∙ none))
 
   -- the two entries with which a session ends
   abbrev q : ℕ
@@ -72,7 +64,7 @@ module _ {D : Type 0} (slot : Ghosts D) (own : Owned D) {first : Option AtOpenin
       ∙ made_more (own.trail ++ a ∷ []) b own.session refl refl ∙ ap (λ (h : List Entry). h ++ b ∷ []) one ∙ append_assoc own.trail (a ∷ []) (b ∷ [])
 
   isnt_client : has_client q (held_of slot own) ≡ false
-  isnt_client = ap (λ (k : ℕ). has_client k (held_of slot own)) query_here ∙ ap is_some (knows slot own is).fits.apart
+  isnt_client = ap (λ (k : ℕ). has_client k (held_of slot own)) (query_is (knows slot own is)) ∙ ap is_some (knows slot own is).fits.apart
 
   gone_told : is_some (own_holdings is.opening (outset_of slot own.pool) whole own.session).free_slots ≡ false
   unfolding held_of

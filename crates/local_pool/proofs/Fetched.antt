@@ -58,9 +58,9 @@ use Rattle.pin_core.proofs.Tallied.{tally_same}
 use Rattle.local_pool.proofs.Knowing.{knows}
 use Rattle.local_pool.proofs.Contents.{content_whole}
 use Rattle.local_pool.proofs.Asked.{rose}
-use Rattle.local_pool.proofs.Holding.{is_there}
+use Rattle.local_pool.proofs.Pages.{is_there, page_len_here, fits_here, left_here}
 use Rattle.local_pool.proofs.Needed.{needed_evicts, needed_fetch, needs_all}
-use Rattle.local_pool.proofs.Pinned.{bytes_here, content_here, left_here, fits_here}
+use Rattle.local_pool.proofs.Pinned.{content_here}
 use Rattle.local_pool.proofs.Silent.{none_silent, told_silence}
 use Rattle.local_pool.proofs.Fetching.{fetching, fetching_by, fetches, fetching_calm, fetching_holds, fetching_moves, fetching_plain, content_append, fetching_leaves, fetching_sessions, fetched_still, unfetched_still, fetching_alike}
 
@@ -145,10 +145,10 @@ module _ {D : Type 0} (slot : Ghosts D) (own : Owned D) {first : Option AtOpenin
   len_is_here = ap (λ (u : State). u.block_len) went_state ∙ run_len s (by own.session front)
 
   whose_is : (page_at t p.name).session ≡ own.session
-  whose_is = ap (λ (u : State). (page_at u p.name).session) went_state ∙ fetching_alike (λ y. y.session) (λ y at. refl) own.session (names_gone x.blocks own.pool) p.name p.name s ∙ (is_there slot own is p can.page).whose
+  whose_is = ap (λ (u : State). (page_at u p.name).session) went_state ∙ fetching_alike (λ y. y.session) (λ y at. refl) own.session (names_gone x.blocks own.pool) p.name p.name s ∙ (is_there (knows slot own is) p can.page).whose
 
   client_is : (page_at t p.name).client ≡ p.client
-  client_is = ap (λ (u : State). (page_at u p.name).client) went_state ∙ fetching_alike (λ y. y.client) (λ y at. refl) own.session (names_gone x.blocks own.pool) p.name p.name s ∙ (is_there slot own is p can.page).client
+  client_is = ap (λ (u : State). (page_at u p.name).client) went_state ∙ fetching_alike (λ y. y.client) (λ y at. refl) own.session (names_gone x.blocks own.pool) p.name p.name s ∙ (is_there (knows slot own is) p can.page).client
 
   blocks_are : (page_at t p.name).blocks ≡ x.blocks
   blocks_are = ap (λ (u : State). (page_at u p.name).blocks) went_state ∙ fetching_alike (λ y. y.blocks) (λ y at. refl) own.session (names_gone x.blocks own.pool) p.name p.name s
@@ -160,7 +160,7 @@ module _ {D : Type 0} (slot : Ghosts D) (own : Owned D) {first : Option AtOpenin
 
   content_len : length (content_from p.name [] own.trail) ≡ x.blocks * s.block_len
   content_len =
-      ap length (sym (content_here slot own is p can)) ∙ content_whole slot own.pool is.opening own.trail is.stands p.name (is_there slot own is p can.page).page.lives
+      ap length (sym (content_here slot own is p can)) ∙ content_whole slot own.pool is.opening own.trail is.stands p.name (is_there (knows slot own is) p can.page).page.lives
 
   job_len : length job.buf.bytes ≡ x.blocks * s.block_len
   job_len =
@@ -219,7 +219,7 @@ module _ {D : Type 0} (slot : Ghosts D) (own : Owned D) {first : Option AtOpenin
         let names : List ℕ = names_gone x.blocks own.pool in
         let amount : ℕ = page_len p.name (held_of slot own) in
         let evicts : AreNeeded p.client amount s (by own.session (map Evict names)) =
-        needed_evicts p.client amount own.session names s (subst (λ (n : ℕ). (k : ℕ) → k < length names → free_bytes s + length_of s (blocks_in s (take k names)) < n) (bytes_here slot own is p can) load.goes.needed) in
+        needed_evicts p.client amount own.session names s (subst (λ (n : ℕ). (k : ℕ) → k < length names → free_bytes s + length_of s (blocks_in s (take k names)) < n) (page_len_here (knows slot own is) p can.page) load.goes.needed) in
         needed_fetch p.client amount own.session names p.name end s evicts last
 
     module _ (buf : Buffer) (read : IsRead slot job buf went new) where
@@ -244,9 +244,9 @@ module _ {D : Type 0} (slot : Ghosts D) (own : Owned D) {first : Option AtOpenin
       pub shows_read : ShowsLeft (page_of p.name (held_of slot own)) (held_of slot own) buf
       shows_read = record {
         fits =
-            fits_here slot own is p can buf
+            fits_here (knows slot own is) p can.page buf
             (subst (λ (n : ℕ). IsBufferOf x.blocks n buf) len_is_here (subst (λ (n : ℕ). IsBufferOf n t.block_len buf) (ap (λ (q : ℕ). (page_at t q).blocks) name_is ∙ blocks_are) read.fits));
-        bytes = λ told. read.shows (all_told told) ∙ ap (λ (q : ℕ). content_from q [] went.trail) name_is ∙ content_went ∙ sym (left_here slot own is p can);
+        bytes = λ told. read.shows (all_told told) ∙ ap (λ (q : ℕ). content_from q [] went.trail) name_is ∙ content_went ∙ sym (left_here (knows slot own is) p can.page can.rests);
       }
 
     module _ (e : PoolErr) (read : IsUnread slot job went new e) where

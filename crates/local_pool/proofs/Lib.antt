@@ -2,6 +2,15 @@ pub mod Sized
 pub mod Counting
 pub mod Growing
 pub mod Naming
+pub mod Known
+pub mod Clients
+pub mod Refusals
+pub mod SharedAbove
+pub mod Pages
+pub mod Loans
+pub mod Fresh
+pub mod Failures
+pub mod RoomCalls
 pub mod Knowing
 pub mod Still
 pub mod Written

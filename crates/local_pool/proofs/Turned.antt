@@ -1,16 +1,14 @@
 -- One turn of a call that wants room.
-use Rattle.std.proofs.Common.{◌≡◌, ℕ, ◌+◌, ◌<◌, ◌==◌, Bool, true, false, List, [], ◌∷◌, ◌++◌, length, Option, Some, None, IsSome, is_some, refl, sym, ap, ◌∙◌, subst, if◌then◌else◌, inl, inr, arith, eq-eqb}
+use Rattle.std.proofs.Common.{◌≡◌, ℕ, ◌+◌, ◌<◌, ◌==◌, true, false, List, [], ◌∷◌, ◌++◌, length, Option, Some, None, IsSome, is_some, refl, sym, ap, ◌∙◌, subst, arith}
 use Rattle.std.proofs.lemmas.List.{append_assoc}
 use Rattle.std.proofs.lemmas.Bool.{false≢true}
-use Rattle.reservation_tree.proofs.Maps.{same_or_other}
 use Rattle.std.specs.FinMap.{get}
 use Rattle.std.specs.List.{sum_by}
 use Rattle.outside.specs.declared.slot.Slot.{Ghosts}
 use Rattle.pool_model.specs.declared.event.Event.{Event}
 use Rattle.pool_model.specs.declared.event.Event.TheVariants.{StartWrite, WriteOk, WriteFailed}
 use Rattle.pool_model.specs.declared.entry.Entry.{Entry}
-use Rattle.pool_model.specs.State.{Opening, Dirty, Pinned, Page, State, page_at, pins_of}
-use Rattle.pool_model.specs.Owning.{IsClientOf}
+use Rattle.pool_model.specs.State.{Opening, Dirty, Pinned, Page, State, page_at}
 use Rattle.pool_model.specs.Effects.{after}
 use Rattle.pool_model.specs.Legal.{run, state_after}
 use Rattle.pool_model.specs.LookingBack.{content_from, maker_of}
@@ -19,11 +17,9 @@ use Rattle.pool_model.proofs.Made.{legal_tells, still_made}
 use Rattle.pool_model.specs.OwnLaws.{IsContent}
 use Rattle.pool_model.proofs.OwnEntries.{content_more}
 use Rattle.pool_model.proofs.Resting.{legal_contents_are_told}
-use Rattle.pool_model.proofs.Failures.{of_one}
-use Rattle.store_api.specs.Holdings.{Holdings, LivePage, IsPageOf, or_else, no_page}
+use Rattle.store_api.specs.Holdings.{Holdings}
 use Rattle.store_api.specs.Entries.{by}
 use Rattle.own_entries.specs.OwnHoldings.{after_events}
-use Rattle.own_entries.specs.LiveParts.{live_page, left_at}
 use Rattle.pin_core.specs.declared.parts.Parts.{Parts}
 use Rattle.pin_core.specs.declared.jobs.WriteJob.{WriteJob}
 use Rattle.pin_core.specs.StateOf.{state_of}
@@ -40,10 +36,11 @@ use Rattle.local_pool.specs.Needing.{EntersNeeded}
 use Rattle.local_pool.specs.Standing.{Stands, IsStill, is_moving}
 use Rattle.local_pool.specs.Turning.{IsEnd, IsWrite, writes_left, Ends, CanWrite, stored_with}
 use Rattle.local_pool.proofs.Growing.{AllCalm, grown, makes, sums_by}
-use Rattle.local_pool.proofs.Knowing.{Knows, knows, sound, owned}
+use Rattle.local_pool.proofs.Knowing.{Knows, knows}
+use Rattle.local_pool.proofs.Pages.{owner_is, page_held}
 use Rattle.local_pool.proofs.Needed.{needs_all, needed_write}
 use Rattle.local_pool.proofs.Still.{out_still, written_still, unwritten_still}
-use Rattle.local_pool.proofs.Waiting.{IsDirtyOf, newest_is, out, written_left, unwritten_left}
+use Rattle.local_pool.proofs.Waiting.{IsDirtyOf, newest_in, out, written_left, unwritten_left}
 use Rattle.pin_core.proofs.Tallied.{tally_same}
 
 end_holds : (p : ℕ) (end : Event) (h : Holdings) → IsEnd p end → after_events h (StartWrite p ∷ end ∷ []) ≡ h
@@ -79,27 +76,6 @@ stored_end h m p blocks (WriteFailed q before now) is same = refl
 stored_end h m p blocks _ is same = absurd is
 
 module _ {D : Type 0} (slot : Ghosts D) (own : Owned D) {first : Option AtOpening} (is : Stands slot first own) where
-  -- a page of one of its clients is the owner's
-  pub owner_is : (c p : ℕ) (x : Page) → IsSome ((held_of slot own).clients c) → get (state_of own.pool).pages p ≡ Some x → x.client ≡ c → x.session ≡ own.session
-  owner_is c p x some lives for =
-      let s : State = state_of own.pool in
-      let mine : IsClientOf s own.session c = (knows slot own is).client c some in
-      elim (same_or_other x.session own.session) [
-        | inl same ↦ same
-        | inr other ↦ absurd (of_one s (sound slot own is) x.session own.session c (λ same. other (sym same)) (inr (subst (IsClientOf s x.session) for (owned slot own is p x lives))) mine)
-      ]
-
-  -- and it holds the page
-  pub page_held : (c p : ℕ) (x : Page) → IsSome ((held_of slot own).clients c) → get (state_of own.pool).pages p ≡ Some x → x.client ≡ c → IsPageOf c (held_of slot own) p
-  page_held c p x some lives for =
-      let told : (held_of slot own).pages p ≡ live_page own.session (content_from p [] own.trail) (Some x) = (knows slot own is).told.live_pages p ∙ ap (live_page own.session (content_from p [] own.trail)) lives in
-      let live : LivePage = record { key = x.key; client = x.client; blocks = x.blocks; pins = pins_of x.place; left = left_at x.place (content_from p [] own.trail); has_slots = x.has_slots } in
-      let there : (held_of slot own).pages p ≡ Some live = told ∙ ap (λ (b : Bool). if b then Some live else None) (eq-eqb x.session own.session (owner_is c p x some lives for)) in
-      record {
-        lives = ap is_some there;
-        client = ap (λ (o : Option LivePage). (or_else no_page o).client) there ∙ for;
-      }
-
   module _ (c amount : ℕ) (some : IsSome ((held_of slot own).clients c)) (job : WriteJob D) (pool : Parts D) (went : Owned D)
       (lacks : LacksRoom (state_of own.pool) own.session c amount None) (started : IsStarted slot own.session c job own.pool pool)
       (enters : Enters slot (start_entry own.session job.id.name ∷ []) job.row [] own.pool pool)
@@ -108,7 +84,7 @@ module _ {D : Type 0} (slot : Ghosts D) (own : Owned D) {first : Option AtOpenin
     session_is = fixed_is
 
     waits : IsDirtyOf (state_of own.pool) c job.id.name
-    waits = newest_is slot own is c job.id.name started.older started.newest
+    waits = newest_in is.opening own.trail is.stands.legal (state_of own.pool) is.stands.state c job.id.name started.older started.newest
 
     -- the content of the page that goes out is what the owner left in it last
     content_here : job.buf.bytes ≡ content_from job.id.name [] went.trail
@@ -184,7 +160,7 @@ module _ {D : Type 0} (slot : Ghosts D) (own : Owned D) {first : Option AtOpenin
       pub makes_write : Makes slot (IsWrite c (held_of slot own)) own new
       makes_write = makes slot own new made goes_write is stands_write (record {
         page = job.id.name;
-        own = page_held c job.id.name waits.page some waits.lives waits.client;
+        own = page_held (knows slot own is) c job.id.name waits.page some waits.lives waits.client;
         end = ends.end;
         ended = ends.ended;
         are = refl;
@@ -197,7 +173,7 @@ module _ {D : Type 0} (slot : Ghosts D) (own : Owned D) {first : Option AtOpenin
       left_write =
           let s : State = state_of own.pool in
           let k : Knows slot own = knows slot own is in
-          let whose : (page_at s job.id.name).session ≡ own.session = ap (λ (x : Page). x.session) waits.is ∙ owner_is c job.id.name waits.page some waits.lives waits.client in
+          let whose : (page_at s job.id.name).session ≡ own.session = ap (λ (x : Page). x.session) waits.is ∙ owner_is k c job.id.name waits.page some waits.lives waits.client in
           subst (λ (m : ℕ). writes_left m c (state_of new.pool) < writes_left own.session c s) (sym goes_write.session)
           (subst (λ (t : State). writes_left own.session c t < writes_left own.session c s) (sym goes_write.state)
           (end_left s own.session c job.id.name ends.end ends.ended

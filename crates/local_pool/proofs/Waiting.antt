@@ -4,20 +4,17 @@ use Rattle.std.proofs.lemmas.Bool.{eqb-true, and_parts}
 use Rattle.std.specs.FinMap.{get, insert}
 use Rattle.std.specs.Option.{option_or, option_and_then}
 use Rattle.reservation_tree.proofs.Maps.{get_same}
-use Rattle.outside.specs.declared.slot.Slot.{Ghosts}
 use Rattle.pool_model.specs.declared.event.Event.TheVariants.{StartWrite, WriteOk, WriteFailed}
-use Rattle.pool_model.specs.State.{Place, Pinned, Dirty, Flying, Loading, Clean, Evicted, Page, Session, Sessions, State, page_at, no_page, dirty_of}
+use Rattle.pool_model.specs.declared.entry.Entry.{Entry}
+use Rattle.pool_model.specs.State.{Opening, Place, Pinned, Dirty, Flying, Loading, Clean, Evicted, Page, Session, Sessions, State, page_at, no_page, dirty_of}
 use Rattle.pool_model.specs.Orders.{stands_in, is_dirty, dirty_for, AreQueues}
 use Rattle.pool_model.specs.Parts.{without, with_failures, keep_first}
+use Rattle.pool_model.specs.Legal.{state_after, IsLegal}
 use Rattle.pool_model.specs.Effects.{after}
 use Rattle.pool_model.proofs.Queues.{stands_new}
 use Rattle.pool_model.proofs.Lined.{legal_keeps_queues}
 use Rattle.pool_model.proofs.Keeping.{first_kept}
-use Rattle.pin_core.specs.StateOf.{state_of}
 use Rattle.pin_core.specs.Turns.{failure_of}
-use Rattle.local_pool.specs.declared.owned.Owned.{Owned}
-use Rattle.local_pool.specs.Counting.{AtOpening}
-use Rattle.local_pool.specs.Standing.{Stands}
 use Rattle.local_pool.specs.Turning.{writes_left}
 
 dirty_place : (at : Place) → is_dirty at ≡ true → at ≡ Dirty
@@ -46,10 +43,10 @@ dirty_by s c p (Some x) there is = record {
   is = ap (λ (o : Option Page). unwrap_or o no_page) there;
 }
 
-pub newest_is : {D : Type 0} {first : Option AtOpening} (slot : Ghosts D) (own : Owned D) → Stands slot first own → (c p : ℕ) (older : List ℕ) → dirty_of (state_of own.pool) c ≡ older ++ p ∷ [] → IsDirtyOf (state_of own.pool) c p
-newest_is slot own is c p older newest =
-    let s : State = state_of own.pool in
-    let queues : AreQueues own.trail s = subst (AreQueues own.trail) (sym is.stands.state) (legal_keeps_queues is.opening own.trail is.stands.legal) in
+-- the newest of a client's dirty pages is one
+pub newest_in : (o : Opening) (hist : List Entry) → IsLegal o hist → (s : State) → s ≡ state_after o hist → (c p : ℕ) (older : List ℕ) → dirty_of s c ≡ older ++ p ∷ [] → IsDirtyOf s c p
+newest_in o hist legal s same c p older newest =
+    let queues : AreQueues hist s = subst (AreQueues hist) (sym same) (legal_keeps_queues o hist legal) in
     let there : stands_in (dirty_of s c) p ≡ true = ap (λ (names : List ℕ). stands_in names p) newest ∙ stands_new older p in
     dirty_by s c p (get s.pages p) refl (sym (queues.dirty_ones c p) ∙ there)
 

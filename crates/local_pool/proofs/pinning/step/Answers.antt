@@ -6,8 +6,10 @@ use Rattle.local_pool.specs.declared.owned.Owned.{Owned}
 use Rattle.local_pool.specs.Told.{held_of}
 use Rattle.local_pool.specs.Pinning.{MustRefuse}
 use Rattle.local_pool.proofs.Turned.{can_write, stands_write, makes_write, left_write, needed_write_out}
-use Rattle.local_pool.proofs.Pinned.{can_pin, waits_never, stands_here, makes_here, needed_here, shows_here, must_refuse, client_lives, lacks_here, starts_here}
+use Rattle.local_pool.proofs.Pinned.{can_pin, waits_never, stands_here, makes_here, needed_here, shows_here, must_refuse, lacks_here, starts_here}
 use Rattle.local_pool.proofs.Fetched.{can_read, stands_read, makes_read, needed_read, shows_read, stands_unread, makes_unread, needed_unread, must_fail}
+use Rattle.local_pool.proofs.Pages.{page_client_lives}
+use Rattle.local_pool.proofs.Knowing.{knows}
 use Rattle.local_pool.proofs.pinning.step.Goals as goal
 
 pub pin_turn-requires : goal.pin_turn-requires
@@ -67,7 +69,7 @@ returns-in-Err-ReadFault-clause-turn g c =
     let it = c.in-Load.ensures in (
       must_fail g.D.Slot own c.requires.stands c.args.p.now c.requires.can c.in-Load.job went it.turn.2 it.turn.0 it.enters entered refl c.read_back.new.own c.in-Err-ReadFault.field-0 c.in-Err-ReadFault.ensures.err c.in-Err-ReadFault.entry c.in-Err-ReadFault.field-0-is c.requires.asked,
       makes_unread g.D.Slot own c.requires.stands c.args.p.now c.requires.can c.in-Load.job went it.turn.2 it.turn.0 it.enters entered refl c.read_back.new.own c.in-Err-ReadFault.field-0 c.in-Err-ReadFault.ensures.err,
-      client_lives g.D.Slot own c.requires.stands c.args.p.now c.requires.can,
+      page_client_lives (knows g.D.Slot own c.requires.stands) c.args.p.now c.requires.can.page,
       needed_unread g.D.Slot own c.requires.stands c.args.p.now c.requires.can c.in-Load.job went it.turn.2 it.turn.0 it.enters entered refl c.read_back.new.own c.in-Err-ReadFault.field-0 c.in-Err-ReadFault.ensures.err,
     )
 
@@ -91,7 +93,7 @@ write_out-requires g c = record {
       let own : Owned g.row.D.Denot = c.args.own.now in
       let went : Owned g.row.D.Denot = record { pool = c.pin_turn.new.self; trail = c.enter_started.new.trail; session = own.session } in
       let it = c.in-Write.ensures in
-      can_write g.D.Slot own c.requires.stands c.args.p.now.client (page_len c.args.p.now.name (held_of g.D.Slot own)) (client_lives g.D.Slot own c.requires.stands c.args.p.now c.requires.can)
+      can_write g.D.Slot own c.requires.stands c.args.p.now.client (page_len c.args.p.now.name (held_of g.D.Slot own)) (page_client_lives (knows g.D.Slot own c.requires.stands) c.args.p.now c.requires.can.page)
       c.in-Write.job c.pin_turn.new.self went (lacks_here g.D.Slot own c.requires.stands c.args.p.now c.requires.can None it.turn.0)
       (starts_here g.D.Slot own c.requires.stands c.args.p.now c.requires.can c.in-Write.job c.pin_turn.new.self it.turn.1) it.enters refl c.enter_started.ensures refl;
 }
@@ -101,7 +103,7 @@ returns-in-Write-clause-turn g c =
     let own : Owned g.row.D.Denot = c.args.own.now in
     let went : Owned g.row.D.Denot = record { pool = c.pin_turn.new.self; trail = c.enter_started.new.trail; session = own.session } in
     let it = c.in-Write.ensures in
-    let some = client_lives g.D.Slot own c.requires.stands c.args.p.now c.requires.can in
+    let some = page_client_lives (knows g.D.Slot own c.requires.stands) c.args.p.now c.requires.can.page in
     let lacks = lacks_here g.D.Slot own c.requires.stands c.args.p.now c.requires.can None it.turn.0 in
     let started = starts_here g.D.Slot own c.requires.stands c.args.p.now c.requires.can c.in-Write.job c.pin_turn.new.self it.turn.1 in (
       makes_write g.D.Slot own c.requires.stands c.args.p.now.client (page_len c.args.p.now.name (held_of g.D.Slot own)) some c.in-Write.job c.pin_turn.new.self went lacks started it.enters refl c.enter_started.ensures refl c.write_out.new.own c.write_out.ensures.ends,
@@ -114,6 +116,6 @@ returns-in-Write-clause-stands g c =
     let own : Owned g.row.D.Denot = c.args.own.now in
     let went : Owned g.row.D.Denot = record { pool = c.pin_turn.new.self; trail = c.enter_started.new.trail; session = own.session } in
     let it = c.in-Write.ensures in
-    stands_write g.D.Slot own c.requires.stands c.args.p.now.client (page_len c.args.p.now.name (held_of g.D.Slot own)) (client_lives g.D.Slot own c.requires.stands c.args.p.now c.requires.can)
+    stands_write g.D.Slot own c.requires.stands c.args.p.now.client (page_len c.args.p.now.name (held_of g.D.Slot own)) (page_client_lives (knows g.D.Slot own c.requires.stands) c.args.p.now c.requires.can.page)
     c.in-Write.job c.pin_turn.new.self went (lacks_here g.D.Slot own c.requires.stands c.args.p.now c.requires.can None it.turn.0)
     (starts_here g.D.Slot own c.requires.stands c.args.p.now c.requires.can c.in-Write.job c.pin_turn.new.self it.turn.1) it.enters refl c.enter_started.ensures refl c.write_out.new.own c.write_out.ensures.ends

@@ -6,21 +6,22 @@ use Rattle.local_pool.specs.declared.owned.Owned.{Owned}
 use Rattle.local_pool.specs.Told.{held_of}
 use Rattle.local_pool.specs.Making.{Makes}
 use Rattle.local_pool.specs.Calling.{IsFresh}
-use Rattle.local_pool.proofs.Knowing.{knows}
 use Rattle.local_pool.proofs.Making.{whose}
-use Rattle.local_pool.proofs.Accounts.{seat_lives, came, all_come, not_all}
+use Rattle.local_pool.proofs.Accounts.{came}
+use Rattle.local_pool.proofs.Clients.{seat_lives, all_come, not_all}
+use Rattle.local_pool.proofs.Knowing.{knows}
 use Rattle.local_pool.proofs.owned.Alone.add_client.Goals as goal
 
 pub tracker-query-requires : goal.tracker-query-requires
-tracker-query-requires g c = seat_lives g.D.Slot c.self.inside.own c.self.invariant
+tracker-query-requires g c = seat_lives (knows g.D.Slot c.self.inside.own c.self.invariant)
 
 pub add_client-requires : goal.add_client-requires
-add_client-requires g c = record { live = seat_lives g.D.Slot c.self.inside.own c.self.invariant }
+add_client-requires g c = record { live = seat_lives (knows g.D.Slot c.self.inside.own c.self.invariant) }
 
 pub returns-in_err-c-clause-refused : goal.returns-in_err-c-clause-refused
 returns-in_err-c-clause-refused g c =
     let full : 16 ≤ (held_of g.D.Slot c.args.self.now).live_clients =
-    subst (λ (o : Owned g.row.D.Denot). 16 ≤ (held_of g.D.Slot o).live_clients) c.self.view_is (all_come g.D.Slot c.self.inside.own c.self.invariant (c.in_err-c.ensures.refused.0 refl)) in
+    subst (λ (o : Owned g.row.D.Denot). 16 ≤ (held_of g.D.Slot o).live_clients) c.self.view_is (all_come (knows g.D.Slot c.self.inside.own c.self.invariant) (c.in_err-c.ensures.refused.0 refl)) in
     ((λ _. full), (λ _. c.from_residual.ensures.0))
 
 pub invariant_of-self-2 : goal.invariant_of-self-2
@@ -45,5 +46,5 @@ returns-clause-fresh g c =
 pub returns-clause-refused : goal.returns-clause-refused
 returns-clause-refused g c = (
   (λ never. absurd (false≢true never)),
-  (λ full. c.in_ok-c.ensures.refused.1 (not_all g.D.Slot c.self.inside.own c.self.invariant (subst (λ (o : Owned g.row.D.Denot). 16 ≤ (held_of g.D.Slot o).live_clients) (sym c.self.view_is) full))),
+  (λ full. c.in_ok-c.ensures.refused.1 (not_all (knows g.D.Slot c.self.inside.own c.self.invariant) c.self.invariant.few (subst (λ (o : Owned g.row.D.Denot). 16 ≤ (held_of g.D.Slot o).live_clients) (sym c.self.view_is) full))),
 )

@@ -7,10 +7,11 @@ use Rattle.local_pool.specs.Counting.{SpendsNames, SumsHold}
 use Rattle.local_pool.specs.History.{IsHistory}
 use Rattle.pin_core.specs.Tallies.{tally_in, tally_of}
 use Rattle.pin_core.proofs.Tallied.{tally_same}
-use Rattle.local_pool.proofs.Knowing.{knows}
-use Rattle.local_pool.proofs.Ended.{no_child, none_left}
+use Rattle.local_pool.proofs.Ended.{none_left}
 use Rattle.local_pool.proofs.Naming.{spends_all}
 use Rattle.local_pool.proofs.Lawful.{history_of}
+use Rattle.local_pool.proofs.Clients.{no_child}
+use Rattle.local_pool.proofs.Knowing.{knows}
 use Rattle.local_pool.proofs.owned.Alone.close.Goals as goal
 
 pub end_session-requires-clause-live : goal.end_session-requires-clause-live
@@ -18,7 +19,7 @@ end_session-requires-clause-live g c = ap is_some (knows g.D.Slot c.self.inside.
 
 pub end_session-requires-clause-no_client : goal.end_session-requires-clause-no_client
 end_session-requires-clause-no_client g c =
-    no_child g.D.Slot c.self.inside.own c.self.invariant (subst (λ (o : Owned g.row.D.Denot). (held_of g.D.Slot o).live_clients ≡ 0) (sym c.self.view_is) c.requires)
+    no_child (knows g.D.Slot c.self.inside.own c.self.invariant) (subst (λ (o : Owned g.row.D.Denot). (held_of g.D.Slot o).live_clients ≡ 0) (sym c.self.view_is) c.requires)
 
 pub close-requires : goal.close-requires
 close-requires g c = record { ended = none_left g.D.Slot c.self.inside.own c.self.invariant c.end_session.new.self c.end_session.ensures.enters }

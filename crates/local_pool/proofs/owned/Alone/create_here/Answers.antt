@@ -4,19 +4,23 @@ use Rattle.pool_model.specs.declared.event.Event.TheVariants.{Create}
 use Rattle.pool_model.specs.Sums.{HasRoom}
 use Rattle.pin_core.specs.StateOf.{state_of}
 use Rattle.store_api.specs.Holdings.{length_of}
+use Rattle.pin_core.specs.Coming.{CanHold}
 use Rattle.local_pool.specs.declared.owned.Owned.{Owned}
 use Rattle.local_pool.specs.Told.{held_of, signs_of}
 use Rattle.local_pool.specs.Making.{Makes}
 use Rattle.local_pool.specs.Needing.{EntersNeeded}
 use Rattle.local_pool.specs.Calling.{Evicts, IsFreshPage}
-use Rattle.local_pool.proofs.Arrivals.{may_hold, stands_created, makes_created, needed_created, fresh_created, spent_created}
+use Rattle.local_pool.proofs.Arrivals.{stands_created, makes_created, needed_created, fresh_created, spent_created}
+use Rattle.local_pool.proofs.Fresh.{can_hold}
+use Rattle.local_pool.proofs.Knowing.{knows}
 use Rattle.local_pool.proofs.owned.Alone.create_here.Goals as goal
 
 pub create_named-requires-clause-can : goal.create_named-requires-clause-can
 create_named-requires-clause-can g c =
-    may_hold g.D.Slot c.self.inside.own c.self.invariant c.args.c.now.tracker c.args.shell c.tracker.result c.tracker.ensures
+    subst (λ (t : ℕ). CanHold (state_of c.self.inside.own.pool) (record { session = c.self.inside.own.session; tracker = t }) c.args.shell) (sym c.tracker.ensures)
+    (can_hold (knows g.D.Slot c.self.inside.own c.self.invariant) c.args.c.now.tracker c.args.shell
     (subst (λ (o : Owned g.row.D.Denot). IsSome ((held_of g.D.Slot o).clients c.args.c.now.tracker)) (sym c.self.view_is) c.requires.client) c.requires.blocks
-    (subst (λ (o : Owned g.row.D.Denot). HasRoom (state_of o.pool) c.args.c.now.tracker (length_of c.args.shell (held_of g.D.Slot o))) (sym c.self.view_is) c.requires.room)
+    (subst (λ (o : Owned g.row.D.Denot). HasRoom (state_of o.pool) c.args.c.now.tracker (length_of c.args.shell (held_of g.D.Slot o))) (sym c.self.view_is) c.requires.room))
 
 pub invariant_of-self : goal.invariant_of-self
 invariant_of-self g c =

@@ -1,12 +1,13 @@
 use Rattle.std.proofs.Common.{◌≡◌, None, refl, subst}
 use Rattle.local_pool.specs.declared.owned.Owned.{Owned}
 use Rattle.local_pool.specs.Told.{held_of}
+use Rattle.local_pool.proofs.Accounts.{read_lives, token_client, token_idle, went}
+use Rattle.local_pool.proofs.Clients.{seat_lives}
 use Rattle.local_pool.proofs.Knowing.{knows}
-use Rattle.local_pool.proofs.Accounts.{seat_lives, read_lives, token_client, token_idle, went}
 use Rattle.local_pool.proofs.owned.Alone.end_client.Goals as goal
 
 pub tracker-query-requires : goal.tracker-query-requires
-tracker-query-requires g c = seat_lives g.D.Slot c.self.inside.own c.self.invariant
+tracker-query-requires g c = seat_lives (knows g.D.Slot c.self.inside.own c.self.invariant)
 
 pub reservation-bytes-requires : goal.reservation-bytes-requires
 reservation-bytes-requires g c = read_lives g.D.Slot c.self.inside.own c.self.invariant c.args.self.now c.self.view_is c.tracker-tracker.result c.args.c.tracker c.tracker-tracker.ensures c.requires.client

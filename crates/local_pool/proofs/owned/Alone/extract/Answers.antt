@@ -7,15 +7,16 @@ use Rattle.store_api.specs.Conditions.{Fits, IsPage}
 use Rattle.local_pool.specs.declared.owned.Owned.{Owned}
 use Rattle.local_pool.specs.Told.{held_of}
 use Rattle.local_pool.specs.Making.{Makes}
-use Rattle.local_pool.proofs.Knowing.{knows}
 use Rattle.local_pool.proofs.Asked.{one_more, makes_one}
-use Rattle.local_pool.proofs.Holding.{last_pin, is_there, given_live, goes_whose}
+use Rattle.local_pool.proofs.Pages.{last_pin, is_there}
+use Rattle.local_pool.proofs.Knowing.{knows}
+use Rattle.local_pool.proofs.Holding.{given_live, goes_whose}
 use Rattle.local_pool.proofs.owned.Alone.extract.Goals as goal
 
 pub extract-loan-requires : goal.extract-loan-requires
 extract-loan-requires g c = record {
   last =
-      last_pin g.D.Slot c.self.inside.own c.self.invariant c.args.p (subst (λ (o : Owned g.row.D.Denot). IsPage c.args.p (held_of g.D.Slot o)) (sym c.self.view_is) c.requires.page) c.args.buf
+      last_pin (knows g.D.Slot c.self.inside.own c.self.invariant) c.args.p (subst (λ (o : Owned g.row.D.Denot). IsPage c.args.p (held_of g.D.Slot o)) (sym c.self.view_is) c.requires.page) c.args.buf
       (subst (λ (o : Owned g.row.D.Denot). (page_of c.args.p.name (held_of g.D.Slot o)).pins ≡ 1) (sym c.self.view_is) c.requires.pinned)
       (subst (λ (o : Owned g.row.D.Denot). Fits (page_of c.args.p.name (held_of g.D.Slot o)).blocks (held_of g.D.Slot o) c.args.buf) (sym c.self.view_is) c.requires.buffer);
 }
@@ -23,7 +24,7 @@ extract-loan-requires g c = record {
 pub invariant_of-self : goal.invariant_of-self
 invariant_of-self g c =
     let new : Owned g.row.D.Denot = record { pool = c.extract-loan.new.self; trail = c.enter.new.trail; session = c.self.inside.own.session } in
-    let page = is_there g.D.Slot c.self.inside.own c.self.invariant c.args.p (subst (λ (o : Owned g.row.D.Denot). IsPage c.args.p (held_of g.D.Slot o)) (sym c.self.view_is) c.requires.page) in
+    let page = is_there (knows g.D.Slot c.self.inside.own c.self.invariant) c.args.p (subst (λ (o : Owned g.row.D.Denot). IsPage c.args.p (held_of g.D.Slot o)) (sym c.self.view_is) c.requires.page) in
     one_more g.D.Slot c.self.inside.own new c.self.invariant (Extract c.args.p.name c.extract-loan.result.number)
     (goes_whose g.D.Slot c.self.inside.own new (Extract c.args.p.name c.extract-loan.result.number) _ page.whose
     (c.enter.ensures ∙ ap (λ (p : ℕ). c.self.inside.own.trail ++ by c.self.inside.own.session (Extract p c.number-buffer.result ∷ [])) c.name-page.ensures ∙ ap (λ (f : ℕ). c.self.inside.own.trail ++ by c.self.inside.own.session (Extract c.args.p.name f ∷ [])) c.number-buffer.ensures) refl c.extract-loan.ensures.enters) refl refl
@@ -32,7 +33,7 @@ invariant_of-self g c =
 pub returns-clause-made : goal.returns-clause-made
 returns-clause-made g c =
     let new : Owned g.row.D.Denot = record { pool = c.extract-loan.new.self; trail = c.enter.new.trail; session = c.self.inside.own.session } in
-    let page = is_there g.D.Slot c.self.inside.own c.self.invariant c.args.p (subst (λ (o : Owned g.row.D.Denot). IsPage c.args.p (held_of g.D.Slot o)) (sym c.self.view_is) c.requires.page) in
+    let page = is_there (knows g.D.Slot c.self.inside.own c.self.invariant) c.args.p (subst (λ (o : Owned g.row.D.Denot). IsPage c.args.p (held_of g.D.Slot o)) (sym c.self.view_is) c.requires.page) in
     subst (λ (o : Owned g.row.D.Denot). Makes g.D.Slot (λ events. events ≡ Extract c.args.p.name c.extract-loan.result.number ∷ []) o new) c.self.view_is
     (makes_one g.D.Slot c.self.inside.own new c.self.invariant (Extract c.args.p.name c.extract-loan.result.number)
     (goes_whose g.D.Slot c.self.inside.own new (Extract c.args.p.name c.extract-loan.result.number) _ page.whose
@@ -46,7 +47,7 @@ returns-clause-fresh g c =
 
 pub returns-clause-client : goal.returns-clause-client
 returns-clause-client g c =
-    let page = is_there g.D.Slot c.self.inside.own c.self.invariant c.args.p (subst (λ (o : Owned g.row.D.Denot). IsPage c.args.p (held_of g.D.Slot o)) (sym c.self.view_is) c.requires.page) in
+    let page = is_there (knows g.D.Slot c.self.inside.own c.self.invariant) c.args.p (subst (λ (o : Owned g.row.D.Denot). IsPage c.args.p (held_of g.D.Slot o)) (sym c.self.view_is) c.requires.page) in
     ap (λ (l : LoanToken). l.client) c.extract-loan.ensures.loan ∙ page.client
 
 pub returns-clause-buffer : goal.returns-clause-buffer

@@ -3,7 +3,8 @@ use Rattle.reservation_tree.specs.declared.errors.PoolErr.{PoolErr}
 use Rattle.reservation_tree.specs.declared.errors.PoolErr.TheVariants.{NoReservation}
 use Rattle.store_api.specs.Refusals.{move_refusal}
 use Rattle.local_pool.specs.Told.{held_of}
-use Rattle.local_pool.proofs.Accounts.{read_lives, no_less, move_free, move_error, no_error, with_error, but_error}
+use Rattle.local_pool.proofs.Accounts.{read_lives, no_less, move_free, move_error}
+use Rattle.local_pool.proofs.Refusals.{no_error, but_error, with_error}
 use Rattle.local_pool.proofs.owned.Alone.may_move.Goals as goal
 
 pub limit-requires : goal.limit-requires

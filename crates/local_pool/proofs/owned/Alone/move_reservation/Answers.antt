@@ -5,8 +5,9 @@ use Rattle.store_api.specs.Conditions.{IsLiveClient}
 use Rattle.store_api.specs.Refusals.{move_refusal}
 use Rattle.local_pool.specs.Told.{held_of}
 use Rattle.local_pool.proofs.Making.{asked_held}
-use Rattle.local_pool.proofs.Accounts.{asked_then, no_error_told}
+use Rattle.local_pool.proofs.Accounts.{asked_then}
 use Rattle.local_pool.proofs.Needed.{all_needed, none_needed, then_needed}
+use Rattle.local_pool.proofs.Refusals.{no_error_told}
 use Rattle.local_pool.proofs.owned.Alone.move_reservation.Goals as goal
 
 pub pass_on-requires-clause-from : goal.pass_on-requires-clause-from

@@ -4,7 +4,8 @@ use Rattle.pin_core.specs.StateOf.{state_of}
 use Rattle.pin_core.specs.Standing.{Enters}
 use Rattle.pin_core.specs.Entering.{move_entry}
 use Rattle.local_pool.specs.declared.owned.Owned.{Owned}
-use Rattle.local_pool.proofs.Accounts.{token_client, token_unused, other_client, unrefused_here, moved_by, unrefused_ok, of_ok}
+use Rattle.local_pool.proofs.Accounts.{token_client, token_unused, other_client, unrefused_here, moved_by}
+use Rattle.local_pool.proofs.Refusals.{of_ok, unrefused_ok}
 use Rattle.local_pool.proofs.owned.Alone.pass_on.Goals as goal
 
 pub move_now-requires-clause-client : goal.move_now-requires-clause-client

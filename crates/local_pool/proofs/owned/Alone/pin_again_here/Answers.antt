@@ -8,18 +8,20 @@ use Rattle.local_pool.specs.declared.owned.Owned.{Owned}
 use Rattle.local_pool.specs.Told.{held_of}
 use Rattle.local_pool.specs.Making.{Makes}
 use Rattle.local_pool.proofs.Asked.{one_more, makes_one}
-use Rattle.local_pool.proofs.Reaching.{pinned_here, page_room_here, goes_page}
+use Rattle.local_pool.proofs.Reaching.{goes_page}
+use Rattle.local_pool.proofs.Pages.{pinned_here, page_room_here}
+use Rattle.local_pool.proofs.Knowing.{knows}
 use Rattle.local_pool.proofs.owned.Alone.pin_again_here.Goals as goal
 
 pub pin_again_now-requires-clause-pinned : goal.pin_again_now-requires-clause-pinned
 pin_again_now-requires-clause-pinned g c =
-    pinned_here g.D.Slot c.self.inside.own c.self.invariant c.args.p.now
+    pinned_here (knows g.D.Slot c.self.inside.own c.self.invariant) c.args.p.now
     (subst (λ (o : Owned g.row.D.Denot). IsPage c.args.p.now (held_of g.D.Slot o)) (sym c.self.view_is) c.requires.page)
     (subst (λ (o : Owned g.row.D.Denot). 1 ≤ (page_of c.args.p.now.name (held_of g.D.Slot o)).pins) (sym c.self.view_is) c.requires.pinned)
 
 pub pin_again_now-requires-clause-room : goal.pin_again_now-requires-clause-room
 pin_again_now-requires-clause-room g c =
-    page_room_here g.D.Slot c.self.inside.own c.self.invariant c.args.p.now
+    page_room_here (knows g.D.Slot c.self.inside.own c.self.invariant) c.args.p.now
     (subst (λ (o : Owned g.row.D.Denot). IsPage c.args.p.now (held_of g.D.Slot o)) (sym c.self.view_is) c.requires.page)
     (subst (λ (o : Owned g.row.D.Denot). HasRoom (state_of o.pool) c.args.p.now.client (page_len c.args.p.now.name (held_of g.D.Slot o))) (sym c.self.view_is) c.requires.room)
 

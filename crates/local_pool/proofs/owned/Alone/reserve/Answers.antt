@@ -3,7 +3,8 @@ use Rattle.pool_model.specs.declared.event.Event.TheVariants.{Increase}
 use Rattle.store_api.specs.Refusals.{reserve_refusal}
 use Rattle.local_pool.specs.declared.owned.Owned.{Owned}
 use Rattle.local_pool.specs.Told.{held_of}
-use Rattle.local_pool.proofs.Accounts.{token_client, growth_error, growth_free, reserved_by, with_error, but_error, no_error}
+use Rattle.local_pool.proofs.Accounts.{token_client, growth_error, growth_free, reserved_by}
+use Rattle.local_pool.proofs.Refusals.{no_error, but_error, with_error}
 use Rattle.local_pool.proofs.owned.Alone.reserve.Goals as goal
 
 pub increase-result-requires : goal.increase-result-requires

@@ -4,7 +4,8 @@ use Rattle.store_api.specs.Changes.{shortfall}
 use Rattle.store_api.specs.Refusals.{reserve_refusal}
 use Rattle.local_pool.specs.declared.owned.Owned.{Owned}
 use Rattle.local_pool.specs.Told.{held_of}
-use Rattle.local_pool.proofs.Accounts.{token_client, fit_error, fit_free, reserved_by, with_error, but_error, no_error}
+use Rattle.local_pool.proofs.Accounts.{token_client, fit_error, fit_free, reserved_by}
+use Rattle.local_pool.proofs.Refusals.{no_error, but_error, with_error}
 use Rattle.local_pool.proofs.owned.Alone.reserve_to_fit.Goals as goal
 
 pub increase_to_fit-result-requires : goal.increase_to_fit-result-requires

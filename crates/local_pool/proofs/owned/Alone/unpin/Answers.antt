@@ -7,18 +7,20 @@ use Rattle.store_api.specs.Refusals.{LacksSlots, StaysPinned}
 use Rattle.store_api.specs.Signs.{Grows}
 use Rattle.local_pool.specs.Told.{held_of, signs_of}
 use Rattle.local_pool.specs.Making.{Makes}
-use Rattle.local_pool.proofs.Holding.{last_pin, is_there, left_stands, left_made, left_grows, left_refused, left_pinned}
+use Rattle.local_pool.proofs.Pages.{last_pin, is_there}
+use Rattle.local_pool.proofs.Knowing.{knows}
+use Rattle.local_pool.proofs.Holding.{left_stands, left_made, left_grows, left_refused, left_pinned}
 use Rattle.local_pool.proofs.owned.Alone.unpin.Goals as goal
 
 pub leave-requires-clause-last : goal.leave-requires-clause-last
 leave-requires-clause-last g c =
-    last_pin g.D.Slot c.self.inside.own c.self.invariant c.args.p.now (subst (λ (o : Owned g.row.D.Denot). IsPage c.args.p.now (held_of g.D.Slot o)) (sym c.self.view_is) c.requires.page) c.args.buf
+    last_pin (knows g.D.Slot c.self.inside.own c.self.invariant) c.args.p.now (subst (λ (o : Owned g.row.D.Denot). IsPage c.args.p.now (held_of g.D.Slot o)) (sym c.self.view_is) c.requires.page) c.args.buf
     (subst (λ (o : Owned g.row.D.Denot). (page_of c.args.p.now.name (held_of g.D.Slot o)).pins ≡ 1) (sym c.self.view_is) c.requires.pinned)
     (subst (λ (o : Owned g.row.D.Denot). Fits (page_of c.args.p.now.name (held_of g.D.Slot o)).blocks (held_of g.D.Slot o) c.args.buf) (sym c.self.view_is) c.requires.buffer)
 
 pub leave-requires-clause-whose : goal.leave-requires-clause-whose
 leave-requires-clause-whose g c =
-    (is_there g.D.Slot c.self.inside.own c.self.invariant c.args.p.now (subst (λ (o : Owned g.row.D.Denot). IsPage c.args.p.now (held_of g.D.Slot o)) (sym c.self.view_is) c.requires.page)).whose
+    (is_there (knows g.D.Slot c.self.inside.own c.self.invariant) c.args.p.now (subst (λ (o : Owned g.row.D.Denot). IsPage c.args.p.now (held_of g.D.Slot o)) (sym c.self.view_is) c.requires.page)).whose
 
 pub invariant_of-self : goal.invariant_of-self
 invariant_of-self g c =

@@ -6,13 +6,15 @@ use Rattle.local_pool.specs.declared.owned.Owned.{Owned}
 use Rattle.local_pool.specs.Told.{held_of}
 use Rattle.local_pool.specs.Making.{Makes}
 use Rattle.local_pool.proofs.Asked.{one_more, makes_one}
-use Rattle.local_pool.proofs.Reaching.{spare_here, goes_page, once_live}
+use Rattle.local_pool.proofs.Reaching.{goes_page, once_live}
+use Rattle.local_pool.proofs.Pages.{spare_here}
+use Rattle.local_pool.proofs.Knowing.{knows}
 use Rattle.local_pool.proofs.owned.Alone.unpin_once.Goals as goal
 
 pub unpin_once-requires : goal.unpin_once-requires
 unpin_once-requires g c = record {
   several =
-      spare_here g.D.Slot c.self.inside.own c.self.invariant c.args.p.now
+      spare_here (knows g.D.Slot c.self.inside.own c.self.invariant) c.args.p.now
       (subst (λ (o : Owned g.row.D.Denot). IsPage c.args.p.now (held_of g.D.Slot o)) (sym c.self.view_is) c.requires.page)
       (subst (λ (o : Owned g.row.D.Denot). 2 ≤ (page_of c.args.p.now.name (held_of g.D.Slot o)).pins) (sym c.self.view_is) c.requires.pinned);
 }

@@ -6,8 +6,8 @@ use Rattle.store_api.specs.Holdings.{unused_of as unused_in}
 use Rattle.store_api.specs.Conditions.{FitsAccount, IsLiveClient}
 use Rattle.local_pool.specs.declared.owned.Owned.{Owned}
 use Rattle.local_pool.specs.Told.{held_of}
-use Rattle.local_pool.proofs.Knowing.{knows}
 use Rattle.local_pool.proofs.Accounts.{read_lives}
+use Rattle.local_pool.proofs.Knowing.{knows}
 use Rattle.local_pool.proofs.owned.Alone.unused.Goals as goal
 
 pub unused-requires : goal.unused-requires
