@@ -1,0 +1,82 @@
+-- A page of a session ends, once it isn't written by another.
+use Rattle.std.proofs.Common.{◌≡◌, ℕ, ◌≤◌, List, [], ◌∷◌, ◌++◌, refl, sym, ap, ◌∙◌, subst}
+use Rattle.outside.specs.declared.slot.Slot.{Ghosts}
+use Rattle.block_arena.specs.Memory.{Buffer}
+use Rattle.pool_model.specs.declared.event.Event.{Event}
+use Rattle.pool_model.specs.declared.event.Event.TheVariants.{Destroy}
+use Rattle.pool_model.specs.declared.entry.Entry.{Entry}
+use Rattle.pool_model.specs.State.{Opening}
+use Rattle.store_api.specs.Tokens.{PageToken}
+use Rattle.store_api.specs.Holdings.{Holdings, page_of}
+use Rattle.store_api.specs.Changes.{after_destroy}
+use Rattle.store_api.specs.Conditions.{Fits, IsPage}
+use Rattle.store_api.specs.Entries.{by}
+use Rattle.own_entries.specs.OwnHoldings.{Outset, after_events}
+use Rattle.pin_core.specs.declared.parts.Parts.{Parts}
+use Rattle.pin_core.specs.StateOf.{state_of}
+use Rattle.pin_core.specs.Standing.{Enters}
+use Rattle.pin_core.specs.Ending.{IsPinnedWith, IsUnpinned, destroy_entry}
+use Rattle.local_pool.proofs.Holding.{given_live}
+use Rattle.local_pool.proofs.Pages.{is_there, pinned_with, rests_there}
+use Rattle.session_calls.specs.declared.hand.Hand.{Hand}
+use Rattle.session_calls.specs.Acting.{Goes, held_by}
+use Rattle.session_calls.specs.Having.{IsAtWork}
+use Rattle.session_calls.specs.Jobs.{DoesIn}
+use Rattle.session_calls.proofs.AtWork.{one_works, one_did}
+use Rattle.session_calls.proofs.Did.{did_more, did_held}
+use Rattle.session_calls.proofs.Doing.{does_none}
+use Rattle.session_calls.proofs.Idle.{not_loading}
+use Rattle.session_calls.proofs.Knowing.{Knows, knows}
+
+module _ {D : Type 0} (slot : Ghosts D) (o : Opening) (u : Outset) (seen : List Entry) (hand : Hand D) (is : IsAtWork slot o u seen hand) (p : PageToken) (held : IsPage p (held_by o u hand)) where
+  abbrev h : Holdings
+  h = held_by o u hand
+
+  its : Knows o u hand
+  its = knows slot o u hand is.ready
+
+  pub pinned_whole : (buf : Buffer) → (1 ≤ (page_of p.name h).pins) × Fits (page_of p.name h).blocks h buf → IsPinnedWith (state_of hand.state) p buf
+  pinned_whole buf pinned = pinned_with its p held buf pinned.0 pinned.1
+
+  pub unpinned : (page_of p.name h).pins ≡ 0 → IsUnpinned (state_of hand.state) p
+  unpinned none = rests_there its p held none (not_loading slot o u hand is.ready p held)
+
+  module _ (new : Hand D) (trail : new.trail ≡ hand.trail ++ by hand.session (Destroy p.name ∷ [])) (session : new.session ≡ hand.session)
+      (enters : Enters slot (destroy_entry (state_of hand.state) p.name ∷ []) [] [] hand.state new.state) where
+    went_ended : Goes slot (Destroy p.name ∷ []) hand new
+    went_ended = record {
+      trail = trail;
+      session = session;
+      enters = subst (λ (m : ℕ). Enters slot (by m (Destroy p.name ∷ [])) [] [] hand.state new.state) (is_there its p held).whose enters;
+    }
+
+    pub works_ended : IsAtWork slot o u seen new
+    works_ended = one_works slot o u seen hand new is (Destroy p.name) went_ended refl refl (after_destroy p.name h) refl (given_live (page_of p.name h) h.free_slots is.ready.rests.live) is.ready.rests.few
+
+    pub did_ended : DoesIn (λ events. events ≡ Destroy p.name ∷ []) hand new
+    did_ended = one_did slot o u seen hand new is (Destroy p.name) went_ended refl refl refl
+
+-- while a session only waited
+module _ {D : Type 0} (o : Opening) (u : Outset) (start now : Hand D) (none : DoesIn (λ events. events ≡ []) start now) where
+  pub still_held : held_by o u now ≡ held_by o u start
+  still_held = did_held o u start now none ∙ ap (after_events (held_by o u start)) none.does.is
+
+  pub then_did : (events : List Event) (new : Hand D) → DoesIn (λ made. made ≡ events) now new → DoesIn (λ made. made ≡ events) start new
+  then_did events new did = did_more start now new none did (ap (λ (es : List Event). es ++ did.does.events) none.does.is ∙ did.does.is)
+
+  pub page_still : (p q : PageToken) → q ≡ p → IsPage p (held_by o u start) → IsPage q (held_by o u now)
+  page_still p q same held = subst (λ (r : PageToken). IsPage r (held_by o u now)) (sym same) (subst (IsPage p) (sym still_held) held)
+
+  pub pins_still : (p q : PageToken) → q ≡ p → (page_of p.name (held_by o u start)).pins ≡ 0 → (page_of q.name (held_by o u now)).pins ≡ 0
+  pins_still p q same rests = subst (λ (r : PageToken). (page_of r.name (held_by o u now)).pins ≡ 0) (sym same) (subst (λ (h : Holdings). (page_of p.name h).pins ≡ 0) (sym still_held) rests)
+
+  -- it waited once more, with the same value
+  pub waits_more : (v : Parts D) (new : Hand D) → DoesIn (λ events. events ≡ []) (record now { state = v }) new → DoesIn (λ events. events ≡ []) start new
+  waits_more v new did = then_did [] new (record { session = did.session; does = did.does })
+
+pub waits_none : {D : Type 0} (hand : Hand D) → DoesIn (λ events. events ≡ []) hand hand
+waits_none hand = record { session = refl; does = does_none hand.session hand.trail }
+
+-- the same value in hand
+pub same_works : {D : Type 0} (slot : Ghosts D) (o : Opening) (u : Outset) (seen : List Entry) (hand : Hand D) (v : Parts D) → IsAtWork slot o u seen hand → v ≡ hand.state → IsAtWork slot o u seen (record hand { state = v })
+same_works {D} slot o u seen hand v is same = subst (λ (w : Parts D). IsAtWork slot o u seen (record hand { state = w })) (sym same) is

@@ -1,0 +1,77 @@
+-- A turn of a pin: the page is here, or its client lacks room for it.
+use Rattle.std.proofs.Common.{◌≡◌, ◌⊎◌, ℕ, List, [], ◌∷◌, ◌++◌, Option, IsSome, refl, subst, inl}
+use Rattle.outside.specs.declared.slot.Slot.{Ghosts}
+use Rattle.block_arena.specs.Memory.{Buffer}
+use Rattle.pool_model.specs.declared.event.Event.{Event}
+use Rattle.pool_model.specs.declared.event.Event.TheVariants.{PinHere}
+use Rattle.pool_model.specs.declared.entry.Entry.{Entry}
+use Rattle.pool_model.specs.State.{Opening, Page, State, page_at}
+use Rattle.store_api.specs.Tokens.{PageToken}
+use Rattle.store_api.specs.Holdings.{Holdings, page_of, page_len}
+use Rattle.store_api.specs.Changes.{after_pin}
+use Rattle.store_api.specs.Conditions.{ShowsLeft}
+use Rattle.own_entries.specs.OwnHoldings.{Outset}
+use Rattle.pin_core.specs.declared.parts.Parts.{Parts}
+use Rattle.pin_core.specs.declared.jobs.WriteJob.{WriteJob}
+use Rattle.pin_core.specs.StateOf.{state_of}
+use Rattle.pin_core.specs.Standing.{Enters}
+use Rattle.pin_core.specs.PinTurns.{CanPin, LacksRoomFor, IsContent as HasContent}
+use Rattle.pin_core.specs.Turns.{LacksRoom, IsStarted}
+use Rattle.local_pool.specs.Pinning.{CanBePinned, IsPinned}
+use Rattle.local_pool.proofs.Contents.{shows_left}
+use Rattle.local_pool.proofs.Pages.{is_there, page_client_lives, can_pin as may_pin, lacks_room}
+use Rattle.session_calls.specs.declared.hand.Hand.{Hand}
+use Rattle.session_calls.specs.Acting.{Goes, held_by}
+use Rattle.session_calls.specs.Having.{IsAtWork}
+use Rattle.session_calls.specs.Jobs.{DoesIn}
+use Rattle.session_calls.proofs.AtWork.{one_works, one_did}
+use Rattle.session_calls.proofs.Idle.{not_loading}
+use Rattle.session_calls.proofs.Knowing.{Knows, knows}
+
+module _ {D : Type 0} (slot : Ghosts D) (o : Opening) (u : Outset) (seen : List Entry) (hand : Hand D) (is : IsAtWork slot o u seen hand) (p : PageToken) (can : CanBePinned p (held_by o u hand)) where
+  abbrev s : State
+  s = state_of hand.state
+
+  abbrev h : Holdings
+  h = held_by o u hand
+
+  abbrev x : Page
+  x = page_at s p.name
+
+  its : Knows o u hand
+  its = knows slot o u hand is.ready
+
+  pub can_pin : CanPin s hand.session p
+  can_pin = may_pin its p can.page can.rests (not_loading slot o u hand is.ready p can.page) can.unused
+
+  pub client_lives : IsSome (h.clients p.client)
+  client_lives = page_client_lives its p can.page
+
+  pub shows_here : (buf : Buffer) → HasContent slot p.name buf hand.state → ShowsLeft (page_of p.name h) h buf
+  shows_here = shows_left slot hand.state o hand.trail is.ready.whole.stands its p can.page can.rests
+
+  -- the page is pinned where it is
+  module _ (new : Hand D) (trail : new.trail ≡ hand.trail ++ record { maker = hand.session; event = PinHere p.name } ∷ []) (session : new.session ≡ hand.session)
+      (enters : Enters slot (record { maker = hand.session; event = PinHere p.name } ∷ []) [] [] hand.state new.state) where
+    went_here : Goes slot (PinHere p.name ∷ []) hand new
+    went_here = record { trail = trail; session = session; enters = enters }
+
+    pub works_here : IsAtWork slot o u seen new
+    works_here = one_works slot o u seen hand new is (PinHere p.name) went_here refl refl (after_pin p.name h) refl is.ready.rests.live is.ready.rests.few
+
+    pub did_here : DoesIn (IsPinned p.name) hand new
+    did_here = one_did slot o u seen hand new is (PinHere p.name) went_here refl refl (inl refl)
+
+  -- its client lacks the room, so another page of the client goes out
+  pub lacks_here : (failure : Option ℕ) → LacksRoomFor s hand.session p.name failure → LacksRoom s hand.session p.client (page_len p.name h) failure
+  lacks_here = lacks_room its p can.page
+
+  pub starts_here : (job : WriteJob D) (v : Parts D) → IsStarted slot hand.session x.client job hand.state v → IsStarted slot hand.session p.client job hand.state v
+  starts_here job v started = subst (λ (c : ℕ). IsStarted slot hand.session c job hand.state v) (is_there its p can.page).client started
+
+-- the value was given back and taken again, as it was found
+pub waited_here : {D : Type 0} {P : List Event → Type 0} (hand new : Hand D) (v : Parts D) → DoesIn (λ events. events ≡ []) (record hand { state = v }) new → DoesIn (λ events. (events ≡ []) ⊎ P events) hand new
+waited_here hand new v did = record {
+  session = did.session;
+  does = record { events = did.does.events; is = inl did.does.is; own = did.does.own; more = did.does.more; grew = did.does.grew };
+}

@@ -1,0 +1,146 @@
+-- One turn of a call that wants room: a page goes out and comes back.
+use Rattle.std.proofs.Common.{◌≡◌, ℕ, ◌+◌, List, [], ◌∷◌, ◌++◌, Option, IsSome, unwrap_or, refl, sym, ap, ◌∙◌, subst, arith}
+use Rattle.std.specs.FinMap.{get}
+use Rattle.std.specs.List.{sum_by}
+use Rattle.outside.specs.declared.slot.Slot.{Ghosts}
+use Rattle.reservation_tree.proofs.Maps.{get_same}
+use Rattle.pool_model.specs.declared.event.Event.{Event}
+use Rattle.pool_model.specs.declared.event.Event.TheVariants.{StartWrite}
+use Rattle.pool_model.specs.declared.entry.Entry.{Entry}
+use Rattle.pool_model.specs.State.{Opening, Dirty, Pinned, Page, State, page_at, no_page}
+use Rattle.pool_model.specs.MayFollow.{MayFollow}
+use Rattle.pool_model.specs.Legal.{state_after}
+use Rattle.pool_model.specs.LookingBack.{content_from}
+use Rattle.pool_model.specs.OwnLaws.{IsContent}
+use Rattle.pool_model.proofs.Fronts.{legal_grows_so}
+use Rattle.pool_model.proofs.OwnEntries.{content_more}
+use Rattle.pool_model.proofs.Resting.{legal_contents_are_told}
+use Rattle.own_entries.specs.OwnHoldings.{Outset}
+use Rattle.pin_core.specs.declared.jobs.WriteJob.{WriteJob}
+use Rattle.pin_core.specs.StateOf.{state_of}
+use Rattle.pin_core.specs.Standing.{StandsFor, Enters}
+use Rattle.pin_core.specs.Tallies.{silence}
+use Rattle.pin_core.specs.Turns.{IsStarted, start_entry}
+use Rattle.local_pool.specs.Turning.{IsWrite}
+use Rattle.local_pool.proofs.Pages.{owner_is, page_held}
+use Rattle.local_pool.proofs.Waiting.{IsDirtyOf, newest_in}
+use Rattle.session_calls.specs.declared.hand.Hand.{Hand}
+use Rattle.session_calls.specs.Moving.{quota_at, slots_out}
+use Rattle.session_calls.specs.Ready.{StandsWhole, IsResting}
+use Rattle.session_calls.specs.Acting.{ActsThese, held_by}
+use Rattle.session_calls.specs.Doing.{Does}
+use Rattle.session_calls.specs.Having.{MayGive, IsAtWork}
+use Rattle.session_calls.specs.Jobs.{DoesIn, CanWrite, Wrote}
+use Rattle.session_calls.proofs.Between.{rests_written, worked_on}
+use Rattle.session_calls.proofs.Doing.{does_more}
+use Rattle.session_calls.proofs.Knowing.{Knows, knows}
+use Rattle.session_calls.proofs.Out.{out_started}
+use Rattle.session_calls.proofs.Quotas.{quota_stays}
+use Rattle.session_calls.proofs.Spare.{ones}
+use Rattle.session_calls.proofs.Steps.{acts_does}
+
+module _ {D : Type 0} (slot : Ghosts D) (o : Opening) (u : Outset) (seen : List Entry) (hand : Hand D) (was : IsAtWork slot o u seen hand) where
+  module _ (c : ℕ) (some : IsSome ((held_by o u hand).clients c)) (job : WriteJob D) (went : Hand D) (started : IsStarted slot hand.session c job hand.state went.state)
+      (enters : Enters slot (start_entry hand.session job.id.name ∷ []) job.row [] hand.state went.state)
+      (trail_is : went.trail ≡ hand.trail ++ start_entry hand.session job.id.name ∷ []) (session_is : went.session ≡ hand.session) where
+    abbrev s : State
+    s = state_of hand.state
+
+    abbrev p : ℕ
+    p = job.id.name
+
+    abbrev e : Entry
+    e = start_entry hand.session job.id.name
+
+    stood : StandsFor slot o (hand.trail ++ e ∷ []) went.state
+    stood = enters.stands o hand.trail was.ready.whole.stands
+
+    known : Knows o u hand
+    known = knows slot o u hand was.ready
+
+    waits : IsDirtyOf s c p
+    waits = newest_in o hand.trail was.ready.whole.stands.legal s was.ready.whole.stands.state c p started.older started.newest
+
+    -- the page is the session's
+    whose : (page_at (state_of went.state) p).session ≡ hand.session
+    whose =
+        ap (λ (t : State). (page_at t p).session) enters.state ∙ ap (λ (x : Option Page). (unwrap_or x no_page).session) (get_same s.pages p _)
+        ∙ ap (λ (x : Page). x.session) waits.is ∙ owner_is known c p waits.page some waits.lives waits.client
+
+    -- its content is what the session left in it last
+    content : job.buf.bytes ≡ content_from p [] went.trail
+    content =
+        let it : IsContent o hand.trail (state_after o hand.trail) p waits.page =
+        legal_contents_are_told o hand.trail was.ready.whole.stands.legal p waits.page (ap (λ (t : State). get t.pages p) (sym was.ready.whole.stands.state) ∙ waits.lives) in
+        started.content o hand.trail was.ready.whole.stands
+        ∙ it.left (it.rests (λ count pinned. let never : Dirty ≡ Pinned count = sym waits.dirty ∙ pinned in cc)) []
+        ∙ sym (content_more p [] hand.trail e) ∙ ap (content_from p []) (sym trail_is)
+
+    pub can_write : CanWrite slot u.told job went
+    can_write = record {
+      is = started.is;
+      by = started.by ∙ sym session_is;
+      whose = whose ∙ sym session_is;
+      content = content;
+      tell = λ told. let moved = enters.slots (silence slot) in let none = was.ready.whole.tell told in omega (arith, moved, none);
+    }
+
+    -- the slots of the page are out with it
+    out : slots_out (state_of went.state).pages ≡ slots_out s.pages + (page_at s p).blocks
+    out =
+        let may : MayFollow hand.trail (state_after o hand.trail) e = (legal_grows_so o hand.trail (e ∷ []) stood.legal).0 in
+        ap (λ (t : State). slots_out t.pages) enters.state ∙ out_started hand.trail s hand.session p (subst (λ (t : State). MayFollow hand.trail t e) (sym was.ready.whole.stands.state) may)
+
+    blocks : sum_by (λ d. 1) job.row ≡ (page_at s p).blocks
+    blocks =
+        ones job.row ∙ started.is.slots ∙ ap (λ (t : State). (page_at t p).blocks) enters.state ∙ ap (λ (x : Option Page). (unwrap_or x no_page).blocks) (get_same s.pages p _)
+
+    started_whole : StandsWhole slot o u.told went.trail went.state
+    started_whole = record {
+      stands = subst (λ (h : List Entry). StandsFor slot o h went.state) (sym trail_is) stood;
+      home = let moved = enters.slots (λ d. 1) in let home = was.ready.whole.home in omega (arith, moved, home, out, blocks);
+      tell = λ told. let moved = enters.slots (silence slot) in let none = was.ready.whole.tell told in omega (arith, moved, none);
+    }
+
+    abbrev begun : ActsThese (StartWrite p ∷ []) hand went
+    begun = record {
+      events = StartWrite p ∷ [];
+      is = refl;
+      trail = trail_is;
+      session = session_is;
+      quotas = λ k. ap (λ (t : State). quota_at t k) enters.state ∙ quota_stays s e k refl;
+    }
+
+    pub may_write : MayGive slot o u.told seen went
+    may_write = record { worked = worked_on o u seen hand went was.worked begun; whole = started_whole }
+
+    -- the page came back
+    module _ (now : List Entry) (new : Hand D) (may : MayGive slot o u.told now new) (wrote : Wrote job went new) where
+      is_write : IsWrite c (held_by o u hand) (StartWrite p ∷ wrote.end ∷ [])
+      is_write = record {
+        page = p;
+        own = page_held known c p waits.page some waits.lives waits.client;
+        end = wrote.end;
+        ended = wrote.ended;
+        are = refl;
+      }
+
+      ended : Does hand.session (λ events. events ≡ wrote.end ∷ []) went.trail new.trail
+      ended = subst (λ (m : ℕ). Does m (λ events. events ≡ wrote.end ∷ []) went.trail new.trail) session_is wrote.did.does
+
+      written : Does hand.session (IsWrite c (held_by o u hand)) hand.trail new.trail
+      written =
+          does_more hand.session hand.trail went.trail new.trail (acts_does hand went begun (refl, tt)) ended
+          (subst (λ (es : List Event). IsWrite c (held_by o u hand) (StartWrite p ∷ es)) (sym ended.is) is_write)
+
+      pub wrote_one : DoesIn (IsWrite c (held_by o u hand)) hand new
+      wrote_one = record { session = wrote.did.session ∙ session_is; does = written }
+
+      pub works_on : IsAtWork slot o u now new
+      works_on = record {
+        worked = may.worked;
+        ready = record {
+          whole = may.whole;
+          rests = subst (λ (m : ℕ). IsResting o u m new.trail) (sym wrote_one.session) (rests_written o u c hand.session hand.trail new.trail written was.ready.rests);
+        };
+      }

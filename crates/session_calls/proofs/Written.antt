@@ -1,0 +1,134 @@
+-- A page comes back from its write.
+use Rattle.std.proofs.Common.{◌≡◌, ℕ, ◌+◌, List, [], ◌∷◌, ◌++◌, map, length, Bool, true, false, Some, refl, sym, ap, ◌∙◌, subst, arith, inl}
+use Rattle.outside.specs.declared.slot.Slot.{Ghosts}
+use Rattle.block_arena.specs.Memory.{IsBufferOf}
+use Rattle.scratch_dev.specs.Rows.{faults_of}
+use Rattle.pool_model.specs.declared.event.Event.{Event}
+use Rattle.pool_model.specs.declared.entry.Entry.{Entry}
+use Rattle.pool_model.specs.State.{Opening, Flying, Page, State, page_at}
+use Rattle.pool_model.specs.LookingBack.{opens, content_of}
+use Rattle.pool_model.specs.ScratchRows.{IsFault}
+use Rattle.pool_model.specs.MayFollow.{MayFollow}
+use Rattle.pool_model.specs.Effects.{after}
+use Rattle.store_api.specs.Entries.{by}
+use Rattle.pin_core.specs.declared.jobs.WriteJob.{WriteJob}
+use Rattle.pin_core.specs.StateOf.{state_of}
+use Rattle.pin_core.specs.Standing.{AreHeld}
+use Rattle.pin_core.specs.Runs.{after_stores}
+use Rattle.pin_core.specs.Jobs.{IsWriteJob}
+use Rattle.pin_core.specs.Returning.{EntersWhere, IsWritten, write_ends, write_entry}
+use Rattle.pin_core.proofs.Tallied.{same_silence}
+use Rattle.local_pool.specs.Turning.{IsEnd}
+use Rattle.session_calls.specs.declared.hand.Hand.{Hand}
+use Rattle.session_calls.specs.Moving.{slots_out, keeps_seats}
+use Rattle.session_calls.specs.Ready.{StandsWhole}
+use Rattle.session_calls.specs.Having.{MayGive, Taken}
+use Rattle.session_calls.specs.Jobs.{CanWrite, Wrote}
+use Rattle.session_calls.proofs.Out.{back_written, back_unwritten}
+use Rattle.session_calls.proofs.Lasts.{IsInJob}
+use Rattle.session_calls.proofs.Returned.{same_len, same_there, same_page, content_mid, did, may_give}
+
+-- what is so of the end of a write, well or not
+module _ (p before now : ℕ) where
+  is_end : (b : Bool) → IsEnd p (write_ends b p before now)
+  is_end true = refl
+  is_end false = refl
+
+  keeps : (b : Bool) → keeps_seats (write_ends b p before now) ≡ true
+  keeps true = refl
+  keeps false = refl
+
+  goes_on : (b : Bool) → opens (write_ends b p before now) ≡ false
+  goes_on true = refl
+  goes_on false = refl
+
+  comes_back : (b : Bool) (h : List Entry) (s : State) (m : ℕ) → MayFollow h s (record { maker = m; event = write_ends b p before now })
+      → slots_out (after s (record { maker = m; event = write_ends b p before now })).pages + (page_at s p).blocks ≡ slots_out s.pages
+  comes_back true h s m may = back_unwritten h s m p before now may
+  comes_back false h s m may = back_written h s m p may
+
+module _ {D : Type 0} (slot : Ghosts D) (o : Opening) (told : Bool) (old mid : Hand D) (stood : StandsWhole slot o told old.trail old.state)
+    (before now : List Entry) (seen : before ≡ old.trail) (taken : Taken slot o told old.session before now mid)
+    (job ran : WriteJob D) (can : CanWrite slot told job old) (rest : ran ≡ after_stores ran.row ran.failed job) (len : length ran.row ≡ length job.row) where
+  abbrev s : State
+  s = state_of old.state
+
+  abbrev t : State
+  t = state_of mid.state
+
+  flies : IsInJob old.session (page_at s job.id.name).place
+  flies = inl (can.is.flies ∙ ap (λ (m : ℕ). Flying m) can.by)
+
+  name_is : ran.id.name ≡ job.id.name
+  name_is = ap (λ (j : WriteJob D). j.id.name) rest
+
+  bytes_are : ran.buf.bytes ≡ job.buf.bytes
+  bytes_are = ap (λ (j : WriteJob D). j.buf.bytes) rest
+
+  -- the job is that of the page still
+  pub still_job : IsWriteJob t ran
+  still_job =
+      let page : page_at t job.id.name ≡ page_at s job.id.name = same_page slot o told old mid stood before now seen taken job.id.name can.is.lives can.whose flies in
+      subst (IsWriteJob t) (sym rest) (record {
+        lives = same_there slot o told old mid stood before now seen taken job.id.name can.is.lives can.whose flies ∙ ap Some (sym page);
+        key = ap (λ (x : Page). x.key) page ∙ can.is.key;
+        flies = ap (λ (x : Page). x.place) page ∙ can.is.flies;
+        client = ap (λ (x : Page). x.client) page ∙ can.is.client;
+        buffer =
+            subst (λ (x : Page). IsBufferOf x.blocks t.block_len job.buf) (sym page)
+            (subst (λ (n : ℕ). IsBufferOf (page_at s job.id.name).blocks n job.buf) (sym (same_len slot o told old mid stood before now seen taken)) can.is.buffer);
+        slots = len ∙ can.is.slots ∙ ap (λ (x : Page). x.blocks) (sym page);
+        maker = can.is.maker;
+      })
+
+  module _ (new : Hand D) (sum : ℕ) (is : sum ≡ faults_of slot job.row)
+      (held : ran.failed ≡ false → AreHeld slot job.buf.block_len ran.row job.buf.bytes)
+      (failed : ran.failed ≡ true → IsFault (faults_of slot job.row) (faults_of slot ran.row))
+      (enters : (before now : ℕ) → IsFault before now → EntersWhere slot (IsWritten slot t.block_len ran) (write_entry ran before now) ran.row mid.state new.state)
+      (entered : new.trail ≡ mid.trail ++ write_entry ran sum (faults_of slot ran.row) ∷ []) (session : new.session ≡ mid.session) where
+    abbrev end : Event
+    end = write_ends ran.failed ran.id.name sum (faults_of slot ran.row)
+
+    abbrev e : Entry
+    e = record { maker = old.session; event = end }
+
+    is_written : IsWritten slot t.block_len ran o mid.trail
+    is_written = record {
+      content = bytes_are ∙ can.content ∙ sym (content_mid slot o told old mid stood before now seen taken job.id.name can.is.lives can.whose flies) ∙ ap (content_of o mid.trail) (sym name_is);
+      held = λ whole.
+          subst (λ (n : ℕ). AreHeld slot n ran.row ran.buf.bytes) (can.is.buffer.block_len ∙ sym (same_len slot o told old mid stood before now seen taken))
+          (subst (AreHeld slot job.buf.block_len ran.row) (sym bytes_are) (held whole));
+    }
+
+    entry_is : write_entry ran sum (faults_of slot ran.row) ≡ e
+    entry_is = ap (λ (m : ℕ). record { maker = m; event = end }) (ap (λ (j : WriteJob D). j.who) rest ∙ can.by)
+
+    -- without a failure the sums stand nowhere
+    any_sums : ran.failed ≡ false → write_entry ran 0 1 ≡ write_entry ran sum (faults_of slot ran.row)
+    any_sums whole =
+        ap (λ (b : Bool). record { maker = ran.who; event = write_ends b ran.id.name 0 1 }) whole
+        ∙ sym (ap (λ (b : Bool). record { maker = ran.who; event = write_ends b ran.id.name sum (faults_of slot ran.row) }) whole)
+
+    enters_so : EntersWhere slot (IsWritten slot t.block_len ran) e ran.row mid.state new.state
+    enters_so = subst (λ (d : Entry). EntersWhere slot (IsWritten slot t.block_len ran) d ran.row mid.state new.state) entry_is
+        (elim ran.failed as (λ b. ran.failed ≡ b → EntersWhere slot (IsWritten slot t.block_len ran) (write_entry ran sum (faults_of slot ran.row)) ran.row mid.state new.state) [
+          | true ↦ λ bad. enters sum (faults_of slot ran.row) (subst (λ (n : ℕ). IsFault n (faults_of slot ran.row)) (sym is) (failed bad))
+          | false ↦ λ whole. subst (λ (d : Entry). EntersWhere slot (IsWritten slot t.block_len ran) d ran.row mid.state new.state) (any_sums whole) (enters 0 1 (inl (omega arith)))
+        ] refl)
+
+    trail : new.trail ≡ mid.trail ++ by old.session (end ∷ [])
+    trail = entered ∙ ap (λ (d : Entry). mid.trail ++ d ∷ []) entry_is
+
+    pub wrote : Wrote job old new
+    wrote = record {
+      end = end;
+      ended = subst (λ (p : ℕ). IsEnd p end) name_is (is_end ran.id.name sum (faults_of slot ran.row) ran.failed);
+      did = did slot o told old mid stood before now seen taken new end trail session (goes_on ran.id.name sum (faults_of slot ran.row) ran.failed);
+    }
+
+    pub may_give_written : map slot.tells ran.row ≡ map slot.tells job.row → MayGive slot o told now new
+    may_give_written tells =
+        may_give slot o told old mid stood before now seen taken new end trail session ran.row job.row (IsWritten slot t.block_len ran) enters_so is_written
+        (keeps ran.id.name sum (faults_of slot ran.row) ran.failed)
+        (λ may. subst (λ (n : ℕ). slots_out (after t e).pages + n ≡ slots_out t.pages) (sym still_job.slots) (comes_back ran.id.name sum (faults_of slot ran.row) ran.failed mid.trail t old.session may))
+        (same_silence slot ran.row job.row tells) can.tell

@@ -1,0 +1,30 @@
+use Rattle.std.proofs.Common.{ℕ, [], ◌∷◌, refl, sym, subst}
+use Rattle.pool_model.specs.declared.event.Event.TheVariants.{Alloc}
+use Rattle.pin_core.specs.StateOf.{state_of}
+use Rattle.pin_core.specs.Coming.{CanHold}
+use Rattle.local_pool.specs.Calling.{Evicts, IsFreshLoan}
+use Rattle.local_pool.proofs.Fresh.{can_hold, fresh_loan}
+use Rattle.session_calls.specs.Acting.{Acts, held_by}
+use Rattle.session_calls.proofs.Knowing.{knows}
+use Rattle.session_calls.proofs.Arriving.{acts_evicting, ready_evicting}
+use Rattle.session_calls.proofs.hand.Hand.alloc.Goals as goal
+
+pub alloc_named-requires-clause-can : goal.alloc_named-requires-clause-can
+alloc_named-requires-clause-can g c =
+    subst (λ (t : ℕ). CanHold (state_of c.args.self.now.state) (record { session = c.args.self.now.session; tracker = t }) c.args.shell) (sym c.tracker.ensures)
+    (can_hold (knows g.D.Slot g.O.Origin.opening g.O.Origin.outset c.args.self.now c.requires.ready) c.args.c.now.tracker c.args.shell c.requires.client c.requires.blocks c.requires.room)
+
+pub returns-clause-acts : goal.returns-clause-acts
+returns-clause-acts g c =
+    subst (λ (t : ℕ). Acts (Evicts (Alloc c.alloc_named.result.number t c.args.shell ∷ [])) c.args.self.now c.alloc_named.new.hand) c.tracker.ensures
+    (acts_evicting g.D.Slot c.args.self.now c.alloc_named.new.hand c.args.shell (Alloc c.alloc_named.result.number c.tracker.result c.args.shell) c.alloc_named.ensures.goes refl)
+
+pub returns-clause-loan : goal.returns-clause-loan
+returns-clause-loan g c =
+    subst (λ (t : ℕ). IsFreshLoan t c.args.shell c.alloc_named.result (held_by g.O.Origin.opening g.O.Origin.outset c.args.self.now)) c.tracker.ensures
+    (fresh_loan (knows g.D.Slot g.O.Origin.opening g.O.Origin.outset c.args.self.now c.requires.ready) c.tracker.result c.args.shell c.alloc_named.result c.alloc_named.ensures.fresh c.alloc_named.ensures.loan)
+
+pub returns-clause-ready : goal.returns-clause-ready
+returns-clause-ready g c =
+    ready_evicting g.D.Slot c.args.self.now c.alloc_named.new.hand c.args.shell (Alloc c.alloc_named.result.number c.tracker.result c.args.shell) c.alloc_named.ensures.goes refl
+    g.O.Origin.opening g.O.Origin.outset c.requires.ready refl c.requires.ready.rests.live c.requires.ready.rests.few

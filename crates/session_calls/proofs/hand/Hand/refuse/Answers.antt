@@ -1,0 +1,17 @@
+use Rattle.std.proofs.Common.{refl}
+use Rattle.session_calls.specs.declared.hand.Hand.{Hand}
+use Rattle.session_calls.proofs.Asked.{acts_refused, ready_refused}
+use Rattle.session_calls.proofs.hand.Hand.refuse.Goals as goal
+
+pub refuse-requires : goal.refuse-requires
+refuse-requires g c = record { may = record { opening = g.O.Origin.opening; history = c.args.self.now.trail; stands = c.requires.ready.whole.stands; may = c.requires.may } }
+
+pub returns-clause-acts : goal.returns-clause-acts
+returns-clause-acts g c =
+    let new : Hand g.row.D.Denot = record { state = c.refuse.new.self; trail = c.enter_refused.new.trail; session = c.args.self.now.session } in
+    acts_refused g.D.Slot g.O.Origin.opening g.O.Origin.outset c.args.self.now new c.requires.ready c.args.call.now c.args.entry c.requires.may c.refuse.ensures.enters c.enter_refused.ensures refl
+
+pub returns-clause-ready : goal.returns-clause-ready
+returns-clause-ready g c =
+    let new : Hand g.row.D.Denot = record { state = c.refuse.new.self; trail = c.enter_refused.new.trail; session = c.args.self.now.session } in
+    ready_refused g.D.Slot g.O.Origin.opening g.O.Origin.outset c.args.self.now new c.requires.ready c.args.call.now c.args.entry c.requires.may c.refuse.ensures.enters c.enter_refused.ensures refl

@@ -1,0 +1,67 @@
+-- A page of the session is written or loaded while the value isn't in hand, and comes back.
+use Rattle.std.specs.Prelude.{◌≡◌, ◌<◌, ℕ, List, [], ◌∷◌, Bool, true, length}
+use Rattle.std.specs.List.{sum_by}
+use Rattle.outside.specs.declared.slot.Slot.{Ghosts}
+use Rattle.block_arena.specs.Memory.{Buffer, IsBufferOf}
+use Rattle.reservation_tree.specs.declared.errors.PoolErr.{PoolErr}
+use Rattle.reservation_tree.specs.declared.errors.PoolErr.TheVariants.{ReadFault}
+use Rattle.pool_model.specs.declared.event.Event.{Event}
+use Rattle.pool_model.specs.declared.event.Event.TheVariants.{ReadOk, ReadFailed}
+use Rattle.pool_model.specs.State.{page_at}
+use Rattle.pool_model.specs.declared.call.Call.TheVariants.{Pin}
+use Rattle.pool_model.specs.Failures.{is_for_own, failures_in}
+use Rattle.pool_model.specs.Refusals.{FailedToLoad}
+use Rattle.pool_model.specs.LookingBack.{content_from}
+use Rattle.pin_core.specs.declared.jobs.ReadJob.{ReadJob}
+use Rattle.pin_core.specs.declared.jobs.WriteJob.{WriteJob}
+use Rattle.pin_core.specs.StateOf.{state_of}
+use Rattle.pin_core.specs.Standing.{AreHeld}
+use Rattle.pin_core.specs.Tallies.{silence}
+use Rattle.pin_core.specs.Jobs.{IsReadJob, IsWriteJob}
+use Rattle.local_pool.specs.Turning.{IsEnd}
+use Rattle.session_calls.specs.declared.hand.Hand.{Hand}
+use Rattle.session_calls.specs.Doing.{Does}
+
+module _ {D : Type 0} where
+  -- between two histories that it had in hand the session did what this says, whatever others did
+  pub record DoesIn (P : List Event → Type 0) (old new : Hand D) : Type 0 where
+    pub session : new.session ≡ old.session
+    pub does : Does old.session P old.trail new.trail
+
+  -- the job is to write a page of the session, with what it left there last; the slots tell, where that is said
+  pub record CanWrite (slot : Ghosts D) (told : Bool) (job : WriteJob D) (hand : Hand D) : Type 0 where
+    pub is : IsWriteJob (state_of hand.state) job
+    pub by : job.who ≡ hand.session
+    pub whose : (page_at (state_of hand.state) job.id.name).session ≡ hand.session
+    pub content : job.buf.bytes ≡ content_from job.id.name [] hand.trail
+    pub tell : told ≡ true → sum_by (silence slot) job.row ≡ 0
+
+  -- the write ended, well or not
+  pub record Wrote (job : WriteJob D) (old new : Hand D) : Type 0 where
+    pub end : Event
+    pub ended : IsEnd job.id.name end
+    pub did : DoesIn (λ events. events ≡ end ∷ []) old new
+
+  -- the job is to load a page of the session, from slots that hold what it left there last
+  pub record CanRead (slot : Ghosts D) (told : Bool) (job : ReadJob D) (hand : Hand D) : Type 0 where
+    pub is : IsReadJob (state_of hand.state) job
+    pub whose : (page_at (state_of hand.state) job.id.name).session ≡ hand.session
+    pub held : AreHeld slot (state_of hand.state).block_len job.row (content_from job.id.name [] hand.trail)
+    pub whole : length (content_from job.id.name [] hand.trail) ≡ length job.buf.bytes
+    pub tell : told ≡ true → sum_by (silence slot) job.row ≡ 0
+
+  -- the page is pinned with this buffer, which shows what was left, where slots tell
+  pub record IsRead (told : Bool) (job : ReadJob D) (buf : Buffer) (old new : Hand D) : Type 0 where
+    pub did : DoesIn (λ events. events ≡ ReadOk job.id.name ∷ []) old new
+    pub fits : IsBufferOf (page_at (state_of old.state) job.id.name).blocks (state_of old.state).block_len buf
+    pub shows : told ≡ true → buf.bytes ≡ content_from job.id.name [] old.trail
+
+  -- the load failed, and the page is evicted again; this failure, which was counted, may refuse the pin
+  pub record IsUnread (job : ReadJob D) (e : PoolErr) (old new : Hand D) : Type 0 where
+    pub before : ℕ
+    pub now : ℕ
+    pub did : DoesIn (λ events. events ≡ ReadFailed job.id.name before now ∷ []) old new
+    pub entry : ℕ
+    pub cause : e ≡ ReadFault entry
+    pub failed : FailedToLoad new.trail new.session (Pin job.id.name) entry
+    pub rose : failures_in (is_for_own old.session job.client) old.trail < failures_in (is_for_own old.session job.client) new.trail

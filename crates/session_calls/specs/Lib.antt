@@ -1,0 +1,10 @@
+pub mod Told
+pub mod Moving
+pub mod Ready
+pub mod Acting
+pub mod Doing
+pub mod Coming
+pub mod Having
+pub mod Jobs
+pub mod Turning
+pub mod Pinning

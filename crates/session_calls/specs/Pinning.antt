@@ -1,0 +1,44 @@
+-- One turn of a call that pins a page.
+use Rattle.std.specs.Prelude.{◌≡◌, ◌⊎◌, ◌<◌, ℕ, [], Some, true}
+use Rattle.std.specs.List.{list_any}
+use Rattle.pool_model.specs.declared.call.Call.TheVariants.{Pin}
+use Rattle.pool_model.specs.LookingBack.{is_ask, made_by}
+use Rattle.pool_model.specs.Failures.{is_for_own, failures_in}
+use Rattle.pool_model.specs.MayFollow.{MayFollow}
+use Rattle.pool_model.specs.State.{Opening}
+use Rattle.pin_core.specs.StateOf.{state_of}
+use Rattle.pin_core.specs.Refusing.{refusal_of}
+use Rattle.pin_core.specs.PinTurns.{LacksRoomFor}
+use Rattle.store_api.specs.Tokens.{PageToken}
+use Rattle.store_api.specs.Holdings.{page_of}
+use Rattle.store_api.specs.Conditions.{ShowsLeft}
+use Rattle.own_entries.specs.OwnHoldings.{Outset}
+use Rattle.local_pool.specs.Pinning.{IsFailedRead, IsPinned}
+use Rattle.local_pool.specs.Turning.{IsWrite}
+use Rattle.session_calls.specs.declared.hand.Hand.{Hand}
+use Rattle.session_calls.specs.declared.pinning.PinStep.{PinStep}
+use Rattle.session_calls.specs.declared.pinning.PinStep.TheVariants.{Failed, Pinned, Refused, Wrote}
+use Rattle.session_calls.specs.Acting.{held_by}
+use Rattle.session_calls.specs.Jobs.{DoesIn}
+
+module _ {D : Type 0} where
+  -- the session has begun a call
+  abbrev pub HasAsked : Hand D → Type 0
+  HasAsked hand = list_any (λ e. is_ask e.event) (made_by hand.trail hand.session) ≡ true
+
+  -- a pin of this page may be refused for the failure with this number
+  abbrev pub MayRefusePin : ℕ → ℕ → Hand D → Type 0
+  MayRefusePin p entry hand = MayFollow hand.trail (state_of hand.state) (refusal_of hand.session (Pin p) entry)
+
+  -- such a pin may be refused, and a failure of this client's pages was counted in between
+  pub record FailedPin (t p entry : ℕ) (old new : Hand D) : Type 0 where
+    pub may : MayRefusePin p entry new
+    pub rose : failures_in (is_for_own old.session t) old.trail < failures_in (is_for_own old.session t) new.trail
+
+  -- whether the page is pinned and shows what was left, the call is refused for a failure, a page was written or waited
+  -- for, or the page's load failed
+  abbrev pub PinIs : Opening → Outset → PageToken → PinStep → Hand D → Hand D → Type 0
+  PinIs o u p (Pinned buf) old new = DoesIn (IsPinned p.name) old new × ShowsLeft (page_of p.name (held_by o u old)) (held_by o u old) buf
+  PinIs o u p (Refused entry) old new = LacksRoomFor (state_of old.state) old.session p.name (Some entry) × (new ≡ old)
+  PinIs o u p Wrote old new = DoesIn (λ events. (events ≡ []) ⊎ IsWrite p.client (held_by o u old) events) old new
+  PinIs o u p (Failed entry) old new = FailedPin p.client p.name entry old new × DoesIn (IsFailedRead p.name) old new

@@ -1,0 +1,99 @@
+//! A call begins, its client's pages are written until there is room, or it is refused.
+ghost use Rattle.std.specs.Prelude.{◌≡◌, ◌++◌, ◌≤◌, [], ◌∷◌, IfErr, OnOk};
+ghost use Rattle.pool_model.specs.declared.event.Event.TheVariants as event;
+ghost use Rattle.pool_model.specs.Sums.{HasRoom};
+ghost use Rattle.pool_model.specs.MayFollow.{MayFollow};
+ghost use Rattle.pin_core.specs.StateOf.{state_of};
+ghost use Rattle.pin_core.specs.Refusing.{refusal_of};
+ghost use Rattle.pin_core.specs.Turns.{amount_of};
+ghost use Rattle.store_api.specs.Holdings.{unused_of};
+ghost use Rattle.store_api.specs.Conditions.{IsLiveClient};
+ghost use Rattle.store_api.specs.Entries.{IsAsked};
+ghost use Rattle.local_pool.specs.Turning.{IsRoomCall, Wants};
+ghost use Rattle.session_calls.specs.Ready.{IsReady};
+ghost use Rattle.session_calls.specs.Acting.{ActsThese, held_by};
+ghost use Rattle.session_calls.specs.Having.{IsAtWork};
+ghost use Rattle.session_calls.specs.Jobs.{DoesIn};
+ghost use Rattle.session_calls.specs.Turning.{Refuses};
+
+use crate::access::Access;
+use crate::entering::enter;
+use crate::hand::Hand;
+use crate::origin::{Origin, OriginOf};
+use crate::turning::{Turn, room_turn};
+use outside::Slot;
+use pin_core::Want;
+use pool_model::{Call, Entry, Event};
+use reservation_tree::PoolErr;
+use std::marker::Brand;
+use std::sync::Wait;
+use store_api::Client;
+use turn_table::{Adds, Solo};
+
+impl<D: Slot + Drop> Hand<D> {
+    /// A call begins.
+    pub fn ask<O: Origin>(&mut self)
+        requires ready { IsReady D.Slot O.opening O.outset self.old }
+        ensures acts { ActsThese (event.Ask ∷ []) self.old self.new }
+        ensures ready { IsReady D.Slot O.opening O.outset self.new }
+    {
+        self.state.ask(self.session);
+        enter(&mut self.trail, self.session, Event::Ask);
+    }
+
+    /// The call is refused for the failure with this number.
+    pub fn refuse<O: Origin>(&mut self, call: &Call, entry: u64)
+        requires ready { IsReady D.Slot O.opening O.outset self.old }
+        requires may { MayFollow self.old.trail (state_of self.old.state) (refusal_of self.old.session call.now entry) }
+        ensures acts { ActsThese (event.Refused call.now entry ∷ []) self.old self.new }
+        ensures ready { IsReady D.Slot O.opening O.outset self.new }
+    {
+        self.state.refuse(self.session, call, entry);
+        enter_refused::<Brand>(&mut self.trail, self.session, call, entry);
+    }
+}
+
+fn enter_refused<N: Adds<Entry>>(trail: &mut Solo<Entry>, _session: u32, _call: &Call, _entry: u64)
+    requires named { N.entries ≡ refusal_of _session _call.now _entry ∷ [] }
+    ensures { trail.new ≡ trail.old ++ refusal_of _session _call.now _entry ∷ [] }
+{
+    trail.tick::<N>();
+}
+
+// A call begins, and the client's dirty pages are written, one at a time and the newest first, until the client can
+// hold so much more.
+pub(crate) fn make_room<A: Access<D>, R: Wait, D: Slot + Drop>(
+    rt: &R,
+    access: &A,
+    place: &mut A::Place,
+    mut hand: Hand<D>,
+    c: &Client,
+    want: Want,
+    call: &Call,
+) -> (Hand<D>, Result<(), PoolErr>)
+    requires turns { A.turns access.now place.old hand.session }
+    requires at_work { IsAtWork D.Slot A.opening A.outset (A.seen place.old) hand }
+    requires client { IsLiveClient c.now (held_by A.opening A.outset hand) }
+    requires unused { amount_of want ≤ unused_of c.now.tracker (held_by A.opening A.outset hand) }
+    requires wants { Wants c.now.tracker (amount_of want) (held_by A.opening A.outset hand) call.now × IsRoomCall call.now }
+    ensures turns { A.turns access.now place.new result.0.session }
+    ensures at_work { IsAtWork D.Slot A.opening A.outset (A.seen place.new) result.0 }
+    ensures ok { OnOk result.1 (DoesIn (IsAsked c.now.tracker (held_by A.opening A.outset hand) []) hand result.0) }
+    ensures room { OnOk result.1 (HasRoom (state_of result.0.state) c.now.tracker (amount_of want)) }
+    ensures err { IfErr result.1 (Refuses A.opening A.outset c.now.tracker call.now hand result.0) }
+{
+    hand.ask::<OriginOf<A, D>>();
+    for _ in rt.forever() {
+        let (now, turn) = room_turn(access, place, hand, c, want);
+        hand = now;
+        match turn {
+            Turn::Ready => return (hand, Ok(())),
+            Turn::Refused { entry } => {
+                hand.refuse::<OriginOf<A, D>>(call, entry);
+                return (hand, Err(PoolErr::WriteFault { entry }));
+            }
+            Turn::Wrote | Turn::Waited => {}
+        }
+    }
+    unreachable!()
+}

@@ -1,0 +1,125 @@
+//! Pages are written and loaded while the value isn't in hand.
+ghost use Rattle.std.specs.Prelude.{◌≡◌, ◌++◌, ◌∷◌, [], ℕ, IfErr, IfOk};
+ghost use Rattle.scratch_dev.specs.Rows.{faults_of};
+ghost use Rattle.pin_core.specs.Returning.{read_ends, write_entry};
+ghost use Rattle.session_calls.specs.Having.{MayGive};
+ghost use Rattle.session_calls.specs.Jobs.{CanRead, CanWrite, IsRead, IsUnread, Wrote};
+
+use crate::access::Access;
+use crate::hand::Hand;
+use block_arena::Buf;
+use outside::{OpenGate, Slot};
+use pin_core::{ReadJob, WriteJob};
+use pool_model::Entry;
+use reservation_tree::PoolErr;
+use std::marker::Brand;
+use turn_table::{Adds, Solo};
+
+// Names a sum of faults for contracts alone: that of a job's slots before it is run. A call at `Brand` picks it.
+pub(crate) trait Before {
+    ghost sum: { ℕ };
+}
+
+impl Before for Brand {
+    ghost sum = { 0 };
+}
+
+// A page that flies is stored, and comes back.
+pub(crate) fn write_out<A: Access<D>, D: Slot + Drop>(
+    access: &A,
+    place: &mut A::Place,
+    hand: Hand<D>,
+    job: WriteJob<D>,
+) -> Hand<D>
+    requires turns { A.turns access.now place.old hand.session }
+    requires may { MayGive D.Slot A.opening A.outset.told (A.seen place.old) hand }
+    requires can { CanWrite D.Slot A.outset.told job hand }
+    ensures turns { A.turns access.now place.new result.session }
+    ensures may { MayGive D.Slot A.opening A.outset.told (A.seen place.new) result }
+    ensures wrote { Wrote job hand result }
+{
+    write_named::<Brand, A, D>(access, place, hand, job)
+}
+
+fn write_named<B: Before, A: Access<D>, D: Slot + Drop>(
+    access: &A,
+    place: &mut A::Place,
+    hand: Hand<D>,
+    mut job: WriteJob<D>,
+) -> Hand<D>
+    requires before { B.sum ≡ faults_of D.Slot job.row }
+    requires turns { A.turns access.now place.old hand.session }
+    requires may { MayGive D.Slot A.opening A.outset.told (A.seen place.old) hand }
+    requires can { CanWrite D.Slot A.outset.told job hand }
+    ensures turns { A.turns access.now place.new result.session }
+    ensures may { MayGive D.Slot A.opening A.outset.told (A.seen place.new) result }
+    ensures wrote { Wrote job hand result }
+{
+    let session = hand.session;
+    access.give(place, hand);
+    job.run(&OpenGate, session);
+    let mut hand = access.take(place, session);
+    enter_write::<Brand, B, D>(&mut hand.trail, &job);
+    hand.state.finish_write(job);
+    hand
+}
+
+fn enter_write<N: Adds<Entry>, B: Before, D: Slot>(trail: &mut Solo<Entry>, _job: &WriteJob<D>)
+    requires named { N.entries ≡ write_entry _job.now B.sum (faults_of D.Slot _job.now.row) ∷ [] }
+    ensures { trail.new ≡ trail.old ++ write_entry _job.now B.sum (faults_of D.Slot _job.now.row) ∷ [] }
+{
+    trail.tick::<N>();
+}
+
+// A page that is loading is read, and comes back: pinned with this buffer, or evicted again.
+pub(crate) fn read_back<A: Access<D>, D: Slot + Drop>(
+    access: &A,
+    place: &mut A::Place,
+    hand: Hand<D>,
+    job: ReadJob<D>,
+) -> (Hand<D>, Result<Buf, PoolErr>)
+    requires turns { A.turns access.now place.old hand.session }
+    requires may { MayGive D.Slot A.opening A.outset.told (A.seen place.old) hand }
+    requires can { CanRead D.Slot A.outset.told job hand }
+    ensures turns { A.turns access.now place.new result.0.session }
+    ensures may { MayGive D.Slot A.opening A.outset.told (A.seen place.new) result.0 }
+    ensures ok { IfOk result.1 (λ buf. IsRead A.outset.told job buf hand result.0) }
+    ensures err { IfErr result.1 (λ e. IsUnread job e hand result.0) }
+{
+    read_named::<Brand, A, D>(access, place, hand, job)
+}
+
+fn read_named<B: Before, A: Access<D>, D: Slot + Drop>(
+    access: &A,
+    place: &mut A::Place,
+    hand: Hand<D>,
+    mut job: ReadJob<D>,
+) -> (Hand<D>, Result<Buf, PoolErr>)
+    requires before { B.sum ≡ faults_of D.Slot job.row }
+    requires turns { A.turns access.now place.old hand.session }
+    requires may { MayGive D.Slot A.opening A.outset.told (A.seen place.old) hand }
+    requires can { CanRead D.Slot A.outset.told job hand }
+    ensures turns { A.turns access.now place.new result.0.session }
+    ensures may { MayGive D.Slot A.opening A.outset.told (A.seen place.new) result.0 }
+    ensures ok { IfOk result.1 (λ buf. IsRead A.outset.told job buf hand result.0) }
+    ensures err { IfErr result.1 (λ e. IsUnread job e hand result.0) }
+{
+    let session = hand.session;
+    access.give(place, hand);
+    job.run(&OpenGate, session);
+    let mut hand = access.take(place, session);
+    enter_load::<Brand, B, D>(&mut hand.trail, session, &job);
+    let result = hand.state.finish_read(0, job);
+    (hand, result)
+}
+
+fn enter_load<N: Adds<Entry>, B: Before, D: Slot>(
+    trail: &mut Solo<Entry>,
+    _session: u32,
+    _job: &ReadJob<D>,
+)
+    requires named { N.entries ≡ record { maker = _session; event = read_ends _job.now.failed _job.now.id.name B.sum (faults_of D.Slot _job.now.row) } ∷ [] }
+    ensures { trail.new ≡ trail.old ++ record { maker = _session; event = read_ends _job.now.failed _job.now.id.name B.sum (faults_of D.Slot _job.now.row) } ∷ [] }
+{
+    trail.tick::<N>();
+}

@@ -1,0 +1,110 @@
+//! Pages are left with their bytes, and pages and loans end.
+ghost use Rattle.std.specs.Prelude.{◌≡◌, ◌↔◌, [], ◌∷◌, None, IsErr, IfErr, OnOk, OnErr};
+ghost use Rattle.reservation_tree.specs.declared.errors.PoolErr.TheVariants as refusal;
+ghost use Rattle.pool_model.specs.declared.event.Event.TheVariants as event;
+ghost use Rattle.pool_model.specs.State.{page_at};
+ghost use Rattle.pool_model.specs.Sums.{free_slots};
+ghost use Rattle.pin_core.specs.StateOf.{state_of};
+ghost use Rattle.pin_core.specs.Needs.{IsLastPin};
+ghost use Rattle.pin_core.specs.Unpinning.{LacksSlots as PoolLacks};
+ghost use Rattle.store_api.specs.Holdings.{page_of};
+ghost use Rattle.store_api.specs.Conditions.{Fits, IsLoan, IsPage};
+ghost use Rattle.store_api.specs.Refusals.{LacksSlots, IsScratchFull};
+ghost use Rattle.session_calls.specs.Ready.{IsReady};
+ghost use Rattle.session_calls.specs.Acting.{ActsThese, Goes, held_by};
+
+use crate::entering::{enter, enter_named};
+use crate::hand::Hand;
+use crate::origin::Origin;
+use block_arena::Buf;
+use outside::Slot;
+use pool_model::{Entry, Event};
+use reservation_tree::PoolErr;
+use std::marker::Brand;
+use store_api::{Loan, Page};
+use turn_table::Adds;
+
+impl<D: Slot + Drop> Hand<D> {
+    /// Leaves these bytes in a page that is pinned once, which rests from then on. The first time it takes its slots.
+    ///
+    /// # Errors
+    ///
+    /// `ScratchFull`: too few slots of the quota are free. The page stays pinned, and the buffer comes back.
+    pub fn unpin<O: Origin>(&mut self, p: &Page, buf: Buf) -> Result<(), (Buf, PoolErr)>
+        requires ready { IsReady D.Slot O.opening O.outset self.old }
+        requires page { IsPage p.now (held_by O.opening O.outset self.old) }
+        requires pinned { (page_of p.now.name (held_by O.opening O.outset self.old)).pins ≡ 1 }
+        requires buffer { Fits (page_of p.now.name (held_by O.opening O.outset self.old)).blocks (held_by O.opening O.outset self.old) buf }
+        ensures ok { OnOk result (ActsThese (event.Unpin p.now.name buf.bytes ∷ []) self.old self.new) }
+        ensures refused { IsErr result ↔ LacksSlots (page_of p.now.name (held_by O.opening O.outset self.old)) (held_by O.opening O.outset self.old).free_slots }
+        ensures err { OnErr result (ActsThese (event.UnpinRefused p.now.name ∷ []) self.old self.new) }
+        ensures cause { IfErr result (λ e. IsScratchFull (page_of p.now.name (held_by O.opening O.outset self.old)).blocks (held_by O.opening O.outset self.old).free_slots e.1) }
+        ensures back { IfErr result (λ e. e.0 ≡ buf) }
+        ensures ready { IsReady D.Slot O.opening O.outset self.new }
+    {
+        leave::<Brand, D>(self, p, buf)
+    }
+
+    /// Ends a page that is pinned once, and makes its buffer a loan.
+    pub fn extract<O: Origin>(&mut self, p: Page, buf: Buf) -> Loan
+        requires ready { IsReady D.Slot O.opening O.outset self.old }
+        requires page { IsPage p (held_by O.opening O.outset self.old) }
+        requires pinned { (page_of p.name (held_by O.opening O.outset self.old)).pins ≡ 1 }
+        requires buffer { Fits (page_of p.name (held_by O.opening O.outset self.old)).blocks (held_by O.opening O.outset self.old) buf }
+        ensures acts { ActsThese (event.Extract p.name result.number ∷ []) self.old self.new }
+        ensures fresh { (held_by O.opening O.outset self.old).loans result.number ≡ None }
+        ensures client { result.client ≡ p.client }
+        ensures buffer { result.buf ≡ buf }
+        ensures ready { IsReady D.Slot O.opening O.outset self.new }
+    {
+        let page = p.name();
+        let loan = self.state.extract(p, buf);
+        let buffer = loan.number();
+        enter(
+            &mut self.trail,
+            self.session,
+            Event::Extract { page, buffer },
+        );
+        loan
+    }
+
+    /// Ends a loan.
+    pub fn free<O: Origin>(&mut self, loan: Loan)
+        requires ready { IsReady D.Slot O.opening O.outset self.old }
+        requires loan { IsLoan loan (held_by O.opening O.outset self.old) }
+        ensures acts { ActsThese (event.Free loan.number ∷ []) self.old self.new }
+        ensures ready { IsReady D.Slot O.opening O.outset self.new }
+    {
+        let buffer = loan.number();
+        self.state.free(loan);
+        enter(&mut self.trail, self.session, Event::Free { buffer });
+    }
+}
+
+// Leaves bytes in a page, with an entry that `G` names, since the page takes the buffer.
+fn leave<G: Adds<Entry>, D: Slot + Drop>(
+    hand: &mut Hand<D>,
+    p: &Page,
+    buf: Buf,
+) -> Result<(), (Buf, PoolErr)>
+    requires named { G.entries ≡ record { maker = hand.old.session; event = event.Unpin p.now.name buf.bytes } ∷ [] }
+    requires last { IsLastPin (state_of hand.old.state) p.now buf }
+    requires whose { (page_at (state_of hand.old.state) p.now.name).session ≡ hand.old.session }
+    ensures ok { OnOk result (Goes D.Slot (event.Unpin p.now.name buf.bytes ∷ []) hand.old hand.new) }
+    ensures err { OnErr result (Goes D.Slot (event.UnpinRefused p.now.name ∷ []) hand.old hand.new) }
+    ensures refused { IsErr result ↔ PoolLacks (state_of hand.old.state) p.now.name }
+    ensures cause { IfErr result (λ e. e.1 ≡ refusal.ScratchFull (page_at (state_of hand.old.state) p.now.name).blocks (free_slots (state_of hand.old.state) (page_at (state_of hand.old.state) p.now.name).session)) }
+    ensures back { IfErr result (λ e. e.0 ≡ buf) }
+{
+    let page = p.name();
+    match hand.state.unpin(p, buf) {
+        Ok(()) => {
+            enter_named::<G>(&mut hand.trail);
+            Ok(())
+        }
+        Err(refused) => {
+            enter(&mut hand.trail, hand.session, Event::UnpinRefused { page });
+            Err(refused)
+        }
+    }
+}

@@ -1,0 +1,31 @@
+//! The calls of a session of a pool, whoever else makes entries: each as steps on the pool's value, while the session
+//! has it in hand.
+//!
+//! Model: a session that has the value in hand knows the history for which it stands. What the session holds is told
+//! by its own entries in that, so others change none of it.
+//! Invariant: between two calls no page of the session is in a job of its own; with those in jobs no slot is lost.
+#![tactic(auto)]
+
+mod access;
+mod asking;
+mod calls;
+mod coming;
+mod entering;
+mod hand;
+mod jobs;
+mod leaving;
+mod looking;
+mod origin;
+mod pinning;
+mod pins;
+mod room;
+mod trackers;
+mod turning;
+
+pub use access::Access;
+pub use calls::{alloc, create, give_back, move_buffer, move_reservation, pin_again};
+pub use entering::{enter, enter_named};
+pub use hand::Hand;
+pub use origin::Origin;
+pub use pinning::{destroy, pin};
+pub use turning::Turn;

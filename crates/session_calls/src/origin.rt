@@ -1,0 +1,33 @@
+//! With what a pool opened, for contracts alone.
+use crate::access::Access;
+use outside::Slot;
+use std::marker::{Brand, PhantomData};
+
+/// Names with what a pool opened, and what stands above the queries of its sessions, for contracts alone. A call at
+/// `Brand` picks it.
+pub trait Origin {
+    ghost use Rattle.pool_model.specs.State.{Opening};
+    ghost use Rattle.own_entries.specs.OwnHoldings.{Outset};
+
+    ghost opening: { Opening };
+
+    ghost outset: { Outset };
+}
+
+impl Origin for Brand {
+    ghost use Rattle.std.specs.Prelude.{false};
+    ghost use Rattle.store_api.specs.Holdings.{Shared};
+
+    ghost opening = { record { blocks = 0; block_len = 0; first_name = 0; slots = 0; faults = 0; stores = 0 } };
+
+    ghost outset = { record { above = Shared; told = false } };
+}
+
+// That of the pool whose value is had by `A`.
+pub(crate) struct OriginOf<A, D>(PhantomData<(A, D)>);
+
+impl<D: Slot, A: Access<D>> Origin for OriginOf<A, D> {
+    ghost opening = { A.opening };
+
+    ghost outset = { A.outset };
+}
