@@ -1,10 +1,13 @@
 -- A pool whose sessions have ended closes.
-use Rattle.std.proofs.Common.{◌≡◌, ℕ, ◌<◌, Bool, List, [], Option, Some, None, option_map, refl, sym, ap, ◌∙◌}
+use Rattle.std.proofs.Common.{◌≡◌, ℕ, ◌<◌, Bool, List, [], Option, Some, None, option_map, refl, sym, ap, ◌∙◌, subst, arith}
 use Rattle.std.specs.Ordering.{nat_cmp}
 use Rattle.std.specs.FinMap.{get, get-empty, empty_of_len}
 use Rattle.std.specs.List.{sum_by}
 use Rattle.outside.specs.declared.slot.Slot.{Ghosts}
+use Rattle.pool_model.specs.declared.entry.Entry.{Entry}
+use Rattle.pool_model.specs.Owning.{IsClientOf}
 use Rattle.pool_model.specs.State.{Opening, Session}
+use Rattle.pool_model.proofs.Failures.{PagesOwned, legal_pages_are_owned}
 use Rattle.pin_core.specs.declared.parts.Parts.{Parts}
 use Rattle.pin_core.specs.StateOf.{state_of}
 use Rattle.pin_core.specs.Standing.{slots_home}
@@ -12,34 +15,54 @@ use Rattle.pin_core.specs.Tallies.{silence}
 use Rattle.turn_table.specs.Lists.{times}
 use Rattle.turn_table.specs.Knowledge.{GrewBeside}
 use Rattle.turn_table.specs.Face.{Spot}
+use Rattle.session_calls.specs.Moving.{slots_out}
 use Rattle.pool.specs.declared.item.Item.{Item}
 use Rattle.pool.specs.Items.{door, needs_of}
 use Rattle.pool.specs.Seats.{Quotas, live_in, quotas_in}
 use Rattle.pool.specs.Opening.{ClosesWith}
 use Rattle.pool.specs.Standing.{StandsAs}
 use Rattle.pool.proofs.Beside.{quotas_beside}
-use Rattle.pool.proofs.Stood.{ones}
+use Rattle.pool.proofs.Stood.{legal_here, none_out, ones}
 
 no_quota : (o : Option Session) → option_map (λ x. x.quota) o ≡ None → o ≡ None
 no_quota None is = refl
 no_quota (Some x) is = cc
 
--- a pool that has just opened has none
-pub none_opened : {D : Type 0} (slot : Ghosts D) (o : Opening) (told : Bool) (v : Parts D) → StandsAs slot o told [] v → (m : ℕ) → get (state_of v).sessions m ≡ None
-none_opened slot o told v stood m = no_quota (get (state_of v).sessions m) (stood.sessions m ∙ get-empty nat_cmp m)
+none_some : (x : Session) → None ≡ Some x → ⊥
+none_some x is = cc
 
-module _ {D : Type 0} (slot : Ghosts D) (o : Opening) (told : Bool) (pass : Spot Item) (log : List Item) (v : Parts D) (grew : GrewBeside needs_of pass.knows.rights pass.knows.seen log) (stood : StandsAs slot o told log v) where
+-- a pool that has just opened has none
+pub none_opened : {D : Type 0} (slot : Ghosts D) (o : Opening) (told : Bool) (trail : List Entry) (v : Parts D) → StandsAs slot o told [] trail v → (m : ℕ) → get (state_of v).sessions m ≡ None
+none_opened slot o told trail v stood m = no_quota (get (state_of v).sessions m) (stood.sessions m ∙ get-empty nat_cmp m)
+
+module _ {D : Type 0} (slot : Ghosts D) (o : Opening) (told : Bool) (pass : Spot Item) (log : List Item) (trail : List Entry) (v : Parts D) (grew : GrewBeside needs_of pass.knows.rights pass.knows.seen log) (stood : StandsAs slot o told log trail v) where
   -- the pass has seen all come and go
   pub none_left : 0 < times door pass.knows.rights → live_in pass.knows.seen ≡ 0 → (m : ℕ) → get (state_of v).sessions m ≡ None
   none_left opens none m =
       no_quota (get (state_of v).sessions m)
       (stood.sessions m ∙ ap (λ (q : Quotas). get q m) (quotas_beside pass.knows.rights pass.knows.seen log grew opens ∙ empty_of_len (quotas_in pass.knows.seen) none) ∙ get-empty nat_cmp m)
 
-  pub closed_with : (slots : List D) → ((measure : D → ℕ) → sum_by measure slots ≡ slots_home measure v) → ClosesWith slot o told pass slots
-  closed_with slots home = record {
-    items = log;
-    grew = grew;
-    legal = stood.stands.legal;
-    count = sym (ones slots) ∙ home (λ d. 1) ∙ stood.home;
-    tell = λ is. home (silence slot) ∙ stood.tell is;
-  }
+  module _ (opens : 0 < times door pass.knows.rights) (none : live_in pass.knows.seen ≡ 0) where
+    -- each page is a session's
+    no_page : (p : ℕ) → get (state_of v).pages p ≡ None
+    no_page p = elim (get (state_of v).pages p) as (λ x. get (state_of v).pages p ≡ x → x ≡ None) [
+      | None ↦ λ is. refl
+      | Some x ↦ λ is.
+          let owned : PagesOwned (state_of v) = subst PagesOwned (sym stood.whole.stands.state) (legal_pages_are_owned o trail stood.whole.stands.legal) in
+          let its : IsClientOf (state_of v) x.session x.client = owned p x is in
+          absurd (none_some its.session (sym (none_left opens none x.session) ∙ its.opened))
+    ] refl
+
+    pub closed_with : (slots : List D) → ((measure : D → ℕ) → sum_by measure slots ≡ slots_home measure v) → ClosesWith slot o told pass slots
+    closed_with slots home = record {
+      items = log;
+      grew = grew;
+      legal = legal_here slot o told log trail v stood;
+      count =
+          let count = ones slots in
+          let all = home (λ d. 1) in
+          let out : slots_out (state_of v).pages ≡ 0 = none_out (state_of v).pages no_page in
+          let kept = stood.whole.home in
+          omega (arith, count, all, out, kept);
+      tell = λ is. home (silence slot) ∙ stood.whole.tell is;
+    }

@@ -7,6 +7,7 @@ use Rattle.pool_model.specs.LookingBack.{made_by}
 use Rattle.pool_model.proofs.OwnEntries.{made_by_other}
 use Rattle.turn_table.specs.Lists.{needed, same, times}
 use Rattle.turn_table.specs.Knowledge.{GrewBeside}
+use Rattle.session_calls.specs.Having.{AllBeside}
 use Rattle.pool.specs.declared.item.Item.{Item}
 use Rattle.pool.specs.declared.item.Item.TheVariants.{Seated, Made}
 use Rattle.pool.specs.Items.{door, entry_of, history, needs_of, own_in}
@@ -58,6 +59,14 @@ own_stay (i ∷ behind) h m none =
     ap (λ (g : List Entry). made_by g m) (sym (append_assoc h (entry_of i ∷ []) (history behind)))
     ∙ own_stay behind (h ++ entry_of i ∷ []) m (rest_none (times m (needs_of i)) (needed needs_of m behind) none)
     ∙ made_by_other h (entry_of i) m (of_another i m (first_none (times m (needs_of i)) (needed needs_of m behind) none))
+
+-- others made all that needs no such right
+pub others_made : (behind : List Item) (m : ℕ) → needed needs_of m behind ≡ 0 → AllBeside m (history behind)
+others_made [] m none = tt
+others_made (i ∷ behind) m none = (
+  of_another i m (first_none (times m (needs_of i)) (needed needs_of m behind) none),
+  others_made behind m (rest_none (times m (needs_of i)) (needed needs_of m behind) none),
+)
 
 module _ (rights : List ℕ) (before now : List Item) (grew : GrewBeside needs_of rights before now) where
   pub quotas_beside : 0 < times door rights → quotas_in now ≡ quotas_in before

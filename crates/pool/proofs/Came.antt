@@ -1,10 +1,14 @@
 -- A session comes or is turned away: what the pass keeps true, and what it has seen.
-use Rattle.std.proofs.Common.{◌≡◌, ℕ, ◌+◌, ◌-◌, ◌<◌, ◌≤◌, List, [], ◌++◌, Bool, true, Option, Some, None, is_some, option_map, Result, Ok, Err, IsOk, IsErr, refl, sym, ap, ◌∙◌, subst, arith}
+use Rattle.std.proofs.Common.{◌≡◌, ℕ, ◌+◌, ◌-◌, ◌<◌, ◌≤◌, List, [], ◌++◌, Bool, Option, Some, None, option_map, Result, Ok, Err, IfOk, IsOk, IsErr, inl, inr, refl, sym, ap, ◌∙◌, subst, arith}
+use Rattle.std.proofs.lemmas.Bool.{cases_lt}
 use Rattle.std.proofs.lemmas.List.{append-nil}
 use Rattle.std.specs.FinMap.{get, len}
+use Rattle.block_arena.specs.Blocks.{IsBlockLen}
+use Rattle.client_accounts.specs.declared.account.ClientAccount.{ClientAccount}
 use Rattle.outside.specs.declared.slot.Slot.{Ghosts}
 use Rattle.reservation_tree.specs.Total.{total}
 use Rattle.reservation_tree.specs.declared.errors.PoolErr.{PoolErr}
+use Rattle.pool_model.specs.declared.entry.Entry.{Entry}
 use Rattle.pool_model.specs.State.{Opening, Session, State}
 use Rattle.pin_core.specs.declared.parts.Parts.{Parts}
 use Rattle.pin_core.specs.StateOf.{state_of}
@@ -15,17 +19,22 @@ use Rattle.turn_table.specs.Lists.{times, without}
 use Rattle.turn_table.specs.Knowledge.{GrewBeside}
 use Rattle.turn_table.specs.Steps.{one_more, taking, grown, parted, newcomer}
 use Rattle.turn_table.specs.Face.{Spot}
+use Rattle.session_calls.specs.Ready.{IsResting}
+use Rattle.session_calls.specs.Told.{held_in}
 use Rattle.pool.specs.declared.item.Item.{Item}
-use Rattle.pool.specs.Items.{door, needs_of}
+use Rattle.pool.specs.declared.ledger.Ledger.{Ledger}
+use Rattle.pool.specs.Items.{door, history, needs_of}
 use Rattle.pool.specs.Seats.{Quotas, quotas_in, taken_in, live_in}
 use Rattle.pool.specs.Standing.{StandsAs}
 use Rattle.pool.specs.Passing.{IsPass}
-use Rattle.pool.specs.Sitting.{Sits, held_in}
+use Rattle.pool.specs.Sitting.{Sits, Sitting, held_by, shared}
+use Rattle.pool.specs.Keeping.{KeepsSeat}
 use Rattle.pool.specs.Seating.{Begins, HasBegun, IsSessionRefusal, MustTurnAway, TurnsAway, beginning_items, state_in}
 use Rattle.pool.proofs.Beside.{quotas_beside}
 use Rattle.pool.proofs.Seated.{live_begun, taken_begun}
 use Rattle.pool.proofs.Passes.{door_stays, numbers_stay}
-use Rattle.pool.proofs.Begun.{begun, begun_live}
+use Rattle.pool.proofs.Begun.{begun, begun_fits, begun_idle, begun_rests, begun_tells}
+use Rattle.pool.proofs.Stood.{state_here}
 
 -- the pass has its turn
 module _ (o : Opening) {free ticket : ℕ} {pass : Spot Item} {now : View Item} (is : IsPass o.slots free pass)
@@ -69,14 +78,14 @@ module _ (o : Opening) {free ticket : ℕ} {pass : Spot Item} {now : View Item} 
     }
 
   -- as many slots are spare as the pass knows
-  pub spare_enough : {D : Type 0} {slot : Ghosts D} {told : Bool} {v : Parts D} → StandsAs slot o told now.seen v → (quota : ℕ) → quota + taken_in pass.knows.seen ≤ o.slots → quota ≤ spare_of v
+  pub spare_enough : {D : Type 0} {slot : Ghosts D} {told : Bool} {trail : List Entry} {v : Parts D} → StandsAs slot o told now.seen trail v → (quota : ℕ) → quota + taken_in pass.knows.seen ≤ o.slots → quota ≤ spare_of v
   spare_enough stands quota fits =
       let here : taken_in now.seen ≡ taken_in pass.knows.seen = ap (λ (q : Quotas). total (λ k x. x) q) quotas_here in
       let all = stands.spare in
       omega (arith, here, all, fits)
 
   -- it lets a session in, of a number that has none
-  module _ {D : Type 0} {slot : Ghosts D} {told : Bool} {v : Parts D} (stands : StandsAs slot o told now.seen v) (m : ℕ) (few : m < 240) (vacant : get (state_of v).sessions m ≡ None) where
+  module _ {D : Type 0} {slot : Ghosts D} {told : Bool} {trail : List Entry} {v : Parts D} (stands : StandsAs slot o told now.seen trail v) (m : ℕ) (few : m < 240) (vacant : get (state_of v).sessions m ≡ None) where
     fresh_here : get (quotas_in now.seen) m ≡ None
     fresh_here = sym (stands.sessions m) ∙ ap (λ (x : Option Session). option_map (λ y. y.quota) x) vacant
 
@@ -130,25 +139,47 @@ module _ (o : Opening) {free ticket : ℕ} {pass : Spot Item} {now : View Item} 
             omega (arith, fits, now_taken, taken_new, taken_here, was);
       }
 
-      pub came_sits : Sits o told (record { number = m; spot = seat })
+      abbrev sitting : Sitting
+      sitting = record { number = m; spot = seat }
+
+      held : HasBegun o.block_len limit quota least (held_by o told sitting)
+      held = subst (λ (items : List Item). HasBegun o.block_len limit quota least (held_in o (shared told) m (history items))) (sym seen_seat) (begun o told now.seen m query limit quota least)
+
+      came_sits : Sits o told sitting
       came_sits = record {
-        number = few;
         idle = ap (λ (w : View Item). w.stage) comes;
         right = ap (λ (w : View Item). w.rights) comes;
-        live = subst (λ (items : List Item). is_some (held_in o told m items).free_slots ≡ true) (sym seen_seat) (begun_live o told now.seen m query limit quota least);
+        rests = subst (λ (items : List Item). IsResting o (shared told) m (history items)) (sym seen_seat) (begun_rests o told now.seen m query limit quota least few);
       }
 
-      pub came : (MustTurnAway (state_of v) limit least → ⊥) → new.table ≡ pass.table → seat.table ≡ pass.table → Begins o told limit quota least pass new (record { number = m; spot = seat })
+      enough : (MustTurnAway (state_of v) limit least → ⊥) → least ≤ limit
+      enough granted = elim (cases_lt limit least) [
+        | inl less ↦ absurd (granted (inr (inl less)))
+        | inr fits ↦ fits
+      ]
+
+      pub came_keeps : (MustTurnAway (state_of v) limit least → ⊥) → (block_len : ℕ) → IsBlockLen block_len → block_len ≡ o.block_len
+          → (ledger : Ledger) → ledger.room ≡ least → ledger.accounts ≡ [] → KeepsSeat o told block_len ledger sitting
+      came_keeps granted block_len power len ledger room none = record {
+        sits = came_sits;
+        power = power;
+        len = len;
+        tells = begun_tells held ledger room none;
+        fits = begun_fits held (enough granted);
+        whole = begun_idle held;
+      }
+
+      pub came : (MustTurnAway (state_of v) limit least → ⊥) → new.table ≡ pass.table → seat.table ≡ pass.table → Begins o told limit quota least pass new sitting
       came granted table other = record {
         entered = now.seen;
         grew = grew;
-        granted = subst (λ (s : State). MustTurnAway s limit least → ⊥) stands.stands.state granted;
+        granted = subst (λ (s : State). MustTurnAway s limit least → ⊥) (state_here slot o told now.seen trail v stands) granted;
         fresh = fresh;
         query = query;
         items = seen_new;
         seen = seen_seat ∙ sym seen_new;
         table = (table, other);
-        held = subst (λ (items : List Item). HasBegun o.block_len limit quota least (held_in o told m items)) (sym seen_seat) (begun o told now.seen m query limit quota least);
+        held = held;
         taken = let now_taken : taken_in new.knows.seen ≡ taken_in whole = ap taken_in seen_new in omega (arith, now_taken, taken_new, taken_here);
         count =
             let now_live : live_in new.knows.seen ≡ live_in whole = ap live_in seen_new in
@@ -160,3 +191,11 @@ module _ (o : Opening) {free ticket : ℕ} {pass : Spot Item} {now : View Item} 
 pub not_refused : {A E : Type 0} (r : Result A E) → (IsErr r → ⊥) → IsOk r
 not_refused (Ok x) never = refl
 not_refused (Err e) never = absurd (never refl)
+
+-- accounts that were found are those that were opened, which are none
+pub none_there : {E : Type 0} (opened : Result (List ClientAccount) E) (found : List ClientAccount) → opened ≡ Ok found → IfOk opened (λ accounts. accounts ≡ []) → found ≡ []
+none_there {E} opened found is none = subst (λ (r : Result (List ClientAccount) E). IfOk r (λ accounts. accounts ≡ [])) is none
+
+-- a turn that ends leaves the seat its rights
+pub still_right : (m : ℕ) (now new : View Item) (items : List Item) → new ≡ grown items now → 0 < times m now.rights → 0 < times m new.rights
+still_right m now new items grows has = subst (λ (v : View Item). 0 < times m v.rights) (sym grows) has

@@ -8,8 +8,8 @@ use Rattle.reservation_tree.specs.Tracker.{HasNoChild}
 use Rattle.reservation_tree.proofs.Maps.{same_or_other, found, removed_other}
 use Rattle.pool_model.specs.declared.entry.Entry.{Entry}
 use Rattle.pool_model.specs.State.{Opening, Session, State}
-use Rattle.pool_model.specs.Legal.{state_after}
-use Rattle.store_api.specs.Holdings.{Holdings, Shared}
+use Rattle.pool_model.specs.Legal.{IsLegal, state_after}
+use Rattle.store_api.specs.Holdings.{Holdings}
 use Rattle.own_entries.specs.OwnHoldings.{Outset, holdings_of}
 use Rattle.own_entries.specs.HeldLaws.{TellsState}
 use Rattle.own_entries.proofs.Held.{legal_holdings_are_told}
@@ -25,15 +25,17 @@ use Rattle.turn_table.specs.Knowledge.{GrewBeside}
 use Rattle.turn_table.specs.Steps.{one_less, joined, taking, grown}
 use Rattle.turn_table.specs.Face.{Spot}
 use Rattle.turn_table.proofs.Sums.{total-append, same_self}
+use Rattle.session_calls.specs.Told.{held_in}
 use Rattle.pool.specs.declared.item.Item.{Item}
 use Rattle.pool.specs.Items.{door, history, needs_of, own_in}
 use Rattle.pool.specs.Seats.{Quotas, quotas_in, taken_in, live_in}
 use Rattle.pool.specs.Standing.{StandsAs}
 use Rattle.pool.specs.Passing.{IsPass}
-use Rattle.pool.specs.Sitting.{Sitting, Sits, held_by, held_in}
+use Rattle.pool.specs.Sitting.{Sitting, Sits, held_by, shared}
 use Rattle.pool.specs.Seating.{Ends, ending_items}
 use Rattle.pool.proofs.Beside.{quotas_beside, own_beside}
 use Rattle.pool.proofs.Seated.{quotas_ended, taken_ended, live_ended}
+use Rattle.pool.proofs.Stood.{legal_here, state_here}
 
 -- a list grew twice beside the same rights
 grew_twice : (rights : List ℕ) (a b c : List Item) → GrewBeside needs_of rights a b → GrewBeside needs_of rights b c → GrewBeside needs_of rights a c
@@ -85,7 +87,7 @@ meets {pass} {s} {met} {now} ticket joins seen other takes grew =
 
 module _ {o : Opening} {told : Bool} {pass : Spot Item} {s : Sitting} {now : View Item} (sits : Sits o told s) (met : Met pass s now) where
   abbrev outset : Outset
-  outset = record { above = Shared; told = told }
+  outset = shared told
 
   its_own : 0 < times s.number s.spot.knows.rights
   its_own = subst (λ (rights : List ℕ). 0 < times s.number rights) (sym sits.right) (let one = same_self s.number in omega (arith, one))
@@ -105,15 +107,21 @@ module _ {o : Opening} {told : Bool} {pass : Spot Item} {s : Sitting} {now : Vie
   )
 
   -- what the value under the lock has for the session
-  module _ {D : Type 0} {slot : Ghosts D} {v : Parts D} (stands : StandsAs slot o told now.seen v) where
+  module _ {D : Type 0} {slot : Ghosts D} {trail : List Entry} {v : Parts D} (stands : StandsAs slot o told now.seen trail v) where
     abbrev entries : List Entry
     entries = history now.seen
 
+    state_now : state_of v ≡ state_after o entries
+    state_now = state_here slot o told now.seen trail v stands
+
+    legal_now : IsLegal o entries
+    legal_now = legal_here slot o told now.seen trail v stands
+
     pub is_live : IsSeat (state_of v) s.number
     is_live =
-        ap (λ (t : State). is_some (get t.sessions s.number)) stands.stands.state
-        ∙ legal_lives_as_told o outset entries stands.stands.legal s.number
-        ∙ ap (λ (h : Holdings). is_some h.free_slots) same_held ∙ sits.live
+        ap (λ (t : State). is_some (get t.sessions s.number)) state_now
+        ∙ legal_lives_as_told o outset entries legal_now s.number
+        ∙ ap (λ (h : Holdings). is_some h.free_slots) same_held ∙ sits.rests.live
 
     session : (x : Session) × (get (state_of v).sessions s.number ≡ Some x)
     session = found (get (state_of v).sessions s.number) is_live
@@ -121,10 +129,10 @@ module _ {o : Opening} {told : Bool} {pass : Spot Item} {s : Sitting} {now : Vie
     pub no_child : (held_by o told s).live_clients ≡ 0 → HasNoChild (state_of v).trackers (query_of (state_of v) s.number)
     no_child none =
         let after : State = state_after o entries in
-        let there : get after.sessions s.number ≡ Some session.0 = ap (λ (t : State). get t.sessions s.number) (sym stands.stands.state) ∙ session.1 in
-        let tells : TellsState o outset entries s.number session.0 after = legal_holdings_are_told o outset entries stands.stands.legal s.number session.0 there in
+        let there : get after.sessions s.number ≡ Some session.0 = ap (λ (t : State). get t.sessions s.number) (sym state_now) ∙ session.1 in
+        let tells : TellsState o outset entries s.number session.0 after = legal_holdings_are_told o outset entries legal_now s.number session.0 there in
         let query : query_of after s.number ≡ session.0.query = ap (λ (x : Option Session). unwrap_or (option_map (λ y. y.query) x) 0) there in
-        subst (λ (t : State). HasNoChild t.trackers (query_of t s.number)) (sym stands.stands.state)
+        subst (λ (t : State). HasNoChild t.trackers (query_of t s.number)) (sym state_now)
         (subst (HasNoChild after.trackers) (sym query) (none_under session.0.query after.trackers (sym tells.live_clients ∙ ap (λ (h : Holdings). h.live_clients) same_held ∙ none)))
 
     was_here : get (quotas_in now.seen) s.number ≡ Some session.0.quota
@@ -163,7 +171,7 @@ module _ {o : Opening} {told : Bool} {pass : Spot Item} {s : Sitting} {now : Vie
         entered = now.seen;
         grew = met.grew;
         own = met.own;
-        items = seen ∙ ap (λ (t : State). now.seen ++ ending_items t s.number) stands.stands.state;
+        items = seen ∙ ap (λ (t : State). now.seen ++ ending_items t s.number) state_now;
         table = table;
         quota = session.0.quota;
         was = ap (λ (q : Quotas). get q s.number) (sym same_quotas) ∙ was_here;

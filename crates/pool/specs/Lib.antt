@@ -1,7 +1,13 @@
 pub mod Items
 pub mod Seats
 pub mod Standing
+pub mod Taking
 pub mod Passing
 pub mod Sitting
+pub mod Ledgers
+pub mod Keeping
+pub mod Turning
+pub mod Locking
 pub mod Seating
 pub mod Opening
+pub mod Laws

@@ -3,7 +3,7 @@ use Rattle.std.specs.Prelude.{◌≡◌, ◌⊎◌, ℕ, ◌+◌, ◌<◌, ◌�
 use Rattle.std.specs.FinMap.{get}
 use Rattle.reservation_tree.specs.Tracker.{reservation_of, room_of}
 use Rattle.reservation_tree.specs.declared.errors.PoolErr.{PoolErr}
-use Rattle.reservation_tree.specs.declared.errors.PoolErr.TheVariants.{NoReservation, TooManyTrackers}
+use Rattle.reservation_tree.specs.declared.errors.PoolErr.TheVariants.{Memory, NoReservation, TooManyTrackers}
 use Rattle.pool_model.specs.State.{Opening, State}
 use Rattle.pool_model.specs.Legal.{state_after}
 use Rattle.store_api.specs.Holdings.{Holdings, Shared}
@@ -47,13 +47,14 @@ pub record HasBegun (len limit quota least : ℕ) (h : Holdings) : Type 0 where
 abbrev pub MustTurnAway : State → ℕ → ℕ → Type 0
 MustTurnAway s limit least = IsFull s ⊎ LacksLeast s limit least
 
--- why: no number is left; the least reservation passes its own limit, which names no tracker; or the root would have
--- to grow by more than it may
+-- why: no number is left; the least reservation passes its own limit, which names no tracker; the root would have to
+-- grow by more than it may; or nothing of this is against it, and there was no memory
 abbrev pub IsSessionRefusal : State → ℕ → ℕ → PoolErr → Type 0
 IsSessionRefusal s limit least (TooManyTrackers count) = IsFull s × (count ≡ 240)
 IsSessionRefusal s limit least (NoReservation tracker wanted room) =
     (IsFull s → ⊥) × (((limit < least) × (tracker ≡ 4294967295) × (wanted ≡ least) × (room ≡ limit))
     ⊎ ((least ≤ limit) × (room_of s.trackers 0 < root_growth s least) × (tracker ≡ 0) × (wanted ≡ root_growth s least) × (room ≡ room_of s.trackers 0)))
+IsSessionRefusal s limit least Memory = MustTurnAway s limit least → ⊥
 IsSessionRefusal s limit least _ = ⊥
 
 -- a session began: the pass had its turn, found nothing against it, and entered the session's first items, with which

@@ -18,6 +18,8 @@ use crate::pass::Pass;
 use crate::seat::SessionSeat;
 use crate::shared::Shared;
 use outside::Slot;
+use pool_model::Event;
+use session_calls::enter;
 use std::marker::Brand;
 use std::sync::Wait;
 use turn_table::{Adds, TurnSeat, Turns};
@@ -33,7 +35,12 @@ pub(crate) fn unseat_session<D: Slot + Drop, T: OpenedAs, R: Wait>(
     requires no_client { (held_by T.opening T.told seat).live_clients ≡ 0 }
     ensures { Ends T.opening seat pass.old pass.new }
 {
-    let SessionSeat { number, spot } = seat;
+    let SessionSeat {
+        number,
+        block_len: _,
+        ledger: _,
+        spot,
+    } = seat;
     turns.join(&mut pass.seat, spot);
     let shared = turns.enter(rt, &mut pass.seat);
     pass.spare = leave_ended::<Brand, D, T>(turns, &mut pass.seat, shared, number);
@@ -49,7 +56,7 @@ fn leave_ended<N: Adds<Item>, D: Slot + Drop, T: OpenedAs>(
     requires named { N.entries ≡ ending_items (state_of shared.state) number }
     requires table { seat.old.table ≡ turns.now }
     requires turn { HasTurn seat.old.knows }
-    requires stands { StandsAs D.Slot T.opening T.told seat.old.knows.seen shared.state }
+    requires stands { StandsAs D.Slot T.opening T.told seat.old.knows.seen shared.trail shared.state }
     requires live { IsSeat (state_of shared.state) number }
     requires no_client { HasNoChild (state_of shared.state).trackers (query_of (state_of shared.state) number) }
     requires rights { (0 < times door seat.old.knows.rights) × (0 < times number seat.old.knows.rights) }
@@ -57,7 +64,15 @@ fn leave_ended<N: Adds<Item>, D: Slot + Drop, T: OpenedAs>(
     ensures grown { seat.new.knows ≡ grown (ending_items (state_of shared.state) number) seat.old.knows }
     ensures spare { result + taken_in seat.new.knows.seen ≡ T.opening.slots }
 {
+    let tracker = shared.state.tracker(number);
+    let bytes = shared.state.reservation(tracker);
     shared.state.end_session(number);
+    enter(
+        &mut shared.trail,
+        number,
+        Event::Decrease { tracker, bytes },
+    );
+    enter(&mut shared.trail, number, Event::CloseTracker { tracker });
     let spare = shared.state.spare();
     turns.leave::<N>(seat, shared);
     spare

@@ -9,17 +9,26 @@
 #![tactic(auto)]
 
 mod ending;
+mod holding;
 mod item;
+mod ledger;
+mod lock;
+mod named;
 mod opened;
 mod pass;
 mod pool;
 mod seat;
+mod seat_calls;
+mod seat_room;
 mod seating;
 mod session;
 mod shared;
+mod turning;
 
 pub use item::Item;
-pub use opened::OpenedAs;
+pub use ledger::Ledger;
+pub use named::{At, Named};
+pub use opened::{Among, OpenedAs};
 pub use pass::Pass;
 pub use pool::Pool;
 pub use seat::{SessionSeat, Sitting};

@@ -1,35 +1,44 @@
 //! A pool that sessions share.
-ghost use Rattle.std.specs.Prelude.{◌≡◌, ◌≤◌, ◌+◌, [], IfOk, IfErr, vec_len};
-ghost use Rattle.atomic_table.specs.Seated.{TableId};
+ghost use Rattle.std.specs.Prelude.{◌≡◌, ◌≤◌, ◌+◌, [], IfErr, IfOk, vec_len};
+ghost use Rattle.std.specs.Option.{ForSome};
 ghost use Rattle.pin_core.specs.Setup.{OpensWith};
 ghost use Rattle.pool.specs.Opening.{ClosesWith, OpensAs};
 ghost use Rattle.pool.specs.Seats.{live_in, taken_in};
 ghost use Rattle.pool.specs.Seating.{Begins, TurnsAway};
 
+use crate::named::{At, Named};
 use crate::opened::OpenedAs;
 use crate::pass::Pass;
 use crate::seating::seat_session;
 use crate::session::Session;
 use crate::shared::Shared;
+use client_accounts::ClientAccounts;
 use outside::Slot;
 use pin_core::{PoolConf, PoolState};
 use reservation_tree::{Memory, PoolErr};
 use std::alloc::Global;
 use std::marker::{Brand, Model, PhantomData};
 use std::sync::Wait;
-use turn_table::Turns;
+use turn_table::{Solo, Turns};
 
 /// A pool that sessions share, one turn after the other. `T` names with what it opened.
 ///
 /// Contracts see which turn lock it is. It can't be let go: it ends by `close`.
 pub struct Pool<D: Slot, T: OpenedAs = Brand> {
     pub(crate) turns: Turns<Shared<D, T>>,
+    pub(crate) block_len: u32,
 }
 
 impl<D: Slot, T: OpenedAs> Model for Pool<D, T> {
+    ghost use Rattle.std.specs.Prelude.{◌≡◌};
+    ghost use Rattle.atomic_table.specs.Seated.{TableId};
+    ghost use Rattle.block_arena.specs.Blocks.{IsBlockLen};
+
     ghost Value = { TableId };
 
     ghost view = { λ p. p.turns };
+
+    ghost invariant = { λ p. IsBlockLen p.block_len × (p.block_len ≡ T.opening.block_len) };
 }
 
 impl<D: Slot + Drop, T: OpenedAs> Pool<D, T> {
@@ -52,16 +61,23 @@ impl<D: Slot + Drop, T: OpenedAs> Pool<D, T> {
         ensures back { IfErr result (λ e. vec_len e.0 ≡ vec_len slots) }
     {
         let spare = slots.len() as u32;
+        let Ok(trail) = Solo::open(alloc) else {
+            return Err((slots, Memory));
+        };
         let state = match PoolState::open(alloc, conf, slots) {
             Ok(state) => state,
             Err((slots, _)) => return Err((slots, Memory)),
         };
         let shared = Shared {
             state,
+            trail,
             first: PhantomData,
         };
         match Turns::with(alloc, shared) {
-            Ok((turns, seat)) => Ok((Pool { turns }, Pass { seat, spare })),
+            Ok((turns, seat)) => {
+                let block_len = conf.block_len;
+                Ok((Pool { turns, block_len }, Pass { seat, spare }))
+            }
             Err((shared, _)) => Err((shared.state.close(), Memory)),
         }
     }
@@ -72,25 +88,40 @@ impl<D: Slot + Drop, T: OpenedAs> Pool<D, T> {
     /// # Errors
     ///
     /// `TooManyTrackers`: each of 240 numbers has a session, which is looked at first. `NoReservation`: `least` passes
-    /// the limit, or the root would have to grow by more than it may.
-    pub fn session<'a, R: Wait>(
+    /// the limit, or the root would have to grow by more than it may. `Memory`: there was none for the accounts of its
+    /// clients, which is looked at last.
+    pub fn session<'a, R: Wait, N: At>(
         &'a self,
+        alloc: Global,
         rt: &'a R,
         pass: &mut Pass<D, T>,
         limit: u64,
         quota: u32,
         least: u64,
-    ) -> Result<Session<'a, D, R, T>, PoolErr>
+    ) -> Result<Session<'a, D, R, T, N>, PoolErr>
+        requires named { ForSome N.table (λ table. self.now ≡ table) }
         requires table { pass.old.table ≡ self.now }
         requires spare { quota + taken_in pass.old.knows.seen ≤ T.opening.slots }
-        ensures ok { IfOk result (λ s. Begins T.opening T.told limit quota least pass.old pass.new s) }
+        ensures ok { IfOk result (λ s. Begins T.opening T.told limit quota least pass.old pass.new s.seat) }
         ensures err { IfErr result (λ e. TurnsAway T.opening limit least pass.old pass.new e) }
     {
-        let seat = seat_session(rt, &self.turns, pass, limit, quota, least)?;
+        let accounts = ClientAccounts::open(alloc);
+        let seat = seat_session(
+            rt,
+            &self.turns,
+            pass,
+            limit,
+            quota,
+            least,
+            self.block_len,
+            accounts,
+        )?;
+        seat.law_whole();
         Ok(Session {
             rt,
             turns: &self.turns,
             seat,
+            named: Named { names: PhantomData },
         })
     }
 
@@ -100,7 +131,10 @@ impl<D: Slot + Drop, T: OpenedAs> Pool<D, T> {
         requires none { live_in pass.knows.seen ≡ 0 }
         ensures { ClosesWith D.Slot T.opening T.told pass result.items }
     {
-        let Pool { turns } = self;
+        let Pool {
+            turns,
+            block_len: _,
+        } = self;
         let Pass { seat, spare: _ } = pass;
         turns.close(seat).state.close()
     }

@@ -1,5 +1,6 @@
 //! A session is let in.
-ghost use Rattle.std.specs.Prelude.{◌≡◌, ◌≤◌, ◌<◌, ◌+◌, ◌++◌, IfOk, IfErr, OnOk};
+ghost use Rattle.std.specs.Prelude.{◌≡◌, ◌≤◌, ◌<◌, ◌+◌, ◌++◌, [], Ok, IfOk, IfErr, OnOk};
+ghost use Rattle.block_arena.specs.Blocks.{IsBlockLen};
 ghost use Rattle.pin_core.specs.StateOf.{state_of};
 ghost use Rattle.pin_core.specs.Sessions.{query_of};
 ghost use Rattle.turn_table.specs.Lists.{times};
@@ -11,13 +12,17 @@ ghost use Rattle.pool.specs.Standing.{StandsAs};
 ghost use Rattle.pool.specs.Seating.{Begins, IsSessionRefusal, MustTurnAway, TurnsAway, beginning_items};
 
 use crate::item::Item;
+use crate::ledger::Ledger;
 use crate::opened::OpenedAs;
 use crate::pass::Pass;
 use crate::seat::SessionSeat;
 use crate::shared::Shared;
+use client_accounts::ClientAccounts;
 use outside::Slot;
 use pin_core::PoolState;
-use reservation_tree::{PoolErr, TrackerId};
+use pool_model::Event;
+use reservation_tree::{Memory, PoolErr, TrackerId};
+use session_calls::enter;
 use session_table::MAX_SESSIONS;
 use std::marker::Brand;
 use std::sync::Wait;
@@ -31,31 +36,63 @@ pub(crate) fn seat_session<D: Slot + Drop, T: OpenedAs, R: Wait>(
     limit: u64,
     quota: u32,
     least: u64,
+    block_len: u32,
+    accounts: Result<ClientAccounts, Memory>,
 ) -> Result<SessionSeat<D, T>, PoolErr>
+    requires power { IsBlockLen block_len }
+    requires len { block_len ≡ T.opening.block_len }
+    requires none { IfOk accounts (λ accounts. accounts ≡ []) }
     requires table { pass.old.table ≡ turns.now }
     requires spare { quota + taken_in pass.old.knows.seen ≤ T.opening.slots }
     ensures ok { IfOk result (λ s. Begins T.opening T.told limit quota least pass.old pass.new s) }
     ensures err { IfErr result (λ e. TurnsAway T.opening limit least pass.old pass.new e) }
 {
     let mut shared = turns.enter(rt, &mut pass.seat);
-    if let Err(refusal) = check_session(&shared.state, limit, least) {
-        turns.leave::<Brand>(&mut pass.seat, shared);
-        return Err(refusal);
-    }
+    let accounts = match check_session(&shared.state, limit, least, accounts) {
+        Ok(accounts) => accounts,
+        Err(refusal) => {
+            turns.leave::<Brand>(&mut pass.seat, shared);
+            return Err(refusal);
+        }
+    };
     let number = shared.state.open_session(limit, quota, least).unwrap();
     pass.spare -= quota;
+    let tracker = shared.state.tracker(number);
+    let came = Event::AddTracker {
+        tracker,
+        parent: TrackerId::of(0),
+        limit,
+        quota: Some(quota),
+    };
+    enter(&mut shared.trail, number, came);
+    let got = Event::Increase {
+        tracker,
+        bytes: least,
+    };
+    enter(&mut shared.trail, number, got);
     leave_begun::<Brand, D, T>(turns, &mut pass.seat, shared, number, limit, quota, least);
     let spot = turns.split(&mut pass.seat, Some(number));
-    Ok(SessionSeat { number, spot })
+    let ledger = Ledger {
+        room: least,
+        accounts,
+    };
+    Ok(SessionSeat {
+        number,
+        block_len,
+        ledger,
+        spot,
+    })
 }
 
-// Whether nothing is against a session: a number is left, and so much can be reserved.
+// Whether nothing is against a session: a number is left, so much can be reserved, and there was memory for accounts.
 fn check_session<D: Slot + Drop>(
     state: &PoolState<D>,
     limit: u64,
     least: u64,
-) -> Result<(), PoolErr>
+    accounts: Result<ClientAccounts, Memory>,
+) -> Result<ClientAccounts, PoolErr>
     ensures ok { OnOk result (MustTurnAway (state_of state.now) limit least → ⊥) }
+    ensures accounts { IfOk result (λ found. accounts ≡ Ok found) }
     ensures err { IfErr result (λ e. IsSessionRefusal (state_of state.now) limit least e) }
 {
     if state.parts().seats.vacant().is_none() {
@@ -81,7 +118,7 @@ fn check_session<D: Slot + Drop>(
             room,
         });
     }
-    Ok(())
+    Ok(accounts?)
 }
 
 // The turn ends with the session's first items, which `N` names.
@@ -97,7 +134,7 @@ fn leave_begun<N: Adds<Item>, D: Slot + Drop, T: OpenedAs>(
     requires named { N.entries ≡ beginning_items _number (query_of (state_of shared.state) _number) _limit _quota _least }
     requires table { seat.old.table ≡ turns.now }
     requires turn { HasTurn seat.old.knows }
-    requires stands { StandsAs D.Slot T.opening T.told (seat.old.knows.seen ++ beginning_items _number (query_of (state_of shared.state) _number) _limit _quota _least) shared.state }
+    requires stands { StandsAs D.Slot T.opening T.told (seat.old.knows.seen ++ beginning_items _number (query_of (state_of shared.state) _number) _limit _quota _least) shared.trail shared.state }
     requires rights { (0 < times door seat.old.knows.rights) × (0 < times _number seat.old.knows.rights) }
     ensures table { seat.new.table ≡ turns.now }
     ensures grown { seat.new.knows ≡ grown (beginning_items _number (query_of (state_of shared.state) _number) _limit _quota _least) seat.old.knows }

@@ -1,46 +1,196 @@
-//! A session of a shared pool.
+//! A session of a shared pool, as a store.
 ghost use Rattle.std.specs.Prelude.{◌≡◌};
-ghost use Rattle.pool.specs.Sitting.{held_by};
+ghost use Rattle.std.specs.Option.{ForSome};
+ghost use Rattle.own_entries.specs.ClientLaws.{IsWholeIdle};
+ghost use Rattle.pool.specs.Sitting.{held_by, signs_by};
 ghost use Rattle.pool.specs.Seating.{Ends};
 
 use crate::ending::unseat_session;
+use crate::named::{At, Named};
 use crate::opened::OpenedAs;
 use crate::pass::Pass;
 use crate::seat::SessionSeat;
 use crate::shared::Shared;
+use block_arena::Buf;
 use outside::Slot;
-use std::marker::{Brand, Model};
+use reservation_tree::PoolErr;
+use std::alloc::Global;
+use std::marker::Brand;
 use std::sync::Wait;
+use store_api::{Client, Loan, Page, Store};
 use turn_table::Turns;
 
-/// A session of a pool that others share. It has the runtime that lets it wait for its turn.
+/// A session of a pool that others share, as a store. It has the runtime that lets it wait for its turn.
 ///
-/// It can't be let go: it ends by `end`.
-pub struct Session<'a, D: Slot, R: Wait, T: OpenedAs = Brand> {
+/// What a law of stores says of it whatever was called before stands beside it. It can't be let go: it ends by `end`.
+pub struct Session<'a, D: Slot, R: Wait, T: OpenedAs = Brand, N: At = Brand> {
     pub(crate) rt: &'a R,
     pub(crate) turns: &'a Turns<Shared<D, T>>,
     pub(crate) seat: SessionSeat<D, T>,
+    pub(crate) named: Named<T, N>,
+    ghost table: { seat.spot.table ≡ turns.now },
+    ghost there: { ForSome N.table (λ table. turns.now ≡ table) },
+    ghost whole: { IsWholeIdle (held_by T.opening T.told seat) },
 }
 
-impl<'a, D: Slot, R: Wait, T: OpenedAs> Model for Session<'a, D, R, T> {
-    ghost use Rattle.std.specs.Prelude.{◌≡◌};
-    ghost use Rattle.pool.specs.Sitting.{Sitting};
+impl<'a, D: Slot + Drop, R: Wait, T: OpenedAs, N: At> Session<'a, D, R, T, N> {
+    /// The session sits at the lock that its type names.
+    pub fn law_there(&self)
+        ensures { ForSome N.table (λ table. self.now.seat.spot.table ≡ table) }
+    {}
 
-    ghost Value = { Sitting };
-
-    ghost view = { λ s. s.seat };
-
-    ghost invariant = { λ s. s.seat.spot.table ≡ s.turns.now };
-}
-
-impl<'a, D: Slot + Drop, R: Wait, T: OpenedAs> Session<'a, D, R, T> {
     /// Ends a session that has no client. Its reservation and its quota are free again, and its number is the pass's.
     pub fn end(self, pass: &mut Pass<D, T>)
-        requires table { pass.old.table ≡ self.spot.table }
-        requires no_client { (held_by T.opening T.told self).live_clients ≡ 0 }
-        ensures { Ends T.opening self.entry pass.old pass.new }
+        requires table { pass.old.table ≡ self.seat.spot.table }
+        requires no_client { (held_by T.opening T.told self.seat).live_clients ≡ 0 }
+        ensures { Ends T.opening self.entry.seat pass.old pass.new }
     {
-        let Session { rt, turns, seat } = self;
+        let Session {
+            rt,
+            turns,
+            seat,
+            named: _,
+        } = self;
         unseat_session(rt, turns, pass, seat);
+    }
+}
+
+impl<'a, D: Slot + Drop, R: Wait, T: OpenedAs, N: At> Store for Session<'a, D, R, T, N> {
+    ghost use Rattle.pool.specs.Laws.{tells_left};
+
+    ghost holds = { λ s. held_by T.opening T.told s.seat };
+
+    ghost signs = { λ s. signs_by T.opening s.seat };
+
+    ghost tells_left = { λ st. tells_left T.opening T.told st.seat };
+
+    ghost idle_unused = { λ st t some idle. st.whole.clients t some idle };
+
+    ghost idle_room = { λ st none. st.whole.query none };
+
+    fn block_len(&self) -> u32 {
+        self.seat.block_len()
+    }
+
+    fn room(&self) -> u64 {
+        self.seat.room()
+    }
+
+    fn unused(&self, c: &Client) -> u64 {
+        self.seat.unused(c)
+    }
+
+    fn add_client(&mut self, limit: u64) -> Result<Client, PoolErr> {
+        let seat = &mut self.seat;
+        let result = seat.add_client(self.rt, self.turns, limit);
+        seat.law_whole();
+        result
+    }
+
+    fn end_client(&mut self, c: Client) {
+        let seat = &mut self.seat;
+        seat.end_client(self.rt, self.turns, c);
+        seat.law_whole();
+    }
+
+    fn reserve(&mut self, c: &Client, bytes: u64) -> Result<(), PoolErr> {
+        let seat = &mut self.seat;
+        let result = seat.reserve(self.rt, self.turns, c, bytes);
+        seat.law_whole();
+        result
+    }
+
+    fn reserve_to_fit(&mut self, c: &Client, bytes: u64) -> Result<(), PoolErr> {
+        let seat = &mut self.seat;
+        let result = seat.reserve_to_fit(self.rt, self.turns, c, bytes);
+        seat.law_whole();
+        result
+    }
+
+    fn give_back(&mut self, c: &Client, bytes: u64) -> Result<(), PoolErr> {
+        let seat = &mut self.seat;
+        let result = seat.give_back(self.rt, self.turns, c, bytes);
+        seat.law_whole();
+        result
+    }
+
+    fn move_reservation(&mut self, from: &Client, to: &Client, bytes: u64) -> Result<(), PoolErr> {
+        let seat = &mut self.seat;
+        let result = seat.move_reservation(self.rt, self.turns, from, to, bytes);
+        seat.law_whole();
+        result
+    }
+
+    fn create(&mut self, alloc: Global, c: &Client, blocks: u32) -> Result<(Page, Buf), PoolErr> {
+        let seat = &mut self.seat;
+        let bytes = u64::from(blocks) * u64::from(seat.block_len());
+        let result = seat.create(alloc, self.rt, self.turns, c, blocks, bytes);
+        seat.law_whole();
+        result
+    }
+
+    fn pin(&mut self, p: &Page) -> Result<Buf, PoolErr> {
+        let seat = &mut self.seat;
+        let result = seat.pin(self.rt, self.turns, p);
+        seat.law_whole();
+        result
+    }
+
+    fn pin_again(&mut self, p: &Page) -> Result<(), PoolErr> {
+        let seat = &mut self.seat;
+        let result = seat.pin_again(self.rt, self.turns, p);
+        seat.law_whole();
+        result
+    }
+
+    fn unpin_once(&mut self, p: &Page) {
+        let seat = &mut self.seat;
+        seat.unpin_once(self.rt, self.turns, p);
+        seat.law_whole();
+    }
+
+    fn unpin(&mut self, p: &Page, buf: Buf) -> Result<(), (Buf, PoolErr)> {
+        let seat = &mut self.seat;
+        let result = seat.unpin(self.rt, self.turns, p, buf);
+        seat.law_whole();
+        result
+    }
+
+    fn extract(&mut self, p: Page, buf: Buf) -> Loan {
+        let seat = &mut self.seat;
+        let loan = seat.extract(self.rt, self.turns, p, buf);
+        seat.law_whole();
+        loan
+    }
+
+    fn destroy(&mut self, p: Page, buf: Option<Buf>) {
+        let seat = &mut self.seat;
+        seat.destroy(self.rt, self.turns, p, buf);
+        seat.law_whole();
+    }
+
+    fn alloc(&mut self, alloc: Global, c: &Client, blocks: u32) -> Result<Loan, PoolErr> {
+        let seat = &mut self.seat;
+        let bytes = u64::from(blocks) * u64::from(seat.block_len());
+        let result = seat.alloc(alloc, self.rt, self.turns, c, blocks, bytes);
+        seat.law_whole();
+        result
+    }
+
+    fn free(&mut self, loan: Loan) {
+        let seat = &mut self.seat;
+        seat.free(self.rt, self.turns, loan);
+        seat.law_whole();
+    }
+
+    // To its own client a loan doesn't move, so nothing is entered.
+    fn move_buffer(&mut self, loan: Loan, to: &Client) -> Result<Loan, (Loan, PoolErr)> {
+        if loan.client() == to.tracker() {
+            return Ok(loan);
+        }
+        let seat = &mut self.seat;
+        let result = seat.move_buffer(self.rt, self.turns, loan, to);
+        seat.law_whole();
+        result
     }
 }

@@ -3,13 +3,15 @@ use crate::item::Item;
 use crate::opened::OpenedAs;
 use outside::Slot;
 use pin_core::PoolState;
+use pool_model::Entry;
 use std::marker::{Brand, PhantomData};
-use turn_table::Logged;
+use turn_table::{Logged, Solo};
 
-/// A pool's value under a turn lock. `T` names with what the pool opened.
+/// A pool's value under a turn lock, and the history for which it stands. `T` names with what the pool opened.
 #[derive(Drop)]
 pub struct Shared<D: Slot, T: OpenedAs = Brand> {
     pub(crate) state: PoolState<D>,
+    pub(crate) trail: Solo<Entry>,
     pub(crate) first: PhantomData<T>,
 }
 
@@ -19,7 +21,7 @@ impl<D: Slot, T: OpenedAs> Logged for Shared<D, T> {
 
     type Entry = Item;
 
-    ghost stands = { λ value items. StandsAs D.Slot T.opening T.told items value.state };
+    ghost stands = { λ value items. StandsAs D.Slot T.opening T.told items value.trail value.state };
 
     ghost rights = { all_rights };
 

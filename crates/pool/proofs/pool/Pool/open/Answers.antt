@@ -9,14 +9,14 @@ use Rattle.pool.proofs.pool.Pool.open.Goals as goal
 
 pub with-requires-clause-stands : goal.with-requires-clause-stands
 with-requires-clause-stands g c =
-    stands_open g.D.Slot g.T.OpenedAs.opening g.T.OpenedAs.told c.args.conf.now c.args.slots.items c.in-Ok.state
-    c.requires.opens c.in-Ok.ensures.stands c.in-Ok.ensures.slots c.in-Ok.ensures.spare
+    stands_open g.D.Slot g.T.OpenedAs.opening g.T.OpenedAs.told c.args.conf.now c.args.slots.items c.in-Ok.trail c.in-Ok-open.state
+    c.requires.opens c.in-Ok.ensures c.in-Ok-open.ensures.stands c.in-Ok-open.ensures.slots c.in-Ok-open.ensures.spare
 
 pub with-requires-clause-rights : goal.with-requires-clause-rights
 with-requires-clause-rights g c = once
 
-pub invariant_of-result : goal.invariant_of-result
-invariant_of-result g c =
+pub invariant_of-result-in-Ok-with : goal.invariant_of-result-in-Ok-with
+invariant_of-result-in-Ok-with g c =
     is_pass g.T.OpenedAs.opening.slots c.len-spare.result c.in-Ok-with.seat c.in-Ok-with.ensures.ok.1
     (c.len-spare.ensures ∙ c.args.slots.ok.0 ∙ sym c.requires.opens.numbers.slots)
 
@@ -24,7 +24,7 @@ pub close-requires : goal.close-requires
 close-requires g c = record {
   ended = λ m.
       ap (λ (v : Parts g.row.D.Denot). get (state_of v).sessions m) (ap (λ x. x.state) c.in-Err-with.ensures.err)
-      ∙ none_opened g.D.Slot g.T.OpenedAs.opening g.T.OpenedAs.told c.in-Ok.state
-      (stands_open g.D.Slot g.T.OpenedAs.opening g.T.OpenedAs.told c.args.conf.now c.args.slots.items c.in-Ok.state
-      c.requires.opens c.in-Ok.ensures.stands c.in-Ok.ensures.slots c.in-Ok.ensures.spare) m;
+      ∙ none_opened g.D.Slot g.T.OpenedAs.opening g.T.OpenedAs.told c.in-Ok.trail c.in-Ok-open.state
+      (stands_open g.D.Slot g.T.OpenedAs.opening g.T.OpenedAs.told c.args.conf.now c.args.slots.items c.in-Ok.trail c.in-Ok-open.state
+      c.requires.opens c.in-Ok.ensures c.in-Ok-open.ensures.stands c.in-Ok-open.ensures.slots c.in-Ok-open.ensures.spare) m;
 }

@@ -1,0 +1,26 @@
+-- A session's seat at the turn lock, while one of its calls has the value in hand and while it doesn't.
+use Rattle.std.specs.Prelude.{◌≡◌, ℕ, [], ◌∷◌}
+use Rattle.std.specs.FinMap.{get}
+use Rattle.atomic_table.specs.Seated.{TableId}
+use Rattle.pool_model.specs.State.{Opening}
+use Rattle.pool_model.specs.Legal.{state_after}
+use Rattle.turn_table.specs.Knowledge.{HasTurn, IsIdle}
+use Rattle.turn_table.specs.Face.{Spot}
+use Rattle.session_calls.specs.Moving.{quota_at}
+use Rattle.pool.specs.declared.item.Item.{Item}
+use Rattle.pool.specs.Items.{history}
+use Rattle.pool.specs.Seats.{quotas_in}
+
+-- the seat of this session is at the lock, and has no ticket
+pub record RestsAt (lock : TableId) (spot : Spot Item) (m : ℕ) : Type 0 where
+  pub table : spot.table ≡ lock
+  pub idle : IsIdle spot.knows
+  pub rights : spot.knows.rights ≡ m ∷ []
+
+-- the seat of this session has its turn; the sessions that are live after what it has seen are those that came and
+-- haven't gone
+pub record TurnsAt (o : Opening) (lock : TableId) (spot : Spot Item) (m : ℕ) : Type 0 where
+  pub table : spot.table ≡ lock
+  pub turn : HasTurn spot.knows
+  pub rights : spot.knows.rights ≡ m ∷ []
+  pub quotas : (k : ℕ) → quota_at (state_after o (history spot.knows.seen)) k ≡ get (quotas_in spot.knows.seen) k

@@ -1,0 +1,82 @@
+//! A seat takes the pool's value in hand, and gives it back.
+ghost use Rattle.std.specs.Prelude.{◌≡◌};
+ghost use Rattle.turn_table.specs.Knowledge.{HasTurn, IsIdle};
+ghost use Rattle.turn_table.specs.Steps.{grown};
+ghost use Rattle.pool.specs.Taking.{Gives, Takes, made_since};
+
+use crate::item::Item;
+use crate::opened::OpenedAs;
+use crate::shared::Shared;
+use outside::Slot;
+use session_calls::Hand;
+use std::marker::{Brand, PhantomData};
+use std::sync::Wait;
+use turn_table::{Adds, TurnSeat, Turns};
+
+// Waits for its turn, and takes the value for the session of this number.
+pub(crate) fn take_hand<D: Slot + Drop, T: OpenedAs, R: Wait>(
+    rt: &R,
+    turns: &Turns<Shared<D, T>>,
+    seat: &mut TurnSeat<Shared<D, T>>,
+    number: u32,
+) -> Hand<D>
+    requires table { seat.old.table ≡ turns.now }
+    requires idle { IsIdle seat.old.knows }
+    ensures table { seat.new.table ≡ turns.now }
+    ensures takes { Takes D.Slot T.opening T.told number seat.old seat.new result }
+{
+    let Shared {
+        state,
+        trail,
+        first: _,
+    } = turns.enter(rt, seat);
+    Hand {
+        state,
+        trail,
+        session: number,
+    }
+}
+
+// Ends the turn, with what the session entered in it.
+pub(crate) fn give_hand<D: Slot + Drop, T: OpenedAs>(
+    turns: &Turns<Shared<D, T>>,
+    seat: &mut TurnSeat<Shared<D, T>>,
+    hand: Hand<D>,
+)
+    requires table { seat.old.table ≡ turns.now }
+    requires turn { HasTurn seat.old.knows }
+    requires gives { Gives D.Slot T.opening T.told seat.old hand }
+    ensures table { seat.new.table ≡ turns.now }
+    ensures grown { seat.new.knows ≡ grown (made_since seat.old.knows.seen hand.trail) seat.old.knows }
+{
+    let Hand {
+        state,
+        trail,
+        session,
+    } = hand;
+    let shared = Shared {
+        state,
+        trail,
+        first: PhantomData,
+    };
+    leave_made::<Brand, D, T>(turns, seat, shared, session);
+}
+
+// `N` names what came behind that which the seat has seen.
+fn leave_made<N: Adds<Item>, D: Slot + Drop, T: OpenedAs>(
+    turns: &Turns<Shared<D, T>>,
+    seat: &mut TurnSeat<Shared<D, T>>,
+    shared: Shared<D, T>,
+    _session: u32,
+)
+    requires named { N.entries ≡ made_since seat.old.knows.seen shared.trail }
+    requires table { seat.old.table ≡ turns.now }
+    requires turn { HasTurn seat.old.knows }
+    requires gives { Gives D.Slot T.opening T.told seat.old (record { state = shared.state; trail = shared.trail; session = _session }) }
+    ensures table { seat.new.table ≡ turns.now }
+    ensures grown { seat.new.knows ≡ grown (made_since seat.old.knows.seen shared.trail) seat.old.knows }
+{
+    // The pool's laws tell how many slots are spare.
+    shared.state.parts();
+    turns.leave::<N>(seat, shared);
+}

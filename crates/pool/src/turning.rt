@@ -1,0 +1,45 @@
+//! A session's turn begins, and ends.
+ghost use Rattle.std.specs.Prelude.{◌≡◌};
+ghost use Rattle.pool.specs.Sitting.{Sits};
+ghost use Rattle.pool.specs.Turning.{IsInTurn, MayEndTurn, SitsAgain};
+
+use crate::holding::{give_hand, take_hand};
+use crate::ledger::Ledger;
+use crate::opened::{Among, OpenedAs};
+use crate::shared::Shared;
+use outside::Slot;
+use session_calls::Hand;
+use std::sync::Wait;
+use turn_table::{TurnSeat, Turns};
+
+// Waits for the session's turn, and takes the value for it.
+pub(crate) fn begin_turn<D: Slot + Drop, T: OpenedAs, R: Wait>(
+    rt: &R,
+    turns: &Turns<Shared<D, T>>,
+    spot: &mut TurnSeat<Shared<D, T>>,
+    number: u32,
+) -> Hand<D>
+    requires table { spot.old.table ≡ turns.now }
+    requires sits { Sits T.opening T.told (record { number = number; spot = spot.old }) }
+    ensures table { spot.new.table ≡ turns.now }
+    ensures begins { IsInTurn D.Slot T.opening T.told (record { number = number; spot = spot.old }) spot.new result }
+{
+    take_hand(rt, turns, spot, number)
+}
+
+// The ledger sees what the session holds, and the turn ends.
+pub(crate) fn end_turn<D: Slot + Drop, T: OpenedAs>(
+    turns: &Turns<Shared<D, T>>,
+    spot: &mut TurnSeat<Shared<D, T>>,
+    ledger: &mut Ledger,
+    hand: Hand<D>,
+)
+    requires table { spot.old.table ≡ turns.now }
+    requires may { MayEndTurn D.Slot T.opening T.told spot.old ledger.old hand }
+    ensures table { spot.new.table ≡ turns.now }
+    ensures ends { SitsAgain T.opening T.told ledger.new hand (record { number = hand.session; spot = spot.new }) }
+{
+    ledger.see::<Among<T>, D>(&hand);
+    hand.law_whole::<Among<T>>();
+    give_hand(turns, spot, hand);
+}
