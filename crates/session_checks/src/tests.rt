@@ -44,6 +44,12 @@ fn each_of_240_numbers_has_a_session_before_one_is_turned_away(
 }
 
 #[test]
+fn two_sessions_do_all_that_a_store_can_in_turn(rt: HostRuntime) -> Result<(), Fail> {
+    play(&rt, rt.alloc(), &Scene::Walk);
+    Ok(())
+}
+
+#[test]
 fn sessions_that_come_in_turn_get_what_is_left(rt: HostRuntime) -> Result<(), Fail> {
     let root = TrackerId::of(0);
     let none = TrackerId::of(u32::MAX);

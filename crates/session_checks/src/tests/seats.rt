@@ -1,6 +1,7 @@
 // Sessions of one pool, whatever slots it has. A pool, its pass and its sessions can't be let go, so each scene opens
 // and closes a pool of its own, and ends the sessions that came.
-ghost use Rattle.std.specs.Prelude.{◌≡◌, ◌≤◌, length, vec_len};
+ghost use Rattle.std.specs.Prelude.{◌≡◌, ◌≤◌, Some, length, vec_len};
+ghost use Rattle.std.specs.Option.{ForSome};
 ghost use Rattle.pin_core.specs.Setup.{OpensWith};
 ghost use Rattle.pool.specs.Opening.{OpensAs};
 ghost use Rattle.pool.specs.Seats.{live_in};
@@ -8,11 +9,13 @@ ghost use Rattle.pool.specs.Seating.{Begins};
 
 use outside::Slot;
 use pin_core::PoolConf;
-use pool::{OpenedAs, Pass, Pool, Session};
+use pool::{At, OpenedAs, Pass, Pool, Session};
 use reservation_tree::{PoolErr, TrackerId};
 use std::alloc::Global;
+use std::marker::Brand;
 use std::process::Abort;
 use std::sync::Wait;
+use store_api::{Walked, walk};
 
 // What a session asks for, and what it is answered.
 #[derive(Drop)]
@@ -30,6 +33,8 @@ pub enum Scene<'a> {
     ThirdWaits,
     // So many come, and the next is turned away.
     Numbers(u32),
+    // Two do all that a store can, in turn, while both are live.
+    Walk,
     // Each asks for what its row says, and is answered as the row says; those that came end last.
     Rows(&'a [Row]),
 }
@@ -52,9 +57,10 @@ pub fn played<T: OpenedAs, D: Slot + Drop, R: Wait + Abort>(
     };
     assert_eq!(rt; pass.spare() as usize, count);
     match scene {
-        Scene::ThirdWaits => third_waits(rt, &pool, &mut pass),
-        Scene::Numbers(count) => seat_more(rt, &pool, &mut pass, *count),
-        Scene::Rows(rows) => seat_rows(rt, &pool, &mut pass, rows, 0),
+        Scene::ThirdWaits => third_waits(rt, alloc, &pool, &mut pass),
+        Scene::Numbers(count) => seat_more(rt, alloc, &pool, &mut pass, *count),
+        Scene::Walk => two_walk::<Brand, T, D, R>(rt, alloc, &pool, &mut pass),
+        Scene::Rows(rows) => seat_rows(rt, alloc, &pool, &mut pass, rows, 0),
     }
     assert_eq!(rt; pass.spare() as usize, count);
     assert_eq!(rt; pool.close(pass).len(), count);
@@ -62,6 +68,7 @@ pub fn played<T: OpenedAs, D: Slot + Drop, R: Wait + Abort>(
 
 fn third_waits<T: OpenedAs, D: Slot + Drop, R: Wait + Abort>(
     rt: &R,
+    alloc: Global,
     pool: &Pool<D, T>,
     pass: &mut Pass<D, T>,
 )
@@ -69,24 +76,52 @@ fn third_waits<T: OpenedAs, D: Slot + Drop, R: Wait + Abort>(
     ensures table { pass.new.table ≡ pool.now }
     ensures count { live_in pass.new.knows.seen ≡ live_in pass.old.knows.seen }
 {
-    let one = seated(rt, pool, pass, 256, 4);
-    let two = seated(rt, pool, pass, 256, 4);
+    let one = seated::<Brand, T, D, R>(rt, alloc, pool, pass, 256, 4);
+    let two = seated::<Brand, T, D, R>(rt, alloc, pool, pass, 256, 4);
     assert_eq!(rt; pass.spare(), 0);
     let full = PoolErr::NoReservation {
         tracker: TrackerId::of(0),
         wanted: 64,
         room: 0,
     };
-    assert_eq!(rt; turned_away(rt, pool, pass, 64), full);
+    assert_eq!(rt; turned_away(rt, alloc, pool, pass, 64), full);
     one.end(pass);
     assert_eq!(rt; pass.spare(), 4);
-    let three = seated(rt, pool, pass, 64, 0);
+    let three = seated::<Brand, T, D, R>(rt, alloc, pool, pass, 64, 0);
     three.end(pass);
+    two.end(pass);
+}
+
+fn two_walk<'x, N: At, T: OpenedAs, D: Slot + Drop, R: Wait + Abort>(
+    rt: &'x R,
+    alloc: Global,
+    pool: &'x Pool<D, T>,
+    pass: &mut Pass<D, T>,
+)
+    requires named { N.table ≡ Some pool.now }
+    requires table { pass.old.table ≡ pool.now }
+    ensures table { pass.new.table ≡ pool.now }
+    ensures count { live_in pass.new.knows.seen ≡ live_in pass.old.knows.seen }
+{
+    let mut one = seated::<N, T, D, R>(rt, alloc, pool, pass, 256, 4);
+    let mut two = seated::<N, T, D, R>(rt, alloc, pool, pass, 256, 4);
+    let seen = Walked {
+        pinned: 7,
+        moved: 9,
+        fresh: 0,
+    };
+    assert_eq!(rt; walk(&mut one, alloc), Ok(seen));
+    assert_eq!(rt; walk(&mut two, alloc), Ok(seen));
+    assert_eq!(rt; walk(&mut one, alloc), Ok(seen));
+    one.law_there();
+    one.end(pass);
+    two.law_there();
     two.end(pass);
 }
 
 fn seat_more<T: OpenedAs, D: Slot + Drop, R: Wait + Abort>(
     rt: &R,
+    alloc: Global,
     pool: &Pool<D, T>,
     pass: &mut Pass<D, T>,
     more: u32,
@@ -97,16 +132,17 @@ fn seat_more<T: OpenedAs, D: Slot + Drop, R: Wait + Abort>(
 {
     if more == 0 {
         let full = PoolErr::TooManyTrackers { count: 240 };
-        assert_eq!(rt; turned_away(rt, pool, pass, 0), full);
+        assert_eq!(rt; turned_away(rt, alloc, pool, pass, 0), full);
         return;
     }
-    let session = seated(rt, pool, pass, 0, 0);
-    seat_more(rt, pool, pass, more - 1);
+    let session = seated::<Brand, T, D, R>(rt, alloc, pool, pass, 0, 0);
+    seat_more(rt, alloc, pool, pass, more - 1);
     session.end(pass);
 }
 
 fn seat_rows<T: OpenedAs, D: Slot + Drop, R: Wait + Abort>(
     rt: &R,
+    alloc: Global,
     pool: &Pool<D, T>,
     pass: &mut Pass<D, T>,
     rows: &[Row],
@@ -122,32 +158,34 @@ fn seat_rows<T: OpenedAs, D: Slot + Drop, R: Wait + Abort>(
     }
     let row = &rows[at];
     assert!(rt; row.quota <= pass.spare());
-    match pool.session(rt, pass, row.limit, row.quota, row.least) {
+    match pool.session::<R, Brand>(alloc, rt, pass, row.limit, row.quota, row.least) {
         Ok(session) => {
             assert_eq!(rt; row.answer, Ok(()));
-            seat_rows(rt, pool, pass, rows, at + 1);
+            seat_rows(rt, alloc, pool, pass, rows, at + 1);
             session.end(pass);
         }
         Err(refusal) => {
             assert_eq!(rt; row.answer, Err(refusal));
-            seat_rows(rt, pool, pass, rows, at + 1);
+            seat_rows(rt, alloc, pool, pass, rows, at + 1);
         }
     }
 }
 
 // A session that has so many bytes, and so many slots.
-fn seated<'a, T: OpenedAs, D: Slot + Drop, R: Wait + Abort>(
+fn seated<'a, N: At, T: OpenedAs, D: Slot + Drop, R: Wait + Abort>(
     rt: &'a R,
+    alloc: Global,
     pool: &'a Pool<D, T>,
     pass: &mut Pass<D, T>,
     bytes: u64,
     quota: u32,
-) -> Session<'a, D, R, T>
+) -> Session<'a, D, R, T, N>
+    requires named { ForSome N.table (λ table. pool.now ≡ table) }
     requires table { pass.old.table ≡ pool.now }
-    ensures begins { Begins T.opening T.told bytes quota bytes pass.old pass.new result }
+    ensures begins { Begins T.opening T.told bytes quota bytes pass.old pass.new result.seat }
 {
     assert!(rt; quota <= pass.spare());
-    match pool.session(rt, pass, bytes, quota, bytes) {
+    match pool.session::<R, N>(alloc, rt, pass, bytes, quota, bytes) {
         Ok(session) => session,
         Err(_) => panic!(rt; "the session was turned away"),
     }
@@ -156,6 +194,7 @@ fn seated<'a, T: OpenedAs, D: Slot + Drop, R: Wait + Abort>(
 // Why no session comes that asks for so many bytes and no slot.
 fn turned_away<T: OpenedAs, D: Slot + Drop, R: Wait + Abort>(
     rt: &R,
+    alloc: Global,
     pool: &Pool<D, T>,
     pass: &mut Pass<D, T>,
     bytes: u64,
@@ -165,7 +204,7 @@ fn turned_away<T: OpenedAs, D: Slot + Drop, R: Wait + Abort>(
     ensures count { live_in pass.new.knows.seen ≡ live_in pass.old.knows.seen }
 {
     assert!(rt; pass.spare() <= 8);
-    match pool.session(rt, pass, bytes, 0, bytes) {
+    match pool.session::<R, Brand>(alloc, rt, pass, bytes, 0, bytes) {
         Ok(session) => {
             session.end(pass);
             panic!(rt; "the session came")

@@ -5,7 +5,7 @@ use Rattle.turn_table.specs.Face.{Spot}
 use Rattle.pool.specs.declared.item.Item.{Item}
 use Rattle.pool.specs.Seats.{live_in}
 use Rattle.session_checks.proofs.tests.seats.played.Goals as goal
-use Rattle.session_checks.proofs.tests.seats.played.Goals.{in-ThirdWaits, in-Numbers, in-Rows}
+use Rattle.session_checks.proofs.tests.seats.played.Goals.{in-ThirdWaits, in-Numbers, in-Walk, in-Rows}
 
 pub close-requires-clause-none : goal.close-requires-clause-none
 close-requires-clause-none g c =
@@ -13,5 +13,6 @@ close-requires-clause-none g c =
     elim c.match-scene.branch [
       | in-ThirdWaits w ↦ ap (λ (p : Spot Item). live_in p.knows.seen) w.pass-is ∙ w.third_waits.ensures.count ∙ none
       | in-Numbers w ↦ ap (λ (p : Spot Item). live_in p.knows.seen) w.pass-is ∙ w.seat_more.ensures.count ∙ none
+      | in-Walk w ↦ ap (λ (p : Spot Item). live_in p.knows.seen) w.pass-is ∙ w.two_walk.ensures.count ∙ none
       | in-Rows w ↦ ap (λ (p : Spot Item). live_in p.knows.seen) w.pass-is ∙ w.seat_rows.ensures.count ∙ none
     ]
