@@ -1,6 +1,7 @@
 -- One owner's pool begins.
 use Rattle.std.proofs.Common.{◌≡◌, ℕ, ◌+◌, ◌-◌, ◌<◌, ◌≤◌, leb, true, false, if◌then◌else◌, List, [], ◌∷◌, ◌++◌, Option, Some, None, is_some, Result, Ok, Err, IfOk, IfSome, inl, inr, refl, sym, ap, ◌∙◌, subst, arith}
-use Rattle.std.proofs.lemmas.Bool.{false≢true, leb-true, leb-false}
+use Rattle.std.proofs.lemmas.Bool.{false≢true, leb-true, leb-false, eqb-true}
+use Rattle.std.proofs.lemmas.List.{append-nil}
 use Rattle.std.specs.FinMap.{get, empty, get-empty}
 use Rattle.std.specs.Ordering.{nat_cmp}
 use Rattle.outside.specs.declared.slot.Slot.{Ghosts}
@@ -24,6 +25,7 @@ use Rattle.store_api.specs.Holdings.{Room, Holdings}
 use Rattle.store_api.specs.Entries.{by}
 use Rattle.own_entries.specs.OwnHoldings.{Outset, holdings_of}
 use Rattle.own_entries.specs.AboveLaws.{AllBy}
+use Rattle.own_entries.specs.Busy.{busy_from}
 use Rattle.own_entries.proofs.Lives.{legal_lives_as_told}
 use Rattle.own_entries.proofs.Alone.{legal_alone_sits}
 use Rattle.pin_core.specs.declared.conf.PoolConf.{PoolConf}
@@ -32,20 +34,27 @@ use Rattle.pin_core.specs.StateOf.{state_of}
 use Rattle.pin_core.specs.Setup.{IsOpeningOf}
 use Rattle.pin_core.specs.Standing.{StandsFor, slots_home}
 use Rattle.std.specs.List.{sum_by}
-use Rattle.local_pool.specs.declared.owned.Owned.{Owned}
+use Rattle.session_calls.specs.declared.hand.Hand.{Hand}
 use Rattle.pin_core.specs.declared.tally.Tally.{Tally}
-use Rattle.local_pool.specs.Told.{outset_of, held_of}
+use Rattle.local_pool.specs.Told.{opening_of, outset_of, held_of}
+use Rattle.local_pool.specs.declared.sole.Shelf.{Shelf}
 use Rattle.local_pool.specs.Counting.{AtOpening, BeginsNames, HasBlocks, SumsHold, at_opening}
-use Rattle.pin_core.specs.Tallies.{Counted, all_failures, tally_in, written_blocks}
+use Rattle.pin_core.specs.Tallies.{Counted, all_failures, silence, tally_in, written_blocks}
 use Rattle.local_pool.specs.Standing.{Stands}
+use Rattle.local_pool.specs.Shelving.{FitsShelf}
+use Rattle.session_calls.specs.Told.{held_in}
+use Rattle.session_calls.specs.Moving.{quota_at, slots_out}
+use Rattle.session_calls.specs.Ready.{IsReady}
+use Rattle.session_calls.specs.Having.{Worked}
 use Rattle.local_pool.specs.Beginning.{memory_of, first_events, IsBegun, Begins, LacksLeast, IsLeastRefusal}
-use Rattle.local_pool.proofs.Sized.{run_len, run_memory}
+use Rattle.session_calls.proofs.Sized.{run_len, run_memory}
+use Rattle.local_pool.proofs.Keeping.{named}
 use Rattle.pin_core.proofs.Tallied.{uncounted_yet, counted_as}
 
-abbrev pub opening_of : PoolConf → ℕ → Opening
-opening_of conf count = record { blocks = conf.blocks; block_len = conf.block_len; first_name = conf.first_name; slots = count; faults = 0; stores = 0 }
+abbrev pub opening_with : PoolConf → ℕ → Opening
+opening_with conf count = record { blocks = conf.blocks; block_len = conf.block_len; first_name = conf.first_name; slots = count; faults = 0; stores = 0 }
 
-pub is_opening : (conf : PoolConf) (count : ℕ) → IsOpeningOf conf count (opening_of conf count)
+pub is_opening : (conf : PoolConf) (count : ℕ) → IsOpeningOf conf count (opening_with conf count)
 is_opening conf count = record { blocks = refl; block_len = refl; first_name = refl; slots = refl }
 
 pub none_when : {X : Type 0} (o : Option X) → is_some o ≡ false → o ≡ None
@@ -61,22 +70,22 @@ first_made m q limit quota least =
 abbrev first_outset : Outset
 first_outset = record { above = Room 0; told = true }
 
-module _ {D : Type 0} (slot : Ghosts D) (own : Owned D) (q limit quota least : ℕ) (trail : own.trail ≡ by own.session (first_events q limit quota least)) where
+module _ {D : Type 0} (slot : Ghosts D) (own : Hand D) (q limit quota least : ℕ) (trail : own.trail ≡ by own.session (first_events q limit quota least)) where
   abbrev first_held : Holdings
-  first_held = holdings_of (state_of own.pool).block_len own.session (outset_of slot own.pool) (by own.session (first_events q limit quota least))
+  first_held = holdings_of (state_of own.state).block_len own.session (outset_of slot own.state) (by own.session (first_events q limit quota least))
 
   held_first : held_of slot own ≡ first_held
   unfolding held_of
-  held_first = ap (holdings_of (state_of own.pool).block_len own.session (outset_of slot own.pool)) trail
+  held_first = ap (holdings_of (state_of own.state).block_len own.session (outset_of slot own.state)) trail
 
   pub first_query : (held_of slot own).query ≡ q
   first_query = ap (λ (h : Holdings). h.query) held_first
 
-  module _ (conf : PoolConf) (o : Opening) (is : IsOpeningOf conf o.slots o) (stood : StandsFor slot o own.trail own.pool) where
-    len_first : (state_of own.pool).block_len ≡ conf.block_len
+  module _ (conf : PoolConf) (o : Opening) (is : IsOpeningOf conf o.slots o) (stood : StandsFor slot o own.trail own.state) where
+    len_first : (state_of own.state).block_len ≡ conf.block_len
     len_first = ap (λ (s : State). s.block_len) stood.state ∙ run_len (opened o) own.trail ∙ is.block_len
 
-    memory_first : memory (state_of own.pool) ≡ memory_of conf
+    memory_first : memory (state_of own.state) ≡ memory_of conf
     memory_first = ap memory stood.state ∙ run_memory (opened o) own.trail ∙ ap (λ (len : ℕ). bytes_of len o.blocks) is.block_len ∙ ap (bytes_of conf.block_len) is.blocks
 
     pub begun : IsBegun conf limit quota least (held_of slot own)
@@ -93,40 +102,74 @@ module _ {D : Type 0} (slot : Ghosts D) (own : Owned D) (q limit quota least : �
       free_slots = ap (λ (h : Holdings). h.free_slots) held_first;
     }
 
-    no_page : (p : ℕ) → get (state_of own.pool).pages p ≡ None
-    no_page p = ap (λ (s : State). get s.pages p) stood.state ∙ ap (λ (h : List Entry). get (state_after o h).pages p) trail ∙ get-empty nat_cmp p
-
     -- the slots count as they did when they were counted
-    sums_first : (first : Option AtOpening) → IfSome first (λ f. f ≡ at_opening (tally_in slot own.pool) conf.first_name conf.blocks) → SumsHold first own.trail (tally_in slot own.pool)
+    sums_first : (first : Option AtOpening) → IfSome first (λ f. f ≡ at_opening (tally_in slot own.state) conf.first_name conf.blocks) → SumsHold first own.trail (tally_in slot own.state)
     sums_first None same = tt
     sums_first (Some f) same =
-        counted_as 0 (all_failures own.trail) 0 (written_blocks own.trail) f.tally (tally_in slot own.pool) (sym (ap all_failures trail)) (sym (ap written_blocks trail))
+        counted_as 0 (all_failures own.trail) 0 (written_blocks own.trail) f.tally (tally_in slot own.state) (sym (ap all_failures trail)) (sym (ap written_blocks trail))
         (subst (Counted 0 0 f.tally) (ap (λ (x : AtOpening). x.tally) same) (uncounted_yet f.tally))
 
     -- and the first page is named as the pool was asked to
-    names_first : (first : Option AtOpening) → IfSome first (λ f. f ≡ at_opening (tally_in slot own.pool) conf.first_name conf.blocks) → BeginsNames first o.first_name
+    names_first : (first : Option AtOpening) → IfSome first (λ f. f ≡ at_opening (tally_in slot own.state) conf.first_name conf.blocks) → BeginsNames first o.first_name
     names_first None same = tt
     names_first (Some f) same = is.first_name ∙ sym (ap (λ (x : AtOpening). x.first_name) same)
 
     -- and it has as many blocks
-    blocks_first : (first : Option AtOpening) → IfSome first (λ f. f ≡ at_opening (tally_in slot own.pool) conf.first_name conf.blocks) → HasBlocks first o.blocks
+    blocks_first : (first : Option AtOpening) → IfSome first (λ f. f ≡ at_opening (tally_in slot own.state) conf.first_name conf.blocks) → HasBlocks first o.blocks
     blocks_first None same = tt
     blocks_first (Some f) same = is.blocks ∙ sym (ap (λ (x : AtOpening). x.blocks) same)
 
-    pub stands_first : own.session < 240 → (first : Option AtOpening) → IfSome first (λ f. f ≡ at_opening (tally_in slot own.pool) conf.first_name conf.blocks) → Stands slot first own
-    stands_first number first same = record {
-      opening = o;
-      stands = stood;
-      alone = subst (AllBy own.session) (sym trail) (refl, (refl, tt));
-      whole = subst (λ (h : List Entry). made_by h own.session ≡ h) (sym trail) (first_made own.session q limit quota least);
-      number = number;
-      live = ap (λ (h : Holdings). is_some h.free_slots) held_first;
-      few = let none : (held_of slot own).live_clients ≡ 0 = ap (λ (h : Holdings). h.live_clients) held_first in omega (arith, none);
-      still = λ p x there. let none : None ≡ Some x = sym (no_page p) ∙ there in cc;
-      sums = sums_first first same;
-      names = names_first first same;
-      blocks = blocks_first first same;
+    -- with what it opened, as its value and its trail tell
+    abbrev first_opening : Opening
+    first_opening = record o { slots = slots_home (λ d. 1) own.state + slots_out (state_of own.state).pages; faults = 0; stores = 0 }
+
+    made_so : made_by own.trail own.session ≡ by own.session (first_events q limit quota least)
+    made_so = ap (λ (h : List Entry). made_by h own.session) trail ∙ first_made own.session q limit quota least
+
+    told_so : held_in first_opening (outset_of slot own.state) own.session own.trail ≡ holdings_of o.block_len own.session (outset_of slot own.state) (by own.session (first_events q limit quota least))
+    unfolding held_in
+    told_so = ap (holdings_of o.block_len own.session (outset_of slot own.state)) made_so
+
+    -- the owner's session is between two calls
+    ready_first : own.session < 240 → IsReady slot first_opening (outset_of slot own.state) own
+    ready_first number = record {
+      whole = record {
+        stands = record { legal = stood.legal; state = stood.state; holds = stood.holds };
+        home = refl;
+        tell = eqb-true (slots_home (silence slot) own.state) 0;
+      };
+      rests = record {
+        number = number;
+        live = ap (λ (h : Holdings). is_some h.free_slots) told_so;
+        few = let none : (held_in first_opening (outset_of slot own.state) own.session own.trail).live_clients ≡ 0 = ap (λ (h : Holdings). h.live_clients) told_so in omega (arith, none);
+        still = λ p. ap (busy_from p false) made_so;
+      };
     }
+
+    module _ (number : own.session < 240) where
+      named_first : first_opening ≡ opening_of slot own
+      named_first = named slot first_opening (outset_of slot own.state) own (ready_first number) refl refl
+
+      pub stands_first : (first : Option AtOpening) → IfSome first (λ f. f ≡ at_opening (tally_in slot own.state) conf.first_name conf.blocks) → Stands slot first own
+      stands_first first same = record {
+        ready = subst (λ (k : Opening). IsReady slot k (outset_of slot own.state) own) named_first (ready_first number);
+        alone = subst (AllBy own.session) (sym trail) (refl, (refl, tt));
+        whole = made_so ∙ sym trail;
+        sums = sums_first first same;
+        names = subst (λ (k : Opening). BeginsNames first k.first_name) named_first (names_first first same);
+        blocks = subst (λ (k : Opening). HasBlocks first k.blocks) named_first (blocks_first first same);
+      }
+
+      -- and it has seen all of its history
+      pub fits_first : (shelf : Shelf D) → shelf.seen ≡ own.trail → FitsShelf slot shelf own
+      fits_first shelf seen = record {
+        alone = subst (AllBy own.session) (sym (seen ∙ trail)) (refl, (refl, tt));
+        worked = subst (λ (k : Opening). Worked k shelf.seen own) named_first (record {
+          events = [];
+          trail = sym (append-nil shelf.seen ∙ seen);
+          quotas = λ k. ap (λ (s : State). quota_at s k) stood.state ∙ ap (λ (h : List Entry). quota_at (state_after o h) k) (sym seen);
+        });
+      }
 
 -- a session that came sits
 pub sits_first : {D : Type 0} (slot : Ghosts D) (o : Opening) (m q limit quota least : ℕ) (v : Parts D) → StandsFor slot o (opening_entries m q limit quota least) v → is_some (get (state_of v).sessions m) ≡ true
@@ -152,7 +195,7 @@ module _ (o : Opening) (m q limit quota : ℕ) (legal : IsLegal o (reopening_ent
     | inr other ↦ legal_alone_sits o (reopening_entries m q limit quota) legal m (refl, (refl, tt)) n other
   ])
 
-module _ (conf : PoolConf) (count : ℕ) (s : State) (fresh : s ≡ opened (opening_of conf count)) where
+module _ (conf : PoolConf) (count : ℕ) (s : State) (fresh : s ≡ opened (opening_with conf count)) where
   root_limit : limit_of s.trackers 0 ≡ memory_of conf
   root_limit = ap (λ (t : State). limit_of t.trackers 0) fresh ∙ limit_is (root_alone (memory_of conf)) 0 (new_root (memory_of conf)) (get_same empty 0 (new_root (memory_of conf)))
 
@@ -196,8 +239,8 @@ module _ (conf : PoolConf) (count : ℕ) (s : State) (fresh : s ≡ opened (open
 
 -- a pool that began over a pool's value with these slots began with them
 pub begins : {D E : Type 0} (slot : Ghosts D) (conf : PoolConf) (slots : List D) (limit quota least : ℕ) (pool : Parts D) → ((measure : D → ℕ) → slots_home measure pool ≡ sum_by measure slots)
-    → (r : Result (Owned D) E) → IfOk r (λ own. IsBegun conf limit quota least (held_of slot own)) → IfOk r (λ own. own.trail ≡ by own.session (first_events (held_of slot own).query limit quota least))
-    → IfOk r (λ own. (measure : D → ℕ) → slots_home measure own.pool ≡ slots_home measure pool)
+    → (r : Result (Hand D) E) → IfOk r (λ own. IsBegun conf limit quota least (held_of slot own)) → IfOk r (λ own. own.trail ≡ by own.session (first_events (held_of slot own).query limit quota least))
+    → IfOk r (λ own. (measure : D → ℕ) → slots_home measure own.state ≡ slots_home measure pool)
     → IfOk r (Begins slot conf slots limit quota least)
 begins slot conf slots limit quota least pool count (Ok own) held trail home = record {
   held = held;

@@ -7,7 +7,7 @@ use Rattle.reservation_tree.specs.Tracker.{reservation_of}
 use Rattle.reservation_tree.proofs.Maps.{same_or_other}
 use Rattle.pool_model.specs.declared.event.Event.TheVariants.{Decrease, CloseTracker}
 use Rattle.pool_model.specs.declared.entry.Entry.{Entry}
-use Rattle.pool_model.specs.State.{State}
+use Rattle.pool_model.specs.State.{Opening, State}
 use Rattle.pool_model.specs.Legal.{state_after}
 use Rattle.pool_model.specs.LookingBack.{made_by}
 use Rattle.pool_model.proofs.OwnEntries.{made_more}
@@ -23,18 +23,18 @@ use Rattle.pin_core.specs.StateOf.{state_of}
 use Rattle.pin_core.specs.Sessions.{query_of}
 use Rattle.pin_core.specs.Standing.{StandsFor, Enters}
 use Rattle.pin_core.specs.Opening.{ending_entries}
-use Rattle.local_pool.specs.declared.owned.Owned.{Owned}
+use Rattle.session_calls.specs.declared.hand.Hand.{Hand}
 use Rattle.local_pool.specs.Counting.{AtOpening}
-use Rattle.local_pool.specs.Told.{outset_of, held_of}
+use Rattle.local_pool.specs.Told.{opening_of, outset_of, held_of}
 use Rattle.local_pool.specs.Standing.{Stands}
-use Rattle.local_pool.proofs.Growing.{alone_more}
-use Rattle.local_pool.proofs.Knowing.{knows, opening_len}
-use Rattle.local_pool.proofs.Clients.{query_is}
+use Rattle.session_calls.proofs.Lists.{alone_more}
+use Rattle.local_pool.proofs.Knowing.{knows}
+use Rattle.session_calls.proofs.Clients.{query_is}
 use Rattle.local_pool.proofs.Begun.{none_when}
 
-module _ {D : Type 0} (slot : Ghosts D) (own : Owned D) {first : Option AtOpening} (is : Stands slot first own) where
+module _ {D : Type 0} (slot : Ghosts D) (own : Hand D) {first : Option AtOpening} (is : Stands slot first own) where
   abbrev s : State
-  s = state_of own.pool
+  s = state_of own.state
 
   -- the two entries with which a session ends
   abbrev q : ℕ
@@ -66,21 +66,21 @@ module _ {D : Type 0} (slot : Ghosts D) (own : Owned D) {first : Option AtOpenin
   isnt_client : has_client q (held_of slot own) ≡ false
   isnt_client = ap (λ (k : ℕ). has_client k (held_of slot own)) (query_is (knows slot own is)) ∙ ap is_some (knows slot own is).fits.apart
 
-  gone_told : is_some (own_holdings is.opening (outset_of slot own.pool) whole own.session).free_slots ≡ false
+  gone_told : is_some (own_holdings (opening_of slot own) (outset_of slot own.state) whole own.session).free_slots ≡ false
   unfolding held_of
   gone_told =
-      ap (λ (es : List Entry). is_some (holdings_of is.opening.block_len own.session (outset_of slot own.pool) es).free_slots) made_whole
-      ∙ ap (λ (h : Holdings). is_some h.free_slots) (calls_run_on is.opening.block_len own.session (outset_of slot own.pool) own.trail (Decrease q bytes ∷ CloseTracker q ∷ []))
-      ∙ ap (λ (len : ℕ). is_some (after_events (holdings_of len own.session (outset_of slot own.pool) own.trail) (Decrease q bytes ∷ CloseTracker q ∷ [])).free_slots) (opening_len slot own is)
+      ap (λ (es : List Entry). is_some (holdings_of s.block_len own.session (outset_of slot own.state) es).free_slots) made_whole
+      ∙ ap (λ (h : Holdings). is_some h.free_slots) (calls_run_on s.block_len own.session (outset_of slot own.state) own.trail (Decrease q bytes ∷ CloseTracker q ∷ []))
       ∙ ended_told (held_of slot own) isnt_client
 
   -- no session is left
-  pub none_left : (new : Parts D) → Enters slot (ending_entries s own.session) [] [] own.pool new → (n : ℕ) → get (state_of new).sessions n ≡ None
+  pub none_left : (new : Parts D) → Enters slot (ending_entries s own.session) [] [] own.state new → (n : ℕ) → get (state_of new).sessions n ≡ None
   none_left new enters n =
-      let stood : StandsFor slot is.opening whole new = enters.stands is.opening own.trail is.stands in
+      let o : Opening = opening_of slot own in
+      let stood : StandsFor slot o whole new = enters.stands o own.trail is.ready.whole.stands in
       ap (λ (t : State). get t.sessions n) stood.state ∙ none_when _ (elim (same_or_other n own.session) [
         | inl here ↦
-            ap (λ (k : ℕ). is_some (get (state_after is.opening whole).sessions k)) here
-            ∙ legal_lives_as_told is.opening (outset_of slot own.pool) whole stood.legal own.session ∙ gone_told
-        | inr other ↦ legal_alone_sits is.opening whole stood.legal own.session (alone_more own.session own.trail (Decrease q bytes ∷ CloseTracker q ∷ []) is.alone) n other
+            ap (λ (k : ℕ). is_some (get (state_after o whole).sessions k)) here
+            ∙ legal_lives_as_told o (outset_of slot own.state) whole stood.legal own.session ∙ gone_told
+        | inr other ↦ legal_alone_sits o whole stood.legal own.session (alone_more own.session own.trail (Decrease q bytes ∷ CloseTracker q ∷ []) is.alone) n other
       ])

@@ -1,5 +1,5 @@
 -- What each call of one owner leaves, however it ends.
-use Rattle.std.proofs.Common.{◌≡◌, ℕ, List, [], ◌∷◌, Option, Some, None, Result, Ok, Err, IsOk, IfOk, IfErr, OnOk, OnErr, IfSome, IfNone, false, true, refl, sym, ap, ◌∙◌, subst}
+use Rattle.std.proofs.Common.{◌≡◌, ℕ, List, [], ◌∷◌, Option, Some, None, Result, Ok, Err, IfOk, IfErr, OnErr, IfSome, IfNone, refl, sym, ap, ◌∙◌, subst}
 use Rattle.std.proofs.lemmas.List.{append-nil}
 use Rattle.outside.specs.declared.slot.Slot.{Ghosts}
 use Rattle.reservation_tree.specs.declared.errors.PoolErr.{PoolErr}
@@ -18,60 +18,38 @@ use Rattle.own_entries.specs.OwnHoldings.{after_events}
 use Rattle.own_entries.proofs.Calls.{calls_tell}
 use Rattle.own_entries.proofs.Outsets.{outsets_stay}
 use Rattle.pin_core.specs.StateOf.{state_of}
-use Rattle.local_pool.specs.declared.owned.Owned.{Owned}
+use Rattle.session_calls.specs.declared.hand.Hand.{Hand}
 use Rattle.local_pool.specs.Told.{outset_of, held_of, signs_of}
 use Rattle.local_pool.specs.Making.{Makes}
-use Rattle.local_pool.specs.Calling.{IsFresh, IsFreshPage, IsFreshLoan}
+use Rattle.session_calls.specs.Coming.{IsFresh, IsFreshLoan, IsFreshPage}
 use Rattle.local_pool.specs.Refusing.{Refuses}
 use Rattle.local_pool.proofs.Making.{makes_held, makes_grows}
 
-pub counted : {D : Type 0} (own : Owned D) → CountsRefused (signs_of own).trail (signs_of own).refused_unpins
+pub counted : {D : Type 0} (own : Hand D) → CountsRefused (signs_of own).trail (signs_of own).refused_unpins
 unfolding signs_of
 counted own = refl
 
-module _ {A E : Type 0} where
-  pub ok_so : {P Q : A → Type 0} (r : Result A E) → IfOk r P → ((x : A) → P x → Q x) → IfOk r Q
-  ok_so (Ok x) is so = so x is
-  ok_so (Err e) is so = tt
-
-  pub ok_both : {P Q R : A → Type 0} (r : Result A E) → IfOk r P → IfOk r Q → ((x : A) → P x → Q x → R x) → IfOk r R
-  ok_both (Ok x) one other so = so x one other
-  ok_both (Err e) one other so = tt
-
-  pub on_ok_so : {P Q : Type 0} (r : Result A E) → OnOk r P → (P → Q) → OnOk r Q
-  on_ok_so (Ok x) is so = so is
-  on_ok_so (Err e) is so = tt
-
-  pub on_err_so : {P Q : Type 0} (r : Result A E) → OnErr r P → (P → Q) → OnErr r Q
-  on_err_so (Ok x) is so = tt
-  on_err_so (Err e) is so = so is
-
-  pub none_fails : {X : Type 0} (Q : E → Type 0) (o : Option X) (r : Result A E) → IfNone o (IsOk r) → IfNone o (IfErr r Q)
-  none_fails Q (Some x) r is = tt
-  none_fails Q None (Ok x) is = tt
-  none_fails Q None (Err e) is = let never : false ≡ true = is in cc
-
 module _ {D : Type 0} (slot : Ghosts D) where
   -- the owner holds blocks of the pool's length
-  pub len_is : (own : Owned D) → (held_of slot own).block_len ≡ (state_of own.pool).block_len
+  pub len_is : (own : Hand D) → (held_of slot own).block_len ≡ (state_of own.state).block_len
   unfolding held_of
-  len_is own = (outsets_stay (state_of own.pool).block_len own.session (outset_of slot own.pool) own.trail).block
+  len_is own = (outsets_stay (state_of own.state).block_len own.session (outset_of slot own.state) own.trail).block
 
   -- the length of a block stays, and signs only grow
-  pub record Lasts (old new : Owned D) : Type 0 where
+  pub record Lasts (old new : Hand D) : Type 0 where
     pub len : (held_of slot new).block_len ≡ (held_of slot old).block_len
     pub grows : Grows (signs_of old) (signs_of new)
 
-  pub lasts_made : {P : List Event → Type 0} (old new : Owned D) → Makes slot P old new → Lasts old new
+  pub lasts_made : {P : List Event → Type 0} (old new : Hand D) → Makes slot P old new → Lasts old new
   lasts_made old new made = record { len = len_is new ∙ made.block_len ∙ sym (len_is old); grows = makes_grows slot old new made }
 
-  pub lasts_same : (old new : Owned D) → new ≡ old → Lasts old new
+  pub lasts_same : (old new : Hand D) → new ≡ old → Lasts old new
   lasts_same old new same = subst (Lasts old) (sym same) (record { len = refl; grows = grows_refl (signs_of old) })
 
-  pub lasts_refused : (t : ℕ) (what : Call) (old new : Owned D) (e : PoolErr) → Refuses slot t what old new e → Lasts old new
+  pub lasts_refused : (t : ℕ) (what : Call) (old new : Hand D) (e : PoolErr) → Refuses slot t what old new e → Lasts old new
   lasts_refused t what old new e refused = record { len = ap (λ (h : Holdings). h.block_len) refused.was.held; grows = refused.grows }
 
-  module _ {A : Type 0} (old new : Owned D) where
+  module _ {A : Type 0} (old new : Hand D) where
     -- its entries came, or nothing changed
     pub lasts_or_same : {E : Type 0} (P : A → List Event → Type 0) (r : Result A E) → IfOk r (λ x. Makes slot (P x) old new) → OnErr r (new ≡ old) → Lasts old new
     lasts_or_same P (Ok x) made same = lasts_made old new made
@@ -102,14 +80,14 @@ module _ {D : Type 0} (slot : Ghosts D) where
     lasts_left P p buf (Err e) made stays grows = record { len = ap (λ (h : Holdings). h.block_len) stays.held; grows = grows }
 
   -- what is held now is what these entries make of what was held
-  pub held_by : (es : List Event) (old new : Owned D) → Makes slot (λ events. events ≡ es) old new → held_of slot new ≡ after_events (held_of slot old) es
+  pub held_by : (es : List Event) (old new : Hand D) → Makes slot (λ events. events ≡ es) old new → held_of slot new ≡ after_events (held_of slot old) es
   held_by es old new made = makes_held slot old new made ∙ ap (after_events (held_of slot old)) made.is
 
-  pub untouched : (old new : Owned D) → new ≡ old → IsUntouched (held_of slot old) (held_of slot new) (signs_of old) (signs_of new)
+  pub untouched : (old new : Hand D) → new ≡ old → IsUntouched (held_of slot old) (held_of slot new) (signs_of old) (signs_of new)
   unfolding signs_of
-  untouched old new same = subst (λ (o : Owned D). IsUntouched (held_of slot old) (held_of slot o) (signs_of old) (signs_of o)) (sym same) (record { held = refl; entries = ([], ap Some (sym (append-nil old.trail)), ([], refl, refl)) })
+  untouched old new same = subst (λ (o : Hand D). IsUntouched (held_of slot old) (held_of slot o) (signs_of old) (signs_of o)) (sym same) (record { held = refl; entries = ([], ap Some (sym (append-nil old.trail)), ([], refl, refl)) })
 
-  module _ (old new : Owned D) where
+  module _ (old new : Hand D) where
     pub new_client : (c : ClientToken) (limit : ℕ) → Makes slot (λ events. events ≡ AddTracker c.tracker (held_of slot old).query limit None ∷ []) old new → IsFresh c (held_of slot old)
         → IsNewClient c limit (held_of slot old) (held_of slot new)
     new_client c limit made fresh = record {
@@ -121,7 +99,7 @@ module _ {D : Type 0} (slot : Ghosts D) where
     }
 
     pub new_page : (c : ClientToken) (blocks : ℕ) (page : PageToken × Buffer) → Makes slot (IsTaken c.tracker (held_of slot old) (Create page.0.name c.tracker blocks page.0.key ∷ [])) old new
-        → IsFreshPage c.tracker blocks page old (held_of slot old) → IsNewPage c blocks page (held_of slot old) (held_of slot new)
+        → IsFreshPage c.tracker blocks page (held_of slot old) (signs_of old) → IsNewPage c blocks page (held_of slot old) (held_of slot new)
     new_page c blocks page made fresh = record {
       fresh = fresh.fresh;
       client = fresh.client;

@@ -12,7 +12,7 @@ use Rattle.store_api.specs.Holdings.{Holdings, Room}
 use Rattle.store_api.specs.Entries.{by}
 use Rattle.pin_core.specs.declared.conf.PoolConf.{PoolConf}
 use Rattle.pin_core.specs.Standing.{slots_home}
-use Rattle.local_pool.specs.declared.owned.Owned.{Owned}
+use Rattle.session_calls.specs.declared.hand.Hand.{Hand}
 use Rattle.local_pool.specs.Told.{held_of}
 
 -- all memory of a pool that opens with these numbers
@@ -37,10 +37,10 @@ pub record IsBegun (conf : PoolConf) (limit quota least : ℕ) (h : Holdings) : 
   pub free_slots : h.free_slots ≡ Some quota
 
 -- a pool begins with these slots
-pub record Begins {D : Type 0} (slot : Ghosts D) (conf : PoolConf) (slots : List D) (limit quota least : ℕ) (own : Owned D) : Type 0 where
+pub record Begins {D : Type 0} (slot : Ghosts D) (conf : PoolConf) (slots : List D) (limit quota least : ℕ) (own : Hand D) : Type 0 where
   pub held : IsBegun conf limit quota least (held_of slot own)
   pub trail : own.trail ≡ by own.session (first_events (held_of slot own).query limit quota least)
-  pub home : (measure : D → ℕ) → slots_home measure own.pool ≡ sum_by measure slots
+  pub home : (measure : D → ℕ) → slots_home measure own.state ≡ sum_by measure slots
 
 -- the least reservation passes its own limit, or all memory
 abbrev pub LacksLeast : PoolConf → ℕ → ℕ → Type 0

@@ -5,11 +5,6 @@ pub mod Agreeing
 pub mod Making
 pub mod Refusing
 pub mod Standing
-pub mod Needing
-pub mod Turning
-pub mod Calling
+pub mod Shelving
 pub mod Beginning
-pub mod Leaving
-pub mod Loading
-pub mod Pinning
 pub mod Laws

@@ -5,10 +5,10 @@ use Rattle.reservation_tree.specs.declared.errors.PoolErr.{PoolErr}
 use Rattle.pool_model.specs.declared.call.Call.{Call}
 use Rattle.store_api.specs.Signs.{Grows}
 use Rattle.store_api.specs.Refusals.{WasRefused}
-use Rattle.local_pool.specs.declared.owned.Owned.{Owned}
+use Rattle.session_calls.specs.declared.hand.Hand.{Hand}
 use Rattle.local_pool.specs.Told.{held_of, signs_of}
 
 -- a call that needs room of this client was refused with this error, as a call of a store is, and its signs only grew
-pub record Refuses {D : Type 0} (slot : Ghosts D) (t : ℕ) (what : Call) (old new : Owned D) (e : PoolErr) : Type 0 where
+pub record Refuses {D : Type 0} (slot : Ghosts D) (t : ℕ) (what : Call) (old new : Hand D) (e : PoolErr) : Type 0 where
   pub was : WasRefused t what (held_of slot old) (held_of slot new) (signs_of old) (signs_of new) e
   pub grows : Grows (signs_of old) (signs_of new)

@@ -1,5 +1,5 @@
 //! One owner's pool begins and ends.
-ghost use Rattle.std.specs.Prelude.{◌≡◌, ◌≤◌, ℕ, [], IsErr, IfOk, IfErr, IfSome, vec_len};
+ghost use Rattle.std.specs.Prelude.{◌≡◌, ◌≤◌, ◌++◌, ℕ, [], IsErr, IfOk, IfErr, IfSome, vec_len};
 ghost use Rattle.std.specs.List.{sum_by};
 ghost use Rattle.pool_model.specs.State.{Opening};
 ghost use Rattle.pin_core.specs.Setup.{IsOpeningOf, OpensWith};
@@ -12,16 +12,17 @@ ghost use Rattle.local_pool.specs.History.{IsHistory};
 ghost use Rattle.pin_core.specs.Tallies.{tally_in, tally_of};
 ghost use Rattle.local_pool.specs.Beginning.{Begins, IsBegun, IsLeastRefusal, LacksLeast, first_events};
 
-use crate::entering::enter;
-use crate::owned::{Alone, Owned};
+use crate::owned::Alone;
+use crate::sole::Shelf;
 use crate::tally::OpenedWith;
 use outside::Slot;
 use pin_core::{PoolConf, PoolState};
 use pool_model::{Entry, Event};
 use reservation_tree::{PoolErr, TrackerId};
+use session_calls::{Hand, enter, enter_named};
 use std::alloc::Global;
-use std::marker::PhantomData;
-use turn_table::Solo;
+use std::marker::{Brand, PhantomData};
+use turn_table::{Adds, Solo};
 
 impl<D: Slot + Drop, T: OpenedWith> Alone<D, T> {
     /// A pool with these numbers and slots, whose owner may reserve up to `limit` bytes and has `least` of them, and
@@ -47,11 +48,11 @@ impl<D: Slot + Drop, T: OpenedWith> Alone<D, T> {
         ensures cause { IfErr result (λ e. IsLeastRefusal conf.now limit least e.1) }
         ensures back { IfErr result (λ e. (measure : D → ℕ) → sum_by measure e.0.items ≡ sum_by measure slots.items) }
     {
-        let Ok(trail) = Solo::open(alloc) else {
+        let (Ok(trail), Ok(seen)) = (Solo::open(alloc), Solo::open(alloc)) else {
             return Err((slots, PoolErr::Memory));
         };
         match PoolState::open(alloc, conf, slots) {
-            Ok(pool) => begin(pool, trail, conf, limit, quota, least),
+            Ok(pool) => begin(pool, trail, seen, conf, limit, quota, least),
             Err((slots, _)) => Err((slots, PoolErr::Memory)),
         }
     }
@@ -59,18 +60,18 @@ impl<D: Slot + Drop, T: OpenedWith> Alone<D, T> {
     /// Ends a pool that has no client, and gives back its slots.
     pub fn close(self) -> Vec<D>
         requires { (held_of D.Slot self).live_clients ≡ 0 }
-        ensures slots { (measure : D → ℕ) → sum_by measure result.items ≡ slots_home measure self.pool }
+        ensures slots { (measure : D → ℕ) → sum_by measure result.items ≡ slots_home measure self.state }
         ensures sums { SumsHold T.opened self.trail (tally_of D.Slot result.items) }
         ensures names { SpendsNames T.opened self.trail (signs_of self).spent }
         ensures history { IsHistory T.opened (held_of D.Slot self).block_len self.session self.trail }
     {
-        let Owned {
-            mut pool,
+        let Hand {
+            mut state,
             trail: _,
             session,
-        } = self.own;
-        pool.end_session(session);
-        pool.close()
+        } = self.hand;
+        state.end_session(session);
+        state.close()
     }
 }
 
@@ -78,6 +79,7 @@ impl<D: Slot + Drop, T: OpenedWith> Alone<D, T> {
 fn begin<D: Slot + Drop, T: OpenedWith>(
     mut pool: PoolState<D>,
     mut trail: Solo<Entry>,
+    mut seen: Solo<Entry>,
     _conf: &PoolConf,
     limit: u64,
     quota: u32,
@@ -85,12 +87,12 @@ fn begin<D: Slot + Drop, T: OpenedWith>(
 ) -> Result<Alone<D, T>, (Vec<D>, PoolErr)>
     requires conf { OpensWith _conf.now }
     requires fresh { (o : Opening) → IsOpeningOf _conf.now (spare_of pool) o → StandsFor D.Slot o [] pool }
-    requires empty { trail ≡ [] }
+    requires empty { (trail ≡ []) × (seen ≡ []) }
     requires quota { quota ≤ spare_of pool }
     requires opens { IfSome T.opened (λ first. first ≡ at_opening (tally_in D.Slot pool) _conf.now.first_name _conf.now.blocks) }
     ensures ok { IfOk result (λ own. IsBegun _conf.now limit quota least (held_of D.Slot own)) }
     ensures trail { IfOk result (λ own. own.trail ≡ by own.session (first_events (held_of D.Slot own).query limit quota least)) }
-    ensures slots { IfOk result (λ own. (measure : D → ℕ) → slots_home measure own.pool ≡ slots_home measure pool) }
+    ensures slots { IfOk result (λ own. (measure : D → ℕ) → slots_home measure own.state ≡ slots_home measure pool) }
     ensures refused { LacksLeast _conf.now limit least → IsErr result }
     ensures cause { IfErr result (λ e. IsLeastRefusal _conf.now limit least e.1) }
     ensures back { IfErr result (λ e. (measure : D → ℕ) → sum_by measure e.0.items ≡ slots_home measure pool) }
@@ -118,12 +120,22 @@ fn begin<D: Slot + Drop, T: OpenedWith>(
             bytes: least,
         },
     );
+    see_all::<Brand>(&mut seen, &trail);
     Ok(Alone {
-        own: Owned {
-            pool,
+        hand: Hand {
+            state: pool,
             trail,
             session,
         },
+        shelf: Shelf { value: None, seen },
         first: PhantomData,
     })
+}
+
+// The owner has seen all of the history so far, which `N` names.
+fn see_all<N: Adds<Entry>>(seen: &mut Solo<Entry>, _trail: &Solo<Entry>)
+    requires named { N.entries ≡ _trail.now }
+    ensures { seen.new ≡ seen.old ++ _trail.now }
+{
+    enter_named::<N>(seen);
 }

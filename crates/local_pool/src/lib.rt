@@ -1,29 +1,26 @@
 //! A pool with one owner, who writes and loads its pages itself and waits for nobody.
 //!
 //! Model: what the owner holds is told by its trail, the list of its own entries, for which the pool's value
-//! stands. No other maker has an entry in it.
+//! stands. No other maker has an entry in it. Its calls are those of any session (`session_calls`), which is alone here.
 //! Invariant: between calls no page is in a job, and the slots count what the trail tells beside what they counted
 //! when the pool opened.
 #![tactic(auto)]
 
-mod asking;
 mod beginning;
 mod coming;
-mod entering;
 mod leaving;
-mod loading;
 mod local;
 mod looking;
 mod owned;
 mod pinning;
 mod pins;
 mod shrinking;
+mod sole;
+mod taking;
 mod tally;
 mod trackers;
-mod turning;
-mod writing;
 
 pub use local::LocalPool;
-pub use owned::{Alone, Owned};
+pub use owned::Alone;
+pub use sole::Shelf;
 pub use tally::OpenedWith;
-pub use turning::Turn;

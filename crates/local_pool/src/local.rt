@@ -13,8 +13,10 @@ ghost use Rattle.pin_core.specs.Tallies.{tally_of};
 ghost use Rattle.local_pool.specs.Beginning.{Begins, IsLeastRefusal, LacksLeast};
 
 use crate::owned::Alone;
+use crate::taking::{Coming, Ending, Handing, Passing, Shrinking};
 use crate::tally::OpenedWith;
 use block_arena::Buf;
+use core::mem::replace_with;
 use outside::Slot;
 use pin_core::{PoolConf, PoolState};
 use reservation_tree::PoolErr;
@@ -69,7 +71,7 @@ impl<D: Slot + Drop, T: OpenedWith> LocalPool<D, T> {
 
     /// The pool's value. What the owner holds is what the value has for the owner's session.
     pub fn value(&self) -> &PoolState<D>
-        ensures value { result.now ≡ self.now.alone.pool }
+        ensures value { result.now ≡ self.now.alone.state }
         ensures held { AgreesWith D.Slot self.now.alone }
     {
         self.alone.value()
@@ -85,7 +87,7 @@ impl<D: Slot + Drop, T: OpenedWith> LocalPool<D, T> {
     /// Ends a pool that has no client, and gives back its slots.
     pub fn close(self) -> Vec<D>
         requires { (held_of D.Slot self.alone).live_clients ≡ 0 }
-        ensures slots { (measure : D → ℕ) → sum_by measure result.items ≡ slots_home measure self.alone.pool }
+        ensures slots { (measure : D → ℕ) → sum_by measure result.items ≡ slots_home measure self.alone.state }
         ensures sums { SumsHold T.opened self.alone.trail (tally_of D.Slot result.items) }
         ensures names { SpendsNames T.opened self.alone.trail (signs_of self.alone).spent }
         ensures history { IsHistory T.opened (held_of D.Slot self.alone).block_len self.alone.session self.alone.trail }
@@ -148,14 +150,14 @@ impl<D: Slot + Drop, T: OpenedWith> Store for LocalPool<D, T> {
 
     fn give_back(&mut self, c: &Client, bytes: u64) -> Result<(), PoolErr> {
         let alone = &mut self.alone;
-        let result = alone.give_back(c, bytes);
+        let result = replace_with(alone, Shrinking { client: c, bytes }, Alone::give_back);
         alone.law_whole();
         result
     }
 
     fn move_reservation(&mut self, from: &Client, to: &Client, bytes: u64) -> Result<(), PoolErr> {
         let alone = &mut self.alone;
-        let result = alone.move_reservation(from, to, bytes);
+        let result = replace_with(alone, Passing { from, to, bytes }, Alone::move_reservation);
         alone.law_whole();
         result
     }
@@ -163,21 +165,30 @@ impl<D: Slot + Drop, T: OpenedWith> Store for LocalPool<D, T> {
     fn create(&mut self, alloc: Global, c: &Client, blocks: u32) -> Result<(Page, Buf), PoolErr> {
         let bytes = u64::from(blocks) * u64::from(self.block_len);
         let alone = &mut self.alone;
-        let result = alone.create(alloc, c, blocks, bytes);
+        let result = replace_with(
+            alone,
+            Coming {
+                alloc,
+                client: c,
+                blocks,
+                bytes,
+            },
+            Alone::create,
+        );
         alone.law_whole();
         result
     }
 
     fn pin(&mut self, p: &Page) -> Result<Buf, PoolErr> {
         let alone = &mut self.alone;
-        let result = alone.pin(p);
+        let result = replace_with(alone, p, Alone::pin);
         alone.law_whole();
         result
     }
 
     fn pin_again(&mut self, p: &Page) -> Result<(), PoolErr> {
         let alone = &mut self.alone;
-        let result = alone.pin_again(p);
+        let result = replace_with(alone, p, Alone::pin_again);
         alone.law_whole();
         result
     }
@@ -204,14 +215,23 @@ impl<D: Slot + Drop, T: OpenedWith> Store for LocalPool<D, T> {
 
     fn destroy(&mut self, p: Page, buf: Option<Buf>) {
         let alone = &mut self.alone;
-        alone.destroy(p, buf);
+        replace_with(alone, Ending { page: p, buf }, Alone::destroy);
         alone.law_whole();
     }
 
     fn alloc(&mut self, alloc: Global, c: &Client, blocks: u32) -> Result<Loan, PoolErr> {
         let bytes = u64::from(blocks) * u64::from(self.block_len);
         let alone = &mut self.alone;
-        let result = alone.alloc(alloc, c, blocks, bytes);
+        let result = replace_with(
+            alone,
+            Coming {
+                alloc,
+                client: c,
+                blocks,
+                bytes,
+            },
+            Alone::alloc,
+        );
         alone.law_whole();
         result
     }
@@ -228,7 +248,7 @@ impl<D: Slot + Drop, T: OpenedWith> Store for LocalPool<D, T> {
             return Ok(loan);
         }
         let alone = &mut self.alone;
-        let result = alone.move_buffer(loan, to);
+        let result = replace_with(alone, Handing { loan, to }, Alone::move_buffer);
         alone.law_whole();
         result
     }

@@ -10,6 +10,7 @@ use crate::owned::Alone;
 use crate::tally::OpenedWith;
 use outside::Slot;
 use pin_core::PoolState;
+use std::marker::Brand;
 use store_api::Client;
 
 impl<D: Slot + Drop, T: OpenedWith> Alone<D, T> {
@@ -18,8 +19,7 @@ impl<D: Slot + Drop, T: OpenedWith> Alone<D, T> {
         ensures value { result ≡ (held_of D.Slot self.now).room }
         ensures fits { FitsQuery (held_of D.Slot self.now) }
     {
-        let own = &self.own;
-        own.pool.unused(own.pool.tracker(own.session))
+        self.hand.room::<Brand>()
     }
 
     /// What the client may still charge.
@@ -28,28 +28,28 @@ impl<D: Slot + Drop, T: OpenedWith> Alone<D, T> {
         ensures value { result ≡ unused_of c.now.tracker (held_of D.Slot self.now) }
         ensures fits { FitsAccount (account_of c.now.tracker (held_of D.Slot self.now)) (held_of D.Slot self.now) }
     {
-        self.own.pool.unused(c.tracker())
+        self.hand.unused::<Brand>(c.tracker())
     }
 
     /// The pool's value. What the owner holds is what the value has for the owner's session.
     pub fn value(&self) -> &PoolState<D>
-        ensures value { result.now ≡ self.now.pool }
+        ensures value { result.now ≡ self.now.state }
         ensures held { AgreesWith D.Slot self.now }
     {
-        &self.own.pool
+        &self.hand.state
     }
 
     /// The number of the owner's session.
     pub fn session(&self) -> u32
         ensures { result ≡ self.now.session }
     {
-        self.own.session
+        self.hand.session
     }
 
     /// Clients and queries that have nothing under them have their whole reservation unused.
     pub fn law_whole(&self)
         ensures { IsWholeIdle (held_of D.Slot self.now) }
     {
-        let _own = &self.own;
+        self.hand.law_whole::<Brand>();
     }
 }

@@ -1,5 +1,5 @@
 //! Clients come and go, and reservations grow.
-ghost use Rattle.std.specs.Prelude.{◌≡◌, ◌≢◌, ◌↔◌, ◌≤◌, [], ◌∷◌, None, Err, IsErr, IsOk, IfOk, IfErr, IfSome, IfNone, OnOk, OnErr};
+ghost use Rattle.std.specs.Prelude.{◌≡◌, ◌↔◌, ◌≤◌, [], ◌∷◌, None, Err, IsErr, IsOk, IfOk, IfErr, IfSome, IfNone, OnOk, OnErr};
 ghost use Rattle.reservation_tree.specs.declared.errors.PoolErr.TheVariants as refusal;
 ghost use Rattle.pool_model.specs.declared.event.Event.TheVariants as event;
 ghost use Rattle.store_api.specs.Holdings.{account_of};
@@ -8,14 +8,13 @@ ghost use Rattle.store_api.specs.Conditions.{IsLiveClient, IsIdle};
 ghost use Rattle.store_api.specs.Refusals.{reserve_refusal};
 ghost use Rattle.local_pool.specs.Told.{held_of};
 ghost use Rattle.local_pool.specs.Making.{Makes};
-ghost use Rattle.local_pool.specs.Calling.{IsFresh};
+ghost use Rattle.session_calls.specs.Coming.{IsFresh};
 
-use crate::entering::enter;
 use crate::owned::Alone;
 use crate::tally::OpenedWith;
 use outside::Slot;
-use pool_model::Event;
 use reservation_tree::PoolErr;
+use std::marker::Brand;
 use store_api::Client;
 
 impl<D: Slot + Drop, T: OpenedWith> Alone<D, T> {
@@ -27,20 +26,7 @@ impl<D: Slot + Drop, T: OpenedWith> Alone<D, T> {
         ensures cause { IfErr result (λ e. e ≡ refusal.TooManyTrackers 16) }
         ensures err { OnErr result (self.new ≡ self.old) }
     {
-        let own = &mut self.own;
-        let query = own.pool.tracker(own.session);
-        let c = own.pool.add_client(own.session, limit)?;
-        enter(
-            &mut own.trail,
-            own.session,
-            Event::AddTracker {
-                tracker: c.tracker(),
-                parent: query,
-                limit,
-                quota: None,
-            },
-        );
-        Ok(c)
+        self.hand.add_client::<Brand>(limit)
     }
 
     /// Ends a client that has no page and no loan.
@@ -50,22 +36,7 @@ impl<D: Slot + Drop, T: OpenedWith> Alone<D, T> {
         ensures makes { Makes D.Slot (λ events. events ≡ event.MoveReservation c.tracker (held_of D.Slot self.old).query (account_of c.tracker (held_of D.Slot self.old)).reservation ∷ event.CloseTracker c.tracker ∷ []) self.old self.new }
         ensures apart { (held_of D.Slot self.old).clients (held_of D.Slot self.old).query ≡ None }
     {
-        let own = &mut self.own;
-        let tracker = c.tracker();
-        let query = own.pool.tracker(own.session);
-        let bytes = own.pool.reservation(tracker);
-        own.pool
-            .end_client(Client::of(own.session, c.into_tracker()));
-        enter(
-            &mut own.trail,
-            own.session,
-            Event::MoveReservation {
-                from: tracker,
-                to: query,
-                bytes,
-            },
-        );
-        enter(&mut own.trail, own.session, Event::CloseTracker { tracker });
+        self.hand.end_client::<Brand>(c);
     }
 
     /// Raises the client's reservation.
@@ -76,18 +47,7 @@ impl<D: Slot + Drop, T: OpenedWith> Alone<D, T> {
         ensures granted { IfNone (reserve_refusal c.now.tracker bytes (held_of D.Slot self.old)) (IsOk result) }
         ensures err { OnErr result (self.new ≡ self.old) }
     {
-        let own = &mut self.own;
-        let tracker = c.tracker();
-        let mine = Client::of(own.session, tracker);
-        let result = own.pool.increase(&mine, bytes);
-        mine.into_tracker();
-        result?;
-        enter(
-            &mut own.trail,
-            own.session,
-            Event::Increase { tracker, bytes },
-        );
-        Ok(())
+        self.hand.reserve::<Brand>(c, bytes)
     }
 
     /// Raises the client's reservation until so many bytes are unused.
@@ -98,17 +58,6 @@ impl<D: Slot + Drop, T: OpenedWith> Alone<D, T> {
         ensures granted { IfNone (reserve_refusal c.now.tracker (shortfall c.now.tracker bytes (held_of D.Slot self.old)) (held_of D.Slot self.old)) (IsOk result) }
         ensures err { OnErr result (self.new ≡ self.old) }
     {
-        let own = &mut self.own;
-        let tracker = c.tracker();
-        let mine = Client::of(own.session, tracker);
-        let result = own.pool.increase_to_fit(&mine, bytes);
-        mine.into_tracker();
-        result?;
-        enter(
-            &mut own.trail,
-            own.session,
-            Event::IncreaseToFit { tracker, bytes },
-        );
-        Ok(())
+        self.hand.reserve_to_fit::<Brand>(c, bytes)
     }
 }

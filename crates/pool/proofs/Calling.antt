@@ -27,6 +27,7 @@ use Rattle.session_calls.specs.Coming.{IsFreshPage}
 use Rattle.session_calls.specs.Having.{IsAtWork}
 use Rattle.session_calls.specs.Jobs.{DoesIn}
 use Rattle.session_calls.specs.Turning.{Refuses}
+use Rattle.session_calls.proofs.Lists.{none_own}
 use Rattle.session_calls.proofs.Doing.{does_grows, does_more, does_none}
 use Rattle.pool.specs.declared.item.Item.{Item}
 use Rattle.pool.specs.declared.ledger.Ledger.{Ledger}
@@ -34,7 +35,7 @@ use Rattle.pool.specs.Items.{history}
 use Rattle.pool.specs.Sitting.{Sitting, Did, DidThese, WasDeclined, held_by, shared, signs_by}
 use Rattle.pool.specs.Keeping.{KeepsSeat}
 use Rattle.pool.specs.Turning.{IsInTurn, MayEndTurn, SitsAgain}
-use Rattle.pool.specs.Locking.{TurnsAt}
+use Rattle.pool.specs.Locking.{TurnsThere}
 use Rattle.pool.proofs.Locked.{gives}
 use Rattle.pool.proofs.Doings.{as_was, has_first}
 use Rattle.pool.proofs.Results.{err_so, none_so, some_so}
@@ -47,12 +48,16 @@ module _ {D : Type 0} {slot : Ghosts D} {o : Opening} {told : Bool} {was : Sitti
   state_seen : state_of hand.state ≡ state_after o (history spot.knows.seen)
   state_seen = begun.ready.whole.stands.state ∙ ap (state_after o) begun.trail
 
-  pub turns_first : (lock : TableId) → spot.table ≡ lock → TurnsAt o lock spot hand.session
+  pub turns_first : (lock : TableId) → spot.table ≡ lock → TurnsThere o told o (shared told) lock spot hand.session
   turns_first lock table = record {
-    table = table;
-    turn = begun.turn;
-    rights = begun.rights ∙ ap (λ (m : ℕ). m ∷ []) (sym begun.session);
-    quotas = λ k. ap (λ (s : State). quota_at s k) (sym state_seen) ∙ begun.quotas k;
+    origin = refl;
+    outset = refl;
+    turns = record {
+      table = table;
+      turn = begun.turn;
+      rights = begun.rights ∙ ap (λ (m : ℕ). m ∷ []) (sym begun.session);
+      quotas = λ k. ap (λ (s : State). quota_at s k) (sym state_seen) ∙ begun.quotas k;
+    };
   }
 
   pub works_first : IsAtWork slot o (shared told) (history spot.knows.seen) hand
@@ -63,7 +68,7 @@ module _ {D : Type 0} {slot : Ghosts D} {o : Opening} {told : Bool} {was : Sitti
 
   -- others alone entered items before
   abbrev waited : Does was.number (λ events. events ≡ []) (history was.spot.knows.seen) hand.trail
-  waited = record { events = []; is = refl; own = begun.own ∙ sym (append-nil (made_by (history was.spot.knows.seen) was.number)); more = begun.more; grew = begun.grew }
+  waited = record { events = []; is = refl; own = begun.own ∙ sym (append-nil (made_by (history was.spot.knows.seen) was.number)); more = begun.more; grew = begun.grew; mine = none_own was.number begun.more begun.beside }
 
   grew_first : Grows (signs_by o was) (signs_in_hand o hand)
   grew_first = subst (λ (m : ℕ). Grows (signs_by o was) (signs_in o m hand.trail)) (sym begun.session) (does_grows o (shared told) was.number (history was.spot.knows.seen) hand.trail waited)
@@ -74,13 +79,13 @@ module _ {D : Type 0} {slot : Ghosts D} {o : Opening} {told : Bool} {was : Sitti
 
   -- the call is done, and the turn may end
   module _ {next : Hand D} (stays : StaysOn o (shared told) hand next) where
-    pub may_end_call : (lock : TableId) (now : Spot Item) → TurnsAt o lock now next.session → IsAtWork slot o (shared told) (history now.knows.seen) next
+    pub may_end_call : (lock : TableId) (now : Spot Item) → TurnsThere o told o (shared told) lock now next.session → IsAtWork slot o (shared told) (history now.knows.seen) next
         → {block_len : ℕ} {ledger : Ledger} → KeepsSeat o told block_len ledger was → MayEndTurn slot o told now ledger next
     may_end_call lock now turns work {block_len} {ledger} kept = record {
-      turn = turns.turn;
-      rights = turns.rights;
+      turn = turns.turns.turn;
+      rights = turns.turns.rights;
       ready = work.ready;
-      gives = gives slot o told lock now next turns (record { worked = work.worked; whole = work.ready.whole });
+      gives = gives slot o told lock now next turns.turns (record { worked = work.worked; whole = work.ready.whole });
       clients = has_still ledger.accounts (held_in_hand o (shared told) hand) (held_in_hand o (shared told) next) (has_first refl begun kept) stays.clients;
     }
 

@@ -1,6 +1,7 @@
 -- A session's turn: what it has in hand at first, and what it did when the turn is over.
-use Rattle.std.proofs.Common.{◌≡◌, ℕ, ◌<◌, ◌≤◌, List, [], ◌∷◌, ◌++◌, Bool, false, is_some, length, drop, map, Result, Ok, Err, IfOk, IsErr, OnOk, None, option_map, inl, inr, refl, sym, ap, ◌∙◌, subst, arith}
+use Rattle.std.proofs.Common.{filter, ◌≡◌, ℕ, ◌<◌, ◌≤◌, List, [], ◌∷◌, ◌++◌, Bool, false, is_some, length, drop, map, Result, Ok, Err, IfOk, IsErr, OnOk, None, option_map, inl, inr, refl, sym, ap, ◌∙◌, subst, arith}
 use Rattle.std.proofs.lemmas.Bool.{cases_lt, false≢true}
+use Rattle.std.proofs.lemmas.List.Elements.{filter-append}
 use Rattle.std.proofs.lemmas.List.{append_assoc}
 use Rattle.atomic_table.specs.Seated.{TableId}
 use Rattle.client_accounts.specs.Unused.{unused_in}
@@ -8,7 +9,7 @@ use Rattle.outside.specs.declared.slot.Slot.{Ghosts}
 use Rattle.pool_model.specs.declared.event.Event.{Event}
 use Rattle.pool_model.specs.declared.entry.Entry.{Entry}
 use Rattle.pool_model.specs.State.{Opening}
-use Rattle.pool_model.specs.LookingBack.{made_by}
+use Rattle.pool_model.specs.LookingBack.{is_by, made_by}
 use Rattle.store_api.specs.Tokens.{ClientToken}
 use Rattle.store_api.specs.Holdings.{Holdings}
 use Rattle.store_api.specs.Entries.{by}
@@ -22,12 +23,13 @@ use Rattle.turn_table.specs.Lists.{times}
 use Rattle.turn_table.specs.Steps.{grown}
 use Rattle.turn_table.specs.Face.{Spot}
 use Rattle.turn_table.proofs.Sums.{same_self}
-use Rattle.local_pool.specs.Calling.{IsFresh}
-use Rattle.local_pool.proofs.Growing.{NoneOpens}
+use Rattle.session_calls.specs.Coming.{IsFresh}
+use Rattle.session_calls.proofs.Lists.{NoneOpens}
 use Rattle.session_calls.specs.declared.hand.Hand.{Hand}
 use Rattle.session_calls.specs.Told.{held_in}
 use Rattle.session_calls.specs.Ready.{IsReady, IsResting}
 use Rattle.session_calls.specs.Doing.{Does}
+use Rattle.session_calls.proofs.Lists.{by_own, none_own}
 use Rattle.session_calls.specs.Acting.{Acts, ActsThese, held_by as held_in_hand}
 use Rattle.pool.specs.declared.item.Item.{Item}
 use Rattle.pool.specs.declared.item.Item.TheVariants.{Made}
@@ -38,7 +40,7 @@ use Rattle.pool.specs.Sitting.{Sitting, Sits, DidThese, held_by, shared}
 use Rattle.pool.specs.Taking.{Takes, made_since}
 use Rattle.pool.specs.Keeping.{KeepsSeat}
 use Rattle.pool.specs.Turning.{IsInTurn, MayEndTurn, SitsAgain}
-use Rattle.pool.proofs.Beside.{own_beside, history_more}
+use Rattle.pool.proofs.Beside.{own_beside, history_more, others_made}
 use Rattle.pool.proofs.Entered.{own_then}
 use Rattle.pool.proofs.Staying.{Stay, has_told, has_still}
 
@@ -76,6 +78,7 @@ module _ {D : Type 0} (slot : Ghosts D) (o : Opening) (told : Bool) (was : Sitti
     own = same_own;
     more = history takes.grew.behind;
     grew = takes.stands.trail_is ∙ ap history takes.grew.grew ∙ history_more was.spot.knows.seen takes.grew.behind;
+    beside = others_made takes.grew.behind was.number (takes.grew.beside was.number (its_right was.number was.spot.knows.rights sits.right));
   }
 
 history_made : (es : List Entry) → history (map Made es) ≡ es
@@ -181,6 +184,10 @@ module _ {D : Type 0} {slot : Ghosts D} {o : Opening} {told : Bool} {was seen : 
           grew =
               ended.seen ∙ acts.trail ∙ ap (λ (h : List Entry). h ++ by hand.session acts.events) begun.grew
               ∙ append_assoc (history was.spot.knows.seen) begun.more (by hand.session acts.events);
+          mine =
+              filter-append (is_by was.number) begun.more (by hand.session acts.events)
+              ∙ ap (λ (h : List Entry). h ++ filter (is_by was.number) (by hand.session acts.events)) (none_own was.number begun.more begun.beside)
+              ∙ ap (λ (m : ℕ). filter (is_by was.number) (by m acts.events)) begun.session ∙ by_own was.number acts.events;
         });
       }
 

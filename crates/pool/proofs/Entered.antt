@@ -6,7 +6,7 @@ use Rattle.pool_model.specs.State.{Opening}
 use Rattle.pool_model.specs.LookingBack.{made_by}
 use Rattle.store_api.specs.Entries.{by}
 use Rattle.own_entries.specs.OwnHoldings.{Outset, after_events}
-use Rattle.local_pool.proofs.Growing.{NoneOpens}
+use Rattle.session_calls.proofs.Lists.{NoneOpens}
 use Rattle.session_calls.specs.declared.hand.Hand.{Hand}
 use Rattle.session_calls.specs.Acting.{ActsThese, held_by}
 use Rattle.session_calls.proofs.Steps.{made_on, these_held}

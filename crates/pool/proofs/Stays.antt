@@ -13,7 +13,8 @@ use Rattle.store_api.specs.Changes.{after_reserve, after_unpin_once, after_unpin
 use Rattle.own_entries.specs.OwnHoldings.{Outset, after_events}
 use Rattle.own_entries.proofs.Calls.{calls_tell}
 use Rattle.pin_core.specs.StateOf.{state_of}
-use Rattle.local_pool.proofs.Growing.{NoneOpens}
+use Rattle.pin_core.specs.Standing.{slots_home}
+use Rattle.session_calls.proofs.Lists.{NoneOpens}
 use Rattle.session_calls.specs.declared.hand.Hand.{Hand}
 use Rattle.session_calls.specs.Told.{held_in}
 use Rattle.session_calls.specs.Moving.{quota_at}
@@ -33,6 +34,7 @@ module _ {D : Type 0} (hand next : Hand D) where
     trail = ap (λ (k : Hand D). k.trail) same ∙ sym (append-nil hand.trail);
     session = ap (λ (k : Hand D). k.session) same;
     quotas = λ k. ap (λ (n : Hand D). quota_at (state_of n.state) k) same;
+    slots = λ measure. ap (λ (n : Hand D). slots_home measure n.state) same;
   }
 
   -- something was entered, or nothing
@@ -40,7 +42,7 @@ module _ {D : Type 0} (hand next : Hand D) where
   ActsSome = Acts (λ events. Unit {0}) hand next
 
   pub acts_some : {P : List Event → Type 0} → Acts P hand next → ActsSome
-  acts_some acts = record { events = acts.events; is = tt; trail = acts.trail; session = acts.session; quotas = acts.quotas }
+  acts_some acts = record { events = acts.events; is = tt; trail = acts.trail; session = acts.session; quotas = acts.quotas; slots = acts.slots }
 
   pub acts_either : {A E : Type 0} (P : A → List Event → Type 0) (r : Result A E) → IfOk r (λ x. Acts (P x) hand next) → OnErr r (next ≡ hand) → ActsSome
   acts_either P (Ok x) ok err = acts_some ok

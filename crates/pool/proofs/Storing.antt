@@ -17,7 +17,7 @@ use Rattle.store_api.specs.Signs.{CountsRefused, Grows, Signs, WasAnswered, refu
 use Rattle.store_api.specs.Refusals.{IsScratchFull, IsUntouched, StaysPinned}
 use Rattle.own_entries.specs.OwnHoldings.{after_events}
 use Rattle.own_entries.proofs.Calls.{calls_tell}
-use Rattle.local_pool.specs.Calling.{IsFresh, IsFreshLoan}
+use Rattle.session_calls.specs.Coming.{IsFresh, IsFreshLoan}
 use Rattle.session_calls.specs.Coming.{IsFreshPage}
 use Rattle.session_calls.specs.Doing.{Does}
 use Rattle.session_calls.specs.Told.{held_in, signs_in}

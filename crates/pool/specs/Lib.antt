@@ -9,5 +9,10 @@ pub mod Keeping
 pub mod Turning
 pub mod Locking
 pub mod Seating
+pub mod Remaining
+pub mod Asking
+pub mod Admitting
+pub mod Rooms
+pub mod Parting
 pub mod Opening
 pub mod Laws

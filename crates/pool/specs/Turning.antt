@@ -12,6 +12,7 @@ use Rattle.turn_table.specs.Knowledge.{HasTurn}
 use Rattle.turn_table.specs.Face.{Spot}
 use Rattle.session_calls.specs.declared.hand.Hand.{Hand}
 use Rattle.session_calls.specs.Moving.{quota_at}
+use Rattle.session_calls.specs.Having.{AllBeside}
 use Rattle.session_calls.specs.Ready.{IsReady}
 use Rattle.session_calls.specs.Acting.{held_by as held_in_hand}
 use Rattle.pool.specs.declared.item.Item.{Item}
@@ -35,6 +36,7 @@ module _ {D : Type 0} (slot : Ghosts D) (o : Opening) (told : Bool) where
     pub own : made_by hand.trail was.number ≡ made_by (history was.spot.knows.seen) was.number
     pub more : List Entry
     pub grew : hand.trail ≡ history was.spot.knows.seen ++ more
+    pub beside : AllBeside was.number more
 
   -- the turn may end: the session entered what came since it took the value, and its ledger has its clients
   pub record MayEndTurn (spot : Spot Item) (ledger : Ledger) (hand : Hand D) : Type 0 where

@@ -8,25 +8,33 @@
 //! spare slots, are all slots; and no slot is lost (`specs/Standing.antt`).
 #![tactic(auto)]
 
+mod admitting;
+mod ask;
 mod ending;
 mod holding;
 mod item;
 mod ledger;
+mod left;
 mod lock;
 mod named;
 mod opened;
+mod parting;
 mod pass;
 mod pool;
+mod rooms;
 mod seat;
 mod seat_calls;
 mod seat_room;
 mod seating;
 mod session;
 mod shared;
+mod together;
 mod turning;
 
+pub use ask::Ask;
 pub use item::Item;
 pub use ledger::Ledger;
+pub use left::Left;
 pub use named::{At, Named};
 pub use opened::{Among, OpenedAs};
 pub use pass::Pass;

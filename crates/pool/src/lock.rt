@@ -3,7 +3,7 @@ use crate::holding::{give_hand, take_hand};
 use crate::opened::OpenedAs;
 use crate::shared::Shared;
 use outside::Slot;
-use session_calls::{Access, Hand};
+use session_calls::{Access, Hand, Origin};
 use std::sync::Wait;
 use turn_table::{TurnSeat, Turns};
 
@@ -15,38 +15,52 @@ pub(crate) struct Lock<'a, D: Slot, R: Wait, T: OpenedAs> {
 }
 
 impl<'a, D: Slot + Drop, R: Wait, T: OpenedAs> Access<D> for Lock<'a, D, R, T> {
-    ghost use Rattle.std.specs.Prelude.{◌≡◌};
+    ghost use Rattle.std.specs.Prelude.{◌≡◌, false, true};
     ghost use Rattle.session_calls.specs.Having.{MayGive, Taken};
+    ghost use Rattle.session_calls.specs.declared.hand.Hand.{Hand};
     ghost use Rattle.pool.specs.Items.{history};
-    ghost use Rattle.pool.specs.Sitting.{shared};
-    ghost use Rattle.pool.specs.Locking.{RestsAt, TurnsAt};
+    ghost use Rattle.pool.specs.Locking.{RestsThere, TurnsThere, never_alone};
 
     type Place = TurnSeat<Shared<D, T>>;
 
-    ghost opening = { T.opening };
-
-    ghost outset = { shared T.told };
+    ghost alone = { false };
 
     ghost seen = { λ spot. history spot.knows.seen };
 
-    ghost rests = { λ lock spot m. RestsAt lock.turns.now spot m };
+    // Others may have it.
+    ghost kept = { λ spot hand. Unit {0} };
 
-    ghost turns = { λ lock spot m. TurnsAt T.opening lock.turns.now spot m };
+    ghost rests = { λ o u lock spot m. RestsThere T.opening T.told o u lock.turns.now spot m };
 
-    fn take(&self, place: &mut TurnSeat<Shared<D, T>>, session: u32) -> Hand<D>
-        requires { RestsAt self.now.turns.now place.old session }
-        ensures turns { TurnsAt T.opening self.now.turns.now place.new session }
-        ensures taken { Taken D.Slot T.opening T.told session (history place.old.knows.seen) (history place.new.knows.seen) result }
+    ghost turns = { λ o u lock spot m. TurnsThere T.opening T.told o u lock.turns.now spot m };
+
+    ghost sole = { λ o u lock spot m turns never. never_alone never };
+
+    fn take<O: Origin>(&self, place: &mut TurnSeat<Shared<D, T>>, session: u32) -> Hand<D>
+        requires { RestsThere T.opening T.told O.opening O.outset self.now.turns.now place.old session }
+        ensures turns { TurnsThere T.opening T.told O.opening O.outset self.now.turns.now place.new session }
+        ensures taken { Taken D.Slot O.opening O.outset.told session (history place.old.knows.seen) (history place.new.knows.seen) result }
+        ensures kept { false ≡ true → (hand : Hand D) → Unit {0} → result ≡ hand }
     {
         take_hand(self.rt, self.turns, place, session)
     }
 
-    fn give(&self, place: &mut TurnSeat<Shared<D, T>>, hand: Hand<D>)
-        requires turns { TurnsAt T.opening self.now.turns.now place.old hand.session }
-        requires may { MayGive D.Slot T.opening T.told (history place.old.knows.seen) hand }
-        ensures rests { RestsAt self.now.turns.now place.new hand.session }
+    fn give<O: Origin>(&self, place: &mut TurnSeat<Shared<D, T>>, hand: Hand<D>)
+        requires turns { TurnsThere T.opening T.told O.opening O.outset self.now.turns.now place.old hand.session }
+        requires may { MayGive D.Slot O.opening O.outset.told (history place.old.knows.seen) hand }
+        ensures rests { RestsThere T.opening T.told O.opening O.outset self.now.turns.now place.new hand.session }
         ensures seen { history place.new.knows.seen ≡ hand.trail }
+        ensures kept { false ≡ true → Unit {0} }
     {
         give_hand(self.turns, place, hand);
+    }
+
+    // No run takes so many turns that none is left; one that did would stay here.
+    fn again(&self, left: u64) -> u64 {
+        if left == 0 {
+            for _ in self.rt.forever() {}
+            unreachable!()
+        }
+        left - 1
     }
 }

@@ -1,17 +1,23 @@
 //! A pool that sessions share.
-ghost use Rattle.std.specs.Prelude.{◌≡◌, ◌≤◌, ◌+◌, [], IfErr, IfOk, vec_len};
+ghost use Rattle.std.specs.Prelude.{◌≡◌, ◌≤◌, ◌+◌, [], IfErr, IfOk, OnErr, map, vec_len};
+ghost use Rattle.std.specs.List.{All};
 ghost use Rattle.std.specs.Option.{ForSome};
 ghost use Rattle.pin_core.specs.Setup.{OpensWith};
 ghost use Rattle.pool.specs.Opening.{ClosesWith, OpensAs};
 ghost use Rattle.pool.specs.Seats.{live_in, taken_in};
 ghost use Rattle.pool.specs.Seating.{Begins, TurnsAway};
+ghost use Rattle.pool.specs.Remaining.{all_left, quotas_of, refusals};
+ghost use Rattle.pool.specs.Asking.{Admits, answer_of, refusal_in};
 
+use crate::ask::Ask;
 use crate::named::{At, Named};
 use crate::opened::OpenedAs;
 use crate::pass::Pass;
+use crate::rooms::{close_rooms, most_of, open_rooms, open_slates};
 use crate::seating::seat_session;
 use crate::session::Session;
 use crate::shared::Shared;
+use crate::together::seat_sessions;
 use client_accounts::ClientAccounts;
 use outside::Slot;
 use pin_core::{PoolConf, PoolState};
@@ -123,6 +129,50 @@ impl<D: Slot + Drop, T: OpenedAs> Pool<D, T> {
             seat,
             named: Named { names: PhantomData },
         })
+    }
+
+    /// Lets sessions in, all in one turn: each ask is answered after those before it. It gets all of its sessions, or
+    /// none and why the first of them is refused that is.
+    ///
+    /// Where no session was live, the refusals are told by the asks and the pool's size alone.
+    ///
+    /// # Errors
+    ///
+    /// `Memory`: there was not so much for the sessions that are asked for. Then nothing is asked.
+    pub fn sessions<'a, R: Wait, N: At>(
+        &'a self,
+        alloc: Global,
+        rt: &'a R,
+        pass: &mut Pass<D, T>,
+        asks: &[Ask],
+    ) -> Result<Vec<Result<Vec<Session<'a, D, R, T, N>>, PoolErr>>, Memory>
+        requires named { ForSome N.table (λ table. self.now ≡ table) }
+        requires table { pass.old.table ≡ self.now }
+        requires some { All (λ ask. 1 ≤ ask.count) asks.now }
+        requires spare { quotas_of asks.now + taken_in pass.old.knows.seen ≤ T.opening.slots }
+        ensures ok { IfOk result (λ answers. Admits T.opening T.told asks.now pass.old pass.new (map (answer_of (λ v. v.items) (λ s. s.seat)) answers.items)) }
+        ensures fresh { live_in pass.old.knows.seen ≡ 0 → IfOk result (λ answers. map refusal_in (map (answer_of (λ v. v.items) (λ s. s.seat)) answers.items) ≡ refusals asks.now (all_left T.opening)) }
+        ensures err { OnErr result (pass.new ≡ pass.old) }
+    {
+        let most = most_of(asks);
+        let slates = open_slates(alloc, asks.len(), most)?;
+        let numbers = Vec::with_capacity(alloc, asks.len())?;
+        let rooms = open_rooms(alloc, asks.len(), most)?;
+        let Ok(answers) = Vec::with_capacity(alloc, asks.len()) else {
+            close_rooms(rooms);
+            return Err(Memory);
+        };
+        Ok(seat_sessions(
+            rt,
+            &self.turns,
+            pass,
+            self.block_len,
+            asks,
+            slates,
+            numbers,
+            rooms,
+            answers,
+        ))
     }
 
     /// Ends a pool whose sessions have all ended into its pass, and gives back its slots.

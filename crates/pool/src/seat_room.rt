@@ -6,13 +6,13 @@ ghost use Rattle.store_api.specs.Holdings.{loan_len, length_of, page_len, page_o
 ghost use Rattle.store_api.specs.Conditions.{IsBlockCount, IsHeld, IsLiveClient, IsLoan, IsPage, ShowsLeft};
 ghost use Rattle.store_api.specs.Entries.{IsAsked, IsPin, IsTaken};
 ghost use Rattle.store_api.specs.Refusals.{move_refusal};
-ghost use Rattle.local_pool.specs.Calling.{IsFreshLoan};
-ghost use Rattle.local_pool.specs.Pinning.{CanBePinned};
+ghost use Rattle.session_calls.specs.Coming.{IsFreshLoan};
+ghost use Rattle.session_calls.specs.Pinning.{CanBePinned};
 ghost use Rattle.session_calls.specs.Coming.{IsFreshPage};
 ghost use Rattle.pool.specs.Sitting.{Did, DidThese, WasDeclined, held_by, signs_by};
 
 use crate::lock::Lock;
-use crate::opened::OpenedAs;
+use crate::opened::{Among, OpenedAs};
 use crate::seat::SessionSeat;
 use crate::shared::Shared;
 use crate::turning::{begin_turn, end_turn};
@@ -42,7 +42,13 @@ impl<D: Slot + Drop, T: OpenedAs> SessionSeat<D, T> {
     {
         let lock = Lock { rt, turns };
         let hand = begin_turn(rt, turns, &mut self.spot, self.number);
-        let (hand, result) = session_calls::give_back(rt, &lock, &mut self.spot, hand, c, bytes);
+        let (hand, result) = session_calls::give_back::<Among<T>, Lock<'_, D, R, T>, D>(
+            &lock,
+            &mut self.spot,
+            hand,
+            c,
+            bytes,
+        );
         end_turn(turns, &mut self.spot, &mut self.ledger, hand);
         result
     }
@@ -67,8 +73,7 @@ impl<D: Slot + Drop, T: OpenedAs> SessionSeat<D, T> {
     {
         let lock = Lock { rt, turns };
         let hand = begin_turn(rt, turns, &mut self.spot, self.number);
-        let (hand, result) = session_calls::move_reservation(
-            rt,
+        let (hand, result) = session_calls::move_reservation::<Among<T>, Lock<'_, D, R, T>, D>(
             &lock,
             &mut self.spot,
             hand,
@@ -102,9 +107,8 @@ impl<D: Slot + Drop, T: OpenedAs> SessionSeat<D, T> {
     {
         let lock = Lock { rt, turns };
         let hand = begin_turn(rt, turns, &mut self.spot, self.number);
-        let (hand, result) = session_calls::create(
+        let (hand, result) = session_calls::create::<Among<T>, Lock<'_, D, R, T>, D>(
             alloc,
-            rt,
             &lock,
             &mut self.spot,
             hand,
@@ -138,9 +142,8 @@ impl<D: Slot + Drop, T: OpenedAs> SessionSeat<D, T> {
     {
         let lock = Lock { rt, turns };
         let hand = begin_turn(rt, turns, &mut self.spot, self.number);
-        let (hand, result) = session_calls::alloc(
+        let (hand, result) = session_calls::alloc::<Among<T>, Lock<'_, D, R, T>, D>(
             alloc,
-            rt,
             &lock,
             &mut self.spot,
             hand,
@@ -168,7 +171,12 @@ impl<D: Slot + Drop, T: OpenedAs> SessionSeat<D, T> {
     {
         let lock = Lock { rt, turns };
         let hand = begin_turn(rt, turns, &mut self.spot, self.number);
-        let (hand, result) = session_calls::pin(rt, &lock, &mut self.spot, hand, p);
+        let (hand, result) = session_calls::pin::<Among<T>, Lock<'_, D, R, T>, D>(
+            &lock,
+            &mut self.spot,
+            hand,
+            p,
+        );
         end_turn(turns, &mut self.spot, &mut self.ledger, hand);
         result
     }
@@ -190,7 +198,12 @@ impl<D: Slot + Drop, T: OpenedAs> SessionSeat<D, T> {
     {
         let lock = Lock { rt, turns };
         let hand = begin_turn(rt, turns, &mut self.spot, self.number);
-        let (hand, result) = session_calls::pin_again(rt, &lock, &mut self.spot, hand, p);
+        let (hand, result) = session_calls::pin_again::<Among<T>, Lock<'_, D, R, T>, D>(
+            &lock,
+            &mut self.spot,
+            hand,
+            p,
+        );
         end_turn(turns, &mut self.spot, &mut self.ledger, hand);
         result
     }
@@ -211,7 +224,13 @@ impl<D: Slot + Drop, T: OpenedAs> SessionSeat<D, T> {
     {
         let lock = Lock { rt, turns };
         let hand = begin_turn(rt, turns, &mut self.spot, self.number);
-        let hand = session_calls::destroy(rt, &lock, &mut self.spot, hand, p, buf);
+        let hand = session_calls::destroy::<Among<T>, Lock<'_, D, R, T>, D>(
+            &lock,
+            &mut self.spot,
+            hand,
+            p,
+            buf,
+        );
         end_turn(turns, &mut self.spot, &mut self.ledger, hand);
     }
 
@@ -236,7 +255,13 @@ impl<D: Slot + Drop, T: OpenedAs> SessionSeat<D, T> {
     {
         let lock = Lock { rt, turns };
         let hand = begin_turn(rt, turns, &mut self.spot, self.number);
-        let (hand, result) = session_calls::move_buffer(rt, &lock, &mut self.spot, hand, loan, to);
+        let (hand, result) = session_calls::move_buffer::<Among<T>, Lock<'_, D, R, T>, D>(
+            &lock,
+            &mut self.spot,
+            hand,
+            loan,
+            to,
+        );
         end_turn(turns, &mut self.spot, &mut self.ledger, hand);
         result
     }

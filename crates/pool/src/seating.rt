@@ -11,6 +11,7 @@ ghost use Rattle.pool.specs.Seats.{taken_in};
 ghost use Rattle.pool.specs.Standing.{StandsAs};
 ghost use Rattle.pool.specs.Seating.{Begins, IsSessionRefusal, MustTurnAway, TurnsAway, beginning_items};
 
+use crate::admitting::admit;
 use crate::item::Item;
 use crate::ledger::Ledger;
 use crate::opened::OpenedAs;
@@ -20,9 +21,7 @@ use crate::shared::Shared;
 use client_accounts::ClientAccounts;
 use outside::Slot;
 use pin_core::PoolState;
-use pool_model::Event;
 use reservation_tree::{Memory, PoolErr, TrackerId};
-use session_calls::enter;
 use session_table::MAX_SESSIONS;
 use std::marker::Brand;
 use std::sync::Wait;
@@ -55,21 +54,8 @@ pub(crate) fn seat_session<D: Slot + Drop, T: OpenedAs, R: Wait>(
             return Err(refusal);
         }
     };
-    let number = shared.state.open_session(limit, quota, least).unwrap();
+    let number = admit(&mut shared, limit, quota, least);
     pass.spare -= quota;
-    let tracker = shared.state.tracker(number);
-    let came = Event::AddTracker {
-        tracker,
-        parent: TrackerId::of(0),
-        limit,
-        quota: Some(quota),
-    };
-    enter(&mut shared.trail, number, came);
-    let got = Event::Increase {
-        tracker,
-        bytes: least,
-    };
-    enter(&mut shared.trail, number, got);
     leave_begun::<Brand, D, T>(turns, &mut pass.seat, shared, number, limit, quota, least);
     let spot = turns.split(&mut pass.seat, Some(number));
     let ledger = Ledger {

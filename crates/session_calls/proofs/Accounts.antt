@@ -1,40 +1,49 @@
 -- What calls on the clients of a session and on their reservations enter, and why growths are refused.
-use Rattle.std.proofs.Common.{◌≡◌, ◌≢◌, ℕ, ◌≤◌, true, List, [], ◌∷◌, ◌++◌, None, IsSome, IfSome, IfNone, is_some, Result, Err, IsErr, IfErr, refl, sym, ap, ◌∙◌, subst, arith}
+use Rattle.std.proofs.Common.{◌≡◌, ◌≢◌, ℕ, ◌≤◌, true, List, [], ◌∷◌, ◌++◌, Option, Some, None, IsSome, IfSome, IfNone, is_some, option_map, Result, Err, IsErr, IfErr, refl, sym, ap, ◌∙◌, subst, arith, inl, inr}
 use Rattle.std.proofs.lemmas.Bool.{false≢true}
 use Rattle.std.proofs.lemmas.List.{append_assoc}
+use Rattle.std.specs.FinMap.{get}
 use Rattle.outside.specs.declared.slot.Slot.{Ghosts}
 use Rattle.reservation_tree.specs.declared.errors.PoolErr.{PoolErr}
-use Rattle.reservation_tree.specs.Answer.{IsFrom}
+use Rattle.reservation_tree.specs.Answer.{no_reservation, IsFrom}
+use Rattle.reservation_tree.specs.Change.{Refusal}
 use Rattle.reservation_tree.specs.Tracker.{IsLive, reservation_of}
 use Rattle.pool_model.specs.declared.event.Event.{Event}
 use Rattle.pool_model.specs.declared.event.Event.TheVariants.{AddTracker, CloseTracker, Increase, IncreaseToFit, MoveReservation}
 use Rattle.pool_model.specs.declared.entry.Entry.{Entry}
-use Rattle.pool_model.specs.State.{Opening, State}
+use Rattle.pool_model.specs.State.{Opening, State, opened}
+use Rattle.pool_model.specs.Bytes.{bytes_of}
+use Rattle.pool_model.specs.Sums.{memory}
+use Rattle.pool_model.specs.Legal.{state_after}
 use Rattle.pool_model.specs.LookingBack.{made_by}
 use Rattle.pool_model.specs.Effects.{after}
 use Rattle.pool_model.specs.Owning.{IsClientOf}
 use Rattle.store_api.specs.Tokens.{ClientToken}
-use Rattle.store_api.specs.Holdings.{Holdings, Shared, account_of}
+use Rattle.store_api.specs.Holdings.{Above, Holdings, Room, Shared, account_of}
 use Rattle.store_api.specs.Changes.{query_growth, shortfall, after_end_client, after_reserve}
 use Rattle.store_api.specs.Conditions.{IsIdle}
 use Rattle.store_api.specs.Refusals.{reserve_refusal, IsSharedRefusal}
+use Rattle.own_entries.specs.AboveLaws.{AllBy}
+use Rattle.own_entries.specs.HeldLaws.{own_holdings}
 use Rattle.own_entries.specs.OwnHoldings.{Outset, after_events}
+use Rattle.own_entries.proofs.AloneRefused.{legal_refuses_alone}
 use Rattle.own_entries.proofs.Calls.{calls_tell}
 use Rattle.pin_core.specs.StateOf.{state_of}
 use Rattle.pin_core.specs.Sessions.{query_of, client_count, IsIdle as HasNothing}
 use Rattle.pin_core.specs.Standing.{Enters}
 use Rattle.pin_core.specs.Entering.{growth_refusal, fit_refusal, client_entry}
 use Rattle.pin_core.specs.Opening.{leaving_entries}
-use Rattle.local_pool.specs.Making.{rests}
-use Rattle.local_pool.proofs.Clients.{query_is, fewer, client_here, client_lives, reservation_here, leaving_is, has_nothing}
-use Rattle.local_pool.proofs.Refusals.{fit_is, refused_told, shared_told}
-use Rattle.local_pool.proofs.SharedAbove.{stays_shared}
+use Rattle.session_calls.specs.Moving.{rests}
+use Rattle.session_calls.proofs.Clients.{query_is, fewer, client_here, client_lives, reservation_here, leaving_is, has_nothing}
+use Rattle.session_calls.proofs.Refusals.{all_refused, fit_is, none_else, refused_told, shared_told}
+use Rattle.session_calls.proofs.SharedAbove.{stays_shared}
+use Rattle.session_calls.proofs.Sized.{run_memory}
 use Rattle.session_calls.specs.declared.hand.Hand.{Hand}
 use Rattle.session_calls.specs.Told.{held_in}
 use Rattle.session_calls.specs.Moving.{quota_at, keeps_seats}
 use Rattle.session_calls.specs.Ready.{IsReady}
-use Rattle.session_calls.specs.Acting.{ActsThese, Goes, held_by}
-use Rattle.session_calls.proofs.Knowing.{Knows, knows}
+use Rattle.session_calls.specs.Acting.{ActsThese, Goes, TellsAbove, held_by}
+use Rattle.session_calls.proofs.Knowing.{Knows, held_is, knows}
 use Rattle.session_calls.proofs.Quotas.{quota_closed}
 use Rattle.session_calls.proofs.Steps.{acts_by, ready_by, one_ready, one_acts}
 
@@ -75,6 +84,31 @@ module _ {D : Type 0} (slot : Ghosts D) (o : Opening) (u : Outset) (hand : Hand 
   pub read_lives : (t c : ℕ) → t ≡ c → IsSome (held.clients c) → IsLive s.trackers t
   read_lives t c same some = subst (IsLive s.trackers) (sym same) (client_lives its c some)
 
+  -- where all memory is above it, and it alone made entries, a growth is refused exactly as the store's clauses say it
+  refused_alone : (u.above ≡ Room (bytes_of o.block_len o.blocks)) × AllBy hand.session hand.trail → (c bytes : ℕ) → IsSome (held.clients c) → option_map no_reservation (growth_refusal s c bytes) ≡ reserve_refusal c bytes held
+  refused_alone all c bytes some =
+      let m : ℕ = hand.session in
+      let alone : Above → Holdings = λ a. own_holdings o (record { above = a; told = u.told }) hand.trail m in
+      let there : get (state_after o hand.trail).sessions m ≡ Some its.session = ap (λ (z : State). get z.sessions m) (sym is.whole.stands.state) ∙ its.lives in
+      let whole : alone (Room (memory (state_after o hand.trail))) ≡ held =
+      ap alone (ap Room (run_memory (opened o) hand.trail) ∙ sym all.0) ∙ held_is o u hand in
+      let here : IsSome ((alone (Room (memory (state_after o hand.trail)))).clients c) → option_map no_reservation (growth_refusal (state_after o hand.trail) c bytes) ≡ reserve_refusal c bytes (alone (Room (memory (state_after o hand.trail)))) =
+      legal_refuses_alone o u.told hand.trail is.whole.stands.legal m all.1 its.session there c bytes in
+      ap (λ (z : State). option_map no_reservation (growth_refusal z c bytes)) is.whole.stands.state
+      ∙ subst (λ (h : Holdings). IsSome (h.clients c) → option_map no_reservation (growth_refusal (state_after o hand.trail) c bytes) ≡ reserve_refusal c bytes h) whole here some
+
+  -- a growth's answer, by what is told of the room above
+  refused_by : TellsAbove o u hand → (c bytes : ℕ) → IsSome (held.clients c) → (r : Option Refusal) → r ≡ growth_refusal s c bytes → (answer : Result (Unit {0}) PoolErr)
+      → (IsSome r → IsErr answer) → IfErr answer (IsFrom r) → IfSome (reserve_refusal c bytes held) (λ x. answer ≡ Err x)
+  refused_by (inl shared) c bytes some r same answer = refused_told its (held_shared o u hand shared) c bytes some r same answer
+  refused_by (inr all) c bytes some r same answer = all_refused r (reserve_refusal c bytes held) (ap (option_map no_reservation) same ∙ refused_alone all c bytes some) answer
+
+  shared_by : TellsAbove o u hand → (c bytes : ℕ) → IsSome (held.clients c) → (r : Option Refusal) → r ≡ growth_refusal s c bytes → (answer : Result (Unit {0}) PoolErr)
+      → IfErr answer (IsFrom r) → IfNone (reserve_refusal c bytes held) (IfErr answer (IsSharedRefusal (query_growth bytes held) held.above))
+  shared_by (inl shared) c bytes some r same answer = shared_told its (held_shared o u hand shared) c bytes some r same answer
+  shared_by (inr all) c bytes some r same answer =
+      none_else r (reserve_refusal c bytes held) (ap (option_map no_reservation) same ∙ refused_alone all c bytes some) (IsSharedRefusal (query_growth bytes held) held.above) answer
+
   -- a client whose token was made anew
   module _ (mine : ClientToken) (t c : ℕ) (made : mine ≡ record { session = hand.session; tracker = t }) (same : t ≡ c) (some : IsSome (held.clients c)) where
     token_is : mine ≡ record { session = hand.session; tracker = c }
@@ -107,24 +141,24 @@ module _ {D : Type 0} (slot : Ghosts D) (o : Opening) (u : Outset) (hand : Hand 
     grew_to_fit bytes = reserved_by (λ k. IncreaseToFit k bytes) (shortfall c bytes held) refl refl ((calls_tell hand.session held).reserve_to_fit c bytes some)
 
     -- why it can't grow, if it can't: for its own limits, or for one that others share
-    module _ (shared : u.above ≡ Shared) (answer : Result (Unit {0}) PoolErr) (bytes : ℕ) where
+    module _ (tells : TellsAbove o u hand) (answer : Result (Unit {0}) PoolErr) (bytes : ℕ) where
       growth_is : growth_refusal s mine.tracker bytes ≡ growth_refusal s c bytes
       growth_is = ap (λ (k : ClientToken). growth_refusal s k.tracker bytes) token_is
 
       pub growth_refused : (IsSome (growth_refusal s mine.tracker bytes) → IsErr answer) → IfErr answer (IsFrom (growth_refusal s mine.tracker bytes)) → IfSome (reserve_refusal c bytes held) (λ x. answer ≡ Err x)
-      growth_refused = refused_told its (held_shared o u hand shared) c bytes some (growth_refusal s mine.tracker bytes) growth_is answer
+      growth_refused = refused_by tells c bytes some (growth_refusal s mine.tracker bytes) growth_is answer
 
       pub growth_shared : IfErr answer (IsFrom (growth_refusal s mine.tracker bytes)) → IfNone (reserve_refusal c bytes held) (IfErr answer (IsSharedRefusal (query_growth bytes held) held.above))
-      growth_shared = shared_told its (held_shared o u hand shared) c bytes some (growth_refusal s mine.tracker bytes) growth_is answer
+      growth_shared = shared_by tells c bytes some (growth_refusal s mine.tracker bytes) growth_is answer
 
       fit_so : fit_refusal s mine.tracker bytes ≡ growth_refusal s c (shortfall c bytes held)
       fit_so = ap (λ (k : ClientToken). fit_refusal s k.tracker bytes) token_is ∙ fit_is its c bytes some
 
       pub fit_refused : (IsSome (fit_refusal s mine.tracker bytes) → IsErr answer) → IfErr answer (IsFrom (fit_refusal s mine.tracker bytes)) → IfSome (reserve_refusal c (shortfall c bytes held) held) (λ x. answer ≡ Err x)
-      fit_refused = refused_told its (held_shared o u hand shared) c (shortfall c bytes held) some (fit_refusal s mine.tracker bytes) fit_so answer
+      fit_refused = refused_by tells c (shortfall c bytes held) some (fit_refusal s mine.tracker bytes) fit_so answer
 
       pub fit_shared : IfErr answer (IsFrom (fit_refusal s mine.tracker bytes)) → IfNone (reserve_refusal c (shortfall c bytes held) held) (IfErr answer (IsSharedRefusal (query_growth (shortfall c bytes held) held) held.above))
-      fit_shared = shared_told its (held_shared o u hand shared) c (shortfall c bytes held) some (fit_refusal s mine.tracker bytes) fit_so answer
+      fit_shared = shared_by tells c (shortfall c bytes held) some (fit_refusal s mine.tracker bytes) fit_so answer
 
     -- it went
     pub left : IsIdle c held → (q bytes : ℕ) (new : Hand D) (first : List Entry) → q ≡ query_of s hand.session → bytes ≡ reservation_of s.trackers t

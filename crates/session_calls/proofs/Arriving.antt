@@ -1,5 +1,5 @@
 -- What comes to a session while clean pages go, which may be others'.
-use Rattle.std.proofs.Common.{◌≡◌, ℕ, ◌+◌, ◌≤◌, ◌<◌, length, List, [], ◌∷◌, ◌++◌, map, Result, Ok, Err, is_some, true, IfOk, IfErr, OnErr, refl, sym, ap, ◌∙◌, subst, arith, le-leb}
+use Rattle.std.proofs.Common.{◌≡◌, ℕ, ◌+◌, ◌≤◌, ◌<◌, length, take, List, [], ◌∷◌, ◌++◌, map, Result, Ok, Err, is_some, true, IfOk, IfErr, OnErr, OnOk, refl, sym, ap, ◌∙◌, subst, arith, le-leb}
 use Rattle.std.proofs.lemmas.Bool.{leb-true}
 use Rattle.std.proofs.lemmas.List.{append_assoc}
 use Rattle.std.proofs.lemmas.List.Elements.{All-from_recursion}
@@ -12,21 +12,27 @@ use Rattle.pool_model.specs.declared.event.Event.{Event}
 use Rattle.pool_model.specs.declared.event.Event.TheVariants.{Evict, Create}
 use Rattle.pool_model.specs.declared.entry.Entry.{Entry}
 use Rattle.pool_model.specs.State.{Opening, State}
+use Rattle.pool_model.specs.Bytes.{bytes_of}
+use Rattle.pool_model.specs.Legal.{run}
 use Rattle.pool_model.specs.LookingBack.{names_in}
+use Rattle.pool_model.specs.Sums.{free_bytes, length_of as length_in}
 use Rattle.pool_model.specs.HistoryLaws.{AreNew}
 use Rattle.pool_model.proofs.Names.{legal_names_are_new}
 use Rattle.store_api.specs.Tokens.{PageToken}
-use Rattle.store_api.specs.Holdings.{Holdings}
+use Rattle.store_api.specs.Holdings.{Holdings, length_of}
 use Rattle.store_api.specs.Entries.{by, IsEvict}
 use Rattle.own_entries.specs.OwnHoldings.{Outset, after_events}
 use Rattle.pin_core.specs.StateOf.{state_of}
 use Rattle.pin_core.specs.Standing.{Enters}
-use Rattle.pin_core.specs.Evictions.{evictions, names_gone}
+use Rattle.pin_core.specs.Evictions.{MakesRoom, blocks_in, evictions, names_gone}
 use Rattle.pin_core.specs.Coming.{zeros}
-use Rattle.local_pool.specs.Calling.{Evicts}
-use Rattle.local_pool.specs.Making.{rests}
-use Rattle.local_pool.proofs.Growing.{by_append}
-use Rattle.local_pool.proofs.Fresh.{zeroed, fresh_name}
+use Rattle.session_calls.specs.Coming.{Evicts}
+use Rattle.session_calls.specs.Moving.{rests}
+use Rattle.session_calls.specs.Needing.{IsNeeded, EntersNeeded}
+use Rattle.session_calls.proofs.Lists.{by_append}
+use Rattle.session_calls.proofs.Fresh.{zeroed, fresh_name}
+use Rattle.session_calls.proofs.Needed.{needed_evicts, needed_then, needs_goes, needs_none}
+use Rattle.session_calls.proofs.Pages.{len_here}
 use Rattle.session_calls.specs.declared.hand.Hand.{Hand}
 use Rattle.session_calls.specs.Told.{signs_in}
 use Rattle.session_calls.specs.Moving.{keeps_seats}
@@ -91,6 +97,18 @@ module _ {D : Type 0} (slot : Ghosts D) (hand new : Hand D) (blocks : ℕ) (e : 
         ready_by slot hand new events went o u was (all_evicts (λ x. rests x ≡ true) (λ p. refl) names (e ∷ []) (rest, tt)) (keep_opens events all_keep)
         (after_events (held_by o u hand) (e ∷ [])) (evicts_hold (held_by o u hand) names (e ∷ [])) live few
 
+  -- as many clean pages went as were needed
+  pub needed_evicting : Goes slot events hand new → (o : Opening) (u : Outset) → IsReady slot o u hand → (t : ℕ) → ((s : State) → IsNeeded t (length_of blocks (held_by o u hand)) s e)
+      → MakesRoom (state_of hand.state) (bytes_of (state_of hand.state).block_len blocks) names → EntersNeeded t (length_of blocks (held_by o u hand)) hand new
+  needed_evicting went o u was t always room =
+      let s : State = state_of hand.state in
+      let m : ℕ = hand.session in
+      let amount : ℕ = length_of blocks (held_by o u hand) in
+      let fewest : (k : ℕ) → k < length names → free_bytes s + length_in s (blocks_in s (take k names)) < amount =
+      subst (λ (n : ℕ). (k : ℕ) → k < length names → free_bytes s + length_in s (blocks_in s (take k names)) < n) (sym (len_here (knows slot o u hand was) blocks)) room.needed in
+      needs_goes t amount slot hand new events went
+      (needed_then t amount m (evicts_for blocks hand) (e ∷ []) s (needed_evicts t amount m names s fewest) ((λ own. always (run s (by m (evicts_for blocks hand)))), tt))
+
 module _ {D : Type 0} (slot : Ghosts D) (o : Opening) (u : Outset) (hand : Hand D) (is : IsReady slot o u hand) where
   abbrev s : State
   s = state_of hand.state
@@ -145,6 +163,11 @@ module _ {D : Type 0} (slot : Ghosts D) (o : Opening) (u : Outset) (hand : Hand 
       pub acts_created : (r : Result (PageToken × Buffer) PoolErr) → IfOk r Came → IfOk r (λ made. Acts (Evicts (Create made.0.name t blocks made.0.key ∷ [])) hand new)
       acts_created (Ok made) came = acts_evicting slot hand new blocks (Create made.0.name t blocks made.0.key) came refl
       acts_created (Err e) came = tt
+
+      pub needed_created : (r : Result (PageToken × Buffer) PoolErr) → IfOk r Came → IfErr r Spent → OnOk r (MakesRoom s (bytes_of s.block_len blocks) (names_gone blocks hand.state))
+          → EntersNeeded t (length_of blocks held) hand new
+      needed_created (Ok made) came spent room = needed_evicting slot hand new blocks (Create made.0.name t blocks made.0.key) came o u is t (λ z. tt) room
+      needed_created (Err e) came spent room = needs_none t (length_of blocks held) hand new spent.1
 
       pub fresh_created : (r : Result (PageToken × Buffer) PoolErr) → IfOk r (λ made. made.0 ≡ record { name = s.next_name; key = made.0.key; client = t })
           → IfOk r (λ made. made.1 ≡ zeros blocks s.block_len) → IfOk r (λ made. made.0.name < 18446744073709551615) → IfOk r (λ made. IsFreshPage t blocks made held (signs_by o hand))

@@ -19,18 +19,19 @@ use Rattle.store_api.specs.Entries.{by, IsAsked, IsEvict, IsTaken}
 use Rattle.own_entries.specs.OwnHoldings.{Outset}
 use Rattle.own_entries.proofs.Calls.{asked_hold}
 use Rattle.pin_core.specs.StateOf.{state_of}
-use Rattle.pin_core.specs.Standing.{StandsFor}
+use Rattle.pin_core.specs.Standing.{StandsFor, slots_home}
 use Rattle.pin_core.specs.Tallies.{silence}
 use Rattle.pin_core.specs.Returning.{EntersWhere}
 use Rattle.pin_core.specs.Refusing.{refusal_of}
 use Rattle.pin_core.specs.Turns.{LacksRoom}
-use Rattle.local_pool.specs.Calling.{Evicts}
-use Rattle.local_pool.specs.Turning.{IsRoomCall, IsWrite, Wants}
-use Rattle.local_pool.proofs.Failures.{rose_for, rose_in_all}
-use Rattle.local_pool.proofs.Growing.{NoneOpens, by_append}
-use Rattle.local_pool.proofs.Making.{asked_none, asked_more, asked_last}
-use Rattle.local_pool.proofs.RoomCalls.{may_refuse}
-use Rattle.local_pool.proofs.Roomed.{stored_for}
+use Rattle.session_calls.specs.Coming.{Evicts}
+use Rattle.session_calls.specs.Wanting.{IsRoomCall, Wants}
+use Rattle.session_calls.specs.Writing.{IsWrite}
+use Rattle.session_calls.proofs.Failures.{rose_for, rose_in_all}
+use Rattle.session_calls.proofs.Lists.{NoneOpens, by_append}
+use Rattle.session_calls.proofs.Asks.{asked_none, asked_more, asked_last}
+use Rattle.session_calls.proofs.RoomCalls.{may_refuse}
+use Rattle.session_calls.proofs.Roomed.{stored_for}
 use Rattle.session_calls.specs.declared.hand.Hand.{Hand}
 use Rattle.session_calls.specs.declared.turning.Turn.{Turn}
 use Rattle.session_calls.specs.declared.turning.Turn.TheVariants as turn
@@ -42,6 +43,7 @@ use Rattle.session_calls.specs.Doing.{Does}
 use Rattle.session_calls.specs.Having.{IsAtWork}
 use Rattle.session_calls.specs.Jobs.{DoesIn}
 use Rattle.session_calls.specs.Turning.{Refuses, TurnIs}
+use Rattle.session_calls.proofs.Entered.{acts_entered}
 use Rattle.session_calls.proofs.Between.{rests_on, worked_on}
 use Rattle.session_calls.proofs.Did.{does_at, acts_did, did_more, did_so, did_held, did_grows, did_made}
 use Rattle.session_calls.proofs.Knowing.{Knows, knows}
@@ -65,12 +67,15 @@ module _ {D : Type 0} where
   module _ (slot : Ghosts D) (o : Opening) (u : Outset) where
     -- a session that is at work goes on with a step
     pub works_with : {P : List Event → Type 0} (seen : List Entry) (old new : Hand D) → IsAtWork slot o u seen old → Acts P old new → IsReady slot o u new → IsAtWork slot o u seen new
-    works_with seen old new was acts ready = record { worked = worked_on o u seen old new was.worked acts; ready = ready }
+    works_with seen old new was acts ready = record { worked = worked_on o u seen old new was.worked (acts_entered old new acts); ready = ready }
 
     -- a refusal is entered, and changes nothing else
     module _ (old new : Hand D) (was : IsReady slot o u old) (call : Call) (entry : ℕ) (may : MayFollow old.trail (state_of old.state) (refusal_of old.session call entry))
         (enters : EntersWhere slot (λ q h. MayFollow h (state_of old.state) (refusal_of old.session call entry)) (refusal_of old.session call entry) [] old.state new.state)
         (trail : new.trail ≡ old.trail ++ refusal_of old.session call entry ∷ []) (session : new.session ≡ old.session) where
+      pub no_slot : (measure : D → ℕ) → slots_home measure new.state ≡ slots_home measure old.state
+      no_slot measure = let moved = enters.slots measure in omega (arith, moved)
+
       abbrev pub acts_refused : ActsThese (Refused call entry ∷ []) old new
       acts_refused = record {
         events = Refused call entry ∷ [];
@@ -78,6 +83,7 @@ module _ {D : Type 0} where
         trail = trail;
         session = session;
         quotas = λ k. ap (λ (s : State). quota_at s k) enters.state ∙ quota_stays (state_of old.state) (refusal_of old.session call entry) k refl;
+        slots = no_slot;
       }
 
       pub ready_refused : IsReady slot o u new
@@ -127,8 +133,8 @@ module _ {D : Type 0} where
       pub turned_on : (amount : ℕ) (new : Hand D) (r : Turn) → TurnIs o u t amount r now new → DoesIn (IsAsked t (held_by o u start) []) start new
       turned_on amount new turn.Ready is = subst (DoesIn (IsAsked t (held_by o u start) []) start) (sym is.1) asked
       turned_on amount new (turn.Refused entry) is = subst (DoesIn (IsAsked t (held_by o u start) []) start) (sym is.1) asked
-      turned_on amount new turn.Wrote is = asks_on new is
-      turned_on amount new turn.Waited is = asks_still new is
+      turned_on amount new turn.Wrote is = asks_on new is.1
+      turned_on amount new turn.Waited is = asks_still new is.2
 
       -- it asked, and then this
       pub asked_then : (last : List Event) (new : Hand D) → ActsThese last now new → NoneOpens last → DoesIn (IsAsked t (held_by o u start) last) start new
@@ -186,6 +192,7 @@ module _ {D : Type 0} where
             let for_client : failures_in (is_for_own start.session t) start.trail < failures_in (is_for_own new.session t) new.trail = let first = rose in let more = grew.failures_of t in omega (arith, first, more) in
             let in_all : failures_in (is_own start.session) start.trail < failures_in (is_own new.session) new.trail = let first = rose_all in let more = grew.failures in omega (arith, first, more) in
             record {
+              did = all;
               was = record {
                 held = did_held o u start new all ∙ asked_hold t (held_by o u start) (Refused call entry ∷ []) all.does.events all.does.is;
                 cause = for_client;

@@ -9,7 +9,7 @@ use Rattle.store_api.specs.Holdings.{Holdings}
 use Rattle.store_api.specs.Entries.{by}
 use Rattle.own_entries.specs.OwnHoldings.{Outset, after_events}
 use Rattle.own_entries.specs.Busy.{busy_from}
-use Rattle.local_pool.specs.Making.{rests}
+use Rattle.session_calls.specs.Moving.{rests}
 use Rattle.session_calls.specs.declared.hand.Hand.{Hand}
 use Rattle.session_calls.specs.Moving.{keeps_seats}
 use Rattle.session_calls.specs.Ready.{IsReady}
@@ -17,6 +17,7 @@ use Rattle.session_calls.specs.Acting.{Acts, Goes, held_by}
 use Rattle.session_calls.specs.Having.{MayGive, IsAtWork}
 use Rattle.session_calls.specs.Jobs.{DoesIn}
 use Rattle.session_calls.proofs.Between.{worked_on}
+use Rattle.session_calls.proofs.Entered.{acts_entered}
 use Rattle.session_calls.proofs.Busy.{busy_more}
 use Rattle.session_calls.proofs.Did.{acts_did, did_held}
 use Rattle.session_calls.proofs.Steps.{keep_opens, one_acts, one_ready}
@@ -26,7 +27,7 @@ module _ {D : Type 0} (slot : Ghosts D) (o : Opening) (u : Outset) (seen : List 
     (rest : rests e ≡ true) (keeps : keeps_seats e ≡ true) where
   pub one_works : (h : Holdings) → after_events (held_by o u old) (e ∷ []) ≡ h → is_some h.free_slots ≡ true → h.live_clients ≤ 16 → IsAtWork slot o u seen new
   one_works h ends live few = record {
-    worked = worked_on o u seen old new was.worked (one_acts slot o u old new was.ready e went rest keeps);
+    worked = worked_on o u seen old new was.worked (acts_entered old new (one_acts slot o u old new was.ready e went rest keeps));
     ready = one_ready slot o u old new was.ready e went rest keeps h ends live few;
   }
 
@@ -38,6 +39,7 @@ module _ {D : Type 0} (slot : Ghosts D) (o : Opening) (u : Outset) (seen : List 
         trail = went.trail;
         session = went.session;
         quotas = (one_acts slot o u old new was.ready e went rest keeps).quotas;
+        slots = (one_acts slot o u old new was.ready e went rest keeps).slots;
       } in
       acts_did old new acts (keep_opens (e ∷ []) (keeps, tt))
 

@@ -13,17 +13,17 @@ use Rattle.store_api.specs.Entries.{by}
 use Rattle.own_entries.specs.OwnHoldings.{Outset, after_events}
 use Rattle.own_entries.specs.Busy.{busy_from}
 use Rattle.own_entries.proofs.Calls.{asked_hold}
-use Rattle.local_pool.specs.Turning.{IsEnd, IsWrite}
-use Rattle.local_pool.proofs.Growing.{by_append}
-use Rattle.local_pool.proofs.Making.{asked_none, asked_more}
+use Rattle.session_calls.specs.Writing.{IsEnd, IsWrite}
+use Rattle.session_calls.proofs.Lists.{by_append, none_own}
+use Rattle.session_calls.proofs.Asks.{asked_none, asked_more}
 use Rattle.session_calls.specs.declared.hand.Hand.{Hand}
 use Rattle.session_calls.specs.Told.{held_in}
 use Rattle.session_calls.specs.Moving.{quota_at}
 use Rattle.session_calls.specs.Ready.{IsResting}
-use Rattle.session_calls.specs.Acting.{Acts}
 use Rattle.session_calls.specs.Doing.{Does}
 use Rattle.session_calls.specs.Having.{Worked, Taken, IsAtWork}
 use Rattle.session_calls.specs.Jobs.{DoesIn}
+use Rattle.session_calls.proofs.Entered.{Entered}
 use Rattle.session_calls.proofs.Doing.{does_held}
 use Rattle.session_calls.proofs.Busy.{busy_more}
 use Rattle.session_calls.proofs.Lasts.{made_beside}
@@ -65,13 +65,13 @@ module _ (o : Opening) (u : Outset) where
 
   module _ {D : Type 0} where
     -- a session that has the value goes on
-    pub worked_on : {P : List Event → Type 0} (seen : List Entry) (old new : Hand D) → Worked o seen old → Acts P old new → Worked o seen new
-    worked_on seen old new worked acts = record {
-      events = worked.events ++ acts.events;
+    pub worked_on : {P : List Event → Type 0} (seen : List Entry) (old new : Hand D) → Worked o seen old → Entered P old new → Worked o seen new
+    worked_on seen old new worked entered = record {
+      events = worked.events ++ entered.events;
       trail =
-          acts.trail ∙ ap (λ (h : List Entry). h ++ by old.session acts.events) worked.trail ∙ append_assoc seen (by old.session worked.events) (by old.session acts.events)
-          ∙ ap (λ (es : List Entry). seen ++ es) (sym (by_append old.session worked.events acts.events)) ∙ ap (λ (m : ℕ). seen ++ by m (worked.events ++ acts.events)) (sym acts.session);
-      quotas = λ k. acts.quotas k ∙ worked.quotas k;
+          entered.trail ∙ ap (λ (h : List Entry). h ++ by old.session entered.events) worked.trail ∙ append_assoc seen (by old.session worked.events) (by old.session entered.events)
+          ∙ ap (λ (es : List Entry). seen ++ es) (sym (by_append old.session worked.events entered.events)) ∙ ap (λ (m : ℕ). seen ++ by m (worked.events ++ entered.events)) (sym entered.session);
+      quotas = λ k. entered.quotas k ∙ worked.quotas k;
     }
 
     -- it gave the value back, and took it again
@@ -86,6 +86,7 @@ module _ (o : Opening) (u : Outset) where
         own = ap (λ (h : List Entry). made_by h hand.session) grew ∙ made_beside hand.session hand.trail took.others took.beside ∙ sym (append-nil (made_by hand.trail hand.session));
         more = took.others;
         grew = grew;
+        mine = none_own hand.session took.others took.beside;
       }
 
       pub waited : DoesIn (λ events. events ≡ []) hand taken

@@ -6,7 +6,7 @@ use Rattle.pool_model.specs.declared.event.Event.TheVariants.{AddTracker, Create
 use Rattle.pool_model.specs.declared.entry.Entry.{Entry}
 use Rattle.store_api.specs.Entries.{by}
 use Rattle.own_entries.specs.Busy.{busy_after, busy_from}
-use Rattle.local_pool.specs.Making.{rests}
+use Rattle.session_calls.specs.Moving.{rests}
 
 -- the second list goes on from what the first tells
 pub busy_more : (p : ℕ) (was : Bool) (a b : List Entry) → busy_from p was (a ++ b) ≡ busy_from p (busy_from p was a) b

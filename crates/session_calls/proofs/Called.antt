@@ -1,5 +1,5 @@
 -- Calls that need room of a client, whole.
-use Rattle.std.proofs.Common.{◌≡◌, ℕ, ◌*◌, ◌<◌, List, [], ◌∷◌, ◌++◌, Result, Ok, Err, IfOk, IfErr, OnErr, OnOk, All, true, refl, sym, ap, ◌∙◌, subst}
+use Rattle.std.proofs.Common.{◌≡◌, ℕ, ◌*◌, ◌<◌, List, [], ◌∷◌, ◌++◌, Result, Ok, Err, IfOk, IfErr, OnErr, OnOk, All, Bool, true, refl, sym, ap, ◌∙◌, subst}
 use Rattle.std.proofs.lemmas.List.Elements.{All-nil, All-cons, All-head, All-tail, filter_map-append}
 use Rattle.outside.specs.declared.slot.Slot.{Ghosts}
 use Rattle.block_arena.specs.Memory.{Buffer}
@@ -11,20 +11,23 @@ use Rattle.pool_model.specs.declared.entry.Entry.{Entry}
 use Rattle.pool_model.specs.State.{Opening}
 use Rattle.pool_model.specs.LookingBack.{made_by, name_in, names_in}
 use Rattle.store_api.specs.Tokens.{LoanToken, PageToken}
-use Rattle.store_api.specs.Holdings.{Holdings, loan_len, loan_of}
+use Rattle.store_api.specs.Holdings.{Holdings, length_of, loan_len, loan_of}
 use Rattle.store_api.specs.Conditions.{IsLoan, IsZeroed}
 use Rattle.store_api.specs.Entries.{by, IsAsked, IsTaken}
 use Rattle.own_entries.specs.OwnHoldings.{Outset}
-use Rattle.local_pool.specs.Calling.{Evicts}
+use Rattle.session_calls.specs.Coming.{Evicts}
 use Rattle.session_calls.specs.declared.hand.Hand.{Hand}
 use Rattle.session_calls.specs.Told.{signs_in}
 use Rattle.session_calls.specs.Ready.{IsReady}
 use Rattle.session_calls.specs.Acting.{Acts, held_by, signs_by}
 use Rattle.session_calls.specs.Coming.{IsFreshPage}
+use Rattle.session_calls.specs.Counting.{Costs}
+use Rattle.session_calls.specs.Needing.{EntersNeeded}
 use Rattle.session_calls.specs.Having.{IsAtWork}
 use Rattle.session_calls.specs.Jobs.{DoesIn}
 use Rattle.session_calls.specs.Turning.{Refuses}
 use Rattle.session_calls.proofs.Asked.{works_with, asked_held, taken_then}
+use Rattle.session_calls.proofs.Costs.{costs_taken}
 use Rattle.session_calls.proofs.Did.{did_grows, did_made}
 
 all_front : {X : Type 0} (P : X → Type 0) (front rest : List X) → All P (front ++ rest) → All P front
@@ -43,6 +46,10 @@ module _ {D : Type 0} (o : Opening) (u : Outset) where
 
     pub granted_held : held_by o u now ≡ held_by o u start
     granted_held = asked_held o u t start now granted
+
+    -- so a length is as it was
+    pub length_now : (bytes blocks room : ℕ) → bytes ≡ length_of blocks (held_by o u start) → room ≡ blocks → bytes ≡ length_of room (held_by o u now)
+    length_now bytes blocks room len same = len ∙ ap (λ (n : ℕ). length_of n (held_by o u start)) (sym same) ∙ ap (length_of room) (sym granted_held)
 
   -- a call asked, and then the page came, or names lacked
   module _ (t blocks : ℕ) (start now : Hand D) (asked : DoesIn (IsAsked t (held_by o u start) []) start now) where
@@ -65,6 +72,7 @@ module _ {D : Type 0} (o : Opening) (u : Outset) where
 
     names_lack : (signs_by o now).spent ≡ true → Refuses o u t (call.Create t blocks) start now NamesSpent
     names_lack spent = record {
+      did = asked;
       was = record { held = asked_held o u t start now asked; cause = spent; answered = spent; entries = did_made o u start now asked };
       grows = did_grows o u start now asked;
     }
@@ -88,6 +96,11 @@ module _ {D : Type 0} (o : Opening) (u : Outset) where
       refused_created (Ok made) is spent = tt
       refused_created (Err e) is spent =
           subst (λ (x : Hand D). Refuses o u t (call.Create t blocks) start x e) (sym spent.0) (subst (Refuses o u t (call.Create t blocks) start now) (sym is) (names_lack spent.1))
+
+      pub costs_created : (slot : Ghosts D) (alone : Bool) (bytes : ℕ) (r : Result (PageToken × Buffer) PoolErr) → IsReady slot o u now → Costs slot alone t bytes start now → EntersNeeded t bytes now new → IfOk r Came → OnErr r Spent
+          → Costs slot alone t bytes start new
+      costs_created slot alone bytes (Ok made) was costs needed came spent = costs_taken slot alone t bytes o u start now new asked costs was (Create made.0.name t blocks made.0.key) refl needed came
+      costs_created slot alone bytes (Err e) was costs needed came spent = subst (Costs slot alone t bytes start) (sym spent.0) costs
 
     pub fresh_taken : (r : Result (PageToken × Buffer) PoolErr) → IfOk r (λ made. IsFreshPage t blocks made (held_by o u now) (signs_by o now)) → IfOk r (λ made. IsFreshPage t blocks made (held_by o u start) (signs_by o start))
     fresh_taken (Ok made) fresh = fresh_before made fresh

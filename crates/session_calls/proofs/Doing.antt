@@ -6,15 +6,16 @@ use Rattle.std.proofs.lemmas.List.Elements.{filter-append, filter_map-append}
 use Rattle.pool_model.specs.declared.entry.Entry.{Entry}
 use Rattle.pool_model.specs.declared.event.Event.{Event}
 use Rattle.pool_model.specs.State.{Opening}
-use Rattle.pool_model.specs.LookingBack.{made_by, names_in, name_in}
+use Rattle.pool_model.specs.LookingBack.{is_by, made_by, names_in, name_in}
 use Rattle.pool_model.specs.Failures.{is_own, is_for_own, failures_in}
 use Rattle.pool_model.proofs.Rising.{failures_grow}
 use Rattle.store_api.specs.Entries.{by, Made}
 use Rattle.store_api.specs.Signs.{Grows, refuses_unpin}
+use Rattle.own_entries.specs.AboveLaws.{AllBy}
 use Rattle.own_entries.specs.OwnHoldings.{Outset, after_events, holdings_of}
 use Rattle.own_entries.proofs.Calls.{calls_run_on}
 use Rattle.own_entries.proofs.Outsets.{outsets_stay}
-use Rattle.local_pool.proofs.Growing.{by_append}
+use Rattle.session_calls.proofs.Lists.{all_own, by_append}
 use Rattle.session_calls.specs.Told.{held_in, signs_in}
 use Rattle.session_calls.specs.Doing.{Does}
 
@@ -52,6 +53,10 @@ module _ {P : List Event → Type 0} (o : Opening) (u : Outset) (m : ℕ) (befor
   unfolding signs_in
   does_made = (by m does.events, ap Some does.own, (does.events, ap (λ (k : ℕ). by k does.events) (sym (whose o u m before)), does.is))
 
+-- where nobody else entered any, the history grew by what the session did
+pub does_all : {P : List Event → Type 0} (m : ℕ) (before now : List Entry) (does : Does m P before now) → AllBy m does.more → now ≡ before ++ by m does.events
+does_all m before now does all = does.grew ∙ ap (λ (es : List Entry). before ++ es) (sym (all_own m does.more all) ∙ does.mine)
+
 -- one after the other
 abbrev pub does_more : {P Q R : List Event → Type 0} (m : ℕ) (x y z : List Entry) (a : Does m P x y) (b : Does m Q y z) → R (a.events ++ b.events) → Does m R x z
 does_more m x y z a b is = record {
@@ -60,16 +65,15 @@ does_more m x y z a b is = record {
   own = b.own ∙ ap (λ (h : List Entry). h ++ by m b.events) a.own ∙ append_assoc (made_by x m) (by m a.events) (by m b.events) ∙ ap (λ (h : List Entry). made_by x m ++ h) (sym (by_append m a.events b.events));
   more = a.more ++ b.more;
   grew = b.grew ∙ ap (λ (h : List Entry). h ++ b.more) a.grew ∙ append_assoc x a.more b.more;
+  mine =
+      filter-append (is_by m) a.more b.more ∙ ap (λ (h : List Entry). h ++ filter (is_by m) b.more) a.mine ∙ ap (λ (h : List Entry). by m a.events ++ h) b.mine
+      ∙ sym (by_append m a.events b.events);
 }
 
 -- nothing was done
 abbrev pub does_none : (m : ℕ) (h : List Entry) → Does m (λ events. events ≡ []) h h
-does_none m h = record { events = []; is = refl; own = sym (append-nil (made_by h m)); more = []; grew = sym (append-nil h) }
+does_none m h = record { events = []; is = refl; own = sym (append-nil (made_by h m)); more = []; grew = sym (append-nil h); mine = refl }
 
 -- the same, of other words
 abbrev pub does_so : {P Q : List Event → Type 0} (m : ℕ) (x y : List Entry) (a : Does m P x y) → Q a.events → Does m Q x y
-does_so m x y a is = record { events = a.events; is = is; own = a.own; more = a.more; grew = a.grew }
-
--- others alone entered what is between
-abbrev pub does_beside : (m : ℕ) (h more : List Entry) → (own_same : made_by (h ++ more) m ≡ made_by h m) → Does m (λ events. events ≡ []) h (h ++ more)
-does_beside m h more same = record { events = []; is = refl; own = same ∙ sym (append-nil (made_by h m)); more = more; grew = refl }
+does_so m x y a is = record { events = a.events; is = is; own = a.own; more = a.more; grew = a.grew; mine = a.mine }

@@ -1,32 +1,52 @@
 -- A page of a session ends, once it isn't written by another.
-use Rattle.std.proofs.Common.{◌≡◌, ℕ, ◌≤◌, List, [], ◌∷◌, ◌++◌, refl, sym, ap, ◌∙◌, subst}
+use Rattle.std.proofs.Common.{◌≡◌, ℕ, ◌+◌, ◌<◌, ◌≤◌, Bool, true, false, List, [], ◌∷◌, ◌++◌, refl, sym, ap, ◌∙◌, subst, arith}
+use Rattle.std.proofs.lemmas.Bool.{false≢true}
 use Rattle.outside.specs.declared.slot.Slot.{Ghosts}
 use Rattle.block_arena.specs.Memory.{Buffer}
 use Rattle.pool_model.specs.declared.event.Event.{Event}
 use Rattle.pool_model.specs.declared.event.Event.TheVariants.{Destroy}
 use Rattle.pool_model.specs.declared.entry.Entry.{Entry}
-use Rattle.pool_model.specs.State.{Opening}
+use Rattle.pool_model.specs.State.{Place, Pinned, Dirty, Flying, Loading, Clean, Evicted, Opening, page_at}
 use Rattle.store_api.specs.Tokens.{PageToken}
 use Rattle.store_api.specs.Holdings.{Holdings, page_of}
 use Rattle.store_api.specs.Changes.{after_destroy}
 use Rattle.store_api.specs.Conditions.{Fits, IsPage}
 use Rattle.store_api.specs.Entries.{by}
 use Rattle.own_entries.specs.OwnHoldings.{Outset, after_events}
+use Rattle.own_entries.specs.AboveLaws.{AllBy}
 use Rattle.pin_core.specs.declared.parts.Parts.{Parts}
 use Rattle.pin_core.specs.StateOf.{state_of}
 use Rattle.pin_core.specs.Standing.{Enters}
-use Rattle.pin_core.specs.Ending.{IsPinnedWith, IsUnpinned, destroy_entry}
-use Rattle.local_pool.proofs.Holding.{given_live}
-use Rattle.local_pool.proofs.Pages.{is_there, pinned_with, rests_there}
+use Rattle.pin_core.specs.Ending.{IsPinnedWith, IsUnpinned, destroy_entry, is_flying}
+use Rattle.session_calls.proofs.Freed.{given_live}
+use Rattle.session_calls.proofs.Pages.{is_there, pinned_with, rests_there}
 use Rattle.session_calls.specs.declared.hand.Hand.{Hand}
+use Rattle.session_calls.specs.Moving.{is_moving}
 use Rattle.session_calls.specs.Acting.{Goes, held_by}
+use Rattle.session_calls.specs.Counting.{CountsOn}
 use Rattle.session_calls.specs.Having.{IsAtWork}
 use Rattle.session_calls.specs.Jobs.{DoesIn}
+use Rattle.session_calls.proofs.Alone.{none_moving}
 use Rattle.session_calls.proofs.AtWork.{one_works, one_did}
+use Rattle.session_calls.proofs.Counts.{counts_goes}
 use Rattle.session_calls.proofs.Did.{did_more, did_held}
 use Rattle.session_calls.proofs.Doing.{does_none}
 use Rattle.session_calls.proofs.Idle.{not_loading}
 use Rattle.session_calls.proofs.Knowing.{Knows, knows}
+
+-- a page that is written is in a job
+flying_moves : (place : Place) → is_flying place ≡ true → is_moving place ≡ true
+flying_moves (Flying writer) flies = refl
+flying_moves (Pinned n) flies = flies
+flying_moves Dirty flies = flies
+flying_moves Loading flies = refl
+flying_moves Clean flies = flies
+flying_moves Evicted flies = flies
+
+-- what is left goes down with each round, where a session that is alone has no second one
+pub comes_down : (alone : Bool) (less left : ℕ) → (alone ≡ true → ⊥) → (alone ≡ false → less + 1 ≡ left) → less < left
+comes_down true less left never beside = absurd (never refl)
+comes_down false less left never beside = let one = beside refl in omega (arith, one)
 
 module _ {D : Type 0} (slot : Ghosts D) (o : Opening) (u : Outset) (seen : List Entry) (hand : Hand D) (is : IsAtWork slot o u seen hand) (p : PageToken) (held : IsPage p (held_by o u hand)) where
   abbrev h : Holdings
@@ -55,6 +75,14 @@ module _ {D : Type 0} (slot : Ghosts D) (o : Opening) (u : Outset) (seen : List 
 
     pub did_ended : DoesIn (λ events. events ≡ Destroy p.name ∷ []) hand new
     did_ended = one_did slot o u seen hand new is (Destroy p.name) went_ended refl refl refl
+
+    pub counts_ended : CountsOn slot hand new
+    counts_ended = counts_goes slot o hand is.ready.whole.stands.legal new (Destroy p.name ∷ []) went_ended (refl, tt)
+
+  -- where the session is alone, no page of it is written
+  pub flies_never : AllBy hand.session hand.trail → is_flying (page_at (state_of hand.state) p.name).place ≡ true → ⊥
+  flies_never all flies =
+      false≢true (sym (none_moving slot o u hand is.ready all p.name (page_at (state_of hand.state) p.name) (is_there its p held).page.lives) ∙ flying_moves (page_at (state_of hand.state) p.name).place flies)
 
 -- while a session only waited
 module _ {D : Type 0} (o : Opening) (u : Outset) (start now : Hand D) (none : DoesIn (λ events. events ≡ []) start now) where

@@ -1,5 +1,5 @@
 -- A turn of a pin loads the page.
-use Rattle.std.proofs.Common.{◌≡◌, ℕ, ◌+◌, ◌*◌, ◌<◌, ◌≤◌, ◌||◌, ◌==◌, Bool, true, false, if◌then◌else◌, List, [], ◌∷◌, ◌++◌, length, T, Result, Ok, Err, IfOk, IfErr, refl, sym, ap, ◌∙◌, subst, arith, inr}
+use Rattle.std.proofs.Common.{◌≡◌, ℕ, ◌+◌, ◌*◌, ◌<◌, ◌≤◌, ◌||◌, ◌==◌, Bool, true, false, if◌then◌else◌, List, [], ◌∷◌, ◌++◌, length, map, take, T, Result, Ok, Err, IfOk, IfErr, refl, sym, ap, ◌∙◌, subst, arith, inr}
 use Rattle.std.proofs.lemmas.List.{append_assoc}
 use Rattle.std.proofs.lemmas.List.Folds.{list_any-append}
 use Rattle.std.specs.List.{AllByRecursion, list_any, sum_by}
@@ -9,9 +9,10 @@ use Rattle.reservation_tree.specs.declared.errors.PoolErr.{PoolErr}
 use Rattle.reservation_tree.specs.declared.errors.PoolErr.TheVariants.{ReadFault}
 use Rattle.pool_model.specs.declared.call.Call.TheVariants.{Pin}
 use Rattle.pool_model.specs.declared.event.Event.{Event}
-use Rattle.pool_model.specs.declared.event.Event.TheVariants.{PinLoad, ReadOk, ReadFailed}
+use Rattle.pool_model.specs.declared.event.Event.TheVariants.{PinLoad, ReadOk, ReadFailed, Evict}
 use Rattle.pool_model.specs.declared.entry.Entry.{Entry}
 use Rattle.pool_model.specs.State.{Opening, Loading, Page, State, page_at}
+use Rattle.pool_model.specs.Sums.{free_bytes, length_of}
 use Rattle.pool_model.specs.Effects.{after}
 use Rattle.pool_model.specs.Legal.{run, state_after, IsLegal}
 use Rattle.pool_model.specs.LookingBack.{content_from, content_of, is_ask, made_by}
@@ -21,7 +22,7 @@ use Rattle.pool_model.specs.MayFollow.{MayFollow}
 use Rattle.pool_model.proofs.Rising.{failures_grow}
 use Rattle.pool_model.proofs.Fronts.{legal_fronts, legal_grows_so, state_runs_on}
 use Rattle.store_api.specs.Tokens.{PageToken}
-use Rattle.store_api.specs.Holdings.{Holdings, page_of}
+use Rattle.store_api.specs.Holdings.{Holdings, page_of, page_len}
 use Rattle.store_api.specs.Conditions.{IsPage, ShowsLeft}
 use Rattle.store_api.specs.Entries.{by}
 use Rattle.own_entries.specs.OwnHoldings.{Outset, after_events}
@@ -31,31 +32,37 @@ use Rattle.pin_core.specs.declared.jobs.ReadJob.{ReadJob}
 use Rattle.pin_core.specs.StateOf.{state_of}
 use Rattle.pin_core.specs.Standing.{StandsFor, Enters, AreHeld}
 use Rattle.pin_core.specs.Tallies.{silence}
-use Rattle.pin_core.specs.Evictions.{evictions, names_gone}
+use Rattle.pin_core.specs.Evictions.{blocks_in, evictions, names_gone}
 use Rattle.pin_core.specs.Loads.{load_entries}
 use Rattle.pin_core.specs.PinTurns.{IsLoad}
 use Rattle.pin_core.specs.Refusing.{refusal_of}
-use Rattle.local_pool.specs.Calling.{Evicts}
-use Rattle.local_pool.specs.Making.{rests}
-use Rattle.local_pool.specs.Pinning.{CanBePinned, IsPinned, IsFailedRead}
-use Rattle.local_pool.proofs.Contents.{content_told, content_whole}
-use Rattle.local_pool.proofs.Fetching.{fetching, fetching_by, fetches, fetching_holds, content_append, fetching_leaves, fetching_alike, put_alike}
-use Rattle.local_pool.proofs.Growing.{NoneOpens}
-use Rattle.local_pool.proofs.Known.{left_of}
-use Rattle.local_pool.proofs.Pages.{IsThere, is_there, fits_here, left_here, not_pinned}
-use Rattle.local_pool.proofs.Sized.{run_len}
+use Rattle.session_calls.specs.Coming.{Evicts}
+use Rattle.session_calls.specs.Moving.{rests}
+use Rattle.session_calls.specs.Pinning.{CanBePinned, IsPinned, IsFailedRead}
+use Rattle.session_calls.proofs.Contents.{content_told, content_whole}
+use Rattle.session_calls.proofs.Fetching.{fetching, fetching_by, fetches, fetching_holds, content_append, fetching_leaves, fetching_alike, put_alike, fetching_plain}
+use Rattle.session_calls.proofs.Lists.{NoneOpens}
+use Rattle.session_calls.proofs.Known.{left_of}
+use Rattle.session_calls.proofs.Pages.{IsThere, is_there, fits_here, left_here, not_pinned, page_len_here}
+use Rattle.session_calls.proofs.Sized.{run_len}
 use Rattle.session_calls.specs.declared.hand.Hand.{Hand}
 use Rattle.session_calls.specs.Told.{held_in}
 use Rattle.session_calls.specs.Moving.{keeps_seats, quota_at, slots_out}
 use Rattle.session_calls.specs.Ready.{StandsWhole}
-use Rattle.session_calls.specs.Acting.{ActsThese, held_by}
+use Rattle.session_calls.specs.Acting.{held_by}
 use Rattle.session_calls.specs.Having.{MayGive, IsAtWork}
 use Rattle.session_calls.specs.Jobs.{DoesIn, CanRead, IsRead, IsUnread}
 use Rattle.session_calls.specs.Pinning.{HasAsked, FailedPin}
+use Rattle.session_calls.specs.Counting.{CountsBack, CountsOn}
+use Rattle.session_calls.specs.Needing.{AreNeeded, EntersNeeded}
 use Rattle.session_calls.proofs.AtWork.{back_at_work}
 use Rattle.session_calls.proofs.Between.{worked_on}
-use Rattle.session_calls.proofs.Did.{acts_did, did_more, did_held}
+use Rattle.session_calls.proofs.Entered.{Entered}
+use Rattle.session_calls.proofs.Counts.{counts_out}
+use Rattle.session_calls.proofs.Did.{entered_did, did_more, did_held}
 use Rattle.session_calls.proofs.Knowing.{Knows, knows}
+use Rattle.session_calls.proofs.Needed.{needed_evicts, needed_then, needs_more}
+use Rattle.session_calls.proofs.Needs.{AreFree, IsFree, needs_does}
 use Rattle.session_calls.proofs.Out.{out_run, out_loading}
 use Rattle.session_calls.proofs.Quotas.{quotas_run}
 use Rattle.session_calls.proofs.Spare.{ones}
@@ -242,7 +249,7 @@ module _ {D : Type 0} (slot : Ghosts D) (o : Opening) (u : Outset) (seen : List 
     tell = λ told. let moved = enters.slots (silence slot) in let none = is.ready.whole.tell told in omega (arith, moved, none);
   }
 
-  abbrev begun : ActsThese front hand went
+  abbrev begun : Entered (λ events. events ≡ front) hand went
   begun = record {
     events = front;
     is = refl;
@@ -252,12 +259,36 @@ module _ {D : Type 0} (slot : Ghosts D) (o : Opening) (u : Outset) (seen : List 
   }
 
   abbrev began : DoesIn (λ events. events ≡ front) hand went
-  began = acts_did hand went begun (fetching_opens names p.name)
+  began = entered_did hand went begun (fetching_opens names p.name)
 
   pub may_load_it : MayGive slot o u.told seen went
   may_load_it = record { worked = worked_on o u seen hand went is.worked begun; whole = went_whole }
 
+  -- as many clean pages went as were needed
+  needed_front : EntersNeeded p.client (page_len p.name h) hand went
+  needed_front =
+      let amount : ℕ = page_len p.name h in
+      let evicts : AreNeeded m p.client amount s (by m (map Evict names)) =
+      needed_evicts p.client amount m names s (subst (λ (n : ℕ). (k : ℕ) → k < length names → free_bytes s + length_of s (blocks_in s (take k names)) < n) (page_len_here its p can.page) load.goes.needed) in
+      record {
+        entries = by m front;
+        trail = went_trail;
+        state = went_state;
+        needed = needed_then p.client amount m (map Evict names) (PinLoad p.name ∷ []) s evicts (λ own. tt, tt);
+      }
+
   module _ (now : List Entry) (new : Hand D) (may : MayGive slot o u.told now new) where
+    -- the load ended with an event that may be entered at any time
+    needed_end : (end : Event) → IsFree p.client (page_len p.name h) end → DoesIn (λ events. events ≡ end ∷ []) went new → EntersNeeded p.client (page_len p.name h) hand new
+    needed_end end free did =
+        needs_more p.client (page_len p.name h) hand went new session needed_front
+        (needs_does p.client (page_len p.name h) slot o went new went_stands may.whole.stands did (subst (AreFree p.client (page_len p.name h)) (sym did.does.is) (free, tt)))
+
+    -- the slots of the page came back
+    pub counts_fetched : CountsBack slot job.row went new → CountsOn slot hand new
+    counts_fetched back =
+        counts_out slot o hand is.ready.whole.stands.legal went new front job.row went_trail (fetching_plain names p.name) (λ measure. let moved = enters.slots measure in omega (arith, moved)) back
+
     -- the page came back with its buffer
     module _ (result : Result Buffer PoolErr) (ok : IfOk result (λ buf. IsRead u.told job buf went new)) (buf : Buffer) (answered : result ≡ Ok buf) where
       abbrev read : IsRead u.told job buf went new
@@ -271,6 +302,9 @@ module _ {D : Type 0} (slot : Ghosts D) (o : Opening) (u : Outset) (seen : List 
 
       pub did_read : DoesIn (IsPinned p.name) hand new
       did_read = came
+
+      pub needed_read : EntersNeeded p.client (page_len p.name h) hand new
+      needed_read = needed_end (ReadOk job.id.name) (λ v. tt) read.did
 
       pub works_read : IsAtWork slot o u now new
       works_read =
@@ -303,6 +337,9 @@ module _ {D : Type 0} (slot : Ghosts D) (o : Opening) (u : Outset) (seen : List 
 
       pub did_unread : DoesIn (IsFailedRead p.name) hand new
       did_unread = came_not
+
+      pub needed_unread : EntersNeeded p.client (page_len p.name h) hand new
+      needed_unread = needed_end (ReadFailed job.id.name unread.before unread.now) (λ v. tt) unread.did
 
       ends : after_events h came_not.does.events ≡ after_events h (PinLoad p.name ∷ end ∷ [])
       ends = ap (λ (es : List Event). after_events h (front ++ es)) unread_events ∙ fetching_holds names p.name (end ∷ []) h

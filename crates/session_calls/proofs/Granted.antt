@@ -18,11 +18,11 @@ use Rattle.pin_core.specs.StateOf.{state_of}
 use Rattle.pin_core.specs.Standing.{Enters}
 use Rattle.pin_core.specs.Entering.{unused_of, move_entry}
 use Rattle.pin_core.specs.Lending.{CanMoveTo, move_entry as lend_entry}
-use Rattle.local_pool.specs.Making.{rests}
-use Rattle.local_pool.proofs.Clients.{client_here, unused_here, within_limit, room_is_here}
-use Rattle.local_pool.proofs.Refusals.{move_granted, move_fits, move_passes}
-use Rattle.local_pool.proofs.Pages.{is_there}
-use Rattle.local_pool.proofs.Loans.{can_move}
+use Rattle.session_calls.specs.Moving.{rests}
+use Rattle.session_calls.proofs.Clients.{client_here, unused_here, within_limit, room_is_here}
+use Rattle.session_calls.proofs.Refusals.{move_granted, move_fits, move_passes}
+use Rattle.session_calls.proofs.Pages.{is_there}
+use Rattle.session_calls.proofs.Loans.{can_move}
 use Rattle.session_calls.specs.declared.hand.Hand.{Hand}
 use Rattle.session_calls.specs.Moving.{keeps_seats}
 use Rattle.session_calls.specs.Ready.{IsReady}

@@ -12,8 +12,8 @@ use Rattle.own_entries.specs.OwnHoldings.{Outset}
 use Rattle.own_entries.specs.Busy.{is_busy, busy_in, busy_from}
 use Rattle.own_entries.proofs.BusyTold.{legal_busy_pages_are_told}
 use Rattle.pin_core.specs.StateOf.{state_of}
-use Rattle.local_pool.proofs.Known.{left_of}
-use Rattle.local_pool.proofs.Pages.{IsThere, is_there}
+use Rattle.session_calls.proofs.Known.{left_of}
+use Rattle.session_calls.proofs.Pages.{IsThere, is_there}
 use Rattle.session_calls.specs.declared.hand.Hand.{Hand}
 use Rattle.session_calls.specs.Ready.{IsReady}
 use Rattle.session_calls.specs.Acting.{held_by}

@@ -5,7 +5,7 @@ use Rattle.pool_model.specs.State.{Opening}
 use Rattle.own_entries.specs.OwnHoldings.{Outset}
 use Rattle.own_entries.specs.HeldLaws.{own_holdings}
 use Rattle.pin_core.specs.StateOf.{state_of}
-use Rattle.local_pool.proofs.Known.{KnownTo, left_of, known}
+use Rattle.session_calls.proofs.Known.{KnownTo, left_of, known}
 use Rattle.session_calls.specs.declared.hand.Hand.{Hand}
 use Rattle.session_calls.specs.Told.{held_in}
 use Rattle.session_calls.specs.Ready.{IsReady}

@@ -21,9 +21,9 @@ use Rattle.pin_core.specs.StateOf.{state_of}
 use Rattle.pin_core.specs.Standing.{Enters}
 use Rattle.pin_core.specs.Lending.{free_entry}
 use Rattle.pin_core.specs.Unpinning.{LacksSlots as PoolLacks}
-use Rattle.local_pool.proofs.Pages.{is_there, lacks_there, full_there}
-use Rattle.local_pool.proofs.Loans.{loan_client}
-use Rattle.local_pool.proofs.Holding.{taken_live, given_live}
+use Rattle.session_calls.proofs.Pages.{is_there, lacks_there, full_there}
+use Rattle.session_calls.proofs.Loans.{loan_client}
+use Rattle.session_calls.proofs.Freed.{taken_live, given_live}
 use Rattle.session_calls.specs.declared.hand.Hand.{Hand}
 use Rattle.session_calls.specs.Ready.{IsReady}
 use Rattle.session_calls.specs.Acting.{ActsThese, Goes, held_by}

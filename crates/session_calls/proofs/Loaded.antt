@@ -1,12 +1,13 @@
 -- A page comes back from its load.
-use Rattle.std.proofs.Common.{◌≡◌, ◌↔◌, ℕ, ◌+◌, ◌<◌, ◌≤◌, ◌==◌, List, [], ◌∷◌, ◌++◌, map, length, Bool, true, false, Some, Result, Ok, Err, IsErr, IfOk, IfErr, refl, sym, ap, ◌∙◌, subst, arith, inl, inr, eq-eqb}
+use Rattle.std.proofs.Common.{◌≡◌, ◌↔◌, ℕ, ◌+◌, ◌<◌, ◌≤◌, ◌==◌, List, [], ◌∷◌, ◌++◌, map, length, Bool, true, false, if◌then◌else◌, Some, Result, Ok, Err, IsErr, IfOk, IfErr, refl, sym, ap, ◌∙◌, subst, arith, inl, inr, eq-eqb}
 use Rattle.std.proofs.lemmas.Bool.{false≢true, and_from}
 use Rattle.std.specs.FinMap.{get}
+use Rattle.std.specs.List.{sum_by}
 use Rattle.outside.specs.declared.slot.Slot.{Ghosts}
 use Rattle.block_arena.specs.Memory.{Buffer, IsBufferOf}
 use Rattle.reservation_tree.specs.declared.errors.PoolErr.{PoolErr}
 use Rattle.reservation_tree.specs.declared.errors.PoolErr.TheVariants.{ReadFault}
-use Rattle.scratch_dev.specs.Rows.{faults_of}
+use Rattle.scratch_dev.specs.Rows.{faults_of, CountsStores}
 use Rattle.pool_model.specs.declared.event.Event.{Event}
 use Rattle.pool_model.specs.declared.event.Event.TheVariants.{ReadOk, ReadFailed}
 use Rattle.pool_model.specs.declared.entry.Entry.{Entry}
@@ -22,17 +23,21 @@ use Rattle.pool_model.proofs.Rising.{failures_grow}
 use Rattle.store_api.specs.Entries.{by}
 use Rattle.pin_core.specs.declared.jobs.ReadJob.{ReadJob}
 use Rattle.pin_core.specs.StateOf.{state_of}
-use Rattle.pin_core.specs.Standing.{AreHeld}
-use Rattle.pin_core.specs.Runs.{AllTell, after_loads}
+use Rattle.pin_core.specs.Standing.{AreHeld, slots_home}
+use Rattle.pin_core.specs.Runs.{AllTell, CountsFaults, after_loads}
 use Rattle.pin_core.specs.Jobs.{IsReadJob}
 use Rattle.pin_core.specs.Returning.{EntersWhere, read_ends, read_entry, IsRead as HoldsContent}
-use Rattle.pin_core.proofs.Tallied.{same_silence}
-use Rattle.local_pool.proofs.Silent.{none_silent}
+use Rattle.pin_core.specs.Tallies.{Counted, all_failures, silence, tally_by}
+use Rattle.pin_core.proofs.Tallied.{came_back, same_silence, same_stores}
+use Rattle.session_calls.proofs.Silent.{none_silent}
 use Rattle.session_calls.specs.declared.hand.Hand.{Hand}
 use Rattle.session_calls.specs.Moving.{slots_out, keeps_seats}
 use Rattle.session_calls.specs.Ready.{StandsWhole}
 use Rattle.session_calls.specs.Having.{MayGive, Taken}
 use Rattle.session_calls.specs.Jobs.{DoesIn, CanRead, IsRead, IsUnread}
+use Rattle.session_calls.specs.Counting.{CountsBack}
+use Rattle.session_calls.proofs.Counting.{is_stored_by, unstored}
+use Rattle.session_calls.proofs.Counts.{counts_back}
 use Rattle.session_calls.proofs.Out.{back_read, back_unread}
 use Rattle.session_calls.proofs.Lasts.{IsInJob}
 use Rattle.session_calls.proofs.Failing.{failed_last, failed_counts}
@@ -52,6 +57,17 @@ module _ (p before now : ℕ) where
       → slots_out (after s (record { maker = m; event = read_ends b p before now })).pages + (page_at s p).blocks ≡ slots_out s.pages
   comes_back true h s m may = back_unread h s m p before now may
   comes_back false h s m may = back_read h s m p may
+
+  never_stored : (b : Bool) → is_stored_by (read_ends b p before now) ≡ false
+  never_stored true = refl
+  never_stored false = refl
+
+-- a failure raised the count
+row_counts : {D : Type 0} (slot : Ghosts D) (home : (D → ℕ) → ℕ) (was row : List D) (m p before now : ℕ) → sum_by (silence slot) row ≡ sum_by (silence slot) was → length row ≡ length was
+    → faults_of slot was ≤ faults_of slot row → CountsStores slot 0 was row → (b : Bool) → CountsFaults slot (if b then 1 else 0) was row
+    → Counted (all_failures (by m (read_ends b p before now ∷ []))) 0 (tally_by slot (λ measure. home measure + sum_by measure was)) (tally_by slot (λ measure. home measure + sum_by measure row))
+row_counts slot home was row m p before now silent len fall stores true faults = came_back slot home was row 1 0 fall faults stores silent len
+row_counts slot home was row m p before now silent len fall stores false faults = came_back slot home was row 0 0 fall faults stores silent len
 
 module _ {D : Type 0} (slot : Ghosts D) (o : Opening) (told : Bool) (old mid : Hand D) (stood : StandsWhole slot o told old.trail old.state)
     (before now : List Entry) (seen : before ≡ old.trail) (taken : Taken slot o told old.session before now mid)
@@ -201,3 +217,13 @@ module _ {D : Type 0} (slot : Ghosts D) (o : Opening) (told : Bool) (old mid : H
     pub is_unread : (r : Result Buffer PoolErr) → IsErr r ↔ (ran.failed ≡ true) → IfErr r (λ err. err ≡ ReadFault t.entries) → IfErr r (λ err. IsUnread job err old new)
     is_unread (Ok buf) refused cause = tt
     is_unread (Err err) refused cause = came_unread (refused.0 refl) err cause
+
+    -- where the session is alone, the slots of the job count what the end says
+    pub counts_loaded : mid ≡ old → map slot.tells ran.row ≡ map slot.tells job.row → faults_of slot job.row ≤ faults_of slot ran.row → CountsFaults slot (if ran.failed then 1 else 0) job.row ran.row
+        → map slot.stores ran.row ≡ map slot.stores job.row → CountsBack slot job.row old new
+    counts_loaded alone tells fall more stores =
+        counts_back slot o old stood.stands.legal new (end ∷ []) job.row ran.row (trail ∙ ap (λ (hand : Hand D). hand.trail ++ by old.session (end ∷ [])) alone) (all_failures (by old.session (end ∷ []))) 0 refl
+        (unstored new.trail old.session end (never_stored ran.id.name sum faults ran.failed))
+        (λ measure. enters_so.slots measure ∙ ap (λ (hand : Hand D). slots_home measure hand.state + sum_by measure ran.row) alone)
+        (row_counts slot (λ measure. slots_home measure old.state) job.row ran.row old.session ran.id.name sum faults (same_silence slot ran.row job.row tells) len fall (same_stores slot job.row ran.row (sym stores)) ran.failed more)
+        (same_silence slot ran.row job.row tells)

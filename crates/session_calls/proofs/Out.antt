@@ -18,7 +18,7 @@ use Rattle.pool_model.proofs.Pages.{page_is}
 use Rattle.pool_model.proofs.Kept.{entry_sound, legal_sound}
 use Rattle.pool_model.proofs.Fronts.{legal_fronts, legal_grows_so, state_runs_on}
 use Rattle.own_entries.proofs.ByOthers.{none_there}
-use Rattle.local_pool.specs.Making.{rests}
+use Rattle.session_calls.specs.Moving.{rests}
 use Rattle.session_calls.specs.Moving.{is_moving, out_with, slots_out}
 
 -- what is out with a page of so many blocks in this place

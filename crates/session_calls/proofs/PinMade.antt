@@ -1,5 +1,5 @@
 -- What a call that pins a page makes, from its ask on.
-use Rattle.std.proofs.Common.{◌≡◌, ◌⊎◌, ℕ, ◌<◌, ◌≤◌, List, [], ◌∷◌, ◌++◌, Some, IsSome, refl, sym, ap, ◌∙◌, subst, arith, inl, inr}
+use Rattle.std.proofs.Common.{◌≡◌, ◌⊎◌, ℕ, ◌<◌, ◌≤◌, Bool, true, List, [], ◌∷◌, ◌++◌, Some, IsSome, refl, sym, ap, ◌∙◌, subst, arith, inl, inr}
 use Rattle.std.proofs.lemmas.List.{append_assoc}
 use Rattle.outside.specs.declared.slot.Slot.{Ghosts}
 use Rattle.block_arena.specs.Memory.{Buffer}
@@ -22,14 +22,14 @@ use Rattle.own_entries.specs.OwnHoldings.{Outset}
 use Rattle.own_entries.proofs.Calls.{calls_tell}
 use Rattle.pin_core.specs.StateOf.{state_of}
 use Rattle.pin_core.specs.Turns.{LacksRoom}
-use Rattle.local_pool.specs.Pinning.{CanBePinned, IsFailedRead, IsPinned}
-use Rattle.local_pool.specs.Turning.{IsWrite}
-use Rattle.local_pool.proofs.Failures.{more_in_all}
-use Rattle.local_pool.proofs.Growing.{NoneOpens, by_append}
-use Rattle.local_pool.proofs.Making.{asked_last}
-use Rattle.local_pool.proofs.Pages.{lacks_room, page_client_lives}
-use Rattle.local_pool.proofs.PinMade.{pin_is}
-use Rattle.local_pool.proofs.RoomCalls.{may_refuse}
+use Rattle.session_calls.specs.Pinning.{CanBePinned, IsFailedRead, IsPinned}
+use Rattle.session_calls.specs.Writing.{IsWrite, writes_left}
+use Rattle.session_calls.proofs.Failures.{more_in_all}
+use Rattle.session_calls.proofs.Lists.{NoneOpens, by_append}
+use Rattle.session_calls.proofs.Asks.{asked_last}
+use Rattle.session_calls.proofs.Pages.{lacks_room, page_client_lives}
+use Rattle.session_calls.proofs.PinWords.{pin_is}
+use Rattle.session_calls.proofs.RoomCalls.{may_refuse}
 use Rattle.session_calls.specs.declared.hand.Hand.{Hand}
 use Rattle.session_calls.specs.declared.pinning.PinStep.{PinStep}
 use Rattle.session_calls.specs.declared.pinning.PinStep.TheVariants as step
@@ -37,9 +37,12 @@ use Rattle.session_calls.specs.Told.{signs_in}
 use Rattle.session_calls.specs.Ready.{IsReady}
 use Rattle.session_calls.specs.Acting.{ActsThese, held_by, signs_by}
 use Rattle.session_calls.specs.Jobs.{DoesIn}
-use Rattle.session_calls.specs.Pinning.{HasAsked, MayRefusePin, FailedPin, PinIs}
+use Rattle.session_calls.specs.Pinning.{HasAsked, MayRefusePin, FailedPin, PinIs, GoesFurther, StepsAlone}
+use Rattle.session_calls.specs.Counting.{Costs}
+use Rattle.session_calls.specs.Needing.{EntersNeeded}
 use Rattle.session_calls.specs.Turning.{Refuses}
 use Rattle.session_calls.proofs.Asked.{asked_held, asks_on, asks_still, was_refused}
+use Rattle.session_calls.proofs.Costs.{costs_more, costs_step}
 use Rattle.session_calls.proofs.Did.{does_at, acts_did, did_more, did_so, did_held, did_grows, did_made}
 use Rattle.session_calls.proofs.Knowing.{Knows, knows}
 use Rattle.session_calls.proofs.SinceAsked.{has_asked}
@@ -64,6 +67,17 @@ pinned_name _ = 0
 tell_last : (m entry : ℕ) (call : Call) (front end : List Event) → end ≡ Refused call entry ∷ [] → TellRefused entry (by m (front ++ end))
 tell_last m entry call front end is = (by m front, m, call, [], ap (λ (es : List Event). by m (front ++ es)) is ∙ by_append m front (Refused call entry ∷ []))
 
+module _ {D : Type 0} where
+  stays_at : (o : Opening) (u : Outset) (p : PageToken) (now new : Hand D) (r : PinStep) → PinIs o u p r now new → new.session ≡ now.session
+  stays_at o u p now new (step.Pinned buf) turn = turn.0.session
+  stays_at o u p now new (step.Refused entry) turn = ap (λ (x : Hand D). x.session) turn.1
+  stays_at o u p now new step.Wrote turn = turn.session
+  stays_at o u p now new (step.Failed entry) turn = turn.1.session
+
+  -- after a turn that wrote fewer writes may come
+  pub further_wrote : (t : ℕ) (now new : Hand D) (r : PinStep) → r ≡ step.Wrote → GoesFurther t r now new → writes_left new.session t (state_of new.state) < writes_left now.session t (state_of now.state)
+  further_wrote t now new r wrote further = subst (λ (q : PinStep). GoesFurther t q now new) wrote further
+
 module _ {D : Type 0} (slot : Ghosts D) (o : Opening) (u : Outset) (p : PageToken) (start now : Hand D) (asked : DoesIn (IsAsked p.client (held_by o u start) []) start now) (is : IsReady slot o u now)
     (can : CanBePinned p (held_by o u start)) where
   abbrev h : Holdings
@@ -87,10 +101,32 @@ module _ {D : Type 0} (slot : Ghosts D) (o : Opening) (u : Outset) (p : PageToke
   pub asked_now : HasAsked now
   asked_now = has_asked p.client now.session h [] start.trail now.trail (does_at start.session now.session (sym asked.session) start.trail now.trail asked.does)
 
+  -- so many bytes are wanted
+  abbrev amount : ℕ
+  amount = page_len p.name h
+
+  -- what a turn cost too
+  module _ (alone : Bool) (new : Hand D) (r : PinStep) (before : Costs slot alone p.client amount start now) (needed : EntersNeeded p.client (page_len p.name (held_by o u now)) now new)
+      (sole : alone ≡ true → StepsAlone slot p.client r now new) where
+    pub costs_turn : Costs slot alone p.client amount start new
+    costs_turn =
+        costs_more slot alone p.client amount start now new asked.session before
+        (record { needed = subst (λ (g : Holdings). EntersNeeded p.client (page_len p.name g) now new) same needed; counts = λ is. (sole is).counts })
+
+    -- and the refusal after it
+    pub costs_refused : (back : IsReady slot o u new) (stays : new.session ≡ now.session) (call : Call) (entry : ℕ) (last : Hand D) → ActsThese (Refused call entry ∷ []) new last → IsReady slot o u last → Costs slot alone p.client amount start last
+    costs_refused back stays call entry last acts ready =
+        costs_more slot alone p.client amount start new last (stays ∙ asked.session) costs_turn
+        (costs_step slot alone p.client amount o u new last back ready (Refused call entry) refl (λ s. tt) acts)
+
   -- it goes on with a turn
   module _ (new : Hand D) (r : PinStep) (turn : PinIs o u p r now new) where
     turned : (answer : PinStep) → r ≡ answer → PinIs o u p answer now new
     turned answer answered = subst (λ (q : PinStep). PinIs o u p q now new) answered turn
+
+    -- a turn never makes it another session's
+    pub stays : new.session ≡ now.session
+    stays = stays_at o u p now new r turn
 
     -- a page was written, or waited for
     pub asks_more : r ≡ step.Wrote → DoesIn (IsAsked p.client h []) start new
@@ -180,6 +216,7 @@ module _ {D : Type 0} (slot : Ghosts D) (o : Opening) (u : Outset) (p : PageToke
             let more = behind.failures in
             omega (arith, first, rose, more) in
             record {
+              did = all;
               was = record {
                 held =
                     did_held o u start last all

@@ -1,13 +1,14 @@
 -- A page in a job comes back, after others had the pool's value.
-use Rattle.std.proofs.Common.{◌≡◌, ℕ, ◌+◌, List, [], ◌∷◌, ◌++◌, length, Bool, true, false, Some, refl, sym, ap, ◌∙◌, subst, arith, inl, inr}
+use Rattle.std.proofs.Common.{◌≡◌, ℕ, ◌+◌, List, [], ◌∷◌, ◌++◌, length, filter, Bool, true, false, Some, refl, sym, ap, ◌∙◌, subst, arith, inl, inr}
 use Rattle.std.proofs.lemmas.List.{append_assoc}
+use Rattle.std.proofs.lemmas.List.Elements.{filter-append}
 use Rattle.std.specs.FinMap.{get}
 use Rattle.std.specs.List.{sum_by}
 use Rattle.outside.specs.declared.slot.Slot.{Ghosts}
 use Rattle.pool_model.specs.declared.event.Event.{Event}
 use Rattle.pool_model.specs.declared.entry.Entry.{Entry}
 use Rattle.pool_model.specs.State.{Opening, Pinned, Flying, Loading, Page, State, page_at}
-use Rattle.pool_model.specs.LookingBack.{opens, made_by, content_of, content_from}
+use Rattle.pool_model.specs.LookingBack.{opens, is_by, made_by, content_of, content_from}
 use Rattle.pool_model.specs.OwnLaws.{IsContent}
 use Rattle.pool_model.specs.MayFollow.{MayFollow}
 use Rattle.pool_model.specs.Effects.{after}
@@ -21,7 +22,8 @@ use Rattle.pin_core.specs.StateOf.{state_of}
 use Rattle.pin_core.specs.Standing.{StandsFor}
 use Rattle.pin_core.specs.Returning.{EntersWhere}
 use Rattle.pin_core.specs.Tallies.{silence}
-use Rattle.local_pool.proofs.Sized.{run_len}
+use Rattle.session_calls.proofs.Sized.{run_len}
+use Rattle.session_calls.proofs.Lists.{by_own, none_own}
 use Rattle.session_calls.specs.declared.hand.Hand.{Hand}
 use Rattle.session_calls.specs.Moving.{slots_out, quota_at, keeps_seats}
 use Rattle.session_calls.specs.Ready.{StandsWhole}
@@ -93,6 +95,9 @@ module _ {D : Type 0} (slot : Ghosts D) (o : Opening) (told : Bool) (old mid : H
             ∙ ap (λ (h : List Entry). made_by h old.session ++ e ∷ []) grew ∙ ap (λ (h : List Entry). h ++ e ∷ []) (made_beside old.session old.trail taken.others taken.beside);
         more = taken.others ++ e ∷ [];
         grew = trail ∙ ap (λ (h : List Entry). h ++ e ∷ []) grew ∙ append_assoc old.trail taken.others (e ∷ []);
+        mine =
+            filter-append (is_by old.session) taken.others (e ∷ []) ∙ ap (λ (h : List Entry). h ++ filter (is_by old.session) (e ∷ [])) (none_own old.session taken.others taken.beside)
+            ∙ by_own old.session (end ∷ []);
       };
     }
 

@@ -15,10 +15,10 @@ use Rattle.store_api.specs.Entries.{by}
 use Rattle.own_entries.specs.OwnHoldings.{Outset, after_events}
 use Rattle.own_entries.specs.Busy.{busy_from}
 use Rattle.pin_core.specs.StateOf.{state_of}
-use Rattle.pin_core.specs.Standing.{StandsFor}
+use Rattle.pin_core.specs.Standing.{StandsFor, slots_home}
 use Rattle.pin_core.specs.Tallies.{silence}
-use Rattle.local_pool.specs.Making.{rests}
-use Rattle.local_pool.proofs.Growing.{NoneOpens, by_append}
+use Rattle.session_calls.specs.Moving.{rests}
+use Rattle.session_calls.proofs.Lists.{NoneOpens, by_append, by_own}
 use Rattle.session_calls.specs.declared.hand.Hand.{Hand}
 use Rattle.session_calls.specs.Told.{held_in}
 use Rattle.session_calls.specs.Moving.{slots_out, quota_at, keeps_seats}
@@ -26,6 +26,7 @@ use Rattle.session_calls.specs.Ready.{StandsWhole, IsReady}
 use Rattle.session_calls.specs.Acting.{Acts, ActsThese, Goes, held_by}
 use Rattle.session_calls.specs.Doing.{Does}
 use Rattle.session_calls.proofs.Doing.{does_held}
+use Rattle.session_calls.proofs.Entered.{Entered, acts_entered}
 use Rattle.session_calls.proofs.Busy.{busy_more, busy_rests}
 use Rattle.session_calls.proofs.Out.{out_run}
 use Rattle.session_calls.proofs.Quotas.{quotas_run}
@@ -68,11 +69,15 @@ does_own m before now events is grew none = record {
   own = ap (λ (h : List Entry). made_by h m) grew ∙ made_on m before events none;
   more = by m events;
   grew = grew;
+  mine = by_own m events;
 }
+
+abbrev pub entered_does : {D : Type 0} {P : List Event → Type 0} (old new : Hand D) (entered : Entered P old new) → NoneOpens entered.events → Does old.session P old.trail new.trail
+entered_does old new entered none = does_own old.session old.trail new.trail entered.events entered.is entered.trail none
 
 module _ {D : Type 0} {P : List Event → Type 0} (old new : Hand D) (acts : Acts P old new) (none : NoneOpens acts.events) where
   abbrev pub acts_does : Does old.session P old.trail new.trail
-  acts_does = does_own old.session old.trail new.trail acts.events acts.is acts.trail none
+  acts_does = entered_does old new (acts_entered old new acts) none
 
   pub acts_held : (o : Opening) (u : Outset) → held_by o u new ≡ after_events (held_by o u old) acts.events
   acts_held o u = ap (λ (m : ℕ). held_in o u m new.trail) acts.session ∙ does_held o u old.session old.trail new.trail acts_does
@@ -84,7 +89,7 @@ module _ {D : Type 0} (old new : Hand D) where
 
   -- the same, of other words
   abbrev pub acts_so : {P Q : List Event → Type 0} (acts : Acts P old new) → Q acts.events → Acts Q old new
-  acts_so acts is = record { events = acts.events; is = is; trail = acts.trail; session = acts.session; quotas = acts.quotas }
+  acts_so acts is = record { events = acts.events; is = is; trail = acts.trail; session = acts.session; quotas = acts.quotas; slots = acts.slots }
 
 -- one after the other
 abbrev pub acts_more : {D : Type 0} {P Q R : List Event → Type 0} (x y z : Hand D) (a : Acts P x y) (b : Acts Q y z) → R (a.events ++ b.events) → Acts R x z
@@ -95,12 +100,17 @@ acts_more x y z a b is = record {
       ∙ append_assoc x.trail (by x.session a.events) (by x.session b.events) ∙ ap (λ (h : List Entry). x.trail ++ h) (sym (by_append x.session a.events b.events));
   session = b.session ∙ a.session;
   quotas = λ k. b.quotas k ∙ a.quotas k;
+  slots = λ measure. b.slots measure ∙ a.slots measure;
 }
 
 module _ {D : Type 0} (slot : Ghosts D) (old new : Hand D) (events : List Event) (went : Goes slot events old new) where
+  -- no slot moved
+  pub goes_slots : (measure : D → ℕ) → slots_home measure new.state ≡ slots_home measure old.state
+  goes_slots measure = let moved = went.enters.slots measure in omega (arith, moved)
+
   -- a step is what its events say, where the quotas stay
   pub acts_by : {P : List Event → Type 0} → P events → ((k : ℕ) → quota_at (state_of new.state) k ≡ quota_at (state_of old.state) k) → Acts P old new
-  acts_by is quotas = record { events = events; is = is; trail = went.trail; session = went.session; quotas = quotas }
+  acts_by is quotas = record { events = events; is = is; trail = went.trail; session = went.session; quotas = quotas; slots = goes_slots }
 
   -- as they do where no session comes or goes
   pub acts_keep : {P : List Event → Type 0} → P events → AllKeepSeats events → Acts P old new

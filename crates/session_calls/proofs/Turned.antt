@@ -1,43 +1,61 @@
 -- One turn of a call that wants room: a page goes out and comes back.
-use Rattle.std.proofs.Common.{◌≡◌, ℕ, ◌+◌, List, [], ◌∷◌, ◌++◌, Option, IsSome, unwrap_or, refl, sym, ap, ◌∙◌, subst, arith}
+use Rattle.std.proofs.Common.{◌≡◌, ℕ, ◌+◌, ◌<◌, List, [], ◌∷◌, ◌++◌, Option, None, IsSome, unwrap_or, refl, sym, ap, ◌∙◌, subst, arith}
 use Rattle.std.specs.FinMap.{get}
 use Rattle.std.specs.List.{sum_by}
 use Rattle.outside.specs.declared.slot.Slot.{Ghosts}
 use Rattle.reservation_tree.proofs.Maps.{get_same}
 use Rattle.pool_model.specs.declared.event.Event.{Event}
-use Rattle.pool_model.specs.declared.event.Event.TheVariants.{StartWrite}
+use Rattle.pool_model.specs.declared.event.Event.TheVariants.{StartWrite, WriteOk, WriteFailed}
 use Rattle.pool_model.specs.declared.entry.Entry.{Entry}
 use Rattle.pool_model.specs.State.{Opening, Dirty, Pinned, Page, State, page_at, no_page}
+use Rattle.pool_model.specs.Sums.{HasRoom}
 use Rattle.pool_model.specs.MayFollow.{MayFollow}
-use Rattle.pool_model.specs.Legal.{state_after}
+use Rattle.pool_model.specs.Effects.{after}
+use Rattle.pool_model.specs.Legal.{run, state_after}
 use Rattle.pool_model.specs.LookingBack.{content_from}
 use Rattle.pool_model.specs.OwnLaws.{IsContent}
 use Rattle.pool_model.proofs.Fronts.{legal_grows_so}
 use Rattle.pool_model.proofs.OwnEntries.{content_more}
 use Rattle.pool_model.proofs.Resting.{legal_contents_are_told}
+use Rattle.store_api.specs.Entries.{by}
 use Rattle.own_entries.specs.OwnHoldings.{Outset}
+use Rattle.own_entries.specs.AboveLaws.{AllBy}
 use Rattle.pin_core.specs.declared.jobs.WriteJob.{WriteJob}
 use Rattle.pin_core.specs.StateOf.{state_of}
 use Rattle.pin_core.specs.Standing.{StandsFor, Enters}
 use Rattle.pin_core.specs.Tallies.{silence}
-use Rattle.pin_core.specs.Turns.{IsStarted, start_entry}
-use Rattle.local_pool.specs.Turning.{IsWrite}
-use Rattle.local_pool.proofs.Pages.{owner_is, page_held}
-use Rattle.local_pool.proofs.Waiting.{IsDirtyOf, newest_in}
+use Rattle.pin_core.specs.Turns.{IsStarted, failure_of, start_entry}
+use Rattle.session_calls.specs.Writing.{IsEnd, IsWrite, writes_left}
+use Rattle.session_calls.proofs.Pages.{owner_is, page_held}
+use Rattle.session_calls.proofs.Waiting.{IsDirtyOf, newest_in, out, written_left, unwritten_left}
 use Rattle.session_calls.specs.declared.hand.Hand.{Hand}
 use Rattle.session_calls.specs.Moving.{quota_at, slots_out}
 use Rattle.session_calls.specs.Ready.{StandsWhole, IsResting}
-use Rattle.session_calls.specs.Acting.{ActsThese, held_by}
+use Rattle.session_calls.specs.Acting.{held_by}
 use Rattle.session_calls.specs.Doing.{Does}
 use Rattle.session_calls.specs.Having.{MayGive, IsAtWork}
 use Rattle.session_calls.specs.Jobs.{DoesIn, CanWrite, Wrote}
+use Rattle.session_calls.specs.Needing.{EntersNeeded}
+use Rattle.session_calls.specs.Counting.{CountsBack, CountsOn}
+use Rattle.session_calls.proofs.Entered.{Entered}
+use Rattle.session_calls.proofs.Alone.{all_front}
 use Rattle.session_calls.proofs.Between.{rests_written, worked_on}
-use Rattle.session_calls.proofs.Doing.{does_more}
+use Rattle.session_calls.proofs.Counts.{counts_out}
+use Rattle.session_calls.proofs.Doing.{does_all, does_more}
 use Rattle.session_calls.proofs.Knowing.{Knows, knows}
+use Rattle.session_calls.proofs.Needs.{needs_write, state_grew}
 use Rattle.session_calls.proofs.Out.{out_started}
 use Rattle.session_calls.proofs.Quotas.{quota_stays}
 use Rattle.session_calls.proofs.Spare.{ones}
-use Rattle.session_calls.proofs.Steps.{acts_does}
+use Rattle.session_calls.proofs.Steps.{entered_does}
+
+end_left : (s : State) (m c p : ℕ) (end : Event) → IsEnd p end
+    → writes_left m c (after (out s m p) (record { maker = m; event = WriteOk p })) < writes_left m c s
+    → ((before now : ℕ) → writes_left m c (after (out s m p) (record { maker = m; event = WriteFailed p before now })) < writes_left m c s)
+    → writes_left m c (run s (by m (StartWrite p ∷ end ∷ []))) < writes_left m c s
+end_left s m c p (WriteOk q) is good bad = subst (λ (r : ℕ). writes_left m c (run s (by m (StartWrite p ∷ WriteOk r ∷ []))) < writes_left m c s) (sym is) good
+end_left s m c p (WriteFailed q before now) is good bad = subst (λ (r : ℕ). writes_left m c (run s (by m (StartWrite p ∷ WriteFailed r before now ∷ []))) < writes_left m c s) (sym is) (bad before now)
+end_left s m c p _ is good bad = absurd is
 
 module _ {D : Type 0} (slot : Ghosts D) (o : Opening) (u : Outset) (seen : List Entry) (hand : Hand D) (was : IsAtWork slot o u seen hand) where
   module _ (c : ℕ) (some : IsSome ((held_by o u hand).clients c)) (job : WriteJob D) (went : Hand D) (started : IsStarted slot hand.session c job hand.state went.state)
@@ -86,8 +104,8 @@ module _ {D : Type 0} (slot : Ghosts D) (o : Opening) (u : Outset) (seen : List 
     }
 
     -- the slots of the page are out with it
-    out : slots_out (state_of went.state).pages ≡ slots_out s.pages + (page_at s p).blocks
-    out =
+    out_more : slots_out (state_of went.state).pages ≡ slots_out s.pages + (page_at s p).blocks
+    out_more =
         let may : MayFollow hand.trail (state_after o hand.trail) e = (legal_grows_so o hand.trail (e ∷ []) stood.legal).0 in
         ap (λ (t : State). slots_out t.pages) enters.state ∙ out_started hand.trail s hand.session p (subst (λ (t : State). MayFollow hand.trail t e) (sym was.ready.whole.stands.state) may)
 
@@ -98,11 +116,11 @@ module _ {D : Type 0} (slot : Ghosts D) (o : Opening) (u : Outset) (seen : List 
     started_whole : StandsWhole slot o u.told went.trail went.state
     started_whole = record {
       stands = subst (λ (h : List Entry). StandsFor slot o h went.state) (sym trail_is) stood;
-      home = let moved = enters.slots (λ d. 1) in let home = was.ready.whole.home in omega (arith, moved, home, out, blocks);
+      home = let moved = enters.slots (λ d. 1) in let home = was.ready.whole.home in omega (arith, moved, home, out_more, blocks);
       tell = λ told. let moved = enters.slots (silence slot) in let none = was.ready.whole.tell told in omega (arith, moved, none);
     }
 
-    abbrev begun : ActsThese (StartWrite p ∷ []) hand went
+    abbrev begun : Entered (λ events. events ≡ StartWrite p ∷ []) hand went
     begun = record {
       events = StartWrite p ∷ [];
       is = refl;
@@ -130,7 +148,7 @@ module _ {D : Type 0} (slot : Ghosts D) (o : Opening) (u : Outset) (seen : List 
 
       written : Does hand.session (IsWrite c (held_by o u hand)) hand.trail new.trail
       written =
-          does_more hand.session hand.trail went.trail new.trail (acts_does hand went begun (refl, tt)) ended
+          does_more hand.session hand.trail went.trail new.trail (entered_does hand went begun (refl, tt)) ended
           (subst (λ (es : List Event). IsWrite c (held_by o u hand) (StartWrite p ∷ es)) (sym ended.is) is_write)
 
       pub wrote_one : DoesIn (IsWrite c (held_by o u hand)) hand new
@@ -144,3 +162,30 @@ module _ {D : Type 0} (slot : Ghosts D) (o : Opening) (u : Outset) (seen : List 
           rests = subst (λ (m : ℕ). IsResting o u m new.trail) (sym wrote_one.session) (rests_written o u c hand.session hand.trail new.trail written was.ready.rests);
         };
       }
+
+      pub needed_out : (amount : ℕ) → (HasRoom s c amount → ⊥) → EntersNeeded c amount hand new
+      needed_out amount full =
+          needs_write c amount slot o hand went new p wrote.end trail_is session_is enters.state full started_whole.stands may.whole.stands wrote.ended wrote.did
+
+      pub counts_turn : CountsBack slot job.row went new → CountsOn slot hand new
+      counts_turn back =
+          counts_out slot o hand was.ready.whole.stands.legal went new (StartWrite p ∷ []) job.row trail_is (refl, tt) (λ measure. let moved = enters.slots measure in omega (arith, moved)) back
+
+      -- where the session alone made the history, its two entries made the state
+      module _ (all : AllBy new.session new.trail) where
+        state_is : state_of new.state ≡ run s (by hand.session (StartWrite p ∷ wrote.end ∷ []))
+        state_is =
+            let own : AllBy hand.session (went.trail ++ ended.more) = subst (AllBy hand.session) ended.grew (subst (λ (m : ℕ). AllBy m new.trail) wrote_one.session all) in
+            let grew : new.trail ≡ went.trail ++ by hand.session (wrote.end ∷ []) =
+            does_all hand.session went.trail new.trail ended ((all_front hand.session went.trail ended.more own).1) ∙ ap (λ (es : List Event). went.trail ++ by hand.session es) ended.is in
+            state_grew c 0 slot o went new (by hand.session (wrote.end ∷ [])) started_whole.stands may.whole.stands grew
+            ∙ ap (λ (t : State). run t (by hand.session (wrote.end ∷ []))) enters.state
+
+        pub left_turn : failure_of s hand.session c ≡ None → writes_left new.session c (state_of new.state) < writes_left hand.session c s
+        left_turn none =
+            let own : (page_at s p).session ≡ hand.session = ap (λ (x : Page). x.session) waits.is ∙ owner_is known c p waits.page some waits.lives waits.client in
+            subst (λ (m : ℕ). writes_left m c (state_of new.state) < writes_left hand.session c s) (sym wrote_one.session)
+            (subst (λ (t : State). writes_left hand.session c t < writes_left hand.session c s) (sym state_is)
+            (end_left s hand.session c p wrote.end wrote.ended
+            (written_left s hand.session c p waits started.older started.newest none)
+            (unwritten_left s hand.session c p waits started.older started.newest none known.session known.lives own)))

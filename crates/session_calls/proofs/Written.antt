@@ -1,29 +1,36 @@
 -- A page comes back from its write.
-use Rattle.std.proofs.Common.{◌≡◌, ℕ, ◌+◌, List, [], ◌∷◌, ◌++◌, map, length, Bool, true, false, Some, refl, sym, ap, ◌∙◌, subst, arith, inl}
+use Rattle.std.proofs.Common.{◌≡◌, ℕ, ◌+◌, ◌≤◌, List, [], ◌∷◌, ◌++◌, map, length, Bool, true, false, if◌then◌else◌, Some, refl, sym, ap, ◌∙◌, subst, arith, inl}
+use Rattle.std.specs.FinMap.{get}
+use Rattle.std.specs.List.{sum_by}
 use Rattle.outside.specs.declared.slot.Slot.{Ghosts}
 use Rattle.block_arena.specs.Memory.{IsBufferOf}
-use Rattle.scratch_dev.specs.Rows.{faults_of}
+use Rattle.scratch_dev.specs.Rows.{faults_of, CountsStores}
 use Rattle.pool_model.specs.declared.event.Event.{Event}
 use Rattle.pool_model.specs.declared.entry.Entry.{Entry}
 use Rattle.pool_model.specs.State.{Opening, Flying, Page, State, page_at}
-use Rattle.pool_model.specs.LookingBack.{opens, content_of}
+use Rattle.pool_model.specs.LookingBack.{opens, content_of, maker_of}
 use Rattle.pool_model.specs.ScratchRows.{IsFault}
 use Rattle.pool_model.specs.MayFollow.{MayFollow}
 use Rattle.pool_model.specs.Effects.{after}
+use Rattle.pool_model.specs.HistoryLaws.{made}
+use Rattle.pool_model.proofs.Made.{still_made, legal_pages_as_made}
 use Rattle.store_api.specs.Entries.{by}
 use Rattle.pin_core.specs.declared.jobs.WriteJob.{WriteJob}
 use Rattle.pin_core.specs.StateOf.{state_of}
-use Rattle.pin_core.specs.Standing.{AreHeld}
-use Rattle.pin_core.specs.Runs.{after_stores}
+use Rattle.pin_core.specs.Standing.{AreHeld, slots_home}
+use Rattle.pin_core.specs.Runs.{CountsFaults, after_stores}
 use Rattle.pin_core.specs.Jobs.{IsWriteJob}
 use Rattle.pin_core.specs.Returning.{EntersWhere, IsWritten, write_ends, write_entry}
-use Rattle.pin_core.proofs.Tallied.{same_silence}
-use Rattle.local_pool.specs.Turning.{IsEnd}
+use Rattle.pin_core.specs.Tallies.{Counted, all_failures, blocks_of, silence, stored_by, tally_by}
+use Rattle.pin_core.proofs.Tallied.{came_back, same_silence}
+use Rattle.session_calls.specs.Writing.{IsEnd, stored_with}
 use Rattle.session_calls.specs.declared.hand.Hand.{Hand}
 use Rattle.session_calls.specs.Moving.{slots_out, keeps_seats}
 use Rattle.session_calls.specs.Ready.{StandsWhole}
 use Rattle.session_calls.specs.Having.{MayGive, Taken}
 use Rattle.session_calls.specs.Jobs.{CanWrite, Wrote}
+use Rattle.session_calls.specs.Counting.{CountsBack}
+use Rattle.session_calls.proofs.Counts.{counts_back}
 use Rattle.session_calls.proofs.Out.{back_written, back_unwritten}
 use Rattle.session_calls.proofs.Lasts.{IsInJob}
 use Rattle.session_calls.proofs.Returned.{same_len, same_there, same_page, content_mid, did, may_give}
@@ -46,6 +53,20 @@ module _ (p before now : ℕ) where
       → slots_out (after s (record { maker = m; event = write_ends b p before now })).pages + (page_at s p).blocks ≡ slots_out s.pages
   comes_back true h s m may = back_unwritten h s m p before now may
   comes_back false h s m may = back_written h s m p may
+
+-- what the end of a write stored, where the page was made with so many blocks
+stored_end : (h : List Entry) (m p blocks before now : ℕ) → blocks_of (maker_of h p) ≡ blocks → (b : Bool)
+    → sum_by (λ e. stored_by h e.event) (by m (write_ends b p before now ∷ [])) ≡ stored_with blocks (write_ends b p before now)
+stored_end h m p blocks before now same true = refl
+stored_end h m p blocks before now same false = omega (arith, same)
+
+-- a failure raised the count, and a store was counted for each slot otherwise
+row_counts : {D : Type 0} (slot : Ghosts D) (home : (D → ℕ) → ℕ) (was row : List D) (m p before now : ℕ) → sum_by (silence slot) row ≡ sum_by (silence slot) was → length row ≡ length was
+    → faults_of slot was ≤ faults_of slot row → (b : Bool) → CountsFaults slot (if b then 1 else 0) was row → CountsStores slot (if b then 0 else length was) was row
+    → Counted (all_failures (by m (write_ends b p before now ∷ []))) (stored_with (length was) (write_ends b p before now))
+    (tally_by slot (λ measure. home measure + sum_by measure was)) (tally_by slot (λ measure. home measure + sum_by measure row))
+row_counts slot home was row m p before now silent len fall true faults stores = came_back slot home was row 1 0 fall faults stores silent len
+row_counts slot home was row m p before now silent len fall false faults stores = came_back slot home was row 0 (length was) fall faults stores silent len
 
 module _ {D : Type 0} (slot : Ghosts D) (o : Opening) (told : Bool) (old mid : Hand D) (stood : StandsWhole slot o told old.trail old.state)
     (before now : List Entry) (seen : before ≡ old.trail) (taken : Taken slot o told old.session before now mid)
@@ -132,3 +153,26 @@ module _ {D : Type 0} (slot : Ghosts D) (o : Opening) (told : Bool) (old mid : H
         (keeps ran.id.name sum (faults_of slot ran.row) ran.failed)
         (λ may. subst (λ (n : ℕ). slots_out (after t e).pages + n ≡ slots_out t.pages) (sym still_job.slots) (comes_back ran.id.name sum (faults_of slot ran.row) ran.failed mid.trail t old.session may))
         (same_silence slot ran.row job.row tells) can.tell
+
+    -- where the session is alone, the slots of the job count what the end says
+    module _ (alone : mid ≡ old) where
+      trail_alone : new.trail ≡ old.trail ++ by old.session (end ∷ [])
+      trail_alone = trail ∙ ap (λ (hand : Hand D). hand.trail ++ by old.session (end ∷ [])) alone
+
+      -- the page has as many slots as blocks
+      was_made : blocks_of (maker_of new.trail ran.id.name) ≡ length job.row
+      was_made =
+          let x : Page = page_at s job.id.name in
+          let known : maker_of old.trail job.id.name ≡ Some (made x) = legal_pages_as_made o old.trail stood.stands.legal job.id.name x (ap (λ (u : State). get u.pages job.id.name) (sym stood.stands.state) ∙ can.is.lives) in
+          ap (λ (p : ℕ). blocks_of (maker_of new.trail p)) name_is
+          ∙ ap (λ (h : List Entry). blocks_of (maker_of h job.id.name)) trail_alone
+          ∙ ap blocks_of (still_made old.trail (by old.session (end ∷ [])) job.id.name (made x) known) ∙ sym can.is.slots
+
+      pub counts_written : map slot.tells ran.row ≡ map slot.tells job.row → faults_of slot job.row ≤ faults_of slot ran.row → CountsFaults slot (if ran.failed then 1 else 0) job.row ran.row
+          → CountsStores slot (if ran.failed then 0 else length job.row) job.row ran.row → CountsBack slot job.row old new
+      counts_written tells fall faults stores =
+          counts_back slot o old stood.stands.legal new (end ∷ []) job.row ran.row trail_alone (all_failures (by old.session (end ∷ []))) (stored_with (length job.row) end) refl
+          (stored_end new.trail old.session ran.id.name (length job.row) sum (faults_of slot ran.row) was_made ran.failed)
+          (λ measure. enters_so.slots measure ∙ ap (λ (hand : Hand D). slots_home measure hand.state + sum_by measure ran.row) alone)
+          (row_counts slot (λ measure. slots_home measure old.state) job.row ran.row old.session ran.id.name sum (faults_of slot ran.row) (same_silence slot ran.row job.row tells) len fall ran.failed faults stores)
+          (same_silence slot ran.row job.row tells)

@@ -18,7 +18,7 @@ use Rattle.pin_core.specs.StateOf.{state_of}
 use Rattle.pin_core.specs.Standing.{AreHeld}
 use Rattle.pin_core.specs.Tallies.{silence}
 use Rattle.pin_core.specs.Jobs.{IsReadJob, IsWriteJob}
-use Rattle.local_pool.specs.Turning.{IsEnd}
+use Rattle.session_calls.specs.Writing.{IsEnd}
 use Rattle.session_calls.specs.declared.hand.Hand.{Hand}
 use Rattle.session_calls.specs.Doing.{Does}
 

@@ -1,10 +1,15 @@
 pub mod Told
 pub mod Moving
+pub mod Writing
+pub mod Wanting
+pub mod Leaving
 pub mod Ready
 pub mod Acting
 pub mod Doing
 pub mod Coming
 pub mod Having
 pub mod Jobs
+pub mod Needing
+pub mod Counting
 pub mod Turning
 pub mod Pinning

@@ -3,7 +3,7 @@ use Rattle.std.specs.Prelude.{ℕ, Bool, true, false, if◌then◌else◌, Optio
 use Rattle.std.specs.FinMap.{get}
 use Rattle.reservation_tree.specs.Total.{total}
 use Rattle.pool_model.specs.declared.event.Event.{Event}
-use Rattle.pool_model.specs.declared.event.Event.TheVariants.{AddTracker, CloseTracker}
+use Rattle.pool_model.specs.declared.event.Event.TheVariants.{AddTracker, CloseTracker, PinLoad, ReadOk, ReadFailed, StartWrite, WriteOk, WriteFailed}
 use Rattle.pool_model.specs.State.{Place, Flying, Loading, Page, Pages, State}
 
 -- the page is written, or loaded
@@ -29,3 +29,13 @@ abbrev pub keeps_seats : Event → Bool
 keeps_seats (AddTracker t parent limit (Some quota)) = false
 keeps_seats (CloseTracker t) = false
 keeps_seats _ = true
+
+-- no page goes into a job with the event, and none comes back from one
+abbrev pub rests : Event → Bool
+rests (PinLoad p) = false
+rests (ReadOk p) = false
+rests (ReadFailed p before now) = false
+rests (StartWrite p) = false
+rests (WriteOk p) = false
+rests (WriteFailed p before now) = false
+rests _ = true

@@ -1,7 +1,10 @@
 -- One turn of a call that pins a page.
-use Rattle.std.specs.Prelude.{◌≡◌, ◌⊎◌, ◌<◌, ℕ, [], Some, true}
+use Rattle.std.specs.Prelude.{◌≡◌, ◌⊎◌, ◌<◌, ◌≤◌, ℕ, List, [], ◌∷◌, Some, true, ⊤}
 use Rattle.std.specs.List.{list_any}
 use Rattle.pool_model.specs.declared.call.Call.TheVariants.{Pin}
+use Rattle.pool_model.specs.declared.event.Event.{Event}
+use Rattle.pool_model.specs.declared.event.Event.TheVariants.{PinHere, PinLoad, ReadOk, ReadFailed}
+use Rattle.outside.specs.declared.slot.Slot.{Ghosts}
 use Rattle.pool_model.specs.LookingBack.{is_ask, made_by}
 use Rattle.pool_model.specs.Failures.{is_for_own, failures_in}
 use Rattle.pool_model.specs.MayFollow.{MayFollow}
@@ -10,16 +13,31 @@ use Rattle.pin_core.specs.StateOf.{state_of}
 use Rattle.pin_core.specs.Refusing.{refusal_of}
 use Rattle.pin_core.specs.PinTurns.{LacksRoomFor}
 use Rattle.store_api.specs.Tokens.{PageToken}
-use Rattle.store_api.specs.Holdings.{page_of}
-use Rattle.store_api.specs.Conditions.{ShowsLeft}
+use Rattle.store_api.specs.Holdings.{Holdings, page_of, page_len, unused_of}
+use Rattle.store_api.specs.Conditions.{IsPage, ShowsLeft}
 use Rattle.own_entries.specs.OwnHoldings.{Outset}
-use Rattle.local_pool.specs.Pinning.{IsFailedRead, IsPinned}
-use Rattle.local_pool.specs.Turning.{IsWrite}
+use Rattle.session_calls.specs.Writing.{IsWrite, writes_left}
+use Rattle.session_calls.specs.Coming.{Evicts}
+use Rattle.session_calls.specs.Counting.{CountsOn}
 use Rattle.session_calls.specs.declared.hand.Hand.{Hand}
 use Rattle.session_calls.specs.declared.pinning.PinStep.{PinStep}
 use Rattle.session_calls.specs.declared.pinning.PinStep.TheVariants.{Failed, Pinned, Refused, Wrote}
 use Rattle.session_calls.specs.Acting.{held_by}
 use Rattle.session_calls.specs.Jobs.{DoesIn}
+
+-- a page of the session rests, and its client has its length unused
+pub record CanBePinned (p : PageToken) (h : Holdings) : Type 0 where
+  pub page : IsPage p h
+  pub rests : (page_of p.name h).pins ≡ 0
+  pub unused : page_len p.name h ≤ unused_of p.client h
+
+-- the page was pinned where it was, or loaded
+abbrev pub IsPinned : ℕ → List Event → Type 0
+IsPinned p events = (events ≡ PinHere p ∷ []) ⊎ Evicts (PinLoad p ∷ ReadOk p ∷ []) events
+
+-- a load of the page failed
+abbrev pub IsFailedRead : ℕ → List Event → Type 0
+IsFailedRead p events = (before now : ℕ) × Evicts (PinLoad p ∷ ReadFailed p before now ∷ []) events
 
 module _ {D : Type 0} where
   -- the session has begun a call
@@ -42,3 +60,13 @@ module _ {D : Type 0} where
   PinIs o u p (Refused entry) old new = LacksRoomFor (state_of old.state) old.session p.name (Some entry) × (new ≡ old)
   PinIs o u p Wrote old new = DoesIn (λ events. (events ≡ []) ⊎ IsWrite p.client (held_by o u old) events) old new
   PinIs o u p (Failed entry) old new = FailedPin p.client p.name entry old new × DoesIn (IsFailedRead p.name) old new
+
+-- fewer writes may come after a turn that wrote, where the session is alone
+abbrev pub GoesFurther : {D : Type 0} → ℕ → PinStep → Hand D → Hand D → Type 0
+GoesFurther t Wrote old new = writes_left new.session t (state_of new.state) < writes_left old.session t (state_of old.state)
+GoesFurther t _ old new = ⊤
+
+-- what is so of a turn of a session that is alone
+pub record StepsAlone {D : Type 0} (slot : Ghosts D) (t : ℕ) (step : PinStep) (old new : Hand D) : Type 0 where
+  pub counts : CountsOn slot old new
+  pub further : GoesFurther t step old new

@@ -9,24 +9,24 @@ ghost use Rattle.pin_core.specs.Turns.{amount_of};
 ghost use Rattle.store_api.specs.Holdings.{unused_of};
 ghost use Rattle.store_api.specs.Conditions.{IsLiveClient};
 ghost use Rattle.store_api.specs.Entries.{IsAsked};
-ghost use Rattle.local_pool.specs.Turning.{IsRoomCall, Wants};
+ghost use Rattle.session_calls.specs.Wanting.{IsRoomCall, Wants};
 ghost use Rattle.session_calls.specs.Ready.{IsReady};
 ghost use Rattle.session_calls.specs.Acting.{ActsThese, held_by};
 ghost use Rattle.session_calls.specs.Having.{IsAtWork};
+ghost use Rattle.session_calls.specs.Counting.{Costs};
 ghost use Rattle.session_calls.specs.Jobs.{DoesIn};
 ghost use Rattle.session_calls.specs.Turning.{Refuses};
 
 use crate::access::Access;
 use crate::entering::enter;
 use crate::hand::Hand;
-use crate::origin::{Origin, OriginOf};
+use crate::origin::Origin;
 use crate::turning::{Turn, room_turn};
 use outside::Slot;
 use pin_core::Want;
 use pool_model::{Call, Entry, Event};
 use reservation_tree::PoolErr;
 use std::marker::Brand;
-use std::sync::Wait;
 use store_api::Client;
 use turn_table::{Adds, Solo};
 
@@ -62,8 +62,7 @@ fn enter_refused<N: Adds<Entry>>(trail: &mut Solo<Entry>, _session: u32, _call: 
 
 // A call begins, and the client's dirty pages are written, one at a time and the newest first, until the client can
 // hold so much more.
-pub(crate) fn make_room<A: Access<D>, R: Wait, D: Slot + Drop>(
-    rt: &R,
+pub(crate) fn make_room<O: Origin, A: Access<D>, D: Slot + Drop>(
     access: &A,
     place: &mut A::Place,
     mut hand: Hand<D>,
@@ -71,29 +70,30 @@ pub(crate) fn make_room<A: Access<D>, R: Wait, D: Slot + Drop>(
     want: Want,
     call: &Call,
 ) -> (Hand<D>, Result<(), PoolErr>)
-    requires turns { A.turns access.now place.old hand.session }
-    requires at_work { IsAtWork D.Slot A.opening A.outset (A.seen place.old) hand }
-    requires client { IsLiveClient c.now (held_by A.opening A.outset hand) }
-    requires unused { amount_of want ≤ unused_of c.now.tracker (held_by A.opening A.outset hand) }
-    requires wants { Wants c.now.tracker (amount_of want) (held_by A.opening A.outset hand) call.now × IsRoomCall call.now }
-    ensures turns { A.turns access.now place.new result.0.session }
-    ensures at_work { IsAtWork D.Slot A.opening A.outset (A.seen place.new) result.0 }
-    ensures ok { OnOk result.1 (DoesIn (IsAsked c.now.tracker (held_by A.opening A.outset hand) []) hand result.0) }
+    requires turns { A.turns O.opening O.outset access.now place.old hand.session }
+    requires at_work { IsAtWork D.Slot O.opening O.outset (A.seen place.old) hand }
+    requires client { IsLiveClient c.now (held_by O.opening O.outset hand) }
+    requires unused { amount_of want ≤ unused_of c.now.tracker (held_by O.opening O.outset hand) }
+    requires wants { Wants c.now.tracker (amount_of want) (held_by O.opening O.outset hand) call.now × IsRoomCall call.now }
+    ensures turns { A.turns O.opening O.outset access.now place.new result.0.session }
+    ensures at_work { IsAtWork D.Slot O.opening O.outset (A.seen place.new) result.0 }
+    ensures ok { OnOk result.1 (DoesIn (IsAsked c.now.tracker (held_by O.opening O.outset hand) []) hand result.0) }
     ensures room { OnOk result.1 (HasRoom (state_of result.0.state) c.now.tracker (amount_of want)) }
-    ensures err { IfErr result.1 (Refuses A.opening A.outset c.now.tracker call.now hand result.0) }
+    ensures err { IfErr result.1 (Refuses O.opening O.outset c.now.tracker call.now hand result.0) }
+    ensures costs { Costs D.Slot A.alone c.now.tracker (amount_of want) hand result.0 }
 {
-    hand.ask::<OriginOf<A, D>>();
-    for _ in rt.forever() {
-        let (now, turn) = room_turn(access, place, hand, c, want);
+    hand.ask::<O>();
+    let mut left = u64::MAX;
+    loop {
+        let (now, turn) = room_turn::<O, A, D>(access, place, hand, c, want);
         hand = now;
         match turn {
             Turn::Ready => return (hand, Ok(())),
             Turn::Refused { entry } => {
-                hand.refuse::<OriginOf<A, D>>(call, entry);
+                hand.refuse::<O>(call, entry);
                 return (hand, Err(PoolErr::WriteFault { entry }));
             }
-            Turn::Wrote | Turn::Waited => {}
+            Turn::Wrote | Turn::Waited => left = access.again(left),
         }
     }
-    unreachable!()
 }

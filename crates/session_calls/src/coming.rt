@@ -11,7 +11,8 @@ ghost use Rattle.pin_core.specs.Evictions.{MakesRoom, names_gone};
 ghost use Rattle.store_api.specs.Holdings.{length_of};
 ghost use Rattle.store_api.specs.Conditions.{IsBlockCount, IsLiveClient};
 ghost use Rattle.store_api.specs.Entries.{by};
-ghost use Rattle.local_pool.specs.Calling.{Evicts, IsFreshLoan};
+ghost use Rattle.session_calls.specs.Needing.{EntersNeeded};
+ghost use Rattle.session_calls.specs.Coming.{Evicts, IsFreshLoan};
 ghost use Rattle.session_calls.specs.Ready.{IsReady};
 ghost use Rattle.session_calls.specs.Acting.{Acts, Goes, held_by, signs_by};
 ghost use Rattle.session_calls.specs.Coming.{IsFreshPage, evicts_for};
@@ -45,6 +46,7 @@ impl<D: Slot + Drop> Hand<D> {
         ensures page { IfOk result (λ made. IsFreshPage c.now.tracker shell made (held_by O.opening O.outset self.old) (signs_by O.opening self.old)) }
         ensures cause { IfErr result (λ e. e ≡ refusal.NamesSpent) }
         ensures err { OnErr result ((self.new ≡ self.old) × ((signs_by O.opening self.old).spent ≡ true)) }
+        ensures needed { EntersNeeded c.now.tracker (length_of shell (held_by O.opening O.outset self.old)) self.old self.new }
         ensures ready { IsReady D.Slot O.opening O.outset self.new }
     {
         create_named::<Brand, D>(self, c.tracker(), shell, slots)
@@ -58,6 +60,7 @@ impl<D: Slot + Drop> Hand<D> {
         requires room { HasRoom (state_of self.old.state) c.now.tracker (length_of shell (held_by O.opening O.outset self.old)) }
         ensures acts { Acts (Evicts (event.Alloc result.number c.now.tracker shell ∷ [])) self.old self.new }
         ensures loan { IsFreshLoan c.now.tracker shell result (held_by O.opening O.outset self.old) }
+        ensures needed { EntersNeeded c.now.tracker (length_of shell (held_by O.opening O.outset self.old)) self.old self.new }
         ensures ready { IsReady D.Slot O.opening O.outset self.new }
     {
         alloc_named::<Brand, D>(self, c.tracker(), shell)

@@ -1,12 +1,14 @@
 //! Pages are written and loaded while the value isn't in hand.
-ghost use Rattle.std.specs.Prelude.{◌≡◌, ◌++◌, ◌∷◌, [], ℕ, IfErr, IfOk};
+ghost use Rattle.std.specs.Prelude.{◌≡◌, ◌++◌, ◌∷◌, [], ℕ, true, IfErr, IfOk};
 ghost use Rattle.scratch_dev.specs.Rows.{faults_of};
 ghost use Rattle.pin_core.specs.Returning.{read_ends, write_entry};
 ghost use Rattle.session_calls.specs.Having.{MayGive};
+ghost use Rattle.session_calls.specs.Counting.{CountsBack};
 ghost use Rattle.session_calls.specs.Jobs.{CanRead, CanWrite, IsRead, IsUnread, Wrote};
 
 use crate::access::Access;
 use crate::hand::Hand;
+use crate::origin::Origin;
 use block_arena::Buf;
 use outside::{OpenGate, Slot};
 use pin_core::{ReadJob, WriteJob};
@@ -25,40 +27,42 @@ impl Before for Brand {
 }
 
 // A page that flies is stored, and comes back.
-pub(crate) fn write_out<A: Access<D>, D: Slot + Drop>(
+pub(crate) fn write_out<O: Origin, A: Access<D>, D: Slot + Drop>(
     access: &A,
     place: &mut A::Place,
     hand: Hand<D>,
     job: WriteJob<D>,
 ) -> Hand<D>
-    requires turns { A.turns access.now place.old hand.session }
-    requires may { MayGive D.Slot A.opening A.outset.told (A.seen place.old) hand }
-    requires can { CanWrite D.Slot A.outset.told job hand }
-    ensures turns { A.turns access.now place.new result.session }
-    ensures may { MayGive D.Slot A.opening A.outset.told (A.seen place.new) result }
+    requires turns { A.turns O.opening O.outset access.now place.old hand.session }
+    requires may { MayGive D.Slot O.opening O.outset.told (A.seen place.old) hand }
+    requires can { CanWrite D.Slot O.outset.told job hand }
+    ensures turns { A.turns O.opening O.outset access.now place.new result.session }
+    ensures may { MayGive D.Slot O.opening O.outset.told (A.seen place.new) result }
     ensures wrote { Wrote job hand result }
+    ensures counts { A.alone ≡ true → CountsBack D.Slot job.row hand result }
 {
-    write_named::<Brand, A, D>(access, place, hand, job)
+    write_named::<Brand, O, A, D>(access, place, hand, job)
 }
 
-fn write_named<B: Before, A: Access<D>, D: Slot + Drop>(
+fn write_named<B: Before, O: Origin, A: Access<D>, D: Slot + Drop>(
     access: &A,
     place: &mut A::Place,
     hand: Hand<D>,
     mut job: WriteJob<D>,
 ) -> Hand<D>
     requires before { B.sum ≡ faults_of D.Slot job.row }
-    requires turns { A.turns access.now place.old hand.session }
-    requires may { MayGive D.Slot A.opening A.outset.told (A.seen place.old) hand }
-    requires can { CanWrite D.Slot A.outset.told job hand }
-    ensures turns { A.turns access.now place.new result.session }
-    ensures may { MayGive D.Slot A.opening A.outset.told (A.seen place.new) result }
+    requires turns { A.turns O.opening O.outset access.now place.old hand.session }
+    requires may { MayGive D.Slot O.opening O.outset.told (A.seen place.old) hand }
+    requires can { CanWrite D.Slot O.outset.told job hand }
+    ensures turns { A.turns O.opening O.outset access.now place.new result.session }
+    ensures may { MayGive D.Slot O.opening O.outset.told (A.seen place.new) result }
     ensures wrote { Wrote job hand result }
+    ensures counts { A.alone ≡ true → CountsBack D.Slot job.row hand result }
 {
     let session = hand.session;
-    access.give(place, hand);
+    access.give::<O>(place, hand);
     job.run(&OpenGate, session);
-    let mut hand = access.take(place, session);
+    let mut hand = access.take::<O>(place, session);
     enter_write::<Brand, B, D>(&mut hand.trail, &job);
     hand.state.finish_write(job);
     hand
@@ -72,42 +76,44 @@ fn enter_write<N: Adds<Entry>, B: Before, D: Slot>(trail: &mut Solo<Entry>, _job
 }
 
 // A page that is loading is read, and comes back: pinned with this buffer, or evicted again.
-pub(crate) fn read_back<A: Access<D>, D: Slot + Drop>(
+pub(crate) fn read_back<O: Origin, A: Access<D>, D: Slot + Drop>(
     access: &A,
     place: &mut A::Place,
     hand: Hand<D>,
     job: ReadJob<D>,
 ) -> (Hand<D>, Result<Buf, PoolErr>)
-    requires turns { A.turns access.now place.old hand.session }
-    requires may { MayGive D.Slot A.opening A.outset.told (A.seen place.old) hand }
-    requires can { CanRead D.Slot A.outset.told job hand }
-    ensures turns { A.turns access.now place.new result.0.session }
-    ensures may { MayGive D.Slot A.opening A.outset.told (A.seen place.new) result.0 }
-    ensures ok { IfOk result.1 (λ buf. IsRead A.outset.told job buf hand result.0) }
+    requires turns { A.turns O.opening O.outset access.now place.old hand.session }
+    requires may { MayGive D.Slot O.opening O.outset.told (A.seen place.old) hand }
+    requires can { CanRead D.Slot O.outset.told job hand }
+    ensures turns { A.turns O.opening O.outset access.now place.new result.0.session }
+    ensures may { MayGive D.Slot O.opening O.outset.told (A.seen place.new) result.0 }
+    ensures ok { IfOk result.1 (λ buf. IsRead O.outset.told job buf hand result.0) }
     ensures err { IfErr result.1 (λ e. IsUnread job e hand result.0) }
+    ensures counts { A.alone ≡ true → CountsBack D.Slot job.row hand result.0 }
 {
-    read_named::<Brand, A, D>(access, place, hand, job)
+    read_named::<Brand, O, A, D>(access, place, hand, job)
 }
 
-fn read_named<B: Before, A: Access<D>, D: Slot + Drop>(
+fn read_named<B: Before, O: Origin, A: Access<D>, D: Slot + Drop>(
     access: &A,
     place: &mut A::Place,
     hand: Hand<D>,
     mut job: ReadJob<D>,
 ) -> (Hand<D>, Result<Buf, PoolErr>)
     requires before { B.sum ≡ faults_of D.Slot job.row }
-    requires turns { A.turns access.now place.old hand.session }
-    requires may { MayGive D.Slot A.opening A.outset.told (A.seen place.old) hand }
-    requires can { CanRead D.Slot A.outset.told job hand }
-    ensures turns { A.turns access.now place.new result.0.session }
-    ensures may { MayGive D.Slot A.opening A.outset.told (A.seen place.new) result.0 }
-    ensures ok { IfOk result.1 (λ buf. IsRead A.outset.told job buf hand result.0) }
+    requires turns { A.turns O.opening O.outset access.now place.old hand.session }
+    requires may { MayGive D.Slot O.opening O.outset.told (A.seen place.old) hand }
+    requires can { CanRead D.Slot O.outset.told job hand }
+    ensures turns { A.turns O.opening O.outset access.now place.new result.0.session }
+    ensures may { MayGive D.Slot O.opening O.outset.told (A.seen place.new) result.0 }
+    ensures ok { IfOk result.1 (λ buf. IsRead O.outset.told job buf hand result.0) }
     ensures err { IfErr result.1 (λ e. IsUnread job e hand result.0) }
+    ensures counts { A.alone ≡ true → CountsBack D.Slot job.row hand result.0 }
 {
     let session = hand.session;
-    access.give(place, hand);
+    access.give::<O>(place, hand);
     job.run(&OpenGate, session);
-    let mut hand = access.take(place, session);
+    let mut hand = access.take::<O>(place, session);
     enter_load::<Brand, B, D>(&mut hand.trail, session, &job);
     let result = hand.state.finish_read(0, job);
     (hand, result)

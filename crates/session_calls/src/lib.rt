@@ -4,6 +4,7 @@
 //! Model: a session that has the value in hand knows the history for which it stands. What the session holds is told
 //! by its own entries in that, so others change none of it.
 //! Invariant: between two calls no page of the session is in a job of its own; with those in jobs no slot is lost.
+//! A session may be alone: then nobody else makes entries, and it waits for nobody.
 #![tactic(auto)]
 
 mod access;

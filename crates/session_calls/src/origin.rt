@@ -1,7 +1,5 @@
 //! With what a pool opened, for contracts alone.
-use crate::access::Access;
-use outside::Slot;
-use std::marker::{Brand, PhantomData};
+use std::marker::Brand;
 
 /// Names with what a pool opened, and what stands above the queries of its sessions, for contracts alone. A call at
 /// `Brand` picks it.
@@ -21,13 +19,4 @@ impl Origin for Brand {
     ghost opening = { record { blocks = 0; block_len = 0; first_name = 0; slots = 0; faults = 0; stores = 0 } };
 
     ghost outset = { record { above = Shared; told = false } };
-}
-
-// That of the pool whose value is had by `A`.
-pub(crate) struct OriginOf<A, D>(PhantomData<(A, D)>);
-
-impl<D: Slot, A: Access<D>> Origin for OriginOf<A, D> {
-    ghost opening = { A.opening };
-
-    ghost outset = { A.outset };
 }

@@ -1,25 +1,27 @@
 //! Pages that rest are pinned, or end.
-ghost use Rattle.std.specs.Prelude.{◌≡◌, ◌∷◌, [], IfErr, IfOk, OnOk};
+ghost use Rattle.std.specs.Prelude.{◌≡◌, ◌∷◌, [], true, IfErr, IfOk, OnOk};
 ghost use Rattle.pool_model.specs.declared.call.Call.TheVariants as call;
 ghost use Rattle.pool_model.specs.declared.event.Event.TheVariants as event;
 ghost use Rattle.pool_model.specs.State.{page_at};
 ghost use Rattle.pin_core.specs.StateOf.{state_of};
 ghost use Rattle.pin_core.specs.Loads.{load_entries};
-ghost use Rattle.store_api.specs.Holdings.{page_of};
+ghost use Rattle.store_api.specs.Holdings.{page_len, page_of};
 ghost use Rattle.store_api.specs.Conditions.{IsHeld, IsPage, ShowsLeft};
 ghost use Rattle.store_api.specs.Entries.{IsPin};
-ghost use Rattle.local_pool.specs.Pinning.{CanBePinned};
+ghost use Rattle.session_calls.specs.Pinning.{CanBePinned};
 ghost use Rattle.session_calls.specs.Acting.{held_by};
 ghost use Rattle.session_calls.specs.Having.{IsAtWork};
 ghost use Rattle.session_calls.specs.Jobs.{DoesIn};
-ghost use Rattle.session_calls.specs.Pinning.{HasAsked, PinIs};
+ghost use Rattle.session_calls.specs.Counting.{Costs, CountsOn};
+ghost use Rattle.session_calls.specs.Needing.{EntersNeeded};
+ghost use Rattle.session_calls.specs.Pinning.{HasAsked, PinIs, StepsAlone};
 ghost use Rattle.session_calls.specs.Turning.{Refuses};
 
 use crate::access::Access;
 use crate::entering::{enter, enter_named};
 use crate::hand::Hand;
 use crate::jobs::{read_back, write_out};
-use crate::origin::OriginOf;
+use crate::origin::Origin;
 use crate::turning::{enter_started, wait};
 use block_arena::Buf;
 use outside::Slot;
@@ -27,7 +29,6 @@ use pin_core::PinTurn;
 use pool_model::{Call, Entry, Event};
 use reservation_tree::PoolErr;
 use std::marker::Brand;
-use std::sync::Wait;
 use store_api::Page;
 use turn_table::Adds;
 
@@ -44,77 +45,81 @@ pub(crate) enum PinStep {
 }
 
 /// Pins a page that rests: where it is, or once there is room for it, after a load where it isn't in memory.
-pub fn pin<A: Access<D>, R: Wait, D: Slot + Drop>(
-    rt: &R,
+pub fn pin<O: Origin, A: Access<D>, D: Slot + Drop>(
     access: &A,
     place: &mut A::Place,
     mut hand: Hand<D>,
     p: &Page,
 ) -> (Hand<D>, Result<Buf, PoolErr>)
-    requires turns { A.turns access.now place.old hand.session }
-    requires at_work { IsAtWork D.Slot A.opening A.outset (A.seen place.old) hand }
-    requires can { CanBePinned p.now (held_by A.opening A.outset hand) }
-    ensures turns { A.turns access.now place.new result.0.session }
-    ensures at_work { IsAtWork D.Slot A.opening A.outset (A.seen place.new) result.0 }
-    ensures ok { OnOk result.1 (DoesIn (IsPin p.now.client (held_by A.opening A.outset hand) p.now.name) hand result.0) }
-    ensures bytes { IfOk result.1 (ShowsLeft (page_of p.now.name (held_by A.opening A.outset hand)) (held_by A.opening A.outset hand)) }
-    ensures err { IfErr result.1 (Refuses A.opening A.outset p.now.client (call.Pin p.now.name) hand result.0) }
+    requires turns { A.turns O.opening O.outset access.now place.old hand.session }
+    requires at_work { IsAtWork D.Slot O.opening O.outset (A.seen place.old) hand }
+    requires can { CanBePinned p.now (held_by O.opening O.outset hand) }
+    ensures turns { A.turns O.opening O.outset access.now place.new result.0.session }
+    ensures at_work { IsAtWork D.Slot O.opening O.outset (A.seen place.new) result.0 }
+    ensures ok { OnOk result.1 (DoesIn (IsPin p.now.client (held_by O.opening O.outset hand) p.now.name) hand result.0) }
+    ensures bytes { IfOk result.1 (ShowsLeft (page_of p.now.name (held_by O.opening O.outset hand)) (held_by O.opening O.outset hand)) }
+    ensures err { IfErr result.1 (Refuses O.opening O.outset p.now.client (call.Pin p.now.name) hand result.0) }
+    ensures costs { Costs D.Slot A.alone p.now.client (page_len p.now.name (held_by O.opening O.outset hand)) hand result.0 }
 {
     let call = Call::Pin { page: p.name() };
-    hand.ask::<OriginOf<A, D>>();
-    for _ in rt.forever() {
-        let (now, step) = pin_step(access, place, hand, p);
+    hand.ask::<O>();
+    let mut left = u64::MAX;
+    loop {
+        let (now, step) = pin_step::<O, A, D>(access, place, hand, p);
         hand = now;
         match step {
             PinStep::Pinned(buf) => return (hand, Ok(buf)),
             PinStep::Refused { entry } => {
-                hand.refuse::<OriginOf<A, D>>(&call, entry);
+                hand.refuse::<O>(&call, entry);
                 return (hand, Err(PoolErr::WriteFault { entry }));
             }
-            PinStep::Wrote => {}
+            PinStep::Wrote => left = access.again(left),
             PinStep::Failed { entry } => {
-                hand.refuse::<OriginOf<A, D>>(&call, entry);
+                hand.refuse::<O>(&call, entry);
                 return (hand, Err(PoolErr::ReadFault { entry }));
             }
         }
     }
-    unreachable!()
 }
 
 // The first that applies: a page in flight is waited for; a dirty page is pinned; where the client has room, a clean one
 // is pinned and an evicted one loaded; a failure refuses the call; the client's newest dirty page is written.
-fn pin_step<A: Access<D>, D: Slot + Drop>(
+fn pin_step<O: Origin, A: Access<D>, D: Slot + Drop>(
     access: &A,
     place: &mut A::Place,
     hand: Hand<D>,
     p: &Page,
 ) -> (Hand<D>, PinStep)
-    requires turns { A.turns access.now place.old hand.session }
-    requires at_work { IsAtWork D.Slot A.opening A.outset (A.seen place.old) hand }
-    requires can { CanBePinned p.now (held_by A.opening A.outset hand) }
+    requires turns { A.turns O.opening O.outset access.now place.old hand.session }
+    requires at_work { IsAtWork D.Slot O.opening O.outset (A.seen place.old) hand }
+    requires can { CanBePinned p.now (held_by O.opening O.outset hand) }
     requires asked { HasAsked hand }
-    ensures turns { A.turns access.now place.new result.0.session }
-    ensures at_work { IsAtWork D.Slot A.opening A.outset (A.seen place.new) result.0 }
-    ensures step { PinIs A.opening A.outset p.now result.1 hand result.0 }
+    ensures turns { A.turns O.opening O.outset access.now place.new result.0.session }
+    ensures at_work { IsAtWork D.Slot O.opening O.outset (A.seen place.new) result.0 }
+    ensures step { PinIs O.opening O.outset p.now result.1 hand result.0 }
+    ensures needed { EntersNeeded p.now.client (page_len p.now.name (held_by O.opening O.outset hand)) hand result.0 }
+    ensures alone { A.alone ≡ true → StepsAlone D.Slot p.now.client result.1 hand result.0 }
 {
-    step::<Brand, A, D>(access, place, hand, p)
+    step::<Brand, O, A, D>(access, place, hand, p)
 }
 
 // One turn, with the entries of a load, which `G` names, since they evict what the turn finds to evict.
-fn step<G: Adds<Entry>, A: Access<D>, D: Slot + Drop>(
+fn step<G: Adds<Entry>, O: Origin, A: Access<D>, D: Slot + Drop>(
     access: &A,
     place: &mut A::Place,
     mut hand: Hand<D>,
     p: &Page,
 ) -> (Hand<D>, PinStep)
     requires named { G.entries ≡ load_entries hand.session p.now.name (page_at (state_of hand.state) p.now.name).blocks hand.state }
-    requires turns { A.turns access.now place.old hand.session }
-    requires at_work { IsAtWork D.Slot A.opening A.outset (A.seen place.old) hand }
-    requires can { CanBePinned p.now (held_by A.opening A.outset hand) }
+    requires turns { A.turns O.opening O.outset access.now place.old hand.session }
+    requires at_work { IsAtWork D.Slot O.opening O.outset (A.seen place.old) hand }
+    requires can { CanBePinned p.now (held_by O.opening O.outset hand) }
     requires asked { HasAsked hand }
-    ensures turns { A.turns access.now place.new result.0.session }
-    ensures at_work { IsAtWork D.Slot A.opening A.outset (A.seen place.new) result.0 }
-    ensures step { PinIs A.opening A.outset p.now result.1 hand result.0 }
+    ensures turns { A.turns O.opening O.outset access.now place.new result.0.session }
+    ensures at_work { IsAtWork D.Slot O.opening O.outset (A.seen place.new) result.0 }
+    ensures step { PinIs O.opening O.outset p.now result.1 hand result.0 }
+    ensures needed { EntersNeeded p.now.client (page_len p.now.name (held_by O.opening O.outset hand)) hand result.0 }
+    ensures alone { A.alone ≡ true → StepsAlone D.Slot p.now.client result.1 hand result.0 }
 {
     match hand.state.pin_turn(hand.session, 0, p) {
         PinTurn::Here(buf) => {
@@ -124,7 +129,7 @@ fn step<G: Adds<Entry>, A: Access<D>, D: Slot + Drop>(
         }
         PinTurn::Load(job) => {
             enter_named::<G>(&mut hand.trail);
-            let (hand, result) = read_back(access, place, hand, job);
+            let (hand, result) = read_back::<O, A, D>(access, place, hand, job);
             match result {
                 Ok(buf) => (hand, PinStep::Pinned(buf)),
                 Err(e) => {
@@ -138,32 +143,35 @@ fn step<G: Adds<Entry>, A: Access<D>, D: Slot + Drop>(
         PinTurn::Refused { entry } => (hand, PinStep::Refused { entry }),
         PinTurn::Write(job) => {
             enter_started(&mut hand.trail, hand.session, &job);
-            (write_out(access, place, hand, job), PinStep::Wrote)
+            (
+                write_out::<O, A, D>(access, place, hand, job),
+                PinStep::Wrote,
+            )
         }
-        PinTurn::Wait => (wait(access, place, hand), PinStep::Wrote),
+        PinTurn::Wait => (wait::<O, A, D>(access, place, hand), PinStep::Wrote),
     }
 }
 
 /// Ends a page. One that is in flight is waited for.
-pub fn destroy<A: Access<D>, R: Wait, D: Slot + Drop>(
-    rt: &R,
+pub fn destroy<O: Origin, A: Access<D>, D: Slot + Drop>(
     access: &A,
     place: &mut A::Place,
     mut hand: Hand<D>,
     p: Page,
     buf: Option<Buf>,
 ) -> Hand<D>
-    requires turns { A.turns access.now place.old hand.session }
-    requires at_work { IsAtWork D.Slot A.opening A.outset (A.seen place.old) hand }
-    requires page { IsPage p (held_by A.opening A.outset hand) }
-    requires buffer { IsHeld p (held_by A.opening A.outset hand) buf }
-    ensures turns { A.turns access.now place.new result.session }
-    ensures at_work { IsAtWork D.Slot A.opening A.outset (A.seen place.new) result }
+    requires turns { A.turns O.opening O.outset access.now place.old hand.session }
+    requires at_work { IsAtWork D.Slot O.opening O.outset (A.seen place.old) hand }
+    requires page { IsPage p (held_by O.opening O.outset hand) }
+    requires buffer { IsHeld p (held_by O.opening O.outset hand) buf }
+    ensures turns { A.turns O.opening O.outset access.now place.new result.session }
+    ensures at_work { IsAtWork D.Slot O.opening O.outset (A.seen place.new) result }
     ensures did { DoesIn (λ events. events ≡ event.Destroy p.name ∷ []) hand result }
+    ensures counts { A.alone ≡ true → CountsOn D.Slot hand result }
 {
     let page = p.name();
     let Some(buf) = buf else {
-        return destroy_resting(rt, access, place, hand, p);
+        return destroy_resting::<O, A, D>(access, place, hand, p);
     };
     hand.state.destroy_pinned(p, buf);
     enter(&mut hand.trail, hand.session, Event::Destroy { page });
@@ -171,23 +179,24 @@ pub fn destroy<A: Access<D>, R: Wait, D: Slot + Drop>(
 }
 
 // Ends a page that isn't pinned.
-fn destroy_resting<A: Access<D>, R: Wait, D: Slot + Drop>(
-    rt: &R,
+fn destroy_resting<O: Origin, A: Access<D>, D: Slot + Drop>(
     access: &A,
     place: &mut A::Place,
     mut hand: Hand<D>,
     mut p: Page,
 ) -> Hand<D>
-    requires turns { A.turns access.now place.old hand.session }
-    requires at_work { IsAtWork D.Slot A.opening A.outset (A.seen place.old) hand }
-    requires page { IsPage p (held_by A.opening A.outset hand) }
-    requires rests { (page_of p.name (held_by A.opening A.outset hand)).pins ≡ 0 }
-    ensures turns { A.turns access.now place.new result.session }
-    ensures at_work { IsAtWork D.Slot A.opening A.outset (A.seen place.new) result }
+    requires turns { A.turns O.opening O.outset access.now place.old hand.session }
+    requires at_work { IsAtWork D.Slot O.opening O.outset (A.seen place.old) hand }
+    requires page { IsPage p (held_by O.opening O.outset hand) }
+    requires rests { (page_of p.name (held_by O.opening O.outset hand)).pins ≡ 0 }
+    ensures turns { A.turns O.opening O.outset access.now place.new result.session }
+    ensures at_work { IsAtWork D.Slot O.opening O.outset (A.seen place.new) result }
     ensures did { DoesIn (λ events. events ≡ event.Destroy p.name ∷ []) hand result }
+    ensures counts { A.alone ≡ true → CountsOn D.Slot hand result }
 {
     let page = p.name();
-    for _ in rt.forever() {
+    let mut left = u64::MAX;
+    loop {
         match hand.state.destroy_unpinned(p) {
             Ok(()) => {
                 enter(&mut hand.trail, hand.session, Event::Destroy { page });
@@ -195,7 +204,7 @@ fn destroy_resting<A: Access<D>, R: Wait, D: Slot + Drop>(
             }
             Err(flying) => p = flying,
         }
-        hand = wait(access, place, hand);
+        hand = wait::<O, A, D>(access, place, hand);
+        left = access.again(left);
     }
-    unreachable!()
 }

@@ -2,13 +2,13 @@
 ghost use Rattle.std.specs.Prelude.{◌≡◌, ◌↔◌, ◌≤◌, [], ◌∷◌, None, Err, IsErr, IfOk, IfErr, IfSome, IfNone, OnOk, OnErr};
 ghost use Rattle.reservation_tree.specs.declared.errors.PoolErr.TheVariants as refusal;
 ghost use Rattle.pool_model.specs.declared.event.Event.TheVariants as event;
-ghost use Rattle.store_api.specs.Holdings.{Shared, account_of};
+ghost use Rattle.store_api.specs.Holdings.{account_of};
 ghost use Rattle.store_api.specs.Changes.{query_growth, shortfall};
 ghost use Rattle.store_api.specs.Conditions.{IsLiveClient, IsIdle};
 ghost use Rattle.store_api.specs.Refusals.{reserve_refusal, IsSharedRefusal};
 ghost use Rattle.session_calls.specs.Ready.{IsReady};
-ghost use Rattle.session_calls.specs.Acting.{ActsThese, held_by};
-ghost use Rattle.local_pool.specs.Calling.{IsFresh};
+ghost use Rattle.session_calls.specs.Acting.{ActsThese, TellsAbove, held_by};
+ghost use Rattle.session_calls.specs.Coming.{IsFresh};
 
 use crate::entering::enter;
 use crate::hand::Hand;
@@ -75,7 +75,7 @@ impl<D: Slot + Drop> Hand<D> {
     /// `NoReservation`: a limit would be passed. It names the lowest such tracker.
     pub fn reserve<O: Origin>(&mut self, c: &Client, bytes: u64) -> Result<(), PoolErr>
         requires ready { IsReady D.Slot O.opening O.outset self.old }
-        requires above { O.outset.above ≡ Shared }
+        requires above { TellsAbove O.opening O.outset self.old }
         requires client { IsLiveClient c.now (held_by O.opening O.outset self.old) }
         ensures ok { OnOk result (ActsThese (event.Increase c.now.tracker bytes ∷ []) self.old self.new) }
         ensures refused { IfSome (reserve_refusal c.now.tracker bytes (held_by O.opening O.outset self.old)) (λ e. result ≡ Err e) }
@@ -100,7 +100,7 @@ impl<D: Slot + Drop> Hand<D> {
     /// As for `reserve`, of the bytes that are lacking.
     pub fn reserve_to_fit<O: Origin>(&mut self, c: &Client, bytes: u64) -> Result<(), PoolErr>
         requires ready { IsReady D.Slot O.opening O.outset self.old }
-        requires above { O.outset.above ≡ Shared }
+        requires above { TellsAbove O.opening O.outset self.old }
         requires client { IsLiveClient c.now (held_by O.opening O.outset self.old) }
         ensures ok { OnOk result (ActsThese (event.IncreaseToFit c.now.tracker bytes ∷ []) self.old self.new) }
         ensures refused { IfSome (reserve_refusal c.now.tracker (shortfall c.now.tracker bytes (held_by O.opening O.outset self.old)) (held_by O.opening O.outset self.old)) (λ e. result ≡ Err e) }

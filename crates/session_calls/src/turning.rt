@@ -1,5 +1,5 @@
 //! One turn of a call that wants room of a client.
-ghost use Rattle.std.specs.Prelude.{◌≡◌, ◌≤◌, ◌++◌, ◌∷◌, []};
+ghost use Rattle.std.specs.Prelude.{◌≡◌, ◌≤◌, ◌++◌, ◌∷◌, [], true};
 ghost use Rattle.pool_model.specs.declared.event.Event.TheVariants as event;
 ghost use Rattle.pin_core.specs.Turns.{amount_of};
 ghost use Rattle.store_api.specs.Holdings.{unused_of};
@@ -7,11 +7,13 @@ ghost use Rattle.store_api.specs.Conditions.{IsLiveClient};
 ghost use Rattle.session_calls.specs.Acting.{held_by};
 ghost use Rattle.session_calls.specs.Having.{IsAtWork};
 ghost use Rattle.session_calls.specs.Jobs.{DoesIn};
-ghost use Rattle.session_calls.specs.Turning.{TurnIs};
+ghost use Rattle.session_calls.specs.Needing.{EntersNeeded};
+ghost use Rattle.session_calls.specs.Turning.{TurnIs, TurnsAlone};
 
 use crate::access::Access;
 use crate::hand::Hand;
 use crate::jobs::write_out;
+use crate::origin::Origin;
 use outside::Slot;
 use pin_core::{RoomTurn, Want, WriteJob};
 use pool_model::Entry;
@@ -35,48 +37,51 @@ pub enum Turn {
 
 // The first that applies: there is room; a failure refuses the call; the client's newest dirty page is written; one of
 // its pages that is in flight is waited for.
-pub(crate) fn room_turn<A: Access<D>, D: Slot + Drop>(
+pub(crate) fn room_turn<O: Origin, A: Access<D>, D: Slot + Drop>(
     access: &A,
     place: &mut A::Place,
     mut hand: Hand<D>,
     c: &Client,
     want: Want,
 ) -> (Hand<D>, Turn)
-    requires turns { A.turns access.now place.old hand.session }
-    requires at_work { IsAtWork D.Slot A.opening A.outset (A.seen place.old) hand }
-    requires client { IsLiveClient c.now (held_by A.opening A.outset hand) }
-    requires unused { amount_of want ≤ unused_of c.now.tracker (held_by A.opening A.outset hand) }
-    ensures turns { A.turns access.now place.new result.0.session }
-    ensures at_work { IsAtWork D.Slot A.opening A.outset (A.seen place.new) result.0 }
-    ensures turn { TurnIs A.opening A.outset c.now.tracker (amount_of want) result.1 hand result.0 }
+    requires turns { A.turns O.opening O.outset access.now place.old hand.session }
+    requires at_work { IsAtWork D.Slot O.opening O.outset (A.seen place.old) hand }
+    requires client { IsLiveClient c.now (held_by O.opening O.outset hand) }
+    requires unused { amount_of want ≤ unused_of c.now.tracker (held_by O.opening O.outset hand) }
+    ensures turns { A.turns O.opening O.outset access.now place.new result.0.session }
+    ensures at_work { IsAtWork D.Slot O.opening O.outset (A.seen place.new) result.0 }
+    ensures turn { TurnIs O.opening O.outset c.now.tracker (amount_of want) result.1 hand result.0 }
+    ensures needed { EntersNeeded c.now.tracker (amount_of want) hand result.0 }
+    ensures alone { A.alone ≡ true → TurnsAlone D.Slot c.now.tracker result.1 hand result.0 }
 {
     match hand.state.room_turn(hand.session, 0, c, want) {
         RoomTurn::Ready => (hand, Turn::Ready),
         RoomTurn::Refused { entry } => (hand, Turn::Refused { entry }),
         RoomTurn::Write(job) => {
             enter_started(&mut hand.trail, hand.session, &job);
-            (write_out(access, place, hand, job), Turn::Wrote)
+            (write_out::<O, A, D>(access, place, hand, job), Turn::Wrote)
         }
-        RoomTurn::Wait => (wait(access, place, hand), Turn::Waited),
+        RoomTurn::Wait => (wait::<O, A, D>(access, place, hand), Turn::Waited),
     }
 }
 
 // The value is given back, and taken again.
-pub(crate) fn wait<A: Access<D>, D: Slot + Drop>(
+pub(crate) fn wait<O: Origin, A: Access<D>, D: Slot + Drop>(
     access: &A,
     place: &mut A::Place,
     hand: Hand<D>,
 ) -> Hand<D>
-    requires turns { A.turns access.now place.old hand.session }
-    requires at_work { IsAtWork D.Slot A.opening A.outset (A.seen place.old) hand }
-    ensures turns { A.turns access.now place.new result.session }
-    ensures at_work { IsAtWork D.Slot A.opening A.outset (A.seen place.new) result }
+    requires turns { A.turns O.opening O.outset access.now place.old hand.session }
+    requires at_work { IsAtWork D.Slot O.opening O.outset (A.seen place.old) hand }
+    ensures turns { A.turns O.opening O.outset access.now place.new result.session }
+    ensures at_work { IsAtWork D.Slot O.opening O.outset (A.seen place.new) result }
     ensures waited { DoesIn (λ events. events ≡ []) hand result }
+    ensures same { A.alone ≡ true → result ≡ hand }
 {
     let session = hand.session;
-    access.give(place, hand);
+    access.give::<O>(place, hand);
     yield_now();
-    access.take(place, session)
+    access.take::<O>(place, session)
 }
 
 // The session began to write the page of this job.

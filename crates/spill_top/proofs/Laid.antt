@@ -20,7 +20,7 @@ use Rattle.own_entries.specs.AboveLaws.{AllBy}
 use Rattle.pin_core.specs.Tallies.{stored_by, written_blocks}
 use Rattle.local_pool.specs.Beginning.{first_events}
 use Rattle.local_pool.specs.History.{IsHistoryOf}
-use Rattle.local_pool.proofs.Sized.{run_len, run_memory}
+use Rattle.session_calls.proofs.Sized.{run_len, run_memory}
 use Rattle.tuple_stream.specs.Trails.{IsBuilding, events_of}
 use Rattle.query_run.specs.Spilling.{LaysBytes, bytes_left}
 use Rattle.spill_top.specs.Storing.{trail_of}

@@ -18,7 +18,7 @@ use Rattle.store_api.specs.Signs.{Entered, Signs}
 use Rattle.local_pool.specs.Beginning.{Begins}
 use Rattle.local_pool.specs.Counting.{AtOpening, SpendsNames, SumsHold, at_opening}
 use Rattle.local_pool.specs.Told.{held_of, signs_of}
-use Rattle.local_pool.specs.declared.owned.Owned.{Owned}
+use Rattle.session_calls.specs.declared.hand.Hand.{Hand}
 use Rattle.query_plan.specs.Sizes.{least_of, page_len}
 use Rattle.query_plan.specs.declared.plan.Query.{Query}
 use Rattle.query_run.specs.Both.{Told}
@@ -32,7 +32,7 @@ use Rattle.spill_top.specs.Sides.{if_told}
 use Rattle.spill_top.proofs.Showing.{failures_told}
 
 -- a pool that began with the least reservation has room for the query
-pub room_for : {D : Type 0} (slot : Ghosts D) (plan : Query) (conf : PoolConf) (slots : List D) (limit quota least : ℕ) (own : Owned D) → Begins slot conf slots limit quota least own → least ≡ least_of plan conf.block_len
+pub room_for : {D : Type 0} (slot : Ghosts D) (plan : Query) (conf : PoolConf) (slots : List D) (limit quota least : ℕ) (own : Hand D) → Begins slot conf slots limit quota least own → least ≡ least_of plan conf.block_len
     → HasRoomFor plan (held_of slot own)
 room_for slot plan conf slots limit quota least own begins is =
     let held = begins.held in
@@ -77,7 +77,7 @@ come_back named trail before now first blocks is sums =
     less (all_failures trail) (written_blocks trail) before now (subst (λ (o : Option AtOpening). SumsHold o trail now) is sums)
 
 -- a failure that the pool shows is one of its slots
-failed : {D : Type 0} (own : Owned D) (old : Signs) (before now : Tally) → Counted (all_failures own.trail) (written_blocks own.trail) before now → old.failures < (signs_of own).failures → HaveFailed before now
+failed : {D : Type 0} (own : Hand D) (old : Signs) (before now : Tally) → Counted (all_failures own.trail) (written_blocks own.trail) before now → old.failures < (signs_of own).failures → HaveFailed before now
 failed own old before now counted rose = λ free.
     let more = counted.failed free in
     let told = failures_told own in
@@ -113,11 +113,11 @@ spent_names plan told tell first blocks named tally before now spent is zero non
     many-names (rows_through plan both) (length (names_in more)) least few.2) (made tells))
 
 -- a pool begins without a page
-pub unnamed_first : {D : Type 0} (slot : Ghosts D) (conf : PoolConf) (slots : List D) (limit quota least : ℕ) (own : Owned D) → Begins slot conf slots limit quota least own → names_in own.trail ≡ []
+pub unnamed_first : {D : Type 0} (slot : Ghosts D) (conf : PoolConf) (slots : List D) (limit quota least : ℕ) (own : Hand D) → Begins slot conf slots limit quota least own → names_in own.trail ≡ []
 unnamed_first slot conf slots limit quota least own begins = ap names_in begins.trail
 
 -- what a store shows to have made is what its trail has
-pub made_over : {D : Type 0} (before now : Owned D) (told : Option Told) (most : Told → ℕ) → IfSome told (λ both. MakesFew (most both) (signs_of before) (signs_of now))
+pub made_over : {D : Type 0} (before now : Hand D) (told : Option Told) (most : Told → ℕ) → IfSome told (λ both. MakesFew (most both) (signs_of before) (signs_of now))
     → IfSome told (λ both. Entered (λ more. length (names_in more) ≤ most both) (Some before.trail) (Some now.trail))
 unfolding signs_of
 made_over before now told most made = made
@@ -130,7 +130,7 @@ lacks-slots plan page quota told start blocks free is paged enough =
     subst (λ (n : ℕ). IfSome told (λ both. quota < need plan n both * plan.page_blocks)) paged
     (subst (λ (o : Option ℕ). IfSome told (λ both. IfSome o (λ n. n < need plan (page_len plan start.block_len) both * plan.page_blocks))) is enough)
 
-stop : {D : Type 0} (own : Owned D) (plan : Query) (page quota : ℕ) (told : Option Told) (tell : Bool) (start : Holdings) (old : Signs) (before now : Tally) (e : PoolErr) → Counted (all_failures own.trail) (written_blocks own.trail) before now
+stop : {D : Type 0} (own : Hand D) (plan : Query) (page quota : ℕ) (told : Option Told) (tell : Bool) (start : Holdings) (old : Signs) (before now : Tally) (e : PoolErr) → Counted (all_failures own.trail) (written_blocks own.trail) before now
     → start.free_slots ≡ Some quota → page_len plan start.block_len ≡ page → (tell ≡ true → start.told ≡ true) → ((signs_of own).spent ≡ true → MaySpendNames plan (if_told tell told))
     → StoppedQuery plan told start old (signs_of own) e → IsPoolStop plan page (if_told tell told) quota (HaveFailed before now) e
 stop own plan page quota told tell start old before now (pool.NoReservation tracker wanted room) counted free paged tells names stopped = absurd stopped.answered
@@ -145,7 +145,7 @@ stop own plan page quota told tell start old before now pool.NamesSpent counted 
 stop own plan page quota told tell start old before now pool.Memory counted free paged tells names stopped = tt
 
 -- what the pool stopped the query with, as its slots tell it
-pub pool_stop : {D : Type 0} (own : Owned D) (plan : Query) (page quota : ℕ) (told : Option Told) (start : Holdings) (old : Signs) (named : Option AtOpening) (before now : Tally) (first blocks : ℕ) (e : QueryErr) → start.free_slots ≡ Some quota
+pub pool_stop : {D : Type 0} (own : Hand D) (plan : Query) (page quota : ℕ) (told : Option Told) (start : Holdings) (old : Signs) (named : Option AtOpening) (before now : Tally) (first blocks : ℕ) (e : QueryErr) → start.free_slots ≡ Some quota
     → page_len plan start.block_len ≡ page → (all_tell before ≡ true → start.told ≡ true) → named ≡ Some (at_opening before first blocks) → SumsHold named own.trail now
     → ((signs_of own).spent ≡ true → MaySpendNames plan (if_told (all_tell before) told)) → MayStop plan told start old (signs_of own) e
     → OfPool (IsPoolStop plan page (if_told (all_tell before) told) quota (HaveFailed before now)) e

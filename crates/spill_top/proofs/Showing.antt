@@ -11,7 +11,7 @@ use Rattle.pin_core.specs.Standing.{slots_home}
 use Rattle.pin_core.specs.StateOf.{state_of}
 use Rattle.pin_core.specs.Tallies.{all_failures, silence}
 use Rattle.std.specs.List.{sum_by}
-use Rattle.local_pool.specs.declared.owned.Owned.{Owned}
+use Rattle.session_calls.specs.declared.hand.Hand.{Hand}
 use Rattle.local_pool.specs.Told.{held_of, outset_of, signs_of}
 
 fewer : (p q : Entry → Bool) (es : List Entry) → ((e : Entry) → p e ≡ true → q e ≡ true) → length (filter p es) ≤ length (filter q es)
@@ -35,12 +35,12 @@ of_any m h e = elim (failed_page e) as (λ o. (elim o [ None ↦ false | Some p 
   | Some p ↦ λ is. refl
 ]
 
-pub failures_told : {D : Type 0} (own : Owned D) → (signs_of own).failures ≤ all_failures own.trail
+pub failures_told : {D : Type 0} (own : Hand D) → (signs_of own).failures ≤ all_failures own.trail
 unfolding signs_of
 failures_told own = fewer (λ e. fails (is_own own.session) own.trail e.event) (λ e. fails (λ made. true) own.trail e.event) own.trail (λ e. of_any own.session own.trail e.event)
 
 -- whether a pool tells what pins show stays as it began
-pub tells_first : {D : Type 0} (slot : Ghosts D) (own : Owned D) (slots : List D) → ((measure : D → ℕ) → slots_home measure own.pool ≡ sum_by measure slots) → (held_of slot own).told ≡ (sum_by (silence slot) slots == 0)
+pub tells_first : {D : Type 0} (slot : Ghosts D) (own : Hand D) (slots : List D) → ((measure : D → ℕ) → slots_home measure own.state ≡ sum_by measure slots) → (held_of slot own).told ≡ (sum_by (silence slot) slots == 0)
 unfolding held_of
 tells_first slot own slots home =
-    (outsets_stay (state_of own.pool).block_len own.session (outset_of slot own.pool) own.trail).shows ∙ ap (λ (n : ℕ). n == 0) (home (silence slot))
+    (outsets_stay (state_of own.state).block_len own.session (outset_of slot own.state) own.trail).shows ∙ ap (λ (n : ℕ). n == 0) (home (silence slot))

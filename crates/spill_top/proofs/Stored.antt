@@ -16,7 +16,7 @@ use Rattle.local_pool.specs.Beginning.{Begins, first_events, memory_of}
 use Rattle.local_pool.specs.Counting.{AtOpening, SumsHold, at_opening}
 use Rattle.local_pool.specs.History.{IsHistory, IsHistoryOf}
 use Rattle.local_pool.specs.Told.{held_of, outset_of, signs_of}
-use Rattle.local_pool.specs.declared.owned.Owned.{Owned}
+use Rattle.session_calls.specs.declared.hand.Hand.{Hand}
 use Rattle.query_plan.specs.declared.plan.Query.{Query}
 use Rattle.query_run.specs.Both.{Told, both_told}
 use Rattle.query_run.specs.Plans.{IsRunnable}
@@ -32,12 +32,12 @@ beyond before now written block_len bytes most counts fits =
     omega (arith, all, fits)
 
 -- a pool's session stays
-whose : {D : Type 0} (slot : Ghosts D) (own : Owned D) → (held_of slot own).session ≡ own.session
+whose : {D : Type 0} (slot : Ghosts D) (own : Hand D) → (held_of slot own).session ≡ own.session
 unfolding held_of
-whose slot own = (outsets_stay (state_of own.pool).block_len own.session (outset_of slot own.pool) own.trail).whose
+whose slot own = (outsets_stay (state_of own.state).block_len own.session (outset_of slot own.state) own.trail).whose
 
 -- what a query kept over a pool was laid there
-laid-over : {D : Type 0} (plan : Query) (page : ℕ) (lefts rights : Option (List ℕ)) (first last : Owned D) → KeptIsLaid → IsRunnable plan → KeptRows plan page lefts rights (signs_of first).trail (signs_of last).trail
+laid-over : {D : Type 0} (plan : Query) (page : ℕ) (lefts rights : Option (List ℕ)) (first last : Hand D) → KeptIsLaid → IsRunnable plan → KeptRows plan page lefts rights (signs_of first).trail (signs_of last).trail
     → LaysSpill plan (both_told lefts rights) (Some first.trail) (Some last.trail)
 unfolding signs_of
 laid-over plan page lefts rights first last law runs kept = law plan page lefts rights (Some first.trail) (Some last.trail) runs kept
@@ -58,7 +58,7 @@ stored-of plan (Some both) blocks block_len session query quota least first last
     beyond before.stores now.stores (written_blocks last) block_len (spill plan both) (min plan.limit (bytes_of block_len blocks)) (counted.stores all) fits
 
 -- what a query must keep beyond its memory was stored in its pool's slots
-pub has_stored : {D : Type 0} (slot : Ghosts D) (plan : Query) (conf : PoolConf) (slots : List D) (quota least page : ℕ) (first last : Owned D) (named : Option AtOpening) (before now : Tally) (lefts rights : Option (List ℕ))
+pub has_stored : {D : Type 0} (slot : Ghosts D) (plan : Query) (conf : PoolConf) (slots : List D) (quota least page : ℕ) (first last : Hand D) (named : Option AtOpening) (before now : Tally) (lefts rights : Option (List ℕ))
     → KeptIsLaid → LaidIsStored → IsRunnable plan → Begins slot conf slots plan.limit quota least first → IsLeft (held_of slot first) (held_of slot last) → named ≡ Some (at_opening before conf.first_name conf.blocks)
     → SumsHold named last.trail now → IsHistory named (held_of slot last).block_len last.session last.trail → KeptRows plan page lefts rights (signs_of first).trail (signs_of last).trail
     → HaveStored conf.block_len (owed plan (memory_of conf) (both_told lefts rights)) before now

@@ -24,6 +24,3 @@ mod watched;
 mod words;
 
 pub use top::spill_top;
-
-#[cfg(test)]
-mod tests;

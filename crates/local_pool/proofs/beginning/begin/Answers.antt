@@ -1,4 +1,4 @@
-use Rattle.std.proofs.Common.{◌≡◌, ◌++◌, ℕ, List, [], ◌∷◌, Some, inr, sym, ap, ◌∙◌, subst, arith}
+use Rattle.std.proofs.Common.{◌≡◌, ◌++◌, ℕ, List, [], ◌∷◌, Some, None, inr, sym, ap, ◌∙◌, subst, arith}
 use Rattle.std.specs.FinMap.{get}
 use Rattle.pool_model.specs.declared.entry.Entry.{Entry}
 use Rattle.pool_model.specs.declared.event.Event.TheVariants.{AddTracker, Increase}
@@ -8,17 +8,17 @@ use Rattle.pin_core.specs.StateOf.{state_of}
 use Rattle.pin_core.specs.Sessions.{query_of}
 use Rattle.pin_core.specs.Standing.{StandsFor, slots_home}
 use Rattle.pin_core.specs.Opening.{spare_of}
-use Rattle.local_pool.specs.declared.owned.Owned.{Owned}
+use Rattle.session_calls.specs.declared.hand.Hand.{Hand}
 use Rattle.pin_core.specs.Tallies.{tally_in}
 use Rattle.local_pool.specs.Beginning.{first_events}
 use Rattle.pin_core.proofs.Tallied.{tally_same}
-use Rattle.local_pool.proofs.Begun.{opening_of, is_opening, not_full, lacks, cause_of, none_left, stands_first, counted_alike, begun, first_query, sits_first}
+use Rattle.local_pool.proofs.Begun.{opening_with, is_opening, not_full, lacks, cause_of, none_left, stands_first, fits_first, counted_alike, begun, first_query, sits_first}
 use Rattle.local_pool.proofs.beginning.begin.Goals as goal
 
 pub close-requires : goal.close-requires
 close-requires g c = record {
   ended =
-      let o : Opening = opening_of c.args._conf.now (spare_of c.args.pool) in
+      let o : Opening = opening_with c.args._conf.now (spare_of c.args.pool) in
       let fresh : StandsFor g.D.Slot o [] c.args.pool = c.requires.fresh o (is_opening c.args._conf.now (spare_of c.args.pool)) in
       let closed = c.in-Err.ensures.err (not_full c.args._conf.now (spare_of c.args.pool) (state_of c.args.pool) fresh.state) in
       let stood = closed.enters.stands o [] fresh in
@@ -27,14 +27,14 @@ close-requires g c = record {
 
 pub returns-in-Err-clause-cause : goal.returns-in-Err-clause-cause
 returns-in-Err-clause-cause g c =
-    let o : Opening = opening_of c.args._conf.now (spare_of c.args.pool) in
+    let o : Opening = opening_with c.args._conf.now (spare_of c.args.pool) in
     let fresh : StandsFor g.D.Slot o [] c.args.pool = c.requires.fresh o (is_opening c.args._conf.now (spare_of c.args.pool)) in
     let closed = c.in-Err.ensures.err (not_full c.args._conf.now (spare_of c.args.pool) (state_of c.args.pool) fresh.state) in
     cause_of c.args._conf.now (spare_of c.args.pool) (state_of c.args.pool) fresh.state closed.tracker c.args.limit c.args.least c.in-Err.refusal closed.cause
 
 pub returns-in-Err-clause-back : goal.returns-in-Err-clause-back
 returns-in-Err-clause-back g c measure =
-    let o : Opening = opening_of c.args._conf.now (spare_of c.args.pool) in
+    let o : Opening = opening_with c.args._conf.now (spare_of c.args.pool) in
     let fresh : StandsFor g.D.Slot o [] c.args.pool = c.requires.fresh o (is_opening c.args._conf.now (spare_of c.args.pool)) in
     let closed = c.in-Err.ensures.err (not_full c.args._conf.now (spare_of c.args.pool) (state_of c.args.pool) fresh.state) in
     let home = closed.enters.slots measure in
@@ -43,7 +43,7 @@ returns-in-Err-clause-back g c measure =
 
 pub tracker-tracker-requires : goal.tracker-tracker-requires
 tracker-tracker-requires g c =
-    let o : Opening = opening_of c.args._conf.now (spare_of c.args.pool) in
+    let o : Opening = opening_with c.args._conf.now (spare_of c.args.pool) in
     let fresh : StandsFor g.D.Slot o [] c.args.pool = c.requires.fresh o (is_opening c.args._conf.now (spare_of c.args.pool)) in
     sits_first g.D.Slot o c.in-Ok.session (query_of (state_of c.open_session.new.self) c.in-Ok.session) c.args.limit c.args.quota c.args.least c.open_session.new.self (c.in-Ok.ensures.ok.stands o [] fresh)
 
@@ -57,38 +57,41 @@ trail_is trail one two m t q parent limit quota least none same root first secon
 
 pub invariant_of-result : goal.invariant_of-result
 invariant_of-result g c =
-    let o : Opening = opening_of c.args._conf.now (spare_of c.args.pool) in
+    let o : Opening = opening_with c.args._conf.now (spare_of c.args.pool) in
     let fresh : StandsFor g.D.Slot o [] c.args.pool = c.requires.fresh o (is_opening c.args._conf.now (spare_of c.args.pool)) in
     let q : ℕ = query_of (state_of c.open_session.new.self) c.in-Ok.session in
-    let own : Owned g.row.D.Denot = record { pool = c.open_session.new.self; trail = c.enter-2.new.trail; session = c.in-Ok.session } in
+    let own : Hand g.row.D.Denot = record { state = c.open_session.new.self; trail = c.enter-2.new.trail; session = c.in-Ok.session } in
     let trail : own.trail ≡ by own.session (first_events q c.args.limit c.args.quota c.args.least) =
-    trail_is c.args.trail c.enter.new.trail c.enter-2.new.trail c.in-Ok.session c.tracker-tracker.result q c.of.result c.args.limit c.args.quota c.args.least c.requires.empty c.tracker-tracker.ensures c.of.ensures c.enter.ensures c.enter-2.ensures in
-    stands_first g.D.Slot own q c.args.limit c.args.quota c.args.least trail c.args._conf.now o (is_opening c.args._conf.now (spare_of c.args.pool))
-    (subst (λ (h : List Entry). StandsFor g.D.Slot o h own.pool) (sym trail) (c.in-Ok.ensures.ok.stands o [] fresh)) c.in-Ok.ensures.fresh.0
-    g.T.OpenedWith.opened (counted_alike g.T.OpenedWith.opened (tally_in g.D.Slot c.args.pool) (tally_in g.D.Slot own.pool) c.args._conf.now.first_name _
-    (tally_same g.D.Slot (λ measure. slots_home measure c.args.pool) (λ measure. slots_home measure own.pool) (λ measure. let home = c.in-Ok.ensures.ok.slots measure in omega (arith, home))) c.requires.opens)
+    trail_is c.args.trail c.enter.new.trail c.enter-2.new.trail c.in-Ok.session c.tracker-tracker.result q c.of.result c.args.limit c.args.quota c.args.least c.requires.empty.0 c.tracker-tracker.ensures c.of.ensures c.enter.ensures c.enter-2.ensures in
+    let stood : StandsFor g.D.Slot o own.trail own.state = subst (λ (h : List Entry). StandsFor g.D.Slot o h own.state) (sym trail) (c.in-Ok.ensures.ok.stands o [] fresh) in (
+      stands_first g.D.Slot own q c.args.limit c.args.quota c.args.least trail c.args._conf.now o (is_opening c.args._conf.now (spare_of c.args.pool)) stood c.in-Ok.ensures.fresh.0
+          g.T.OpenedWith.opened (counted_alike g.T.OpenedWith.opened (tally_in g.D.Slot c.args.pool) (tally_in g.D.Slot own.state) c.args._conf.now.first_name _
+          (tally_same g.D.Slot (λ measure. slots_home measure c.args.pool) (λ measure. slots_home measure own.state) (λ measure. let home = c.in-Ok.ensures.ok.slots measure in omega (arith, home))) c.requires.opens),
+      fits_first g.D.Slot own q c.args.limit c.args.quota c.args.least trail c.args._conf.now o (is_opening c.args._conf.now (spare_of c.args.pool)) stood c.in-Ok.ensures.fresh.0
+          (record { value = None; seen = c.see_all.new.seen }) (c.see_all.ensures ∙ ap (λ (h : List Entry). h ++ c.enter-2.new.trail) c.requires.empty.1),
+    )
 
 pub returns-clause-ok : goal.returns-clause-ok
 returns-clause-ok g c =
-    let o : Opening = opening_of c.args._conf.now (spare_of c.args.pool) in
+    let o : Opening = opening_with c.args._conf.now (spare_of c.args.pool) in
     let fresh : StandsFor g.D.Slot o [] c.args.pool = c.requires.fresh o (is_opening c.args._conf.now (spare_of c.args.pool)) in
     let q : ℕ = query_of (state_of c.open_session.new.self) c.in-Ok.session in
-    let own : Owned g.row.D.Denot = record { pool = c.open_session.new.self; trail = c.enter-2.new.trail; session = c.in-Ok.session } in
+    let own : Hand g.row.D.Denot = record { state = c.open_session.new.self; trail = c.enter-2.new.trail; session = c.in-Ok.session } in
     let trail : own.trail ≡ by own.session (first_events q c.args.limit c.args.quota c.args.least) =
-    trail_is c.args.trail c.enter.new.trail c.enter-2.new.trail c.in-Ok.session c.tracker-tracker.result q c.of.result c.args.limit c.args.quota c.args.least c.requires.empty c.tracker-tracker.ensures c.of.ensures c.enter.ensures c.enter-2.ensures in
+    trail_is c.args.trail c.enter.new.trail c.enter-2.new.trail c.in-Ok.session c.tracker-tracker.result q c.of.result c.args.limit c.args.quota c.args.least c.requires.empty.0 c.tracker-tracker.ensures c.of.ensures c.enter.ensures c.enter-2.ensures in
     begun g.D.Slot own q c.args.limit c.args.quota c.args.least trail c.args._conf.now o (is_opening c.args._conf.now (spare_of c.args.pool))
-    (subst (λ (h : List Entry). StandsFor g.D.Slot o h own.pool) (sym trail) (c.in-Ok.ensures.ok.stands o [] fresh))
+    (subst (λ (h : List Entry). StandsFor g.D.Slot o h own.state) (sym trail) (c.in-Ok.ensures.ok.stands o [] fresh))
 
 pub returns-clause-trail : goal.returns-clause-trail
 returns-clause-trail g c =
     let q : ℕ = query_of (state_of c.open_session.new.self) c.in-Ok.session in
-    let own : Owned g.row.D.Denot = record { pool = c.open_session.new.self; trail = c.enter-2.new.trail; session = c.in-Ok.session } in
+    let own : Hand g.row.D.Denot = record { state = c.open_session.new.self; trail = c.enter-2.new.trail; session = c.in-Ok.session } in
     let trail : own.trail ≡ by own.session (first_events q c.args.limit c.args.quota c.args.least) =
-    trail_is c.args.trail c.enter.new.trail c.enter-2.new.trail c.in-Ok.session c.tracker-tracker.result q c.of.result c.args.limit c.args.quota c.args.least c.requires.empty c.tracker-tracker.ensures c.of.ensures c.enter.ensures c.enter-2.ensures in
+    trail_is c.args.trail c.enter.new.trail c.enter-2.new.trail c.in-Ok.session c.tracker-tracker.result q c.of.result c.args.limit c.args.quota c.args.least c.requires.empty.0 c.tracker-tracker.ensures c.of.ensures c.enter.ensures c.enter-2.ensures in
     trail ∙ ap (λ (k : ℕ). by own.session (first_events k c.args.limit c.args.quota c.args.least)) (sym (first_query g.D.Slot own q c.args.limit c.args.quota c.args.least trail))
 
 pub returns-clause-refused : goal.returns-clause-refused
 returns-clause-refused g c few =
-    let o : Opening = opening_of c.args._conf.now (spare_of c.args.pool) in
+    let o : Opening = opening_with c.args._conf.now (spare_of c.args.pool) in
     let fresh : StandsFor g.D.Slot o [] c.args.pool = c.requires.fresh o (is_opening c.args._conf.now (spare_of c.args.pool)) in
     c.in-Ok.ensures.refused.1 (inr (lacks c.args._conf.now (spare_of c.args.pool) (state_of c.args.pool) fresh.state c.args.limit c.args.least few))

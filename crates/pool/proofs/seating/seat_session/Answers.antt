@@ -1,18 +1,13 @@
-use Rattle.std.proofs.Common.{◌≡◌, ◌≤◌, ◌<◌, ◌+◌, ℕ, [], None, Result, IfOk, OnOk, refl, sym, ap, ◌∙◌, subst}
-use Rattle.std.specs.FinMap.{get}
-use Rattle.reservation_tree.specs.declared.errors.PoolErr.{PoolErr}
+use Rattle.std.proofs.Common.{◌≡◌, ◌≤◌, ◌+◌, ℕ, refl, sym, ap, ◌∙◌, subst}
 use Rattle.pool_model.specs.State.{State}
 use Rattle.pin_core.specs.StateOf.{state_of}
 use Rattle.pin_core.specs.Sessions.{query_of}
-use Rattle.pin_core.specs.Opening.{opening_entries, spare_of}
-use Rattle.pin_core.specs.Standing.{Enters}
 use Rattle.turn_table.specs.Face.{Spot}
 use Rattle.pool.specs.declared.item.Item.{Item}
 use Rattle.pool.specs.Seats.{taken_in}
 use Rattle.pool.specs.Seating.{Begins, IsSessionRefusal, TurnsAway, beginning_items}
-use Rattle.pool.proofs.Came.{still_pass, turned_away, has_rights, came_pass, came_keeps, came, none_there, not_refused, spare_enough, still_right}
-use Rattle.pool.proofs.Trailed.{begun_trail}
-use Rattle.pool.proofs.Stood.{begun_seat, stands_begun, state_here}
+use Rattle.pool.proofs.Came.{still_pass, turned_away, has_rights, came_pass, came_keeps, came, none_there, spare_enough, still_right}
+use Rattle.pool.proofs.Stood.{stands_begun, state_here}
 use Rattle.pool.proofs.seating.seat_session.Goals as goal
 
 pub invariant_of-pass : goal.invariant_of-pass
@@ -25,75 +20,52 @@ returns-in-Err-clause-err g c =
     (turned_away g.T.OpenedAs.opening c.pass.invariant c.enter-shared.ensures.kept.1 c.enter-shared.ensures.seen c.leave.new.seat c.leave.ensures.grown c.args.limit c.args.least c.in-Err.refusal table
     (subst (λ (s : State). IsSessionRefusal s c.args.limit c.args.least c.in-Err.refusal) (state_here g.D.Slot g.T.OpenedAs.opening g.T.OpenedAs.told c.enter-shared.new.seat.knows.seen c.enter-shared.result.trail c.enter-shared.result.state c.enter-shared.ensures.stands) c.in-Err.ensures.err))
 
-pub open_session-requires : goal.open_session-requires
-open_session-requires g c = record {
-  spare = spare_enough g.T.OpenedAs.opening c.pass.invariant c.enter-shared.ensures.kept.1 c.enter-shared.ensures.seen c.enter-shared.ensures.stands c.args.quota
-      (subst (λ (p : Spot Item). c.args.quota + taken_in p.knows.seen ≤ g.T.OpenedAs.opening.slots) (sym c.pass.view_is) c.requires.spare);
-}
-
-pub unwrap-number-requires : goal.unwrap-number-requires
-unwrap-number-requires g c = not_refused c.open_session.result (λ is. c.in-Ok.ensures.ok (c.open_session.ensures.refused.0 is))
-
-pub tracker-tracker-requires : goal.tracker-tracker-requires
-tracker-tracker-requires g c =
-    let n : ℕ = c.unwrap-number.result in
-    begun_seat g.D.Slot g.T.OpenedAs.opening g.T.OpenedAs.told n (query_of (state_of c.open_session.new.self) n) c.args.limit c.args.quota c.args.least c.enter-shared.result.state c.open_session.new.self
-    (subst (λ (r : Result ℕ PoolErr). IfOk r (λ s. Enters g.D.Slot (opening_entries s (query_of (state_of c.open_session.new.self) s) c.args.limit c.args.quota c.args.least) [] [] c.enter-shared.result.state c.open_session.new.self)) c.unwrap-number.ensures c.open_session.ensures.ok)
+pub admit-number-requires-clause-spare : goal.admit-number-requires-clause-spare
+admit-number-requires-clause-spare g c =
+    spare_enough g.T.OpenedAs.opening c.pass.invariant c.enter-shared.ensures.kept.1 c.enter-shared.ensures.seen c.enter-shared.ensures.stands c.args.quota
+    (subst (λ (p : Spot Item). c.args.quota + taken_in p.knows.seen ≤ g.T.OpenedAs.opening.slots) (sym c.pass.view_is) c.requires.spare)
 
 pub leave_begun-requires-clause-named : goal.leave_begun-requires-clause-named
 leave_begun-requires-clause-named g c = refl
 
 pub leave_begun-requires-clause-stands : goal.leave_begun-requires-clause-stands
 leave_begun-requires-clause-stands g c =
-    let n : ℕ = c.unwrap-number.result in
-    let fresh : (n < 240) × (get (state_of c.enter-shared.result.state).sessions n ≡ None) =
-    subst (λ (r : Result ℕ PoolErr). IfOk r (λ s. (s < 240) × (get (state_of c.enter-shared.result.state).sessions s ≡ None))) c.unwrap-number.ensures c.open_session.ensures.fresh in
-    stands_begun g.D.Slot g.T.OpenedAs.opening g.T.OpenedAs.told c.enter-shared.new.seat.knows.seen c.enter-shared.result.trail c.enter-2.new.trail c.enter-shared.result.state c.open_session.new.self n (query_of (state_of c.open_session.new.self) n) c.args.limit c.args.quota c.args.least
-    c.enter-shared.ensures.stands fresh.1
-    (begun_trail c.enter-shared.result.trail c.enter.new.trail c.enter-2.new.trail n (query_of (state_of c.open_session.new.self) n) c.args.limit c.args.quota c.args.least c.tracker-tracker.result c.of.result
-    c.tracker-tracker.ensures c.of.ensures c.enter.ensures c.enter-2.ensures)
-    (subst (λ (r : Result ℕ PoolErr). IfOk r (λ s. Enters g.D.Slot (opening_entries s (query_of (state_of c.open_session.new.self) s) c.args.limit c.args.quota c.args.least) [] [] c.enter-shared.result.state c.open_session.new.self)) c.unwrap-number.ensures c.open_session.ensures.ok)
-    (subst (λ (r : Result ℕ PoolErr). OnOk r (spare_of c.open_session.new.self + c.args.quota ≡ spare_of c.enter-shared.result.state)) c.unwrap-number.ensures c.open_session.ensures.spare)
+    let n : ℕ = c.admit-number.result in
+    stands_begun g.D.Slot g.T.OpenedAs.opening g.T.OpenedAs.told c.enter-shared.new.seat.knows.seen c.enter-shared.result.trail c.admit-number.new.shared.trail c.enter-shared.result.state c.admit-number.new.shared.state n (query_of (state_of c.admit-number.new.shared.state) n) c.args.limit c.args.quota c.args.least
+    c.enter-shared.ensures.stands c.admit-number.ensures.opens.vacant
+    c.admit-number.ensures.trail
+    c.admit-number.ensures.opens.enters
+    c.admit-number.ensures.opens.spare
 
 pub leave_begun-requires-clause-rights : goal.leave_begun-requires-clause-rights
 leave_begun-requires-clause-rights g c =
-    let fresh : (c.unwrap-number.result < 240) × (get (state_of c.enter-shared.result.state).sessions c.unwrap-number.result ≡ None) =
-    subst (λ (r : Result ℕ PoolErr). IfOk r (λ s. (s < 240) × (get (state_of c.enter-shared.result.state).sessions s ≡ None))) c.unwrap-number.ensures c.open_session.ensures.fresh in
-    has_rights g.T.OpenedAs.opening c.pass.invariant c.enter-shared.ensures.kept.1 c.enter-shared.ensures.seen c.enter-shared.ensures.stands c.unwrap-number.result fresh.0 fresh.1
+    has_rights g.T.OpenedAs.opening c.pass.invariant c.enter-shared.ensures.kept.1 c.enter-shared.ensures.seen c.enter-shared.ensures.stands c.admit-number.result c.admit-number.ensures.opens.number c.admit-number.ensures.opens.vacant
 
 pub split-spot-requires-clause-among : goal.split-spot-requires-clause-among
 split-spot-requires-clause-among g c =
-    let fresh : (c.unwrap-number.result < 240) × (get (state_of c.enter-shared.result.state).sessions c.unwrap-number.result ≡ None) =
-    subst (λ (r : Result ℕ PoolErr). IfOk r (λ s. (s < 240) × (get (state_of c.enter-shared.result.state).sessions s ≡ None))) c.unwrap-number.ensures c.open_session.ensures.fresh in
-    still_right c.unwrap-number.result c.enter-shared.new.seat.knows c.leave_begun.new.seat.knows (beginning_items c.unwrap-number.result (query_of (state_of c.open_session.new.self) c.unwrap-number.result) c.args.limit c.args.quota c.args.least) c.leave_begun.ensures.grown
-    (has_rights g.T.OpenedAs.opening c.pass.invariant c.enter-shared.ensures.kept.1 c.enter-shared.ensures.seen c.enter-shared.ensures.stands c.unwrap-number.result fresh.0 fresh.1).1
+    still_right c.admit-number.result c.enter-shared.new.seat.knows c.leave_begun.new.seat.knows (beginning_items c.admit-number.result (query_of (state_of c.admit-number.new.shared.state) c.admit-number.result) c.args.limit c.args.quota c.args.least) c.leave_begun.ensures.grown
+    (has_rights g.T.OpenedAs.opening c.pass.invariant c.enter-shared.ensures.kept.1 c.enter-shared.ensures.seen c.enter-shared.ensures.stands c.admit-number.result c.admit-number.ensures.opens.number c.admit-number.ensures.opens.vacant).1
 
 pub invariant_of-result : goal.invariant_of-result
 invariant_of-result g c =
-    let fresh : (c.unwrap-number.result < 240) × (get (state_of c.enter-shared.result.state).sessions c.unwrap-number.result ≡ None) =
-    subst (λ (r : Result ℕ PoolErr). IfOk r (λ s. (s < 240) × (get (state_of c.enter-shared.result.state).sessions s ≡ None))) c.unwrap-number.ensures c.open_session.ensures.fresh in
-    came_keeps g.T.OpenedAs.opening c.pass.invariant c.enter-shared.ensures.kept.1 c.enter-shared.ensures.seen c.enter-shared.ensures.stands c.unwrap-number.result fresh.0 fresh.1
-    (query_of (state_of c.open_session.new.self) c.unwrap-number.result) c.args.limit c.args.quota c.args.least c.leave_begun.new.seat c.split-spot.new.seat c.split-spot.result
+    came_keeps g.T.OpenedAs.opening c.pass.invariant c.enter-shared.ensures.kept.1 c.enter-shared.ensures.seen c.enter-shared.ensures.stands c.admit-number.result c.admit-number.ensures.opens.number c.admit-number.ensures.opens.vacant
+    (query_of (state_of c.admit-number.new.shared.state) c.admit-number.result) c.args.limit c.args.quota c.args.least c.leave_begun.new.seat c.split-spot.new.seat c.split-spot.result
     c.leave_begun.ensures.grown c.split-spot.ensures.parted c.split-spot.ensures.newcomer
     c.in-Ok.ensures.ok c.args.block_len c.requires.power c.requires.len (record { room = c.args.least; accounts = c.in-Ok.accounts }) refl
     (none_there c.args.accounts c.in-Ok.accounts c.in-Ok.ensures.accounts c.requires.none)
 
 pub invariant_of-pass-2 : goal.invariant_of-pass-2
 invariant_of-pass-2 g c =
-    let fresh : (c.unwrap-number.result < 240) × (get (state_of c.enter-shared.result.state).sessions c.unwrap-number.result ≡ None) =
-    subst (λ (r : Result ℕ PoolErr). IfOk r (λ s. (s < 240) × (get (state_of c.enter-shared.result.state).sessions s ≡ None))) c.unwrap-number.ensures c.open_session.ensures.fresh in
-    came_pass g.T.OpenedAs.opening c.pass.invariant c.enter-shared.ensures.kept.1 c.enter-shared.ensures.seen c.enter-shared.ensures.stands c.unwrap-number.result fresh.0 fresh.1
-    (query_of (state_of c.open_session.new.self) c.unwrap-number.result) c.args.limit c.args.quota c.args.least c.leave_begun.new.seat c.split-spot.new.seat c.split-spot.result
+    came_pass g.T.OpenedAs.opening c.pass.invariant c.enter-shared.ensures.kept.1 c.enter-shared.ensures.seen c.enter-shared.ensures.stands c.admit-number.result c.admit-number.ensures.opens.number c.admit-number.ensures.opens.vacant
+    (query_of (state_of c.admit-number.new.shared.state) c.admit-number.result) c.args.limit c.args.quota c.args.least c.leave_begun.new.seat c.split-spot.new.seat c.split-spot.result
     c.leave_begun.ensures.grown c.split-spot.ensures.parted c.split-spot.ensures.newcomer
     (subst (λ (p : Spot Item). c.args.quota + taken_in p.knows.seen ≤ g.T.OpenedAs.opening.slots) (sym c.pass.view_is) c.requires.spare)
 
 pub returns-clause-ok : goal.returns-clause-ok
 returns-clause-ok g c =
-    let fresh : (c.unwrap-number.result < 240) × (get (state_of c.enter-shared.result.state).sessions c.unwrap-number.result ≡ None) =
-    subst (λ (r : Result ℕ PoolErr). IfOk r (λ s. (s < 240) × (get (state_of c.enter-shared.result.state).sessions s ≡ None))) c.unwrap-number.ensures c.open_session.ensures.fresh in
     let home : c.args.turns.now ≡ c.pass.inside.seat.table = sym c.requires.table ∙ ap (λ (p : Spot Item). p.table) (sym c.pass.view_is) in
-    subst (λ (p : Spot Item). Begins g.T.OpenedAs.opening g.T.OpenedAs.told c.args.limit c.args.quota c.args.least p c.split-spot.new.seat (record { number = c.unwrap-number.result; spot = c.split-spot.result })) c.pass.view_is
-    (came g.T.OpenedAs.opening c.pass.invariant c.enter-shared.ensures.kept.1 c.enter-shared.ensures.seen c.enter-shared.ensures.stands c.unwrap-number.result fresh.0 fresh.1
-    (query_of (state_of c.open_session.new.self) c.unwrap-number.result) c.args.limit c.args.quota c.args.least c.leave_begun.new.seat c.split-spot.new.seat c.split-spot.result
+    subst (λ (p : Spot Item). Begins g.T.OpenedAs.opening g.T.OpenedAs.told c.args.limit c.args.quota c.args.least p c.split-spot.new.seat (record { number = c.admit-number.result; spot = c.split-spot.result })) c.pass.view_is
+    (came g.T.OpenedAs.opening c.pass.invariant c.enter-shared.ensures.kept.1 c.enter-shared.ensures.seen c.enter-shared.ensures.stands c.admit-number.result c.admit-number.ensures.opens.number c.admit-number.ensures.opens.vacant
+    (query_of (state_of c.admit-number.new.shared.state) c.admit-number.result) c.args.limit c.args.quota c.args.least c.leave_begun.new.seat c.split-spot.new.seat c.split-spot.result
     c.leave_begun.ensures.grown c.split-spot.ensures.parted c.split-spot.ensures.newcomer
     c.in-Ok.ensures.ok (c.split-spot.ensures.table.0 ∙ home) (c.split-spot.ensures.table.1 ∙ home))

@@ -1,33 +1,42 @@
-use Rattle.std.proofs.Common.{ℕ, [], ◌∷◌, IsSome, refl, sym, ap, ◌∙◌, subst}
+use Rattle.std.proofs.Common.{ℕ, [], ◌∷◌, IsSome, refl, sym, subst}
 use Rattle.pool_model.specs.declared.event.Event.TheVariants.{Alloc}
 use Rattle.pool_model.specs.Sums.{HasRoom}
-use Rattle.store_api.specs.Holdings.{Holdings, length_of}
+use Rattle.store_api.specs.Holdings.{Holdings}
 use Rattle.pin_core.specs.StateOf.{state_of}
-use Rattle.local_pool.specs.Calling.{Evicts, IsFreshLoan}
+use Rattle.session_calls.specs.Coming.{Evicts, IsFreshLoan}
 use Rattle.session_calls.specs.Acting.{Acts, held_by}
 use Rattle.session_calls.proofs.Asked.{works_with, taken_then}
-use Rattle.session_calls.proofs.Called.{in_ok, granted, granted_held}
+use Rattle.session_calls.proofs.Called.{in_ok, granted, granted_held, length_now}
+use Rattle.session_calls.proofs.Costs.{costs_taken}
+use Rattle.session_calls.proofs.Needed.{needs_as}
 use Rattle.session_calls.proofs.calls.alloc.Goals as goal
 
 pub alloc-loan-requires-clause-client : goal.alloc-loan-requires-clause-client
 alloc-loan-requires-clause-client g c =
-    subst (λ (h : Holdings). IsSome (h.clients c.args.c.now.tracker)) (sym (granted_held g.A.Access.opening g.A.Access.outset c.args.c.now.tracker c.args.hand c.make_room-hand.result.0 c.make_room-hand.result.1 _ c.in_default-result.is c.make_room-hand.ensures.ok)) c.requires.client
+    subst (λ (h : Holdings). IsSome (h.clients c.args.c.now.tracker)) (sym (granted_held g.O.Origin.opening g.O.Origin.outset c.args.c.now.tracker c.args.hand c.make_room-hand.result.0 c.make_room-hand.result.1 _ c.in_default-result.is c.make_room-hand.ensures.ok)) c.requires.client
 
 pub alloc-loan-requires-clause-room : goal.alloc-loan-requires-clause-room
 alloc-loan-requires-clause-room g c =
-    subst (HasRoom (state_of c.make_room-hand.result.0.state) c.args.c.now.tracker) (c.requires.bytes.0 ∙ ap (λ (n : ℕ). length_of n (held_by g.A.Access.opening g.A.Access.outset c.args.hand)) (sym c.in-Ok.ensures) ∙ ap (length_of c.in-Ok.shell) (sym (granted_held g.A.Access.opening g.A.Access.outset c.args.c.now.tracker c.args.hand c.make_room-hand.result.0 c.make_room-hand.result.1 _ c.in_default-result.is c.make_room-hand.ensures.ok)))
+    subst (HasRoom (state_of c.make_room-hand.result.0.state) c.args.c.now.tracker) (length_now g.O.Origin.opening g.O.Origin.outset c.args.c.now.tracker c.args.hand c.make_room-hand.result.0 c.make_room-hand.result.1 _ c.in_default-result.is c.make_room-hand.ensures.ok c.args.bytes c.args.blocks c.in-Ok.shell c.requires.bytes.0 c.in-Ok.ensures)
     (in_ok (HasRoom (state_of c.make_room-hand.result.0.state) c.args.c.now.tracker c.args.bytes) c.make_room-hand.result.1 _ c.in_default-result.is c.make_room-hand.ensures.room)
 
 pub returns-clause-at_work : goal.returns-clause-at_work
 returns-clause-at_work g c =
-    works_with g.D.Slot g.A.Access.opening g.A.Access.outset (g.A.Access.seen c.make_room-hand.new.place) c.make_room-hand.result.0 c.alloc-loan.new.self c.make_room-hand.ensures.at_work c.alloc-loan.ensures.acts c.alloc-loan.ensures.ready
+    works_with g.D.Slot g.O.Origin.opening g.O.Origin.outset (g.A.Access.seen c.make_room-hand.new.place) c.make_room-hand.result.0 c.alloc-loan.new.self c.make_room-hand.ensures.at_work c.alloc-loan.ensures.acts c.alloc-loan.ensures.ready
 
 pub returns-clause-ok : goal.returns-clause-ok
 returns-clause-ok g c =
-    taken_then g.A.Access.opening g.A.Access.outset c.args.c.now.tracker c.args.hand c.make_room-hand.result.0 (granted g.A.Access.opening g.A.Access.outset c.args.c.now.tracker c.args.hand c.make_room-hand.result.0 c.make_room-hand.result.1 _ c.in_default-result.is c.make_room-hand.ensures.ok) (Alloc c.alloc-loan.result.number c.args.c.now.tracker c.args.blocks ∷ []) c.alloc-loan.new.self
+    taken_then g.O.Origin.opening g.O.Origin.outset c.args.c.now.tracker c.args.hand c.make_room-hand.result.0 (granted g.O.Origin.opening g.O.Origin.outset c.args.c.now.tracker c.args.hand c.make_room-hand.result.0 c.make_room-hand.result.1 _ c.in_default-result.is c.make_room-hand.ensures.ok) (Alloc c.alloc-loan.result.number c.args.c.now.tracker c.args.blocks ∷ []) c.alloc-loan.new.self
     (subst (λ (n : ℕ). Acts (Evicts (Alloc c.alloc-loan.result.number c.args.c.now.tracker n ∷ [])) c.make_room-hand.result.0 c.alloc-loan.new.self) c.in-Ok.ensures c.alloc-loan.ensures.acts) (refl, tt)
 
 pub returns-clause-loan : goal.returns-clause-loan
 returns-clause-loan g c =
-    subst (λ (n : ℕ). IsFreshLoan c.args.c.now.tracker n c.alloc-loan.result (held_by g.A.Access.opening g.A.Access.outset c.args.hand)) c.in-Ok.ensures
-    (subst (IsFreshLoan c.args.c.now.tracker c.in-Ok.shell c.alloc-loan.result) (granted_held g.A.Access.opening g.A.Access.outset c.args.c.now.tracker c.args.hand c.make_room-hand.result.0 c.make_room-hand.result.1 _ c.in_default-result.is c.make_room-hand.ensures.ok) c.alloc-loan.ensures.loan)
+    subst (λ (n : ℕ). IsFreshLoan c.args.c.now.tracker n c.alloc-loan.result (held_by g.O.Origin.opening g.O.Origin.outset c.args.hand)) c.in-Ok.ensures
+    (subst (IsFreshLoan c.args.c.now.tracker c.in-Ok.shell c.alloc-loan.result) (granted_held g.O.Origin.opening g.O.Origin.outset c.args.c.now.tracker c.args.hand c.make_room-hand.result.0 c.make_room-hand.result.1 _ c.in_default-result.is c.make_room-hand.ensures.ok) c.alloc-loan.ensures.loan)
+
+pub returns-clause-costs : goal.returns-clause-costs
+returns-clause-costs g c =
+    costs_taken g.D.Slot g.A.Access.alone c.args.c.now.tracker c.args.bytes g.O.Origin.opening g.O.Origin.outset c.args.hand c.make_room-hand.result.0 c.alloc-loan.new.self (granted g.O.Origin.opening g.O.Origin.outset c.args.c.now.tracker c.args.hand c.make_room-hand.result.0 c.make_room-hand.result.1 _ c.in_default-result.is c.make_room-hand.ensures.ok)
+    c.make_room-hand.ensures.costs c.make_room-hand.ensures.at_work.ready (Alloc c.alloc-loan.result.number c.args.c.now.tracker c.in-Ok.shell) refl
+    (needs_as c.args.c.now.tracker _ c.args.c.now.tracker c.args.bytes c.make_room-hand.result.0 c.alloc-loan.new.self refl (sym (length_now g.O.Origin.opening g.O.Origin.outset c.args.c.now.tracker c.args.hand c.make_room-hand.result.0 c.make_room-hand.result.1 _ c.in_default-result.is c.make_room-hand.ensures.ok c.args.bytes c.args.blocks c.in-Ok.shell c.requires.bytes.0 c.in-Ok.ensures)) c.alloc-loan.ensures.needed)
+    c.alloc-loan.ensures.acts

@@ -3,20 +3,26 @@ use Rattle.pool_model.specs.declared.event.Event.TheVariants.{Decrease}
 use Rattle.store_api.specs.Holdings.{Holdings, unused_of}
 use Rattle.session_calls.proofs.Asked.{works_with, asked_then}
 use Rattle.session_calls.proofs.Called.{granted, granted_held}
+use Rattle.session_calls.proofs.Costs.{costs_then}
 use Rattle.session_calls.proofs.calls.give_back.Goals as goal
 
 pub give_up-requires-clause-client : goal.give_up-requires-clause-client
 give_up-requires-clause-client g c =
-    subst (λ (h : Holdings). IsSome (h.clients c.args.c.now.tracker)) (sym (granted_held g.A.Access.opening g.A.Access.outset c.args.c.now.tracker c.args.hand c.make_room-hand.result.0 c.make_room-hand.result.1 _ c.in_default.is c.make_room-hand.ensures.ok)) c.requires.client
+    subst (λ (h : Holdings). IsSome (h.clients c.args.c.now.tracker)) (sym (granted_held g.O.Origin.opening g.O.Origin.outset c.args.c.now.tracker c.args.hand c.make_room-hand.result.0 c.make_room-hand.result.1 _ c.in_default.is c.make_room-hand.ensures.ok)) c.requires.client
 
 pub give_up-requires-clause-unused : goal.give_up-requires-clause-unused
 give_up-requires-clause-unused g c =
-    subst (λ (h : Holdings). c.args.bytes ≤ unused_of c.args.c.now.tracker h) (sym (granted_held g.A.Access.opening g.A.Access.outset c.args.c.now.tracker c.args.hand c.make_room-hand.result.0 c.make_room-hand.result.1 _ c.in_default.is c.make_room-hand.ensures.ok)) c.requires.unused
+    subst (λ (h : Holdings). c.args.bytes ≤ unused_of c.args.c.now.tracker h) (sym (granted_held g.O.Origin.opening g.O.Origin.outset c.args.c.now.tracker c.args.hand c.make_room-hand.result.0 c.make_room-hand.result.1 _ c.in_default.is c.make_room-hand.ensures.ok)) c.requires.unused
 
 pub returns-clause-at_work : goal.returns-clause-at_work
 returns-clause-at_work g c =
-    works_with g.D.Slot g.A.Access.opening g.A.Access.outset (g.A.Access.seen c.make_room-hand.new.place) c.make_room-hand.result.0 c.give_up.new.self c.make_room-hand.ensures.at_work c.give_up.ensures.acts c.give_up.ensures.ready
+    works_with g.D.Slot g.O.Origin.opening g.O.Origin.outset (g.A.Access.seen c.make_room-hand.new.place) c.make_room-hand.result.0 c.give_up.new.self c.make_room-hand.ensures.at_work c.give_up.ensures.acts c.give_up.ensures.ready
 
 pub returns-clause-ok : goal.returns-clause-ok
 returns-clause-ok g c =
-    asked_then g.A.Access.opening g.A.Access.outset c.args.c.now.tracker c.args.hand c.make_room-hand.result.0 (granted g.A.Access.opening g.A.Access.outset c.args.c.now.tracker c.args.hand c.make_room-hand.result.0 c.make_room-hand.result.1 _ c.in_default.is c.make_room-hand.ensures.ok) (Decrease c.args.c.now.tracker c.args.bytes ∷ []) c.give_up.new.self c.give_up.ensures.acts (refl, tt)
+    asked_then g.O.Origin.opening g.O.Origin.outset c.args.c.now.tracker c.args.hand c.make_room-hand.result.0 (granted g.O.Origin.opening g.O.Origin.outset c.args.c.now.tracker c.args.hand c.make_room-hand.result.0 c.make_room-hand.result.1 _ c.in_default.is c.make_room-hand.ensures.ok) (Decrease c.args.c.now.tracker c.args.bytes ∷ []) c.give_up.new.self c.give_up.ensures.acts (refl, tt)
+
+pub returns-clause-costs : goal.returns-clause-costs
+returns-clause-costs g c =
+    costs_then g.D.Slot g.A.Access.alone c.args.c.now.tracker c.args.bytes g.O.Origin.opening g.O.Origin.outset c.args.hand c.make_room-hand.result.0 c.give_up.new.self (granted g.O.Origin.opening g.O.Origin.outset c.args.c.now.tracker c.args.hand c.make_room-hand.result.0 c.make_room-hand.result.1 _ c.in_default.is c.make_room-hand.ensures.ok)
+    c.make_room-hand.ensures.costs c.make_room-hand.ensures.at_work.ready c.give_up.ensures.ready (Decrease c.args.c.now.tracker c.args.bytes) refl (λ s. tt) c.give_up.ensures.acts

@@ -1,49 +1,79 @@
-use Rattle.std.proofs.Common.{sym, subst}
+use Rattle.std.proofs.Common.{refl, sym, subst}
+use Rattle.pool_model.specs.declared.call.Call.TheVariants.{Pin}
+use Rattle.pool_model.specs.declared.event.Event.TheVariants.{Ask}
+use Rattle.store_api.specs.Holdings.{page_len}
+use Rattle.pin_core.specs.StateOf.{state_of}
+use Rattle.session_calls.specs.Writing.{writes_left}
+use Rattle.session_calls.specs.Acting.{held_by}
 use Rattle.session_calls.proofs.Asked.{works_with, asked_first}
-use Rattle.session_calls.proofs.PinMade.{can_now, asked_now, asks_more, asked_pin, shows_pin, may_refuse_lacking, was_lacking, was_unread}
+use Rattle.session_calls.proofs.Costs.{costs_step, goes_down}
+use Rattle.session_calls.proofs.PinMade.{costs_turn, costs_refused, further_wrote, stays, can_now, asked_now, asks_more, asked_pin, shows_pin, may_refuse_lacking, was_lacking, was_unread}
 use Rattle.session_calls.proofs.pinning.pin.Goals as goal
 
-pub loop-init : goal.loop-init
-loop-init g c = (
-  subst (g.A.Access.turns c.args.access.now c.args.place.now) (sym c.ask.ensures.acts.session) c.requires.turns,
-  works_with g.D.Slot g.A.Access.opening g.A.Access.outset (g.A.Access.seen c.args.place.now) c.args.hand c.ask.new.self c.requires.at_work c.ask.ensures.acts c.ask.ensures.ready,
-  asked_first g.A.Access.opening g.A.Access.outset c.args.p.now.client c.args.hand c.ask.new.self c.ask.ensures.acts,
+pub loop-buf-init : goal.loop-buf-init
+loop-buf-init g c = (
+  subst (g.A.Access.turns g.O.Origin.opening g.O.Origin.outset c.args.access.now c.args.place.now) (sym c.ask.ensures.acts.session) c.requires.turns,
+  works_with g.D.Slot g.O.Origin.opening g.O.Origin.outset (g.A.Access.seen c.args.place.now) c.args.hand c.ask.new.self c.requires.at_work c.ask.ensures.acts c.ask.ensures.ready,
+  asked_first g.O.Origin.opening g.O.Origin.outset c.args.p.now.client c.args.hand c.ask.new.self c.ask.ensures.acts,
+  costs_step g.D.Slot g.A.Access.alone c.args.p.now.client (page_len c.args.p.now.name (held_by g.O.Origin.opening g.O.Origin.outset c.args.hand)) g.O.Origin.opening g.O.Origin.outset c.args.hand c.ask.new.self c.requires.at_work.ready c.ask.ensures.ready Ask refl (λ s. tt) c.ask.ensures.acts,
 )
 
 pub pin_step-now-requires-clause-can : goal.pin_step-now-requires-clause-can
-pin_step-now-requires-clause-can g c = can_now g.D.Slot g.A.Access.opening g.A.Access.outset c.args.p.now c.args.hand c.loop.hand c.loop.invariant.2 c.loop.invariant.1.ready c.requires.can
+pin_step-now-requires-clause-can g c = can_now g.D.Slot g.O.Origin.opening g.O.Origin.outset c.args.p.now c.args.hand c.loop-buf.hand c.loop-buf.invariant.2 c.loop-buf.invariant.1.ready c.requires.can
 
 pub pin_step-now-requires-clause-asked : goal.pin_step-now-requires-clause-asked
-pin_step-now-requires-clause-asked g c = asked_now g.D.Slot g.A.Access.opening g.A.Access.outset c.args.p.now c.args.hand c.loop.hand c.loop.invariant.2 c.loop.invariant.1.ready c.requires.can
+pin_step-now-requires-clause-asked g c = asked_now g.D.Slot g.O.Origin.opening g.O.Origin.outset c.args.p.now c.args.hand c.loop-buf.hand c.loop-buf.invariant.2 c.loop-buf.invariant.1.ready c.requires.can
 
 pub returns-in-Pinned-clause-ok : goal.returns-in-Pinned-clause-ok
-returns-in-Pinned-clause-ok g c = asked_pin g.D.Slot g.A.Access.opening g.A.Access.outset c.args.p.now c.args.hand c.loop.hand c.loop.invariant.2 c.loop.invariant.1.ready c.requires.can c.pin_step-now.result.0 c.pin_step-now.result.1 c.pin_step-now.ensures.step c.in-Pinned.buf c.in-Pinned.is
+returns-in-Pinned-clause-ok g c = asked_pin g.D.Slot g.O.Origin.opening g.O.Origin.outset c.args.p.now c.args.hand c.loop-buf.hand c.loop-buf.invariant.2 c.loop-buf.invariant.1.ready c.requires.can c.pin_step-now.result.0 c.pin_step-now.result.1 c.pin_step-now.ensures.step c.in-Pinned.buf c.in-Pinned.is
 
 pub returns-in-Pinned-clause-bytes : goal.returns-in-Pinned-clause-bytes
-returns-in-Pinned-clause-bytes g c = shows_pin g.D.Slot g.A.Access.opening g.A.Access.outset c.args.p.now c.args.hand c.loop.hand c.loop.invariant.2 c.loop.invariant.1.ready c.requires.can c.pin_step-now.result.0 c.pin_step-now.result.1 c.pin_step-now.ensures.step c.in-Pinned.buf c.in-Pinned.is
+returns-in-Pinned-clause-bytes g c = shows_pin g.D.Slot g.O.Origin.opening g.O.Origin.outset c.args.p.now c.args.hand c.loop-buf.hand c.loop-buf.invariant.2 c.loop-buf.invariant.1.ready c.requires.can c.pin_step-now.result.0 c.pin_step-now.result.1 c.pin_step-now.ensures.step c.in-Pinned.buf c.in-Pinned.is
 
 pub refuse-requires-clause-may : goal.refuse-requires-clause-may
-refuse-requires-clause-may g c = may_refuse_lacking g.D.Slot g.A.Access.opening g.A.Access.outset c.args.p.now c.args.hand c.loop.hand c.loop.invariant.2 c.loop.invariant.1.ready c.requires.can c.pin_step-now.result.0 c.pin_step-now.result.1 c.pin_step-now.ensures.step c.in-Refused.entry c.in-Refused.is c.name.result c.name.ensures
+refuse-requires-clause-may g c = may_refuse_lacking g.D.Slot g.O.Origin.opening g.O.Origin.outset c.args.p.now c.args.hand c.loop-buf.hand c.loop-buf.invariant.2 c.loop-buf.invariant.1.ready c.requires.can c.pin_step-now.result.0 c.pin_step-now.result.1 c.pin_step-now.ensures.step c.in-Refused.entry c.in-Refused.is c.name.result c.name.ensures
 
 pub returns-in-Refused-clause-at_work : goal.returns-in-Refused-clause-at_work
 returns-in-Refused-clause-at_work g c =
-    works_with g.D.Slot g.A.Access.opening g.A.Access.outset (g.A.Access.seen c.pin_step-now.new.place) c.pin_step-now.result.0 c.refuse.new.self c.pin_step-now.ensures.at_work c.refuse.ensures.acts c.refuse.ensures.ready
+    works_with g.D.Slot g.O.Origin.opening g.O.Origin.outset (g.A.Access.seen c.pin_step-now.new.place) c.pin_step-now.result.0 c.refuse.new.self c.pin_step-now.ensures.at_work c.refuse.ensures.acts c.refuse.ensures.ready
 
 pub returns-in-Refused-clause-err : goal.returns-in-Refused-clause-err
 returns-in-Refused-clause-err g c =
-    was_lacking g.D.Slot g.A.Access.opening g.A.Access.outset c.args.p.now c.args.hand c.loop.hand c.loop.invariant.2 c.loop.invariant.1.ready c.requires.can c.pin_step-now.result.0 c.pin_step-now.result.1 c.pin_step-now.ensures.step c.in-Refused.entry c.in-Refused.is c.name.result c.name.ensures c.refuse.new.self c.refuse.ensures.acts
+    was_lacking g.D.Slot g.O.Origin.opening g.O.Origin.outset c.args.p.now c.args.hand c.loop-buf.hand c.loop-buf.invariant.2 c.loop-buf.invariant.1.ready c.requires.can c.pin_step-now.result.0 c.pin_step-now.result.1 c.pin_step-now.ensures.step c.in-Refused.entry c.in-Refused.is c.name.result c.name.ensures c.refuse.new.self c.refuse.ensures.acts
 
 pub returns-in-Failed-clause-at_work : goal.returns-in-Failed-clause-at_work
 returns-in-Failed-clause-at_work g c =
-    works_with g.D.Slot g.A.Access.opening g.A.Access.outset (g.A.Access.seen c.pin_step-now.new.place) c.pin_step-now.result.0 c.refuse-in-Failed.new.self c.pin_step-now.ensures.at_work c.refuse-in-Failed.ensures.acts c.refuse-in-Failed.ensures.ready
+    works_with g.D.Slot g.O.Origin.opening g.O.Origin.outset (g.A.Access.seen c.pin_step-now.new.place) c.pin_step-now.result.0 c.refuse-in-Failed.new.self c.pin_step-now.ensures.at_work c.refuse-in-Failed.ensures.acts c.refuse-in-Failed.ensures.ready
 
 pub returns-in-Failed-clause-err : goal.returns-in-Failed-clause-err
 returns-in-Failed-clause-err g c =
-    was_unread g.D.Slot g.A.Access.opening g.A.Access.outset c.args.p.now c.args.hand c.loop.hand c.loop.invariant.2 c.loop.invariant.1.ready c.requires.can c.pin_step-now.result.0 c.pin_step-now.result.1 c.pin_step-now.ensures.step c.in-Failed.entry c.in-Failed.is c.name.result c.name.ensures c.refuse-in-Failed.new.self c.refuse-in-Failed.ensures.acts
+    was_unread g.D.Slot g.O.Origin.opening g.O.Origin.outset c.args.p.now c.args.hand c.loop-buf.hand c.loop-buf.invariant.2 c.loop-buf.invariant.1.ready c.requires.can c.pin_step-now.result.0 c.pin_step-now.result.1 c.pin_step-now.ensures.step c.in-Failed.entry c.in-Failed.is c.name.result c.name.ensures c.refuse-in-Failed.new.self c.refuse-in-Failed.ensures.acts
 
-pub loop-preserved : goal.loop-preserved
-loop-preserved g c = (
+pub loop-buf-preserved : goal.loop-buf-preserved
+loop-buf-preserved g c = (
   c.pin_step-now.ensures.turns,
   c.pin_step-now.ensures.at_work,
-  asks_more g.D.Slot g.A.Access.opening g.A.Access.outset c.args.p.now c.args.hand c.loop.hand c.loop.invariant.2 c.loop.invariant.1.ready c.requires.can c.pin_step-now.result.0 c.pin_step-now.result.1 c.pin_step-now.ensures.step c.in-Wrote.is,
+  asks_more g.D.Slot g.O.Origin.opening g.O.Origin.outset c.args.p.now c.args.hand c.loop-buf.hand c.loop-buf.invariant.2 c.loop-buf.invariant.1.ready c.requires.can c.pin_step-now.result.0 c.pin_step-now.result.1 c.pin_step-now.ensures.step c.in-Wrote.is,
+  costs_turn g.D.Slot g.O.Origin.opening g.O.Origin.outset c.args.p.now c.args.hand c.loop-buf.hand c.loop-buf.invariant.2 c.loop-buf.invariant.1.ready c.requires.can g.A.Access.alone c.pin_step-now.result.0 c.pin_step-now.result.1 c.loop-buf.invariant.3 c.pin_step-now.ensures.needed c.pin_step-now.ensures.alone,
 )
+
+pub loop-buf-smaller : goal.loop-buf-smaller
+loop-buf-smaller g c =
+    goes_down g.A.Access.alone (writes_left c.pin_step-now.result.0.session c.args.p.now.client (state_of c.pin_step-now.result.0.state)) (writes_left c.loop-buf.hand.session c.args.p.now.client (state_of c.loop-buf.hand.state)) c.again-left.result c.loop-buf.left
+    (λ alone. further_wrote c.args.p.now.client c.loop-buf.hand c.pin_step-now.result.0 c.pin_step-now.result.1 c.in-Wrote.is (c.pin_step-now.ensures.alone alone).further)
+    c.again-left.ensures
+
+pub returns-in-Pinned-clause-costs : goal.returns-in-Pinned-clause-costs
+returns-in-Pinned-clause-costs g c = costs_turn g.D.Slot g.O.Origin.opening g.O.Origin.outset c.args.p.now c.args.hand c.loop-buf.hand c.loop-buf.invariant.2 c.loop-buf.invariant.1.ready c.requires.can g.A.Access.alone c.pin_step-now.result.0 c.pin_step-now.result.1 c.loop-buf.invariant.3 c.pin_step-now.ensures.needed c.pin_step-now.ensures.alone
+
+pub returns-in-Refused-clause-costs : goal.returns-in-Refused-clause-costs
+returns-in-Refused-clause-costs g c =
+    costs_refused g.D.Slot g.O.Origin.opening g.O.Origin.outset c.args.p.now c.args.hand c.loop-buf.hand c.loop-buf.invariant.2 c.loop-buf.invariant.1.ready c.requires.can g.A.Access.alone c.pin_step-now.result.0 c.pin_step-now.result.1 c.loop-buf.invariant.3 c.pin_step-now.ensures.needed c.pin_step-now.ensures.alone
+    c.pin_step-now.ensures.at_work.ready (stays g.D.Slot g.O.Origin.opening g.O.Origin.outset c.args.p.now c.args.hand c.loop-buf.hand c.loop-buf.invariant.2 c.loop-buf.invariant.1.ready c.requires.can c.pin_step-now.result.0 c.pin_step-now.result.1 c.pin_step-now.ensures.step)
+    (Pin c.name.result) c.in-Refused.entry c.refuse.new.self c.refuse.ensures.acts c.refuse.ensures.ready
+
+pub returns-in-Failed-clause-costs : goal.returns-in-Failed-clause-costs
+returns-in-Failed-clause-costs g c =
+    costs_refused g.D.Slot g.O.Origin.opening g.O.Origin.outset c.args.p.now c.args.hand c.loop-buf.hand c.loop-buf.invariant.2 c.loop-buf.invariant.1.ready c.requires.can g.A.Access.alone c.pin_step-now.result.0 c.pin_step-now.result.1 c.loop-buf.invariant.3 c.pin_step-now.ensures.needed c.pin_step-now.ensures.alone
+    c.pin_step-now.ensures.at_work.ready (stays g.D.Slot g.O.Origin.opening g.O.Origin.outset c.args.p.now c.args.hand c.loop-buf.hand c.loop-buf.invariant.2 c.loop-buf.invariant.1.ready c.requires.can c.pin_step-now.result.0 c.pin_step-now.result.1 c.pin_step-now.ensures.step)
+    (Pin c.name.result) c.in-Failed.entry c.refuse-in-Failed.new.self c.refuse-in-Failed.ensures.acts c.refuse-in-Failed.ensures.ready

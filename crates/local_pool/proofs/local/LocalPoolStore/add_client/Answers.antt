@@ -1,6 +1,7 @@
 use Rattle.std.proofs.Common.{sym, ◌∙◌}
 use Rattle.local_pool.proofs.Making.{makes_made}
-use Rattle.local_pool.proofs.Lasting.{ok_so, ok_both, on_err_so, lasts_or_same, untouched, new_client}
+use Rattle.session_calls.proofs.Results.{ok_so, ok_both, on_err_so}
+use Rattle.local_pool.proofs.Lasting.{lasts_or_same, untouched, new_client}
 use Rattle.local_pool.proofs.local.LocalPoolStore.add_client.Goals as goal
 
 pub invariant_of-self-clause-len : goal.invariant_of-self-clause-len

@@ -7,13 +7,13 @@ use Rattle.local_pool.proofs.Lasting.{lasts_made, held_by}
 use Rattle.local_pool.proofs.local.LocalPoolStore.destroy.Goals as goal
 
 pub invariant_of-self-clause-len : goal.invariant_of-self-clause-len
-invariant_of-self-clause-len g c = c.args.self.now.len ∙ sym (lasts_made g.D.Slot c.args.self.now.alone c.destroy.new.self c.destroy.ensures).len
+invariant_of-self-clause-len g c = c.args.self.now.len ∙ sym (lasts_made g.D.Slot c.args.self.now.alone c.replace_with.new.dest c.replace_with.ensures).len
 
 pub returns-clause-value : goal.returns-clause-value
-returns-clause-value g c = held_by g.D.Slot (Destroy c.args.p.name ∷ []) c.args.self.now.alone c.destroy.new.self c.destroy.ensures ∙ (calls_tell 0 (held_of g.D.Slot c.args.self.now.alone)).destroy c.args.p.name
+returns-clause-value g c = held_by g.D.Slot (Destroy c.args.p.name ∷ []) c.args.self.now.alone c.replace_with.new.dest c.replace_with.ensures ∙ (calls_tell 0 (held_of g.D.Slot c.args.self.now.alone)).destroy c.args.p.name
 
 pub returns-clause-grows : goal.returns-clause-grows
-returns-clause-grows g c = (lasts_made g.D.Slot c.args.self.now.alone c.destroy.new.self c.destroy.ensures).grows
+returns-clause-grows g c = (lasts_made g.D.Slot c.args.self.now.alone c.replace_with.new.dest c.replace_with.ensures).grows
 
 pub returns-clause-entries : goal.returns-clause-entries
-returns-clause-entries g c = makes_made g.D.Slot c.args.self.now.alone c.destroy.new.self c.destroy.ensures
+returns-clause-entries g c = makes_made g.D.Slot c.args.self.now.alone c.replace_with.new.dest c.replace_with.ensures

@@ -2,7 +2,8 @@ use Rattle.std.proofs.Common.{refl, sym, ◌∙◌}
 use Rattle.own_entries.proofs.Calls.{calls_tell}
 use Rattle.local_pool.specs.Told.{held_of}
 use Rattle.local_pool.proofs.Making.{makes_held, makes_made}
-use Rattle.local_pool.proofs.Lasting.{on_ok_so, lasts_handed, untouched}
+use Rattle.session_calls.proofs.Results.{on_ok_so}
+use Rattle.local_pool.proofs.Lasting.{lasts_handed, untouched}
 use Rattle.local_pool.proofs.local.LocalPoolStore.move_buffer.Goals as goal
 
 pub returns-then-eq-clause-succeeds : goal.returns-then-eq-clause-succeeds
@@ -11,16 +12,16 @@ returns-then-eq-clause-succeeds g c = λ _. (refl, (untouched g.D.Slot c.args.se
 pub invariant_of-self-clause-len : goal.invariant_of-self-clause-len
 invariant_of-self-clause-len g c =
     c.args.self.now.len
-    ∙ sym (lasts_handed g.D.Slot c.args.self.now.alone c.move_buffer-result.new.self _ c.args.to.now.tracker _ c.move_buffer-result.result c.move_buffer-result.ensures.ok c.move_buffer-result.ensures.err).len
+    ∙ sym (lasts_handed g.D.Slot c.args.self.now.alone c.replace_with-result.new.dest _ c.args.to.now.tracker _ c.replace_with-result.result c.replace_with-result.ensures.0 c.replace_with-result.ensures.1.1.1.0).len
 
 pub returns-clause-ok : goal.returns-clause-ok
 returns-clause-ok g c =
-    on_ok_so c.move_buffer-result.result c.move_buffer-result.ensures.ok (λ made.
-    makes_held g.D.Slot c.args.self.now.alone c.move_buffer-result.new.self made
+    on_ok_so c.replace_with-result.result c.replace_with-result.ensures.0 (λ made.
+    makes_held g.D.Slot c.args.self.now.alone c.replace_with-result.new.dest made
     ∙ (calls_tell c.args.to.now.tracker (held_of g.D.Slot c.args.self.now.alone)).move_buffer c.args.loan.number c.args.to.now.tracker made.events made.is)
 
 pub returns-clause-grows : goal.returns-clause-grows
-returns-clause-grows g c = (lasts_handed g.D.Slot c.args.self.now.alone c.move_buffer-result.new.self _ c.args.to.now.tracker _ c.move_buffer-result.result c.move_buffer-result.ensures.ok c.move_buffer-result.ensures.err).grows
+returns-clause-grows g c = (lasts_handed g.D.Slot c.args.self.now.alone c.replace_with-result.new.dest _ c.args.to.now.tracker _ c.replace_with-result.result c.replace_with-result.ensures.0 c.replace_with-result.ensures.1.1.1.0).grows
 
 pub returns-clause-entries : goal.returns-clause-entries
-returns-clause-entries g c = λ _. on_ok_so c.move_buffer-result.result c.move_buffer-result.ensures.ok (λ made. makes_made g.D.Slot c.args.self.now.alone c.move_buffer-result.new.self made)
+returns-clause-entries g c = λ _. on_ok_so c.replace_with-result.result c.replace_with-result.ensures.0 (λ made. makes_made g.D.Slot c.args.self.now.alone c.replace_with-result.new.dest made)

@@ -3,7 +3,8 @@ use Rattle.pool_model.specs.declared.event.Event.TheVariants.{IncreaseToFit}
 use Rattle.own_entries.proofs.Calls.{calls_tell}
 use Rattle.local_pool.specs.Told.{held_of}
 use Rattle.local_pool.proofs.Making.{makes_made}
-use Rattle.local_pool.proofs.Lasting.{on_ok_so, on_err_so, none_fails, lasts_or_same, held_by, untouched}
+use Rattle.session_calls.proofs.Results.{on_ok_so, on_err_so, none_fails}
+use Rattle.local_pool.proofs.Lasting.{lasts_or_same, held_by, untouched}
 use Rattle.local_pool.proofs.local.LocalPoolStore.reserve_to_fit.Goals as goal
 
 pub invariant_of-self-clause-len : goal.invariant_of-self-clause-len

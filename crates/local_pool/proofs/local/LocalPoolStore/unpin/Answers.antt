@@ -3,7 +3,8 @@ use Rattle.pool_model.specs.declared.event.Event.TheVariants.{Unpin}
 use Rattle.own_entries.proofs.Calls.{calls_tell}
 use Rattle.local_pool.specs.Told.{held_of}
 use Rattle.local_pool.proofs.Making.{makes_made}
-use Rattle.local_pool.proofs.Lasting.{on_ok_so, lasts_left, held_by}
+use Rattle.session_calls.proofs.Results.{on_ok_so}
+use Rattle.local_pool.proofs.Lasting.{lasts_left, held_by}
 use Rattle.local_pool.proofs.local.LocalPoolStore.unpin.Goals as goal
 
 pub invariant_of-self-clause-len : goal.invariant_of-self-clause-len

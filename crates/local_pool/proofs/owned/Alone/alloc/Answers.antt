@@ -1,49 +1,39 @@
-use Rattle.std.proofs.Common.{◌≡◌, ℕ, [], ◌∷◌, IsSome, refl, sym, ap, ◌∙◌, subst}
-use Rattle.pool_model.specs.declared.event.Event.TheVariants.{Alloc}
-use Rattle.pool_model.specs.Sums.{HasRoom}
-use Rattle.pin_core.specs.StateOf.{state_of}
-use Rattle.store_api.specs.Holdings.{Holdings, length_of}
-use Rattle.local_pool.specs.declared.owned.Owned.{Owned}
-use Rattle.local_pool.specs.Told.{held_of}
+use Rattle.std.proofs.Common.{◌≡◌, ◌≤◌, [], ◌∷◌, IfOk, refl, sym, subst}
+use Rattle.pool_model.specs.declared.call.Call.TheVariants as call
+use Rattle.pool_model.specs.declared.event.Event.TheVariants as event
+use Rattle.store_api.specs.Holdings.{Holdings, length_of, unused_of}
+use Rattle.store_api.specs.Conditions.{IsLiveClient}
+use Rattle.store_api.specs.Entries.{IsTaken}
+use Rattle.session_calls.specs.Coming.{IsFreshLoan}
+use Rattle.session_calls.specs.Acting.{held_by}
+use Rattle.local_pool.specs.Told.{opening_of, outset_of}
 use Rattle.local_pool.specs.Making.{Makes}
-use Rattle.local_pool.specs.Calling.{Evicts, IsFreshLoan}
-use Rattle.local_pool.proofs.Making.{asked_held}
-use Rattle.local_pool.proofs.Arrivals.{taken_then}
-use Rattle.local_pool.proofs.Needed.{all_needed, needs_as, needs_more}
+use Rattle.local_pool.proofs.Stepping.{held_at}
+use Rattle.local_pool.proofs.Calling.{ends_keeps, ends_makes, ends_refuses}
 use Rattle.local_pool.proofs.owned.Alone.alloc.Goals as goal
 
-pub alloc_here-requires-clause-client : goal.alloc_here-requires-clause-client
-alloc_here-requires-clause-client g c =
-    subst (λ (h : Holdings). IsSome (h.clients c.args.c.now.tracker)) (sym (asked_held g.D.Slot c.args.c.now.tracker c.args.self.now c.make_room.new.self c.in_ok-make_room.ensures.ok)) c.requires.client
+pub alloc-hand-requires-clause-client : goal.alloc-hand-requires-clause-client
+alloc-hand-requires-clause-client g c = subst (IsLiveClient c.args.what.client.now) (sym (held_at g.D.Slot c.self.inside.hand c.args.self c.self.view_is c.self.invariant.0)) c.requires.client
 
-pub alloc_here-requires-clause-room : goal.alloc_here-requires-clause-room
-alloc_here-requires-clause-room g c =
-    let start : Owned g.row.D.Denot = c.args.self.now in
-    let now : Owned g.row.D.Denot = c.make_room.new.self in
-    subst (HasRoom (state_of now.pool) c.args.c.now.tracker)
-    (c.requires.bytes ∙ ap (λ (n : ℕ). length_of n (held_of g.D.Slot start)) (sym c.in-Ok.ensures)
-    ∙ ap (length_of c.in-Ok.shell) (sym (asked_held g.D.Slot c.args.c.now.tracker start now c.in_ok-make_room.ensures.ok))) c.in_ok-make_room.ensures.room
+pub alloc-hand-requires-clause-bytes : goal.alloc-hand-requires-clause-bytes
+alloc-hand-requires-clause-bytes g c = subst (λ (h : Holdings). (c.args.what.bytes ≡ length_of c.args.what.blocks h) × (c.args.what.bytes ≤ unused_of c.args.what.client.now.tracker h)) (sym (held_at g.D.Slot c.self.inside.hand c.args.self c.self.view_is c.self.invariant.0)) (c.requires.bytes, c.requires.unused)
+
+pub invariant_of-result : goal.invariant_of-result
+invariant_of-result g c =
+    ends_keeps g.D.Slot c.self.inside.hand c.args.self c.self.view_is c.self.invariant.0 c.alloc-hand.result.0 c.alloc-hand.new.place c.alloc-hand.ensures.turns c.alloc-hand.ensures.at_work (c.alloc-hand.ensures.costs.counts refl)
+    c.args.what.client.now.tracker (call.Alloc c.args.what.client.now.tracker c.args.what.blocks)
+    (λ x. IsTaken c.args.what.client.now.tracker (held_by (opening_of g.D.Slot c.self.inside.hand) (outset_of g.D.Slot c.self.inside.hand.state) c.self.inside.hand) (event.Alloc x.number c.args.what.client.now.tracker c.args.what.blocks ∷ [])) c.alloc-hand.result.1 c.alloc-hand.ensures.ok c.alloc-hand.ensures.err
 
 pub returns-clause-ok : goal.returns-clause-ok
 returns-clause-ok g c =
-    taken_then g.D.Slot c.args.c.now.tracker (Alloc c.alloc_here.result.number c.args.c.now.tracker c.args.blocks ∷ []) c.args.self.now c.make_room.new.self c.alloc_here.new.self c.in_ok-make_room.ensures.ok
-    (subst (λ (n : ℕ). Makes g.D.Slot (Evicts (Alloc c.alloc_here.result.number c.args.c.now.tracker n ∷ [])) c.make_room.new.self c.alloc_here.new.self) c.in-Ok.ensures c.alloc_here.ensures.made)
+    subst (λ (h : Holdings). IfOk c.alloc-hand.result.1 (λ x. Makes g.D.Slot (IsTaken c.args.what.client.now.tracker h (event.Alloc x.number c.args.what.client.now.tracker c.args.what.blocks ∷ [])) c.args.self c.alloc-hand.result.0)) (held_at g.D.Slot c.self.inside.hand c.args.self c.self.view_is c.self.invariant.0)
+    (ends_makes g.D.Slot c.self.inside.hand c.args.self c.self.view_is c.self.invariant.0 c.alloc-hand.result.0 c.alloc-hand.new.place c.alloc-hand.ensures.turns c.alloc-hand.ensures.at_work (c.alloc-hand.ensures.costs.counts refl)
+    (λ x. IsTaken c.args.what.client.now.tracker (held_by (opening_of g.D.Slot c.self.inside.hand) (outset_of g.D.Slot c.self.inside.hand.state) c.self.inside.hand) (event.Alloc x.number c.args.what.client.now.tracker c.args.what.blocks ∷ [])) c.alloc-hand.result.1 c.alloc-hand.ensures.ok)
 
 pub returns-clause-loan : goal.returns-clause-loan
-returns-clause-loan g c =
-    let same : held_of g.D.Slot c.make_room.new.self ≡ held_of g.D.Slot c.args.self.now = asked_held g.D.Slot c.args.c.now.tracker c.args.self.now c.make_room.new.self c.in_ok-make_room.ensures.ok in
-    subst (λ (n : ℕ). IsFreshLoan c.args.c.now.tracker n c.alloc_here.result (held_of g.D.Slot c.args.self.now)) c.in-Ok.ensures
-    (subst (IsFreshLoan c.args.c.now.tracker c.in-Ok.shell c.alloc_here.result) same c.alloc_here.ensures.loan)
+returns-clause-loan g c = subst (λ (h : Holdings). IfOk c.alloc-hand.result.1 (λ loan. IsFreshLoan c.args.what.client.now.tracker c.args.what.blocks loan h)) (held_at g.D.Slot c.self.inside.hand c.args.self c.self.view_is c.self.invariant.0) c.alloc-hand.ensures.loan
 
-pub returns-in_err-make_room-clause-needed : goal.returns-in_err-make_room-clause-needed
-returns-in_err-make_room-clause-needed g c = all_needed c.args.c.now.tracker c.args.bytes c.args.self.now c.make_room.new.self c.make_room.ensures.needed
-
-pub returns-clause-needed : goal.returns-clause-needed
-returns-clause-needed g c =
-    let start : Owned g.row.D.Denot = c.args.self.now in
-    let now : Owned g.row.D.Denot = c.make_room.new.self in
-    all_needed c.args.c.now.tracker c.args.bytes start c.alloc_here.new.self
-    (needs_more c.args.c.now.tracker c.args.bytes start now c.alloc_here.new.self c.make_room.ensures.needed
-    (needs_as c.args.c.now.tracker _ c.args.c.now.tracker c.args.bytes now c.alloc_here.new.self refl
-    (sym (c.requires.bytes ∙ ap (λ (n : ℕ). length_of n (held_of g.D.Slot start)) (sym c.in-Ok.ensures) ∙ ap (length_of c.in-Ok.shell) (sym (asked_held g.D.Slot c.args.c.now.tracker start now c.in_ok-make_room.ensures.ok))))
-    c.alloc_here.ensures.needed))
+pub returns-clause-err : goal.returns-clause-err
+returns-clause-err g c =
+    ends_refuses g.D.Slot c.self.inside.hand c.args.self c.self.view_is c.self.invariant.0 c.alloc-hand.result.0 c.alloc-hand.new.place c.alloc-hand.ensures.turns c.alloc-hand.ensures.at_work (c.alloc-hand.ensures.costs.counts refl)
+    c.args.what.client.now.tracker (call.Alloc c.args.what.client.now.tracker c.args.what.blocks) c.alloc-hand.result.1 c.alloc-hand.ensures.err

@@ -1,34 +1,29 @@
-use Rattle.std.proofs.Common.{◌≡◌, None, refl, subst}
-use Rattle.local_pool.specs.declared.owned.Owned.{Owned}
-use Rattle.local_pool.specs.Told.{held_of}
-use Rattle.local_pool.proofs.Accounts.{read_lives, token_client, token_idle, went}
-use Rattle.local_pool.proofs.Clients.{seat_lives}
-use Rattle.local_pool.proofs.Knowing.{knows}
+use Rattle.std.proofs.Common.{◌≡◌, None, [], ◌∷◌, refl, sym, subst}
+use Rattle.pool_model.specs.declared.event.Event.TheVariants.{MoveReservation, CloseTracker}
+use Rattle.store_api.specs.Holdings.{Holdings, account_of}
+use Rattle.store_api.specs.Conditions.{IsIdle, IsLiveClient}
+use Rattle.session_calls.specs.Acting.{held_by}
+use Rattle.local_pool.specs.Told.{opening_of, outset_of}
+use Rattle.local_pool.specs.Making.{Makes}
+use Rattle.local_pool.proofs.Stepping.{held_at, step_keeps, step_makes}
 use Rattle.local_pool.proofs.owned.Alone.end_client.Goals as goal
 
-pub tracker-query-requires : goal.tracker-query-requires
-tracker-query-requires g c = seat_lives (knows g.D.Slot c.self.inside.own c.self.invariant)
-
-pub reservation-bytes-requires : goal.reservation-bytes-requires
-reservation-bytes-requires g c = read_lives g.D.Slot c.self.inside.own c.self.invariant c.args.self.now c.self.view_is c.tracker-tracker.result c.args.c.tracker c.tracker-tracker.ensures c.requires.client
-
 pub end_client-requires-clause-client : goal.end_client-requires-clause-client
-end_client-requires-clause-client g c = token_client g.D.Slot c.self.inside.own c.self.invariant c.args.self.now c.self.view_is c.of.result c.into_tracker.result c.args.c.tracker c.of.ensures c.into_tracker.ensures c.requires.client
+end_client-requires-clause-client g c = subst (IsLiveClient c.args.c) (sym (held_at g.D.Slot c.self.inside.hand c.args.self.now c.self.view_is c.self.invariant.0)) c.requires.client
 
 pub end_client-requires-clause-idle : goal.end_client-requires-clause-idle
-end_client-requires-clause-idle g c = token_idle g.D.Slot c.self.inside.own c.self.invariant c.args.self.now c.self.view_is c.of.result c.into_tracker.result c.args.c.tracker c.of.ensures c.into_tracker.ensures c.requires.client c.requires.idle
+end_client-requires-clause-idle g c = subst (IsIdle c.args.c.tracker) (sym (held_at g.D.Slot c.self.inside.hand c.args.self.now c.self.view_is c.self.invariant.0)) c.requires.idle
 
 pub invariant_of-self : goal.invariant_of-self
 invariant_of-self g c =
-    let new : Owned g.row.D.Denot = record { pool = c.end_client.new.self; trail = c.enter-2.new.trail; session = c.self.inside.own.session } in
-    (went g.D.Slot c.self.inside.own c.self.invariant c.args.self.now c.self.view_is c.of.result c.into_tracker.result c.args.c.tracker c.of.ensures c.into_tracker.ensures c.requires.client
-    c.requires.idle c.tracker-tracker.result c.tracker-query.result c.reservation-bytes.result new c.enter.new.trail c.tracker-tracker.ensures c.tracker-query.ensures c.reservation-bytes.ensures c.end_client.ensures.enters c.enter.ensures c.enter-2.ensures refl).0
+    step_keeps g.D.Slot c.self.inside.shelf c.self.inside.hand c.args.self.now c.self.view_is c.self.invariant c.end_client.new.self c.end_client.ensures.ready
+    (MoveReservation c.args.c.tracker (held_by (opening_of g.D.Slot c.self.inside.hand) (outset_of g.D.Slot c.self.inside.hand.state) c.self.inside.hand).query (account_of c.args.c.tracker (held_by (opening_of g.D.Slot c.self.inside.hand) (outset_of g.D.Slot c.self.inside.hand.state) c.self.inside.hand)).reservation ∷ CloseTracker c.args.c.tracker ∷ []) c.end_client.ensures.acts (record { rest = (refl, (refl, tt)); none = (refl, (refl, tt)) })
 
 pub returns-clause-makes : goal.returns-clause-makes
 returns-clause-makes g c =
-    let new : Owned g.row.D.Denot = record { pool = c.end_client.new.self; trail = c.enter-2.new.trail; session = c.self.inside.own.session } in
-    (went g.D.Slot c.self.inside.own c.self.invariant c.args.self.now c.self.view_is c.of.result c.into_tracker.result c.args.c.tracker c.of.ensures c.into_tracker.ensures c.requires.client
-    c.requires.idle c.tracker-tracker.result c.tracker-query.result c.reservation-bytes.result new c.enter.new.trail c.tracker-tracker.ensures c.tracker-query.ensures c.reservation-bytes.ensures c.end_client.ensures.enters c.enter.ensures c.enter-2.ensures refl).1
+    subst (λ (h : Holdings). Makes g.D.Slot (λ events. events ≡ MoveReservation c.args.c.tracker h.query (account_of c.args.c.tracker h).reservation ∷ CloseTracker c.args.c.tracker ∷ []) c.args.self.now c.end_client.new.self) (held_at g.D.Slot c.self.inside.hand c.args.self.now c.self.view_is c.self.invariant.0)
+    (step_makes g.D.Slot c.self.inside.shelf c.self.inside.hand c.args.self.now c.self.view_is c.self.invariant c.end_client.new.self c.end_client.ensures.ready
+    (MoveReservation c.args.c.tracker (held_by (opening_of g.D.Slot c.self.inside.hand) (outset_of g.D.Slot c.self.inside.hand.state) c.self.inside.hand).query (account_of c.args.c.tracker (held_by (opening_of g.D.Slot c.self.inside.hand) (outset_of g.D.Slot c.self.inside.hand.state) c.self.inside.hand)).reservation ∷ CloseTracker c.args.c.tracker ∷ []) c.end_client.ensures.acts (record { rest = (refl, (refl, tt)); none = (refl, (refl, tt)) }))
 
 pub returns-clause-apart : goal.returns-clause-apart
-returns-clause-apart g c = subst (λ (o : Owned g.row.D.Denot). (held_of g.D.Slot o).clients (held_of g.D.Slot o).query ≡ None) c.self.view_is (knows g.D.Slot c.self.inside.own c.self.invariant).fits.apart
+returns-clause-apart g c = subst (λ (h : Holdings). h.clients h.query ≡ None) (held_at g.D.Slot c.self.inside.hand c.args.self.now c.self.view_is c.self.invariant.0) c.end_client.ensures.apart

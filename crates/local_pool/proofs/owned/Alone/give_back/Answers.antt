@@ -1,27 +1,35 @@
-use Rattle.std.proofs.Common.{◌≤◌, sym, subst}
-use Rattle.pool_model.specs.declared.event.Event.TheVariants.{Decrease}
+use Rattle.std.proofs.Common.{◌≤◌, [], ◌∷◌, OnOk, refl, sym, subst}
+use Rattle.pool_model.specs.declared.call.Call.TheVariants as call
+use Rattle.pool_model.specs.declared.event.Event.TheVariants as event
 use Rattle.store_api.specs.Holdings.{Holdings, unused_of}
 use Rattle.store_api.specs.Conditions.{IsLiveClient}
-use Rattle.local_pool.proofs.Making.{asked_held}
-use Rattle.local_pool.proofs.Accounts.{asked_then}
-use Rattle.local_pool.proofs.Needed.{all_needed, then_needed}
+use Rattle.store_api.specs.Entries.{IsAsked}
+use Rattle.session_calls.specs.Acting.{held_by}
+use Rattle.local_pool.specs.Told.{opening_of, outset_of}
+use Rattle.local_pool.specs.Making.{Makes}
+use Rattle.local_pool.proofs.Stepping.{held_at}
+use Rattle.local_pool.proofs.Calling.{ends_keeps, ends_makes, ends_refuses}
 use Rattle.local_pool.proofs.owned.Alone.give_back.Goals as goal
 
-pub give_up-requires-clause-client : goal.give_up-requires-clause-client
-give_up-requires-clause-client g c =
-    subst (IsLiveClient c.args.c.now) (sym (asked_held g.D.Slot c.args.c.now.tracker c.args.self.now c.make_room.new.self c.in_ok-make_room.ensures.ok)) c.requires.client
+pub give_back-hand-requires-clause-client : goal.give_back-hand-requires-clause-client
+give_back-hand-requires-clause-client g c = subst (IsLiveClient c.args.what.client.now) (sym (held_at g.D.Slot c.self.inside.hand c.args.self c.self.view_is c.self.invariant.0)) c.requires.client
 
-pub give_up-requires-clause-unused : goal.give_up-requires-clause-unused
-give_up-requires-clause-unused g c =
-    subst (λ (h : Holdings). c.args.bytes ≤ unused_of c.args.c.now.tracker h) (sym (asked_held g.D.Slot c.args.c.now.tracker c.args.self.now c.make_room.new.self c.in_ok-make_room.ensures.ok)) c.requires.unused
+pub give_back-hand-requires-clause-unused : goal.give_back-hand-requires-clause-unused
+give_back-hand-requires-clause-unused g c = subst (λ (h : Holdings). c.args.what.bytes ≤ unused_of c.args.what.client.now.tracker h) (sym (held_at g.D.Slot c.self.inside.hand c.args.self c.self.view_is c.self.invariant.0)) c.requires.unused
+
+pub invariant_of-result : goal.invariant_of-result
+invariant_of-result g c =
+    ends_keeps g.D.Slot c.self.inside.hand c.args.self c.self.view_is c.self.invariant.0 c.give_back-hand.result.0 c.give_back-hand.new.place c.give_back-hand.ensures.turns c.give_back-hand.ensures.at_work (c.give_back-hand.ensures.costs.counts refl)
+    c.args.what.client.now.tracker (call.GiveBack c.args.what.client.now.tracker c.args.what.bytes)
+    (λ x. IsAsked c.args.what.client.now.tracker (held_by (opening_of g.D.Slot c.self.inside.hand) (outset_of g.D.Slot c.self.inside.hand.state) c.self.inside.hand) (event.Decrease c.args.what.client.now.tracker c.args.what.bytes ∷ [])) c.give_back-hand.result.1 c.give_back-hand.ensures.ok c.give_back-hand.ensures.err
 
 pub returns-clause-ok : goal.returns-clause-ok
 returns-clause-ok g c =
-    asked_then g.D.Slot c.args.c.now.tracker (Decrease c.args.c.now.tracker c.args.bytes) c.args.self.now c.make_room.new.self c.give_up.new.self c.in_ok-make_room.ensures.ok c.give_up.ensures
+    subst (λ (h : Holdings). OnOk c.give_back-hand.result.1 (Makes g.D.Slot (IsAsked c.args.what.client.now.tracker h (event.Decrease c.args.what.client.now.tracker c.args.what.bytes ∷ [])) c.args.self c.give_back-hand.result.0)) (held_at g.D.Slot c.self.inside.hand c.args.self c.self.view_is c.self.invariant.0)
+    (ends_makes g.D.Slot c.self.inside.hand c.args.self c.self.view_is c.self.invariant.0 c.give_back-hand.result.0 c.give_back-hand.new.place c.give_back-hand.ensures.turns c.give_back-hand.ensures.at_work (c.give_back-hand.ensures.costs.counts refl)
+    (λ x. IsAsked c.args.what.client.now.tracker (held_by (opening_of g.D.Slot c.self.inside.hand) (outset_of g.D.Slot c.self.inside.hand.state) c.self.inside.hand) (event.Decrease c.args.what.client.now.tracker c.args.what.bytes ∷ [])) c.give_back-hand.result.1 c.give_back-hand.ensures.ok)
 
-pub returns-in_err-make_room-clause-needed : goal.returns-in_err-make_room-clause-needed
-returns-in_err-make_room-clause-needed g c = all_needed c.args.c.now.tracker c.args.bytes c.args.self.now c.make_room.new.self c.make_room.ensures.needed
-
-pub returns-clause-needed : goal.returns-clause-needed
-returns-clause-needed g c =
-    then_needed c.args.c.now.tracker c.args.bytes g.D.Slot c.args.self.now c.make_room.new.self c.give_up.new.self (Decrease c.args.c.now.tracker c.args.bytes) (λ s. tt) c.make_room.ensures.needed c.give_up.ensures
+pub returns-clause-err : goal.returns-clause-err
+returns-clause-err g c =
+    ends_refuses g.D.Slot c.self.inside.hand c.args.self c.self.view_is c.self.invariant.0 c.give_back-hand.result.0 c.give_back-hand.new.place c.give_back-hand.ensures.turns c.give_back-hand.ensures.at_work (c.give_back-hand.ensures.costs.counts refl)
+    c.args.what.client.now.tracker (call.GiveBack c.args.what.client.now.tracker c.args.what.bytes) c.give_back-hand.result.1 c.give_back-hand.ensures.err

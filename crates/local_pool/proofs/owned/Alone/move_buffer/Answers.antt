@@ -1,52 +1,42 @@
-use Rattle.std.proofs.Common.{◌≡◌, ℕ, ◌*◌, [], ◌∷◌, IsSome, sym, ap, ◌∙◌, subst}
-use Rattle.block_arena.specs.Memory.{Buffer}
-use Rattle.pool_model.specs.declared.event.Event.TheVariants.{MoveBuffer}
-use Rattle.pool_model.specs.Sums.{HasRoom}
-use Rattle.pin_core.specs.StateOf.{state_of}
-use Rattle.store_api.specs.Holdings.{Holdings, loan_of, loan_len}
-use Rattle.store_api.specs.Conditions.{IsLoan}
-use Rattle.local_pool.specs.Told.{held_of}
-use Rattle.local_pool.proofs.Making.{asked_held}
-use Rattle.local_pool.proofs.Arrivals.{asked_then}
-use Rattle.store_api.specs.Tokens.{LoanToken}
-use Rattle.local_pool.specs.Needing.{EntersNeeded}
-use Rattle.local_pool.proofs.Needed.{all_needed, then_needed}
+use Rattle.std.proofs.Common.{◌≤◌, [], ◌∷◌, OnOk, refl, sym, subst}
+use Rattle.pool_model.specs.declared.call.Call.TheVariants as call
+use Rattle.pool_model.specs.declared.event.Event.TheVariants as event
+use Rattle.store_api.specs.Holdings.{Holdings, loan_len, unused_of}
+use Rattle.store_api.specs.Conditions.{IsLiveClient, IsLoan}
+use Rattle.store_api.specs.Entries.{IsAsked}
+use Rattle.session_calls.specs.declared.hand.Hand.{Hand}
+use Rattle.session_calls.specs.Needing.{EntersNeeded}
+use Rattle.session_calls.specs.Acting.{held_by}
+use Rattle.local_pool.specs.Told.{opening_of, outset_of, held_of}
+use Rattle.local_pool.specs.Making.{Makes}
+use Rattle.local_pool.proofs.Stepping.{held_at}
+use Rattle.local_pool.proofs.Calling.{ends_makes, handed_keeps, handed_refuses}
 use Rattle.local_pool.proofs.owned.Alone.move_buffer.Goals as goal
 
-pub move_here-requires-clause-loan : goal.move_here-requires-clause-loan
-move_here-requires-clause-loan g c =
-    subst (IsLoan c.args.loan) (sym (asked_held g.D.Slot c.args.to.now.tracker c.args.self.now c.make_room.new.self c.in_default.ensures.ok)) c.requires.loan
+pub move_buffer-hand-requires-clause-loan : goal.move_buffer-hand-requires-clause-loan
+move_buffer-hand-requires-clause-loan g c = subst (λ (h : Holdings). IsLoan c.args.what.loan h × IsLiveClient c.args.what.to.now h) (sym (held_at g.D.Slot c.self.inside.hand c.args.self c.self.view_is c.self.invariant.0)) (c.requires.loan, c.requires.to)
 
-pub move_here-requires-clause-to : goal.move_here-requires-clause-to
-move_here-requires-clause-to g c =
-    subst (λ (h : Holdings). IsSome (h.clients c.args.to.now.tracker)) (sym (asked_held g.D.Slot c.args.to.now.tracker c.args.self.now c.make_room.new.self c.in_default.ensures.ok)) c.requires.to
+pub move_buffer-hand-requires-clause-unused : goal.move_buffer-hand-requires-clause-unused
+move_buffer-hand-requires-clause-unused g c = subst (λ (h : Holdings). loan_len c.args.what.loan.number h ≤ unused_of c.args.what.to.now.tracker h) (sym (held_at g.D.Slot c.self.inside.hand c.args.self c.self.view_is c.self.invariant.0)) c.requires.unused
 
-pub move_here-requires-clause-room : goal.move_here-requires-clause-room
-move_here-requires-clause-room g c =
-    let same : held_of g.D.Slot c.make_room.new.self ≡ held_of g.D.Slot c.args.self.now = asked_held g.D.Slot c.args.to.now.tracker c.args.self.now c.make_room.new.self c.in_default.ensures.ok in
-    let blocks : ℕ = (loan_of c.args.loan.number (held_of g.D.Slot c.args.self.now)).blocks in
-    subst (HasRoom (state_of c.make_room.new.self.pool) c.args.to.now.tracker)
-    (c.len-bytes.ensures.whole ∙ ap (λ (b : Buffer). b.blocks * b.block_len) c.buf.ensures
-    ∙ ap (λ (n : ℕ). n * c.args.loan.buf.block_len) c.requires.loan.buffer.blocks ∙ ap (λ (n : ℕ). blocks * n) c.requires.loan.buffer.block_len
-    ∙ ap (loan_len c.args.loan.number) (sym same)) c.in_default.ensures.room
+pub invariant_of-result : goal.invariant_of-result
+invariant_of-result g c =
+    handed_keeps g.D.Slot c.self.inside.hand c.args.self c.self.view_is c.self.invariant.0 c.move_buffer-hand.result.0 c.move_buffer-hand.new.place c.move_buffer-hand.ensures.turns c.move_buffer-hand.ensures.at_work (c.move_buffer-hand.ensures.costs.counts refl)
+    c.args.what.to.now.tracker (call.MoveBuffer c.args.what.loan.number c.args.what.to.now.tracker)
+    (λ x. IsAsked c.args.what.to.now.tracker (held_by (opening_of g.D.Slot c.self.inside.hand) (outset_of g.D.Slot c.self.inside.hand.state) c.self.inside.hand) (event.MoveBuffer c.args.what.loan.number c.args.what.to.now.tracker ∷ [])) c.move_buffer-hand.result.1 c.move_buffer-hand.ensures.ok c.move_buffer-hand.ensures.err
 
 pub returns-clause-ok : goal.returns-clause-ok
 returns-clause-ok g c =
-    asked_then g.D.Slot c.args.to.now.tracker (MoveBuffer c.args.loan.number c.args.to.now.tracker ∷ []) c.args.self.now c.make_room.new.self c.move_here.new.self c.in_default.ensures.ok c.move_here.ensures.makes
+    subst (λ (h : Holdings). OnOk c.move_buffer-hand.result.1 (Makes g.D.Slot (IsAsked c.args.what.to.now.tracker h (event.MoveBuffer c.args.what.loan.number c.args.what.to.now.tracker ∷ [])) c.args.self c.move_buffer-hand.result.0)) (held_at g.D.Slot c.self.inside.hand c.args.self c.self.view_is c.self.invariant.0)
+    (ends_makes g.D.Slot c.self.inside.hand c.args.self c.self.view_is c.self.invariant.0 c.move_buffer-hand.result.0 c.move_buffer-hand.new.place c.move_buffer-hand.ensures.turns c.move_buffer-hand.ensures.at_work (c.move_buffer-hand.ensures.costs.counts refl)
+    (λ x. IsAsked c.args.what.to.now.tracker (held_by (opening_of g.D.Slot c.self.inside.hand) (outset_of g.D.Slot c.self.inside.hand.state) c.self.inside.hand) (event.MoveBuffer c.args.what.loan.number c.args.what.to.now.tracker ∷ [])) c.move_buffer-hand.result.1 c.move_buffer-hand.ensures.ok)
 
-bytes_are : (loan : LoanToken) (h : Holdings) (bytes : ℕ) (buf : Buffer) → IsLoan loan h → bytes ≡ buf.blocks * buf.block_len → buf ≡ loan.buf → bytes ≡ loan_len loan.number h
-bytes_are loan h bytes buf is whole same =
-    whole ∙ ap (λ (b : Buffer). b.blocks * b.block_len) same ∙ ap (λ (n : ℕ). n * loan.buf.block_len) is.buffer.blocks ∙ ap (λ (n : ℕ). (loan_of loan.number h).blocks * n) is.buffer.block_len
-
-pub returns-in-Err-clause-needed : goal.returns-in-Err-clause-needed
-returns-in-Err-clause-needed g c =
-    all_needed c.args.to.now.tracker (loan_len c.args.loan.number (held_of g.D.Slot c.args.self.now)) c.args.self.now c.make_room.new.self
-    (subst (λ (n : ℕ). EntersNeeded c.args.to.now.tracker n c.args.self.now c.make_room.new.self)
-    (bytes_are c.args.loan (held_of g.D.Slot c.args.self.now) _ _ c.requires.loan c.len-bytes.ensures.whole c.buf.ensures) c.make_room.ensures.needed)
+pub returns-clause-err : goal.returns-clause-err
+returns-clause-err g c =
+    handed_refuses g.D.Slot c.self.inside.hand c.args.self c.self.view_is c.self.invariant.0 c.move_buffer-hand.result.0 c.move_buffer-hand.new.place c.move_buffer-hand.ensures.turns c.move_buffer-hand.ensures.at_work (c.move_buffer-hand.ensures.costs.counts refl)
+    c.args.what.to.now.tracker (call.MoveBuffer c.args.what.loan.number c.args.what.to.now.tracker) c.move_buffer-hand.result.1 c.move_buffer-hand.ensures.err
 
 pub returns-clause-needed : goal.returns-clause-needed
 returns-clause-needed g c =
-    then_needed c.args.to.now.tracker (loan_len c.args.loan.number (held_of g.D.Slot c.args.self.now)) g.D.Slot c.args.self.now c.make_room.new.self c.move_here.new.self (MoveBuffer c.args.loan.number c.args.to.now.tracker) (λ s. tt)
-    (subst (λ (n : ℕ). EntersNeeded c.args.to.now.tracker n c.args.self.now c.make_room.new.self)
-    (bytes_are c.args.loan (held_of g.D.Slot c.args.self.now) _ _ c.requires.loan c.len-bytes.ensures.whole c.buf.ensures) c.make_room.ensures.needed)
-    c.move_here.ensures.makes
+    subst (λ (own : Hand g.row.D.Denot). EntersNeeded c.args.what.to.now.tracker (loan_len c.args.what.loan.number (held_of g.D.Slot c.args.self)) own c.move_buffer-hand.result.0) c.self.view_is
+    (subst (λ (h : Holdings). EntersNeeded c.args.what.to.now.tracker (loan_len c.args.what.loan.number h) c.self.inside.hand c.move_buffer-hand.result.0) (held_at g.D.Slot c.self.inside.hand c.args.self c.self.view_is c.self.invariant.0) c.move_buffer-hand.ensures.costs.needed)

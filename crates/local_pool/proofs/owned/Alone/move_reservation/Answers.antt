@@ -1,42 +1,44 @@
-use Rattle.std.proofs.Common.{◌≡◌, ◌≤◌, None, Ok, refl, sym, subst}
-use Rattle.pool_model.specs.declared.event.Event.TheVariants.{MoveReservation}
+use Rattle.std.proofs.Common.{◌≡◌, ◌≤◌, [], ◌∷◌, Err, IfNone, IfErr, IfSome, OnOk, refl, sym, subst}
+use Rattle.pool_model.specs.declared.call.Call.TheVariants as call
+use Rattle.pool_model.specs.declared.event.Event.TheVariants as event
 use Rattle.store_api.specs.Holdings.{Holdings, unused_of}
 use Rattle.store_api.specs.Conditions.{IsLiveClient}
+use Rattle.store_api.specs.Entries.{IsAsked}
 use Rattle.store_api.specs.Refusals.{move_refusal}
-use Rattle.local_pool.specs.Told.{held_of}
-use Rattle.local_pool.proofs.Making.{asked_held}
-use Rattle.local_pool.proofs.Accounts.{asked_then}
-use Rattle.local_pool.proofs.Needed.{all_needed, none_needed, then_needed}
-use Rattle.local_pool.proofs.Refusals.{no_error_told}
+use Rattle.session_calls.specs.declared.hand.Hand.{Hand}
+use Rattle.session_calls.specs.Acting.{held_by}
+use Rattle.local_pool.specs.Told.{opening_of, outset_of, held_of}
+use Rattle.local_pool.specs.Making.{Makes}
+use Rattle.local_pool.specs.Refusing.{Refuses}
+use Rattle.local_pool.proofs.Stepping.{held_at}
+use Rattle.local_pool.proofs.Calling.{ends_makes, moved_keeps, moved_refuses}
 use Rattle.local_pool.proofs.owned.Alone.move_reservation.Goals as goal
 
-pub pass_on-requires-clause-from : goal.pass_on-requires-clause-from
-pass_on-requires-clause-from g c =
-    subst (IsLiveClient c.args.from.now) (sym (asked_held g.D.Slot c.args.from.now.tracker c.args.self.now c.make_room.new.self c.in_ok-make_room.ensures.ok)) c.requires.from
+pub move_reservation-hand-requires-clause-clients : goal.move_reservation-hand-requires-clause-clients
+move_reservation-hand-requires-clause-clients g c = subst (λ (h : Holdings). IsLiveClient c.args.what.from.now h × IsLiveClient c.args.what.to.now h) (sym (held_at g.D.Slot c.self.inside.hand c.args.self c.self.view_is c.self.invariant.0)) (c.requires.from, c.requires.to)
 
-pub pass_on-requires-clause-to : goal.pass_on-requires-clause-to
-pass_on-requires-clause-to g c =
-    subst (IsLiveClient c.args.to.now) (sym (asked_held g.D.Slot c.args.from.now.tracker c.args.self.now c.make_room.new.self c.in_ok-make_room.ensures.ok)) c.requires.to
+pub move_reservation-hand-requires-clause-unused : goal.move_reservation-hand-requires-clause-unused
+move_reservation-hand-requires-clause-unused g c = subst (λ (h : Holdings). c.args.what.bytes ≤ unused_of c.args.what.from.now.tracker h) (sym (held_at g.D.Slot c.self.inside.hand c.args.self c.self.view_is c.self.invariant.0)) c.requires.unused
 
-pub pass_on-requires-clause-unused : goal.pass_on-requires-clause-unused
-pass_on-requires-clause-unused g c =
-    subst (λ (h : Holdings). c.args.bytes ≤ unused_of c.args.from.now.tracker h) (sym (asked_held g.D.Slot c.args.from.now.tracker c.args.self.now c.make_room.new.self c.in_ok-make_room.ensures.ok)) c.requires.unused
-
-pub pass_on-requires-clause-granted : goal.pass_on-requires-clause-granted
-pass_on-requires-clause-granted g c =
-    subst (λ (h : Holdings). move_refusal c.args.from.now.tracker c.args.to.now.tracker c.args.bytes h ≡ None) (sym (asked_held g.D.Slot c.args.from.now.tracker c.args.self.now c.make_room.new.self c.in_ok-make_room.ensures.ok))
-    (no_error_told (move_refusal c.args.from.now.tracker c.args.to.now.tracker c.args.bytes (held_of g.D.Slot c.args.self.now)) (Ok tt) refl c.in_ok-may_move.ensures.refused)
+pub invariant_of-result : goal.invariant_of-result
+invariant_of-result g c =
+    moved_keeps g.D.Slot c.self.inside.hand c.args.self c.self.view_is c.self.invariant.0 c.move_reservation-hand.result.0 c.move_reservation-hand.new.place c.move_reservation-hand.ensures.turns c.move_reservation-hand.ensures.at_work (c.move_reservation-hand.ensures.costs.counts refl)
+    c.args.what.from.now.tracker (call.MoveReservation c.args.what.from.now.tracker c.args.what.to.now.tracker c.args.what.bytes)
+    (λ x. IsAsked c.args.what.from.now.tracker (held_by (opening_of g.D.Slot c.self.inside.hand) (outset_of g.D.Slot c.self.inside.hand.state) c.self.inside.hand) (event.MoveReservation c.args.what.from.now.tracker c.args.what.to.now.tracker c.args.what.bytes ∷ [])) (move_refusal c.args.what.from.now.tracker c.args.what.to.now.tracker c.args.what.bytes (held_by (opening_of g.D.Slot c.self.inside.hand) (outset_of g.D.Slot c.self.inside.hand.state) c.self.inside.hand)) c.move_reservation-hand.result.1 c.move_reservation-hand.ensures.ok c.move_reservation-hand.ensures.refused c.move_reservation-hand.ensures.err
 
 pub returns-clause-ok : goal.returns-clause-ok
 returns-clause-ok g c =
-    asked_then g.D.Slot c.args.from.now.tracker (MoveReservation c.args.from.now.tracker c.args.to.now.tracker c.args.bytes) c.args.self.now c.make_room.new.self c.pass_on.new.self c.in_ok-make_room.ensures.ok c.pass_on.ensures
+    subst (λ (h : Holdings). OnOk c.move_reservation-hand.result.1 (Makes g.D.Slot (IsAsked c.args.what.from.now.tracker h (event.MoveReservation c.args.what.from.now.tracker c.args.what.to.now.tracker c.args.what.bytes ∷ [])) c.args.self c.move_reservation-hand.result.0)) (held_at g.D.Slot c.self.inside.hand c.args.self c.self.view_is c.self.invariant.0)
+    (ends_makes g.D.Slot c.self.inside.hand c.args.self c.self.view_is c.self.invariant.0 c.move_reservation-hand.result.0 c.move_reservation-hand.new.place c.move_reservation-hand.ensures.turns c.move_reservation-hand.ensures.at_work (c.move_reservation-hand.ensures.costs.counts refl)
+    (λ x. IsAsked c.args.what.from.now.tracker (held_by (opening_of g.D.Slot c.self.inside.hand) (outset_of g.D.Slot c.self.inside.hand.state) c.self.inside.hand) (event.MoveReservation c.args.what.from.now.tracker c.args.what.to.now.tracker c.args.what.bytes ∷ [])) c.move_reservation-hand.result.1 c.move_reservation-hand.ensures.ok)
 
-pub returns-in_err-may_move-clause-needed : goal.returns-in_err-may_move-clause-needed
-returns-in_err-may_move-clause-needed g c = none_needed c.args.from.now.tracker c.args.bytes c.args.self.now
+pub returns-clause-refused : goal.returns-clause-refused
+returns-clause-refused g c =
+    subst (λ (own : Hand g.row.D.Denot). IfSome (move_refusal c.args.what.from.now.tracker c.args.what.to.now.tracker c.args.what.bytes (held_of g.D.Slot c.args.self)) (λ e. (c.move_reservation-hand.result.1 ≡ Err e) × (c.move_reservation-hand.result.0 ≡ own))) c.self.view_is
+    (subst (λ (h : Holdings). IfSome (move_refusal c.args.what.from.now.tracker c.args.what.to.now.tracker c.args.what.bytes h) (λ e. (c.move_reservation-hand.result.1 ≡ Err e) × (c.move_reservation-hand.result.0 ≡ c.self.inside.hand))) (held_at g.D.Slot c.self.inside.hand c.args.self c.self.view_is c.self.invariant.0) c.move_reservation-hand.ensures.refused)
 
-pub returns-in_err-make_room-clause-needed : goal.returns-in_err-make_room-clause-needed
-returns-in_err-make_room-clause-needed g c = all_needed c.args.from.now.tracker c.args.bytes c.args.self.now c.make_room.new.self c.make_room.ensures.needed
-
-pub returns-clause-needed : goal.returns-clause-needed
-returns-clause-needed g c =
-    then_needed c.args.from.now.tracker c.args.bytes g.D.Slot c.args.self.now c.make_room.new.self c.pass_on.new.self (MoveReservation c.args.from.now.tracker c.args.to.now.tracker c.args.bytes) (λ s. tt) c.make_room.ensures.needed c.pass_on.ensures
+pub returns-clause-err : goal.returns-clause-err
+returns-clause-err g c =
+    subst (λ (h : Holdings). IfNone (move_refusal c.args.what.from.now.tracker c.args.what.to.now.tracker c.args.what.bytes h) (IfErr c.move_reservation-hand.result.1 (Refuses g.D.Slot c.args.what.from.now.tracker (call.MoveReservation c.args.what.from.now.tracker c.args.what.to.now.tracker c.args.what.bytes) c.args.self c.move_reservation-hand.result.0))) (held_at g.D.Slot c.self.inside.hand c.args.self c.self.view_is c.self.invariant.0)
+    (moved_refuses g.D.Slot c.self.inside.hand c.args.self c.self.view_is c.self.invariant.0 c.move_reservation-hand.result.0 c.move_reservation-hand.new.place c.move_reservation-hand.ensures.turns c.move_reservation-hand.ensures.at_work (c.move_reservation-hand.ensures.costs.counts refl)
+    c.args.what.from.now.tracker (call.MoveReservation c.args.what.from.now.tracker c.args.what.to.now.tracker c.args.what.bytes) (move_refusal c.args.what.from.now.tracker c.args.what.to.now.tracker c.args.what.bytes (held_by (opening_of g.D.Slot c.self.inside.hand) (outset_of g.D.Slot c.self.inside.hand.state) c.self.inside.hand)) c.move_reservation-hand.result.1 c.move_reservation-hand.ensures.err)

@@ -8,16 +8,16 @@ use Rattle.local_pool.proofs.Begun.{begins, counted_alike}
 use Rattle.local_pool.proofs.owned.Alone.open.Goals as goal
 
 pub begin-requires-clause-fresh : goal.begin-requires-clause-fresh
-begin-requires-clause-fresh g c o is = c.in-Ok-open.ensures.stands o (subst (λ (n : ℕ). IsOpeningOf c.args.conf.now n o) c.in-Ok-open.ensures.spare is)
+begin-requires-clause-fresh g c o is = c.in-Ok.ensures.stands o (subst (λ (n : ℕ). IsOpeningOf c.args.conf.now n o) c.in-Ok.ensures.spare is)
 
-pub returns-in-Ok-open-clause-ok : goal.returns-in-Ok-open-clause-ok
-returns-in-Ok-open-clause-ok g c =
-    begins g.D.Slot c.args.conf.now c.args.slots.items c.args.limit c.args.quota c.args.least c.in-Ok-open.pool c.in-Ok-open.ensures.slots
+pub returns-in-Ok-clause-ok : goal.returns-in-Ok-clause-ok
+returns-in-Ok-clause-ok g c =
+    begins g.D.Slot c.args.conf.now c.args.slots.items c.args.limit c.args.quota c.args.least c.in-Ok.pool c.in-Ok.ensures.slots
     c.begin.result c.begin.ensures.ok c.begin.ensures.trail c.begin.ensures.slots
 
 pub begin-requires-clause-opens : goal.begin-requires-clause-opens
 begin-requires-clause-opens g c =
     let slots = c.args.slots.items in
-    let pool = c.in-Ok-open.pool in
+    let pool = c.in-Ok.pool in
     counted_alike g.T.OpenedWith.opened (tally_of g.D.Slot slots) (tally_in g.D.Slot pool) c.args.conf.now.first_name _
-    (tally_same g.D.Slot (λ measure. sum_by measure slots) (λ measure. slots_home measure pool) (λ measure. sym (c.in-Ok-open.ensures.slots measure))) c.requires.opened
+    (tally_same g.D.Slot (λ measure. sum_by measure slots) (λ measure. slots_home measure pool) (λ measure. sym (c.in-Ok.ensures.slots measure))) c.requires.opened

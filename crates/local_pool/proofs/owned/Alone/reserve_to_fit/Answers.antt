@@ -1,38 +1,39 @@
-use Rattle.std.proofs.Common.{rules, ◌≡◌, Ok, Err, refl}
+use Rattle.std.proofs.Common.{◌≡◌, [], ◌∷◌, Err, IfErr, IfNone, IfSome, OnErr, inr, refl, sym, subst}
 use Rattle.pool_model.specs.declared.event.Event.TheVariants.{IncreaseToFit}
-use Rattle.store_api.specs.Changes.{shortfall}
-use Rattle.store_api.specs.Refusals.{reserve_refusal}
-use Rattle.local_pool.specs.declared.owned.Owned.{Owned}
+use Rattle.store_api.specs.Holdings.{Holdings}
+use Rattle.store_api.specs.Changes.{query_growth, shortfall}
+use Rattle.store_api.specs.Conditions.{IsLiveClient}
+use Rattle.store_api.specs.Refusals.{IsSharedRefusal, reserve_refusal}
+use Rattle.session_calls.specs.declared.hand.Hand.{Hand}
 use Rattle.local_pool.specs.Told.{held_of}
-use Rattle.local_pool.proofs.Accounts.{token_client, fit_error, fit_free, reserved_by}
-use Rattle.local_pool.proofs.Refusals.{no_error, but_error, with_error}
+use Rattle.local_pool.proofs.Knowing.{above_at, granted}
+use Rattle.local_pool.proofs.Stepping.{held_at, came_or_same, came_makes}
 use Rattle.local_pool.proofs.owned.Alone.reserve_to_fit.Goals as goal
 
-pub increase_to_fit-result-requires : goal.increase_to_fit-result-requires
-increase_to_fit-result-requires g c = record { client = token_client g.D.Slot c.self.inside.own c.self.invariant c.args.self.now c.self.view_is c.of-mine.result c.tracker-tracker.result c.args.c.now.tracker c.of-mine.ensures c.tracker-tracker.ensures c.requires.client }
+pub reserve_to_fit-requires-clause-above : goal.reserve_to_fit-requires-clause-above
+reserve_to_fit-requires-clause-above g c = inr (refl, c.self.invariant.0.alone)
 
-pub returns-in_err-result-clause-refused : goal.returns-in_err-result-clause-refused
-returns-in_err-result-clause-refused g c =
-    let same : c.from_residual.result ≡ Err c.in_err-result.field-0.0 = search rules in
-    with_error (reserve_refusal c.args.c.now.tracker (shortfall c.args.c.now.tracker c.args.bytes (held_of g.D.Slot c.args.self.now)) (held_of g.D.Slot c.args.self.now)) c.from_residual.result c.in_err-result.field-0.0
-    (fit_error g.D.Slot c.self.inside.own c.self.invariant c.args.self.now c.self.view_is c.of-mine.result c.tracker-tracker.result c.args.c.now.tracker c.of-mine.ensures c.tracker-tracker.ensures c.requires.client c.args.bytes c.in_err-result.field-0.0 c.in_err-result.ensures.cause) same
+pub reserve_to_fit-requires-clause-client : goal.reserve_to_fit-requires-clause-client
+reserve_to_fit-requires-clause-client g c = subst (IsLiveClient c.args.c.now) (sym (held_at g.D.Slot c.self.inside.hand c.args.self.now c.self.view_is c.self.invariant.0)) c.requires.client
 
-pub returns-in_err-result-clause-granted : goal.returns-in_err-result-clause-granted
-returns-in_err-result-clause-granted g c =
-    but_error (reserve_refusal c.args.c.now.tracker (shortfall c.args.c.now.tracker c.args.bytes (held_of g.D.Slot c.args.self.now)) (held_of g.D.Slot c.args.self.now)) c.from_residual.result c.in_err-result.field-0.0
-    (fit_error g.D.Slot c.self.inside.own c.self.invariant c.args.self.now c.self.view_is c.of-mine.result c.tracker-tracker.result c.args.c.now.tracker c.of-mine.ensures c.tracker-tracker.ensures c.requires.client c.args.bytes c.in_err-result.field-0.0 c.in_err-result.ensures.cause)
-
-pub invariant_of-self-2 : goal.invariant_of-self-2
-invariant_of-self-2 g c =
-    let new : Owned g.row.D.Denot = record { pool = c.increase_to_fit-result.new.self; trail = c.enter.new.trail; session = c.self.inside.own.session } in
-    (reserved_by g.D.Slot c.self.inside.own c.self.invariant c.args.self.now c.self.view_is c.of-mine.result c.tracker-tracker.result c.args.c.now.tracker c.of-mine.ensures c.tracker-tracker.ensures (λ t. IncreaseToFit t c.args.bytes) (λ t. refl) new c.in_ok-result.ensures.ok c.enter.ensures refl).0
+pub invariant_of-self : goal.invariant_of-self
+invariant_of-self g c =
+    came_or_same g.D.Slot c.self.inside.shelf c.self.inside.hand c.args.self.now c.self.view_is c.self.invariant c.reserve_to_fit.new.self c.reserve_to_fit.ensures.ready
+    (λ x. IncreaseToFit c.args.c.now.tracker c.args.bytes ∷ []) (λ x. record { rest = (refl, tt); none = (refl, tt) }) c.reserve_to_fit.result c.reserve_to_fit.ensures.ok c.reserve_to_fit.ensures.err
 
 pub returns-clause-ok : goal.returns-clause-ok
 returns-clause-ok g c =
-    let new : Owned g.row.D.Denot = record { pool = c.increase_to_fit-result.new.self; trail = c.enter.new.trail; session = c.self.inside.own.session } in
-    (reserved_by g.D.Slot c.self.inside.own c.self.invariant c.args.self.now c.self.view_is c.of-mine.result c.tracker-tracker.result c.args.c.now.tracker c.of-mine.ensures c.tracker-tracker.ensures (λ t. IncreaseToFit t c.args.bytes) (λ t. refl) new c.in_ok-result.ensures.ok c.enter.ensures refl).1
+    came_makes g.D.Slot c.self.inside.shelf c.self.inside.hand c.args.self.now c.self.view_is c.self.invariant c.reserve_to_fit.new.self c.reserve_to_fit.ensures.ready
+    (λ x. IncreaseToFit c.args.c.now.tracker c.args.bytes ∷ []) (λ x. record { rest = (refl, tt); none = (refl, tt) }) c.reserve_to_fit.result c.reserve_to_fit.ensures.ok
 
 pub returns-clause-refused : goal.returns-clause-refused
-returns-clause-refused g c =
-    no_error (reserve_refusal c.args.c.now.tracker (shortfall c.args.c.now.tracker c.args.bytes (held_of g.D.Slot c.args.self.now)) (held_of g.D.Slot c.args.self.now)) (Ok tt)
-    (fit_free g.D.Slot c.self.inside.own c.self.invariant c.args.self.now c.self.view_is c.of-mine.result c.tracker-tracker.result c.args.c.now.tracker c.of-mine.ensures c.tracker-tracker.ensures c.requires.client c.args.bytes c.in_ok-result.ensures.refused.1)
+returns-clause-refused g c = subst (λ (h : Holdings). IfSome (reserve_refusal c.args.c.now.tracker (shortfall c.args.c.now.tracker c.args.bytes h) h) (λ e. c.reserve_to_fit.result ≡ Err e)) (held_at g.D.Slot c.self.inside.hand c.args.self.now c.self.view_is c.self.invariant.0) c.reserve_to_fit.ensures.refused
+
+pub returns-clause-granted : goal.returns-clause-granted
+returns-clause-granted g c =
+    granted (reserve_refusal c.args.c.now.tracker (shortfall c.args.c.now.tracker c.args.bytes (held_of g.D.Slot c.args.self.now)) (held_of g.D.Slot c.args.self.now)) (query_growth (shortfall c.args.c.now.tracker c.args.bytes (held_of g.D.Slot c.args.self.now)) (held_of g.D.Slot c.args.self.now)) (held_of g.D.Slot c.args.self.now).above c.reserve_to_fit.result
+    (above_at g.D.Slot c.self.inside.hand c.args.self.now c.self.view_is c.self.invariant.0)
+    (subst (λ (h : Holdings). IfNone (reserve_refusal c.args.c.now.tracker (shortfall c.args.c.now.tracker c.args.bytes h) h) (IfErr c.reserve_to_fit.result (IsSharedRefusal (query_growth (shortfall c.args.c.now.tracker c.args.bytes h) h) h.above))) (held_at g.D.Slot c.self.inside.hand c.args.self.now c.self.view_is c.self.invariant.0) c.reserve_to_fit.ensures.shared)
+
+pub returns-clause-err : goal.returns-clause-err
+returns-clause-err g c = subst (λ (h : Hand g.row.D.Denot). OnErr c.reserve_to_fit.result (c.reserve_to_fit.new.self ≡ h)) c.self.view_is c.reserve_to_fit.ensures.err

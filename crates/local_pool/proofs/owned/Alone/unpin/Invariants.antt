@@ -1,6 +1,5 @@
-use Rattle.std.specs.Prelude.{◌∷◌, []}
-use Rattle.pool_model.specs.declared.event.Event.TheVariants as event
+use Rattle.local_pool.specs.Told.{opening_of, outset_of}
 use Rattle.local_pool.proofs.owned.Alone.unpin.Given as goal
 
-abbrev pub ghosts-leave : goal.ghosts-leave
-ghosts-leave g a = record { entries = record { maker = a.own.now.session; event = event.Unpin a.p.now.name a.buf.bytes } ∷ [] }
+abbrev pub ghosts-unpin : goal.ghosts-unpin
+ghosts-unpin g a = record { opening = opening_of g.D.Slot a.self.now; outset = outset_of g.D.Slot a.self.now.state }

@@ -1,10 +1,18 @@
-use Rattle.pool.proofs.Locked.{taken, turns_at}
+use Rattle.pool.specs.Items.{history}
+use Rattle.pool.proofs.Locked.{taken, taken_named, turns_at}
 use Rattle.pool.proofs.lock.LockAccess.take.Goals as goal
 
 pub returns-clause-turns : goal.returns-clause-turns
-returns-clause-turns g c =
-    turns_at g.D.Slot g.T.OpenedAs.opening g.T.OpenedAs.told c.args.self.now.turns.now c.args.session c.args.place.now c.take_hand.new.seat c.take_hand.result c.requires c.take_hand.ensures.takes c.take_hand.ensures.table
+returns-clause-turns g c = record {
+  origin = c.requires.origin;
+  outset = c.requires.outset;
+  turns =
+      turns_at g.D.Slot g.T.OpenedAs.opening g.T.OpenedAs.told c.args.self.now.turns.now c.args.session c.args.place.now c.take_hand.new.seat c.take_hand.result c.requires.rests c.take_hand.ensures.takes
+      c.take_hand.ensures.table;
+}
 
 pub returns-clause-taken : goal.returns-clause-taken
 returns-clause-taken g c =
-    taken g.D.Slot g.T.OpenedAs.opening g.T.OpenedAs.told c.args.self.now.turns.now c.args.session c.args.place.now c.take_hand.new.seat c.take_hand.result c.requires c.take_hand.ensures.takes
+    taken_named g.D.Slot g.T.OpenedAs.opening g.O.Origin.opening g.O.Origin.outset g.T.OpenedAs.told c.args.session (history c.args.place.now.knows.seen) (history c.take_hand.new.seat.knows.seen) c.take_hand.result
+    c.requires.origin c.requires.outset
+    (taken g.D.Slot g.T.OpenedAs.opening g.T.OpenedAs.told c.args.self.now.turns.now c.args.session c.args.place.now c.take_hand.new.seat c.take_hand.result c.requires.rests c.take_hand.ensures.takes)

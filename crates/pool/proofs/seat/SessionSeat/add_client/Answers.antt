@@ -1,7 +1,7 @@
 use Rattle.std.proofs.Common.{◌↔◌, ◌≤◌, [], ◌∷◌, None, IsErr, IfOk, refl}
 use Rattle.pool_model.specs.declared.event.Event.TheVariants.{AddTracker}
 use Rattle.session_calls.specs.Acting.{ActsThese}
-use Rattle.local_pool.specs.Calling.{IsFresh}
+use Rattle.session_calls.specs.Coming.{IsFresh}
 use Rattle.pool.proofs.Doings.{as_was, has_first, no_account, room_left, may_end, did_these, sits_on}
 use Rattle.pool.proofs.Results.{ok_so, on_err_so}
 use Rattle.pool.proofs.Stays.{acts_none, acts_either, has_come}

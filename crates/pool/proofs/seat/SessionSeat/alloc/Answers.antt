@@ -4,7 +4,7 @@ use Rattle.pool_model.specs.declared.event.Event.TheVariants.{Alloc}
 use Rattle.store_api.specs.Holdings.{Holdings, length_of, unused_of}
 use Rattle.store_api.specs.Conditions.{IsLiveClient}
 use Rattle.store_api.specs.Entries.{IsTaken}
-use Rattle.local_pool.specs.Calling.{IsFreshLoan}
+use Rattle.session_calls.specs.Coming.{IsFreshLoan}
 use Rattle.pool.proofs.Doings.{as_held, as_was}
 use Rattle.pool.proofs.Results.{err_so, ok_so}
 use Rattle.pool.proofs.Charged.{alloc_stays}

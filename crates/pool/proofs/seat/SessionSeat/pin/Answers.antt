@@ -2,7 +2,7 @@ use Rattle.pool_model.specs.declared.call.Call.TheVariants as call
 use Rattle.store_api.specs.Holdings.{Holdings, page_of}
 use Rattle.store_api.specs.Conditions.{ShowsLeft}
 use Rattle.store_api.specs.Entries.{IsPin}
-use Rattle.local_pool.specs.Pinning.{CanBePinned}
+use Rattle.session_calls.specs.Pinning.{CanBePinned}
 use Rattle.pool.proofs.Doings.{as_held, as_was}
 use Rattle.pool.proofs.Results.{err_so, ok_so}
 use Rattle.pool.proofs.Charged.{pin_stays}

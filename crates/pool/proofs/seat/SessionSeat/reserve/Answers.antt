@@ -1,4 +1,4 @@
-use Rattle.std.proofs.Common.{◌≡◌, Err, IfErr, IfNone, IfSome, refl}
+use Rattle.std.proofs.Common.{inl, ◌≡◌, Err, IfErr, IfNone, IfSome, refl}
 use Rattle.store_api.specs.Changes.{query_growth}
 use Rattle.store_api.specs.Conditions.{IsLiveClient}
 use Rattle.store_api.specs.Refusals.{IsSharedRefusal, reserve_refusal}
@@ -6,6 +6,9 @@ use Rattle.pool.proofs.Doings.{as_held, as_was, may_stay, did_these, sits_on}
 use Rattle.pool.proofs.Results.{on_ok_so, on_err_so}
 use Rattle.pool.proofs.Stays.{acts_none, acts_either, stays_reserved}
 use Rattle.pool.proofs.seat.SessionSeat.reserve.Goals as goal
+
+pub reserve-result-requires-clause-above : goal.reserve-result-requires-clause-above
+reserve-result-requires-clause-above g c = inl refl
 
 pub reserve-result-requires-clause-client : goal.reserve-result-requires-clause-client
 reserve-result-requires-clause-client g c = as_held c.self.view_is c.begin_turn-hand.ensures.begins (λ h. IsLiveClient c.args.c.now h) c.requires.client

@@ -1,5 +1,5 @@
 use Rattle.std.proofs.Common.{[]}
-use Rattle.local_pool.proofs.Lasting.{ok_so, ok_both, on_err_so}
+use Rattle.session_calls.proofs.Results.{ok_so, ok_both, on_err_so}
 use Rattle.pool.proofs.Storing.{did_made, grows_else, new_client, untouched}
 use Rattle.pool.proofs.session.SessionStore.add_client.Goals as goal
 

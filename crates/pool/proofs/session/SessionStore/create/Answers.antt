@@ -1,4 +1,4 @@
-use Rattle.local_pool.proofs.Lasting.{ok_so, ok_both}
+use Rattle.session_calls.proofs.Results.{ok_so, ok_both}
 use Rattle.pool.proofs.Storing.{did_made, grows_declined, new_page}
 use Rattle.pool.proofs.session.SessionStore.create.Goals as goal
 

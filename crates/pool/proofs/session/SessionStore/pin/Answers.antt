@@ -1,6 +1,6 @@
 use Rattle.std.proofs.Common.{◌∙◌}
 use Rattle.own_entries.proofs.Calls.{calls_tell}
-use Rattle.local_pool.proofs.Lasting.{on_ok_so}
+use Rattle.session_calls.proofs.Results.{on_ok_so}
 use Rattle.pool.specs.Sitting.{held_by}
 use Rattle.pool.proofs.Storing.{did_held, did_made, grows_declined}
 use Rattle.pool.proofs.session.SessionStore.pin.Goals as goal

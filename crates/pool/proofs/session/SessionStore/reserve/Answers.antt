@@ -1,7 +1,7 @@
 use Rattle.std.proofs.Common.{[], ◌∷◌, ◌∙◌}
 use Rattle.pool_model.specs.declared.event.Event.TheVariants.{Increase}
 use Rattle.own_entries.proofs.Calls.{calls_tell}
-use Rattle.local_pool.proofs.Lasting.{on_ok_so, on_err_so}
+use Rattle.session_calls.proofs.Results.{on_ok_so, on_err_so}
 use Rattle.pool.specs.Sitting.{held_by}
 use Rattle.pool.proofs.Storing.{did_made, grows_else, these_held, untouched}
 use Rattle.pool.proofs.session.SessionStore.reserve.Goals as goal

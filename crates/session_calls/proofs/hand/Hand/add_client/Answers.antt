@@ -1,7 +1,7 @@
 use Rattle.std.proofs.Common.{◌≤◌, refl, sym, ◌∙◌}
 use Rattle.std.proofs.lemmas.Bool.{false≢true}
 use Rattle.own_entries.specs.ClientLaws.{IsNewNumber}
-use Rattle.local_pool.proofs.Clients.{seat_lives, all_come, not_all}
+use Rattle.session_calls.proofs.Clients.{seat_lives, all_come, not_all}
 use Rattle.session_calls.specs.declared.hand.Hand.{Hand}
 use Rattle.session_calls.specs.Acting.{held_by}
 use Rattle.session_calls.proofs.Knowing.{knows}

@@ -2,11 +2,11 @@ use Rattle.std.proofs.Common.{ℕ, [], ◌∷◌, refl, sym, subst}
 use Rattle.pool_model.specs.declared.event.Event.TheVariants.{Alloc}
 use Rattle.pin_core.specs.StateOf.{state_of}
 use Rattle.pin_core.specs.Coming.{CanHold}
-use Rattle.local_pool.specs.Calling.{Evicts, IsFreshLoan}
-use Rattle.local_pool.proofs.Fresh.{can_hold, fresh_loan}
+use Rattle.session_calls.specs.Coming.{Evicts, IsFreshLoan}
+use Rattle.session_calls.proofs.Fresh.{can_hold, fresh_loan}
 use Rattle.session_calls.specs.Acting.{Acts, held_by}
 use Rattle.session_calls.proofs.Knowing.{knows}
-use Rattle.session_calls.proofs.Arriving.{acts_evicting, ready_evicting}
+use Rattle.session_calls.proofs.Arriving.{acts_evicting, needed_evicting, ready_evicting}
 use Rattle.session_calls.proofs.hand.Hand.alloc.Goals as goal
 
 pub alloc_named-requires-clause-can : goal.alloc_named-requires-clause-can
@@ -28,3 +28,8 @@ pub returns-clause-ready : goal.returns-clause-ready
 returns-clause-ready g c =
     ready_evicting g.D.Slot c.args.self.now c.alloc_named.new.hand c.args.shell (Alloc c.alloc_named.result.number c.tracker.result c.args.shell) c.alloc_named.ensures.goes refl
     g.O.Origin.opening g.O.Origin.outset c.requires.ready refl c.requires.ready.rests.live c.requires.ready.rests.few
+
+pub returns-clause-needed : goal.returns-clause-needed
+returns-clause-needed g c =
+    needed_evicting g.D.Slot c.args.self.now c.alloc_named.new.hand c.args.shell (Alloc c.alloc_named.result.number c.tracker.result c.args.shell) c.alloc_named.ensures.goes
+    g.O.Origin.opening g.O.Origin.outset c.requires.ready c.args.c.now.tracker (λ s. tt) c.alloc_named.ensures.room

@@ -2,12 +2,14 @@ use Rattle.std.proofs.Common.{ℕ, [], ◌∷◌, IfOk, sym, subst}
 use Rattle.pool_model.specs.declared.event.Event.TheVariants.{Create}
 use Rattle.pin_core.specs.StateOf.{state_of}
 use Rattle.pin_core.specs.Coming.{CanHold}
-use Rattle.local_pool.specs.Calling.{Evicts}
-use Rattle.local_pool.proofs.Fresh.{can_hold}
+use Rattle.session_calls.specs.Coming.{Evicts}
+use Rattle.session_calls.proofs.Fresh.{can_hold}
+use Rattle.store_api.specs.Holdings.{length_of}
+use Rattle.session_calls.specs.Needing.{EntersNeeded}
 use Rattle.session_calls.specs.Acting.{Acts, held_by, signs_by}
 use Rattle.session_calls.specs.Coming.{IsFreshPage}
 use Rattle.session_calls.proofs.Knowing.{knows}
-use Rattle.session_calls.proofs.Arriving.{ready_created, acts_created, fresh_created, spent_created}
+use Rattle.session_calls.proofs.Arriving.{needed_created, ready_created, acts_created, fresh_created, spent_created}
 use Rattle.session_calls.proofs.hand.Hand.create.Goals as goal
 
 pub create_named-requires-clause-can : goal.create_named-requires-clause-can
@@ -33,3 +35,9 @@ returns-clause-err g c =
 pub returns-clause-ready : goal.returns-clause-ready
 returns-clause-ready g c =
     ready_created g.D.Slot g.O.Origin.opening g.O.Origin.outset c.args.self.now c.requires.ready c.tracker.result c.args.shell c.create_named.new.hand c.create_named.result c.create_named.ensures.goes c.create_named.ensures.err
+
+pub returns-clause-needed : goal.returns-clause-needed
+returns-clause-needed g c =
+    subst (λ (t : ℕ). EntersNeeded t (length_of c.args.shell (held_by g.O.Origin.opening g.O.Origin.outset c.args.self.now)) c.args.self.now c.create_named.new.hand) c.tracker.ensures
+    (needed_created g.D.Slot g.O.Origin.opening g.O.Origin.outset c.args.self.now c.requires.ready c.tracker.result c.args.shell c.create_named.new.hand c.create_named.result
+    c.create_named.ensures.goes c.create_named.ensures.err c.create_named.ensures.room)

@@ -1,5 +1,5 @@
 use Rattle.std.proofs.Common.{refl}
-use Rattle.local_pool.proofs.Clients.{seat_lives}
+use Rattle.session_calls.proofs.Clients.{seat_lives}
 use Rattle.session_calls.specs.declared.hand.Hand.{Hand}
 use Rattle.session_calls.proofs.Knowing.{knows}
 use Rattle.session_calls.proofs.Accounts.{read_lives, token_client, token_idle, left}

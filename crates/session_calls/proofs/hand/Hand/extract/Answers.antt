@@ -1,6 +1,6 @@
 use Rattle.std.proofs.Common.{refl, ap, ◌∙◌}
 use Rattle.store_api.specs.Tokens.{LoanToken}
-use Rattle.local_pool.proofs.Pages.{last_pin, is_there}
+use Rattle.session_calls.proofs.Pages.{last_pin, is_there}
 use Rattle.session_calls.specs.declared.hand.Hand.{Hand}
 use Rattle.session_calls.proofs.Knowing.{knows}
 use Rattle.session_calls.proofs.Left.{extracted}

@@ -2,7 +2,7 @@ use Rattle.std.proofs.Common.{◌-◌, ℕ, Ok, Err, ap}
 use Rattle.reservation_tree.specs.declared.errors.PoolErr.{PoolErr}
 use Rattle.reservation_tree.specs.declared.errors.PoolErr.TheVariants.{NoReservation}
 use Rattle.store_api.specs.Refusals.{move_refusal}
-use Rattle.local_pool.proofs.Refusals.{no_error, but_error, with_error}
+use Rattle.session_calls.proofs.Refusals.{no_error, but_error, with_error}
 use Rattle.session_calls.specs.Acting.{held_by}
 use Rattle.session_calls.proofs.Accounts.{read_lives}
 use Rattle.session_calls.proofs.Granted.{no_less, move_free, move_error}

@@ -1,5 +1,5 @@
 use Rattle.std.proofs.Common.{refl}
-use Rattle.local_pool.proofs.Loans.{loan_there}
+use Rattle.session_calls.proofs.Loans.{loan_there}
 use Rattle.session_calls.specs.declared.hand.Hand.{Hand}
 use Rattle.session_calls.proofs.Knowing.{knows}
 use Rattle.session_calls.proofs.Granted.{may_have, changed_hands}

@@ -1,5 +1,5 @@
 use Rattle.std.proofs.Common.{◌∙◌}
-use Rattle.local_pool.proofs.Pages.{is_there, page_client_lives, page_len_here}
+use Rattle.session_calls.proofs.Pages.{is_there, page_client_lives, page_len_here}
 use Rattle.session_calls.proofs.Knowing.{knows}
 use Rattle.session_calls.proofs.hand.Hand.page_len.Goals as goal
 

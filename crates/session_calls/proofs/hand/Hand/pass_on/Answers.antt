@@ -3,7 +3,7 @@ use Rattle.reservation_tree.specs.Change.{move_refusal}
 use Rattle.pin_core.specs.StateOf.{state_of}
 use Rattle.pin_core.specs.Standing.{Enters}
 use Rattle.pin_core.specs.Entering.{move_entry}
-use Rattle.local_pool.proofs.Refusals.{of_ok, unrefused_ok}
+use Rattle.session_calls.proofs.Refusals.{of_ok, unrefused_ok}
 use Rattle.session_calls.specs.declared.hand.Hand.{Hand}
 use Rattle.session_calls.proofs.Accounts.{token_client}
 use Rattle.session_calls.proofs.Granted.{token_unused, other_client, unrefused_here, passed_on}

@@ -1,4 +1,4 @@
-use Rattle.local_pool.proofs.Pages.{last_pin, is_there}
+use Rattle.session_calls.proofs.Pages.{last_pin, is_there}
 use Rattle.session_calls.proofs.Knowing.{knows}
 use Rattle.session_calls.proofs.Left.{left_ready, left_refused, left_full}
 use Rattle.session_calls.proofs.hand.Hand.unpin.Goals as goal

@@ -1,5 +1,5 @@
 use Rattle.std.proofs.Common.{refl}
-use Rattle.local_pool.proofs.Pages.{spare_here}
+use Rattle.session_calls.proofs.Pages.{spare_here}
 use Rattle.session_calls.specs.declared.hand.Hand.{Hand}
 use Rattle.session_calls.proofs.Knowing.{knows}
 use Rattle.session_calls.proofs.Left.{once_ready}

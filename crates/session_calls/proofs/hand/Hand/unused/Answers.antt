@@ -1,5 +1,5 @@
 use Rattle.std.proofs.Common.{◌∙◌}
-use Rattle.local_pool.proofs.Clients.{client_lives}
+use Rattle.session_calls.proofs.Clients.{client_lives}
 use Rattle.session_calls.proofs.Knowing.{knows}
 use Rattle.session_calls.proofs.hand.Hand.unused.Goals as goal
 

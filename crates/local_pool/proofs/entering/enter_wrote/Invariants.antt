@@ -1,7 +1,0 @@
-use Rattle.std.specs.Prelude.{◌∷◌, []}
-use Rattle.scratch_dev.specs.Rows.{faults_of}
-use Rattle.pin_core.specs.Returning.{write_entry}
-use Rattle.local_pool.proofs.entering.enter_wrote.Given as goal
-
-abbrev pub ghosts-enter_write : goal.ghosts-enter_write
-ghosts-enter_write g a = record { entries = write_entry a._job.now g.B.Before.sum (faults_of g.D.Slot a._job.now.row) ∷ [] }

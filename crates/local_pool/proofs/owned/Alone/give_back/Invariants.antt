@@ -1,0 +1,5 @@
+use Rattle.local_pool.specs.Told.{opening_of, outset_of}
+use Rattle.local_pool.proofs.owned.Alone.give_back.Given as goal
+
+abbrev pub ghosts-give_back : goal.ghosts-give_back
+ghosts-give_back g a = record { opening = opening_of g.D.Slot a.hand; outset = outset_of g.D.Slot a.hand.state }

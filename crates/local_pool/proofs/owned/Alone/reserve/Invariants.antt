@@ -1,0 +1,5 @@
+use Rattle.local_pool.specs.Told.{opening_of, outset_of}
+use Rattle.local_pool.proofs.owned.Alone.reserve.Given as goal
+
+abbrev pub ghosts-reserve : goal.ghosts-reserve
+ghosts-reserve g a = record { opening = opening_of g.D.Slot a.self.now; outset = outset_of g.D.Slot a.self.now.state }
