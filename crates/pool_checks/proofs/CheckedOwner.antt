@@ -21,7 +21,7 @@ use Rattle.pin_core.specs.StateOf.{state_of}
 use Rattle.pin_core.specs.Lending.{IsLoan as IsLoanOf}
 use Rattle.pin_core.specs.Sessions.{IsIdle as IsIdleIn}
 use Rattle.pin_core.specs.Sessions.{query_of}
-use Rattle.local_pool.specs.declared.owned.Owned.{Owned}
+use Rattle.session_calls.specs.declared.hand.Hand.{Hand}
 use Rattle.local_pool.specs.Told.{held_of}
 use Rattle.local_pool.specs.Agreeing.{AgreesWith}
 
@@ -45,9 +45,9 @@ none_counted query ts none = total-none (λ _ y. only_if (is_parent query y.pare
 abbrev pub reading : Page → List ℕ → LivePage
 reading x left = record { key = x.key; client = x.client; blocks = x.blocks; pins = pins_of x.place; left = left_at x.place left; has_slots = x.has_slots }
 
-module _ {D : Type 0} (slot : Ghosts D) (own : Owned D) (agrees : AgreesWith slot own) where
+module _ {D : Type 0} (slot : Ghosts D) (own : Hand D) (agrees : AgreesWith slot own) where
   abbrev s : State
-  s = state_of own.pool
+  s = state_of own.state
 
   abbrev h : Holdings
   h = held_of slot own

@@ -1,14 +1,11 @@
-//! A pool over slots in memory: worked rows, and mixed calls beside a plain pool.
+//! A pool over slots in memory: worked rows, and each call of it once.
 
-mod flights;
+mod calls;
 mod limits;
-mod loans;
 mod mixed;
-mod moves;
 mod owner;
 mod owner_rows;
 mod scripts;
 mod steps;
 mod stores;
-mod world;
 mod writes;

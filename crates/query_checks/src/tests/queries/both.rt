@@ -1,17 +1,66 @@
 //! Queries that join and group, over a store in memory with pages of 128 bytes, of which a query reserves forty.
 
-ghost use Rattle.std.specs.Prelude.{◌≡◌, IfOk, true};
+ghost use Rattle.std.specs.Prelude.{◌≡◌, ◌⊎◌, [], ◌∷◌, codes, IfOk, true};
+ghost use Rattle.row_codec.specs.declared.values.Kind.TheVariants.{Int, Text};
+ghost use Rattle.row_codec.specs.declared.values.Value.TheVariants as value;
+ghost use Rattle.scan_filter.specs.declared.pred.Cmp.TheVariants.{Ge};
 ghost use Rattle.query_plan.specs.Sizes.{groups, joins};
-ghost use Rattle.query_run.specs.Plans.{IsRunnable};
+ghost use Rattle.query_run.specs.Plans.{IsRunnable, IsSide, kinds_of_columns};
 
-use crate::tests::queries::joined::side;
+use crate::tests::queries::name;
 use outside::{MemSink, MemSource};
-use query_plan::{FileName, Listed, Query, Side};
+use query_plan::{FileName, Listed, Query, Side, SidePlan};
 use query_run::{QueryErr, Ran, run_query};
-use row_codec::Agg;
+use row_codec::{Agg, Column, Kind, Value};
+use scan_filter::{Cmp, Pred};
 use std::alloc::{AllocError, Global};
 use std::test::Fail;
 use store_api::{MemStore, Store};
+
+fn columns(alloc: Global, second: &[u8]) -> Result<Vec<Column>, AllocError>
+    ensures { IfOk result (λ columns. columns.items ≡ record { name = codes "k"; kind = Int } ∷ record { name = second.now; kind = Text } ∷ []) }
+{
+    let first = name(alloc, b"k")?;
+    let second = name(alloc, second)?;
+    Ok(vec![in alloc;
+        Column {
+            name: first,
+            kind: Kind::Int
+        },
+        Column {
+            name: second,
+            kind: Kind::Text
+        },
+    ]?)
+}
+
+// A text from "b" on is asked for, or nothing is.
+fn preds(alloc: Global, filters: bool) -> Result<Vec<Pred>, AllocError>
+    ensures { IfOk result (λ preds. (preds.items ≡ []) ⊎ (preds.items ≡ record { column = 1; op = Ge; value = value.Text (codes "b") } ∷ [])) }
+{
+    if !filters {
+        return Ok(Vec::new(alloc));
+    }
+    let text = name(alloc, b"b")?;
+    Ok(vec![in alloc;
+        Pred {
+            column: 1,
+            op: Cmp::Ge,
+            value: Value::Text(text),
+        },
+    ]?)
+}
+
+fn side(alloc: Global, second: &[u8], filters: bool) -> Result<SidePlan, AllocError>
+    ensures side { IfOk result (λ side. IsSide side) }
+    ensures kinds { IfOk result (λ side. kinds_of_columns side.columns ≡ Int ∷ Text ∷ []) }
+{
+    Ok(SidePlan {
+        file: FileName::from_string(String::new(alloc)),
+        columns: Listed::from_vec(columns(alloc, second)?),
+        preds: Listed::from_vec(preds(alloc, filters)?),
+    })
+}
 
 // The ints `k` of both sides are to be equal. The pairs are grouped by the right text `y`, counted, and the left `k` summed up.
 // Texts of a side are filtered, or none.

@@ -7,7 +7,7 @@ use Rattle.row_codec.specs.declared.values.Value.TheVariants as value
 use Rattle.scan_filter.specs.declared.pred.Cmp.TheVariants.{Ge}
 use Rattle.scan_filter.specs.declared.pred.Pred.{Pred}
 use Rattle.query_run.specs.Plans.{IsAbout, IsSide}
-use Rattle.query_checks.proofs.tests.queries.joined.side.Goals as goal
+use Rattle.query_checks.proofs.tests.queries.both.side.Goals as goal
 
 abbrev key : Column
 key = record { name = codes "k"; kind = Int }
