@@ -23,31 +23,20 @@ fn place(rt: &HostRuntime, name: &str) -> Result<String, Fail> {
     Ok(format!(in rt.alloc(); "{folder}/spill-test-{id}-{name}")?)
 }
 
-// A file of this process alone, with this text.
-fn file_of(rt: &HostRuntime, name: &str, text: &str) -> Result<String, Fail> {
-    let name = place(rt, name)?;
-    fs::write(rt, name.as_str(), text)?;
-    Ok(name)
-}
-
-// The bytes that a source gives in a call, as far as there is room for them.
-fn read<S: Source>(source: &mut S) -> Result<([u8; 4], usize), Fail> {
-    let mut buf = [0u8; 4];
-    let count = source.read(&mut buf)?;
-    Ok((buf, count))
-}
-
 #[test]
 fn a_file_is_read_to_its_end_and_a_missing_one_is_a_fault(rt: HostRuntime) -> Result<(), Fail> {
-    let name = file_of(&rt, "in.csv", "k\na\n")?;
+    let name = place(&rt, "in.csv")?;
     let in_use = InUse::new(rt.alloc());
     let mut inputs = FileInputs::new(&rt, &in_use, false, None);
+    assert!(rt; inputs.open(name.as_str()).is_err());
+    fs::write(&rt, name.as_str(), "k\na\n")?;
     let mut source = inputs.open(name.as_str())?;
-    assert_eq!(rt; read(&mut source)?, (*b"k\na\n", 4));
-    assert_eq!(rt; read(&mut source)?, ([0; 4], 0));
+    let mut buf = [0u8; 16];
+    assert_eq!(rt; source.read(&mut buf).ok(), Some(4));
+    assert_eq!(rt; buf.get(..4), Some(b"k\na\n".as_slice()));
+    assert_eq!(rt; source.read(&mut buf).ok(), Some(0));
     inputs.close(name.as_str(), source);
     fs::remove_file(&rt, name.as_str())?;
-    assert!(rt; inputs.open(name.as_str()).is_err());
     Ok(())
 }
 
@@ -78,36 +67,28 @@ fn an_output_takes_its_place_only_where_it_is_whole(rt: HostRuntime) -> Result<(
     Ok(())
 }
 
-// Whether an output under this name is refused while an input of the other name is read, and behind that.
-fn refuses_output(rt: &HostRuntime, input: &str, output: &str) -> Result<[bool; 2], Fail> {
-    let in_use = InUse::new(rt.alloc());
-    let mut inputs = FileInputs::new(rt, &in_use, false, None);
-    let mut outputs = FileOutputs::new(rt, &in_use, false);
-    let source = inputs.open(input)?;
-    let meanwhile = outputs.create(output).is_err();
-    inputs.close(input, source);
-    Ok([meanwhile, outputs.create(output).is_err()])
-}
-
-// Whether an input of this name is refused while an output of the other name is written.
-fn refuses_input(rt: &HostRuntime, output: &str, input: &str) -> Result<bool, Fail> {
-    let in_use = InUse::new(rt.alloc());
-    let mut outputs = FileOutputs::new(rt, &in_use, false);
-    let sink = outputs.create(output)?;
-    let refuses = FileInputs::new(rt, &in_use, false, None)
-        .open(input)
-        .is_err();
-    outputs.done(output, sink, false)?;
-    Ok(refuses)
-}
-
 #[test]
 fn no_output_replaces_an_input(rt: HostRuntime) -> Result<(), Fail> {
-    let name = file_of(&rt, "both.csv", "k\na\n")?;
+    let name = place(&rt, "both.csv")?;
     let link = place(&rt, "link.csv")?;
+    fs::write(&rt, name.as_str(), "k\na\n")?;
     fs::hard_link(&rt, name.as_str(), link.as_str())?;
-    assert_eq!(rt; refuses_output(&rt, &name, &link)?, [true, true]);
-    assert!(rt; refuses_input(&rt, &link, &name)?);
+    let in_use = InUse::new(rt.alloc());
+    let mut inputs = FileInputs::new(&rt, &in_use, false, None);
+    let mut outputs = FileOutputs::new(&rt, &in_use, false);
+    let source = inputs.open(name.as_str())?;
+    assert!(rt; outputs.create(link.as_str()).is_err());
+    inputs.close(name.as_str(), source);
+    assert!(rt; outputs.create(link.as_str()).is_err());
+
+    let in_use = InUse::new(rt.alloc());
+    let mut inputs = FileInputs::new(&rt, &in_use, false, None);
+    let mut outputs = FileOutputs::new(&rt, &in_use, false);
+    let sink = outputs.create(link.as_str())?;
+    assert!(rt; inputs.open(name.as_str()).is_err());
+    outputs.done(link.as_str(), sink, false)?;
+    let held = fs::read_to_string(&rt, link.as_str())?;
+    assert_eq!(rt; held.as_str(), "k\na\n");
     fs::remove_file(&rt, name.as_str())?;
     fs::remove_file(&rt, link.as_str())?;
     Ok(())
@@ -115,11 +96,16 @@ fn no_output_replaces_an_input(rt: HostRuntime) -> Result<(), Fail> {
 
 #[test]
 fn a_file_that_a_killed_run_left_is_kept(rt: HostRuntime) -> Result<(), Fail> {
-    let left = file_of(&rt, "again.csv.spill-part-0", "a part")?;
     let name = place(&rt, "again.csv")?;
-    let (_, after) = written_over(&rt, name.as_str(), true)?;
-    assert_eq!(rt; after.as_str(), "k,count\n");
-    assert_eq!(rt; fs::read_to_string(&rt, left.as_str())?.as_str(), "a part");
+    let left = format!(in rt.alloc(); "{name}.spill-part-0")?;
+    fs::write(&rt, left.as_str(), "a part")?;
+    let in_use = InUse::new(rt.alloc());
+    let mut outputs = FileOutputs::new(&rt, &in_use, false);
+    let sink = outputs.create(name.as_str())?;
+    outputs.done(name.as_str(), sink, true)?;
+    let held = fs::read_to_string(&rt, left.as_str())?;
+    assert_eq!(rt; held.as_str(), "a part");
+    fs::remove_file(&rt, name.as_str())?;
     fs::remove_file(&rt, left.as_str())?;
     Ok(())
 }

@@ -52,38 +52,37 @@ impl Eprint for Desk {
     }
 }
 
-// What is drawn while five pieces of 200000 rows pass, and behind that.
-fn drawn(alloc: Global, name: &str, size: Option<u64>) -> Result<String, Fail> {
-    let piece = vec![in alloc; b'\n'; 200_000]?;
-    let desk = (Desk::new(alloc), alloc);
-    let mut progress = Progress::start(&desk, "reading", name, size)?;
-    for _ in 0..5 {
-        progress.pass(piece.as_slice());
-    }
-    progress.clear();
-    let shown = desk.0.shown.try_borrow()?;
-    Ok(String::from_str(alloc, shown.as_str())?)
-}
-
 #[test]
 fn progress_is_drawn_ten_times_a_second_and_cleared(rt: HostRuntime) -> Result<(), Fail> {
     let rows = [
         (
             Some(12_345_678),
             "in.csv",
-            "spill: reading in.csv: 0.6 of 12.3 MB, 6000000 rows a second",
-            "spill: reading in.csv: 1.0 of 12.3 MB, 5000000 rows a second",
+            [
+                "spill: reading in.csv: 0.6 of 12.3 MB, 6000000 rows a second",
+                "spill: reading in.csv: 1.0 of 12.3 MB, 5000000 rows a second",
+            ],
         ),
         (
             None,
             "a-file-with-a-rather-long-name.csv",
-            "spill: reading: 0.6 MB, 6000000 rows a second",
-            "spill: reading: 1.0 MB, 5000000 rows a second",
+            [
+                "spill: reading: 0.6 MB, 6000000 rows a second",
+                "spill: reading: 1.0 MB, 5000000 rows a second",
+            ],
         ),
     ];
-    for (size, name, first, second) in rows {
+    let piece = vec![in rt.alloc(); b'\n'; 200_000]?;
+    for (size, name, [first, second]) in rows {
+        let desk = (Desk::new(rt.alloc()), rt.alloc());
+        let mut progress = Progress::start(&desk, "reading", name, size)?;
+        for _ in 0..5 {
+            progress.pass(piece.as_slice());
+        }
+        progress.clear();
+        progress.clear();
         let want = format!(in rt.alloc(); "\r{first:<78}\r{second:<78}\r{:78}\r", "")?;
-        let shown = drawn(rt.alloc(), name, size)?;
+        let shown = desk.0.shown.try_borrow()?;
         assert_eq!(rt; shown.as_str(), want.as_str());
     }
     Ok(())
@@ -107,7 +106,8 @@ fn no_name_moves_the_cursor(rt: HostRuntime) -> Result<(), Fail> {
 
 #[test]
 fn a_single_quote_shows_at_the_end_of_an_input(rt: HostRuntime) {
-    let rows: [(&[&[u8]], bool); 4] = [
+    let rows: [(&[&[u8]], bool); 5] = [
+        (&[b""], false),
         (&[b"a\"b", b""], true),
         (&[b"a\"b"], false),
         (&[b"\"\"", b"\"", b""], true),
@@ -124,12 +124,15 @@ fn a_single_quote_shows_at_the_end_of_an_input(rt: HostRuntime) {
 
 #[test]
 fn one_word_asks_for_help_or_the_version(rt: HostRuntime) -> Result<(), Fail> {
-    let rows: [(&[&str], Option<&str>); 5] = [
+    let rows: [(&[&str], Option<&str>); 8] = [
         (&["help"], Some("usage: spill count FILE COLUMN\n")),
+        (&["--help"], Some("usage: spill count FILE COLUMN\n")),
         (&["-h"], Some("usage: spill count FILE COLUMN\n")),
         (&["--version"], Some("spill 0.1.0\n")),
         (&[], None),
+        (&["count"], None),
         (&["help", "count"], None),
+        (&["count", "--version", "k"], None),
     ];
     for (words, begins) in rows {
         let words = owned(rt.alloc(), words)?;
