@@ -1,11 +1,14 @@
-//! A pool over slots in memory: worked rows, and each call of it once.
+//! A pool over slots in memory: worked rows, and mixed calls beside a plain pool.
 
-mod calls;
+mod flights;
 mod limits;
+mod loans;
 mod mixed;
+mod moves;
 mod owner;
 mod owner_rows;
 mod scripts;
 mod steps;
 mod stores;
+mod world;
 mod writes;

@@ -1,138 +1,167 @@
-//! Mixed calls of one owner over slots that fail now and then.
+//! Mixed calls of three sessions over slots that fail now and then.
 
-use super::owner::{self, Own};
-use super::steps;
-use block_arena::Buf;
-use reservation_tree::PoolErr;
+use super::flights::{self, Started};
+use super::moves;
+use super::steps::{self, Pool};
+use super::world::{Leaf, World, bytes_of};
+use outside::MemSlot;
+use page_table::{PageId, PageTable};
+use pin_core::Kept;
+use reservation_tree::{TrackerId, Tree};
 use std::alloc::Global;
 use std::process::Abort;
-use store_api::{Client, Page};
 
 // The store or the load of a slot that fails, counted from 0.
-const FAILS: [u64; 8] = [3, 9, 14, 25, 31, 44, 58, 71];
+const FAILS: [u64; 12] = [3, 4, 9, 14, 15, 16, 25, 31, 32, 44, 58, 71];
 
-// A page, the byte that all of it has, and its buffer where it is pinned.
-#[derive(Drop)]
-struct Leaf {
-    name: u64,
-    key: u32,
-    byte: u8,
-    buf: Option<Buf>,
-}
-
-fn page(c: &Client, leaf: &Leaf) -> Page {
-    Page::of(leaf.name, leaf.key, c.tracker())
-}
-
-// A new page is pinned, and has zeros.
-fn create(rt: &impl Abort, alloc: Global, pool: &mut Own, c: &Client) -> Result<Leaf, PoolErr> {
-    let (page, buf) = owner::create(rt, alloc, pool, c)?;
-    let key = page.key();
-    Ok(Leaf {
-        name: page.into_name(),
-        key,
-        byte: 0,
-        buf: Some(buf),
-    })
-}
-
-// The page is pinned, and shows its bytes.
-fn pin(rt: &impl Abort, pool: &mut Own, c: &Client, leaf: &mut Leaf) -> Result<(), PoolErr> {
-    let p = page(c, leaf);
-    let pinned = owner::pin(rt, pool, c, &p);
-    p.into_name();
-    let buf = pinned?;
-    assert_eq!(rt; owner::shown(rt, &buf), leaf.byte);
-    leaf.buf = Some(buf);
-    Ok(())
-}
-
-fn leave(rt: &impl Abort, pool: &mut Own, c: &Client, leaf: &mut Leaf, buf: Buf, byte: u8) {
-    let p = page(c, leaf);
-    owner::leave(rt, pool, &p, buf, byte);
-    p.into_name();
-    leaf.byte = byte;
-}
-
-// A pinned page is left with another byte, and one that rests is pinned where its client may, or else ends.
-fn turn(
-    rt: &impl Abort,
-    pool: &mut Own,
-    c: &Client,
-    mut leaf: Leaf,
-    byte: u8,
-) -> (Option<Leaf>, Result<(), PoolErr>) {
-    if let Some(buf) = leaf.buf.take() {
-        leave(rt, pool, c, &mut leaf, buf, byte);
-        return (Some(leaf), Ok(()));
+// The pool has what the plain pool has.
+fn compare(rt: &impl Abort, pool: &Pool, world: &World) {
+    let parts = pool.parts();
+    assert_eq!(rt;
+        (parts.entries, bytes_of(parts.arena.free())),
+        (world.entries, world.free())
+    );
+    for (t, member) in world.clients.iter() {
+        let charge = world.charge(*t);
+        compare_client(rt, &parts.tree, *t, (member.reservation, charge));
     }
-    if owner::unused(rt, pool, c) >= 64 {
-        let pinned = pin(rt, pool, c, &mut leaf);
-        return (Some(leaf), pinned);
+    for (name, leaf) in world.pages.iter() {
+        compare_page(rt, &parts.pages, *name, leaf);
     }
-    owner::destroy(rt, pool, page(c, &leaf));
-    (None, Ok(()))
 }
 
-// One call at random. The page that was last touched is the last one.
-fn step(
+// The client has reserved so much, and is charged so much.
+fn compare_client(rt: &impl Abort, tree: &Tree, t: u32, bytes: (u64, u64)) {
+    let client = TrackerId::of(t);
+    assert!(rt; tree.is_live(client));
+    assert_eq!(rt; (tree.reservation(client), tree.used(client)), bytes);
+}
+
+// The page is where the plain pool's page is.
+fn compare_page(rt: &impl Abort, pages: &PageTable<Kept<MemSlot>>, name: u64, leaf: &Leaf) {
+    let id = PageId {
+        name,
+        key: leaf.key,
+    };
+    match pages.get(id) {
+        Some(entry) => assert_eq!(rt; entry.place, leaf.place, "page {name}"),
+        None => panic!(rt; "page {name} is live"),
+    }
+}
+
+// A call on sessions, clients and their reservations.
+fn call_of_client(rt: &impl Abort, pool: &mut Pool, world: &mut World, kind: usize) -> bool {
+    let s = world.below(3);
+    let Some(t) = world.some_client() else {
+        return moves::add_client(rt, pool, world, s);
+    };
+    match kind {
+        0 => moves::ask(rt, pool, world, s),
+        1 => moves::grow(rt, pool, world, t, false),
+        2 => moves::grow(rt, pool, world, t, true),
+        3 => moves::shrink(rt, pool, world, t),
+        4 => moves::add_client(rt, pool, world, s),
+        5 => moves::end_client(rt, pool, world, t),
+        6 => moves::begin_anew(rt, pool, world, s),
+        _ => match world.some_client() {
+            Some(to) => moves::hand(rt, pool, world, t, to),
+            None => false,
+        },
+    }
+}
+
+// A call on a client's new pages and loans.
+fn call_of_loan(
     rt: &impl Abort,
     alloc: Global,
-    pool: &mut Own,
-    c: &Client,
-    leaves: &mut Vec<Leaf>,
-    seed: u64,
-) -> Result<(), PoolErr> {
-    if leaves.len() < 10 && owner::unused(rt, pool, c) >= 64 {
-        leaves
-            .push(create(rt, alloc, pool, c)?)
-            .expect(rt, "memory");
-        return Ok(());
+    pool: &mut Pool,
+    world: &mut World,
+    kind: usize,
+) -> bool {
+    let Some(t) = world.some_client() else {
+        return false;
+    };
+    match (kind, world.some_loan()) {
+        (8, _) => moves::create(rt, alloc, pool, world, t),
+        (9, _) => moves::alloc_loan(rt, alloc, pool, world, t),
+        (10, Some(number)) => moves::free(rt, pool, world, number),
+        (_, Some(number)) => moves::move_loan(rt, pool, world, number, t),
+        _ => false,
     }
-    let at = usize::try_from(seed >> 33)
-        .unwrap_or(0)
-        .checked_rem(leaves.len())
-        .unwrap_or(0);
-    if at >= leaves.len() {
-        return Ok(());
-    }
-    let leaf = leaves.remove(at);
-    let (leaf, answer) = turn(rt, pool, c, leaf, seed.to_le_bytes()[7]);
-    if let Some(leaf) = leaf {
-        leaves.push(leaf).expect(rt, "memory");
-    }
-    answer
 }
 
-// What the pinned ones of these pages are charged with.
-fn charged(leaves: &[Leaf]) -> u64 {
-    leaves.iter().fold(0, |sum, leaf| match leaf.buf {
-        Some(_) => u64::saturating_add(sum, 64),
-        None => sum,
-    })
+fn call_of_page(rt: &impl Abort, pool: &mut Pool, world: &mut World, kind: usize) -> bool {
+    let Some((name, leaf)) = world.some_page() else {
+        return false;
+    };
+    match kind {
+        12 => moves::unpin(rt, pool, world, name, leaf),
+        13 => moves::pin_again(rt, pool, world, name, leaf),
+        14 => moves::unpin_once(rt, pool, world, name, leaf),
+        15 => moves::extract(rt, pool, world, name, leaf),
+        _ => moves::destroy(rt, pool, world, name, leaf),
+    }
+}
+
+// Pages come and are unpinned more often than they are pinned again, extracted or destroyed.
+fn some_kind(world: &mut World) -> usize {
+    let kinds = [
+        0, 1, 1, 2, 3, 4, 5, 6, 7, 7, 8, 8, 8, 8, 8, 8, 9, 10, 11, 11, 11, 12, 12, 12, 12, 12, 12,
+        12, 12, 12, 12, 13, 13, 14, 15, 16,
+    ];
+    let at = world.place_in(kinds.len());
+    kinds.get(at).copied().unwrap_or(0)
+}
+
+// So many calls that are done at once.
+fn calls(rt: &impl Abort, alloc: Global, pool: &mut Pool, world: &mut World, count: u32) {
+    for _ in 0..count {
+        let kind = some_kind(world);
+        let was_made = match kind {
+            0..=7 => call_of_client(rt, pool, world, kind),
+            8..=11 => call_of_loan(rt, alloc, pool, world, kind),
+            _ => call_of_page(rt, pool, world, kind),
+        };
+        if was_made {
+            world.tally(kind);
+        }
+        compare(rt, pool, world);
+    }
+}
+
+fn start(rt: &impl Abort, pool: &mut Pool, world: &mut World) -> Started {
+    match (world.below(6), world.some_client(), world.some_page()) {
+        (0 | 1, _, _) => flights::start_write(rt, pool, world),
+        (2, Some(t), _) => flights::make_room(rt, pool, world, t),
+        (_, _, Some((name, leaf))) => flights::pin(rt, pool, world, name, leaf),
+        _ => Started::Nothing,
+    }
+}
+
+fn end(rt: &impl Abort, pool: &mut Pool, world: &mut World, started: Started) {
+    flights::finish(rt, pool, world, started);
+    compare(rt, pool, world);
 }
 
 #[test]
-fn mixed_calls_keep_each_page_with_its_bytes(rt: HostRuntime) {
-    let slots = steps::slots(&rt, rt.alloc(), 16, &FAILS);
-    let mut pool = owner::open(&rt, rt.alloc(), 4, 0, slots, 256);
-    let c = owner::client(&rt, &mut pool, 256);
-    let mut leaves = Vec::new(rt.alloc());
-    let mut seed = 24u64;
-    let mut told = [0u32; 2];
-    for _ in 0..2000 {
-        seed = seed
-            .wrapping_mul(6364136223846793005)
-            .wrapping_add(1442695040888963407);
-        match step(&rt, rt.alloc(), &mut pool, &c, &mut leaves, seed) {
-            Ok(()) => {}
-            Err(PoolErr::WriteFault { .. }) => told[0] = told[0].saturating_add(1),
-            Err(PoolErr::ReadFault { .. }) => told[1] = told[1].saturating_add(1),
-            Err(other) => assert_eq!(rt; Some(other), None),
-        }
-        assert_eq!(rt; owner::charge(&rt, &pool, &c), charged(&leaves));
+fn mixed_calls_do_what_a_plain_pool_does(rt: HostRuntime) {
+    let slots = steps::slots(&rt, rt.alloc(), 48, &FAILS);
+    let mut pool = steps::open(&rt, rt.alloc(), 12, 0, slots);
+    let mut world = World::open(rt.alloc(), 24, 12, 16);
+    for s in 0..3u32 {
+        assert_eq!(rt; steps::session(&rt, &mut pool, 16), s);
     }
-    assert!(rt; told[0] >= 3);
-    assert!(rt; told[1] >= 3);
-    c.into_tracker();
+    for _ in 0..1700u32 {
+        let first = start(&rt, &mut pool, &mut world);
+        let more = world.below(4);
+        calls(&rt, rt.alloc(), &mut pool, &mut world, more);
+        let second = start(&rt, &mut pool, &mut world);
+        calls(&rt, rt.alloc(), &mut pool, &mut world, 2);
+        end(&rt, &mut pool, &mut world, first);
+        end(&rt, &mut pool, &mut world, second);
+    }
+    // No kind of call and no answer is left out.
+    for (kind, times) in world.tallies.into_iter().enumerate() {
+        assert!(rt; times >= 3, "{kind} {times}");
+    }
 }

@@ -157,6 +157,10 @@ pub fn charge(rt: &impl Abort, pool: &Pool, c: &Client) -> u64 {
         .saturating_sub(pool.unused(c.tracker()))
 }
 
+pub fn assert_charge(rt: &impl Abort, pool: &Pool, c: &Client, bytes: u64) {
+    assert_eq!(rt; charge(rt, pool, c), bytes);
+}
+
 pub fn ask(rt: &impl Abort, pool: &mut Pool, s: u32) -> u64 {
     assert!(rt; is_seat(pool, s));
     pool.ask(s)
