@@ -1,5 +1,9 @@
 // Points that an actor passes, so that a test can hold it there.
 
+mod meet;
+
+pub use meet::MeetGate;
+
 /// Where an actor stands in its work.
 #[derive(Clone, Copy, Debug, PartialEq, Eq)]
 pub enum Point {

@@ -15,7 +15,7 @@ mod schedule;
 mod slot;
 mod stream;
 
-pub use gate::{Gate, OpenGate, Point};
+pub use gate::{Gate, MeetGate, OpenGate, Point};
 pub use memory::{MemInputs, MemOutputs, MemSink, MemSlot, MemSource, Memory};
 pub use names::{Inputs, Outputs};
 pub use slot::Slot;

@@ -1,10 +1,11 @@
 ghost use Rattle.std.specs.Prelude.{◌<◌, length};
 
 use crate::{
-    Failed, Gate, Inputs, MemInputs, MemOutputs, MemSink, MemSlot, MemSource, OpenGate, Outputs,
-    Point, Sink, Slot, Source,
+    Failed, Gate, Inputs, MeetGate, MemInputs, MemOutputs, MemSink, MemSlot, MemSource, OpenGate,
+    Outputs, Point, Sink, Slot, Source,
 };
 use std::test::Fail;
+use std::thread::join;
 
 #[test]
 fn a_source_gives_its_chunks_and_fails_where_it_is_listed(rt: HostRuntime) -> Result<(), Fail> {
@@ -197,4 +198,35 @@ fn the_open_gate_lets_all_pass() {
     ] {
         OpenGate.pass(1000, point);
     }
+}
+
+#[test]
+fn two_actors_meet_at_their_points(rt: HostRuntime) -> Result<(), Fail> {
+    let gate = MeetGate::new((0, Point::QueryRead), (1, Point::QueryWrote), 10_000_000)?;
+    gate.pass(0, Point::BeforeLoad);
+    gate.pass(1, Point::QueryRead);
+    assert!(rt; !gate.came());
+    join(
+        &rt,
+        || gate.pass(0, Point::QueryRead),
+        || gate.pass(1, Point::QueryWrote),
+    );
+    assert_eq!(rt; (gate.came(), gate.missed()), (true, false));
+    // Both have passed once, and wait no more.
+    gate.pass(1, Point::QueryWrote);
+    gate.pass(0, Point::QueryRead);
+    assert!(rt; !gate.missed());
+    Ok(())
+}
+
+#[test]
+fn an_actor_goes_on_where_the_other_does_not_come(rt: HostRuntime) -> Result<(), Fail> {
+    let held = (1000, Point::BeforeStore);
+    let until = (0, Point::QueryRead);
+    for (who, point) in [held, until] {
+        let gate = MeetGate::new(held, until, 3)?;
+        gate.pass(who, point);
+        assert_eq!(rt; (gate.came(), gate.missed()), (who == 1000, true), "{who}");
+    }
+    Ok(())
 }
