@@ -1,5 +1,5 @@
 -- One owner's pool begins.
-use Rattle.std.proofs.Common.{◌≡◌, ℕ, ◌+◌, ◌-◌, ◌<◌, ◌≤◌, leb, true, false, if◌then◌else◌, List, [], ◌∷◌, ◌++◌, Option, Some, None, is_some, Result, Ok, Err, IfOk, IfSome, inl, inr, refl, sym, ap, ◌∙◌, subst, arith}
+use Rattle.std.proofs.Common.{◌≡◌, ℕ, ◌+◌, ◌-◌, ◌<◌, ◌≤◌, leb, true, false, if◌then◌else◌, List, [], ◌∷◌, ◌++◌, length, Option, Some, None, is_some, Result, Ok, Err, IfOk, IfSome, inl, inr, refl, sym, ap, ◌∙◌, subst, arith}
 use Rattle.std.proofs.lemmas.Bool.{false≢true, leb-true, leb-false, eqb-true}
 use Rattle.std.proofs.lemmas.List.{append-nil}
 use Rattle.std.specs.FinMap.{get, empty, get-empty}
@@ -38,16 +38,20 @@ use Rattle.session_calls.specs.declared.hand.Hand.{Hand}
 use Rattle.pin_core.specs.declared.tally.Tally.{Tally}
 use Rattle.local_pool.specs.Told.{opening_of, outset_of, held_of}
 use Rattle.local_pool.specs.declared.sole.Shelf.{Shelf}
-use Rattle.local_pool.specs.Counting.{AtOpening, BeginsNames, HasBlocks, SumsHold, at_opening}
+use Rattle.local_pool.specs.Counting.{AtOpening, BeginsNames, CountsFrom, HasBlocks, at_opening}
 use Rattle.pin_core.specs.Tallies.{Counted, all_failures, silence, tally_in, written_blocks}
+use Rattle.session_calls.specs.declared.count.Count.TheVariants as count
+use Rattle.session_calls.specs.Outgoing.{CountsWhole, opening_tally, pages_counted, pages_out, tally_whole}
+use Rattle.session_calls.proofs.Alone.{none_moves}
 use Rattle.local_pool.specs.Standing.{Stands}
-use Rattle.local_pool.specs.Shelving.{FitsShelf}
+use Rattle.local_pool.specs.Shelving.{FitsShelf, sees}
 use Rattle.session_calls.specs.Told.{held_in}
 use Rattle.session_calls.specs.Moving.{quota_at, slots_out}
 use Rattle.session_calls.specs.Ready.{IsReady}
 use Rattle.session_calls.specs.Having.{Worked}
 use Rattle.local_pool.specs.Beginning.{memory_of, first_events, IsBegun, Begins, LacksLeast, IsLeastRefusal}
 use Rattle.session_calls.proofs.Sized.{run_len, run_memory}
+use Rattle.local_pool.proofs.Summing.{all_home}
 use Rattle.local_pool.proofs.Keeping.{named}
 use Rattle.pin_core.proofs.Tallied.{uncounted_yet, counted_as}
 
@@ -102,13 +106,6 @@ module _ {D : Type 0} (slot : Ghosts D) (own : Hand D) (q limit quota least : �
       free_slots = ap (λ (h : Holdings). h.free_slots) held_first;
     }
 
-    -- the slots count as they did when they were counted
-    sums_first : (first : Option AtOpening) → IfSome first (λ f. f ≡ at_opening (tally_in slot own.state) conf.first_name conf.blocks) → SumsHold first own.trail (tally_in slot own.state)
-    sums_first None same = tt
-    sums_first (Some f) same =
-        counted_as 0 (all_failures own.trail) 0 (written_blocks own.trail) f.tally (tally_in slot own.state) (sym (ap all_failures trail)) (sym (ap written_blocks trail))
-        (subst (Counted 0 0 f.tally) (ap (λ (x : AtOpening). x.tally) same) (uncounted_yet f.tally))
-
     -- and the first page is named as the pool was asked to
     names_first : (first : Option AtOpening) → IfSome first (λ f. f ≡ at_opening (tally_in slot own.state) conf.first_name conf.blocks) → BeginsNames first o.first_name
     names_first None same = tt
@@ -130,43 +127,70 @@ module _ {D : Type 0} (slot : Ghosts D) (own : Hand D) (q limit quota least : �
     unfolding held_in
     told_so = ap (holdings_of o.block_len own.session (outset_of slot own.state)) made_so
 
-    -- the owner's session is between two calls
-    ready_first : own.session < 240 → IsReady slot first_opening (outset_of slot own.state) own
-    ready_first number = record {
-      whole = record {
-        stands = record { legal = stood.legal; state = stood.state; holds = stood.holds };
-        home = refl;
-        tell = eqb-true (slots_home (silence slot) own.state) 0;
-      };
-      rests = record {
-        number = number;
-        live = ap (λ (h : Holdings). is_some h.free_slots) told_so;
-        few = let none : (held_in first_opening (outset_of slot own.state) own.session own.trail).live_clients ≡ 0 = ap (λ (h : Holdings). h.live_clients) told_so in omega (arith, none);
-        still = λ p. ap (busy_from p false) made_so;
-      };
-    }
+    module _ (number : own.session < 240) (counts : own.counts ≡ count.Opening (tally_in slot own.state) ∷ []) where
+      -- the slots were counted first
+      opening_first : opening_tally own.counts ≡ tally_in slot own.state
+      opening_first = ap opening_tally counts
 
-    module _ (number : own.session < 240) where
+      sums_first : (first : Option AtOpening) → IfSome first (λ f. f ≡ at_opening (tally_in slot own.state) conf.first_name conf.blocks) → CountsFrom first own.counts
+      sums_first None same = tt
+      sums_first (Some f) same = opening_first ∙ sym (ap (λ (x : AtOpening). x.tally) same)
+
+      -- no page is there yet, so the slots are home, and count as they did
+      whole_first : tally_whole slot own.counts own.state ≡ tally_in slot own.state
+      whole_first =
+          all_home slot own.counts own.state (λ p x is_there.
+          none_moves own.session o own.trail stood.legal (subst (AllBy own.session) (sym trail) (refl, (refl, tt))) number (λ q. ap (busy_from q false) made_so) p x (ap (λ (s : State). get s.pages p) (sym stood.state) ∙ is_there))
+
+      counts_first : CountsWhole slot own.trail own.counts own.state
+      counts_first = record {
+        pages = ap pages_counted counts ∙ sym (ap pages_out trail);
+        counted =
+            counted_as 0 (all_failures own.trail) 0 (written_blocks own.trail) (opening_tally own.counts) (tally_whole slot own.counts own.state) (sym (ap all_failures trail)) (sym (ap written_blocks trail))
+            (subst (Counted 0 0 (opening_tally own.counts)) (opening_first ∙ sym whole_first) (uncounted_yet (opening_tally own.counts)));
+      }
+
+      -- the owner's session is between two calls
+      ready_first : IsReady slot first_opening (outset_of slot own.state) own
+      ready_first = record {
+        whole = record {
+          stands = record { legal = stood.legal; state = stood.state; holds = stood.holds };
+          home = refl;
+          tell = eqb-true (slots_home (silence slot) own.state) 0;
+          sums = counts_first;
+        };
+        rests = record {
+          number = number;
+          live = ap (λ (h : Holdings). is_some h.free_slots) told_so;
+          few = let none : (held_in first_opening (outset_of slot own.state) own.session own.trail).live_clients ≡ 0 = ap (λ (h : Holdings). h.live_clients) told_so in omega (arith, none);
+          still = λ p. ap (busy_from p false) made_so;
+        };
+      }
+
       named_first : first_opening ≡ opening_of slot own
-      named_first = named slot first_opening (outset_of slot own.state) own (ready_first number) refl refl
+      named_first = named slot first_opening (outset_of slot own.state) own ready_first refl refl
 
       pub stands_first : (first : Option AtOpening) → IfSome first (λ f. f ≡ at_opening (tally_in slot own.state) conf.first_name conf.blocks) → Stands slot first own
       stands_first first same = record {
-        ready = subst (λ (k : Opening). IsReady slot k (outset_of slot own.state) own) named_first (ready_first number);
+        ready = subst (λ (k : Opening). IsReady slot k (outset_of slot own.state) own) named_first ready_first;
         alone = subst (AllBy own.session) (sym trail) (refl, (refl, tt));
         whole = made_so ∙ sym trail;
+        counted = let one : length own.counts ≡ 1 = ap length counts in omega (arith, one);
         sums = sums_first first same;
         names = subst (λ (k : Opening). BeginsNames first k.first_name) named_first (names_first first same);
         blocks = subst (λ (k : Opening). HasBlocks first k.blocks) named_first (blocks_first first same);
       }
 
       -- and it has seen all of its history
-      pub fits_first : (shelf : Shelf D) → shelf.seen ≡ own.trail → FitsShelf slot shelf own
-      fits_first shelf seen = record {
+      pub fits_first : (shelf : Shelf D) → shelf.seen ≡ own.trail → shelf.counted ≡ own.counts → FitsShelf slot shelf own
+      fits_first shelf seen counted = record {
         alone = subst (AllBy own.session) (sym (seen ∙ trail)) (refl, (refl, tt));
-        worked = subst (λ (k : Opening). Worked k shelf.seen own) named_first (record {
+        worked = subst (λ (k : Opening). Worked k (sees shelf) own) named_first (record {
           events = [];
           trail = sym (append-nil shelf.seen ∙ seen);
+          went = [];
+          counts = sym (append-nil shelf.counted ∙ counted);
+          opens = tt;
           quotas = λ k. ap (λ (s : State). quota_at s k) stood.state ∙ ap (λ (h : List Entry). quota_at (state_after o h) k) (sym seen);
         });
       }

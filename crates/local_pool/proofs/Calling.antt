@@ -10,7 +10,6 @@ use Rattle.own_entries.specs.OwnHoldings.{Outset}
 use Rattle.own_entries.specs.AboveLaws.{AllBy}
 use Rattle.session_calls.specs.declared.hand.Hand.{Hand}
 use Rattle.session_calls.specs.Having.{IsAtWork}
-use Rattle.session_calls.specs.Counting.{CountsOn}
 use Rattle.session_calls.specs.Jobs.{DoesIn}
 use Rattle.session_calls.specs.Turning.{Refuses as IsRefused}
 use Rattle.session_calls.proofs.Alone.{all_front, all_worked}
@@ -20,12 +19,12 @@ use Rattle.local_pool.specs.Counting.{AtOpening}
 use Rattle.local_pool.specs.Making.{Makes}
 use Rattle.local_pool.specs.Refusing.{Refuses}
 use Rattle.local_pool.specs.Standing.{Stands}
-use Rattle.local_pool.specs.Shelving.{FitsShelf}
+use Rattle.local_pool.specs.Shelving.{FitsShelf, sees}
 use Rattle.local_pool.proofs.Keeping.{fits_on, stands_on, makes_on, refuses_on}
 use Rattle.local_pool.proofs.Stepping.{Keeps}
 
 module _ {D : Type 0} (slot : Ghosts D) {first : Option AtOpening} (own now : Hand D) (view : own ≡ now) (is : Stands slot first own) (new : Hand D) (shelf : Shelf D)
-    (turns : AllBy new.session shelf.seen) (at_work : IsAtWork slot (opening_of slot own) (outset_of slot own.state) shelf.seen new) (counts : CountsOn slot own new) where
+    (turns : AllBy new.session shelf.seen) (at_work : IsAtWork slot (opening_of slot own) (outset_of slot own.state) (sees shelf) new) where
   abbrev o : Opening
   o = opening_of slot own
 
@@ -33,26 +32,26 @@ module _ {D : Type 0} (slot : Ghosts D) {first : Option AtOpening} (own now : Ha
   u = outset_of slot own.state
 
   fits_now : FitsShelf slot shelf new
-  fits_now = fits_on slot own is new at_work.ready counts shelf turns at_work.worked
+  fits_now = fits_on slot own is new at_work.ready shelf turns at_work.worked
 
   module _ {P : List Event → Type 0} (did : DoesIn P own new) where
     all : AllBy own.session did.does.more
     all =
-        let mine : AllBy new.session new.trail = all_worked o shelf.seen new at_work.worked turns in
+        let mine : AllBy new.session new.trail = all_worked o (sees shelf) new at_work.worked turns in
         (all_front own.session own.trail did.does.more (subst (AllBy own.session) did.does.grew (subst (λ (m : ℕ). AllBy m new.trail) did.session mine))).1
 
     -- a call keeps it
     pub call_keeps : Keeps slot first shelf new
-    call_keeps = (stands_on slot own is new at_work.ready counts did all, fits_now)
+    call_keeps = (stands_on slot own is new at_work.ready did all, fits_now)
 
     -- and made its entries
     pub call_makes : Makes slot P now new
-    call_makes = subst (λ (x : Hand D). Makes slot P x new) view (makes_on slot own is new at_work.ready counts did all)
+    call_makes = subst (λ (x : Hand D). Makes slot P x new) view (makes_on slot own is new at_work.ready did all)
 
   module _ (t : ℕ) (what : Call) where
     -- or was refused
     call_refuses : (e : PoolErr) → IsRefused o u t what own new e → Refuses slot t what now new e
-    call_refuses e refused = subst (λ (x : Hand D). Refuses slot t what x new e) view (refuses_on slot own is new at_work.ready counts refused.did (all refused.did) t what e refused)
+    call_refuses e refused = subst (λ (x : Hand D). Refuses slot t what x new e) view (refuses_on slot own is new at_work.ready refused.did (all refused.did) t what e refused)
 
     pub ends_keeps : {A : Type 0} (P : A → List Event → Type 0) (r : Result A PoolErr) → IfOk r (λ x. DoesIn (P x) own new) → IfErr r (IsRefused o u t what own new) → Keeps slot first shelf new
     ends_keeps P (Ok x) did refused = call_keeps did

@@ -1,5 +1,5 @@
 -- What one owner's pool keeps over what its session does, where nobody else makes entries.
-use Rattle.std.proofs.Common.{◌≡◌, ℕ, ◌+◌, ◌-◌, ◌==◌, List, ◌++◌, length, filter, leb, true, Option, Some, None, refl, sym, ap, ◌∙◌, subst, arith}
+use Rattle.std.proofs.Common.{◌≡◌, ℕ, ◌+◌, ◌-◌, ◌<◌, ◌==◌, List, ◌++◌, length, length-append, filter, leb, true, Option, Some, None, refl, sym, ap, ◌∙◌, subst, arith}
 use Rattle.outside.specs.declared.slot.Slot.{Ghosts}
 use Rattle.reservation_tree.specs.declared.errors.PoolErr.{PoolErr}
 use Rattle.pool_model.specs.declared.call.Call.{Call}
@@ -19,25 +19,28 @@ use Rattle.store_api.specs.Entries.{by}
 use Rattle.own_entries.specs.OwnHoldings.{Outset, holdings_of}
 use Rattle.own_entries.specs.AboveLaws.{AllBy}
 use Rattle.pin_core.specs.StateOf.{state_of}
-use Rattle.pin_core.specs.Tallies.{tally_in}
+use Rattle.pin_core.specs.Standing.{slots_home}
+use Rattle.pin_core.specs.Tallies.{silence}
+use Rattle.pin_core.specs.declared.tally.Tally.{Tally}
+use Rattle.session_calls.specs.Outgoing.{opening_tally}
 use Rattle.session_calls.specs.declared.hand.Hand.{Hand}
 use Rattle.session_calls.specs.Told.{held_in, signs_in}
 use Rattle.session_calls.specs.Ready.{IsReady}
 use Rattle.session_calls.specs.Acting.{held_by, signs_by}
 use Rattle.session_calls.specs.Having.{Worked}
 use Rattle.session_calls.specs.Jobs.{DoesIn}
-use Rattle.session_calls.specs.Counting.{CountsOn}
 use Rattle.session_calls.specs.Turning.{Refuses as IsRefused}
 use Rattle.session_calls.proofs.Sized.{run_blocks, run_len}
 use Rattle.session_calls.proofs.Lists.{alone_more}
 use Rattle.session_calls.proofs.Doing.{does_all, does_grows}
 use Rattle.local_pool.specs.declared.sole.Shelf.{Shelf}
 use Rattle.local_pool.specs.Told.{all_tell, outset_of, opening_of, held_of, is_spent, signs_of}
-use Rattle.local_pool.specs.Counting.{AtOpening, BeginsNames, HasBlocks, SumsHold}
+use Rattle.local_pool.specs.Counting.{AtOpening, BeginsNames, CountsFrom, HasBlocks}
 use Rattle.local_pool.specs.Making.{Makes}
 use Rattle.local_pool.specs.Refusing.{Refuses}
 use Rattle.local_pool.specs.Standing.{Stands}
-use Rattle.local_pool.specs.Shelving.{FitsShelf}
+use Rattle.local_pool.specs.Shelving.{FitsShelf, sees}
+use Rattle.local_pool.proofs.Summing.{counted_home, opening_stays}
 
 -- the next name, by the names that the history gave
 pub next_is : {D : Type 0} (slot : Ghosts D) (o : Opening) (u : Outset) (own : Hand D) → IsReady slot o u own → (state_of own.state).next_name ≡ o.first_name + length (names_in own.trail)
@@ -76,7 +79,7 @@ as_told P h g k l a b c d hk gl ac bd it =
     subst (P k l c) bd (subst (λ (x : Signs). P k l x b) ac (subst (λ (x : Holdings). P k x a b) gl (subst (λ (x : Holdings). P x g a b) hk it)))
 
 -- the session has done something, and is between two calls again
-module _ {D : Type 0} (slot : Ghosts D) {first : Option AtOpening} (own : Hand D) (is : Stands slot first own) (new : Hand D) (ready : IsReady slot (opening_of slot own) (outset_of slot own.state) new) (counts : CountsOn slot own new) where
+module _ {D : Type 0} (slot : Ghosts D) {first : Option AtOpening} (own : Hand D) (is : Stands slot first own) (new : Hand D) (ready : IsReady slot (opening_of slot own) (outset_of slot own.state) new) where
   abbrev o : Opening
   o = opening_of slot own
 
@@ -86,32 +89,49 @@ module _ {D : Type 0} (slot : Ghosts D) {first : Option AtOpening} (own : Hand D
   opening_same : opening_of slot new ≡ o
   opening_same = sym (named slot o u new ready refl refl)
 
-  told_same : all_tell slot new.state ≡ all_tell slot own.state
-  told_same = ap (λ (n : ℕ). n == 0) counts.silent
-
-  outset_same : outset_of slot new.state ≡ u
-  outset_same = λ i. record { above = Room (bytes_of (opening_same i).block_len (opening_same i).blocks); told = told_same i }
-
-  ready_now : IsReady slot (opening_of slot new) (outset_of slot new.state) new
-  ready_now = subst (λ (w : Outset). IsReady slot (opening_of slot new) w new) (sym outset_same) (subst (λ (k : Opening). IsReady slot k u new) (sym opening_same) ready)
-
-  sums_on : (f : Option AtOpening) → SumsHold f own.trail (tally_in slot own.state) → SumsHold f new.trail (tally_in slot new.state)
-  sums_on None sums = tt
-  sums_on (Some f) sums = counts.counted f.tally sums
-
   -- where it made all of what was seen on the shelf, and worked on since
-  pub fits_on : (shelf : Shelf D) → AllBy new.session shelf.seen → Worked o shelf.seen new → FitsShelf slot shelf new
-  fits_on shelf alone worked = record { alone = alone; worked = subst (λ (k : Opening). Worked k shelf.seen new) (sym opening_same) worked }
+  pub fits_on : (shelf : Shelf D) → AllBy new.session shelf.seen → Worked o (sees shelf) new → FitsShelf slot shelf new
+  fits_on shelf alone worked = record { alone = alone; worked = subst (λ (k : Opening). Worked k (sees shelf) new) (sym opening_same) worked }
 
   module _ {P : List Event → Type 0} (did : DoesIn P own new) (all : AllBy own.session did.does.more) where
     grew : new.trail ≡ own.trail ++ by own.session did.does.events
     grew = does_all own.session own.trail new.trail did.does all
 
+    alone_now : AllBy new.session new.trail
+    alone_now = subst (λ (m : ℕ). AllBy m new.trail) (sym did.session) (subst (AllBy own.session) (sym grew) (alone_more own.session own.trail did.does.events is.alone))
+
+    -- what was counted first stays, so as many slots tell
+    first_same : opening_tally new.counts ≡ opening_tally own.counts
+    first_same = ap opening_tally did.counts ∙ opening_stays own.counts did.went is.counted
+
+    counted_now : 0 < length new.counts
+    counted_now =
+        let more : length new.counts ≡ length own.counts + length did.went = ap length did.counts ∙ length-append own.counts did.went in
+        let some : 0 < length own.counts = is.counted in
+        omega (arith, more, some)
+
+    silent_same : slots_home (silence slot) new.state ≡ slots_home (silence slot) own.state
+    silent_same = (counted_home slot o u new ready alone_now).silent ∙ ap (λ (t : Tally). t.silent) first_same ∙ sym (counted_home slot o u own is.ready is.alone).silent
+
+    told_same : all_tell slot new.state ≡ all_tell slot own.state
+    told_same = ap (λ (n : ℕ). n == 0) silent_same
+
+    outset_same : outset_of slot new.state ≡ u
+    outset_same = λ i. record { above = Room (bytes_of (opening_same i).block_len (opening_same i).blocks); told = told_same i }
+
+    ready_now : IsReady slot (opening_of slot new) (outset_of slot new.state) new
+    ready_now = subst (λ (w : Outset). IsReady slot (opening_of slot new) w new) (sym outset_same) (subst (λ (k : Opening). IsReady slot k u new) (sym opening_same) ready)
+
+    sums_on : (f : Option AtOpening) → CountsFrom f own.counts → CountsFrom f new.counts
+    sums_on None sums = tt
+    sums_on (Some f) sums = first_same ∙ sums
+
     pub stands_on : Stands slot first new
     stands_on = record {
       ready = ready_now;
-      alone = subst (λ (m : ℕ). AllBy m new.trail) (sym did.session) (subst (AllBy own.session) (sym grew) (alone_more own.session own.trail did.does.events is.alone));
+      alone = alone_now;
       whole = ap (made_by new.trail) did.session ∙ did.does.own ∙ ap (λ (h : List Entry). h ++ by own.session did.does.events) is.whole ∙ sym grew;
+      counted = counted_now;
       sums = sums_on first is.sums;
       names = subst (λ (k : Opening). BeginsNames first k.first_name) (sym opening_same) is.names;
       blocks = subst (λ (k : Opening). HasBlocks first k.blocks) (sym opening_same) is.blocks;
@@ -136,6 +156,7 @@ module _ {D : Type 0} (slot : Ghosts D) {first : Option AtOpening} (own : Hand D
       session = did.session;
       state = state_grew;
       block_len = ap (λ (k : Opening). k.block_len) opening_same;
+      first = first_same;
       outset = outset_same;
       spent = spent_stays;
     }

@@ -1,3 +1,4 @@
+pub mod Summing
 pub mod Keeping
 pub mod Stepping
 pub mod Calling

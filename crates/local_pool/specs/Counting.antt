@@ -3,6 +3,8 @@ use Rattle.std.specs.Prelude.{◌≡◌, ◌+◌, ◌≤◌, ℕ, Bool, true, Li
 use Rattle.pool_model.specs.LookingBack.{names_in}
 use Rattle.pool_model.specs.declared.entry.Entry.{Entry}
 use Rattle.pin_core.specs.declared.tally.Tally.{Tally}
+use Rattle.session_calls.specs.declared.count.Count.{Count}
+use Rattle.session_calls.specs.Outgoing.{opening_tally}
 use Rattle.pin_core.specs.Tallies.{Counted, all_failures, written_blocks}
 
 -- what the slots of a pool counted when it opened, the name of its first page, and how many blocks it has
@@ -13,6 +15,11 @@ pub record AtOpening : Type 0 where
 
 abbrev pub at_opening : Tally → ℕ → ℕ → AtOpening
 at_opening tally first_name blocks = record { tally = tally; first_name = first_name; blocks = blocks }
+
+-- where it is named, the slots were counted from there on
+abbrev pub CountsFrom : Option AtOpening → List Count → Type 0
+CountsFrom None counts = ⊤
+CountsFrom (Some first) counts = opening_tally counts ≡ first.tally
 
 -- where it is named, the slots count so now, by what the trail tells
 abbrev pub SumsHold : Option AtOpening → List Entry → Tally → Type 0

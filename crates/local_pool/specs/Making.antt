@@ -6,6 +6,7 @@ use Rattle.pool_model.specs.Legal.{run}
 use Rattle.store_api.specs.Entries.{by}
 use Rattle.pin_core.specs.StateOf.{state_of}
 use Rattle.session_calls.specs.declared.hand.Hand.{Hand}
+use Rattle.session_calls.specs.Outgoing.{opening_tally}
 use Rattle.local_pool.specs.Told.{outset_of, is_spent}
 
 -- the owner entered events of which this holds, in the pool and in its trail; what was fixed at opening is as it was
@@ -16,5 +17,6 @@ pub record Makes {D : Type 0} (slot : Ghosts D) (P : List Event → Type 0) (old
   pub session : new.session ≡ old.session
   pub state : state_of new.state ≡ run (state_of old.state) (by old.session events)
   pub block_len : (state_of new.state).block_len ≡ (state_of old.state).block_len
+  pub first : opening_tally new.counts ≡ opening_tally old.counts
   pub outset : outset_of slot new.state ≡ outset_of slot old.state
   pub spent : is_spent (state_of old.state) ≡ true → is_spent (state_of new.state) ≡ true

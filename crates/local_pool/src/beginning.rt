@@ -1,11 +1,12 @@
 //! One owner's pool begins and ends.
-ghost use Rattle.std.specs.Prelude.{◌≡◌, ◌≤◌, ◌++◌, ℕ, [], IsErr, IfOk, IfErr, IfSome, vec_len};
+ghost use Rattle.std.specs.Prelude.{◌≡◌, ◌≤◌, ◌∷◌, ℕ, [], IsErr, IfOk, IfErr, IfSome, vec_len};
 ghost use Rattle.std.specs.List.{sum_by};
 ghost use Rattle.pool_model.specs.State.{Opening};
 ghost use Rattle.pin_core.specs.Setup.{IsOpeningOf, OpensWith};
 ghost use Rattle.pin_core.specs.Standing.{StandsFor, slots_home};
 ghost use Rattle.pin_core.specs.Opening.{spare_of};
 ghost use Rattle.store_api.specs.Entries.{by};
+ghost use Rattle.session_calls.specs.declared.count.Count.TheVariants as count;
 ghost use Rattle.local_pool.specs.Told.{held_of, signs_of};
 ghost use Rattle.local_pool.specs.Counting.{SpendsNames, SumsHold, at_opening};
 ghost use Rattle.local_pool.specs.History.{IsHistory};
@@ -19,7 +20,7 @@ use outside::Slot;
 use pin_core::{PoolConf, PoolState};
 use pool_model::{Entry, Event};
 use reservation_tree::{PoolErr, TrackerId};
-use session_calls::{Hand, enter, enter_named};
+use session_calls::{Count, Hand, count_opening, enter};
 use std::alloc::Global;
 use std::marker::{Brand, PhantomData};
 use turn_table::{Adds, Solo};
@@ -48,11 +49,16 @@ impl<D: Slot + Drop, T: OpenedWith> Alone<D, T> {
         ensures cause { IfErr result (λ e. IsLeastRefusal conf.now limit least e.1) }
         ensures back { IfErr result (λ e. (measure : D → ℕ) → sum_by measure e.0.items ≡ sum_by measure slots.items) }
     {
-        let (Ok(trail), Ok(seen)) = (Solo::open(alloc), Solo::open(alloc)) else {
+        let (Ok(trail), Ok(mut counts), Ok(shelf)) = (
+            Solo::open(alloc),
+            Solo::open(alloc),
+            Shelf::open(alloc),
+        ) else {
             return Err((slots, PoolErr::Memory));
         };
+        count_opening(&mut counts, slots.as_slice());
         match PoolState::open(alloc, conf, slots) {
-            Ok(pool) => begin(pool, trail, seen, conf, limit, quota, least),
+            Ok(pool) => begin(pool, trail, counts, shelf, conf, limit, quota, least),
             Err((slots, _)) => Err((slots, PoolErr::Memory)),
         }
     }
@@ -68,6 +74,7 @@ impl<D: Slot + Drop, T: OpenedWith> Alone<D, T> {
         let Hand {
             mut state,
             trail: _,
+            counts: _,
             session,
         } = self.hand;
         state.end_session(session);
@@ -79,7 +86,8 @@ impl<D: Slot + Drop, T: OpenedWith> Alone<D, T> {
 fn begin<D: Slot + Drop, T: OpenedWith>(
     mut pool: PoolState<D>,
     mut trail: Solo<Entry>,
-    mut seen: Solo<Entry>,
+    counts: Solo<Count>,
+    mut shelf: Shelf<D>,
     _conf: &PoolConf,
     limit: u64,
     quota: u32,
@@ -87,7 +95,8 @@ fn begin<D: Slot + Drop, T: OpenedWith>(
 ) -> Result<Alone<D, T>, (Vec<D>, PoolErr)>
     requires conf { OpensWith _conf.now }
     requires fresh { (o : Opening) → IsOpeningOf _conf.now (spare_of pool) o → StandsFor D.Slot o [] pool }
-    requires empty { (trail ≡ []) × (seen ≡ []) }
+    requires empty { (trail ≡ []) × (shelf.seen ≡ []) × (shelf.counted ≡ []) }
+    requires counts { counts ≡ count.Opening (tally_in D.Slot pool) ∷ [] }
     requires quota { quota ≤ spare_of pool }
     requires opens { IfSome T.opened (λ first. first ≡ at_opening (tally_in D.Slot pool) _conf.now.first_name _conf.now.blocks) }
     ensures ok { IfOk result (λ own. IsBegun _conf.now limit quota least (held_of D.Slot own)) }
@@ -120,22 +129,16 @@ fn begin<D: Slot + Drop, T: OpenedWith>(
             bytes: least,
         },
     );
-    see_all::<Brand>(&mut seen, &trail);
+    let hand = Hand {
+        state: pool,
+        trail,
+        counts,
+        session,
+    };
+    shelf.see(&hand);
     Ok(Alone {
-        hand: Hand {
-            state: pool,
-            trail,
-            session,
-        },
-        shelf: Shelf { value: None, seen },
+        hand,
+        shelf,
         first: PhantomData,
     })
-}
-
-// The owner has seen all of the history so far, which `N` names.
-fn see_all<N: Adds<Entry>>(seen: &mut Solo<Entry>, _trail: &Solo<Entry>)
-    requires named { N.entries ≡ _trail.now }
-    ensures { seen.new ≡ seen.old ++ _trail.now }
-{
-    enter_named::<N>(seen);
 }

@@ -10,13 +10,14 @@ use Rattle.std.specs.List.{All}
 use Rattle.std.specs.Option.{option_to_list}
 use Rattle.outside.specs.declared.slot.Slot.{Ghosts}
 use Rattle.reservation_tree.specs.declared.errors.PoolErr.{PoolErr}
-use Rattle.pool_model.specs.declared.entry.Entry.{Entry}
 use Rattle.pool_model.specs.State.{Opening, Session, State}
 use Rattle.pool_model.specs.Legal.{IsLegal, run, state_after}
 use Rattle.pin_core.specs.declared.parts.Parts.{Parts}
 use Rattle.pin_core.specs.StateOf.{state_of}
 use Rattle.pin_core.specs.Sessions.{query_of}
 use Rattle.pin_core.specs.Opening.{opening_entries, spare_of}
+use Rattle.pin_core.specs.declared.tally.Tally.{Tally}
+use Rattle.session_calls.specs.Having.{Sight}
 use Rattle.pool.specs.declared.ask.Ask.{Ask}
 use Rattle.pool.specs.declared.left.Left.{Left}
 use Rattle.pool.specs.declared.item.Item.{Item}
@@ -31,47 +32,47 @@ use Rattle.pool.proofs.Growth.{left_after}
 use Rattle.pool.proofs.Stood.{stands_begun}
 use Rattle.pool.proofs.Vacant.{not_all}
 
-module _ {D : Type 0} (slot : Ghosts D) (o : Opening) (told : Bool) where
+module _ {D : Type 0} (slot : Ghosts D) (o : Opening) (told : Bool) (first : Tally) where
   -- so many of an ask's sessions came, and others are to come
-  pub record Coming (ask : Ask) (before : List Item) (ms : List ℕ) (todo : ℕ) (old : Parts D) (trail : List Entry) (v : Parts D) : Type 0 where
+  pub record Coming (ask : Ask) (before : List Item) (ms : List ℕ) (todo : ℕ) (old : Parts D) (sight : Sight) (v : Parts D) : Type 0 where
     pub mid : List Item
-    pub stands : StandsAs slot o told mid trail v
+    pub stands : StandsAs slot o told first mid sight v
     pub goes : (rest : List ℕ) (after : List Item) → HaveCome ask mid rest after → HaveCome ask before (ms ++ rest) after
     pub left : left_behind ask.count ask (left_in (state_of old)) ≡ left_behind todo ask (left_in (state_of v))
     pub spare : spare_of v + length ms * ask.quota ≡ spare_of old
 
-  pub none_come : (ask : Ask) (before : List Item) (trail : List Entry) (v : Parts D) → StandsAs slot o told before trail v → Coming ask before [] ask.count v trail v
-  none_come ask before trail v stands = record { mid = before; stands = stands; goes = λ rest after come. come; left = refl; spare = omega arith }
+  pub none_come : (ask : Ask) (before : List Item) (sight : Sight) (v : Parts D) → StandsAs slot o told first before sight v → Coming ask before [] ask.count v sight v
+  none_come ask before sight v stands = record { mid = before; stands = stands; goes = λ rest after come. come; left = refl; spare = omega arith }
 
-  module _ (ask : Ask) (m : ℕ) (trail later : List Entry) (v new : Parts D) (opens : Opens slot ask.limit ask.quota ask.least m v new)
-      (goes : later ≡ trail ++ opening_entries m (query_of (state_of new) m) ask.limit ask.quota ask.least) where
+  module _ (ask : Ask) (m : ℕ) (sight later : Sight) (v new : Parts D) (opens : Opens slot ask.limit ask.quota ask.least m v new)
+      (goes : later.trail ≡ sight.trail ++ opening_entries m (query_of (state_of new) m) ask.limit ask.quota ask.least) (same : later.counts ≡ sight.counts) where
     abbrev query : ℕ
     query = query_of (state_of new) m
 
-    module _ (mid : List Item) (stands : StandsAs slot o told mid trail v) where
+    module _ (mid : List Item) (stands : StandsAs slot o told first mid sight v) where
       abbrev items : List Item
       items = mid ++ beginning_items m query ask.limit ask.quota ask.least
 
-      pub stands_more : StandsAs slot o told items later new
-      stands_more = stands_begun slot o told mid trail later v new m query ask.limit ask.quota ask.least stands opens.vacant goes opens.enters opens.spare
+      pub stands_more : StandsAs slot o told first items later new
+      stands_more = stands_begun slot o told first mid sight later v new m query ask.limit ask.quota ask.least stands opens.vacant goes same opens.enters opens.spare
 
-      legal_more : IsLegal o (trail ++ opening_entries m query ask.limit ask.quota ask.least)
+      legal_more : IsLegal o (sight.trail ++ opening_entries m query ask.limit ask.quota ask.least)
       legal_more = subst (IsLegal o) goes stands_more.whole.stands.legal
 
-      state_was : state_of v ≡ state_after o trail
+      state_was : state_of v ≡ state_after o sight.trail
       state_was = stands.whole.stands.state
 
       pub left_more : left_in (state_of new) ≡ less ask (left_in (state_of v))
       left_more =
           ap left_in opens.enters.state
           ∙ ap (λ (s : State). left_in (run s (opening_entries m query ask.limit ask.quota ask.least))) state_was
-          ∙ left_after o trail m query ask.limit ask.quota ask.least legal_more (ap (λ (s : State). get s.sessions m) (sym state_was) ∙ opens.vacant) opens.number ask refl
+          ∙ left_after o sight.trail m query ask.limit ask.quota ask.least legal_more (ap (λ (s : State). get s.sessions m) (sym state_was) ∙ opens.vacant) opens.number ask refl
           ∙ ap (λ (s : State). less ask (left_in s)) (sym state_was)
 
       pub fresh : get (quotas_in mid) m ≡ None
       fresh = sym (stands.sessions m) ∙ ap (λ (x : Option Session). option_map (λ y. y.quota) x) opens.vacant
 
-    pub one_comes : (before : List Item) (ms : List ℕ) (n k : ℕ) (old : Parts D) → n ≡ suc k → Coming ask before ms n old trail v → Coming ask before (ms ++ m ∷ []) k old later new
+    pub one_comes : (before : List Item) (ms : List ℕ) (n k : ℕ) (old : Parts D) → n ≡ suc k → Coming ask before ms n old sight v → Coming ask before (ms ++ m ∷ []) k old later new
     one_comes before ms n k old is was = record {
       mid = was.mid ++ beginning_items m query ask.limit ask.quota ask.least;
       stands = stands_more was.mid was.stands;
@@ -85,8 +86,8 @@ module _ {D : Type 0} (slot : Ghosts D) (o : Opening) (told : Bool) where
           omega (arith, all, here, then_was);
     }
 
-  pub all_come : (ask : Ask) (before : List Item) (ms : List ℕ) (n : ℕ) (old : Parts D) (trail : List Entry) (v : Parts D) → n ≡ 0 → length ms ≡ ask.count → Coming ask before ms n old trail v → AdmittedBy slot o told ask before ms old trail v
-  all_come ask before ms n old trail v is count was = record {
+  pub all_come : (ask : Ask) (before : List Item) (ms : List ℕ) (n : ℕ) (old : Parts D) (sight : Sight) (v : Parts D) → n ≡ 0 → length ms ≡ ask.count → Coming ask before ms n old sight v → AdmittedBy slot o told first ask before ms old sight v
+  all_come ask before ms n old sight v is count was = record {
     after = was.mid;
     count = count;
     come = subst (λ (ns : List ℕ). HaveCome ask before ns was.mid) (append-nil ms) (was.goes [] was.mid refl);
@@ -96,20 +97,20 @@ module _ {D : Type 0} (slot : Ghosts D) (o : Opening) (told : Bool) where
   }
 
   -- so many asks were answered
-  pub record Answering (asks todo : List Ask) (before : List Item) (answers : List (Result (List ℕ) PoolErr)) (old : Parts D) (trail : List Entry) (v : Parts D) : Type 0 where
+  pub record Answering (asks todo : List Ask) (before : List Item) (answers : List (Result (List ℕ) PoolErr)) (old : Parts D) (sight : Sight) (v : Parts D) : Type 0 where
     pub mid : List Item
-    pub stands : StandsAs slot o told mid trail v
+    pub stands : StandsAs slot o told first mid sight v
     pub goes : (rest : List (Result (List ℕ) PoolErr)) (after : List Item) → AreAnswered todo (left_in (state_of v)) mid rest after → AreAnswered asks (left_in (state_of old)) before (answers ++ rest) after
 
-  pub none_answered : (asks : List Ask) (before : List Item) (trail : List Entry) (v : Parts D) → StandsAs slot o told before trail v → Answering asks asks before [] v trail v
-  none_answered asks before trail v stands = record { mid = before; stands = stands; goes = λ rest after done. done }
+  pub none_answered : (asks : List Ask) (before : List Item) (sight : Sight) (v : Parts D) → StandsAs slot o told first before sight v → Answering asks asks before [] v sight v
+  none_answered asks before sight v stands = record { mid = before; stands = stands; goes = λ rest after done. done }
 
-  module _ (asks todo : List Ask) (ask : Ask) (before : List Item) (answers : List (Result (List ℕ) PoolErr)) (old : Parts D) (trail : List Entry) (v : Parts D)
-      (was : Answering asks (ask ∷ todo) before answers old trail v) where
-    pub one_admitted : (ms : List ℕ) (later : List Entry) (new : Parts D) → first_refusal ask.count ask (left_in (state_of v)) ≡ None
-        → ((items : List Item) → StandsAs slot o told items trail v → AdmittedBy slot o told ask items ms v later new) → Answering asks todo before (answers ++ Ok ms ∷ []) old later new
+  module _ (asks todo : List Ask) (ask : Ask) (before : List Item) (answers : List (Result (List ℕ) PoolErr)) (old : Parts D) (sight : Sight) (v : Parts D)
+      (was : Answering asks (ask ∷ todo) before answers old sight v) where
+    pub one_admitted : (ms : List ℕ) (later : Sight) (new : Parts D) → first_refusal ask.count ask (left_in (state_of v)) ≡ None
+        → ((items : List Item) → StandsAs slot o told first items sight v → AdmittedBy slot o told first ask items ms v later new) → Answering asks todo before (answers ++ Ok ms ∷ []) old later new
     one_admitted ms later new none admits =
-        let by_it : AdmittedBy slot o told ask was.mid ms v later new = admits was.mid was.stands in record {
+        let by_it : AdmittedBy slot o told first ask was.mid ms v later new = admits was.mid was.stands in record {
           mid = by_it.after;
           stands = by_it.stands;
           goes = λ rest after done.
@@ -117,7 +118,7 @@ module _ {D : Type 0} (slot : Ghosts D) (o : Opening) (told : Bool) where
               (was.goes (Ok ms ∷ rest) after (none, by_it.count, by_it.after, by_it.come, subst (λ (l : Left). AreAnswered todo l by_it.after rest after) by_it.left done));
         }
 
-    pub one_refused : (e : PoolErr) → first_refusal ask.count ask (left_in (state_of v)) ≡ Some e → Answering asks todo before (answers ++ Err e ∷ []) old trail v
+    pub one_refused : (e : PoolErr) → first_refusal ask.count ask (left_in (state_of v)) ≡ Some e → Answering asks todo before (answers ++ Err e ∷ []) old sight v
     one_refused e why = record {
       mid = was.mid;
       stands = was.stands;
@@ -126,8 +127,8 @@ module _ {D : Type 0} (slot : Ghosts D) (o : Opening) (told : Bool) where
           (was.goes (Err e ∷ rest) after (why, done));
     }
 
-  pub all_answered : (asks todo : List Ask) (before : List Item) (answers : List (Result (List ℕ) PoolErr)) (old : Parts D) (trail : List Entry) (v : Parts D) → todo ≡ [] → Answering asks todo before answers old trail v → AdmittedAll slot o told asks before answers old trail v
-  all_answered asks todo before answers old trail v none was = record {
+  pub all_answered : (asks todo : List Ask) (before : List Item) (answers : List (Result (List ℕ) PoolErr)) (old : Parts D) (sight : Sight) (v : Parts D) → todo ≡ [] → Answering asks todo before answers old sight v → AdmittedAll slot o told first asks before answers old sight v
+  all_answered asks todo before answers old sight v none was = record {
     after = was.mid;
     answered =
         subst (λ (rs : List (Result (List ℕ) PoolErr)). AreAnswered asks (left_in (state_of old)) before rs was.mid) (append-nil answers)
@@ -160,44 +161,44 @@ one_spare n k quota spare is enough =
     omega (arith, all, enough)
 
 -- between two asks
-module _ {D : Type 0} (slot : Ghosts D) (o : Opening) (told : Bool) where
+module _ {D : Type 0} (slot : Ghosts D) (o : Opening) (told : Bool) (first : Tally) where
   -- what is true behind some answers: the value stands for some items, the quotas of the asks that are left fit, and
   -- the answers are those of the asks before
-  pub record Between (asks todo : List Ask) (first : List Entry) (old : Parts D) (answers : List (Result (List ℕ) PoolErr)) (trail : List Entry) (v : Parts D) : Type 0 where
-    pub has : HasItems slot o told trail v
+  pub record Between (asks todo : List Ask) (start : Sight) (old : Parts D) (answers : List (Result (List ℕ) PoolErr)) (sight : Sight) (v : Parts D) : Type 0 where
+    pub has : HasItems slot o told first sight v
     pub quotas : quotas_of todo ≤ spare_of v
-    pub answering : (before : List Item) → StandsAs slot o told before first old → Answering slot o told asks todo before answers old trail v
+    pub answering : (before : List Item) → StandsAs slot o told first before start old → Answering slot o told first asks todo before answers old sight v
 
-  pub at_first : (asks : List Ask) (answers : List (Result (List ℕ) PoolErr)) (trail : List Entry) (v : Parts D) → answers ≡ [] → HasItems slot o told trail v → quotas_of asks ≤ spare_of v → Between asks asks trail v answers trail v
-  at_first asks answers trail v none has quotas = record {
+  pub at_first : (asks : List Ask) (answers : List (Result (List ℕ) PoolErr)) (sight : Sight) (v : Parts D) → answers ≡ [] → HasItems slot o told first sight v → quotas_of asks ≤ spare_of v → Between asks asks sight v answers sight v
+  at_first asks answers sight v none has quotas = record {
     has = has;
     quotas = quotas;
-    answering = λ before stands. subst (λ (rs : List (Result (List ℕ) PoolErr)). Answering slot o told asks asks before rs v trail v) (sym none) (none_answered slot o told asks before trail v stands);
+    answering = λ before stands. subst (λ (rs : List (Result (List ℕ) PoolErr)). Answering slot o told first asks asks before rs v sight v) (sym none) (none_answered slot o told first asks before sight v stands);
   }
 
-  module _ (asks todo : List Ask) (ask : Ask) (first : List Entry) (old : Parts D) (answers : List (Result (List ℕ) PoolErr)) (trail : List Entry) (v : Parts D)
-      (was : Between asks (ask ∷ todo) first old answers trail v) (answer : Result (List ℕ) PoolErr) where
+  module _ (asks todo : List Ask) (ask : Ask) (start : Sight) (old : Parts D) (answers : List (Result (List ℕ) PoolErr)) (sight : Sight) (v : Parts D)
+      (was : Between asks (ask ∷ todo) start old answers sight v) (answer : Result (List ℕ) PoolErr) where
     pub spare_for : ask.count * ask.quota + 0 ≤ spare_of v
     spare_for = let all = was.quotas in omega (arith, all)
 
-    pub past_refused : (e : PoolErr) → first_refusal ask.count ask (left_in (state_of v)) ≡ Some e → answer ≡ Err e → Between asks todo first old (answers ++ answer ∷ []) trail v
+    pub past_refused : (e : PoolErr) → first_refusal ask.count ask (left_in (state_of v)) ≡ Some e → answer ≡ Err e → Between asks todo start old (answers ++ answer ∷ []) sight v
     past_refused e why is = record {
       has = was.has;
       quotas = let all = was.quotas in omega (arith, all);
       answering = λ before stands.
-          subst (λ (r : Result (List ℕ) PoolErr). Answering slot o told asks todo before (answers ++ r ∷ []) old trail v) (sym is)
-          (one_refused slot o told asks todo ask before answers old trail v (was.answering before stands) e why);
+          subst (λ (r : Result (List ℕ) PoolErr). Answering slot o told first asks todo before (answers ++ r ∷ []) old sight v) (sym is)
+          (one_refused slot o told first asks todo ask before answers old sight v (was.answering before stands) e why);
     }
 
-    pub past_admitted : (ms : List ℕ) (later : List Entry) (new : Parts D) → first_refusal ask.count ask (left_in (state_of v)) ≡ None
-        → ((items : List Item) → StandsAs slot o told items trail v → AdmittedBy slot o told ask items ms v later new) → answer ≡ Ok ms → Between asks todo first old (answers ++ answer ∷ []) later new
+    pub past_admitted : (ms : List ℕ) (later : Sight) (new : Parts D) → first_refusal ask.count ask (left_in (state_of v)) ≡ None
+        → ((items : List Item) → StandsAs slot o told first items sight v → AdmittedBy slot o told first ask items ms v later new) → answer ≡ Ok ms → Between asks todo start old (answers ++ answer ∷ []) later new
     past_admitted ms later new none admits is =
-        let by_it : AdmittedBy slot o told ask was.has.items ms v later new = admits was.has.items was.has.stands in record {
+        let by_it : AdmittedBy slot o told first ask was.has.items ms v later new = admits was.has.items was.has.stands in record {
           has = record { items = by_it.after; stands = by_it.stands };
           quotas = let all = was.quotas in let goes = by_it.spare in omega (arith, all, goes);
           answering = λ before stands.
-              subst (λ (r : Result (List ℕ) PoolErr). Answering slot o told asks todo before (answers ++ r ∷ []) old later new) (sym is)
-              (one_admitted slot o told asks todo ask before answers old trail v (was.answering before stands) ms later new none admits);
+              subst (λ (r : Result (List ℕ) PoolErr). Answering slot o told first asks todo before (answers ++ r ∷ []) old later new) (sym is)
+              (one_admitted slot o told first asks todo ask before answers old sight v (was.answering before stands) ms later new none admits);
         }
 
 -- the ask at a place, and those behind it

@@ -1,6 +1,8 @@
 -- Sessions came together in one turn of the pass: what the pass keeps true, and what it has seen.
-use Rattle.std.proofs.Common.{◌≡◌, ℕ, ◌+◌, ◌<◌, Bool, List, [], ◌∷◌, ◌++◌, length, drop, map, Result, refl, sym, ap, ◌∙◌, subst, arith}
+use Rattle.std.proofs.Common.{◌≡◌, ℕ, ◌+◌, ◌<◌, eqb, Bool, List, ◌++◌, length, map, Result, sym, ap, ◌∙◌, subst, arith}
+use Rattle.std.proofs.Math.Seq.{drop-append_seam}
 use Rattle.std.specs.FinMap.{get, len}
+use Rattle.std.specs.List.{IsDistinct}
 use Rattle.atomic_table.specs.Seated.{TableId}
 use Rattle.reservation_tree.specs.declared.errors.PoolErr.{PoolErr}
 use Rattle.reservation_tree.specs.Total.{total}
@@ -20,22 +22,20 @@ use Rattle.pool.specs.Seats.{Quotas, live_in, quotas_in, taken_in}
 use Rattle.pool.specs.Passing.{IsPass}
 use Rattle.pool.specs.Seating.{state_in}
 use Rattle.pool.specs.Remaining.{left_in, refusals}
-use Rattle.pool.specs.Asking.{Admits, Answers, AreAnswered, numbers_in, refusal_in}
+use Rattle.pool.specs.Asking.{Admits, Answers, AreAnswered, all_numbers, numbers_in, refusal_in}
 use Rattle.pool.specs.Admitting.{item_of, items_since}
-use Rattle.pool.specs.Parting.{AllComing, AreSeats, CanHand, all_numbers, handed_out}
+use Rattle.pool.specs.Parting.{AllComing, AreSeats, CanHand, handed_out}
 use Rattle.pool.proofs.Answered.{Adds, LetsIn, answered_adds, answered_hand, answered_live}
-use Rattle.pool.proofs.Beside.{history_more, quotas_beside}
+use Rattle.pool.proofs.Apart.{answered_apart}
+use Rattle.pool.proofs.Beside.{quotas_beside}
+use Rattle.pool.proofs.Listed.{history_more}
 use Rattle.pool.proofs.Parted.{handed_idle, handed_role, handed_seen}
 use Rattle.pool.proofs.Sessions.{all_new, count_is, numbers_are, refused_alike, refused_is, taken_is}
-
-behind : (seen : List Item) (es : List Entry) → drop (length seen) (history seen ++ es) ≡ es
-behind [] es = refl
-behind (i ∷ seen) es = behind seen es
 
 -- what came behind the items
 pub since_is : (seen more : List Item) (trail : List Entry) → trail ≡ history (seen ++ more) → map item_of (history more) ≡ more → items_since seen trail ≡ more
 since_is seen more trail is back =
-    ap (items_since seen) (is ∙ history_more seen more) ∙ ap (map item_of) (behind seen (history more)) ∙ back
+    ap (items_since seen) (is ∙ history_more seen more) ∙ ap (map item_of) (drop-append_seam (history seen) (history more)) ∙ back
 
 module _ (o : Opening) {free ticket : ℕ} {pass : Spot Item} {now : View Item} (is : IsPass o.slots free pass)
     (takes : now ≡ taking ticket now.seen pass.knows) (grew : GrewBeside needs_of pass.knows.rights pass.knows.seen now.seen) where
@@ -134,6 +134,7 @@ module _ (o : Opening) {free ticket : ℕ} {pass : Spot Item} {now : View Item} 
                   (subst (λ (rs : List (Result (List ℕ) PoolErr)). AreAnswered asks (left_in (state_in o now.seen)) now.seen rs after) (sym numbers) its);
               refused = refused_alike sessions ∙ ap (map refusal_in) numbers ∙ refused_is asks (left_in (state_in o now.seen)) now.seen answers after its;
               sessions = all_new o told new most asks answers sessions (subst (λ (items : List Item). AllComing o told items most asks answers) (sym seen_new) come) seen_seats;
+              apart = subst (λ (rs : List (Result (List ℕ) PoolErr)). IsDistinct eqb (all_numbers rs)) (sym numbers) (answered_apart asks left now.seen answers after are).distinct;
               table = table;
               taken =
                   let all = taken_is new.table new.knows.seen asks left now.seen answers after sessions are seen_seats in

@@ -13,7 +13,7 @@ use Rattle.pool.specs.declared.item.Item.{Item}
 use Rattle.pool.specs.Items.{all_rights, below, door}
 use Rattle.pool.specs.Seats.{live_in, taken_in}
 use Rattle.pool.specs.Passing.{IsPass}
-use Rattle.pool.proofs.Stood.{none_taken}
+use Rattle.pool.proofs.AtOpen.{none_taken}
 
 pub same_one : (a b : ℕ) → a ≡ b → same a b ≡ 1
 same_one a b is = ap (λ (t : Bool). cond t 1 0) (eq-eqb a b is)

@@ -26,13 +26,14 @@ use Rattle.pool.specs.Seats.{Quotas, live_in, quotas_in, taken_in}
 use Rattle.pool.specs.Sitting.{shared}
 use Rattle.pool.specs.Seating.{HasBegun, beginning_items}
 use Rattle.pool.specs.Remaining.{first_refusal, left_behind, less}
-use Rattle.pool.specs.Asking.{AreAnswered, HaveCome}
+use Rattle.pool.specs.Asking.{AreAnswered, HaveCome, all_numbers}
 use Rattle.pool.specs.Admitting.{item_of}
-use Rattle.pool.specs.Parting.{AllComing, CanHand, IsComing, all_numbers, handed_out}
+use Rattle.pool.specs.Parting.{AllComing, CanHand, IsComing, handed_out}
 use Rattle.pool.proofs.AllRights.{same_none}
 use Rattle.pool.proofs.Asked.{few_granted, granted}
-use Rattle.pool.proofs.Begun.{begun, begun_rests}
-use Rattle.pool.proofs.Beside.{history_more, own_beside}
+use Rattle.pool.proofs.Begun.{begun, begun_rests, own_first}
+use Rattle.pool.proofs.Beside.{own_beside}
+use Rattle.pool.proofs.Listed.{history_more}
 use Rattle.pool.proofs.Needed.{beginning_needs}
 use Rattle.pool.proofs.Parted.{handed_more}
 use Rattle.pool.proofs.Passes.{door_stays, numbers_stay}
@@ -202,15 +203,15 @@ module _ (o : Opening) (told : Bool) (m : ℕ) (before after : List Item) (adds 
   grew : GrewBeside needs_of (m ∷ []) before after
   grew = record { behind = adds.more; grew = adds.is; beside = λ r has. subst (λ (k : ℕ). needed needs_of k adds.more ≡ 0) (sym (same_one r has)) none }
 
-  own_same : own_in m after ≡ own_in m before
+  pub own_same : own_in m after ≡ own_in m before
   own_same = own_beside (m ∷ []) before after grew m (let one : same m m ≡ 1 = same_self m in omega (arith, one))
 
   held_same : held_in o (shared told) m (history after) ≡ held_in o (shared told) m (history before)
   unfolding held_in
   held_same = ap (holdings_of o.block_len m (shared told)) own_same
 
-  pub begun_still : {limit quota least : ℕ} → HasBegun o.block_len limit quota least (held_in o (shared told) m (history before)) → HasBegun o.block_len limit quota least (held_in o (shared told) m (history after))
-  begun_still {limit} {quota} {least} = subst (HasBegun o.block_len limit quota least) (sym held_same)
+  pub begun_still : {limit quota least : ℕ} → HasBegun o.block_len told limit quota least (held_in o (shared told) m (history before)) → HasBegun o.block_len told limit quota least (held_in o (shared told) m (history after))
+  begun_still {limit} {quota} {least} = subst (HasBegun o.block_len told limit quota least) (sym held_same)
 
   pub rests_still : IsResting o (shared told) m (history before) → IsResting o (shared told) m (history after)
   rests_still was = record {
@@ -233,6 +234,8 @@ come_coming o told ask before (m ∷ ms) after all come adds fits =
       fits = fits;
       held = begun_still o told m now all since none (begun o told before m come.0 ask.limit ask.quota ask.least);
       rests = rests_still o told m now all since none (begun_rests o told before m come.0 ask.limit ask.quota ask.least come.1);
+      query = come.0;
+      own = own_same o told m now all since none ∙ own_first o told before m come.0 ask.limit ask.quota ask.least;
     }) (come_coming o told ask now ms after all come.3 adds fits)
 
 own_fits : (n : ℕ) (ask : Ask) (left : Left) → 0 < n → first_refusal n ask left ≡ None → ask.least ≤ ask.limit

@@ -47,7 +47,7 @@ module _ (ask : Ask) (left : Left) where
   pub root : (n : ℕ) → 0 < n → 0 < left.numbers → ask.least ≤ ask.limit → left.bytes < ask.least → first_refusal n ask left ≡ Some (NoReservation 0 ask.least left.bytes)
   root n some one fits less_than = first_of n some (Some (NoReservation 0 ask.least left.bytes)) (root_less one fits less_than) refl
 
-  later : (n : ℕ) → refusal_of ask left ≡ None → first_refusal (suc n) ask left ≡ first_refusal n ask (less ask left)
+  pub later : (n : ℕ) → refusal_of ask left ≡ None → first_refusal (suc n) ask left ≡ first_refusal n ask (less ask left)
   later n none = ap (λ (o : Option PoolErr). if is_some o then o else first_refusal n ask (less ask left)) none
 
   pub goes_on : (n k : ℕ) → n ≡ suc k → 0 < left.numbers → ask.least ≤ ask.limit → ask.least ≤ left.bytes → first_refusal n ask left ≡ first_refusal k ask (less ask left)

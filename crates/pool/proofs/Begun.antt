@@ -21,7 +21,7 @@ use Rattle.pool.specs.Items.{history, own_in}
 use Rattle.pool.specs.Ledgers.{TellsHeld}
 use Rattle.pool.specs.Sitting.{shared}
 use Rattle.pool.specs.Seating.{HasBegun, beginning_items}
-use Rattle.pool.proofs.Beside.{history_more}
+use Rattle.pool.proofs.Listed.{history_more}
 
 module _ (o : Opening) (told : Bool) (items : List Item) (m query limit quota least : ℕ) where
   abbrev whole : List Item
@@ -33,7 +33,7 @@ module _ (o : Opening) (told : Bool) (items : List Item) (m query limit quota le
   abbrev second : Entry
   second = increase_entry m query least
 
-  own_first : own_in m whole ≡ first ∷ second ∷ []
+  pub own_first : own_in m whole ≡ first ∷ second ∷ []
   own_first =
       ap (λ (h : List Entry). made_by h m) (history_more items (beginning_items m query limit quota least) ∙ sym (append_assoc (history items) (first ∷ []) (second ∷ [])))
       ∙ made_more (history items ++ first ∷ []) second m refl refl
@@ -49,7 +49,7 @@ module _ (o : Opening) (told : Bool) (items : List Item) (m query limit quota le
   unfolding held_in
   held_first = ap (holdings_of o.block_len m (shared told)) own_first
 
-  pub begun : HasBegun o.block_len limit quota least held_now
+  pub begun : HasBegun o.block_len told limit quota least held_now
   begun = record {
     block_len = ap (λ (h : Holdings). h.block_len) held_first;
     most = ap (λ (h : Holdings). h.limit) held_first;
@@ -61,6 +61,7 @@ module _ (o : Opening) (told : Bool) (items : List Item) (m query limit quota le
     pages = λ p. ap (λ (h : Holdings). h.pages p) held_first;
     loans = λ f. ap (λ (h : Holdings). h.loans f) held_first;
     free_slots = ap (λ (h : Holdings). h.free_slots) held_first;
+    told = ap (λ (h : Holdings). h.told) held_first;
   }
 
   pub begun_rests : m < 240 → IsResting o (shared told) m (history whole)
@@ -71,7 +72,7 @@ module _ (o : Opening) (told : Bool) (items : List Item) (m query limit quota le
     still = λ p. ap (busy_from p false) own_first;
   }
 
-module _ {len limit quota least : ℕ} {h : Holdings} (is : HasBegun len limit quota least h) where
+module _ {len limit quota least : ℕ} {told : Bool} {h : Holdings} (is : HasBegun len told limit quota least h) where
   no_client : (t : ℕ) → IsSome (h.clients t) → ⊥
   no_client t there = let never : true ≡ false = sym there ∙ ap is_some (is.clients t) in cc
 

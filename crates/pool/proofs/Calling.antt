@@ -16,6 +16,7 @@ use Rattle.store_api.specs.Signs.{Grows, Signs}
 use Rattle.store_api.specs.Entries.{IsAboveNames}
 use Rattle.store_api.specs.Refusals.{WasRefused}
 use Rattle.store_api.proofs.Growing.{grows_trans}
+use Rattle.pin_core.specs.declared.tally.Tally.{Tally}
 use Rattle.pin_core.specs.StateOf.{state_of}
 use Rattle.turn_table.specs.Face.{Spot}
 use Rattle.session_calls.specs.declared.hand.Hand.{Hand}
@@ -24,14 +25,14 @@ use Rattle.session_calls.specs.Moving.{quota_at}
 use Rattle.session_calls.specs.Acting.{held_by as held_in_hand, signs_by as signs_in_hand}
 use Rattle.session_calls.specs.Doing.{Does}
 use Rattle.session_calls.specs.Coming.{IsFreshPage}
-use Rattle.session_calls.specs.Having.{IsAtWork}
+use Rattle.session_calls.specs.Having.{IsAtWork, Sight}
 use Rattle.session_calls.specs.Jobs.{DoesIn}
 use Rattle.session_calls.specs.Turning.{Refuses}
 use Rattle.session_calls.proofs.Lists.{none_own}
 use Rattle.session_calls.proofs.Doing.{does_grows, does_more, does_none}
 use Rattle.pool.specs.declared.item.Item.{Item}
 use Rattle.pool.specs.declared.ledger.Ledger.{Ledger}
-use Rattle.pool.specs.Items.{history}
+use Rattle.pool.specs.Items.{history, sight_in}
 use Rattle.pool.specs.Sitting.{Sitting, Did, DidThese, WasDeclined, held_by, shared, signs_by}
 use Rattle.pool.specs.Keeping.{KeepsSeat}
 use Rattle.pool.specs.Turning.{IsInTurn, MayEndTurn, SitsAgain}
@@ -43,10 +44,10 @@ use Rattle.pool.proofs.Staying.{has_still}
 use Rattle.pool.proofs.Declined.{refused_before}
 use Rattle.pool.proofs.Charged.{StaysOn, refused_stays}
 
-module _ {D : Type 0} {slot : Ghosts D} {o : Opening} {told : Bool} {was : Sitting} {spot : Spot Item} {hand : Hand D} (begun : IsInTurn slot o told was spot hand) where
+module _ {D : Type 0} {slot : Ghosts D} {o : Opening} {told : Bool} {tally : Tally} {was : Sitting} {spot : Spot Item} {hand : Hand D} (begun : IsInTurn slot o told tally was spot hand) where
   -- the call begins
   state_seen : state_of hand.state ≡ state_after o (history spot.knows.seen)
-  state_seen = begun.ready.whole.stands.state ∙ ap (state_after o) begun.trail
+  state_seen = begun.ready.whole.stands.state ∙ ap (λ (s : Sight). state_after o s.trail) begun.sight
 
   pub turns_first : (lock : TableId) → spot.table ≡ lock → TurnsThere o told o (shared told) lock spot hand.session
   turns_first lock table = record {
@@ -56,13 +57,21 @@ module _ {D : Type 0} {slot : Ghosts D} {o : Opening} {told : Bool} {was : Sitti
       table = table;
       turn = begun.turn;
       rights = begun.rights ∙ ap (λ (m : ℕ). m ∷ []) (sym begun.session);
+      marked = begun.marked;
       quotas = λ k. ap (λ (s : State). quota_at s k) (sym state_seen) ∙ begun.quotas k;
     };
   }
 
-  pub works_first : IsAtWork slot o (shared told) (history spot.knows.seen) hand
+  pub works_first : IsAtWork slot o (shared told) (sight_in tally spot.knows.seen) hand
   works_first = record {
-    worked = record { events = []; trail = begun.trail ∙ sym (append-nil (history spot.knows.seen)); quotas = λ k. ap (λ (s : State). quota_at s k) state_seen };
+    worked = record {
+      events = [];
+      trail = ap (λ (s : Sight). s.trail) begun.sight ∙ sym (append-nil (history spot.knows.seen));
+      went = [];
+      counts = ap (λ (s : Sight). s.counts) begun.sight ∙ sym (append-nil (sight_in tally spot.knows.seen).counts);
+      opens = tt;
+      quotas = λ k. ap (λ (s : State). quota_at s k) state_seen;
+    };
     ready = begun.ready;
   }
 
@@ -79,13 +88,13 @@ module _ {D : Type 0} {slot : Ghosts D} {o : Opening} {told : Bool} {was : Sitti
 
   -- the call is done, and the turn may end
   module _ {next : Hand D} (stays : StaysOn o (shared told) hand next) where
-    pub may_end_call : (lock : TableId) (now : Spot Item) → TurnsThere o told o (shared told) lock now next.session → IsAtWork slot o (shared told) (history now.knows.seen) next
-        → {block_len : ℕ} {ledger : Ledger} → KeepsSeat o told block_len ledger was → MayEndTurn slot o told now ledger next
+    pub may_end_call : (lock : TableId) (now : Spot Item) → TurnsThere o told o (shared told) lock now next.session → IsAtWork slot o (shared told) (sight_in tally now.knows.seen) next
+        → {block_len : ℕ} {ledger : Ledger} → KeepsSeat o told block_len ledger was → MayEndTurn slot o told tally now ledger next
     may_end_call lock now turns work {block_len} {ledger} kept = record {
       turn = turns.turns.turn;
       rights = turns.turns.rights;
       ready = work.ready;
-      gives = gives slot o told lock now next turns.turns (record { worked = work.worked; whole = work.ready.whole });
+      gives = gives slot o told tally lock now next turns.turns (record { worked = work.worked; whole = work.ready.whole });
       clients = has_still ledger.accounts (held_in_hand o (shared told) hand) (held_in_hand o (shared told) next) (has_first refl begun kept) stays.clients;
     }
 
@@ -96,7 +105,7 @@ module _ {D : Type 0} {slot : Ghosts D} {o : Opening} {told : Bool} {was : Sitti
         (record { sits = ended.sits; power = kept.power; len = kept.len; tells = ended.tells; fits = ended.fits; whole = ended.whole })
 
 -- what the call did, as it is to who saw the session before
-module _ {D : Type 0} {slot : Ghosts D} {o : Opening} {told : Bool} {was seen : Sitting} {spot : Spot Item} {hand : Hand D} (same : was ≡ seen) (begun : IsInTurn slot o told was spot hand) where
+module _ {D : Type 0} {slot : Ghosts D} {o : Opening} {told : Bool} {tally : Tally} {was seen : Sitting} {spot : Spot Item} {hand : Hand D} (same : was ≡ seen) (begun : IsInTurn slot o told tally was spot hand) where
   -- a page that is new to the session in its turn was so before
   pub fresh_as_was : (t blocks : ℕ) (made : PageToken × Buffer) → IsFreshPage t blocks made (held_in_hand o (shared told) hand) (signs_in_hand o hand) → IsFreshPage t blocks made (held_by o told seen) (signs_by o seen)
   fresh_as_was t blocks made fresh =
@@ -131,7 +140,7 @@ module _ {D : Type 0} {slot : Ghosts D} {o : Opening} {told : Bool} {was seen : 
       did_none_then : next ≡ hand → DidThese [] seen it
       did_none_then none =
           did_then (λ h events. events ≡ [])
-          (subst (λ (x : Hand D). DoesIn (λ events. events ≡ []) hand x) (sym none) (record { session = refl; does = does_none hand.session hand.trail }))
+          (subst (λ (x : Hand D). DoesIn (λ events. events ≡ []) hand x) (sym none) (record { session = refl; went = []; counts = sym (append-nil hand.counts); does = does_none hand.session hand.trail }))
 
       -- where it was refused before anything was written
       pub refused_then : (refusal : Holdings → Option PoolErr) (X : PoolErr → Type 0) → IfSome (refusal (held_in_hand o (shared told) hand)) (λ e. X e × (next ≡ hand)) → IfSome (refusal (held_by o told seen)) (λ e. X e × DidThese [] seen it)

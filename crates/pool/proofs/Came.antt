@@ -8,9 +8,9 @@ use Rattle.client_accounts.specs.declared.account.ClientAccount.{ClientAccount}
 use Rattle.outside.specs.declared.slot.Slot.{Ghosts}
 use Rattle.reservation_tree.specs.Total.{total}
 use Rattle.reservation_tree.specs.declared.errors.PoolErr.{PoolErr}
-use Rattle.pool_model.specs.declared.entry.Entry.{Entry}
 use Rattle.pool_model.specs.State.{Opening, Session, State}
 use Rattle.pin_core.specs.declared.parts.Parts.{Parts}
+use Rattle.pin_core.specs.declared.tally.Tally.{Tally}
 use Rattle.pin_core.specs.StateOf.{state_of}
 use Rattle.pin_core.specs.Opening.{spare_of}
 use Rattle.turn_table.specs.declared.view.Role.TheVariants.{First}
@@ -19,6 +19,7 @@ use Rattle.turn_table.specs.Lists.{times, without}
 use Rattle.turn_table.specs.Knowledge.{GrewBeside}
 use Rattle.turn_table.specs.Steps.{one_more, taking, grown, parted, newcomer}
 use Rattle.turn_table.specs.Face.{Spot}
+use Rattle.session_calls.specs.Having.{Sight}
 use Rattle.session_calls.specs.Ready.{IsResting}
 use Rattle.session_calls.specs.Told.{held_in}
 use Rattle.pool.specs.declared.item.Item.{Item}
@@ -78,14 +79,14 @@ module _ (o : Opening) {free ticket : ℕ} {pass : Spot Item} {now : View Item} 
     }
 
   -- as many slots are spare as the pass knows
-  pub spare_enough : {D : Type 0} {slot : Ghosts D} {told : Bool} {trail : List Entry} {v : Parts D} → StandsAs slot o told now.seen trail v → (quota : ℕ) → quota + taken_in pass.knows.seen ≤ o.slots → quota ≤ spare_of v
+  pub spare_enough : {D : Type 0} {slot : Ghosts D} {told : Bool} {first : Tally} {sight : Sight} {v : Parts D} → StandsAs slot o told first now.seen sight v → (quota : ℕ) → quota + taken_in pass.knows.seen ≤ o.slots → quota ≤ spare_of v
   spare_enough stands quota fits =
       let here : taken_in now.seen ≡ taken_in pass.knows.seen = ap (λ (q : Quotas). total (λ k x. x) q) quotas_here in
       let all = stands.spare in
       omega (arith, here, all, fits)
 
   -- it lets a session in, of a number that has none
-  module _ {D : Type 0} {slot : Ghosts D} {told : Bool} {trail : List Entry} {v : Parts D} (stands : StandsAs slot o told now.seen trail v) (m : ℕ) (few : m < 240) (vacant : get (state_of v).sessions m ≡ None) where
+  module _ {D : Type 0} {slot : Ghosts D} {told : Bool} {first : Tally} {sight : Sight} {v : Parts D} (stands : StandsAs slot o told first now.seen sight v) (m : ℕ) (few : m < 240) (vacant : get (state_of v).sessions m ≡ None) where
     fresh_here : get (quotas_in now.seen) m ≡ None
     fresh_here = sym (stands.sessions m) ∙ ap (λ (x : Option Session). option_map (λ y. y.quota) x) vacant
 
@@ -142,8 +143,8 @@ module _ (o : Opening) {free ticket : ℕ} {pass : Spot Item} {now : View Item} 
       abbrev sitting : Sitting
       sitting = record { number = m; spot = seat }
 
-      held : HasBegun o.block_len limit quota least (held_by o told sitting)
-      held = subst (λ (items : List Item). HasBegun o.block_len limit quota least (held_in o (shared told) m (history items))) (sym seen_seat) (begun o told now.seen m query limit quota least)
+      held : HasBegun o.block_len told limit quota least (held_by o told sitting)
+      held = subst (λ (items : List Item). HasBegun o.block_len told limit quota least (held_in o (shared told) m (history items))) (sym seen_seat) (begun o told now.seen m query limit quota least)
 
       came_sits : Sits o told sitting
       came_sits = record {
@@ -173,7 +174,7 @@ module _ (o : Opening) {free ticket : ℕ} {pass : Spot Item} {now : View Item} 
       came granted table other = record {
         entered = now.seen;
         grew = grew;
-        granted = subst (λ (s : State). MustTurnAway s limit least → ⊥) (state_here slot o told now.seen trail v stands) granted;
+        granted = subst (λ (s : State). MustTurnAway s limit least → ⊥) (state_here slot o told first now.seen sight v stands) granted;
         fresh = fresh;
         query = query;
         items = seen_new;

@@ -1,8 +1,8 @@
 -- A session's turn: what it has in hand at first, and what it did when the turn is over.
-use Rattle.std.proofs.Common.{filter, ◌≡◌, ℕ, ◌<◌, ◌≤◌, List, [], ◌∷◌, ◌++◌, Bool, false, is_some, length, drop, map, Result, Ok, Err, IfOk, IsErr, OnOk, None, option_map, inl, inr, refl, sym, ap, ◌∙◌, subst, arith}
+use Rattle.std.proofs.Common.{filter, ◌≡◌, ℕ, ◌<◌, ◌≤◌, List, [], ◌∷◌, ◌++◌, Bool, false, is_some, length, Result, Ok, Err, IfOk, IsErr, OnOk, None, option_map, inl, inr, sym, ap, ◌∙◌, subst, arith}
 use Rattle.std.proofs.lemmas.Bool.{cases_lt, false≢true}
 use Rattle.std.proofs.lemmas.List.Elements.{filter-append}
-use Rattle.std.proofs.lemmas.List.{append_assoc}
+use Rattle.std.proofs.lemmas.List.{append_assoc, append-nil}
 use Rattle.atomic_table.specs.Seated.{TableId}
 use Rattle.client_accounts.specs.Unused.{unused_in}
 use Rattle.outside.specs.declared.slot.Slot.{Ghosts}
@@ -10,6 +10,7 @@ use Rattle.pool_model.specs.declared.event.Event.{Event}
 use Rattle.pool_model.specs.declared.entry.Entry.{Entry}
 use Rattle.pool_model.specs.State.{Opening}
 use Rattle.pool_model.specs.LookingBack.{is_by, made_by}
+use Rattle.pin_core.specs.declared.tally.Tally.{Tally}
 use Rattle.store_api.specs.Tokens.{ClientToken}
 use Rattle.store_api.specs.Holdings.{Holdings}
 use Rattle.store_api.specs.Entries.{by}
@@ -26,32 +27,39 @@ use Rattle.turn_table.proofs.Sums.{same_self}
 use Rattle.session_calls.specs.Coming.{IsFresh}
 use Rattle.session_calls.proofs.Lists.{NoneOpens}
 use Rattle.session_calls.specs.declared.hand.Hand.{Hand}
+use Rattle.session_calls.specs.declared.count.Count.{Count}
+use Rattle.session_calls.specs.declared.count.Count.TheVariants as count
+use Rattle.session_calls.specs.Having.{Sight, sight_of}
 use Rattle.session_calls.specs.Told.{held_in}
 use Rattle.session_calls.specs.Ready.{IsReady, IsResting}
 use Rattle.session_calls.specs.Doing.{Does}
 use Rattle.session_calls.proofs.Lists.{by_own, none_own}
 use Rattle.session_calls.specs.Acting.{Acts, ActsThese, held_by as held_in_hand}
 use Rattle.pool.specs.declared.item.Item.{Item}
-use Rattle.pool.specs.declared.item.Item.TheVariants.{Made}
 use Rattle.pool.specs.declared.ledger.Ledger.{Ledger}
-use Rattle.pool.specs.Items.{history}
+use Rattle.pool.specs.Items.{counts_in, history}
 use Rattle.pool.specs.Ledgers.{HasClients, TellsHeld}
 use Rattle.pool.specs.Sitting.{Sitting, Sits, DidThese, held_by, shared}
 use Rattle.pool.specs.Taking.{Takes, made_since}
 use Rattle.pool.specs.Keeping.{KeepsSeat}
 use Rattle.pool.specs.Turning.{IsInTurn, MayEndTurn, SitsAgain}
-use Rattle.pool.proofs.Beside.{own_beside, history_more, others_made}
+use Rattle.pool.proofs.Beside.{own_beside, others_made}
 use Rattle.pool.proofs.Entered.{own_then}
+use Rattle.pool.proofs.Listed.{history_more}
+use Rattle.pool.proofs.Since.{sight_since}
 use Rattle.pool.proofs.Staying.{Stay, has_told, has_still}
 
 pub its_right : (m : ℕ) (rights : List ℕ) → rights ≡ m ∷ [] → 0 < times m rights
 its_right m rights is = subst (λ (all : List ℕ). 0 < times m all) (sym is) (let one = same_self m in omega (arith, one))
 
 -- the value was taken
-module _ {D : Type 0} (slot : Ghosts D) (o : Opening) (told : Bool) (was : Sitting) (spot : Spot Item) (hand : Hand D) (sits : Sits o told was) (takes : Takes slot o told was.number was.spot spot hand) where
+module _ {D : Type 0} (slot : Ghosts D) (o : Opening) (told : Bool) (first : Tally) (was : Sitting) (spot : Spot Item) (hand : Hand D) (sits : Sits o told was) (takes : Takes slot o told first was.number was.spot spot hand) where
+  trail_seen : hand.trail ≡ history spot.knows.seen
+  trail_seen = ap (λ (s : Sight). s.trail) takes.stands.sight_is
+
   same_own : made_by hand.trail was.number ≡ made_by (history was.spot.knows.seen) was.number
   same_own =
-      ap (λ (h : List Entry). made_by h was.number) takes.stands.trail_is
+      ap (λ (h : List Entry). made_by h was.number) trail_seen
       ∙ own_beside was.spot.knows.rights was.spot.knows.seen spot.knows.seen takes.grew was.number (its_right was.number was.spot.knows.rights sits.right)
 
   same_held : held_in_hand o (shared told) hand ≡ held_by o told was
@@ -66,42 +74,32 @@ module _ {D : Type 0} (slot : Ghosts D) (o : Opening) (told : Bool) (was : Sitti
     still = λ p. ap (λ (m : ℕ). busy_from p false (made_by hand.trail m)) takes.session ∙ ap (busy_from p false) same_own ∙ sits.rests.still p;
   }
 
-  pub begins : IsInTurn slot o told was spot hand
+  pub begins : IsInTurn slot o told first was spot hand
   begins = record {
     turn = takes.turn;
     rights = takes.rights ∙ sits.right;
     session = takes.session;
     ready = record { whole = takes.stands.whole; rests = rests_still };
     held = same_held;
-    trail = takes.stands.trail_is;
+    sight = takes.stands.sight_is;
+    marked = takes.stands.marked;
     quotas = takes.stands.sessions;
     own = same_own;
     more = history takes.grew.behind;
-    grew = takes.stands.trail_is ∙ ap history takes.grew.grew ∙ history_more was.spot.knows.seen takes.grew.behind;
-    beside = others_made takes.grew.behind was.number (takes.grew.beside was.number (its_right was.number was.spot.knows.rights sits.right));
+    grew = trail_seen ∙ ap history takes.grew.grew ∙ history_more was.spot.knows.seen takes.grew.behind;
+    beside = others_made was.number takes.grew.behind (takes.grew.beside was.number (its_right was.number was.spot.knows.rights sits.right));
   }
 
-history_made : (es : List Entry) → history (map Made es) ≡ es
-history_made [] = refl
-history_made (e ∷ es) = ap (λ (h : List Entry). e ∷ h) (history_made es)
-
-dropped : (seen : List Item) (es : List Entry) → drop (length seen) (history seen ++ es) ≡ es
-dropped [] es = refl
-dropped (i ∷ seen) es = dropped seen es
-
-pub seen_then : (seen : List Item) (es h : List Entry) → h ≡ history seen ++ es → history (seen ++ made_since seen h) ≡ h
-seen_then seen es h is =
-    history_more seen (made_since seen h) ∙ ap (λ (more : List Entry). history seen ++ more) (history_made (drop (length seen) h))
-    ∙ ap (λ (g : List Entry). history seen ++ drop (length seen) g) is ∙ ap (λ (more : List Entry). history seen ++ more) (dropped seen es) ∙ sym is
-
 -- the value was given back
-module _ {D : Type 0} (slot : Ghosts D) (o : Opening) (told : Bool) (spot new : Spot Item) (before after : Ledger) (hand : Hand D) (may : MayEndTurn slot o told spot before hand)
-    (grows : new.knows ≡ grown (made_since spot.knows.seen hand.trail) spot.knows) where
+module _ {D : Type 0} (slot : Ghosts D) (o : Opening) (told : Bool) (first : Tally) (spot new : Spot Item) (before after : Ledger) (hand : Hand D) (may : MayEndTurn slot o told first spot before hand)
+    (grows : new.knows ≡ grown (made_since hand.session spot.knows.seen (sight_of hand)) spot.knows) where
   abbrev it : Sitting
   it = record { number = hand.session; spot = new }
 
   seen_now : history new.knows.seen ≡ hand.trail
-  seen_now = ap (λ (v : View Item). history v.seen) grows ∙ seen_then spot.knows.seen (by hand.session may.gives.events) hand.trail may.gives.trail
+  seen_now =
+      ap (λ (v : View Item). history v.seen) grows
+      ∙ ap (λ (s : Sight). s.trail) (sight_since hand.session (by hand.session may.gives.events) may.gives.went first spot.knows.seen (sight_of hand) may.gives.trail may.gives.counts)
 
   held_now : held_in_hand o (shared told) hand ≡ held_by o told it
   held_now = ap (held_in o (shared told) hand.session) (sym seen_now)
@@ -120,7 +118,7 @@ module _ {D : Type 0} (slot : Ghosts D) (o : Opening) (told : Bool) (spot new : 
   }
 
 -- between the two the session did something
-module _ {D : Type 0} {slot : Ghosts D} {o : Opening} {told : Bool} {was seen : Sitting} {spot : Spot Item} {hand : Hand D} (same : was ≡ seen) (begun : IsInTurn slot o told was spot hand) where
+module _ {D : Type 0} {slot : Ghosts D} {o : Opening} {told : Bool} {tally : Tally} {was seen : Sitting} {spot : Spot Item} {hand : Hand D} (same : was ≡ seen) (begun : IsInTurn slot o told tally was spot hand) where
   -- what is so of what the session held is so of what it holds in hand, and the other way round
   pub as_held : (P : Holdings → Type 0) → P (held_by o told seen) → P (held_in_hand o (shared told) hand)
   as_held P is = subst P (sym (begun.held ∙ ap (held_by o told) same)) is
@@ -145,7 +143,7 @@ module _ {D : Type 0} {slot : Ghosts D} {o : Opening} {told : Bool} {was seen : 
   room_left kept (Err e) refused = tt
 
   module _ (next : Hand D) where
-    pub may_end : {P : List Event → Type 0} → Acts P hand next → IsReady slot o (shared told) next → (ledger : Ledger) → HasClients ledger.accounts (held_in_hand o (shared told) next) → MayEndTurn slot o told spot ledger next
+    pub may_end : {P : List Event → Type 0} → Acts P hand next → IsReady slot o (shared told) next → (ledger : Ledger) → HasClients ledger.accounts (held_in_hand o (shared told) next) → MayEndTurn slot o told tally spot ledger next
     may_end acts ready ledger clients =
         let right : spot.knows.rights ≡ next.session ∷ [] = begun.rights ∙ ap (λ (m : ℕ). m ∷ []) (sym (acts.session ∙ begun.session)) in
         record {
@@ -155,8 +153,12 @@ module _ {D : Type 0} {slot : Ghosts D} {o : Opening} {told : Bool} {was seen : 
           gives = record {
             right = its_right next.session spot.knows.rights right;
             events = acts.events;
-            trail = acts.trail ∙ ap (λ (h : List Entry). h ++ by hand.session acts.events) begun.trail ∙ ap (λ (m : ℕ). history spot.knows.seen ++ by m acts.events) (sym acts.session);
+            opens = acts.opens;
+            trail = acts.trail ∙ ap (λ (s : Sight). s.trail ++ by hand.session acts.events) begun.sight ∙ ap (λ (m : ℕ). history spot.knows.seen ++ by m acts.events) (sym acts.session);
+            went = [];
+            counts = acts.counts ∙ ap (λ (s : Sight). s.counts) begun.sight ∙ ap (λ (cs : List Count). count.Opening tally ∷ cs) (sym (append-nil (counts_in spot.knows.seen)));
             whole = ready.whole;
+            marked = begun.marked;
             quotas = λ k. acts.quotas k ∙ begun.quotas k;
           };
           clients = clients;
@@ -164,7 +166,7 @@ module _ {D : Type 0} {slot : Ghosts D} {o : Opening} {told : Bool} {was seen : 
 
     -- as it may where no client came and none went
     pub may_stay : {P : List Event → Type 0} → Acts P hand next → IsReady slot o (shared told) next → Stay (held_in_hand o (shared told) hand) (held_in_hand o (shared told) next)
-        → {block_len : ℕ} {ledger : Ledger} → KeepsSeat o told block_len ledger was → MayEndTurn slot o told spot ledger next
+        → {block_len : ℕ} {ledger : Ledger} → KeepsSeat o told block_len ledger was → MayEndTurn slot o told tally spot ledger next
     may_stay acts ready stay {block_len} {ledger} kept =
         may_end acts ready ledger (has_still ledger.accounts (held_in_hand o (shared told) hand) (held_in_hand o (shared told) next) (has_first kept) stay)
 

@@ -16,6 +16,7 @@ use Rattle.own_entries.proofs.Held.{legal_holdings_are_told}
 use Rattle.own_entries.proofs.Idle.{none_under}
 use Rattle.own_entries.proofs.Lives.{legal_lives_as_told}
 use Rattle.pin_core.specs.declared.parts.Parts.{Parts}
+use Rattle.pin_core.specs.declared.tally.Tally.{Tally}
 use Rattle.pin_core.specs.StateOf.{state_of}
 use Rattle.pin_core.specs.Sessions.{IsSeat, query_of}
 use Rattle.turn_table.specs.declared.view.Role.TheVariants.{First}
@@ -25,6 +26,7 @@ use Rattle.turn_table.specs.Knowledge.{GrewBeside}
 use Rattle.turn_table.specs.Steps.{one_less, joined, taking, grown}
 use Rattle.turn_table.specs.Face.{Spot}
 use Rattle.turn_table.proofs.Sums.{total-append, same_self}
+use Rattle.session_calls.specs.Having.{Sight}
 use Rattle.session_calls.specs.Told.{held_in}
 use Rattle.pool.specs.declared.item.Item.{Item}
 use Rattle.pool.specs.Items.{door, history, needs_of, own_in}
@@ -107,15 +109,15 @@ module _ {o : Opening} {told : Bool} {pass : Spot Item} {s : Sitting} {now : Vie
   )
 
   -- what the value under the lock has for the session
-  module _ {D : Type 0} {slot : Ghosts D} {trail : List Entry} {v : Parts D} (stands : StandsAs slot o told now.seen trail v) where
+  module _ {D : Type 0} {slot : Ghosts D} {first : Tally} {sight : Sight} {v : Parts D} (stands : StandsAs slot o told first now.seen sight v) where
     abbrev entries : List Entry
     entries = history now.seen
 
     state_now : state_of v ≡ state_after o entries
-    state_now = state_here slot o told now.seen trail v stands
+    state_now = state_here slot o told first now.seen sight v stands
 
     legal_now : IsLegal o entries
-    legal_now = legal_here slot o told now.seen trail v stands
+    legal_now = legal_here slot o told first now.seen sight v stands
 
     pub is_live : IsSeat (state_of v) s.number
     is_live =

@@ -12,7 +12,6 @@ use Rattle.session_table.specs.Seats.{Seat, Seats, seat_of, tracker_count, track
 use Rattle.session_table.specs.Sessions.{session_in}
 use Rattle.session_table.proofs.Found.{get_sessions}
 use Rattle.pool_model.specs.Bytes.{bytes_of}
-use Rattle.pool_model.specs.declared.entry.Entry.{Entry}
 use Rattle.pool_model.specs.State.{Opening, Session, State, opened}
 use Rattle.pool_model.specs.Sums.{memory}
 use Rattle.pool_model.specs.Legal.{state_after}
@@ -23,7 +22,9 @@ use Rattle.own_entries.proofs.RootTight.{legal_root_is_tight}
 use Rattle.session_calls.proofs.Sized.{run_memory}
 use Rattle.pin_core.specs.declared.parts.Parts.{Parts}
 use Rattle.pin_core.specs.Invariant.{IsKept}
+use Rattle.pin_core.specs.declared.tally.Tally.{Tally}
 use Rattle.pin_core.specs.StateOf.{state_of}
+use Rattle.session_calls.specs.Having.{Sight}
 use Rattle.pool.specs.declared.item.Item.{Item}
 use Rattle.pool.specs.Seats.{Quotas, live_in, quotas_in}
 use Rattle.pool.specs.Standing.{StandsAs}
@@ -71,7 +72,7 @@ no_trackers (x ∷ seats) none =
     let both = sum_by-cons trackers_in x seats in
     omega (arith, first, rest, both)
 
-module _ {D : Type 0} {slot : Ghosts D} {o : Opening} {told : Bool} {items : List Item} {trail : List Entry} {v : Parts D} (stands : StandsAs slot o told items trail v) (kept : IsKept v) (none : live_in items ≡ 0) where
+module _ {D : Type 0} {slot : Ghosts D} {o : Opening} {told : Bool} {first : Tally} {items : List Item} {sight : Sight} {v : Parts D} (stands : StandsAs slot o told first items sight v) (kept : IsKept v) (none : live_in items ≡ 0) where
   no_session : (m : ℕ) → get (state_of v).sessions m ≡ None
   no_session m = unmapped (get (state_of v).sessions m) (stands.sessions m ∙ none_there (quotas_in items) none m)
     where
@@ -86,20 +87,20 @@ module _ {D : Type 0} {slot : Ghosts D} {o : Opening} {told : Bool} {items : Lis
       unmapped None is = refl
       unmapped (Some y) is = cc
 
-  state_now : state_of v ≡ state_after o trail
+  state_now : state_of v ≡ state_after o sight.trail
   state_now = stands.whole.stands.state
 
   sound : IsSound (state_of v)
-  sound = subst IsSound (sym state_now) (legal_sound o trail stands.whole.stands.legal)
+  sound = subst IsSound (sym state_now) (legal_sound o sight.trail stands.whole.stands.legal)
 
   root_room : room_of (state_of v).trackers 0 ≡ bytes_of o.block_len o.blocks
   root_room =
       let count : len (state_of v).trackers ≡ 1 = let few = kept.seated.few in let bare = no_trackers v.seats no_seat in omega (arith, few, bare) in
       let children : children_of (state_of v).trackers 0 ≡ 0 = children-none (state_of v).trackers 0 (no_child (state_of v).trackers sound.seated.tree count) in
       let tight : reservation_of (state_of v).trackers 0 ≡ children_of (state_of v).trackers 0 =
-      subst (λ (s : State). reservation_of s.trackers 0 ≡ children_of s.trackers 0) (sym state_now) (legal_root_is_tight o trail stands.whole.stands.legal) in
+      subst (λ (s : State). reservation_of s.trackers 0 ≡ children_of s.trackers 0) (sym state_now) (legal_root_is_tight o sight.trail stands.whole.stands.legal) in
       let top : limit_of (state_of v).trackers 0 ≡ memory (state_of v) = sound.seated.top in
-      let all : memory (state_of v) ≡ memory (opened o) = ap memory state_now ∙ run_memory (opened o) trail in
+      let all : memory (state_of v) ≡ memory (opened o) = ap memory state_now ∙ run_memory (opened o) sight.trail in
       let room : room_of (state_of v).trackers 0 ≡ memory (opened o) = omega (arith, children, tight, top, all) in
       room
 

@@ -2,8 +2,11 @@ pub mod Admitted
 pub mod AllIn
 pub mod AllRights
 pub mod Answered
+pub mod Apart
 pub mod Asked
 pub mod AtClose
+pub mod AtOpen
+pub mod Barred
 pub mod Begun
 pub mod Beside
 pub mod Calling
@@ -16,7 +19,9 @@ pub mod Entered
 pub mod Fresh
 pub mod Given
 pub mod Growth
+pub mod Listed
 pub mod Locked
+pub mod Marked
 pub mod Needed
 pub mod Parted
 pub mod Passes
@@ -26,9 +31,11 @@ pub mod Results
 pub mod Seated
 pub mod Seen
 pub mod Sessions
+pub mod Since
 pub mod Staying
 pub mod Stays
 pub mod Stood
 pub mod Trailed
 pub mod Vacant
 pub mod Storing
+pub mod Summed

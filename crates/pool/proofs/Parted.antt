@@ -19,10 +19,10 @@ use Rattle.pool.specs.declared.ask.Ask.{Ask}
 use Rattle.pool.specs.declared.rooms.Room.{Room}
 use Rattle.pool.specs.declared.item.Item.{Item}
 use Rattle.pool.specs.Sitting.{Sitting}
-use Rattle.pool.specs.Asking.{Answers}
+use Rattle.pool.specs.Asking.{Answers, all_numbers}
 use Rattle.pool.specs.Admitting.{numbered}
 use Rattle.pool.specs.Rooms.{IsRoom}
-use Rattle.pool.specs.Parting.{AllComing, AreComing, AreSeats, CanHand, IsComing, IsSeatOf, SeatsOf, all_numbers, handed_out}
+use Rattle.pool.specs.Parting.{AllComing, AreComing, AreSeats, CanHand, IsComing, IsSeatOf, SeatsOf, handed_out}
 
 pub at_place : {X : Type 0} (xs : List X) (i : ℕ) (d : X) → i < length xs → drop i xs ≡ get_or xs i d ∷ drop (i + 1) xs
 at_place xs i d within =

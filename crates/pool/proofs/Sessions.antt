@@ -9,14 +9,14 @@ use Rattle.turn_table.specs.Face.{Spot}
 use Rattle.pool.specs.declared.ask.Ask.{Ask}
 use Rattle.pool.specs.declared.left.Left.{Left}
 use Rattle.pool.specs.declared.item.Item.{Item}
-use Rattle.pool.specs.Items.{history}
+use Rattle.pool.specs.Items.{history, own_in}
 use Rattle.pool.specs.Seats.{taken_in}
-use Rattle.pool.specs.Seating.{HasBegun}
+use Rattle.pool.specs.Seating.{HasBegun, beginning_items}
 use Rattle.pool.specs.Sitting.{Sitting, shared}
 use Rattle.session_calls.specs.Told.{held_in}
 use Rattle.pool.specs.Remaining.{left_behind, left_by, refusals}
-use Rattle.pool.specs.Asking.{Answers, AreAnswered, AreNew, IsNew, came_in, numbers_in, quotas_by, refusal_in}
-use Rattle.pool.specs.Parting.{AllComing, AreSeats, IsComing, SeatsOf, all_numbers}
+use Rattle.pool.specs.Asking.{Answers, AreAnswered, AreNew, IsNew, all_numbers, came_in, numbers_in, quotas_by, refusal_in}
+use Rattle.pool.specs.Parting.{AllComing, AreSeats, IsComing, SeatsOf}
 use Rattle.pool.proofs.Answered.{come_taken}
 
 -- why each ask is refused, as it was answered
@@ -50,8 +50,12 @@ module _ (o : Opening) (told : Bool) (pass : Spot Item) (ask : Ask) where
         table = are.0.table;
         seen = are.0.seen;
         held =
-            subst (λ (k : ℕ). HasBegun o.block_len ask.limit ask.quota ask.least (held_in o (shared told) k (history s.spot.knows.seen))) (sym are.0.number)
-            (subst (λ (items : List Item). HasBegun o.block_len ask.limit ask.quota ask.least (held_in o (shared told) m (history items))) (sym are.0.seen) came.held);
+            subst (λ (k : ℕ). HasBegun o.block_len told ask.limit ask.quota ask.least (held_in o (shared told) k (history s.spot.knows.seen))) (sym are.0.number)
+            (subst (λ (items : List Item). HasBegun o.block_len told ask.limit ask.quota ask.least (held_in o (shared told) m (history items))) (sym are.0.seen) came.held);
+        query = came.query;
+        own =
+            ap (own_in s.number) are.0.seen
+            ∙ subst (λ (k : ℕ). own_in k pass.knows.seen ≡ history (beginning_items k came.query ask.limit ask.quota ask.least)) (sym are.0.number) came.own;
       }) (seats_new ms seats are.1 (All-tail (IsComing o told pass.knows.seen ask) m ms come))
 
 pub seats_numbers : (lock : TableId) (items : List Item) (ms : List ℕ) (seats : List Sitting) → SeatsOf lock items ms seats → map (λ s. s.number) seats ≡ ms

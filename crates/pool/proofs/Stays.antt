@@ -33,8 +33,10 @@ module _ {D : Type 0} (hand next : Hand D) where
     is = refl;
     trail = ap (λ (k : Hand D). k.trail) same ∙ sym (append-nil hand.trail);
     session = ap (λ (k : Hand D). k.session) same;
+    opens = tt;
     quotas = λ k. ap (λ (n : Hand D). quota_at (state_of n.state) k) same;
     slots = λ measure. ap (λ (n : Hand D). slots_home measure n.state) same;
+    counts = ap (λ (n : Hand D). n.counts) same;
   }
 
   -- something was entered, or nothing
@@ -42,7 +44,7 @@ module _ {D : Type 0} (hand next : Hand D) where
   ActsSome = Acts (λ events. Unit {0}) hand next
 
   pub acts_some : {P : List Event → Type 0} → Acts P hand next → ActsSome
-  acts_some acts = record { events = acts.events; is = tt; trail = acts.trail; session = acts.session; quotas = acts.quotas; slots = acts.slots }
+  acts_some acts = record { events = acts.events; is = tt; trail = acts.trail; session = acts.session; opens = acts.opens; quotas = acts.quotas; slots = acts.slots; counts = acts.counts }
 
   pub acts_either : {A E : Type 0} (P : A → List Event → Type 0) (r : Result A E) → IfOk r (λ x. Acts (P x) hand next) → OnErr r (next ≡ hand) → ActsSome
   acts_either P (Ok x) ok err = acts_some ok

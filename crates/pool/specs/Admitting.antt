@@ -16,6 +16,9 @@ use Rattle.pin_core.specs.Standing.{Enters}
 use Rattle.pool.specs.declared.ask.Ask.{Ask}
 use Rattle.pool.specs.declared.item.Item.{Item}
 use Rattle.pool.specs.declared.item.Item.TheVariants.{Seated, Made}
+use Rattle.pin_core.specs.declared.tally.Tally.{Tally}
+use Rattle.session_calls.specs.Having.{Sight}
+use Rattle.pool.specs.Items.{history}
 use Rattle.pool.specs.Standing.{StandsAs}
 use Rattle.pool.specs.Remaining.{left_behind, left_in}
 use Rattle.pool.specs.Asking.{AreAnswered, HaveCome}
@@ -26,7 +29,7 @@ item_of e = elim e.event [ AddTracker t parent limit quota ↦ Seated e | _ ↦ 
 
 -- the items that came behind these, where sessions came alone
 abbrev pub items_since : List Item → List Entry → List Item
-items_since seen h = map item_of (drop (length seen) h)
+items_since seen h = map item_of (drop (length (history seen)) h)
 
 module _ {D : Type 0} (slot : Ghosts D) where
   -- a session came
@@ -36,26 +39,26 @@ module _ {D : Type 0} (slot : Ghosts D) where
     pub enters : Enters slot (opening_entries m (query_of (state_of new) m) limit quota least) [] [] old new
     pub spare : spare_of new + quota ≡ spare_of old
 
-  module _ (o : Opening) (told : Bool) where
+  module _ (o : Opening) (told : Bool) (first : Tally) where
     -- the value stands for some items
-    pub record HasItems (trail : List Entry) (v : Parts D) : Type 0 where
+    pub record HasItems (sight : Sight) (v : Parts D) : Type 0 where
       pub items : List Item
-      pub stands : StandsAs slot o told items trail v
+      pub stands : StandsAs slot o told first items sight v
 
     -- the sessions of an ask came
-    pub record AdmittedBy (ask : Ask) (before : List Item) (ms : List ℕ) (old : Parts D) (trail : List Entry) (new : Parts D) : Type 0 where
+    pub record AdmittedBy (ask : Ask) (before : List Item) (ms : List ℕ) (old : Parts D) (sight : Sight) (new : Parts D) : Type 0 where
       pub after : List Item
       pub count : length ms ≡ ask.count
       pub come : HaveCome ask before ms after
-      pub stands : StandsAs slot o told after trail new
+      pub stands : StandsAs slot o told first after sight new
       pub left : left_in (state_of new) ≡ left_behind ask.count ask (left_in (state_of old))
       pub spare : spare_of new + ask.count * ask.quota ≡ spare_of old
 
     -- asks were answered
-    pub record AdmittedAll (asks : List Ask) (before : List Item) (answers : List (Result (List ℕ) PoolErr)) (old : Parts D) (trail : List Entry) (new : Parts D) : Type 0 where
+    pub record AdmittedAll (asks : List Ask) (before : List Item) (answers : List (Result (List ℕ) PoolErr)) (old : Parts D) (sight : Sight) (new : Parts D) : Type 0 where
       pub after : List Item
       pub answered : AreAnswered asks (left_in (state_of old)) before answers after
-      pub stands : StandsAs slot o told after trail new
+      pub stands : StandsAs slot o told first after sight new
 
 -- an answer with the numbers of its sessions
 abbrev pub numbered : Result (Vec ℕ) PoolErr → Result (List ℕ) PoolErr

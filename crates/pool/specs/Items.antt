@@ -1,17 +1,31 @@
--- The items of the list under the turn lock, the oldest first: the history that they are, and the rights that they need.
-use Rattle.std.specs.Prelude.{ℕ, suc, zero, List, [], ◌∷◌, map}
+-- The items of the list under the turn lock, the oldest first: the history and the counts that they are, and the rights
+-- that they need.
+use Rattle.std.specs.Prelude.{ℕ, suc, zero, List, [], ◌∷◌}
 use Rattle.pool_model.specs.declared.entry.Entry.{Entry}
 use Rattle.pool_model.specs.LookingBack.{made_by}
+use Rattle.pin_core.specs.declared.tally.Tally.{Tally}
+use Rattle.session_calls.specs.declared.count.Count.{Count}
+use Rattle.session_calls.specs.declared.count.Count.TheVariants.{Opening}
+use Rattle.session_calls.specs.Having.{Sight}
 use Rattle.pool.specs.declared.item.Item.{Item}
-use Rattle.pool.specs.declared.item.Item.TheVariants.{Seated, Made}
-
-abbrev pub entry_of : Item → Entry
-entry_of (Seated e) = e
-entry_of (Made e) = e
+use Rattle.pool.specs.declared.item.Item.TheVariants.{Seated, Made, Went}
 
 -- the history of the pool
 abbrev pub history : List Item → List Entry
-history items = map entry_of items
+history [] = []
+history (Seated e ∷ items) = e ∷ history items
+history (Made e ∷ items) = e ∷ history items
+history (Went m count ∷ items) = history items
+
+-- what its slots counted since it opened
+abbrev pub counts_in : List Item → List Count
+counts_in [] = []
+counts_in (Went m count ∷ items) = count ∷ counts_in items
+counts_in (i ∷ items) = counts_in items
+
+-- what is seen of a pool by who has seen these items, where its slots counted this when it opened
+abbrev pub sight_in : Tally → List Item → Sight
+sight_in first items = record { trail = history items; counts = Opening first ∷ counts_in items }
 
 -- the entries of one maker; those of a session begin with its opening
 abbrev pub own_in : ℕ → List Item → List Entry
@@ -25,6 +39,7 @@ door = 2000
 abbrev pub needs_of : Item → List ℕ
 needs_of (Seated e) = door ∷ e.maker ∷ []
 needs_of (Made e) = e.maker ∷ []
+needs_of (Went m count) = m ∷ []
 
 -- the numbers below n
 abbrev pub below : ℕ → List ℕ

@@ -1,5 +1,5 @@
 -- How sessions that came together get their seats.
-use Rattle.std.specs.Prelude.{◌≡◌, ℕ, ◌<◌, ◌≤◌, List, [], ◌∷◌, ◌++◌, Bool, Some, Result, Ok, Err, length}
+use Rattle.std.specs.Prelude.{◌≡◌, ℕ, ◌<◌, ◌≤◌, List, [], ◌∷◌, Bool, Some, Result, Ok, Err, length}
 use Rattle.std.specs.Bool.{⊤}
 use Rattle.std.specs.List.{All}
 use Rattle.atomic_table.specs.Seated.{TableId}
@@ -13,9 +13,9 @@ use Rattle.session_calls.specs.Told.{held_in}
 use Rattle.pool.specs.declared.ask.Ask.{Ask}
 use Rattle.pool.specs.declared.item.Item.{Item}
 use Rattle.pool.specs.declared.rooms.Room.{Room}
-use Rattle.pool.specs.Items.{history}
+use Rattle.pool.specs.Items.{history, own_in}
 use Rattle.pool.specs.Sitting.{Sitting, shared}
-use Rattle.pool.specs.Seating.{HasBegun}
+use Rattle.pool.specs.Seating.{HasBegun, beginning_items}
 use Rattle.pool.specs.Asking.{Answers}
 use Rattle.pool.specs.Rooms.{IsRoom}
 
@@ -23,8 +23,10 @@ use Rattle.pool.specs.Rooms.{IsRoom}
 pub record IsComing (o : Opening) (told : Bool) (items : List Item) (ask : Ask) (m : ℕ) : Type 0 where
   pub number : m < 240
   pub fits : ask.least ≤ ask.limit
-  pub held : HasBegun o.block_len ask.limit ask.quota ask.least (held_in o (shared told) m (history items))
+  pub held : HasBegun o.block_len told ask.limit ask.quota ask.least (held_in o (shared told) m (history items))
   pub rests : IsResting o (shared told) m (history items)
+  pub query : ℕ
+  pub own : own_in m items ≡ history (beginning_items m query ask.limit ask.quota ask.least)
 
 -- the numbers of each ask's answer are those of sessions that came, at most so many
 abbrev pub AllComing : Opening → Bool → List Item → ℕ → List Ask → List (Result (List ℕ) PoolErr) → Type 0
@@ -39,12 +41,6 @@ pub record AreComing {S : Type 0} (o : Opening) (told : Bool) (items : List Item
   pub each : All (IsRoom most) rooms
   pub count : length rooms ≡ length asks
   pub came : AllComing o told items most asks answers
-
--- all numbers, in order
-abbrev pub all_numbers : List (Result (List ℕ) PoolErr) → List ℕ
-all_numbers [] = []
-all_numbers (Ok ms ∷ answers) = ms ++ all_numbers answers
-all_numbers (Err e ∷ answers) = all_numbers answers
 
 -- each of these rights is there once those before it are handed out
 abbrev pub CanHand : List ℕ → List ℕ → Type 0

@@ -30,8 +30,8 @@ ending_items s m = Made (decrease_entry m (query_of s m) (reservation_of s.track
 abbrev pub state_in : Opening → List Item → State
 state_in o items = state_after o (history items)
 
--- nothing is live, all of the reservation is room, and all slots of the quota are free
-pub record HasBegun (len limit quota least : ℕ) (h : Holdings) : Type 0 where
+-- nothing is live, all of the reservation is room, all slots of the quota are free, and pins are told where slots tell
+pub record HasBegun (len : ℕ) (tells : Bool) (limit quota least : ℕ) (h : Holdings) : Type 0 where
   pub block_len : h.block_len ≡ len
   pub most : h.limit ≡ limit
   pub reservation : h.reservation ≡ least
@@ -42,6 +42,7 @@ pub record HasBegun (len limit quota least : ℕ) (h : Holdings) : Type 0 where
   pub pages : (p : ℕ) → h.pages p ≡ None
   pub loans : (f : ℕ) → h.loans f ≡ None
   pub free_slots : h.free_slots ≡ Some quota
+  pub told : h.told ≡ tells
 
 -- no number is left, or the least reservation passes its own limit or what the root may still reserve
 abbrev pub MustTurnAway : State → ℕ → ℕ → Type 0
@@ -68,7 +69,7 @@ pub record Begins (o : Opening) (told : Bool) (limit quota least : ℕ) (old new
   pub items : new.knows.seen ≡ entered ++ beginning_items s.number query limit quota least
   pub seen : s.spot.knows.seen ≡ new.knows.seen
   pub table : (new.table ≡ old.table) × (s.spot.table ≡ old.table)
-  pub held : HasBegun o.block_len limit quota least (held_by o told s)
+  pub held : HasBegun o.block_len told limit quota least (held_by o told s)
   pub taken : taken_in new.knows.seen ≡ taken_in old.knows.seen + quota
   pub count : live_in new.knows.seen ≡ live_in old.knows.seen + 1
 

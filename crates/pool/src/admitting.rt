@@ -31,6 +31,7 @@ pub(crate) fn admit<D: Slot + Drop, T: OpenedAs>(
 ) -> u32
     requires granted { MustTurnAway (state_of shared.old.state) limit least → ⊥ }
     requires spare { quota ≤ spare_of shared.old.state }
+    ensures counts { shared.new.counts ≡ shared.old.counts }
     ensures opens { Opens D.Slot limit quota least result shared.old.state shared.new.state }
     ensures trail { shared.new.trail ≡ shared.old.trail ++ opening_entries result (query_of (state_of shared.new.state) result) limit quota least }
 {
@@ -57,12 +58,12 @@ fn admit_ask<D: Slot + Drop, T: OpenedAs>(
     ask: &Ask,
     mut numbers: Vec<u32>,
 ) -> Vec<u32>
-    requires stands { HasItems D.Slot T.opening T.told shared.old.trail shared.old.state }
+    requires stands { HasItems D.Slot T.opening T.told T.first (record { trail = shared.old.trail; counts = shared.old.counts }) shared.old.state }
     requires granted { first_refusal ask.now.count ask.now (left_in (state_of shared.old.state)) ≡ None }
     requires spare { quotas_of (ask.now ∷ []) ≤ spare_of shared.old.state }
     requires none { numbers.items ≡ [] }
     requires room { ask.now.count ≤ vec_capacity numbers }
-    ensures { (before : List Item) → StandsAs D.Slot T.opening T.told before shared.old.trail shared.old.state → AdmittedBy D.Slot T.opening T.told ask.now before result.items shared.old.state shared.new.trail shared.new.state }
+    ensures { (before : List Item) → StandsAs D.Slot T.opening T.told T.first before (record { trail = shared.old.trail; counts = shared.old.counts }) shared.old.state → AdmittedBy D.Slot T.opening T.told T.first ask.now before result.items shared.old.state (record { trail = shared.new.trail; counts = shared.new.counts }) shared.new.state }
 {
     for _i in 0..ask.count {
         let number = admit(shared, ask.limit, ask.quota, ask.least);
@@ -78,12 +79,12 @@ pub(crate) fn admit_all<D: Slot + Drop, T: OpenedAs>(
     mut slates: Vec<Vec<u32>>,
     mut answers: Vec<Result<Vec<u32>, PoolErr>>,
 ) -> Vec<Result<Vec<u32>, PoolErr>>
-    requires stands { HasItems D.Slot T.opening T.told shared.old.trail shared.old.state }
+    requires stands { HasItems D.Slot T.opening T.told T.first (record { trail = shared.old.trail; counts = shared.old.counts }) shared.old.state }
     requires spare { quotas_of asks.now ≤ spare_of shared.old.state }
     requires slates { AreSlates asks.now slates.items }
     requires none { answers.items ≡ [] }
     requires room { length asks.now ≤ vec_capacity answers }
-    ensures { (before : List Item) → StandsAs D.Slot T.opening T.told before shared.old.trail shared.old.state → AdmittedAll D.Slot T.opening T.told asks.now before (map numbered result.items) shared.old.state shared.new.trail shared.new.state }
+    ensures { (before : List Item) → StandsAs D.Slot T.opening T.told T.first before (record { trail = shared.old.trail; counts = shared.old.counts }) shared.old.state → AdmittedAll D.Slot T.opening T.told T.first asks.now before (map numbered result.items) shared.old.state (record { trail = shared.new.trail; counts = shared.new.counts }) shared.new.state }
 {
     for ask in asks {
         let slate = slates.pop().unwrap();
@@ -105,7 +106,7 @@ pub(crate) fn leave_admitted<N: Adds<Item>, D: Slot + Drop, T: OpenedAs>(
     requires named { N.entries ≡ items_since seat.old.knows.seen shared.trail }
     requires table { seat.old.table ≡ turns.now }
     requires turn { HasTurn seat.old.knows }
-    requires stands { StandsAs D.Slot T.opening T.told (seat.old.knows.seen ++ items_since seat.old.knows.seen shared.trail) shared.trail shared.state }
+    requires stands { StandsAs D.Slot T.opening T.told T.first (seat.old.knows.seen ++ items_since seat.old.knows.seen shared.trail) (record { trail = shared.trail; counts = shared.counts }) shared.state }
     requires rights { NeedsOnly needs_of seat.old.knows.rights (items_since seat.old.knows.seen shared.trail) }
     ensures table { seat.new.table ≡ turns.now }
     ensures grown { seat.new.knows ≡ grown (items_since seat.old.knows.seen shared.trail) seat.old.knows }

@@ -56,7 +56,7 @@ fn leave_ended<N: Adds<Item>, D: Slot + Drop, T: OpenedAs>(
     requires named { N.entries ≡ ending_items (state_of shared.state) number }
     requires table { seat.old.table ≡ turns.now }
     requires turn { HasTurn seat.old.knows }
-    requires stands { StandsAs D.Slot T.opening T.told seat.old.knows.seen shared.trail shared.state }
+    requires stands { StandsAs D.Slot T.opening T.told T.first seat.old.knows.seen (record { trail = shared.trail; counts = shared.counts }) shared.state }
     requires live { IsSeat (state_of shared.state) number }
     requires no_client { HasNoChild (state_of shared.state).trackers (query_of (state_of shared.state) number) }
     requires rights { (0 < times door seat.old.knows.rights) × (0 < times number seat.old.knows.rights) }

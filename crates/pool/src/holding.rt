@@ -2,6 +2,7 @@
 ghost use Rattle.std.specs.Prelude.{◌≡◌};
 ghost use Rattle.turn_table.specs.Knowledge.{HasTurn, IsIdle};
 ghost use Rattle.turn_table.specs.Steps.{grown};
+ghost use Rattle.session_calls.specs.Having.{sight_of};
 ghost use Rattle.pool.specs.Taking.{Gives, Takes, made_since};
 
 use crate::item::Item;
@@ -23,16 +24,18 @@ pub(crate) fn take_hand<D: Slot + Drop, T: OpenedAs, R: Wait>(
     requires table { seat.old.table ≡ turns.now }
     requires idle { IsIdle seat.old.knows }
     ensures table { seat.new.table ≡ turns.now }
-    ensures takes { Takes D.Slot T.opening T.told number seat.old seat.new result }
+    ensures takes { Takes D.Slot T.opening T.told T.first number seat.old seat.new result }
 {
     let Shared {
         state,
         trail,
+        counts,
         first: _,
     } = turns.enter(rt, seat);
     Hand {
         state,
         trail,
+        counts,
         session: number,
     }
 }
@@ -45,18 +48,20 @@ pub(crate) fn give_hand<D: Slot + Drop, T: OpenedAs>(
 )
     requires table { seat.old.table ≡ turns.now }
     requires turn { HasTurn seat.old.knows }
-    requires gives { Gives D.Slot T.opening T.told seat.old hand }
+    requires gives { Gives D.Slot T.opening T.told T.first seat.old hand }
     ensures table { seat.new.table ≡ turns.now }
-    ensures grown { seat.new.knows ≡ grown (made_since seat.old.knows.seen hand.trail) seat.old.knows }
+    ensures grown { seat.new.knows ≡ grown (made_since hand.session seat.old.knows.seen (sight_of hand)) seat.old.knows }
 {
     let Hand {
         state,
         trail,
+        counts,
         session,
     } = hand;
     let shared = Shared {
         state,
         trail,
+        counts,
         first: PhantomData,
     };
     leave_made::<Brand, D, T>(turns, seat, shared, session);
@@ -69,12 +74,12 @@ fn leave_made<N: Adds<Item>, D: Slot + Drop, T: OpenedAs>(
     shared: Shared<D, T>,
     _session: u32,
 )
-    requires named { N.entries ≡ made_since seat.old.knows.seen shared.trail }
+    requires named { N.entries ≡ made_since _session seat.old.knows.seen (record { trail = shared.trail; counts = shared.counts }) }
     requires table { seat.old.table ≡ turns.now }
     requires turn { HasTurn seat.old.knows }
-    requires gives { Gives D.Slot T.opening T.told seat.old (record { state = shared.state; trail = shared.trail; session = _session }) }
+    requires gives { Gives D.Slot T.opening T.told T.first seat.old (record { state = shared.state; trail = shared.trail; counts = shared.counts; session = _session }) }
     ensures table { seat.new.table ≡ turns.now }
-    ensures grown { seat.new.knows ≡ grown (made_since seat.old.knows.seen shared.trail) seat.old.knows }
+    ensures grown { seat.new.knows ≡ grown (made_since _session seat.old.knows.seen (record { trail = shared.trail; counts = shared.counts })) seat.old.knows }
 {
     // The pool's laws tell how many slots are spare.
     shared.state.parts();

@@ -1,11 +1,12 @@
 //! One pool that several queries share: who opened it lets sessions in and out, one turn after the other.
 //!
-//! Model: the pool's value stands under a turn lock for one list of items, which are the entries of one legal history.
-//! An item by which a session comes or goes needs the door, and each item needs its maker's number. The pass has the
-//! door, and the numbers that no session has; a session has its own number. So the pass has seen every coming and
-//! going, and a session has seen every entry of its own, whatever others do.
+//! Model: the pool's value stands under a turn lock for one list of items, which are the entries of one legal history,
+//! and what slots counted each time that they went out. An item by which a session comes or goes needs the door, and
+//! each item needs its maker's number. The pass has the door, and the numbers that no session has; a session has its
+//! own number. So the pass has seen every coming and going, and a session has seen every entry of its own, whatever
+//! others do.
 //! Invariant: the value stands for the whole list; the quotas of the sessions that came and haven't gone, with the
-//! spare slots, are all slots; and no slot is lost (`specs/Standing.antt`).
+//! spare slots, are all slots; no slot is lost; and the slots count what the history tells (`specs/Standing.antt`).
 #![tactic(auto)]
 
 mod admitting;

@@ -16,16 +16,16 @@ pub(crate) struct Lock<'a, D: Slot, R: Wait, T: OpenedAs> {
 
 impl<'a, D: Slot + Drop, R: Wait, T: OpenedAs> Access<D> for Lock<'a, D, R, T> {
     ghost use Rattle.std.specs.Prelude.{◌≡◌, false, true};
-    ghost use Rattle.session_calls.specs.Having.{MayGive, Taken};
+    ghost use Rattle.session_calls.specs.Having.{MayGive, Taken, sight_of};
     ghost use Rattle.session_calls.specs.declared.hand.Hand.{Hand};
-    ghost use Rattle.pool.specs.Items.{history};
+    ghost use Rattle.pool.specs.Items.{sight_in};
     ghost use Rattle.pool.specs.Locking.{RestsThere, TurnsThere, never_alone};
 
     type Place = TurnSeat<Shared<D, T>>;
 
     ghost alone = { false };
 
-    ghost seen = { λ spot. history spot.knows.seen };
+    ghost seen = { λ spot. sight_in T.first spot.knows.seen };
 
     // Others may have it.
     ghost kept = { λ spot hand. Unit {0} };
@@ -39,7 +39,7 @@ impl<'a, D: Slot + Drop, R: Wait, T: OpenedAs> Access<D> for Lock<'a, D, R, T> {
     fn take<O: Origin>(&self, place: &mut TurnSeat<Shared<D, T>>, session: u32) -> Hand<D>
         requires { RestsThere T.opening T.told O.opening O.outset self.now.turns.now place.old session }
         ensures turns { TurnsThere T.opening T.told O.opening O.outset self.now.turns.now place.new session }
-        ensures taken { Taken D.Slot O.opening O.outset.told session (history place.old.knows.seen) (history place.new.knows.seen) result }
+        ensures taken { Taken D.Slot O.opening O.outset.told session (sight_in T.first place.old.knows.seen) (sight_in T.first place.new.knows.seen) result }
         ensures kept { false ≡ true → (hand : Hand D) → Unit {0} → result ≡ hand }
     {
         take_hand(self.rt, self.turns, place, session)
@@ -47,9 +47,9 @@ impl<'a, D: Slot + Drop, R: Wait, T: OpenedAs> Access<D> for Lock<'a, D, R, T> {
 
     fn give<O: Origin>(&self, place: &mut TurnSeat<Shared<D, T>>, hand: Hand<D>)
         requires turns { TurnsThere T.opening T.told O.opening O.outset self.now.turns.now place.old hand.session }
-        requires may { MayGive D.Slot O.opening O.outset.told (history place.old.knows.seen) hand }
+        requires may { MayGive D.Slot O.opening O.outset.told (sight_in T.first place.old.knows.seen) hand }
         ensures rests { RestsThere T.opening T.told O.opening O.outset self.now.turns.now place.new hand.session }
-        ensures seen { history place.new.knows.seen ≡ hand.trail }
+        ensures seen { sight_in T.first place.new.knows.seen ≡ sight_of hand }
         ensures kept { false ≡ true → Unit {0} }
     {
         give_hand(self.turns, place, hand);

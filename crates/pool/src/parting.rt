@@ -6,10 +6,10 @@ ghost use Rattle.block_arena.specs.Blocks.{IsBlockLen};
 ghost use Rattle.turn_table.specs.Lists.{times};
 ghost use Rattle.turn_table.specs.Knowledge.{IsFirst, IsIdle};
 ghost use Rattle.turn_table.specs.Steps.{parted};
-ghost use Rattle.pool.specs.Asking.{answer_of};
+ghost use Rattle.pool.specs.Asking.{all_numbers, answer_of};
 ghost use Rattle.pool.specs.Admitting.{numbered};
 ghost use Rattle.pool.specs.Rooms.{IsRoom};
-ghost use Rattle.pool.specs.Parting.{AreComing, AreSeats, CanHand, IsComing, IsSeatOf, SeatsOf, all_numbers, handed_out};
+ghost use Rattle.pool.specs.Parting.{AreComing, AreSeats, CanHand, IsComing, IsSeatOf, SeatsOf, handed_out};
 
 use crate::ask::Ask;
 use crate::ledger::Ledger;

@@ -1,12 +1,12 @@
 //! A pool that sessions share.
-ghost use Rattle.std.specs.Prelude.{◌≡◌, ◌≤◌, ◌+◌, [], IfErr, IfOk, OnErr, map, vec_len};
-ghost use Rattle.std.specs.List.{All};
+ghost use Rattle.std.specs.Prelude.{◌≡◌, ◌≤◌, ◌+◌, ℕ, [], None, IfErr, IfOk, OnErr, map, vec_len};
+ghost use Rattle.std.specs.List.{All, sum_by};
 ghost use Rattle.std.specs.Option.{ForSome};
 ghost use Rattle.pin_core.specs.Setup.{OpensWith};
 ghost use Rattle.pool.specs.Opening.{ClosesWith, OpensAs};
 ghost use Rattle.pool.specs.Seats.{live_in, taken_in};
 ghost use Rattle.pool.specs.Seating.{Begins, TurnsAway};
-ghost use Rattle.pool.specs.Remaining.{all_left, quotas_of, refusals};
+ghost use Rattle.pool.specs.Remaining.{all_left, quotas_of, refusal_of, refusals};
 ghost use Rattle.pool.specs.Asking.{Admits, answer_of, refusal_in};
 
 use crate::ask::Ask;
@@ -22,6 +22,7 @@ use client_accounts::ClientAccounts;
 use outside::Slot;
 use pin_core::{PoolConf, PoolState};
 use reservation_tree::{Memory, PoolErr};
+use session_calls::count_opening;
 use std::alloc::Global;
 use std::marker::{Brand, Model, PhantomData};
 use std::sync::Wait;
@@ -61,15 +62,19 @@ impl<D: Slot + Drop, T: OpenedAs> Pool<D, T> {
     ) -> Result<(Pool<D, T>, Pass<D, T>), (Vec<D>, Memory)>
         requires conf { OpensWith conf.now }
         requires slots { vec_len slots ≤ 1048576 }
-        requires opens { OpensAs D.Slot conf.now slots.items T.opening T.told }
+        requires opens { OpensAs D.Slot conf.now slots.items T.opening T.told T.first }
         ensures table { IfOk result (λ p. p.1.table ≡ p.0) }
         ensures seen { IfOk result (λ p. p.1.knows.seen ≡ []) }
-        ensures back { IfErr result (λ e. vec_len e.0 ≡ vec_len slots) }
+        ensures back { IfErr result (λ e. (measure : D → ℕ) → sum_by measure e.0.items ≡ sum_by measure slots.items) }
     {
         let spare = slots.len() as u32;
         let Ok(trail) = Solo::open(alloc) else {
             return Err((slots, Memory));
         };
+        let Ok(mut counts) = Solo::open(alloc) else {
+            return Err((slots, Memory));
+        };
+        count_opening(&mut counts, slots.as_slice());
         let state = match PoolState::open(alloc, conf, slots) {
             Ok(state) => state,
             Err((slots, _)) => return Err((slots, Memory)),
@@ -77,6 +82,7 @@ impl<D: Slot + Drop, T: OpenedAs> Pool<D, T> {
         let shared = Shared {
             state,
             trail,
+            counts,
             first: PhantomData,
         };
         match Turns::with(alloc, shared) {
@@ -110,6 +116,7 @@ impl<D: Slot + Drop, T: OpenedAs> Pool<D, T> {
         requires spare { quota + taken_in pass.old.knows.seen ≤ T.opening.slots }
         ensures ok { IfOk result (λ s. Begins T.opening T.told limit quota least pass.old pass.new s.seat) }
         ensures err { IfErr result (λ e. TurnsAway T.opening limit least pass.old pass.new e) }
+        ensures fresh { live_in pass.old.knows.seen ≡ 0 → refusal_of (record { limit = limit; quota = quota; least = least; count = 1 }) (all_left T.opening) ≡ None → IfErr result (λ e. e ≡ PoolErr.Memory) }
     {
         let accounts = ClientAccounts::open(alloc);
         let seat = seat_session(
@@ -179,7 +186,7 @@ impl<D: Slot + Drop, T: OpenedAs> Pool<D, T> {
     pub fn close(self, pass: Pass<D, T>) -> Vec<D>
         requires table { pass.table ≡ self }
         requires none { live_in pass.knows.seen ≡ 0 }
-        ensures { ClosesWith D.Slot T.opening T.told pass result.items }
+        ensures { ClosesWith D.Slot T.opening T.told T.first pass result.items }
     {
         let Pool {
             turns,

@@ -1,5 +1,5 @@
 //! A session is let in.
-ghost use Rattle.std.specs.Prelude.{◌≡◌, ◌≤◌, ◌<◌, ◌+◌, ◌++◌, [], Ok, IfOk, IfErr, OnOk};
+ghost use Rattle.std.specs.Prelude.{◌≡◌, ◌≤◌, ◌<◌, ◌+◌, ◌++◌, [], None, Ok, IfOk, IfErr, OnOk};
 ghost use Rattle.block_arena.specs.Blocks.{IsBlockLen};
 ghost use Rattle.pin_core.specs.StateOf.{state_of};
 ghost use Rattle.pin_core.specs.Sessions.{query_of};
@@ -7,9 +7,10 @@ ghost use Rattle.turn_table.specs.Lists.{times};
 ghost use Rattle.turn_table.specs.Knowledge.{HasTurn};
 ghost use Rattle.turn_table.specs.Steps.{grown};
 ghost use Rattle.pool.specs.Items.{door};
-ghost use Rattle.pool.specs.Seats.{taken_in};
+ghost use Rattle.pool.specs.Seats.{live_in, taken_in};
 ghost use Rattle.pool.specs.Standing.{StandsAs};
 ghost use Rattle.pool.specs.Seating.{Begins, IsSessionRefusal, MustTurnAway, TurnsAway, beginning_items};
+ghost use Rattle.pool.specs.Remaining.{all_left, refusal_of};
 
 use crate::admitting::admit;
 use crate::item::Item;
@@ -45,8 +46,10 @@ pub(crate) fn seat_session<D: Slot + Drop, T: OpenedAs, R: Wait>(
     requires spare { quota + taken_in pass.old.knows.seen ≤ T.opening.slots }
     ensures ok { IfOk result (λ s. Begins T.opening T.told limit quota least pass.old pass.new s) }
     ensures err { IfErr result (λ e. TurnsAway T.opening limit least pass.old pass.new e) }
+    ensures fresh { live_in pass.old.knows.seen ≡ 0 → refusal_of (record { limit = limit; quota = quota; least = least; count = 1 }) (all_left T.opening) ≡ None → IfErr result (λ e. e ≡ PoolErr.Memory) }
 {
     let mut shared = turns.enter(rt, &mut pass.seat);
+    shared.state.parts();
     let accounts = match check_session(&shared.state, limit, least, accounts) {
         Ok(accounts) => accounts,
         Err(refusal) => {
@@ -120,7 +123,7 @@ fn leave_begun<N: Adds<Item>, D: Slot + Drop, T: OpenedAs>(
     requires named { N.entries ≡ beginning_items _number (query_of (state_of shared.state) _number) _limit _quota _least }
     requires table { seat.old.table ≡ turns.now }
     requires turn { HasTurn seat.old.knows }
-    requires stands { StandsAs D.Slot T.opening T.told (seat.old.knows.seen ++ beginning_items _number (query_of (state_of shared.state) _number) _limit _quota _least) shared.trail shared.state }
+    requires stands { StandsAs D.Slot T.opening T.told T.first (seat.old.knows.seen ++ beginning_items _number (query_of (state_of shared.state) _number) _limit _quota _least) (record { trail = shared.trail; counts = shared.counts }) shared.state }
     requires rights { (0 < times door seat.old.knows.rights) × (0 < times _number seat.old.knows.rights) }
     ensures table { seat.new.table ≡ turns.now }
     ensures grown { seat.new.knows ≡ grown (beginning_items _number (query_of (state_of shared.state) _number) _limit _quota _least) seat.old.knows }

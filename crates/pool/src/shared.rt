@@ -4,14 +4,16 @@ use crate::opened::OpenedAs;
 use outside::Slot;
 use pin_core::PoolState;
 use pool_model::Entry;
+use session_calls::Count;
 use std::marker::{Brand, PhantomData};
 use turn_table::{Logged, Solo};
 
-/// A pool's value under a turn lock, and the history for which it stands. `T` names with what the pool opened.
+/// A pool's value under a turn lock, the history for which it stands, and what its slots counted. `T` names with what the pool opened.
 #[derive(Drop)]
 pub struct Shared<D: Slot, T: OpenedAs = Brand> {
     pub(crate) state: PoolState<D>,
     pub(crate) trail: Solo<Entry>,
+    pub(crate) counts: Solo<Count>,
     pub(crate) first: PhantomData<T>,
 }
 
@@ -21,7 +23,7 @@ impl<D: Slot, T: OpenedAs> Logged for Shared<D, T> {
 
     type Entry = Item;
 
-    ghost stands = { λ value items. StandsAs D.Slot T.opening T.told items value.trail value.state };
+    ghost stands = { λ value items. StandsAs D.Slot T.opening T.told T.first items (record { trail = value.trail; counts = value.counts }) value.state };
 
     ghost rights = { all_rights };
 

@@ -22,7 +22,7 @@ pub(crate) fn begin_turn<D: Slot + Drop, T: OpenedAs, R: Wait>(
     requires table { spot.old.table ≡ turns.now }
     requires sits { Sits T.opening T.told (record { number = number; spot = spot.old }) }
     ensures table { spot.new.table ≡ turns.now }
-    ensures begins { IsInTurn D.Slot T.opening T.told (record { number = number; spot = spot.old }) spot.new result }
+    ensures begins { IsInTurn D.Slot T.opening T.told T.first (record { number = number; spot = spot.old }) spot.new result }
 {
     take_hand(rt, turns, spot, number)
 }
@@ -35,7 +35,7 @@ pub(crate) fn end_turn<D: Slot + Drop, T: OpenedAs>(
     hand: Hand<D>,
 )
     requires table { spot.old.table ≡ turns.now }
-    requires may { MayEndTurn D.Slot T.opening T.told spot.old ledger.old hand }
+    requires may { MayEndTurn D.Slot T.opening T.told T.first spot.old ledger.old hand }
     ensures table { spot.new.table ≡ turns.now }
     ensures ends { SitsAgain T.opening T.told ledger.new hand (record { number = hand.session; spot = spot.new }) }
 {

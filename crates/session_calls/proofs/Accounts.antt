@@ -65,13 +65,14 @@ module _ {D : Type 0} (slot : Ghosts D) (o : Opening) (u : Outset) (hand : Hand 
   -- a client came
   pub came : (t tracker q limit : ℕ) (new : Hand D) → tracker ≡ t → q ≡ query_of s hand.session → (client_count s hand.session ≡ 16 → ⊥)
       → Enters slot (client_entry hand.session (query_of s hand.session) limit t ∷ []) [] [] hand.state new.state
-      → new.trail ≡ hand.trail ++ record { maker = hand.session; event = AddTracker tracker q limit None } ∷ [] → new.session ≡ hand.session
+      → new.trail ≡ hand.trail ++ record { maker = hand.session; event = AddTracker tracker q limit None } ∷ [] → new.session ≡ hand.session → new.counts ≡ hand.counts
       → IsReady slot o u new × ActsThese (AddTracker t held.query limit None ∷ []) hand new
-  came t tracker q limit new same_t same_q free enters trail session =
+  came t tracker q limit new same_t same_q free enters trail session counts =
       let e : Event = AddTracker t held.query limit None in
       let went : Goes slot (e ∷ []) hand new = record {
         trail = trail ∙ ap (λ (k : ℕ). hand.trail ++ client_entry hand.session q limit k ∷ []) same_t ∙ ap (λ (k : ℕ). hand.trail ++ client_entry hand.session k limit t ∷ []) (same_q ∙ query_is its);
         session = session;
+        counts = counts;
         enters = subst (λ (k : ℕ). Enters slot (client_entry hand.session k limit t ∷ []) [] [] hand.state new.state) (query_is its) enters;
       } in
       (one_ready slot o u hand new is e went refl refl (after_events held (e ∷ [])) refl is.rests.live (fewer its is.rests.few free), one_acts slot o u hand new is e went refl refl)
@@ -123,21 +124,22 @@ module _ {D : Type 0} (slot : Ghosts D) (o : Opening) (u : Outset) (hand : Hand 
     -- its reservation grew by so many bytes
     reserved_by : (e : ℕ → Event) (bytes : ℕ) → rests (e c) ≡ true → keeps_seats (e c) ≡ true → after_events held (e c ∷ []) ≡ after_reserve c bytes held → (new : Hand D)
         → Enters slot (record { maker = mine.session; event = e mine.tracker } ∷ []) [] [] hand.state new.state
-        → new.trail ≡ hand.trail ++ record { maker = hand.session; event = e t } ∷ [] → new.session ≡ hand.session → IsReady slot o u new × ActsThese (e c ∷ []) hand new
-    reserved_by e bytes rest keeps ends new enters trail session =
+        → new.trail ≡ hand.trail ++ record { maker = hand.session; event = e t } ∷ [] → new.session ≡ hand.session → new.counts ≡ hand.counts → IsReady slot o u new × ActsThese (e c ∷ []) hand new
+    reserved_by e bytes rest keeps ends new enters trail session counts =
         let went : Goes slot (e c ∷ []) hand new = record {
           trail = trail ∙ ap (λ (k : ℕ). hand.trail ++ record { maker = hand.session; event = e k } ∷ []) same;
           session = session;
+          counts = counts;
           enters = subst (λ (k : ClientToken). Enters slot (record { maker = k.session; event = e k.tracker } ∷ []) [] [] hand.state new.state) token_is enters;
         } in
         (one_ready slot o u hand new is (e c) went rest keeps (after_reserve c bytes held) ends is.rests.live is.rests.few, one_acts slot o u hand new is (e c) went rest keeps)
 
     pub grew_by : (bytes : ℕ) (new : Hand D) → Enters slot (record { maker = mine.session; event = Increase mine.tracker bytes } ∷ []) [] [] hand.state new.state
-        → new.trail ≡ hand.trail ++ record { maker = hand.session; event = Increase t bytes } ∷ [] → new.session ≡ hand.session → IsReady slot o u new × ActsThese (Increase c bytes ∷ []) hand new
+        → new.trail ≡ hand.trail ++ record { maker = hand.session; event = Increase t bytes } ∷ [] → new.session ≡ hand.session → new.counts ≡ hand.counts → IsReady slot o u new × ActsThese (Increase c bytes ∷ []) hand new
     grew_by bytes = reserved_by (λ k. Increase k bytes) bytes refl refl ((calls_tell hand.session held).reserve c bytes some)
 
     pub grew_to_fit : (bytes : ℕ) (new : Hand D) → Enters slot (record { maker = mine.session; event = IncreaseToFit mine.tracker bytes } ∷ []) [] [] hand.state new.state
-        → new.trail ≡ hand.trail ++ record { maker = hand.session; event = IncreaseToFit t bytes } ∷ [] → new.session ≡ hand.session → IsReady slot o u new × ActsThese (IncreaseToFit c bytes ∷ []) hand new
+        → new.trail ≡ hand.trail ++ record { maker = hand.session; event = IncreaseToFit t bytes } ∷ [] → new.session ≡ hand.session → new.counts ≡ hand.counts → IsReady slot o u new × ActsThese (IncreaseToFit c bytes ∷ []) hand new
     grew_to_fit bytes = reserved_by (λ k. IncreaseToFit k bytes) (shortfall c bytes held) refl refl ((calls_tell hand.session held).reserve_to_fit c bytes some)
 
     -- why it can't grow, if it can't: for its own limits, or for one that others share
@@ -164,9 +166,9 @@ module _ {D : Type 0} (slot : Ghosts D) (o : Opening) (u : Outset) (hand : Hand 
     pub left : IsIdle c held → (q bytes : ℕ) (new : Hand D) (first : List Entry) → q ≡ query_of s hand.session → bytes ≡ reservation_of s.trackers t
         → Enters slot (leaving_entries s mine.session mine.tracker) [] [] hand.state new.state
         → first ≡ hand.trail ++ record { maker = hand.session; event = MoveReservation t q bytes } ∷ []
-        → new.trail ≡ first ++ record { maker = hand.session; event = CloseTracker t } ∷ [] → new.session ≡ hand.session
+        → new.trail ≡ first ++ record { maker = hand.session; event = CloseTracker t } ∷ [] → new.session ≡ hand.session → new.counts ≡ hand.counts
         → IsReady slot o u new × ActsThese (MoveReservation c held.query (account_of c held).reservation ∷ CloseTracker c ∷ []) hand new
-    left idle q bytes new first same_q same_bytes enters trail_first trail session =
+    left idle q bytes new first same_q same_bytes enters trail_first trail session counts =
         let m : ℕ = hand.session in
         let gives : Event = MoveReservation c held.query (account_of c held).reservation in
         let events : List Event = gives ∷ CloseTracker c ∷ [] in
@@ -177,13 +179,14 @@ module _ {D : Type 0} (slot : Ghosts D) (o : Opening) (u : Outset) (hand : Hand 
               ∙ ap (λ (who : ℕ). hand.trail ++ goes_away who q bytes) same ∙ ap (λ (to : ℕ). hand.trail ++ goes_away c to bytes) (same_q ∙ query_is its)
               ∙ ap (λ (n : ℕ). hand.trail ++ goes_away c held.query n) (same_bytes ∙ ap (reservation_of s.trackers) same ∙ reservation_here its c some);
           session = session;
+          counts = counts;
           enters =
               subst (λ (es : List Entry). Enters slot es [] [] hand.state new.state) (leaving_is its c some)
               (subst (λ (k : ClientToken). Enters slot (leaving_entries s k.session k.tracker) [] [] hand.state new.state) token_is enters);
         } in
         let few : (after_end_client c held).live_clients ≤ 16 = let now : held.live_clients ≤ 16 = is.rests.few in omega (arith, now) in (
           ready_by slot hand new events went o u is (refl, (refl, tt)) (refl, (refl, tt)) (after_end_client c held) ((calls_tell m held).end_client c some its.fits.apart) is.rests.live few,
-          acts_by slot hand new events went refl (λ k.
+          acts_by slot hand new events went refl (refl, (refl, tt)) (λ k.
               ap (λ (z : State). quota_at z k) went.enters.state
               ∙ quota_closed (after s (record { maker = m; event = gives })) m c its.session k its.lives (query_apart c some)),
         )

@@ -27,7 +27,7 @@ use Rattle.pin_core.specs.Turns.{IsWriting}
 use Rattle.session_calls.specs.declared.hand.Hand.{Hand}
 use Rattle.session_calls.specs.Moving.{is_moving}
 use Rattle.session_calls.specs.Ready.{IsReady}
-use Rattle.session_calls.specs.Having.{Worked}
+use Rattle.session_calls.specs.Having.{Sight, Worked}
 use Rattle.session_calls.proofs.Lists.{alone_more}
 
 -- the maker itself flies each page that flies
@@ -130,5 +130,5 @@ module _ {D : Type 0} (slot : Ghosts D) (o : Opening) (u : Outset) (hand : Hand 
       let never : true ≡ false = sym (ap is_moving writing.flies) ∙ none_moving writing.name writing.page writing.lives in cc
 
 -- it works on alone
-pub all_worked : {D : Type 0} (o : Opening) (seen : List Entry) (hand : Hand D) → Worked o seen hand → AllBy hand.session seen → AllBy hand.session hand.trail
-all_worked o seen hand worked all = subst (AllBy hand.session) (sym worked.trail) (alone_more hand.session seen worked.events all)
+pub all_worked : {D : Type 0} (o : Opening) (seen : Sight) (hand : Hand D) → Worked o seen hand → AllBy hand.session seen.trail → AllBy hand.session hand.trail
+all_worked o seen hand worked all = subst (AllBy hand.session) (sym worked.trail) (alone_more hand.session seen.trail worked.events all)

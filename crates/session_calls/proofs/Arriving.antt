@@ -70,9 +70,9 @@ module _ {D : Type 0} (slot : Ghosts D) (hand new : Hand D) (blocks : ℕ) (e : 
   events = evicts_for blocks hand ++ e ∷ []
 
   -- a call of the pool that evicts clean pages first
-  pub goes_evicting : (entered : Event) (mid gone : List Entry) → gone ≡ by hand.session (evicts_for blocks hand) → mid ≡ hand.trail ++ gone → new.trail ≡ mid ++ by hand.session (entered ∷ []) → entered ≡ e → new.session ≡ hand.session
+  pub goes_evicting : (entered : Event) (mid gone : List Entry) → gone ≡ by hand.session (evicts_for blocks hand) → mid ≡ hand.trail ++ gone → new.trail ≡ mid ++ by hand.session (entered ∷ []) → entered ≡ e → new.session ≡ hand.session → new.counts ≡ hand.counts
       → Enters slot (evictions hand.session names ++ record { maker = hand.session; event = e } ∷ []) [] [] hand.state new.state → Goes slot events hand new
-  goes_evicting entered mid gone named first trail same session enters =
+  goes_evicting entered mid gone named first trail same session counts enters =
       let m : ℕ = hand.session in
       let evicts : List Event = evicts_for blocks hand in
       let both : by m events ≡ by m evicts ++ by m (e ∷ []) = by_append m evicts (e ∷ []) in
@@ -81,6 +81,7 @@ module _ {D : Type 0} (slot : Ghosts D) (hand new : Hand D) (blocks : ℕ) (e : 
             trail ∙ ap (λ (x : Event). mid ++ by m (x ∷ [])) same ∙ ap (λ (h : List Entry). h ++ by m (e ∷ [])) first ∙ ap (λ (es : List Entry). (hand.trail ++ es) ++ by m (e ∷ [])) named
             ∙ append_assoc hand.trail (by m evicts) (by m (e ∷ [])) ∙ ap (λ (es : List Entry). hand.trail ++ es) (sym both);
         session = session;
+        counts = counts;
         enters = subst (λ (es : List Entry). Enters slot es [] [] hand.state new.state) (ap (λ (es : List Entry). es ++ by m (e ∷ [])) (sym (evicts_by m names)) ∙ sym both) enters;
       }
 

@@ -33,20 +33,23 @@ use Rattle.session_calls.proofs.Asks.{asked_none, asked_more, asked_last}
 use Rattle.session_calls.proofs.RoomCalls.{may_refuse}
 use Rattle.session_calls.proofs.Roomed.{stored_for}
 use Rattle.session_calls.specs.declared.hand.Hand.{Hand}
+use Rattle.session_calls.specs.declared.count.Count.{Count}
 use Rattle.session_calls.specs.declared.turning.Turn.{Turn}
 use Rattle.session_calls.specs.declared.turning.Turn.TheVariants as turn
 use Rattle.session_calls.specs.Told.{signs_in}
 use Rattle.session_calls.specs.Moving.{quota_at, slots_out}
+use Rattle.session_calls.specs.Outgoing.{CountsWhole}
 use Rattle.session_calls.specs.Ready.{IsReady, IsResting}
 use Rattle.session_calls.specs.Acting.{Acts, ActsThese, held_by, signs_by}
 use Rattle.session_calls.specs.Doing.{Does}
-use Rattle.session_calls.specs.Having.{IsAtWork}
+use Rattle.session_calls.specs.Having.{Sight, IsAtWork}
 use Rattle.session_calls.specs.Jobs.{DoesIn}
 use Rattle.session_calls.specs.Turning.{Refuses, TurnIs}
 use Rattle.session_calls.proofs.Entered.{acts_entered}
 use Rattle.session_calls.proofs.Between.{rests_on, worked_on}
 use Rattle.session_calls.proofs.Did.{does_at, acts_did, did_more, did_so, did_held, did_grows, did_made}
 use Rattle.session_calls.proofs.Knowing.{Knows, knows}
+use Rattle.session_calls.proofs.Outgoing.{counts_rest}
 use Rattle.session_calls.proofs.Quotas.{quota_stays}
 use Rattle.session_calls.proofs.SinceAsked.{does_ask, has_asked}
 use Rattle.session_calls.proofs.Steps.{acts_does}
@@ -66,13 +69,13 @@ evicts_open (e ∷ evicts) last are none = (evict_opens e (All-head IsEvict e ev
 module _ {D : Type 0} where
   module _ (slot : Ghosts D) (o : Opening) (u : Outset) where
     -- a session that is at work goes on with a step
-    pub works_with : {P : List Event → Type 0} (seen : List Entry) (old new : Hand D) → IsAtWork slot o u seen old → Acts P old new → IsReady slot o u new → IsAtWork slot o u seen new
+    pub works_with : {P : List Event → Type 0} (seen : Sight) (old new : Hand D) → IsAtWork slot o u seen old → Acts P old new → IsReady slot o u new → IsAtWork slot o u seen new
     works_with seen old new was acts ready = record { worked = worked_on o u seen old new was.worked (acts_entered old new acts); ready = ready }
 
     -- a refusal is entered, and changes nothing else
     module _ (old new : Hand D) (was : IsReady slot o u old) (call : Call) (entry : ℕ) (may : MayFollow old.trail (state_of old.state) (refusal_of old.session call entry))
         (enters : EntersWhere slot (λ q h. MayFollow h (state_of old.state) (refusal_of old.session call entry)) (refusal_of old.session call entry) [] old.state new.state)
-        (trail : new.trail ≡ old.trail ++ refusal_of old.session call entry ∷ []) (session : new.session ≡ old.session) where
+        (trail : new.trail ≡ old.trail ++ refusal_of old.session call entry ∷ []) (session : new.session ≡ old.session) (counts : new.counts ≡ old.counts) where
       pub no_slot : (measure : D → ℕ) → slots_home measure new.state ≡ slots_home measure old.state
       no_slot measure = let moved = enters.slots measure in omega (arith, moved)
 
@@ -82,20 +85,29 @@ module _ {D : Type 0} where
         is = refl;
         trail = trail;
         session = session;
+        opens = (refl, tt);
         quotas = λ k. ap (λ (s : State). quota_at s k) enters.state ∙ quota_stays (state_of old.state) (refusal_of old.session call entry) k refl;
         slots = no_slot;
+        counts = counts;
       }
+
+      stood : StandsFor slot o (old.trail ++ refusal_of old.session call entry ∷ []) new.state
+      stood = enters.stands o old.trail was.whole.stands may
 
       pub ready_refused : IsReady slot o u new
       ready_refused = record {
         whole = record {
-          stands = subst (λ (h : List Entry). StandsFor slot o h new.state) (sym trail) (enters.stands o old.trail was.whole.stands may);
+          stands = subst (λ (h : List Entry). StandsFor slot o h new.state) (sym trail) stood;
           home =
               let moved = enters.slots (λ d. 1) in
               let home = was.whole.home in
               let same : slots_out (state_of new.state).pages ≡ slots_out (state_of old.state).pages = ap (λ (s : State). slots_out s.pages) enters.state in
               omega (arith, moved, home, same);
           tell = λ told. let moved = enters.slots (silence slot) in let none = was.whole.tell told in omega (arith, moved, none);
+          sums =
+              subst (λ (l : List Count). CountsWhole slot new.trail l new.state) (sym counts)
+              (subst (λ (h : List Entry). CountsWhole slot h old.counts new.state) (sym trail)
+              (counts_rest slot o old.trail old.counts old.state was.whole.stands was.whole.sums old.session (Refused call entry ∷ []) new.state (refl, tt) stood no_slot));
         };
         rests = subst (λ (m : ℕ). IsResting o u m new.trail) (sym session)
             (rests_on o u old.session old.trail new.trail (acts_does old new acts_refused (refl, tt)) refl (λ p. refl) was.rests);

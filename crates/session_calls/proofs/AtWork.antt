@@ -2,7 +2,6 @@
 use Rattle.std.proofs.Common.{◌≡◌, ℕ, ◌<◌, ◌≤◌, List, [], ◌∷◌, Bool, true, false, is_some, sym, ap, ◌∙◌, subst}
 use Rattle.outside.specs.declared.slot.Slot.{Ghosts}
 use Rattle.pool_model.specs.declared.event.Event.{Event}
-use Rattle.pool_model.specs.declared.entry.Entry.{Entry}
 use Rattle.pool_model.specs.State.{Opening}
 use Rattle.pool_model.specs.LookingBack.{made_by}
 use Rattle.store_api.specs.Holdings.{Holdings}
@@ -14,7 +13,7 @@ use Rattle.session_calls.specs.declared.hand.Hand.{Hand}
 use Rattle.session_calls.specs.Moving.{keeps_seats}
 use Rattle.session_calls.specs.Ready.{IsReady}
 use Rattle.session_calls.specs.Acting.{Acts, Goes, held_by}
-use Rattle.session_calls.specs.Having.{MayGive, IsAtWork}
+use Rattle.session_calls.specs.Having.{Sight, MayGive, IsAtWork}
 use Rattle.session_calls.specs.Jobs.{DoesIn}
 use Rattle.session_calls.proofs.Between.{worked_on}
 use Rattle.session_calls.proofs.Entered.{acts_entered}
@@ -23,7 +22,7 @@ use Rattle.session_calls.proofs.Did.{acts_did, did_held}
 use Rattle.session_calls.proofs.Steps.{keep_opens, one_acts, one_ready}
 
 -- one event with which no job begins or ends, and no session comes or goes
-module _ {D : Type 0} (slot : Ghosts D) (o : Opening) (u : Outset) (seen : List Entry) (old new : Hand D) (was : IsAtWork slot o u seen old) (e : Event) (went : Goes slot (e ∷ []) old new)
+module _ {D : Type 0} (slot : Ghosts D) (o : Opening) (u : Outset) (seen : Sight) (old new : Hand D) (was : IsAtWork slot o u seen old) (e : Event) (went : Goes slot (e ∷ []) old new)
     (rest : rests e ≡ true) (keeps : keeps_seats e ≡ true) where
   pub one_works : (h : Holdings) → after_events (held_by o u old) (e ∷ []) ≡ h → is_some h.free_slots ≡ true → h.live_clients ≤ 16 → IsAtWork slot o u seen new
   one_works h ends live few = record {
@@ -38,13 +37,15 @@ module _ {D : Type 0} (slot : Ghosts D) (o : Opening) (u : Outset) (seen : List 
         is = is;
         trail = went.trail;
         session = went.session;
+        opens = keep_opens (e ∷ []) (keeps, tt);
         quotas = (one_acts slot o u old new was.ready e went rest keeps).quotas;
         slots = (one_acts slot o u old new was.ready e went rest keeps).slots;
+        counts = went.counts;
       } in
       acts_did old new acts (keep_opens (e ∷ []) (keeps, tt))
 
 -- jobs began and ended, whatever others did meanwhile
-module _ {D : Type 0} {P : List Event → Type 0} (slot : Ghosts D) (o : Opening) (u : Outset) (seen : List Entry) (old new : Hand D) (was : IsReady slot o u old) (did : DoesIn P old new) (may : MayGive slot o u.told seen new) where
+module _ {D : Type 0} {P : List Event → Type 0} (slot : Ghosts D) (o : Opening) (u : Outset) (seen : Sight) (old new : Hand D) (was : IsReady slot o u old) (did : DoesIn P old new) (may : MayGive slot o u.told seen new) where
   pub back_at_work : (h : Holdings) → after_events (held_by o u old) did.does.events ≡ h → is_some h.free_slots ≡ true → h.live_clients ≤ 16
       → ((p : ℕ) → busy_from p false (by old.session did.does.events) ≡ false) → IsAtWork slot o u seen new
   back_at_work h ends live few still =

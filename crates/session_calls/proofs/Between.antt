@@ -14,14 +14,15 @@ use Rattle.own_entries.specs.OwnHoldings.{Outset, after_events}
 use Rattle.own_entries.specs.Busy.{busy_from}
 use Rattle.own_entries.proofs.Calls.{asked_hold}
 use Rattle.session_calls.specs.Writing.{IsEnd, IsWrite}
-use Rattle.session_calls.proofs.Lists.{by_append, none_own}
+use Rattle.session_calls.proofs.Lists.{opens_append, by_append, none_own}
 use Rattle.session_calls.proofs.Asks.{asked_none, asked_more}
 use Rattle.session_calls.specs.declared.hand.Hand.{Hand}
+use Rattle.session_calls.specs.declared.count.Count.{Count}
 use Rattle.session_calls.specs.Told.{held_in}
 use Rattle.session_calls.specs.Moving.{quota_at}
 use Rattle.session_calls.specs.Ready.{IsResting}
 use Rattle.session_calls.specs.Doing.{Does}
-use Rattle.session_calls.specs.Having.{Worked, Taken, IsAtWork}
+use Rattle.session_calls.specs.Having.{Sight, Worked, Taken, IsAtWork, sight_of}
 use Rattle.session_calls.specs.Jobs.{DoesIn}
 use Rattle.session_calls.proofs.Entered.{Entered}
 use Rattle.session_calls.proofs.Doing.{does_held}
@@ -65,19 +66,25 @@ module _ (o : Opening) (u : Outset) where
 
   module _ {D : Type 0} where
     -- a session that has the value goes on
-    pub worked_on : {P : List Event → Type 0} (seen : List Entry) (old new : Hand D) → Worked o seen old → Entered P old new → Worked o seen new
+    pub worked_on : {P : List Event → Type 0} (seen : Sight) (old new : Hand D) → Worked o seen old → Entered P old new → Worked o seen new
     worked_on seen old new worked entered = record {
       events = worked.events ++ entered.events;
       trail =
-          entered.trail ∙ ap (λ (h : List Entry). h ++ by old.session entered.events) worked.trail ∙ append_assoc seen (by old.session worked.events) (by old.session entered.events)
-          ∙ ap (λ (es : List Entry). seen ++ es) (sym (by_append old.session worked.events entered.events)) ∙ ap (λ (m : ℕ). seen ++ by m (worked.events ++ entered.events)) (sym entered.session);
+          entered.trail ∙ ap (λ (h : List Entry). h ++ by old.session entered.events) worked.trail ∙ append_assoc seen.trail (by old.session worked.events) (by old.session entered.events)
+          ∙ ap (λ (es : List Entry). seen.trail ++ es) (sym (by_append old.session worked.events entered.events)) ∙ ap (λ (m : ℕ). seen.trail ++ by m (worked.events ++ entered.events)) (sym entered.session);
+      went = worked.went ++ entered.went;
+      counts = entered.counts ∙ ap (λ (l : List Count). l ++ entered.went) worked.counts ∙ append_assoc seen.counts worked.went entered.went;
+      opens = opens_append worked.events entered.events worked.opens entered.opens;
       quotas = λ k. entered.quotas k ∙ worked.quotas k;
     }
 
     -- it gave the value back, and took it again
-    module _ (slot : Ghosts D) (seen before now : List Entry) (hand taken : Hand D) (was : IsAtWork slot o u seen hand) (given : before ≡ hand.trail) (took : Taken slot o u.told hand.session before now taken) where
+    module _ (slot : Ghosts D) (seen before now : Sight) (hand taken : Hand D) (was : IsAtWork slot o u seen hand) (given : before ≡ sight_of hand) (took : Taken slot o u.told hand.session before now taken) where
       grew : taken.trail ≡ hand.trail ++ took.others
-      grew = took.trail ∙ took.grew ∙ ap (λ (h : List Entry). h ++ took.others) given
+      grew = ap (λ (z : Sight). z.trail) took.sight ∙ took.grew ∙ ap (λ (z : Sight). z.trail ++ took.others) given
+
+      counted : taken.counts ≡ hand.counts ++ took.went
+      counted = ap (λ (z : Sight). z.counts) took.sight ∙ took.counts ∙ ap (λ (z : Sight). z.counts ++ took.went) given
 
       abbrev nothing : Does hand.session (λ events. events ≡ []) hand.trail taken.trail
       nothing = record {
@@ -90,14 +97,17 @@ module _ (o : Opening) (u : Outset) where
       }
 
       pub waited : DoesIn (λ events. events ≡ []) hand taken
-      waited = record { session = took.session; does = nothing }
+      waited = record { session = took.session; went = took.went; counts = counted; does = nothing }
 
       pub works_again : IsAtWork slot o u now taken
       works_again = record {
         worked = record {
           events = [];
-          trail = took.trail ∙ sym (append-nil now);
-          quotas = λ k. ap (λ (s : State). quota_at s k) (took.whole.stands.state ∙ ap (state_after o) took.trail);
+          trail = ap (λ (z : Sight). z.trail) took.sight ∙ sym (append-nil now.trail);
+          went = [];
+          counts = ap (λ (z : Sight). z.counts) took.sight ∙ sym (append-nil now.counts);
+          opens = tt;
+          quotas = λ k. ap (λ (s : State). quota_at s k) (took.whole.stands.state ∙ ap (λ (z : Sight). state_after o z.trail) took.sight);
         };
         ready = record {
           whole = took.whole;

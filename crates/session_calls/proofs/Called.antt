@@ -1,5 +1,5 @@
 -- Calls that need room of a client, whole.
-use Rattle.std.proofs.Common.{◌≡◌, ℕ, ◌*◌, ◌<◌, List, [], ◌∷◌, ◌++◌, Result, Ok, Err, IfOk, IfErr, OnErr, OnOk, All, Bool, true, refl, sym, ap, ◌∙◌, subst}
+use Rattle.std.proofs.Common.{◌≡◌, ℕ, ◌*◌, ◌<◌, List, [], ◌∷◌, ◌++◌, Result, Ok, Err, IfOk, IfErr, OnErr, OnOk, All, true, refl, sym, ap, ◌∙◌, subst}
 use Rattle.std.proofs.lemmas.List.Elements.{All-nil, All-cons, All-head, All-tail, filter_map-append}
 use Rattle.outside.specs.declared.slot.Slot.{Ghosts}
 use Rattle.block_arena.specs.Memory.{Buffer}
@@ -21,13 +21,10 @@ use Rattle.session_calls.specs.Told.{signs_in}
 use Rattle.session_calls.specs.Ready.{IsReady}
 use Rattle.session_calls.specs.Acting.{Acts, held_by, signs_by}
 use Rattle.session_calls.specs.Coming.{IsFreshPage}
-use Rattle.session_calls.specs.Counting.{Costs}
-use Rattle.session_calls.specs.Needing.{EntersNeeded}
-use Rattle.session_calls.specs.Having.{IsAtWork}
+use Rattle.session_calls.specs.Having.{Sight, IsAtWork}
 use Rattle.session_calls.specs.Jobs.{DoesIn}
 use Rattle.session_calls.specs.Turning.{Refuses}
 use Rattle.session_calls.proofs.Asked.{works_with, asked_held, taken_then}
-use Rattle.session_calls.proofs.Costs.{costs_taken}
 use Rattle.session_calls.proofs.Did.{did_grows, did_made}
 
 all_front : {X : Type 0} (P : X → Type 0) (front rest : List X) → All P (front ++ rest) → All P front
@@ -88,7 +85,7 @@ module _ {D : Type 0} (o : Opening) (u : Outset) where
       taken_created (Ok made) came = taken_then o u t start now asked (Create made.0.name t blocks made.0.key ∷ []) new came (refl, tt)
       taken_created (Err e) came = tt
 
-      pub works_created : (slot : Ghosts D) (seen : List Entry) (r : Result (PageToken × Buffer) PoolErr) → IsAtWork slot o u seen now → IfOk r Came → OnErr r Spent → IsReady slot o u new → IsAtWork slot o u seen new
+      pub works_created : (slot : Ghosts D) (seen : Sight) (r : Result (PageToken × Buffer) PoolErr) → IsAtWork slot o u seen now → IfOk r Came → OnErr r Spent → IsReady slot o u new → IsAtWork slot o u seen new
       works_created slot seen (Ok made) was came spent ready = works_with slot o u seen now new was came ready
       works_created slot seen (Err e) was came spent ready = subst (IsAtWork slot o u seen) (sym spent.0) was
 
@@ -96,11 +93,6 @@ module _ {D : Type 0} (o : Opening) (u : Outset) where
       refused_created (Ok made) is spent = tt
       refused_created (Err e) is spent =
           subst (λ (x : Hand D). Refuses o u t (call.Create t blocks) start x e) (sym spent.0) (subst (Refuses o u t (call.Create t blocks) start now) (sym is) (names_lack spent.1))
-
-      pub costs_created : (slot : Ghosts D) (alone : Bool) (bytes : ℕ) (r : Result (PageToken × Buffer) PoolErr) → IsReady slot o u now → Costs slot alone t bytes start now → EntersNeeded t bytes now new → IfOk r Came → OnErr r Spent
-          → Costs slot alone t bytes start new
-      costs_created slot alone bytes (Ok made) was costs needed came spent = costs_taken slot alone t bytes o u start now new asked costs was (Create made.0.name t blocks made.0.key) refl needed came
-      costs_created slot alone bytes (Err e) was costs needed came spent = subst (Costs slot alone t bytes start) (sym spent.0) costs
 
     pub fresh_taken : (r : Result (PageToken × Buffer) PoolErr) → IfOk r (λ made. IsFreshPage t blocks made (held_by o u now) (signs_by o now)) → IfOk r (λ made. IsFreshPage t blocks made (held_by o u start) (signs_by o start))
     fresh_taken (Ok made) fresh = fresh_before made fresh

@@ -1,6 +1,6 @@
 -- What events of one maker count.
-use Rattle.std.proofs.Common.{◌≡◌, ℕ, List, [], ◌∷◌, ◌++◌, Bool, true, false, refl, ap, ◌∙◌, arith}
-use Rattle.std.proofs.lemmas.List.Sums.{sum_by-cons, sum_by-append}
+use Rattle.std.proofs.Common.{◌≡◌, ℕ, List, [], ◌∷◌, Bool, true, false, refl, arith}
+use Rattle.std.proofs.lemmas.List.Sums.{sum_by-cons}
 use Rattle.std.specs.List.{sum_by, AllByRecursion}
 use Rattle.pool_model.specs.declared.event.Event.{Event}
 use Rattle.pool_model.specs.declared.event.Event.TheVariants.{ReadFailed, WriteOk, WriteFailed}
@@ -41,18 +41,6 @@ plain_stores h m (e ∷ events) plain =
     let first = plain_stored h e plain.0 in
     let rest = plain_stores h m events plain.1 in
     omega (arith, both, first, rest)
-
--- behind plain entries
-pub plain_then : (h : List Entry) (m : ℕ) (front last : List Event) → EventsArePlain front → by m (front ++ last) ≡ by m front ++ by m last
-    → (all_failures (by m (front ++ last)) ≡ all_failures (by m last)) × (sum_by (λ e. stored_by h e.event) (by m (front ++ last)) ≡ sum_by (λ e. stored_by h e.event) (by m last))
-plain_then h m front last plain parts =
-    let both = failures_append (by m front) (by m last) in
-    let none = plain_failures m front plain in
-    let sums = sum_by-append (λ (e : Entry). stored_by h e.event) (by m front) (by m last) in
-    let zero = plain_stores h m front plain in (
-      ap all_failures parts ∙ omega (arith, both, none),
-      ap (sum_by (λ (e : Entry). stored_by h e.event)) parts ∙ omega (arith, sums, zero),
-    )
 
 -- a write that ended well
 abbrev pub is_stored_by : Event → Bool

@@ -1,5 +1,6 @@
 -- What a session did between two times that it had the value in hand.
 use Rattle.std.proofs.Common.{◌≡◌, ℕ, List, ◌++◌, filter, sym, ap, ◌∙◌, subst}
+use Rattle.std.proofs.lemmas.List.{append_assoc}
 use Rattle.pool_model.specs.declared.event.Event.{Event}
 use Rattle.pool_model.specs.declared.entry.Entry.{Entry}
 use Rattle.pool_model.specs.State.{Opening}
@@ -9,6 +10,7 @@ use Rattle.store_api.specs.Entries.{by, Made}
 use Rattle.own_entries.specs.OwnHoldings.{Outset, after_events}
 use Rattle.session_calls.proofs.Lists.{NoneOpens}
 use Rattle.session_calls.specs.declared.hand.Hand.{Hand}
+use Rattle.session_calls.specs.declared.count.Count.{Count}
 use Rattle.session_calls.specs.Told.{held_in, signs_in}
 use Rattle.session_calls.specs.Acting.{Acts, held_by, signs_by}
 use Rattle.session_calls.specs.Doing.{Does}
@@ -30,7 +32,7 @@ does_at m n same x y d = record {
 
 module _ {D : Type 0} where
   abbrev pub entered_did : {P : List Event → Type 0} (old new : Hand D) (entered : Entered P old new) → NoneOpens entered.events → DoesIn P old new
-  entered_did old new entered none = record { session = entered.session; does = entered_does old new entered none }
+  entered_did old new entered none = record { session = entered.session; went = entered.went; counts = entered.counts; does = entered_does old new entered none }
 
   abbrev pub acts_did : {P : List Event → Type 0} (old new : Hand D) (acts : Acts P old new) → NoneOpens acts.events → DoesIn P old new
   acts_did old new acts none = entered_did old new (acts_entered old new acts) none
@@ -39,12 +41,14 @@ module _ {D : Type 0} where
   abbrev pub did_more : {P Q R : List Event → Type 0} (x y z : Hand D) (a : DoesIn P x y) (b : DoesIn Q y z) → R (a.does.events ++ b.does.events) → DoesIn R x z
   did_more x y z a b is = record {
     session = b.session ∙ a.session;
+    went = a.went ++ b.went;
+    counts = b.counts ∙ ap (λ (l : List Count). l ++ b.went) a.counts ∙ append_assoc x.counts a.went b.went;
     does = does_more x.session x.trail y.trail z.trail a.does (does_at y.session x.session a.session y.trail z.trail b.does) is;
   }
 
   -- the same, of other words
   abbrev pub did_so : {P Q : List Event → Type 0} (x y : Hand D) (a : DoesIn P x y) → Q a.does.events → DoesIn Q x y
-  did_so x y a is = record { session = a.session; does = record { events = a.does.events; is = is; own = a.does.own; more = a.does.more; grew = a.does.grew; mine = a.does.mine } }
+  did_so x y a is = record { session = a.session; went = a.went; counts = a.counts; does = record { events = a.does.events; is = is; own = a.does.own; more = a.does.more; grew = a.does.grew; mine = a.does.mine } }
 
   module _ {P : List Event → Type 0} (o : Opening) (u : Outset) (old new : Hand D) (did : DoesIn P old new) where
     -- what is held then, and what shows of it

@@ -1,11 +1,11 @@
 -- A page of a session ends, once it isn't written by another.
 use Rattle.std.proofs.Common.{◌≡◌, ℕ, ◌+◌, ◌<◌, ◌≤◌, Bool, true, false, List, [], ◌∷◌, ◌++◌, refl, sym, ap, ◌∙◌, subst, arith}
 use Rattle.std.proofs.lemmas.Bool.{false≢true}
+use Rattle.std.proofs.lemmas.List.{append-nil}
 use Rattle.outside.specs.declared.slot.Slot.{Ghosts}
 use Rattle.block_arena.specs.Memory.{Buffer}
 use Rattle.pool_model.specs.declared.event.Event.{Event}
 use Rattle.pool_model.specs.declared.event.Event.TheVariants.{Destroy}
-use Rattle.pool_model.specs.declared.entry.Entry.{Entry}
 use Rattle.pool_model.specs.State.{Place, Pinned, Dirty, Flying, Loading, Clean, Evicted, Opening, page_at}
 use Rattle.store_api.specs.Tokens.{PageToken}
 use Rattle.store_api.specs.Holdings.{Holdings, page_of}
@@ -23,12 +23,10 @@ use Rattle.session_calls.proofs.Pages.{is_there, pinned_with, rests_there}
 use Rattle.session_calls.specs.declared.hand.Hand.{Hand}
 use Rattle.session_calls.specs.Moving.{is_moving}
 use Rattle.session_calls.specs.Acting.{Goes, held_by}
-use Rattle.session_calls.specs.Counting.{CountsOn}
-use Rattle.session_calls.specs.Having.{IsAtWork}
+use Rattle.session_calls.specs.Having.{Sight, IsAtWork}
 use Rattle.session_calls.specs.Jobs.{DoesIn}
 use Rattle.session_calls.proofs.Alone.{none_moving}
 use Rattle.session_calls.proofs.AtWork.{one_works, one_did}
-use Rattle.session_calls.proofs.Counts.{counts_goes}
 use Rattle.session_calls.proofs.Did.{did_more, did_held}
 use Rattle.session_calls.proofs.Doing.{does_none}
 use Rattle.session_calls.proofs.Idle.{not_loading}
@@ -48,7 +46,7 @@ pub comes_down : (alone : Bool) (less left : ℕ) → (alone ≡ true → ⊥) �
 comes_down true less left never beside = absurd (never refl)
 comes_down false less left never beside = let one = beside refl in omega (arith, one)
 
-module _ {D : Type 0} (slot : Ghosts D) (o : Opening) (u : Outset) (seen : List Entry) (hand : Hand D) (is : IsAtWork slot o u seen hand) (p : PageToken) (held : IsPage p (held_by o u hand)) where
+module _ {D : Type 0} (slot : Ghosts D) (o : Opening) (u : Outset) (seen : Sight) (hand : Hand D) (is : IsAtWork slot o u seen hand) (p : PageToken) (held : IsPage p (held_by o u hand)) where
   abbrev h : Holdings
   h = held_by o u hand
 
@@ -61,12 +59,13 @@ module _ {D : Type 0} (slot : Ghosts D) (o : Opening) (u : Outset) (seen : List 
   pub unpinned : (page_of p.name h).pins ≡ 0 → IsUnpinned (state_of hand.state) p
   unpinned none = rests_there its p held none (not_loading slot o u hand is.ready p held)
 
-  module _ (new : Hand D) (trail : new.trail ≡ hand.trail ++ by hand.session (Destroy p.name ∷ [])) (session : new.session ≡ hand.session)
+  module _ (new : Hand D) (trail : new.trail ≡ hand.trail ++ by hand.session (Destroy p.name ∷ [])) (session : new.session ≡ hand.session) (counts : new.counts ≡ hand.counts)
       (enters : Enters slot (destroy_entry (state_of hand.state) p.name ∷ []) [] [] hand.state new.state) where
     went_ended : Goes slot (Destroy p.name ∷ []) hand new
     went_ended = record {
       trail = trail;
       session = session;
+      counts = counts;
       enters = subst (λ (m : ℕ). Enters slot (by m (Destroy p.name ∷ [])) [] [] hand.state new.state) (is_there its p held).whose enters;
     }
 
@@ -75,9 +74,6 @@ module _ {D : Type 0} (slot : Ghosts D) (o : Opening) (u : Outset) (seen : List 
 
     pub did_ended : DoesIn (λ events. events ≡ Destroy p.name ∷ []) hand new
     did_ended = one_did slot o u seen hand new is (Destroy p.name) went_ended refl refl refl
-
-    pub counts_ended : CountsOn slot hand new
-    counts_ended = counts_goes slot o hand is.ready.whole.stands.legal new (Destroy p.name ∷ []) went_ended (refl, tt)
 
   -- where the session is alone, no page of it is written
   pub flies_never : AllBy hand.session hand.trail → is_flying (page_at (state_of hand.state) p.name).place ≡ true → ⊥
@@ -100,11 +96,11 @@ module _ {D : Type 0} (o : Opening) (u : Outset) (start now : Hand D) (none : Do
 
   -- it waited once more, with the same value
   pub waits_more : (v : Parts D) (new : Hand D) → DoesIn (λ events. events ≡ []) (record now { state = v }) new → DoesIn (λ events. events ≡ []) start new
-  waits_more v new did = then_did [] new (record { session = did.session; does = did.does })
+  waits_more v new did = then_did [] new (record { session = did.session; went = did.went; counts = did.counts; does = did.does })
 
 pub waits_none : {D : Type 0} (hand : Hand D) → DoesIn (λ events. events ≡ []) hand hand
-waits_none hand = record { session = refl; does = does_none hand.session hand.trail }
+waits_none hand = record { session = refl; went = []; counts = sym (append-nil hand.counts); does = does_none hand.session hand.trail }
 
 -- the same value in hand
-pub same_works : {D : Type 0} (slot : Ghosts D) (o : Opening) (u : Outset) (seen : List Entry) (hand : Hand D) (v : Parts D) → IsAtWork slot o u seen hand → v ≡ hand.state → IsAtWork slot o u seen (record hand { state = v })
+pub same_works : {D : Type 0} (slot : Ghosts D) (o : Opening) (u : Outset) (seen : Sight) (hand : Hand D) (v : Parts D) → IsAtWork slot o u seen hand → v ≡ hand.state → IsAtWork slot o u seen (record hand { state = v })
 same_works {D} slot o u seen hand v is same = subst (λ (w : Parts D). IsAtWork slot o u seen (record hand { state = w })) (sym same) is

@@ -31,39 +31,39 @@ use Rattle.own_entries.proofs.Outsets.{outsets_stay}
 use Rattle.pin_core.specs.declared.jobs.ReadJob.{ReadJob}
 use Rattle.pin_core.specs.StateOf.{state_of}
 use Rattle.pin_core.specs.Standing.{StandsFor, Enters, AreHeld}
-use Rattle.pin_core.specs.Tallies.{silence}
+use Rattle.pin_core.specs.Tallies.{silence, tally_of}
 use Rattle.pin_core.specs.Evictions.{blocks_in, evictions, names_gone}
 use Rattle.pin_core.specs.Loads.{load_entries}
 use Rattle.pin_core.specs.PinTurns.{IsLoad}
 use Rattle.pin_core.specs.Refusing.{refusal_of}
 use Rattle.session_calls.specs.Coming.{Evicts}
-use Rattle.session_calls.specs.Moving.{rests}
-use Rattle.session_calls.specs.Pinning.{CanBePinned, IsPinned, IsFailedRead}
+use Rattle.session_calls.specs.Pinning.{CanBePinned, FailedPin, HasAsked, IsFailedRead, IsPinned}
 use Rattle.session_calls.proofs.Contents.{content_told, content_whole}
-use Rattle.session_calls.proofs.Fetching.{fetching, fetching_by, fetches, fetching_holds, content_append, fetching_leaves, fetching_alike, put_alike, fetching_plain}
+use Rattle.session_calls.proofs.Fetching.{fetching, fetching_by, fetches, fetching_holds, content_append, fetching_leaves, fetching_alike, put_alike, evicts_rest}
 use Rattle.session_calls.proofs.Lists.{NoneOpens}
 use Rattle.session_calls.proofs.Known.{left_of}
 use Rattle.session_calls.proofs.Pages.{IsThere, is_there, fits_here, left_here, not_pinned, page_len_here}
 use Rattle.session_calls.proofs.Sized.{run_len}
 use Rattle.session_calls.specs.declared.hand.Hand.{Hand}
+use Rattle.session_calls.specs.declared.count.Count.{Count}
+use Rattle.session_calls.specs.declared.count.Count.TheVariants.{Out}
 use Rattle.session_calls.specs.Told.{held_in}
-use Rattle.session_calls.specs.Moving.{keeps_seats, quota_at, slots_out}
+use Rattle.session_calls.specs.Moving.{keeps_seats, quota_at, rests, slots_out}
+use Rattle.session_calls.specs.Outgoing.{CountsWhole, no_tally, tally_or}
 use Rattle.session_calls.specs.Ready.{StandsWhole}
 use Rattle.session_calls.specs.Acting.{held_by}
-use Rattle.session_calls.specs.Having.{MayGive, IsAtWork}
+use Rattle.session_calls.specs.Having.{Sight, MayGive, IsAtWork}
 use Rattle.session_calls.specs.Jobs.{DoesIn, CanRead, IsRead, IsUnread}
-use Rattle.session_calls.specs.Pinning.{HasAsked, FailedPin}
-use Rattle.session_calls.specs.Counting.{CountsBack, CountsOn}
 use Rattle.session_calls.specs.Needing.{AreNeeded, EntersNeeded}
 use Rattle.session_calls.proofs.AtWork.{back_at_work}
 use Rattle.session_calls.proofs.Between.{worked_on}
 use Rattle.session_calls.proofs.Entered.{Entered}
-use Rattle.session_calls.proofs.Counts.{counts_out}
 use Rattle.session_calls.proofs.Did.{entered_did, did_more, did_held}
 use Rattle.session_calls.proofs.Knowing.{Knows, knows}
 use Rattle.session_calls.proofs.Needed.{needed_evicts, needed_then, needs_more}
 use Rattle.session_calls.proofs.Needs.{AreFree, IsFree, needs_does}
 use Rattle.session_calls.proofs.Out.{out_run, out_loading}
+use Rattle.session_calls.proofs.Outgoing.{counts_went, tally_last}
 use Rattle.session_calls.proofs.Quotas.{quotas_run}
 use Rattle.session_calls.proofs.Spare.{ones}
 
@@ -118,8 +118,8 @@ module _ (o : Opening) (h : List Entry) (m : ℕ) (names : List ℕ) (p : ℕ) (
 
   pub out_fetching : slots_out (state_after o (h ++ (evictions m names ++ loading ∷ []))).pages ≡ slots_out (state_after o h).pages + (page_at (state_after o (h ++ (evictions m names ++ loading ∷ []))) p).blocks
   out_fetching =
-      let gone : slots_out (state_after o front_gone).pages ≡ slots_out (state_after o h).pages = out_run o h (evictions m names) (legal_fronts o front_gone (loading ∷ []) legal_split) (evictions_rest m names) in
-      let went : slots_out (after (state_after o front_gone) loading).pages ≡ slots_out (state_after o front_gone).pages + (page_at (state_after o front_gone) p).blocks = out_loading front_gone (state_after o front_gone) m p may_load in
+      let gone : slots_out (state_after o front_gone).pages ≡ slots_out (state_after o h).pages = out_run (λ p b. b) o h (evictions m names) (legal_fronts o front_gone (loading ∷ []) legal_split) (evictions_rest m names) in
+      let went : slots_out (after (state_after o front_gone) loading).pages ≡ slots_out (state_after o front_gone).pages + (page_at (state_after o front_gone) p).blocks = out_loading (λ p b. b) front_gone (state_after o front_gone) m p may_load in
       let last : slots_out (state_after o (h ++ (evictions m names ++ loading ∷ []))).pages ≡ slots_out (after (state_after o front_gone) loading).pages = ap (λ (s : State). slots_out s.pages) last_is in
       let same = blocks_same in
       omega (arith, gone, went, last, same)
@@ -134,10 +134,11 @@ abbrev entry_of : PoolErr → ℕ
 entry_of (ReadFault entry) = entry
 entry_of _ = 0
 
-module _ {D : Type 0} (slot : Ghosts D) (o : Opening) (u : Outset) (seen : List Entry) (hand : Hand D) (is : IsAtWork slot o u seen hand) (p : PageToken) (can : CanBePinned p (held_by o u hand)) (job : ReadJob D) (went : Hand D)
+module _ {D : Type 0} (slot : Ghosts D) (o : Opening) (u : Outset) (seen : Sight) (hand : Hand D) (is : IsAtWork slot o u seen hand) (p : PageToken) (can : CanBePinned p (held_by o u hand)) (job : ReadJob D) (went : Hand D)
     (load : IsLoad slot p job hand.state went.state)
     (enters : Enters slot (load_entries hand.session p.name (page_at (state_of hand.state) p.name).blocks hand.state) job.row [] hand.state went.state)
-    (entries : List Entry) (named : entries ≡ load_entries hand.session p.name (page_at (state_of hand.state) p.name).blocks hand.state) (grew : went.trail ≡ hand.trail ++ entries) (session : went.session ≡ hand.session) where
+    (entries : List Entry) (named : entries ≡ load_entries hand.session p.name (page_at (state_of hand.state) p.name).blocks hand.state) (grew : went.trail ≡ hand.trail ++ entries)
+    (counts_are : went.counts ≡ hand.counts ++ Out job.id.name (tally_of slot job.row) ∷ []) (session : went.session ≡ hand.session) where
   abbrev s : State
   s = state_of hand.state
 
@@ -226,6 +227,7 @@ module _ {D : Type 0} (slot : Ghosts D) (o : Opening) (u : Outset) (seen : List 
         subst (λ (n : ℕ). AreHeld slot n job.row (content_from job.id.name [] went.trail)) (sym len_is_here)
         (subst (AreHeld slot s.block_len job.row) (content_here ∙ sym content_went ∙ ap (λ (q : ℕ). content_from q [] went.trail) (sym name_is)) (load.content o hand.trail is.ready.whole.stands));
     whole = ap (λ (q : ℕ). length (content_from q [] went.trail)) name_is ∙ ap length content_went ∙ content_len ∙ sym job_len;
+    counts = ap (tally_or no_tally job.id.name) counts_are ∙ tally_last hand.counts job.id.name (tally_of slot job.row);
     tell = none_silent;
   }
 
@@ -242,11 +244,18 @@ module _ {D : Type 0} (slot : Ghosts D) (o : Opening) (u : Outset) (seen : List 
   row_is : sum_by (λ d. 1) job.row ≡ x.blocks
   row_is = ones job.row ∙ load.is.slots ∙ ap (λ (q : ℕ). (page_at t q).blocks) name_is ∙ blocks_are
 
-  went_whole : StandsWhole slot o u.told went.trail went.state
+  -- and are counted
+  went_whole : StandsWhole slot o u.told went.trail went.counts went.state
   went_whole = record {
     stands = went_stands;
     home = let moved = enters.slots (λ d. 1) in let home = is.ready.whole.home in let gone = out in let row = row_is in omega (arith, moved, home, gone, row);
     tell = λ told. let moved = enters.slots (silence slot) in let none = is.ready.whole.tell told in omega (arith, moved, none);
+    sums =
+        subst (λ (es : List Count). CountsWhole slot went.trail es went.state) (sym counts_are)
+        (subst (λ (es : List Entry). CountsWhole slot es (hand.counts ++ Out job.id.name (tally_of slot job.row) ∷ []) went.state) (sym went_trail)
+        (counts_went slot o hand.trail hand.counts hand.state is.ready.whole.stands is.ready.whole.sums m (map Evict names) (PinLoad p.name) job.id.name job.row went.state (evicts_rest names)
+        (ap (λ (q : ℕ). q ∷ []) (sym name_is)) (subst (λ (es : List Entry). StandsFor slot o (hand.trail ++ es) went.state) front_is stood)
+        (λ measure. let moved = enters.slots measure in omega (arith, moved))));
   }
 
   abbrev begun : Entered (λ events. events ≡ front) hand went
@@ -255,7 +264,10 @@ module _ {D : Type 0} (slot : Ghosts D) (o : Opening) (u : Outset) (seen : List 
     is = refl;
     trail = went_trail;
     session = session;
+    opens = fetching_opens names p.name;
     quotas = λ k. ap (λ (v : State). quota_at v k) went_state ∙ quotas_run s (by m front) k (fetching_keeps m names p.name);
+    went = Out job.id.name (tally_of slot job.row) ∷ [];
+    counts = counts_are;
   }
 
   abbrev began : DoesIn (λ events. events ≡ front) hand went
@@ -277,17 +289,12 @@ module _ {D : Type 0} (slot : Ghosts D) (o : Opening) (u : Outset) (seen : List 
         needed = needed_then p.client amount m (map Evict names) (PinLoad p.name ∷ []) s evicts (λ own. tt, tt);
       }
 
-  module _ (now : List Entry) (new : Hand D) (may : MayGive slot o u.told now new) where
+  module _ (now : Sight) (new : Hand D) (may : MayGive slot o u.told now new) where
     -- the load ended with an event that may be entered at any time
     needed_end : (end : Event) → IsFree p.client (page_len p.name h) end → DoesIn (λ events. events ≡ end ∷ []) went new → EntersNeeded p.client (page_len p.name h) hand new
     needed_end end free did =
         needs_more p.client (page_len p.name h) hand went new session needed_front
         (needs_does p.client (page_len p.name h) slot o went new went_stands may.whole.stands did (subst (AreFree p.client (page_len p.name h)) (sym did.does.is) (free, tt)))
-
-    -- the slots of the page came back
-    pub counts_fetched : CountsBack slot job.row went new → CountsOn slot hand new
-    counts_fetched back =
-        counts_out slot o hand is.ready.whole.stands.legal went new front job.row went_trail (fetching_plain names p.name) (λ measure. let moved = enters.slots measure in omega (arith, moved)) back
 
     -- the page came back with its buffer
     module _ (result : Result Buffer PoolErr) (ok : IfOk result (λ buf. IsRead u.told job buf went new)) (buf : Buffer) (answered : result ≡ Ok buf) where

@@ -16,7 +16,7 @@ use Rattle.store_api.specs.Entries.{by, IsEvict}
 use Rattle.own_entries.specs.OwnHoldings.{after_events}
 use Rattle.pin_core.specs.Evictions.{evictions}
 use Rattle.session_calls.specs.Coming.{Evicts}
-use Rattle.session_calls.proofs.Counting.{EventsArePlain}
+use Rattle.session_calls.proofs.Resting.{AllRest}
 
 -- these pages go, and the load of this one begins
 abbrev pub fetching : List ℕ → ℕ → List Event
@@ -33,10 +33,10 @@ all_evict (n ∷ names) = All-cons IsEvict (Evict n) (map (λ n. Evict n) names)
 pub fetches : (names : List ℕ) (p : ℕ) (last : List Event) → Evicts (PinLoad p ∷ last) (fetching names p ++ last)
 fetches names p last = (map (λ n. Evict n) names, all_evict names, append_assoc (map (λ n. Evict n) names) (PinLoad p ∷ []) last)
 
--- none of them is a failure or a write, though a load begins
-pub fetching_plain : (names : List ℕ) (p : ℕ) → EventsArePlain (fetching names p)
-fetching_plain [] p = (refl, tt)
-fetching_plain (n ∷ names) p = (refl, fetching_plain names p)
+-- no job begins or ends while pages go
+pub evicts_rest : (names : List ℕ) → AllRest (map (λ n. Evict n) names)
+evicts_rest [] = tt
+evicts_rest (n ∷ names) = (refl, evicts_rest names)
 
 pub fetching_holds : (names : List ℕ) (p : ℕ) (last : List Event) (h : Holdings) → after_events h (fetching names p ++ last) ≡ after_events h (PinLoad p ∷ last)
 fetching_holds [] p last h = refl

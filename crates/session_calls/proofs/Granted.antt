@@ -69,11 +69,12 @@ module _ {D : Type 0} (slot : Ghosts D) (o : Opening) (u : Outset) (hand : Hand 
 
   -- a pinned page of its own has one pin more
   pub pinned_again : (p : PageToken) → IsPage p held → (name : ℕ) → name ≡ p.name → (new : Hand D) → Enters slot (record { maker = (page_at s p.name).session; event = PinAgain p.name } ∷ []) [] [] hand.state new.state
-      → new.trail ≡ hand.trail ++ record { maker = hand.session; event = PinAgain name } ∷ [] → new.session ≡ hand.session → IsReady slot o u new
-  pinned_again p page name same new enters trail session =
+      → new.trail ≡ hand.trail ++ record { maker = hand.session; event = PinAgain name } ∷ [] → new.session ≡ hand.session → new.counts ≡ hand.counts → IsReady slot o u new
+  pinned_again p page name same new enters trail session counts =
       stepped (PinAgain p.name) new refl refl (record { slots = refl; count = refl }) (record {
         trail = trail ∙ ap (λ (q : ℕ). hand.trail ++ record { maker = hand.session; event = PinAgain q } ∷ []) same;
         session = session;
+        counts = counts;
         enters = subst (λ (m : ℕ). Enters slot (record { maker = m; event = PinAgain p.name } ∷ []) [] [] hand.state new.state) (is_there its p page).whose enters;
       })
 
@@ -85,16 +86,17 @@ module _ {D : Type 0} (slot : Ghosts D) (o : Opening) (u : Outset) (hand : Hand 
     -- an entry that names it
     named_by : (e : ℕ → Event) (new : Hand D) → rests (e c) ≡ true → keeps_seats (e c) ≡ true → StaysLive held (after_events held (e c ∷ []))
         → Enters slot (record { maker = mine.session; event = e mine.tracker } ∷ []) [] [] hand.state new.state
-        → new.trail ≡ hand.trail ++ record { maker = hand.session; event = e t } ∷ [] → new.session ≡ hand.session → IsReady slot o u new
-    named_by e new rest keeps stays enters trail session =
+        → new.trail ≡ hand.trail ++ record { maker = hand.session; event = e t } ∷ [] → new.session ≡ hand.session → new.counts ≡ hand.counts → IsReady slot o u new
+    named_by e new rest keeps stays enters trail session counts =
         stepped (e c) new rest keeps stays (record {
           trail = trail ∙ ap (λ (k : ℕ). hand.trail ++ record { maker = hand.session; event = e k } ∷ []) same;
           session = session;
+          counts = counts;
           enters = subst (λ (k : ClientToken). Enters slot (record { maker = k.session; event = e k.tracker } ∷ []) [] [] hand.state new.state) token_is enters;
         })
 
     pub gave_up : (bytes : ℕ) (new : Hand D) → Enters slot (record { maker = mine.session; event = Decrease mine.tracker bytes } ∷ []) [] [] hand.state new.state
-        → new.trail ≡ hand.trail ++ record { maker = hand.session; event = Decrease t bytes } ∷ [] → new.session ≡ hand.session → IsReady slot o u new
+        → new.trail ≡ hand.trail ++ record { maker = hand.session; event = Decrease t bytes } ∷ [] → new.session ≡ hand.session → new.counts ≡ hand.counts → IsReady slot o u new
     gave_up bytes new = named_by (λ k. Decrease k bytes) new refl refl (give_stays c bytes held)
 
     pub token_room : (bytes : ℕ) → HasRoom s c bytes → HasRoom s mine.tracker bytes
@@ -109,11 +111,11 @@ module _ {D : Type 0} (slot : Ghosts D) (o : Opening) (u : Outset) (hand : Hand 
       may_have loan some room = subst (CanMoveTo s l) (sym token_is) (can_move its l loan c some room)
 
       pub changed_hands : (f : ℕ) → f ≡ l.number → l.client ≢ c → (new : Hand D) → (l.client ≢ mine.tracker → Enters slot (lend_entry mine l.number ∷ []) [] [] hand.state new.state)
-          → new.trail ≡ hand.trail ++ record { maker = hand.session; event = MoveBuffer f t } ∷ [] → new.session ≡ hand.session → IsReady slot o u new
-      changed_hands f number apart new enters trail session =
+          → new.trail ≡ hand.trail ++ record { maker = hand.session; event = MoveBuffer f t } ∷ [] → new.session ≡ hand.session → new.counts ≡ hand.counts → IsReady slot o u new
+      changed_hands f number apart new enters trail session counts =
           named_by (MoveBuffer l.number) new refl refl (loan_stays l.number c held)
           (enters (subst (λ (k : ClientToken). l.client ≢ k.tracker) (sym token_is) apart))
-          (trail ∙ ap (λ (k : ℕ). hand.trail ++ record { maker = hand.session; event = MoveBuffer k t } ∷ []) number) session
+          (trail ∙ ap (λ (k : ℕ). hand.trail ++ record { maker = hand.session; event = MoveBuffer k t } ∷ []) number) session counts
 
     -- reservation goes to another
     module _ (other : ClientToken) (v to : ℕ) (made_other : other ≡ record { session = hand.session; tracker = v }) (same_to : v ≡ to) where
@@ -121,11 +123,11 @@ module _ {D : Type 0} (slot : Ghosts D) (o : Opening) (u : Outset) (hand : Hand 
       other_is = made_other ∙ ap (λ (n : ℕ). record { session = hand.session; tracker = n }) same_to
 
       pub passed_on : (bytes : ℕ) (new : Hand D) → Enters slot (move_entry mine.session mine.tracker other.tracker bytes ∷ []) [] [] hand.state new.state
-          → new.trail ≡ hand.trail ++ record { maker = hand.session; event = MoveReservation t v bytes } ∷ [] → new.session ≡ hand.session → IsReady slot o u new
-      passed_on bytes new enters trail session =
+          → new.trail ≡ hand.trail ++ record { maker = hand.session; event = MoveReservation t v bytes } ∷ [] → new.session ≡ hand.session → new.counts ≡ hand.counts → IsReady slot o u new
+      passed_on bytes new enters trail session counts =
           named_by (λ k. MoveReservation k to bytes) new refl refl (move_stays (has_client c held) (has_client to held) c to bytes held)
           (subst (λ (k : ClientToken). Enters slot (move_entry mine.session mine.tracker k.tracker bytes ∷ []) [] [] hand.state new.state) other_is enters)
-          (trail ∙ ap (λ (k : ℕ). hand.trail ++ record { maker = hand.session; event = MoveReservation t k bytes } ∷ []) same_to) session
+          (trail ∙ ap (λ (k : ℕ). hand.trail ++ record { maker = hand.session; event = MoveReservation t k bytes } ∷ []) same_to) session counts
 
       pub other_client : IsSome (held.clients to) → IsClientOf s mine.session other.tracker
       other_client some =

@@ -41,38 +41,40 @@ module _ {D : Type 0} (slot : Ghosts D) (o : Opening) (u : Outset) (hand new : H
   its = knows slot o u hand is
 
   -- what a page's session entered is its own
-  goes_page : (p : PageToken) → IsPage p held → (e : Event) → new.trail ≡ hand.trail ++ by hand.session (e ∷ []) → new.session ≡ hand.session
+  goes_page : (p : PageToken) → IsPage p held → (e : Event) → new.trail ≡ hand.trail ++ by hand.session (e ∷ []) → new.session ≡ hand.session → new.counts ≡ hand.counts
       → Enters slot (record { maker = (page_at s p.name).session; event = e } ∷ []) [] [] hand.state new.state → Goes slot (e ∷ []) hand new
-  goes_page p page e trail session enters = record {
+  goes_page p page e trail session counts enters = record {
     trail = trail;
     session = session;
+    counts = counts;
     enters = subst (λ (m : ℕ). Enters slot (by m (e ∷ [])) [] [] hand.state new.state) (is_there its p page).whose enters;
   }
 
   -- one of several pins ended
-  pub once_ready : (p : PageToken) (name : ℕ) → IsPage p held → 2 ≤ (page_of p.name held).pins → name ≡ p.name → new.trail ≡ hand.trail ++ by hand.session (UnpinOnce name ∷ []) → new.session ≡ hand.session
+  pub once_ready : (p : PageToken) (name : ℕ) → IsPage p held → 2 ≤ (page_of p.name held).pins → name ≡ p.name → new.trail ≡ hand.trail ++ by hand.session (UnpinOnce name ∷ []) → new.session ≡ hand.session → new.counts ≡ hand.counts
       → Enters slot (record { maker = (page_at s p.name).session; event = UnpinOnce p.name } ∷ []) [] [] hand.state new.state → IsReady slot o u new
-  once_ready p name page several same trail session enters =
-      one_ready slot o u hand new is (UnpinOnce p.name) (goes_page p page (UnpinOnce p.name) (trail ∙ ap (λ (q : ℕ). hand.trail ++ by hand.session (UnpinOnce q ∷ [])) same) session enters) refl refl
+  once_ready p name page several same trail session counts enters =
+      one_ready slot o u hand new is (UnpinOnce p.name) (goes_page p page (UnpinOnce p.name) (trail ∙ ap (λ (q : ℕ). hand.trail ++ by hand.session (UnpinOnce q ∷ [])) same) session counts enters) refl refl
       (after_unpin_once p.name held) ((calls_tell hand.session held).unpin_once p.name several) is.rests.live is.rests.few
 
   -- a page ended, and its buffer is a loan
-  pub extracted : (p : PageToken) (name f number : ℕ) → IsPage p held → name ≡ p.name → f ≡ number → new.trail ≡ hand.trail ++ by hand.session (Extract name f ∷ []) → new.session ≡ hand.session
+  pub extracted : (p : PageToken) (name f number : ℕ) → IsPage p held → name ≡ p.name → f ≡ number → new.trail ≡ hand.trail ++ by hand.session (Extract name f ∷ []) → new.session ≡ hand.session → new.counts ≡ hand.counts
       → Enters slot (record { maker = (page_at s p.name).session; event = Extract p.name number } ∷ []) [] [] hand.state new.state → IsReady slot o u new
-  extracted p name f number page same_name same_number trail session enters =
+  extracted p name f number page same_name same_number trail session counts enters =
       let e : Event = Extract p.name number in
       let grew : new.trail ≡ hand.trail ++ by hand.session (e ∷ []) =
       trail ∙ ap (λ (q : ℕ). hand.trail ++ by hand.session (Extract q f ∷ [])) same_name ∙ ap (λ (k : ℕ). hand.trail ++ by hand.session (Extract p.name k ∷ [])) same_number in
-      one_ready slot o u hand new is e (goes_page p page e grew session enters) refl refl (after_events held (e ∷ [])) refl (given_live (page_of p.name held) held.free_slots is.rests.live) is.rests.few
+      one_ready slot o u hand new is e (goes_page p page e grew session counts enters) refl refl (after_events held (e ∷ [])) refl (given_live (page_of p.name held) held.free_slots is.rests.live) is.rests.few
 
   -- a loan ended
-  pub freed : (l : LoanToken) (f : ℕ) → IsLoan l held → f ≡ l.number → new.trail ≡ hand.trail ++ by hand.session (Free f ∷ []) → new.session ≡ hand.session
+  pub freed : (l : LoanToken) (f : ℕ) → IsLoan l held → f ≡ l.number → new.trail ≡ hand.trail ++ by hand.session (Free f ∷ []) → new.session ≡ hand.session → new.counts ≡ hand.counts
       → ((maker : ℕ) → IsClientOf s maker l.client → Enters slot (free_entry maker l.number ∷ []) [] [] hand.state new.state) → IsReady slot o u new × ActsThese (Free l.number ∷ []) hand new
-  freed l f loan same trail session enters =
+  freed l f loan same trail session counts enters =
       let e : Event = Free l.number in
       let went : Goes slot (e ∷ []) hand new = record {
         trail = trail ∙ ap (λ (k : ℕ). hand.trail ++ by hand.session (Free k ∷ [])) same;
         session = session;
+        counts = counts;
         enters = enters hand.session (loan_client its l loan);
       } in
       (one_ready slot o u hand new is e went refl refl (after_events held (e ∷ [])) refl is.rests.live is.rests.few, one_acts slot o u hand new is e went refl refl)

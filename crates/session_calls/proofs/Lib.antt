@@ -20,6 +20,7 @@ pub mod Freed
 pub mod Silent
 pub mod PinWords
 pub mod Results
+pub mod Resting
 pub mod Out
 pub mod Quotas
 pub mod Busy
@@ -36,8 +37,13 @@ pub mod OwnNames
 pub mod Arriving
 pub mod Needs
 pub mod Counts
+pub mod CountLists
+pub mod JobsOut
+pub mod OthersOut
+pub mod WholeTally
+pub mod Outgoing
 pub mod Alone
-pub mod Costs
+pub mod Rounds
 pub mod Lasts
 pub mod Between
 pub mod Failing

@@ -1,14 +1,14 @@
 -- Entries of one maker, one after the other.
-use Rattle.std.proofs.Common.{◌≡◌, ℕ, List, [], ◌∷◌, ◌++◌, Bool, cond, filter, false, refl, sym, ap, ◌∙◌, subst, eq-eqb, ne_eqb}
+use Rattle.std.proofs.Common.{◌≡◌, ℕ, List, [], ◌∷◌, ◌++◌, Bool, cond, filter, refl, sym, ap, ◌∙◌, subst, eq-eqb, ne_eqb}
 use Rattle.std.proofs.lemmas.List.{append_assoc, append-nil}
-use Rattle.std.specs.List.{AllByRecursion}
 use Rattle.pool_model.specs.declared.event.Event.{Event}
 use Rattle.pool_model.specs.declared.entry.Entry.{Entry}
-use Rattle.pool_model.specs.LookingBack.{opens, is_by, made_by}
+use Rattle.pool_model.specs.LookingBack.{is_by, made_by}
 use Rattle.pool_model.proofs.OwnEntries.{made_more}
 use Rattle.store_api.specs.Entries.{by}
 use Rattle.own_entries.specs.AboveLaws.{AllBy}
 use Rattle.session_calls.specs.Having.{AllBeside}
+pub use Rattle.session_calls.specs.Moving.{NoneOpens}
 
 pub by_append : (m : ℕ) (a b : List Event) → by m (a ++ b) ≡ by m a ++ by m b
 by_append m [] b = refl
@@ -25,9 +25,9 @@ pub none_own : (m : ℕ) (es : List Entry) → AllBeside m es → filter (is_by 
 none_own m [] all = refl
 none_own m (e ∷ es) all = ap (λ (b : Bool). cond b (e ∷ filter (is_by m) es) (filter (is_by m) es)) (ne_eqb e.maker m all.0) ∙ none_own m es all.1
 
--- no session is opened by these
-abbrev pub NoneOpens : List Event → Type 0
-NoneOpens events = AllByRecursion (λ e. opens e ≡ false) events
+pub opens_append : (a b : List Event) → NoneOpens a → NoneOpens b → NoneOpens (a ++ b)
+opens_append [] b first rest = rest
+opens_append (e ∷ a) b first rest = (first.0, opens_append a b first.1 rest)
 
 -- the trail is the owner's alone
 pub alone_more : (m : ℕ) (h : List Entry) (events : List Event) → AllBy m h → AllBy m (h ++ by m events)

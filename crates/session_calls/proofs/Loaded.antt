@@ -33,18 +33,21 @@ use Rattle.session_calls.proofs.Silent.{none_silent}
 use Rattle.session_calls.specs.declared.hand.Hand.{Hand}
 use Rattle.session_calls.specs.Moving.{slots_out, keeps_seats}
 use Rattle.session_calls.specs.Ready.{StandsWhole}
-use Rattle.session_calls.specs.Having.{MayGive, Taken}
+use Rattle.session_calls.specs.Having.{Sight, sight_of, MayGive, Taken}
 use Rattle.session_calls.specs.Jobs.{DoesIn, CanRead, IsRead, IsUnread}
-use Rattle.session_calls.specs.Counting.{CountsBack}
 use Rattle.session_calls.proofs.Counting.{is_stored_by, unstored}
-use Rattle.session_calls.proofs.Counts.{counts_back}
 use Rattle.session_calls.proofs.Out.{back_read, back_unread}
 use Rattle.session_calls.proofs.Lasts.{IsInJob}
 use Rattle.session_calls.proofs.Failing.{failed_last, failed_counts}
-use Rattle.session_calls.proofs.Returned.{grew, same_len, same_there, same_page, content_mid, did, may_give}
+use Rattle.session_calls.proofs.Outgoing.{EndsJob}
+use Rattle.session_calls.proofs.Returned.{grew, same_len, same_there, same_page, same_tally, content_mid, did, may_give}
 
 -- what is so of the end of a load, well or not
 module _ (p before now : ℕ) where
+  ends_job : (b : Bool) → EndsJob p (read_ends b p before now)
+  ends_job true = refl
+  ends_job false = refl
+
   keeps : (b : Bool) → keeps_seats (read_ends b p before now) ≡ true
   keeps true = refl
   keeps false = refl
@@ -55,8 +58,8 @@ module _ (p before now : ℕ) where
 
   comes_back : (b : Bool) (h : List Entry) (s : State) (m : ℕ) → MayFollow h s (record { maker = m; event = read_ends b p before now })
       → slots_out (after s (record { maker = m; event = read_ends b p before now })).pages + (page_at s p).blocks ≡ slots_out s.pages
-  comes_back true h s m may = back_unread h s m p before now may
-  comes_back false h s m may = back_read h s m p may
+  comes_back true h s m may = back_unread (λ p b. b) h s m p before now may
+  comes_back false h s m may = back_read (λ p b. b) h s m p may
 
   never_stored : (b : Bool) → is_stored_by (read_ends b p before now) ≡ false
   never_stored true = refl
@@ -69,8 +72,8 @@ row_counts : {D : Type 0} (slot : Ghosts D) (home : (D → ℕ) → ℕ) (was ro
 row_counts slot home was row m p before now silent len fall stores true faults = came_back slot home was row 1 0 fall faults stores silent len
 row_counts slot home was row m p before now silent len fall stores false faults = came_back slot home was row 0 0 fall faults stores silent len
 
-module _ {D : Type 0} (slot : Ghosts D) (o : Opening) (told : Bool) (old mid : Hand D) (stood : StandsWhole slot o told old.trail old.state)
-    (before now : List Entry) (seen : before ≡ old.trail) (taken : Taken slot o told old.session before now mid)
+module _ {D : Type 0} (slot : Ghosts D) (o : Opening) (told : Bool) (old mid : Hand D) (stood : StandsWhole slot o told old.trail old.counts old.state)
+    (before now : Sight) (seen : before ≡ sight_of old) (taken : Taken slot o told old.session before now mid)
     (job ran : ReadJob D) (can : CanRead slot told job old) (rest : ran ≡ after_loads ran.buf.bytes ran.row ran.failed job)
     (bytes : length ran.buf.bytes ≡ length job.buf.bytes) (len : length ran.row ≡ length job.row) where
   abbrev s : State
@@ -113,7 +116,7 @@ module _ {D : Type 0} (slot : Ghosts D) (o : Opening) (told : Bool) (old mid : H
       (held : (size : ℕ) (bytes : List ℕ) → AreHeld slot size job.row bytes → AreHeld slot size ran.row bytes)
       (failed : ran.failed ≡ true → IsFault (faults_of slot job.row) (faults_of slot ran.row))
       (enters : (before now : ℕ) → IsFault before now → EntersWhere slot (HoldsContent slot t.block_len ran) (read_entry t ran before now) ran.row mid.state new.state)
-      (trail : new.trail ≡ mid.trail ++ by old.session (read_ends ran.failed ran.id.name sum (faults_of slot ran.row) ∷ [])) (session : new.session ≡ mid.session) where
+      (trail : new.trail ≡ mid.trail ++ by old.session (read_ends ran.failed ran.id.name sum (faults_of slot ran.row) ∷ [])) (none_out : new.counts ≡ mid.counts) (session : new.session ≡ mid.session) where
     abbrev faults : ℕ
     faults = faults_of slot ran.row
 
@@ -145,18 +148,26 @@ module _ {D : Type 0} (slot : Ghosts D) (o : Opening) (told : Bool) (old mid : H
           | false ↦ λ whole. subst (λ (d : Entry). EntersWhere slot (HoldsContent slot t.block_len ran) d ran.row mid.state new.state) (any_sums whole) (enters 0 1 (inl (omega arith)))
         ] refl)
 
-    pub may_give_loaded : map slot.tells ran.row ≡ map slot.tells job.row → MayGive slot o told now new
-    may_give_loaded tells =
-        may_give slot o told old mid stood before now seen taken new end trail session ran.row job.row (HoldsContent slot t.block_len ran) enters_so holds
+    pub may_give_loaded : map slot.tells ran.row ≡ map slot.tells job.row → faults_of slot job.row ≤ faults_of slot ran.row → CountsFaults slot (if ran.failed then 1 else 0) job.row ran.row
+        → map slot.stores ran.row ≡ map slot.stores job.row → MayGive slot o told now new
+    may_give_loaded tells fall more stores =
+        may_give slot o told old mid stood before now seen taken new end trail none_out session ran.row job.row (HoldsContent slot t.block_len ran) enters_so holds
+        (goes_on ran.id.name sum faults ran.failed)
         (keeps ran.id.name sum faults ran.failed)
         (λ may. subst (λ (n : ℕ). slots_out (after t e).pages + n ≡ slots_out t.pages) (sym still_reads.slots) (comes_back ran.id.name sum faults ran.failed mid.trail t old.session may))
         (same_silence slot ran.row job.row tells) can.tell
+        job.id.name (subst (λ (p : ℕ). EndsJob p end) name_is (ends_job ran.id.name sum faults ran.failed))
+        (same_tally slot o told old mid stood before now seen taken job.id.name can.is.lives can.whose loads ∙ can.counts)
+        (subst
+        (λ (n : ℕ). Counted (all_failures (e ∷ [])) n (tally_by slot (λ measure. slots_home measure mid.state + sum_by measure job.row)) (tally_by slot (λ measure. slots_home measure mid.state + sum_by measure ran.row)))
+        (sym (unstored (mid.trail ++ by old.session (end ∷ [])) old.session end (never_stored ran.id.name sum faults ran.failed)))
+        (row_counts slot (λ measure. slots_home measure mid.state) job.row ran.row old.session ran.id.name sum faults (same_silence slot ran.row job.row tells) len fall (same_stores slot job.row ran.row (sym stores)) ran.failed more))
 
     -- the session did this, by what the end is
     did_so : (event : Event) → end ≡ event → DoesIn (λ events. events ≡ event ∷ []) old new
     did_so event same =
         subst (λ (f : Event). DoesIn (λ events. events ≡ f ∷ []) old new) same
-        (did slot o told old mid stood before now seen taken new end trail session (goes_on ran.id.name sum faults ran.failed))
+        (did slot o told old mid stood before now seen taken new end trail none_out session (goes_on ran.id.name sum faults ran.failed))
 
     came_read : (ran.failed ≡ false → AllTell slot job.row → (bytes : List ℕ) → length bytes ≡ length job.buf.bytes → AreHeld slot job.buf.block_len job.row bytes → ran.buf.bytes ≡ bytes)
         → ran.failed ≡ false → (buf : Buffer) → buf ≡ ran.buf → IsRead told job buf old new
@@ -217,13 +228,3 @@ module _ {D : Type 0} (slot : Ghosts D) (o : Opening) (told : Bool) (old mid : H
     pub is_unread : (r : Result Buffer PoolErr) → IsErr r ↔ (ran.failed ≡ true) → IfErr r (λ err. err ≡ ReadFault t.entries) → IfErr r (λ err. IsUnread job err old new)
     is_unread (Ok buf) refused cause = tt
     is_unread (Err err) refused cause = came_unread (refused.0 refl) err cause
-
-    -- where the session is alone, the slots of the job count what the end says
-    pub counts_loaded : mid ≡ old → map slot.tells ran.row ≡ map slot.tells job.row → faults_of slot job.row ≤ faults_of slot ran.row → CountsFaults slot (if ran.failed then 1 else 0) job.row ran.row
-        → map slot.stores ran.row ≡ map slot.stores job.row → CountsBack slot job.row old new
-    counts_loaded alone tells fall more stores =
-        counts_back slot o old stood.stands.legal new (end ∷ []) job.row ran.row (trail ∙ ap (λ (hand : Hand D). hand.trail ++ by old.session (end ∷ [])) alone) (all_failures (by old.session (end ∷ []))) 0 refl
-        (unstored new.trail old.session end (never_stored ran.id.name sum faults ran.failed))
-        (λ measure. enters_so.slots measure ∙ ap (λ (hand : Hand D). slots_home measure hand.state + sum_by measure ran.row) alone)
-        (row_counts slot (λ measure. slots_home measure old.state) job.row ran.row old.session ran.id.name sum faults (same_silence slot ran.row job.row tells) len fall (same_stores slot job.row ran.row (sym stores)) ran.failed more)
-        (same_silence slot ran.row job.row tells)

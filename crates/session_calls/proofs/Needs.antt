@@ -18,6 +18,7 @@ use Rattle.pin_core.specs.Standing.{StandsFor}
 use Rattle.pin_core.specs.Turns.{start_entry}
 use Rattle.session_calls.specs.Writing.{IsEnd}
 use Rattle.session_calls.specs.declared.hand.Hand.{Hand}
+use Rattle.session_calls.specs.Acting.{ActsThese}
 use Rattle.session_calls.specs.Jobs.{DoesIn}
 use Rattle.session_calls.specs.Needing.{IsNeeded, AreNeeded, EntersNeeded}
 use Rattle.session_calls.proofs.Needed.{needs_more}
@@ -60,6 +61,17 @@ module _ (t amount : ℕ) where
           → state_of new.state ≡ run (state_of old.state) more
       state_grew old new more was now grew =
           now.state ∙ ap (state_after o) grew ∙ state_runs_on o old.trail more ∙ ap (λ (s : State). run s more) (sym was.state)
+
+      -- a step of one event that may be entered in any state
+      pub needs_step : (old new : Hand D) → StandsFor slot o old.trail old.state → StandsFor slot o new.trail new.state → (e : Event) → IsFree e → ActsThese (e ∷ []) old new → EntersNeeded t amount old new
+      needs_step old new was now e free acts =
+          needs_own old new acts.events acts.trail (state_grew old new (by old.session acts.events) was now acts.trail)
+          (subst (λ (events : List Event). AreNeeded old.session t amount (state_of old.state) (by old.session events)) (sym acts.is) (λ own. free (state_of old.state), tt))
+
+      -- a call asked, and then there was such a step
+      pub needs_then : {P : List Event → Type 0} (start now new : Hand D) → DoesIn P start now → EntersNeeded t amount start now → StandsFor slot o now.trail now.state → StandsFor slot o new.trail new.state
+          → (e : Event) → IsFree e → ActsThese (e ∷ []) now new → EntersNeeded t amount start new
+      needs_then start now new asked before was back e free acts = needs_more t amount start now new asked.session before (needs_step now new was back e free acts)
 
       -- what the session did may be entered in any state
       pub needs_does : {P : List Event → Type 0} (old new : Hand D) → StandsFor slot o old.trail old.state → StandsFor slot o new.trail new.state → (did : DoesIn P old new) → AreFree did.does.events → EntersNeeded t amount old new

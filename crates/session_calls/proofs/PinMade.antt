@@ -1,5 +1,5 @@
 -- What a call that pins a page makes, from its ask on.
-use Rattle.std.proofs.Common.{◌≡◌, ◌⊎◌, ℕ, ◌<◌, ◌≤◌, Bool, true, List, [], ◌∷◌, ◌++◌, Some, IsSome, refl, sym, ap, ◌∙◌, subst, arith, inl, inr}
+use Rattle.std.proofs.Common.{◌≡◌, ◌⊎◌, ℕ, ◌<◌, ◌≤◌, List, [], ◌∷◌, ◌++◌, Some, IsSome, refl, sym, ap, ◌∙◌, subst, arith, inl, inr}
 use Rattle.std.proofs.lemmas.List.{append_assoc}
 use Rattle.outside.specs.declared.slot.Slot.{Ghosts}
 use Rattle.block_arena.specs.Memory.{Buffer}
@@ -37,14 +37,14 @@ use Rattle.session_calls.specs.Told.{signs_in}
 use Rattle.session_calls.specs.Ready.{IsReady}
 use Rattle.session_calls.specs.Acting.{ActsThese, held_by, signs_by}
 use Rattle.session_calls.specs.Jobs.{DoesIn}
-use Rattle.session_calls.specs.Pinning.{HasAsked, MayRefusePin, FailedPin, PinIs, GoesFurther, StepsAlone}
-use Rattle.session_calls.specs.Counting.{Costs}
+use Rattle.session_calls.specs.Pinning.{HasAsked, MayRefusePin, FailedPin, PinIs, GoesFurther}
 use Rattle.session_calls.specs.Needing.{EntersNeeded}
 use Rattle.session_calls.specs.Turning.{Refuses}
 use Rattle.session_calls.proofs.Asked.{asked_held, asks_on, asks_still, was_refused}
-use Rattle.session_calls.proofs.Costs.{costs_more, costs_step}
 use Rattle.session_calls.proofs.Did.{does_at, acts_did, did_more, did_so, did_held, did_grows, did_made}
 use Rattle.session_calls.proofs.Knowing.{Knows, knows}
+use Rattle.session_calls.proofs.Needed.{needs_more}
+use Rattle.session_calls.proofs.Needs.{needs_step}
 use Rattle.session_calls.proofs.SinceAsked.{has_asked}
 
 -- a failed load, and its refusal
@@ -105,19 +105,16 @@ module _ {D : Type 0} (slot : Ghosts D) (o : Opening) (u : Outset) (p : PageToke
   abbrev amount : ℕ
   amount = page_len p.name h
 
-  -- what a turn cost too
-  module _ (alone : Bool) (new : Hand D) (r : PinStep) (before : Costs slot alone p.client amount start now) (needed : EntersNeeded p.client (page_len p.name (held_by o u now)) now new)
-      (sole : alone ≡ true → StepsAlone slot p.client r now new) where
-    pub costs_turn : Costs slot alone p.client amount start new
-    costs_turn =
-        costs_more slot alone p.client amount start now new asked.session before
-        (record { needed = subst (λ (g : Holdings). EntersNeeded p.client (page_len p.name g) now new) same needed; counts = λ is. (sole is).counts })
+  -- what a turn entered was needed too
+  module _ (new : Hand D) (before : EntersNeeded p.client amount start now) (needed : EntersNeeded p.client (page_len p.name (held_by o u now)) now new) where
+    pub needs_turn : EntersNeeded p.client amount start new
+    needs_turn = needs_more p.client amount start now new asked.session before (subst (λ (g : Holdings). EntersNeeded p.client (page_len p.name g) now new) same needed)
 
     -- and the refusal after it
-    pub costs_refused : (back : IsReady slot o u new) (stays : new.session ≡ now.session) (call : Call) (entry : ℕ) (last : Hand D) → ActsThese (Refused call entry ∷ []) new last → IsReady slot o u last → Costs slot alone p.client amount start last
-    costs_refused back stays call entry last acts ready =
-        costs_more slot alone p.client amount start new last (stays ∙ asked.session) costs_turn
-        (costs_step slot alone p.client amount o u new last back ready (Refused call entry) refl (λ s. tt) acts)
+    pub needs_refused : (back : IsReady slot o u new) (stays : new.session ≡ now.session) (call : Call) (entry : ℕ) (last : Hand D) → ActsThese (Refused call entry ∷ []) new last → IsReady slot o u last → EntersNeeded p.client amount start last
+    needs_refused back stays call entry last acts ready =
+        needs_more p.client amount start new last (stays ∙ asked.session) needs_turn
+        (needs_step p.client amount slot o new last back.whole.stands ready.whole.stands (Refused call entry) (λ s. tt) acts)
 
   -- it goes on with a turn
   module _ (new : Hand D) (r : PinStep) (turn : PinIs o u p r now new) where

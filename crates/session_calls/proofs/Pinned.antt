@@ -5,7 +5,6 @@ use Rattle.outside.specs.declared.slot.Slot.{Ghosts}
 use Rattle.block_arena.specs.Memory.{Buffer}
 use Rattle.pool_model.specs.declared.event.Event.{Event}
 use Rattle.pool_model.specs.declared.event.Event.TheVariants.{PinHere}
-use Rattle.pool_model.specs.declared.entry.Entry.{Entry}
 use Rattle.pool_model.specs.State.{Opening, Flying, Page, State, page_at}
 use Rattle.store_api.specs.Tokens.{PageToken}
 use Rattle.store_api.specs.Holdings.{Holdings, page_of, page_len}
@@ -21,22 +20,20 @@ use Rattle.pin_core.specs.PinTurns.{CanPin, LacksRoomFor, IsContent as HasConten
 use Rattle.pin_core.specs.Turns.{LacksRoom, IsStarted, IsWriting}
 use Rattle.session_calls.specs.Pinning.{CanBePinned, IsPinned}
 use Rattle.session_calls.specs.Moving.{is_moving}
-use Rattle.session_calls.specs.Counting.{CountsOn}
 use Rattle.session_calls.specs.Needing.{EntersNeeded}
 use Rattle.session_calls.proofs.Contents.{shows_left}
 use Rattle.session_calls.proofs.Pages.{is_there, page_client_lives, can_pin as may_pin, lacks_room}
 use Rattle.session_calls.specs.declared.hand.Hand.{Hand}
 use Rattle.session_calls.specs.Acting.{Goes, held_by}
-use Rattle.session_calls.specs.Having.{IsAtWork}
+use Rattle.session_calls.specs.Having.{Sight, IsAtWork}
 use Rattle.session_calls.specs.Jobs.{DoesIn}
 use Rattle.session_calls.proofs.Alone.{none_moving, none_written}
 use Rattle.session_calls.proofs.AtWork.{one_works, one_did}
-use Rattle.session_calls.proofs.Counts.{counts_goes}
 use Rattle.session_calls.proofs.Needed.{needs_goes}
 use Rattle.session_calls.proofs.Idle.{not_loading}
 use Rattle.session_calls.proofs.Knowing.{Knows, knows}
 
-module _ {D : Type 0} (slot : Ghosts D) (o : Opening) (u : Outset) (seen : List Entry) (hand : Hand D) (is : IsAtWork slot o u seen hand) (p : PageToken) (can : CanBePinned p (held_by o u hand)) where
+module _ {D : Type 0} (slot : Ghosts D) (o : Opening) (u : Outset) (seen : Sight) (hand : Hand D) (is : IsAtWork slot o u seen hand) (p : PageToken) (can : CanBePinned p (held_by o u hand)) where
   abbrev s : State
   s = state_of hand.state
 
@@ -59,10 +56,10 @@ module _ {D : Type 0} (slot : Ghosts D) (o : Opening) (u : Outset) (seen : List 
   shows_here = shows_left slot hand.state o hand.trail is.ready.whole.stands its p can.page can.rests
 
   -- the page is pinned where it is
-  module _ (new : Hand D) (trail : new.trail ≡ hand.trail ++ record { maker = hand.session; event = PinHere p.name } ∷ []) (session : new.session ≡ hand.session)
+  module _ (new : Hand D) (trail : new.trail ≡ hand.trail ++ record { maker = hand.session; event = PinHere p.name } ∷ []) (session : new.session ≡ hand.session) (counts : new.counts ≡ hand.counts)
       (enters : Enters slot (record { maker = hand.session; event = PinHere p.name } ∷ []) [] [] hand.state new.state) where
     went_here : Goes slot (PinHere p.name ∷ []) hand new
-    went_here = record { trail = trail; session = session; enters = enters }
+    went_here = record { trail = trail; session = session; counts = counts; enters = enters }
 
     pub works_here : IsAtWork slot o u seen new
     works_here = one_works slot o u seen hand new is (PinHere p.name) went_here refl refl (after_pin p.name h) refl is.ready.rests.live is.ready.rests.few
@@ -72,9 +69,6 @@ module _ {D : Type 0} (slot : Ghosts D) (o : Opening) (u : Outset) (seen : List 
 
     pub needed_here : EntersNeeded p.client (page_len p.name h) hand new
     needed_here = needs_goes p.client (page_len p.name h) slot hand new (PinHere p.name ∷ []) went_here (λ own. tt, tt)
-
-    pub counts_here : CountsOn slot hand new
-    counts_here = counts_goes slot o hand is.ready.whole.stands.legal new (PinHere p.name ∷ []) went_here (refl, tt)
 
   -- its client lacks the room, so another page of the client goes out
   pub lacks_here : (failure : Option ℕ) → LacksRoomFor s hand.session p.name failure → LacksRoom s hand.session p.client (page_len p.name h) failure
@@ -92,5 +86,7 @@ module _ {D : Type 0} (slot : Ghosts D) (o : Opening) (u : Outset) (seen : List 
 pub waited_here : {D : Type 0} {P : List Event → Type 0} (hand new : Hand D) (v : Parts D) → DoesIn (λ events. events ≡ []) (record hand { state = v }) new → DoesIn (λ events. (events ≡ []) ⊎ P events) hand new
 waited_here hand new v did = record {
   session = did.session;
+  went = did.went;
+  counts = did.counts;
   does = record { events = did.does.events; is = inl did.does.is; own = did.does.own; more = did.does.more; grew = did.does.grew; mine = did.does.mine };
 }

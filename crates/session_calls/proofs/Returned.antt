@@ -1,6 +1,6 @@
 -- A page in a job comes back, after others had the pool's value.
 use Rattle.std.proofs.Common.{◌≡◌, ℕ, ◌+◌, List, [], ◌∷◌, ◌++◌, length, filter, Bool, true, false, Some, refl, sym, ap, ◌∙◌, subst, arith, inl, inr}
-use Rattle.std.proofs.lemmas.List.{append_assoc}
+use Rattle.std.proofs.lemmas.List.{append_assoc, append-nil}
 use Rattle.std.proofs.lemmas.List.Elements.{filter-append}
 use Rattle.std.specs.FinMap.{get}
 use Rattle.std.specs.List.{sum_by}
@@ -19,27 +19,30 @@ use Rattle.pool_model.proofs.OwnEntries.{made_more}
 use Rattle.pool_model.proofs.Resting.{legal_contents_are_told}
 use Rattle.store_api.specs.Entries.{by}
 use Rattle.pin_core.specs.StateOf.{state_of}
-use Rattle.pin_core.specs.Standing.{StandsFor}
+use Rattle.pin_core.specs.Standing.{StandsFor, slots_home}
 use Rattle.pin_core.specs.Returning.{EntersWhere}
-use Rattle.pin_core.specs.Tallies.{silence}
+use Rattle.pin_core.specs.Tallies.{Counted, all_failures, silence, stored_by, tally_by, tally_of}
 use Rattle.session_calls.proofs.Sized.{run_len}
 use Rattle.session_calls.proofs.Lists.{by_own, none_own}
 use Rattle.session_calls.specs.declared.hand.Hand.{Hand}
+use Rattle.session_calls.specs.declared.count.Count.{Count}
 use Rattle.session_calls.specs.Moving.{slots_out, quota_at, keeps_seats}
+use Rattle.session_calls.specs.Outgoing.{CountsWhole, no_tally, pages_counted, pages_out, tally_or}
 use Rattle.session_calls.specs.Ready.{StandsWhole}
-use Rattle.session_calls.specs.Having.{MayGive, Taken, Worked}
+use Rattle.session_calls.specs.Having.{Sight, sight_of, MayGive, Taken, Worked}
 use Rattle.session_calls.specs.Jobs.{DoesIn}
 use Rattle.session_calls.proofs.Quotas.{quota_stays}
 use Rattle.session_calls.proofs.Spare.{ones}
 use Rattle.session_calls.proofs.Lasts.{IsInJob, made_beside, page_lasts, content_lasts}
+use Rattle.session_calls.proofs.Outgoing.{EndsJob, counts_came, tally_lasts}
 
 -- a page in a job isn't pinned
 no_pin : (m : ℕ) (x : Page) → IsInJob m x.place → (count : ℕ) → x.place ≡ Pinned count → ⊥
 no_pin m x (inl flies) count pinned = let never : Flying m ≡ Pinned count = sym flies ∙ pinned in cc
 no_pin m x (inr loads) count pinned = let never : Loading ≡ Pinned count = sym loads ∙ pinned in cc
 
-module _ {D : Type 0} (slot : Ghosts D) (o : Opening) (told : Bool) (old mid : Hand D) (stood : StandsWhole slot o told old.trail old.state)
-    (before now : List Entry) (seen : before ≡ old.trail) (taken : Taken slot o told old.session before now mid) where
+module _ {D : Type 0} (slot : Ghosts D) (o : Opening) (told : Bool) (old mid : Hand D) (stood : StandsWhole slot o told old.trail old.counts old.state)
+    (before now : Sight) (seen : before ≡ sight_of old) (taken : Taken slot o told old.session before now mid) where
   abbrev s : State
   s = state_of old.state
 
@@ -47,8 +50,17 @@ module _ {D : Type 0} (slot : Ghosts D) (o : Opening) (told : Bool) (old mid : H
   abbrev t : State
   t = state_of mid.state
 
+  trail_is : mid.trail ≡ now.trail
+  trail_is = ap (λ (z : Sight). z.trail) taken.sight
+
+  counts_are : mid.counts ≡ now.counts
+  counts_are = ap (λ (z : Sight). z.counts) taken.sight
+
   pub grew : mid.trail ≡ old.trail ++ taken.others
-  grew = taken.trail ∙ taken.grew ∙ ap (λ (h : List Entry). h ++ taken.others) seen
+  grew = trail_is ∙ taken.grew ∙ ap (λ (z : Sight). z.trail ++ taken.others) seen
+
+  counted : mid.counts ≡ old.counts ++ taken.went
+  counted = counts_are ∙ taken.counts ∙ ap (λ (z : Sight). z.counts ++ taken.went) seen
 
   legal : IsLegal o (old.trail ++ taken.others)
   legal = subst (IsLegal o) grew taken.whole.stands.legal
@@ -71,6 +83,13 @@ module _ {D : Type 0} (slot : Ghosts D) (o : Opening) (told : Bool) (old mid : H
     pub same_page : page_at t p ≡ page_at s p
     same_page = page_is t p (page_at s p) same_there
 
+    -- its slots counted what they did when they went out
+    pub same_tally : tally_or no_tally p mid.counts ≡ tally_or no_tally p old.counts
+    same_tally =
+        let pages : pages_counted (old.counts ++ taken.went) ≡ pages_out (old.trail ++ taken.others) = sym (ap pages_counted counted) ∙ taken.whole.sums.pages ∙ ap pages_out grew in
+        ap (tally_or no_tally p) counted
+        ∙ tally_lasts o old.trail taken.others old.session old.counts taken.went legal taken.beside stood.sums.pages pages p (page_at s p) was whose job
+
     -- and its content is what was left in it, as a page in a job has slots
     pub content_mid : content_of o mid.trail p ≡ content_from p [] old.trail
     content_mid =
@@ -79,7 +98,7 @@ module _ {D : Type 0} (slot : Ghosts D) (o : Opening) (told : Bool) (old mid : H
         it.left (it.rests (no_pin old.session (page_at s p) job)) []
         ∙ ap (content_from p []) grew ∙ content_lasts old.session o old.trail taken.others legal taken.beside p (page_at s p) was whose job
 
-  module _ (new : Hand D) (end : Event) (trail : new.trail ≡ mid.trail ++ by old.session (end ∷ [])) (session : new.session ≡ mid.session) where
+  module _ (new : Hand D) (end : Event) (trail : new.trail ≡ mid.trail ++ by old.session (end ∷ [])) (none_out : new.counts ≡ mid.counts) (session : new.session ≡ mid.session) where
     abbrev e : Entry
     e = record { maker = old.session; event = end }
 
@@ -87,6 +106,8 @@ module _ {D : Type 0} (slot : Ghosts D) (o : Opening) (told : Bool) (old mid : H
     pub did : opens end ≡ false → DoesIn (λ events. events ≡ end ∷ []) old new
     did goes_on = record {
       session = session ∙ taken.session;
+      went = taken.went;
+      counts = none_out ∙ counted;
       does = record {
         events = end ∷ [];
         is = refl;
@@ -102,26 +123,33 @@ module _ {D : Type 0} (slot : Ghosts D) (o : Opening) (told : Bool) (old mid : H
     }
 
     -- the slots of a job came back with it
-    module _ (row came : List D) (known : Opening → List Entry → Type 0) (enters : EntersWhere slot known e row mid.state new.state) (knows : known o mid.trail) where
+    module _ (row went : List D) (known : Opening → List Entry → Type 0) (enters : EntersWhere slot known e row mid.state new.state) (knows : known o mid.trail) where
       stood_so : StandsFor slot o (mid.trail ++ e ∷ []) new.state
       stood_so = enters.stands o mid.trail taken.whole.stands knows
 
       may_follow : MayFollow mid.trail t e
       may_follow = subst (λ (u : State). MayFollow mid.trail u e) (sym taken.whole.stands.state) (legal_grows_so o mid.trail (e ∷ []) stood_so.legal).0
 
-      worked : keeps_seats end ≡ true → Worked o now new
-      worked keeps = record {
+      worked : opens end ≡ false → keeps_seats end ≡ true → Worked o now new
+      worked goes_on keeps = record {
         events = end ∷ [];
-        trail = trail ∙ ap (λ (h : List Entry). h ++ e ∷ []) taken.trail ∙ ap (λ (m : ℕ). now ++ by m (end ∷ [])) (sym (session ∙ taken.session));
+        trail = trail ∙ ap (λ (h : List Entry). h ++ e ∷ []) trail_is ∙ ap (λ (m : ℕ). now.trail ++ by m (end ∷ [])) (sym (session ∙ taken.session));
+        went = [];
+        counts = none_out ∙ counts_are ∙ sym (append-nil now.counts);
+        opens = (goes_on, tt);
         quotas = λ k.
-            ap (λ (u : State). quota_at u k) enters.state ∙ quota_stays t e k keeps ∙ ap (λ (u : State). quota_at u k) (taken.whole.stands.state ∙ ap (state_after o) taken.trail);
+            ap (λ (u : State). quota_at u k) enters.state ∙ quota_stays t e k keeps ∙ ap (λ (u : State). quota_at u k) (taken.whole.stands.state ∙ ap (state_after o) trail_is);
       }
 
-      -- so no slot is lost, and the value may be given back
-      pub may_give : keeps_seats end ≡ true → (MayFollow mid.trail t e → slots_out (after t e).pages + length row ≡ slots_out t.pages)
-          → sum_by (silence slot) row ≡ sum_by (silence slot) came → (told ≡ true → sum_by (silence slot) came ≡ 0) → MayGive slot o told now new
-      may_give keeps comes silent tell = record {
-        worked = worked keeps;
+      -- so no slot is lost, and slots count what they did and what the end tells: the value may be given back
+      pub may_give : opens end ≡ false → keeps_seats end ≡ true → (MayFollow mid.trail t e → slots_out (after t e).pages + length row ≡ slots_out t.pages)
+          → sum_by (silence slot) row ≡ sum_by (silence slot) went → (told ≡ true → sum_by (silence slot) went ≡ 0)
+          → (p : ℕ) → EndsJob p end → tally_or no_tally p mid.counts ≡ tally_of slot went
+          → Counted (all_failures (e ∷ [])) (sum_by (λ d. stored_by (mid.trail ++ e ∷ []) d.event) (e ∷ []))
+          (tally_by slot (λ measure. slots_home measure mid.state + sum_by measure went)) (tally_by slot (λ measure. slots_home measure mid.state + sum_by measure row))
+          → MayGive slot o told now new
+      may_give goes_on keeps comes silent tell p ends tally counts = record {
+        worked = worked goes_on keeps;
         whole = record {
           stands = subst (λ (h : List Entry). StandsFor slot o h new.state) (sym trail) stood_so;
           home =
@@ -136,5 +164,9 @@ module _ {D : Type 0} (slot : Ghosts D) (o : Opening) (told : Bool) (old mid : H
               let home = taken.whole.tell all in
               let none = tell all in
               omega (arith, moved, home, none, silent);
+          sums =
+              subst (λ (es : List Count). CountsWhole slot new.trail es new.state) (sym none_out)
+              (subst (λ (h : List Entry). CountsWhole slot h mid.counts new.state) (sym trail)
+              (counts_came slot o mid.trail mid.counts mid.state taken.whole.stands taken.whole.sums old.session p end went row new.state ends stood_so tally enters.slots counts));
         };
       }

@@ -18,10 +18,12 @@ use Rattle.pin_core.specs.StateOf.{state_of}
 use Rattle.pin_core.specs.Standing.{StandsFor, slots_home}
 use Rattle.pin_core.specs.Tallies.{silence}
 use Rattle.session_calls.specs.Moving.{rests}
-use Rattle.session_calls.proofs.Lists.{NoneOpens, by_append, by_own}
+use Rattle.session_calls.proofs.Lists.{opens_append, NoneOpens, by_append, by_own}
 use Rattle.session_calls.specs.declared.hand.Hand.{Hand}
+use Rattle.session_calls.specs.declared.count.Count.{Count}
 use Rattle.session_calls.specs.Told.{held_in}
 use Rattle.session_calls.specs.Moving.{slots_out, quota_at, keeps_seats}
+use Rattle.session_calls.specs.Outgoing.{CountsWhole}
 use Rattle.session_calls.specs.Ready.{StandsWhole, IsReady}
 use Rattle.session_calls.specs.Acting.{Acts, ActsThese, Goes, held_by}
 use Rattle.session_calls.specs.Doing.{Does}
@@ -29,11 +31,9 @@ use Rattle.session_calls.proofs.Doing.{does_held}
 use Rattle.session_calls.proofs.Entered.{Entered, acts_entered}
 use Rattle.session_calls.proofs.Busy.{busy_more, busy_rests}
 use Rattle.session_calls.proofs.Out.{out_run}
+use Rattle.session_calls.proofs.Outgoing.{counts_rest}
 use Rattle.session_calls.proofs.Quotas.{quotas_run}
-
--- no page goes into a job with these, and none comes back
-abbrev pub AllRest : List Event → Type 0
-AllRest events = AllByRecursion (λ e. rests e ≡ true) events
+use Rattle.session_calls.proofs.Resting.{AllRest, all_by}
 
 -- no session comes or goes with these
 abbrev pub AllKeepSeats : List Event → Type 0
@@ -47,11 +47,6 @@ keeps_opens _ keeps = refl
 pub keep_opens : (events : List Event) → AllKeepSeats events → NoneOpens events
 keep_opens [] keep = tt
 keep_opens (e ∷ events) keep = (keeps_opens e keep.0, keep_opens events keep.1)
-
--- what is so of events is so of entries with them
-all_by : (P : Event → Type 0) (m : ℕ) (events : List Event) → AllByRecursion P events → AllByRecursion (λ e. P e.event) (by m events)
-all_by P m [] all = tt
-all_by P m (e ∷ events) all = (all.0, all_by P m events all.1)
 
 -- a maker's entries go on, where it opens no session
 pub made_on : (m : ℕ) (h : List Entry) (events : List Event) → NoneOpens events → made_by (h ++ by m events) m ≡ made_by h m ++ by m events
@@ -89,7 +84,7 @@ module _ {D : Type 0} (old new : Hand D) where
 
   -- the same, of other words
   abbrev pub acts_so : {P Q : List Event → Type 0} (acts : Acts P old new) → Q acts.events → Acts Q old new
-  acts_so acts is = record { events = acts.events; is = is; trail = acts.trail; session = acts.session; quotas = acts.quotas; slots = acts.slots }
+  acts_so acts is = record { events = acts.events; is = is; trail = acts.trail; session = acts.session; opens = acts.opens; quotas = acts.quotas; slots = acts.slots; counts = acts.counts }
 
 -- one after the other
 abbrev pub acts_more : {D : Type 0} {P Q R : List Event → Type 0} (x y z : Hand D) (a : Acts P x y) (b : Acts Q y z) → R (a.events ++ b.events) → Acts R x z
@@ -99,8 +94,10 @@ acts_more x y z a b is = record {
   trail = b.trail ∙ ap (λ (h : List Entry). h ++ by y.session b.events) a.trail ∙ ap (λ (m : ℕ). (x.trail ++ by x.session a.events) ++ by m b.events) a.session
       ∙ append_assoc x.trail (by x.session a.events) (by x.session b.events) ∙ ap (λ (h : List Entry). x.trail ++ h) (sym (by_append x.session a.events b.events));
   session = b.session ∙ a.session;
+  opens = opens_append a.events b.events a.opens b.opens;
   quotas = λ k. b.quotas k ∙ a.quotas k;
   slots = λ measure. b.slots measure ∙ a.slots measure;
+  counts = b.counts ∙ a.counts;
 }
 
 module _ {D : Type 0} (slot : Ghosts D) (old new : Hand D) (events : List Event) (went : Goes slot events old new) where
@@ -108,14 +105,14 @@ module _ {D : Type 0} (slot : Ghosts D) (old new : Hand D) (events : List Event)
   pub goes_slots : (measure : D → ℕ) → slots_home measure new.state ≡ slots_home measure old.state
   goes_slots measure = let moved = went.enters.slots measure in omega (arith, moved)
 
-  -- a step is what its events say, where the quotas stay
-  pub acts_by : {P : List Event → Type 0} → P events → ((k : ℕ) → quota_at (state_of new.state) k ≡ quota_at (state_of old.state) k) → Acts P old new
-  acts_by is quotas = record { events = events; is = is; trail = went.trail; session = went.session; quotas = quotas; slots = goes_slots }
+  -- a step is what its events say, where none opens a session and the quotas stay
+  pub acts_by : {P : List Event → Type 0} → P events → NoneOpens events → ((k : ℕ) → quota_at (state_of new.state) k ≡ quota_at (state_of old.state) k) → Acts P old new
+  acts_by is none quotas = record { events = events; is = is; trail = went.trail; session = went.session; opens = none; quotas = quotas; slots = goes_slots; counts = went.counts }
 
   -- as they do where no session comes or goes
   pub acts_keep : {P : List Event → Type 0} → P events → AllKeepSeats events → Acts P old new
   acts_keep is keep =
-      acts_by is (λ k. ap (λ (s : State). quota_at s k) went.enters.state ∙ quotas_run (state_of old.state) (by old.session events) k (all_by (λ e. keeps_seats e ≡ true) old.session events keep))
+      acts_by is (keep_opens events keep) (λ k. ap (λ (s : State). quota_at s k) went.enters.state ∙ quotas_run (state_of old.state) (by old.session events) k (all_by (λ e. keeps_seats e ≡ true) old.session events keep))
 
   -- what is held then
   pub goes_held : NoneOpens events → (o : Opening) (u : Outset) → held_by o u new ≡ after_events (held_by o u old) events
@@ -124,18 +121,22 @@ module _ {D : Type 0} (slot : Ghosts D) (old new : Hand D) (events : List Event)
       ∙ does_held o u old.session old.trail new.trail (does_own {P = λ es. es ≡ events} old.session old.trail new.trail events refl went.trail none)
 
   module _ (o : Opening) (u : Outset) (was : IsReady slot o u old) where
-    -- the value stands for the history, and no slot is lost
-    whole_by : AllRest events → StandsWhole slot o u.told new.trail new.state
+    -- the value stands for the history, no slot is lost, and slots count what the history tells
+    whole_by : AllRest events → StandsWhole slot o u.told new.trail new.counts new.state
     whole_by rest =
         let stood : StandsFor slot o (old.trail ++ by old.session events) new.state = went.enters.stands o old.trail was.whole.stands in
         let out : slots_out (state_after o (old.trail ++ by old.session events)).pages ≡ slots_out (state_after o old.trail).pages =
-        out_run o old.trail (by old.session events) stood.legal (all_by (λ e. rests e ≡ true) old.session events rest) in
+        out_run (λ p b. b) o old.trail (by old.session events) stood.legal (all_by (λ e. rests e ≡ true) old.session events rest) in
         let same : slots_out (state_of new.state).pages ≡ slots_out (state_of old.state).pages =
         ap (λ (s : State). slots_out s.pages) stood.state ∙ out ∙ sym (ap (λ (s : State). slots_out s.pages) was.whole.stands.state) in
         record {
           stands = subst (λ (h : List Entry). StandsFor slot o h new.state) (sym went.trail) stood;
           home = let moved = went.enters.slots (λ d. 1) in let home = was.whole.home in omega (arith, moved, home, same);
           tell = λ told. let moved = went.enters.slots (silence slot) in let none = was.whole.tell told in omega (arith, moved, none);
+          sums =
+              subst (λ (l : List Count). CountsWhole slot new.trail l new.state) (sym went.counts)
+              (subst (λ (h : List Entry). CountsWhole slot h old.counts new.state) (sym went.trail)
+              (counts_rest slot o old.trail old.counts old.state was.whole.stands was.whole.sums old.session events new.state rest stood goes_slots));
         }
 
     -- no page of its own is in a job of its own

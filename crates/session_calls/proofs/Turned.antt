@@ -1,5 +1,6 @@
 -- One turn of a call that wants room: a page goes out and comes back.
 use Rattle.std.proofs.Common.{◌≡◌, ℕ, ◌+◌, ◌<◌, List, [], ◌∷◌, ◌++◌, Option, None, IsSome, unwrap_or, refl, sym, ap, ◌∙◌, subst, arith}
+use Rattle.std.proofs.lemmas.List.{append_assoc}
 use Rattle.std.specs.FinMap.{get}
 use Rattle.std.specs.List.{sum_by}
 use Rattle.outside.specs.declared.slot.Slot.{Ghosts}
@@ -23,28 +24,30 @@ use Rattle.own_entries.specs.AboveLaws.{AllBy}
 use Rattle.pin_core.specs.declared.jobs.WriteJob.{WriteJob}
 use Rattle.pin_core.specs.StateOf.{state_of}
 use Rattle.pin_core.specs.Standing.{StandsFor, Enters}
-use Rattle.pin_core.specs.Tallies.{silence}
+use Rattle.pin_core.specs.Tallies.{silence, tally_of}
 use Rattle.pin_core.specs.Turns.{IsStarted, failure_of, start_entry}
 use Rattle.session_calls.specs.Writing.{IsEnd, IsWrite, writes_left}
 use Rattle.session_calls.proofs.Pages.{owner_is, page_held}
 use Rattle.session_calls.proofs.Waiting.{IsDirtyOf, newest_in, out, written_left, unwritten_left}
 use Rattle.session_calls.specs.declared.hand.Hand.{Hand}
+use Rattle.session_calls.specs.declared.count.Count.{Count}
+use Rattle.session_calls.specs.declared.count.Count.TheVariants.{Out}
 use Rattle.session_calls.specs.Moving.{quota_at, slots_out}
+use Rattle.session_calls.specs.Outgoing.{CountsWhole, no_tally, tally_or}
 use Rattle.session_calls.specs.Ready.{StandsWhole, IsResting}
 use Rattle.session_calls.specs.Acting.{held_by}
 use Rattle.session_calls.specs.Doing.{Does}
-use Rattle.session_calls.specs.Having.{MayGive, IsAtWork}
+use Rattle.session_calls.specs.Having.{Sight, MayGive, IsAtWork}
 use Rattle.session_calls.specs.Jobs.{DoesIn, CanWrite, Wrote}
 use Rattle.session_calls.specs.Needing.{EntersNeeded}
-use Rattle.session_calls.specs.Counting.{CountsBack, CountsOn}
 use Rattle.session_calls.proofs.Entered.{Entered}
 use Rattle.session_calls.proofs.Alone.{all_front}
 use Rattle.session_calls.proofs.Between.{rests_written, worked_on}
-use Rattle.session_calls.proofs.Counts.{counts_out}
 use Rattle.session_calls.proofs.Doing.{does_all, does_more}
 use Rattle.session_calls.proofs.Knowing.{Knows, knows}
 use Rattle.session_calls.proofs.Needs.{needs_write, state_grew}
 use Rattle.session_calls.proofs.Out.{out_started}
+use Rattle.session_calls.proofs.Outgoing.{counts_went, tally_last}
 use Rattle.session_calls.proofs.Quotas.{quota_stays}
 use Rattle.session_calls.proofs.Spare.{ones}
 use Rattle.session_calls.proofs.Steps.{entered_does}
@@ -57,10 +60,11 @@ end_left s m c p (WriteOk q) is good bad = subst (λ (r : ℕ). writes_left m c 
 end_left s m c p (WriteFailed q before now) is good bad = subst (λ (r : ℕ). writes_left m c (run s (by m (StartWrite p ∷ WriteFailed r before now ∷ []))) < writes_left m c s) (sym is) (bad before now)
 end_left s m c p _ is good bad = absurd is
 
-module _ {D : Type 0} (slot : Ghosts D) (o : Opening) (u : Outset) (seen : List Entry) (hand : Hand D) (was : IsAtWork slot o u seen hand) where
+module _ {D : Type 0} (slot : Ghosts D) (o : Opening) (u : Outset) (seen : Sight) (hand : Hand D) (was : IsAtWork slot o u seen hand) where
   module _ (c : ℕ) (some : IsSome ((held_by o u hand).clients c)) (job : WriteJob D) (went : Hand D) (started : IsStarted slot hand.session c job hand.state went.state)
       (enters : Enters slot (start_entry hand.session job.id.name ∷ []) job.row [] hand.state went.state)
-      (trail_is : went.trail ≡ hand.trail ++ start_entry hand.session job.id.name ∷ []) (session_is : went.session ≡ hand.session) where
+      (trail_is : went.trail ≡ hand.trail ++ start_entry hand.session job.id.name ∷ [])
+      (counts_are : went.counts ≡ hand.counts ++ Out job.id.name (tally_of slot job.row) ∷ []) (session_is : went.session ≡ hand.session) where
     abbrev s : State
     s = state_of hand.state
 
@@ -100,6 +104,7 @@ module _ {D : Type 0} (slot : Ghosts D) (o : Opening) (u : Outset) (seen : List 
       by = started.by ∙ sym session_is;
       whose = whose ∙ sym session_is;
       content = content;
+      counts = ap (tally_or no_tally p) counts_are ∙ tally_last hand.counts p (tally_of slot job.row);
       tell = λ told. let moved = enters.slots (silence slot) in let none = was.ready.whole.tell told in omega (arith, moved, none);
     }
 
@@ -107,17 +112,26 @@ module _ {D : Type 0} (slot : Ghosts D) (o : Opening) (u : Outset) (seen : List 
     out_more : slots_out (state_of went.state).pages ≡ slots_out s.pages + (page_at s p).blocks
     out_more =
         let may : MayFollow hand.trail (state_after o hand.trail) e = (legal_grows_so o hand.trail (e ∷ []) stood.legal).0 in
-        ap (λ (t : State). slots_out t.pages) enters.state ∙ out_started hand.trail s hand.session p (subst (λ (t : State). MayFollow hand.trail t e) (sym was.ready.whole.stands.state) may)
+        ap (λ (t : State). slots_out t.pages) enters.state ∙ out_started (λ p b. b) hand.trail s hand.session p (subst (λ (t : State). MayFollow hand.trail t e) (sym was.ready.whole.stands.state) may)
 
     blocks : sum_by (λ d. 1) job.row ≡ (page_at s p).blocks
     blocks =
         ones job.row ∙ started.is.slots ∙ ap (λ (t : State). (page_at t p).blocks) enters.state ∙ ap (λ (x : Option Page). (unwrap_or x no_page).blocks) (get_same s.pages p _)
 
-    started_whole : StandsWhole slot o u.told went.trail went.state
+    -- and are counted
+    started_sums : CountsWhole slot went.trail went.counts went.state
+    started_sums =
+        subst (λ (es : List Count). CountsWhole slot went.trail es went.state) (sym counts_are)
+        (subst (λ (h : List Entry). CountsWhole slot h (hand.counts ++ Out p (tally_of slot job.row) ∷ []) went.state) (sym trail_is)
+        (counts_went slot o hand.trail hand.counts hand.state was.ready.whole.stands was.ready.whole.sums hand.session [] (StartWrite p) p job.row went.state tt refl stood
+        (λ measure. let moved = enters.slots measure in omega (arith, moved))))
+
+    started_whole : StandsWhole slot o u.told went.trail went.counts went.state
     started_whole = record {
       stands = subst (λ (h : List Entry). StandsFor slot o h went.state) (sym trail_is) stood;
       home = let moved = enters.slots (λ d. 1) in let home = was.ready.whole.home in omega (arith, moved, home, out_more, blocks);
       tell = λ told. let moved = enters.slots (silence slot) in let none = was.ready.whole.tell told in omega (arith, moved, none);
+      sums = started_sums;
     }
 
     abbrev begun : Entered (λ events. events ≡ StartWrite p ∷ []) hand went
@@ -126,14 +140,17 @@ module _ {D : Type 0} (slot : Ghosts D) (o : Opening) (u : Outset) (seen : List 
       is = refl;
       trail = trail_is;
       session = session_is;
+      opens = (refl, tt);
       quotas = λ k. ap (λ (t : State). quota_at t k) enters.state ∙ quota_stays s e k refl;
+      went = Out p (tally_of slot job.row) ∷ [];
+      counts = counts_are;
     }
 
     pub may_write : MayGive slot o u.told seen went
     may_write = record { worked = worked_on o u seen hand went was.worked begun; whole = started_whole }
 
     -- the page came back
-    module _ (now : List Entry) (new : Hand D) (may : MayGive slot o u.told now new) (wrote : Wrote job went new) where
+    module _ (now : Sight) (new : Hand D) (may : MayGive slot o u.told now new) (wrote : Wrote job went new) where
       is_write : IsWrite c (held_by o u hand) (StartWrite p ∷ wrote.end ∷ [])
       is_write = record {
         page = p;
@@ -152,7 +169,12 @@ module _ {D : Type 0} (slot : Ghosts D) (o : Opening) (u : Outset) (seen : List 
           (subst (λ (es : List Event). IsWrite c (held_by o u hand) (StartWrite p ∷ es)) (sym ended.is) is_write)
 
       pub wrote_one : DoesIn (IsWrite c (held_by o u hand)) hand new
-      wrote_one = record { session = wrote.did.session ∙ session_is; does = written }
+      wrote_one = record {
+        session = wrote.did.session ∙ session_is;
+        went = Out p (tally_of slot job.row) ∷ wrote.did.went;
+        counts = wrote.did.counts ∙ ap (λ (es : List Count). es ++ wrote.did.went) counts_are ∙ append_assoc hand.counts (Out p (tally_of slot job.row) ∷ []) wrote.did.went;
+        does = written;
+      }
 
       pub works_on : IsAtWork slot o u now new
       works_on = record {
@@ -166,10 +188,6 @@ module _ {D : Type 0} (slot : Ghosts D) (o : Opening) (u : Outset) (seen : List 
       pub needed_out : (amount : ℕ) → (HasRoom s c amount → ⊥) → EntersNeeded c amount hand new
       needed_out amount full =
           needs_write c amount slot o hand went new p wrote.end trail_is session_is enters.state full started_whole.stands may.whole.stands wrote.ended wrote.did
-
-      pub counts_turn : CountsBack slot job.row went new → CountsOn slot hand new
-      counts_turn back =
-          counts_out slot o hand was.ready.whole.stands.legal went new (StartWrite p ∷ []) job.row trail_is (refl, tt) (λ measure. let moved = enters.slots measure in omega (arith, moved)) back
 
       -- where the session alone made the history, its two entries made the state
       module _ (all : AllBy new.session new.trail) where

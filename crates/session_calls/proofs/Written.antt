@@ -27,19 +27,22 @@ use Rattle.session_calls.specs.Writing.{IsEnd, stored_with}
 use Rattle.session_calls.specs.declared.hand.Hand.{Hand}
 use Rattle.session_calls.specs.Moving.{slots_out, keeps_seats}
 use Rattle.session_calls.specs.Ready.{StandsWhole}
-use Rattle.session_calls.specs.Having.{MayGive, Taken}
+use Rattle.session_calls.specs.Having.{Sight, sight_of, MayGive, Taken}
 use Rattle.session_calls.specs.Jobs.{CanWrite, Wrote}
-use Rattle.session_calls.specs.Counting.{CountsBack}
-use Rattle.session_calls.proofs.Counts.{counts_back}
 use Rattle.session_calls.proofs.Out.{back_written, back_unwritten}
 use Rattle.session_calls.proofs.Lasts.{IsInJob}
-use Rattle.session_calls.proofs.Returned.{same_len, same_there, same_page, content_mid, did, may_give}
+use Rattle.session_calls.proofs.Outgoing.{EndsJob}
+use Rattle.session_calls.proofs.Returned.{same_len, same_there, same_page, same_tally, content_mid, did, may_give}
 
 -- what is so of the end of a write, well or not
 module _ (p before now : ℕ) where
   is_end : (b : Bool) → IsEnd p (write_ends b p before now)
   is_end true = refl
   is_end false = refl
+
+  ends_job : (b : Bool) → EndsJob p (write_ends b p before now)
+  ends_job true = refl
+  ends_job false = refl
 
   keeps : (b : Bool) → keeps_seats (write_ends b p before now) ≡ true
   keeps true = refl
@@ -51,8 +54,8 @@ module _ (p before now : ℕ) where
 
   comes_back : (b : Bool) (h : List Entry) (s : State) (m : ℕ) → MayFollow h s (record { maker = m; event = write_ends b p before now })
       → slots_out (after s (record { maker = m; event = write_ends b p before now })).pages + (page_at s p).blocks ≡ slots_out s.pages
-  comes_back true h s m may = back_unwritten h s m p before now may
-  comes_back false h s m may = back_written h s m p may
+  comes_back true h s m may = back_unwritten (λ p b. b) h s m p before now may
+  comes_back false h s m may = back_written (λ p b. b) h s m p may
 
 -- what the end of a write stored, where the page was made with so many blocks
 stored_end : (h : List Entry) (m p blocks before now : ℕ) → blocks_of (maker_of h p) ≡ blocks → (b : Bool)
@@ -68,8 +71,8 @@ row_counts : {D : Type 0} (slot : Ghosts D) (home : (D → ℕ) → ℕ) (was ro
 row_counts slot home was row m p before now silent len fall true faults stores = came_back slot home was row 1 0 fall faults stores silent len
 row_counts slot home was row m p before now silent len fall false faults stores = came_back slot home was row 0 (length was) fall faults stores silent len
 
-module _ {D : Type 0} (slot : Ghosts D) (o : Opening) (told : Bool) (old mid : Hand D) (stood : StandsWhole slot o told old.trail old.state)
-    (before now : List Entry) (seen : before ≡ old.trail) (taken : Taken slot o told old.session before now mid)
+module _ {D : Type 0} (slot : Ghosts D) (o : Opening) (told : Bool) (old mid : Hand D) (stood : StandsWhole slot o told old.trail old.counts old.state)
+    (before now : Sight) (seen : before ≡ sight_of old) (taken : Taken slot o told old.session before now mid)
     (job ran : WriteJob D) (can : CanWrite slot told job old) (rest : ran ≡ after_stores ran.row ran.failed job) (len : length ran.row ≡ length job.row) where
   abbrev s : State
   s = state_of old.state
@@ -106,7 +109,7 @@ module _ {D : Type 0} (slot : Ghosts D) (o : Opening) (told : Bool) (old mid : H
       (held : ran.failed ≡ false → AreHeld slot job.buf.block_len ran.row job.buf.bytes)
       (failed : ran.failed ≡ true → IsFault (faults_of slot job.row) (faults_of slot ran.row))
       (enters : (before now : ℕ) → IsFault before now → EntersWhere slot (IsWritten slot t.block_len ran) (write_entry ran before now) ran.row mid.state new.state)
-      (entered : new.trail ≡ mid.trail ++ write_entry ran sum (faults_of slot ran.row) ∷ []) (session : new.session ≡ mid.session) where
+      (entered : new.trail ≡ mid.trail ++ write_entry ran sum (faults_of slot ran.row) ∷ []) (none_out : new.counts ≡ mid.counts) (session : new.session ≡ mid.session) where
     abbrev end : Event
     end = write_ends ran.failed ran.id.name sum (faults_of slot ran.row)
 
@@ -144,35 +147,30 @@ module _ {D : Type 0} (slot : Ghosts D) (o : Opening) (told : Bool) (old mid : H
     wrote = record {
       end = end;
       ended = subst (λ (p : ℕ). IsEnd p end) name_is (is_end ran.id.name sum (faults_of slot ran.row) ran.failed);
-      did = did slot o told old mid stood before now seen taken new end trail session (goes_on ran.id.name sum (faults_of slot ran.row) ran.failed);
+      did = did slot o told old mid stood before now seen taken new end trail none_out session (goes_on ran.id.name sum (faults_of slot ran.row) ran.failed);
     }
 
-    pub may_give_written : map slot.tells ran.row ≡ map slot.tells job.row → MayGive slot o told now new
-    may_give_written tells =
-        may_give slot o told old mid stood before now seen taken new end trail session ran.row job.row (IsWritten slot t.block_len ran) enters_so is_written
+    -- the page has as many slots as blocks
+    was_made : blocks_of (maker_of (mid.trail ++ by old.session (end ∷ [])) ran.id.name) ≡ length job.row
+    was_made =
+        let x : Page = page_at s job.id.name in
+        let there : get t.pages job.id.name ≡ Some x = same_there slot o told old mid stood before now seen taken job.id.name can.is.lives can.whose flies in
+        let known : maker_of mid.trail job.id.name ≡ Some (made x) =
+        legal_pages_as_made o mid.trail taken.whole.stands.legal job.id.name x (ap (λ (u : State). get u.pages job.id.name) (sym taken.whole.stands.state) ∙ there) in
+        ap (λ (p : ℕ). blocks_of (maker_of (mid.trail ++ by old.session (end ∷ [])) p)) name_is
+        ∙ ap blocks_of (still_made mid.trail (by old.session (end ∷ [])) job.id.name (made x) known) ∙ sym can.is.slots
+
+    pub may_give_written : map slot.tells ran.row ≡ map slot.tells job.row → faults_of slot job.row ≤ faults_of slot ran.row → CountsFaults slot (if ran.failed then 1 else 0) job.row ran.row
+        → CountsStores slot (if ran.failed then 0 else length job.row) job.row ran.row → MayGive slot o told now new
+    may_give_written tells fall faults stores =
+        may_give slot o told old mid stood before now seen taken new end trail none_out session ran.row job.row (IsWritten slot t.block_len ran) enters_so is_written
+        (goes_on ran.id.name sum (faults_of slot ran.row) ran.failed)
         (keeps ran.id.name sum (faults_of slot ran.row) ran.failed)
         (λ may. subst (λ (n : ℕ). slots_out (after t e).pages + n ≡ slots_out t.pages) (sym still_job.slots) (comes_back ran.id.name sum (faults_of slot ran.row) ran.failed mid.trail t old.session may))
         (same_silence slot ran.row job.row tells) can.tell
-
-    -- where the session is alone, the slots of the job count what the end says
-    module _ (alone : mid ≡ old) where
-      trail_alone : new.trail ≡ old.trail ++ by old.session (end ∷ [])
-      trail_alone = trail ∙ ap (λ (hand : Hand D). hand.trail ++ by old.session (end ∷ [])) alone
-
-      -- the page has as many slots as blocks
-      was_made : blocks_of (maker_of new.trail ran.id.name) ≡ length job.row
-      was_made =
-          let x : Page = page_at s job.id.name in
-          let known : maker_of old.trail job.id.name ≡ Some (made x) = legal_pages_as_made o old.trail stood.stands.legal job.id.name x (ap (λ (u : State). get u.pages job.id.name) (sym stood.stands.state) ∙ can.is.lives) in
-          ap (λ (p : ℕ). blocks_of (maker_of new.trail p)) name_is
-          ∙ ap (λ (h : List Entry). blocks_of (maker_of h job.id.name)) trail_alone
-          ∙ ap blocks_of (still_made old.trail (by old.session (end ∷ [])) job.id.name (made x) known) ∙ sym can.is.slots
-
-      pub counts_written : map slot.tells ran.row ≡ map slot.tells job.row → faults_of slot job.row ≤ faults_of slot ran.row → CountsFaults slot (if ran.failed then 1 else 0) job.row ran.row
-          → CountsStores slot (if ran.failed then 0 else length job.row) job.row ran.row → CountsBack slot job.row old new
-      counts_written tells fall faults stores =
-          counts_back slot o old stood.stands.legal new (end ∷ []) job.row ran.row trail_alone (all_failures (by old.session (end ∷ []))) (stored_with (length job.row) end) refl
-          (stored_end new.trail old.session ran.id.name (length job.row) sum (faults_of slot ran.row) was_made ran.failed)
-          (λ measure. enters_so.slots measure ∙ ap (λ (hand : Hand D). slots_home measure hand.state + sum_by measure ran.row) alone)
-          (row_counts slot (λ measure. slots_home measure old.state) job.row ran.row old.session ran.id.name sum (faults_of slot ran.row) (same_silence slot ran.row job.row tells) len fall ran.failed faults stores)
-          (same_silence slot ran.row job.row tells)
+        job.id.name (subst (λ (p : ℕ). EndsJob p end) name_is (ends_job ran.id.name sum (faults_of slot ran.row) ran.failed))
+        (same_tally slot o told old mid stood before now seen taken job.id.name can.is.lives can.whose flies ∙ can.counts)
+        (subst
+        (λ (n : ℕ). Counted (all_failures (e ∷ [])) n (tally_by slot (λ measure. slots_home measure mid.state + sum_by measure job.row)) (tally_by slot (λ measure. slots_home measure mid.state + sum_by measure ran.row)))
+        (sym (stored_end (mid.trail ++ by old.session (end ∷ [])) old.session ran.id.name (length job.row) sum (faults_of slot ran.row) was_made ran.failed))
+        (row_counts slot (λ measure. slots_home measure mid.state) job.row ran.row old.session ran.id.name sum (faults_of slot ran.row) (same_silence slot ran.row job.row tells) len fall ran.failed faults stores))

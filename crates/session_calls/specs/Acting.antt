@@ -13,23 +13,26 @@ use Rattle.pin_core.specs.StateOf.{state_of}
 use Rattle.pin_core.specs.Standing.{Enters, slots_home}
 use Rattle.session_calls.specs.declared.hand.Hand.{Hand}
 use Rattle.session_calls.specs.Told.{held_in, signs_in}
-use Rattle.session_calls.specs.Moving.{quota_at}
+use Rattle.session_calls.specs.Moving.{NoneOpens, quota_at}
 
 module _ {D : Type 0} where
   -- the session entered events of which this holds, and nobody else entered any; no session came or went, and no slot
-  -- moved
+  -- moved or went out
   pub record Acts (P : List Event → Type 0) (old new : Hand D) : Type 0 where
     pub events : List Event
     pub is : P events
     pub trail : new.trail ≡ old.trail ++ by old.session events
     pub session : new.session ≡ old.session
+    pub opens : NoneOpens events
     pub quotas : (k : ℕ) → quota_at (state_of new.state) k ≡ quota_at (state_of old.state) k
     pub slots : (measure : D → ℕ) → slots_home measure new.state ≡ slots_home measure old.state
+    pub counts : new.counts ≡ old.counts
 
   -- it entered these, and no slot moved
   pub record Goes (slot : Ghosts D) (events : List Event) (old new : Hand D) : Type 0 where
     pub trail : new.trail ≡ old.trail ++ by old.session events
     pub session : new.session ≡ old.session
+    pub counts : new.counts ≡ old.counts
     pub enters : Enters slot (by old.session events) [] [] old.state new.state
 
   -- it entered these

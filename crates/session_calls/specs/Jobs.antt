@@ -1,5 +1,5 @@
 -- A page of the session is written or loaded while the value isn't in hand, and comes back.
-use Rattle.std.specs.Prelude.{◌≡◌, ◌<◌, ℕ, List, [], ◌∷◌, Bool, true, length}
+use Rattle.std.specs.Prelude.{◌≡◌, ◌<◌, ℕ, List, [], ◌∷◌, ◌++◌, Bool, true, length}
 use Rattle.std.specs.List.{sum_by}
 use Rattle.outside.specs.declared.slot.Slot.{Ghosts}
 use Rattle.block_arena.specs.Memory.{Buffer, IsBufferOf}
@@ -16,24 +16,31 @@ use Rattle.pin_core.specs.declared.jobs.ReadJob.{ReadJob}
 use Rattle.pin_core.specs.declared.jobs.WriteJob.{WriteJob}
 use Rattle.pin_core.specs.StateOf.{state_of}
 use Rattle.pin_core.specs.Standing.{AreHeld}
-use Rattle.pin_core.specs.Tallies.{silence}
+use Rattle.pin_core.specs.Tallies.{silence, tally_of}
 use Rattle.pin_core.specs.Jobs.{IsReadJob, IsWriteJob}
+use Rattle.session_calls.specs.Outgoing.{no_tally, tally_or}
 use Rattle.session_calls.specs.Writing.{IsEnd}
 use Rattle.session_calls.specs.declared.hand.Hand.{Hand}
+use Rattle.session_calls.specs.declared.count.Count.{Count}
 use Rattle.session_calls.specs.Doing.{Does}
 
 module _ {D : Type 0} where
-  -- between two histories that it had in hand the session did what this says, whatever others did
+  -- between two histories that it had in hand the session did what this says, whatever others did; and counts came
+  -- behind those that there were
   pub record DoesIn (P : List Event → Type 0) (old new : Hand D) : Type 0 where
     pub session : new.session ≡ old.session
+    pub went : List Count
+    pub counts : new.counts ≡ old.counts ++ went
     pub does : Does old.session P old.trail new.trail
 
-  -- the job is to write a page of the session, with what it left there last; the slots tell, where that is said
+  -- the job is to write a page of the session, with what it left there last; the slots count what they did when they
+  -- went out, and tell, where that is said
   pub record CanWrite (slot : Ghosts D) (told : Bool) (job : WriteJob D) (hand : Hand D) : Type 0 where
     pub is : IsWriteJob (state_of hand.state) job
     pub by : job.who ≡ hand.session
     pub whose : (page_at (state_of hand.state) job.id.name).session ≡ hand.session
     pub content : job.buf.bytes ≡ content_from job.id.name [] hand.trail
+    pub counts : tally_or no_tally job.id.name hand.counts ≡ tally_of slot job.row
     pub tell : told ≡ true → sum_by (silence slot) job.row ≡ 0
 
   -- the write ended, well or not
@@ -42,12 +49,14 @@ module _ {D : Type 0} where
     pub ended : IsEnd job.id.name end
     pub did : DoesIn (λ events. events ≡ end ∷ []) old new
 
-  -- the job is to load a page of the session, from slots that hold what it left there last
+  -- the job is to load a page of the session, from slots that hold what it left there last, and count what they did
+  -- when they went out
   pub record CanRead (slot : Ghosts D) (told : Bool) (job : ReadJob D) (hand : Hand D) : Type 0 where
     pub is : IsReadJob (state_of hand.state) job
     pub whose : (page_at (state_of hand.state) job.id.name).session ≡ hand.session
     pub held : AreHeld slot (state_of hand.state).block_len job.row (content_from job.id.name [] hand.trail)
     pub whole : length (content_from job.id.name [] hand.trail) ≡ length job.buf.bytes
+    pub counts : tally_or no_tally job.id.name hand.counts ≡ tally_of slot job.row
     pub tell : told ≡ true → sum_by (silence slot) job.row ≡ 0
 
   -- the page is pinned with this buffer, which shows what was left, where slots tell

@@ -1,5 +1,6 @@
 pub mod Told
 pub mod Moving
+pub mod Outgoing
 pub mod Writing
 pub mod Wanting
 pub mod Leaving
@@ -10,6 +11,5 @@ pub mod Coming
 pub mod Having
 pub mod Jobs
 pub mod Needing
-pub mod Counting
 pub mod Turning
 pub mod Pinning

@@ -1,9 +1,11 @@
 -- Pages in jobs, and the quotas of sessions.
-use Rattle.std.specs.Prelude.{ℕ, Bool, true, false, if◌then◌else◌, Option, Some, option_map}
+use Rattle.std.specs.Prelude.{◌≡◌, ℕ, List, Bool, true, false, if◌then◌else◌, Option, Some, option_map}
 use Rattle.std.specs.FinMap.{get}
+use Rattle.std.specs.List.{AllByRecursion}
 use Rattle.reservation_tree.specs.Total.{total}
 use Rattle.pool_model.specs.declared.event.Event.{Event}
 use Rattle.pool_model.specs.declared.event.Event.TheVariants.{AddTracker, CloseTracker, PinLoad, ReadOk, ReadFailed, StartWrite, WriteOk, WriteFailed}
+use Rattle.pool_model.specs.LookingBack.{opens}
 use Rattle.pool_model.specs.State.{Place, Flying, Loading, Page, Pages, State}
 
 -- the page is written, or loaded
@@ -29,6 +31,10 @@ abbrev pub keeps_seats : Event → Bool
 keeps_seats (AddTracker t parent limit (Some quota)) = false
 keeps_seats (CloseTracker t) = false
 keeps_seats _ = true
+
+-- no session comes with these
+abbrev pub NoneOpens : List Event → Type 0
+NoneOpens events = AllByRecursion (λ e. opens e ≡ false) events
 
 -- no page goes into a job with the event, and none comes back from one
 abbrev pub rests : Event → Bool

@@ -4,7 +4,6 @@ use Rattle.std.specs.List.{list_any}
 use Rattle.pool_model.specs.declared.call.Call.TheVariants.{Pin}
 use Rattle.pool_model.specs.declared.event.Event.{Event}
 use Rattle.pool_model.specs.declared.event.Event.TheVariants.{PinHere, PinLoad, ReadOk, ReadFailed}
-use Rattle.outside.specs.declared.slot.Slot.{Ghosts}
 use Rattle.pool_model.specs.LookingBack.{is_ask, made_by}
 use Rattle.pool_model.specs.Failures.{is_for_own, failures_in}
 use Rattle.pool_model.specs.MayFollow.{MayFollow}
@@ -18,7 +17,6 @@ use Rattle.store_api.specs.Conditions.{IsPage, ShowsLeft}
 use Rattle.own_entries.specs.OwnHoldings.{Outset}
 use Rattle.session_calls.specs.Writing.{IsWrite, writes_left}
 use Rattle.session_calls.specs.Coming.{Evicts}
-use Rattle.session_calls.specs.Counting.{CountsOn}
 use Rattle.session_calls.specs.declared.hand.Hand.{Hand}
 use Rattle.session_calls.specs.declared.pinning.PinStep.{PinStep}
 use Rattle.session_calls.specs.declared.pinning.PinStep.TheVariants.{Failed, Pinned, Refused, Wrote}
@@ -65,8 +63,3 @@ module _ {D : Type 0} where
 abbrev pub GoesFurther : {D : Type 0} → ℕ → PinStep → Hand D → Hand D → Type 0
 GoesFurther t Wrote old new = writes_left new.session t (state_of new.state) < writes_left old.session t (state_of old.state)
 GoesFurther t _ old new = ⊤
-
--- what is so of a turn of a session that is alone
-pub record StepsAlone {D : Type 0} (slot : Ghosts D) (t : ℕ) (step : PinStep) (old new : Hand D) : Type 0 where
-  pub counts : CountsOn slot old new
-  pub further : GoesFurther t step old new

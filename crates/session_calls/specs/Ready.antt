@@ -11,15 +11,18 @@ use Rattle.pin_core.specs.StateOf.{state_of}
 use Rattle.pin_core.specs.Standing.{StandsFor, slots_home}
 use Rattle.pin_core.specs.Tallies.{silence}
 use Rattle.session_calls.specs.declared.hand.Hand.{Hand}
+use Rattle.session_calls.specs.declared.count.Count.{Count}
 use Rattle.session_calls.specs.Told.{held_in}
 use Rattle.session_calls.specs.Moving.{slots_out}
+use Rattle.session_calls.specs.Outgoing.{CountsWhole}
 
--- the value stands for the history; with those in jobs no slot is lost; and where each slot told what it held, each
--- that is home does
-pub record StandsWhole {D : Type 0} (slot : Ghosts D) (o : Opening) (told : Bool) (h : List Entry) (v : Parts D) : Type 0 where
+-- the value stands for the history; with those in jobs no slot is lost; where each slot told what it held, each
+-- that is home does; and slots count what the history tells
+pub record StandsWhole {D : Type 0} (slot : Ghosts D) (o : Opening) (told : Bool) (h : List Entry) (counts : List Count) (v : Parts D) : Type 0 where
   pub stands : StandsFor slot o h v
   pub home : slots_home (λ d. 1) v + slots_out (state_of v).pages ≡ o.slots
   pub tell : told ≡ true → slots_home (silence slot) v ≡ 0
+  pub sums : CountsWhole slot h counts v
 
 -- by its own entries the session is live with at most 16 clients, and no page of its own is in a job of its own
 pub record IsResting (o : Opening) (u : Outset) (m : ℕ) (h : List Entry) : Type 0 where
@@ -30,5 +33,5 @@ pub record IsResting (o : Opening) (u : Outset) (m : ℕ) (h : List Entry) : Typ
 
 -- a session that has the pool's value in hand is between two calls
 pub record IsReady {D : Type 0} (slot : Ghosts D) (o : Opening) (u : Outset) (hand : Hand D) : Type 0 where
-  pub whole : StandsWhole slot o u.told hand.trail hand.state
+  pub whole : StandsWhole slot o u.told hand.trail hand.counts hand.state
   pub rests : IsResting o u hand.session hand.trail

@@ -1,5 +1,4 @@
 -- One turn of a call that wants room, and what a refused call leaves.
-use Rattle.outside.specs.declared.slot.Slot.{Ghosts}
 use Rattle.std.specs.Prelude.{◌≡◌, ◌<◌, ℕ, [], None, Some, ⊤}
 use Rattle.reservation_tree.specs.declared.errors.PoolErr.{PoolErr}
 use Rattle.pool_model.specs.declared.call.Call.{Call}
@@ -16,7 +15,6 @@ use Rattle.session_calls.specs.declared.hand.Hand.{Hand}
 use Rattle.session_calls.specs.declared.turning.Turn.{Turn}
 use Rattle.session_calls.specs.declared.turning.Turn.TheVariants.{Ready, Refused, Waited, Wrote}
 use Rattle.session_calls.specs.Acting.{held_by, signs_by}
-use Rattle.session_calls.specs.Counting.{CountsOn}
 use Rattle.session_calls.specs.Jobs.{DoesIn}
 
 module _ {D : Type 0} (o : Opening) (u : Outset) where
@@ -39,8 +37,3 @@ abbrev pub GoesFurther : {D : Type 0} → ℕ → Turn → Hand D → Hand D →
 GoesFurther t Wrote old new = writes_left new.session t (state_of new.state) < writes_left old.session t (state_of old.state)
 GoesFurther t Waited old new = ⊥
 GoesFurther t _ old new = ⊤
-
--- what is so of a turn of a session that is alone
-pub record TurnsAlone {D : Type 0} (slot : Ghosts D) (t : ℕ) (turn : Turn) (old new : Hand D) : Type 0 where
-  pub counts : CountsOn slot old new
-  pub further : GoesFurther t turn old new

@@ -8,13 +8,12 @@ use outside::Slot;
 ///
 /// `O` names with what the pool opened, for contracts alone.
 pub trait Access<D: Slot> {
-    ghost use Rattle.std.specs.Prelude.{◌≡◌, ◌+◌, ℕ, List, Bool, true, false};
+    ghost use Rattle.std.specs.Prelude.{◌≡◌, ◌+◌, ℕ, Bool, true, false};
     ghost use Rattle.pool_model.specs.State.{Opening};
-    ghost use Rattle.pool_model.specs.declared.entry.Entry.{Entry};
     ghost use Rattle.own_entries.specs.OwnHoldings.{Outset};
     ghost use Rattle.own_entries.specs.AboveLaws.{AllBy};
     ghost use Rattle.session_calls.specs.declared.hand.Hand.{Hand};
-    ghost use Rattle.session_calls.specs.Having.{MayGive, Taken};
+    ghost use Rattle.session_calls.specs.Having.{MayGive, Sight, Taken, sight_of};
 
     /// Where the session stands.
     type Place;
@@ -22,8 +21,8 @@ pub trait Access<D: Slot> {
     // Whether nobody else makes entries.
     ghost alone: { Bool };
 
-    // The history that was seen from there.
-    ghost seen: { Self.Place → List Entry };
+    // What was seen from there: the history, and what slots counted.
+    ghost seen: { Self.Place → Sight };
 
     // The value that was given back there is this, and nobody else may have it.
     ghost kept: { Self.Place → Hand D → Type 0 };
@@ -45,7 +44,7 @@ pub trait Access<D: Slot> {
         requires turns { turns O.opening O.outset self.now place.old hand.session }
         requires may { MayGive D.Slot O.opening O.outset.told (seen place.old) hand }
         ensures rests { rests O.opening O.outset self.now place.new hand.session }
-        ensures seen { seen place.new ≡ hand.trail }
+        ensures seen { seen place.new ≡ sight_of hand }
         ensures kept { alone ≡ true → kept place.new hand };
 
     /// A call that goes on for a turn more: how many more it may go on for, of which a session that is alone needs no
@@ -54,5 +53,5 @@ pub trait Access<D: Slot> {
         ensures { alone ≡ false → result + 1 ≡ left };
 
     // What a session has seen that is alone, it made itself.
-    ghost sole: { (o : Opening) (u : Outset) (access : Self) (place : Self.Place) (m : ℕ) → turns o u access place m → alone ≡ true → AllBy m (seen place) };
+    ghost sole: { (o : Opening) (u : Outset) (access : Self) (place : Self.Place) (m : ℕ) → turns o u access place m → alone ≡ true → AllBy m (seen place).trail };
 }

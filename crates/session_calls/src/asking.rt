@@ -12,8 +12,8 @@ ghost use Rattle.store_api.specs.Entries.{IsAsked};
 ghost use Rattle.session_calls.specs.Wanting.{IsRoomCall, Wants};
 ghost use Rattle.session_calls.specs.Ready.{IsReady};
 ghost use Rattle.session_calls.specs.Acting.{ActsThese, held_by};
+ghost use Rattle.session_calls.specs.Needing.{EntersNeeded};
 ghost use Rattle.session_calls.specs.Having.{IsAtWork};
-ghost use Rattle.session_calls.specs.Counting.{Costs};
 ghost use Rattle.session_calls.specs.Jobs.{DoesIn};
 ghost use Rattle.session_calls.specs.Turning.{Refuses};
 
@@ -80,7 +80,7 @@ pub(crate) fn make_room<O: Origin, A: Access<D>, D: Slot + Drop>(
     ensures ok { OnOk result.1 (DoesIn (IsAsked c.now.tracker (held_by O.opening O.outset hand) []) hand result.0) }
     ensures room { OnOk result.1 (HasRoom (state_of result.0.state) c.now.tracker (amount_of want)) }
     ensures err { IfErr result.1 (Refuses O.opening O.outset c.now.tracker call.now hand result.0) }
-    ensures costs { Costs D.Slot A.alone c.now.tracker (amount_of want) hand result.0 }
+    ensures needed { EntersNeeded c.now.tracker (amount_of want) hand result.0 }
 {
     hand.ask::<O>();
     let mut left = u64::MAX;

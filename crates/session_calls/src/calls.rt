@@ -9,8 +9,8 @@ ghost use Rattle.store_api.specs.Refusals.{move_refusal};
 ghost use Rattle.session_calls.specs.Coming.{IsFreshLoan};
 ghost use Rattle.session_calls.specs.Acting.{held_by, signs_by};
 ghost use Rattle.session_calls.specs.Coming.{IsFreshPage};
+ghost use Rattle.session_calls.specs.Needing.{EntersNeeded};
 ghost use Rattle.session_calls.specs.Having.{IsAtWork};
-ghost use Rattle.session_calls.specs.Counting.{Costs};
 ghost use Rattle.session_calls.specs.Jobs.{DoesIn};
 ghost use Rattle.session_calls.specs.Turning.{Refuses};
 
@@ -43,7 +43,7 @@ pub fn give_back<O: Origin, A: Access<D>, D: Slot + Drop>(
     ensures at_work { IsAtWork D.Slot O.opening O.outset (A.seen place.new) result.0 }
     ensures ok { OnOk result.1 (DoesIn (IsAsked c.now.tracker (held_by O.opening O.outset hand) (event.Decrease c.now.tracker bytes ∷ [])) hand result.0) }
     ensures err { IfErr result.1 (Refuses O.opening O.outset c.now.tracker (call.GiveBack c.now.tracker bytes) hand result.0) }
-    ensures costs { Costs D.Slot A.alone c.now.tracker bytes hand result.0 }
+    ensures needed { EntersNeeded c.now.tracker bytes hand result.0 }
 {
     let client = c.tracker();
     let want = Want::Shrink(bytes);
@@ -74,7 +74,7 @@ pub fn move_reservation<O: Origin, A: Access<D>, D: Slot + Drop>(
     ensures ok { OnOk result.1 (DoesIn (IsAsked from.now.tracker (held_by O.opening O.outset hand) (event.MoveReservation from.now.tracker to.now.tracker bytes ∷ [])) hand result.0) }
     ensures refused { IfSome (move_refusal from.now.tracker to.now.tracker bytes (held_by O.opening O.outset hand)) (λ e. (result.1 ≡ Err e) × (result.0 ≡ hand)) }
     ensures err { IfNone (move_refusal from.now.tracker to.now.tracker bytes (held_by O.opening O.outset hand)) (IfErr result.1 (Refuses O.opening O.outset from.now.tracker (call.MoveReservation from.now.tracker to.now.tracker bytes) hand result.0)) }
-    ensures costs { Costs D.Slot A.alone from.now.tracker bytes hand result.0 }
+    ensures needed { EntersNeeded from.now.tracker bytes hand result.0 }
 {
     if let Err(e) = hand.may_move::<O>(from, to, bytes) {
         return (hand, Err(e));
@@ -113,7 +113,7 @@ pub fn create<O: Origin, A: Access<D>, D: Slot + Drop>(
     ensures ok { IfOk result.1 (λ made. DoesIn (IsTaken c.now.tracker (held_by O.opening O.outset hand) (event.Create made.0.name c.now.tracker blocks made.0.key ∷ [])) hand result.0) }
     ensures page { IfOk result.1 (λ made. IsFreshPage c.now.tracker blocks made (held_by O.opening O.outset hand) (signs_by O.opening hand)) }
     ensures err { IfErr result.1 (Refuses O.opening O.outset c.now.tracker (call.Create c.now.tracker blocks) hand result.0) }
-    ensures costs { Costs D.Slot A.alone c.now.tracker bytes hand result.0 }
+    ensures needed { EntersNeeded c.now.tracker bytes hand result.0 }
 {
     let Ok(shell) = Shell::with(alloc, blocks) else {
         return (hand, Err(PoolErr::Memory));
@@ -152,7 +152,7 @@ pub fn alloc<O: Origin, A: Access<D>, D: Slot + Drop>(
     ensures ok { IfOk result.1 (λ loan. DoesIn (IsTaken c.now.tracker (held_by O.opening O.outset hand) (event.Alloc loan.number c.now.tracker blocks ∷ [])) hand result.0) }
     ensures loan { IfOk result.1 (λ loan. IsFreshLoan c.now.tracker blocks loan (held_by O.opening O.outset hand)) }
     ensures err { IfErr result.1 (Refuses O.opening O.outset c.now.tracker (call.Alloc c.now.tracker blocks) hand result.0) }
-    ensures costs { Costs D.Slot A.alone c.now.tracker bytes hand result.0 }
+    ensures needed { EntersNeeded c.now.tracker bytes hand result.0 }
 {
     let Ok(shell) = Shell::with(alloc, blocks) else {
         return (hand, Err(PoolErr::Memory));
@@ -184,7 +184,7 @@ pub fn pin_again<O: Origin, A: Access<D>, D: Slot + Drop>(
     ensures at_work { IsAtWork D.Slot O.opening O.outset (A.seen place.new) result.0 }
     ensures ok { OnOk result.1 (DoesIn (IsAsked p.now.client (held_by O.opening O.outset hand) (event.PinAgain p.now.name ∷ [])) hand result.0) }
     ensures err { IfErr result.1 (Refuses O.opening O.outset p.now.client (call.PinAgain p.now.name) hand result.0) }
-    ensures costs { Costs D.Slot A.alone p.now.client (page_len p.now.name (held_by O.opening O.outset hand)) hand result.0 }
+    ensures needed { EntersNeeded p.now.client (page_len p.now.name (held_by O.opening O.outset hand)) hand result.0 }
 {
     let want = Want::Hold(hand.page_len::<O>(p));
     let call = Call::PinAgain { page: p.name() };
@@ -217,7 +217,7 @@ pub fn move_buffer<O: Origin, A: Access<D>, D: Slot + Drop>(
     ensures moved { IfOk result.1 (λ moved. moved ≡ record loan { client = to.now.tracker }) }
     ensures back { IfErr result.1 (λ e. e.0 ≡ loan) }
     ensures err { IfErr result.1 (λ e. Refuses O.opening O.outset to.now.tracker (call.MoveBuffer loan.number to.now.tracker) hand result.0 e.1) }
-    ensures costs { Costs D.Slot A.alone to.now.tracker (loan_len loan.number (held_by O.opening O.outset hand)) hand result.0 }
+    ensures needed { EntersNeeded to.now.tracker (loan_len loan.number (held_by O.opening O.outset hand)) hand result.0 }
 {
     let want = Want::Hold(loan.buf().len() as u64);
     let call = Call::MoveBuffer {

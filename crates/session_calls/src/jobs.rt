@@ -3,7 +3,6 @@ ghost use Rattle.std.specs.Prelude.{◌≡◌, ◌++◌, ◌∷◌, [], ℕ, tru
 ghost use Rattle.scratch_dev.specs.Rows.{faults_of};
 ghost use Rattle.pin_core.specs.Returning.{read_ends, write_entry};
 ghost use Rattle.session_calls.specs.Having.{MayGive};
-ghost use Rattle.session_calls.specs.Counting.{CountsBack};
 ghost use Rattle.session_calls.specs.Jobs.{CanRead, CanWrite, IsRead, IsUnread, Wrote};
 
 use crate::access::Access;
@@ -39,7 +38,6 @@ pub(crate) fn write_out<O: Origin, A: Access<D>, D: Slot + Drop>(
     ensures turns { A.turns O.opening O.outset access.now place.new result.session }
     ensures may { MayGive D.Slot O.opening O.outset.told (A.seen place.new) result }
     ensures wrote { Wrote job hand result }
-    ensures counts { A.alone ≡ true → CountsBack D.Slot job.row hand result }
 {
     write_named::<Brand, O, A, D>(access, place, hand, job)
 }
@@ -57,7 +55,6 @@ fn write_named<B: Before, O: Origin, A: Access<D>, D: Slot + Drop>(
     ensures turns { A.turns O.opening O.outset access.now place.new result.session }
     ensures may { MayGive D.Slot O.opening O.outset.told (A.seen place.new) result }
     ensures wrote { Wrote job hand result }
-    ensures counts { A.alone ≡ true → CountsBack D.Slot job.row hand result }
 {
     let session = hand.session;
     access.give::<O>(place, hand);
@@ -89,7 +86,6 @@ pub(crate) fn read_back<O: Origin, A: Access<D>, D: Slot + Drop>(
     ensures may { MayGive D.Slot O.opening O.outset.told (A.seen place.new) result.0 }
     ensures ok { IfOk result.1 (λ buf. IsRead O.outset.told job buf hand result.0) }
     ensures err { IfErr result.1 (λ e. IsUnread job e hand result.0) }
-    ensures counts { A.alone ≡ true → CountsBack D.Slot job.row hand result.0 }
 {
     read_named::<Brand, O, A, D>(access, place, hand, job)
 }
@@ -108,7 +104,6 @@ fn read_named<B: Before, O: Origin, A: Access<D>, D: Slot + Drop>(
     ensures may { MayGive D.Slot O.opening O.outset.told (A.seen place.new) result.0 }
     ensures ok { IfOk result.1 (λ buf. IsRead O.outset.told job buf hand result.0) }
     ensures err { IfErr result.1 (λ e. IsUnread job e hand result.0) }
-    ensures counts { A.alone ≡ true → CountsBack D.Slot job.row hand result.0 }
 {
     let session = hand.session;
     access.give::<O>(place, hand);

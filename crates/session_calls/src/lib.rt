@@ -11,6 +11,7 @@ mod access;
 mod asking;
 mod calls;
 mod coming;
+mod count;
 mod entering;
 mod hand;
 mod jobs;
@@ -25,6 +26,7 @@ mod turning;
 
 pub use access::Access;
 pub use calls::{alloc, create, give_back, move_buffer, move_reservation, pin_again};
+pub use count::{Count, count_opening};
 pub use entering::{enter, enter_named};
 pub use hand::Hand;
 pub use origin::Origin;

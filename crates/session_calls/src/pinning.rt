@@ -12,12 +12,12 @@ ghost use Rattle.session_calls.specs.Pinning.{CanBePinned};
 ghost use Rattle.session_calls.specs.Acting.{held_by};
 ghost use Rattle.session_calls.specs.Having.{IsAtWork};
 ghost use Rattle.session_calls.specs.Jobs.{DoesIn};
-ghost use Rattle.session_calls.specs.Counting.{Costs, CountsOn};
 ghost use Rattle.session_calls.specs.Needing.{EntersNeeded};
-ghost use Rattle.session_calls.specs.Pinning.{HasAsked, PinIs, StepsAlone};
+ghost use Rattle.session_calls.specs.Pinning.{GoesFurther, HasAsked, PinIs};
 ghost use Rattle.session_calls.specs.Turning.{Refuses};
 
 use crate::access::Access;
+use crate::count::{count_read, count_write};
 use crate::entering::{enter, enter_named};
 use crate::hand::Hand;
 use crate::jobs::{read_back, write_out};
@@ -59,7 +59,7 @@ pub fn pin<O: Origin, A: Access<D>, D: Slot + Drop>(
     ensures ok { OnOk result.1 (DoesIn (IsPin p.now.client (held_by O.opening O.outset hand) p.now.name) hand result.0) }
     ensures bytes { IfOk result.1 (ShowsLeft (page_of p.now.name (held_by O.opening O.outset hand)) (held_by O.opening O.outset hand)) }
     ensures err { IfErr result.1 (Refuses O.opening O.outset p.now.client (call.Pin p.now.name) hand result.0) }
-    ensures costs { Costs D.Slot A.alone p.now.client (page_len p.now.name (held_by O.opening O.outset hand)) hand result.0 }
+    ensures needed { EntersNeeded p.now.client (page_len p.now.name (held_by O.opening O.outset hand)) hand result.0 }
 {
     let call = Call::Pin { page: p.name() };
     hand.ask::<O>();
@@ -98,7 +98,7 @@ fn pin_step<O: Origin, A: Access<D>, D: Slot + Drop>(
     ensures at_work { IsAtWork D.Slot O.opening O.outset (A.seen place.new) result.0 }
     ensures step { PinIs O.opening O.outset p.now result.1 hand result.0 }
     ensures needed { EntersNeeded p.now.client (page_len p.now.name (held_by O.opening O.outset hand)) hand result.0 }
-    ensures alone { A.alone ≡ true → StepsAlone D.Slot p.now.client result.1 hand result.0 }
+    ensures further { A.alone ≡ true → GoesFurther p.now.client result.1 hand result.0 }
 {
     step::<Brand, O, A, D>(access, place, hand, p)
 }
@@ -119,7 +119,7 @@ fn step<G: Adds<Entry>, O: Origin, A: Access<D>, D: Slot + Drop>(
     ensures at_work { IsAtWork D.Slot O.opening O.outset (A.seen place.new) result.0 }
     ensures step { PinIs O.opening O.outset p.now result.1 hand result.0 }
     ensures needed { EntersNeeded p.now.client (page_len p.now.name (held_by O.opening O.outset hand)) hand result.0 }
-    ensures alone { A.alone ≡ true → StepsAlone D.Slot p.now.client result.1 hand result.0 }
+    ensures further { A.alone ≡ true → GoesFurther p.now.client result.1 hand result.0 }
 {
     match hand.state.pin_turn(hand.session, 0, p) {
         PinTurn::Here(buf) => {
@@ -129,6 +129,7 @@ fn step<G: Adds<Entry>, O: Origin, A: Access<D>, D: Slot + Drop>(
         }
         PinTurn::Load(job) => {
             enter_named::<G>(&mut hand.trail);
+            count_read(&mut hand.counts, &job);
             let (hand, result) = read_back::<O, A, D>(access, place, hand, job);
             match result {
                 Ok(buf) => (hand, PinStep::Pinned(buf)),
@@ -143,6 +144,7 @@ fn step<G: Adds<Entry>, O: Origin, A: Access<D>, D: Slot + Drop>(
         PinTurn::Refused { entry } => (hand, PinStep::Refused { entry }),
         PinTurn::Write(job) => {
             enter_started(&mut hand.trail, hand.session, &job);
+            count_write(&mut hand.counts, &job);
             (
                 write_out::<O, A, D>(access, place, hand, job),
                 PinStep::Wrote,
@@ -167,7 +169,6 @@ pub fn destroy<O: Origin, A: Access<D>, D: Slot + Drop>(
     ensures turns { A.turns O.opening O.outset access.now place.new result.session }
     ensures at_work { IsAtWork D.Slot O.opening O.outset (A.seen place.new) result }
     ensures did { DoesIn (λ events. events ≡ event.Destroy p.name ∷ []) hand result }
-    ensures counts { A.alone ≡ true → CountsOn D.Slot hand result }
 {
     let page = p.name();
     let Some(buf) = buf else {
@@ -192,7 +193,6 @@ fn destroy_resting<O: Origin, A: Access<D>, D: Slot + Drop>(
     ensures turns { A.turns O.opening O.outset access.now place.new result.session }
     ensures at_work { IsAtWork D.Slot O.opening O.outset (A.seen place.new) result }
     ensures did { DoesIn (λ events. events ≡ event.Destroy p.name ∷ []) hand result }
-    ensures counts { A.alone ≡ true → CountsOn D.Slot hand result }
 {
     let page = p.name();
     let mut left = u64::MAX;

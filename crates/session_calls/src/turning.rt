@@ -8,9 +8,10 @@ ghost use Rattle.session_calls.specs.Acting.{held_by};
 ghost use Rattle.session_calls.specs.Having.{IsAtWork};
 ghost use Rattle.session_calls.specs.Jobs.{DoesIn};
 ghost use Rattle.session_calls.specs.Needing.{EntersNeeded};
-ghost use Rattle.session_calls.specs.Turning.{TurnIs, TurnsAlone};
+ghost use Rattle.session_calls.specs.Turning.{GoesFurther, TurnIs};
 
 use crate::access::Access;
+use crate::count::count_write;
 use crate::hand::Hand;
 use crate::jobs::write_out;
 use crate::origin::Origin;
@@ -52,13 +53,14 @@ pub(crate) fn room_turn<O: Origin, A: Access<D>, D: Slot + Drop>(
     ensures at_work { IsAtWork D.Slot O.opening O.outset (A.seen place.new) result.0 }
     ensures turn { TurnIs O.opening O.outset c.now.tracker (amount_of want) result.1 hand result.0 }
     ensures needed { EntersNeeded c.now.tracker (amount_of want) hand result.0 }
-    ensures alone { A.alone ≡ true → TurnsAlone D.Slot c.now.tracker result.1 hand result.0 }
+    ensures further { A.alone ≡ true → GoesFurther c.now.tracker result.1 hand result.0 }
 {
     match hand.state.room_turn(hand.session, 0, c, want) {
         RoomTurn::Ready => (hand, Turn::Ready),
         RoomTurn::Refused { entry } => (hand, Turn::Refused { entry }),
         RoomTurn::Write(job) => {
             enter_started(&mut hand.trail, hand.session, &job);
+            count_write(&mut hand.counts, &job);
             (write_out::<O, A, D>(access, place, hand, job), Turn::Wrote)
         }
         RoomTurn::Wait => (wait::<O, A, D>(access, place, hand), Turn::Waited),

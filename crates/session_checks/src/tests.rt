@@ -7,7 +7,6 @@ use pin_core::PoolConf;
 use reservation_tree::{PoolErr, TrackerId};
 use seats::{Row, Scene, played};
 use std::alloc::Global;
-use std::marker::Brand;
 use std::process::Abort;
 use std::sync::Wait;
 use std::test::Fail;
@@ -26,7 +25,7 @@ fn play<R: Wait + Abort>(rt: &R, alloc: Global, scene: &Scene) {
         block_len: 64,
         first_name: 1,
     };
-    played::<Brand, MemSlot, R>(rt, alloc, &conf, slots, scene);
+    played(rt, alloc, &conf, slots, scene);
 }
 
 #[test]

@@ -40,7 +40,7 @@ pub enum Scene<'a> {
 }
 
 // A pool opens, the scene is played, and all slots come back.
-pub fn played<T: OpenedAs, D: Slot + Drop, R: Wait + Abort>(
+pub fn played<D: Slot + Drop, R: Wait + Abort>(
     rt: &R,
     alloc: Global,
     conf: &PoolConf,
@@ -49,7 +49,21 @@ pub fn played<T: OpenedAs, D: Slot + Drop, R: Wait + Abort>(
 )
     requires conf { OpensWith conf.now }
     requires slots { vec_len slots ≤ 1048576 }
-    requires opens { OpensAs D.Slot conf.now slots.items T.opening T.told }
+{
+    played_as::<Brand, D, R>(rt, alloc, conf, slots, scene);
+}
+
+// The same, where `T` names with what the pool opens.
+fn played_as<T: OpenedAs, D: Slot + Drop, R: Wait + Abort>(
+    rt: &R,
+    alloc: Global,
+    conf: &PoolConf,
+    slots: Vec<D>,
+    scene: &Scene,
+)
+    requires conf { OpensWith conf.now }
+    requires slots { vec_len slots ≤ 1048576 }
+    requires opens { OpensAs D.Slot conf.now slots.items T.opening T.told T.first }
 {
     let count = slots.len();
     let Ok((pool, mut pass)) = Pool::<D, T>::open(alloc, conf, slots) else {

@@ -1,4 +1,4 @@
-use Rattle.std.proofs.Common.{◌≡◌, ◌++◌, ℕ, List, [], ◌∷◌, Some, None, inr, sym, ap, ◌∙◌, subst, arith}
+use Rattle.std.proofs.Common.{◌≡◌, ◌++◌, ℕ, List, [], ◌∷◌, Some, inr, sym, ap, ◌∙◌, subst, arith}
 use Rattle.std.specs.FinMap.{get}
 use Rattle.pool_model.specs.declared.entry.Entry.{Entry}
 use Rattle.pool_model.specs.declared.event.Event.TheVariants.{AddTracker, Increase}
@@ -10,8 +10,11 @@ use Rattle.pin_core.specs.Standing.{StandsFor, slots_home}
 use Rattle.pin_core.specs.Opening.{spare_of}
 use Rattle.session_calls.specs.declared.hand.Hand.{Hand}
 use Rattle.pin_core.specs.Tallies.{tally_in}
+use Rattle.pin_core.specs.declared.tally.Tally.{Tally}
+use Rattle.session_calls.specs.declared.count.Count.TheVariants as count
 use Rattle.local_pool.specs.Beginning.{first_events}
 use Rattle.pin_core.proofs.Tallied.{tally_same}
+use Rattle.local_pool.proofs.Shelved.{seen_first}
 use Rattle.local_pool.proofs.Begun.{opening_with, is_opening, not_full, lacks, cause_of, none_left, stands_first, fits_first, counted_alike, begun, first_query, sits_first}
 use Rattle.local_pool.proofs.beginning.begin.Goals as goal
 
@@ -60,15 +63,17 @@ invariant_of-result g c =
     let o : Opening = opening_with c.args._conf.now (spare_of c.args.pool) in
     let fresh : StandsFor g.D.Slot o [] c.args.pool = c.requires.fresh o (is_opening c.args._conf.now (spare_of c.args.pool)) in
     let q : ℕ = query_of (state_of c.open_session.new.self) c.in-Ok.session in
-    let own : Hand g.row.D.Denot = record { state = c.open_session.new.self; trail = c.enter-2.new.trail; session = c.in-Ok.session } in
+    let own : Hand g.row.D.Denot = record { state = c.open_session.new.self; trail = c.enter-2.new.trail; counts = c.args.counts; session = c.in-Ok.session } in
     let trail : own.trail ≡ by own.session (first_events q c.args.limit c.args.quota c.args.least) =
     trail_is c.args.trail c.enter.new.trail c.enter-2.new.trail c.in-Ok.session c.tracker-tracker.result q c.of.result c.args.limit c.args.quota c.args.least c.requires.empty.0 c.tracker-tracker.ensures c.of.ensures c.enter.ensures c.enter-2.ensures in
-    let stood : StandsFor g.D.Slot o own.trail own.state = subst (λ (h : List Entry). StandsFor g.D.Slot o h own.state) (sym trail) (c.in-Ok.ensures.ok.stands o [] fresh) in (
-      stands_first g.D.Slot own q c.args.limit c.args.quota c.args.least trail c.args._conf.now o (is_opening c.args._conf.now (spare_of c.args.pool)) stood c.in-Ok.ensures.fresh.0
-          g.T.OpenedWith.opened (counted_alike g.T.OpenedWith.opened (tally_in g.D.Slot c.args.pool) (tally_in g.D.Slot own.state) c.args._conf.now.first_name _
-          (tally_same g.D.Slot (λ measure. slots_home measure c.args.pool) (λ measure. slots_home measure own.state) (λ measure. let home = c.in-Ok.ensures.ok.slots measure in omega (arith, home))) c.requires.opens),
-      fits_first g.D.Slot own q c.args.limit c.args.quota c.args.least trail c.args._conf.now o (is_opening c.args._conf.now (spare_of c.args.pool)) stood c.in-Ok.ensures.fresh.0
-          (record { value = None; seen = c.see_all.new.seen }) (c.see_all.ensures ∙ ap (λ (h : List Entry). h ++ c.enter-2.new.trail) c.requires.empty.1),
+    let stood : StandsFor g.D.Slot o own.trail own.state = subst (λ (h : List Entry). StandsFor g.D.Slot o h own.state) (sym trail) (c.in-Ok.ensures.ok.stands o [] fresh) in
+    let same : tally_in g.D.Slot c.args.pool ≡ tally_in g.D.Slot own.state =
+    tally_same g.D.Slot (λ measure. slots_home measure c.args.pool) (λ measure. slots_home measure own.state) (λ measure. let home = c.in-Ok.ensures.ok.slots measure in omega (arith, home)) in
+    let counts : own.counts ≡ count.Opening (tally_in g.D.Slot own.state) ∷ [] = c.requires.counts ∙ ap (λ (t : Tally). count.Opening t ∷ []) same in (
+      stands_first g.D.Slot own q c.args.limit c.args.quota c.args.least trail c.args._conf.now o (is_opening c.args._conf.now (spare_of c.args.pool)) stood c.in-Ok.ensures.fresh.0 counts
+          g.T.OpenedWith.opened (counted_alike g.T.OpenedWith.opened (tally_in g.D.Slot c.args.pool) (tally_in g.D.Slot own.state) c.args._conf.now.first_name _ same c.requires.opens),
+      fits_first g.D.Slot own q c.args.limit c.args.quota c.args.least trail c.args._conf.now o (is_opening c.args._conf.now (spare_of c.args.pool)) stood c.in-Ok.ensures.fresh.0 counts
+          c.see.new.self (c.see.ensures.seen ∙ seen_first c.args.shelf.seen own.trail c.requires.empty.1) (c.see.ensures.counted ∙ seen_first c.args.shelf.counted own.counts c.requires.empty.2),
     )
 
 pub returns-clause-ok : goal.returns-clause-ok
@@ -76,7 +81,7 @@ returns-clause-ok g c =
     let o : Opening = opening_with c.args._conf.now (spare_of c.args.pool) in
     let fresh : StandsFor g.D.Slot o [] c.args.pool = c.requires.fresh o (is_opening c.args._conf.now (spare_of c.args.pool)) in
     let q : ℕ = query_of (state_of c.open_session.new.self) c.in-Ok.session in
-    let own : Hand g.row.D.Denot = record { state = c.open_session.new.self; trail = c.enter-2.new.trail; session = c.in-Ok.session } in
+    let own : Hand g.row.D.Denot = record { state = c.open_session.new.self; trail = c.enter-2.new.trail; counts = c.args.counts; session = c.in-Ok.session } in
     let trail : own.trail ≡ by own.session (first_events q c.args.limit c.args.quota c.args.least) =
     trail_is c.args.trail c.enter.new.trail c.enter-2.new.trail c.in-Ok.session c.tracker-tracker.result q c.of.result c.args.limit c.args.quota c.args.least c.requires.empty.0 c.tracker-tracker.ensures c.of.ensures c.enter.ensures c.enter-2.ensures in
     begun g.D.Slot own q c.args.limit c.args.quota c.args.least trail c.args._conf.now o (is_opening c.args._conf.now (spare_of c.args.pool))
@@ -85,7 +90,7 @@ returns-clause-ok g c =
 pub returns-clause-trail : goal.returns-clause-trail
 returns-clause-trail g c =
     let q : ℕ = query_of (state_of c.open_session.new.self) c.in-Ok.session in
-    let own : Hand g.row.D.Denot = record { state = c.open_session.new.self; trail = c.enter-2.new.trail; session = c.in-Ok.session } in
+    let own : Hand g.row.D.Denot = record { state = c.open_session.new.self; trail = c.enter-2.new.trail; counts = c.args.counts; session = c.in-Ok.session } in
     let trail : own.trail ≡ by own.session (first_events q c.args.limit c.args.quota c.args.least) =
     trail_is c.args.trail c.enter.new.trail c.enter-2.new.trail c.in-Ok.session c.tracker-tracker.result q c.of.result c.args.limit c.args.quota c.args.least c.requires.empty.0 c.tracker-tracker.ensures c.of.ensures c.enter.ensures c.enter-2.ensures in
     trail ∙ ap (λ (k : ℕ). by own.session (first_events k c.args.limit c.args.quota c.args.least)) (sym (first_query g.D.Slot own q c.args.limit c.args.quota c.args.least trail))
@@ -95,3 +100,6 @@ returns-clause-refused g c few =
     let o : Opening = opening_with c.args._conf.now (spare_of c.args.pool) in
     let fresh : StandsFor g.D.Slot o [] c.args.pool = c.requires.fresh o (is_opening c.args._conf.now (spare_of c.args.pool)) in
     c.in-Ok.ensures.refused.1 (inr (lacks c.args._conf.now (spare_of c.args.pool) (state_of c.args.pool) fresh.state c.args.limit c.args.least few))
+
+pub returns-clause-slots : goal.returns-clause-slots
+returns-clause-slots g c measure = let home = c.in-Ok.ensures.ok.slots measure in omega (arith, home)

@@ -16,7 +16,7 @@ unwrap-number-requires g c = not_refused c.open_session.result (λ is. c.require
 pub tracker-tracker-requires : goal.tracker-tracker-requires
 tracker-tracker-requires g c =
     let n : ℕ = c.unwrap-number.result in
-    begun_seat g.D.Slot g.T.OpenedAs.opening g.T.OpenedAs.told n (query_of (state_of c.open_session.new.self) n) c.args.limit c.args.quota c.args.least c.args.shared.now.state c.open_session.new.self
+    begun_seat g.D.Slot n (query_of (state_of c.open_session.new.self) n) c.args.limit c.args.quota c.args.least c.args.shared.now.state c.open_session.new.self
     (subst (λ (r : Result ℕ PoolErr). IfOk r (λ s. Enters g.D.Slot (opening_entries s (query_of (state_of c.open_session.new.self) s) c.args.limit c.args.quota c.args.least) [] [] c.args.shared.now.state c.open_session.new.self)) c.unwrap-number.ensures c.open_session.ensures.ok)
 
 pub returns-clause-opens : goal.returns-clause-opens

@@ -3,6 +3,7 @@ use Rattle.pin_core.specs.Invariant.{IsKept}
 use Rattle.pin_core.specs.Lawful.{Lawful}
 use Rattle.turn_table.specs.Knowledge.{NeedsOnly}
 use Rattle.session_calls.specs.declared.hand.Hand.{Hand}
+use Rattle.session_calls.specs.Having.{sight_of}
 use Rattle.pool.specs.declared.item.Item.{Item}
 use Rattle.pool.specs.Items.{needs_of}
 use Rattle.pool.specs.Standing.{StandsAs}
@@ -11,13 +12,13 @@ use Rattle.pool.proofs.holding.leave_made.Goals as goal
 
 pub leave-requires-clause-stands : goal.leave-requires-clause-stands
 leave-requires-clause-stands g c =
-    let hand : Hand g.row.D.Denot = record { state = c.args.shared.state; trail = c.args.shared.trail; session = c.args._session } in
-    subst (λ (es : List Item). StandsAs g.D.Slot g.T.OpenedAs.opening g.T.OpenedAs.told (c.args.seat.now.knows.seen ++ es) hand.trail hand.state) (sym c.requires.named)
-    (stands_since g.D.Slot g.T.OpenedAs.opening g.T.OpenedAs.told c.args.seat.now hand c.requires.gives
+    let hand : Hand g.row.D.Denot = record { state = c.args.shared.state; trail = c.args.shared.trail; counts = c.args.shared.counts; session = c.args._session } in
+    subst (λ (es : List Item). StandsAs g.D.Slot g.T.OpenedAs.opening g.T.OpenedAs.told g.T.OpenedAs.first (c.args.seat.now.knows.seen ++ es) (sight_of hand) hand.state) (sym c.requires.named)
+    (stands_since g.D.Slot g.T.OpenedAs.opening g.T.OpenedAs.told g.T.OpenedAs.first c.args.seat.now hand c.requires.gives
     (subst IsKept c.parts.ensures.parts c.parts.ensures.kept) (subst Lawful c.parts.ensures.parts c.parts.ensures.laws))
 
 pub leave-requires-clause-rights : goal.leave-requires-clause-rights
 leave-requires-clause-rights g c =
-    let hand : Hand g.row.D.Denot = record { state = c.args.shared.state; trail = c.args.shared.trail; session = c.args._session } in
+    let hand : Hand g.row.D.Denot = record { state = c.args.shared.state; trail = c.args.shared.trail; counts = c.args.shared.counts; session = c.args._session } in
     subst (NeedsOnly needs_of c.args.seat.now.knows.rights) (sym c.requires.named)
-    (needs_since g.D.Slot g.T.OpenedAs.opening g.T.OpenedAs.told c.args.seat.now hand c.requires.gives)
+    (needs_since g.D.Slot g.T.OpenedAs.opening g.T.OpenedAs.told g.T.OpenedAs.first c.args.seat.now hand c.requires.gives)

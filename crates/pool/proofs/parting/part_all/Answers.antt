@@ -5,9 +5,9 @@ use Rattle.reservation_tree.specs.declared.errors.PoolErr.{PoolErr}
 use Rattle.turn_table.specs.Face.{Spot}
 use Rattle.pool.specs.declared.ask.Ask.{Ask}
 use Rattle.pool.specs.declared.item.Item.{Item}
-use Rattle.pool.specs.Asking.{Answers, answer_of}
+use Rattle.pool.specs.Asking.{Answers, all_numbers, answer_of}
 use Rattle.pool.specs.Admitting.{numbered}
-use Rattle.pool.specs.Parting.{AreComing, AreSeats, IsComing, all_numbers, handed_out}
+use Rattle.pool.specs.Parting.{AreComing, AreSeats, IsComing, handed_out}
 use Rattle.pool.proofs.Parted.{PartingAll, ask_parted, ask_refused, at_answer, come_here, coming_at, coming_count, empty_room, first_ask, hand_front, last_ask, room_for, rooms_left}
 use Rattle.pool.proofs.parting.part_all.Goals.{in-Ok, in-Err}
 use Rattle.pool.proofs.parting.part_all.Goals as goal

@@ -1,12 +1,19 @@
 use Rattle.std.proofs.Common.{◌≡◌, ◌≤◌, ◌+◌, ℕ, refl, sym, ap, ◌∙◌, subst}
 use Rattle.pool_model.specs.State.{State}
+use Rattle.pin_core.specs.declared.parts.Parts.{Parts}
+use Rattle.pin_core.specs.Invariant.{IsKept}
 use Rattle.pin_core.specs.StateOf.{state_of}
 use Rattle.pin_core.specs.Sessions.{query_of}
 use Rattle.turn_table.specs.Face.{Spot}
+use Rattle.pool.specs.declared.ask.Ask.{Ask}
 use Rattle.pool.specs.declared.item.Item.{Item}
-use Rattle.pool.specs.Seats.{taken_in}
+use Rattle.pool.specs.Seats.{live_in, taken_in}
+use Rattle.pool.specs.Remaining.{all_left, left_in, refusal_of}
 use Rattle.pool.specs.Seating.{Begins, IsSessionRefusal, TurnsAway, beginning_items}
+use Rattle.pool.proofs.AllIn.{live_here}
+use Rattle.pool.proofs.Barred.{only_memory}
 use Rattle.pool.proofs.Came.{still_pass, turned_away, has_rights, came_pass, came_keeps, came, none_there, spare_enough, still_right}
+use Rattle.pool.proofs.Fresh.{fresh_left}
 use Rattle.pool.proofs.Stood.{stands_begun, state_here}
 use Rattle.pool.proofs.seating.seat_session.Goals as goal
 
@@ -18,7 +25,15 @@ returns-in-Err-clause-err g c =
     let table : c.leave.new.seat.table ≡ c.pass.inside.seat.table = c.leave.ensures.table ∙ sym c.requires.table ∙ ap (λ (p : Spot Item). p.table) (sym c.pass.view_is) in
     subst (λ (p : Spot Item). TurnsAway g.T.OpenedAs.opening c.args.limit c.args.least p c.leave.new.seat c.in-Err.refusal) c.pass.view_is
     (turned_away g.T.OpenedAs.opening c.pass.invariant c.enter-shared.ensures.kept.1 c.enter-shared.ensures.seen c.leave.new.seat c.leave.ensures.grown c.args.limit c.args.least c.in-Err.refusal table
-    (subst (λ (s : State). IsSessionRefusal s c.args.limit c.args.least c.in-Err.refusal) (state_here g.D.Slot g.T.OpenedAs.opening g.T.OpenedAs.told c.enter-shared.new.seat.knows.seen c.enter-shared.result.trail c.enter-shared.result.state c.enter-shared.ensures.stands) c.in-Err.ensures.err))
+    (subst (λ (s : State). IsSessionRefusal s c.args.limit c.args.least c.in-Err.refusal) (state_here g.D.Slot g.T.OpenedAs.opening g.T.OpenedAs.told g.T.OpenedAs.first c.enter-shared.new.seat.knows.seen (record { trail = c.enter-shared.result.trail; counts = c.enter-shared.result.counts }) c.enter-shared.result.state c.enter-shared.ensures.stands) c.in-Err.ensures.err))
+
+pub returns-in-Err-clause-fresh : goal.returns-in-Err-clause-fresh
+returns-in-Err-clause-fresh g c = λ none free.
+    let ask : Ask = record { limit = c.args.limit; quota = c.args.quota; least = c.args.least; count = 1 } in
+    let left : left_in (state_of c.enter-shared.result.state) ≡ all_left g.T.OpenedAs.opening =
+    fresh_left c.enter-shared.ensures.stands (subst (λ (v : Parts g.row.D.Denot). IsKept v) c.parts.ensures.parts c.parts.ensures.kept)
+    (live_here g.T.OpenedAs.opening c.pass.invariant c.enter-shared.ensures.kept.1 c.enter-shared.ensures.seen ∙ subst (λ (p : Spot Item). live_in p.knows.seen ≡ 0) (sym c.pass.view_is) none) in
+    only_memory (state_of c.enter-shared.result.state) ask (ap (refusal_of ask) left ∙ free) c.in-Err.refusal c.in-Err.ensures.err
 
 pub admit-number-requires-clause-spare : goal.admit-number-requires-clause-spare
 admit-number-requires-clause-spare g c =
@@ -31,9 +46,9 @@ leave_begun-requires-clause-named g c = refl
 pub leave_begun-requires-clause-stands : goal.leave_begun-requires-clause-stands
 leave_begun-requires-clause-stands g c =
     let n : ℕ = c.admit-number.result in
-    stands_begun g.D.Slot g.T.OpenedAs.opening g.T.OpenedAs.told c.enter-shared.new.seat.knows.seen c.enter-shared.result.trail c.admit-number.new.shared.trail c.enter-shared.result.state c.admit-number.new.shared.state n (query_of (state_of c.admit-number.new.shared.state) n) c.args.limit c.args.quota c.args.least
+    stands_begun g.D.Slot g.T.OpenedAs.opening g.T.OpenedAs.told g.T.OpenedAs.first c.enter-shared.new.seat.knows.seen (record { trail = c.enter-shared.result.trail; counts = c.enter-shared.result.counts }) (record { trail = c.admit-number.new.shared.trail; counts = c.admit-number.new.shared.counts }) c.enter-shared.result.state c.admit-number.new.shared.state n (query_of (state_of c.admit-number.new.shared.state) n) c.args.limit c.args.quota c.args.least
     c.enter-shared.ensures.stands c.admit-number.ensures.opens.vacant
-    c.admit-number.ensures.trail
+    c.admit-number.ensures.trail c.admit-number.ensures.counts
     c.admit-number.ensures.opens.enters
     c.admit-number.ensures.opens.spare
 

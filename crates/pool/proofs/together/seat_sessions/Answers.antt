@@ -36,24 +36,24 @@ pub leave_admitted-requires : goal.leave_admitted-requires
 leave_admitted-requires g c =
     let asks : List Ask = c.args.asks.now in
     let left : Left = left_in (state_of c.enter-shared.result.state) in
-    let done : AdmittedAll g.D.Slot g.T.OpenedAs.opening g.T.OpenedAs.told asks c.enter-shared.new.seat.knows.seen (map numbered c.admit_all-numbers.result.items) c.enter-shared.result.state c.admit_all-numbers.new.shared.trail c.admit_all-numbers.new.shared.state =
+    let done : AdmittedAll g.D.Slot g.T.OpenedAs.opening g.T.OpenedAs.told g.T.OpenedAs.first asks c.enter-shared.new.seat.knows.seen (map numbered c.admit_all-numbers.result.items) c.enter-shared.result.state (record { trail = c.admit_all-numbers.new.shared.trail; counts = c.admit_all-numbers.new.shared.counts }) c.admit_all-numbers.new.shared.state =
     c.admit_all-numbers.ensures c.enter-shared.new.seat.knows.seen c.enter-shared.ensures.stands in
     record {
       named = refl;
       table = c.enter-shared.ensures.table;
       turn = c.enter-shared.ensures.turn;
       stands =
-          subst (λ (items : List Item). StandsAs g.D.Slot g.T.OpenedAs.opening g.T.OpenedAs.told items c.admit_all-numbers.new.shared.trail c.admit_all-numbers.new.shared.state)
-          (sym (all_is g.T.OpenedAs.opening c.pass.invariant c.enter-shared.ensures.kept.1 c.enter-shared.ensures.seen asks left (map numbered c.admit_all-numbers.result.items) done.after done.answered c.admit_all-numbers.new.shared.trail done.stands.trail_is))
+          subst (λ (items : List Item). StandsAs g.D.Slot g.T.OpenedAs.opening g.T.OpenedAs.told g.T.OpenedAs.first items (record { trail = c.admit_all-numbers.new.shared.trail; counts = c.admit_all-numbers.new.shared.counts }) c.admit_all-numbers.new.shared.state)
+          (sym (all_is g.T.OpenedAs.opening c.pass.invariant c.enter-shared.ensures.kept.1 c.enter-shared.ensures.seen asks left (map numbered c.admit_all-numbers.result.items) done.after done.answered c.admit_all-numbers.new.shared.trail (ap (λ z. z.trail) done.stands.sight_is)))
           done.stands;
-      rights = only_needs g.T.OpenedAs.opening c.pass.invariant c.enter-shared.ensures.kept.1 c.enter-shared.ensures.seen asks left (map numbered c.admit_all-numbers.result.items) done.after done.answered c.admit_all-numbers.new.shared.trail done.stands.trail_is;
+      rights = only_needs g.T.OpenedAs.opening c.pass.invariant c.enter-shared.ensures.kept.1 c.enter-shared.ensures.seen asks left (map numbered c.admit_all-numbers.result.items) done.after done.answered c.admit_all-numbers.new.shared.trail (ap (λ z. z.trail) done.stands.sight_is);
     }
 
 pub part_all-requires : goal.part_all-requires
 part_all-requires g c =
     let asks : List Ask = c.args.asks.now in
     let left : Left = left_in (state_of c.enter-shared.result.state) in
-    let done : AdmittedAll g.D.Slot g.T.OpenedAs.opening g.T.OpenedAs.told asks c.enter-shared.new.seat.knows.seen (map numbered c.admit_all-numbers.result.items) c.enter-shared.result.state c.admit_all-numbers.new.shared.trail c.admit_all-numbers.new.shared.state =
+    let done : AdmittedAll g.D.Slot g.T.OpenedAs.opening g.T.OpenedAs.told g.T.OpenedAs.first asks c.enter-shared.new.seat.knows.seen (map numbered c.admit_all-numbers.result.items) c.enter-shared.result.state (record { trail = c.admit_all-numbers.new.shared.trail; counts = c.admit_all-numbers.new.shared.counts }) c.admit_all-numbers.new.shared.state =
     c.admit_all-numbers.ensures c.enter-shared.new.seat.knows.seen c.enter-shared.ensures.stands in
     let answers : List (Result (List ℕ) PoolErr) = map numbered c.deref.result.now in
     let are : AreAnswered asks left c.enter-shared.new.seat.knows.seen answers done.after =
@@ -62,15 +62,15 @@ part_all-requires g c =
       power = c.requires.power;
       named = c.requires.named;
       table = c.leave_admitted.ensures.table;
-      first = first_gone g.T.OpenedAs.opening c.pass.invariant c.enter-shared.ensures.kept.1 c.enter-shared.ensures.seen asks left answers done.after are c.admit_all-numbers.new.shared.trail done.stands.trail_is c.leave_admitted.new.seat c.leave_admitted.ensures.grown;
-      hand = can_hand g.T.OpenedAs.opening c.pass.invariant c.enter-shared.ensures.kept.1 c.enter-shared.ensures.seen asks left answers done.after are c.admit_all-numbers.new.shared.trail done.stands.trail_is c.leave_admitted.new.seat c.leave_admitted.ensures.grown;
+      first = first_gone g.T.OpenedAs.opening c.pass.invariant c.enter-shared.ensures.kept.1 c.enter-shared.ensures.seen asks left answers done.after are c.admit_all-numbers.new.shared.trail (ap (λ z. z.trail) done.stands.sight_is) c.leave_admitted.new.seat c.leave_admitted.ensures.grown;
+      hand = can_hand g.T.OpenedAs.opening c.pass.invariant c.enter-shared.ensures.kept.1 c.enter-shared.ensures.seen asks left answers done.after are c.admit_all-numbers.new.shared.trail (ap (λ z. z.trail) done.stands.sight_is) c.leave_admitted.new.seat c.leave_admitted.ensures.grown;
       coming = record {
         most = c.requires.rooms.most;
         each = c.requires.rooms.each;
         count = c.requires.rooms.count;
         came =
             subst (λ (items : List Item). AllComing g.T.OpenedAs.opening g.T.OpenedAs.told items c.requires.rooms.most asks answers)
-            (sym (seen_gone g.T.OpenedAs.opening c.pass.invariant c.enter-shared.ensures.kept.1 c.enter-shared.ensures.seen asks left answers done.after are c.admit_all-numbers.new.shared.trail done.stands.trail_is c.leave_admitted.new.seat c.leave_admitted.ensures.grown))
+            (sym (seen_gone g.T.OpenedAs.opening c.pass.invariant c.enter-shared.ensures.kept.1 c.enter-shared.ensures.seen asks left answers done.after are c.admit_all-numbers.new.shared.trail (ap (λ z. z.trail) done.stands.sight_is) c.leave_admitted.new.seat c.leave_admitted.ensures.grown))
             (answered_coming g.T.OpenedAs.opening g.T.OpenedAs.told c.requires.rooms.most asks left c.enter-shared.new.seat.knows.seen answers done.after (at_most (state_of c.enter-shared.result.state).sessions 240) c.requires.rooms.few c.requires.some are);
       };
       none = c.requires.none.1;
@@ -81,14 +81,14 @@ pub invariant_of-pass : goal.invariant_of-pass
 invariant_of-pass g c =
     let asks : List Ask = c.args.asks.now in
     let left : Left = left_in (state_of c.enter-shared.result.state) in
-    let done : AdmittedAll g.D.Slot g.T.OpenedAs.opening g.T.OpenedAs.told asks c.enter-shared.new.seat.knows.seen (map numbered c.admit_all-numbers.result.items) c.enter-shared.result.state c.admit_all-numbers.new.shared.trail c.admit_all-numbers.new.shared.state =
+    let done : AdmittedAll g.D.Slot g.T.OpenedAs.opening g.T.OpenedAs.told g.T.OpenedAs.first asks c.enter-shared.new.seat.knows.seen (map numbered c.admit_all-numbers.result.items) c.enter-shared.result.state (record { trail = c.admit_all-numbers.new.shared.trail; counts = c.admit_all-numbers.new.shared.counts }) c.admit_all-numbers.new.shared.state =
     c.admit_all-numbers.ensures c.enter-shared.new.seat.knows.seen c.enter-shared.ensures.stands in
     let answers : List (Result (List ℕ) PoolErr) = map numbered c.deref.result.now in
     let are : AreAnswered asks left c.enter-shared.new.seat.knows.seen answers done.after =
     subst (λ ns. AreAnswered asks left c.enter-shared.new.seat.knows.seen (map numbered ns) done.after) (sym c.deref.ensures.value) done.answered in
     let free = c.spare-pass-inside.ensures in
     let sum = done.stands.spare in
-    all_pass g.T.OpenedAs.opening c.pass.invariant c.enter-shared.ensures.kept.1 c.enter-shared.ensures.seen asks left answers done.after are c.admit_all-numbers.new.shared.trail done.stands.trail_is c.leave_admitted.new.seat c.leave_admitted.ensures.grown
+    all_pass g.T.OpenedAs.opening c.pass.invariant c.enter-shared.ensures.kept.1 c.enter-shared.ensures.seen asks left answers done.after are c.admit_all-numbers.new.shared.trail (ap (λ z. z.trail) done.stands.sight_is) c.leave_admitted.new.seat c.leave_admitted.ensures.grown
     c.part_all.new.seat c.part_all.ensures.knows c.spare-pass-inside.result (omega (arith, free, sum))
 
 pub returns : goal.returns
@@ -96,25 +96,25 @@ returns g c =
     let asks : List Ask = c.args.asks.now in
     let left : Left = left_in (state_of c.enter-shared.result.state) in
     let sessions : Answers = map (answer_of (λ v. v.items) (λ s. s.seat)) c.part_all.result.items in
-    let done : AdmittedAll g.D.Slot g.T.OpenedAs.opening g.T.OpenedAs.told asks c.enter-shared.new.seat.knows.seen (map numbered c.admit_all-numbers.result.items) c.enter-shared.result.state c.admit_all-numbers.new.shared.trail c.admit_all-numbers.new.shared.state =
+    let done : AdmittedAll g.D.Slot g.T.OpenedAs.opening g.T.OpenedAs.told g.T.OpenedAs.first asks c.enter-shared.new.seat.knows.seen (map numbered c.admit_all-numbers.result.items) c.enter-shared.result.state (record { trail = c.admit_all-numbers.new.shared.trail; counts = c.admit_all-numbers.new.shared.counts }) c.admit_all-numbers.new.shared.state =
     c.admit_all-numbers.ensures c.enter-shared.new.seat.knows.seen c.enter-shared.ensures.stands in
     let answers : List (Result (List ℕ) PoolErr) = map numbered c.deref.result.now in
     let are : AreAnswered asks left c.enter-shared.new.seat.knows.seen answers done.after =
     subst (λ ns. AreAnswered asks left c.enter-shared.new.seat.knows.seen (map numbered ns) done.after) (sym c.deref.ensures.value) done.answered in
     let come : AllComing g.T.OpenedAs.opening g.T.OpenedAs.told c.leave_admitted.new.seat.knows.seen c.requires.rooms.most asks answers =
     subst (λ (items : List Item). AllComing g.T.OpenedAs.opening g.T.OpenedAs.told items c.requires.rooms.most asks answers)
-    (sym (seen_gone g.T.OpenedAs.opening c.pass.invariant c.enter-shared.ensures.kept.1 c.enter-shared.ensures.seen asks left answers done.after are c.admit_all-numbers.new.shared.trail done.stands.trail_is c.leave_admitted.new.seat c.leave_admitted.ensures.grown))
+    (sym (seen_gone g.T.OpenedAs.opening c.pass.invariant c.enter-shared.ensures.kept.1 c.enter-shared.ensures.seen asks left answers done.after are c.admit_all-numbers.new.shared.trail (ap (λ z. z.trail) done.stands.sight_is) c.leave_admitted.new.seat c.leave_admitted.ensures.grown))
     (answered_coming g.T.OpenedAs.opening g.T.OpenedAs.told c.requires.rooms.most asks left c.enter-shared.new.seat.knows.seen answers done.after (at_most (state_of c.enter-shared.result.state).sessions 240) c.requires.rooms.few c.requires.some are) in
     let home : c.part_all.new.seat.table ≡ c.pass.inside.seat.table = c.part_all.ensures.table ∙ sym c.requires.table ∙ ap (λ (p : Spot Item). p.table) (sym c.pass.view_is) in
     record {
       admits =
           subst (λ (p : Spot Item). Admits g.T.OpenedAs.opening g.T.OpenedAs.told asks p c.part_all.new.seat sessions) c.pass.view_is
-          (admits g.T.OpenedAs.opening c.pass.invariant c.enter-shared.ensures.kept.1 c.enter-shared.ensures.seen asks left answers done.after are c.admit_all-numbers.new.shared.trail done.stands.trail_is c.leave_admitted.new.seat c.leave_admitted.ensures.grown
+          (admits g.T.OpenedAs.opening c.pass.invariant c.enter-shared.ensures.kept.1 c.enter-shared.ensures.seen asks left answers done.after are c.admit_all-numbers.new.shared.trail (ap (λ z. z.trail) done.stands.sight_is) c.leave_admitted.new.seat c.leave_admitted.ensures.grown
           c.part_all.new.seat c.part_all.ensures.knows g.T.OpenedAs.told c.requires.rooms.most sessions
-          (ap left_in (state_here g.D.Slot g.T.OpenedAs.opening g.T.OpenedAs.told c.enter-shared.new.seat.knows.seen c.enter-shared.result.trail c.enter-shared.result.state c.enter-shared.ensures.stands))
+          (ap left_in (state_here g.D.Slot g.T.OpenedAs.opening g.T.OpenedAs.told g.T.OpenedAs.first c.enter-shared.new.seat.knows.seen (record { trail = c.enter-shared.result.trail; counts = c.enter-shared.result.counts }) c.enter-shared.result.state c.enter-shared.ensures.stands))
           come (subst (λ (lock : TableId). AreSeats lock c.leave_admitted.new.seat.knows.seen answers sessions) (sym c.part_all.ensures.table) c.part_all.ensures.seats) home);
       fresh = λ none.
-          refused_by g.T.OpenedAs.opening c.pass.invariant c.enter-shared.ensures.kept.1 c.enter-shared.ensures.seen asks left answers done.after are c.admit_all-numbers.new.shared.trail done.stands.trail_is c.leave_admitted.new.seat c.leave_admitted.ensures.grown
+          refused_by g.T.OpenedAs.opening c.pass.invariant c.enter-shared.ensures.kept.1 c.enter-shared.ensures.seen asks left answers done.after are c.admit_all-numbers.new.shared.trail (ap (λ z. z.trail) done.stands.sight_is) c.leave_admitted.new.seat c.leave_admitted.ensures.grown
           c.part_all.new.seat c.part_all.ensures.knows c.args.turns.now sessions c.part_all.ensures.seats
           ∙ ap (refusals asks) (fresh_left c.enter-shared.ensures.stands (subst (λ (v : Parts g.row.D.Denot). IsKept v) c.parts.ensures.parts c.parts.ensures.kept)
           (live_here g.T.OpenedAs.opening c.pass.invariant c.enter-shared.ensures.kept.1 c.enter-shared.ensures.seen ∙ subst (λ (p : Spot Item). live_in p.knows.seen ≡ 0) (sym c.pass.view_is) none));

@@ -1,4 +1,4 @@
-use Rattle.std.proofs.Common.{ℕ, ◌≤◌, [], IsSome, refl, sym, subst}
+use Rattle.std.proofs.Common.{ℕ, ◌≤◌, [], IsSome, sym, subst}
 use Rattle.pin_core.specs.StateOf.{state_of}
 use Rattle.pin_core.specs.Turns.{amount_of}
 use Rattle.pool_model.specs.declared.event.Event.TheVariants.{Ask, Refused}
@@ -14,7 +14,9 @@ use Rattle.session_calls.specs.Acting.{held_by}
 use Rattle.session_calls.specs.Jobs.{DoesIn}
 use Rattle.session_calls.specs.Turning.{TurnIs}
 use Rattle.session_calls.proofs.Asked.{works_with, asked_held, asked_first, lacks_then, may_be_refused, was_refused, turned_on}
-use Rattle.session_calls.proofs.Costs.{costs_more, costs_step, costs_on, goes_down, goes_further}
+use Rattle.session_calls.proofs.Needed.{needs_more}
+use Rattle.session_calls.proofs.Needs.{needs_step, needs_then}
+use Rattle.session_calls.proofs.Rounds.{goes_down, goes_further}
 use Rattle.session_calls.proofs.asking.make_room.Goals as goal
 
 pub loop-hand-init : goal.loop-hand-init
@@ -22,7 +24,7 @@ loop-hand-init g c = (
   subst (λ (m : ℕ). g.A.Access.turns g.O.Origin.opening g.O.Origin.outset c.args.access.now c.args.place.now m) (sym c.ask.ensures.acts.session) c.requires.turns,
   works_with g.D.Slot g.O.Origin.opening g.O.Origin.outset (g.A.Access.seen c.args.place.now) c.args.hand c.ask.new.self c.requires.at_work c.ask.ensures.acts c.ask.ensures.ready,
   asked_first g.O.Origin.opening g.O.Origin.outset c.args.c.now.tracker c.args.hand c.ask.new.self c.ask.ensures.acts,
-  costs_step g.D.Slot g.A.Access.alone c.args.c.now.tracker (amount_of c.args.want) g.O.Origin.opening g.O.Origin.outset c.args.hand c.ask.new.self c.requires.at_work.ready c.ask.ensures.ready Ask refl (λ s. tt) c.ask.ensures.acts,
+  needs_step c.args.c.now.tracker (amount_of c.args.want) g.D.Slot g.O.Origin.opening c.args.hand c.ask.new.self c.requires.at_work.ready.whole.stands c.ask.ensures.ready.whole.stands Ask (λ s. tt) c.ask.ensures.acts,
 )
 
 pub room_turn-now-requires-clause-client : goal.room_turn-now-requires-clause-client
@@ -47,14 +49,14 @@ pub returns-in-Refused-clause-at_work : goal.returns-in-Refused-clause-at_work
 returns-in-Refused-clause-at_work g c =
     works_with g.D.Slot g.O.Origin.opening g.O.Origin.outset (g.A.Access.seen c.room_turn-now.new.place) c.room_turn-now.result.0 c.refuse.new.self c.room_turn-now.ensures.at_work c.refuse.ensures.acts c.refuse.ensures.ready
 
-pub returns-in-Refused-clause-costs : goal.returns-in-Refused-clause-costs
-returns-in-Refused-clause-costs g c =
+pub returns-in-Refused-clause-needed : goal.returns-in-Refused-clause-needed
+returns-in-Refused-clause-needed g c =
     let t : ℕ = c.args.c.now.tracker in
     let amount : ℕ = amount_of c.args.want in
     let now : Hand g.row.D.Denot = c.room_turn-now.result.0 in
-    costs_more g.D.Slot g.A.Access.alone t amount c.args.hand now c.refuse.new.self (turned_on g.O.Origin.opening g.O.Origin.outset t c.args.hand c.loop-hand.hand c.loop-hand.invariant.2 amount now c.room_turn-now.result.1 c.room_turn-now.ensures.turn).session
-    (costs_on g.D.Slot g.A.Access.alone t amount c.args.hand c.loop-hand.hand now c.loop-hand.invariant.2.session c.loop-hand.invariant.3 c.room_turn-now.result.1 c.room_turn-now.ensures.needed c.room_turn-now.ensures.alone)
-    (costs_step g.D.Slot g.A.Access.alone t amount g.O.Origin.opening g.O.Origin.outset now c.refuse.new.self c.room_turn-now.ensures.at_work.ready c.refuse.ensures.ready (Refused c.args.call.now c.in-Refused.entry) refl (λ s. tt) c.refuse.ensures.acts)
+    needs_then t amount g.D.Slot g.O.Origin.opening c.args.hand now c.refuse.new.self (turned_on g.O.Origin.opening g.O.Origin.outset t c.args.hand c.loop-hand.hand c.loop-hand.invariant.2 amount now c.room_turn-now.result.1 c.room_turn-now.ensures.turn)
+    (needs_more t amount c.args.hand c.loop-hand.hand now c.loop-hand.invariant.2.session c.loop-hand.invariant.3 c.room_turn-now.ensures.needed)
+    c.room_turn-now.ensures.at_work.ready.whole.stands c.refuse.ensures.ready.whole.stands (Refused c.args.call.now c.in-Refused.entry) (λ s. tt) c.refuse.ensures.acts
 
 pub returns-in-Refused-clause-err : goal.returns-in-Refused-clause-err
 returns-in-Refused-clause-err g c =
@@ -71,7 +73,7 @@ loop-hand-preserved g c = (
   c.room_turn-now.ensures.turns,
   c.room_turn-now.ensures.at_work,
   turned_on g.O.Origin.opening g.O.Origin.outset c.args.c.now.tracker c.args.hand c.loop-hand.hand c.loop-hand.invariant.2 (amount_of c.args.want) c.room_turn-now.result.0 c.room_turn-now.result.1 c.room_turn-now.ensures.turn,
-  costs_on g.D.Slot g.A.Access.alone c.args.c.now.tracker (amount_of c.args.want) c.args.hand c.loop-hand.hand c.room_turn-now.result.0 c.loop-hand.invariant.2.session c.loop-hand.invariant.3 c.room_turn-now.result.1 c.room_turn-now.ensures.needed c.room_turn-now.ensures.alone,
+  needs_more c.args.c.now.tracker (amount_of c.args.want) c.args.hand c.loop-hand.hand c.room_turn-now.result.0 c.loop-hand.invariant.2.session c.loop-hand.invariant.3 c.room_turn-now.ensures.needed,
 )
 
 pub loop-hand-smaller : goal.loop-hand-smaller
@@ -80,4 +82,4 @@ loop-hand-smaller g c =
     let old : Hand g.row.D.Denot = c.loop-hand.hand in
     let now : Hand g.row.D.Denot = c.room_turn-now.result.0 in
     goes_down g.A.Access.alone (writes_left now.session t (state_of now.state)) (writes_left old.session t (state_of old.state)) c.again-left.result c.loop-hand.left
-    (λ is. goes_further t old now c.room_turn-now.result.1 c.in-Wrote.is (c.room_turn-now.ensures.alone is).further) c.again-left.ensures
+    (λ is. goes_further t old now c.room_turn-now.result.1 c.in-Wrote.is (c.room_turn-now.ensures.further is)) c.again-left.ensures

@@ -4,9 +4,9 @@ use Rattle.pin_core.specs.StateOf.{state_of}
 use Rattle.pin_core.specs.Turns.{amount_of}
 use Rattle.session_calls.specs.Writing.{writes_left}
 use Rattle.session_calls.specs.Acting.{held_by}
-use Rattle.session_calls.specs.Counting.{Costs}
 use Rattle.session_calls.specs.Having.{IsAtWork}
 use Rattle.session_calls.specs.Jobs.{DoesIn}
+use Rattle.session_calls.specs.Needing.{EntersNeeded}
 use Rattle.session_calls.proofs.asking.make_room.Given as goal
 
 -- the call asked and wrote, as was needed
@@ -15,7 +15,7 @@ invariant-loop-hand g l =
     g.A.Access.turns g.O.Origin.opening g.O.Origin.outset l.access l.place l.hand.session
     × IsAtWork g.D.Slot g.O.Origin.opening g.O.Origin.outset (g.A.Access.seen l.place) l.hand
     × DoesIn (IsAsked l.c.tracker (held_by g.O.Origin.opening g.O.Origin.outset l.fn.hand) []) l.fn.hand l.hand
-    × Costs g.D.Slot g.A.Access.alone l.c.tracker (amount_of l.want) l.fn.hand l.hand
+    × EntersNeeded l.c.tracker (amount_of l.want) l.fn.hand l.hand
 
 -- alone, each write leaves one less, or is the last; beside others, a turn less is left
 abbrev pub decreases-loop-hand : goal.decreases-loop-hand

@@ -7,8 +7,7 @@ use Rattle.session_calls.specs.Coming.{Evicts, IsFreshLoan}
 use Rattle.session_calls.specs.Acting.{Acts, held_by}
 use Rattle.session_calls.proofs.Asked.{works_with, taken_then}
 use Rattle.session_calls.proofs.Called.{in_ok, granted, granted_held, length_now}
-use Rattle.session_calls.proofs.Costs.{costs_taken}
-use Rattle.session_calls.proofs.Needed.{needs_as}
+use Rattle.session_calls.proofs.Needed.{needs_as, needs_more}
 use Rattle.session_calls.proofs.calls.alloc.Goals as goal
 
 pub alloc-loan-requires-clause-client : goal.alloc-loan-requires-clause-client
@@ -34,9 +33,8 @@ returns-clause-loan g c =
     subst (λ (n : ℕ). IsFreshLoan c.args.c.now.tracker n c.alloc-loan.result (held_by g.O.Origin.opening g.O.Origin.outset c.args.hand)) c.in-Ok.ensures
     (subst (IsFreshLoan c.args.c.now.tracker c.in-Ok.shell c.alloc-loan.result) (granted_held g.O.Origin.opening g.O.Origin.outset c.args.c.now.tracker c.args.hand c.make_room-hand.result.0 c.make_room-hand.result.1 _ c.in_default-result.is c.make_room-hand.ensures.ok) c.alloc-loan.ensures.loan)
 
-pub returns-clause-costs : goal.returns-clause-costs
-returns-clause-costs g c =
-    costs_taken g.D.Slot g.A.Access.alone c.args.c.now.tracker c.args.bytes g.O.Origin.opening g.O.Origin.outset c.args.hand c.make_room-hand.result.0 c.alloc-loan.new.self (granted g.O.Origin.opening g.O.Origin.outset c.args.c.now.tracker c.args.hand c.make_room-hand.result.0 c.make_room-hand.result.1 _ c.in_default-result.is c.make_room-hand.ensures.ok)
-    c.make_room-hand.ensures.costs c.make_room-hand.ensures.at_work.ready (Alloc c.alloc-loan.result.number c.args.c.now.tracker c.in-Ok.shell) refl
+pub returns-clause-needed : goal.returns-clause-needed
+returns-clause-needed g c =
+    needs_more c.args.c.now.tracker c.args.bytes c.args.hand c.make_room-hand.result.0 c.alloc-loan.new.self (granted g.O.Origin.opening g.O.Origin.outset c.args.c.now.tracker c.args.hand c.make_room-hand.result.0 c.make_room-hand.result.1 _ c.in_default-result.is c.make_room-hand.ensures.ok).session
+    c.make_room-hand.ensures.needed
     (needs_as c.args.c.now.tracker _ c.args.c.now.tracker c.args.bytes c.make_room-hand.result.0 c.alloc-loan.new.self refl (sym (length_now g.O.Origin.opening g.O.Origin.outset c.args.c.now.tracker c.args.hand c.make_room-hand.result.0 c.make_room-hand.result.1 _ c.in_default-result.is c.make_room-hand.ensures.ok c.args.bytes c.args.blocks c.in-Ok.shell c.requires.bytes.0 c.in-Ok.ensures)) c.alloc-loan.ensures.needed)
-    c.alloc-loan.ensures.acts

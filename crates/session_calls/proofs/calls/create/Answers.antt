@@ -6,8 +6,8 @@ use Rattle.pin_core.specs.StateOf.{state_of}
 use Rattle.session_calls.specs.Coming.{Evicts}
 use Rattle.session_calls.specs.Acting.{Acts, held_by, signs_by}
 use Rattle.session_calls.specs.Coming.{IsFreshPage}
-use Rattle.session_calls.proofs.Called.{costs_created, in_ok, granted, granted_held, length_now, taken_created, works_created, refused_created, fresh_taken}
-use Rattle.session_calls.proofs.Needed.{needs_as}
+use Rattle.session_calls.proofs.Called.{in_ok, granted, granted_held, length_now, taken_created, works_created, refused_created, fresh_taken}
+use Rattle.session_calls.proofs.Needed.{needs_as, needs_more}
 use Rattle.session_calls.proofs.calls.create.Goals as goal
 
 pub create-made-requires-clause-client : goal.create-made-requires-clause-client
@@ -38,10 +38,9 @@ pub returns-clause-err : goal.returns-clause-err
 returns-clause-err g c =
     refused_created g.O.Origin.opening g.O.Origin.outset c.args.c.now.tracker c.args.blocks c.args.hand c.make_room-hand.result.0 (granted g.O.Origin.opening g.O.Origin.outset c.args.c.now.tracker c.args.hand c.make_room-hand.result.0 c.make_room-hand.result.1 _ c.in_default-result.is c.make_room-hand.ensures.ok) c.create-made.new.self c.create-made.result c.create-made.ensures.cause c.create-made.ensures.err
 
-pub returns-clause-costs : goal.returns-clause-costs
-returns-clause-costs g c =
-    costs_created g.O.Origin.opening g.O.Origin.outset c.args.c.now.tracker c.in-Ok.shell c.args.hand c.make_room-hand.result.0 (granted g.O.Origin.opening g.O.Origin.outset c.args.c.now.tracker c.args.hand c.make_room-hand.result.0 c.make_room-hand.result.1 _ c.in_default-result.is c.make_room-hand.ensures.ok) c.create-made.new.self
-    g.D.Slot g.A.Access.alone c.args.bytes c.create-made.result c.make_room-hand.ensures.at_work.ready c.make_room-hand.ensures.costs
+pub returns-clause-needed : goal.returns-clause-needed
+returns-clause-needed g c =
+    needs_more c.args.c.now.tracker c.args.bytes c.args.hand c.make_room-hand.result.0 c.create-made.new.self (granted g.O.Origin.opening g.O.Origin.outset c.args.c.now.tracker c.args.hand c.make_room-hand.result.0 c.make_room-hand.result.1 _ c.in_default-result.is c.make_room-hand.ensures.ok).session
+    c.make_room-hand.ensures.needed
     (needs_as c.args.c.now.tracker _ c.args.c.now.tracker c.args.bytes c.make_room-hand.result.0 c.create-made.new.self refl
     (sym (length_now g.O.Origin.opening g.O.Origin.outset c.args.c.now.tracker c.args.hand c.make_room-hand.result.0 c.make_room-hand.result.1 _ c.in_default-result.is c.make_room-hand.ensures.ok c.args.bytes c.args.blocks c.in-Ok.shell c.requires.bytes.0 c.in-Ok.ensures)) c.create-made.ensures.needed)
-    c.create-made.ensures.ok c.create-made.ensures.err

@@ -3,7 +3,7 @@ use Rattle.pool_model.specs.declared.event.Event.TheVariants.{Decrease}
 use Rattle.store_api.specs.Holdings.{Holdings, unused_of}
 use Rattle.session_calls.proofs.Asked.{works_with, asked_then}
 use Rattle.session_calls.proofs.Called.{granted, granted_held}
-use Rattle.session_calls.proofs.Costs.{costs_then}
+use Rattle.session_calls.proofs.Needs.{needs_then}
 use Rattle.session_calls.proofs.calls.give_back.Goals as goal
 
 pub give_up-requires-clause-client : goal.give_up-requires-clause-client
@@ -22,7 +22,7 @@ pub returns-clause-ok : goal.returns-clause-ok
 returns-clause-ok g c =
     asked_then g.O.Origin.opening g.O.Origin.outset c.args.c.now.tracker c.args.hand c.make_room-hand.result.0 (granted g.O.Origin.opening g.O.Origin.outset c.args.c.now.tracker c.args.hand c.make_room-hand.result.0 c.make_room-hand.result.1 _ c.in_default.is c.make_room-hand.ensures.ok) (Decrease c.args.c.now.tracker c.args.bytes ∷ []) c.give_up.new.self c.give_up.ensures.acts (refl, tt)
 
-pub returns-clause-costs : goal.returns-clause-costs
-returns-clause-costs g c =
-    costs_then g.D.Slot g.A.Access.alone c.args.c.now.tracker c.args.bytes g.O.Origin.opening g.O.Origin.outset c.args.hand c.make_room-hand.result.0 c.give_up.new.self (granted g.O.Origin.opening g.O.Origin.outset c.args.c.now.tracker c.args.hand c.make_room-hand.result.0 c.make_room-hand.result.1 _ c.in_default.is c.make_room-hand.ensures.ok)
-    c.make_room-hand.ensures.costs c.make_room-hand.ensures.at_work.ready c.give_up.ensures.ready (Decrease c.args.c.now.tracker c.args.bytes) refl (λ s. tt) c.give_up.ensures.acts
+pub returns-clause-needed : goal.returns-clause-needed
+returns-clause-needed g c =
+    needs_then c.args.c.now.tracker c.args.bytes g.D.Slot g.O.Origin.opening c.args.hand c.make_room-hand.result.0 c.give_up.new.self (granted g.O.Origin.opening g.O.Origin.outset c.args.c.now.tracker c.args.hand c.make_room-hand.result.0 c.make_room-hand.result.1 _ c.in_default.is c.make_room-hand.ensures.ok)
+    c.make_room-hand.ensures.needed c.make_room-hand.ensures.at_work.ready.whole.stands c.give_up.ensures.ready.whole.stands (Decrease c.args.c.now.tracker c.args.bytes) (λ s. tt) c.give_up.ensures.acts

@@ -7,7 +7,8 @@ use Rattle.pin_core.specs.StateOf.{state_of}
 use Rattle.session_calls.specs.Acting.{held_by}
 use Rattle.session_calls.proofs.Asked.{works_with, asked_then}
 use Rattle.session_calls.proofs.Called.{in_ok, granted, granted_held, loan_bytes}
-use Rattle.session_calls.proofs.Costs.{costs_as, costs_then}
+use Rattle.session_calls.proofs.Needed.{needs_as}
+use Rattle.session_calls.proofs.Needs.{needs_then}
 use Rattle.session_calls.proofs.calls.move_buffer.Goals as goal
 
 pub move_buffer-moved-requires-clause-loan : goal.move_buffer-moved-requires-clause-loan
@@ -32,11 +33,11 @@ pub returns-clause-ok : goal.returns-clause-ok
 returns-clause-ok g c =
     asked_then g.O.Origin.opening g.O.Origin.outset c.args.to.now.tracker c.args.hand c.make_room-hand.result.0 (granted g.O.Origin.opening g.O.Origin.outset c.args.to.now.tracker c.args.hand c.make_room-hand.result.0 c.make_room-hand.result.1 _ c.in_default.is c.make_room-hand.ensures.ok) (MoveBuffer c.args.loan.number c.args.to.now.tracker ∷ []) c.move_buffer-moved.new.self c.move_buffer-moved.ensures.acts (refl, tt)
 
-pub returns-clause-costs : goal.returns-clause-costs
-returns-clause-costs g c =
+pub returns-clause-needed : goal.returns-clause-needed
+returns-clause-needed g c =
     let t : ℕ = c.args.to.now.tracker in
     let held : Holdings = held_by g.O.Origin.opening g.O.Origin.outset c.args.hand in
     let bytes : ℕ = loan_len c.args.loan.number held in
-    costs_then g.D.Slot g.A.Access.alone t bytes g.O.Origin.opening g.O.Origin.outset c.args.hand c.make_room-hand.result.0 c.move_buffer-moved.new.self (granted g.O.Origin.opening g.O.Origin.outset t c.args.hand c.make_room-hand.result.0 c.make_room-hand.result.1 _ c.in_default.is c.make_room-hand.ensures.ok)
-    (costs_as g.D.Slot g.A.Access.alone t c.len.result t bytes c.args.hand c.make_room-hand.result.0 refl (loan_bytes c.args.loan held c.len.result _ c.requires.loan.0 c.len.ensures.whole c.buf.ensures) c.make_room-hand.ensures.costs)
-    c.make_room-hand.ensures.at_work.ready c.move_buffer-moved.ensures.ready (MoveBuffer c.args.loan.number t) refl (λ s. tt) c.move_buffer-moved.ensures.acts
+    needs_then t bytes g.D.Slot g.O.Origin.opening c.args.hand c.make_room-hand.result.0 c.move_buffer-moved.new.self (granted g.O.Origin.opening g.O.Origin.outset t c.args.hand c.make_room-hand.result.0 c.make_room-hand.result.1 _ c.in_default.is c.make_room-hand.ensures.ok)
+    (needs_as t c.len.result t bytes c.args.hand c.make_room-hand.result.0 refl (loan_bytes c.args.loan held c.len.result _ c.requires.loan.0 c.len.ensures.whole c.buf.ensures) c.make_room-hand.ensures.needed)
+    c.make_room-hand.ensures.at_work.ready.whole.stands c.move_buffer-moved.ensures.ready.whole.stands (MoveBuffer c.args.loan.number t) (λ s. tt) c.move_buffer-moved.ensures.acts

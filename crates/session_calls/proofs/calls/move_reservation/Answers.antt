@@ -6,7 +6,7 @@ use Rattle.session_calls.proofs.Refusals.{no_error_told}
 use Rattle.session_calls.specs.Acting.{held_by}
 use Rattle.session_calls.proofs.Asked.{works_with, asked_then}
 use Rattle.session_calls.proofs.Called.{granted, granted_held}
-use Rattle.session_calls.proofs.Costs.{costs_then}
+use Rattle.session_calls.proofs.Needs.{needs_then}
 use Rattle.session_calls.proofs.calls.move_reservation.Goals as goal
 
 pub pass_on-requires-clause-from : goal.pass_on-requires-clause-from
@@ -35,7 +35,7 @@ pub returns-clause-ok : goal.returns-clause-ok
 returns-clause-ok g c =
     asked_then g.O.Origin.opening g.O.Origin.outset c.args.from.now.tracker c.args.hand c.make_room-hand.result.0 (granted g.O.Origin.opening g.O.Origin.outset c.args.from.now.tracker c.args.hand c.make_room-hand.result.0 c.make_room-hand.result.1 _ c.in_default-result.is c.make_room-hand.ensures.ok) (MoveReservation c.args.from.now.tracker c.args.to.now.tracker c.args.bytes ∷ []) c.pass_on.new.self c.pass_on.ensures.acts (refl, tt)
 
-pub returns-clause-costs : goal.returns-clause-costs
-returns-clause-costs g c =
-    costs_then g.D.Slot g.A.Access.alone c.args.from.now.tracker c.args.bytes g.O.Origin.opening g.O.Origin.outset c.args.hand c.make_room-hand.result.0 c.pass_on.new.self (granted g.O.Origin.opening g.O.Origin.outset c.args.from.now.tracker c.args.hand c.make_room-hand.result.0 c.make_room-hand.result.1 _ c.in_default-result.is c.make_room-hand.ensures.ok)
-    c.make_room-hand.ensures.costs c.make_room-hand.ensures.at_work.ready c.pass_on.ensures.ready (MoveReservation c.args.from.now.tracker c.args.to.now.tracker c.args.bytes) refl (λ s. tt) c.pass_on.ensures.acts
+pub returns-clause-needed : goal.returns-clause-needed
+returns-clause-needed g c =
+    needs_then c.args.from.now.tracker c.args.bytes g.D.Slot g.O.Origin.opening c.args.hand c.make_room-hand.result.0 c.pass_on.new.self (granted g.O.Origin.opening g.O.Origin.outset c.args.from.now.tracker c.args.hand c.make_room-hand.result.0 c.make_room-hand.result.1 _ c.in_default-result.is c.make_room-hand.ensures.ok)
+    c.make_room-hand.ensures.needed c.make_room-hand.ensures.at_work.ready.whole.stands c.pass_on.ensures.ready.whole.stands (MoveReservation c.args.from.now.tracker c.args.to.now.tracker c.args.bytes) (λ s. tt) c.pass_on.ensures.acts

@@ -10,7 +10,8 @@ use Rattle.session_calls.specs.Acting.{held_by}
 use Rattle.session_calls.specs.Jobs.{DoesIn}
 use Rattle.session_calls.proofs.Asked.{works_with, asked_then}
 use Rattle.session_calls.proofs.Called.{in_ok, granted, granted_held}
-use Rattle.session_calls.proofs.Costs.{costs_as, costs_then}
+use Rattle.session_calls.proofs.Needed.{needs_as}
+use Rattle.session_calls.proofs.Needs.{needs_then}
 use Rattle.session_calls.proofs.calls.pin_again.Goals as goal
 
 pub pin_again-requires-clause-page : goal.pin_again-requires-clause-page
@@ -37,10 +38,10 @@ returns-clause-ok g c =
     (subst (λ (k : ℕ). DoesIn (IsAsked k (held_by g.O.Origin.opening g.O.Origin.outset c.args.hand) []) c.args.hand c.make_room-hand.result.0) (ap (λ (k : ClientToken). k.tracker) c.of-c.ensures ∙ c.client.ensures) (granted g.O.Origin.opening g.O.Origin.outset c.of-c.result.tracker c.args.hand c.make_room-hand.result.0 c.make_room-hand.result.1 _ c.in_default.is c.make_room-hand.ensures.ok))
     (PinAgain c.args.p.now.name ∷ []) c.pin_again.new.self c.pin_again.ensures.acts (refl, tt)
 
-pub returns-clause-costs : goal.returns-clause-costs
-returns-clause-costs g c =
+pub returns-clause-needed : goal.returns-clause-needed
+returns-clause-needed g c =
     let t : ℕ = c.args.p.now.client in
     let bytes : ℕ = page_len c.args.p.now.name (held_by g.O.Origin.opening g.O.Origin.outset c.args.hand) in
-    costs_then g.D.Slot g.A.Access.alone t bytes g.O.Origin.opening g.O.Origin.outset c.args.hand c.make_room-hand.result.0 c.pin_again.new.self (granted g.O.Origin.opening g.O.Origin.outset c.of-c.result.tracker c.args.hand c.make_room-hand.result.0 c.make_room-hand.result.1 _ c.in_default.is c.make_room-hand.ensures.ok)
-    (costs_as g.D.Slot g.A.Access.alone c.of-c.result.tracker c.page_len.result t bytes c.args.hand c.make_room-hand.result.0 (ap (λ (k : ClientToken). k.tracker) c.of-c.ensures ∙ c.client.ensures) c.page_len.ensures.len c.make_room-hand.ensures.costs)
-    c.make_room-hand.ensures.at_work.ready c.pin_again.ensures.ready (PinAgain c.args.p.now.name) refl (λ s. tt) c.pin_again.ensures.acts
+    needs_then t bytes g.D.Slot g.O.Origin.opening c.args.hand c.make_room-hand.result.0 c.pin_again.new.self (granted g.O.Origin.opening g.O.Origin.outset c.of-c.result.tracker c.args.hand c.make_room-hand.result.0 c.make_room-hand.result.1 _ c.in_default.is c.make_room-hand.ensures.ok)
+    (needs_as c.of-c.result.tracker c.page_len.result t bytes c.args.hand c.make_room-hand.result.0 (ap (λ (k : ClientToken). k.tracker) c.of-c.ensures ∙ c.client.ensures) c.page_len.ensures.len c.make_room-hand.ensures.needed)
+    c.make_room-hand.ensures.at_work.ready.whole.stands c.pin_again.ensures.ready.whole.stands (PinAgain c.args.p.now.name) (λ s. tt) c.pin_again.ensures.acts

@@ -10,8 +10,8 @@ use Rattle.session_calls.proofs.coming.alloc_named.Goals as goal
 pub returns-clause-goes : goal.returns-clause-goes
 returns-clause-goes g c =
     let hand : Hand g.row.D.Denot = c.args.hand.now in
-    let new : Hand g.row.D.Denot = record { state = c.alloc_now-loan.new.self; trail = c.enter.new.trail; session = hand.session } in
+    let new : Hand g.row.D.Denot = record { state = c.alloc_now-loan.new.self; trail = c.enter.new.trail; counts = hand.counts; session = hand.session } in
     goes_evicting g.D.Slot hand new c.args.shell (Alloc c.alloc_now-loan.result.number c.args.client c.args.shell) (Alloc c.number.result c.args.client c.room-blocks.result)
     c.enter_named.new.trail g.G.Adds.entries c.requires.gone c.enter_named.ensures c.enter.ensures
-    (ap (λ (n : ℕ). Alloc n c.args.client c.room-blocks.result) c.number.ensures ∙ ap (Alloc c.alloc_now-loan.result.number c.args.client) c.room-blocks.ensures) refl
+    (ap (λ (n : ℕ). Alloc n c.args.client c.room-blocks.result) c.number.ensures ∙ ap (Alloc c.alloc_now-loan.result.number c.args.client) c.room-blocks.ensures) refl refl
     (subst (λ (k : ClientToken). Enters g.D.Slot (alloc_entries k c.alloc_now-loan.result.number c.args.shell hand.state) [] [] hand.state new.state) c.of-mine.ensures c.alloc_now-loan.ensures.enters)

@@ -2,16 +2,14 @@ use Rattle.std.proofs.Common.{◌≡◌, ℕ, [], ◌∷◌, ◌++◌, refl, sym
 use Rattle.pool_model.specs.declared.event.Event.TheVariants.{Destroy}
 use Rattle.store_api.specs.Tokens.{PageToken}
 use Rattle.store_api.specs.Entries.{by}
-use Rattle.pin_core.specs.declared.parts.Parts.{Parts}
 use Rattle.session_calls.specs.declared.hand.Hand.{Hand}
-use Rattle.session_calls.specs.Counting.{CountsOn}
 use Rattle.session_calls.specs.Jobs.{DoesIn}
 use Rattle.session_calls.proofs.Alone.{all_worked}
-use Rattle.session_calls.proofs.Ending.{unpinned, works_ended, did_ended, counts_ended, flies_never, comes_down, page_still, pins_still, then_did, same_works, waits_more, waits_none}
+use Rattle.session_calls.proofs.Ending.{unpinned, works_ended, did_ended, flies_never, comes_down, page_still, pins_still, then_did, same_works, waits_more, waits_none}
 use Rattle.session_calls.proofs.pinning.destroy_resting.Goals as goal
 
 pub loop-hand-init : goal.loop-hand-init
-loop-hand-init g c = (c.requires.turns, c.requires.at_work, waits_none c.args.hand, refl, λ alone. refl)
+loop-hand-init g c = (c.requires.turns, c.requires.at_work, waits_none c.args.hand, refl)
 
 pub destroy_unpinned-requires : goal.destroy_unpinned-requires
 destroy_unpinned-requires g c = record {
@@ -24,22 +22,22 @@ destroy_unpinned-requires g c = record {
 pub returns-in-Ok-clause-at_work : goal.returns-in-Ok-clause-at_work
 returns-in-Ok-clause-at_work g c =
     let hand : Hand g.row.D.Denot = c.loop-hand.hand in
-    let new : Hand g.row.D.Denot = record { state = c.destroy_unpinned.new.self; trail = c.enter.new.trail; session = hand.session } in
+    let new : Hand g.row.D.Denot = record { state = c.destroy_unpinned.new.self; trail = c.enter.new.trail; counts = hand.counts; session = hand.session } in
     let name : c.name-page.result ≡ c.loop-hand.p.name = c.name-page.ensures ∙ ap (λ (q : PageToken). q.name) (sym c.loop-hand.invariant.3) in
     works_ended g.D.Slot g.O.Origin.opening g.O.Origin.outset (g.A.Access.seen c.loop-hand.place) hand c.loop-hand.invariant.1 c.loop-hand.p
     (page_still g.O.Origin.opening g.O.Origin.outset c.args.hand hand c.loop-hand.invariant.2 c.args.p c.loop-hand.p c.loop-hand.invariant.3 c.requires.page) new
-    (subst (λ (q : ℕ). new.trail ≡ hand.trail ++ by hand.session (Destroy q ∷ [])) name c.enter.ensures) refl c.in-Ok.ensures.enters
+    (subst (λ (q : ℕ). new.trail ≡ hand.trail ++ by hand.session (Destroy q ∷ [])) name c.enter.ensures) refl refl c.in-Ok.ensures.enters
 
 pub returns-in-Ok-clause-did : goal.returns-in-Ok-clause-did
 returns-in-Ok-clause-did g c =
     let hand : Hand g.row.D.Denot = c.loop-hand.hand in
-    let new : Hand g.row.D.Denot = record { state = c.destroy_unpinned.new.self; trail = c.enter.new.trail; session = hand.session } in
+    let new : Hand g.row.D.Denot = record { state = c.destroy_unpinned.new.self; trail = c.enter.new.trail; counts = hand.counts; session = hand.session } in
     let name : c.name-page.result ≡ c.loop-hand.p.name = c.name-page.ensures ∙ ap (λ (q : PageToken). q.name) (sym c.loop-hand.invariant.3) in
     subst (λ (q : PageToken). DoesIn (λ events. events ≡ Destroy q.name ∷ []) c.args.hand new) c.loop-hand.invariant.3
     (then_did g.O.Origin.opening g.O.Origin.outset c.args.hand hand c.loop-hand.invariant.2 (Destroy c.loop-hand.p.name ∷ []) new
     (did_ended g.D.Slot g.O.Origin.opening g.O.Origin.outset (g.A.Access.seen c.loop-hand.place) hand c.loop-hand.invariant.1 c.loop-hand.p
     (page_still g.O.Origin.opening g.O.Origin.outset c.args.hand hand c.loop-hand.invariant.2 c.args.p c.loop-hand.p c.loop-hand.invariant.3 c.requires.page) new
-    (subst (λ (q : ℕ). new.trail ≡ hand.trail ++ by hand.session (Destroy q ∷ [])) name c.enter.ensures) refl c.in-Ok.ensures.enters))
+    (subst (λ (q : ℕ). new.trail ≡ hand.trail ++ by hand.session (Destroy q ∷ [])) name c.enter.ensures) refl refl c.in-Ok.ensures.enters))
 
 pub wait-hand-requires-clause-at_work : goal.wait-hand-requires-clause-at_work
 wait-hand-requires-clause-at_work g c =
@@ -51,7 +49,6 @@ loop-hand-preserved g c = (
   c.wait-hand.ensures.at_work,
   waits_more g.O.Origin.opening g.O.Origin.outset c.args.hand c.loop-hand.hand c.loop-hand.invariant.2 c.destroy_unpinned.new.self c.wait-hand.result c.wait-hand.ensures.waited,
   c.in-Err.ensures.back ∙ c.loop-hand.invariant.3,
-  λ alone. c.wait-hand.ensures.same alone ∙ ap (λ (v : Parts g.row.D.Denot). record c.loop-hand.hand { state = v }) c.in-Err.ensures.err ∙ c.loop-hand.invariant.4 alone,
 )
 
 pub loop-hand-smaller : goal.loop-hand-smaller
@@ -64,13 +61,3 @@ loop-hand-smaller g c =
     (g.met.A.Access.sole g.O.Origin.opening g.O.Origin.outset c.args.access.now c.loop-hand.place c.loop-hand.hand.session c.loop-hand.invariant.0 alone))
     (c.in-Err.ensures.refused.0 refl))
     c.again-left.ensures
-
-pub returns-in-Ok-clause-counts : goal.returns-in-Ok-clause-counts
-returns-in-Ok-clause-counts g c = λ alone.
-    let hand : Hand g.row.D.Denot = c.loop-hand.hand in
-    let new : Hand g.row.D.Denot = record { state = c.destroy_unpinned.new.self; trail = c.enter.new.trail; session = hand.session } in
-    let name : c.name-page.result ≡ c.loop-hand.p.name = c.name-page.ensures ∙ ap (λ (q : PageToken). q.name) (sym c.loop-hand.invariant.3) in
-    subst (λ (x : Hand g.row.D.Denot). CountsOn g.D.Slot x new) (c.loop-hand.invariant.4 alone)
-    (counts_ended g.D.Slot g.O.Origin.opening g.O.Origin.outset (g.A.Access.seen c.loop-hand.place) hand c.loop-hand.invariant.1 c.loop-hand.p
-    (page_still g.O.Origin.opening g.O.Origin.outset c.args.hand hand c.loop-hand.invariant.2 c.args.p c.loop-hand.p c.loop-hand.invariant.3 c.requires.page) new
-    (subst (λ (q : ℕ). new.trail ≡ hand.trail ++ by hand.session (Destroy q ∷ [])) name c.enter.ensures) refl c.in-Ok.ensures.enters)

@@ -1,16 +1,15 @@
-use Rattle.std.proofs.Common.{◌≡◌, [], true}
+use Rattle.std.proofs.Common.{◌≡◌, []}
 use Rattle.session_calls.specs.Having.{IsAtWork}
 use Rattle.session_calls.specs.Jobs.{DoesIn}
 use Rattle.session_calls.proofs.pinning.destroy_resting.Given as goal
 
--- the page is the same, and the session only waited, for which it needs others
+-- the page is the same, and the session only waited
 abbrev pub invariant-loop-hand : goal.invariant-loop-hand
 invariant-loop-hand g l =
     g.A.Access.turns g.O.Origin.opening g.O.Origin.outset l.access l.place l.hand.session
     × IsAtWork g.D.Slot g.O.Origin.opening g.O.Origin.outset (g.A.Access.seen l.place) l.hand
     × DoesIn (λ events. events ≡ []) l.fn.hand l.hand
     × (l.p ≡ l.fn.p)
-    × (g.A.Access.alone ≡ true → l.hand ≡ l.fn.hand)
 
 -- a session that is alone has no second round
 abbrev pub decreases-loop-hand : goal.decreases-loop-hand

@@ -1,4 +1,4 @@
-use Rattle.std.proofs.Common.{refl, sym, subst}
+use Rattle.std.proofs.Common.{sym, subst}
 use Rattle.pool_model.specs.declared.call.Call.TheVariants.{Pin}
 use Rattle.pool_model.specs.declared.event.Event.TheVariants.{Ask}
 use Rattle.store_api.specs.Holdings.{page_len}
@@ -6,8 +6,9 @@ use Rattle.pin_core.specs.StateOf.{state_of}
 use Rattle.session_calls.specs.Writing.{writes_left}
 use Rattle.session_calls.specs.Acting.{held_by}
 use Rattle.session_calls.proofs.Asked.{works_with, asked_first}
-use Rattle.session_calls.proofs.Costs.{costs_step, goes_down}
-use Rattle.session_calls.proofs.PinMade.{costs_turn, costs_refused, further_wrote, stays, can_now, asked_now, asks_more, asked_pin, shows_pin, may_refuse_lacking, was_lacking, was_unread}
+use Rattle.session_calls.proofs.Needs.{needs_step}
+use Rattle.session_calls.proofs.PinMade.{needs_turn, needs_refused, further_wrote, stays, can_now, asked_now, asks_more, asked_pin, shows_pin, may_refuse_lacking, was_lacking, was_unread}
+use Rattle.session_calls.proofs.Rounds.{goes_down}
 use Rattle.session_calls.proofs.pinning.pin.Goals as goal
 
 pub loop-buf-init : goal.loop-buf-init
@@ -15,7 +16,7 @@ loop-buf-init g c = (
   subst (g.A.Access.turns g.O.Origin.opening g.O.Origin.outset c.args.access.now c.args.place.now) (sym c.ask.ensures.acts.session) c.requires.turns,
   works_with g.D.Slot g.O.Origin.opening g.O.Origin.outset (g.A.Access.seen c.args.place.now) c.args.hand c.ask.new.self c.requires.at_work c.ask.ensures.acts c.ask.ensures.ready,
   asked_first g.O.Origin.opening g.O.Origin.outset c.args.p.now.client c.args.hand c.ask.new.self c.ask.ensures.acts,
-  costs_step g.D.Slot g.A.Access.alone c.args.p.now.client (page_len c.args.p.now.name (held_by g.O.Origin.opening g.O.Origin.outset c.args.hand)) g.O.Origin.opening g.O.Origin.outset c.args.hand c.ask.new.self c.requires.at_work.ready c.ask.ensures.ready Ask refl (λ s. tt) c.ask.ensures.acts,
+  needs_step c.args.p.now.client (page_len c.args.p.now.name (held_by g.O.Origin.opening g.O.Origin.outset c.args.hand)) g.D.Slot g.O.Origin.opening c.args.hand c.ask.new.self c.requires.at_work.ready.whole.stands c.ask.ensures.ready.whole.stands Ask (λ s. tt) c.ask.ensures.acts,
 )
 
 pub pin_step-now-requires-clause-can : goal.pin_step-now-requires-clause-can
@@ -54,26 +55,26 @@ loop-buf-preserved g c = (
   c.pin_step-now.ensures.turns,
   c.pin_step-now.ensures.at_work,
   asks_more g.D.Slot g.O.Origin.opening g.O.Origin.outset c.args.p.now c.args.hand c.loop-buf.hand c.loop-buf.invariant.2 c.loop-buf.invariant.1.ready c.requires.can c.pin_step-now.result.0 c.pin_step-now.result.1 c.pin_step-now.ensures.step c.in-Wrote.is,
-  costs_turn g.D.Slot g.O.Origin.opening g.O.Origin.outset c.args.p.now c.args.hand c.loop-buf.hand c.loop-buf.invariant.2 c.loop-buf.invariant.1.ready c.requires.can g.A.Access.alone c.pin_step-now.result.0 c.pin_step-now.result.1 c.loop-buf.invariant.3 c.pin_step-now.ensures.needed c.pin_step-now.ensures.alone,
+  needs_turn g.D.Slot g.O.Origin.opening g.O.Origin.outset c.args.p.now c.args.hand c.loop-buf.hand c.loop-buf.invariant.2 c.loop-buf.invariant.1.ready c.requires.can c.pin_step-now.result.0 c.loop-buf.invariant.3 c.pin_step-now.ensures.needed,
 )
 
 pub loop-buf-smaller : goal.loop-buf-smaller
 loop-buf-smaller g c =
     goes_down g.A.Access.alone (writes_left c.pin_step-now.result.0.session c.args.p.now.client (state_of c.pin_step-now.result.0.state)) (writes_left c.loop-buf.hand.session c.args.p.now.client (state_of c.loop-buf.hand.state)) c.again-left.result c.loop-buf.left
-    (λ alone. further_wrote c.args.p.now.client c.loop-buf.hand c.pin_step-now.result.0 c.pin_step-now.result.1 c.in-Wrote.is (c.pin_step-now.ensures.alone alone).further)
+    (λ alone. further_wrote c.args.p.now.client c.loop-buf.hand c.pin_step-now.result.0 c.pin_step-now.result.1 c.in-Wrote.is (c.pin_step-now.ensures.further alone))
     c.again-left.ensures
 
-pub returns-in-Pinned-clause-costs : goal.returns-in-Pinned-clause-costs
-returns-in-Pinned-clause-costs g c = costs_turn g.D.Slot g.O.Origin.opening g.O.Origin.outset c.args.p.now c.args.hand c.loop-buf.hand c.loop-buf.invariant.2 c.loop-buf.invariant.1.ready c.requires.can g.A.Access.alone c.pin_step-now.result.0 c.pin_step-now.result.1 c.loop-buf.invariant.3 c.pin_step-now.ensures.needed c.pin_step-now.ensures.alone
+pub returns-in-Pinned-clause-needed : goal.returns-in-Pinned-clause-needed
+returns-in-Pinned-clause-needed g c = needs_turn g.D.Slot g.O.Origin.opening g.O.Origin.outset c.args.p.now c.args.hand c.loop-buf.hand c.loop-buf.invariant.2 c.loop-buf.invariant.1.ready c.requires.can c.pin_step-now.result.0 c.loop-buf.invariant.3 c.pin_step-now.ensures.needed
 
-pub returns-in-Refused-clause-costs : goal.returns-in-Refused-clause-costs
-returns-in-Refused-clause-costs g c =
-    costs_refused g.D.Slot g.O.Origin.opening g.O.Origin.outset c.args.p.now c.args.hand c.loop-buf.hand c.loop-buf.invariant.2 c.loop-buf.invariant.1.ready c.requires.can g.A.Access.alone c.pin_step-now.result.0 c.pin_step-now.result.1 c.loop-buf.invariant.3 c.pin_step-now.ensures.needed c.pin_step-now.ensures.alone
+pub returns-in-Refused-clause-needed : goal.returns-in-Refused-clause-needed
+returns-in-Refused-clause-needed g c =
+    needs_refused g.D.Slot g.O.Origin.opening g.O.Origin.outset c.args.p.now c.args.hand c.loop-buf.hand c.loop-buf.invariant.2 c.loop-buf.invariant.1.ready c.requires.can c.pin_step-now.result.0 c.loop-buf.invariant.3 c.pin_step-now.ensures.needed
     c.pin_step-now.ensures.at_work.ready (stays g.D.Slot g.O.Origin.opening g.O.Origin.outset c.args.p.now c.args.hand c.loop-buf.hand c.loop-buf.invariant.2 c.loop-buf.invariant.1.ready c.requires.can c.pin_step-now.result.0 c.pin_step-now.result.1 c.pin_step-now.ensures.step)
     (Pin c.name.result) c.in-Refused.entry c.refuse.new.self c.refuse.ensures.acts c.refuse.ensures.ready
 
-pub returns-in-Failed-clause-costs : goal.returns-in-Failed-clause-costs
-returns-in-Failed-clause-costs g c =
-    costs_refused g.D.Slot g.O.Origin.opening g.O.Origin.outset c.args.p.now c.args.hand c.loop-buf.hand c.loop-buf.invariant.2 c.loop-buf.invariant.1.ready c.requires.can g.A.Access.alone c.pin_step-now.result.0 c.pin_step-now.result.1 c.loop-buf.invariant.3 c.pin_step-now.ensures.needed c.pin_step-now.ensures.alone
+pub returns-in-Failed-clause-needed : goal.returns-in-Failed-clause-needed
+returns-in-Failed-clause-needed g c =
+    needs_refused g.D.Slot g.O.Origin.opening g.O.Origin.outset c.args.p.now c.args.hand c.loop-buf.hand c.loop-buf.invariant.2 c.loop-buf.invariant.1.ready c.requires.can c.pin_step-now.result.0 c.loop-buf.invariant.3 c.pin_step-now.ensures.needed
     c.pin_step-now.ensures.at_work.ready (stays g.D.Slot g.O.Origin.opening g.O.Origin.outset c.args.p.now c.args.hand c.loop-buf.hand c.loop-buf.invariant.2 c.loop-buf.invariant.1.ready c.requires.can c.pin_step-now.result.0 c.pin_step-now.result.1 c.pin_step-now.ensures.step)
     (Pin c.name.result) c.in-Failed.entry c.refuse-in-Failed.new.self c.refuse-in-Failed.ensures.acts c.refuse-in-Failed.ensures.ready

@@ -6,7 +6,7 @@ use Rattle.session_calls.specs.Writing.{writes_left}
 use Rattle.session_calls.specs.Acting.{held_by}
 use Rattle.session_calls.specs.Having.{IsAtWork}
 use Rattle.session_calls.specs.Jobs.{DoesIn}
-use Rattle.session_calls.specs.Counting.{Costs}
+use Rattle.session_calls.specs.Needing.{EntersNeeded}
 use Rattle.session_calls.proofs.pinning.pin.Given as goal
 
 -- the call asked and wrote, as was needed
@@ -15,7 +15,7 @@ invariant-loop-buf g l =
     g.A.Access.turns g.O.Origin.opening g.O.Origin.outset l.access l.place l.hand.session
     × IsAtWork g.D.Slot g.O.Origin.opening g.O.Origin.outset (g.A.Access.seen l.place) l.hand
     × DoesIn (IsAsked l.p.client (held_by g.O.Origin.opening g.O.Origin.outset l.fn.hand) []) l.fn.hand l.hand
-    × Costs g.D.Slot g.A.Access.alone l.p.client (page_len l.p.name (held_by g.O.Origin.opening g.O.Origin.outset l.fn.hand)) l.fn.hand l.hand
+    × EntersNeeded l.p.client (page_len l.p.name (held_by g.O.Origin.opening g.O.Origin.outset l.fn.hand)) l.fn.hand l.hand
 
 -- where the session is alone each write leaves one less, or is the last
 abbrev pub decreases-loop-buf : goal.decreases-loop-buf

@@ -6,14 +6,13 @@ use Rattle.pin_core.specs.declared.parts.Parts.{Parts}
 use Rattle.session_calls.specs.declared.hand.Hand.{Hand}
 use Rattle.session_calls.specs.Acting.{held_by}
 use Rattle.session_calls.proofs.Alone.{all_worked}
-use Rattle.session_calls.proofs.Counts.{counts_refl}
 use Rattle.session_calls.proofs.Did.{did_so}
 use Rattle.session_calls.proofs.Ending.{same_works}
-use Rattle.session_calls.proofs.Pinned.{can_pin, client_lives, shows_here, works_here, did_here, needed_here, counts_here, lacks_here, starts_here, waited_here, waits_never}
+use Rattle.session_calls.proofs.Pinned.{can_pin, client_lives, shows_here, works_here, did_here, needed_here, lacks_here, starts_here, waited_here, waits_never}
 use Rattle.session_calls.proofs.Needed.{needs_none}
 use Rattle.session_calls.proofs.Needs.{needs_waited}
-use Rattle.session_calls.proofs.Fetched.{can_read, may_load_it, counts_fetched, did_read, needed_read, works_read, shows_read, did_unread, needed_unread, works_unread, failed_pin}
-use Rattle.session_calls.proofs.Turned.{can_write, may_write, wrote_one, works_on, needed_out, counts_turn, left_turn}
+use Rattle.session_calls.proofs.Fetched.{can_read, may_load_it, did_read, needed_read, works_read, shows_read, did_unread, needed_unread, works_unread, failed_pin}
+use Rattle.session_calls.proofs.Turned.{can_write, may_write, wrote_one, works_on, needed_out, left_turn}
 use Rattle.session_calls.proofs.pinning.step.Goals as goal
 
 pub pin_turn-requires : goal.pin_turn-requires
@@ -22,51 +21,51 @@ pin_turn-requires g c = record { can = can_pin g.D.Slot g.O.Origin.opening g.O.O
 pub returns-in-Here-clause-at_work : goal.returns-in-Here-clause-at_work
 returns-in-Here-clause-at_work g c =
     let hand : Hand g.row.D.Denot = c.args.hand in
-    let new : Hand g.row.D.Denot = record { state = c.pin_turn.new.self; trail = c.enter.new.trail; session = hand.session } in
+    let new : Hand g.row.D.Denot = record { state = c.pin_turn.new.self; trail = c.enter.new.trail; counts = hand.counts; session = hand.session } in
     let entered : new.trail ≡ hand.trail ++ by hand.session (PinHere c.args.p.now.name ∷ []) = subst (λ (p : ℕ). new.trail ≡ hand.trail ++ by hand.session (PinHere p ∷ [])) c.name-page.ensures c.enter.ensures in
-    works_here g.D.Slot g.O.Origin.opening g.O.Origin.outset (g.A.Access.seen c.args.place.now) hand c.requires.at_work c.args.p.now c.requires.can new entered refl c.in-Here.ensures.enters
+    works_here g.D.Slot g.O.Origin.opening g.O.Origin.outset (g.A.Access.seen c.args.place.now) hand c.requires.at_work c.args.p.now c.requires.can new entered refl refl c.in-Here.ensures.enters
 
 pub returns-in-Here-clause-step : goal.returns-in-Here-clause-step
 returns-in-Here-clause-step g c =
     let hand : Hand g.row.D.Denot = c.args.hand in
-    let new : Hand g.row.D.Denot = record { state = c.pin_turn.new.self; trail = c.enter.new.trail; session = hand.session } in
+    let new : Hand g.row.D.Denot = record { state = c.pin_turn.new.self; trail = c.enter.new.trail; counts = hand.counts; session = hand.session } in
     let entered : new.trail ≡ hand.trail ++ by hand.session (PinHere c.args.p.now.name ∷ []) = subst (λ (p : ℕ). new.trail ≡ hand.trail ++ by hand.session (PinHere p ∷ [])) c.name-page.ensures c.enter.ensures in (
-      did_here g.D.Slot g.O.Origin.opening g.O.Origin.outset (g.A.Access.seen c.args.place.now) hand c.requires.at_work c.args.p.now c.requires.can new entered refl c.in-Here.ensures.enters,
+      did_here g.D.Slot g.O.Origin.opening g.O.Origin.outset (g.A.Access.seen c.args.place.now) hand c.requires.at_work c.args.p.now c.requires.can new entered refl refl c.in-Here.ensures.enters,
       shows_here g.D.Slot g.O.Origin.opening g.O.Origin.outset (g.A.Access.seen c.args.place.now) hand c.requires.at_work c.args.p.now c.requires.can c.in-Here.buf c.in-Here.ensures.turn.1,
     )
 
 pub read_back-hand-requires-clause-may : goal.read_back-hand-requires-clause-may
 read_back-hand-requires-clause-may g c =
-    let went : Hand g.row.D.Denot = record { state = c.pin_turn.new.self; trail = c.enter_named.new.trail; session = c.args.hand.session } in
-    may_load_it g.D.Slot g.O.Origin.opening g.O.Origin.outset (g.A.Access.seen c.args.place.now) c.args.hand c.requires.at_work c.args.p.now c.requires.can c.in-Load.job went c.in-Load.ensures.turn.2 c.in-Load.ensures.enters g.G.Adds.entries c.requires.named c.enter_named.ensures refl
+    let went : Hand g.row.D.Denot = record { state = c.pin_turn.new.self; trail = c.enter_named.new.trail; counts = c.count_read.new.counts; session = c.args.hand.session } in
+    may_load_it g.D.Slot g.O.Origin.opening g.O.Origin.outset (g.A.Access.seen c.args.place.now) c.args.hand c.requires.at_work c.args.p.now c.requires.can c.in-Load.job went c.in-Load.ensures.turn.2 c.in-Load.ensures.enters g.G.Adds.entries c.requires.named c.enter_named.ensures c.count_read.ensures refl
 
 pub read_back-hand-requires-clause-can : goal.read_back-hand-requires-clause-can
 read_back-hand-requires-clause-can g c =
-    let went : Hand g.row.D.Denot = record { state = c.pin_turn.new.self; trail = c.enter_named.new.trail; session = c.args.hand.session } in
-    can_read g.D.Slot g.O.Origin.opening g.O.Origin.outset (g.A.Access.seen c.args.place.now) c.args.hand c.requires.at_work c.args.p.now c.requires.can c.in-Load.job went c.in-Load.ensures.turn.2 c.in-Load.ensures.enters g.G.Adds.entries c.requires.named c.enter_named.ensures refl
+    let went : Hand g.row.D.Denot = record { state = c.pin_turn.new.self; trail = c.enter_named.new.trail; counts = c.count_read.new.counts; session = c.args.hand.session } in
+    can_read g.D.Slot g.O.Origin.opening g.O.Origin.outset (g.A.Access.seen c.args.place.now) c.args.hand c.requires.at_work c.args.p.now c.requires.can c.in-Load.job went c.in-Load.ensures.turn.2 c.in-Load.ensures.enters g.G.Adds.entries c.requires.named c.enter_named.ensures c.count_read.ensures refl
 
 pub returns-in-Ok-clause-at_work : goal.returns-in-Ok-clause-at_work
 returns-in-Ok-clause-at_work g c =
-    let went : Hand g.row.D.Denot = record { state = c.pin_turn.new.self; trail = c.enter_named.new.trail; session = c.args.hand.session } in
-    works_read g.D.Slot g.O.Origin.opening g.O.Origin.outset (g.A.Access.seen c.args.place.now) c.args.hand c.requires.at_work c.args.p.now c.requires.can c.in-Load.job went c.in-Load.ensures.turn.2 c.in-Load.ensures.enters g.G.Adds.entries c.requires.named c.enter_named.ensures refl (g.A.Access.seen c.read_back-hand.new.place) c.read_back-hand.result.0 c.read_back-hand.ensures.may c.read_back-hand.result.1 c.read_back-hand.ensures.ok c.in-Ok.buf c.in-Ok.is
+    let went : Hand g.row.D.Denot = record { state = c.pin_turn.new.self; trail = c.enter_named.new.trail; counts = c.count_read.new.counts; session = c.args.hand.session } in
+    works_read g.D.Slot g.O.Origin.opening g.O.Origin.outset (g.A.Access.seen c.args.place.now) c.args.hand c.requires.at_work c.args.p.now c.requires.can c.in-Load.job went c.in-Load.ensures.turn.2 c.in-Load.ensures.enters g.G.Adds.entries c.requires.named c.enter_named.ensures c.count_read.ensures refl (g.A.Access.seen c.read_back-hand.new.place) c.read_back-hand.result.0 c.read_back-hand.ensures.may c.read_back-hand.result.1 c.read_back-hand.ensures.ok c.in-Ok.buf c.in-Ok.is
 
 pub returns-in-Ok-clause-step : goal.returns-in-Ok-clause-step
 returns-in-Ok-clause-step g c =
-    let went : Hand g.row.D.Denot = record { state = c.pin_turn.new.self; trail = c.enter_named.new.trail; session = c.args.hand.session } in (
-      did_read g.D.Slot g.O.Origin.opening g.O.Origin.outset (g.A.Access.seen c.args.place.now) c.args.hand c.requires.at_work c.args.p.now c.requires.can c.in-Load.job went c.in-Load.ensures.turn.2 c.in-Load.ensures.enters g.G.Adds.entries c.requires.named c.enter_named.ensures refl (g.A.Access.seen c.read_back-hand.new.place) c.read_back-hand.result.0 c.read_back-hand.ensures.may c.read_back-hand.result.1 c.read_back-hand.ensures.ok c.in-Ok.buf c.in-Ok.is,
-      shows_read g.D.Slot g.O.Origin.opening g.O.Origin.outset (g.A.Access.seen c.args.place.now) c.args.hand c.requires.at_work c.args.p.now c.requires.can c.in-Load.job went c.in-Load.ensures.turn.2 c.in-Load.ensures.enters g.G.Adds.entries c.requires.named c.enter_named.ensures refl (g.A.Access.seen c.read_back-hand.new.place) c.read_back-hand.result.0 c.read_back-hand.ensures.may c.read_back-hand.result.1 c.read_back-hand.ensures.ok c.in-Ok.buf c.in-Ok.is,
+    let went : Hand g.row.D.Denot = record { state = c.pin_turn.new.self; trail = c.enter_named.new.trail; counts = c.count_read.new.counts; session = c.args.hand.session } in (
+      did_read g.D.Slot g.O.Origin.opening g.O.Origin.outset (g.A.Access.seen c.args.place.now) c.args.hand c.requires.at_work c.args.p.now c.requires.can c.in-Load.job went c.in-Load.ensures.turn.2 c.in-Load.ensures.enters g.G.Adds.entries c.requires.named c.enter_named.ensures c.count_read.ensures refl (g.A.Access.seen c.read_back-hand.new.place) c.read_back-hand.result.0 c.read_back-hand.ensures.may c.read_back-hand.result.1 c.read_back-hand.ensures.ok c.in-Ok.buf c.in-Ok.is,
+      shows_read g.D.Slot g.O.Origin.opening g.O.Origin.outset (g.A.Access.seen c.args.place.now) c.args.hand c.requires.at_work c.args.p.now c.requires.can c.in-Load.job went c.in-Load.ensures.turn.2 c.in-Load.ensures.enters g.G.Adds.entries c.requires.named c.enter_named.ensures c.count_read.ensures refl (g.A.Access.seen c.read_back-hand.new.place) c.read_back-hand.result.0 c.read_back-hand.ensures.may c.read_back-hand.result.1 c.read_back-hand.ensures.ok c.in-Ok.buf c.in-Ok.is,
     )
 
 pub returns-in-ReadFault-clause-at_work : goal.returns-in-ReadFault-clause-at_work
 returns-in-ReadFault-clause-at_work g c =
-    let went : Hand g.row.D.Denot = record { state = c.pin_turn.new.self; trail = c.enter_named.new.trail; session = c.args.hand.session } in
-    works_unread g.D.Slot g.O.Origin.opening g.O.Origin.outset (g.A.Access.seen c.args.place.now) c.args.hand c.requires.at_work c.args.p.now c.requires.can c.in-Load.job went c.in-Load.ensures.turn.2 c.in-Load.ensures.enters g.G.Adds.entries c.requires.named c.enter_named.ensures refl (g.A.Access.seen c.read_back-hand.new.place) c.read_back-hand.result.0 c.read_back-hand.ensures.may c.read_back-hand.result.1 c.read_back-hand.ensures.err c.in-Err.e c.in-Err.is
+    let went : Hand g.row.D.Denot = record { state = c.pin_turn.new.self; trail = c.enter_named.new.trail; counts = c.count_read.new.counts; session = c.args.hand.session } in
+    works_unread g.D.Slot g.O.Origin.opening g.O.Origin.outset (g.A.Access.seen c.args.place.now) c.args.hand c.requires.at_work c.args.p.now c.requires.can c.in-Load.job went c.in-Load.ensures.turn.2 c.in-Load.ensures.enters g.G.Adds.entries c.requires.named c.enter_named.ensures c.count_read.ensures refl (g.A.Access.seen c.read_back-hand.new.place) c.read_back-hand.result.0 c.read_back-hand.ensures.may c.read_back-hand.result.1 c.read_back-hand.ensures.err c.in-Err.e c.in-Err.is
 
 pub returns-in-ReadFault-clause-step : goal.returns-in-ReadFault-clause-step
 returns-in-ReadFault-clause-step g c =
-    let went : Hand g.row.D.Denot = record { state = c.pin_turn.new.self; trail = c.enter_named.new.trail; session = c.args.hand.session } in (
-      failed_pin g.D.Slot g.O.Origin.opening g.O.Origin.outset (g.A.Access.seen c.args.place.now) c.args.hand c.requires.at_work c.args.p.now c.requires.can c.in-Load.job went c.in-Load.ensures.turn.2 c.in-Load.ensures.enters g.G.Adds.entries c.requires.named c.enter_named.ensures refl (g.A.Access.seen c.read_back-hand.new.place) c.read_back-hand.result.0 c.read_back-hand.ensures.may c.read_back-hand.result.1 c.read_back-hand.ensures.err c.in-Err.e c.in-Err.is c.in-ReadFault.entry c.in-ReadFault.is c.requires.asked,
-      did_unread g.D.Slot g.O.Origin.opening g.O.Origin.outset (g.A.Access.seen c.args.place.now) c.args.hand c.requires.at_work c.args.p.now c.requires.can c.in-Load.job went c.in-Load.ensures.turn.2 c.in-Load.ensures.enters g.G.Adds.entries c.requires.named c.enter_named.ensures refl (g.A.Access.seen c.read_back-hand.new.place) c.read_back-hand.result.0 c.read_back-hand.ensures.may c.read_back-hand.result.1 c.read_back-hand.ensures.err c.in-Err.e c.in-Err.is,
+    let went : Hand g.row.D.Denot = record { state = c.pin_turn.new.self; trail = c.enter_named.new.trail; counts = c.count_read.new.counts; session = c.args.hand.session } in (
+      failed_pin g.D.Slot g.O.Origin.opening g.O.Origin.outset (g.A.Access.seen c.args.place.now) c.args.hand c.requires.at_work c.args.p.now c.requires.can c.in-Load.job went c.in-Load.ensures.turn.2 c.in-Load.ensures.enters g.G.Adds.entries c.requires.named c.enter_named.ensures c.count_read.ensures refl (g.A.Access.seen c.read_back-hand.new.place) c.read_back-hand.result.0 c.read_back-hand.ensures.may c.read_back-hand.result.1 c.read_back-hand.ensures.err c.in-Err.e c.in-Err.is c.in-ReadFault.entry c.in-ReadFault.is c.requires.asked,
+      did_unread g.D.Slot g.O.Origin.opening g.O.Origin.outset (g.A.Access.seen c.args.place.now) c.args.hand c.requires.at_work c.args.p.now c.requires.can c.in-Load.job went c.in-Load.ensures.turn.2 c.in-Load.ensures.enters g.G.Adds.entries c.requires.named c.enter_named.ensures c.count_read.ensures refl (g.A.Access.seen c.read_back-hand.new.place) c.read_back-hand.result.0 c.read_back-hand.ensures.may c.read_back-hand.result.1 c.read_back-hand.ensures.err c.in-Err.e c.in-Err.is,
     )
 
 pub returns-in-Refused-clause-at_work : goal.returns-in-Refused-clause-at_work
@@ -77,35 +76,35 @@ returns-in-Refused-clause-step g c = (c.in-Refused.ensures.turn.0, ap (λ (v : P
 
 pub write_out-requires-clause-may : goal.write_out-requires-clause-may
 write_out-requires-clause-may g c =
-    let went : Hand g.row.D.Denot = record { state = c.pin_turn.new.self; trail = c.enter_started.new.trail; session = c.args.hand.session } in
+    let went : Hand g.row.D.Denot = record { state = c.pin_turn.new.self; trail = c.enter_started.new.trail; counts = c.count_write.new.counts; session = c.args.hand.session } in
     may_write g.D.Slot g.O.Origin.opening g.O.Origin.outset (g.A.Access.seen c.args.place.now) c.args.hand c.requires.at_work c.args.p.now.client
     (client_lives g.D.Slot g.O.Origin.opening g.O.Origin.outset (g.A.Access.seen c.args.place.now) c.args.hand c.requires.at_work c.args.p.now c.requires.can) c.in-Write.job went
     (starts_here g.D.Slot g.O.Origin.opening g.O.Origin.outset (g.A.Access.seen c.args.place.now) c.args.hand c.requires.at_work c.args.p.now c.requires.can c.in-Write.job c.pin_turn.new.self c.in-Write.ensures.turn.1)
-    c.in-Write.ensures.enters c.enter_started.ensures refl
+    c.in-Write.ensures.enters c.enter_started.ensures c.count_write.ensures refl
 
 pub write_out-requires-clause-can : goal.write_out-requires-clause-can
 write_out-requires-clause-can g c =
-    let went : Hand g.row.D.Denot = record { state = c.pin_turn.new.self; trail = c.enter_started.new.trail; session = c.args.hand.session } in
+    let went : Hand g.row.D.Denot = record { state = c.pin_turn.new.self; trail = c.enter_started.new.trail; counts = c.count_write.new.counts; session = c.args.hand.session } in
     can_write g.D.Slot g.O.Origin.opening g.O.Origin.outset (g.A.Access.seen c.args.place.now) c.args.hand c.requires.at_work c.args.p.now.client
     (client_lives g.D.Slot g.O.Origin.opening g.O.Origin.outset (g.A.Access.seen c.args.place.now) c.args.hand c.requires.at_work c.args.p.now c.requires.can) c.in-Write.job went
     (starts_here g.D.Slot g.O.Origin.opening g.O.Origin.outset (g.A.Access.seen c.args.place.now) c.args.hand c.requires.at_work c.args.p.now c.requires.can c.in-Write.job c.pin_turn.new.self c.in-Write.ensures.turn.1)
-    c.in-Write.ensures.enters c.enter_started.ensures refl
+    c.in-Write.ensures.enters c.enter_started.ensures c.count_write.ensures refl
 
 pub returns-in-Write-clause-at_work : goal.returns-in-Write-clause-at_work
 returns-in-Write-clause-at_work g c =
-    let went : Hand g.row.D.Denot = record { state = c.pin_turn.new.self; trail = c.enter_started.new.trail; session = c.args.hand.session } in
+    let went : Hand g.row.D.Denot = record { state = c.pin_turn.new.self; trail = c.enter_started.new.trail; counts = c.count_write.new.counts; session = c.args.hand.session } in
     works_on g.D.Slot g.O.Origin.opening g.O.Origin.outset (g.A.Access.seen c.args.place.now) c.args.hand c.requires.at_work c.args.p.now.client
     (client_lives g.D.Slot g.O.Origin.opening g.O.Origin.outset (g.A.Access.seen c.args.place.now) c.args.hand c.requires.at_work c.args.p.now c.requires.can) c.in-Write.job went
     (starts_here g.D.Slot g.O.Origin.opening g.O.Origin.outset (g.A.Access.seen c.args.place.now) c.args.hand c.requires.at_work c.args.p.now c.requires.can c.in-Write.job c.pin_turn.new.self c.in-Write.ensures.turn.1)
-    c.in-Write.ensures.enters c.enter_started.ensures refl (g.A.Access.seen c.write_out.new.place) c.write_out.result c.write_out.ensures.may c.write_out.ensures.wrote
+    c.in-Write.ensures.enters c.enter_started.ensures c.count_write.ensures refl (g.A.Access.seen c.write_out.new.place) c.write_out.result c.write_out.ensures.may c.write_out.ensures.wrote
 
 pub returns-in-Write-clause-step : goal.returns-in-Write-clause-step
 returns-in-Write-clause-step g c =
-    let went : Hand g.row.D.Denot = record { state = c.pin_turn.new.self; trail = c.enter_started.new.trail; session = c.args.hand.session } in
+    let went : Hand g.row.D.Denot = record { state = c.pin_turn.new.self; trail = c.enter_started.new.trail; counts = c.count_write.new.counts; session = c.args.hand.session } in
     let wrote = wrote_one g.D.Slot g.O.Origin.opening g.O.Origin.outset (g.A.Access.seen c.args.place.now) c.args.hand c.requires.at_work c.args.p.now.client
     (client_lives g.D.Slot g.O.Origin.opening g.O.Origin.outset (g.A.Access.seen c.args.place.now) c.args.hand c.requires.at_work c.args.p.now c.requires.can) c.in-Write.job went
     (starts_here g.D.Slot g.O.Origin.opening g.O.Origin.outset (g.A.Access.seen c.args.place.now) c.args.hand c.requires.at_work c.args.p.now c.requires.can c.in-Write.job c.pin_turn.new.self c.in-Write.ensures.turn.1)
-    c.in-Write.ensures.enters c.enter_started.ensures refl (g.A.Access.seen c.write_out.new.place) c.write_out.result c.write_out.ensures.may c.write_out.ensures.wrote in
+    c.in-Write.ensures.enters c.enter_started.ensures c.count_write.ensures refl (g.A.Access.seen c.write_out.new.place) c.write_out.result c.write_out.ensures.may c.write_out.ensures.wrote in
     did_so c.args.hand c.write_out.result wrote (inr wrote.does.is)
 
 pub wait-requires-clause-at_work : goal.wait-requires-clause-at_work
@@ -117,81 +116,64 @@ returns-in-Wait-clause-step g c = waited_here c.args.hand c.wait.result c.pin_tu
 pub returns-in-Here-clause-needed : goal.returns-in-Here-clause-needed
 returns-in-Here-clause-needed g c =
     let hand : Hand g.row.D.Denot = c.args.hand in
-    let new : Hand g.row.D.Denot = record { state = c.pin_turn.new.self; trail = c.enter.new.trail; session = hand.session } in
+    let new : Hand g.row.D.Denot = record { state = c.pin_turn.new.self; trail = c.enter.new.trail; counts = hand.counts; session = hand.session } in
     let entered : new.trail ≡ hand.trail ++ by hand.session (PinHere c.args.p.now.name ∷ []) = subst (λ (p : ℕ). new.trail ≡ hand.trail ++ by hand.session (PinHere p ∷ [])) c.name-page.ensures c.enter.ensures in
-    needed_here g.D.Slot g.O.Origin.opening g.O.Origin.outset (g.A.Access.seen c.args.place.now) hand c.requires.at_work c.args.p.now c.requires.can new entered refl c.in-Here.ensures.enters
+    needed_here g.D.Slot g.O.Origin.opening g.O.Origin.outset (g.A.Access.seen c.args.place.now) hand c.requires.at_work c.args.p.now c.requires.can new entered refl refl c.in-Here.ensures.enters
 
-pub returns-in-Here-clause-alone : goal.returns-in-Here-clause-alone
-returns-in-Here-clause-alone g c = λ alone.
-    let hand : Hand g.row.D.Denot = c.args.hand in
-    let new : Hand g.row.D.Denot = record { state = c.pin_turn.new.self; trail = c.enter.new.trail; session = hand.session } in
-    let entered : new.trail ≡ hand.trail ++ by hand.session (PinHere c.args.p.now.name ∷ []) = subst (λ (p : ℕ). new.trail ≡ hand.trail ++ by hand.session (PinHere p ∷ [])) c.name-page.ensures c.enter.ensures in
-    record { counts = counts_here g.D.Slot g.O.Origin.opening g.O.Origin.outset (g.A.Access.seen c.args.place.now) hand c.requires.at_work c.args.p.now c.requires.can new entered refl c.in-Here.ensures.enters; further = tt }
+pub returns-in-Here-clause-further : goal.returns-in-Here-clause-further
+returns-in-Here-clause-further g c = λ alone. tt
 
 pub returns-in-Ok-clause-needed : goal.returns-in-Ok-clause-needed
 returns-in-Ok-clause-needed g c =
-    let went : Hand g.row.D.Denot = record { state = c.pin_turn.new.self; trail = c.enter_named.new.trail; session = c.args.hand.session } in
-    needed_read g.D.Slot g.O.Origin.opening g.O.Origin.outset (g.A.Access.seen c.args.place.now) c.args.hand c.requires.at_work c.args.p.now c.requires.can c.in-Load.job went c.in-Load.ensures.turn.2 c.in-Load.ensures.enters g.G.Adds.entries c.requires.named c.enter_named.ensures refl (g.A.Access.seen c.read_back-hand.new.place) c.read_back-hand.result.0 c.read_back-hand.ensures.may c.read_back-hand.result.1 c.read_back-hand.ensures.ok c.in-Ok.buf c.in-Ok.is
+    let went : Hand g.row.D.Denot = record { state = c.pin_turn.new.self; trail = c.enter_named.new.trail; counts = c.count_read.new.counts; session = c.args.hand.session } in
+    needed_read g.D.Slot g.O.Origin.opening g.O.Origin.outset (g.A.Access.seen c.args.place.now) c.args.hand c.requires.at_work c.args.p.now c.requires.can c.in-Load.job went c.in-Load.ensures.turn.2 c.in-Load.ensures.enters g.G.Adds.entries c.requires.named c.enter_named.ensures c.count_read.ensures refl (g.A.Access.seen c.read_back-hand.new.place) c.read_back-hand.result.0 c.read_back-hand.ensures.may c.read_back-hand.result.1 c.read_back-hand.ensures.ok c.in-Ok.buf c.in-Ok.is
 
-pub returns-in-Ok-clause-alone : goal.returns-in-Ok-clause-alone
-returns-in-Ok-clause-alone g c = λ alone.
-    let went : Hand g.row.D.Denot = record { state = c.pin_turn.new.self; trail = c.enter_named.new.trail; session = c.args.hand.session } in
-    record { counts = counts_fetched g.D.Slot g.O.Origin.opening g.O.Origin.outset (g.A.Access.seen c.args.place.now) c.args.hand c.requires.at_work c.args.p.now c.requires.can c.in-Load.job went c.in-Load.ensures.turn.2 c.in-Load.ensures.enters g.G.Adds.entries c.requires.named c.enter_named.ensures refl (g.A.Access.seen c.read_back-hand.new.place) c.read_back-hand.result.0 c.read_back-hand.ensures.may (c.read_back-hand.ensures.counts alone); further = tt }
+pub returns-in-Ok-clause-further : goal.returns-in-Ok-clause-further
+returns-in-Ok-clause-further g c = λ alone. tt
 
 pub returns-in-ReadFault-clause-needed : goal.returns-in-ReadFault-clause-needed
 returns-in-ReadFault-clause-needed g c =
-    let went : Hand g.row.D.Denot = record { state = c.pin_turn.new.self; trail = c.enter_named.new.trail; session = c.args.hand.session } in
-    needed_unread g.D.Slot g.O.Origin.opening g.O.Origin.outset (g.A.Access.seen c.args.place.now) c.args.hand c.requires.at_work c.args.p.now c.requires.can c.in-Load.job went c.in-Load.ensures.turn.2 c.in-Load.ensures.enters g.G.Adds.entries c.requires.named c.enter_named.ensures refl (g.A.Access.seen c.read_back-hand.new.place) c.read_back-hand.result.0 c.read_back-hand.ensures.may c.read_back-hand.result.1 c.read_back-hand.ensures.err c.in-Err.e c.in-Err.is
+    let went : Hand g.row.D.Denot = record { state = c.pin_turn.new.self; trail = c.enter_named.new.trail; counts = c.count_read.new.counts; session = c.args.hand.session } in
+    needed_unread g.D.Slot g.O.Origin.opening g.O.Origin.outset (g.A.Access.seen c.args.place.now) c.args.hand c.requires.at_work c.args.p.now c.requires.can c.in-Load.job went c.in-Load.ensures.turn.2 c.in-Load.ensures.enters g.G.Adds.entries c.requires.named c.enter_named.ensures c.count_read.ensures refl (g.A.Access.seen c.read_back-hand.new.place) c.read_back-hand.result.0 c.read_back-hand.ensures.may c.read_back-hand.result.1 c.read_back-hand.ensures.err c.in-Err.e c.in-Err.is
 
-pub returns-in-ReadFault-clause-alone : goal.returns-in-ReadFault-clause-alone
-returns-in-ReadFault-clause-alone g c = λ alone.
-    let went : Hand g.row.D.Denot = record { state = c.pin_turn.new.self; trail = c.enter_named.new.trail; session = c.args.hand.session } in
-    record { counts = counts_fetched g.D.Slot g.O.Origin.opening g.O.Origin.outset (g.A.Access.seen c.args.place.now) c.args.hand c.requires.at_work c.args.p.now c.requires.can c.in-Load.job went c.in-Load.ensures.turn.2 c.in-Load.ensures.enters g.G.Adds.entries c.requires.named c.enter_named.ensures refl (g.A.Access.seen c.read_back-hand.new.place) c.read_back-hand.result.0 c.read_back-hand.ensures.may (c.read_back-hand.ensures.counts alone); further = tt }
+pub returns-in-ReadFault-clause-further : goal.returns-in-ReadFault-clause-further
+returns-in-ReadFault-clause-further g c = λ alone. tt
 
 pub returns-in-Refused-clause-needed : goal.returns-in-Refused-clause-needed
 returns-in-Refused-clause-needed g c =
     needs_none c.args.p.now.client (page_len c.args.p.now.name (held_by g.O.Origin.opening g.O.Origin.outset c.args.hand)) c.args.hand (record c.args.hand { state = c.pin_turn.new.self })
     (ap (λ (v : Parts g.row.D.Denot). record c.args.hand { state = v }) c.in-Refused.ensures.turn.1)
 
-pub returns-in-Refused-clause-alone : goal.returns-in-Refused-clause-alone
-returns-in-Refused-clause-alone g c = λ alone.
-    record { counts = counts_refl g.D.Slot c.args.hand (record c.args.hand { state = c.pin_turn.new.self }) (ap (λ (v : Parts g.row.D.Denot). record c.args.hand { state = v }) c.in-Refused.ensures.turn.1); further = tt }
+pub returns-in-Refused-clause-further : goal.returns-in-Refused-clause-further
+returns-in-Refused-clause-further g c = λ alone. tt
 
 pub returns-in-Write-clause-needed : goal.returns-in-Write-clause-needed
 returns-in-Write-clause-needed g c =
-    let went : Hand g.row.D.Denot = record { state = c.pin_turn.new.self; trail = c.enter_started.new.trail; session = c.args.hand.session } in
+    let went : Hand g.row.D.Denot = record { state = c.pin_turn.new.self; trail = c.enter_started.new.trail; counts = c.count_write.new.counts; session = c.args.hand.session } in
     needed_out g.D.Slot g.O.Origin.opening g.O.Origin.outset (g.A.Access.seen c.args.place.now) c.args.hand c.requires.at_work c.args.p.now.client
     (client_lives g.D.Slot g.O.Origin.opening g.O.Origin.outset (g.A.Access.seen c.args.place.now) c.args.hand c.requires.at_work c.args.p.now c.requires.can) c.in-Write.job went
     (starts_here g.D.Slot g.O.Origin.opening g.O.Origin.outset (g.A.Access.seen c.args.place.now) c.args.hand c.requires.at_work c.args.p.now c.requires.can c.in-Write.job c.pin_turn.new.self c.in-Write.ensures.turn.1)
-    c.in-Write.ensures.enters c.enter_started.ensures refl (g.A.Access.seen c.write_out.new.place) c.write_out.result c.write_out.ensures.may c.write_out.ensures.wrote
+    c.in-Write.ensures.enters c.enter_started.ensures c.count_write.ensures refl (g.A.Access.seen c.write_out.new.place) c.write_out.result c.write_out.ensures.may c.write_out.ensures.wrote
     (page_len c.args.p.now.name (held_by g.O.Origin.opening g.O.Origin.outset c.args.hand)) (lacks_here g.D.Slot g.O.Origin.opening g.O.Origin.outset (g.A.Access.seen c.args.place.now) c.args.hand c.requires.at_work c.args.p.now c.requires.can None c.in-Write.ensures.turn.0).full
 
-pub returns-in-Write-clause-alone : goal.returns-in-Write-clause-alone
-returns-in-Write-clause-alone g c = λ alone.
-    let went : Hand g.row.D.Denot = record { state = c.pin_turn.new.self; trail = c.enter_started.new.trail; session = c.args.hand.session } in
-    record {
-      counts =
-          counts_turn g.D.Slot g.O.Origin.opening g.O.Origin.outset (g.A.Access.seen c.args.place.now) c.args.hand c.requires.at_work c.args.p.now.client
-          (client_lives g.D.Slot g.O.Origin.opening g.O.Origin.outset (g.A.Access.seen c.args.place.now) c.args.hand c.requires.at_work c.args.p.now c.requires.can) c.in-Write.job went
-          (starts_here g.D.Slot g.O.Origin.opening g.O.Origin.outset (g.A.Access.seen c.args.place.now) c.args.hand c.requires.at_work c.args.p.now c.requires.can c.in-Write.job c.pin_turn.new.self c.in-Write.ensures.turn.1)
-          c.in-Write.ensures.enters c.enter_started.ensures refl (g.A.Access.seen c.write_out.new.place) c.write_out.result c.write_out.ensures.may c.write_out.ensures.wrote (c.write_out.ensures.counts alone);
-      further =
-          left_turn g.D.Slot g.O.Origin.opening g.O.Origin.outset (g.A.Access.seen c.args.place.now) c.args.hand c.requires.at_work c.args.p.now.client
-          (client_lives g.D.Slot g.O.Origin.opening g.O.Origin.outset (g.A.Access.seen c.args.place.now) c.args.hand c.requires.at_work c.args.p.now c.requires.can) c.in-Write.job went
-          (starts_here g.D.Slot g.O.Origin.opening g.O.Origin.outset (g.A.Access.seen c.args.place.now) c.args.hand c.requires.at_work c.args.p.now c.requires.can c.in-Write.job c.pin_turn.new.self c.in-Write.ensures.turn.1)
-          c.in-Write.ensures.enters c.enter_started.ensures refl (g.A.Access.seen c.write_out.new.place) c.write_out.result c.write_out.ensures.may c.write_out.ensures.wrote
-          (all_worked g.O.Origin.opening (g.A.Access.seen c.write_out.new.place) c.write_out.result c.write_out.ensures.may.worked
-          (g.met.A.Access.sole g.O.Origin.opening g.O.Origin.outset c.args.access.now c.write_out.new.place c.write_out.result.session c.write_out.ensures.turns alone))
-          (lacks_here g.D.Slot g.O.Origin.opening g.O.Origin.outset (g.A.Access.seen c.args.place.now) c.args.hand c.requires.at_work c.args.p.now c.requires.can None c.in-Write.ensures.turn.0).failed;
-    }
+pub returns-in-Write-clause-further : goal.returns-in-Write-clause-further
+returns-in-Write-clause-further g c = λ alone.
+    let went : Hand g.row.D.Denot = record { state = c.pin_turn.new.self; trail = c.enter_started.new.trail; counts = c.count_write.new.counts; session = c.args.hand.session } in
+    left_turn g.D.Slot g.O.Origin.opening g.O.Origin.outset (g.A.Access.seen c.args.place.now) c.args.hand c.requires.at_work c.args.p.now.client
+    (client_lives g.D.Slot g.O.Origin.opening g.O.Origin.outset (g.A.Access.seen c.args.place.now) c.args.hand c.requires.at_work c.args.p.now c.requires.can) c.in-Write.job went
+    (starts_here g.D.Slot g.O.Origin.opening g.O.Origin.outset (g.A.Access.seen c.args.place.now) c.args.hand c.requires.at_work c.args.p.now c.requires.can c.in-Write.job c.pin_turn.new.self c.in-Write.ensures.turn.1)
+    c.in-Write.ensures.enters c.enter_started.ensures c.count_write.ensures refl (g.A.Access.seen c.write_out.new.place) c.write_out.result c.write_out.ensures.may c.write_out.ensures.wrote
+    (all_worked g.O.Origin.opening (g.A.Access.seen c.write_out.new.place) c.write_out.result c.write_out.ensures.may.worked
+    (g.met.A.Access.sole g.O.Origin.opening g.O.Origin.outset c.args.access.now c.write_out.new.place c.write_out.result.session c.write_out.ensures.turns alone))
+    (lacks_here g.D.Slot g.O.Origin.opening g.O.Origin.outset (g.A.Access.seen c.args.place.now) c.args.hand c.requires.at_work c.args.p.now c.requires.can None c.in-Write.ensures.turn.0).failed
 
 pub returns-in-Wait-clause-needed : goal.returns-in-Wait-clause-needed
 returns-in-Wait-clause-needed g c =
     needs_waited c.args.p.now.client (page_len c.args.p.now.name (held_by g.O.Origin.opening g.O.Origin.outset c.args.hand)) g.D.Slot g.O.Origin.opening c.args.hand (record c.args.hand { state = c.pin_turn.new.self }) c.wait.result
     (ap (λ (v : Parts g.row.D.Denot). record c.args.hand { state = v }) c.in-Wait.ensures.turn.1) c.requires.at_work.ready.whole.stands c.wait.ensures.at_work.ready.whole.stands c.wait.ensures.waited
 
-pub returns-in-Wait-clause-alone : goal.returns-in-Wait-clause-alone
-returns-in-Wait-clause-alone g c = λ alone.
+pub returns-in-Wait-clause-further : goal.returns-in-Wait-clause-further
+returns-in-Wait-clause-further g c = λ alone.
     absurd (waits_never g.D.Slot g.O.Origin.opening g.O.Origin.outset (g.A.Access.seen c.args.place.now) c.args.hand c.requires.at_work c.args.p.now c.requires.can
     (all_worked g.O.Origin.opening (g.A.Access.seen c.args.place.now) c.args.hand c.requires.at_work.worked
     (g.met.A.Access.sole g.O.Origin.opening g.O.Origin.outset c.args.access.now c.args.place.now c.args.hand.session c.requires.turns alone))

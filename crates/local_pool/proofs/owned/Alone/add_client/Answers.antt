@@ -12,13 +12,13 @@ use Rattle.local_pool.proofs.owned.Alone.add_client.Goals as goal
 pub invariant_of-self : goal.invariant_of-self
 invariant_of-self g c =
     came_or_same g.D.Slot c.self.inside.shelf c.self.inside.hand c.args.self.now c.self.view_is c.self.invariant c.add_client.new.self c.add_client.ensures.ready
-    (λ m. AddTracker m.tracker (held_by (opening_of g.D.Slot c.self.inside.hand) (outset_of g.D.Slot c.self.inside.hand.state) c.self.inside.hand).query c.args.limit None ∷ []) (λ m. record { rest = (refl, tt); none = (refl, tt) }) c.add_client.result c.add_client.ensures.ok c.add_client.ensures.err
+    (λ m. AddTracker m.tracker (held_by (opening_of g.D.Slot c.self.inside.hand) (outset_of g.D.Slot c.self.inside.hand.state) c.self.inside.hand).query c.args.limit None ∷ []) (λ m. (refl, tt)) c.add_client.result c.add_client.ensures.ok c.add_client.ensures.err
 
 pub returns-clause-ok : goal.returns-clause-ok
 returns-clause-ok g c =
     subst (λ (h : Holdings). IfOk c.add_client.result (λ m. Makes g.D.Slot (λ events. events ≡ AddTracker m.tracker h.query c.args.limit None ∷ []) c.args.self.now c.add_client.new.self)) (held_at g.D.Slot c.self.inside.hand c.args.self.now c.self.view_is c.self.invariant.0)
     (came_makes g.D.Slot c.self.inside.shelf c.self.inside.hand c.args.self.now c.self.view_is c.self.invariant c.add_client.new.self c.add_client.ensures.ready
-    (λ m. AddTracker m.tracker (held_by (opening_of g.D.Slot c.self.inside.hand) (outset_of g.D.Slot c.self.inside.hand.state) c.self.inside.hand).query c.args.limit None ∷ []) (λ m. record { rest = (refl, tt); none = (refl, tt) }) c.add_client.result c.add_client.ensures.ok)
+    (λ m. AddTracker m.tracker (held_by (opening_of g.D.Slot c.self.inside.hand) (outset_of g.D.Slot c.self.inside.hand.state) c.self.inside.hand).query c.args.limit None ∷ []) (λ m. (refl, tt)) c.add_client.result c.add_client.ensures.ok)
 
 pub returns-clause-fresh : goal.returns-clause-fresh
 returns-clause-fresh g c = subst (λ (h : Holdings). IfOk c.add_client.result (λ m. IsFresh m h)) (held_at g.D.Slot c.self.inside.hand c.args.self.now c.self.view_is c.self.invariant.0) c.add_client.ensures.fresh

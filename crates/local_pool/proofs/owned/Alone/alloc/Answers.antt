@@ -1,4 +1,4 @@
-use Rattle.std.proofs.Common.{◌≡◌, ◌≤◌, [], ◌∷◌, IfOk, refl, sym, subst}
+use Rattle.std.proofs.Common.{◌≡◌, ◌≤◌, [], ◌∷◌, IfOk, sym, subst}
 use Rattle.pool_model.specs.declared.call.Call.TheVariants as call
 use Rattle.pool_model.specs.declared.event.Event.TheVariants as event
 use Rattle.store_api.specs.Holdings.{Holdings, length_of, unused_of}
@@ -20,14 +20,14 @@ alloc-hand-requires-clause-bytes g c = subst (λ (h : Holdings). (c.args.what.by
 
 pub invariant_of-result : goal.invariant_of-result
 invariant_of-result g c =
-    ends_keeps g.D.Slot c.self.inside.hand c.args.self c.self.view_is c.self.invariant.0 c.alloc-hand.result.0 c.alloc-hand.new.place c.alloc-hand.ensures.turns c.alloc-hand.ensures.at_work (c.alloc-hand.ensures.costs.counts refl)
+    ends_keeps g.D.Slot c.self.inside.hand c.args.self c.self.view_is c.self.invariant.0 c.alloc-hand.result.0 c.alloc-hand.new.place c.alloc-hand.ensures.turns c.alloc-hand.ensures.at_work
     c.args.what.client.now.tracker (call.Alloc c.args.what.client.now.tracker c.args.what.blocks)
     (λ x. IsTaken c.args.what.client.now.tracker (held_by (opening_of g.D.Slot c.self.inside.hand) (outset_of g.D.Slot c.self.inside.hand.state) c.self.inside.hand) (event.Alloc x.number c.args.what.client.now.tracker c.args.what.blocks ∷ [])) c.alloc-hand.result.1 c.alloc-hand.ensures.ok c.alloc-hand.ensures.err
 
 pub returns-clause-ok : goal.returns-clause-ok
 returns-clause-ok g c =
     subst (λ (h : Holdings). IfOk c.alloc-hand.result.1 (λ x. Makes g.D.Slot (IsTaken c.args.what.client.now.tracker h (event.Alloc x.number c.args.what.client.now.tracker c.args.what.blocks ∷ [])) c.args.self c.alloc-hand.result.0)) (held_at g.D.Slot c.self.inside.hand c.args.self c.self.view_is c.self.invariant.0)
-    (ends_makes g.D.Slot c.self.inside.hand c.args.self c.self.view_is c.self.invariant.0 c.alloc-hand.result.0 c.alloc-hand.new.place c.alloc-hand.ensures.turns c.alloc-hand.ensures.at_work (c.alloc-hand.ensures.costs.counts refl)
+    (ends_makes g.D.Slot c.self.inside.hand c.args.self c.self.view_is c.self.invariant.0 c.alloc-hand.result.0 c.alloc-hand.new.place c.alloc-hand.ensures.turns c.alloc-hand.ensures.at_work
     (λ x. IsTaken c.args.what.client.now.tracker (held_by (opening_of g.D.Slot c.self.inside.hand) (outset_of g.D.Slot c.self.inside.hand.state) c.self.inside.hand) (event.Alloc x.number c.args.what.client.now.tracker c.args.what.blocks ∷ [])) c.alloc-hand.result.1 c.alloc-hand.ensures.ok)
 
 pub returns-clause-loan : goal.returns-clause-loan
@@ -35,5 +35,5 @@ returns-clause-loan g c = subst (λ (h : Holdings). IfOk c.alloc-hand.result.1 (
 
 pub returns-clause-err : goal.returns-clause-err
 returns-clause-err g c =
-    ends_refuses g.D.Slot c.self.inside.hand c.args.self c.self.view_is c.self.invariant.0 c.alloc-hand.result.0 c.alloc-hand.new.place c.alloc-hand.ensures.turns c.alloc-hand.ensures.at_work (c.alloc-hand.ensures.costs.counts refl)
+    ends_refuses g.D.Slot c.self.inside.hand c.args.self c.self.view_is c.self.invariant.0 c.alloc-hand.result.0 c.alloc-hand.new.place c.alloc-hand.ensures.turns c.alloc-hand.ensures.at_work
     c.args.what.client.now.tracker (call.Alloc c.args.what.client.now.tracker c.args.what.blocks) c.alloc-hand.result.1 c.alloc-hand.ensures.err

@@ -9,6 +9,7 @@ use Rattle.pin_core.specs.Tallies.{tally_in, tally_of}
 use Rattle.pin_core.proofs.Tallied.{tally_same}
 use Rattle.local_pool.proofs.Ended.{none_left}
 use Rattle.local_pool.proofs.Naming.{spends_all}
+use Rattle.local_pool.proofs.Summing.{sums_hold}
 use Rattle.local_pool.proofs.Lawful.{history_of}
 use Rattle.session_calls.proofs.Clients.{no_child}
 use Rattle.local_pool.proofs.Knowing.{knows}
@@ -45,4 +46,4 @@ returns-clause-sums g c =
     let same : tally_in g.D.Slot own.state ≡ tally_of g.D.Slot c.close.result.items =
     tally_same g.D.Slot (λ measure. slots_home measure own.state) (λ measure. sum_by measure c.close.result.items)
     (λ measure. let home = c.end_session.ensures.enters.slots measure in let given = c.close.ensures.slots measure in omega (arith, home, given)) in
-    subst (λ (o : Hand g.row.D.Denot). SumsHold g.T.OpenedWith.opened o.trail (tally_of g.D.Slot c.close.result.items)) c.self.view_is (subst (SumsHold g.T.OpenedWith.opened own.trail) same c.self.invariant.0.sums)
+    subst (λ (o : Hand g.row.D.Denot). SumsHold g.T.OpenedWith.opened o.trail (tally_of g.D.Slot c.close.result.items)) c.self.view_is (subst (SumsHold g.T.OpenedWith.opened own.trail) same (sums_hold g.D.Slot g.T.OpenedWith.opened own c.self.invariant.0))

@@ -1,4 +1,4 @@
-use Rattle.std.proofs.Common.{◌≡◌, ◌≤◌, [], ◌∷◌, IfOk, refl, sym, subst}
+use Rattle.std.proofs.Common.{◌≡◌, ◌≤◌, [], ◌∷◌, IfOk, sym, subst}
 use Rattle.pool_model.specs.declared.call.Call.TheVariants as call
 use Rattle.pool_model.specs.declared.event.Event.TheVariants as event
 use Rattle.store_api.specs.Holdings.{Holdings, length_of, unused_of}
@@ -21,14 +21,14 @@ create-hand-requires-clause-bytes g c = subst (λ (h : Holdings). (c.args.what.b
 
 pub invariant_of-result : goal.invariant_of-result
 invariant_of-result g c =
-    ends_keeps g.D.Slot c.self.inside.hand c.args.self c.self.view_is c.self.invariant.0 c.create-hand.result.0 c.create-hand.new.place c.create-hand.ensures.turns c.create-hand.ensures.at_work (c.create-hand.ensures.costs.counts refl)
+    ends_keeps g.D.Slot c.self.inside.hand c.args.self c.self.view_is c.self.invariant.0 c.create-hand.result.0 c.create-hand.new.place c.create-hand.ensures.turns c.create-hand.ensures.at_work
     c.args.what.client.now.tracker (call.Create c.args.what.client.now.tracker c.args.what.blocks)
     (λ x. IsTaken c.args.what.client.now.tracker (held_by (opening_of g.D.Slot c.self.inside.hand) (outset_of g.D.Slot c.self.inside.hand.state) c.self.inside.hand) (event.Create x.0.name c.args.what.client.now.tracker c.args.what.blocks x.0.key ∷ [])) c.create-hand.result.1 c.create-hand.ensures.ok c.create-hand.ensures.err
 
 pub returns-clause-ok : goal.returns-clause-ok
 returns-clause-ok g c =
     subst (λ (h : Holdings). IfOk c.create-hand.result.1 (λ x. Makes g.D.Slot (IsTaken c.args.what.client.now.tracker h (event.Create x.0.name c.args.what.client.now.tracker c.args.what.blocks x.0.key ∷ [])) c.args.self c.create-hand.result.0)) (held_at g.D.Slot c.self.inside.hand c.args.self c.self.view_is c.self.invariant.0)
-    (ends_makes g.D.Slot c.self.inside.hand c.args.self c.self.view_is c.self.invariant.0 c.create-hand.result.0 c.create-hand.new.place c.create-hand.ensures.turns c.create-hand.ensures.at_work (c.create-hand.ensures.costs.counts refl)
+    (ends_makes g.D.Slot c.self.inside.hand c.args.self c.self.view_is c.self.invariant.0 c.create-hand.result.0 c.create-hand.new.place c.create-hand.ensures.turns c.create-hand.ensures.at_work
     (λ x. IsTaken c.args.what.client.now.tracker (held_by (opening_of g.D.Slot c.self.inside.hand) (outset_of g.D.Slot c.self.inside.hand.state) c.self.inside.hand) (event.Create x.0.name c.args.what.client.now.tracker c.args.what.blocks x.0.key ∷ [])) c.create-hand.result.1 c.create-hand.ensures.ok)
 
 pub returns-clause-page : goal.returns-clause-page
@@ -38,5 +38,5 @@ returns-clause-page g c =
 
 pub returns-clause-err : goal.returns-clause-err
 returns-clause-err g c =
-    ends_refuses g.D.Slot c.self.inside.hand c.args.self c.self.view_is c.self.invariant.0 c.create-hand.result.0 c.create-hand.new.place c.create-hand.ensures.turns c.create-hand.ensures.at_work (c.create-hand.ensures.costs.counts refl)
+    ends_refuses g.D.Slot c.self.inside.hand c.args.self c.self.view_is c.self.invariant.0 c.create-hand.result.0 c.create-hand.new.place c.create-hand.ensures.turns c.create-hand.ensures.at_work
     c.args.what.client.now.tracker (call.Create c.args.what.client.now.tracker c.args.what.blocks) c.create-hand.result.1 c.create-hand.ensures.err

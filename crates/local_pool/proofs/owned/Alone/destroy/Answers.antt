@@ -1,4 +1,4 @@
-use Rattle.std.proofs.Common.{refl, sym, subst}
+use Rattle.std.proofs.Common.{sym, subst}
 use Rattle.store_api.specs.Holdings.{Holdings}
 use Rattle.store_api.specs.Conditions.{IsHeld, IsPage}
 use Rattle.local_pool.proofs.Stepping.{held_at}
@@ -13,8 +13,8 @@ destroy-hand-requires-clause-buffer g c = subst (λ (h : Holdings). IsHeld c.arg
 
 pub invariant_of-result : goal.invariant_of-result
 invariant_of-result g c =
-    call_keeps g.D.Slot c.self.inside.hand c.args.self c.self.view_is c.self.invariant.0 c.destroy-hand.result c.destroy-hand.new.place c.destroy-hand.ensures.turns c.destroy-hand.ensures.at_work (c.destroy-hand.ensures.counts refl) c.destroy-hand.ensures.did
+    call_keeps g.D.Slot c.self.inside.hand c.args.self c.self.view_is c.self.invariant.0 c.destroy-hand.result c.destroy-hand.new.place c.destroy-hand.ensures.turns c.destroy-hand.ensures.at_work c.destroy-hand.ensures.did
 
 pub returns : goal.returns
 returns g c =
-    call_makes g.D.Slot c.self.inside.hand c.args.self c.self.view_is c.self.invariant.0 c.destroy-hand.result c.destroy-hand.new.place c.destroy-hand.ensures.turns c.destroy-hand.ensures.at_work (c.destroy-hand.ensures.counts refl) c.destroy-hand.ensures.did
+    call_makes g.D.Slot c.self.inside.hand c.args.self c.self.view_is c.self.invariant.0 c.destroy-hand.result c.destroy-hand.new.place c.destroy-hand.ensures.turns c.destroy-hand.ensures.at_work c.destroy-hand.ensures.did

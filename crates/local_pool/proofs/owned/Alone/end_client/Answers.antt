@@ -17,13 +17,13 @@ end_client-requires-clause-idle g c = subst (IsIdle c.args.c.tracker) (sym (held
 pub invariant_of-self : goal.invariant_of-self
 invariant_of-self g c =
     step_keeps g.D.Slot c.self.inside.shelf c.self.inside.hand c.args.self.now c.self.view_is c.self.invariant c.end_client.new.self c.end_client.ensures.ready
-    (MoveReservation c.args.c.tracker (held_by (opening_of g.D.Slot c.self.inside.hand) (outset_of g.D.Slot c.self.inside.hand.state) c.self.inside.hand).query (account_of c.args.c.tracker (held_by (opening_of g.D.Slot c.self.inside.hand) (outset_of g.D.Slot c.self.inside.hand.state) c.self.inside.hand)).reservation ∷ CloseTracker c.args.c.tracker ∷ []) c.end_client.ensures.acts (record { rest = (refl, (refl, tt)); none = (refl, (refl, tt)) })
+    (MoveReservation c.args.c.tracker (held_by (opening_of g.D.Slot c.self.inside.hand) (outset_of g.D.Slot c.self.inside.hand.state) c.self.inside.hand).query (account_of c.args.c.tracker (held_by (opening_of g.D.Slot c.self.inside.hand) (outset_of g.D.Slot c.self.inside.hand.state) c.self.inside.hand)).reservation ∷ CloseTracker c.args.c.tracker ∷ []) c.end_client.ensures.acts (refl, (refl, tt))
 
 pub returns-clause-makes : goal.returns-clause-makes
 returns-clause-makes g c =
     subst (λ (h : Holdings). Makes g.D.Slot (λ events. events ≡ MoveReservation c.args.c.tracker h.query (account_of c.args.c.tracker h).reservation ∷ CloseTracker c.args.c.tracker ∷ []) c.args.self.now c.end_client.new.self) (held_at g.D.Slot c.self.inside.hand c.args.self.now c.self.view_is c.self.invariant.0)
     (step_makes g.D.Slot c.self.inside.shelf c.self.inside.hand c.args.self.now c.self.view_is c.self.invariant c.end_client.new.self c.end_client.ensures.ready
-    (MoveReservation c.args.c.tracker (held_by (opening_of g.D.Slot c.self.inside.hand) (outset_of g.D.Slot c.self.inside.hand.state) c.self.inside.hand).query (account_of c.args.c.tracker (held_by (opening_of g.D.Slot c.self.inside.hand) (outset_of g.D.Slot c.self.inside.hand.state) c.self.inside.hand)).reservation ∷ CloseTracker c.args.c.tracker ∷ []) c.end_client.ensures.acts (record { rest = (refl, (refl, tt)); none = (refl, (refl, tt)) }))
+    (MoveReservation c.args.c.tracker (held_by (opening_of g.D.Slot c.self.inside.hand) (outset_of g.D.Slot c.self.inside.hand.state) c.self.inside.hand).query (account_of c.args.c.tracker (held_by (opening_of g.D.Slot c.self.inside.hand) (outset_of g.D.Slot c.self.inside.hand.state) c.self.inside.hand)).reservation ∷ CloseTracker c.args.c.tracker ∷ []) c.end_client.ensures.acts (refl, (refl, tt)))
 
 pub returns-clause-apart : goal.returns-clause-apart
 returns-clause-apart g c = subst (λ (h : Holdings). h.clients h.query ≡ None) (held_at g.D.Slot c.self.inside.hand c.args.self.now c.self.view_is c.self.invariant.0) c.end_client.ensures.apart

@@ -15,10 +15,10 @@ pub extract-requires-clause-buffer : goal.extract-requires-clause-buffer
 extract-requires-clause-buffer g c = subst (λ (h : Holdings). Fits (page_of c.args.p.name h).blocks h c.args.buf) (sym (held_at g.D.Slot c.self.inside.hand c.args.self.now c.self.view_is c.self.invariant.0)) c.requires.buffer
 
 pub invariant_of-self : goal.invariant_of-self
-invariant_of-self g c = step_keeps g.D.Slot c.self.inside.shelf c.self.inside.hand c.args.self.now c.self.view_is c.self.invariant c.extract.new.self c.extract.ensures.ready (Extract c.args.p.name c.extract.result.number ∷ []) c.extract.ensures.acts (record { rest = (refl, tt); none = (refl, tt) })
+invariant_of-self g c = step_keeps g.D.Slot c.self.inside.shelf c.self.inside.hand c.args.self.now c.self.view_is c.self.invariant c.extract.new.self c.extract.ensures.ready (Extract c.args.p.name c.extract.result.number ∷ []) c.extract.ensures.acts (refl, tt)
 
 pub returns-clause-made : goal.returns-clause-made
-returns-clause-made g c = step_makes g.D.Slot c.self.inside.shelf c.self.inside.hand c.args.self.now c.self.view_is c.self.invariant c.extract.new.self c.extract.ensures.ready (Extract c.args.p.name c.extract.result.number ∷ []) c.extract.ensures.acts (record { rest = (refl, tt); none = (refl, tt) })
+returns-clause-made g c = step_makes g.D.Slot c.self.inside.shelf c.self.inside.hand c.args.self.now c.self.view_is c.self.invariant c.extract.new.self c.extract.ensures.ready (Extract c.args.p.name c.extract.result.number ∷ []) c.extract.ensures.acts (refl, tt)
 
 pub returns-clause-fresh : goal.returns-clause-fresh
 returns-clause-fresh g c = subst (λ (h : Holdings). h.loans c.extract.result.number ≡ None) (held_at g.D.Slot c.self.inside.hand c.args.self.now c.self.view_is c.self.invariant.0) c.extract.ensures.fresh

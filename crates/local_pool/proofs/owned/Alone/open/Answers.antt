@@ -1,8 +1,11 @@
-use Rattle.std.proofs.Common.{ℕ, sym, subst}
+use Rattle.std.proofs.Common.{◌≡◌, ℕ, List, [], ◌∷◌, ◌++◌, sym, ap, ◌∙◌, subst}
 use Rattle.std.specs.List.{sum_by}
 use Rattle.pin_core.specs.Setup.{IsOpeningOf}
 use Rattle.pin_core.specs.Standing.{slots_home}
 use Rattle.pin_core.specs.Tallies.{tally_in, tally_of}
+use Rattle.pin_core.specs.declared.tally.Tally.{Tally}
+use Rattle.session_calls.specs.declared.count.Count.{Count}
+use Rattle.session_calls.specs.declared.count.Count.TheVariants as count
 use Rattle.pin_core.proofs.Tallied.{tally_same}
 use Rattle.local_pool.proofs.Begun.{begins, counted_alike}
 use Rattle.local_pool.proofs.owned.Alone.open.Goals as goal
@@ -21,3 +24,11 @@ begin-requires-clause-opens g c =
     let pool = c.in-Ok.pool in
     counted_alike g.T.OpenedWith.opened (tally_of g.D.Slot slots) (tally_in g.D.Slot pool) c.args.conf.now.first_name _
     (tally_same g.D.Slot (λ measure. sum_by measure slots) (λ measure. slots_home measure pool) (λ measure. sym (c.in-Ok.ensures.slots measure))) c.requires.opened
+
+pub begin-requires-clause-counts : goal.begin-requires-clause-counts
+begin-requires-clause-counts g c =
+    let slots = c.args.slots.items in
+    let pool = c.in-Ok.pool in
+    let same : tally_of g.D.Slot slots ≡ tally_in g.D.Slot pool = tally_same g.D.Slot (λ measure. sum_by measure slots) (λ measure. slots_home measure pool) (λ measure. sym (c.in-Ok.ensures.slots measure)) in
+    c.count_opening.ensures ∙ ap (λ (l : List Count). l ++ count.Opening (tally_of g.D.Slot c.as_slice.result.now) ∷ []) c.in-Ok-Ok-Ok.ensures'
+    ∙ ap (λ (xs : List g.row.D.Denot). count.Opening (tally_of g.D.Slot xs) ∷ []) c.as_slice.ensures.value ∙ ap (λ (t : Tally). count.Opening t ∷ []) same

@@ -1,4 +1,4 @@
-use Rattle.std.proofs.Common.{IfOk, OnOk, refl, sym, subst}
+use Rattle.std.proofs.Common.{IfOk, OnOk, sym, subst}
 use Rattle.pool_model.specs.declared.call.Call.TheVariants as call
 use Rattle.store_api.specs.Holdings.{Holdings, page_len, page_of}
 use Rattle.store_api.specs.Conditions.{ShowsLeft}
@@ -18,14 +18,14 @@ pin-hand-requires-clause-can g c = subst (CanBePinned c.args.p.now) (sym (held_a
 
 pub invariant_of-result : goal.invariant_of-result
 invariant_of-result g c =
-    ends_keeps g.D.Slot c.self.inside.hand c.args.self c.self.view_is c.self.invariant.0 c.pin-hand.result.0 c.pin-hand.new.place c.pin-hand.ensures.turns c.pin-hand.ensures.at_work (c.pin-hand.ensures.costs.counts refl)
+    ends_keeps g.D.Slot c.self.inside.hand c.args.self c.self.view_is c.self.invariant.0 c.pin-hand.result.0 c.pin-hand.new.place c.pin-hand.ensures.turns c.pin-hand.ensures.at_work
     c.args.p.now.client (call.Pin c.args.p.now.name)
     (λ x. IsPin c.args.p.now.client (held_by (opening_of g.D.Slot c.self.inside.hand) (outset_of g.D.Slot c.self.inside.hand.state) c.self.inside.hand) c.args.p.now.name) c.pin-hand.result.1 c.pin-hand.ensures.ok c.pin-hand.ensures.err
 
 pub returns-clause-ok : goal.returns-clause-ok
 returns-clause-ok g c =
     subst (λ (h : Holdings). OnOk c.pin-hand.result.1 (Makes g.D.Slot (IsPin c.args.p.now.client h c.args.p.now.name) c.args.self c.pin-hand.result.0)) (held_at g.D.Slot c.self.inside.hand c.args.self c.self.view_is c.self.invariant.0)
-    (ends_makes g.D.Slot c.self.inside.hand c.args.self c.self.view_is c.self.invariant.0 c.pin-hand.result.0 c.pin-hand.new.place c.pin-hand.ensures.turns c.pin-hand.ensures.at_work (c.pin-hand.ensures.costs.counts refl)
+    (ends_makes g.D.Slot c.self.inside.hand c.args.self c.self.view_is c.self.invariant.0 c.pin-hand.result.0 c.pin-hand.new.place c.pin-hand.ensures.turns c.pin-hand.ensures.at_work
     (λ x. IsPin c.args.p.now.client (held_by (opening_of g.D.Slot c.self.inside.hand) (outset_of g.D.Slot c.self.inside.hand.state) c.self.inside.hand) c.args.p.now.name) c.pin-hand.result.1 c.pin-hand.ensures.ok)
 
 pub returns-clause-bytes : goal.returns-clause-bytes
@@ -33,10 +33,10 @@ returns-clause-bytes g c = subst (λ (h : Holdings). IfOk c.pin-hand.result.1 (S
 
 pub returns-clause-err : goal.returns-clause-err
 returns-clause-err g c =
-    ends_refuses g.D.Slot c.self.inside.hand c.args.self c.self.view_is c.self.invariant.0 c.pin-hand.result.0 c.pin-hand.new.place c.pin-hand.ensures.turns c.pin-hand.ensures.at_work (c.pin-hand.ensures.costs.counts refl)
+    ends_refuses g.D.Slot c.self.inside.hand c.args.self c.self.view_is c.self.invariant.0 c.pin-hand.result.0 c.pin-hand.new.place c.pin-hand.ensures.turns c.pin-hand.ensures.at_work
     c.args.p.now.client (call.Pin c.args.p.now.name) c.pin-hand.result.1 c.pin-hand.ensures.err
 
 pub returns-clause-needed : goal.returns-clause-needed
 returns-clause-needed g c =
     subst (λ (own : Hand g.row.D.Denot). EntersNeeded c.args.p.now.client (page_len c.args.p.now.name (held_of g.D.Slot c.args.self)) own c.pin-hand.result.0) c.self.view_is
-    (subst (λ (h : Holdings). EntersNeeded c.args.p.now.client (page_len c.args.p.now.name h) c.self.inside.hand c.pin-hand.result.0) (held_at g.D.Slot c.self.inside.hand c.args.self c.self.view_is c.self.invariant.0) c.pin-hand.ensures.costs.needed)
+    (subst (λ (h : Holdings). EntersNeeded c.args.p.now.client (page_len c.args.p.now.name h) c.self.inside.hand c.pin-hand.result.0) (held_at g.D.Slot c.self.inside.hand c.args.self c.self.view_is c.self.invariant.0) c.pin-hand.ensures.needed)

@@ -19,12 +19,12 @@ reserve-requires-clause-client g c = subst (IsLiveClient c.args.c.now) (sym (hel
 pub invariant_of-self : goal.invariant_of-self
 invariant_of-self g c =
     came_or_same g.D.Slot c.self.inside.shelf c.self.inside.hand c.args.self.now c.self.view_is c.self.invariant c.reserve.new.self c.reserve.ensures.ready
-    (λ x. Increase c.args.c.now.tracker c.args.bytes ∷ []) (λ x. record { rest = (refl, tt); none = (refl, tt) }) c.reserve.result c.reserve.ensures.ok c.reserve.ensures.err
+    (λ x. Increase c.args.c.now.tracker c.args.bytes ∷ []) (λ x. (refl, tt)) c.reserve.result c.reserve.ensures.ok c.reserve.ensures.err
 
 pub returns-clause-ok : goal.returns-clause-ok
 returns-clause-ok g c =
     came_makes g.D.Slot c.self.inside.shelf c.self.inside.hand c.args.self.now c.self.view_is c.self.invariant c.reserve.new.self c.reserve.ensures.ready
-    (λ x. Increase c.args.c.now.tracker c.args.bytes ∷ []) (λ x. record { rest = (refl, tt); none = (refl, tt) }) c.reserve.result c.reserve.ensures.ok
+    (λ x. Increase c.args.c.now.tracker c.args.bytes ∷ []) (λ x. (refl, tt)) c.reserve.result c.reserve.ensures.ok
 
 pub returns-clause-refused : goal.returns-clause-refused
 returns-clause-refused g c = subst (λ (h : Holdings). IfSome (reserve_refusal c.args.c.now.tracker c.args.bytes h) (λ e. c.reserve.result ≡ Err e)) (held_at g.D.Slot c.self.inside.hand c.args.self.now c.self.view_is c.self.invariant.0) c.reserve.ensures.refused

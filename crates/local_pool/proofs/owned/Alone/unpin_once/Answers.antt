@@ -15,9 +15,9 @@ unpin_once-requires-clause-pinned g c =
 pub invariant_of-self : goal.invariant_of-self
 invariant_of-self g c =
     step_keeps g.D.Slot c.self.inside.shelf c.self.inside.hand c.args.self.now c.self.view_is c.self.invariant c.unpin_once.new.self c.unpin_once.ensures.ready
-    (UnpinOnce c.args.p.now.name ∷ []) c.unpin_once.ensures.acts (record { rest = (refl, tt); none = (refl, tt) })
+    (UnpinOnce c.args.p.now.name ∷ []) c.unpin_once.ensures.acts (refl, tt)
 
 pub returns : goal.returns
 returns g c =
     step_makes g.D.Slot c.self.inside.shelf c.self.inside.hand c.args.self.now c.self.view_is c.self.invariant c.unpin_once.new.self c.unpin_once.ensures.ready
-    (UnpinOnce c.args.p.now.name ∷ []) c.unpin_once.ensures.acts (record { rest = (refl, tt); none = (refl, tt) })
+    (UnpinOnce c.args.p.now.name ∷ []) c.unpin_once.ensures.acts (refl, tt)

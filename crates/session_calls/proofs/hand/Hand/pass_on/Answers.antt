@@ -28,9 +28,9 @@ unwrap-requires g c =
 
 pub returns-clause-ready : goal.returns-clause-ready
 returns-clause-ready g c =
-    let new : Hand g.row.D.Denot = record { state = c.move_now.new.self; trail = c.enter.new.trail; session = c.args.self.now.session } in
+    let new : Hand g.row.D.Denot = record { state = c.move_now.new.self; trail = c.enter.new.trail; counts = c.args.self.now.counts; session = c.args.self.now.session } in
     let ok : IsOk c.move_now.result = search rules in
     passed_on g.D.Slot g.O.Origin.opening g.O.Origin.outset c.args.self.now c.requires.ready c.of-mine.result c.tracker-giver.result c.args.from.now.tracker c.of-mine.ensures c.tracker-giver.ensures
     c.of-other.result c.tracker-getter.result c.args.to.now.tracker c.of-other.ensures c.tracker-getter.ensures c.args.bytes new
     (of_ok (Enters g.D.Slot (move_entry c.of-mine.result.session c.of-mine.result.tracker c.of-other.result.tracker c.args.bytes ∷ []) [] [] c.args.self.now.state new.state) c.move_now.result ok c.move_now.ensures.ok)
-    c.enter.ensures refl
+    c.enter.ensures refl refl

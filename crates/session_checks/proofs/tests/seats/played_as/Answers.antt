@@ -4,8 +4,8 @@ use Rattle.std.specs.FinMap.{len-empty}
 use Rattle.turn_table.specs.Face.{Spot}
 use Rattle.pool.specs.declared.item.Item.{Item}
 use Rattle.pool.specs.Seats.{live_in}
-use Rattle.session_checks.proofs.tests.seats.played.Goals as goal
-use Rattle.session_checks.proofs.tests.seats.played.Goals.{in-ThirdWaits, in-Numbers, in-Walk, in-Rows}
+use Rattle.session_checks.proofs.tests.seats.played_as.Goals as goal
+use Rattle.session_checks.proofs.tests.seats.played_as.Goals.{in-ThirdWaits, in-Numbers, in-Walk, in-Rows}
 
 pub close-requires-clause-none : goal.close-requires-clause-none
 close-requires-clause-none g c =

@@ -1,0 +1,7 @@
+use Rattle.std.specs.Prelude.{◌∷◌, []}
+use Rattle.pin_core.specs.Tallies.{tally_of}
+use Rattle.session_calls.specs.declared.count.Count.TheVariants.{Out}
+use Rattle.session_calls.proofs.count.count_write.Given as goal
+
+abbrev pub ghosts-enter_write_count : goal.ghosts-enter_write_count
+ghosts-enter_write_count g a = record { entries = Out a._job.now.id.name (tally_of g.D.Slot a._job.now.row) ∷ [] }

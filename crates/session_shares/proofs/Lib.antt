@@ -1,0 +1,11 @@
+mod Lasts
+mod Unwritten
+mod Stored
+mod Steps
+mod Waits
+mod Fitting
+mod Limits
+mod Fronts
+mod Laid
+mod Parts
+mod Names
