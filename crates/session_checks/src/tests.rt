@@ -1,9 +1,12 @@
 //! Worked rows of sessions that come and go.
 
+mod asks;
 mod seats;
 
+use asks::Asked;
 use outside::MemSlot;
 use pin_core::PoolConf;
+use pool::Ask;
 use reservation_tree::{PoolErr, TrackerId};
 use seats::{Row, Scene, played};
 use std::alloc::Global;
@@ -68,6 +71,36 @@ fn sessions_that_come_in_turn_get_what_is_left(rt: HostRuntime) -> Result<(), Fa
     });
     play(&rt, rt.alloc(), &Scene::Rows(&rows));
     Ok(())
+}
+
+#[test]
+fn asks_of_one_turn_get_all_of_their_sessions_or_none(rt: HostRuntime) -> Result<(), Fail> {
+    let root = TrackerId::of(0);
+    let none = TrackerId::of(u32::MAX);
+    let turns = [
+        [
+            asked(256, 4, 256, 1, Ok(())),
+            asked(192, 1, 192, 2, refusal(root, 192, 64)),
+            asked(256, 2, 256, 1, Ok(())),
+        ],
+        [
+            asked(512, 8, 512, 1, Ok(())),
+            asked(64, 0, 64, 1, refusal(root, 64, 0)),
+            asked(63, 0, 64, 1, refusal(none, 64, 63)),
+        ],
+    ];
+    play(&rt, rt.alloc(), &Scene::Asks(&turns));
+    Ok(())
+}
+
+fn asked(limit: u64, quota: u32, least: u64, count: u32, answer: Result<(), PoolErr>) -> Asked {
+    let ask = Ask {
+        limit,
+        quota,
+        least,
+        count,
+    };
+    Asked { ask, answer }
 }
 
 fn refusal(tracker: TrackerId, wanted: u64, room: u64) -> Result<(), PoolErr> {

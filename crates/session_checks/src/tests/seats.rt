@@ -7,6 +7,7 @@ ghost use Rattle.pool.specs.Opening.{OpensAs};
 ghost use Rattle.pool.specs.Seats.{live_in};
 ghost use Rattle.pool.specs.Seating.{Begins};
 
+use crate::tests::asks::{Asked, ask_turns};
 use outside::Slot;
 use pin_core::PoolConf;
 use pool::{At, OpenedAs, Pass, Pool, Session};
@@ -37,6 +38,8 @@ pub enum Scene<'a> {
     Walk,
     // Each asks for what its row says, and is answered as the row says; those that came end last.
     Rows(&'a [Row]),
+    // Each three are asked for in one turn, and those that came end before the next turn.
+    Asks(&'a [[Asked; 3]]),
 }
 
 // A pool opens, the scene is played, and all slots come back.
@@ -75,6 +78,7 @@ fn played_as<T: OpenedAs, D: Slot + Drop, R: Wait + Abort>(
         Scene::Numbers(count) => seat_more(rt, alloc, &pool, &mut pass, *count),
         Scene::Walk => two_walk::<Brand, T, D, R>(rt, alloc, &pool, &mut pass),
         Scene::Rows(rows) => seat_rows(rt, alloc, &pool, &mut pass, rows, 0),
+        Scene::Asks(turns) => ask_turns(rt, alloc, &pool, &mut pass, turns),
     }
     assert_eq!(rt; pass.spare() as usize, count);
     assert_eq!(rt; pool.close(pass).len(), count);
