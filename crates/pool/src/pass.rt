@@ -1,5 +1,6 @@
 //! Who opened a pool, and lets sessions in and out.
-ghost use Rattle.std.specs.Prelude.{◌≡◌, ◌+◌};
+ghost use Rattle.std.specs.Prelude.{◌≡◌, ◌+◌, ℕ};
+ghost use Rattle.pool.specs.Passing.{IsPass};
 ghost use Rattle.pool.specs.Seats.{taken_in};
 
 use crate::opened::OpenedAs;
@@ -35,5 +36,12 @@ impl<D: Slot, T: OpenedAs> Pass<D, T> {
         ensures { result + taken_in self.now.knows.seen ≡ T.opening.slots }
     {
         self.spare
+    }
+
+    /// The pass has the door, and the number of each session that isn't live.
+    pub fn law_pass(&self)
+        ensures { (free : ℕ) × IsPass T.opening.slots free self.now }
+    {
+        let _seat = &self.seat;
     }
 }

@@ -4,7 +4,7 @@ ghost use Rattle.block_arena.specs.Blocks.{IsBlockLen};
 ghost use Rattle.store_api.specs.Holdings.{account_of, unused_of};
 ghost use Rattle.store_api.specs.Conditions.{FitsAccount, FitsQuery, IsLiveClient};
 ghost use Rattle.own_entries.specs.ClientLaws.{IsWholeIdle};
-ghost use Rattle.pool.specs.Sitting.{held_by};
+ghost use Rattle.pool.specs.Sitting.{Sits, held_by};
 
 use crate::ledger::Ledger;
 use crate::opened::OpenedAs;
@@ -64,6 +64,13 @@ impl<D: Slot + Drop, T: OpenedAs> SessionSeat<D, T> {
         ensures fits { FitsAccount (account_of c.now.tracker (held_by T.opening T.told self.now)) (held_by T.opening T.told self.now) }
     {
         self.ledger.accounts.unused(c.tracker())
+    }
+
+    // The session sits.
+    pub(crate) fn law_sits(&self)
+        ensures { Sits T.opening T.told self.now }
+    {
+        let _ledger = &self.ledger;
     }
 
     // Clients and queries that have nothing under them have their whole reservation unused.

@@ -2,7 +2,7 @@
 ghost use Rattle.std.specs.Prelude.{◌≡◌};
 ghost use Rattle.std.specs.Option.{ForSome};
 ghost use Rattle.own_entries.specs.ClientLaws.{IsWholeIdle};
-ghost use Rattle.pool.specs.Sitting.{held_by, signs_by};
+ghost use Rattle.pool.specs.Sitting.{Sits, held_by, signs_by};
 ghost use Rattle.pool.specs.Seating.{Ends};
 
 use crate::ending::unseat_session;
@@ -38,6 +38,13 @@ impl<'a, D: Slot + Drop, R: Wait, T: OpenedAs, N: At> Session<'a, D, R, T, N> {
     pub fn law_there(&self)
         ensures { ForSome N.table (λ table. self.now.seat.spot.table ≡ table) }
     {}
+
+    /// The session sits, and has the right of its number alone.
+    pub fn law_sits(&self)
+        ensures { Sits T.opening T.told self.now.seat }
+    {
+        self.seat.law_sits();
+    }
 
     /// Ends a session that has no client. Its reservation and its quota are free again, and its number is the pass's.
     pub fn end(self, pass: &mut Pass<D, T>)

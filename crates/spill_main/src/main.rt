@@ -93,6 +93,7 @@ fn run_command<R: Files<File = File> + Clock + Env + Print + Eprint + AllocGloba
     };
     let mut report = Report::new(rt.alloc(), io::writer(rt));
     let status = spill_top(
+        rt,
         rt.alloc(),
         words,
         &mut FileInputs::new(rt, &in_use, shows_progress, plan),

@@ -5,6 +5,11 @@ mod OnlyMemory
 mod Showing
 mod Pools
 mod Stored
+mod Alone
+mod Closing
+mod Solo
+mod OneSession
+mod Asks
 mod Watching
 mod CountStops
 mod Plain
@@ -40,7 +45,3 @@ mod CheckPlans
 mod CheckClear
 mod CheckEnds
 mod CheckWords
-mod LaidPages
-mod HeldPages
-mod OneOpening
-mod Laid

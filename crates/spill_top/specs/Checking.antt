@@ -5,7 +5,7 @@ use Rattle.outside.specs.Counts.{Rose}
 use Rattle.outside.specs.Names.{Written}
 use Rattle.csv_edge.specs.Written.{AppendsFront}
 use Rattle.pin_core.specs.declared.tally.Tally.{Tally}
-use Rattle.local_pool.specs.Beginning.{memory_of}
+use Rattle.spill_top.specs.Pooled.{memory_of}
 use Rattle.query_run.specs.Answer.{Numbers}
 use Rattle.query_run.specs.Through.{need}
 use Rattle.query_run.specs.declared.outcome.QueryErr.{QueryErr}

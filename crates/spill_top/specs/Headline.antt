@@ -3,7 +3,7 @@ use Rattle.std.specs.Prelude.{◌≡◌, ◌≢◌, ◌^◌, ◌≤◌, ◌<◌,
 use Rattle.std.specs.Io.KnownBytes.{Keeps}
 use Rattle.outside.specs.Counts.{Rose}
 use Rattle.pin_core.specs.declared.tally.Tally.{Tally}
-use Rattle.local_pool.specs.Beginning.{memory_of}
+use Rattle.spill_top.specs.Pooled.{memory_of}
 use Rattle.query_run.specs.Both.{Told, both_told}
 use Rattle.query_run.specs.Input.{IsAccepted, IsRefusal, most_bytes, refusal_of}
 use Rattle.query_run.specs.Through.{need, rows_through}

@@ -6,6 +6,7 @@ pub mod Refusals
 pub mod Counting
 pub mod OneInput
 pub mod Pooled
+pub mod Seated
 pub mod Storing
 pub mod Headline
 pub mod Stops

@@ -1,17 +1,21 @@
 -- A query over a pool of its own. What slots count together is a tally: `before` the call, and `now` that they came back.
 use Rattle.std.specs.Prelude.{◌≡◌, ◌*◌, ◌^◌, ◌==◌, ◌<◌, ◌≤◌, ℕ, Bool, Option, Some, IfSome, ⊤}
+use Rattle.pool_model.specs.Bytes.{bytes_of}
 use Rattle.reservation_tree.specs.declared.errors.PoolErr.{PoolErr}
 use Rattle.reservation_tree.specs.declared.errors.PoolErr.TheVariants.{ScratchFull, WriteFault, ReadFault, NamesSpent, Memory}
 use Rattle.pin_core.specs.Setup.{OpensWith}
 use Rattle.pin_core.specs.Tallies.{Counted}
 use Rattle.pin_core.specs.declared.conf.PoolConf.{PoolConf}
 use Rattle.pin_core.specs.declared.tally.Tally.{Tally}
-use Rattle.local_pool.specs.Beginning.{memory_of}
 use Rattle.query_plan.specs.Sizes.{least_of}
 use Rattle.query_plan.specs.declared.plan.Query.{Query}
 use Rattle.query_run.specs.Both.{Told}
 use Rattle.query_run.specs.Stopped.{IsWant}
 use Rattle.query_run.specs.Through.{need, rows_through}
+
+-- all memory of a pool that opens with these numbers
+abbrev pub memory_of : PoolConf → ℕ
+memory_of conf = bytes_of conf.block_len conf.blocks
 
 -- a pool may open with these numbers, which name its first page 0, and has the least reservation of the query, which fits its limit
 pub record HasMemoryFor (query : Query) (conf : PoolConf) : Type 0 where

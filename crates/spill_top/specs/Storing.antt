@@ -1,16 +1,9 @@
 -- What the slots must have stored of a query that has its answer. Lengths are in bytes.
-use Rattle.std.specs.Prelude.{◌≡◌, ◌+◌, ◌-◌, ◌*◌, ◌≤◌, ◌++◌, ℕ, List, ◌∷◌, Option, Some, None, min}
-use Rattle.pool_model.specs.Bytes.{bytes_of}
-use Rattle.pool_model.specs.declared.entry.Entry.{Entry}
-use Rattle.pin_core.specs.Tallies.{written_blocks}
+use Rattle.std.specs.Prelude.{◌≡◌, ◌+◌, ◌-◌, ◌*◌, ◌≤◌, ℕ, List, ◌∷◌, Option, Some, None, min}
 use Rattle.pin_core.specs.declared.tally.Tally.{Tally}
-use Rattle.store_api.specs.Entries.{by}
-use Rattle.local_pool.specs.Beginning.{first_events}
-use Rattle.local_pool.specs.History.{IsHistoryOf}
-use Rattle.tuple_stream.specs.Trails.{events_of}
 use Rattle.query_plan.specs.declared.plan.Query.{Query}
 use Rattle.query_run.specs.Both.{Told}
-use Rattle.query_run.specs.Spilling.{LaysBytes, spill}
+use Rattle.query_run.specs.Spilling.{spill}
 use Rattle.spill_top.specs.declared.ending.Ending.{Ending}
 use Rattle.spill_top.specs.declared.ending.Ending.TheVariants.{Lines}
 use Rattle.spill_top.specs.Sides.{told_of}
@@ -34,13 +27,3 @@ all_owed memory files _ _ = 0
 -- its last value
 abbrev pub HaveStored : ℕ → ℕ → Tally → Tally → Type 0
 HaveStored block_len bytes before now = now.uncounted ≡ 0 → before.stores * block_len + bytes ≤ now.stores * block_len
-
--- the trail of a pool whose query came, got its least reservation, and then made these entries
-abbrev pub trail_of : ℕ → ℕ → ℕ → ℕ → ℕ → List Entry → List Entry
-trail_of session query limit quota least more = by session (first_events query limit quota least) ++ more
-
--- of pages that a query laid, all was stored but for what its reservation holds, which fits its limit and all memory
-abbrev pub LaidIsStored : Type 0
-LaidIsStored = (blocks block_len session query limit quota least bytes : ℕ) (more : List Entry)
-    → IsHistoryOf blocks block_len session (trail_of session query limit quota least more) → LaysBytes bytes (events_of more)
-    → bytes ≤ written_blocks (trail_of session query limit quota least more) * block_len + min limit (bytes_of block_len blocks)

@@ -19,6 +19,7 @@ use query_run::QueryErr;
 use reservation_tree::PoolErr;
 use std::alloc::Global;
 use std::marker::Brand;
+use std::sync::Wait;
 
 // Why there is no whole answer in the report.
 #[derive(Clone, Copy, Debug, PartialEq, Eq)]
@@ -37,7 +38,8 @@ pub(crate) enum Stop {
 
 // Counts a column of a file, over a pool of these slots, and writes the answer to the report. The source is opened before
 // the pool, and given back in any case; and so are the slots.
-pub(crate) fn count<I: Inputs, R: Sink, D: Slot + Drop>(
+pub(crate) fn count<W: Wait, I: Inputs, R: Sink, D: Slot + Drop>(
+    rt: &W,
     alloc: Global,
     file: &str,
     column: &str,
@@ -66,8 +68,8 @@ pub(crate) fn count<I: Inputs, R: Sink, D: Slot + Drop>(
         written: false,
     };
     let pool = counting_pool();
-    let (ran, watched) = run_watched::<Brand, I::Src, R, D>(
-        alloc, &plan, &pool, slots, &mut left, watched,
+    let (ran, watched) = run_watched::<Brand, W, I::Src, R, D>(
+        rt, alloc, &plan, &pool, slots, &mut left, watched,
     );
     inputs.close(file, left);
     let written = watched.written;

@@ -12,9 +12,11 @@ use crate::count::{Stop, count};
 use crate::report::{refuse, refuse_memory};
 use outside::{Inputs, Sink, Slot};
 use std::alloc::Global;
+use std::sync::Wait;
 
 // Counts a column of a file, and writes the answer or a refusal to the report.
-pub(crate) fn answer_count<I: Inputs, R: Sink, D: Slot + Drop>(
+pub(crate) fn answer_count<W: Wait, I: Inputs, R: Sink, D: Slot + Drop>(
+    rt: &W,
     alloc: Global,
     file: &str,
     column: &str,
@@ -44,7 +46,7 @@ pub(crate) fn answer_count<I: Inputs, R: Sink, D: Slot + Drop>(
     ensures succeeds { AcceptsInput (I.bytes_at inputs.old file.now) (record { file = file.now; column = column.now }) → (Rose (I.faults_at inputs.old file.now) (I.faults_at inputs.new file.now) ⊎ Rose (R.faults report.old) (R.faults report.new) ⊎ HaveFailed (tally_of D.Slot slots.old.items) (tally_of D.Slot slots.new.items)) ⊎ ((result ≡ 0) ⊎ (result ≡ 7) ⊎ (result ≡ 10)) }
     ensures kept { AllStay (I.bytes_at inputs.old) (I.bytes_at inputs.new) × NoneFell (I.faults_at inputs.old) (I.faults_at inputs.new) × (R.faults report.old ≤ R.faults report.new) × ComeBack (tally_of D.Slot slots.old.items) (tally_of D.Slot slots.new.items) }
 {
-    match count(alloc, file, column, inputs, report, slots) {
+    match count(rt, alloc, file, column, inputs, report, slots) {
         Ok(()) => 0,
         Err(Stop::Report) => 9,
         Err(Stop::Memory) => refuse_memory(report),

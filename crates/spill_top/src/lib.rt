@@ -18,7 +18,6 @@ mod report;
 mod run;
 mod selfcheck;
 mod steps;
-mod storing;
 mod top;
 mod watched;
 mod words;

@@ -2,7 +2,7 @@
 
 ghost use Rattle.std.specs.Prelude.{◌≡◌, ◌≤◌, IfErr, IfOk, IfSome, OnOk, is_some, vec_len};
 ghost use Rattle.outside.specs.Counts.{Rose};
-ghost use Rattle.local_pool.specs.Beginning.{memory_of};
+ghost use Rattle.spill_top.specs.Pooled.{memory_of};
 ghost use Rattle.pin_core.specs.Tallies.{tally_of};
 ghost use Rattle.query_plan.specs.Rules.{KeepsQuery};
 ghost use Rattle.query_plan.specs.Sizes.{joins, page_len};
@@ -21,9 +21,11 @@ use pin_core::PoolConf;
 use query_plan::Query;
 use query_run::QueryErr;
 use std::alloc::Global;
+use std::sync::Wait;
 
 // Runs a query over a pool of these slots, of which its pages may take as many as its quota, and tells the lines of its answer.
-pub(crate) fn run_over<S: Source, K: Sink, D: Slot + Drop>(
+pub(crate) fn run_over<W: Wait, S: Source, K: Sink, D: Slot + Drop>(
+    rt: &W,
     alloc: Global,
     query: &Query,
     conf: &PoolConf,
@@ -46,6 +48,16 @@ pub(crate) fn run_over<S: Source, K: Sink, D: Slot + Drop>(
     ensures stored { OnOk result (HaveStored conf.now.block_len (owed query.now (memory_of conf.now) (both_told (S.remaining left.old) (told_in S.remaining right.old))) (tally_of D.Slot slots.old.items) (tally_of D.Slot slots.new.items)) }
     ensures len { vec_len slots.new ≡ vec_len slots.old }
 {
-    let ran = run_pooled(alloc, query, conf, query.quota, slots, left, right, sink)?;
+    let ran = run_pooled(
+        rt,
+        alloc,
+        query,
+        conf,
+        query.quota,
+        slots,
+        left,
+        right,
+        sink,
+    )?;
     Ok(ran.lines)
 }

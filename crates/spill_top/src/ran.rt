@@ -15,10 +15,12 @@ use query_plan::{PlanErr, Query, read_plan};
 use row_codec::Memory;
 use run_report::{Cause, outcome_line};
 use std::alloc::Global;
+use std::sync::Wait;
 
 // Runs the queries of a plan's file over pools of these slots, writes a line for each of them to the report, and answers
 // the status: the first that is not 0.
-pub(crate) fn run<I: Inputs, O: Outputs, R: Sink, D: Slot + Drop>(
+pub(crate) fn run<W: Wait, I: Inputs, O: Outputs, R: Sink, D: Slot + Drop>(
+    rt: &W,
     alloc: Global,
     file: &str,
     inputs: &mut I,
@@ -41,7 +43,7 @@ pub(crate) fn run<I: Inputs, O: Outputs, R: Sink, D: Slot + Drop>(
         Err(PlanErr::Memory) => return refuse_memory(report),
         Err(error) => return refuse_as(alloc, report, 2, Cause::Plan { error }),
     };
-    match run_queries(alloc, &plan, inputs, outputs, slots) {
+    match run_queries(rt, alloc, &plan, inputs, outputs, slots) {
         Ok(ends) => report_all(alloc, report, plan.queries.as_slice(), ends.as_slice()),
         Err(Memory) => refuse_memory(report),
     }

@@ -2,7 +2,7 @@
 
 ghost use Rattle.std.specs.Prelude.{◌≡◌, ◌*◌, ◌≤◌, ℕ, Bool, List, Option, All, IfOk, OnErr, length, map, vec_len};
 ghost use Rattle.outside.specs.Names.{Written};
-ghost use Rattle.local_pool.specs.Beginning.{memory_of};
+ghost use Rattle.spill_top.specs.Pooled.{memory_of};
 ghost use Rattle.pin_core.specs.Tallies.{tally_of};
 ghost use Rattle.pin_core.specs.declared.tally.Tally.{Tally};
 ghost use Rattle.query_plan.specs.Rules.{KeepsQuery, KeepsRules};
@@ -21,9 +21,11 @@ use pin_core::PoolConf;
 use query_plan::{Plan, Query};
 use row_codec::Memory;
 use std::alloc::Global;
+use std::sync::Wait;
 
 // Runs the queries of a plan, one after the other and each over a pool of these slots, and tells how each ended.
-pub(crate) fn run_queries<I: Inputs, O: Outputs, D: Slot + Drop>(
+pub(crate) fn run_queries<W: Wait, I: Inputs, O: Outputs, D: Slot + Drop>(
+    rt: &W,
     alloc: Global,
     plan: &Plan,
     inputs: &mut I,
@@ -53,7 +55,7 @@ pub(crate) fn run_queries<I: Inputs, O: Outputs, D: Slot + Drop>(
     let mut jobs = reserve(alloc, queries, plan.block_len, room)?;
     create_all(queries, &mut jobs, outputs);
     open_all(queries, &mut jobs, inputs);
-    answer_all(alloc, queries, &mut jobs, &conf, slots);
+    answer_all(rt, alloc, queries, &mut jobs, &conf, slots);
     close_all(queries, &mut jobs, inputs);
     finish_all(queries, &mut jobs, outputs);
     let ends = endings(jobs.as_slice(), ends);
@@ -99,7 +101,8 @@ fn open_all<I: Inputs, K: Sink>(queries: &[Query], jobs: &mut Vec<Job<I::Src, K>
 }
 
 // Runs those queries that have not ended, each over a pool of these slots.
-fn answer_all<S: Source, K: Sink, D: Slot + Drop>(
+fn answer_all<W: Wait, S: Source, K: Sink, D: Slot + Drop>(
+    rt: &W,
     alloc: Global,
     queries: &[Query],
     jobs: &mut Vec<Job<S, K>>,
@@ -120,7 +123,7 @@ fn answer_all<S: Source, K: Sink, D: Slot + Drop>(
     ensures stored { (start at : Seen) → AreWorks start (with_slots (tally_of D.Slot slots.old.items) at) conf.now.block_len queries.now (map (work_of S.remaining S.faults K.contents K.faults) jobs.old.items) → StoreOwed conf.now.block_len (memory_of conf.now) start.files queries.now (map (work_of S.remaining S.faults K.contents K.faults) jobs.old.items) (map (work_of S.remaining S.faults K.contents K.faults) jobs.new.items) (tally_of D.Slot slots.old.items) (tally_of D.Slot slots.new.items) }
 {
     for place in 0..queries.len() {
-        answer(alloc, &queries[place], &mut jobs[place], conf, slots);
+        answer(rt, alloc, &queries[place], &mut jobs[place], conf, slots);
     }
 }
 

@@ -2,7 +2,7 @@
 
 ghost use Rattle.std.specs.Prelude.{◌≡◌, ◌≤◌, ℕ, List, Option, IfErr, IfOk, OnOk, None, Some, vec_len};
 ghost use Rattle.outside.specs.Counts.{Rose};
-ghost use Rattle.local_pool.specs.Beginning.{memory_of};
+ghost use Rattle.spill_top.specs.Pooled.{memory_of};
 ghost use Rattle.pin_core.specs.Tallies.{tally_of};
 ghost use Rattle.query_run.specs.Answer.{Numbers, WroteAnswer};
 ghost use Rattle.query_run.specs.Causes.{side_of};
@@ -30,10 +30,12 @@ use query_run::{QueryErr, Ran};
 use row_codec::Memory;
 use run_report::{Outcome, outcome_line};
 use std::alloc::Global;
+use std::sync::Wait;
 use table_gen::TableSource;
 
 // Groups a generated table over a pool of these slots into an output, tells its numbers in the report, and answers the status.
-pub(crate) fn self_check<O: Outputs, R: Sink, D: Slot + Drop>(
+pub(crate) fn self_check<W: Wait, O: Outputs, R: Sink, D: Slot + Drop>(
+    rt: &W,
     alloc: Global,
     check: Check,
     outputs: &mut O,
@@ -51,14 +53,15 @@ pub(crate) fn self_check<O: Outputs, R: Sink, D: Slot + Drop>(
     let Ok(plan) = checking_plan(alloc, check) else {
         return refuse_memory(report);
     };
-    match answer_check(alloc, &plan, check, outputs, slots) {
+    match answer_check(rt, alloc, &plan, check, outputs, slots) {
         Ok(ran) => tell_answer(alloc, report, &ran),
         Err(ending) => tell_ending(alloc, report, &plan, &ending),
     }
 }
 
 // Reserves, creates the output, runs the query and gives the output back.
-fn answer_check<O: Outputs, D: Slot + Drop>(
+fn answer_check<W: Wait, O: Outputs, D: Slot + Drop>(
+    rt: &W,
     alloc: Global,
     plan: &Query,
     check: Check,
@@ -82,7 +85,7 @@ fn answer_check<O: Outputs, D: Slot + Drop>(
     let Ok(mut sink) = outputs.create("selfcheck.csv") else {
         return Err(Ending::Stopped(QueryErr::SinkFault));
     };
-    match run_table(alloc, plan, check, slots, &mut sink) {
+    match run_table(rt, alloc, plan, check, slots, &mut sink) {
         Ok(ran) => match outputs.done("selfcheck.csv", sink, true) {
             Ok(()) => Ok(ran),
             Err(_) => Err(Ending::Stopped(QueryErr::SinkFault)),
@@ -95,7 +98,8 @@ fn answer_check<O: Outputs, D: Slot + Drop>(
 }
 
 // Runs the query over the table, whose pages may take all slots.
-fn run_table<K: Sink, D: Slot + Drop>(
+fn run_table<W: Wait, K: Sink, D: Slot + Drop>(
+    rt: &W,
     alloc: Global,
     plan: &Query,
     check: Check,
@@ -119,7 +123,7 @@ fn run_table<K: Sink, D: Slot + Drop>(
     let mut table = TableSource::new(start, u64::from(check.rows), u64::from(check.groups));
     let mut right = None;
     run_pooled(
-        alloc, plan, &pool, quota, slots, &mut table, &mut right, sink,
+        rt, alloc, plan, &pool, quota, slots, &mut table, &mut right, sink,
     )
 }
 

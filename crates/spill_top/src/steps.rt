@@ -3,7 +3,7 @@
 ghost use Rattle.std.specs.Prelude.{◌≡◌, ◌≤◌, ℕ, Bool, true, IsSome, List, Option, vec_len};
 ghost use Rattle.outside.specs.Counts.{NoneFell};
 ghost use Rattle.outside.specs.Names.{AllStay, TakesFaults, Written};
-ghost use Rattle.local_pool.specs.Beginning.{memory_of};
+ghost use Rattle.spill_top.specs.Pooled.{memory_of};
 ghost use Rattle.pin_core.specs.Tallies.{tally_of};
 ghost use Rattle.pin_core.specs.declared.tally.Tally.{Tally};
 ghost use Rattle.query_plan.specs.Rules.{KeepsQuery};
@@ -22,6 +22,7 @@ use query_plan::{Query, Side};
 use query_run::QueryErr;
 use std::alloc::Global;
 use std::mem;
+use std::sync::Wait;
 
 // Creates the output, unless the query has ended.
 pub(crate) fn create<S: Source, O: Outputs>(
@@ -75,7 +76,8 @@ pub(crate) fn open<I: Inputs, K: Sink>(query: &Query, job: &mut Job<I::Src, K>, 
 }
 
 // Runs the query over a pool of these slots, unless it has ended.
-pub(crate) fn answer<S: Source, K: Sink, D: Slot + Drop>(
+pub(crate) fn answer<W: Wait, S: Source, K: Sink, D: Slot + Drop>(
+    rt: &W,
     alloc: Global,
     query: &Query,
     job: &mut Job<S, K>,
@@ -104,7 +106,7 @@ pub(crate) fn answer<S: Source, K: Sink, D: Slot + Drop>(
     let Some(sink) = &mut job.sink else {
         unreachable!();
     };
-    match run_over(alloc, query, conf, slots, left, &mut job.right, sink) {
+    match run_over(rt, alloc, query, conf, slots, left, &mut job.right, sink) {
         Ok(lines) => job.ended = Some(Ending::Lines(lines)),
         Err(e) => job.ended = Some(Ending::Stopped(e)),
     }

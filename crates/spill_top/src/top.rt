@@ -19,6 +19,7 @@ use crate::report::{refuse_memory, refuse_words};
 use crate::selfcheck::self_check;
 use outside::{Gate, Inputs, Outputs, Sink, Slot};
 use std::alloc::Global;
+use std::sync::Wait;
 
 /// Runs a command and answers its status. The words come without the program's name.
 ///
@@ -55,7 +56,8 @@ use std::alloc::Global;
 /// | 8 | a store to a slot or a load failed |
 /// | 9 | an output, or the report, could not be written |
 /// | 10 | out of memory; when this comes is left open |
-pub fn spill_top<I: Inputs, O: Outputs, R: Sink, D: Slot + Drop, G: Gate>(
+pub fn spill_top<W: Wait, I: Inputs, O: Outputs, R: Sink, D: Slot + Drop, G: Gate>(
+    rt: &W,
     alloc: Global,
     words: &[String],
     inputs: &mut I,
@@ -93,10 +95,10 @@ pub fn spill_top<I: Inputs, O: Outputs, R: Sink, D: Slot + Drop, G: Gate>(
     };
     match found {
         Some(Task::Count { file, column }) => answer_count(
-            alloc, file, column, inputs, report, slots,
+            rt, alloc, file, column, inputs, report, slots,
         ),
-        Some(Task::Run { plan }) => run(alloc, plan, inputs, outputs, report, slots),
-        Some(Task::Check(check)) => self_check(alloc, check, outputs, report, slots),
+        Some(Task::Run { plan }) => run(rt, alloc, plan, inputs, outputs, report, slots),
+        Some(Task::Check(check)) => self_check(rt, alloc, check, outputs, report, slots),
         None => {
             refuse_words(report);
             1

@@ -2,7 +2,7 @@
 
 ghost use Rattle.std.specs.Prelude.{◌≡◌, ◌≤◌, ◌⊎◌, ℕ, [], List, None, Option, Some, IfErr, IsErrOf, IsSome, OnOk, false, true, vec_len};
 ghost use Rattle.std.specs.Io.KnownBytes.{Keeps};
-ghost use Rattle.local_pool.specs.Beginning.{memory_of};
+ghost use Rattle.spill_top.specs.Pooled.{memory_of};
 ghost use Rattle.pin_core.specs.Tallies.{tally_of};
 ghost use Rattle.query_plan.specs.Sizes.{page_len};
 ghost use Rattle.query_run.specs.Causes.{OfPool, side_of};
@@ -24,6 +24,7 @@ use query_plan::{Query, Side};
 use query_run::{QueryErr, Ran};
 use std::alloc::Global;
 use std::marker::{Brand, PhantomData};
+use std::sync::Wait;
 
 // A report, and whether anything was written to it.
 pub(crate) struct Watched<'a, R> {
@@ -69,7 +70,8 @@ impl<'a, R: Sink, B: Start> Sink for Tied<'a, R, B> {
 }
 
 // Runs a query without a right input over a pool with these numbers, whose pages may take all slots.
-pub(crate) fn run_watched<'a, B: Start, S: Source, R: Sink, D: Slot + Drop>(
+pub(crate) fn run_watched<'a, B: Start, W: Wait, S: Source, R: Sink, D: Slot + Drop>(
+    rt: &W,
     alloc: Global,
     plan: &Query,
     conf: &PoolConf,
@@ -105,7 +107,9 @@ pub(crate) fn run_watched<'a, B: Start, S: Source, R: Sink, D: Slot + Drop>(
         watched,
         of: PhantomData,
     };
-    let ran = run_pooled(alloc, plan, conf, quota, slots, left, &mut right, &mut tied);
+    let ran = run_pooled(
+        rt, alloc, plan, conf, quota, slots, left, &mut right, &mut tied,
+    );
     let_go(right);
     let Tied { watched, of: _ } = tied;
     (ran, watched)

@@ -10,6 +10,7 @@ use outside::{MemInputs, MemOutputs, MemSink};
 use runs::{call, check, slots};
 use std::alloc::{AllocError, Global};
 use std::process::Abort;
+use std::sync::Wait;
 use std::test::Fail;
 
 // A call over the file `in.csv`, if it is there, in chunks of 5 bytes with these reads failing, a report with these writes
@@ -42,7 +43,7 @@ fn inputs(alloc: Global, it: Call) -> Result<MemInputs, Fail> {
 }
 
 // Makes the call, and sees its status and its report.
-fn check_call<R: Abort + AllocGlobal>(
+fn check_call<R: Abort + AllocGlobal + Wait>(
     rt: &R,
     it: Call,
     status: u8,

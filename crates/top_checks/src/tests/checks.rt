@@ -3,13 +3,18 @@
 use crate::tests::runs::{Ended, call, check, check_output, slots};
 use outside::{MemInputs, MemOutputs, MemSink};
 use std::process::Abort;
+use std::sync::Wait;
 use std::test::Fail;
 
 // The answer of ten rows from 3 on in five groups, in the order of their paths.
 const ANSWER: &[u8] = b"k,count,sum(v)\n4,2,11\n2,2,9\n3,2,5\n0,2,7\n1,2,13\n";
 
 // What stands behind a check with 64 slots whose output fails at these writes.
-fn checked<R: Abort + AllocGlobal>(rt: &R, words: &[&str], writes: &[u64]) -> Result<Ended, Fail> {
+fn checked<R: Abort + AllocGlobal + Wait>(
+    rt: &R,
+    words: &[&str],
+    writes: &[u64],
+) -> Result<Ended, Fail> {
     let mut outputs = MemOutputs::new(rt.alloc())?;
     outputs.fail("selfcheck.csv", writes)?;
     let report = MemSink::new(rt.alloc(), 7, &[])?;

@@ -2,6 +2,7 @@
 
 use crate::tests::runs::{Fails, File, NOWHERE, check, check_output, run_plan};
 use std::process::Abort;
+use std::sync::Wait;
 use std::test::Fail;
 
 // One query that counts the rows of each key and sums a column.
@@ -74,7 +75,7 @@ const ENDS: (&str, &str) = (
 );
 
 // Runs the sums over these files, where the plan has these texts written anew, and sees what becomes of it.
-fn check_sums<R: Abort + AllocGlobal>(
+fn check_sums<R: Abort + AllocGlobal + Wait>(
     rt: &R,
     edits: &[(&str, &str)],
     files: &[File],

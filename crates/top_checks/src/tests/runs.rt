@@ -4,6 +4,7 @@ use outside::{MemInputs, MemOutputs, MemSink, MemSlot, OpenGate};
 use spill_top::spill_top;
 use std::alloc::{AllocError, Global};
 use std::process::Abort;
+use std::sync::Wait;
 use std::test::Fail;
 
 // A file that is there: its name, its bytes, which come in chunks of 5, and the reads that fail.
@@ -42,7 +43,7 @@ fn owned(alloc: Global, words: &[&str]) -> Result<Vec<String>, AllocError> {
 }
 
 // Makes the top call, which keeps as many slots as there were.
-pub(crate) fn call<R: Abort + AllocGlobal>(
+pub(crate) fn call<R: Abort + AllocGlobal + Wait>(
     rt: &R,
     words: &[&str],
     inputs: &mut MemInputs,
@@ -54,6 +55,7 @@ pub(crate) fn call<R: Abort + AllocGlobal>(
     let count = slots.len();
     assert!(rt; count <= 2000);
     let status = spill_top(
+        rt,
         rt.alloc(),
         words.as_slice(),
         inputs,
@@ -122,7 +124,7 @@ fn outputs_of(alloc: Global, fails: Fails) -> Result<MemOutputs, Fail> {
 }
 
 // Runs such a plan over these slots.
-pub(crate) fn run_over_slots<R: Abort + AllocGlobal>(
+pub(crate) fn run_over_slots<R: Abort + AllocGlobal + Wait>(
     rt: &R,
     text: &str,
     edits: &[(&str, &str)],
@@ -138,7 +140,7 @@ pub(crate) fn run_over_slots<R: Abort + AllocGlobal>(
 }
 
 // The same over 2000 slots that never fail.
-pub(crate) fn run_plan<R: Abort + AllocGlobal>(
+pub(crate) fn run_plan<R: Abort + AllocGlobal + Wait>(
     rt: &R,
     text: &str,
     edits: &[(&str, &str)],

@@ -2,7 +2,7 @@ use Rattle.std.proofs.Common.{◌≡◌, ◌∙◌, ◌⊎◌, IsSome, Some, Err
 use Rattle.outside.specs.Counts.{Rose}
 use Rattle.pin_core.specs.Tallies.{tally_of}
 use Rattle.pin_core.specs.declared.conf.PoolConf.{PoolConf}
-use Rattle.local_pool.specs.Beginning.{memory_of}
+use Rattle.spill_top.specs.Pooled.{memory_of}
 use Rattle.query_plan.specs.Sizes.{page_len}
 use Rattle.query_plan.specs.declared.plan.Query.{Query}
 use Rattle.query_plan.specs.declared.plan.Side.TheVariants.{Left}

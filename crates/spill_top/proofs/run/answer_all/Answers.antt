@@ -1,7 +1,7 @@
 use Rattle.std.proofs.Common.{◌≡◌, ◌∙◌, ◌<◌, ◌≤◌, ℕ, Some, length, map, refl, subst, sym, vec_len, rules}
 use Rattle.std.specs.List.{slice_get}
 use Rattle.std.proofs.lemmas.Option.{slice_get_read}
-use Rattle.local_pool.specs.Beginning.{memory_of}
+use Rattle.spill_top.specs.Pooled.{memory_of}
 use Rattle.pin_core.specs.Tallies.{tally_of}
 use Rattle.pin_core.proofs.Tallied.{counted_more, uncounted_yet}
 use Rattle.spill_top.specs.Jobs.{HasSides, work_of}

@@ -1,5 +1,5 @@
 use Rattle.std.proofs.Common.{◌≡◌, map, vec_len}
-use Rattle.local_pool.specs.Beginning.{memory_of}
+use Rattle.spill_top.specs.Pooled.{memory_of}
 use Rattle.pin_core.specs.Tallies.{tally_of}
 use Rattle.spill_top.specs.Running.{Seen}
 use Rattle.spill_top.specs.Jobs.{HasSides, work_of}

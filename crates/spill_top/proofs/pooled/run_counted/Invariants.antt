@@ -1,0 +1,5 @@
+use Rattle.std.specs.Prelude.{Some}
+use Rattle.spill_top.proofs.pooled.run_counted.Given as goal
+
+abbrev pub ghosts-run_seated : goal.ghosts-run_seated
+ghosts-run_seated g a = record { table = Some a.pool.now }
