@@ -39,6 +39,7 @@ use std::io::IsTerminal;
 use std::process::ExitCode;
 use std::rt::{Clock, Env, Files};
 use std::sync::Wait;
+use std::thread::Threads;
 use std::{env, io};
 
 // The status where standard output failed under a text of the program's own.
@@ -53,7 +54,7 @@ fn main(rt: HostRuntime) -> ExitCode {
 }
 
 // Answers the words that the process was given, and gives the status.
-fn run<R: Files<File = File> + Clock + Env + Print + Eprint + AllocGlobal + Sync + Wait>(
+fn run<R: Files<File = File> + Clock + Env + Print + Eprint + AllocGlobal + Sync + Wait + Threads>(
     rt: &R,
     shows_progress: bool,
 ) -> Result<u8, AllocError> {
@@ -76,11 +77,9 @@ fn status_of(rt: &impl Eprint, printed: io::Result<()>) -> u8 {
 
 // Hands the words, the files and standard output to the top call, and answers its status. A person who can't be told loses
 // nothing: the status stands.
-fn run_command<R: Files<File = File> + Clock + Env + Print + Eprint + AllocGlobal + Sync + Wait>(
-    rt: &R,
-    words: &[String],
-    shows_progress: bool,
-) -> u8 {
+fn run_command<
+    R: Files<File = File> + Clock + Env + Print + Eprint + AllocGlobal + Sync + Wait + Threads,
+>(rt: &R, words: &[String], shows_progress: bool) -> u8 {
     let scratch = Scratch::new(rt);
     let Ok(mut slots) = scratch.slots(rt.alloc(), SLOTS) else {
         return NO_MEMORY;

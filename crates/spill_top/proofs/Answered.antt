@@ -1,12 +1,11 @@
 -- What stands of a query once it was answered.
-use Rattle.std.proofs.Common.{◌≡◌, ◌∙◌, ◌==◌, ◌<◌, inl, inr, ℕ, zero, suc, Bool, true, false, List, [], Option, Some, None, IfSome, IsSome, is_some, refl, sym, subst, ap, arith}
+use Rattle.std.proofs.Common.{◌≡◌, ◌∙◌, ◌<◌, inl, inr, ℕ, zero, suc, Bool, true, false, List, [], Option, Some, None, IfSome, IsSome, is_some, refl, sym, subst, arith}
 use Rattle.std.specs.Option.{IsSomeAnd}
 use Rattle.std.specs.Prelude.{⊤}
 use Rattle.std.proofs.lemmas.Bool.{false≢true}
 use Rattle.outside.specs.Counts.{Rose}
 use Rattle.outside.specs.Names.{Written, fresh}
 use Rattle.outside.specs.Told.{GivesBytes}
-use Rattle.pin_core.specs.declared.tally.Tally.{Tally}
 use Rattle.query_plan.specs.Sizes.{joins, page_len}
 use Rattle.query_plan.specs.declared.plan.Query.{Query}
 use Rattle.query_plan.specs.declared.plan.Side.{Side}
@@ -14,21 +13,20 @@ use Rattle.query_plan.specs.declared.plan.Side.TheVariants.{Left, Right}
 use Rattle.query_plan.specs.declared.plan.SidePlan.{SidePlan}
 use Rattle.query_run.specs.Answer.{WroteAnswer, WroteFront}
 use Rattle.query_run.specs.Both.{HoldsInput, Told, both_told, faults_in, told_in}
-use Rattle.query_run.specs.Causes.{side_of}
+use Rattle.query_run.specs.Causes.{OfPool, side_of}
 use Rattle.query_run.specs.Input.{IsAccepted, IsRefusal, IsRefusalIn}
 use Rattle.query_run.specs.declared.outcome.QueryErr.{QueryErr}
 use Rattle.spill_top.specs.declared.ending.Ending.{Ending}
 use Rattle.spill_top.specs.declared.ending.Ending.TheVariants.{Lines, Stopped}
-use Rattle.spill_top.specs.Steps.{with_slots}
-use Rattle.spill_top.specs.Pooled.{ComeBack, HaveFailed, all_tell}
-use Rattle.spill_top.specs.Running.{HasLines, IsRefusedOn, IsStopped, Seen, told_over}
+use Rattle.spill_top.specs.Pooled.{HaveFailed, IsSharedStop, all_tell}
+use Rattle.spill_top.specs.Running.{HasLines, IsRefusedOn, Seen, SomeSpends, told_over}
 use Rattle.spill_top.specs.declared.job.Job.{Job}
 use Rattle.spill_top.specs.Jobs.{HasFailedOn, HasSides, InputStands, IsWork, LeavesPart, Opened, SinkHolds, faults_of, work_of}
 use Rattle.spill_top.specs.Sides.{RoseOn, at_right, bytes_on, faults_on, if_told, on_sides, told_of}
 use Rattle.spill_top.proofs.Causes.{told_some}
-use Rattle.spill_top.proofs.Loops.{went_slots}
 use Rattle.spill_top.proofs.Sides.{counted, ended_stand, shown, shown_some}
-use Rattle.spill_top.proofs.Works.{pool_later, slots_since, went_on}
+use Rattle.spill_top.proofs.Stopped.{StopsBeside}
+use Rattle.spill_top.proofs.Works.{pool_later}
 
 -- ---- what sources give, where their files are told and all slots tell what they hold
 
@@ -42,11 +40,11 @@ gives_both None right given_left given_right lefts rights = tt
 gives_both (Some left) None given_left given_right lefts rights = tt
 gives_both (Some left) (Some right) given_left given_right lefts rights = rw (lefts, rights) refl
 
--- and where slots tell that still do
-gives-over : (tell tell_now : Bool) (told given : Option Told) → tell_now ≡ tell → GivesTold told given → GivesTold (if_told tell told) (if_told tell_now given)
-gives-over true true told given same gives = gives
-gives-over true false told given same gives = absurd (false≢true same)
-gives-over false tell_now told given same gives = tt
+-- and where slots tell, as far as these do
+gives-over : (tell tell_now : Bool) (told given : Option Told) → (tell ≡ true → tell_now ≡ true) → GivesTold told given → GivesTold (if_told tell told) (if_told tell_now given)
+gives-over true true told given tells gives = gives
+gives-over true false told given tells gives = absurd (false≢true (tells refl))
+gives-over false tell_now told given tells gives = tt
 
 told-answer : (plan : Query) (page : ℕ) (told given : Option Told) (before now : Option (List ℕ)) → GivesTold told given → WroteAnswer plan page given before now → WroteAnswer plan page told before now
 told-answer plan page None given before now gives is = tt
@@ -60,9 +58,9 @@ told-lines : (plan : Query) (page lines : ℕ) (told given : Option Told) → Gi
 told-lines plan page lines None given gives is = tt
 told-lines plan page lines (Some told) given gives is = subst (λ (o : Option Told). IfSome o (HasLines plan page lines)) gives is
 
-told-so : (told given : Option Told) → GivesTold told given → (A : Told → Type 0) → IfSome given A → IfSome told A
-told-so None given gives A is = tt
-told-so (Some told) given gives A is = subst (λ (o : Option Told). IfSome o A) gives is
+pub told_so : (told given : Option Told) → GivesTold told given → (A : Told → Type 0) → IfSome given A → IfSome told A
+told_so None given gives A is = tt
+told_so (Some told) given gives A is = subst (λ (o : Option Told). IfSome o A) gives is
 
 told-right : (plan : Query) (page : ℕ) (why : QueryErr) (asked : Option SidePlan) (told given : Option (List ℕ)) → GivesBytes told given
     → IsSomeAnd asked (λ side. IfSome given (λ bytes. IsRefusalIn plan Right side page bytes why)) → IsSomeAnd asked (λ side. IfSome told (λ bytes. IsRefusalIn plan Right side page bytes why))
@@ -116,56 +114,63 @@ gives-on : (query : Query) (files : List ℕ → Option (List ℕ)) (left right 
 gives-on query files left right lefts rights Left = lefts
 gives-on query files left right lefts rights Right = rights
 
--- ---- the query is answered over slots that are all there again: its right source, if there is one, gives these bytes, and then has these faults
+-- ---- the query is answered over a store that tells what it holds, or not: its right source, if there is one, gives these bytes, and then has these faults
 
-module _ (start seen : Seen) (slots slots_now : Tally) (back : ComeBack slots slots_now) (block_len : ℕ) (query : Query) (refused : Option Ending) (left left_now sink sink_now : Opened) (right right_now : Option Opened)
+module _ (start at : Seen) (block_len : ℕ) (all : List Query) (query : Query) (refused : Option Ending) (left left_now sink sink_now : Opened) (right right_now : Option Opened)
     (bytes : Option (List ℕ)) (gives : GivesBytes (bytes_on query start.files Right) bytes) (kept : is_some right_now ≡ is_some right) where
   -- what the query is given, where that is told
-  abbrev given : Option Told
-  given = if_told (all_tell slots) (both_told left.told bytes)
+  abbrev given : Bool → Option Told
+  given tell = if_told tell (both_told left.told bytes)
 
-  gives-given : IsWork start (with_slots slots seen) block_len query (record { refused = refused; left = Some left; right = right; output = Some sink; ended = None }) → GivesTold (told_over query start) given
-  gives-given is =
-      gives-over (all_tell start.slots) (all_tell slots) (told_of query start.files) (both_told left.told bytes) (ap (λ (n : ℕ). n == 0) is.went.slots.silent)
+  gives-given : (tell : Bool) → (all_tell start.slots ≡ true → tell ≡ true) → IsWork start at block_len all query (record { refused = refused; left = Some left; right = right; output = Some sink; ended = None })
+      → GivesTold (told_over query start) (given tell)
+  gives-given tell tells is =
+      gives-over (all_tell start.slots) tell (told_of query start.files) (both_told left.told bytes) tells
       (gives_both (bytes_on query start.files Left) (bytes_on query start.files Right) left.told bytes ((is.inputs Left).0) gives)
 
-  pub answered_so : (lines : ℕ) → WroteAnswer query (page_len query block_len) given sink.told sink_now.told → IfSome given (HasLines query (page_len query block_len) lines)
-      → IsWork start (with_slots slots seen) block_len query (record { refused = refused; left = Some left; right = right; output = Some sink; ended = None })
-      → IsWork start (with_slots slots_now seen) block_len query (record { refused = refused; left = Some left_now; right = right_now; output = Some sink_now; ended = Some (Lines lines) })
-  answered_so lines wrote many is = record {
-    went = went_on start (with_slots slots seen) (with_slots slots_now seen) is.went (went_slots slots slots_now seen back);
-    ending = (is.ending, told-lines query (page_len query block_len) lines (told_over query start) given (gives-given is) many);
+  answered-so : (tell : Bool) (lines : ℕ) → (all_tell start.slots ≡ true → tell ≡ true) → WroteAnswer query (page_len query block_len) (given tell) sink.told sink_now.told
+      → IfSome (given tell) (HasLines query (page_len query block_len) lines)
+      → IsWork start at block_len all query (record { refused = refused; left = Some left; right = right; output = Some sink; ended = None })
+      → IsWork start at block_len all query (record { refused = refused; left = Some left_now; right = right_now; output = Some sink_now; ended = Some (Lines lines) })
+  answered-so tell lines tells wrote many is = record {
+    went = is.went;
+    ending = (is.ending, told-lines query (page_len query block_len) lines (told_over query start) (given tell) (gives-given tell tells is) many);
     inputs = ended_stand (bytes_on query start.files) (Some left_now) right_now (Lines lines);
     sides = record { only = λ some. is.sides.only (sym kept ∙ some); both = λ on some. absurd cc };
     output = (
       is.output.0,
-      sink-answer query (page_len query block_len) lines (told_over query start) (start.written query.output) (seen.written query.output) sink.told sink_now.told
-          (told-answer query (page_len query block_len) (told_over query start) given sink.told sink_now.told (gives-given is) wrote) is.output.1,
+      sink-answer query (page_len query block_len) lines (told_over query start) (start.written query.output) (at.written query.output) sink.told sink_now.told
+          (told-answer query (page_len query block_len) (told_over query start) (given tell) sink.told sink_now.told (gives-given tell tells is) wrote) is.output.1,
     );
     fresh_sink = λ never. absurd cc;
   }
 
-  pub stopped_so : (faults faults_now : ℕ) (why : QueryErr) → faults ≡ 0 → faults_of right_now ≡ faults_now
-      → IsStopped query (page_len query block_len) (on_sides left.told bytes) given (RoseOn (on_sides left.faults faults) (on_sides left_now.faults faults_now)) (Rose sink.faults sink_now.faults) (HaveFailed slots slots_now) why
-      → LeavesPart query (page_len query block_len) given sink.told sink_now.told (side_of why)
-      → IsWork start (with_slots slots seen) block_len query (record { refused = refused; left = Some left; right = right; output = Some sink; ended = None })
-      → IsWork start (with_slots slots_now seen) block_len query (record { refused = refused; left = Some left_now; right = right_now; output = Some sink_now; ended = Some (Stopped why) })
-  stopped_so faults faults_now why none counted stopped part is = record {
-    went = went_on start (with_slots slots seen) (with_slots slots_now seen) is.went (went_slots slots slots_now seen back);
+  stopped-so : (tell : Bool) (faults faults_now : ℕ) (why : QueryErr) → (all_tell start.slots ≡ true → tell ≡ true) → faults ≡ 0 → faults_of right_now ≡ faults_now
+      → StopsBeside query (page_len query block_len) (on_sides left.told bytes) (RoseOn (on_sides left.faults faults) (on_sides left_now.faults faults_now)) (Rose sink.faults sink_now.faults) why
+      → OfPool (IsSharedStop query (page_len query block_len) (given (all_tell start.slots)) query.quota (HaveFailed start.slots at.slots) (SomeSpends all start)) why
+      → LeavesPart query (page_len query block_len) (given tell) sink.told sink_now.told (side_of why)
+      → IsWork start at block_len all query (record { refused = refused; left = Some left; right = right; output = Some sink; ended = None })
+      → IsWork start at block_len all query (record { refused = refused; left = Some left_now; right = right_now; output = Some sink_now; ended = Some (Stopped why) })
+  stopped-so tell faults faults_now why tells none counted stopped stop part is = record {
+    went = is.went;
     ending = (
       is.ending,
       record {
         refused = λ of. told-refused query (page_len query block_len) why (bytes_on query start.files) (on_sides left.told bytes) (side_of why)
             (gives-on query start.files left.told bytes ((is.inputs Left).0) gives) (stopped.refused of);
-        source_fault = λ side fault. failed-on (faults_on query start.reads) (faults_on query seen.reads) left.faults left_now.faults faults faults_now left_now right_now
+        source_fault = λ side fault. failed-on (faults_on query start.reads) (faults_on query at.reads) left.faults left_now.faults faults faults_now left_now right_now
             ((is.inputs Left).1) none refl counted side (stopped.source_fault side fault);
         sink_fault = λ fault. inr (has-some sink.faults sink_now.faults (is.fresh_sink refl) (stopped.sink_fault fault));
-        pool = pool_later query (page_len query block_len) given (told_over query start) (HaveFailed slots slots_now) (HaveFailed start.slots slots_now) why (told-so (told_over query start) given (gives-given is)) (slots_since start.slots slots slots_now is.went.slots) stopped.pool;
+        pool = pool_later query (page_len query block_len) (given (all_tell start.slots)) (told_over query start) (HaveFailed start.slots at.slots) (HaveFailed start.slots at.slots) (SomeSpends all start) why
+            (told_so (told_over query start) (given (all_tell start.slots)) (gives-given (all_tell start.slots) (λ told. told) is)) (λ failed. failed) stop;
       },
     );
     inputs = ended_stand (bytes_on query start.files) (Some left_now) right_now (Stopped why);
     sides = record { only = λ some. is.sides.only (sym kept ∙ some); both = λ on some. absurd cc };
-    output = (is.output.0, sink-part query (page_len query block_len) (told_over query start) given (start.written query.output) (seen.written query.output) sink.told sink_now.told why (gives-given is) part is.output.1);
+    output = (
+      is.output.0,
+      sink-part query (page_len query block_len) (told_over query start) (given tell) (start.written query.output) (at.written query.output) sink.told sink_now.told why (gives-given tell tells is) part is.output.1,
+    );
     fresh_sink = λ never. absurd cc;
   }
 
@@ -173,12 +178,12 @@ module _ (start seen : Seen) (slots slots_now : Tally) (back : ComeBack slots sl
 
 module _ {S : Type 0} (remaining : S → Option (List ℕ)) (reads : S → ℕ) where
   -- where it joins its right source gives the bytes of its file, and where it doesn't none
-  right-gives : (asked : Option SidePlan) (files : List ℕ → Option (List ℕ)) (right : Option S) → is_some (shown remaining reads right) ≡ is_some asked → InputStands (at_right (Some []) asked files) (shown remaining reads right) None
+  pub right_gives : (asked : Option SidePlan) (files : List ℕ → Option (List ℕ)) (right : Option S) → is_some (shown remaining reads right) ≡ is_some asked → InputStands (at_right (Some []) asked files) (shown remaining reads right) None
       → GivesBytes (at_right (Some []) asked files) (told_in remaining right)
-  right-gives None files None both stands = refl
-  right-gives None files (Some s) both stands = absurd (false≢true (sym both))
-  right-gives (Some side) files None both stands = absurd (false≢true both)
-  right-gives (Some side) files (Some s) both stands = stands.0
+  right_gives None files None both stands = refl
+  right_gives None files (Some s) both stands = absurd (false≢true (sym both))
+  right_gives (Some side) files None both stands = absurd (false≢true both)
+  right_gives (Some side) files (Some s) both stands = stands.0
 
   faultless : (told : Option (List ℕ)) (right : Option S) → InputStands told (shown remaining reads right) None → faults_in reads right ≡ 0
   faultless told None stands = refl
@@ -189,27 +194,28 @@ module _ {S : Type 0} (remaining : S → Option (List ℕ)) (reads : S → ℕ) 
   held (Some s) None holds = absurd holds
   held (Some s) (Some later) holds = refl
 
-  module _ (start seen : Seen) (slots slots_now : Tally) (back : ComeBack slots slots_now) (block_len : ℕ) (query : Query) (refused : Option Ending) (left left_now sink sink_now : Opened) (right right_now : Option S)
+  module _ (start at : Seen) (block_len : ℕ) (all : List Query) (query : Query) (refused : Option Ending) (left left_now sink sink_now : Opened) (right right_now : Option S)
       (holds : HoldsInput reads right right_now) where
-    pub job_answered : (lines : ℕ) → WroteAnswer query (page_len query block_len) (if_told (all_tell slots) (both_told left.told (told_in remaining right))) sink.told sink_now.told
-        → IfSome (if_told (all_tell slots) (both_told left.told (told_in remaining right))) (HasLines query (page_len query block_len) lines)
-        → IsWork start (with_slots slots seen) block_len query (record { refused = refused; left = Some left; right = shown remaining reads right; output = Some sink; ended = None })
-        → IsWork start (with_slots slots_now seen) block_len query (record { refused = refused; left = Some left_now; right = shown remaining reads right_now; output = Some sink_now; ended = Some (Lines lines) })
-    job_answered lines wrote many is =
-        answered_so start seen slots slots_now back block_len query refused left left_now sink sink_now (shown remaining reads right) (shown remaining reads right_now) (told_in remaining right)
-        (right-gives query.right start.files right (is.sides.both refl refl) (is.inputs Right)) (held right right_now holds) lines wrote many is
+    pub job_answered : (tell : Bool) (lines : ℕ) → (all_tell start.slots ≡ true → tell ≡ true)
+        → WroteAnswer query (page_len query block_len) (if_told tell (both_told left.told (told_in remaining right))) sink.told sink_now.told
+        → IfSome (if_told tell (both_told left.told (told_in remaining right))) (HasLines query (page_len query block_len) lines)
+        → IsWork start at block_len all query (record { refused = refused; left = Some left; right = shown remaining reads right; output = Some sink; ended = None })
+        → IsWork start at block_len all query (record { refused = refused; left = Some left_now; right = shown remaining reads right_now; output = Some sink_now; ended = Some (Lines lines) })
+    job_answered tell lines tells wrote many is =
+        answered-so start at block_len all query refused left left_now sink sink_now (shown remaining reads right) (shown remaining reads right_now) (told_in remaining right)
+        (right_gives query.right start.files right (is.sides.both refl refl) (is.inputs Right)) (held right right_now holds) tell lines tells wrote many is
 
-    pub job_stopped : (why : QueryErr)
-        → IsStopped query (page_len query block_len) (on_sides left.told (told_in remaining right)) (if_told (all_tell slots) (both_told left.told (told_in remaining right))) (RoseOn (on_sides left.faults (faults_in reads right)) (on_sides left_now.faults (faults_in reads right_now))) (Rose sink.faults sink_now.faults)
-        (HaveFailed slots slots_now) why
-        → LeavesPart query (page_len query block_len) (if_told (all_tell slots) (both_told left.told (told_in remaining right))) sink.told sink_now.told (side_of why)
-        → IsWork start (with_slots slots seen) block_len query (record { refused = refused; left = Some left; right = shown remaining reads right; output = Some sink; ended = None })
-        → IsWork start (with_slots slots_now seen) block_len query (record { refused = refused; left = Some left_now; right = shown remaining reads right_now; output = Some sink_now; ended = Some (Stopped why) })
-    job_stopped why stopped part is =
-        stopped_so start seen slots slots_now back block_len query refused left left_now sink sink_now (shown remaining reads right) (shown remaining reads right_now) (told_in remaining right)
-        (right-gives query.right start.files right (is.sides.both refl refl) (is.inputs Right)) (held right right_now holds) (faults_in reads right) (faults_in reads right_now) why
-        (faultless (bytes_on query start.files Right) right (is.inputs Right)) (counted remaining reads right_now) stopped part is
+    pub job_stopped : (tell : Bool) (why : QueryErr) → (all_tell start.slots ≡ true → tell ≡ true)
+        → StopsBeside query (page_len query block_len) (on_sides left.told (told_in remaining right)) (RoseOn (on_sides left.faults (faults_in reads right)) (on_sides left_now.faults (faults_in reads right_now))) (Rose sink.faults sink_now.faults) why
+        → OfPool (IsSharedStop query (page_len query block_len) (if_told (all_tell start.slots) (both_told left.told (told_in remaining right))) query.quota (HaveFailed start.slots at.slots) (SomeSpends all start)) why
+        → LeavesPart query (page_len query block_len) (if_told tell (both_told left.told (told_in remaining right))) sink.told sink_now.told (side_of why)
+        → IsWork start at block_len all query (record { refused = refused; left = Some left; right = shown remaining reads right; output = Some sink; ended = None })
+        → IsWork start at block_len all query (record { refused = refused; left = Some left_now; right = shown remaining reads right_now; output = Some sink_now; ended = Some (Stopped why) })
+    job_stopped tell why tells stopped stop part is =
+        stopped-so start at block_len all query refused left left_now sink sink_now (shown remaining reads right) (shown remaining reads right_now) (told_in remaining right)
+        (right_gives query.right start.files right (is.sides.both refl refl) (is.inputs Right)) (held right right_now holds) tell (faults_in reads right) (faults_in reads right_now) why tells
+        (faultless (bytes_on query start.files Right) right (is.inputs Right)) (counted remaining reads right_now) stopped stop part is
 
-  pub sides_there : {K : Type 0} (contents : K → Option (List ℕ)) (writes : K → ℕ) (query : Query) (job : Job S K) (left : S) → HasSides query (work_of remaining reads contents writes job) → job.ended ≡ None
+  pub sides_there : {K St : Type 0} (contents : K → Option (List ℕ)) (writes : K → ℕ) (query : Query) (job : Job S K St) (left : S) → HasSides query (work_of remaining reads contents writes job) → job.ended ≡ None
       → job.left ≡ Some left → is_some job.right ≡ joins query
   sides_there contents writes query job left sides on is = let some : IsSome (shown remaining reads job.left) = rw is refl in shown_some remaining reads job.right ∙ sides.both on some

@@ -1,5 +1,5 @@
 -- A query in whose way nothing stands has its answer, or memory was wanting.
-use Rattle.std.proofs.Common.{◌≡◌, ◌∙◌, ◌*◌, ◌^◌, ◌<◌, ◌≤◌, inl, inr, ℕ, Bool, true, false, List, Option, Some, None, IfSome, refl, sym, ap, subst, arith}
+use Rattle.std.proofs.Common.{◌≡◌, ◌∙◌, ◌*◌, ◌<◌, inl, inr, ℕ, Bool, true, false, List, Option, Some, None, IfSome, refl, sym, ap, subst, arith}
 use Rattle.std.specs.Option.{IsSomeAnd}
 use Rattle.std.proofs.lemmas.Option.{none-some, same_Some}
 use Rattle.reservation_tree.specs.declared.errors.PoolErr.TheVariants as pool
@@ -9,7 +9,7 @@ use Rattle.query_plan.specs.declared.plan.Side.TheVariants.{Left, Right}
 use Rattle.query_plan.specs.declared.plan.SidePlan.{SidePlan}
 use Rattle.query_run.specs.Both.{Told, both_told}
 use Rattle.query_run.specs.Input.{IsAcceptedIn, IsRefusal, IsRefusalIn}
-use Rattle.query_run.specs.Through.{need, rows_through}
+use Rattle.query_run.specs.Through.{need}
 use Rattle.query_run.specs.declared.outcome.QueryErr.{QueryErr}
 use Rattle.query_run.specs.declared.outcome.QueryErr.TheVariants as query
 use Rattle.spill_top.specs.declared.ending.Ending.{Ending}
@@ -28,7 +28,7 @@ each-told true (Some left) None both is = absurd (none-some both is)
 each-told true None right both is = absurd (none-some both is)
 each-told false left right both is = absurd (none-some both is)
 
-module _ (plan : Query) (page : ℕ) (tell : Bool) (bytes : Side → Option (List ℕ)) (R : Side → Type 0) (W F : Type 0) (refused : Option Ending) (clear : IsClear plan page (if_told tell (both_on bytes)) R W F refused) where
+module _ (plan : Query) (page : ℕ) (tell : Bool) (bytes : Side → Option (List ℕ)) (R : Side → Type 0) (W F N : Type 0) (refused : Option Ending) (clear : IsClear plan page (if_told tell (both_on bytes)) R W F N refused) where
   told : (bytes Left ≡ Some clear.both.left) × (bytes Right ≡ Some clear.both.right)
   told = each-told tell (bytes Left) (bytes Right) clear.both clear.told_is
 
@@ -45,7 +45,7 @@ module _ (plan : Query) (page : ℕ) (tell : Bool) (bytes : Side → Option (Lis
   never-refused why (Some Left) is = never-left why is
   never-refused why (Some Right) is = never-right why plan.right clear.accepted.right is.1
 
-  stopped-complete : (why : QueryErr) → IsStopped plan page bytes (if_told tell (both_on bytes)) R W F why → why ≡ query.Pool pool.Memory
+  stopped-complete : (why : QueryErr) → IsStopped plan page bytes (if_told tell (both_on bytes)) R W F N why → why ≡ query.Pool pool.Memory
   stopped-complete (query.SourceFault side) stopped = absurd (clear.read side (stopped.source_fault side refl))
   stopped-complete (query.BadHeader side) stopped = absurd (never-refused (query.BadHeader side) (Some side) (stopped.refused tt))
   stopped-complete (query.BadCsv side number) stopped = absurd (never-refused (query.BadCsv side number) (Some side) (stopped.refused tt))
@@ -61,13 +61,10 @@ module _ (plan : Query) (page : ℕ) (tell : Bool) (bytes : Side → Option (Lis
   stopped-complete (query.Pool (pool.WriteFault entry)) stopped = absurd (clear.stored stopped.pool)
   stopped-complete (query.Pool (pool.ReadFault entry)) stopped = absurd (clear.stored stopped.pool)
   stopped-complete (query.Pool (pool.TooManyTrackers count)) stopped = absurd stopped.pool
-  stopped-complete (query.Pool pool.NamesSpent) stopped =
-      let many : 2 ^ 55 ≤ rows_through plan clear.both = subst (λ (o : Option Told). IfSome o (λ both. 2 ^ 55 ≤ rows_through plan both)) clear.told_is stopped.pool in
-      let few = clear.few in
-      absurd (omega (arith, many, few))
+  stopped-complete (query.Pool pool.NamesSpent) stopped = absurd (clear.few stopped.pool)
   stopped-complete (query.Pool pool.Memory) stopped = refl
 
-  pub complete : (ending : Ending) → IsEnding plan page bytes (if_told tell (both_on bytes)) R W F refused ending → IsComplete ending
+  pub complete : (ending : Ending) → IsEnding plan page bytes (if_told tell (both_on bytes)) R W F N refused ending → IsComplete ending
   complete (Lines lines) so = tt
   complete (Reservation root wanted room) so = absurd (none-some _ (sym clear.reserved ∙ so))
   complete (Stopped why) so = stopped-complete why so.1

@@ -15,7 +15,7 @@ use Rattle.spill_top.specs.declared.ending.Ending.{Ending}
 use Rattle.spill_top.specs.declared.ending.Ending.TheVariants.{Lines, Reservation, Stopped}
 use Rattle.spill_top.specs.Endings.{is_answer}
 use Rattle.spill_top.specs.Pooled.{HaveFailed}
-use Rattle.spill_top.specs.Running.{HasOutput, Holds, HoldsPart, IsPart, Seen, Went, told_over}
+use Rattle.spill_top.specs.Running.{HasOutput, Holds, HoldsPart, IsPart, Seen, SomeSpends, Went, told_over}
 use Rattle.spill_top.specs.Jobs.{HasFailed, HasFailedOn, IsWork, LeavesPart, Opened, SinkHolds}
 use Rattle.spill_top.specs.Sides.{bytes_on, faults_on, on_sides}
 use Rattle.spill_top.proofs.Sides.{ended_stand, faults_kept}
@@ -79,16 +79,16 @@ finished_stopped {E} plan page told (Some before) old now contents (Stopped why)
     held-part plan page told now contents (side_of why) result is.1 (subst (λ (o : Option Written). TakesBytes o now contents false result) is.0 takes)
 
 -- an output was given back, and the ending stays
-pub finished_so : (start old now : Seen) (block_len : ℕ) (query : Query) (refused : Option Ending) (left right : Option Opened) (sink : Opened) (ending : Ending) → Went old now
+pub finished_so : (start old now : Seen) (block_len : ℕ) (all : List Query) (query : Query) (refused : Option Ending) (left right : Option Opened) (sink : Opened) (ending : Ending) → Went old now
     → TakesFaults sink.faults (old.writes query.output) (now.writes query.output)
     → HasOutput query (page_len query block_len) (told_over query start) (start.written query.output) (now.written query.output) ending
-    → IsWork start old block_len query (record { refused = refused; left = left; right = right; output = Some sink; ended = Some ending })
-    → IsWork start now block_len query (record { refused = refused; left = left; right = right; output = None; ended = Some ending })
-finished_so start old now block_len query refused left right sink ending went takes has is = record {
+    → IsWork start old block_len all query (record { refused = refused; left = left; right = right; output = Some sink; ended = Some ending })
+    → IsWork start now block_len all query (record { refused = refused; left = left; right = right; output = None; ended = Some ending })
+finished_so start old now block_len all query refused left right sink ending went takes has is = record {
   went = went_on start old now is.went went;
   ending = so_far_later query (page_len query block_len) (bytes_on query start.files) (told_over query start)
       (HasFailedOn (faults_on query start.reads) (faults_on query old.reads) (on_sides left right)) (HasFailed (start.writes query.output) (old.writes query.output) (Some sink)) (HaveFailed start.slots old.slots)
-      (HasFailedOn (faults_on query start.reads) (faults_on query now.reads) (on_sides left right)) (HasFailed (start.writes query.output) (now.writes query.output) None) (HaveFailed start.slots now.slots) refused (Some ending)
+      (HasFailedOn (faults_on query start.reads) (faults_on query now.reads) (on_sides left right)) (HasFailed (start.writes query.output) (now.writes query.output) None) (HaveFailed start.slots now.slots) (SomeSpends all start) refused (Some ending)
       (λ side. failed_later (faults_on query start.reads side) (faults_on query old.reads side) (faults_on query now.reads side) (on_sides left right side) (faults_kept query old.reads now.reads went.reads side))
       (taken (start.writes query.output) (old.writes query.output) (now.writes query.output) (Some sink) (is.went.writes query.output) (went.writes query.output) takes)
       (slots_later start.slots old.slots now.slots went.slots) is.ending;
@@ -99,12 +99,12 @@ finished_so start old now block_len query refused left right sink ending went ta
 }
 
 -- the end of an output failed, whose query had an answer
-pub not_finished : (start old now : Seen) (block_len lines : ℕ) (query : Query) (refused : Option Ending) (left right : Option Opened) (sink : Opened) → Went old now
+pub not_finished : (start old now : Seen) (block_len lines : ℕ) (all : List Query) (query : Query) (refused : Option Ending) (left right : Option Opened) (sink : Opened) → Went old now
     → Rose (old.writes query.output) (now.writes query.output)
     → HasOutput query (page_len query block_len) (told_over query start) (start.written query.output) (now.written query.output) (Stopped SinkFault)
-    → IsWork start old block_len query (record { refused = refused; left = left; right = right; output = Some sink; ended = Some (Lines lines) })
-    → IsWork start now block_len query (record { refused = refused; left = left; right = right; output = None; ended = Some (Stopped SinkFault) })
-not_finished start old now block_len lines query refused left right sink went rose has is = record {
+    → IsWork start old block_len all query (record { refused = refused; left = left; right = right; output = Some sink; ended = Some (Lines lines) })
+    → IsWork start now block_len all query (record { refused = refused; left = left; right = right; output = None; ended = Some (Stopped SinkFault) })
+not_finished start old now block_len lines all query refused left right sink went rose has is = record {
   went = went_on start old now is.went went;
   ending = (
     is.ending.0,

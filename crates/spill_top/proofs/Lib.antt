@@ -23,19 +23,27 @@ pub mod Answered
 pub mod Stopped
 pub mod Finished
 pub mod Loops
+pub mod Unanswered
+mod Arrived
+mod Departed
+mod Stays
+mod Coming
+mod Stepping
+mod Sessions
+mod Opened
+mod Ready
+mod Gathered
+mod PlanClosed
 pub mod Tops
 pub mod Apart
 pub mod Complete
 pub mod Whole
 pub mod Runnable
 pub mod Ended
-pub mod Reserved
-pub mod Trees
 pub mod Made
 pub mod Sided
 pub mod Fitting
 pub mod Phases
-pub mod Owing
 pub mod Lines
 pub mod Plans
 mod TableRead
@@ -45,3 +53,9 @@ mod CheckPlans
 mod CheckClear
 mod CheckEnds
 mod CheckWords
+mod Shared
+mod SharedNames
+mod SharedStops
+mod SharedStored
+mod Seating
+mod Answering

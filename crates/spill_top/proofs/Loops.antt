@@ -1,18 +1,16 @@
 -- Calls for each query of a plan in turn.
-use Rattle.std.proofs.Common.{◌≡◌, ◌≢◌, ◌∙◌, ◌≤◌, ◌+◌, ℕ, zero, suc, List, [], ◌∷◌, Option, Some, length, map, set, refl, sym, subst, ap, arith}
+use Rattle.std.proofs.Common.{◌≡◌, ◌≢◌, ◌∙◌, ◌≤◌, ◌+◌, ℕ, List, Some, length, map, set, refl, sym, subst, arith}
 use Rattle.std.specs.List.{slice_get}
 use Rattle.std.proofs.lemmas.List.{length-map, map-set}
-use Rattle.std.proofs.lemmas.Option.{same_Some}
-use Rattle.spill_top.specs.declared.ending.Ending.{Ending}
 use Rattle.query_plan.specs.declared.plan.Query.{Query}
 use Rattle.pin_core.specs.declared.tally.Tally.{Tally}
 use Rattle.pin_core.proofs.Tallied.{uncounted_yet}
 use Rattle.spill_top.specs.Pooled.{ComeBack}
 use Rattle.spill_top.specs.Running.{Seen, Went}
-use Rattle.spill_top.specs.Jobs.{IsWork, KeepsWork, Work}
+use Rattle.spill_top.specs.Jobs.{KeepsWork, Work}
 use Rattle.spill_top.specs.Steps.{AreAll, AreWorks, KeepRefused, KeepsWorks, with_slots}
-use Rattle.spill_top.proofs.Places.{Passing, map_get, passing_end, passing_init, passing_step}
-use Rattle.spill_top.proofs.Works.{works_step}
+use Rattle.spill_top.proofs.Places.{Passing, map_get, passing_end, passing_init, passing_step, same_set}
+use Rattle.spill_top.proofs.Works.{work_later, works_step}
 
 -- as far as a place calls were made
 pub record Going (Before After : Work → Type 0) (place : ℕ) (started works : List Work) : Type 0 where
@@ -28,16 +26,11 @@ going_end Before After place started works long going = passing_end Before After
 pub going_now : (Before After : Work → Type 0) (place : ℕ) (started works : List Work) (w : Work) → slice_get works place ≡ Some w → Going Before After place started works → Before w
 going_now Before After place started works w at going = going.passing.waits place w at (omega arith)
 
-refused-there : (works : List Work) (place : ℕ) (w w' : Work) → slice_get works place ≡ Some w → w'.refused ≡ w.refused → set (map (λ (x : Work). x.refused) works) place w'.refused ≡ map (λ (x : Work). x.refused) works
-refused-there [] place w w' at same = refl
-refused-there (x ∷ xs) zero w w' at same = ap (λ (r : Option Ending). r ∷ map (λ (y : Work). y.refused) xs) (same ∙ ap (λ (y : Work). y.refused) (sym (same_Some x w at)))
-refused-there (x ∷ xs) (suc place) w w' at same = ap (λ (rs : List (Option Ending)). x.refused ∷ rs) (refused-there xs place w w' at same)
-
 pub going_step : (Before After : Work → Type 0) (place : ℕ) (started works : List Work) (w w' : Work) → slice_get works place ≡ Some w → w'.refused ≡ w.refused → After w' → Going Before After place started works
     → Going Before After (place + 1) started (set works place w')
 going_step Before After place started works w w' at same after going = record {
   passing = passing_step Before After place works w' going.passing after;
-  refused = map-set (λ (x : Work). x.refused) works place w' ∙ (refused-there works place w w' at same ∙ going.refused);
+  refused = same_set (λ (x : Work). x.refused) works place w w' at same ∙ going.refused;
 }
 
 -- the calls for one query, after those for the queries before it
@@ -46,7 +39,7 @@ pub kept_step : (start old now : Seen) (queries : List Query) (started works : L
     → KeepsWorks start old queries started works → KeepsWork old now query w w' → KeepsWorks start now queries started (set works place w')
 kept_step start old now queries started works place query w w' at_query at went others before call = λ begin block_len are.
     let now_are = before begin block_len are in
-    works_step begin old now block_len queries works place query w' at_query went others now_are (call begin block_len (now_are place query w at_query at))
+    works_step begin old now block_len queries works place query w' at_query went others now_are (call begin block_len queries (now_are place query w at_query at))
 
 pub went_nowhere : (now : Seen) → Went now now
 went_nowhere now = record { files = λ name. refl; reads = λ name. omega arith; created = λ name is. is; writes = λ name. omega arith; slots = uncounted_yet now.slots }
@@ -54,6 +47,11 @@ went_nowhere now = record { files = λ name. refl; reads = λ name. omega arith;
 -- calls that only use the slots
 pub went_slots : (before now : Tally) (at : Seen) → ComeBack before now → Went (with_slots before at) (with_slots now at)
 went_slots before now at back = record { files = λ name. refl; reads = λ name. omega arith; created = λ name is. is; writes = λ name. omega arith; slots = back }
+
+pub works_slots : (start at : Seen) (now : Tally) (block_len : ℕ) (queries : List Query) (works : List Work) → ComeBack at.slots now → AreWorks start at block_len queries works
+    → AreWorks start (with_slots now at) block_len queries works
+works_slots start at now block_len queries works back are = λ place query w at_query at_w.
+    work_later start at (with_slots now at) block_len queries query w (went_slots at.slots now at back) refl (are place query w at_query at_w)
 
 -- the same of what the jobs show
 module _ {J : Type 0} (f : J → Work) where
@@ -75,11 +73,3 @@ module _ {J : Type 0} (f : J → Work) where
   kept_call start old now queries started jobs place query job job' at_query at went others before call =
       subst (λ (works : List Work). KeepsWorks start now queries started works) (sym (map-set f jobs place job'))
       (kept_step start old now queries started (map f jobs) place query (f job) (f job') at_query (map_get f jobs place job at) went others before call)
-
-  pub works_call : (start seen : Seen) (before now : Tally) (block_len : ℕ) (queries : List Query) (jobs : List J) (place : ℕ) (query : Query) (job job' : J) → slice_get queries place ≡ Some query → slice_get jobs place ≡ Some job
-      → ComeBack before now → (IsWork start (with_slots before seen) block_len query (f job) → IsWork start (with_slots now seen) block_len query (f job'))
-      → AreWorks start (with_slots before seen) block_len queries (map f jobs) → AreWorks start (with_slots now seen) block_len queries (map f (set jobs place job'))
-  works_call start seen before now block_len queries jobs place query job job' at_query at back call are =
-      subst (λ (works : List Work). AreWorks start (with_slots now seen) block_len queries works) (sym (map-set f jobs place job'))
-      (works_step start (with_slots before seen) (with_slots now seen) block_len queries (map f jobs) place query (f job') at_query (went_slots before now seen back) (λ j q at_q apart. refl) are
-      (call (are place query (f job) at_query (map_get f jobs place job at))))

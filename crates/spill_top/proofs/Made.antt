@@ -27,13 +27,13 @@ some-mapped : {X Y : Type 0} → (f : X → Y) (o : Option X) → IsSome o → I
 some-mapped f None some = absurd (false≢true some)
 some-mapped f (Some x) some = refl
 
-module _ {S K : Type 0} (remaining : S → Option (List ℕ)) (reads : S → ℕ) (contents : K → Option (List ℕ)) (writes : K → ℕ) where
-  pub made_at : (created : List ℕ → Bool) (queries : List Query) (jobs : List (Job S K)) (place : ℕ) (query : Query) (job : Job S K) → slice_get queries place ≡ Some query → slice_get jobs place ≡ Some job
+module _ {S K St : Type 0} (remaining : S → Option (List ℕ)) (reads : S → ℕ) (contents : K → Option (List ℕ)) (writes : K → ℕ) where
+  pub made_at : (created : List ℕ → Bool) (queries : List Query) (jobs : List (Job S K St)) (place : ℕ) (query : Query) (job : Job S K St) → slice_get queries place ≡ Some query → slice_get jobs place ≡ Some job
       → AreMade created queries (map (work_of remaining reads contents writes) jobs) → IsSome job.sink → created query.output ≡ true
   made_at created queries jobs place query job at_query at made some =
       made place query (work_of remaining reads contents writes job) at_query (map_get (work_of remaining reads contents writes) jobs place job at) (some-mapped _ job.sink some)
 
-  pub made_call : (was is_now : List ℕ → Bool) (queries : List Query) (jobs : List (Job S K)) (place : ℕ) (job : Job S K) → StaysCreated was is_now → (work_of remaining reads contents writes job).output ≡ None
+  pub made_call : (was is_now : List ℕ → Bool) (queries : List Query) (jobs : List (Job S K St)) (place : ℕ) (job : Job S K St) → StaysCreated was is_now → (work_of remaining reads contents writes job).output ≡ None
       → AreMade was queries (map (work_of remaining reads contents writes) jobs) → AreMade is_now queries (map (work_of remaining reads contents writes) (set jobs place job))
   made_call was is_now queries jobs place job stays none made =
       subst (λ (works : List Work). AreMade is_now queries works) (sym (map-set (work_of remaining reads contents writes) jobs place job))

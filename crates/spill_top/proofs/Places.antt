@@ -1,5 +1,5 @@
 -- Lists by their places, one of which is written.
-use Rattle.std.proofs.Common.{◌≡◌, ◌⊎◌, ◌<◌, ◌≤◌, ◌+◌, inl, inr, ℕ, zero, suc, List, [], ◌∷◌, drop, length, map, set, Some, refl, ap, sym, subst, arith}
+use Rattle.std.proofs.Common.{◌≡◌, ◌∙◌, ◌⊎◌, ◌<◌, ◌≤◌, ◌+◌, inl, inr, ℕ, zero, suc, List, [], ◌∷◌, drop, length, map, set, Some, refl, ap, sym, subst, arith}
 use Rattle.std.specs.List.{slice_get}
 use Rattle.std.specs.Prelude.{◌≢◌}
 use Rattle.std.proofs.lemmas.Option.{none-some, same_Some, slice_get_within}
@@ -46,6 +46,12 @@ pub map_get : {X Y : Type 0} → (f : X → Y) (xs : List X) (k : ℕ) (x : X) �
 map_get f [] k x at = absurd (none-some x at)
 map_get f (y ∷ ys) zero x at = ap (λ z. Some (f z)) (same_Some y x at)
 map_get f (y ∷ ys) (suc k) x at = map_get f ys k x at
+
+-- what is the same of the one that is written stays the same of all
+pub same_set : {X Y : Type 0} → (f : X → Y) (xs : List X) (k : ℕ) (x y : X) → slice_get xs k ≡ Some x → f y ≡ f x → map f (set xs k y) ≡ map f xs
+same_set f [] k x y at same = refl
+same_set f (z ∷ zs) zero x y at same = ap (λ w. w ∷ map f zs) (same ∙ ap f (sym (same_Some z x at)))
+same_set f (z ∷ zs) (suc k) x y at same = ap (λ ws. f z ∷ ws) (same_set f zs k x y at same)
 
 -- what stands from a place on
 drop-suc : {X : Type 0} → (xs : List X) (k : ℕ) (x : X) → slice_get xs k ≡ Some x → drop k xs ≡ x ∷ drop (suc k) xs

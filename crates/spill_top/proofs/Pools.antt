@@ -61,21 +61,21 @@ less failures blocks before now counted = record {
 }
 
 -- a failure that the pool shows is one of its slots
-failed : (old new : Signs) (failures blocks : ℕ) (before now : Tally) → Counted failures blocks before now → new.failures ≤ failures → old.failures < new.failures → HaveFailed before now
+pub failed : (old new : Signs) (failures blocks : ℕ) (before now : Tally) → Counted failures blocks before now → new.failures ≤ failures → old.failures < new.failures → HaveFailed before now
 failed old new failures blocks before now counted told rose = λ free.
     let more = counted.failed free in
     omega (arith, rose, told, more)
 
 -- where slots tell, a pool tells its query what it holds
-if-tells : (tell : Bool) (told : Option Told) (A : Told → Type 0) → (tell ≡ true → IfSome told A) → IfSome (if_told tell told) A
+pub if-tells : (tell : Bool) (told : Option Told) (A : Told → Type 0) → (tell ≡ true → IfSome told A) → IfSome (if_told tell told) A
 if-tells true told A is = is refl
 if-tells false told A is = tt
 
-some-so : (A B : Told → Type 0) (told : Option Told) → ((both : Told) → A both → B both) → IfSome told A → IfSome told B
+pub some-so : (A B : Told → Type 0) (told : Option Told) → ((both : Told) → A both → B both) → IfSome told A → IfSome told B
 some-so A B None so is = tt
 some-so A B (Some both) so is = so both is
 
-names-more : (a b : List Entry) → length (names_in (a ++ b)) ≡ length (names_in a) + length (names_in b)
+pub names-more : (a b : List Entry) → length (names_in (a ++ b)) ≡ length (names_in a) + length (names_in b)
 names-more a b = ap length (filter_map-append (λ (e : Entry). name_in e.event) a b) ∙ length-append (names_in a) (names_in b)
 
 many-names : (rows made : ℕ) → 18446744073709551615 ≤ made → made ≤ 16 * rows → 2 ^ 55 ≤ rows
@@ -97,7 +97,7 @@ spent_names plan told tell o m k first last before now zero came none own alone 
     many-names (rows_through plan both) (length (names_in more)) least few.2) (made tells))
 
 -- where fewer slots were free than the query needs, its quota lacks them
-lacks-slots : (plan : Query) (page quota : ℕ) (told : Option Told) (start : Holdings) (blocks free : ℕ) → start.free_slots ≡ Some quota → page_len plan start.block_len ≡ page
+pub lacks-slots : (plan : Query) (page quota : ℕ) (told : Option Told) (start : Holdings) (blocks free : ℕ) → start.free_slots ≡ Some quota → page_len plan start.block_len ≡ page
     → IfSome told (λ both. IsWantBelow (need plan (page_len plan start.block_len) both * plan.page_blocks) start.free_slots (pool.ScratchFull blocks free))
     → IfSome told (λ both. quota < need plan page both * plan.page_blocks)
 lacks-slots plan page quota told start blocks free is paged enough =

@@ -50,7 +50,7 @@ module _ (m : ℕ) where
   )
 
   -- with none of these entries the session comes
-  abbrev Never : List Entry → Type 0
+  abbrev pub Never : List Entry → Type 0
   Never h = AllByRecursion (λ e. (e.maker ≢ m) ⊎ (opens e.event ≡ false)) h
 
   -- it comes with one of them at most, before which others made all
@@ -69,7 +69,7 @@ module _ (m : ℕ) where
   begins_none e (inl other) = ap (λ (b : Bool). b && opens e.event) (ne_eqb e.maker m other)
   begins_none e (inr old) = ap (λ (b : Bool). is_by m e && b) old ∙ none_after (is_by m e)
 
-  kept_on : (kept h : List Entry) → Never h → since begins kept h ≡ kept ++ h
+  pub kept_on : (kept h : List Entry) → Never h → since begins kept h ≡ kept ++ h
   kept_on kept [] never = sym (append-nil kept)
   kept_on kept (e ∷ h) never =
       ap (λ (b : Bool). since begins (if b then e ∷ [] else kept ++ e ∷ []) h) (begins_none e never.0)
@@ -93,7 +93,7 @@ module _ (m : ℕ) where
   all_own kept (e ∷ h) none (inr never) =
       ap (filter (is_by m)) (kept_on (if begins e then e ∷ [] else kept ++ e ∷ []) h never) ∙ either (begins e) kept e h none
 
-  never_in : (items : List Item) → AllByRecursion IsMarked items → needed needs_of door items ≡ 0 → Never (history items)
+  pub never_in : (items : List Item) → AllByRecursion IsMarked items → needed needs_of door items ≡ 0 → Never (history items)
   never_in [] marked none = tt
   never_in (Seated e ∷ items) marked none =
       let never : 1 ≡ 0 = first_none 1 (same door e.maker + 0) (first_none (times door (needs_of (Seated e))) (needed needs_of door items) none) in

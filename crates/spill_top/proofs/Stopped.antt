@@ -1,4 +1,4 @@
--- Why a query stopped over a pool of its own, what it left in its sink then, and how many lines it has, by what it says of both inputs.
+-- Why a query stopped beside its pool, what it left in its sink then, and how many lines it has, by what it says of both inputs.
 use Rattle.std.proofs.Common.{◌≡◌, ◌⊎◌, inl, inr, ℕ, Bool, true, false, List, Option, Some, None, IfSome, IsSome, refl, ap}
 use Rattle.std.specs.Option.{IsSomeAnd}
 use Rattle.outside.specs.Counts.{Rose}
@@ -8,16 +8,21 @@ use Rattle.query_plan.specs.declared.plan.Side.TheVariants.{Left, Right}
 use Rattle.query_plan.specs.declared.plan.SidePlan.{SidePlan}
 use Rattle.query_run.specs.Answer.{Numbers, WroteAnswer, WroteFront, answer_text}
 use Rattle.query_run.specs.Both.{Told}
-use Rattle.query_run.specs.Causes.{IsOfBytes, IsSourceFault, OfPool, side_of}
+use Rattle.query_run.specs.Causes.{IsOfBytes, IsSourceFault, side_of}
 use Rattle.query_run.specs.Input.{IsAccepted, IsRefusalIn}
 use Rattle.query_run.specs.Refused.{SaysOfInputs, SaysOfRight, Source}
 use Rattle.query_run.specs.declared.outcome.QueryErr.{QueryErr}
 use Rattle.query_run.specs.declared.outcome.QueryErr.TheVariants as query
 use Rattle.query_run.specs.declared.outcome.Ran.{Ran}
 use Rattle.spill_top.specs.Jobs.{LeavesPart}
-use Rattle.spill_top.specs.Pooled.{IsPoolStop}
-use Rattle.spill_top.specs.Running.{HasLines, IsRefusedOn, IsStopped}
+use Rattle.spill_top.specs.Running.{HasLines, IsRefusedOn}
 use Rattle.spill_top.specs.Sides.{RoseOn, if_told, on_sides}
+
+-- why it stopped, but for its pool: the bytes of the input that the cause names are refused for this; or reading that input, or writing, has failed
+pub record StopsBeside (plan : Query) (page : ℕ) (bytes : Side → Option (List ℕ)) (read_failed : Side → Type 0) (write_failed : Type 0) (why : QueryErr) : Type 0 where
+  pub refused : IsOfBytes why → IsSomeAnd (side_of why) (IsRefusedOn plan page bytes why)
+  pub source_fault : (side : Side) → why ≡ query.SourceFault side → read_failed side
+  pub sink_fault : why ≡ query.SinkFault → write_failed
 
 -- what bytes are refused for names their side
 sided : (why : QueryErr) → IsOfBytes why → side_of why ≡ None → ⊥
@@ -56,10 +61,9 @@ module _ (plan : Query) (page : ℕ) (lefts rights : Source) (why : QueryErr) wh
   fault-of says Right is = fault-right plan.right (says.right (ap side_of is)) (Right, is)
 
   -- so it stopped for this
-  pub stopped_for : (told : Option Told) (write_failed slots_failed : Type 0) → SaysOfInputs plan page lefts rights why → (why ≡ query.SinkFault → write_failed)
-      → OfPool (IsPoolStop plan page told plan.quota slots_failed) why
-      → IsStopped plan page (on_sides lefts.told rights.told) told (RoseOn (on_sides lefts.faults rights.faults) (on_sides lefts.faults_now rights.faults_now)) write_failed slots_failed why
-  stopped_for told write_failed slots_failed says sink stop = record { refused = refused-of says; source_fault = fault-of says; sink_fault = sink; pool = stop }
+  pub stopped_for : (write_failed : Type 0) → SaysOfInputs plan page lefts rights why → (why ≡ query.SinkFault → write_failed)
+      → StopsBeside plan page (on_sides lefts.told rights.told) (RoseOn (on_sides lefts.faults rights.faults) (on_sides lefts.faults_now rights.faults_now)) write_failed why
+  stopped_for write_failed says sink = record { refused = refused-of says; source_fault = fault-of says; sink_fault = sink }
 
 -- what is said of what is told where slots tell what they hold
 pub answer_told : (plan : Query) (page : ℕ) (tell : Bool) (told : Option Told) (before now : Option (List ℕ)) → (tell ≡ true → WroteAnswer plan page told before now) → WroteAnswer plan page (if_told tell told) before now

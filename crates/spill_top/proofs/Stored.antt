@@ -58,7 +58,7 @@ alone whole m law =
 
 module _ (o : Opening) (whole : List Entry) (m query limit quota least : ℕ) (legal : IsLegal o whole) where
   -- where the session's entries begin with its opening, and then laid pages of so many bytes, these were stored, but for what the memory holds
-  stored : (own went more : List Entry) (bytes : ℕ) → LaidIsStored → made_by whole m ≡ own ++ went → own ≡ history (beginning_items m query limit quota least) ++ more → LaysBytes bytes (events_of more)
+  pub stored : (own went more : List Entry) (bytes : ℕ) → LaidIsStored → made_by whole m ≡ own ++ went → own ≡ history (beginning_items m query limit quota least) ++ more → LaysBytes bytes (events_of more)
       → bytes ≤ written_for m whole * o.block_len + min limit (bytes_of o.block_len o.blocks)
   stored own went more bytes law made begins lays =
       let it : Parted more lays.laid = parted more lays.laid lays.later lays.split in
@@ -92,7 +92,7 @@ module _ (o : Opening) (whole : List Entry) (m query limit quota least : ℕ) (l
       beyond before.stores now.stores (written_blocks whole) o.block_len (spill plan both) (min plan.limit (bytes_of o.block_len o.blocks)) (counted.stores all) least_most
 
 -- what a query kept over such a session was laid there
-laid_over : (plan : Query) (page : ℕ) (lefts rights : Option (List ℕ)) (o : Opening) (k m : ℕ) (first last : List Entry) → KeptIsLaid → IsRunnable plan → KeptRows plan page lefts rights (signs_in o k first).trail (signs_in o m last).trail
+pub laid_over : (plan : Query) (page : ℕ) (lefts rights : Option (List ℕ)) (o : Opening) (k m : ℕ) (first last : List Entry) → KeptIsLaid → IsRunnable plan → KeptRows plan page lefts rights (signs_in o k first).trail (signs_in o m last).trail
     → LaysSpill plan (both_told lefts rights) (Some (made_by first k)) (Some (made_by last m))
 unfolding signs_in
 laid_over plan page lefts rights o k m first last law runs kept = law plan page lefts rights (Some (made_by first k)) (Some (made_by last m)) runs kept

@@ -14,8 +14,8 @@ use Rattle.spill_top.specs.declared.ending.Ending.{Ending}
 use Rattle.spill_top.specs.declared.ending.Ending.TheVariants.{Lines, Reservation, Stopped}
 use Rattle.spill_top.specs.Reserving.{refusal, refusals, room_behind}
 use Rattle.spill_top.specs.Pooled.{HaveFailed, all_tell}
-use Rattle.spill_top.specs.Running.{HasEnded, HaveEnded, IsEnding, Seen, told_over}
-use Rattle.spill_top.specs.Jobs.{HasFailed, HasFailedOn, HasNone, IsSoFar, IsWork, Opened, Work, begun, work_of}
+use Rattle.spill_top.specs.Running.{HasEnded, HaveEnded, IsEnding, Seen, SomeSpends, told_over}
+use Rattle.spill_top.specs.Jobs.{HasFailed, HasFailedOn, HasNone, IsSoFar, IsWork, Opened, Work, begun}
 use Rattle.spill_top.specs.Sides.{RoseOn, bytes_on, faults_on, on_sides}
 use Rattle.spill_top.specs.Steps.{AreAll, AreWorks, IsBegun, IsDone}
 use Rattle.spill_top.proofs.Loops.{went_nowhere}
@@ -43,11 +43,11 @@ reserved_at block_len room (query ∷ queries) zero refused at =
 reserved_at block_len room (query ∷ queries) (suc place) refused at =
     reserved_at block_len (room_behind (refusal query.limit (least_of query block_len) room) (least_of query block_len) room) queries place refused at
 
-first-so-far : (plan : Query) (page : ℕ) (bytes : Side → Option (List ℕ)) (told : Option Told) (R : Side → Type 0) (W F : Type 0) (refused : Option Ending) → IsReserved refused → IsSoFar plan page bytes told R W F refused refused
-first-so-far plan page bytes told R W F None is = refl
-first-so-far plan page bytes told R W F (Some (Reservation root wanted room)) is = refl
-first-so-far plan page bytes told R W F (Some (Lines lines)) is = absurd is
-first-so-far plan page bytes told R W F (Some (Stopped why)) is = absurd is
+first-so-far : (plan : Query) (page : ℕ) (bytes : Side → Option (List ℕ)) (told : Option Told) (R : Side → Type 0) (W F N : Type 0) (refused : Option Ending) → IsReserved refused → IsSoFar plan page bytes told R W F N refused refused
+first-so-far plan page bytes told R W F N None is = refl
+first-so-far plan page bytes told R W F N (Some (Reservation root wanted room)) is = refl
+first-so-far plan page bytes told R W F N (Some (Lines lines)) is = absurd is
+first-so-far plan page bytes told R W F N (Some (Stopped why)) is = absurd is
 
 has-none : (refused : Option Ending) → IsReserved refused → HasNone refused
 has-none None is = tt
@@ -55,11 +55,10 @@ has-none (Some (Reservation root wanted room)) is = tt
 has-none (Some (Lines lines)) is = absurd is
 has-none (Some (Stopped why)) is = absurd is
 
-first-is : (start : Seen) (block_len : ℕ) (query : Query) (refused : Option Ending) → IsReserved refused
-    → IsWork start start block_len query (record { refused = refused; left = None; right = None; output = None; ended = refused })
-first-is start block_len query refused is = record {
+first-is : (start : Seen) (block_len : ℕ) (all : List Query) (query : Query) (refused : Option Ending) → IsReserved refused → IsWork start start block_len all query (begun refused)
+first-is start block_len all query refused is = record {
   went = went_nowhere start;
-  ending = first-so-far query (page_len query block_len) (bytes_on query start.files) (told_over query start) (HasFailedOn (faults_on query start.reads) (faults_on query start.reads) (on_sides None None)) _ _ refused is;
+  ending = first-so-far query (page_len query block_len) (bytes_on query start.files) (told_over query start) (HasFailedOn (faults_on query start.reads) (faults_on query start.reads) (on_sides None None)) _ _ _ refused is;
   inputs = none_stand (bytes_on query start.files) refused;
   sides = no_sides query refused refused None;
   output = inl (has-none refused is, refl);
@@ -69,21 +68,19 @@ first-is start block_len query refused is = record {
 abbrev Same : Work → Work → Type 0
 Same a b = a ≡ b
 
-module _ {S K : Type 0} (remaining : S → Option (List ℕ)) (reads : S → ℕ) (contents : K → Option (List ℕ)) (writes : K → ℕ) where
-  -- what stands at a place of the first of all lists
-  at-first : (all : List (Option Ending)) (place : ℕ) (w : Work) → slice_get (map (work_of remaining reads contents writes) (map begun all)) place ≡ Some w
-      → (refused : Option Ending) × (slice_get all place ≡ Some refused) × Same (record { refused = refused; left = None; right = None; output = None; ended = refused }) w
-  at-first [] place w at = absurd (none-some w at)
-  at-first (refused ∷ rest) zero w at = (refused, refl, same_Some _ w at)
-  at-first (refused ∷ rest) (suc place) w at = at-first rest place w at
+-- what stands at a place of the first of all lists
+at-first : (all : List (Option Ending)) (place : ℕ) (w : Work) → slice_get (map begun all) place ≡ Some w → (refused : Option Ending) × (slice_get all place ≡ Some refused) × Same (begun refused) w
+at-first [] place w at = absurd (none-some w at)
+at-first (refused ∷ rest) zero w at = (refused, refl, same_Some _ w at)
+at-first (refused ∷ rest) (suc place) w at = at-first rest place w at
 
-  pub begun_all : (all : List (Option Ending)) → AreAll IsBegun (map (work_of remaining reads contents writes) (map begun all))
-  begun_all all = λ place w at. let one = at-first all place w at in subst (λ (x : Work). IsBegun x) one.2 (refl, refl, refl)
+pub begun_all : (all : List (Option Ending)) → AreAll IsBegun (map begun all)
+begun_all all = λ place w at. let one = at-first all place w at in subst (λ (x : Work). IsBegun x) one.2 (refl, refl, refl)
 
-  pub begun_works : (start : Seen) (block_len room : ℕ) (queries : List Query) → AreWorks start start block_len queries (map (work_of remaining reads contents writes) (map begun (refusals block_len room queries)))
-  begun_works start block_len room queries = λ place query w at_query at.
-      let one = at-first (refusals block_len room queries) place w at in
-      subst (λ (x : Work). IsWork start start block_len query x) one.2 (first-is start block_len query one.0 (reserved_at block_len room queries place one.0 one.1))
+pub begun_works : (start : Seen) (block_len room : ℕ) (queries : List Query) → AreWorks start start block_len queries (map begun (refusals block_len room queries))
+begun_works start block_len room queries = λ place query w at_query at.
+    let one = at-first (refusals block_len room queries) place w at in
+    subst (λ (x : Work). IsWork start start block_len queries query x) one.2 (first-is start block_len queries query one.0 (reserved_at block_len room queries place one.0 one.1))
 
 -- what is mapped from something
 map_back : {X Y : Type 0} → (f : X → Y) (xs : List X) (k : ℕ) (y : Y) → slice_get (map f xs) k ≡ Some y → (x : X) × (slice_get xs k ≡ Some x) × (f x ≡ y)
@@ -109,19 +106,19 @@ none-more : (before now : Side → ℕ) (side : Side) → HasFailedOn before now
 none-more before now Left failed = no-more (before Left) (now Left) failed
 none-more before now Right failed = no-more (before Right) (now Right) failed
 
-ended-work : (start now : Seen) (block_len : ℕ) (query : Query) (refused : Option Ending) (ending : Ending)
-    → IsWork start now block_len query (record { refused = refused; left = None; right = None; output = None; ended = Some ending }) → HasEnded start now block_len refused query ending
-ended-work start now block_len query refused ending is =
+ended-work : (start now : Seen) (block_len : ℕ) (all : List Query) (query : Query) (refused : Option Ending) (ending : Ending)
+    → IsWork start now block_len all query (record { refused = refused; left = None; right = None; output = None; ended = Some ending }) → HasEnded start now block_len all refused query ending
+ended-work start now block_len all query refused ending is =
     let so : IsEnding query (page_len query block_len) (bytes_on query start.files) (told_over query start) (RoseOn (faults_on query start.reads) (faults_on query now.reads)) (Rose (start.writes query.output) (now.writes query.output))
-    (HaveFailed start.slots now.slots) refused ending =
+    (HaveFailed start.slots now.slots) (SomeSpends all start) refused ending =
     ending_later query (page_len query block_len) (bytes_on query start.files) (told_over query start)
     (HasFailedOn (faults_on query start.reads) (faults_on query now.reads) (on_sides None None)) (HasFailed (start.writes query.output) (now.writes query.output) None) (HaveFailed start.slots now.slots)
-    (RoseOn (faults_on query start.reads) (faults_on query now.reads)) (Rose (start.writes query.output) (now.writes query.output)) (HaveFailed start.slots now.slots) refused ending
+    (RoseOn (faults_on query start.reads) (faults_on query now.reads)) (Rose (start.writes query.output) (now.writes query.output)) (HaveFailed start.slots now.slots) (SomeSpends all start) refused ending
     (none-more (faults_on query start.reads) (faults_on query now.reads)) (no-more (start.writes query.output) (now.writes query.output)) (λ failed. failed) is.ending in
     record {
       so = so;
       completes = λ clear. complete query (page_len query block_len) (all_tell start.slots) (bytes_on query start.files) (RoseOn (faults_on query start.reads) (faults_on query now.reads)) (Rose (start.writes query.output) (now.writes query.output))
-          (HaveFailed start.slots now.slots) refused clear ending so;
+          (HaveFailed start.slots now.slots) (SomeSpends all start) refused clear ending so;
       output = is.output;
     }
 
@@ -141,5 +138,5 @@ all_ended start now block_len queries works refused ends are done same alike = �
     let refusal_is : slice_get refused place ≡ Some w.refused = subst (λ (list : List (Option Ending)). slice_get list place ≡ Some w.refused) same (map_at (λ (x : Work). x.refused) works place w one.1) in
     let shape : w ≡ record { refused = w.refused; left = None; right = None; output = None; ended = Some ending } =
     same-work w.refused w.left w.right w.output w.ended ending closed.1 closed.2 closed.3 one.2 in
-    subst (λ (r : Option Ending). HasEnded start now block_len r query ending) (sym (ap option_flatten refusal_is))
-    (ended-work start now block_len query w.refused ending (subst (λ (x : Work). IsWork start now block_len query x) shape is))
+    subst (λ (r : Option Ending). HasEnded start now block_len queries r query ending) (sym (ap option_flatten refusal_is))
+    (ended-work start now block_len queries query w.refused ending (subst (λ (x : Work). IsWork start now block_len queries query x) shape is))

@@ -17,8 +17,8 @@ use Rattle.query_run.specs.declared.outcome.QueryErr.{QueryErr}
 use Rattle.query_run.specs.declared.outcome.QueryErr.TheVariants as query
 use Rattle.spill_top.specs.declared.ending.Ending.{Ending}
 use Rattle.spill_top.specs.declared.ending.Ending.TheVariants.{Lines, Reservation, Stopped}
-use Rattle.spill_top.specs.Pooled.{ComeBack, HaveFailed, IsPoolStop}
-use Rattle.spill_top.specs.Running.{HasOutput, IsEnding, IsStopped, Seen, Went, told_over}
+use Rattle.spill_top.specs.Pooled.{ComeBack, HaveFailed, IsSharedStop}
+use Rattle.spill_top.specs.Running.{HasOutput, IsEnding, IsStopped, Seen, SomeSpends, Went, told_over}
 use Rattle.spill_top.specs.Jobs.{HasFailed, HasFailedOn, IsSoFar, IsWork, Opened, OutputStands, SinkHolds, Work, faults_of, inputs_of}
 use Rattle.spill_top.specs.Sides.{bytes_on, faults_on}
 use Rattle.spill_top.specs.Steps.{AreWorks}
@@ -48,12 +48,6 @@ slots_later before mid now back failed = λ free.
     let rose = failed (omega (arith, free, short)) in
     omega (arith, rose, more)
 
-pub slots_since : (before mid now : Tally) → ComeBack before mid → HaveFailed mid now → HaveFailed before now
-slots_since before mid now back failed = λ free.
-    let less = back.never_fall in
-    let rose = failed free in
-    omega (arith, rose, less)
-
 pub failed_later : (before mid now : ℕ) (thing : Option Opened) → mid ≤ now → HasFailed before mid thing → HasFailed before now thing
 failed_later before mid now thing more (inl rose) = inl (rose_later before mid now rose more)
 failed_later before mid now thing more (inr has) = inr has
@@ -64,42 +58,42 @@ taken before old now thing less more takes (inl rose) = inl (rose_later before o
 taken before old now thing less more takes (inr has) = inl (rose_since before old now less (takes has))
 
 -- what a pool stopped a query with, once the failure is known by another fact
-stop-later : (plan : Query) (page : ℕ) (given told : Option Told) (F F' : Type 0) (why : PoolErr) → ((A : Told → Type 0) → IfSome given A → IfSome told A) → (F → F')
-    → IsPoolStop plan page given plan.quota F why → IsPoolStop plan page told plan.quota F' why
-stop-later plan page given told F F' (pool.NoReservation tracker wanted room) tells slots is = is
-stop-later plan page given told F F' (pool.ScratchFull blocks free) tells slots is = (is.0, tells _ is.1)
-stop-later plan page given told F F' (pool.WriteFault entry) tells slots is = slots is
-stop-later plan page given told F F' (pool.ReadFault entry) tells slots is = slots is
-stop-later plan page given told F F' (pool.TooManyTrackers count) tells slots is = is
-stop-later plan page given told F F' pool.NamesSpent tells slots is = tells _ is
-stop-later plan page given told F F' pool.Memory tells slots is = is
+stop-later : (plan : Query) (page : ℕ) (given told : Option Told) (F F' N : Type 0) (why : PoolErr) → ((A : Told → Type 0) → IfSome given A → IfSome told A) → (F → F')
+    → IsSharedStop plan page given plan.quota F N why → IsSharedStop plan page told plan.quota F' N why
+stop-later plan page given told F F' N (pool.NoReservation tracker wanted room) tells slots is = is
+stop-later plan page given told F F' N (pool.ScratchFull blocks free) tells slots is = (is.0, tells _ is.1)
+stop-later plan page given told F F' N (pool.WriteFault entry) tells slots is = slots is
+stop-later plan page given told F F' N (pool.ReadFault entry) tells slots is = slots is
+stop-later plan page given told F F' N (pool.TooManyTrackers count) tells slots is = is
+stop-later plan page given told F F' N pool.NamesSpent tells slots is = is
+stop-later plan page given told F F' N pool.Memory tells slots is = is
 
-pub pool_later : (plan : Query) (page : ℕ) (given told : Option Told) (F F' : Type 0) (why : QueryErr) → ((A : Told → Type 0) → IfSome given A → IfSome told A) → (F → F')
-    → OfPool (IsPoolStop plan page given plan.quota F) why → OfPool (IsPoolStop plan page told plan.quota F') why
-pool_later plan page given told F F' (query.SourceFault side) tells slots is = is
-pool_later plan page given told F F' (query.BadHeader side) tells slots is = is
-pool_later plan page given told F F' (query.BadCsv side number) tells slots is = is
-pool_later plan page given told F F' (query.BadField side number column) tells slots is = is
-pool_later plan page given told F F' (query.TooLarge side) tells slots is = is
-pool_later plan page given told F F' (query.RowTooLong side number bytes) tells slots is = is
-pool_later plan page given told F F' query.SinkFault tells slots is = is
-pool_later plan page given told F F' (query.Pool why) tells slots is = stop-later plan page given told F F' why tells slots is
+pub pool_later : (plan : Query) (page : ℕ) (given told : Option Told) (F F' N : Type 0) (why : QueryErr) → ((A : Told → Type 0) → IfSome given A → IfSome told A) → (F → F')
+    → OfPool (IsSharedStop plan page given plan.quota F N) why → OfPool (IsSharedStop plan page told plan.quota F' N) why
+pool_later plan page given told F F' N (query.SourceFault side) tells slots is = is
+pool_later plan page given told F F' N (query.BadHeader side) tells slots is = is
+pool_later plan page given told F F' N (query.BadCsv side number) tells slots is = is
+pool_later plan page given told F F' N (query.BadField side number column) tells slots is = is
+pool_later plan page given told F F' N (query.TooLarge side) tells slots is = is
+pool_later plan page given told F F' N (query.RowTooLong side number bytes) tells slots is = is
+pool_later plan page given told F F' N query.SinkFault tells slots is = is
+pool_later plan page given told F F' N (query.Pool why) tells slots is = stop-later plan page given told F F' N why tells slots is
 
-module _ (plan : Query) (page : ℕ) (bytes : Side → Option (List ℕ)) (told : Option Told) (R : Side → Type 0) (W F : Type 0) (R' : Side → Type 0) (W' F' : Type 0) where
-  stopped-later : (why : QueryErr) → ((side : Side) → R side → R' side) → (W → W') → (F → F') → IsStopped plan page bytes told R W F why → IsStopped plan page bytes told R' W' F' why
+module _ (plan : Query) (page : ℕ) (bytes : Side → Option (List ℕ)) (told : Option Told) (R : Side → Type 0) (W F : Type 0) (R' : Side → Type 0) (W' F' N : Type 0) where
+  stopped-later : (why : QueryErr) → ((side : Side) → R side → R' side) → (W → W') → (F → F') → IsStopped plan page bytes told R W F N why → IsStopped plan page bytes told R' W' F' N why
   stopped-later why reads writes slots is = record {
     refused = is.refused;
     source_fault = λ side fault. reads side (is.source_fault side fault);
     sink_fault = λ fault. writes (is.sink_fault fault);
-    pool = pool_later plan page told told F F' why (λ A so. so) slots is.pool;
+    pool = pool_later plan page told told F F' N why (λ A so. so) slots is.pool;
   }
 
-  pub ending_later : (refused : Option Ending) (ending : Ending) → ((side : Side) → R side → R' side) → (W → W') → (F → F') → IsEnding plan page bytes told R W F refused ending → IsEnding plan page bytes told R' W' F' refused ending
+  pub ending_later : (refused : Option Ending) (ending : Ending) → ((side : Side) → R side → R' side) → (W → W') → (F → F') → IsEnding plan page bytes told R W F N refused ending → IsEnding plan page bytes told R' W' F' N refused ending
   ending_later refused (Lines lines) reads writes slots is = is
   ending_later refused (Reservation root wanted room) reads writes slots is = is
   ending_later refused (Stopped why) reads writes slots is = (is.0, stopped-later why reads writes slots is.1)
 
-  pub so_far_later : (refused ended : Option Ending) → ((side : Side) → R side → R' side) → (W → W') → (F → F') → IsSoFar plan page bytes told R W F refused ended → IsSoFar plan page bytes told R' W' F' refused ended
+  pub so_far_later : (refused ended : Option Ending) → ((side : Side) → R side → R' side) → (W → W') → (F → F') → IsSoFar plan page bytes told R W F N refused ended → IsSoFar plan page bytes told R' W' F' N refused ended
   so_far_later refused None reads writes slots is = is
   so_far_later refused (Some ending) reads writes slots is = ending_later refused ending reads writes slots is
 
@@ -116,13 +110,13 @@ output-later plan page told before old now was is_now None ended same created (i
     inr (subst (λ (w : Option Written). IsSomeAnd ended (HasOutput plan page told before w)) (sym same) is)
 
 -- calls that leave the output of a query leave what stands of it
-pub work_later : (start old now : Seen) (block_len : ℕ) (query : Query) (w : Work) → Went old now → now.written query.output ≡ old.written query.output
-    → IsWork start old block_len query w → IsWork start now block_len query w
-work_later start old now block_len query w went same is = record {
+pub work_later : (start old now : Seen) (block_len : ℕ) (all : List Query) (query : Query) (w : Work) → Went old now → now.written query.output ≡ old.written query.output
+    → IsWork start old block_len all query w → IsWork start now block_len all query w
+work_later start old now block_len all query w went same is = record {
   went = went_on start old now is.went went;
   ending = so_far_later query (page_len query block_len) (bytes_on query start.files) (told_over query start)
       (HasFailedOn (faults_on query start.reads) (faults_on query old.reads) (inputs_of w)) (HasFailed (start.writes query.output) (old.writes query.output) w.output) (HaveFailed start.slots old.slots)
-      (HasFailedOn (faults_on query start.reads) (faults_on query now.reads) (inputs_of w)) (HasFailed (start.writes query.output) (now.writes query.output) w.output) (HaveFailed start.slots now.slots) w.refused w.ended
+      (HasFailedOn (faults_on query start.reads) (faults_on query now.reads) (inputs_of w)) (HasFailed (start.writes query.output) (now.writes query.output) w.output) (HaveFailed start.slots now.slots) (SomeSpends all start) w.refused w.ended
       (λ side. failed_later (faults_on query start.reads side) (faults_on query old.reads side) (faults_on query now.reads side) (inputs_of w side) (faults_kept query old.reads now.reads went.reads side))
       (failed_later (start.writes query.output) (old.writes query.output) (now.writes query.output) w.output (went.writes query.output))
       (slots_later start.slots old.slots now.slots went.slots) is.ending;
@@ -136,11 +130,11 @@ work_later start old now block_len query w went same is = record {
 -- a call for the query at a place
 pub works_step : (start old now : Seen) (block_len : ℕ) (queries : List Query) (works : List Work) (place : ℕ) (query : Query) (w : Work) → slice_get queries place ≡ Some query → Went old now
     → ((j : ℕ) (q : Query) → slice_get queries j ≡ Some q → j ≢ place → now.written q.output ≡ old.written q.output)
-    → AreWorks start old block_len queries works → IsWork start now block_len query w → AreWorks start now block_len queries (set works place w)
+    → AreWorks start old block_len queries works → IsWork start now block_len queries query w → AreWorks start now block_len queries (set works place w)
 works_step start old now block_len queries works place query w at went others are is = λ j q x at_q at_x.
     elim (set_get works place j w x at_x) [
       | inl here ↦ (let one : Some q ≡ Some query = sym at_q ∙ (ap (slice_get queries) here.0 ∙ at) in
           let same : q ≡ query = cc in
-          subst (λ (y : Work). IsWork start now block_len q y) (sym here.1) (subst (λ (z : Query). IsWork start now block_len z w) (sym same) is))
-      | inr there ↦ work_later start old now block_len q x went (others j q at_q there.0) (are j q x at_q there.1)
+          subst (λ (y : Work). IsWork start now block_len queries q y) (sym here.1) (subst (λ (z : Query). IsWork start now block_len queries z w) (sym same) is))
+      | inr there ↦ work_later start old now block_len queries q x went (others j q at_q there.0) (are j q x at_q there.1)
     ]

@@ -14,7 +14,7 @@ use Rattle.spill_top.specs.declared.ending.Ending.{Ending}
 use Rattle.spill_top.specs.declared.ending.Ending.TheVariants.{Lines, Reservation, Stopped}
 use Rattle.spill_top.specs.declared.job.Job.{Job}
 use Rattle.spill_top.specs.Pooled.{HaveFailed}
-use Rattle.spill_top.specs.Running.{HasNoOutput, HasOutput, IsEnding, Seen, Went, told_over}
+use Rattle.spill_top.specs.Running.{HasNoOutput, HasOutput, IsEnding, Seen, SomeSpends, Went, told_over}
 use Rattle.spill_top.specs.Sides.{bytes_on, faults_on, on_sides}
 
 -- a source or a sink that is open: the bytes that it still gives or that it holds, where they are told, and its faults
@@ -38,7 +38,7 @@ abbrev pub inputs_of : Work → Side → Option Opened
 inputs_of w side = on_sides w.left w.right side
 
 -- what is shown of a query while its sources and its sink, if they are open, tell these
-abbrev pub work_of : {S K : Type 0} → (S → Option (List ℕ)) → (S → ℕ) → (K → Option (List ℕ)) → (K → ℕ) → Job S K → Work
+abbrev pub work_of : {S K St : Type 0} → (S → Option (List ℕ)) → (S → ℕ) → (K → Option (List ℕ)) → (K → ℕ) → Job S K St → Work
 work_of remaining reads contents writes job =
     record {
       refused = job.refused;
@@ -49,8 +49,8 @@ work_of remaining reads contents writes job =
     }
 
 -- a query before anything is done for it
-abbrev pub begun : {S K : Type 0} → Option Ending → Job S K
-begun refused = record { refused = refused; left = None; right = None; sink = None; ended = refused }
+abbrev pub begun : Option Ending → Work
+begun refused = record { refused = refused; left = None; right = None; output = None; ended = refused }
 
 -- the faults of what is open
 abbrev pub faults_of : Option Opened → ℕ
@@ -66,9 +66,9 @@ abbrev pub HasFailedOn : (Side → ℕ) → (Side → ℕ) → (Side → Option 
 HasFailedOn before now inputs side = HasFailed (before side) (now side) (inputs side)
 
 -- a query that was not refused goes on
-abbrev pub IsSoFar : Query → ℕ → (Side → Option (List ℕ)) → Option Told → (Side → Type 0) → Type 0 → Type 0 → Option Ending → Option Ending → Type 0
-IsSoFar plan page bytes told read_failed write_failed slots_failed refused None = refused ≡ None
-IsSoFar plan page bytes told read_failed write_failed slots_failed refused (Some ending) = IsEnding plan page bytes told read_failed write_failed slots_failed refused ending
+abbrev pub IsSoFar : Query → ℕ → (Side → Option (List ℕ)) → Option Told → (Side → Type 0) → Type 0 → Type 0 → Type 0 → Option Ending → Option Ending → Type 0
+IsSoFar plan page bytes told read_failed write_failed slots_failed names refused None = refused ≡ None
+IsSoFar plan page bytes told read_failed write_failed slots_failed names refused (Some ending) = IsEnding plan page bytes told read_failed write_failed slots_failed names refused ending
 
 -- a call of a query that stopped left nothing in its sink where an input was at fault, and else at most a front of the answer
 abbrev pub LeavesPart : Query → ℕ → Option Told → Option (List ℕ) → Option (List ℕ) → Option Side → Type 0
@@ -105,11 +105,11 @@ pub record HasSides (query : Query) (w : Work) : Type 0 where
   pub only : IsSome w.right → joins query ≡ true
   pub both : w.ended ≡ None → IsSome w.left → is_some w.right ≡ joins query
 
--- what stands of a query between two of the calls for it, with blocks of so many bytes
-pub record IsWork (start now : Seen) (block_len : ℕ) (query : Query) (w : Work) : Type 0 where
+-- what stands of one of these queries between two of the calls for it, with blocks of so many bytes
+pub record IsWork (start now : Seen) (block_len : ℕ) (all : List Query) (query : Query) (w : Work) : Type 0 where
   pub went : Went start now
   pub ending : IsSoFar query (page_len query block_len) (bytes_on query start.files) (told_over query start) (HasFailedOn (faults_on query start.reads) (faults_on query now.reads) (inputs_of w))
-      (HasFailed (start.writes query.output) (now.writes query.output) w.output) (HaveFailed start.slots now.slots) w.refused w.ended
+      (HasFailed (start.writes query.output) (now.writes query.output) w.output) (HaveFailed start.slots now.slots) (SomeSpends all start) w.refused w.ended
   pub inputs : (side : Side) → InputStands (bytes_on query start.files side) (inputs_of w side) w.ended
   pub sides : HasSides query w
   pub output : OutputStands query (page_len query block_len) (told_over query start) (start.written query.output) (now.written query.output) (now.created query.output) w.output w.ended
@@ -117,4 +117,4 @@ pub record IsWork (start now : Seen) (block_len : ℕ) (query : Query) (w : Work
 
 -- a call for a query left it so, whenever the plan started
 abbrev pub KeepsWork : Seen → Seen → Query → Work → Work → Type 0
-KeepsWork old now query before after = (start : Seen) (block_len : ℕ) → IsWork start old block_len query before → IsWork start now block_len query after
+KeepsWork old now query before after = (start : Seen) (block_len : ℕ) (all : List Query) → IsWork start old block_len all query before → IsWork start now block_len all query after

@@ -16,6 +16,7 @@ pub mod Sides
 pub mod Running
 pub mod Jobs
 pub mod Steps
+pub mod Together
 pub mod Ran
 pub mod PlanFile
 pub mod CheckPlan

@@ -54,3 +54,8 @@ IsPoolStop query page told quota failed (ReadFault entry) = failed
 IsPoolStop query page told quota failed NamesSpent = MaySpendNames query told
 IsPoolStop query page told quota failed Memory = ⊤
 IsPoolStop query page told quota failed _ = ⊥
+
+-- the same of a pool that several queries share: its names were spent by all of them together, so that `names` holds
+abbrev pub IsSharedStop : Query → ℕ → Option Told → ℕ → Type 0 → Type 0 → PoolErr → Type 0
+IsSharedStop query page told quota failed names NamesSpent = names
+IsSharedStop query page told quota failed names why = IsPoolStop query page told quota failed why

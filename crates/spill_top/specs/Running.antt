@@ -1,5 +1,5 @@
 -- What becomes of a query of a plan. What its files hold is told or not, and nothing is said where it isn't.
-use Rattle.std.specs.Prelude.{◌≡◌, ◌⊎◌, ◌*◌, ◌^◌, ◌<◌, ◌≤◌, ◌++◌, ℕ, Bool, true, false, List, [], Option, Some, None, IfSome, length, slice_get, ⊤}
+use Rattle.std.specs.Prelude.{◌≡◌, ◌⊎◌, ◌*◌, ◌≤◌, ◌++◌, ℕ, Bool, true, false, List, [], Option, Some, None, IfSome, length, slice_get, ⊤}
 use Rattle.std.specs.Option.{IsSomeAnd, option_flatten}
 use Rattle.outside.specs.Counts.{NoneFell, Rose}
 use Rattle.outside.specs.Names.{AllStay, OthersStay, StaysCreated, Written}
@@ -13,12 +13,12 @@ use Rattle.query_run.specs.Both.{AreAccepted, Told}
 use Rattle.query_run.specs.Causes.{IsOfBytes, OfPool, side_of}
 use Rattle.query_run.specs.Input.{IsAccepted, IsRefusal, IsRefusalIn}
 use Rattle.query_run.specs.declared.outcome.QueryErr.{QueryErr}
-use Rattle.query_run.specs.Through.{need, rows_through}
+use Rattle.query_run.specs.Through.{need}
 use Rattle.query_run.specs.declared.outcome.QueryErr.TheVariants.{Pool, SinkFault, SourceFault}
 use Rattle.reservation_tree.specs.declared.errors.PoolErr.TheVariants.{Memory}
 use Rattle.spill_top.specs.declared.ending.Ending.{Ending}
 use Rattle.spill_top.specs.declared.ending.Ending.TheVariants.{Lines, Reservation, Stopped}
-use Rattle.spill_top.specs.Pooled.{ComeBack, HaveFailed, IsPoolStop, all_tell}
+use Rattle.spill_top.specs.Pooled.{ComeBack, HaveFailed, IsSharedStop, MaySpendNames, all_tell}
 use Rattle.spill_top.specs.Sides.{RoseOn, bytes_on, faults_on, if_told, told_of}
 
 -- inputs and outputs at a time, by name: the bytes of files, and the faults of reading; what was written, which names were created, and the faults of writing.
@@ -57,13 +57,17 @@ IsRefusedOn plan page bytes why Left = IfSome (bytes Left) (λ left. IsRefusal p
 IsRefusedOn plan page bytes why Right =
     IfSome (bytes Left) (IsAccepted plan page) × IsSomeAnd plan.right (λ asked. IfSome (bytes Right) (λ right. IsRefusalIn plan Right asked page right why))
 
--- why a query stopped over a pool of its own: the bytes of the input that the cause names are refused for this; reading that input, or writing, has
+-- one of these queries has so many rows that no name of a page may be left to any
+abbrev pub SomeSpends : List Query → Seen → Type 0
+SomeSpends all start = (place : ℕ) × (query : Query) × (slice_get all place ≡ Some query) × MaySpendNames query (told_over query start)
+
+-- why a query stopped over a pool that it shares: the bytes of the input that the cause names are refused for this; reading that input, or writing, has
 -- failed; or the pool stopped it, whose pages may take as many slots as its quota
-pub record IsStopped (plan : Query) (page : ℕ) (bytes : Side → Option (List ℕ)) (told : Option Told) (read_failed : Side → Type 0) (write_failed slots_failed : Type 0) (why : QueryErr) : Type 0 where
+pub record IsStopped (plan : Query) (page : ℕ) (bytes : Side → Option (List ℕ)) (told : Option Told) (read_failed : Side → Type 0) (write_failed slots_failed names : Type 0) (why : QueryErr) : Type 0 where
   pub refused : IsOfBytes why → IsSomeAnd (side_of why) (IsRefusedOn plan page bytes why)
   pub source_fault : (side : Side) → why ≡ SourceFault side → read_failed side
   pub sink_fault : why ≡ SinkFault → write_failed
-  pub pool : OfPool (IsPoolStop plan page told plan.quota slots_failed) why
+  pub pool : OfPool (IsSharedStop plan page told plan.quota slots_failed names) why
 
 -- an answer over these bytes has so many lines behind its first one
 pub record HasLines (plan : Query) (page lines : ℕ) (told : Told) : Type 0 where
@@ -72,10 +76,10 @@ pub record HasLines (plan : Query) (page lines : ℕ) (told : Told) : Type 0 whe
   pub many : lines ≡ length answer.out
 
 -- how a query ended is so, where an answer is over the bytes that are told: its least reservation was refused for exactly this, if it was
-abbrev pub IsEnding : Query → ℕ → (Side → Option (List ℕ)) → Option Told → (Side → Type 0) → Type 0 → Type 0 → Option Ending → Ending → Type 0
-IsEnding plan page bytes told read_failed write_failed slots_failed refused (Lines lines) = (refused ≡ None) × IfSome told (HasLines plan page lines)
-IsEnding plan page bytes told read_failed write_failed slots_failed refused (Reservation root wanted room) = refused ≡ Some (Reservation root wanted room)
-IsEnding plan page bytes told read_failed write_failed slots_failed refused (Stopped why) = (refused ≡ None) × IsStopped plan page bytes told read_failed write_failed slots_failed why
+abbrev pub IsEnding : Query → ℕ → (Side → Option (List ℕ)) → Option Told → (Side → Type 0) → Type 0 → Type 0 → Type 0 → Option Ending → Ending → Type 0
+IsEnding plan page bytes told read_failed write_failed slots_failed names refused (Lines lines) = (refused ≡ None) × IfSome told (HasLines plan page lines)
+IsEnding plan page bytes told read_failed write_failed slots_failed names refused (Reservation root wanted room) = refused ≡ Some (Reservation root wanted room)
+IsEnding plan page bytes told read_failed write_failed slots_failed names refused (Stopped why) = (refused ≡ None) × IsStopped plan page bytes told read_failed write_failed slots_failed names why
 
 -- an answer over these bytes, or a front of it, or nothing
 abbrev pub IsPart : Query → ℕ → Told → List ℕ → Type 0
@@ -104,14 +108,14 @@ HasNoOutput (Reservation root wanted room) = ⊤
 HasNoOutput (Stopped why) = why ≡ SinkFault
 
 -- nothing stands in the way of an answer: the least reservation was not refused; the bytes of the inputs are told, and accepted; the
--- quota has the slots of the pages that the query needs, and its rows are fewer than names of pages last for; no fault was counted
-pub record IsClear (plan : Query) (page : ℕ) (told : Option Told) (read_failed : Side → Type 0) (write_failed slots_failed : Type 0) (refused : Option Ending) : Type 0 where
+-- quota has the slots of the pages that the query needs; no query spends all names of pages; no fault was counted
+pub record IsClear (plan : Query) (page : ℕ) (told : Option Told) (read_failed : Side → Type 0) (write_failed slots_failed names : Type 0) (refused : Option Ending) : Type 0 where
   pub reserved : refused ≡ None
   pub both : Told
   pub told_is : told ≡ Some both
   pub accepted : AreAccepted plan page both
   pub enough : need plan page both * plan.page_blocks ≤ plan.quota
-  pub few : rows_through plan both < 2 ^ 55
+  pub few : names → ⊥
   pub read : (side : Side) → read_failed side → ⊥
   pub written : write_failed → ⊥
   pub stored : slots_failed → ⊥
@@ -122,12 +126,12 @@ IsComplete (Lines lines) = ⊤
 IsComplete (Reservation root wanted room) = ⊥
 IsComplete (Stopped why) = why ≡ Pool Memory
 
--- what became of a query, and of its output
-pub record HasEnded (start now : Seen) (block_len : ℕ) (refused : Option Ending) (query : Query) (ending : Ending) : Type 0 where
+-- what became of one of these queries, and of its output
+pub record HasEnded (start now : Seen) (block_len : ℕ) (all : List Query) (refused : Option Ending) (query : Query) (ending : Ending) : Type 0 where
   pub so : IsEnding query (page_len query block_len) (bytes_on query start.files) (told_over query start)
-      (RoseOn (faults_on query start.reads) (faults_on query now.reads)) (Rose (start.writes query.output) (now.writes query.output)) (HaveFailed start.slots now.slots) refused ending
+      (RoseOn (faults_on query start.reads) (faults_on query now.reads)) (Rose (start.writes query.output) (now.writes query.output)) (HaveFailed start.slots now.slots) (SomeSpends all start) refused ending
   pub completes : IsClear query (page_len query block_len) (told_over query start)
-      (RoseOn (faults_on query start.reads) (faults_on query now.reads)) (Rose (start.writes query.output) (now.writes query.output)) (HaveFailed start.slots now.slots) refused → IsComplete ending
+      (RoseOn (faults_on query start.reads) (faults_on query now.reads)) (Rose (start.writes query.output) (now.writes query.output)) (HaveFailed start.slots now.slots) (SomeSpends all start) refused → IsComplete ending
   pub output : (HasNoOutput ending × (now.written query.output ≡ start.written query.output))
       ⊎ HasOutput query (page_len query block_len) (told_over query start) (start.written query.output) (now.written query.output) ending
 
@@ -135,7 +139,7 @@ pub record HasEnded (start now : Seen) (block_len : ℕ) (refused : Option Endin
 abbrev pub HaveEnded : Seen → Seen → ℕ → List (Option Ending) → List Query → List Ending → Type 0
 HaveEnded start now block_len refused queries ends =
     (place : ℕ) (query : Query) (ending : Ending) → slice_get queries place ≡ Some query → slice_get ends place ≡ Some ending
-    → HasEnded start now block_len (option_flatten (slice_get refused place)) query ending
+    → HasEnded start now block_len queries (option_flatten (slice_get refused place)) query ending
 
 -- no two queries have one output
 abbrev pub AreApart : List Query → Type 0

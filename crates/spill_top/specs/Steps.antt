@@ -1,22 +1,18 @@
 -- The queries of a plan in turn: what stands of all of them, and how far they are. About private fields.
-use Rattle.std.specs.Prelude.{◌≡◌, ◌+◌, ◌-◌, ◌≤◌, ◌⊎◌, ℕ, Bool, true, false, List, ◌∷◌, Option, Some, None, All, IsSome, map, slice_get}
+use Rattle.std.specs.Prelude.{◌≡◌, ◌⊎◌, ℕ, Bool, true, false, List, Option, Some, None, All, IsSome, map, slice_get}
 use Rattle.std.specs.Option.{option_map, unwrap_or}
-use Rattle.pin_core.specs.declared.conf.PoolConf.{PoolConf}
 use Rattle.pin_core.specs.declared.tally.Tally.{Tally}
 use Rattle.query_plan.specs.declared.plan.Query.{Query}
-use Rattle.query_run.specs.Both.{Told, both_told, told_in}
 use Rattle.spill_top.specs.declared.ending.Ending.{Ending}
 use Rattle.spill_top.specs.declared.job.Job.{Job}
 use Rattle.spill_top.specs.Endings.{is_answer}
-use Rattle.spill_top.specs.Pooled.{HasMemoryFor}
 use Rattle.spill_top.specs.Running.{Seen}
 use Rattle.spill_top.specs.Jobs.{IsWork, Work}
-use Rattle.spill_top.specs.Storing.{HaveStored, owed, owed_by}
 
 -- what stands of all queries
 abbrev pub AreWorks : Seen → Seen → ℕ → List Query → List Work → Type 0
 AreWorks start now block_len queries works =
-    (place : ℕ) (query : Query) (w : Work) → slice_get queries place ≡ Some query → slice_get works place ≡ Some w → IsWork start now block_len query w
+    (place : ℕ) (query : Query) (w : Work) → slice_get queries place ≡ Some query → slice_get works place ≡ Some w → IsWork start now block_len queries query w
 
 -- inputs and outputs at a time, while the slots count this
 abbrev pub with_slots : Tally → Seen → Seen
@@ -54,13 +50,8 @@ abbrev pub IsDone : Work → Type 0
 IsDone w = IsSome w.ended × (w.left ≡ None) × (w.right ≡ None) × (w.output ≡ None)
 
 -- nothing is open for any of them
-abbrev pub AreClosed : {S K : Type 0} → List (Job S K) → Type 0
+abbrev pub AreClosed : {S K St : Type 0} → List (Job S K St) → Type 0
 AreClosed jobs = All (λ job. (job.left ≡ None) × (job.right ≡ None) × (job.sink ≡ None)) jobs
-
--- a query may run over a pool with these numbers and so many slots, as long as it goes on
-pub record Fits (conf : PoolConf) (slots : ℕ) (query : Query) (w : Work) : Type 0 where
-  pub memory : w.ended ≡ None → HasMemoryFor query conf
-  pub quota : query.quota ≤ slots
 
 -- the names of the outputs that are open were created
 abbrev pub AreMade : (List ℕ → Bool) → List Query → List Work → Type 0
@@ -79,29 +70,7 @@ has_answer ended = unwrap_or (option_map is_answer ended) false
 abbrev pub GivesNoAnswer : Option Ending → Option Ending → Type 0
 GivesNoAnswer before now = (now ≡ before) ⊎ (has_answer now ≡ false)
 
--- the bytes that its inputs still give, where both are told
-abbrev pub given_to : Work → Option Told
-given_to w = both_told (told_in (λ source. source.told) w.left) (told_in (λ source. source.told) w.right)
-
--- the call that gave a query its answer had slots store what the query must keep beyond all memory
-abbrev pub StoresForAnswer : ℕ → ℕ → Query → Work → Option Ending → Tally → Tally → Type 0
-StoresForAnswer block_len memory query w now slots slots_now = w.ended ≡ None → has_answer now ≡ true → HaveStored block_len (owed query memory (given_to w)) slots slots_now
-
--- what a query owes that has ended or goes on, over the bytes of its files
-abbrev pub owed_yet : ℕ → (List ℕ → Option (List ℕ)) → Query → Option Ending → ℕ
-owed_yet memory files query None = 0
-owed_yet memory files query (Some ending) = owed_by memory files query ending
-
--- and all queries together
-abbrev pub owed_together : ℕ → (List ℕ → Option (List ℕ)) → List Query → List Work → ℕ
-owed_together memory files (query ∷ queries) (w ∷ works) = owed_yet memory files query w.ended + owed_together memory files queries works
-owed_together memory files _ _ = 0
-
--- calls for them made them owe nothing more
-abbrev pub OweNoMore : List Query → List Work → List Work → Type 0
-OweNoMore queries before after = (memory : ℕ) (files : List ℕ → Option (List ℕ)) → owed_together memory files queries after ≤ owed_together memory files queries before
-
--- what calls for them made them owe, slots stored meanwhile
-abbrev pub StoreOwed : ℕ → ℕ → (List ℕ → Option (List ℕ)) → List Query → List Work → List Work → Tally → Tally → Type 0
-StoreOwed block_len memory files queries before after slots slots_now =
-    HaveStored block_len (owed_together memory files queries after - owed_together memory files queries before) slots slots_now
+-- calls for them gave none of them an answer
+abbrev pub GiveNoAnswers : List Work → List Work → Type 0
+GiveNoAnswers before after =
+    (place : ℕ) (w later : Work) → slice_get before place ≡ Some w → slice_get after place ≡ Some later → GivesNoAnswer w.ended later.ended

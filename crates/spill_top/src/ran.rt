@@ -7,8 +7,8 @@ ghost use Rattle.spill_top.specs.Running.{Went, seen};
 
 use crate::ending::Ending;
 use crate::plan_file::{Unread, read_file};
+use crate::queries::run_queries;
 use crate::report::{refuse_as, refuse_memory};
-use crate::run::run_queries;
 use csv_edge::write_whole;
 use outside::{Inputs, Outputs, Sink, Slot};
 use query_plan::{PlanErr, Query, read_plan};
@@ -16,10 +16,11 @@ use row_codec::Memory;
 use run_report::{Cause, outcome_line};
 use std::alloc::Global;
 use std::sync::Wait;
+use std::thread::Threads;
 
-// Runs the queries of a plan's file over pools of these slots, writes a line for each of them to the report, and answers
+// Runs the queries of a plan's file over a pool of these slots, writes a line for each of them to the report, and answers
 // the status: the first that is not 0.
-pub(crate) fn run<W: Wait, I: Inputs, O: Outputs, R: Sink, D: Slot + Drop>(
+pub(crate) fn run<W: Wait + Threads + Sync, I: Inputs, O: Outputs, R: Sink, D: Slot + Drop + Send>(
     rt: &W,
     alloc: Global,
     file: &str,

@@ -1,72 +1,27 @@
-// The queries of a plan, one after the other.
+// The queries of a plan, one kind of call after the other.
 
-ghost use Rattle.std.specs.Prelude.{◌≡◌, ◌*◌, ◌≤◌, ℕ, Bool, List, Option, All, IfOk, OnErr, length, map, vec_len};
+ghost use Rattle.std.specs.Prelude.{◌≡◌, ◌<◌, ℕ, Bool, List, Option, Some, length, map, slice_get, vec_len};
 ghost use Rattle.outside.specs.Names.{Written};
-ghost use Rattle.spill_top.specs.Pooled.{memory_of};
-ghost use Rattle.pin_core.specs.Tallies.{tally_of};
 ghost use Rattle.pin_core.specs.declared.tally.Tally.{Tally};
-ghost use Rattle.query_plan.specs.Rules.{KeepsQuery, KeepsRules};
+ghost use Rattle.query_plan.specs.declared.plan.Query.{Query};
 ghost use Rattle.spill_top.specs.Jobs.{HasSides, work_of};
-ghost use Rattle.spill_top.specs.Pooled.{ComeBack};
-ghost use Rattle.spill_top.specs.Steps.{AreAll, AreEach, AreMade, AreWorks, Fits, IsBegun, IsCreated, IsDone, IsEnded, IsOpen, IsRead, KeepRefused, KeepsWorks, OweNoMore, StoreOwed, with_slots};
-ghost use Rattle.spill_top.specs.Reserving.{refusals_of};
-ghost use Rattle.spill_top.specs.Running.{AreApart, HaveEnded, Seen, Went, seen};
-ghost use Rattle.spill_top.specs.Storing.{HaveStored, all_owed};
+ghost use Rattle.spill_top.specs.Steps.{AreAll, AreEach, AreMade, GiveNoAnswers, IsBegun, IsCreated, IsDone, IsEnded, IsOpen, IsRead, KeepRefused, KeepsWorks};
+ghost use Rattle.spill_top.specs.Running.{AreApart, Went, seen};
+ghost use Rattle.spill_top.specs.Together.{AllCanRun, AreAnswered, CanRun, IsAnswered};
 
-use crate::ending::Ending;
-use crate::job::{Job, discard, endings, reserve};
-use crate::steps::{answer, close, create, finish, open};
-use outside::{Inputs, Outputs, Sink, Slot, Source};
-use pin_core::PoolConf;
-use query_plan::{Plan, Query};
-use row_codec::Memory;
+use crate::job::Job;
+use crate::over::answer;
+use crate::steps::{close, create, finish, open};
+use outside::{Inputs, Outputs, Sink, Source};
+use query_plan::Query;
 use std::alloc::Global;
-use std::sync::Wait;
-
-// Runs the queries of a plan, one after the other and each over a pool of these slots, and tells how each ended.
-pub(crate) fn run_queries<W: Wait, I: Inputs, O: Outputs, D: Slot + Drop>(
-    rt: &W,
-    alloc: Global,
-    plan: &Plan,
-    inputs: &mut I,
-    outputs: &mut O,
-    slots: &mut Vec<D>,
-) -> Result<Vec<Ending>, Memory>
-    requires rules { KeepsRules (vec_len slots.old) plan.now }
-    requires few { vec_len slots.old ≤ 1048576 }
-    requires apart { AreApart plan.now.queries }
-    ensures len { IfOk result (λ ends. vec_len ends ≡ length plan.now.queries) }
-    ensures ended { IfOk result (λ ends. HaveEnded (seen (I.bytes_at inputs.old) (I.faults_at inputs.old) (O.written outputs.old) (O.is_created outputs.old) (O.faults_at outputs.old) (tally_of D.Slot slots.old.items))
-        (seen (I.bytes_at inputs.new) (I.faults_at inputs.new) (O.written outputs.new) (O.is_created outputs.new) (O.faults_at outputs.new) (tally_of D.Slot slots.new.items)) plan.now.block_len (refusals_of plan.now) plan.now.queries ends.items) }
-    ensures stored { IfOk result (λ ends. HaveStored plan.now.block_len (all_owed (plan.now.blocks * plan.now.block_len) (I.bytes_at inputs.old) plan.now.queries ends.items) (tally_of D.Slot slots.old.items) (tally_of D.Slot slots.new.items)) }
-    ensures err { OnErr result (outputs.new ≡ outputs.old) }
-    ensures went { Went (seen (I.bytes_at inputs.old) (I.faults_at inputs.old) (O.written outputs.old) (O.is_created outputs.old) (O.faults_at outputs.old) (tally_of D.Slot slots.old.items))
-        (seen (I.bytes_at inputs.new) (I.faults_at inputs.new) (O.written outputs.new) (O.is_created outputs.new) (O.faults_at outputs.new) (tally_of D.Slot slots.new.items)) }
-{
-    let queries = plan.queries.as_slice();
-    // Each query's pool has all memory of the plan.
-    let conf = PoolConf {
-        blocks: plan.blocks,
-        block_len: plan.block_len,
-        first_name: 0,
-    };
-    let ends = Vec::with_capacity(alloc, queries.len())?;
-    let room = u64::from(plan.blocks) * u64::from(plan.block_len);
-    let mut jobs = reserve(alloc, queries, plan.block_len, room)?;
-    create_all(queries, &mut jobs, outputs);
-    open_all(queries, &mut jobs, inputs);
-    answer_all(rt, alloc, queries, &mut jobs, &conf, slots);
-    close_all(queries, &mut jobs, inputs);
-    finish_all(queries, &mut jobs, outputs);
-    let ends = endings(jobs.as_slice(), ends);
-    discard(jobs);
-    Ok(ends)
-}
+use std::thread::{Threads, for_each_mut};
+use store_api::Store;
 
 // Creates the outputs.
-fn create_all<S: Source, O: Outputs>(
+pub(crate) fn create_all<S: Source, O: Outputs, St>(
     queries: &[Query],
-    jobs: &mut Vec<Job<S, O::Snk>>,
+    jobs: &mut Vec<Job<S, O::Snk, St>>,
     outputs: &mut O,
 )
     requires len { length queries.now ≡ vec_len jobs.old }
@@ -75,7 +30,8 @@ fn create_all<S: Source, O: Outputs>(
     ensures works { (files : List ℕ → Option (List ℕ)) (reads : List ℕ → ℕ) (slots : Tally) → KeepsWorks (seen files reads (O.written outputs.old) (O.is_created outputs.old) (O.faults_at outputs.old) slots) (seen files reads (O.written outputs.new) (O.is_created outputs.new) (O.faults_at outputs.new) slots) queries.now (map (work_of S.remaining S.faults O.Snk.contents O.Snk.faults) jobs.old.items) (map (work_of S.remaining S.faults O.Snk.contents O.Snk.faults) jobs.new.items) }
     ensures step { AreAll IsCreated (map (work_of S.remaining S.faults O.Snk.contents O.Snk.faults) jobs.new.items) }
     ensures refused { KeepRefused (map (work_of S.remaining S.faults O.Snk.contents O.Snk.faults) jobs.old.items) (map (work_of S.remaining S.faults O.Snk.contents O.Snk.faults) jobs.new.items) }
-    ensures owed { OweNoMore queries.now (map (work_of S.remaining S.faults O.Snk.contents O.Snk.faults) jobs.old.items) (map (work_of S.remaining S.faults O.Snk.contents O.Snk.faults) jobs.new.items) }
+    ensures answers { GiveNoAnswers (map (work_of S.remaining S.faults O.Snk.contents O.Snk.faults) jobs.old.items) (map (work_of S.remaining S.faults O.Snk.contents O.Snk.faults) jobs.new.items) }
+    ensures sessions { map (λ job. job.session) jobs.new.items ≡ map (λ job. job.session) jobs.old.items }
     ensures len { vec_len jobs.new ≡ vec_len jobs.old }
     ensures went { (files : List ℕ → Option (List ℕ)) (reads : List ℕ → ℕ) (slots : Tally) → Went (seen files reads (O.written outputs.old) (O.is_created outputs.old) (O.faults_at outputs.old) slots) (seen files reads (O.written outputs.new) (O.is_created outputs.new) (O.faults_at outputs.new) slots) }
 {
@@ -85,13 +41,18 @@ fn create_all<S: Source, O: Outputs>(
 }
 
 // Opens the inputs.
-fn open_all<I: Inputs, K: Sink>(queries: &[Query], jobs: &mut Vec<Job<I::Src, K>>, inputs: &mut I)
+pub(crate) fn open_all<I: Inputs, K: Sink, St>(
+    queries: &[Query],
+    jobs: &mut Vec<Job<I::Src, K, St>>,
+    inputs: &mut I,
+)
     requires len { length queries.now ≡ vec_len jobs.old }
     requires before { AreAll IsCreated (map (work_of I.Src.remaining I.Src.faults K.contents K.faults) jobs.old.items) }
     ensures works { (written : List ℕ → Option Written) (created : List ℕ → Bool) (writes : List ℕ → ℕ) (slots : Tally) → KeepsWorks (seen (I.bytes_at inputs.old) (I.faults_at inputs.old) written created writes slots) (seen (I.bytes_at inputs.new) (I.faults_at inputs.new) written created writes slots) queries.now (map (work_of I.Src.remaining I.Src.faults K.contents K.faults) jobs.old.items) (map (work_of I.Src.remaining I.Src.faults K.contents K.faults) jobs.new.items) }
     ensures step { AreAll IsOpen (map (work_of I.Src.remaining I.Src.faults K.contents K.faults) jobs.new.items) }
     ensures refused { KeepRefused (map (work_of I.Src.remaining I.Src.faults K.contents K.faults) jobs.old.items) (map (work_of I.Src.remaining I.Src.faults K.contents K.faults) jobs.new.items) }
-    ensures owed { OweNoMore queries.now (map (work_of I.Src.remaining I.Src.faults K.contents K.faults) jobs.old.items) (map (work_of I.Src.remaining I.Src.faults K.contents K.faults) jobs.new.items) }
+    ensures answers { GiveNoAnswers (map (work_of I.Src.remaining I.Src.faults K.contents K.faults) jobs.old.items) (map (work_of I.Src.remaining I.Src.faults K.contents K.faults) jobs.new.items) }
+    ensures sessions { map (λ job. job.session) jobs.new.items ≡ map (λ job. job.session) jobs.old.items }
     ensures len { vec_len jobs.new ≡ vec_len jobs.old }
     ensures went { (written : List ℕ → Option Written) (created : List ℕ → Bool) (writes : List ℕ → ℕ) (slots : Tally) → Went (seen (I.bytes_at inputs.old) (I.faults_at inputs.old) written created writes slots) (seen (I.bytes_at inputs.new) (I.faults_at inputs.new) written created writes slots) }
 {
@@ -100,42 +61,40 @@ fn open_all<I: Inputs, K: Sink>(queries: &[Query], jobs: &mut Vec<Job<I::Src, K>
     }
 }
 
-// Runs those queries that have not ended, each over a pool of these slots.
-fn answer_all<W: Wait, S: Source, K: Sink, D: Slot + Drop>(
-    rt: &W,
+// Runs those queries that have not ended, each over its session, in a thread of its own where one can be made.
+pub(crate) fn answer_all<R: Threads + Sync, S: Source + Send, K: Sink + Send, St: Store + Send>(
+    rt: &R,
     alloc: Global,
     queries: &[Query],
-    jobs: &mut Vec<Job<S, K>>,
-    conf: &PoolConf,
-    slots: &mut Vec<D>,
+    jobs: &mut [Job<S, K, St>],
 )
-    requires len { length queries.now ≡ vec_len jobs.old }
-    requires queries { All KeepsQuery queries.now }
-    requires fits { AreEach (Fits conf.now (vec_len slots.old)) queries.now (map (work_of S.remaining S.faults K.contents K.faults) jobs.old.items) }
-    requires few { vec_len slots.old ≤ 1048576 }
-    requires before { AreAll IsOpen (map (work_of S.remaining S.faults K.contents K.faults) jobs.old.items) }
-    requires sides { AreEach HasSides queries.now (map (work_of S.remaining S.faults K.contents K.faults) jobs.old.items) }
-    ensures works { (start at : Seen) → AreWorks start (with_slots (tally_of D.Slot slots.old.items) at) conf.now.block_len queries.now (map (work_of S.remaining S.faults K.contents K.faults) jobs.old.items) → AreWorks start (with_slots (tally_of D.Slot slots.new.items) at) conf.now.block_len queries.now (map (work_of S.remaining S.faults K.contents K.faults) jobs.new.items) }
-    ensures step { AreAll IsEnded (map (work_of S.remaining S.faults K.contents K.faults) jobs.new.items) }
-    ensures refused { KeepRefused (map (work_of S.remaining S.faults K.contents K.faults) jobs.old.items) (map (work_of S.remaining S.faults K.contents K.faults) jobs.new.items) }
-    ensures len { vec_len jobs.new ≡ vec_len jobs.old }
-    ensures slots { ComeBack (tally_of D.Slot slots.old.items) (tally_of D.Slot slots.new.items) }
-    ensures stored { (start at : Seen) → AreWorks start (with_slots (tally_of D.Slot slots.old.items) at) conf.now.block_len queries.now (map (work_of S.remaining S.faults K.contents K.faults) jobs.old.items) → StoreOwed conf.now.block_len (memory_of conf.now) start.files queries.now (map (work_of S.remaining S.faults K.contents K.faults) jobs.old.items) (map (work_of S.remaining S.faults K.contents K.faults) jobs.new.items) (tally_of D.Slot slots.old.items) (tally_of D.Slot slots.new.items) }
+    requires len { length queries.now ≡ length jobs.old }
+    requires can { AllCanRun S.remaining S.faults K.contents K.faults St.holds St.signs queries.now jobs.old }
+    ensures len { length jobs.new ≡ length jobs.old }
+    ensures each { AreAnswered S.remaining S.faults K.contents K.faults St.holds St.signs queries.now jobs.old jobs.new }
 {
-    for place in 0..queries.len() {
-        answer(rt, alloc, &queries[place], &mut jobs[place], conf, slots);
-    }
+    let threads = jobs.len().max(1);
+    let answer_at = |place: usize, job: &mut Job<S, K, St>|
+        requires { (place < length queries.now) × ((query : Query) → slice_get queries.now place ≡ Some query → CanRun S.remaining S.faults K.contents K.faults St.holds St.signs query job.now) }
+        ensures { (query : Query) → slice_get queries.entry.now place ≡ Some query → IsAnswered S.remaining S.faults K.contents K.faults St.holds St.signs query job.entry.now job.exit.now }
+    { answer(alloc, &queries[place], job) };
+    for_each_mut(rt, jobs, threads, &answer_at);
 }
 
 // Gives the sources back.
-fn close_all<I: Inputs, K: Sink>(queries: &[Query], jobs: &mut Vec<Job<I::Src, K>>, inputs: &mut I)
+pub(crate) fn close_all<I: Inputs, K: Sink, St>(
+    queries: &[Query],
+    jobs: &mut Vec<Job<I::Src, K, St>>,
+    inputs: &mut I,
+)
     requires len { length queries.now ≡ vec_len jobs.old }
     requires before { AreAll IsEnded (map (work_of I.Src.remaining I.Src.faults K.contents K.faults) jobs.old.items) }
     requires sides { AreEach HasSides queries.now (map (work_of I.Src.remaining I.Src.faults K.contents K.faults) jobs.old.items) }
     ensures works { (written : List ℕ → Option Written) (created : List ℕ → Bool) (writes : List ℕ → ℕ) (slots : Tally) → KeepsWorks (seen (I.bytes_at inputs.old) (I.faults_at inputs.old) written created writes slots) (seen (I.bytes_at inputs.new) (I.faults_at inputs.new) written created writes slots) queries.now (map (work_of I.Src.remaining I.Src.faults K.contents K.faults) jobs.old.items) (map (work_of I.Src.remaining I.Src.faults K.contents K.faults) jobs.new.items) }
     ensures step { AreAll IsRead (map (work_of I.Src.remaining I.Src.faults K.contents K.faults) jobs.new.items) }
     ensures refused { KeepRefused (map (work_of I.Src.remaining I.Src.faults K.contents K.faults) jobs.old.items) (map (work_of I.Src.remaining I.Src.faults K.contents K.faults) jobs.new.items) }
-    ensures owed { OweNoMore queries.now (map (work_of I.Src.remaining I.Src.faults K.contents K.faults) jobs.old.items) (map (work_of I.Src.remaining I.Src.faults K.contents K.faults) jobs.new.items) }
+    ensures answers { GiveNoAnswers (map (work_of I.Src.remaining I.Src.faults K.contents K.faults) jobs.old.items) (map (work_of I.Src.remaining I.Src.faults K.contents K.faults) jobs.new.items) }
+    ensures sessions { map (λ job. job.session) jobs.new.items ≡ map (λ job. job.session) jobs.old.items }
     ensures len { vec_len jobs.new ≡ vec_len jobs.old }
     ensures went { (written : List ℕ → Option Written) (created : List ℕ → Bool) (writes : List ℕ → ℕ) (slots : Tally) → Went (seen (I.bytes_at inputs.old) (I.faults_at inputs.old) written created writes slots) (seen (I.bytes_at inputs.new) (I.faults_at inputs.new) written created writes slots) }
 {
@@ -145,9 +104,9 @@ fn close_all<I: Inputs, K: Sink>(queries: &[Query], jobs: &mut Vec<Job<I::Src, K
 }
 
 // Gives the sinks back.
-fn finish_all<S: Source, O: Outputs>(
+pub(crate) fn finish_all<S: Source, O: Outputs, St>(
     queries: &[Query],
-    jobs: &mut Vec<Job<S, O::Snk>>,
+    jobs: &mut Vec<Job<S, O::Snk, St>>,
     outputs: &mut O,
 )
     requires len { length queries.now ≡ vec_len jobs.old }
@@ -157,7 +116,8 @@ fn finish_all<S: Source, O: Outputs>(
     ensures works { (files : List ℕ → Option (List ℕ)) (reads : List ℕ → ℕ) (slots : Tally) → KeepsWorks (seen files reads (O.written outputs.old) (O.is_created outputs.old) (O.faults_at outputs.old) slots) (seen files reads (O.written outputs.new) (O.is_created outputs.new) (O.faults_at outputs.new) slots) queries.now (map (work_of S.remaining S.faults O.Snk.contents O.Snk.faults) jobs.old.items) (map (work_of S.remaining S.faults O.Snk.contents O.Snk.faults) jobs.new.items) }
     ensures step { AreAll IsDone (map (work_of S.remaining S.faults O.Snk.contents O.Snk.faults) jobs.new.items) }
     ensures refused { KeepRefused (map (work_of S.remaining S.faults O.Snk.contents O.Snk.faults) jobs.old.items) (map (work_of S.remaining S.faults O.Snk.contents O.Snk.faults) jobs.new.items) }
-    ensures owed { OweNoMore queries.now (map (work_of S.remaining S.faults O.Snk.contents O.Snk.faults) jobs.old.items) (map (work_of S.remaining S.faults O.Snk.contents O.Snk.faults) jobs.new.items) }
+    ensures answers { GiveNoAnswers (map (work_of S.remaining S.faults O.Snk.contents O.Snk.faults) jobs.old.items) (map (work_of S.remaining S.faults O.Snk.contents O.Snk.faults) jobs.new.items) }
+    ensures sessions { map (λ job. job.session) jobs.new.items ≡ map (λ job. job.session) jobs.old.items }
     ensures len { vec_len jobs.new ≡ vec_len jobs.old }
     ensures went { (files : List ℕ → Option (List ℕ)) (reads : List ℕ → ℕ) (slots : Tally) → Went (seen files reads (O.written outputs.old) (O.is_created outputs.old) (O.faults_at outputs.old) slots) (seen files reads (O.written outputs.new) (O.is_created outputs.new) (O.faults_at outputs.new) slots) }
 {

@@ -20,6 +20,7 @@ use crate::selfcheck::self_check;
 use outside::{Gate, Inputs, Outputs, Sink, Slot};
 use std::alloc::Global;
 use std::sync::Wait;
+use std::thread::Threads;
 
 /// Runs a command and answers its status. The words come without the program's name.
 ///
@@ -28,12 +29,13 @@ use std::sync::Wait;
 /// A refusal appends its line in its place, unless the line finds no memory; where memory is wanting, or the slots refuse
 /// while the answer is written, the report has a front of the answer.
 ///
-/// `run PLAN` runs the queries of a plan's file and appends a line for each of them, but for those that find no memory. The
-/// least reservations are asked first, in the order of the plan. Then outputs are created, inputs are opened, queries run one
-/// after the other, and sources and then sinks are given back, each in this order; of a query that joins the left input comes
-/// first. A query whose output or input can't be opened does not run. The status is the first that is not 0.
-/// Each query has a pool of its own, with all memory of the plan, and puts what that can't hold on at most as many slots as its
-/// quota, so an answer is promised where all slots tell what they hold. An output is said to be whole where its query has
+/// `run PLAN` runs the queries of a plan's file and appends a line for each of them, but for those that find no memory. They
+/// share one pool, which has the memory of the plan and puts what that can't hold on slots, of each query on at most as many as its
+/// quota. The sessions of all queries are asked for first, each with its least reservation, in the order of the plan. Then
+/// outputs are created and inputs are opened, queries run beside each other, each in a thread of its own where one can be
+/// made, and sources and then sinks are given back, each in the order of the plan; of a query that joins the left input
+/// comes first. A query whose output or input can't be opened does not run. The status is the first that is not 0.
+/// An answer is promised where all slots tell what they hold. An output is said to be whole where its query has
 /// status 0; else it is empty, or after 7 to 10 a front of the answer.
 ///
 /// `selfcheck START ROWS GROUPS BLOCKS` makes a table of ROWS rows in GROUPS groups, groups it over a pool of BLOCKS blocks of 8192
@@ -52,11 +54,18 @@ use std::sync::Wait;
 /// | 4 | an input was refused: it is no table with such columns, a field is no int, or it is too large |
 /// | 5 | a row weighs more than a page has bytes |
 /// | 6 | the least reservation of a query was refused |
-/// | 7 | the slots, for a run those of the query's quota, don't suffice for its pages, or no name of a page is left |
+/// | 7 | the slots, for a run those of the query's quota, don't suffice for its pages, or no name of a page is left, which for a run one of the queries spends |
 /// | 8 | a store to a slot or a load failed |
 /// | 9 | an output, or the report, could not be written |
 /// | 10 | out of memory; when this comes is left open |
-pub fn spill_top<W: Wait, I: Inputs, O: Outputs, R: Sink, D: Slot + Drop, G: Gate>(
+pub fn spill_top<
+    W: Wait + Threads + Sync,
+    I: Inputs,
+    O: Outputs,
+    R: Sink,
+    D: Slot + Drop + Send,
+    G: Gate,
+>(
     rt: &W,
     alloc: Global,
     words: &[String],

@@ -12,6 +12,7 @@ use std::alloc::{AllocError, Global};
 use std::process::Abort;
 use std::sync::Wait;
 use std::test::Fail;
+use std::thread::Threads;
 
 // A call over the file `in.csv`, if it is there, in chunks of 5 bytes with these reads failing, a report with these writes
 // failing, and so many slots.
@@ -43,7 +44,7 @@ fn inputs(alloc: Global, it: Call) -> Result<MemInputs, Fail> {
 }
 
 // Makes the call, and sees its status and its report.
-fn check_call<R: Abort + AllocGlobal + Wait>(
+fn check_call<R: Abort + AllocGlobal + Wait + Threads + Sync>(
     rt: &R,
     it: Call,
     status: u8,

@@ -8,6 +8,7 @@ use std::alloc::{AllocError, Global};
 use std::process::Abort;
 use std::sync::Wait;
 use std::test::Fail;
+use std::thread::Threads;
 
 const PAIRS: &str = "\
 block_len = 64
@@ -61,7 +62,7 @@ type Lines<'a> = &'a [(&'a str, usize)];
 
 // Runs the pairs over these files, where the plan has these texts written anew, and sees that the answer has these lines, in any
 // order, and no others.
-fn check_pairs<R: Abort + AllocGlobal + Wait>(
+fn check_pairs<R: Abort + AllocGlobal + Wait + Threads + Sync>(
     rt: &R,
     edits: &[(&str, &str)],
     files: &[File],
@@ -191,7 +192,10 @@ fn tally(alloc: Global, answer: &[u8]) -> Result<Vec<u32>, AllocError> {
 }
 
 // Joins two files of one key, whose fields behind it are numbers, over these slots.
-fn joined<R: Abort + AllocGlobal + Wait>(rt: &R, slots: &mut Vec<MemSlot>) -> Result<Ended, Fail> {
+fn joined<R: Abort + AllocGlobal + Wait + Threads + Sync>(
+    rt: &R,
+    slots: &mut Vec<MemSlot>,
+) -> Result<Ended, Fail> {
     let left = one_key(rt.alloc(), b"k,x\n")?;
     let right = one_key(rt.alloc(), b"k,y\n")?;
     let files: [File; 2] = [

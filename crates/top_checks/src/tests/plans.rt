@@ -4,6 +4,7 @@ use crate::tests::runs::{Fails, File, NOWHERE, check, check_output, run_plan};
 use std::process::Abort;
 use std::sync::Wait;
 use std::test::Fail;
+use std::thread::Threads;
 
 // One query that counts the rows of each key and sums a column.
 const SUMS: &str = "\
@@ -75,7 +76,7 @@ const ENDS: (&str, &str) = (
 );
 
 // Runs the sums over these files, where the plan has these texts written anew, and sees what becomes of it.
-fn check_sums<R: Abort + AllocGlobal + Wait>(
+fn check_sums<R: Abort + AllocGlobal + Wait + Threads + Sync>(
     rt: &R,
     edits: &[(&str, &str)],
     files: &[File],

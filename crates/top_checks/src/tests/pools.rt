@@ -8,6 +8,7 @@ use std::alloc::{AllocError, Global};
 use std::process::Abort;
 use std::sync::Wait;
 use std::test::Fail;
+use std::thread::Threads;
 
 // A query whose pool has the memory for twenty of its pages.
 const ONE: &str = "\
@@ -72,7 +73,7 @@ fn lines(alloc: Global, header: &[u8], end: &[u8]) -> Result<Vec<u8>, AllocError
 }
 
 // Runs it over a row for each of these keys.
-fn ran<R: Abort + AllocGlobal + Wait>(
+fn ran<R: Abort + AllocGlobal + Wait + Threads + Sync>(
     rt: &R,
     edits: &[(&str, &str)],
     slots: &mut Vec<MemSlot>,
@@ -83,7 +84,7 @@ fn ran<R: Abort + AllocGlobal + Wait>(
 }
 
 // Sees that the output has a line for each of the keys.
-fn check_lines<R: Abort + AllocGlobal + Wait>(
+fn check_lines<R: Abort + AllocGlobal + Wait + Threads + Sync>(
     rt: &R,
     ended: &Ended,
     name: &str,
@@ -122,7 +123,11 @@ fn a_quota_that_does_not_suffice_is_told(rt: HostRuntime) -> Result<(), Fail> {
 }
 
 // Whether the run was stopped by a write, or by a read, of a slot that fails at one of its calls. If it was, the next one answers.
-fn stopped<R: Abort + AllocGlobal + Wait>(rt: &R, slot: u32, call: u64) -> Result<[bool; 2], Fail> {
+fn stopped<R: Abort + AllocGlobal + Wait + Threads + Sync>(
+    rt: &R,
+    slot: u32,
+    call: u64,
+) -> Result<[bool; 2], Fail> {
     let mut slots = slots_but(rt.alloc(), 800, slot, &[call])?;
     let ended = ran(rt, &[], &mut slots)?;
     let told = [

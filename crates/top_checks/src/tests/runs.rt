@@ -6,6 +6,7 @@ use std::alloc::{AllocError, Global};
 use std::process::Abort;
 use std::sync::Wait;
 use std::test::Fail;
+use std::thread::Threads;
 
 // A file that is there: its name, its bytes, which come in chunks of 5, and the reads that fail.
 pub(crate) type File<'a> = (&'a str, &'a [u8], &'a [u64]);
@@ -43,7 +44,7 @@ fn owned(alloc: Global, words: &[&str]) -> Result<Vec<String>, AllocError> {
 }
 
 // Makes the top call, which keeps as many slots as there were.
-pub(crate) fn call<R: Abort + AllocGlobal + Wait>(
+pub(crate) fn call<R: Abort + AllocGlobal + Wait + Threads + Sync>(
     rt: &R,
     words: &[&str],
     inputs: &mut MemInputs,
@@ -124,7 +125,7 @@ fn outputs_of(alloc: Global, fails: Fails) -> Result<MemOutputs, Fail> {
 }
 
 // Runs such a plan over these slots.
-pub(crate) fn run_over_slots<R: Abort + AllocGlobal + Wait>(
+pub(crate) fn run_over_slots<R: Abort + AllocGlobal + Wait + Threads + Sync>(
     rt: &R,
     text: &str,
     edits: &[(&str, &str)],
@@ -140,7 +141,7 @@ pub(crate) fn run_over_slots<R: Abort + AllocGlobal + Wait>(
 }
 
 // The same over 2000 slots that never fail.
-pub(crate) fn run_plan<R: Abort + AllocGlobal + Wait>(
+pub(crate) fn run_plan<R: Abort + AllocGlobal + Wait + Threads + Sync>(
     rt: &R,
     text: &str,
     edits: &[(&str, &str)],

@@ -1,4 +1,4 @@
-use Rattle.std.proofs.Common.{◌≡◌, ◌≢◌, inl, inr, ℕ, List, Ok, Err, length, refl, subst, vec_len, rules, arith}
+use Rattle.std.proofs.Common.{◌≡◌, ◌≢◌, inl, inr, ℕ, List, Ok, Err, length, refl, subst, vec_len, ap, rules, arith}
 use Rattle.pin_core.specs.Tallies.{tally_of}
 use Rattle.pin_core.proofs.Tallied.{uncounted_yet}
 use Rattle.query_plan.specs.PlanOf.{plan_of}
@@ -62,3 +62,11 @@ returns-in-Ok-run_queries-clause-ran g c =
       reported = subst (λ (queries : List Query). Reported queries c.in-Ok-run_queries.ends.items (telling (g.R.Sink.contents c.args.report.now) (g.R.Sink.faults c.args.report.now)) (telling (g.R.Sink.contents c.report_all.new.report) (g.R.Sink.faults c.report_all.new.report)) c.report_all.result) queries_are
           (subst (λ (ends : List Ending). Reported c.as_slice-in-Ok-run_queries.result.now ends (telling (g.R.Sink.contents c.args.report.now) (g.R.Sink.faults c.args.report.now)) (telling (g.R.Sink.contents c.report_all.new.report) (g.R.Sink.faults c.report_all.new.report)) c.report_all.result) ends_are c.report_all.ensures.reported);
     })
+
+pub returns-clause-ran : goal.returns-clause-ran
+returns-clause-ran g c =
+    let stays : c.run_queries.new.outputs ≡ c.args.outputs.now = search rules in
+    inr (
+      (λ name. ap (λ (outputs : g.row.O.Denot). g.O.Outputs.written outputs name) stays),
+      inr (inr (record { status_is = c.refuse_memory-in-Err-run_queries.ensures.status; tells = c.refuse_memory-in-Err-run_queries.ensures.tells })),
+    )

@@ -3,7 +3,7 @@ use Rattle.outside.specs.Names.{Written}
 use Rattle.pin_core.specs.declared.tally.Tally.{Tally}
 use Rattle.spill_top.specs.Running.{Went, seen}
 use Rattle.spill_top.specs.Jobs.{HasSides, work_of}
-use Rattle.spill_top.specs.Steps.{IsEnded, IsRead, KeepsWorks, OweNoMore}
+use Rattle.spill_top.specs.Steps.{GiveNoAnswers, IsEnded, IsRead, KeepsWorks}
 use Rattle.spill_top.proofs.Loops.{Going}
 use Rattle.spill_top.proofs.Sided.{AreEachFrom}
 use Rattle.spill_top.proofs.run.close_all.Given as goal
@@ -13,7 +13,8 @@ invariant-loop-place g l = record {
   len : vec_len l.jobs ≡ vec_len l.initial.jobs;
   going : Going IsEnded IsRead l.place (map (work_of g.I.Src.Source.remaining g.I.Src.Source.faults g.K.Sink.contents g.K.Sink.faults) l.initial.jobs.items) (map (work_of g.I.Src.Source.remaining g.I.Src.Source.faults g.K.Sink.contents g.K.Sink.faults) l.jobs.items);
   sided : AreEachFrom HasSides l.place l.queries (map (work_of g.I.Src.Source.remaining g.I.Src.Source.faults g.K.Sink.contents g.K.Sink.faults) l.jobs.items);
-  owed : OweNoMore l.queries (map (work_of g.I.Src.Source.remaining g.I.Src.Source.faults g.K.Sink.contents g.K.Sink.faults) l.initial.jobs.items) (map (work_of g.I.Src.Source.remaining g.I.Src.Source.faults g.K.Sink.contents g.K.Sink.faults) l.jobs.items);
+  answers : GiveNoAnswers (map (work_of g.I.Src.Source.remaining g.I.Src.Source.faults g.K.Sink.contents g.K.Sink.faults) l.initial.jobs.items) (map (work_of g.I.Src.Source.remaining g.I.Src.Source.faults g.K.Sink.contents g.K.Sink.faults) l.jobs.items);
+  sessions : map (λ job. job.session) l.jobs.items ≡ map (λ job. job.session) l.initial.jobs.items;
   works : (written : List ℕ → Option Written) (created : List ℕ → Bool) (writes : List ℕ → ℕ) (slots : Tally) → KeepsWorks (seen (g.I.Inputs.bytes_at l.initial.inputs) (g.I.Inputs.faults_at l.initial.inputs) written created writes slots) (seen (g.I.Inputs.bytes_at l.inputs) (g.I.Inputs.faults_at l.inputs) written created writes slots) l.queries (map (work_of g.I.Src.Source.remaining g.I.Src.Source.faults g.K.Sink.contents g.K.Sink.faults) l.initial.jobs.items) (map (work_of g.I.Src.Source.remaining g.I.Src.Source.faults g.K.Sink.contents g.K.Sink.faults) l.jobs.items);
   went : (written : List ℕ → Option Written) (created : List ℕ → Bool) (writes : List ℕ → ℕ) (slots : Tally) → Went (seen (g.I.Inputs.bytes_at l.initial.inputs) (g.I.Inputs.faults_at l.initial.inputs) written created writes slots) (seen (g.I.Inputs.bytes_at l.inputs) (g.I.Inputs.faults_at l.inputs) written created writes slots);
 }

@@ -1,11 +1,12 @@
-use Rattle.std.proofs.Common.{◌≡◌, ◌<◌, ◌≤◌, Some, length, refl, rules}
+use Rattle.std.proofs.Common.{◌≡◌, ◌∙◌, ◌<◌, ◌≤◌, Some, length, refl, rules}
 use Rattle.std.specs.List.{slice_get}
 use Rattle.std.proofs.lemmas.Option.{slice_get_read}
 use Rattle.spill_top.specs.Running.{seen}
 use Rattle.spill_top.specs.Jobs.{work_of}
 use Rattle.spill_top.specs.Steps.{IsBegun, IsCreated}
 use Rattle.spill_top.proofs.Loops.{going_all, going_call, going_first, kept_call}
-use Rattle.spill_top.proofs.Owing.{owe_call}
+use Rattle.spill_top.proofs.Places.{same_set}
+use Rattle.spill_top.proofs.Unanswered.{unanswered_call}
 use Rattle.spill_top.proofs.Works.{went_on}
 use Rattle.spill_top.proofs.run.create_all.Goals as goal
 
@@ -23,7 +24,8 @@ loop-place-preserved g c =
     record {
       len = c.loop-place.invariant.len;
       going = going_call (work_of g.S.Source.remaining g.S.Source.faults g.O.Snk.Sink.contents g.O.Snk.Sink.faults) IsBegun IsCreated c.loop-place.place _ c.loop-place.jobs.items c.index_mut.result.now c.create.new.job at c.create.ensures.refused c.create.ensures.step c.loop-place.invariant.going;
-      owed = owe_call (work_of g.S.Source.remaining g.S.Source.faults g.O.Snk.Sink.contents g.O.Snk.Sink.faults) c.args.queries.now _ c.loop-place.jobs.items c.loop-place.place c.index-queries-place.result c.index_mut.result.now c.create.new.job at_query at c.create.ensures.ended c.loop-place.invariant.owed;
+      answers = unanswered_call (work_of g.S.Source.remaining g.S.Source.faults g.O.Snk.Sink.contents g.O.Snk.Sink.faults) _ c.loop-place.jobs.items c.loop-place.place c.index_mut.result.now c.create.new.job at c.create.ensures.ended c.loop-place.invariant.answers;
+      sessions = same_set (λ job. job.session) c.loop-place.jobs.items c.loop-place.place c.index_mut.result.now c.create.new.job at c.create.ensures.session ∙ c.loop-place.invariant.sessions;
       works = λ files reads slots. kept_call (work_of g.S.Source.remaining g.S.Source.faults g.O.Snk.Sink.contents g.O.Snk.Sink.faults) (seen files reads (g.O.Outputs.written c.args.outputs.now) (g.O.Outputs.is_created c.args.outputs.now) (g.O.Outputs.faults_at c.args.outputs.now) slots) (seen files reads (g.O.Outputs.written c.loop-place.outputs) (g.O.Outputs.is_created c.loop-place.outputs) (g.O.Outputs.faults_at c.loop-place.outputs) slots) (seen files reads (g.O.Outputs.written c.create.new.outputs) (g.O.Outputs.is_created c.create.new.outputs) (g.O.Outputs.faults_at c.create.new.outputs) slots) c.args.queries.now _ c.loop-place.jobs.items c.loop-place.place c.index-queries-place.result c.index_mut.result.now c.create.new.job at_query at
           ((c.create.ensures.went files reads slots).went) (λ j q at_q apart. (c.create.ensures.went files reads slots).others q.output (λ same. apart (c.requires.apart j c.loop-place.place q c.index-queries-place.result at_q at_query same))) (c.loop-place.invariant.works files reads slots) (c.create.ensures.work files reads slots);
       went = λ files reads slots. went_on (seen files reads (g.O.Outputs.written c.args.outputs.now) (g.O.Outputs.is_created c.args.outputs.now) (g.O.Outputs.faults_at c.args.outputs.now) slots) (seen files reads (g.O.Outputs.written c.loop-place.outputs) (g.O.Outputs.is_created c.loop-place.outputs) (g.O.Outputs.faults_at c.loop-place.outputs) slots) (seen files reads (g.O.Outputs.written c.create.new.outputs) (g.O.Outputs.is_created c.create.new.outputs) (g.O.Outputs.faults_at c.create.new.outputs) slots) (c.loop-place.invariant.went files reads slots) ((c.create.ensures.went files reads slots).went);

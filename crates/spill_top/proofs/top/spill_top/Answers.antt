@@ -1,7 +1,7 @@
-use Rattle.std.proofs.Common.{◌≡◌, Some, map, string_bytes, arith, refl, rules}
+use Rattle.std.proofs.Common.{◌≡◌, ℕ, List, Option, Some, IfSome, map, string_bytes, vec_len, arith, refl, sym, subst, rules}
 use Rattle.pin_core.specs.Tallies.{tally_of}
 use Rattle.spill_top.specs.Headline.{Counted}
-use Rattle.spill_top.specs.Ran.{telling}
+use Rattle.spill_top.specs.Ran.{RanPlan, telling}
 use Rattle.spill_top.specs.Running.{seen}
 use Rattle.spill_top.specs.Words.{Command, check_of, command_of, plan_file_of}
 use Rattle.spill_top.proofs.Causes.{device_fault, never_wants}
@@ -82,3 +82,16 @@ pub returns-in-Some-Check-clause-outputs_never_fall : goal.returns-in-Some-Check
 returns-in-Some-Check-clause-outputs_never_fall g c =
     let checked = c.self_check.ensures.checked (g.I.Inputs.bytes_at c.args.inputs.now) (g.I.Inputs.faults_at c.args.inputs.now) in
     checked.went.went.writes
+
+pub returns-in-Some-Run-clause-run : goal.returns-in-Some-Run-clause-run
+returns-in-Some-Run-clause-run g c =
+    let is : plan_file_of (map string_bytes c.args.words.now) ≡ Some c.in-Some-Run.plan.now = search rules in
+    subst
+    (λ (file : Option (List ℕ)).
+    IfSome file
+    (λ name.
+    RanPlan name (vec_len c.args.slots.now)
+    (seen (g.I.Inputs.bytes_at c.args.inputs.now) (g.I.Inputs.faults_at c.args.inputs.now) (g.O.Outputs.written c.args.outputs.now) (g.O.Outputs.is_created c.args.outputs.now) (g.O.Outputs.faults_at c.args.outputs.now) (tally_of g.D.Slot c.args.slots.now.items))
+    (seen (g.I.Inputs.bytes_at c.run.new.inputs) (g.I.Inputs.faults_at c.run.new.inputs) (g.O.Outputs.written c.run.new.outputs) (g.O.Outputs.is_created c.run.new.outputs) (g.O.Outputs.faults_at c.run.new.outputs) (tally_of g.D.Slot c.run.new.slots.items))
+    (telling (g.R.Sink.contents c.args.report.now) (g.R.Sink.faults c.args.report.now)) (telling (g.R.Sink.contents c.run.new.report) (g.R.Sink.faults c.run.new.report)) c.run.result))
+    (sym is) c.run.ensures.ran

@@ -1,0 +1,5 @@
+use Rattle.std.specs.Prelude.{Some}
+use Rattle.spill_top.proofs.queries.run_shared.Given as goal
+
+abbrev pub ghosts-run_together : goal.ghosts-run_together
+ghosts-run_together g a = record { table = Some a.pool.now }
