@@ -59,3 +59,4 @@ mod SharedStops
 mod SharedStored
 mod Seating
 mod Answering
+mod AtGate

@@ -10,6 +10,7 @@ mod job;
 mod number;
 mod over;
 mod parser;
+mod passing;
 mod plan;
 mod plan_file;
 mod pooled;

@@ -17,7 +17,7 @@ use crate::ending::Ending;
 use crate::job::endings;
 use crate::run::{answer_all, close_all, create_all, finish_all, open_all};
 use crate::seats::{asks_of, end_all, seat_all};
-use outside::{Inputs, Outputs, Slot};
+use outside::{Gate, Inputs, Outputs, Slot};
 use pin_core::PoolConf;
 use pool::{At, OpenedAs, Pass, Pool};
 use query_plan::Plan;
@@ -32,13 +32,20 @@ use std::thread::Threads;
 
 // Runs the queries of a plan over one pool of these slots, and tells how each ended. All slots are there again afterwards,
 // whatever the answer.
-pub(crate) fn run_queries<W: Wait + Threads + Sync, I: Inputs, O: Outputs, D: Slot + Drop + Send>(
+pub(crate) fn run_queries<
+    W: Wait + Threads + Sync,
+    I: Inputs,
+    O: Outputs,
+    D: Slot + Drop + Send,
+    G: Gate,
+>(
     rt: &W,
     alloc: Global,
     plan: &Plan,
     inputs: &mut I,
     outputs: &mut O,
     slots: &mut Vec<D>,
+    gate: &G,
 ) -> Result<Vec<Ending>, Memory>
     requires rules { KeepsRules (vec_len slots.old) plan.now }
     requires few { vec_len slots.old ≤ 1048576 }
@@ -51,7 +58,7 @@ pub(crate) fn run_queries<W: Wait + Threads + Sync, I: Inputs, O: Outputs, D: Sl
     ensures went { Went (seen (I.bytes_at inputs.old) (I.faults_at inputs.old) (O.written outputs.old) (O.is_created outputs.old) (O.faults_at outputs.old) (tally_of D.Slot slots.old.items))
         (seen (I.bytes_at inputs.new) (I.faults_at inputs.new) (O.written outputs.new) (O.is_created outputs.new) (O.faults_at outputs.new) (tally_of D.Slot slots.new.items)) }
 {
-    run_shared::<W, I, O, D, Brand>(rt, alloc, plan, inputs, outputs, slots)
+    run_shared::<W, I, O, D, Brand, G>(rt, alloc, plan, inputs, outputs, slots, gate)
 }
 
 // The same, where `T` names with what the pool opens, for contracts alone.
@@ -61,6 +68,7 @@ fn run_shared<
     O: Outputs,
     D: Slot + Drop + Send,
     T: OpenedAs + Send,
+    G: Gate,
 >(
     rt: &W,
     alloc: Global,
@@ -68,6 +76,7 @@ fn run_shared<
     inputs: &mut I,
     outputs: &mut O,
     slots: &mut Vec<D>,
+    gate: &G,
 ) -> Result<Vec<Ending>, Memory>
     requires rules { KeepsRules (vec_len slots.old) plan.now }
     requires few { vec_len slots.old ≤ 1048576 }
@@ -96,8 +105,8 @@ fn run_shared<
             return Err(Memory);
         }
     };
-    let ends = run_together::<W, I, O, D, T, Brand>(
-        rt, alloc, &pool, &mut pass, plan, inputs, outputs,
+    let ends = run_together::<W, I, O, D, T, Brand, G>(
+        rt, alloc, &pool, &mut pass, plan, inputs, outputs, gate,
     );
     *slots = pool.close(pass);
     law_spill();
@@ -115,6 +124,7 @@ fn run_together<
     D: Slot + Drop + Send,
     T: OpenedAs + Send,
     N: At + Send,
+    G: Gate,
 >(
     rt: &'a W,
     alloc: Global,
@@ -123,6 +133,7 @@ fn run_together<
     plan: &Plan,
     inputs: &mut I,
     outputs: &mut O,
+    gate: &G,
 ) -> Result<Vec<Ending>, Memory>
     requires rules { KeepsRules T.opening.slots plan.now }
     requires apart { AreApart plan.now.queries }
@@ -153,7 +164,7 @@ fn run_together<
     let mut jobs = seat_all(answers, jobs);
     create_all(queries, &mut jobs, outputs);
     open_all(queries, &mut jobs, inputs);
-    answer_all(rt, alloc, queries, jobs.as_mut_slice());
+    answer_all(rt, alloc, queries, jobs.as_mut_slice(), gate);
     close_all(queries, &mut jobs, inputs);
     finish_all(queries, &mut jobs, outputs);
     let ends = endings(jobs.as_slice(), ends);

@@ -10,7 +10,7 @@ use crate::plan_file::{Unread, read_file};
 use crate::queries::run_queries;
 use crate::report::{refuse_as, refuse_memory};
 use csv_edge::write_whole;
-use outside::{Inputs, Outputs, Sink, Slot};
+use outside::{Gate, Inputs, Outputs, Sink, Slot};
 use query_plan::{PlanErr, Query, read_plan};
 use row_codec::Memory;
 use run_report::{Cause, outcome_line};
@@ -20,7 +20,14 @@ use std::thread::Threads;
 
 // Runs the queries of a plan's file over a pool of these slots, writes a line for each of them to the report, and answers
 // the status: the first that is not 0.
-pub(crate) fn run<W: Wait + Threads + Sync, I: Inputs, O: Outputs, R: Sink, D: Slot + Drop + Send>(
+pub(crate) fn run<
+    W: Wait + Threads + Sync,
+    I: Inputs,
+    O: Outputs,
+    R: Sink,
+    D: Slot + Drop + Send,
+    G: Gate,
+>(
     rt: &W,
     alloc: Global,
     file: &str,
@@ -28,6 +35,7 @@ pub(crate) fn run<W: Wait + Threads + Sync, I: Inputs, O: Outputs, R: Sink, D: S
     outputs: &mut O,
     report: &mut R,
     slots: &mut Vec<D>,
+    gate: &G,
 ) -> u8
     requires few { vec_len slots.old ≤ 1048576 }
     ensures ran { RanPlan file.now (vec_len slots.old) (seen (I.bytes_at inputs.old) (I.faults_at inputs.old) (O.written outputs.old) (O.is_created outputs.old) (O.faults_at outputs.old) (tally_of D.Slot slots.old.items)) (seen (I.bytes_at inputs.new) (I.faults_at inputs.new) (O.written outputs.new) (O.is_created outputs.new) (O.faults_at outputs.new) (tally_of D.Slot slots.new.items)) (telling (R.contents report.old) (R.faults report.old)) (telling (R.contents report.new) (R.faults report.new)) result }
@@ -44,7 +52,7 @@ pub(crate) fn run<W: Wait + Threads + Sync, I: Inputs, O: Outputs, R: Sink, D: S
         Err(PlanErr::Memory) => return refuse_memory(report),
         Err(error) => return refuse_as(alloc, report, 2, Cause::Plan { error }),
     };
-    match run_queries(rt, alloc, &plan, inputs, outputs, slots) {
+    match run_queries(rt, alloc, &plan, inputs, outputs, slots, gate) {
         Ok(ends) => report_all(alloc, report, plan.queries.as_slice(), ends.as_slice()),
         Err(Memory) => refuse_memory(report),
     }

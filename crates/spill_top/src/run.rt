@@ -1,6 +1,6 @@
 // The queries of a plan, one kind of call after the other.
 
-ghost use Rattle.std.specs.Prelude.{◌≡◌, ◌<◌, ℕ, Bool, List, Option, Some, length, map, slice_get, vec_len};
+ghost use Rattle.std.specs.Prelude.{◌≡◌, ◌<◌, ◌≤◌, ℕ, Bool, List, Option, Some, length, map, slice_get, vec_len};
 ghost use Rattle.outside.specs.Names.{Written};
 ghost use Rattle.pin_core.specs.declared.tally.Tally.{Tally};
 ghost use Rattle.query_plan.specs.declared.plan.Query.{Query};
@@ -10,9 +10,9 @@ ghost use Rattle.spill_top.specs.Running.{AreApart, Went, seen};
 ghost use Rattle.spill_top.specs.Together.{AllCanRun, AreAnswered, CanRun, IsAnswered};
 
 use crate::job::Job;
-use crate::over::answer;
+use crate::over::answer_at_gate;
 use crate::steps::{close, create, finish, open};
-use outside::{Inputs, Outputs, Sink, Source};
+use outside::{Gate, Inputs, Outputs, Sink, Source};
 use query_plan::Query;
 use std::alloc::Global;
 use std::thread::{Threads, for_each_mut};
@@ -62,12 +62,14 @@ pub(crate) fn open_all<I: Inputs, K: Sink, St>(
 }
 
 // Runs those queries that have not ended, each over its session, in a thread of its own where one can be made.
-pub(crate) fn answer_all<R: Threads + Sync, S: Source + Send, K: Sink + Send, St: Store + Send>(
-    rt: &R,
-    alloc: Global,
-    queries: &[Query],
-    jobs: &mut [Job<S, K, St>],
-)
+pub(crate) fn answer_all<
+    R: Threads + Sync,
+    S: Source + Send,
+    K: Sink + Send,
+    St: Store + Send,
+    G: Gate,
+>(rt: &R, alloc: Global, queries: &[Query], jobs: &mut [Job<S, K, St>], gate: &G)
+    requires few { length queries.now ≤ 16 }
     requires len { length queries.now ≡ length jobs.old }
     requires can { AllCanRun S.remaining S.faults K.contents K.faults St.holds St.signs queries.now jobs.old }
     ensures len { length jobs.new ≡ length jobs.old }
@@ -75,9 +77,9 @@ pub(crate) fn answer_all<R: Threads + Sync, S: Source + Send, K: Sink + Send, St
 {
     let threads = jobs.len().max(1);
     let answer_at = |place: usize, job: &mut Job<S, K, St>|
-        requires { (place < length queries.now) × ((query : Query) → slice_get queries.now place ≡ Some query → CanRun S.remaining S.faults K.contents K.faults St.holds St.signs query job.now) }
+        requires { (place < length queries.now) × (length queries.now ≤ 16) × ((query : Query) → slice_get queries.now place ≡ Some query → CanRun S.remaining S.faults K.contents K.faults St.holds St.signs query job.now) }
         ensures { (query : Query) → slice_get queries.entry.now place ≡ Some query → IsAnswered S.remaining S.faults K.contents K.faults St.holds St.signs query job.entry.now job.exit.now }
-    { answer(alloc, &queries[place], job) };
+    { answer_at_gate(alloc, gate, place as u32, &queries[place], job) };
     for_each_mut(rt, jobs, threads, &answer_at);
 }
 

@@ -35,6 +35,7 @@ use std::thread::Threads;
 /// outputs are created and inputs are opened, queries run beside each other, each in a thread of its own where one can be
 /// made, and sources and then sinks are given back, each in the order of the plan; of a query that joins the left input
 /// comes first. A query whose output or input can't be opened does not run. The status is the first that is not 0.
+/// A query passes `gate` by its place in the plan, from 0: where its last input ends, and when it was answered.
 /// An answer is promised where all slots tell what they hold. An output is said to be whole where its query has
 /// status 0; else it is empty, or after 7 to 10 a front of the answer.
 ///
@@ -106,7 +107,7 @@ pub fn spill_top<
         Some(Task::Count { file, column }) => answer_count(
             rt, alloc, file, column, inputs, report, slots,
         ),
-        Some(Task::Run { plan }) => run(rt, alloc, plan, inputs, outputs, report, slots),
+        Some(Task::Run { plan }) => run(rt, alloc, plan, inputs, outputs, report, slots, gate),
         Some(Task::Check(check)) => self_check(rt, alloc, check, outputs, report, slots),
         None => {
             refuse_words(report);

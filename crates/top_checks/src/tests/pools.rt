@@ -1,9 +1,10 @@
 //! Runs of plans over pools that are too small for their groups, and over slots that fail or are too few.
 
 use crate::tests::runs::{
-    Ended, File, NOWHERE, check, check_output, run_over_slots, slots, slots_but, stores,
+    Ended, File, NOWHERE, check, check_output, run_at_gate, run_over_slots, slots, slots_but,
+    stores,
 };
-use outside::MemSlot;
+use outside::{MeetGate, MemSlot, Point};
 use std::alloc::{AllocError, Global};
 use std::process::Abort;
 use std::sync::Wait;
@@ -110,6 +111,27 @@ fn two_queries_spill_over_the_same_slots(rt: HostRuntime) -> Result<(), Fail> {
     check_lines(&rt, &ended, "two.csv", b"k,count\n", b",1\n")?;
     // Two groups of one query stand on a page, so each has a hundred pages, of which twenty fit its memory.
     assert!(rt; stores(slots.as_slice()) > 160);
+    Ok(())
+}
+
+#[test]
+fn a_query_has_its_answer_while_another_is_held(rt: HostRuntime) -> Result<(), Fail> {
+    // The first query stands where its input ends until the second one has its whole answer.
+    let held = (0, Point::QueryRead);
+    let until = (1, Point::QueryWrote);
+    let Ok(gate) = MeetGate::new(held, until, 10_000_000) else {
+        panic!(rt; "a gate takes no memory");
+    };
+    let mut slots = slots(rt.alloc(), 2000)?;
+    let rows = lines(rt.alloc(), b"k,v\n", b",1\n")?;
+    let file: File = ("in.csv", rows.as_slice(), &[]);
+    let ended = run_at_gate(&rt, &gate, ONE, &TWO, &[file], NOWHERE, &mut slots)?;
+    assert!(rt; gate.came());
+    assert!(rt; !gate.missed());
+    let report = b"query 1: 0 lines 200\nquery 2: 0 lines 200\n";
+    check(&rt, &ended, 0, report);
+    check_lines(&rt, &ended, "out.csv", b"k,count,sum(v)\n", b",1,1\n")?;
+    check_lines(&rt, &ended, "two.csv", b"k,count\n", b",1\n")?;
     Ok(())
 }
 

@@ -1,6 +1,6 @@
 //! The top call over files and slots in memory.
 
-use outside::{MemInputs, MemOutputs, MemSink, MemSlot, OpenGate};
+use outside::{Gate, MemInputs, MemOutputs, MemSink, MemSlot, OpenGate};
 use spill_top::spill_top;
 use std::alloc::{AllocError, Global};
 use std::process::Abort;
@@ -48,6 +48,19 @@ pub(crate) fn call<R: Abort + AllocGlobal + Wait + Threads + Sync>(
     rt: &R,
     words: &[&str],
     inputs: &mut MemInputs,
+    outputs: MemOutputs,
+    report: MemSink,
+    slots: &mut Vec<MemSlot>,
+) -> Result<Ended, Fail> {
+    call_at(rt, &OpenGate, words, inputs, outputs, report, slots)
+}
+
+// The same, with a gate that queries pass.
+fn call_at<R: Abort + AllocGlobal + Wait + Threads + Sync>(
+    rt: &R,
+    gate: &impl Gate,
+    words: &[&str],
+    inputs: &mut MemInputs,
     mut outputs: MemOutputs,
     mut report: MemSink,
     slots: &mut Vec<MemSlot>,
@@ -63,7 +76,7 @@ pub(crate) fn call<R: Abort + AllocGlobal + Wait + Threads + Sync>(
         &mut outputs,
         &mut report,
         slots,
-        &OpenGate,
+        gate,
     );
     assert_eq!(rt; slots.len(), count);
     Ok(Ended {
@@ -133,11 +146,24 @@ pub(crate) fn run_over_slots<R: Abort + AllocGlobal + Wait + Threads + Sync>(
     fails: Fails,
     slots: &mut Vec<MemSlot>,
 ) -> Result<Ended, Fail> {
+    run_at_gate(rt, &OpenGate, text, edits, files, fails, slots)
+}
+
+// The same, with a gate that its queries pass.
+pub(crate) fn run_at_gate<R: Abort + AllocGlobal + Wait + Threads + Sync>(
+    rt: &R,
+    gate: &impl Gate,
+    text: &str,
+    edits: &[(&str, &str)],
+    files: &[File],
+    fails: Fails,
+    slots: &mut Vec<MemSlot>,
+) -> Result<Ended, Fail> {
     let mut inputs = inputs_of(rt.alloc(), text, edits, files)?;
     let outputs = outputs_of(rt.alloc(), fails)?;
     let report = MemSink::new(rt.alloc(), 7, fails.report)?;
     let words = ["run", "plan.toml"];
-    call(rt, &words, &mut inputs, outputs, report, slots)
+    call_at(rt, gate, &words, &mut inputs, outputs, report, slots)
 }
 
 // The same over 2000 slots that never fail.

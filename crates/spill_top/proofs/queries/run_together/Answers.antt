@@ -106,6 +106,11 @@ open_all-requires-clause-len g c κs within =
     let items : length c.seat_all-jobs.result.items ≡ vec_len c.seat_all-jobs.result = sym c.seat_all-jobs.result.ok.0 in
     same ∙ many ∙ items ∙ sym c.create_all.ensures.len
 
+pub answer_all-requires-clause-few : goal.answer_all-requires-clause-few
+answer_all-requires-clause-few g c κs within =
+    let queries_are : c.as_slice-queries.result.now ≡ c.args.plan.now.queries = search rules in
+    subst (λ (queries : List Query). length queries ≤ 16) (sym queries_are) c.requires.rules.some.1
+
 pub answer_all-requires-clause-len : goal.answer_all-requires-clause-len
 answer_all-requires-clause-len g c κs within =
     let asks_are : c.as_slice.result.now ≡ map (ask_of g.T.OpenedAs.opening.block_len) c.args.plan.now.queries = asks_so c.as_slice.result.now c.in_ok-asks.asks.items c.as_slice-queries.result.now c.args.plan.now.queries c.args.plan.now.block_len g.T.OpenedAs.opening.block_len (search rules) c.in_ok-asks.ensures (search rules) c.requires.opening.block_len in

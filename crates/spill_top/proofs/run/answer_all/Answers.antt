@@ -1,12 +1,21 @@
-use Rattle.std.proofs.Common.{◌<◌, arith, length, refl}
+use Rattle.std.proofs.Common.{◌<◌, arith, length, refl, rules}
+use mir.Syntax.{of_param}
+use denote.Param.Send.{Quiet-if}
 use Rattle.std.proofs.lemmas.Option.{slice_get_read, slice_get_within}
 use Rattle.spill_top.specs.Together.{IsAnswered}
 use Rattle.spill_top.proofs.Answering.{at_place}
 use Rattle.spill_top.proofs.run.answer_all.Goals as goal
 
 pub for_each_mut-requires-clause-accepts : goal.for_each_mut-requires-clause-accepts
-for_each_mut-requires-clause-accepts g c κs within = λ place job less is.
-    (omega (arith, c.requires.len, less), λ query at. c.requires.can place query job.now at (slice_get_read c.args.jobs.now (length c.args.jobs.now) place job.now refl less is))
+for_each_mut-requires-clause-accepts g c κs within = λ place job less is. (
+  (omega (arith, c.requires.len, less), c.requires.few, λ query at. c.requires.can place query job.now at (slice_get_read c.args.jobs.now (length c.args.jobs.now) place job.now refl less is)),
+  (
+    record { owned = c.type_bounds.send-S.owned; leaving = λ keeps. Quiet-if (keeps (of_param 0)) _ _ (λ x w. tt) (λ x w. tt) },
+    record { owned = c.type_bounds.send-K.owned; leaving = λ keeps. Quiet-if (keeps (of_param 1)) _ _ (λ x w. tt) (λ x w. tt) },
+    record { owned = c.type_bounds.send-St.owned; leaving = λ keeps. Quiet-if (keeps (of_param 2)) _ _ (λ x w. tt) (λ x w. tt) },
+    search rules,
+  ),
+)
 
 pub returns-clause-each : goal.returns-clause-each
 returns-clause-each g c = λ place query old new at was now.
