@@ -35,11 +35,9 @@ use scratch::{SLOTS, Scratch};
 use spill_top::spill_top;
 use std::alloc::AllocError;
 use std::fs::File;
-use std::io::IsTerminal;
+use std::io::{IsTerminal, Write};
 use std::process::ExitCode;
-use std::rt::{Clock, Env, Files};
-use std::sync::Wait;
-use std::thread::Threads;
+use std::rt::{Env, Files};
 use std::{env, io};
 
 // The status where standard output failed under a text of the program's own.
@@ -48,21 +46,34 @@ const OUTPUT_FAULT: u8 = 9;
 // The status where there was no memory for the words.
 const NO_MEMORY: u8 = 10;
 
+// The runtime itself, and not a bound on it, stands behind what the top call sends to threads.
 fn main(rt: HostRuntime) -> ExitCode {
     let shows_progress = rt.stderr().is_terminal();
-    ExitCode::from(run(&rt, shows_progress).unwrap_or(NO_MEMORY))
-}
-
-// Answers the words that the process was given, and gives the status.
-fn run<R: Files<File = File> + Clock + Env + Print + Eprint + AllocGlobal + Sync + Wait + Threads>(
-    rt: &R,
-    shows_progress: bool,
-) -> Result<u8, AllocError> {
-    let words = words(rt)?;
-    match usage::about(words.as_slice()) {
-        Some(text) => Ok(status_of(rt, rt.print(text))),
-        None => Ok(run_command(rt, words.as_slice(), shows_progress)),
+    let Ok(words) = words(&rt) else {
+        return ExitCode::from(NO_MEMORY);
+    };
+    let words = words.as_slice();
+    if let Some(text) = usage::about(words) {
+        return ExitCode::from(status_of(&rt, rt.print(text)));
     }
+    let scratch = Scratch::new(&rt);
+    let Ok(mut slots) = scratch.slots(rt.alloc(), SLOTS) else {
+        return ExitCode::from(NO_MEMORY);
+    };
+    let in_use = InUse::new(rt.alloc());
+    let mut report = Report::new(rt.alloc(), io::writer(&rt));
+    let status = spill_top(
+        &rt,
+        rt.alloc(),
+        words,
+        &mut FileInputs::new(&rt, &in_use, shows_progress, plan_in(words)),
+        &mut FileOutputs::new(&rt, &in_use, shows_progress),
+        &mut report,
+        &mut slots,
+        &OpenGate,
+    );
+    tell(&rt, status, words, &report);
+    ExitCode::from(status)
 }
 
 fn status_of(rt: &impl Eprint, printed: io::Result<()>) -> u8 {
@@ -75,37 +86,25 @@ fn status_of(rt: &impl Eprint, printed: io::Result<()>) -> u8 {
     }
 }
 
-// Hands the words, the files and standard output to the top call, and answers its status. A person who can't be told loses
-// nothing: the status stands.
-fn run_command<
-    R: Files<File = File> + Clock + Env + Print + Eprint + AllocGlobal + Sync + Wait + Threads,
->(rt: &R, words: &[String], shows_progress: bool) -> u8 {
-    let scratch = Scratch::new(rt);
-    let Ok(mut slots) = scratch.slots(rt.alloc(), SLOTS) else {
-        return NO_MEMORY;
-    };
-    let in_use = InUse::new(rt.alloc());
-    // The command `run` alone has one operand.
-    let plan = match words {
+// The plan of these words. The command `run` alone has one operand.
+fn plan_in(words: &[String]) -> Option<&str> {
+    match words {
         [_, plan] => Some(plan.as_str()),
         _ => None,
-    };
-    let mut report = Report::new(rt.alloc(), io::writer(rt));
-    let status = spill_top(
-        rt,
-        rt.alloc(),
-        words,
-        &mut FileInputs::new(rt, &in_use, shows_progress, plan),
-        &mut FileOutputs::new(rt, &in_use, shows_progress),
-        &mut report,
-        &mut slots,
-        &OpenGate,
-    );
+    }
+}
+
+// Tells a person how a command ended. Who can't be told loses nothing: the status stands.
+fn tell<R: Files<File = File> + Eprint + AllocGlobal, W: Write>(
+    rt: &R,
+    status: u8,
+    words: &[String],
+    report: &Report<W>,
+) {
     let _ = advice::advise(rt, rt, status, words, report.text());
     if let Some(why) = report.failed() {
         let _ = advice::tell_output(rt, why);
     }
-    status
 }
 
 // The words behind the program's name. Where one of them is no text, a person is told, and there are
