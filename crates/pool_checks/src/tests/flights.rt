@@ -1,8 +1,10 @@
 //! Calls that may start a write or a load, each made of the pool and of the plain pool, and how jobs end.
 
 use super::moves::{client, page};
-use super::steps::{self, Pool};
-use super::world::{Leaf, World, bytes_of};
+use super::page_steps;
+use super::steps::Pool;
+use super::sums::bytes_of;
+use super::world::{Leaf, World};
 use block_arena::Buf;
 use outside::MemSlot;
 use page_table::Place;
@@ -69,7 +71,7 @@ fn flies(world: &mut World, job: WriteJob<MemSlot>) -> Started {
 
 pub fn start_write(rt: &impl Abort, pool: &mut Pool, world: &mut World) -> Started {
     let who = 1000u32.saturating_add(world.below(8));
-    match steps::start_write(rt, pool, who) {
+    match page_steps::start_write(rt, pool, who) {
         None => {
             assert!(rt; world.dirty.is_empty());
             world.tally(NONE_DIRTY);
@@ -93,7 +95,7 @@ pub fn make_room(rt: &impl Abort, pool: &mut Pool, world: &mut World, t: u32) ->
         _ => Want::Shrink(bytes),
     };
     let c = client(world, t);
-    let turn = steps::room_turn(rt, pool, 0, &c, want);
+    let turn = page_steps::room_turn(rt, pool, 0, &c, want);
     c.into_tracker();
     match turn {
         RoomTurn::Ready => agree(rt, world, wanted, Answer::Ready, READY),
@@ -134,7 +136,7 @@ pub fn pin(rt: &impl Abort, pool: &mut Pool, world: &mut World, name: u64, leaf:
     }
     let wanted = answer_to_pin(world, &leaf);
     let p = page(name, &leaf);
-    let turn = steps::pin_turn(rt, pool, leaf.session, 0, &p);
+    let turn = page_steps::pin_turn(rt, pool, leaf.session, 0, &p);
     p.into_name();
     match turn {
         PinTurn::Refused { entry } => {
@@ -163,7 +165,7 @@ pub fn pin(rt: &impl Abort, pool: &mut Pool, world: &mut World, name: u64, leaf:
 
 // The page is pinned, and its buffer has the byte with which it was left.
 fn shows(rt: &impl Abort, world: &mut World, name: u64, leaf: &Leaf, buf: Buf) {
-    assert_eq!(rt; steps::front(rt, &buf), leaf.byte);
+    assert_eq!(rt; page_steps::front(rt, &buf), leaf.byte);
     world.put(name, Place::Pinned(1));
     world.hold(name, buf).expect(rt, "memory");
 }
@@ -180,7 +182,7 @@ pub fn finish(rt: &impl Abort, pool: &mut Pool, world: &mut World, started: Star
 fn finish_write(rt: &impl Abort, pool: &mut Pool, world: &mut World, job: WriteJob<MemSlot>) {
     let name = job.id.name;
     let client = job.client;
-    let wrote = steps::write(rt, pool, job);
+    let wrote = page_steps::write(rt, pool, job);
     world.count(1);
     if wrote == Wrote::Done(name) {
         world.tally(WRITTEN);
@@ -202,7 +204,7 @@ fn finish_read(rt: &impl Abort, pool: &mut Pool, world: &mut World, job: ReadJob
     };
     let entry = world.entries;
     world.count(1);
-    match steps::read(rt, pool, 0, job) {
+    match page_steps::read(rt, pool, 0, job) {
         Ok(buf) => {
             world.tally(READ);
             shows(rt, world, name, &leaf, buf);

@@ -1,5 +1,6 @@
 //! Where slots or trackers are spent, and a pool that closes.
 
+use super::page_steps;
 use super::steps::{self, Pool};
 use crate::is_pinned;
 use block_arena::Buf;
@@ -9,11 +10,11 @@ use store_api::{Client, Page};
 
 // A page can't be left while another has the only slot. Its buffer comes back, and it stays pinned.
 fn refused(rt: &impl Abort, pool: &mut Pool, page: &Page, buf: Buf) -> Buf {
-    match steps::unpin(rt, pool, page, buf) {
+    match page_steps::unpin(rt, pool, page, buf) {
         Err((buf, refusal)) => {
             assert_eq!(rt; refusal, PoolErr::ScratchFull { need: 1, free: 0 });
             assert!(rt; is_pinned(pool, page));
-            assert_eq!(rt; steps::front(rt, &buf), 6);
+            assert_eq!(rt; page_steps::front(rt, &buf), 6);
             buf
         }
         Ok(()) => panic!(rt; "no slot is free"),
@@ -23,7 +24,7 @@ fn refused(rt: &impl Abort, pool: &mut Pool, page: &Page, buf: Buf) -> Buf {
 // Once the other page is gone it can.
 fn left(rt: &impl Abort, pool: &mut Pool, c: &Client, page: Page, buf: Buf) {
     steps::assert_charge(rt, pool, c, 64);
-    assert!(rt; steps::unpin(rt, pool, &page, buf).is_ok());
+    assert!(rt; page_steps::unpin(rt, pool, &page, buf).is_ok());
     steps::assert_charge(rt, pool, c, 0);
     page.into_name();
 }
@@ -32,13 +33,14 @@ fn left(rt: &impl Abort, pool: &mut Pool, c: &Client, page: Page, buf: Buf) {
 fn a_page_is_left_once_slots_are_free(rt: HostRuntime) {
     let slots = steps::slots(&rt, rt.alloc(), 4, &[]);
     let (mut pool, _s, c) = steps::setting(&rt, rt.alloc(), 4, slots, 1, 128);
-    let (second, mut buf) = steps::create(&rt, rt.alloc(), &mut pool, &c, 1);
-    let first = steps::left(&rt, rt.alloc(), &mut pool, &c, 1, 5);
-    steps::put(&rt, &mut buf, 6);
+    let (second, mut buf) = page_steps::create(&rt, rt.alloc(), &mut pool, &c, 1);
+    let first = page_steps::left(&rt, rt.alloc(), &mut pool, &c, 1, 5);
+    page_steps::put(&rt, &mut buf, 6);
     let buf = refused(&rt, &mut pool, &second, buf);
-    steps::destroy(&rt, &mut pool, first);
+    page_steps::destroy(&rt, &mut pool, first);
     left(&rt, &mut pool, &c, second, buf);
     c.into_tracker();
+    steps::set_aside(pool);
 }
 
 #[test]
@@ -53,6 +55,7 @@ fn a_pool_has_240_sessions(rt: HostRuntime) {
     );
     steps::end_session(&rt, &mut pool, 17);
     assert_eq!(rt; steps::open_session(&rt, &mut pool, 64, 0, 0), Ok(17));
+    steps::set_aside(pool);
 }
 
 #[test]
@@ -69,6 +72,7 @@ fn a_session_has_16_clients(rt: HostRuntime) {
     }
     steps::end_client(&rt, &mut pool, last);
     steps::client(&rt, &mut pool, s, 0).into_tracker();
+    steps::set_aside(pool);
 }
 
 #[test]

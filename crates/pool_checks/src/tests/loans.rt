@@ -1,5 +1,6 @@
 //! Buffers that are no page's.
 
+use super::page_steps;
 use super::steps::{self, Pool};
 use std::alloc::Global;
 use std::process::Abort;
@@ -12,29 +13,32 @@ fn assert_charges(rt: &impl Abort, pool: &Pool, a: &Client, b: &Client, bytes: (
 
 // A page of the client's that became a loan, with a 9 in front.
 fn extracted(rt: &impl Abort, alloc: Global, pool: &mut Pool, c: &Client) -> Loan {
-    let (page, mut buf) = steps::create(rt, alloc, pool, c, 1);
-    steps::put(rt, &mut buf, 9);
-    let loan = steps::extract(rt, pool, page, buf);
-    assert_eq!(rt; steps::front(rt, loan.buf()), 9);
+    let (page, mut buf) = page_steps::create(rt, alloc, pool, c, 1);
+    page_steps::put(rt, &mut buf, 9);
+    let loan = page_steps::extract(rt, pool, page, buf);
+    assert_eq!(rt; page_steps::front(rt, loan.buf()), 9);
     loan
 }
 
 // The other client gets it, and it is freed.
 fn handed(rt: &impl Abort, pool: &mut Pool, a: &Client, b: &Client, loan: Loan) {
     assert_charges(rt, pool, a, b, (64, 0));
-    let loan = steps::move_loan(rt, pool, loan, b);
-    assert_eq!(rt; steps::front(rt, loan.buf()), 9);
+    let loan = page_steps::move_loan(rt, pool, loan, b);
+    assert_eq!(rt; page_steps::front(rt, loan.buf()), 9);
     assert_charges(rt, pool, a, b, (0, 64));
-    steps::free(rt, pool, b.session(), loan);
+    page_steps::free(rt, pool, b.session(), loan);
     assert_charges(rt, pool, a, b, (0, 0));
 }
 
 // A loan of two blocks that is no page's.
 fn made(rt: &impl Abort, alloc: Global, pool: &mut Pool, c: &Client) {
-    let loan = steps::alloc_loan(rt, alloc, pool, c, 2);
-    assert_eq!(rt; (loan.buf().len(), steps::front(rt, loan.buf())), (128, 0));
+    let loan = page_steps::alloc_loan(rt, alloc, pool, c, 2);
+    assert_eq!(rt;
+        (loan.buf().len(), page_steps::front(rt, loan.buf())),
+        (128, 0)
+    );
     steps::assert_charge(rt, pool, c, 128);
-    steps::free(rt, pool, c.session(), loan);
+    page_steps::free(rt, pool, c.session(), loan);
 }
 
 #[test]
@@ -47,4 +51,5 @@ fn a_buffer_is_charged_to_one_client_until_it_is_freed(rt: HostRuntime) {
     made(&rt, rt.alloc(), &mut pool, &a);
     a.into_tracker();
     b.into_tracker();
+    steps::set_aside(pool);
 }

@@ -1,9 +1,10 @@
 //! Mixed calls of three sessions over slots that fail now and then.
 
 use super::flights::{self, Started};
-use super::moves;
 use super::steps::{self, Pool};
-use super::world::{Leaf, World, bytes_of};
+use super::sums::bytes_of;
+use super::world::{self, Leaf, World};
+use super::{moves, page_moves};
 use outside::MemSlot;
 use page_table::{PageId, PageTable};
 use pin_core::Kept;
@@ -82,7 +83,7 @@ fn call_of_loan(
         return false;
     };
     match (kind, world.some_loan()) {
-        (8, _) => moves::create(rt, alloc, pool, world, t),
+        (8, _) => page_moves::create(rt, alloc, pool, world, t),
         (9, _) => moves::alloc_loan(rt, alloc, pool, world, t),
         (10, Some(number)) => moves::free(rt, pool, world, number),
         (_, Some(number)) => moves::move_loan(rt, pool, world, number, t),
@@ -95,11 +96,11 @@ fn call_of_page(rt: &impl Abort, pool: &mut Pool, world: &mut World, kind: usize
         return false;
     };
     match kind {
-        12 => moves::unpin(rt, pool, world, name, leaf),
-        13 => moves::pin_again(rt, pool, world, name, leaf),
-        14 => moves::unpin_once(rt, pool, world, name, leaf),
-        15 => moves::extract(rt, pool, world, name, leaf),
-        _ => moves::destroy(rt, pool, world, name, leaf),
+        12 => page_moves::unpin(rt, pool, world, name, leaf),
+        13 => page_moves::pin_again(rt, pool, world, name, leaf),
+        14 => page_moves::unpin_once(rt, pool, world, name, leaf),
+        15 => page_moves::extract(rt, pool, world, name, leaf),
+        _ => page_moves::destroy(rt, pool, world, name, leaf),
     }
 }
 
@@ -143,25 +144,44 @@ fn end(rt: &impl Abort, pool: &mut Pool, world: &mut World, started: Started) {
     compare(rt, pool, world);
 }
 
+// Two calls that may start a job, beside others, and then both jobs end.
+fn round(rt: &impl Abort, alloc: Global, pool: &mut Pool, world: &mut World) {
+    let first = start(rt, pool, world);
+    let more = world.below(4);
+    calls(rt, alloc, pool, world, more);
+    let second = start(rt, pool, world);
+    calls(rt, alloc, pool, world, 2);
+    end(rt, pool, world, first);
+    end(rt, pool, world, second);
+}
+
+fn rounds(rt: &impl Abort, alloc: Global, pool: &mut Pool, world: &mut World, count: u32) {
+    for _ in 0..count {
+        round(rt, alloc, pool, world);
+    }
+}
+
+// No kind of call and no answer is left out.
+fn assert_each_came(rt: &impl Abort, world: &World) {
+    for (kind, times) in world.tallies.into_iter().enumerate() {
+        assert!(rt; times >= 3, "{kind} {times}");
+    }
+}
+
+fn open_sessions(rt: &impl Abort, pool: &mut Pool) {
+    for s in 0..3u32 {
+        assert_eq!(rt; steps::session(rt, pool, 16), s);
+    }
+}
+
 #[test]
 fn mixed_calls_do_what_a_plain_pool_does(rt: HostRuntime) {
     let slots = steps::slots(&rt, rt.alloc(), 48, &FAILS);
     let mut pool = steps::open(&rt, rt.alloc(), 12, 0, slots);
     let mut world = World::open(rt.alloc(), 24, 12, 16);
-    for s in 0..3u32 {
-        assert_eq!(rt; steps::session(&rt, &mut pool, 16), s);
-    }
-    for _ in 0..1700u32 {
-        let first = start(&rt, &mut pool, &mut world);
-        let more = world.below(4);
-        calls(&rt, rt.alloc(), &mut pool, &mut world, more);
-        let second = start(&rt, &mut pool, &mut world);
-        calls(&rt, rt.alloc(), &mut pool, &mut world, 2);
-        end(&rt, &mut pool, &mut world, first);
-        end(&rt, &mut pool, &mut world, second);
-    }
-    // No kind of call and no answer is left out.
-    for (kind, times) in world.tallies.into_iter().enumerate() {
-        assert!(rt; times >= 3, "{kind} {times}");
-    }
+    open_sessions(&rt, &mut pool);
+    rounds(&rt, rt.alloc(), &mut pool, &mut world, 1700);
+    assert_each_came(&rt, &world);
+    steps::set_aside(pool);
+    world::set_aside(world);
 }

@@ -1,17 +1,16 @@
 //! Single calls of the pool of one owner, each asked for first. A page and a loan have one block.
 
-use super::steps;
 use crate::{
-    entry_of, has_blocks, has_page_unused, held_page, holds_client, holds_loan, holds_no_client,
-    holds_none, is_buffer_of, is_seat, is_tracker,
+    has_blocks, has_page_unused, held_page, holds_client, holds_loan, holds_no_client, holds_none,
+    is_buffer_of,
 };
 use block_arena::Buf;
 use local_pool::LocalPool;
 use outside::MemSlot;
-use page_table::Place;
 use pin_core::PoolConf;
-use reservation_tree::{PoolErr, TrackerId};
+use reservation_tree::PoolErr;
 use std::alloc::Global;
+use std::mem::forget;
 use std::process::Abort;
 use store_api::{Client, Loan, Page, Store};
 
@@ -198,6 +197,11 @@ pub fn free(rt: &impl Abort, pool: &mut Own, loan: Loan) {
     pool.free(loan);
 }
 
+/// Leaves a pool to the end of its test, whatever it has. Where a pool is dropped, that is long to prove.
+pub fn set_aside(pool: Own) {
+    forget(pool);
+}
+
 /// Ends a pool that has no client: how many stores of its slots went well, and how many stores and loads failed.
 pub fn close(rt: &impl Abort, pool: Own) -> (u64, u64) {
     assert!(rt; holds_no_client(&pool));
@@ -207,48 +211,4 @@ pub fn close(rt: &impl Abort, pool: Own) -> (u64, u64) {
         sums.1 = sums.1.saturating_add(slot.faults());
     }
     sums
-}
-
-/// What the root, the query and a client have reserved.
-pub fn reservations(rt: &impl Abort, pool: &Own, c: &Client) -> [u64; 3] {
-    let value = pool.value();
-    assert!(rt; is_seat(value, pool.session()));
-    let mut found = [0; 3];
-    let trackers = [TrackerId::of(0), value.tracker(pool.session()), c.tracker()];
-    for (at, tracker) in trackers.into_iter().enumerate() {
-        assert!(rt; is_tracker(value, tracker));
-        found[at] = value.reservation(tracker);
-    }
-    found
-}
-
-/// How many entries the pool has made.
-pub fn entries(pool: &Own) -> u64 {
-    pool.value().parts().entries
-}
-
-/// How many blocks are free.
-pub fn free_blocks(pool: &Own) -> u32 {
-    pool.value().parts().arena.free()
-}
-
-pub fn place(rt: &impl Abort, pool: &Own, p: &Page) -> Place {
-    match entry_of(pool.value(), p) {
-        Some(entry) => entry.place,
-        None => panic!(rt; "the page is live"),
-    }
-}
-
-/// The bytes that are charged to a client.
-pub fn charge(rt: &impl Abort, pool: &Own, c: &Client) -> u64 {
-    steps::charge(rt, pool.value(), c)
-}
-
-/// The byte that all of a buffer shows.
-pub fn shown(rt: &impl Abort, buf: &Buf) -> u8 {
-    let mut bytes = [0; 64];
-    assert!(rt; buf.len() == 64);
-    buf.read_at(0, &mut bytes);
-    assert!(rt; bytes == [bytes[0]; 64]);
-    bytes[0]
 }

@@ -1,6 +1,7 @@
 //! Worked scripts over the pool of one owner, entry by entry: four blocks of 64 bytes, and a client that has all of them.
 
 use super::owner::{self, Own};
+use super::shows;
 use block_arena::Buf;
 use outside::MemSlot;
 use page_table::Place;
@@ -9,8 +10,8 @@ use std::alloc::Global;
 use std::process::Abort;
 use store_api::{Client, Page};
 
-// Eight slots, of which one fails at these stores and loads, counted together.
-fn slots_but(rt: &impl Abort, alloc: Global, at: usize, fails: &[u64]) -> Vec<MemSlot> {
+/// Eight slots, of which one fails at these stores and loads, counted together.
+pub fn slots_but(rt: &impl Abort, alloc: Global, at: usize, fails: &[u64]) -> Vec<MemSlot> {
     let mut slots = Vec::new(alloc);
     for i in 0..8 {
         let fails = if i == at { fails } else { &[] };
@@ -31,25 +32,27 @@ struct Stage {
     fifth: (Page, Buf),
 }
 
-fn assert_at(rt: &impl Abort, pool: &Own, c: &Client, entries: u64, charge: u64) {
+/// The pool has made so many entries, and so much is charged to its client.
+pub fn assert_at(rt: &impl Abort, pool: &Own, c: &Client, entries: u64, charge: u64) {
     assert_eq!(rt;
-        (owner::entries(pool), owner::charge(rt, pool, c)),
+        (shows::entries(pool), shows::charge(rt, pool, c)),
         (entries, charge)
     );
 }
 
 fn assert_places(rt: &impl Abort, s: &Stage, first: Place, second: Place) {
     let found = [
-        owner::place(rt, &s.pool, &s.first),
-        owner::place(rt, &s.pool, &s.second),
+        shows::place(rt, &s.pool, &s.first),
+        shows::place(rt, &s.pool, &s.second),
     ];
     assert_eq!(rt; found, [first, second]);
     for page in [&s.third.0, &s.fourth.0, &s.fifth.0] {
-        assert_eq!(rt; owner::place(rt, &s.pool, page), Place::Pinned(1));
+        assert_eq!(rt; shows::place(rt, &s.pool, page), Place::Pinned(1));
     }
 }
 
-fn created(
+/// A new page, after whose making the pool has made so many entries.
+pub fn created(
     rt: &impl Abort,
     alloc: Global,
     pool: &mut Own,
@@ -57,14 +60,14 @@ fn created(
     entries: u64,
 ) -> (Page, Buf) {
     let made = owner::create(rt, alloc, pool, c).expect(rt, "a page");
-    assert_eq!(rt; owner::entries(pool), entries);
+    assert_eq!(rt; shows::entries(pool), entries);
     made
 }
 
 // Opened, with a client that has all memory.
 fn opened(rt: &impl Abort, alloc: Global, slots: Vec<MemSlot>) -> (Own, Client) {
     let mut pool = owner::open(rt, alloc, 4, 0, slots, 256);
-    assert_eq!(rt; owner::entries(&pool), 2);
+    assert_eq!(rt; shows::entries(&pool), 2);
     let c = owner::client(rt, &mut pool, 256);
     assert_at(rt, &pool, &c, 4, 0);
     (pool, c)
@@ -81,7 +84,7 @@ fn staged(rt: &impl Abort, alloc: Global, slots: Vec<MemSlot>) -> Stage {
     owner::leave(rt, &mut pool, &first, buf, 0x11);
     assert_at(rt, &pool, &c, 13, 192);
     let fifth = created(rt, alloc, &mut pool, &c, 18);
-    assert_eq!(rt; owner::place(rt, &pool, &first), Place::Evicted);
+    assert_eq!(rt; shows::place(rt, &pool, &first), Place::Evicted);
     owner::leave(rt, &mut pool, &second, second_buf, 0x22);
     assert_at(rt, &pool, &c, 19, 192);
     Stage {
@@ -98,7 +101,7 @@ fn staged(rt: &impl Abort, alloc: Global, slots: Vec<MemSlot>) -> Stage {
 // Page 0 is pinned, and shows its bytes. That is as many entries then.
 fn shown_at(rt: &impl Abort, s: &mut Stage, entries: u64) -> Buf {
     let buf = owner::pin(rt, &mut s.pool, &s.c, &s.first).expect(rt, "the page");
-    assert_eq!(rt; owner::shown(rt, &buf), 0x11);
+    assert_eq!(rt; shows::shown(rt, &buf), 0x11);
     assert_at(rt, &s.pool, &s.c, entries, 256);
     assert_places(rt, s, Place::Pinned(1), Place::Evicted);
     buf
@@ -121,7 +124,7 @@ fn ended(rt: &impl Abort, s: Stage, buf: Buf) -> (u64, u64) {
     owner::destroy_pinned(rt, &mut pool, fourth.0, fourth.1);
     owner::destroy_pinned(rt, &mut pool, fifth.0, fifth.1);
     owner::end_client(rt, &mut pool, c);
-    assert_eq!(rt; owner::free_blocks(&pool), 4);
+    assert_eq!(rt; shows::free_blocks(&pool), 4);
     owner::close(rt, pool)
 }
 
@@ -150,7 +153,7 @@ fn a_pin_whose_load_fails_leaves_the_page_evicted(rt: HostRuntime) {
     assert_eq!(rt; refused, Some(PoolErr::ReadFault { entry: 24 }));
     assert_at(&rt, &s.pool, &s.c, 26, 192);
     assert_places(&rt, &s, Place::Evicted, Place::Evicted);
-    assert_eq!(rt; owner::free_blocks(&s.pool), 1);
+    assert_eq!(rt; shows::free_blocks(&s.pool), 1);
     let buf = shown_at(&rt, &mut s, 29);
     assert_eq!(rt; ended(&rt, s, buf), (2, 1));
 }
@@ -173,15 +176,16 @@ fn give_back_one(rt: &impl Abort, s: Stage, buf: Buf) {
     assert_at(rt, &pool, &c, 26, 192);
     assert_eq!(rt; owner::give_back(rt, &mut pool, &c, 64), Ok(()));
     assert_at(rt, &pool, &c, 30, 192);
-    assert_eq!(rt; owner::reservations(rt, &pool, &c), [192, 192, 192]);
-    assert_eq!(rt; owner::place(rt, &pool, &third), Place::Clean);
-    owner::shown(rt, &buf);
+    assert_eq!(rt; shows::reservations(rt, &pool, &c), [192, 192, 192]);
+    assert_eq!(rt; shows::place(rt, &pool, &third), Place::Clean);
+    shows::shown(rt, &buf);
     first.into_name();
     second.into_name();
     third.into_name();
     fourth.into_name();
     fifth.into_name();
     c.into_tracker();
+    owner::set_aside(pool);
 }
 
 #[test]
@@ -190,69 +194,4 @@ fn what_is_dirty_is_written_before_reservation_is_given_back(rt: HostRuntime) {
     let buf = shown_at(&rt, &mut s, 25);
     assert_eq!(rt; owner::unused(&rt, &s.pool, &s.c), 0);
     give_back_one(&rt, s, buf);
-}
-
-#[test]
-fn each_pin_of_a_page_is_charged(rt: HostRuntime) {
-    let mut pool = owner::open(
-        &rt,
-        rt.alloc(),
-        4,
-        0,
-        slots_but(&rt, rt.alloc(), 0, &[]),
-        256,
-    );
-    let c = owner::client(&rt, &mut pool, 192);
-    let (page, buf) = created(&rt, rt.alloc(), &mut pool, &c, 6);
-    assert_eq!(rt; owner::pin_again(&rt, &mut pool, &c, &page), Ok(()));
-    assert_eq!(rt; owner::pin_again(&rt, &mut pool, &c, &page), Ok(()));
-    assert_at(&rt, &pool, &c, 10, 192);
-    assert_eq!(rt; owner::free_blocks(&pool), 3);
-    owner::unpin_once(&rt, &mut pool, &page);
-    owner::unpin_once(&rt, &mut pool, &page);
-    assert_at(&rt, &pool, &c, 12, 64);
-    owner::leave(&rt, &mut pool, &page, buf, 1);
-    assert_at(&rt, &pool, &c, 13, 0);
-    assert_eq!(rt; owner::place(&rt, &pool, &page), Place::Dirty);
-    page.into_name();
-    c.into_tracker();
-}
-
-// Page 0 is dirty, and page 1 pinned twice, with no room for a third pin.
-fn pinned_twice(rt: &impl Abort, alloc: Global, slots: Vec<MemSlot>) -> (Own, Client, Page, Page) {
-    let mut pool = owner::open(rt, alloc, 4, 0, slots, 256);
-    let c = owner::client(rt, &mut pool, 192);
-    let (first, buf) = created(rt, alloc, &mut pool, &c, 6);
-    let (second, _buf) = created(rt, alloc, &mut pool, &c, 8);
-    owner::leave(rt, &mut pool, &first, buf, 1);
-    assert_at(rt, &pool, &c, 9, 64);
-    assert_eq!(rt; owner::pin_again(rt, &mut pool, &c, &second), Ok(()));
-    assert_at(rt, &pool, &c, 11, 128);
-    (pool, c, first, second)
-}
-
-#[test]
-fn a_further_pin_writes_what_is_dirty_first(rt: HostRuntime) {
-    let slots = slots_but(&rt, rt.alloc(), 0, &[]);
-    let (mut pool, c, first, second) = pinned_twice(&rt, rt.alloc(), slots);
-    assert_eq!(rt; owner::pin_again(&rt, &mut pool, &c, &second), Ok(()));
-    assert_at(&rt, &pool, &c, 15, 192);
-    assert_eq!(rt; owner::place(&rt, &pool, &first), Place::Clean);
-    first.into_name();
-    second.into_name();
-    c.into_tracker();
-}
-
-#[test]
-fn a_further_pin_is_refused_where_that_write_fails(rt: HostRuntime) {
-    let slots = slots_but(&rt, rt.alloc(), 0, &[0]);
-    let (mut pool, c, first, second) = pinned_twice(&rt, rt.alloc(), slots);
-    let refused = owner::pin_again(&rt, &mut pool, &c, &second);
-    assert_eq!(rt; refused, Err(PoolErr::WriteFault { entry: 13 }));
-    assert_at(&rt, &pool, &c, 15, 128);
-    assert_eq!(rt; owner::place(&rt, &pool, &first), Place::Dirty);
-    assert_eq!(rt; owner::place(&rt, &pool, &second), Place::Pinned(2));
-    first.into_name();
-    second.into_name();
-    c.into_tracker();
 }

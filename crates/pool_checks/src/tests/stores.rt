@@ -10,7 +10,7 @@ ghost use Rattle.tuple_stream.specs.Streams.{HasPageRoom, IsShaped};
 ghost use Rattle.tuple_stream.specs.Touches.{Touches};
 
 use super::owner::{self, Own};
-use super::steps;
+use super::{shows, steps};
 use local_pool::{LocalPool, OpenedWith};
 use outside::Slot;
 use page_table::Place;
@@ -41,7 +41,7 @@ fn a_walk_with_room_for_all_writes_nothing(rt: HostRuntime) {
 fn come_back(rt: &impl Abort, pool: &mut Own, c: &Client, page: Page, byte: u8) {
     assert_eq!(rt; owner::reserve(rt, pool, c, 64), Ok(()));
     let buf = owner::pin(rt, pool, c, &page).expect(rt, "the page");
-    assert_eq!(rt; owner::shown(rt, &buf), byte);
+    assert_eq!(rt; shows::shown(rt, &buf), byte);
     owner::destroy_pinned(rt, pool, page, buf);
     assert_eq!(rt; owner::give_back(rt, pool, c, 64), Ok(()));
 }
@@ -56,9 +56,9 @@ fn a_walk_evicts_the_pages_of_another_client_which_come_back(rt: HostRuntime) {
     let third = owner::left(&rt, rt.alloc(), &mut pool, &c, 12);
     let fourth = owner::left(&rt, rt.alloc(), &mut pool, &c, 13);
     assert_eq!(rt; owner::give_back(&rt, &mut pool, &c, 64), Ok(()));
-    assert_eq!(rt; owner::free_blocks(&pool), 0);
+    assert_eq!(rt; shows::free_blocks(&pool), 0);
     assert_eq!(rt; walk(&mut pool, rt.alloc()), Ok(WALKED));
-    assert_eq!(rt; owner::place(&rt, &pool, &first), Place::Evicted);
+    assert_eq!(rt; shows::place(&rt, &pool, &first), Place::Evicted);
     come_back(&rt, &mut pool, &c, first, 10);
     come_back(&rt, &mut pool, &c, second, 11);
     come_back(&rt, &mut pool, &c, third, 12);
@@ -219,10 +219,13 @@ fn slots_come_back_from_a_pool_with_their_counts(rt: HostRuntime) -> Result<(), 
 fn expect_rows(rt: &impl Abort, alloc: Global, blocks: u32, bytes: u64) -> Result<u64, Fail> {
     let slots = steps::slots(rt, alloc, 8, &[]);
     let mut pool = owner::open(rt, alloc, blocks, 0, slots, bytes);
-    let (seen, pages) = rows_on_pages(&mut pool, alloc)?;
+    let answer = rows_on_pages(&mut pool, alloc);
+    // The pool is closed before `?`, since a pool that a `?` drops is long to prove.
+    let stores = owner::close(rt, pool).0;
+    let (seen, pages) = answer?;
     assert_eq!(rt; seen.as_slice(), [0, 1, 2, 3, 4, 5, 6].as_slice());
     assert_eq!(rt; pages, 3);
-    Ok(owner::close(rt, pool).0)
+    Ok(stores)
 }
 
 #[test]

@@ -1,5 +1,6 @@
 //! Pages that are written.
 
+use super::page_steps;
 use super::steps::{self, Pool};
 use outside::MemSlot;
 use pin_core::{PinTurn, WriteJob, Wrote};
@@ -8,21 +9,21 @@ use std::process::Abort;
 use store_api::{Client, Page};
 
 fn started(rt: &impl Abort, pool: &mut Pool) -> WriteJob<MemSlot> {
-    match steps::start_write(rt, pool, 1000) {
+    match page_steps::start_write(rt, pool, 1000) {
         Some(job) => job,
         None => panic!(rt; "a page is dirty"),
     }
 }
 
 fn assert_none_starts(rt: &impl Abort, pool: &mut Pool) {
-    match steps::start_write(rt, pool, 1007) {
+    match page_steps::start_write(rt, pool, 1007) {
         Some(_) => panic!(rt; "no page is dirty"),
         None => {}
     }
 }
 
 fn assert_waits(rt: &impl Abort, pool: &mut Pool, s: u32, p: &Page) {
-    match steps::pin_turn(rt, pool, s, 0, p) {
+    match page_steps::pin_turn(rt, pool, s, 0, p) {
         PinTurn::Wait => {}
         _ => panic!(rt; "the page is written"),
     }
@@ -30,8 +31,8 @@ fn assert_waits(rt: &impl Abort, pool: &mut Pool, s: u32, p: &Page) {
 
 // The byte in front of a page that is in memory, which is pinned now.
 fn pinned_here(rt: &impl Abort, pool: &mut Pool, s: u32, p: &Page) -> u8 {
-    match steps::pin_turn(rt, pool, s, 0, p) {
-        PinTurn::Here(buf) => steps::front(rt, &buf),
+    match page_steps::pin_turn(rt, pool, s, 0, p) {
+        PinTurn::Here(buf) => page_steps::front(rt, &buf),
         _ => panic!(rt; "the page is in memory"),
     }
 }
@@ -44,14 +45,15 @@ fn written(rt: &impl Abort, alloc: Global, fails: &[u64]) -> Wrote {
     let s = steps::session(rt, &mut pool, 2);
     let c = steps::client(rt, &mut pool, s, 128);
     assert_none_starts(rt, &mut pool);
-    let page = steps::left(rt, alloc, &mut pool, &c, 2, 7);
+    let page = page_steps::left(rt, alloc, &mut pool, &c, 2, 7);
     let job = started(rt, &mut pool);
     assert_none_starts(rt, &mut pool);
     assert_waits(rt, &mut pool, s, &page);
-    let wrote = steps::write(rt, &mut pool, job);
+    let wrote = page_steps::write(rt, &mut pool, job);
     assert_eq!(rt; pinned_here(rt, &mut pool, s, &page), 7);
     page.into_name();
     c.into_tracker();
+    steps::set_aside(pool);
     wrote
 }
 
@@ -75,25 +77,25 @@ fn evicted(
     c: &Client,
     other: &Client,
 ) -> (Page, Page, Page) {
-    let page = steps::left(rt, alloc, pool, c, 1, 7);
+    let page = page_steps::left(rt, alloc, pool, c, 1, 7);
     let job = started(rt, pool);
-    assert_eq!(rt; steps::write(rt, pool, job), Wrote::Done(0));
-    let older = steps::left(rt, alloc, pool, other, 1, 8);
-    let newer = steps::left(rt, alloc, pool, other, 1, 9);
+    assert_eq!(rt; page_steps::write(rt, pool, job), Wrote::Done(0));
+    let older = page_steps::left(rt, alloc, pool, other, 1, 8);
+    let newer = page_steps::left(rt, alloc, pool, other, 1, 9);
     (page, older, newer)
 }
 
 // The first client's page is loaded, with a 7 in front, while another's is written.
 fn load_beside(rt: &impl Abort, pool: &mut Pool, s: u32, page: &Page) {
     let flying = started(rt, pool);
-    match steps::pin_turn(rt, pool, s, 0, page) {
-        PinTurn::Load(job) => match steps::read(rt, pool, 0, job) {
-            Ok(buf) => assert_eq!(rt; steps::front(rt, &buf), 7),
+    match page_steps::pin_turn(rt, pool, s, 0, page) {
+        PinTurn::Load(job) => match page_steps::read(rt, pool, 0, job) {
+            Ok(buf) => assert_eq!(rt; page_steps::front(rt, &buf), 7),
             Err(_) => panic!(rt; "no slot fails"),
         },
         _ => panic!(rt; "the page is out of memory, and there is room"),
     }
-    assert_eq!(rt; steps::write(rt, pool, flying), Wrote::Done(2));
+    assert_eq!(rt; page_steps::write(rt, pool, flying), Wrote::Done(2));
 }
 
 #[test]
@@ -108,4 +110,5 @@ fn a_pin_with_room_never_waits_for_another_clients_write(rt: HostRuntime) {
     newer.into_name();
     c.into_tracker();
     other.into_tracker();
+    steps::set_aside(pool);
 }
