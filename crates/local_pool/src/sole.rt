@@ -2,7 +2,7 @@
 ghost use Rattle.std.specs.Prelude.{◌≡◌, ◌++◌, [], IfOk, None};
 ghost use Rattle.local_pool.specs.Shelving.{counted_since, entered_since};
 
-use outside::Slot;
+use outside::{Point, Slot};
 use pool_model::Entry;
 use session_calls::{Access, Count, Hand, Origin};
 use std::alloc::Global;
@@ -87,6 +87,9 @@ impl<D: Slot + Drop> Access<D> for Sole {
         place.see(&hand);
         place.value = Some(hand);
     }
+
+    // Nobody waits for it there.
+    fn pass(&self, _point: Point) {}
 
     fn again(&self, left: u64) -> u64 {
         left

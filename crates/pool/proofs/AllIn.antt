@@ -19,7 +19,7 @@ use Rattle.pool.specs.declared.left.Left.{Left}
 use Rattle.pool.specs.declared.item.Item.{Item}
 use Rattle.pool.specs.Items.{door, history, needs_of}
 use Rattle.pool.specs.Seats.{Quotas, live_in, quotas_in, taken_in}
-use Rattle.pool.specs.Passing.{IsPass}
+use Rattle.pool.specs.Passing.{IsPass, writers_out}
 use Rattle.pool.specs.Seating.{state_in}
 use Rattle.pool.specs.Remaining.{left_in, refusals}
 use Rattle.pool.specs.Asking.{Admits, Answers, AreAnswered, all_numbers, numbers_in, refusal_in}
@@ -29,6 +29,7 @@ use Rattle.pool.proofs.Answered.{Adds, LetsIn, answered_adds, answered_hand, ans
 use Rattle.pool.proofs.Apart.{answered_apart}
 use Rattle.pool.proofs.Beside.{quotas_beside}
 use Rattle.pool.proofs.Listed.{history_more}
+use Rattle.pool.proofs.Out.{out_are, out_role}
 use Rattle.pool.proofs.Parted.{handed_idle, handed_role, handed_seen}
 use Rattle.pool.proofs.Sessions.{all_new, count_is, numbers_are, refused_alike, refused_is, taken_is}
 
@@ -45,8 +46,11 @@ module _ (o : Opening) {free ticket : ℕ} {pass : Spot Item} {now : View Item} 
   rights_here : now.rights ≡ pass.knows.rights
   rights_here = ap (λ (v : View Item). v.rights) takes
 
-  role_here : now.role ≡ First (live_in now.seen)
-  role_here = ap (λ (v : View Item). v.role) takes ∙ is.role ∙ ap (λ (q : Quotas). First (len q)) (sym quotas_here)
+  abbrev writers : ℕ
+  writers = writers_out pass
+
+  role_here : now.role ≡ First (live_in now.seen + writers)
+  role_here = ap (λ (v : View Item). v.role) takes ∙ is.role ∙ ap (λ (q : Quotas). First (len q + writers)) (sym quotas_here)
 
   taken_here : taken_in now.seen ≡ taken_in pass.knows.seen
   taken_here = ap (λ (q : Quotas). total (λ m quota. quota) q) quotas_here
@@ -80,7 +84,7 @@ module _ (o : Opening) {free ticket : ℕ} {pass : Spot Item} {now : View Item} 
       rights_gone : gone.knows.rights ≡ now.rights
       rights_gone = ap (λ (v : View Item). v.rights) grows
 
-      role_gone : gone.knows.role ≡ First (live_in now.seen)
+      role_gone : gone.knows.role ≡ First (live_in now.seen + writers)
       role_gone = ap (λ (v : View Item). v.role) grows ∙ role_here
 
       pub first_gone : IsIdle gone.knows × IsFirst gone.knows
@@ -105,12 +109,16 @@ module _ (o : Opening) {free ticket : ℕ} {pass : Spot Item} {now : View Item} 
         lets_new : LetsIn new.knows.seen new.knows.rights
         lets_new = subst (λ (v : View Item). LetsIn new.knows.seen v.rights) (sym parts) (subst (λ (items : List Item). LetsIn items (handed_out (all_numbers answers) gone.knows).rights) (sym seen_all) hands.1)
 
+        role_new : new.knows.role ≡ First (live_in new.knows.seen + writers)
+        role_new =
+            let came : (live_in now.seen + writers) + length (all_numbers answers) ≡ live_in new.knows.seen + writers =
+            let all = live_all in let same : live_in new.knows.seen ≡ live_in after = ap live_in seen_all in omega (arith, all, same) in
+            ap (λ (v : View Item). v.role) parts ∙ handed_role (all_numbers answers) gone.knows (live_in now.seen + writers) role_gone ∙ ap First came
+
         pub all_pass : (spare : ℕ) → spare + taken_in after ≡ o.slots → IsPass o.slots spare new
         all_pass spare sum = record {
           idle = ap (λ (v : View Item). v.stage) parts ∙ handed_idle (all_numbers answers) gone.knows ∙ first_gone.0;
-          role =
-              let live : live_in now.seen + length (all_numbers answers) ≡ live_in new.knows.seen = sym live_all ∙ ap live_in (sym seen_all) in
-              ap (λ (v : View Item). v.role) parts ∙ handed_role (all_numbers answers) gone.knows (live_in now.seen) role_gone ∙ ap First live;
+          role = out_role new writers role_new;
           opens = lets_new.opens;
           numbers = lets_new.numbers;
           spare = let same : taken_in new.knows.seen ≡ taken_in after = ap taken_in seen_all in omega (arith, sum, same);
@@ -147,4 +155,5 @@ module _ (o : Opening) {free ticket : ℕ} {pass : Spot Item} {now : View Item} 
                   let same : live_in new.knows.seen ≡ live_in after = ap live_in seen_all in
                   let here = live_here in
                   omega (arith, all, count, same, here);
+              writers = out_are new writers role_new;
             }

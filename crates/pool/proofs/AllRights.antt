@@ -1,5 +1,5 @@
 -- The rights that a pool's pass has when the pool opens: each stands once among them.
-use Rattle.std.proofs.Common.{◌≡◌, ◌≢◌, ℕ, zero, suc, ◌<◌, ◌≤◌, Bool, cond, List, ◌∷◌, inl, inr, refl, sym, ap, ◌∙◌, subst, arith, eq-eqb, ne_eqb}
+use Rattle.std.proofs.Common.{◌≡◌, ◌≢◌, ℕ, zero, suc, ◌+◌, ◌<◌, ◌≤◌, Bool, cond, List, ◌∷◌, inl, inr, refl, sym, ap, ◌∙◌, subst, arith, eq-eqb, ne_eqb}
 use Rattle.std.proofs.lemmas.Bool.{cases_lt}
 use Rattle.std.specs.Ordering.{nat_cmp}
 use Rattle.std.specs.FinMap.{len-empty}
@@ -14,6 +14,7 @@ use Rattle.pool.specs.Items.{all_rights, below, door}
 use Rattle.pool.specs.Seats.{live_in, taken_in}
 use Rattle.pool.specs.Passing.{IsPass}
 use Rattle.pool.proofs.AtOpen.{none_taken}
+use Rattle.pool.proofs.Out.{out_role}
 
 pub same_one : (a b : ℕ) → a ≡ b → same a b ≡ 1
 same_one a b is = ap (λ (t : Bool). cond t 1 0) (eq-eqb a b is)
@@ -68,11 +69,18 @@ number_of n m low = let is : times m (below n) ≡ 1 = within m n low in omega (
 pub once : (r : ℕ) → times r all_rights ≤ 1
 once r = once_of 1008 r (omega arith)
 
+-- where a pool opens, no seat is out
+none_out : (spot : Spot Item) → spot.knows ≡ opened all_rights → spot.knows.role ≡ First (live_in spot.knows.seen + 0)
+none_out spot is =
+    let none : live_in spot.knows.seen ≡ 0 = ap (λ (k : View Item). live_in k.seen) is ∙ len-empty nat_cmp ℕ in
+    let all : 0 ≡ live_in spot.knows.seen + 0 = omega (arith, none) in
+    ap (λ (k : View Item). k.role) is ∙ ap First all
+
 -- the seat with which a pool opens is its pass
 pub is_pass : (slots spare : ℕ) (spot : Spot Item) → spot.knows ≡ opened all_rights → spare ≡ slots → IsPass slots spare spot
 is_pass slots spare spot is count = record {
   idle = ap (λ (k : View Item). k.stage) is;
-  role = ap (λ (k : View Item). k.role) is ∙ ap First (sym (ap (λ (k : View Item). live_in k.seen) is ∙ len-empty nat_cmp ℕ));
+  role = out_role spot 0 (none_out spot is);
   opens = subst (λ (rights : List ℕ). 0 < times door rights) (sym (ap (λ (k : View Item). k.rights) is)) (door_of 1008);
   numbers = λ m low none. subst (λ (rights : List ℕ). 0 < times m rights) (sym (ap (λ (k : View Item). k.rights) is)) (number_of 1008 m (omega (arith, low)));
   spare = let none : taken_in spot.knows.seen ≡ 0 = ap (λ (k : View Item). taken_in k.seen) is ∙ none_taken in omega (arith, none, count);

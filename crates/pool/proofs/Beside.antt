@@ -9,7 +9,7 @@ use Rattle.turn_table.specs.Lists.{needed, same, times}
 use Rattle.turn_table.specs.Knowledge.{GrewBeside}
 use Rattle.session_calls.specs.Having.{AllBeside}
 use Rattle.pool.specs.declared.item.Item.{Item}
-use Rattle.pool.specs.declared.item.Item.TheVariants.{Seated, Made, Went}
+use Rattle.pool.specs.declared.item.Item.TheVariants.{Seated, Made, Went, Stop}
 use Rattle.pool.specs.Items.{door, history, needs_of, own_in}
 use Rattle.pool.specs.Seats.{Quotas, quotas_in, with_item, with_items}
 use Rattle.pool.proofs.Listed.{history_more}
@@ -30,6 +30,7 @@ outside_door : (i : Item) (q : Quotas) → times door (needs_of i) ≡ 0 → wit
 outside_door (Seated e) q none = let never : 1 ≡ 0 = first_none 1 (same door e.maker + 0) none in absurd (omega (arith, never))
 outside_door (Made e) q none = refl
 outside_door (Went m count) q none = refl
+outside_door Stop q none = refl
 
 quotas_stay : (behind : List Item) (q : Quotas) → needed needs_of door behind ≡ 0 → with_items q behind ≡ q
 quotas_stay [] q none = refl
@@ -60,6 +61,7 @@ module _ (m : ℕ) where
     others_made behind (rest_none (times m (needs_of (Made e))) (needed needs_of m behind) none),
   )
   others_made (Went k count ∷ behind) none = others_made behind (rest_none (times m (needs_of (Went k count))) (needed needs_of m behind) none)
+  others_made (Stop ∷ behind) none = others_made behind (rest_none (times m (needs_of Stop)) (needed needs_of m behind) none)
 
   own_stay : (h es : List Entry) → AllBeside m es → made_by (h ++ es) m ≡ made_by h m
   own_stay h [] all = ap (λ (g : List Entry). made_by g m) (append-nil h)

@@ -27,11 +27,12 @@ use Rattle.pool.specs.declared.ledger.Ledger.{Ledger}
 use Rattle.pool.specs.Items.{door, history, needs_of}
 use Rattle.pool.specs.Seats.{Quotas, quotas_in, taken_in, live_in}
 use Rattle.pool.specs.Standing.{StandsAs}
-use Rattle.pool.specs.Passing.{IsPass}
+use Rattle.pool.specs.Passing.{IsPass, writers_out}
 use Rattle.pool.specs.Sitting.{Sits, Sitting, held_by, shared}
 use Rattle.pool.specs.Keeping.{KeepsSeat}
 use Rattle.pool.specs.Seating.{Begins, HasBegun, IsSessionRefusal, MustTurnAway, TurnsAway, beginning_items, state_in}
 use Rattle.pool.proofs.Beside.{quotas_beside}
+use Rattle.pool.proofs.Out.{out_are, out_role}
 use Rattle.pool.proofs.Seated.{live_begun, taken_begun}
 use Rattle.pool.proofs.Passes.{door_stays, numbers_stay}
 use Rattle.pool.proofs.Begun.{begun, begun_fits, begun_idle, begun_rests, begun_tells}
@@ -46,8 +47,11 @@ module _ (o : Opening) {free ticket : ℕ} {pass : Spot Item} {now : View Item} 
   rights_here : now.rights ≡ pass.knows.rights
   rights_here = ap (λ (v : View Item). v.rights) takes
 
-  role_here : now.role ≡ First (live_in now.seen)
-  role_here = ap (λ (v : View Item). v.role) takes ∙ is.role ∙ ap (λ (q : Quotas). First (len q)) (sym quotas_here)
+  abbrev writers : ℕ
+  writers = writers_out pass
+
+  role_here : now.role ≡ First (live_in now.seen + writers)
+  role_here = ap (λ (v : View Item). v.role) takes ∙ is.role ∙ ap (λ (q : Quotas). First (len q + writers)) (sym quotas_here)
 
   -- it enters nothing
   module _ (new : Spot Item) (grows : new.knows ≡ grown [] now) where
@@ -60,10 +64,13 @@ module _ (o : Opening) {free ticket : ℕ} {pass : Spot Item} {now : View Item} 
     rights_still : new.knows.rights ≡ pass.knows.rights
     rights_still = ap (λ (v : View Item). v.rights) grows ∙ rights_here
 
+    role_still : new.knows.role ≡ First (live_in new.knows.seen + writers)
+    role_still = ap (λ (v : View Item). v.role) grows ∙ role_here ∙ ap (λ (items : List Item). First (live_in items + writers)) (sym seen_still)
+
     pub still_pass : IsPass o.slots free new
     still_pass = record {
       idle = ap (λ (v : View Item). v.stage) grows;
-      role = ap (λ (v : View Item). v.role) grows ∙ role_here ∙ ap (λ (items : List Item). First (live_in items)) (sym seen_still);
+      role = out_role new writers role_still;
       opens = subst (λ (rights : List ℕ). 0 < times door rights) (sym rights_still) is.opens;
       numbers = λ m few none. subst (λ (rights : List ℕ). 0 < times m rights) (sym rights_still) (is.numbers m few (sym (ap (λ (q : Quotas). get q m) quotas_still) ∙ none));
       spare = ap (λ (q : Quotas). free + total (λ m quota. quota) q) quotas_still ∙ is.spare;
@@ -76,6 +83,7 @@ module _ (o : Opening) {free ticket : ℕ} {pass : Spot Item} {now : View Item} 
       table = table;
       taken = ap (λ (q : Quotas). total (λ m quota. quota) q) quotas_still;
       count = ap (λ (q : Quotas). len q) quotas_still;
+      writers = out_are new writers role_still;
     }
 
   -- as many slots are spare as the pass knows
@@ -125,10 +133,15 @@ module _ (o : Opening) {free ticket : ℕ} {pass : Spot Item} {now : View Item} 
       taken_here : taken_in now.seen ≡ taken_in pass.knows.seen
       taken_here = ap (λ (q : Quotas). total (λ k x. x) q) quotas_here
 
+      role_new : new.knows.role ≡ First (live_in new.knows.seen + writers)
+      role_new =
+          let more : (live_in now.seen + writers) + 1 ≡ live_in new.knows.seen + writers = let here : live_in new.knows.seen ≡ live_in whole = ap live_in seen_new in omega (arith, here, live_new) in
+          ap (λ (w : View Item). w.role) parts ∙ ap (λ (w : View Item). one_more w.role) grows ∙ ap one_more role_here ∙ ap First more
+
       pub came_pass : quota + taken_in pass.knows.seen ≤ o.slots → IsPass o.slots (free - quota) new
       came_pass fits = record {
         idle = ap (λ (w : View Item). w.stage) parts ∙ ap (λ (w : View Item). w.stage) grows;
-        role = ap (λ (w : View Item). w.role) parts ∙ ap (λ (w : View Item). one_more w.role) grows ∙ ap one_more role_here ∙ ap (λ (n : ℕ). First n) (sym live_new) ∙ ap (λ (items : List Item). First (live_in items)) (sym seen_new);
+        role = out_role new writers role_new;
         opens = subst (λ (rights : List ℕ). 0 < times door rights) (sym rights_new) (door_stays now.seen m query limit quota least now.rights few fresh_here has_door);
         numbers = λ k small none. subst (λ (rights : List ℕ). 0 < times k rights) (sym rights_new)
             (numbers_stay now.seen m query limit quota least now.rights few fresh_here
@@ -186,6 +199,7 @@ module _ (o : Opening) {free ticket : ℕ} {pass : Spot Item} {now : View Item} 
             let now_live : live_in new.knows.seen ≡ live_in whole = ap live_in seen_new in
             let live_here : live_in now.seen ≡ live_in pass.knows.seen = ap (λ (q : Quotas). len q) quotas_here in
             omega (arith, now_live, live_new, live_here);
+        writers = out_are new writers role_new;
       }
 
 -- what isn't refused is granted

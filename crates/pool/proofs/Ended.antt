@@ -32,10 +32,11 @@ use Rattle.pool.specs.declared.item.Item.{Item}
 use Rattle.pool.specs.Items.{door, history, needs_of, own_in}
 use Rattle.pool.specs.Seats.{Quotas, quotas_in, taken_in, live_in}
 use Rattle.pool.specs.Standing.{StandsAs}
-use Rattle.pool.specs.Passing.{IsPass}
+use Rattle.pool.specs.Passing.{IsPass, writers_out}
 use Rattle.pool.specs.Sitting.{Sitting, Sits, held_by, shared}
 use Rattle.pool.specs.Seating.{Ends, ending_items}
 use Rattle.pool.proofs.Beside.{quotas_beside, own_beside}
+use Rattle.pool.proofs.Out.{out_are, out_role}
 use Rattle.pool.proofs.Seated.{quotas_ended, taken_ended, live_ended}
 use Rattle.pool.proofs.Stood.{legal_here, state_here}
 
@@ -74,10 +75,13 @@ pub record Met (pass : Spot Item) (s : Sitting) (now : View Item) : Type 0 where
   pub grew : GrewBeside needs_of pass.knows.rights pass.knows.seen now.seen
   pub own : GrewBeside needs_of s.spot.knows.rights s.spot.knows.seen now.seen
 
-pub meets : {pass : Spot Item} {s : Sitting} {met now : View Item} (ticket : ℕ) → met ≡ joined pass.knows s.spot.knows
-    → GrewBeside needs_of pass.knows.rights pass.knows.seen met.seen → GrewBeside needs_of s.spot.knows.rights s.spot.knows.seen met.seen
+pub meets : {pass seat : Spot Item} {s : Sitting} {met now : View Item} (ticket : ℕ) → seat ≡ s.spot → met ≡ joined pass.knows seat.knows
+    → GrewBeside needs_of pass.knows.rights pass.knows.seen met.seen → GrewBeside needs_of seat.knows.rights seat.knows.seen met.seen
     → now ≡ taking ticket now.seen met → GrewBeside needs_of met.rights met.seen now.seen → Met pass s now
-meets {pass} {s} {met} {now} ticket joins seen other takes grew =
+meets {pass} {seat} {s} {met} {now} ticket its joined_seat seen joined_other takes grew =
+    let joins : met ≡ joined pass.knows s.spot.knows = joined_seat ∙ ap (λ (x : Spot Item). joined pass.knows x.knows) its in
+    let other : GrewBeside needs_of s.spot.knows.rights s.spot.knows.seen met.seen =
+    subst (λ (x : Spot Item). GrewBeside needs_of x.knows.rights x.knows.seen met.seen) its joined_other in
     let all : GrewBeside needs_of (pass.knows.rights ++ s.spot.knows.rights) met.seen now.seen =
     subst (λ (rights : List ℕ). GrewBeside needs_of rights met.seen now.seen) (ap (λ (v : View Item). v.rights) joins) grew in
     record {
@@ -168,6 +172,11 @@ module _ {o : Opening} {told : Bool} {pass : Spot Item} {s : Sitting} {now : Vie
           ap (λ (items : List Item). live_in items + 1) seen ∙ live_ended now.seen (state_of v) s.number session.0.quota was_here
           ∙ ap (λ (q : Quotas). len q) same_quotas
 
+      role : new.knows.role ≡ First (live_in new.knows.seen + writers_out pass)
+      role =
+          let fewer : (live_in pass.knows.seen + writers_out pass) - 1 ≡ live_in new.knows.seen + writers_out pass = let one = count in omega (arith, one) in
+          ap (λ (w : View Item). w.role) grows ∙ met.role ∙ ap one_less is.role ∙ ap First fewer
+
       pub ends : new.table ≡ pass.table → Ends o s pass new
       ends table = record {
         entered = now.seen;
@@ -179,6 +188,7 @@ module _ {o : Opening} {told : Bool} {pass : Spot Item} {s : Sitting} {now : Vie
         was = ap (λ (q : Quotas). get q s.number) (sym same_quotas) ∙ was_here;
         taken = taken;
         count = count;
+        writers = out_are new (writers_out pass) role;
       }
 
       -- the numbers that no session has are the pass's, with this one
@@ -192,15 +202,10 @@ module _ {o : Opening} {told : Bool} {pass : Spot Item} {s : Sitting} {now : Vie
             omega (arith, all, one)
       ]
 
-      role : new.knows.role ≡ First (live_in new.knows.seen)
-      role =
-          let fewer : live_in pass.knows.seen - 1 ≡ live_in new.knows.seen = let one = count in omega (arith, one) in
-          ap (λ (w : View Item). w.role) grows ∙ met.role ∙ ap one_less is.role ∙ ap First fewer
-
       pub is_pass : (left : ℕ) → left + taken_in new.knows.seen ≡ o.slots → IsPass o.slots left new
       is_pass left sum = record {
         idle = ap (λ (w : View Item). w.stage) grows;
-        role = role;
+        role = out_role new (writers_out pass) role;
         opens = subst (λ (all : List ℕ). 0 < times door all) rights (has_both is).0;
         numbers = λ m below none. subst (λ (all : List ℕ). 0 < times m all) rights (numbers m below none);
         spare = sum;

@@ -19,10 +19,13 @@ pub mod Entered
 pub mod Fresh
 pub mod Given
 pub mod Growth
+pub mod Lent
 pub mod Listed
 pub mod Locked
 pub mod Marked
 pub mod Needed
+pub mod NoStop
+pub mod Out
 pub mod Parted
 pub mod Passes
 pub mod Reading
@@ -36,6 +39,8 @@ pub mod Staying
 pub mod Stays
 pub mod Stood
 pub mod Trailed
+pub mod Unstopped
 pub mod Vacant
 pub mod Storing
 pub mod Summed
+pub mod WriterTurns

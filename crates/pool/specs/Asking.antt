@@ -11,6 +11,7 @@ use Rattle.pool.specs.declared.ask.Ask.{Ask}
 use Rattle.pool.specs.declared.left.Left.{Left}
 use Rattle.pool.specs.declared.item.Item.{Item}
 use Rattle.pool.specs.Items.{history, needs_of, own_in}
+use Rattle.pool.specs.Passing.{writers_out}
 use Rattle.pool.specs.Seats.{live_in, quotas_in, taken_in}
 use Rattle.pool.specs.Sitting.{Sitting, held_by}
 use Rattle.pool.specs.Seating.{HasBegun, beginning_items, state_in}
@@ -97,3 +98,4 @@ pub record Admits (o : Opening) (told : Bool) (asks : List Ask) (old new : Spot 
   pub table : new.table ≡ old.table
   pub taken : taken_in new.knows.seen ≡ taken_in old.knows.seen + quotas_by asks answers
   pub count : live_in new.knows.seen ≡ live_in old.knows.seen + came_in answers
+  pub writers : writers_out new ≡ writers_out old

@@ -15,4 +15,5 @@ pub mod Admitting
 pub mod Rooms
 pub mod Parting
 pub mod Opening
+pub mod Writers
 pub mod Laws

@@ -15,6 +15,7 @@ use Rattle.turn_table.specs.Face.{Spot}
 use Rattle.pool.specs.declared.item.Item.{Item}
 use Rattle.pool.specs.declared.item.Item.TheVariants.{Seated, Made}
 use Rattle.pool.specs.Items.{history, needs_of}
+use Rattle.pool.specs.Passing.{writers_out}
 use Rattle.pool.specs.Seats.{live_in, quotas_in, taken_in}
 use Rattle.pool.specs.Sitting.{Sitting, held_by}
 
@@ -72,6 +73,7 @@ pub record Begins (o : Opening) (told : Bool) (limit quota least : ℕ) (old new
   pub held : HasBegun o.block_len told limit quota least (held_by o told s)
   pub taken : taken_in new.knows.seen ≡ taken_in old.knows.seen + quota
   pub count : live_in new.knows.seen ≡ live_in old.knows.seen + 1
+  pub writers : writers_out new ≡ writers_out old
 
 -- a session was turned away: the pass had its turn, found what is against it, and entered nothing
 pub record TurnsAway (o : Opening) (limit least : ℕ) (old new : Spot Item) (e : PoolErr) : Type 0 where
@@ -80,6 +82,7 @@ pub record TurnsAway (o : Opening) (limit least : ℕ) (old new : Spot Item) (e 
   pub table : new.table ≡ old.table
   pub taken : taken_in new.knows.seen ≡ taken_in old.knows.seen
   pub count : live_in new.knows.seen ≡ live_in old.knows.seen
+  pub writers : writers_out new ≡ writers_out old
 
 -- a session ended: what it and the pass had seen came together, and the session's last items were entered
 pub record Ends (o : Opening) (s : Sitting) (old new : Spot Item) : Type 0 where
@@ -92,3 +95,4 @@ pub record Ends (o : Opening) (s : Sitting) (old new : Spot Item) : Type 0 where
   pub was : get (quotas_in old.knows.seen) s.number ≡ Some quota
   pub taken : taken_in new.knows.seen + quota ≡ taken_in old.knows.seen
   pub count : live_in new.knows.seen + 1 ≡ live_in old.knows.seen
+  pub writers : writers_out new ≡ writers_out old

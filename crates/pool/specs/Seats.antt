@@ -6,7 +6,7 @@ use Rattle.reservation_tree.specs.Total.{total}
 use Rattle.pool_model.specs.declared.event.Event.{Event}
 use Rattle.pool_model.specs.declared.event.Event.TheVariants.{AddTracker, CloseTracker}
 use Rattle.pool.specs.declared.item.Item.{Item}
-use Rattle.pool.specs.declared.item.Item.TheVariants.{Seated, Made, Went}
+use Rattle.pool.specs.declared.item.Item.TheVariants.{Seated, Made, Went, Stop}
 
 -- the quota of each live session
 abbrev pub Quotas : Type 0
@@ -22,6 +22,7 @@ abbrev pub with_item : Item → Quotas → Quotas
 with_item (Seated e) q = seated e.maker e.event q
 with_item (Made e) q = q
 with_item (Went m count) q = q
+with_item Stop q = q
 
 -- after more items
 abbrev pub with_items : Quotas → List Item → Quotas

@@ -5,7 +5,7 @@ ghost use Rattle.pin_core.specs.Sessions.{query_of};
 ghost use Rattle.pin_core.specs.Opening.{opening_entries, spare_of};
 ghost use Rattle.turn_table.specs.Knowledge.{HasTurn, NeedsOnly};
 ghost use Rattle.turn_table.specs.Steps.{grown};
-ghost use Rattle.pool.specs.Items.{needs_of};
+ghost use Rattle.pool.specs.Items.{is_stopped, needs_of};
 ghost use Rattle.pool.specs.Standing.{StandsAs};
 ghost use Rattle.pool.specs.Seating.{MustTurnAway};
 ghost use Rattle.pool.specs.Remaining.{first_refusal, left_in, quotas_of};
@@ -31,7 +31,7 @@ pub(crate) fn admit<D: Slot + Drop, T: OpenedAs>(
 ) -> u32
     requires granted { MustTurnAway (state_of shared.old.state) limit least → ⊥ }
     requires spare { quota ≤ spare_of shared.old.state }
-    ensures counts { shared.new.counts ≡ shared.old.counts }
+    ensures counts { (shared.new.counts ≡ shared.old.counts) × (shared.new.stopped ≡ shared.old.stopped) }
     ensures opens { Opens D.Slot limit quota least result shared.old.state shared.new.state }
     ensures trail { shared.new.trail ≡ shared.old.trail ++ opening_entries result (query_of (state_of shared.new.state) result) limit quota least }
 {
@@ -63,7 +63,8 @@ fn admit_ask<D: Slot + Drop, T: OpenedAs>(
     requires spare { quotas_of (ask.now ∷ []) ≤ spare_of shared.old.state }
     requires none { numbers.items ≡ [] }
     requires room { ask.now.count ≤ vec_capacity numbers }
-    ensures { (before : List Item) → StandsAs D.Slot T.opening T.told T.first before (record { trail = shared.old.trail; counts = shared.old.counts }) shared.old.state → AdmittedBy D.Slot T.opening T.told T.first ask.now before result.items shared.old.state (record { trail = shared.new.trail; counts = shared.new.counts }) shared.new.state }
+    ensures stop { shared.new.stopped ≡ shared.old.stopped }
+    ensures admits { (before : List Item) → StandsAs D.Slot T.opening T.told T.first before (record { trail = shared.old.trail; counts = shared.old.counts }) shared.old.state → AdmittedBy D.Slot T.opening T.told T.first ask.now before result.items shared.old.state (record { trail = shared.new.trail; counts = shared.new.counts }) shared.new.state }
 {
     for _i in 0..ask.count {
         let number = admit(shared, ask.limit, ask.quota, ask.least);
@@ -84,7 +85,8 @@ pub(crate) fn admit_all<D: Slot + Drop, T: OpenedAs>(
     requires slates { AreSlates asks.now slates.items }
     requires none { answers.items ≡ [] }
     requires room { length asks.now ≤ vec_capacity answers }
-    ensures { (before : List Item) → StandsAs D.Slot T.opening T.told T.first before (record { trail = shared.old.trail; counts = shared.old.counts }) shared.old.state → AdmittedAll D.Slot T.opening T.told T.first asks.now before (map numbered result.items) shared.old.state (record { trail = shared.new.trail; counts = shared.new.counts }) shared.new.state }
+    ensures stop { shared.new.stopped ≡ shared.old.stopped }
+    ensures admits { (before : List Item) → StandsAs D.Slot T.opening T.told T.first before (record { trail = shared.old.trail; counts = shared.old.counts }) shared.old.state → AdmittedAll D.Slot T.opening T.told T.first asks.now before (map numbered result.items) shared.old.state (record { trail = shared.new.trail; counts = shared.new.counts }) shared.new.state }
 {
     for ask in asks {
         let slate = slates.pop().unwrap();
@@ -107,6 +109,7 @@ pub(crate) fn leave_admitted<N: Adds<Item>, D: Slot + Drop, T: OpenedAs>(
     requires table { seat.old.table ≡ turns.now }
     requires turn { HasTurn seat.old.knows }
     requires stands { StandsAs D.Slot T.opening T.told T.first (seat.old.knows.seen ++ items_since seat.old.knows.seen shared.trail) (record { trail = shared.trail; counts = shared.counts }) shared.state }
+    requires stop { shared.stopped ≡ is_stopped seat.old.knows.seen }
     requires rights { NeedsOnly needs_of seat.old.knows.rights (items_since seat.old.knows.seen shared.trail) }
     ensures table { seat.new.table ≡ turns.now }
     ensures grown { seat.new.knows ≡ grown (items_since seat.old.knows.seen shared.trail) seat.old.knows }

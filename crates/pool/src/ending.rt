@@ -6,7 +6,7 @@ ghost use Rattle.pin_core.specs.Sessions.{IsSeat, query_of};
 ghost use Rattle.turn_table.specs.Lists.{times};
 ghost use Rattle.turn_table.specs.Knowledge.{HasTurn};
 ghost use Rattle.turn_table.specs.Steps.{grown};
-ghost use Rattle.pool.specs.Items.{door};
+ghost use Rattle.pool.specs.Items.{door, is_stopped};
 ghost use Rattle.pool.specs.Seats.{taken_in};
 ghost use Rattle.pool.specs.Standing.{StandsAs};
 ghost use Rattle.pool.specs.Sitting.{held_by};
@@ -15,6 +15,7 @@ ghost use Rattle.pool.specs.Seating.{Ends, ending_items};
 use crate::item::Item;
 use crate::opened::OpenedAs;
 use crate::pass::Pass;
+use crate::place::Place;
 use crate::seat::SessionSeat;
 use crate::shared::Shared;
 use outside::Slot;
@@ -41,7 +42,11 @@ pub(crate) fn unseat_session<D: Slot + Drop, T: OpenedAs, R: Wait>(
         ledger: _,
         spot,
     } = seat;
-    turns.join(&mut pass.seat, spot);
+    let Place {
+        seat: left,
+        stopped: _,
+    } = spot;
+    turns.join(&mut pass.seat, left);
     let shared = turns.enter(rt, &mut pass.seat);
     pass.spare = leave_ended::<Brand, D, T>(turns, &mut pass.seat, shared, number);
 }
@@ -57,6 +62,7 @@ fn leave_ended<N: Adds<Item>, D: Slot + Drop, T: OpenedAs>(
     requires table { seat.old.table ≡ turns.now }
     requires turn { HasTurn seat.old.knows }
     requires stands { StandsAs D.Slot T.opening T.told T.first seat.old.knows.seen (record { trail = shared.trail; counts = shared.counts }) shared.state }
+    requires stop { shared.stopped ≡ is_stopped seat.old.knows.seen }
     requires live { IsSeat (state_of shared.state) number }
     requires no_client { HasNoChild (state_of shared.state).trackers (query_of (state_of shared.state) number) }
     requires rights { (0 < times door seat.old.knows.rights) × (0 < times number seat.old.knows.rights) }

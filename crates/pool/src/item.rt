@@ -10,4 +10,6 @@ pub enum Item {
     Made { entry: Entry },
     /// Slots went out with a job of this maker.
     Went { maker: u32, count: Count },
+    /// Writers have to end, by whoever has the door.
+    Stop,
 }

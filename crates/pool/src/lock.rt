@@ -1,27 +1,30 @@
 //! A session's way to the pool's value: its turn.
+use crate::at_gate::Points;
 use crate::holding::{give_hand, take_hand};
 use crate::opened::OpenedAs;
+use crate::place::Place;
 use crate::shared::Shared;
-use outside::Slot;
+use outside::{Point, Slot};
 use session_calls::{Access, Hand, Origin};
 use std::sync::Wait;
-use turn_table::{TurnSeat, Turns};
+use turn_table::Turns;
 
-// The turn lock, and the runtime that lets a session wait for its turn.
+// The turn lock, the runtime that lets a session wait for its turn, and what it passes in a job.
 #[derive(Clone, Copy)]
-pub(crate) struct Lock<'a, D: Slot, R: Wait, T: OpenedAs> {
+pub(crate) struct Lock<'a, D: Slot, R: Wait, P: Points, T: OpenedAs> {
     pub(crate) rt: &'a R,
     pub(crate) turns: &'a Turns<Shared<D, T>>,
+    pub(crate) at: &'a P,
 }
 
-impl<'a, D: Slot + Drop, R: Wait, T: OpenedAs> Access<D> for Lock<'a, D, R, T> {
+impl<'a, D: Slot + Drop, R: Wait, P: Points, T: OpenedAs> Access<D> for Lock<'a, D, R, P, T> {
     ghost use Rattle.std.specs.Prelude.{◌≡◌, false, true};
     ghost use Rattle.session_calls.specs.Having.{MayGive, Taken, sight_of};
     ghost use Rattle.session_calls.specs.declared.hand.Hand.{Hand};
     ghost use Rattle.pool.specs.Items.{sight_in};
     ghost use Rattle.pool.specs.Locking.{RestsThere, TurnsThere, never_alone};
 
-    type Place = TurnSeat<Shared<D, T>>;
+    type Place = Place<D, T>;
 
     ghost alone = { false };
 
@@ -36,7 +39,7 @@ impl<'a, D: Slot + Drop, R: Wait, T: OpenedAs> Access<D> for Lock<'a, D, R, T> {
 
     ghost sole = { λ o u lock spot m turns never. never_alone never };
 
-    fn take<O: Origin>(&self, place: &mut TurnSeat<Shared<D, T>>, session: u32) -> Hand<D>
+    fn take<O: Origin>(&self, place: &mut Place<D, T>, session: u32) -> Hand<D>
         requires { RestsThere T.opening T.told O.opening O.outset self.now.turns.now place.old session }
         ensures turns { TurnsThere T.opening T.told O.opening O.outset self.now.turns.now place.new session }
         ensures taken { Taken D.Slot O.opening O.outset.told session (sight_in T.first place.old.knows.seen) (sight_in T.first place.new.knows.seen) result }
@@ -45,7 +48,7 @@ impl<'a, D: Slot + Drop, R: Wait, T: OpenedAs> Access<D> for Lock<'a, D, R, T> {
         take_hand(self.rt, self.turns, place, session)
     }
 
-    fn give<O: Origin>(&self, place: &mut TurnSeat<Shared<D, T>>, hand: Hand<D>)
+    fn give<O: Origin>(&self, place: &mut Place<D, T>, hand: Hand<D>)
         requires turns { TurnsThere T.opening T.told O.opening O.outset self.now.turns.now place.old hand.session }
         requires may { MayGive D.Slot O.opening O.outset.told (sight_in T.first place.old.knows.seen) hand }
         ensures rests { RestsThere T.opening T.told O.opening O.outset self.now.turns.now place.new hand.session }
@@ -53,6 +56,10 @@ impl<'a, D: Slot + Drop, R: Wait, T: OpenedAs> Access<D> for Lock<'a, D, R, T> {
         ensures kept { false ≡ true → Unit {0} }
     {
         give_hand(self.turns, place, hand);
+    }
+
+    fn pass(&self, point: Point) {
+        self.at.pass(point);
     }
 
     // No run takes so many turns that none is left; one that did would stay here.

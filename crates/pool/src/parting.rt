@@ -12,9 +12,11 @@ ghost use Rattle.pool.specs.Rooms.{IsRoom};
 ghost use Rattle.pool.specs.Parting.{AreComing, AreSeats, CanHand, IsComing, IsSeatOf, SeatsOf, handed_out};
 
 use crate::ask::Ask;
+use crate::at_gate::AtGate;
 use crate::ledger::Ledger;
 use crate::named::{At, Named};
 use crate::opened::OpenedAs;
+use crate::place::Place;
 use crate::rooms::{Room, close_room};
 use crate::seat::SessionSeat;
 use crate::session::Session;
@@ -47,7 +49,11 @@ fn part_one<'a, D: Slot + Drop, R: Wait, T: OpenedAs, N: At>(
     ensures parted { seat.new.knows ≡ parted (Some number) seat.old.knows }
     ensures seat { IsSeatOf turns.now seat.old.knows.seen number result.seat }
 {
-    let spot = turns.split(seat, Some(number));
+    let left = turns.split(seat, Some(number));
+    let spot = Place {
+        seat: left,
+        stopped: false,
+    };
     let ledger = Ledger {
         room: ask.least,
         accounts,
@@ -62,6 +68,7 @@ fn part_one<'a, D: Slot + Drop, R: Wait, T: OpenedAs, N: At>(
     Session {
         rt,
         turns,
+        at: AtGate::open(),
         seat,
         named: Named { names: PhantomData },
     }

@@ -3,13 +3,16 @@ ghost use Rattle.std.specs.Prelude.{◌≡◌, ◌≤◌, ◌+◌, ℕ, [], None
 ghost use Rattle.std.specs.List.{All, sum_by};
 ghost use Rattle.std.specs.Option.{ForSome};
 ghost use Rattle.pin_core.specs.Setup.{OpensWith};
+ghost use Rattle.pool.specs.Items.{all_rights};
 ghost use Rattle.pool.specs.Opening.{ClosesWith, OpensAs};
+ghost use Rattle.pool.specs.Passing.{writers_out};
 ghost use Rattle.pool.specs.Seats.{live_in, taken_in};
 ghost use Rattle.pool.specs.Seating.{Begins, TurnsAway};
 ghost use Rattle.pool.specs.Remaining.{all_left, quotas_of, refusal_of, refusals};
 ghost use Rattle.pool.specs.Asking.{Admits, answer_of, refusal_in};
 
 use crate::ask::Ask;
+use crate::at_gate::AtGate;
 use crate::named::{At, Named};
 use crate::opened::OpenedAs;
 use crate::pass::Pass;
@@ -65,6 +68,7 @@ impl<D: Slot + Drop, T: OpenedAs> Pool<D, T> {
         requires opens { OpensAs D.Slot conf.now slots.items T.opening T.told T.first }
         ensures table { IfOk result (λ p. p.1.table ≡ p.0) }
         ensures seen { IfOk result (λ p. p.1.knows.seen ≡ []) }
+        ensures writers { IfOk result (λ p. (p.1.knows.rights ≡ all_rights) × (writers_out p.1 ≡ 0)) }
         ensures back { IfErr result (λ e. (measure : D → ℕ) → sum_by measure e.0.items ≡ sum_by measure slots.items) }
     {
         let spare = slots.len() as u32;
@@ -83,6 +87,7 @@ impl<D: Slot + Drop, T: OpenedAs> Pool<D, T> {
             state,
             trail,
             counts,
+            stopped: false,
             first: PhantomData,
         };
         match Turns::with(alloc, shared) {
@@ -133,6 +138,7 @@ impl<D: Slot + Drop, T: OpenedAs> Pool<D, T> {
         Ok(Session {
             rt,
             turns: &self.turns,
+            at: AtGate::open(),
             seat,
             named: Named { names: PhantomData },
         })
@@ -182,10 +188,11 @@ impl<D: Slot + Drop, T: OpenedAs> Pool<D, T> {
         ))
     }
 
-    /// Ends a pool whose sessions have all ended into its pass, and gives back its slots.
+    /// Ends a pool whose sessions and writers have all ended into its pass, and gives back its slots.
     pub fn close(self, pass: Pass<D, T>) -> Vec<D>
         requires table { pass.table ≡ self }
         requires none { live_in pass.knows.seen ≡ 0 }
+        requires no_writer { writers_out pass ≡ 0 }
         ensures { ClosesWith D.Slot T.opening T.told T.first pass result.items }
     {
         let Pool {

@@ -8,11 +8,10 @@ ghost use Rattle.pool.specs.Sitting.{Sits, held_by};
 
 use crate::ledger::Ledger;
 use crate::opened::OpenedAs;
-use crate::shared::Shared;
+use crate::place::Place;
 use outside::Slot;
 use std::marker::{Brand, Model};
 use store_api::Client;
-use turn_table::TurnSeat;
 
 /// What contracts see of a session: its number, and its seat with what it has seen.
 pub struct Sitting<S> {
@@ -25,7 +24,7 @@ pub struct SessionSeat<D: Slot, T: OpenedAs = Brand> {
     pub(crate) number: u32,
     pub(crate) block_len: u32,
     pub(crate) ledger: Ledger,
-    pub(crate) spot: TurnSeat<Shared<D, T>>,
+    pub(crate) spot: Place<D, T>,
 }
 
 impl<D: Slot, T: OpenedAs> Model for SessionSeat<D, T> {

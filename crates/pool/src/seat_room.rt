@@ -11,6 +11,7 @@ ghost use Rattle.session_calls.specs.Pinning.{CanBePinned};
 ghost use Rattle.session_calls.specs.Coming.{IsFreshPage};
 ghost use Rattle.pool.specs.Sitting.{Did, DidThese, WasDeclined, held_by, signs_by};
 
+use crate::at_gate::Points;
 use crate::lock::Lock;
 use crate::opened::{Among, OpenedAs};
 use crate::seat::SessionSeat;
@@ -26,10 +27,11 @@ use turn_table::Turns;
 
 impl<D: Slot + Drop, T: OpenedAs> SessionSeat<D, T> {
     // Lowers the client's reservation, once what it holds fits.
-    pub(crate) fn give_back<R: Wait>(
+    pub(crate) fn give_back<R: Wait, P: Points>(
         &mut self,
         rt: &R,
         turns: &Turns<Shared<D, T>>,
+        at: &P,
         c: &Client,
         bytes: u64,
     ) -> Result<(), PoolErr>
@@ -40,9 +42,9 @@ impl<D: Slot + Drop, T: OpenedAs> SessionSeat<D, T> {
         ensures ok { OnOk result (Did (IsAsked c.now.tracker (held_by T.opening T.told self.old) (event.Decrease c.now.tracker bytes ∷ [])) self.old self.new) }
         ensures err { IfErr result (WasDeclined T.opening T.told c.now.tracker (call.GiveBack c.now.tracker bytes) self.old self.new) }
     {
-        let lock = Lock { rt, turns };
+        let lock = Lock { rt, turns, at };
         let hand = begin_turn(rt, turns, &mut self.spot, self.number);
-        let (hand, result) = session_calls::give_back::<Among<T>, Lock<'_, D, R, T>, D>(
+        let (hand, result) = session_calls::give_back::<Among<T>, Lock<'_, D, R, P, T>, D>(
             &lock,
             &mut self.spot,
             hand,
@@ -54,10 +56,11 @@ impl<D: Slot + Drop, T: OpenedAs> SessionSeat<D, T> {
     }
 
     // Moves unused reservation, once what the first client holds fits.
-    pub(crate) fn move_reservation<R: Wait>(
+    pub(crate) fn move_reservation<R: Wait, P: Points>(
         &mut self,
         rt: &R,
         turns: &Turns<Shared<D, T>>,
+        at: &P,
         from: &Client,
         to: &Client,
         bytes: u64,
@@ -71,9 +74,9 @@ impl<D: Slot + Drop, T: OpenedAs> SessionSeat<D, T> {
         ensures refused { IfSome (move_refusal from.now.tracker to.now.tracker bytes (held_by T.opening T.told self.old)) (λ e. (result ≡ Err e) × DidThese [] self.old self.new) }
         ensures err { IfNone (move_refusal from.now.tracker to.now.tracker bytes (held_by T.opening T.told self.old)) (IfErr result (WasDeclined T.opening T.told from.now.tracker (call.MoveReservation from.now.tracker to.now.tracker bytes) self.old self.new)) }
     {
-        let lock = Lock { rt, turns };
+        let lock = Lock { rt, turns, at };
         let hand = begin_turn(rt, turns, &mut self.spot, self.number);
-        let (hand, result) = session_calls::move_reservation::<Among<T>, Lock<'_, D, R, T>, D>(
+        let (hand, result) = session_calls::move_reservation::<Among<T>, Lock<'_, D, R, P, T>, D>(
             &lock,
             &mut self.spot,
             hand,
@@ -86,11 +89,12 @@ impl<D: Slot + Drop, T: OpenedAs> SessionSeat<D, T> {
     }
 
     // A new page of so many blocks, which have so many bytes, once there is room.
-    pub(crate) fn create<R: Wait>(
+    pub(crate) fn create<R: Wait, P: Points>(
         &mut self,
         alloc: Global,
         rt: &R,
         turns: &Turns<Shared<D, T>>,
+        at: &P,
         c: &Client,
         blocks: u32,
         bytes: u64,
@@ -105,9 +109,9 @@ impl<D: Slot + Drop, T: OpenedAs> SessionSeat<D, T> {
         ensures page { IfOk result (λ made. IsFreshPage c.now.tracker blocks made (held_by T.opening T.told self.old) (signs_by T.opening self.old)) }
         ensures err { IfErr result (WasDeclined T.opening T.told c.now.tracker (call.Create c.now.tracker blocks) self.old self.new) }
     {
-        let lock = Lock { rt, turns };
+        let lock = Lock { rt, turns, at };
         let hand = begin_turn(rt, turns, &mut self.spot, self.number);
-        let (hand, result) = session_calls::create::<Among<T>, Lock<'_, D, R, T>, D>(
+        let (hand, result) = session_calls::create::<Among<T>, Lock<'_, D, R, P, T>, D>(
             alloc,
             &lock,
             &mut self.spot,
@@ -121,11 +125,12 @@ impl<D: Slot + Drop, T: OpenedAs> SessionSeat<D, T> {
     }
 
     // A new loan of so many blocks, which have so many bytes, once there is room.
-    pub(crate) fn alloc<R: Wait>(
+    pub(crate) fn alloc<R: Wait, P: Points>(
         &mut self,
         alloc: Global,
         rt: &R,
         turns: &Turns<Shared<D, T>>,
+        at: &P,
         c: &Client,
         blocks: u32,
         bytes: u64,
@@ -140,9 +145,9 @@ impl<D: Slot + Drop, T: OpenedAs> SessionSeat<D, T> {
         ensures loan { IfOk result (λ loan. IsFreshLoan c.now.tracker blocks loan (held_by T.opening T.told self.old)) }
         ensures err { IfErr result (WasDeclined T.opening T.told c.now.tracker (call.Alloc c.now.tracker blocks) self.old self.new) }
     {
-        let lock = Lock { rt, turns };
+        let lock = Lock { rt, turns, at };
         let hand = begin_turn(rt, turns, &mut self.spot, self.number);
-        let (hand, result) = session_calls::alloc::<Among<T>, Lock<'_, D, R, T>, D>(
+        let (hand, result) = session_calls::alloc::<Among<T>, Lock<'_, D, R, P, T>, D>(
             alloc,
             &lock,
             &mut self.spot,
@@ -156,10 +161,11 @@ impl<D: Slot + Drop, T: OpenedAs> SessionSeat<D, T> {
     }
 
     // Pins a page that rests.
-    pub(crate) fn pin<R: Wait>(
+    pub(crate) fn pin<R: Wait, P: Points>(
         &mut self,
         rt: &R,
         turns: &Turns<Shared<D, T>>,
+        at: &P,
         p: &Page,
     ) -> Result<Buf, PoolErr>
         requires table { self.old.spot.table ≡ turns.now }
@@ -169,9 +175,9 @@ impl<D: Slot + Drop, T: OpenedAs> SessionSeat<D, T> {
         ensures bytes { IfOk result (ShowsLeft (page_of p.now.name (held_by T.opening T.told self.old)) (held_by T.opening T.told self.old)) }
         ensures err { IfErr result (WasDeclined T.opening T.told p.now.client (call.Pin p.now.name) self.old self.new) }
     {
-        let lock = Lock { rt, turns };
+        let lock = Lock { rt, turns, at };
         let hand = begin_turn(rt, turns, &mut self.spot, self.number);
-        let (hand, result) = session_calls::pin::<Among<T>, Lock<'_, D, R, T>, D>(
+        let (hand, result) = session_calls::pin::<Among<T>, Lock<'_, D, R, P, T>, D>(
             &lock,
             &mut self.spot,
             hand,
@@ -182,10 +188,11 @@ impl<D: Slot + Drop, T: OpenedAs> SessionSeat<D, T> {
     }
 
     // Pins a pinned page once more, once there is room.
-    pub(crate) fn pin_again<R: Wait>(
+    pub(crate) fn pin_again<R: Wait, P: Points>(
         &mut self,
         rt: &R,
         turns: &Turns<Shared<D, T>>,
+        at: &P,
         p: &Page,
     ) -> Result<(), PoolErr>
         requires table { self.old.spot.table ≡ turns.now }
@@ -196,9 +203,9 @@ impl<D: Slot + Drop, T: OpenedAs> SessionSeat<D, T> {
         ensures ok { OnOk result (Did (IsAsked p.now.client (held_by T.opening T.told self.old) (event.PinAgain p.now.name ∷ [])) self.old self.new) }
         ensures err { IfErr result (WasDeclined T.opening T.told p.now.client (call.PinAgain p.now.name) self.old self.new) }
     {
-        let lock = Lock { rt, turns };
+        let lock = Lock { rt, turns, at };
         let hand = begin_turn(rt, turns, &mut self.spot, self.number);
-        let (hand, result) = session_calls::pin_again::<Among<T>, Lock<'_, D, R, T>, D>(
+        let (hand, result) = session_calls::pin_again::<Among<T>, Lock<'_, D, R, P, T>, D>(
             &lock,
             &mut self.spot,
             hand,
@@ -209,10 +216,11 @@ impl<D: Slot + Drop, T: OpenedAs> SessionSeat<D, T> {
     }
 
     // Ends a page. One that another maker writes is waited for.
-    pub(crate) fn destroy<R: Wait>(
+    pub(crate) fn destroy<R: Wait, P: Points>(
         &mut self,
         rt: &R,
         turns: &Turns<Shared<D, T>>,
+        at: &P,
         p: Page,
         buf: Option<Buf>,
     )
@@ -222,9 +230,9 @@ impl<D: Slot + Drop, T: OpenedAs> SessionSeat<D, T> {
         ensures table { self.new.spot.table ≡ turns.now }
         ensures did { DidThese (event.Destroy p.name ∷ []) self.old self.new }
     {
-        let lock = Lock { rt, turns };
+        let lock = Lock { rt, turns, at };
         let hand = begin_turn(rt, turns, &mut self.spot, self.number);
-        let hand = session_calls::destroy::<Among<T>, Lock<'_, D, R, T>, D>(
+        let hand = session_calls::destroy::<Among<T>, Lock<'_, D, R, P, T>, D>(
             &lock,
             &mut self.spot,
             hand,
@@ -235,10 +243,11 @@ impl<D: Slot + Drop, T: OpenedAs> SessionSeat<D, T> {
     }
 
     // Charges a loan to another client, once that one has room.
-    pub(crate) fn move_buffer<R: Wait>(
+    pub(crate) fn move_buffer<R: Wait, P: Points>(
         &mut self,
         rt: &R,
         turns: &Turns<Shared<D, T>>,
+        at: &P,
         loan: Loan,
         to: &Client,
     ) -> Result<Loan, (Loan, PoolErr)>
@@ -253,9 +262,9 @@ impl<D: Slot + Drop, T: OpenedAs> SessionSeat<D, T> {
         ensures back { IfErr result (λ e. e.0 ≡ loan) }
         ensures err { IfErr result (λ e. WasDeclined T.opening T.told to.now.tracker (call.MoveBuffer loan.number to.now.tracker) self.old self.new e.1) }
     {
-        let lock = Lock { rt, turns };
+        let lock = Lock { rt, turns, at };
         let hand = begin_turn(rt, turns, &mut self.spot, self.number);
-        let (hand, result) = session_calls::move_buffer::<Among<T>, Lock<'_, D, R, T>, D>(
+        let (hand, result) = session_calls::move_buffer::<Among<T>, Lock<'_, D, R, P, T>, D>(
             &lock,
             &mut self.spot,
             hand,

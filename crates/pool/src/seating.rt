@@ -6,7 +6,7 @@ ghost use Rattle.pin_core.specs.Sessions.{query_of};
 ghost use Rattle.turn_table.specs.Lists.{times};
 ghost use Rattle.turn_table.specs.Knowledge.{HasTurn};
 ghost use Rattle.turn_table.specs.Steps.{grown};
-ghost use Rattle.pool.specs.Items.{door};
+ghost use Rattle.pool.specs.Items.{door, is_stopped};
 ghost use Rattle.pool.specs.Seats.{live_in, taken_in};
 ghost use Rattle.pool.specs.Standing.{StandsAs};
 ghost use Rattle.pool.specs.Seating.{Begins, IsSessionRefusal, MustTurnAway, TurnsAway, beginning_items};
@@ -17,6 +17,7 @@ use crate::item::Item;
 use crate::ledger::Ledger;
 use crate::opened::OpenedAs;
 use crate::pass::Pass;
+use crate::place::Place;
 use crate::seat::SessionSeat;
 use crate::shared::Shared;
 use client_accounts::ClientAccounts;
@@ -60,7 +61,11 @@ pub(crate) fn seat_session<D: Slot + Drop, T: OpenedAs, R: Wait>(
     let number = admit(&mut shared, limit, quota, least);
     pass.spare -= quota;
     leave_begun::<Brand, D, T>(turns, &mut pass.seat, shared, number, limit, quota, least);
-    let spot = turns.split(&mut pass.seat, Some(number));
+    let seat = turns.split(&mut pass.seat, Some(number));
+    let spot = Place {
+        seat,
+        stopped: false,
+    };
     let ledger = Ledger {
         room: least,
         accounts,
@@ -124,6 +129,7 @@ fn leave_begun<N: Adds<Item>, D: Slot + Drop, T: OpenedAs>(
     requires table { seat.old.table ≡ turns.now }
     requires turn { HasTurn seat.old.knows }
     requires stands { StandsAs D.Slot T.opening T.told T.first (seat.old.knows.seen ++ beginning_items _number (query_of (state_of shared.state) _number) _limit _quota _least) (record { trail = shared.trail; counts = shared.counts }) shared.state }
+    requires stop { shared.stopped ≡ is_stopped seat.old.knows.seen }
     requires rights { (0 < times door seat.old.knows.rights) × (0 < times _number seat.old.knows.rights) }
     ensures table { seat.new.table ≡ turns.now }
     ensures grown { seat.new.knows ≡ grown (beginning_items _number (query_of (state_of shared.state) _number) _limit _quota _least) seat.old.knows }

@@ -5,6 +5,7 @@ ghost use Rattle.own_entries.specs.ClientLaws.{IsWholeIdle};
 ghost use Rattle.pool.specs.Sitting.{Sits, held_by, signs_by};
 ghost use Rattle.pool.specs.Seating.{Ends};
 
+use crate::at_gate::AtGate;
 use crate::ending::unseat_session;
 use crate::named::{At, Named};
 use crate::opened::OpenedAs;
@@ -12,7 +13,7 @@ use crate::pass::Pass;
 use crate::seat::SessionSeat;
 use crate::shared::Shared;
 use block_arena::Buf;
-use outside::Slot;
+use outside::{Gate, OpenGate, Slot};
 use reservation_tree::PoolErr;
 use std::alloc::Global;
 use std::marker::Brand;
@@ -22,10 +23,12 @@ use turn_table::Turns;
 
 /// A session of a pool that others share, as a store. It has the runtime that lets it wait for its turn.
 ///
-/// What a law of stores says of it whatever was called before stands beside it. It can't be let go: it ends by `end`.
-pub struct Session<'a, D: Slot, R: Wait, T: OpenedAs = Brand, N: At = Brand> {
+/// What a law of stores says of it whatever was called before stands beside it. It can't be let go: it ends by `end`. A
+/// session of its own kind passes the gate that lets all pass.
+pub struct Session<'a, D: Slot, R: Wait, T: OpenedAs = Brand, N: At = Brand, G: Gate = OpenGate> {
     pub(crate) rt: &'a R,
     pub(crate) turns: &'a Turns<Shared<D, T>>,
+    pub(crate) at: AtGate<'a, G>,
     pub(crate) seat: SessionSeat<D, T>,
     pub(crate) named: Named<T, N>,
     ghost table: { seat.spot.table ≡ turns.now },
@@ -33,7 +36,52 @@ pub struct Session<'a, D: Slot, R: Wait, T: OpenedAs = Brand, N: At = Brand> {
     ghost whole: { IsWholeIdle (held_by T.opening T.told seat) },
 }
 
-impl<'a, D: Slot + Drop, R: Wait, T: OpenedAs, N: At> Session<'a, D, R, T, N> {
+/// A session that passes a gate where its pages are stored and loaded.
+pub type GatedSession<'a, D, R, G, T, N> = Session<'a, D, R, T, N, G>;
+
+impl<'a, D: Slot + Drop, R: Wait, T: OpenedAs, N: At> Session<'a, D, R, T, N, OpenGate> {
+    /// The same session, which passes this gate as `who`.
+    pub fn with_gate<G: Gate>(self, gate: &'a G, who: u32) -> GatedSession<'a, D, R, G, T, N>
+        ensures { result.seat ≡ self.entry.seat }
+    {
+        let Session {
+            rt,
+            turns,
+            at: _,
+            seat,
+            named,
+        } = self;
+        Session {
+            rt,
+            turns,
+            at: AtGate { gate, who },
+            seat,
+            named,
+        }
+    }
+}
+
+impl<'a, D: Slot + Drop, R: Wait, T: OpenedAs, N: At, G: Gate> Session<'a, D, R, T, N, G> {
+    /// The same session, which passes no gate.
+    pub fn into_session(self) -> Session<'a, D, R, T, N>
+        ensures { result.seat ≡ self.entry.seat }
+    {
+        let Session {
+            rt,
+            turns,
+            at: _,
+            seat,
+            named,
+        } = self;
+        Session {
+            rt,
+            turns,
+            at: AtGate::open(),
+            seat,
+            named,
+        }
+    }
+
     /// The session sits at the lock that its type names.
     pub fn law_there(&self)
         ensures { ForSome N.table (λ table. self.now.seat.spot.table ≡ table) }
@@ -55,6 +103,7 @@ impl<'a, D: Slot + Drop, R: Wait, T: OpenedAs, N: At> Session<'a, D, R, T, N> {
         let Session {
             rt,
             turns,
+            at: _,
             seat,
             named: _,
         } = self;
@@ -62,7 +111,8 @@ impl<'a, D: Slot + Drop, R: Wait, T: OpenedAs, N: At> Session<'a, D, R, T, N> {
     }
 }
 
-impl<'a, D: Slot + Drop, R: Wait, T: OpenedAs, N: At> Store for Session<'a, D, R, T, N> {
+impl<'a, D: Slot + Drop, R: Wait, T: OpenedAs, N: At, G: Gate> Store
+    for Session<'a, D, R, T, N, G> {
     ghost use Rattle.pool.specs.Laws.{tells_left};
 
     ghost holds = { λ s. held_by T.opening T.told s.seat };
@@ -116,14 +166,14 @@ impl<'a, D: Slot + Drop, R: Wait, T: OpenedAs, N: At> Store for Session<'a, D, R
 
     fn give_back(&mut self, c: &Client, bytes: u64) -> Result<(), PoolErr> {
         let seat = &mut self.seat;
-        let result = seat.give_back(self.rt, self.turns, c, bytes);
+        let result = seat.give_back(self.rt, self.turns, &self.at, c, bytes);
         seat.law_whole();
         result
     }
 
     fn move_reservation(&mut self, from: &Client, to: &Client, bytes: u64) -> Result<(), PoolErr> {
         let seat = &mut self.seat;
-        let result = seat.move_reservation(self.rt, self.turns, from, to, bytes);
+        let result = seat.move_reservation(self.rt, self.turns, &self.at, from, to, bytes);
         seat.law_whole();
         result
     }
@@ -131,21 +181,21 @@ impl<'a, D: Slot + Drop, R: Wait, T: OpenedAs, N: At> Store for Session<'a, D, R
     fn create(&mut self, alloc: Global, c: &Client, blocks: u32) -> Result<(Page, Buf), PoolErr> {
         let seat = &mut self.seat;
         let bytes = u64::from(blocks) * u64::from(seat.block_len());
-        let result = seat.create(alloc, self.rt, self.turns, c, blocks, bytes);
+        let result = seat.create(alloc, self.rt, self.turns, &self.at, c, blocks, bytes);
         seat.law_whole();
         result
     }
 
     fn pin(&mut self, p: &Page) -> Result<Buf, PoolErr> {
         let seat = &mut self.seat;
-        let result = seat.pin(self.rt, self.turns, p);
+        let result = seat.pin(self.rt, self.turns, &self.at, p);
         seat.law_whole();
         result
     }
 
     fn pin_again(&mut self, p: &Page) -> Result<(), PoolErr> {
         let seat = &mut self.seat;
-        let result = seat.pin_again(self.rt, self.turns, p);
+        let result = seat.pin_again(self.rt, self.turns, &self.at, p);
         seat.law_whole();
         result
     }
@@ -172,14 +222,14 @@ impl<'a, D: Slot + Drop, R: Wait, T: OpenedAs, N: At> Store for Session<'a, D, R
 
     fn destroy(&mut self, p: Page, buf: Option<Buf>) {
         let seat = &mut self.seat;
-        seat.destroy(self.rt, self.turns, p, buf);
+        seat.destroy(self.rt, self.turns, &self.at, p, buf);
         seat.law_whole();
     }
 
     fn alloc(&mut self, alloc: Global, c: &Client, blocks: u32) -> Result<Loan, PoolErr> {
         let seat = &mut self.seat;
         let bytes = u64::from(blocks) * u64::from(seat.block_len());
-        let result = seat.alloc(alloc, self.rt, self.turns, c, blocks, bytes);
+        let result = seat.alloc(alloc, self.rt, self.turns, &self.at, c, blocks, bytes);
         seat.law_whole();
         result
     }
@@ -196,7 +246,7 @@ impl<'a, D: Slot + Drop, R: Wait, T: OpenedAs, N: At> Store for Session<'a, D, R
             return Ok(loan);
         }
         let seat = &mut self.seat;
-        let result = seat.move_buffer(self.rt, self.turns, loan, to);
+        let result = seat.move_buffer(self.rt, self.turns, &self.at, loan, to);
         seat.law_whole();
         result
     }

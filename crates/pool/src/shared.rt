@@ -8,22 +8,25 @@ use session_calls::Count;
 use std::marker::{Brand, PhantomData};
 use turn_table::{Logged, Solo};
 
-/// A pool's value under a turn lock, the history for which it stands, and what its slots counted. `T` names with what the pool opened.
+/// A pool's value under a turn lock, the history for which it stands, what its slots counted, and whether its writers have
+/// to end. `T` names with what the pool opened.
 #[derive(Drop)]
 pub struct Shared<D: Slot, T: OpenedAs = Brand> {
     pub(crate) state: PoolState<D>,
     pub(crate) trail: Solo<Entry>,
     pub(crate) counts: Solo<Count>,
+    pub(crate) stopped: bool,
     pub(crate) first: PhantomData<T>,
 }
 
 impl<D: Slot, T: OpenedAs> Logged for Shared<D, T> {
-    ghost use Rattle.pool.specs.Items.{all_rights, needs_of};
+    ghost use Rattle.std.specs.Prelude.{◌≡◌};
+    ghost use Rattle.pool.specs.Items.{all_rights, is_stopped, needs_of};
     ghost use Rattle.pool.specs.Standing.{StandsAs};
 
     type Entry = Item;
 
-    ghost stands = { λ value items. StandsAs D.Slot T.opening T.told T.first items (record { trail = value.trail; counts = value.counts }) value.state };
+    ghost stands = { λ value items. StandsAs D.Slot T.opening T.told T.first items (record { trail = value.trail; counts = value.counts }) value.state × (value.stopped ≡ is_stopped items) };
 
     ghost rights = { all_rights };
 

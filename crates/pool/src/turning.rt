@@ -6,17 +6,18 @@ ghost use Rattle.pool.specs.Turning.{IsInTurn, MayEndTurn, SitsAgain};
 use crate::holding::{give_hand, take_hand};
 use crate::ledger::Ledger;
 use crate::opened::{Among, OpenedAs};
+use crate::place::Place;
 use crate::shared::Shared;
 use outside::Slot;
 use session_calls::Hand;
 use std::sync::Wait;
-use turn_table::{TurnSeat, Turns};
+use turn_table::Turns;
 
 // Waits for the session's turn, and takes the value for it.
 pub(crate) fn begin_turn<D: Slot + Drop, T: OpenedAs, R: Wait>(
     rt: &R,
     turns: &Turns<Shared<D, T>>,
-    spot: &mut TurnSeat<Shared<D, T>>,
+    spot: &mut Place<D, T>,
     number: u32,
 ) -> Hand<D>
     requires table { spot.old.table ≡ turns.now }
@@ -30,7 +31,7 @@ pub(crate) fn begin_turn<D: Slot + Drop, T: OpenedAs, R: Wait>(
 // The ledger sees what the session holds, and the turn ends.
 pub(crate) fn end_turn<D: Slot + Drop, T: OpenedAs>(
     turns: &Turns<Shared<D, T>>,
-    spot: &mut TurnSeat<Shared<D, T>>,
+    spot: &mut Place<D, T>,
     ledger: &mut Ledger,
     hand: Hand<D>,
 )

@@ -12,6 +12,7 @@ pub mod Failures
 pub mod RoomCalls
 pub mod Roomed
 pub mod Waiting
+pub mod Sent
 pub mod Contents
 pub mod Fetching
 pub mod Needed
@@ -45,6 +46,7 @@ pub mod Outgoing
 pub mod Alone
 pub mod Rounds
 pub mod Lasts
+pub mod Flights
 pub mod Between
 pub mod Failing
 pub mod Returned

@@ -40,7 +40,7 @@ use Rattle.session_calls.proofs.Out.{back_read, back_unread}
 use Rattle.session_calls.proofs.Lasts.{IsInJob}
 use Rattle.session_calls.proofs.Failing.{failed_last, failed_counts}
 use Rattle.session_calls.proofs.Outgoing.{EndsJob}
-use Rattle.session_calls.proofs.Returned.{grew, same_len, same_there, same_page, same_tally, content_mid, did, may_give}
+use Rattle.session_calls.proofs.Returned.{grew, same_len, same_there, same_page, same_tally, content_mid, came_quotas, came_whole, did, worked}
 
 -- what is so of the end of a load, well or not
 module _ (p before now : ℕ) where
@@ -85,17 +85,17 @@ module _ {D : Type 0} (slot : Ghosts D) (o : Opening) (told : Bool) (old mid : H
   abbrev left : List ℕ
   left = content_from job.id.name [] old.trail
 
-  loads : IsInJob old.session (page_at s job.id.name).place
-  loads = inr can.is.loads
+  loads : IsInJob old.session (page_at s job.id.name)
+  loads = inr (can.is.loads, can.whose)
 
   name_is : ran.id.name ≡ job.id.name
   name_is = ap (λ (j : ReadJob D). j.id.name) rest
 
   there : get t.pages job.id.name ≡ Some (page_at s job.id.name)
-  there = same_there slot o told old mid stood before now seen taken job.id.name can.is.lives can.whose loads
+  there = same_there slot o told old mid stood before now seen taken job.id.name can.is.lives loads
 
   page : page_at t job.id.name ≡ page_at s job.id.name
-  page = same_page slot o told old mid stood before now seen taken job.id.name can.is.lives can.whose loads
+  page = same_page slot o told old mid stood before now seen taken job.id.name can.is.lives loads
 
   -- the job is that of the page still
   pub still_reads : IsReadJob t ran
@@ -129,7 +129,7 @@ module _ {D : Type 0} (slot : Ghosts D) (o : Opening) (told : Bool) (old mid : H
     holds : HoldsContent slot t.block_len ran o mid.trail
     holds =
         subst (AreHeld slot t.block_len ran.row)
-        (sym (ap (content_of o mid.trail) name_is ∙ content_mid slot o told old mid stood before now seen taken job.id.name can.is.lives can.whose loads))
+        (sym (ap (content_of o mid.trail) name_is ∙ content_mid slot o told old mid stood before now seen taken job.id.name can.is.lives loads))
         (held t.block_len left (subst (λ (n : ℕ). AreHeld slot n job.row left) (sym (same_len slot o told old mid stood before now seen taken)) can.held))
 
     entry_is : read_entry t ran sum faults ≡ e
@@ -150,18 +150,20 @@ module _ {D : Type 0} (slot : Ghosts D) (o : Opening) (told : Bool) (old mid : H
 
     pub may_give_loaded : map slot.tells ran.row ≡ map slot.tells job.row → faults_of slot job.row ≤ faults_of slot ran.row → CountsFaults slot (if ran.failed then 1 else 0) job.row ran.row
         → map slot.stores ran.row ≡ map slot.stores job.row → MayGive slot o told now new
-    may_give_loaded tells fall more stores =
-        may_give slot o told old mid stood before now seen taken new end trail none_out session ran.row job.row (HoldsContent slot t.block_len ran) enters_so holds
-        (goes_on ran.id.name sum faults ran.failed)
-        (keeps ran.id.name sum faults ran.failed)
-        (λ may. subst (λ (n : ℕ). slots_out (after t e).pages + n ≡ slots_out t.pages) (sym still_reads.slots) (comes_back ran.id.name sum faults ran.failed mid.trail t old.session may))
-        (same_silence slot ran.row job.row tells) can.tell
-        job.id.name (subst (λ (p : ℕ). EndsJob p end) name_is (ends_job ran.id.name sum faults ran.failed))
-        (same_tally slot o told old mid stood before now seen taken job.id.name can.is.lives can.whose loads ∙ can.counts)
-        (subst
-        (λ (n : ℕ). Counted (all_failures (e ∷ [])) n (tally_by slot (λ measure. slots_home measure mid.state + sum_by measure job.row)) (tally_by slot (λ measure. slots_home measure mid.state + sum_by measure ran.row)))
-        (sym (unstored (mid.trail ++ by old.session (end ∷ [])) old.session end (never_stored ran.id.name sum faults ran.failed)))
-        (row_counts slot (λ measure. slots_home measure mid.state) job.row ran.row old.session ran.id.name sum faults (same_silence slot ran.row job.row tells) len fall (same_stores slot job.row ran.row (sym stores)) ran.failed more))
+    may_give_loaded tells fall more stores = record {
+      worked = worked slot o told old mid stood before now seen taken new end trail none_out session (goes_on ran.id.name sum faults ran.failed)
+          (came_quotas slot o told mid new taken.whole old.session end trail none_out ran.row job.row (HoldsContent slot t.block_len ran) enters_so holds (keeps ran.id.name sum faults ran.failed));
+      whole =
+          came_whole slot o told mid new taken.whole old.session end trail none_out ran.row job.row (HoldsContent slot t.block_len ran) enters_so holds
+          (λ may. subst (λ (n : ℕ). slots_out (after t e).pages + n ≡ slots_out t.pages) (sym still_reads.slots) (comes_back ran.id.name sum faults ran.failed mid.trail t old.session may))
+          (same_silence slot ran.row job.row tells) can.tell
+          job.id.name (subst (λ (p : ℕ). EndsJob p end) name_is (ends_job ran.id.name sum faults ran.failed))
+          (same_tally slot o told old mid stood before now seen taken job.id.name can.is.lives loads ∙ can.counts)
+          (subst
+          (λ (n : ℕ). Counted (all_failures (e ∷ [])) n (tally_by slot (λ measure. slots_home measure mid.state + sum_by measure job.row)) (tally_by slot (λ measure. slots_home measure mid.state + sum_by measure ran.row)))
+          (sym (unstored (mid.trail ++ by old.session (end ∷ [])) old.session end (never_stored ran.id.name sum faults ran.failed)))
+          (row_counts slot (λ measure. slots_home measure mid.state) job.row ran.row old.session ran.id.name sum faults (same_silence slot ran.row job.row tells) len fall (same_stores slot job.row ran.row (sym stores)) ran.failed more));
+    }
 
     -- the session did this, by what the end is
     did_so : (event : Event) → end ≡ event → DoesIn (λ events. events ≡ event ∷ []) old new

@@ -21,36 +21,36 @@ use Rattle.session_calls.specs.Outgoing.{no_tally, page_out, pages_counted, page
 use Rattle.session_calls.proofs.CountLists.{NoneIs, counted_append, none_both, out_append, tally_append, tally_kept}
 use Rattle.session_calls.proofs.Lasts.{IsInJob, page_stays}
 
-moves : (m : ℕ) (place : Place) → IsInJob m place → is_moving place ≡ true
-moves m place (inl flies) = ap is_moving flies
-moves m place (inr loads) = ap is_moving loads
+moves : (m : ℕ) (x : Page) → IsInJob m x → is_moving x.place ≡ true
+moves m x (inl flies) = ap is_moving flies
+moves m x (inr loads) = ap is_moving loads.0
 
-module _ (m p : ℕ) (x : Page) (job : IsInJob m x.place) where
+module _ (m p : ℕ) (x : Page) (job : IsInJob m x) where
   -- a page that is in no job is another
   apart : (s : State) → get s.pages p ≡ Some x → (q : ℕ) (y : Page) → get s.pages q ≡ Some y → (place : Place) → y.place ≡ place → is_moving place ≡ false → q ≢ p
   apart s is q y there place at still same =
       let one : y ≡ x = some_is y x (sym there ∙ ap (get s.pages) same ∙ is) in
-      false≢true (sym still ∙ ap is_moving (sym at) ∙ ap (λ (z : Page). is_moving z.place) one ∙ moves m x.place job)
+      false≢true (sym still ∙ ap is_moving (sym at) ∙ ap (λ (z : Page). is_moving z.place) one ∙ moves m x job)
 
   not_out : (before : List Entry) (s : State) (maker : ℕ) (event : Event) → Allows before s maker event → get s.pages p ≡ Some x → NoneIs p (page_out event)
   not_out before s maker (PinLoad q) may is = (apart s is q may.page may.own.lives Evicted may.evicted refl, tt)
   not_out before s maker (StartWrite q) may is = (apart s is q may.page may.lives Dirty may.dirty refl, tt)
   not_out before s maker _ may is = tt
 
-  never_out : (h : List Entry) (s : State) (others : List Entry) → IsSound s → Follow h s others → AllBeside m others → get s.pages p ≡ Some x → x.session ≡ m → NoneIs p (pages_out others)
-  never_out h s [] sound follow beside is own = tt
-  never_out h s (e ∷ others) sound follow beside is own =
+  never_out : (h : List Entry) (s : State) (others : List Entry) → IsSound s → Follow h s others → AllBeside m others → get s.pages p ≡ Some x → NoneIs p (pages_out others)
+  never_out h s [] sound follow beside is = tt
+  never_out h s (e ∷ others) sound follow beside is =
       none_both p (page_out e.event) (pages_out others) (not_out h s e.maker e.event follow.0.allows is)
-      (never_out (h ++ e ∷ []) (after s e) others (entry_sound h s sound e follow.0) follow.1 beside.1 (page_stays h s e m p x sound follow.0 beside.0 is own job) own)
+      (never_out (h ++ e ∷ []) (after s e) others (entry_sound h s sound e follow.0) follow.1 beside.1 (page_stays h s e m p x sound follow.0 beside.0 is job))
 
--- a page of this session's in a job is counted as it was, whatever others did
+-- its tally is what it was, whatever others did
 pub tally_lasts : (o : Opening) (h others : List Entry) (m : ℕ) (counts went : List Count) → IsLegal o (h ++ others) → AllBeside m others
     → pages_counted counts ≡ pages_out h → pages_counted (counts ++ went) ≡ pages_out (h ++ others)
-    → (p : ℕ) (x : Page) → get (state_after o h).pages p ≡ Some x → x.session ≡ m → IsInJob m x.place → tally_or no_tally p (counts ++ went) ≡ tally_or no_tally p counts
-tally_lasts o h others m counts went legal beside was now p x is own job =
+    → (p : ℕ) (x : Page) → get (state_after o h).pages p ≡ Some x → IsInJob m x → tally_or no_tally p (counts ++ went) ≡ tally_or no_tally p counts
+tally_lasts o h others m counts went legal beside was now p x is job =
     let same : pages_counted went ≡ pages_out others =
     append_cancel_left (pages_out h) (pages_counted went) (pages_out others)
     (ap (λ (pages : List ℕ). pages ++ pages_counted went) (sym was) ∙ sym (counted_append counts went) ∙ now ∙ out_append h others) in
     tally_append no_tally p counts went
     ∙ tally_kept (tally_or no_tally p counts) p went
-    (subst (NoneIs p) (sym same) (never_out m p x job h (state_after o h) others (legal_sound o h (legal_fronts o h others legal)) (legal_grows_so o h others legal) beside is own))
+    (subst (NoneIs p) (sym same) (never_out m p x job h (state_after o h) others (legal_sound o h (legal_fronts o h others legal)) (legal_grows_so o h others legal) beside is))

@@ -1,43 +1,35 @@
 -- One turn of a call that wants room: a page goes out and comes back.
-use Rattle.std.proofs.Common.{◌≡◌, ℕ, ◌+◌, ◌<◌, List, [], ◌∷◌, ◌++◌, Option, None, IsSome, unwrap_or, refl, sym, ap, ◌∙◌, subst, arith}
+use Rattle.std.proofs.Common.{◌≡◌, ℕ, ◌<◌, List, [], ◌∷◌, ◌++◌, Option, None, IsSome, unwrap_or, refl, sym, ap, ◌∙◌, subst}
 use Rattle.std.proofs.lemmas.List.{append_assoc}
-use Rattle.std.specs.FinMap.{get}
-use Rattle.std.specs.List.{sum_by}
 use Rattle.outside.specs.declared.slot.Slot.{Ghosts}
 use Rattle.reservation_tree.proofs.Maps.{get_same}
 use Rattle.pool_model.specs.declared.event.Event.{Event}
 use Rattle.pool_model.specs.declared.event.Event.TheVariants.{StartWrite, WriteOk, WriteFailed}
 use Rattle.pool_model.specs.declared.entry.Entry.{Entry}
-use Rattle.pool_model.specs.State.{Opening, Dirty, Pinned, Page, State, page_at, no_page}
+use Rattle.pool_model.specs.State.{Opening, Page, State, page_at, no_page}
 use Rattle.pool_model.specs.Sums.{HasRoom}
-use Rattle.pool_model.specs.MayFollow.{MayFollow}
 use Rattle.pool_model.specs.Effects.{after}
-use Rattle.pool_model.specs.Legal.{run, state_after}
-use Rattle.pool_model.specs.LookingBack.{content_from}
-use Rattle.pool_model.specs.OwnLaws.{IsContent}
-use Rattle.pool_model.proofs.Fronts.{legal_grows_so}
-use Rattle.pool_model.proofs.OwnEntries.{content_more}
-use Rattle.pool_model.proofs.Resting.{legal_contents_are_told}
+use Rattle.pool_model.specs.Legal.{run}
 use Rattle.store_api.specs.Entries.{by}
 use Rattle.own_entries.specs.OwnHoldings.{Outset}
 use Rattle.own_entries.specs.AboveLaws.{AllBy}
 use Rattle.pin_core.specs.declared.jobs.WriteJob.{WriteJob}
 use Rattle.pin_core.specs.StateOf.{state_of}
-use Rattle.pin_core.specs.Standing.{StandsFor, Enters}
-use Rattle.pin_core.specs.Tallies.{silence, tally_of}
+use Rattle.pin_core.specs.Standing.{Enters}
+use Rattle.pin_core.specs.Tallies.{tally_of}
 use Rattle.pin_core.specs.Turns.{IsStarted, failure_of, start_entry}
 use Rattle.session_calls.specs.Writing.{IsEnd, IsWrite, writes_left}
 use Rattle.session_calls.proofs.Pages.{owner_is, page_held}
-use Rattle.session_calls.proofs.Waiting.{IsDirtyOf, newest_in, out, written_left, unwritten_left}
+use Rattle.session_calls.proofs.Waiting.{IsDirtyOf, out, written_left, unwritten_left}
+use Rattle.session_calls.proofs.Sent.{sends, waits}
 use Rattle.session_calls.specs.declared.hand.Hand.{Hand}
 use Rattle.session_calls.specs.declared.count.Count.{Count}
 use Rattle.session_calls.specs.declared.count.Count.TheVariants.{Out}
-use Rattle.session_calls.specs.Moving.{quota_at, slots_out}
-use Rattle.session_calls.specs.Outgoing.{CountsWhole, no_tally, tally_or}
-use Rattle.session_calls.specs.Ready.{StandsWhole, IsResting}
+use Rattle.session_calls.specs.Ready.{IsResting}
 use Rattle.session_calls.specs.Acting.{held_by}
 use Rattle.session_calls.specs.Doing.{Does}
 use Rattle.session_calls.specs.Having.{Sight, MayGive, IsAtWork}
+use Rattle.session_calls.specs.Flying.{Sends}
 use Rattle.session_calls.specs.Jobs.{DoesIn, CanWrite, Wrote}
 use Rattle.session_calls.specs.Needing.{EntersNeeded}
 use Rattle.session_calls.proofs.Entered.{Entered}
@@ -46,10 +38,6 @@ use Rattle.session_calls.proofs.Between.{rests_written, worked_on}
 use Rattle.session_calls.proofs.Doing.{does_all, does_more}
 use Rattle.session_calls.proofs.Knowing.{Knows, knows}
 use Rattle.session_calls.proofs.Needs.{needs_write, state_grew}
-use Rattle.session_calls.proofs.Out.{out_started}
-use Rattle.session_calls.proofs.Outgoing.{counts_went, tally_last}
-use Rattle.session_calls.proofs.Quotas.{quota_stays}
-use Rattle.session_calls.proofs.Spare.{ones}
 use Rattle.session_calls.proofs.Steps.{entered_does}
 
 end_left : (s : State) (m c p : ℕ) (end : Event) → IsEnd p end
@@ -74,64 +62,29 @@ module _ {D : Type 0} (slot : Ghosts D) (o : Opening) (u : Outset) (seen : Sight
     abbrev e : Entry
     e = start_entry hand.session job.id.name
 
-    stood : StandsFor slot o (hand.trail ++ e ∷ []) went.state
-    stood = enters.stands o hand.trail was.ready.whole.stands
+    sent : Sends slot o u.told hand went job
+    sent = sends slot o u.told hand went was.ready.whole c job started enters trail_is counts_are session_is
 
     known : Knows o u hand
     known = knows slot o u hand was.ready
 
-    waits : IsDirtyOf s c p
-    waits = newest_in o hand.trail was.ready.whole.stands.legal s was.ready.whole.stands.state c p started.older started.newest
+    it : IsDirtyOf s c p
+    it = waits slot o u.told hand went was.ready.whole c job started
 
     -- the page is the session's
     whose : (page_at (state_of went.state) p).session ≡ hand.session
     whose =
         ap (λ (t : State). (page_at t p).session) enters.state ∙ ap (λ (x : Option Page). (unwrap_or x no_page).session) (get_same s.pages p _)
-        ∙ ap (λ (x : Page). x.session) waits.is ∙ owner_is known c p waits.page some waits.lives waits.client
-
-    -- its content is what the session left in it last
-    content : job.buf.bytes ≡ content_from p [] went.trail
-    content =
-        let it : IsContent o hand.trail (state_after o hand.trail) p waits.page =
-        legal_contents_are_told o hand.trail was.ready.whole.stands.legal p waits.page (ap (λ (t : State). get t.pages p) (sym was.ready.whole.stands.state) ∙ waits.lives) in
-        started.content o hand.trail was.ready.whole.stands
-        ∙ it.left (it.rests (λ count pinned. let never : Dirty ≡ Pinned count = sym waits.dirty ∙ pinned in cc)) []
-        ∙ sym (content_more p [] hand.trail e) ∙ ap (content_from p []) (sym trail_is)
+        ∙ ap (λ (x : Page). x.session) it.is ∙ owner_is known c p it.page some it.lives it.client
 
     pub can_write : CanWrite slot u.told job went
     can_write = record {
       is = started.is;
       by = started.by ∙ sym session_is;
       whose = whose ∙ sym session_is;
-      content = content;
-      counts = ap (tally_or no_tally p) counts_are ∙ tally_last hand.counts p (tally_of slot job.row);
-      tell = λ told. let moved = enters.slots (silence slot) in let none = was.ready.whole.tell told in omega (arith, moved, none);
-    }
-
-    -- the slots of the page are out with it
-    out_more : slots_out (state_of went.state).pages ≡ slots_out s.pages + (page_at s p).blocks
-    out_more =
-        let may : MayFollow hand.trail (state_after o hand.trail) e = (legal_grows_so o hand.trail (e ∷ []) stood.legal).0 in
-        ap (λ (t : State). slots_out t.pages) enters.state ∙ out_started (λ p b. b) hand.trail s hand.session p (subst (λ (t : State). MayFollow hand.trail t e) (sym was.ready.whole.stands.state) may)
-
-    blocks : sum_by (λ d. 1) job.row ≡ (page_at s p).blocks
-    blocks =
-        ones job.row ∙ started.is.slots ∙ ap (λ (t : State). (page_at t p).blocks) enters.state ∙ ap (λ (x : Option Page). (unwrap_or x no_page).blocks) (get_same s.pages p _)
-
-    -- and are counted
-    started_sums : CountsWhole slot went.trail went.counts went.state
-    started_sums =
-        subst (λ (es : List Count). CountsWhole slot went.trail es went.state) (sym counts_are)
-        (subst (λ (h : List Entry). CountsWhole slot h (hand.counts ++ Out p (tally_of slot job.row) ∷ []) went.state) (sym trail_is)
-        (counts_went slot o hand.trail hand.counts hand.state was.ready.whole.stands was.ready.whole.sums hand.session [] (StartWrite p) p job.row went.state tt refl stood
-        (λ measure. let moved = enters.slots measure in omega (arith, moved))))
-
-    started_whole : StandsWhole slot o u.told went.trail went.counts went.state
-    started_whole = record {
-      stands = subst (λ (h : List Entry). StandsFor slot o h went.state) (sym trail_is) stood;
-      home = let moved = enters.slots (λ d. 1) in let home = was.ready.whole.home in omega (arith, moved, home, out_more, blocks);
-      tell = λ told. let moved = enters.slots (silence slot) in let none = was.ready.whole.tell told in omega (arith, moved, none);
-      sums = started_sums;
+      content = sent.out.content;
+      counts = sent.out.counts;
+      tell = sent.out.tell;
     }
 
     abbrev begun : Entered (λ events. events ≡ StartWrite p ∷ []) hand went
@@ -141,20 +94,20 @@ module _ {D : Type 0} (slot : Ghosts D) (o : Opening) (u : Outset) (seen : Sight
       trail = trail_is;
       session = session_is;
       opens = (refl, tt);
-      quotas = λ k. ap (λ (t : State). quota_at t k) enters.state ∙ quota_stays s e k refl;
+      quotas = sent.quotas;
       went = Out p (tally_of slot job.row) ∷ [];
       counts = counts_are;
     }
 
     pub may_write : MayGive slot o u.told seen went
-    may_write = record { worked = worked_on o u seen hand went was.worked begun; whole = started_whole }
+    may_write = record { worked = worked_on o u seen hand went was.worked begun; whole = sent.whole }
 
     -- the page came back
     module _ (now : Sight) (new : Hand D) (may : MayGive slot o u.told now new) (wrote : Wrote job went new) where
       is_write : IsWrite c (held_by o u hand) (StartWrite p ∷ wrote.end ∷ [])
       is_write = record {
         page = p;
-        own = page_held known c p waits.page some waits.lives waits.client;
+        own = page_held known c p it.page some it.lives it.client;
         end = wrote.end;
         ended = wrote.ended;
         are = refl;
@@ -187,7 +140,7 @@ module _ {D : Type 0} (slot : Ghosts D) (o : Opening) (u : Outset) (seen : Sight
 
       pub needed_out : (amount : ℕ) → (HasRoom s c amount → ⊥) → EntersNeeded c amount hand new
       needed_out amount full =
-          needs_write c amount slot o hand went new p wrote.end trail_is session_is enters.state full started_whole.stands may.whole.stands wrote.ended wrote.did
+          needs_write c amount slot o hand went new p wrote.end trail_is session_is enters.state full sent.whole.stands may.whole.stands wrote.ended wrote.did
 
       -- where the session alone made the history, its two entries made the state
       module _ (all : AllBy new.session new.trail) where
@@ -196,14 +149,14 @@ module _ {D : Type 0} (slot : Ghosts D) (o : Opening) (u : Outset) (seen : Sight
             let own : AllBy hand.session (went.trail ++ ended.more) = subst (AllBy hand.session) ended.grew (subst (λ (m : ℕ). AllBy m new.trail) wrote_one.session all) in
             let grew : new.trail ≡ went.trail ++ by hand.session (wrote.end ∷ []) =
             does_all hand.session went.trail new.trail ended ((all_front hand.session went.trail ended.more own).1) ∙ ap (λ (es : List Event). went.trail ++ by hand.session es) ended.is in
-            state_grew c 0 slot o went new (by hand.session (wrote.end ∷ [])) started_whole.stands may.whole.stands grew
+            state_grew c 0 slot o went new (by hand.session (wrote.end ∷ [])) sent.whole.stands may.whole.stands grew
             ∙ ap (λ (t : State). run t (by hand.session (wrote.end ∷ []))) enters.state
 
         pub left_turn : failure_of s hand.session c ≡ None → writes_left new.session c (state_of new.state) < writes_left hand.session c s
         left_turn none =
-            let own : (page_at s p).session ≡ hand.session = ap (λ (x : Page). x.session) waits.is ∙ owner_is known c p waits.page some waits.lives waits.client in
+            let own : (page_at s p).session ≡ hand.session = ap (λ (x : Page). x.session) it.is ∙ owner_is known c p it.page some it.lives it.client in
             subst (λ (m : ℕ). writes_left m c (state_of new.state) < writes_left hand.session c s) (sym wrote_one.session)
             (subst (λ (t : State). writes_left hand.session c t < writes_left hand.session c s) (sym state_is)
             (end_left s hand.session c p wrote.end wrote.ended
-            (written_left s hand.session c p waits started.older started.newest none)
-            (unwritten_left s hand.session c p waits started.older started.newest none known.session known.lives own)))
+            (written_left s hand.session c p it started.older started.newest none)
+            (unwritten_left s hand.session c p it started.older started.newest none known.session known.lives own)))

@@ -10,6 +10,7 @@ pub mod Doing
 pub mod Coming
 pub mod Having
 pub mod Jobs
+pub mod Flying
 pub mod Needing
 pub mod Turning
 pub mod Pinning

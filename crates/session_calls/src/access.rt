@@ -1,7 +1,7 @@
 //! Who has a pool's value, and when.
 use crate::hand::Hand;
 use crate::origin::Origin;
-use outside::Slot;
+use outside::{Point, Slot};
 
 /// A session's way to the pool's value: it takes it in hand, and gives it back. While it isn't in hand, others may have
 /// it, unless the session is alone.
@@ -46,6 +46,9 @@ pub trait Access<D: Slot> {
         ensures rests { rests O.opening O.outset self.now place.new hand.session }
         ensures seen { seen place.new ≡ sight_of hand }
         ensures kept { alone ≡ true → kept place.new hand };
+
+    /// The session stands here, in a job of one of its pages. Nothing is promised of it.
+    fn pass(&self, point: Point);
 
     /// A call that goes on for a turn more: how many more it may go on for, of which a session that is alone needs no
     /// count. It may not return where none is left.

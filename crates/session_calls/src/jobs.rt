@@ -9,7 +9,7 @@ use crate::access::Access;
 use crate::hand::Hand;
 use crate::origin::Origin;
 use block_arena::Buf;
-use outside::{OpenGate, Slot};
+use outside::{OpenGate, Point, Slot};
 use pin_core::{ReadJob, WriteJob};
 use pool_model::Entry;
 use reservation_tree::PoolErr;
@@ -58,7 +58,9 @@ fn write_named<B: Before, O: Origin, A: Access<D>, D: Slot + Drop>(
 {
     let session = hand.session;
     access.give::<O>(place, hand);
+    access.pass(Point::BeforeStore);
     job.run(&OpenGate, session);
+    access.pass(Point::AfterStore);
     let mut hand = access.take::<O>(place, session);
     enter_write::<Brand, B, D>(&mut hand.trail, &job);
     hand.state.finish_write(job);
@@ -107,7 +109,9 @@ fn read_named<B: Before, O: Origin, A: Access<D>, D: Slot + Drop>(
 {
     let session = hand.session;
     access.give::<O>(place, hand);
+    access.pass(Point::BeforeLoad);
     job.run(&OpenGate, session);
+    access.pass(Point::AfterLoad);
     let mut hand = access.take::<O>(place, session);
     enter_load::<Brand, B, D>(&mut hand.trail, session, &job);
     let result = hand.state.finish_read(0, job);

@@ -13,6 +13,7 @@ mod calls;
 mod coming;
 mod count;
 mod entering;
+mod flying;
 mod hand;
 mod jobs;
 mod leaving;

@@ -39,7 +39,7 @@ module _ {D : Type 0} (slot : Ghosts D) (o : Opening) (told : Bool) (first : Tal
   made_alone law =
       let seen : List Item = sat.last.spot.knows.seen in
       let legal : IsLegal o (history seen) = legal_fronts o (history seen) (history behind) (subst (IsLegal o) whole_on closed.legal) in
-      let marked : AllByRecursion IsMarked seen = front_all IsMarked seen behind (subst (AllByRecursion IsMarked) items_on closed.marked) in
+      let marked : AllByRecursion IsMarked pass.knows.seen = front_all IsMarked pass.knows.seen closed.grew.behind (subst (AllByRecursion IsMarked) closed.grew.grew closed.marked) in
       let fits = law o (history seen) (sat.first.number ∷ []) legal sat.among in
       let one = sum_by-cons (λ (m : ℕ). length (names_in (filter (is_by m) (history seen)))) sat.first.number [] in
       let own : length (names_in (filter (is_by sat.first.number) (history seen))) ≡ length (names_in (made_by (history seen) sat.last.number)) =

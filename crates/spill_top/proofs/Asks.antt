@@ -24,3 +24,12 @@ room_for plan len block_len told limit quota least h begun same is =
     let room = begun.room in
     let asked : least_of plan h.block_len ≡ least = ap (least_of plan) (begun.block_len ∙ sym same) ∙ sym is in
     record { idle = begun.live_clients; room = omega (arith, room, asked) }
+
+-- so a query isn't that asks for its least reservation
+pub may_come : (o : Opening) (plan : Query) (block_len quota least : ℕ) → least ≡ least_of plan block_len
+    → (block_len ≡ o.block_len) × (least_of plan block_len ≤ bytes_of o.block_len o.blocks) × (least_of plan block_len ≤ plan.limit)
+    → refusal_of (record { limit = plan.limit; quota = quota; least = least; count = 1 }) (all_left o) ≡ None
+may_come o plan block_len quota least is memory =
+    let fits = memory.1 in
+    let allowed = memory.2 in
+    isnt_refused o plan.limit quota least (omega (arith, is, fits)) (omega (arith, is, allowed))

@@ -18,7 +18,7 @@ use Rattle.turn_table.specs.Lists.{needed, same, times}
 use Rattle.turn_table.proofs.Sums.{total-append}
 use Rattle.pool.specs.declared.item.Item.{Item}
 use Rattle.pool.specs.Items.{door, history, needs_of, own_in}
-use Rattle.pool.specs.Passing.{IsPass}
+use Rattle.pool.specs.Passing.{IsPass, writers_out}
 use Rattle.pool.specs.Seating.{ending_items, state_in}
 use Rattle.pool.specs.Seats.{Quotas, live_in, quotas_in}
 use Rattle.pool.specs.Sitting.{Sitting}
@@ -32,7 +32,7 @@ use Rattle.spill_top.proofs.Arrived.{all_more}
 use Rattle.spill_top.proofs.Solo.{Never, never_in}
 
 -- what holds of all of a list holds of its parts
-front_all : {X : Type 0} (P : X → Type 0) (xs ys : List X) → AllByRecursion P (xs ++ ys) → AllByRecursion P xs
+pub front_all : {X : Type 0} (P : X → Type 0) (xs ys : List X) → AllByRecursion P (xs ++ ys) → AllByRecursion P xs
 front_all P [] ys all = tt
 front_all P (x ∷ xs) ys all = (all.0, front_all P xs ys all.1)
 
@@ -52,10 +52,10 @@ pub record Empties (old new : Spot Item) : Type 0 where
   pub beside : (k : ℕ) → k < 240 → get (quotas_in old.knows.seen) k ≡ None → needed needs_of k more ≡ 0
   pub never : AllByRecursion IsMarked more → (m : ℕ) → Never m (history more)
 
-empties_none : (spot : Spot Item) → Empties spot spot
+pub empties_none : (spot : Spot Item) → Empties spot spot
 empties_none spot = record { more = []; grew = sym (append-nil spot.knows.seen); gone = λ k none. none; beside = λ k low none. refl; never = λ marked m. tt }
 
-empties_then : (a b c : Spot Item) → Empties a b → Empties b c → Empties a c
+pub empties_then : (a b c : Spot Item) → Empties a b → Empties b c → Empties a c
 empties_then a b c first second = record {
   more = first.more ++ second.more;
   grew = second.grew ∙ ap (λ (items : List Item). items ++ second.more) first.grew ∙ append_assoc a.knows.seen first.more second.more;
@@ -188,6 +188,7 @@ pub record HaveLeft (o : Opening) (stays : List (Option Stay)) (old new : Spot I
   pub pass : (free : ℕ) × IsPass o.slots free new
   pub each : (place : ℕ) (stay : Stay) → slice_get stays place ≡ Some (Some stay) → HasLeft stay.last new
   pub count : live_in new.knows.seen + length (numbers_of stays) ≡ live_in old.knows.seen
+  pub writers : writers_out new ≡ writers_out old
 
 -- what stands at a place
 pub at_none : (stay : Stay) → Some None ≡ Some (Some stay) → ⊥
@@ -197,7 +198,7 @@ pub at_some : (a b : Stay) → Some (Some a) ≡ Some (Some b) → a ≡ b
 at_some a b at = same_Some a b (same_Some (Some a) (Some b) at)
 
 left_none : (o : Opening) (stays : List (Option Stay)) (old new : Spot Item) → HaveLeft o stays old new → HaveLeft o (None ∷ stays) old new
-left_none o stays old new left = record { empties = left.empties; pass = left.pass; each = each; count = left.count }
+left_none o stays old new left = record { empties = left.empties; pass = left.pass; each = each; count = left.count; writers = left.writers }
   where
     each : (place : ℕ) (stay : Stay) → slice_get (None ∷ stays) place ≡ Some (Some stay) → HasLeft stay.last new
     each zero stay at = absurd (at_none stay at)
@@ -206,7 +207,13 @@ left_none o stays old new left = record { empties = left.empties; pass = left.pa
 left_some : (o : Opening) (told : Bool) (stay : Stay) (stays : List (Option Stay)) (old mid new : Spot Item) → HaveLeft o stays old mid → EndsOne o told stay.last mid new → HaveLeft o (Some stay ∷ stays) old new
 left_some o told stay stays old mid new left one =
     let empties : Empties mid new = empties_one o told stay.last mid new left.pass.1 one in
-    record { empties = empties_then old mid new left.empties empties; pass = one.pass; each = each; count = let before = left.count in let went = one.ends.count in omega (arith, before, went) }
+    record {
+      empties = empties_then old mid new left.empties empties;
+      pass = one.pass;
+      each = each;
+      count = let before = left.count in let went = one.ends.count in omega (arith, before, went);
+      writers = one.ends.writers ∙ left.writers;
+    }
   where
     each : (place : ℕ) (other : Stay) → slice_get (Some stay ∷ stays) place ≡ Some (Some other) → HasLeft other.last new
     each zero other at = subst (λ (x : Stay). HasLeft x.last new) (at_some stay other at) (has_left o told stay.last mid new left.pass.1 one)
@@ -215,6 +222,6 @@ left_some o told stay stays old mid new left one =
 pub have_left : (o : Opening) (told : Bool) (stays : List (Option Stay)) (old new : Spot Item) → (free : ℕ) × IsPass o.slots free old → EndAll o told (map (option_map (λ stay. stay.last)) stays) old new → HaveLeft o stays old new
 have_left o told [] old new is ends =
     subst (λ (spot : Spot Item). HaveLeft o [] old spot) (sym ends)
-    (record { empties = empties_none old; pass = is; each = λ place stay at. absurd (none-some (Some stay) at); count = omega arith })
+    (record { empties = empties_none old; pass = is; each = λ place stay at. absurd (none-some (Some stay) at); count = omega arith; writers = refl })
 have_left o told (None ∷ stays) old new is ends = left_none o stays old new (have_left o told stays old new is ends)
 have_left o told (Some stay ∷ stays) old new is ends = left_some o told stay stays old ends.0 new (have_left o told stays old ends.0 is ends.1) ends.2

@@ -26,12 +26,15 @@ pub mod Loops
 pub mod Unanswered
 mod Arrived
 mod Departed
+mod Waiting
+mod Writing
 mod Stays
 mod Coming
 mod Stepping
 mod Sessions
 mod Opened
 mod Ready
+mod Runs
 mod Gathered
 mod PlanClosed
 pub mod Tops

@@ -1,11 +1,12 @@
--- What the pass of a pool saw of the one session that came, and of what others did.
-use Rattle.std.proofs.Common.{◌≡◌, ◌≢◌, ℕ, ◌+◌, ◌<◌, Bool, List, [], ◌∷◌, ◌++◌, Option, None, Some, Result, IfErr, OnOk, inr, refl, sym, ap, ◌∙◌, subst, arith, append_assoc}
+-- What the pass of a pool saw of the one session that came, and of what others did, before it came, beside it, and behind it.
+use Rattle.std.proofs.Common.{◌≡◌, ◌≢◌, ◌⊎◌, ℕ, ◌+◌, ◌<◌, Bool, false, List, [], ◌∷◌, ◌++◌, Option, None, Some, Result, IfErr, OnOk, inr, refl, sym, ap, ◌∙◌, subst, arith, append_assoc}
 use Rattle.std.specs.Ordering.{nat_cmp}
 use Rattle.std.specs.FinMap.{get, get-empty, len-empty, remove}
+use Rattle.std.specs.List.{AllByRecursion}
 use Rattle.reservation_tree.proofs.Maps.{get_other, removed_same}
 use Rattle.pool_model.specs.State.{Opening}
 use Rattle.pool_model.specs.declared.entry.Entry.{Entry}
-use Rattle.pool_model.specs.LookingBack.{made_by}
+use Rattle.pool_model.specs.LookingBack.{made_by, opens}
 use Rattle.pool_model.proofs.OwnEntries.{made_more}
 use Rattle.reservation_tree.specs.Tracker.{reservation_of}
 use Rattle.pin_core.specs.Entering.{close_entry, decrease_entry}
@@ -21,6 +22,7 @@ use Rattle.pool.specs.Passing.{IsPass}
 use Rattle.pool.specs.Seating.{Begins, Ends, beginning_items, ending_items, state_in}
 use Rattle.pool.specs.Seats.{Quotas, live_in, quotas_in}
 use Rattle.pool.specs.Sitting.{Sits, Sitting, held_by, shared, signs_by}
+use Rattle.pool.specs.Standing.{IsMarked}
 use Rattle.pool.proofs.AllRights.{same_none, same_one}
 use Rattle.pool.proofs.Begun.{own_first}
 use Rattle.pool.proofs.Beside.{others_made, own_beside, quotas_beside}
@@ -33,8 +35,12 @@ use Rattle.query_run.specs.Stopped.{IsLeft, MayStop, RanOver}
 use Rattle.query_run.specs.Trail.{KeptRows}
 use Rattle.query_run.specs.declared.outcome.QueryErr.{QueryErr}
 use Rattle.query_run.specs.declared.outcome.Ran.{Ran}
+use Rattle.spill_top.specs.Beside.{Waits}
 use Rattle.spill_top.specs.Seated.{RanAlone, SatAlone}
-use Rattle.spill_top.proofs.Solo.{Solo, among, once, solo_behind, solo_front}
+use Rattle.spill_top.proofs.Arrived.{all_more}
+use Rattle.spill_top.proofs.Departed.{front_all, rest_all}
+use Rattle.spill_top.proofs.Solo.{Never, Once, among, never_in, once, once_behind, once_front}
+use Rattle.spill_top.proofs.Waiting.{live_waits, never_opens}
 
 -- what a session holds is of its number
 whose : (o : Opening) (told : Bool) (s : Sitting) → (held_by o told s).session ≡ s.number
@@ -49,7 +55,7 @@ same_number o told s last left = sym (whose o told last) ∙ left.session ∙ wh
 pub none_live : (items : List Item) → items ≡ [] → live_in items ≡ 0
 none_live items is = ap live_in is ∙ len-empty nat_cmp ℕ
 
-module _ (o : Opening) (told : Bool) (limit quota least slots : ℕ) (before mid after : Spot Item) (s last : Sitting) (opened : (free : ℕ) × IsPass slots free before) (lent : (free : ℕ) × IsPass slots free mid) (back : (free : ℕ) × IsPass slots free after) (fresh : before.knows.seen ≡ []) (begins : Begins o told limit quota least before mid s) (sits : Sits o told last) (number : last.number ≡ s.number) (ends : Ends o last mid after) where
+module _ (o : Opening) (told : Bool) (limit quota least slots : ℕ) (before mid later after : Spot Item) (s last : Sitting) (opened : (free : ℕ) × IsPass slots free before) (lent : (free : ℕ) × IsPass slots free later) (back : (free : ℕ) × IsPass slots free after) (fresh : before.knows.seen ≡ []) (begins : Begins o told limit quota least before mid s) (waits : Waits mid later) (sits : Sits o told last) (number : last.number ≡ s.number) (ends : Ends o last later after) where
   abbrev m : ℕ
   m = s.number
 
@@ -93,23 +99,42 @@ module _ (o : Opening) (told : Bool) (limit quota least slots : ℕ) (before mid
       let at_it : same k m ≡ 0 = same_none k m apart in
       let came : needed needs_of k mid.knows.seen ≡ needed needs_of k begins.entered + ((same k door + (same k m + 0)) + ((same k m + 0) + 0)) =
       ap (needed needs_of k) begins.items ∙ total-append (λ i. times k (needs_of i)) begins.entered first_items in
-      let all : needed needs_of k ends.entered ≡ needed needs_of k mid.knows.seen + needed needs_of k ends.grew.behind =
-      ap (needed needs_of k) ends.grew.grew ∙ total-append (λ i. times k (needs_of i)) mid.knows.seen ends.grew.behind in
+      let waited : needed needs_of k later.knows.seen ≡ needed needs_of k mid.knows.seen + needed needs_of k waits.more =
+      ap (needed needs_of k) waits.grew ∙ total-append (λ i. times k (needs_of i)) mid.knows.seen waits.more in
+      let all : needed needs_of k ends.entered ≡ needed needs_of k later.knows.seen + needed needs_of k ends.grew.behind =
+      ap (needed needs_of k) ends.grew.grew ∙ total-append (λ i. times k (needs_of i)) later.knows.seen ends.grew.behind in
       let own : needed needs_of k ends.entered ≡ needed needs_of k last.spot.knows.seen + needed needs_of k ends.own.behind =
       ap (needed needs_of k) ends.own.grew ∙ total-append (λ i. times k (needs_of i)) last.spot.knows.seen ends.own.behind in
       let first : needed needs_of k begins.entered ≡ 0 = none_before k small in
-      let later : needed needs_of k ends.grew.behind ≡ 0 = ends.grew.beside k (lent.1.numbers k small (no_other k apart)) in
-      omega (arith, at_door, at_it, came, all, own, first, later)
+      let beside : needed needs_of k waits.more ≡ 0 = waits.beside k small (no_other k apart) in
+      let last_ones : needed needs_of k ends.grew.behind ≡ 0 = ends.grew.beside k (lent.1.numbers k small (ap (λ (q : Quotas). get q k) waits.quotas ∙ no_other k apart)) in
+      omega (arith, at_door, at_it, came, waited, all, own, first, beside, last_ones)
+
+  -- the items behind its coming, with which none comes
+  abbrev behind : List Item
+  behind = waits.more ++ ends.grew.behind
+
+  entered_is : ends.entered ≡ begins.entered ++ (first_items ++ behind)
+  entered_is =
+      ends.grew.grew ∙ ap (λ (items : List Item). items ++ ends.grew.behind) (waits.grew ∙ ap (λ (items : List Item). items ++ waits.more) begins.items)
+      ∙ append_assoc (begins.entered ++ first_items) waits.more ends.grew.behind ∙ append_assoc begins.entered first_items behind
+
+  never_comes : AllByRecursion IsMarked behind → Never m (history behind)
+  never_comes marked = subst (Never m) (sym (history_more waits.more ends.grew.behind))
+      (all_more (λ (e : Entry). (e.maker ≢ m) ⊎ (opens e.event ≡ false)) (history waits.more) (history ends.grew.behind)
+      (never_opens m (history waits.more) (waits.none_comes (front_all IsMarked waits.more ends.grew.behind marked)))
+      (never_in m ends.grew.behind (rest_all IsMarked waits.more ends.grew.behind marked) (ends.grew.beside door lent.1.opens)))
 
   -- it came once
-  came_once : Solo m last.spot.knows.seen
-  came_once =
-      let later : needed needs_of door ends.grew.behind ≡ 0 = ends.grew.beside door lent.1.opens in
-      let apart : same door m ≡ 0 = same_none door m (λ is. let small = low in omega (arith, is, small)) in
-      let none : (same door m + 0) + needed needs_of door ends.grew.behind ≡ 0 = omega (arith, later, apart) in
-      let all : begins.entered ++ (first_items ++ ends.grew.behind) ≡ last.spot.knows.seen ++ ends.own.behind =
-      sym (ends.grew.grew ∙ ap (λ (items : List Item). items ++ ends.grew.behind) begins.items ∙ append_assoc begins.entered first_items ends.grew.behind) ∙ ends.own.grew in
-      solo_front m last.spot.knows.seen ends.own.behind (subst (Solo m) all (solo_behind m begins.entered (first_items ++ ends.grew.behind) (none_before m low) (inr none)))
+  came_once : AllByRecursion IsMarked after.knows.seen → Once m (history last.spot.knows.seen)
+  came_once marked =
+      let all : AllByRecursion IsMarked (begins.entered ++ (first_items ++ behind)) =
+      subst (AllByRecursion IsMarked) entered_is (front_all IsMarked ends.entered last_items (subst (AllByRecursion IsMarked) ends.items marked)) in
+      let rest : AllByRecursion IsMarked behind = (rest_all IsMarked begins.entered (first_items ++ behind) all).1.1 in
+      let both : history begins.entered ++ history (first_items ++ behind) ≡ history last.spot.knows.seen ++ history ends.own.behind =
+      sym (ap history entered_is ∙ history_more begins.entered (first_items ++ behind)) ∙ ap history ends.own.grew ∙ history_more last.spot.knows.seen ends.own.behind in
+      once_front m (history last.spot.knows.seen) (history ends.own.behind) (subst (Once m) both
+      (once_behind m (history begins.entered) (history (first_items ++ behind)) (others_made m begins.entered (none_before m low)) (inr (inr refl, never_comes rest))))
 
   -- its last entries
   abbrev went : List Entry
@@ -131,7 +156,7 @@ module _ (o : Opening) (told : Bool) (limit quota least slots : ℕ) (before mid
   gone_quota : get (quotas_in after.knows.seen) m ≡ None
   gone_quota =
       let had : get (quotas_in ends.entered) last.number ≡ Some ends.quota =
-      ap (λ (q : Quotas). get q last.number) (quotas_beside mid.knows.rights mid.knows.seen ends.entered ends.grew lent.1.opens) ∙ ends.was in
+      ap (λ (q : Quotas). get q last.number) (quotas_beside later.knows.rights later.knows.seen ends.entered ends.grew lent.1.opens) ∙ ends.was in
       ap (λ (items : List Item). get (quotas_in items) m) ends.items
       ∙ ap (λ (q : Quotas). get q m) (quotas_ended ends.entered (state_in o ends.entered) last.number ends.quota had)
       ∙ ap (get (remove (quotas_in ends.entered) last.number)) (sym number) ∙ removed_same (quotas_in ends.entered) last.number
@@ -150,18 +175,19 @@ module _ (o : Opening) (told : Bool) (limit quota least slots : ℕ) (before mid
     own = own_went;
     right = back.1.numbers m low gone_quota;
     among = among m (history last.spot.knows.seen) (λ k small apart. others_made k last.spot.knows.seen (none_last k small apart));
-    once = λ marked. once m last.spot.knows.seen marked came_once;
+    once = λ marked. once m (history last.spot.knows.seen) (came_once marked);
   }
 
   pub none_left : live_in after.knows.seen ≡ 0
   none_left =
       let none : live_in before.knows.seen ≡ 0 = none_live before.knows.seen fresh in
       let came = begins.count in
+      let stays : live_in later.knows.seen ≡ live_in mid.knows.seen = live_waits mid later waits in
       let gone = ends.count in
-      omega (arith, none, came, gone)
+      omega (arith, none, came, stays, gone)
 
 -- what a query did over that session
-module _ (o : Opening) (told : Bool) (plan : Query) (quota least slots : ℕ) (before mid after : Spot Item) (s last : Sitting) (opened : (free : ℕ) × IsPass slots free before) (lent : (free : ℕ) × IsPass slots free mid) (back : (free : ℕ) × IsPass slots free after) (fresh : before.knows.seen ≡ []) (is : least ≡ least_of plan o.block_len) (begins : Begins o told plan.limit quota least before mid s) (sits : Sits o told last) (ends : Ends o last mid after) where
+module _ (o : Opening) (told : Bool) (plan : Query) (quota least slots : ℕ) (before mid later after : Spot Item) (s last : Sitting) (opened : (free : ℕ) × IsPass slots free before) (lent : (free : ℕ) × IsPass slots free later) (back : (free : ℕ) × IsPass slots free after) (fresh : before.knows.seen ≡ []) (is : least ≡ least_of plan o.block_len) (begins : Begins o told plan.limit quota least before mid s) (waits : Waits mid later) (sits : Sits o told last) (ends : Ends o last later after) where
   pub ran_alone : (lefts rights : Option (List ℕ)) (result : Result Ran QueryErr)
       → RanOver plan (both_told lefts rights) (held_by o told s) (held_by o told last) (signs_by o s) (signs_by o last)
       → IfErr result (MayStop plan (both_told lefts rights) (held_by o told s) (signs_by o s) (signs_by o last))
@@ -169,8 +195,8 @@ module _ (o : Opening) (told : Bool) (plan : Query) (quota least slots : ℕ) (b
       → RanAlone o told plan quota after lefts rights result
   unfolding sat_alone
   ran_alone lefts rights result over stop kept = record {
-    sat = sat_alone o told plan.limit quota (least_of plan o.block_len) slots before mid after s last opened lent back fresh
-        (subst (λ (n : ℕ). Begins o told plan.limit quota n before mid s) is begins) sits (same_number o told s last over.left) ends;
+    sat = sat_alone o told plan.limit quota (least_of plan o.block_len) slots before mid later after s last opened lent back fresh
+        (subst (λ (n : ℕ). Begins o told plan.limit quota n before mid s) is begins) waits sits (same_number o told s last over.left) ends;
     over = over;
     stop = stop;
     kept = subst (λ (n : ℕ). OnOk result (KeptRows plan (page_len plan n) lefts rights (signs_by o s).trail (signs_by o last).trail)) begins.held.block_len kept;

@@ -16,7 +16,7 @@ use Rattle.pool.specs.declared.left.Left.{Left}
 use Rattle.pool.specs.declared.item.Item.{Item}
 use Rattle.pool.specs.Asking.{Admits, Answers, AreAnswered, AreNew, IsNew, all_numbers, came_in, numbers_in}
 use Rattle.pool.specs.Items.{history, own_in}
-use Rattle.pool.specs.Passing.{IsPass}
+use Rattle.pool.specs.Passing.{IsPass, writers_out}
 use Rattle.pool.specs.Remaining.{left_behind, left_in}
 use Rattle.pool.specs.Seating.{state_in}
 use Rattle.pool.specs.Seats.{live_in, quotas_in}
@@ -26,11 +26,13 @@ use Rattle.pool.proofs.Beside.{others_made}
 use Rattle.pool.proofs.Listed.{history_more}
 use Rattle.query_plan.specs.declared.plan.Query.{Query}
 use Rattle.session_shares.specs.Shares.{AreAmong}
+use Rattle.spill_top.specs.Beside.{Waits}
 use Rattle.spill_top.specs.Together.{AreAllStays, EndAll, Stay, Stayed, ask_of, numbers_of}
 use Rattle.spill_top.proofs.Arrived.{AreCome, all_more, among_by, come_together}
-use Rattle.spill_top.proofs.Departed.{HasLeft, HaveLeft, at_none, at_some, have_left, rest_all}
+use Rattle.spill_top.proofs.Departed.{Empties, HasLeft, HaveLeft, at_none, at_some, empties_then, have_left, rest_all}
 use Rattle.spill_top.proofs.OneSession.{none_live}
 use Rattle.spill_top.proofs.Solo.{Never, kept_on}
+use Rattle.spill_top.proofs.Waiting.{empties_waits, live_waits}
 
 -- the session of an answer, if it came
 abbrev pub first_of : Result (List Sitting) PoolErr → Option Sitting
@@ -132,12 +134,15 @@ module _ (m : ℕ) (first later : List Entry) where
       let no_first : length (names_in (filter (is_by m) first)) ≡ 0 = ap length none in
       omega (arith, all, own, no_first)
 
--- the sessions of a pool that has just opened came by one call and ended
-module _ (o : Opening) (told : Bool) (queries : List Query) (before mid after : Spot Item) (opened : (free : ℕ) × IsPass o.slots free before) (lent : (free : ℕ) × IsPass o.slots free mid) (fresh : before.knows.seen ≡ [])
+-- the sessions of a pool that has just opened came by one call, others entered items, and they ended
+module _ (o : Opening) (told : Bool) (queries : List Query) (before mid later after : Spot Item) (opened : (free : ℕ) × IsPass o.slots free before) (waits : Waits mid later) (lent : (free : ℕ) × IsPass o.slots free later) (fresh : before.knows.seen ≡ [])
     (answers : Answers) (admits : Admits o told (map (ask_of o.block_len) queries) before mid answers) (stays : List (Option Stay)) (firsts : firsts_of stays ≡ map first_of answers)
-    (number : (place : ℕ) (stay : Stay) → slice_get stays place ≡ Some (Some stay) → stay.last.number ≡ stay.first.number) (ends : EndAll o told (lasts_of stays) mid after) where
-  left : HaveLeft o stays mid after
-  left = have_left o told stays mid after lent ends
+    (number : (place : ℕ) (stay : Stay) → slice_get stays place ≡ Some (Some stay) → stay.last.number ≡ stay.first.number) (ends : EndAll o told (lasts_of stays) later after) where
+  left : HaveLeft o stays later after
+  left = have_left o told stays later after lent ends
+
+  empties : Empties mid after
+  empties = empties_then mid later after (empties_waits mid later waits) left.empties
 
   numbers : all_numbers (numbers_in answers) ≡ numbers_of stays
   numbers = numbers_are o.block_len queries (left_in (state_in o admits.entered)) admits.entered answers mid.knows.seen stays admits.answered firsts
@@ -165,18 +170,18 @@ module _ (o : Opening) (told : Bool) (queries : List Query) (before mid after : 
         right = left.pass.1.numbers stay.first.number low (subst (λ (k : ℕ). get (quotas_in after.knows.seen) k ≡ None) same went.gone);
       }
 
-  trail_is : history after.knows.seen ≡ history mid.knows.seen ++ history left.empties.more
-  trail_is = ap history left.empties.grew ∙ history_more mid.knows.seen left.empties.more
+  trail_is : history after.knows.seen ≡ history mid.knows.seen ++ history empties.more
+  trail_is = ap history empties.grew ∙ history_more mid.knows.seen empties.more
 
   pub all_stays : AreAllStays after stays
   all_stays = record {
     apart = subst (λ (ms : List ℕ). IsDistinct eqb ms) numbers admits.apart;
     among = subst (AreAmong (numbers_of stays)) (sym trail_is)
-        (all_more (λ (e : Entry). e.maker < 240 → list_any (λ k. k == e.maker) (numbers_of stays) ≡ true) (history mid.knows.seen) (history left.empties.more) come.among
-        (among_by (numbers_of stays) (history left.empties.more) (λ k low none. others_made k left.empties.more (left.empties.beside k low (come.others k none)))));
+        (all_more (λ (e : Entry). e.maker < 240 → list_any (λ k. k == e.maker) (numbers_of stays) ≡ true) (history mid.knows.seen) (history empties.more) come.among
+        (among_by (numbers_of stays) (history empties.more) (λ k low none. others_made k empties.more (empties.beside k low (come.others k none)))));
     names = λ marked m low. subst (λ (h : List Entry). length (names_in (filter (is_by m) h)) ≤ length (names_in (made_by h m))) (sym trail_is)
-        (named_own m (history mid.knows.seen) (history left.empties.more)
-        (left.empties.never (rest_all IsMarked mid.knows.seen left.empties.more (subst (AllByRecursion IsMarked) left.empties.grew marked)) m) (come.unnamed m low));
+        (named_own m (history mid.knows.seen) (history empties.more)
+        (empties.never (rest_all IsMarked mid.knows.seen empties.more (subst (AllByRecursion IsMarked) empties.grew marked)) m) (come.unnamed m low));
   }
 
   pub none_left : live_in after.knows.seen ≡ 0
@@ -186,4 +191,8 @@ module _ (o : Opening) (told : Bool) (queries : List Query) (before mid after : 
       let many = came_is answers in
       let same : length (all_numbers (numbers_in answers)) ≡ length (numbers_of stays) = ap length numbers in
       let gone = left.count in
-      omega (arith, none, came, many, same, gone)
+      let live : live_in later.knows.seen ≡ live_in mid.knows.seen = live_waits mid later waits in
+      omega (arith, none, came, many, same, gone, live)
+
+  pub none_out : writers_out later ≡ 0 → writers_out after ≡ 0
+  none_out none = left.writers ∙ none

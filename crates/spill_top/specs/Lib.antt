@@ -1,5 +1,6 @@
 pub mod Words
 pub mod Asked
+pub mod Beside
 pub mod Parsing
 pub mod Report
 pub mod Refusals

@@ -20,6 +20,8 @@ use reservation_tree::PoolErr;
 use std::alloc::Global;
 use std::marker::Brand;
 use std::sync::Wait;
+use std::thread::Threads;
+use std::time::Clock;
 
 // Why there is no whole answer in the report.
 #[derive(Clone, Copy, Debug, PartialEq, Eq)]
@@ -38,7 +40,7 @@ pub(crate) enum Stop {
 
 // Counts a column of a file, over a pool of these slots, and writes the answer to the report. The source is opened before
 // the pool, and given back in any case; and so are the slots.
-pub(crate) fn count<W: Wait, I: Inputs, R: Sink, D: Slot + Drop>(
+pub(crate) fn count<W: Wait + Threads + Clock + Sync, I: Inputs, R: Sink, D: Slot + Drop + Send>(
     rt: &W,
     alloc: Global,
     file: &str,

@@ -13,9 +13,16 @@ use crate::report::{refuse, refuse_memory};
 use outside::{Inputs, Sink, Slot};
 use std::alloc::Global;
 use std::sync::Wait;
+use std::thread::Threads;
+use std::time::Clock;
 
 // Counts a column of a file, and writes the answer or a refusal to the report.
-pub(crate) fn answer_count<W: Wait, I: Inputs, R: Sink, D: Slot + Drop>(
+pub(crate) fn answer_count<
+    W: Wait + Threads + Clock + Sync,
+    I: Inputs,
+    R: Sink,
+    D: Slot + Drop + Send,
+>(
     rt: &W,
     alloc: Global,
     file: &str,

@@ -24,5 +24,6 @@ mod steps;
 mod top;
 mod watched;
 mod words;
+mod writers;
 
 pub use top::spill_top;

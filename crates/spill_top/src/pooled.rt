@@ -1,24 +1,28 @@
 // A query over a session of a pool of its own, which gives back the slots that it takes.
 
-ghost use Rattle.std.specs.Prelude.{◌≡◌, ◌≤◌, ◌⊎◌, [], IfErr, IfOk, IfSome, IsErrOf, IsSome, OnOk, Some, is_some, true, vec_len};
+ghost use Rattle.std.specs.Prelude.{◌≡◌, ◌≤◌, ◌⊎◌, [], IfErr, IfOk, IfSome, IsErrOf, IsSome, OnOk, Some, is_some, map, true, vec_len};
 ghost use Rattle.std.specs.Io.KnownBytes.{IsAtEnd};
 ghost use Rattle.pin_core.specs.Tallies.{tally_of};
 ghost use Rattle.pool_model.specs.Bytes.{bytes_of};
+ghost use Rattle.pool.specs.Items.{all_rights};
 ghost use Rattle.pool.specs.Opening.{OpensAs};
+ghost use Rattle.pool.specs.Passing.{writers_out};
 ghost use Rattle.pool.specs.Seats.{live_in};
+ghost use Rattle.pool.specs.Writers.{Stops};
 ghost use Rattle.query_plan.specs.Sizes.{joins, least_of, page_len};
 ghost use Rattle.query_run.specs.Answer.{Numbers, WroteAnswer, WroteFront};
 ghost use Rattle.query_run.specs.Both.{HoldsInput, both_told, faults_in, told_in};
 ghost use Rattle.query_run.specs.Causes.{OfPool, side_of};
 ghost use Rattle.query_run.specs.Plans.{IsRunnable};
 ghost use Rattle.query_run.specs.Refused.{SaysOfInputs, source};
-ghost use Rattle.query_run.specs.Stopped.{CountsSink};
+ghost use Rattle.query_run.specs.Stopped.{CountsSink, HasRoomFor};
 ghost use Rattle.spill_top.specs.Pooled.{ComeBack, HasMemoryFor, HaveFailed, IsPoolStop, all_tell, memory_of};
-ghost use Rattle.spill_top.specs.Seated.{RanIfSeated};
+ghost use Rattle.spill_top.specs.Seated.{RanIfSeated, RanQuery};
 ghost use Rattle.spill_top.specs.Sides.{if_told};
 ghost use Rattle.spill_top.specs.Storing.{HaveStored, owed};
 
-use outside::{Sink, Slot, Source};
+use crate::writers::{begin_writers, beside_writers, end_writers};
+use outside::{OpenGate, Sink, Slot, Source};
 use pin_core::PoolConf;
 use pool::{At, OpenedAs, Pass, Pool};
 use query_plan::{Query, least};
@@ -29,14 +33,24 @@ use std::alloc::Global;
 use std::marker::Brand;
 use std::mem;
 use std::sync::Wait;
+use std::thread::Threads;
+use std::time::Clock;
+use store_api::Store;
+use write_behind::Writer;
 
 // Runs a query over a pool with these numbers, whose pages may take so many of the slots. All slots are there again
 // afterwards, whatever the answer. An answer is promised where all of them tell what they hold.
-pub(crate) fn run_pooled<S: Source, K: Sink, D: Slot + Drop, W: Wait>(
+pub(crate) fn run_pooled<
+    S: Source,
+    K: Sink,
+    D: Slot + Drop + Send,
+    W: Wait + Threads + Clock + Sync,
+>(
     rt: &W,
     alloc: Global,
     query: &Query,
     conf: &PoolConf,
+    writers: u32,
     quota: u32,
     slots: &mut Vec<D>,
     left: &mut S,
@@ -46,6 +60,7 @@ pub(crate) fn run_pooled<S: Source, K: Sink, D: Slot + Drop, W: Wait>(
     requires query { IsRunnable query.now }
     requires memory { HasMemoryFor query.now conf.now }
     requires few { vec_len slots.old ≤ 1048576 }
+    requires writers { writers ≤ 8 }
     requires quota { quota ≤ vec_len slots.old }
     requires right { is_some right.old ≡ joins query.now }
     ensures answer { all_tell (tally_of D.Slot slots.old.items) ≡ true → OnOk result (WroteAnswer query.now (page_len query.now conf.now.block_len) (both_told (S.remaining left.old) (told_in S.remaining right.old)) (K.contents sink.old) (K.contents sink.new)) }
@@ -64,15 +79,24 @@ pub(crate) fn run_pooled<S: Source, K: Sink, D: Slot + Drop, W: Wait>(
     ensures stored { OnOk result (HaveStored conf.now.block_len (owed query.now (memory_of conf.now) (both_told (S.remaining left.old) (told_in S.remaining right.old))) (tally_of D.Slot slots.old.items) (tally_of D.Slot slots.new.items)) }
     ensures len { vec_len slots.new ≡ vec_len slots.old }
 {
-    run_counted::<S, K, D, W, Brand>(rt, alloc, query, conf, quota, slots, left, right, sink)
+    run_counted::<S, K, D, W, Brand>(
+        rt, alloc, query, conf, writers, quota, slots, left, right, sink,
+    )
 }
 
 // The same, where `T` names with what the pool opens, for contracts alone.
-fn run_counted<S: Source, K: Sink, D: Slot + Drop, W: Wait, T: OpenedAs>(
+fn run_counted<
+    S: Source,
+    K: Sink,
+    D: Slot + Drop + Send,
+    W: Wait + Threads + Clock + Sync,
+    T: OpenedAs + Send,
+>(
     rt: &W,
     alloc: Global,
     query: &Query,
     conf: &PoolConf,
+    writers: u32,
     quota: u32,
     slots: &mut Vec<D>,
     left: &mut S,
@@ -82,6 +106,7 @@ fn run_counted<S: Source, K: Sink, D: Slot + Drop, W: Wait, T: OpenedAs>(
     requires query { IsRunnable query.now }
     requires memory { HasMemoryFor query.now conf.now }
     requires few { vec_len slots.old ≤ 1048576 }
+    requires writers { writers ≤ 8 }
     requires quota { quota ≤ vec_len slots.old }
     requires right { is_some right.old ≡ joins query.now }
     requires opens { OpensAs D.Slot conf.now slots.old.items T.opening T.told T.first }
@@ -116,6 +141,7 @@ fn run_counted<S: Source, K: Sink, D: Slot + Drop, W: Wait, T: OpenedAs>(
         &mut pass,
         query,
         conf.block_len,
+        writers,
         quota,
         left,
         right,
@@ -128,13 +154,22 @@ fn run_counted<S: Source, K: Sink, D: Slot + Drop, W: Wait, T: OpenedAs>(
 }
 
 // Runs a query over a session of a pool in which no other is. `N` names the pool's lock, for contracts alone.
-fn run_seated<'a, S: Source, K: Sink, D: Slot + Drop, W: Wait, T: OpenedAs, N: At>(
+fn run_seated<
+    'a,
+    S: Source,
+    K: Sink,
+    D: Slot + Drop + Send,
+    W: Wait + Threads + Clock + Sync,
+    T: OpenedAs + Send,
+    N: At,
+>(
     rt: &'a W,
     alloc: Global,
     pool: &'a Pool<D, T>,
     pass: &mut Pass<D, T>,
     query: &Query,
     block_len: u32,
+    writers: u32,
     quota: u32,
     left: &mut S,
     right: &mut Option<S>,
@@ -143,13 +178,14 @@ fn run_seated<'a, S: Source, K: Sink, D: Slot + Drop, W: Wait, T: OpenedAs, N: A
     requires query { IsRunnable query.now }
     requires named { N.table ≡ Some pool.now }
     requires table { pass.old.table ≡ pool.now }
-    requires fresh { pass.old.knows.seen ≡ [] }
+    requires fresh { (pass.old.knows.seen ≡ []) × (pass.old.knows.rights ≡ all_rights) × (writers_out pass.old ≡ 0) }
     requires memory { (block_len ≡ T.opening.block_len) × (least_of query.now block_len ≤ bytes_of T.opening.block_len T.opening.blocks) × (least_of query.now block_len ≤ query.now.limit) }
     requires block { block_len ≤ 65536 }
+    requires writers { writers ≤ 8 }
     requires quota { quota ≤ T.opening.slots }
     requires right { is_some right.old ≡ joins query.now }
     ensures table { pass.new.table ≡ pool.now }
-    ensures gone { live_in pass.new.knows.seen ≡ 0 }
+    ensures gone { (live_in pass.new.knows.seen ≡ 0) × (writers_out pass.new ≡ 0) }
     ensures ran { RanIfSeated T.opening T.told query.now quota pass.new (S.remaining left.old) (told_in S.remaining right.old) result }
     ensures answer { T.told ≡ true → OnOk result (WroteAnswer query.now (page_len query.now block_len) (both_told (S.remaining left.old) (told_in S.remaining right.old)) (K.contents sink.old) (K.contents sink.new)) }
     ensures read { OnOk result (IsAtEnd (S.remaining left.new) × IsAtEnd (told_in S.remaining right.new)) }
@@ -162,17 +198,72 @@ fn run_seated<'a, S: Source, K: Sink, D: Slot + Drop, W: Wait, T: OpenedAs, N: A
     ensures sources { (S.faults left.old ≤ S.faults left.new) × HoldsInput S.faults right.old right.new }
 {
     let wanted = least(query, block_len);
+    let Ok(room) = Vec::with_capacity(alloc, writers as usize) else {
+        return Err(QueryErr::Pool(PoolErr::Memory));
+    };
+    let mut writers = begin_writers(rt, pool, pass, writers, room);
     pass.law_pass();
     let mut session = match pool.session::<W, N>(alloc, rt, pass, query.limit, quota, wanted) {
         Ok(session) => session,
-        Err(PoolErr::Memory) => return Err(QueryErr::Pool(PoolErr::Memory)),
+        Err(PoolErr::Memory) => {
+            end_writers(writers, pass);
+            return Err(QueryErr::Pool(PoolErr::Memory));
+        }
         Err(_) => unreachable!(),
     };
     pass.law_pass();
-    let ran = run_query(alloc, &mut session, query, left, right, sink);
+    let ran = run_beside(
+        rt,
+        alloc,
+        query,
+        &mut session,
+        left,
+        right,
+        sink,
+        writers.as_mut_slice(),
+        pool,
+        pass,
+    );
+    end_writers(writers, pass);
+    pass.law_pass();
     session.law_there();
     session.law_sits();
     session.end(pass);
     pass.law_pass();
     ran
+}
+
+// Runs a query over its store while the pool's writers store pages, which are told to end when it has.
+fn run_beside<
+    W: Wait + Threads + Clock + Sync,
+    S: Source,
+    K: Sink,
+    St: Store,
+    D: Slot + Drop + Send,
+    T: OpenedAs + Send,
+>(
+    rt: &W,
+    alloc: Global,
+    query: &Query,
+    store: &mut St,
+    left: &mut S,
+    right: &mut Option<S>,
+    sink: &mut K,
+    writers: &mut [Writer<'_, D, W, T>],
+    pool: &Pool<D, T>,
+    pass: &mut Pass<D, T>,
+) -> Result<Ran, QueryErr>
+    requires plan { IsRunnable query.now }
+    requires store { HasRoomFor query.now (St.holds store.old) }
+    requires right { is_some right.old ≡ joins query.now }
+    requires table { pass.old.table ≡ pool.now }
+    ensures ran { RanQuery S.remaining S.faults K.contents K.faults St.holds St.signs query.now left.old left.new right.old right.new sink.old sink.new store.old store.new result }
+    ensures stops { Stops pass.old pass.new }
+    ensures at { map (λ w. w.seat.spot.table) writers.new ≡ map (λ w. w.seat.spot.table) writers.old }
+{
+    let mut work = || -> Result<Ran, QueryErr>
+        requires { IsRunnable query.now × HasRoomFor query.now (St.holds store.now) × (is_some right.now ≡ joins query.now) }
+        ensures { RanQuery S.remaining S.faults K.contents K.faults St.holds St.signs query.entry.now left.entry.now left.exit.now right.entry.now right.exit.now sink.entry.now sink.exit.now store.entry.now store.exit.now result }
+    { run_query(alloc, store, query, left, right, sink) };
+    beside_writers(rt, pool, pass, writers, &OpenGate, &mut work)
 }

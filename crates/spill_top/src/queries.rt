@@ -4,7 +4,9 @@ ghost use Rattle.std.specs.Prelude.{◌≡◌, ◌*◌, ◌≤◌, [], IfOk, OnE
 ghost use Rattle.pin_core.specs.Setup.{IsOpeningOf};
 ghost use Rattle.pin_core.specs.Tallies.{tally_of};
 ghost use Rattle.pin_core.specs.declared.tally.Tally.{Tally};
+ghost use Rattle.pool.specs.Items.{all_rights};
 ghost use Rattle.pool.specs.Opening.{OpensAs};
+ghost use Rattle.pool.specs.Passing.{writers_out};
 ghost use Rattle.pool.specs.Seats.{live_in};
 ghost use Rattle.query_plan.specs.Rules.{KeepsRules};
 ghost use Rattle.spill_top.specs.Pooled.{ComeBack, all_tell};
@@ -15,8 +17,9 @@ ghost use Rattle.spill_top.specs.Together.{RanTogether};
 
 use crate::ending::Ending;
 use crate::job::endings;
-use crate::run::{answer_all, close_all, create_all, finish_all, open_all};
+use crate::run::{answer_beside, close_all, create_all, finish_all, open_all};
 use crate::seats::{asks_of, end_all, seat_all};
+use crate::writers::{begin_writers, end_writers};
 use outside::{Gate, Inputs, Outputs, Slot};
 use pin_core::PoolConf;
 use pool::{At, OpenedAs, Pass, Pool};
@@ -29,11 +32,12 @@ use std::marker::Brand;
 use std::mem;
 use std::sync::Wait;
 use std::thread::Threads;
+use std::time::Clock;
 
 // Runs the queries of a plan over one pool of these slots, and tells how each ended. All slots are there again afterwards,
 // whatever the answer.
 pub(crate) fn run_queries<
-    W: Wait + Threads + Sync,
+    W: Wait + Threads + Clock + Sync,
     I: Inputs,
     O: Outputs,
     D: Slot + Drop + Send,
@@ -63,7 +67,7 @@ pub(crate) fn run_queries<
 
 // The same, where `T` names with what the pool opens, for contracts alone.
 fn run_shared<
-    W: Wait + Threads + Sync,
+    W: Wait + Threads + Clock + Sync,
     I: Inputs,
     O: Outputs,
     D: Slot + Drop + Send,
@@ -118,7 +122,7 @@ fn run_shared<
 // names the pool's lock, for contracts alone.
 fn run_together<
     'a,
-    W: Wait + Threads + Sync,
+    W: Wait + Threads + Clock + Sync,
     I: Inputs,
     O: Outputs,
     D: Slot + Drop + Send,
@@ -140,9 +144,9 @@ fn run_together<
     requires opening { IsOpeningOf (record { blocks = plan.now.blocks; block_len = plan.now.block_len; first_name = 0 }) T.opening.slots T.opening }
     requires named { N.table ≡ Some pool.now }
     requires table { pass.old.table ≡ pool.now }
-    requires fresh { pass.old.knows.seen ≡ [] }
+    requires fresh { (pass.old.knows.seen ≡ []) × (pass.old.knows.rights ≡ all_rights) × (writers_out pass.old ≡ 0) }
     ensures table { pass.new.table ≡ pool.now }
-    ensures gone { live_in pass.new.knows.seen ≡ 0 }
+    ensures gone { (live_in pass.new.knows.seen ≡ 0) × (writers_out pass.new ≡ 0) }
     ensures len { IfOk result (λ ends. vec_len ends ≡ length plan.now.queries) }
     ensures ran { IfOk result (λ ends. RanTogether T.opening T.told (refusals_of plan.now) (seen (I.bytes_at inputs.old) (I.faults_at inputs.old) (O.written outputs.old) (O.is_created outputs.old) (O.faults_at outputs.old) T.first)
         (seen (I.bytes_at inputs.new) (I.faults_at inputs.new) (O.written outputs.new) (O.is_created outputs.new) (O.faults_at outputs.new) T.first) plan.now.queries pass.new ends.items) }
@@ -153,18 +157,35 @@ fn run_together<
     let queries = plan.queries.as_slice();
     let ends = Vec::with_capacity(alloc, queries.len())?;
     let asks = asks_of(alloc, queries, plan.block_len)?;
-    // Jobs can't be let go, so that their list comes last.
+    // Jobs and writers can't be let go, so that their lists come last.
     let jobs = Vec::with_capacity(alloc, queries.len())?;
+    let Ok(writers) = Vec::with_capacity(alloc, plan.writers as usize) else {
+        jobs.destroy_empty();
+        return Err(Memory);
+    };
+    let mut writers = begin_writers(rt, pool, pass, plan.writers, writers);
     pass.law_pass();
     let Ok(answers) = pool.sessions::<W, N>(alloc, rt, pass, asks.as_slice()) else {
         jobs.destroy_empty();
+        end_writers(writers, pass);
         return Err(Memory);
     };
     pass.law_pass();
     let mut jobs = seat_all(answers, jobs);
     create_all(queries, &mut jobs, outputs);
     open_all(queries, &mut jobs, inputs);
-    answer_all(rt, alloc, queries, jobs.as_mut_slice(), gate);
+    answer_beside(
+        rt,
+        alloc,
+        queries,
+        jobs.as_mut_slice(),
+        writers.as_mut_slice(),
+        pool,
+        pass,
+        gate,
+    );
+    end_writers(writers, pass);
+    pass.law_pass();
     close_all(queries, &mut jobs, inputs);
     finish_all(queries, &mut jobs, outputs);
     let ends = endings(jobs.as_slice(), ends);

@@ -17,11 +17,12 @@ use run_report::{Cause, outcome_line};
 use std::alloc::Global;
 use std::sync::Wait;
 use std::thread::Threads;
+use std::time::Clock;
 
 // Runs the queries of a plan's file over a pool of these slots, writes a line for each of them to the report, and answers
 // the status: the first that is not 0.
 pub(crate) fn run<
-    W: Wait + Threads + Sync,
+    W: Wait + Threads + Clock + Sync,
     I: Inputs,
     O: Outputs,
     R: Sink,

@@ -3,6 +3,7 @@
 ghost use Rattle.std.specs.Prelude.{◌≡◌, ◌<◌, ◌≤◌, ℕ, Bool, List, Option, Some, length, map, slice_get, vec_len};
 ghost use Rattle.outside.specs.Names.{Written};
 ghost use Rattle.pin_core.specs.declared.tally.Tally.{Tally};
+ghost use Rattle.pool.specs.Writers.{Stops};
 ghost use Rattle.query_plan.specs.declared.plan.Query.{Query};
 ghost use Rattle.spill_top.specs.Jobs.{HasSides, work_of};
 ghost use Rattle.spill_top.specs.Steps.{AreAll, AreEach, AreMade, GiveNoAnswers, IsBegun, IsCreated, IsDone, IsEnded, IsOpen, IsRead, KeepRefused, KeepsWorks};
@@ -12,11 +13,16 @@ ghost use Rattle.spill_top.specs.Together.{AllCanRun, AreAnswered, CanRun, IsAns
 use crate::job::Job;
 use crate::over::answer_at_gate;
 use crate::steps::{close, create, finish, open};
-use outside::{Gate, Inputs, Outputs, Sink, Source};
+use crate::writers::each_beside_writers;
+use outside::{Gate, Inputs, Outputs, Sink, Slot, Source};
+use pool::{OpenedAs, Pass, Pool};
 use query_plan::Query;
 use std::alloc::Global;
-use std::thread::{Threads, for_each_mut};
+use std::sync::Wait;
+use std::thread::Threads;
+use std::time::Clock;
 use store_api::Store;
+use write_behind::Writer;
 
 // Creates the outputs.
 pub(crate) fn create_all<S: Source, O: Outputs, St>(
@@ -61,26 +67,40 @@ pub(crate) fn open_all<I: Inputs, K: Sink, St>(
     }
 }
 
-// Runs those queries that have not ended, each over its session, in a thread of its own where one can be made.
-pub(crate) fn answer_all<
-    R: Threads + Sync,
+// Runs those queries that have not ended, each over its session, in a thread of its own where one can be made, while the
+// pool's writers store pages, which are told to end when all queries have.
+pub(crate) fn answer_beside<
+    R: Threads + Wait + Clock + Sync,
     S: Source + Send,
     K: Sink + Send,
     St: Store + Send,
+    D: Slot + Drop + Send,
+    T: OpenedAs + Send,
     G: Gate,
->(rt: &R, alloc: Global, queries: &[Query], jobs: &mut [Job<S, K, St>], gate: &G)
+>(
+    rt: &R,
+    alloc: Global,
+    queries: &[Query],
+    jobs: &mut [Job<S, K, St>],
+    writers: &mut [Writer<'_, D, R, T>],
+    pool: &Pool<D, T>,
+    pass: &mut Pass<D, T>,
+    gate: &G,
+)
     requires few { length queries.now ≤ 16 }
     requires len { length queries.now ≡ length jobs.old }
     requires can { AllCanRun S.remaining S.faults K.contents K.faults St.holds St.signs queries.now jobs.old }
+    requires table { pass.old.table ≡ pool.now }
     ensures len { length jobs.new ≡ length jobs.old }
     ensures each { AreAnswered S.remaining S.faults K.contents K.faults St.holds St.signs queries.now jobs.old jobs.new }
+    ensures stops { Stops pass.old pass.new }
+    ensures at { map (λ w. w.seat.spot.table) writers.new ≡ map (λ w. w.seat.spot.table) writers.old }
 {
-    let threads = jobs.len().max(1);
     let answer_at = |place: usize, job: &mut Job<S, K, St>|
         requires { (place < length queries.now) × (length queries.now ≤ 16) × ((query : Query) → slice_get queries.now place ≡ Some query → CanRun S.remaining S.faults K.contents K.faults St.holds St.signs query job.now) }
         ensures { (query : Query) → slice_get queries.entry.now place ≡ Some query → IsAnswered S.remaining S.faults K.contents K.faults St.holds St.signs query job.entry.now job.exit.now }
     { answer_at_gate(alloc, gate, place as u32, &queries[place], job) };
-    for_each_mut(rt, jobs, threads, &answer_at);
+    each_beside_writers(rt, pool, pass, writers, gate, &answer_at, jobs);
 }
 
 // Gives the sources back.

@@ -31,17 +31,17 @@ use row_codec::Memory;
 use run_report::{Outcome, outcome_line};
 use std::alloc::Global;
 use std::sync::Wait;
+use std::thread::Threads;
+use std::time::Clock;
 use table_gen::TableSource;
 
 // Groups a generated table over a pool of these slots into an output, tells its numbers in the report, and answers the status.
-pub(crate) fn self_check<W: Wait, O: Outputs, R: Sink, D: Slot + Drop>(
-    rt: &W,
-    alloc: Global,
-    check: Check,
-    outputs: &mut O,
-    report: &mut R,
-    slots: &mut Vec<D>,
-) -> u8
+pub(crate) fn self_check<
+    W: Wait + Threads + Clock + Sync,
+    O: Outputs,
+    R: Sink,
+    D: Slot + Drop + Send,
+>(rt: &W, alloc: Global, check: Check, outputs: &mut O, report: &mut R, slots: &mut Vec<D>) -> u8
     requires range { IsInRange check }
     requires few { vec_len slots.old ≤ 1048576 }
     ensures checked { (files : List ℕ → Option (List ℕ)) (reads : List ℕ → ℕ) → Checked (vec_len slots.old)
@@ -60,7 +60,7 @@ pub(crate) fn self_check<W: Wait, O: Outputs, R: Sink, D: Slot + Drop>(
 }
 
 // Reserves, creates the output, runs the query and gives the output back.
-fn answer_check<W: Wait, O: Outputs, D: Slot + Drop>(
+fn answer_check<W: Wait + Threads + Clock + Sync, O: Outputs, D: Slot + Drop + Send>(
     rt: &W,
     alloc: Global,
     plan: &Query,
@@ -98,7 +98,7 @@ fn answer_check<W: Wait, O: Outputs, D: Slot + Drop>(
 }
 
 // Runs the query over the table, whose pages may take all slots.
-fn run_table<W: Wait, K: Sink, D: Slot + Drop>(
+fn run_table<W: Wait + Threads + Clock + Sync, K: Sink, D: Slot + Drop + Send>(
     rt: &W,
     alloc: Global,
     plan: &Query,
@@ -123,7 +123,7 @@ fn run_table<W: Wait, K: Sink, D: Slot + Drop>(
     let mut table = TableSource::new(start, u64::from(check.rows), u64::from(check.groups));
     let mut right = None;
     run_pooled(
-        rt, alloc, plan, &pool, quota, slots, &mut table, &mut right, sink,
+        rt, alloc, plan, &pool, 0, quota, slots, &mut table, &mut right, sink,
     )
 }
 

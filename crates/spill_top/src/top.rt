@@ -21,6 +21,7 @@ use outside::{Gate, Inputs, Outputs, Sink, Slot};
 use std::alloc::Global;
 use std::sync::Wait;
 use std::thread::Threads;
+use std::time::Clock;
 
 /// Runs a command and answers its status. The words come without the program's name.
 ///
@@ -60,7 +61,7 @@ use std::thread::Threads;
 /// | 9 | an output, or the report, could not be written |
 /// | 10 | out of memory; when this comes is left open |
 pub fn spill_top<
-    W: Wait + Threads + Sync,
+    W: Wait + Threads + Clock + Sync,
     I: Inputs,
     O: Outputs,
     R: Sink,

@@ -25,6 +25,11 @@ use query_run::{QueryErr, Ran};
 use std::alloc::Global;
 use std::marker::{Brand, PhantomData};
 use std::sync::Wait;
+use std::thread::Threads;
+use std::time::Clock;
+
+// How many writers a count has.
+const WRITERS: u32 = 2;
 
 // A report, and whether anything was written to it.
 pub(crate) struct Watched<'a, R> {
@@ -70,7 +75,14 @@ impl<'a, R: Sink, B: Start> Sink for Tied<'a, R, B> {
 }
 
 // Runs a query without a right input over a pool with these numbers, whose pages may take all slots.
-pub(crate) fn run_watched<'a, B: Start, W: Wait, S: Source, R: Sink, D: Slot + Drop>(
+pub(crate) fn run_watched<
+    'a,
+    B: Start,
+    W: Wait + Threads + Clock + Sync,
+    S: Source,
+    R: Sink,
+    D: Slot + Drop + Send,
+>(
     rt: &W,
     alloc: Global,
     plan: &Query,
@@ -108,7 +120,7 @@ pub(crate) fn run_watched<'a, B: Start, W: Wait, S: Source, R: Sink, D: Slot + D
         of: PhantomData,
     };
     let ran = run_pooled(
-        rt, alloc, plan, conf, quota, slots, left, &mut right, &mut tied,
+        rt, alloc, plan, conf, WRITERS, quota, slots, left, &mut right, &mut tied,
     );
     let_go(right);
     let Tied { watched, of: _ } = tied;

@@ -13,6 +13,7 @@ use std::process::Abort;
 use std::sync::Wait;
 use std::test::Fail;
 use std::thread::Threads;
+use std::time::Clock;
 
 // A call over the file `in.csv`, if it is there, in chunks of 5 bytes with these reads failing, a report with these writes
 // failing, and so many slots.
@@ -44,7 +45,7 @@ fn inputs(alloc: Global, it: Call) -> Result<MemInputs, Fail> {
 }
 
 // Makes the call, and sees its status and its report.
-fn check_call<R: Abort + AllocGlobal + Wait + Threads + Sync>(
+fn check_call<R: Abort + AllocGlobal + Wait + Threads + Clock + Sync>(
     rt: &R,
     it: Call,
     status: u8,

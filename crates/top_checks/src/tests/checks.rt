@@ -6,12 +6,13 @@ use std::process::Abort;
 use std::sync::Wait;
 use std::test::Fail;
 use std::thread::Threads;
+use std::time::Clock;
 
 // The answer of ten rows from 3 on in five groups, in the order of their paths.
 const ANSWER: &[u8] = b"k,count,sum(v)\n4,2,11\n2,2,9\n3,2,5\n0,2,7\n1,2,13\n";
 
 // What stands behind a check with 64 slots whose output fails at these writes.
-fn checked<R: Abort + AllocGlobal + Wait + Threads + Sync>(
+fn checked<R: Abort + AllocGlobal + Wait + Threads + Clock + Sync>(
     rt: &R,
     words: &[&str],
     writes: &[u64],

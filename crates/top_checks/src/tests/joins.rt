@@ -1,14 +1,15 @@
 //! Whole runs of plans whose queries join.
 
 use crate::tests::runs::{
-    Ended, File, NOWHERE, check, check_output, run_over_slots, run_plan, slots, stores,
+    Ended, File, NOWHERE, check, check_output, run_at_gate, run_over_slots, run_plan, slots, stores,
 };
-use outside::MemSlot;
+use outside::{MeetGate, MemSlot, Point};
 use std::alloc::{AllocError, Global};
 use std::process::Abort;
 use std::sync::Wait;
 use std::test::Fail;
 use std::thread::Threads;
+use std::time::Clock;
 
 const PAIRS: &str = "\
 block_len = 64
@@ -62,7 +63,7 @@ type Lines<'a> = &'a [(&'a str, usize)];
 
 // Runs the pairs over these files, where the plan has these texts written anew, and sees that the answer has these lines, in any
 // order, and no others.
-fn check_pairs<R: Abort + AllocGlobal + Wait + Threads + Sync>(
+fn check_pairs<R: Abort + AllocGlobal + Wait + Threads + Clock + Sync>(
     rt: &R,
     edits: &[(&str, &str)],
     files: &[File],
@@ -192,7 +193,7 @@ fn tally(alloc: Global, answer: &[u8]) -> Result<Vec<u32>, AllocError> {
 }
 
 // Joins two files of one key, whose fields behind it are numbers, over these slots.
-fn joined<R: Abort + AllocGlobal + Wait + Threads + Sync>(
+fn joined<R: Abort + AllocGlobal + Wait + Threads + Clock + Sync>(
     rt: &R,
     slots: &mut Vec<MemSlot>,
 ) -> Result<Ended, Fail> {
@@ -222,5 +223,29 @@ fn a_key_that_fits_no_table_is_joined_too(rt: HostRuntime) -> Result<(), Fail> {
     assert!(rt; times.as_slice().iter().all(|count| *count == 1));
     // Its 600 rows of 20 bytes don't fit in 1280 bytes, and a block has 64.
     assert!(rt; stores(slots.as_slice()) >= 168);
+    Ok(())
+}
+
+#[test]
+fn a_query_reads_on_while_a_writer_is_held(rt: HostRuntime) -> Result<(), Fail> {
+    // The writer stands before it stores a page of the query until the query has read its inputs.
+    let held = (1000, Point::BeforeStore);
+    let until = (0, Point::QueryRead);
+    let Ok(gate) = MeetGate::new(held, until, 10_000_000) else {
+        panic!(rt; "a gate takes no memory");
+    };
+    let mut slots = slots(rt.alloc(), 700)?;
+    let files: [File; 2] = [
+        (
+            "l.csv",
+            b"k,x\n1,a\n1,a\n1,a\n1,a\n1,a\n1,a\n1,a\n1,a\n1,a\n1,a\n",
+            &[],
+        ),
+        ("r.csv", b"k,y\n1,p\n", &[]),
+    ];
+    let ended = run_at_gate(&rt, &gate, PAIRS, &[], &files, NOWHERE, &mut slots)?;
+    assert!(rt; gate.came());
+    assert!(rt; !gate.missed());
+    check(&rt, &ended, 0, b"query 1: 0 lines 10\n");
     Ok(())
 }

@@ -5,6 +5,7 @@ use std::process::Abort;
 use std::sync::Wait;
 use std::test::Fail;
 use std::thread::Threads;
+use std::time::Clock;
 
 // One query that counts the rows of each key and sums a column.
 const SUMS: &str = "\
@@ -76,7 +77,7 @@ const ENDS: (&str, &str) = (
 );
 
 // Runs the sums over these files, where the plan has these texts written anew, and sees what becomes of it.
-fn check_sums<R: Abort + AllocGlobal + Wait + Threads + Sync>(
+fn check_sums<R: Abort + AllocGlobal + Wait + Threads + Clock + Sync>(
     rt: &R,
     edits: &[(&str, &str)],
     files: &[File],

@@ -10,6 +10,7 @@ use std::process::Abort;
 use std::sync::Wait;
 use std::test::Fail;
 use std::thread::Threads;
+use std::time::Clock;
 
 // A query whose pool has the memory for twenty of its pages.
 const ONE: &str = "\
@@ -74,7 +75,7 @@ fn lines(alloc: Global, header: &[u8], end: &[u8]) -> Result<Vec<u8>, AllocError
 }
 
 // Runs it over a row for each of these keys.
-fn ran<R: Abort + AllocGlobal + Wait + Threads + Sync>(
+fn ran<R: Abort + AllocGlobal + Wait + Threads + Clock + Sync>(
     rt: &R,
     edits: &[(&str, &str)],
     slots: &mut Vec<MemSlot>,
@@ -85,7 +86,7 @@ fn ran<R: Abort + AllocGlobal + Wait + Threads + Sync>(
 }
 
 // Sees that the output has a line for each of the keys.
-fn check_lines<R: Abort + AllocGlobal + Wait + Threads + Sync>(
+fn check_lines<R: Abort + AllocGlobal + Wait + Threads + Clock + Sync>(
     rt: &R,
     ended: &Ended,
     name: &str,
@@ -95,6 +96,27 @@ fn check_lines<R: Abort + AllocGlobal + Wait + Threads + Sync>(
     let lines = lines(rt.alloc(), header, end)?;
     check_output(rt, ended, name, Some(lines.as_slice()), true);
     Ok(())
+}
+
+// Runs both with so many writers.
+fn both_answer<R: Abort + AllocGlobal + Wait + Threads + Clock + Sync>(
+    rt: &R,
+    writers: (&str, &str),
+) -> Result<(), Fail> {
+    let mut slots = slots(rt.alloc(), 800)?;
+    let edits = [TWO[0], TWO[1], writers];
+    let ended = ran(rt, &edits, &mut slots)?;
+    let report = b"query 1: 0 lines 200\nquery 2: 0 lines 200\n";
+    check(rt, &ended, 0, report);
+    check_lines(rt, &ended, "out.csv", b"k,count,sum(v)\n", b",1,1\n")?;
+    check_lines(rt, &ended, "two.csv", b"k,count\n", b",1\n")?;
+    Ok(())
+}
+
+#[test]
+fn writers_change_no_answer(rt: HostRuntime) -> Result<(), Fail> {
+    both_answer(&rt, ("writers = 0", "writers = 1"))?;
+    both_answer(&rt, ("writers = 0", "writers = 8"))
 }
 
 #[test]
@@ -145,7 +167,7 @@ fn a_quota_that_does_not_suffice_is_told(rt: HostRuntime) -> Result<(), Fail> {
 }
 
 // Whether the run was stopped by a write, or by a read, of a slot that fails at one of its calls. If it was, the next one answers.
-fn stopped<R: Abort + AllocGlobal + Wait + Threads + Sync>(
+fn stopped<R: Abort + AllocGlobal + Wait + Threads + Clock + Sync>(
     rt: &R,
     slot: u32,
     call: u64,

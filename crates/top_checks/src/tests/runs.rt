@@ -7,6 +7,7 @@ use std::process::Abort;
 use std::sync::Wait;
 use std::test::Fail;
 use std::thread::Threads;
+use std::time::Clock;
 
 // A file that is there: its name, its bytes, which come in chunks of 5, and the reads that fail.
 pub(crate) type File<'a> = (&'a str, &'a [u8], &'a [u64]);
@@ -44,7 +45,7 @@ fn owned(alloc: Global, words: &[&str]) -> Result<Vec<String>, AllocError> {
 }
 
 // Makes the top call, which keeps as many slots as there were.
-pub(crate) fn call<R: Abort + AllocGlobal + Wait + Threads + Sync>(
+pub(crate) fn call<R: Abort + AllocGlobal + Wait + Threads + Clock + Sync>(
     rt: &R,
     words: &[&str],
     inputs: &mut MemInputs,
@@ -56,7 +57,7 @@ pub(crate) fn call<R: Abort + AllocGlobal + Wait + Threads + Sync>(
 }
 
 // The same, with a gate that queries pass.
-fn call_at<R: Abort + AllocGlobal + Wait + Threads + Sync>(
+fn call_at<R: Abort + AllocGlobal + Wait + Threads + Clock + Sync>(
     rt: &R,
     gate: &impl Gate,
     words: &[&str],
@@ -138,7 +139,7 @@ fn outputs_of(alloc: Global, fails: Fails) -> Result<MemOutputs, Fail> {
 }
 
 // Runs such a plan over these slots.
-pub(crate) fn run_over_slots<R: Abort + AllocGlobal + Wait + Threads + Sync>(
+pub(crate) fn run_over_slots<R: Abort + AllocGlobal + Wait + Threads + Clock + Sync>(
     rt: &R,
     text: &str,
     edits: &[(&str, &str)],
@@ -150,7 +151,7 @@ pub(crate) fn run_over_slots<R: Abort + AllocGlobal + Wait + Threads + Sync>(
 }
 
 // The same, with a gate that its queries pass.
-pub(crate) fn run_at_gate<R: Abort + AllocGlobal + Wait + Threads + Sync>(
+pub(crate) fn run_at_gate<R: Abort + AllocGlobal + Wait + Threads + Clock + Sync>(
     rt: &R,
     gate: &impl Gate,
     text: &str,
@@ -167,7 +168,7 @@ pub(crate) fn run_at_gate<R: Abort + AllocGlobal + Wait + Threads + Sync>(
 }
 
 // The same over 2000 slots that never fail.
-pub(crate) fn run_plan<R: Abort + AllocGlobal + Wait + Threads + Sync>(
+pub(crate) fn run_plan<R: Abort + AllocGlobal + Wait + Threads + Clock + Sync>(
     rt: &R,
     text: &str,
     edits: &[(&str, &str)],

@@ -1,4 +1,4 @@
-use Rattle.std.proofs.Common.{◌≡◌, ℕ, ◌+◌, ◌-◌, List, [], ◌∷◌, ◌++◌, length, drop, get_or, map, None, Result, sym, ap, ◌∙◌, subst, arith, length-drop}
+use Rattle.std.proofs.Common.{◌≡◌, ℕ, ◌+◌, ◌-◌, List, [], ◌∷◌, ◌++◌, length, drop, get_or, map, None, Result, refl, sym, ap, ◌∙◌, subst, arith, length-drop}
 use Rattle.std.proofs.lemmas.List.{drop_all, map-append}
 use Rattle.reservation_tree.specs.declared.errors.PoolErr.{PoolErr}
 use Rattle.pin_core.specs.StateOf.{state_of}
@@ -21,6 +21,7 @@ loop-ask-init g c = (
   c.requires.room,
   c.requires.slates,
   at_first g.D.Slot g.T.OpenedAs.opening g.T.OpenedAs.told g.T.OpenedAs.first c.args.asks.now (map numbered c.args.answers.items) (record { trail = c.args.shared.now.trail; counts = c.args.shared.now.counts }) c.args.shared.now.state (ap (map numbered) c.requires.none) c.requires.stands c.requires.spare,
+  refl,
 )
 
 pub unwrap-slate-requires : goal.unwrap-slate-requires
@@ -76,12 +77,16 @@ loop-ask-preserved g c =
                 subst (λ (s : Shared g.row.D.Denot g.row.T.Denot). Between g.D.Slot g.T.OpenedAs.opening g.T.OpenedAs.told g.T.OpenedAs.first asks todo (record { trail = c.args.shared.now.trail; counts = c.args.shared.now.counts }) c.args.shared.now.state
                 (map numbered c.loop-ask.answers.items ++ numbered c.match-refusal_of.answer ∷ []) (record { trail = s.trail; counts = s.counts }) s.state) (sym w.shared-is)
                 (past_admitted g.D.Slot g.T.OpenedAs.opening g.T.OpenedAs.told g.T.OpenedAs.first asks todo ask (record { trail = c.args.shared.now.trail; counts = c.args.shared.now.counts }) c.args.shared.now.state (map numbered c.loop-ask.answers.items) (record { trail = c.loop-ask.shared.trail; counts = c.loop-ask.shared.counts }) c.loop-ask.shared.state
-                was (numbered c.match-refusal_of.answer) w.admit_ask.result.items (record { trail = w.admit_ask.new.shared.trail; counts = w.admit_ask.new.shared.counts }) w.admit_ask.new.shared.state (sym why ∙ w.in-None.is) w.admit_ask.ensures (ap numbered w.answer-is))
+                was (numbered c.match-refusal_of.answer) w.admit_ask.result.items (record { trail = w.admit_ask.new.shared.trail; counts = w.admit_ask.new.shared.counts }) w.admit_ask.new.shared.state (sym why ∙ w.in-None.is) w.admit_ask.ensures.admits (ap numbered w.answer-is))
           ]),
+      elim c.match-refusal_of.branch [
+        | in-Some w ↦ ap (λ (s : Shared g.row.D.Denot g.row.T.Denot). s.stopped) w.shared-is ∙ c.loop-ask.invariant.4
+        | in-None w ↦ ap (λ (s : Shared g.row.D.Denot g.row.T.Denot). s.stopped) w.shared-is ∙ w.admit_ask.ensures.stop ∙ c.loop-ask.invariant.4
+      ],
     )
 
-pub returns : goal.returns
-returns g c = λ before stood.
+pub returns-clause-admits : goal.returns-clause-admits
+returns-clause-admits g c = λ before stood.
     let none : drop c.loop-ask.ask-index c.args.asks.now ≡ [] = drop_all c.loop-ask.ask-index c.args.asks.now c.loop-ask-test.false in
     all_answered g.D.Slot g.T.OpenedAs.opening g.T.OpenedAs.told g.T.OpenedAs.first c.args.asks.now (drop c.loop-ask.ask-index c.args.asks.now) before (map numbered c.loop-ask.answers.items) c.args.shared.now.state (record { trail = c.loop-ask.shared.trail; counts = c.loop-ask.shared.counts }) c.loop-ask.shared.state none
     (c.loop-ask.invariant.3.answering before stood)

@@ -1,4 +1,4 @@
-use Rattle.std.proofs.Common.{◌≡◌, ℕ, suc, ◌+◌, ◌-◌, ◌*◌, ◌≤◌, List, [], length, None, sym, ap, ◌∙◌, subst, arith}
+use Rattle.std.proofs.Common.{◌≡◌, ℕ, suc, ◌+◌, ◌-◌, ◌*◌, ◌≤◌, List, [], length, None, refl, sym, ap, ◌∙◌, subst, arith}
 use Rattle.pin_core.specs.StateOf.{state_of}
 use Rattle.pin_core.specs.Opening.{spare_of}
 use Rattle.pool.specs.declared.ask.Ask.{Ask}
@@ -33,6 +33,7 @@ loop-i-init g c =
           subst (λ (n : ℕ). Coming g.D.Slot g.T.OpenedAs.opening g.T.OpenedAs.told g.T.OpenedAs.first ask before c.args.numbers.items n c.args.shared.now.state (record { trail = c.args.shared.now.trail; counts = c.args.shared.now.counts }) c.args.shared.now.state) (all_to_come ask.count)
           (subst (λ (ms : List ℕ). Coming g.D.Slot g.T.OpenedAs.opening g.T.OpenedAs.told g.T.OpenedAs.first ask before ms ask.count c.args.shared.now.state (record { trail = c.args.shared.now.trail; counts = c.args.shared.now.counts }) c.args.shared.now.state) (sym none)
           (none_come g.D.Slot g.T.OpenedAs.opening g.T.OpenedAs.told g.T.OpenedAs.first ask before (record { trail = c.args.shared.now.trail; counts = c.args.shared.now.counts }) c.args.shared.now.state stood)),
+      refl,
     )
 
 pub loop-i-preserved : goal.loop-i-preserved
@@ -47,24 +48,25 @@ loop-i-preserved g c =
     let cap_was = c.loop-i.invariant.1 in
     let more : left_in (state_of c.admit-number.new.shared.state) ≡ less ask (left_in (state_of c.loop-i.shared.state)) =
     left_more g.D.Slot g.T.OpenedAs.opening g.T.OpenedAs.told g.T.OpenedAs.first ask c.admit-number.result (record { trail = c.loop-i.shared.trail; counts = c.loop-i.shared.counts }) (record { trail = c.admit-number.new.shared.trail; counts = c.admit-number.new.shared.counts }) c.loop-i.shared.state c.admit-number.new.shared.state
-    c.admit-number.ensures.opens c.admit-number.ensures.trail c.admit-number.ensures.counts c.loop-i.invariant.2.items c.loop-i.invariant.2.stands in (
+    c.admit-number.ensures.opens c.admit-number.ensures.trail c.admit-number.ensures.counts.0 c.loop-i.invariant.2.items c.loop-i.invariant.2.stands in (
       omega (arith, len, len_was),
       omega (arith, cap, cap_was),
       record {
         items = _;
         stands = stands_more g.D.Slot g.T.OpenedAs.opening g.T.OpenedAs.told g.T.OpenedAs.first ask c.admit-number.result (record { trail = c.loop-i.shared.trail; counts = c.loop-i.shared.counts }) (record { trail = c.admit-number.new.shared.trail; counts = c.admit-number.new.shared.counts }) c.loop-i.shared.state c.admit-number.new.shared.state
-            c.admit-number.ensures.opens c.admit-number.ensures.trail c.admit-number.ensures.counts c.loop-i.invariant.2.items c.loop-i.invariant.2.stands;
+            c.admit-number.ensures.opens c.admit-number.ensures.trail c.admit-number.ensures.counts.0 c.loop-i.invariant.2.items c.loop-i.invariant.2.stands;
       },
       subst (λ (l : Left). first_refusal k ask l ≡ None) (sym more) (next_granted (state_of c.loop-i.shared.state) ask n k is c.loop-i.invariant.3).rest,
       next_spare n k ask.quota (spare_of c.loop-i.shared.state) (spare_of c.admit-number.new.shared.state) is c.loop-i.invariant.4 c.admit-number.ensures.opens.spare,
       λ before stood.
           subst (λ (ms : List ℕ). Coming g.D.Slot g.T.OpenedAs.opening g.T.OpenedAs.told g.T.OpenedAs.first ask before ms k c.args.shared.now.state (record { trail = c.admit-number.new.shared.trail; counts = c.admit-number.new.shared.counts }) c.admit-number.new.shared.state) (sym c.push_reserved.ensures.items)
           (one_comes g.D.Slot g.T.OpenedAs.opening g.T.OpenedAs.told g.T.OpenedAs.first ask c.admit-number.result (record { trail = c.loop-i.shared.trail; counts = c.loop-i.shared.counts }) (record { trail = c.admit-number.new.shared.trail; counts = c.admit-number.new.shared.counts }) c.loop-i.shared.state c.admit-number.new.shared.state
-          c.admit-number.ensures.opens c.admit-number.ensures.trail c.admit-number.ensures.counts before c.loop-i.numbers.items n k c.args.shared.now.state is (c.loop-i.invariant.5 before stood)),
+          c.admit-number.ensures.opens c.admit-number.ensures.trail c.admit-number.ensures.counts.0 before c.loop-i.numbers.items n k c.args.shared.now.state is (c.loop-i.invariant.5 before stood)),
+      c.admit-number.ensures.counts.1 ∙ c.loop-i.invariant.6,
     )
 
-pub returns : goal.returns
-returns g c = λ before stood.
+pub returns-clause-admits : goal.returns-clause-admits
+returns-clause-admits g c = λ before stood.
     let ask : Ask = c.args.ask.now in
     let none : ask.count - c.loop-i._i ≡ 0 = let done = c.loop-i-test.false in omega (arith, done) in
     let count : c.loop-i._i ≡ ask.count = let done = c.loop-i-test.false in let few = c.loop-i.auto._i-end in omega (arith, done, few) in

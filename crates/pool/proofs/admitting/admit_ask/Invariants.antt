@@ -16,3 +16,4 @@ invariant-loop-i g l =
     × ((l.ask.count - l._i) * l.ask.quota ≤ spare_of l.shared.state)
     × ((before : List Item) → StandsAs g.D.Slot g.T.OpenedAs.opening g.T.OpenedAs.told g.T.OpenedAs.first before (record { trail = l.initial.shared.trail; counts = l.initial.shared.counts }) l.initial.shared.state
     → Coming g.D.Slot g.T.OpenedAs.opening g.T.OpenedAs.told g.T.OpenedAs.first l.ask before l.numbers.items (l.ask.count - l._i) l.initial.shared.state (record { trail = l.shared.trail; counts = l.shared.counts }) l.shared.state)
+    × (l.shared.stopped ≡ l.initial.shared.stopped)

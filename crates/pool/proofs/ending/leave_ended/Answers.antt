@@ -7,6 +7,7 @@ use Rattle.pool.specs.Seats.{taken_in}
 use Rattle.pool.specs.Seating.{ending_items}
 use Rattle.pool.specs.Standing.{StandsAs}
 use Rattle.pool.proofs.Trailed.{ended_trail}
+use Rattle.pool.proofs.Unstopped.{still_told}
 use Rattle.pool.proofs.Stood.{query_live, spare_behind, spare_ended, stands_ended}
 use Rattle.pool.proofs.ending.leave_ended.Goals as goal
 
@@ -19,10 +20,12 @@ pub leave-requires-clause-stands : goal.leave-requires-clause-stands
 leave-requires-clause-stands g c =
     let goes : c.enter-2.new.trail ≡ c.args.shared.trail ++ ending_entries (state_of c.args.shared.state) c.args.number =
     ended_trail c.args.shared.trail c.enter.new.trail c.enter-2.new.trail c.args.number (state_of c.args.shared.state) c.tracker-tracker.result c.reservation-bytes.result
-    c.tracker-tracker.ensures c.reservation-bytes.ensures c.enter.ensures c.enter-2.ensures in
-    subst (λ (es : List Item). StandsAs g.D.Slot g.T.OpenedAs.opening g.T.OpenedAs.told g.T.OpenedAs.first (c.args.seat.now.knows.seen ++ es) (record { trail = c.enter-2.new.trail; counts = c.args.shared.counts }) c.end_session.new.self) (sym c.requires.named)
-    (stands_ended g.D.Slot g.T.OpenedAs.opening g.T.OpenedAs.told g.T.OpenedAs.first c.args.seat.now.knows.seen (record { trail = c.args.shared.trail; counts = c.args.shared.counts }) (record { trail = c.enter-2.new.trail; counts = c.args.shared.counts }) c.args.shared.state c.end_session.new.self c.args.number
-    c.requires.stands c.requires.live c.requires.no_client goes refl c.end_session.ensures.enters c.end_session.ensures.spare)
+    c.tracker-tracker.ensures c.reservation-bytes.ensures c.enter.ensures c.enter-2.ensures in (
+      subst (λ (es : List Item). StandsAs g.D.Slot g.T.OpenedAs.opening g.T.OpenedAs.told g.T.OpenedAs.first (c.args.seat.now.knows.seen ++ es) (record { trail = c.enter-2.new.trail; counts = c.args.shared.counts }) c.end_session.new.self) (sym c.requires.named)
+          (stands_ended g.D.Slot g.T.OpenedAs.opening g.T.OpenedAs.told g.T.OpenedAs.first c.args.seat.now.knows.seen (record { trail = c.args.shared.trail; counts = c.args.shared.counts }) (record { trail = c.enter-2.new.trail; counts = c.args.shared.counts }) c.args.shared.state c.end_session.new.self c.args.number
+          c.requires.stands c.requires.live c.requires.no_client goes refl c.end_session.ensures.enters c.end_session.ensures.spare),
+      still_told c.args.shared.stopped c.args.seat.now.knows.seen g.N.Adds.entries (ending_items (state_of c.args.shared.state) c.args.number) c.requires.stop c.requires.named refl,
+    )
 
 pub returns-clause-spare : goal.returns-clause-spare
 returns-clause-spare g c =

@@ -28,13 +28,13 @@ use Rattle.spill_top.proofs.CountStops.{answer_so, answers_so, front_of, front_s
 use Rattle.spill_top.proofs.count.count.Goals as goal
 
 pub run_watched-ran-requires-clause-plan : goal.run_watched-ran-requires-clause-plan
-run_watched-ran-requires-clause-plan g c = subst (λ (plan : Query). IsRunnable plan) (sym c.in-Ok.ensures) (runs _)
+run_watched-ran-requires-clause-plan g c κs within = subst (λ (plan : Query). IsRunnable plan) (sym c.in-Ok.ensures) (runs _)
 
 pub run_watched-ran-requires-clause-alone : goal.run_watched-ran-requires-clause-alone
-run_watched-ran-requires-clause-alone g c = ap (λ (plan : Query). plan.right) c.in-Ok.ensures
+run_watched-ran-requires-clause-alone g c κs within = ap (λ (plan : Query). plan.right) c.in-Ok.ensures
 
 pub run_watched-ran-requires-clause-memory : goal.run_watched-ran-requires-clause-memory
-run_watched-ran-requires-clause-memory g c =
+run_watched-ran-requires-clause-memory g c κs within =
     subst (λ (plan : Query). HasMemoryFor plan c.counting_pool-pool.result) (sym c.in-Ok.ensures) (subst (λ (conf : PoolConf). HasMemoryFor (counting (record { file = c.args.file.now; column = c.args.column.now })) conf) (sym c.counting_pool-pool.ensures) (pool_fits (record { file = c.args.file.now; column = c.args.column.now })))
 
 pub of-requires-clause-text : goal.of-requires-clause-text

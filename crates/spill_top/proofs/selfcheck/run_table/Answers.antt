@@ -18,10 +18,10 @@ use Rattle.spill_top.proofs.CheckPlans.{check_fits, check_page, check_runs, chec
 use Rattle.spill_top.proofs.selfcheck.run_table.Goals as goal
 
 pub run_pooled-requires-clause-query : goal.run_pooled-requires-clause-query
-run_pooled-requires-clause-query g c = subst (λ (plan : Query). IsRunnable plan) (sym c.requires.plan) (check_runs c.args.check)
+run_pooled-requires-clause-query g c κs within = subst (λ (plan : Query). IsRunnable plan) (sym c.requires.plan) (check_runs c.args.check)
 
 pub run_pooled-requires-clause-memory : goal.run_pooled-requires-clause-memory
-run_pooled-requires-clause-memory g c =
+run_pooled-requires-clause-memory g c κs within =
     subst (λ (plan : Query). HasMemoryFor plan c.checking_pool-pool.result) (sym c.requires.plan)
     (subst (λ (conf : PoolConf). HasMemoryFor (checking c.args.check) conf) (sym c.checking_pool-pool.ensures) (check_fits c.args.check c.requires.range c.requires.reserved))
 

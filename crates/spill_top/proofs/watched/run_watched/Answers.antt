@@ -8,7 +8,7 @@ use Rattle.spill_top.proofs.Watching.{longer_lengthens, still_keeps}
 use Rattle.spill_top.proofs.watched.run_watched.Goals as goal
 
 pub run_pooled-ran-requires-clause-right : goal.run_pooled-ran-requires-clause-right
-run_pooled-ran-requires-clause-right g c = not_joins c.args.plan.now c.requires.alone
+run_pooled-ran-requires-clause-right g c κs within = not_joins c.args.plan.now c.requires.alone
 
 pub returns-clause-says : goal.returns-clause-says
 returns-clause-says g c = IfErr-weaker c.run_pooled-ran.result _ _ (λ e says. says_alone c.args.plan.now _ _ _ e c.requires.alone says) c.run_pooled-ran.ensures.input

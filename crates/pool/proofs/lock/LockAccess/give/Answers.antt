@@ -14,11 +14,11 @@ returns-clause-rests g c = record {
   rests =
       rests_at g.D.Slot g.T.OpenedAs.opening g.T.OpenedAs.told g.T.OpenedAs.first c.args.self.now.turns.now c.args.place.now c.args.hand c.requires.turns.turns
       (may_named g.D.Slot g.T.OpenedAs.opening g.O.Origin.opening g.O.Origin.outset g.T.OpenedAs.told (sight_in g.T.OpenedAs.first c.args.place.now.knows.seen) c.args.hand c.requires.turns.origin c.requires.turns.outset c.requires.may)
-      c.give_hand.new.seat c.give_hand.ensures.grown c.give_hand.ensures.table;
+      c.give_hand.new.place c.give_hand.ensures.grown c.give_hand.ensures.table;
 }
 
 pub returns-clause-seen : goal.returns-clause-seen
 returns-clause-seen g c =
     seen_at g.D.Slot g.T.OpenedAs.opening g.T.OpenedAs.told g.T.OpenedAs.first c.args.self.now.turns.now c.args.place.now c.args.hand c.requires.turns.turns
     (may_named g.D.Slot g.T.OpenedAs.opening g.O.Origin.opening g.O.Origin.outset g.T.OpenedAs.told (sight_in g.T.OpenedAs.first c.args.place.now.knows.seen) c.args.hand c.requires.turns.origin c.requires.turns.outset c.requires.may)
-    c.give_hand.new.seat c.give_hand.ensures.grown
+    c.give_hand.new.place c.give_hand.ensures.grown

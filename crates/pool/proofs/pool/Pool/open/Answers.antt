@@ -1,4 +1,4 @@
-use Rattle.std.proofs.Common.{sym, ap, ◌∙◌}
+use Rattle.std.proofs.Common.{refl, sym, ap, ◌∙◌}
 use Rattle.std.specs.FinMap.{get}
 use Rattle.pin_core.specs.declared.parts.Parts.{Parts}
 use Rattle.pin_core.specs.StateOf.{state_of}
@@ -9,10 +9,12 @@ use Rattle.pool.proofs.AtOpen.{first_count, stands_open}
 use Rattle.pool.proofs.pool.Pool.open.Goals as goal
 
 pub with-requires-clause-stands : goal.with-requires-clause-stands
-with-requires-clause-stands g c =
-    stands_open g.D.Slot g.T.OpenedAs.opening g.T.OpenedAs.told g.T.OpenedAs.first c.args.conf.now c.args.slots.items (record { trail = c.in-Ok.trail; counts = c.count_opening.new.counts }) c.in-Ok-open-2.state
-    c.requires.opens c.in-Ok.ensures (first_count g.D.Slot c.args.slots.items c.as_slice.result.now c.in-Ok-open.counts c.count_opening.new.counts c.in-Ok-open.ensures c.count_opening.ensures c.as_slice.ensures.value)
-    c.in-Ok-open-2.ensures.stands c.in-Ok-open-2.ensures.slots c.in-Ok-open-2.ensures.spare
+with-requires-clause-stands g c = (
+  stands_open g.D.Slot g.T.OpenedAs.opening g.T.OpenedAs.told g.T.OpenedAs.first c.args.conf.now c.args.slots.items (record { trail = c.in-Ok.trail; counts = c.count_opening.new.counts }) c.in-Ok-open-2.state
+      c.requires.opens c.in-Ok.ensures (first_count g.D.Slot c.args.slots.items c.as_slice.result.now c.in-Ok-open.counts c.count_opening.new.counts c.in-Ok-open.ensures c.count_opening.ensures c.as_slice.ensures.value)
+      c.in-Ok-open-2.ensures.stands c.in-Ok-open-2.ensures.slots c.in-Ok-open-2.ensures.spare,
+  refl,
+)
 
 pub with-requires-clause-rights : goal.with-requires-clause-rights
 with-requires-clause-rights g c = once

@@ -1,6 +1,6 @@
 use Rattle.std.proofs.Common.{length, refl, rules}
 use Rattle.std.proofs.lemmas.Option.{slice_get_read}
-use Rattle.spill_top.proofs.run.fn.answer_all.answer_at.Goals as goal
+use Rattle.spill_top.proofs.run.fn.answer_beside.answer_at.Goals as goal
 
 pub answer_at_gate-requires : goal.answer_at_gate-requires
 answer_at_gate-requires g c =

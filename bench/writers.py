@@ -1,0 +1,62 @@
+#!/usr/bin/env python3
+"""Times `run` of the program on plans that spill, with 0, 1, 2 and 4 writers.
+
+usage: writers.py PROGRAM [SCALE]      (SCALE: a factor for all numbers of rows, 1 by default)
+
+Two plans: a grouping of 6,000,000 rows in 3,000,000 groups in 16 MiB, which writes some 200 MB to scratch, and a join of 4,000,000 orders with
+200,000 customers in 16 MiB, grouped in 5. The inputs are made once, in a folder below TMPDIR, which is removed at the end. The plans run in
+turn, five times each. Printed are the least wall time and the least processor time, each also as a multiple of that without writers, and
+whether the answers are the same bytes.
+"""
+import hashlib, os, resource, shutil, subprocess, sys, tempfile, time
+import runs
+
+TIMES, WRITERS = 5, (0, 1, 2, 4)
+
+
+def run(program, plan):
+    """The wall time and the processor time of a run, in seconds."""
+    before, start = resource.getrusage(resource.RUSAGE_CHILDREN), time.monotonic()
+    done = subprocess.run([program, "run", plan], capture_output=True, check=False)
+    wall, after = time.monotonic() - start, resource.getrusage(resource.RUSAGE_CHILDREN)
+    if done.returncode != 0:
+        sys.exit(f"{plan}: status {done.returncode}: {done.stdout.decode()}")
+    return wall, after.ru_utime + after.ru_stime - before.ru_utime - before.ru_stime
+
+
+def times_of(program, what):
+    for name, (header, rows, line) in what["files"].items():
+        runs.make(name, header, rows, line)
+    for count in WRITERS:
+        with open(f"plan{count}", "w", encoding="ascii") as out:
+            out.write(what["plan"].replace("writers = 0", f"writers = {count}"))
+    best, answer = {}, None
+    for _ in range(TIMES):
+        for count in WRITERS:
+            took = run(program, f"plan{count}")
+            best[count] = tuple(map(min, best.get(count, took), took))
+            found = hashlib.sha256(open("answer.csv", "rb").read()).hexdigest()
+            answer = answer or found
+            if found != answer:
+                sys.exit(f"{what['name']}: another answer with {count} writers")
+    return best
+
+
+def main():
+    program = os.path.abspath(sys.argv[1])
+    of = lambda rows: max(1, int(rows * (float(sys.argv[2]) if len(sys.argv) > 2 else 1)))
+    folder = tempfile.mkdtemp(prefix="writers")
+    os.chdir(folder)
+    try:
+        for what in (runs.group(of(6000000), of(3000000), 16 << 20, 65536, 1), runs.join(of(4000000), of(200000), 16 << 20, 65536, 1, 1)):
+            print(what["name"])
+            best = times_of(program, what)
+            for count, (wall, cpu) in best.items():
+                print(f"  {count} writers {wall:7.2f} s ({wall / best[0][0]:.2f})  processor {cpu:7.2f} s ({cpu / best[0][1]:.2f})")
+    finally:
+        os.chdir("/")
+        shutil.rmtree(folder)
+
+
+if __name__ == "__main__":
+    main()
