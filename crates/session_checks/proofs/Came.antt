@@ -15,6 +15,17 @@ use Rattle.pool.specs.Sitting.{Sitting}
 use Rattle.pool.specs.Asking.{Admits, Answers, AreNew, IsNew, came_in}
 use Rattle.session_checks.specs.Ending.{AllCanEnd, CanEnd, came_by}
 
+-- of things that are seen so
+pub each_seen : {X S : Type 0} (P : S → Type 0) (see : X → S) (xs : List X) → All P (map see xs) → All (λ x. P (see x)) xs
+each_seen P see [] all = All-nil (λ x. P (see x))
+each_seen P see (x ∷ xs) all = All-cons (λ y. P (see y)) x xs (All-head P (see x) (map see xs) all) (each_seen P see xs (All-tail P (see x) (map see xs) all))
+
+-- the last one goes
+pub last_of : {X : Type 0} (P : X → Type 0) (xs ys : List X) (r : Option X) (x : X) → xs ≡ ys ++ option_to_list r → r ≡ Some x → All P xs → All P ys × P x
+last_of P xs ys r x is some all =
+    let both : All P ys × IfSome r P = All-pop P xs ys r is all in
+    (both.0, subst (λ q. IfSome q P) some both.1)
+
 module _ (o : Opening) (told : Bool) where
   one_can : (pass : Spot Item) (ask : Ask) (s : Sitting) → IsNew o told pass ask s → CanEnd o told pass.table s
   one_can pass ask s new = record { table = new.table; no_client = new.held.live_clients }
@@ -30,18 +41,12 @@ module _ (o : Opening) (told : Bool) where
       let both = first_can pass ask asks (see x) (map see xs) new in
       All-cons (λ y. AllCanEnd o told pass.table (see y)) x xs both.0 (all_can pass see asks xs both.1)
 
-  -- of sessions that are seen so
-  pub each_can : {X : Type 0} (lock : TableId) (see : X → Sitting) (xs : List X) → All (CanEnd o told lock) (map see xs) → All (λ x. CanEnd o told lock (see x)) xs
-  each_can lock see [] can = All-nil (λ x. CanEnd o told lock (see x))
-  each_can lock see (x ∷ xs) can = All-cons (λ y. CanEnd o told lock (see y)) x xs (All-head (CanEnd o told lock) (see x) (map see xs) can) (each_can lock see xs (All-tail (CanEnd o told lock) (see x) (map see xs) can))
-
   -- the last answer goes, and the pass is still at the lock
   pub next_can : {X : Type 0} (lock now : TableId) (see : X → Result (List Sitting) PoolErr) (xs ys : List X) (r : Option X) (x : X) → xs ≡ ys ++ option_to_list r → r ≡ Some x → now ≡ lock → All (λ y. AllCanEnd o told lock (see y)) xs
       → All (λ y. AllCanEnd o told lock (see y)) ys × AllCanEnd o told now (see x)
   next_can lock now see xs ys r x is some at can =
-      let both : All (λ y. AllCanEnd o told lock (see y)) ys × IfSome r (λ y. AllCanEnd o told lock (see y)) = All-pop (λ y. AllCanEnd o told lock (see y)) xs ys r is can in
-      let its : IfSome (Some x) (λ y. AllCanEnd o told lock (see y)) = subst (λ q. IfSome q (λ y. AllCanEnd o told lock (see y))) some both.1 in
-      (both.0, subst (λ (t : TableId). AllCanEnd o told t (see x)) (sym at) its)
+      let both = last_of (λ y. AllCanEnd o told lock (see y)) xs ys r x is some can in
+      (both.0, subst (λ (t : TableId). AllCanEnd o told t (see x)) (sym at) both.1)
 
 first_came : (a : Result (List Sitting) PoolErr) (rest : Answers) → came_in (a ∷ rest) ≡ came_by a + came_in rest
 first_came (Ok sessions) rest = refl

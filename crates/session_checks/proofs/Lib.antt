@@ -1,2 +1,3 @@
+mod Bare
 mod Came
 mod Quotas

@@ -1,7 +1,11 @@
-//! Worked rows of sessions that come and go.
+//! Worked rows of sessions that come and go, and of a writer beside them.
+ghost use Rattle.std.specs.Prelude.{◌≤◌, vec_len};
+ghost use Rattle.pin_core.specs.Setup.{OpensWith};
 
 mod asks;
+mod owners;
 mod seats;
+mod writers;
 
 use asks::Asked;
 use outside::MemSlot;
@@ -13,27 +17,41 @@ use std::alloc::Global;
 use std::process::Abort;
 use std::sync::Wait;
 use std::test::Fail;
+use std::thread::Threads;
+use writers::Writing;
 
-// Plays a scene over eight blocks of 64 bytes and eight slots in memory.
+// Plays a scene over eight blocks of 64 bytes and eight slots in memory, each of which fails at these of its calls.
+fn play<R: Threads + Wait + Abort + Sync>(rt: &R, alloc: Global, fails: &[u64], scene: &Scene) {
+    let slots = eight_slots(rt, alloc, fails);
+    played(rt, alloc, &eight_blocks(), slots, scene);
+}
+
 #[tactic(auto, unfolding(pool_model::specs::Bytes::bytes_of))]
-fn play<R: Wait + Abort>(rt: &R, alloc: Global, scene: &Scene) {
-    let mut slots = Vec::new(alloc);
-    for _ in 0..8 {
-        let slot = MemSlot::new(alloc, &[]).expect(rt, "a slot");
-        slots.push(slot).expect(rt, "a slot");
-    }
-    assert!(rt; slots.len() <= 8);
-    let conf = PoolConf {
+fn eight_blocks() -> PoolConf
+    ensures { OpensWith result }
+{
+    PoolConf {
         blocks: 8,
         block_len: 64,
         first_name: 1,
-    };
-    played(rt, alloc, &conf, slots, scene);
+    }
+}
+
+fn eight_slots<R: Abort>(rt: &R, alloc: Global, fails: &[u64]) -> Vec<MemSlot>
+    ensures { vec_len result ≤ 8 }
+{
+    let mut slots = Vec::new(alloc);
+    for _ in 0..8 {
+        let slot = MemSlot::new(alloc, fails).expect(rt, "a slot");
+        slots.push(slot).expect(rt, "a slot");
+    }
+    assert!(rt; slots.len() <= 8);
+    slots
 }
 
 #[test]
 fn a_third_session_comes_once_one_has_ended(rt: HostRuntime) -> Result<(), Fail> {
-    play(&rt, rt.alloc(), &Scene::ThirdWaits);
+    play(&rt, rt.alloc(), &[], &Scene::ThirdWaits);
     Ok(())
 }
 
@@ -41,13 +59,13 @@ fn a_third_session_comes_once_one_has_ended(rt: HostRuntime) -> Result<(), Fail>
 fn each_of_240_numbers_has_a_session_before_one_is_turned_away(
     rt: HostRuntime,
 ) -> Result<(), Fail> {
-    play(&rt, rt.alloc(), &Scene::Numbers(240));
+    play(&rt, rt.alloc(), &[], &Scene::Numbers(240));
     Ok(())
 }
 
 #[test]
 fn two_sessions_do_all_that_a_store_can_in_turn(rt: HostRuntime) -> Result<(), Fail> {
-    play(&rt, rt.alloc(), &Scene::Walk);
+    play(&rt, rt.alloc(), &[], &Scene::Walk);
     Ok(())
 }
 
@@ -69,7 +87,7 @@ fn sessions_that_come_in_turn_get_what_is_left(rt: HostRuntime) -> Result<(), Fa
         least,
         answer,
     });
-    play(&rt, rt.alloc(), &Scene::Rows(&rows));
+    play(&rt, rt.alloc(), &[], &Scene::Rows(&rows));
     Ok(())
 }
 
@@ -89,7 +107,31 @@ fn asks_of_one_turn_get_all_of_their_sessions_or_none(rt: HostRuntime) -> Result
             asked(63, 0, 64, 1, refusal(none, 64, 63)),
         ],
     ];
-    play(&rt, rt.alloc(), &Scene::Asks(&turns));
+    play(&rt, rt.alloc(), &[], &Scene::Asks(&turns));
+    Ok(())
+}
+
+#[test]
+fn a_writer_stores_the_pages_of_two_sessions(rt: HostRuntime) -> Result<(), Fail> {
+    play(&rt, rt.alloc(), &[], &Scene::Writes(Writing::Two));
+    Ok(())
+}
+
+#[test]
+fn a_page_whose_store_failed_is_stored_later(rt: HostRuntime) -> Result<(), Fail> {
+    play(&rt, rt.alloc(), &[0], &Scene::Writes(Writing::Failing));
+    Ok(())
+}
+
+#[test]
+fn a_session_has_turns_while_a_page_is_stored(rt: HostRuntime) -> Result<(), Fail> {
+    play(&rt, rt.alloc(), &[], &Scene::Writes(Writing::HeldStore));
+    Ok(())
+}
+
+#[test]
+fn a_session_is_held_at_its_gate(rt: HostRuntime) -> Result<(), Fail> {
+    play(&rt, rt.alloc(), &[], &Scene::Writes(Writing::HeldLoad));
     Ok(())
 }
 

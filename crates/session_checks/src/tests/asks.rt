@@ -1,10 +1,11 @@
 // Sessions that are asked for together, in one turn of a pool.
 ghost use Rattle.std.specs.Prelude.{◌≡◌, ◌≤◌, ◌+◌, vec_len};
 ghost use Rattle.std.specs.List.{All};
+ghost use Rattle.pool.specs.Passing.{writers_out};
 ghost use Rattle.pool.specs.Seats.{live_in};
 ghost use Rattle.pool.specs.Remaining.{quotas_of};
 ghost use Rattle.pool.specs.Asking.{answer_of};
-ghost use Rattle.session_checks.specs.Ending.{CanEnd, AllCanEnd, came_by};
+ghost use Rattle.session_checks.specs.Ending.{AsMany, CanEnd, AllCanEnd, came_by};
 
 use outside::Slot;
 use pool::{Ask, At, OpenedAs, Pass, Pool, Session};
@@ -32,7 +33,7 @@ pub fn ask_turns<T: OpenedAs, D: Slot + Drop, R: Wait + Abort>(
 )
     requires table { pass.old.table ≡ pool.now }
     ensures table { pass.new.table ≡ pool.now }
-    ensures count { live_in pass.new.knows.seen ≡ live_in pass.old.knows.seen }
+    ensures count { AsMany pass.old pass.new }
 {
     for asked in turns {
         ask_together(rt, alloc, pool, pass, asked);
@@ -48,7 +49,7 @@ fn ask_together<T: OpenedAs, D: Slot + Drop, R: Wait + Abort>(
 )
     requires table { pass.old.table ≡ pool.now }
     ensures table { pass.new.table ≡ pool.now }
-    ensures count { live_in pass.new.knows.seen ≡ live_in pass.old.knows.seen }
+    ensures count { AsMany pass.old pass.new }
 {
     let asks = asks_of(rt, alloc, pass.spare(), asked);
     let Ok(mut answers) = pool.sessions::<R, Brand>(alloc, rt, pass, &asks) else {
@@ -92,6 +93,7 @@ fn end_answered<'a, N: At, T: OpenedAs, D: Slot + Drop, R: Wait + Abort>(
     requires end { AllCanEnd T.opening T.told pass.old.table (answer_of (λ v. v.items) (λ s. s.seat) answer) }
     ensures table { pass.new.table ≡ pass.old.table }
     ensures count { live_in pass.new.knows.seen + came_by (answer_of (λ v. v.items) (λ s. s.seat) answer.entry) ≡ live_in pass.old.knows.seen }
+    ensures writers { writers_out pass.new ≡ writers_out pass.old }
 {
     match answer {
         Ok(sessions) => {
@@ -113,6 +115,7 @@ fn end_all<'a, N: At, T: OpenedAs, D: Slot + Drop, R: Wait + Abort>(
     requires end { All (λ s. CanEnd T.opening T.told pass.old.table s.seat) sessions.items }
     ensures table { pass.new.table ≡ pass.old.table }
     ensures count { live_in pass.new.knows.seen + vec_len sessions.entry ≡ live_in pass.old.knows.seen }
+    ensures writers { writers_out pass.new ≡ writers_out pass.old }
 {
     for _i in 0..sessions.len() {
         let session = sessions.pop().unwrap();

@@ -4,10 +4,11 @@ ghost use Rattle.std.specs.Prelude.{◌≡◌, ◌≤◌, Some, length, vec_len}
 ghost use Rattle.std.specs.Option.{ForSome};
 ghost use Rattle.pin_core.specs.Setup.{OpensWith};
 ghost use Rattle.pool.specs.Opening.{OpensAs};
-ghost use Rattle.pool.specs.Seats.{live_in};
 ghost use Rattle.pool.specs.Seating.{Begins};
+ghost use Rattle.session_checks.specs.Ending.{AsMany};
 
 use crate::tests::asks::{Asked, ask_turns};
+use crate::tests::writers::{Writing, write_beside};
 use outside::Slot;
 use pin_core::PoolConf;
 use pool::{At, OpenedAs, Pass, Pool, Session};
@@ -16,6 +17,7 @@ use std::alloc::Global;
 use std::marker::Brand;
 use std::process::Abort;
 use std::sync::Wait;
+use std::thread::Threads;
 use store_api::{Walked, walk};
 
 // What a session asks for, and what it is answered.
@@ -40,10 +42,12 @@ pub enum Scene<'a> {
     Rows(&'a [Row]),
     // Each three are asked for in one turn, and those that came end before the next turn.
     Asks(&'a [[Asked; 3]]),
+    // A writer begins, and stores pages of sessions.
+    Writes(Writing),
 }
 
 // A pool opens, the scene is played, and all slots come back.
-pub fn played<D: Slot + Drop, R: Wait + Abort>(
+pub fn played<D: Slot + Drop + Send, R: Threads + Wait + Abort + Sync>(
     rt: &R,
     alloc: Global,
     conf: &PoolConf,
@@ -57,7 +61,7 @@ pub fn played<D: Slot + Drop, R: Wait + Abort>(
 }
 
 // The same, where `T` names with what the pool opens.
-fn played_as<T: OpenedAs, D: Slot + Drop, R: Wait + Abort>(
+fn played_as<T: OpenedAs + Send, D: Slot + Drop + Send, R: Threads + Wait + Abort + Sync>(
     rt: &R,
     alloc: Global,
     conf: &PoolConf,
@@ -79,6 +83,9 @@ fn played_as<T: OpenedAs, D: Slot + Drop, R: Wait + Abort>(
         Scene::Walk => two_walk::<Brand, T, D, R>(rt, alloc, &pool, &mut pass),
         Scene::Rows(rows) => seat_rows(rt, alloc, &pool, &mut pass, rows, 0),
         Scene::Asks(turns) => ask_turns(rt, alloc, &pool, &mut pass, turns),
+        Scene::Writes(writing) => {
+            write_beside::<Brand, T, D, R>(rt, alloc, &pool, &mut pass, *writing);
+        }
     }
     assert_eq!(rt; pass.spare() as usize, count);
     assert_eq!(rt; pool.close(pass).len(), count);
@@ -92,7 +99,7 @@ fn third_waits<T: OpenedAs, D: Slot + Drop, R: Wait + Abort>(
 )
     requires table { pass.old.table ≡ pool.now }
     ensures table { pass.new.table ≡ pool.now }
-    ensures count { live_in pass.new.knows.seen ≡ live_in pass.old.knows.seen }
+    ensures count { AsMany pass.old pass.new }
 {
     let one = seated::<Brand, T, D, R>(rt, alloc, pool, pass, 256, 4);
     let two = seated::<Brand, T, D, R>(rt, alloc, pool, pass, 256, 4);
@@ -119,7 +126,7 @@ fn two_walk<'x, N: At, T: OpenedAs, D: Slot + Drop, R: Wait + Abort>(
     requires named { N.table ≡ Some pool.now }
     requires table { pass.old.table ≡ pool.now }
     ensures table { pass.new.table ≡ pool.now }
-    ensures count { live_in pass.new.knows.seen ≡ live_in pass.old.knows.seen }
+    ensures count { AsMany pass.old pass.new }
 {
     let mut one = seated::<N, T, D, R>(rt, alloc, pool, pass, 256, 4);
     let mut two = seated::<N, T, D, R>(rt, alloc, pool, pass, 256, 4);
@@ -146,7 +153,7 @@ fn seat_more<T: OpenedAs, D: Slot + Drop, R: Wait + Abort>(
 )
     requires table { pass.old.table ≡ pool.now }
     ensures table { pass.new.table ≡ pool.now }
-    ensures count { live_in pass.new.knows.seen ≡ live_in pass.old.knows.seen }
+    ensures count { AsMany pass.old pass.new }
 {
     if more == 0 {
         let full = PoolErr::TooManyTrackers { count: 240 };
@@ -169,7 +176,7 @@ fn seat_rows<T: OpenedAs, D: Slot + Drop, R: Wait + Abort>(
     requires table { pass.old.table ≡ pool.now }
     requires at { at ≤ length rows.now }
     ensures table { pass.new.table ≡ pool.now }
-    ensures count { live_in pass.new.knows.seen ≡ live_in pass.old.knows.seen }
+    ensures count { AsMany pass.old pass.new }
 {
     if at == rows.len() {
         return;
@@ -190,7 +197,7 @@ fn seat_rows<T: OpenedAs, D: Slot + Drop, R: Wait + Abort>(
 }
 
 // A session that has so many bytes, and so many slots.
-fn seated<'a, N: At, T: OpenedAs, D: Slot + Drop, R: Wait + Abort>(
+pub fn seated<'a, N: At, T: OpenedAs, D: Slot + Drop, R: Wait + Abort>(
     rt: &'a R,
     alloc: Global,
     pool: &'a Pool<D, T>,
@@ -219,7 +226,7 @@ fn turned_away<T: OpenedAs, D: Slot + Drop, R: Wait + Abort>(
 ) -> PoolErr
     requires table { pass.old.table ≡ pool.now }
     ensures table { pass.new.table ≡ pool.now }
-    ensures count { live_in pass.new.knows.seen ≡ live_in pass.old.knows.seen }
+    ensures count { AsMany pass.old pass.new }
 {
     assert!(rt; pass.spare() <= 8);
     match pool.session::<R, Brand>(alloc, rt, pass, bytes, 0, bytes) {

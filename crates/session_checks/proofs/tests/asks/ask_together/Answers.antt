@@ -9,7 +9,7 @@ pub loop-i-init : goal.loop-i-init
 loop-i-init g c =
     let len = c.len.ensures in
     let live = all_live g.T.OpenedAs.opening g.T.OpenedAs.told c.args.pool.now c.deref.result.now c.args.pass.now c.sessions.new.pass (answer_of (λ v. v.items) (λ s. s.seat)) c.in-Ok.answers.items c.in-Ok.ensures.ok c.requires.table in
-    (omega (arith, len), live.0, live.1, live.2)
+    (omega (arith, len), live.0, live.1, live.2, c.in-Ok.ensures.ok.writers)
 
 pub end_answered-requires : goal.end_answered-requires
 end_answered-requires g c = record {
@@ -29,10 +29,14 @@ loop-i-preserved g c =
       left.0,
       less_live (answer_of (λ v. v.items) (λ s. s.seat)) c.loop-i.answers.items c.pop.new.self.items c.pop.result c.unwrap-answer.result (live_in c.args.pass.now.knows.seen) (live_in c.loop-i.pass.knows.seen) (live_in c.end_answered.new.pass.knows.seen)
           c.pop.ensures.items c.unwrap-answer.ensures c.loop-i.invariant.3 c.end_answered.ensures.count,
+      c.end_answered.ensures.writers ∙ c.loop-i.invariant.4,
     )
 
 pub returns-clause-count : goal.returns-clause-count
 returns-clause-count g c =
     let sum = c.loop-i.invariant.0 in
     let done = c.loop-i-test.false in
-    none_live (answer_of (λ v. v.items) (λ s. s.seat)) c.loop-i.answers.items _ (live_in c.args.pass.now.knows.seen) (live_in c.loop-i.pass.knows.seen) c.loop-i.answers.ok.0 (omega (arith, sum, done)) c.loop-i.invariant.3
+    record {
+      sessions = none_live (answer_of (λ v. v.items) (λ s. s.seat)) c.loop-i.answers.items _ (live_in c.args.pass.now.knows.seen) (live_in c.loop-i.pass.knows.seen) c.loop-i.answers.ok.0 (omega (arith, sum, done)) c.loop-i.invariant.3;
+      writers = c.loop-i.invariant.4;
+    }

@@ -1,5 +1,6 @@
 use Rattle.std.proofs.Common.{◌≡◌, ◌+◌, vec_len}
 use Rattle.std.specs.List.{All, sum_by}
+use Rattle.pool.specs.Passing.{writers_out}
 use Rattle.pool.specs.Seats.{live_in}
 use Rattle.pool.specs.Asking.{answer_of}
 use Rattle.session_checks.specs.Ending.{AllCanEnd, came_by}
@@ -11,3 +12,4 @@ invariant-loop-i g l =
     (vec_len l.answers + l.i ≡ l.i-end) × (l.pass.table ≡ l.pool)
     × All (λ a. AllCanEnd g.T.OpenedAs.opening g.T.OpenedAs.told l.pool (answer_of (λ v. v.items) (λ s. s.seat) a)) l.answers.items
     × (live_in l.pass.knows.seen ≡ live_in l.fn.pass.knows.seen + sum_by (λ a. came_by (answer_of (λ v. v.items) (λ s. s.seat) a)) l.answers.items)
+    × (writers_out l.pass ≡ writers_out l.fn.pass)
