@@ -5,13 +5,14 @@ usage: writers.py PROGRAM [SCALE]      (SCALE: a factor for all numbers of rows,
 
 Two plans: a grouping of 6,000,000 rows in 3,000,000 groups in 16 MiB, which writes some 200 MB to scratch, and a join of 4,000,000 orders with
 200,000 customers in 16 MiB, grouped in 5. The inputs are made once, in a folder below TMPDIR, which is removed at the end. The plans run in
-turn, five times each. Printed are the least wall time and the least processor time, each also as a multiple of that without writers, and
-whether the answers are the same bytes.
+turn, five times each. Printed are the least wall time and the least processor time, each also as a multiple of that without writers. Then a
+plan of 16 queries that spill runs twenty times with 8 writers. It exits with 1 where an answer has other bytes than without writers.
 """
 import hashlib, os, resource, shutil, subprocess, sys, tempfile, time
-import runs
+import plans, runs
 
 TIMES, WRITERS = 5, (0, 1, 2, 4)
+QUERIES, OFTEN = 16, 20
 
 
 def run(program, plan):
@@ -42,6 +43,30 @@ def times_of(program, what):
     return best
 
 
+def query(number):
+    return {"page_blocks": 1, "limit": 1 << 17, "quota": 4000, "output": f"answer{number}.csv", "group": ["value"],
+            "agg": [{"op": "count"}, {"op": "sum", "column": "amount"}],
+            "left": {"file": "many.csv", "columns": ["value:text", "amount:int"],
+                     "filter": [{"column": "amount", "op": "!=", "value": number}]}}
+
+
+def answers_of(program, writers):
+    doc = {"block_len": 4096, "blocks": QUERIES * (1 << 17) // 4096, "writers": writers, "query": [query(n) for n in range(QUERIES)]}
+    with open("many", "w", encoding="ascii") as out:
+        out.write("".join(f"{key} = {plans.toml(value)}\n" for key, value in doc.items()))
+    run(program, "many")
+    return [hashlib.sha256(open(f"answer{n}.csv", "rb").read()).hexdigest() for n in range(QUERIES)]
+
+
+def run_many(program, rows):
+    runs.make("many.csv", "id,value,amount\n", rows, lambda i, x: f"{i},v{x // 2},{x % 100}\n")
+    alone = answers_of(program, 0)
+    for _ in range(OFTEN):
+        if answers_of(program, 8) != alone:
+            sys.exit(f"{QUERIES} queries: another answer with 8 writers")
+    print(f"{QUERIES} queries with 8 writers, {OFTEN} times: the same answers")
+
+
 def main():
     program = os.path.abspath(sys.argv[1])
     of = lambda rows: max(1, int(rows * (float(sys.argv[2]) if len(sys.argv) > 2 else 1)))
@@ -53,6 +78,7 @@ def main():
             best = times_of(program, what)
             for count, (wall, cpu) in best.items():
                 print(f"  {count} writers {wall:7.2f} s ({wall / best[0][0]:.2f})  processor {cpu:7.2f} s ({cpu / best[0][1]:.2f})")
+        run_many(program, of(60000))
     finally:
         os.chdir("/")
         shutil.rmtree(folder)
