@@ -5,13 +5,13 @@ usage: writers.py PROGRAM [SCALE]      (SCALE: a factor for all numbers of rows,
 
 Two plans: a grouping of 6,000,000 rows in 3,000,000 groups in 16 MiB, which writes some 200 MB to scratch, and a join of 4,000,000 orders with
 200,000 customers in 16 MiB, grouped in 5. The inputs are made once, in a folder below TMPDIR, which is removed at the end. The plans run in
-turn, five times each. Printed are the least wall time and the least processor time, each also as a multiple of that without writers. Then a
+turn, seven times each. Printed are the least wall time and the least processor time, each also as a multiple of that without writers. Then a
 plan of 16 queries that spill runs twenty times with 8 writers. It exits with 1 where an answer has other bytes than without writers.
 """
 import hashlib, os, resource, shutil, subprocess, sys, tempfile, time
 import plans, runs
 
-TIMES, WRITERS = 5, (0, 1, 2, 4)
+TIMES, WRITERS = 7, (0, 1, 2, 4)
 QUERIES, OFTEN = 16, 20
 
 
