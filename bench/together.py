@@ -1,16 +1,17 @@
 #!/usr/bin/env python3
 """Times `run` of the program on plans of one to four queries beside each of these queries alone.
 
-usage: together.py PROGRAM [ROWS]      (ROWS: rows of each input, 2,000,000 by default)
+usage: together.py PROGRAM [ROWS] [GROUPS]      (rows of each input, 2,000,000 by default, and their groups, 50,000 by default)
 
-Each query groups a file of its own by 50,000 texts; the files are made once, in a folder below TMPDIR, which is removed at the end. All
-queries fit their memory. The plans run in turn, five times each: each query alone, then the plans of W queries. Printed are the least wall
-time and the least processor time, the wall time of W queries as a multiple of the longest of them alone, and whether the outputs are the same.
+Each query groups a file of its own by a text; the files are made once, in a folder below TMPDIR, which is removed at the end. All
+queries fit their memory. In turn, five times each, run: each query alone; W queries in one plan; and, as programs that share nothing, W runs
+of one query each, started together. Printed are the least wall time and the least processor time, and the wall time as a multiple of that of
+the longest of these queries alone. It exits with 1 where a query of a plan has another output than alone.
 """
 import hashlib, os, resource, shutil, subprocess, sys, tempfile, time
 import plans, runs
 
-GROUPS, MEMORY, BLOCK_LEN, TIMES, MOST = 50000, 32 << 20, 8192, 5, 4
+MEMORY, BLOCK_LEN, TIMES, MOST = 32 << 20, 8192, 5, 4
 
 
 def query(number):
@@ -25,13 +26,15 @@ def write_plan(name, numbers):
         out.write("".join(f"{key} = {plans.toml(value)}\n" for key, value in doc.items()))
 
 
-def run(program, plan):
-    """The wall time and the processor time of a run, in seconds."""
+def run(program, names):
+    """The wall time and the processor time of runs of these plans that are started together, in seconds."""
     before, start = resource.getrusage(resource.RUSAGE_CHILDREN), time.monotonic()
-    done = subprocess.run([program, "run", plan], capture_output=True, check=False)
+    started = [subprocess.Popen([program, "run", name], stdout=subprocess.PIPE) for name in names]
+    for name, one in zip(names, started):
+        said = one.communicate()[0]
+        if one.returncode != 0:
+            sys.exit(f"{name}: status {one.returncode}: {said.decode()}")
     wall, after = time.monotonic() - start, resource.getrusage(resource.RUSAGE_CHILDREN)
-    if done.returncode != 0:
-        sys.exit(f"{plan}: status {done.returncode}: {done.stdout.decode()}")
     return wall, after.ru_utime + after.ru_stime - before.ru_utime - before.ru_stime
 
 
@@ -42,28 +45,30 @@ def digests(numbers):
 def main():
     program = os.path.abspath(sys.argv[1])
     rows = int(sys.argv[2]) if len(sys.argv) > 2 else 2000000
+    groups = int(sys.argv[3]) if len(sys.argv) > 3 else 50000
     folder = tempfile.mkdtemp(prefix="together")
     os.chdir(folder)
     try:
         for n in range(MOST):
-            runs.make(f"table{n}.csv", "id,value,amount\n", rows, lambda i, x, n=n: f"{i},v{(x + n) % GROUPS},{x // GROUPS % 100}\n")
-        named = {f"alone {n}": [n] for n in range(MOST)} | {f"{w} together": list(range(w)) for w in range(1, MOST + 1)}
-        for name, numbers in named.items():
+            runs.make(f"table{n}.csv", "id,value,amount\n", rows, lambda i, x, n=n: f"{i},v{(x + n) % groups},{x // groups % 100}\n")
+        plans_of = {f"alone {n}": [n] for n in range(MOST)} | {f"{w} in one plan": list(range(w)) for w in range(1, MOST + 1)}
+        for name, numbers in plans_of.items():
             write_plan(name, numbers)
+        apart = {f"{w} runs": list(range(w)) for w in range(1, MOST + 1)}
         best, answers = {}, {}
         for _ in range(TIMES):
-            for name, numbers in named.items():
-                took = run(program, name)
+            for name, numbers in (plans_of | apart).items():
+                took = run(program, [f"alone {n}" for n in numbers] if name in apart else [name])
                 best[name] = tuple(map(min, best.get(name, took), took))
                 found = digests(numbers)
                 if name.startswith("alone"):
                     answers[numbers[0]] = found[0]
                 elif found != [answers[n] for n in numbers]:
                     sys.exit(f"{name}: another answer than alone")
-        for name, numbers in named.items():
+        for name, numbers in (plans_of | apart).items():
             wall, cpu = best[name]
             longest = max(best[f"alone {n}"][0] for n in numbers)
-            print(f"{name:12} {wall:6.2f} s  processor {cpu:6.2f} s  {wall / longest:5.2f} of the longest alone")
+            print(f"{name:14} {wall:6.2f} s  processor {cpu:6.2f} s  {wall / longest:5.2f} of the longest alone")
     finally:
         os.chdir("/")
         shutil.rmtree(folder)

@@ -7,7 +7,8 @@ use Rattle.pool_model.specs.declared.event.Event.{Event}
 use Rattle.pool_model.specs.declared.event.Event.TheVariants.{StartWrite}
 use Rattle.pool_model.specs.LookingBack.{content_from, opens}
 use Rattle.pool_model.specs.State.{Opening, State, dirty_of, page_at}
-use Rattle.pool_model.specs.Legal.{state_after}
+use Rattle.pool_model.specs.Legal.{Follow, IsLegal, state_after}
+use Rattle.pool_model.proofs.Fronts.{legal_grows_so}
 use Rattle.store_api.specs.Entries.{by}
 use Rattle.pin_core.specs.declared.jobs.WriteJob.{WriteJob}
 use Rattle.pin_core.specs.declared.tally.Tally.{Tally}
@@ -116,9 +117,14 @@ module _ {D : Type 0} (slot : Ghosts D) (o : Opening) (told : Bool) (first : Tal
     finds (Write job) found =
         let sends : Sends slot o told hand next job = found.1 in
         let events : List Event = StartWrite job.id.name ∷ [] in
+        let grows_so : Follow (history spot.knows.seen) (state_in o spot.knows.seen) (by was.number events) =
+        legal_grows_so o (history spot.knows.seen) (by was.number events)
+        (subst (IsLegal o) (trail_on next events (count.Out job.id.name (tally_of slot job.row) ∷ []) sends.session sends.trail sends.counts
+        ∙ ap (λ (m : ℕ). history spot.knows.seen ++ by m events) (number next events (count.Out job.id.name (tally_of slot job.row) ∷ []) sends.session sends.trail sends.counts)) sends.whole.stands.legal) in
         let went : List Count = count.Out job.id.name (tally_of slot job.row) ∷ [] in (
           found.0,
           seen_on next events went sends.session sends.trail sends.counts new grows,
+          grows_so.0.allows,
           subst (λ (s : Sight). IsOut slot o told was.number s job) (sym (sight_on next events went sends.session sends.trail sends.counts new grows))
               (subst (λ (m : ℕ). IsOut slot o told m (sight_of next) job) takes.session sends.out),
         )

@@ -4,6 +4,7 @@ use Rattle.outside.specs.declared.slot.Slot.{Ghosts}
 use Rattle.pool_model.specs.Makers.{IsWriter}
 use Rattle.pool_model.specs.declared.event.Event.TheVariants.{StartWrite}
 use Rattle.pool_model.specs.LookingBack.{content_from}
+use Rattle.pool_model.specs.ScratchRows.{MayStartWrite}
 use Rattle.pool_model.specs.State.{Opening, dirty_of, page_at}
 use Rattle.pin_core.specs.declared.jobs.WriteJob.{WriteJob}
 use Rattle.pin_core.specs.declared.tally.Tally.{Tally}
@@ -74,12 +75,12 @@ module _ {D : Type 0} (slot : Ghosts D) (o : Opening) (told : Bool) (first : Tal
   abbrev pub sending_items : ℕ → WriteJob D → List Item
   sending_items m job = Made (record { maker = m; event = StartWrite job.id.name }) ∷ Went m (count.Out job.id.name (tally_of slot job.row)) ∷ []
 
-  -- what a writer's turn found, where these items were entered before it: exactly where writers have to end, that they have to; else that
-  -- no page is dirty, or one, which goes out
+  -- what a writer's turn found, where these items were entered before it: exactly where writers have to end, that they have to; else exactly
+  -- where no page is dirty, that none is; else a page that may go out, the newest dirty one of its client, which goes out
   abbrev pub Finds : ℕ → List Item → List Item → WriterTurn D → Type 0
   Finds m entered after Stopped = (is_stopped entered ≡ true) × (after ≡ entered)
   Finds m entered after Nothing = (is_stopped entered ≡ false) × (after ≡ entered) × ((c : ℕ) → dirty_of (state_in o entered) c ≡ [])
-  Finds m entered after (Write job) = (is_stopped entered ≡ false) × (after ≡ entered ++ sending_items m job) × IsOut slot o told m (sight_in first after) job
+  Finds m entered after (Write job) = (is_stopped entered ≡ false) × (after ≡ entered ++ sending_items m job) × MayStartWrite (state_in o entered) m job.id.name × IsOut slot o told m (sight_in first after) job
 
   -- a writer took its turn
   pub record TakesTurn (old new : Sitting) (turn : WriterTurn D) : Type 0 where

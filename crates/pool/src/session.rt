@@ -44,26 +44,20 @@ impl<'a, D: Slot + Drop, R: Wait, T: OpenedAs, N: At> Session<'a, D, R, T, N, Op
     pub fn with_gate<G: Gate>(self, gate: &'a G, who: u32) -> GatedSession<'a, D, R, G, T, N>
         ensures { result.seat ≡ self.entry.seat }
     {
-        let Session {
-            rt,
-            turns,
-            at: _,
-            seat,
-            named,
-        } = self;
-        Session {
-            rt,
-            turns,
-            at: AtGate { gate, who },
-            seat,
-            named,
-        }
+        self.passing(AtGate { gate, who })
     }
 }
 
 impl<'a, D: Slot + Drop, R: Wait, T: OpenedAs, N: At, G: Gate> Session<'a, D, R, T, N, G> {
     /// The same session, which passes no gate.
     pub fn into_session(self) -> Session<'a, D, R, T, N>
+        ensures { result.seat ≡ self.entry.seat }
+    {
+        self.passing(AtGate::open())
+    }
+
+    // The same session, which passes these points.
+    fn passing<H: Gate>(self, at: AtGate<'a, H>) -> Session<'a, D, R, T, N, H>
         ensures { result.seat ≡ self.entry.seat }
     {
         let Session {
@@ -76,7 +70,7 @@ impl<'a, D: Slot + Drop, R: Wait, T: OpenedAs, N: At, G: Gate> Session<'a, D, R,
         Session {
             rt,
             turns,
-            at: AtGate::open(),
+            at,
             seat,
             named,
         }
