@@ -132,41 +132,34 @@ shapes block_len (query ∷ queries) (Ok sessions ∷ answers) left before after
 )
 shapes block_len (query ∷ queries) (Err e ∷ answers) left before after are room = (room.0, shapes block_len queries answers left before after are.1 room.1)
 
+one-or-refused : (answer : Result (List Sitting) PoolErr) → Shape answer → IsOneOrRefused answer
+one-or-refused (Ok sessions) is = is
+one-or-refused (Err (pool.NoReservation tracker wanted room)) is = tt
+one-or-refused (Err (pool.ScratchFull need free)) is = is
+one-or-refused (Err (pool.WriteFault entry)) is = is
+one-or-refused (Err (pool.ReadFault entry)) is = is
+one-or-refused (Err (pool.TooManyTrackers count)) is = is
+one-or-refused (Err pool.NamesSpent) is = is
+one-or-refused (Err pool.Memory) is = is
+
 -- ---- and so its job begins
 
 module _ {V St : Type 0} (items : V → List St) (see : St → Sitting) where
   abbrev pub seen_in : Result V PoolErr → Result (List Sitting) PoolErr
   seen_in answer = answer_of items see answer
 
-  abbrev pub got : Result V PoolErr → Result (List St) PoolErr
-  got answer = answer_of items (λ s. s) answer
+  pub all_one : (answers : List (Result V PoolErr)) → AllByRecursion Shape (map seen_in answers) → All (λ answer. IsOneOrRefused (seen_in answer)) answers
+  all_one [] are = All-nil (λ (answer : Result V PoolErr). IsOneOrRefused (seen_in answer))
+  all_one (answer ∷ answers) are = All-cons (λ (a : Result V PoolErr). IsOneOrRefused (seen_in a)) answer answers (one-or-refused (seen_in answer) are.0) (all_one answers are.1)
 
-  one-or-refused : (answer : Result V PoolErr) → Shape (seen_in answer) → IsOneOrRefused (got answer)
-  one-or-refused (Ok v) is = length-map (items v) (λ s. s) ∙ sym (length-map (items v) see) ∙ is
-  one-or-refused (Err (pool.NoReservation tracker wanted room)) is = tt
-  one-or-refused (Err (pool.ScratchFull need free)) is = is
-  one-or-refused (Err (pool.WriteFault entry)) is = is
-  one-or-refused (Err (pool.ReadFault entry)) is = is
-  one-or-refused (Err (pool.TooManyTrackers count)) is = is
-  one-or-refused (Err pool.NamesSpent) is = is
-  one-or-refused (Err pool.Memory) is = is
+module _ {S K : Type 0} (remaining_in : S → Option (List ℕ)) (reads : S → ℕ) (contents : K → Option (List ℕ)) (writes : K → ℕ) where
+  begins-so : (answer : Result (List Sitting) PoolErr) → work_of {S = S} {K = K} remaining_in reads contents writes (job_with answer) ≡ begun (option_map ending_of (refusal_in answer))
+  begins-so (Ok []) = refl
+  begins-so (Ok (s ∷ sessions)) = refl
+  begins-so (Err e) = refl
 
-  pub all_one : (answers : List (Result V PoolErr)) → AllByRecursion Shape (map seen_in answers) → All (λ answer. IsOneOrRefused (got answer)) answers
-  all_one [] are = All-nil (λ (answer : Result V PoolErr). IsOneOrRefused (got answer))
-  all_one (answer ∷ answers) are = All-cons (λ (a : Result V PoolErr). IsOneOrRefused (got a)) answer answers (one-or-refused answer are.0) (all_one answers are.1)
-
-  module _ {S K : Type 0} (remaining_in : S → Option (List ℕ)) (reads : S → ℕ) (contents : K → Option (List ℕ)) (writes : K → ℕ) where
-    work-begun : (sessions : List St) → work_of {S = S} {K = K} remaining_in reads contents writes (job_with (Ok sessions)) ≡ begun None
-    work-begun [] = refl
-    work-begun (s ∷ sessions) = refl
-
-    begins-so : (answer : Result V PoolErr) → work_of {S = S} {K = K} remaining_in reads contents writes (job_with (got answer)) ≡ begun (option_map ending_of (refusal_in (seen_in answer)))
-    begins-so (Ok v) = work-begun (map (λ (s : St). s) (items v))
-    begins-so (Err e) = refl
-
-    pub all_begin : (answers : List (Result V PoolErr))
-        → map (work_of {S = S} {K = K} remaining_in reads contents writes) (map (λ answer. job_with (got answer)) answers) ≡ map begun (map (option_map ending_of) (map refusal_in (map seen_in answers)))
-    all_begin [] = refl
-    all_begin (answer ∷ answers) =
-        ap (λ (w : Work). w ∷ map (work_of {S = S} {K = K} remaining_in reads contents writes) (map (λ (a : Result V PoolErr). job_with (got a)) answers)) (begins-so answer)
-        ∙ ap (λ (ws : List Work). begun (option_map ending_of (refusal_in (seen_in answer))) ∷ ws) (all_begin answers)
+  pub all_begin : (seen : Answers) → map (work_of {S = S} {K = K} remaining_in reads contents writes) (map job_with seen) ≡ map begun (map (option_map ending_of) (map refusal_in seen))
+  all_begin [] = refl
+  all_begin (answer ∷ seen) =
+      ap (λ (w : Work). w ∷ map (work_of {S = S} {K = K} remaining_in reads contents writes) (map job_with seen)) (begins-so answer)
+      ∙ ap (λ (ws : List Work). begun (option_map ending_of (refusal_in answer)) ∷ ws) (all_begin seen)

@@ -20,7 +20,7 @@ use Rattle.query_plan.specs.declared.plan.Query.{Query}
 use Rattle.spill_top.specs.Jobs.{Work, begun, work_of}
 use Rattle.spill_top.specs.Reserving.{refusals}
 use Rattle.spill_top.specs.Together.{ask_of, ending_of, job_with}
-use Rattle.spill_top.proofs.Coming.{IsForRoom, Shape, all_begin, all_for_room, got, refused_as, seen_in, shapes}
+use Rattle.spill_top.proofs.Coming.{IsForRoom, Shape, all_begin, all_for_room, refused_as, seen_in, shapes}
 use Rattle.spill_top.proofs.Phases.{refusals_len}
 
 -- what was asked for, in the pool's words
@@ -57,14 +57,14 @@ module _ {V St : Type 0} (items : V → List St) (see : St → Sitting) (o : Ope
       (subst (AllByRecursion IsForRoom) (sym refused_so) (all_for_room o.block_len queries (all_left o) enough))
 
   module _ (S K : Type 0) (remaining_in : S → Option (List ℕ)) (reads : S → ℕ) (contents : K → Option (List ℕ)) (writes : K → ℕ) where
-    pub begin_so : map (work_of {S = S} {K = K} remaining_in reads contents writes) (map (λ answer. job_with (got items see answer)) answers) ≡ map begun (refusals o.block_len (bytes_of o.block_len o.blocks) queries)
+    pub begin_so : map (work_of {S = S} {K = K} remaining_in reads contents writes) (map job_with (map (seen_in items see) answers)) ≡ map begun (refusals o.block_len (bytes_of o.block_len o.blocks) queries)
     begin_so =
-        all_begin items see remaining_in reads contents writes answers ∙ ap (λ (rs : List (Option PoolErr)). map begun (map (option_map ending_of) rs)) refused_so
+        all_begin remaining_in reads contents writes (map (seen_in items see) answers) ∙ ap (λ (rs : List (Option PoolErr)). map begun (map (option_map ending_of) rs)) refused_so
         ∙ ap (map begun) (refused_as o.block_len queries (all_left o) enough)
 
     -- as many answers as queries
     pub len_so : length answers ≡ length queries
     len_so =
-        sym (length-map answers (λ (answer : Result V PoolErr). job_with {S = S} {K = K} (got items see answer)))
-        ∙ sym (length-map (map (λ answer. job_with (got items see answer)) answers) (work_of {S = S} {K = K} remaining_in reads contents writes))
+        sym (length-map answers (seen_in items see)) ∙ sym (length-map (map (seen_in items see) answers) (job_with {S = S} {K = K}))
+        ∙ sym (length-map (map job_with (map (seen_in items see) answers)) (work_of {S = S} {K = K} remaining_in reads contents writes))
         ∙ ap (λ (ws : List Work). length ws) begin_so ∙ length-map (refusals o.block_len (bytes_of o.block_len o.blocks) queries) begun ∙ refusals_len o.block_len (bytes_of o.block_len o.blocks) queries

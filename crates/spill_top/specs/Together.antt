@@ -1,6 +1,7 @@
 -- The queries of a plan over the sessions of one pool. About private fields.
 use Rattle.std.specs.Prelude.{◌≡◌, ◌==◌, ◌*◌, ◌<◌, ◌≤◌, ◌++◌, ℕ, Bool, true, List, [], ◌∷◌, Option, Some, None, IfSome, Result, Ok, Err, IsSome, eqb, filter, length, slice_get, ⊤}
 use Rattle.std.specs.List.{AllByRecursion, IsDistinct}
+use Rattle.std.specs.Option.{option_map}
 use Rattle.outside.specs.Told.{GivesBytes}
 use Rattle.reservation_tree.specs.declared.errors.PoolErr.{PoolErr}
 use Rattle.reservation_tree.specs.declared.errors.PoolErr.TheVariants.{NoReservation}
@@ -63,6 +64,10 @@ abbrev pub job_with : {S K St : Type 0} → Result (List St) PoolErr → Job S K
 job_with (Ok []) = record { refused = None; left = None; right = None; sink = None; ended = None; session = None }
 job_with (Ok (session ∷ more)) = record { refused = None; left = None; right = None; sink = None; ended = None; session = Some session }
 job_with (Err e) = record { refused = Some (ending_of e); left = None; right = None; sink = None; ended = Some (ending_of e); session = None }
+
+-- a query over where its session sits
+abbrev pub over_seat : {S K St : Type 0} → (St → Sitting) → Job S K St → Job S K Sitting
+over_seat see job = record { refused = job.refused; left = job.left; right = job.right; sink = job.sink; ended = job.ended; session = option_map see job.session }
 
 -- ---- what a query does over its store
 

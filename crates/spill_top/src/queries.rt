@@ -137,7 +137,7 @@ fn run_together<
     plan: &Plan,
     inputs: &mut I,
     outputs: &mut O,
-    gate: &G,
+    gate: &'a G,
 ) -> Result<Vec<Ending>, Memory>
     requires rules { KeepsRules T.opening.slots plan.now }
     requires apart { AreApart plan.now.queries }
@@ -171,7 +171,7 @@ fn run_together<
         return Err(Memory);
     };
     pass.law_pass();
-    let mut jobs = seat_all(answers, jobs);
+    let mut jobs = seat_all(answers, jobs, gate);
     create_all(queries, &mut jobs, outputs);
     open_all(queries, &mut jobs, inputs);
     answer_beside(

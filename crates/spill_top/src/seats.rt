@@ -5,12 +5,12 @@ ghost use Rattle.pool.specs.Asking.{answer_of};
 ghost use Rattle.pool.specs.Sitting.{held_by};
 ghost use Rattle.query_plan.specs.Rules.{KeepsQuery};
 ghost use Rattle.spill_top.specs.Steps.{AreClosed};
-ghost use Rattle.spill_top.specs.Together.{EndAll, EndsOne, IsOneOrRefused, ask_of, ending_of, job_with};
+ghost use Rattle.spill_top.specs.Together.{EndAll, EndsOne, IsOneOrRefused, ask_of, ending_of, job_with, over_seat};
 
 use crate::ending::Ending;
 use crate::job::{Job, let_go};
-use outside::Slot;
-use pool::{Ask, At, OpenedAs, Pass, Session};
+use outside::{Gate, Slot};
+use pool::{Ask, At, GatedSession, OpenedAs, Pass, Session};
 use query_plan::{Query, least};
 use reservation_tree::{PoolErr, TrackerId};
 use row_codec::Memory;
@@ -35,30 +35,37 @@ pub(crate) fn asks_of(alloc: Global, queries: &[Query], block_len: u32) -> Resul
     Ok(asks)
 }
 
-// Seats the queries: each has the session that came for it, or has ended since its reservation was refused. There is room
-// for all in `jobs`.
-pub(crate) fn seat_all<S, K, St>(
-    mut answers: Vec<Result<Vec<St>, PoolErr>>,
-    mut jobs: Vec<Job<S, K, St>>,
-) -> Vec<Job<S, K, St>>
-    requires each { All (λ answer. IsOneOrRefused (answer_of (λ v. v.items) (λ s. s) answer)) answers.items }
+// Seats the queries: each has the session that came for it, which passes the gate with the query's number, or has ended
+// since its reservation was refused. There is room for all in `jobs`.
+pub(crate) fn seat_all<'a, S, K, D: Slot + Drop, R: Wait, T: OpenedAs, N: At, G: Gate>(
+    mut answers: Vec<Result<Vec<Session<'a, D, R, T, N>>, PoolErr>>,
+    mut jobs: Vec<Job<S, K, GatedSession<'a, D, R, G, T, N>>>,
+    gate: &'a G,
+) -> Vec<Job<S, K, GatedSession<'a, D, R, G, T, N>>>
+    requires each { All (λ answer. IsOneOrRefused (answer_of (λ v. v.items) (λ s. s.seat) answer)) answers.items }
+    requires few { vec_len answers ≤ 16 }
     requires empty { jobs.items ≡ [] }
     requires room { vec_len answers ≤ vec_capacity jobs }
-    ensures { result.items ≡ map (λ answer. job_with (answer_of (λ v. v.items) (λ s. s) answer)) answers.items }
+    ensures { map (over_seat (λ s. s.seat)) result.items ≡ map (λ answer. job_with (answer_of (λ v. v.items) (λ s. s.seat) answer)) answers.entry.items }
 {
     // The answers come out from the last.
     answers.as_mut_slice().reverse();
     while !answers.is_empty() {
         let answer = answers.take_last();
-        jobs.push_reserved(seat(answer));
+        let place = jobs.len();
+        jobs.push_reserved(seat(answer, gate, place as u32));
     }
     answers.destroy_empty();
     jobs
 }
 
-fn seat<S, K, St>(answer: Result<Vec<St>, PoolErr>) -> Job<S, K, St>
-    requires { IsOneOrRefused (answer_of (λ v. v.items) (λ s. s) answer) }
-    ensures { result ≡ job_with (answer_of (λ v. v.items) (λ s. s) answer) }
+fn seat<'a, S, K, D: Slot + Drop, R: Wait, T: OpenedAs, N: At, G: Gate>(
+    answer: Result<Vec<Session<'a, D, R, T, N>>, PoolErr>,
+    gate: &'a G,
+    who: u32,
+) -> Job<S, K, GatedSession<'a, D, R, G, T, N>>
+    requires { IsOneOrRefused (answer_of (λ v. v.items) (λ s. s.seat) answer) }
+    ensures { over_seat (λ s. s.seat) result ≡ job_with (answer_of (λ v. v.items) (λ s. s.seat) answer.entry) }
 {
     let refused = match &answer {
         Ok(_) => None,
@@ -69,7 +76,7 @@ fn seat<S, K, St>(answer: Result<Vec<St>, PoolErr>) -> Job<S, K, St>
         Ok(mut sessions) => {
             let session = sessions.take_last();
             sessions.destroy_empty();
-            Some(session)
+            Some(session.with_gate(gate, who))
         }
         Err(_) => None,
     };
@@ -104,8 +111,8 @@ fn refusal(error: &PoolErr) -> Ending
 }
 
 // Ends the sessions of queries of which nothing else is open, the last one first.
-pub(crate) fn end_all<'a, S, K, D: Slot + Drop, R: Wait, T: OpenedAs, N: At>(
-    mut jobs: Vec<Job<S, K, Session<'a, D, R, T, N>>>,
+pub(crate) fn end_all<'a, S, K, D: Slot + Drop, R: Wait, T: OpenedAs, N: At, G: Gate>(
+    mut jobs: Vec<Job<S, K, GatedSession<'a, D, R, G, T, N>>>,
     pass: &mut Pass<D, T>,
 )
     requires closed { AreClosed jobs.items }
@@ -133,8 +140,8 @@ pub(crate) fn end_all<'a, S, K, D: Slot + Drop, R: Wait, T: OpenedAs, N: At>(
     jobs.destroy_empty();
 }
 
-fn end_one<'a, D: Slot + Drop, R: Wait, T: OpenedAs, N: At>(
-    session: Session<'a, D, R, T, N>,
+fn end_one<'a, D: Slot + Drop, R: Wait, T: OpenedAs, N: At, G: Gate>(
+    session: GatedSession<'a, D, R, G, T, N>,
     pass: &mut Pass<D, T>,
 )
     requires named { N.table ≡ Some pass.old.table }

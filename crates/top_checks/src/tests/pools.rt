@@ -136,25 +136,34 @@ fn two_queries_spill_over_the_same_slots(rt: HostRuntime) -> Result<(), Fail> {
     Ok(())
 }
 
-#[test]
-fn a_query_has_its_answer_while_another_is_held(rt: HostRuntime) -> Result<(), Fail> {
-    // The first query stands where its input ends until the second one has its whole answer.
-    let held = (0, Point::QueryRead);
+// Holds the first query at this point until the second one has its whole answer.
+fn second_answers_first<R: Abort + AllocGlobal + Wait + Threads + Clock + Sync>(
+    rt: &R,
+    point: Point,
+) -> Result<(), Fail> {
     let until = (1, Point::QueryWrote);
-    let Ok(gate) = MeetGate::new(held, until, 10_000_000) else {
+    let Ok(gate) = MeetGate::new((0, point), until, 10_000_000) else {
         panic!(rt; "a gate takes no memory");
     };
     let mut slots = slots(rt.alloc(), 2000)?;
     let rows = lines(rt.alloc(), b"k,v\n", b",1\n")?;
     let file: File = ("in.csv", rows.as_slice(), &[]);
-    let ended = run_at_gate(&rt, &gate, ONE, &TWO, &[file], NOWHERE, &mut slots)?;
+    let ended = run_at_gate(rt, &gate, ONE, &TWO, &[file], NOWHERE, &mut slots)?;
     assert!(rt; gate.came());
     assert!(rt; !gate.missed());
     let report = b"query 1: 0 lines 200\nquery 2: 0 lines 200\n";
-    check(&rt, &ended, 0, report);
-    check_lines(&rt, &ended, "out.csv", b"k,count,sum(v)\n", b",1,1\n")?;
-    check_lines(&rt, &ended, "two.csv", b"k,count\n", b",1\n")?;
+    check(rt, &ended, 0, report);
+    check_lines(rt, &ended, "out.csv", b"k,count,sum(v)\n", b",1,1\n")?;
+    check_lines(rt, &ended, "two.csv", b"k,count\n", b",1\n")?;
     Ok(())
+}
+
+#[test]
+fn a_query_has_its_answer_while_another_is_held(rt: HostRuntime) -> Result<(), Fail> {
+    // Where its input ends, where it stores its first page, and where it loads one again.
+    second_answers_first(&rt, Point::QueryRead)?;
+    second_answers_first(&rt, Point::BeforeStore)?;
+    second_answers_first(&rt, Point::AfterLoad)
 }
 
 #[test]

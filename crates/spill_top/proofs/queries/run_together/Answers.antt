@@ -47,12 +47,20 @@ sessions-requires-clause-spare g c =
     omega (arith, quotas, none, most)
 
 pub seat_all-jobs-requires-clause-each : goal.seat_all-jobs-requires-clause-each
-seat_all-jobs-requires-clause-each g c =
+seat_all-jobs-requires-clause-each g c κs within =
     let asks_are : c.as_slice.result.now ≡ map (ask_of g.T.OpenedAs.opening.block_len) c.args.plan.now.queries = asks_so c.as_slice.result.now c.in_ok-asks.asks.items c.as_slice-queries.result.now c.args.plan.now.queries c.args.plan.now.block_len g.T.OpenedAs.opening.block_len (search rules) c.in_ok-asks.ensures (search rules) c.requires.opening.block_len in
     all_one (λ v. v.items) (λ s. s.seat) c.in-Ok-sessions.answers.items (shapes_so (λ v. v.items) (λ s. s.seat) g.T.OpenedAs.opening g.T.OpenedAs.told c.begin_writers-writers.new.pass c.sessions.new.pass c.args.plan.now.queries c.as_slice.result.now asks_are c.requires.rules.some.1 c.in-Ok-sessions.answers.items c.in-Ok-sessions.ensures.ok (c.in-Ok-sessions.ensures.fresh (none_live c.begin_writers-writers.new.pass.knows.seen (c.begin_writers-writers.ensures.begin.seen ∙ c.requires.fresh.0))))
 
+pub seat_all-jobs-requires-clause-few : goal.seat_all-jobs-requires-clause-few
+seat_all-jobs-requires-clause-few g c κs within =
+    let asks_are : c.as_slice.result.now ≡ map (ask_of g.T.OpenedAs.opening.block_len) c.args.plan.now.queries = asks_so c.as_slice.result.now c.in_ok-asks.asks.items c.as_slice-queries.result.now c.args.plan.now.queries c.args.plan.now.block_len g.T.OpenedAs.opening.block_len (search rules) c.in_ok-asks.ensures (search rules) c.requires.opening.block_len in
+    let len : length c.in-Ok-sessions.answers.items ≡ length c.args.plan.now.queries = len_so (λ v. v.items) (λ s. s.seat) g.T.OpenedAs.opening g.T.OpenedAs.told c.begin_writers-writers.new.pass c.sessions.new.pass c.args.plan.now.queries c.as_slice.result.now asks_are c.requires.rules.some.1 c.in-Ok-sessions.answers.items c.in-Ok-sessions.ensures.ok (c.in-Ok-sessions.ensures.fresh (none_live c.begin_writers-writers.new.pass.knows.seen (c.begin_writers-writers.ensures.begin.seen ∙ c.requires.fresh.0))) _ _ g.I.Src.Source.remaining g.I.Src.Source.faults g.O.Snk.Sink.contents g.O.Snk.Sink.faults in
+    let list : vec_len c.in-Ok-sessions.answers ≡ length c.in-Ok-sessions.answers.items = c.in-Ok-sessions.answers.ok.0 in
+    let few = c.requires.rules.some.1 in
+    omega (arith, len, list, few)
+
 pub seat_all-jobs-requires-clause-room : goal.seat_all-jobs-requires-clause-room
-seat_all-jobs-requires-clause-room g c =
+seat_all-jobs-requires-clause-room g c κs within =
     let asks_are : c.as_slice.result.now ≡ map (ask_of g.T.OpenedAs.opening.block_len) c.args.plan.now.queries = asks_so c.as_slice.result.now c.in_ok-asks.asks.items c.as_slice-queries.result.now c.args.plan.now.queries c.args.plan.now.block_len g.T.OpenedAs.opening.block_len (search rules) c.in_ok-asks.ensures (search rules) c.requires.opening.block_len in
     let len : length c.in-Ok-sessions.answers.items ≡ length c.args.plan.now.queries = len_so (λ v. v.items) (λ s. s.seat) g.T.OpenedAs.opening g.T.OpenedAs.told c.begin_writers-writers.new.pass c.sessions.new.pass c.args.plan.now.queries c.as_slice.result.now asks_are c.requires.rules.some.1 c.in-Ok-sessions.answers.items c.in-Ok-sessions.ensures.ok (c.in-Ok-sessions.ensures.fresh (none_live c.begin_writers-writers.new.pass.knows.seen (c.begin_writers-writers.ensures.begin.seen ∙ c.requires.fresh.0))) _ _ g.I.Src.Source.remaining g.I.Src.Source.faults g.O.Snk.Sink.contents g.O.Snk.Sink.faults in
     let queries_are : length c.as_slice-queries.result.now ≡ length c.args.plan.now.queries = ap length (search rules) in
@@ -64,7 +72,7 @@ pub create_all-requires-clause-len : goal.create_all-requires-clause-len
 create_all-requires-clause-len g c κs within =
     let asks_are = asks_so c.as_slice.result.now c.in_ok-asks.asks.items c.as_slice-queries.result.now c.args.plan.now.queries c.args.plan.now.block_len g.T.OpenedAs.opening.block_len (search rules) c.in_ok-asks.ensures (search rules) c.requires.opening.block_len in
     let seated =
-    are_seated (λ v. v.items) (λ s. s.seat) g.I.Src.Source.remaining g.I.Src.Source.faults g.O.Snk.Sink.contents g.O.Snk.Sink.faults g.T.OpenedAs.opening g.T.OpenedAs.told c.begin_writers-writers.new.pass c.sessions.new.pass c.args.plan.now.queries c.as_slice.result.now asks_are c.requires.rules.some.1
+    are_seated (λ v. v.items) (λ s. s.seat) (λ s. s.seat) g.I.Src.Source.remaining g.I.Src.Source.faults g.O.Snk.Sink.contents g.O.Snk.Sink.faults g.T.OpenedAs.opening g.T.OpenedAs.told c.begin_writers-writers.new.pass c.sessions.new.pass c.args.plan.now.queries c.as_slice.result.now asks_are c.requires.rules.some.1
     c.in-Ok-sessions.answers.items c.in-Ok-sessions.ensures.ok (c.in-Ok-sessions.ensures.fresh (none_live c.begin_writers-writers.new.pass.knows.seen (c.begin_writers-writers.ensures.begin.seen ∙ c.requires.fresh.0))) c.seat_all-jobs.result.items c.seat_all-jobs.ensures in
     let queries_are : c.as_slice-queries.result.now ≡ c.args.plan.now.queries = search rules in
     let same : length c.as_slice-queries.result.now ≡ length c.args.plan.now.queries = ap length queries_are in
@@ -80,7 +88,7 @@ pub create_all-requires-clause-before : goal.create_all-requires-clause-before
 create_all-requires-clause-before g c κs within =
     let asks_are = asks_so c.as_slice.result.now c.in_ok-asks.asks.items c.as_slice-queries.result.now c.args.plan.now.queries c.args.plan.now.block_len g.T.OpenedAs.opening.block_len (search rules) c.in_ok-asks.ensures (search rules) c.requires.opening.block_len in
     let seated =
-    are_seated (λ v. v.items) (λ s. s.seat) g.I.Src.Source.remaining g.I.Src.Source.faults g.O.Snk.Sink.contents g.O.Snk.Sink.faults g.T.OpenedAs.opening g.T.OpenedAs.told c.begin_writers-writers.new.pass c.sessions.new.pass c.args.plan.now.queries c.as_slice.result.now asks_are c.requires.rules.some.1
+    are_seated (λ v. v.items) (λ s. s.seat) (λ s. s.seat) g.I.Src.Source.remaining g.I.Src.Source.faults g.O.Snk.Sink.contents g.O.Snk.Sink.faults g.T.OpenedAs.opening g.T.OpenedAs.told c.begin_writers-writers.new.pass c.sessions.new.pass c.args.plan.now.queries c.as_slice.result.now asks_are c.requires.rules.some.1
     c.in-Ok-sessions.answers.items c.in-Ok-sessions.ensures.ok (c.in-Ok-sessions.ensures.fresh (none_live c.begin_writers-writers.new.pass.knows.seen (c.begin_writers-writers.ensures.begin.seen ∙ c.requires.fresh.0))) c.seat_all-jobs.result.items c.seat_all-jobs.ensures in
     all_begun g.I.Src.Source.remaining g.I.Src.Source.faults g.O.Snk.Sink.contents g.O.Snk.Sink.faults g.T.OpenedAs.opening.block_len (bytes_of g.T.OpenedAs.opening.block_len g.T.OpenedAs.opening.blocks) c.args.plan.now.queries c.seat_all-jobs.result.items seated.begin
 
@@ -88,7 +96,7 @@ pub open_all-requires-clause-len : goal.open_all-requires-clause-len
 open_all-requires-clause-len g c κs within =
     let asks_are = asks_so c.as_slice.result.now c.in_ok-asks.asks.items c.as_slice-queries.result.now c.args.plan.now.queries c.args.plan.now.block_len g.T.OpenedAs.opening.block_len (search rules) c.in_ok-asks.ensures (search rules) c.requires.opening.block_len in
     let seated =
-    are_seated (λ v. v.items) (λ s. s.seat) g.I.Src.Source.remaining g.I.Src.Source.faults g.O.Snk.Sink.contents g.O.Snk.Sink.faults g.T.OpenedAs.opening g.T.OpenedAs.told c.begin_writers-writers.new.pass c.sessions.new.pass c.args.plan.now.queries c.as_slice.result.now asks_are c.requires.rules.some.1
+    are_seated (λ v. v.items) (λ s. s.seat) (λ s. s.seat) g.I.Src.Source.remaining g.I.Src.Source.faults g.O.Snk.Sink.contents g.O.Snk.Sink.faults g.T.OpenedAs.opening g.T.OpenedAs.told c.begin_writers-writers.new.pass c.sessions.new.pass c.args.plan.now.queries c.as_slice.result.now asks_are c.requires.rules.some.1
     c.in-Ok-sessions.answers.items c.in-Ok-sessions.ensures.ok (c.in-Ok-sessions.ensures.fresh (none_live c.begin_writers-writers.new.pass.knows.seen (c.begin_writers-writers.ensures.begin.seen ∙ c.requires.fresh.0))) c.seat_all-jobs.result.items c.seat_all-jobs.ensures in
     let queries_are : c.as_slice-queries.result.now ≡ c.args.plan.now.queries = search rules in
     let same : length c.as_slice-queries.result.now ≡ length c.args.plan.now.queries = ap length queries_are in
@@ -104,7 +112,7 @@ pub answer_beside-requires-clause-len : goal.answer_beside-requires-clause-len
 answer_beside-requires-clause-len g c κs within =
     let asks_are = asks_so c.as_slice.result.now c.in_ok-asks.asks.items c.as_slice-queries.result.now c.args.plan.now.queries c.args.plan.now.block_len g.T.OpenedAs.opening.block_len (search rules) c.in_ok-asks.ensures (search rules) c.requires.opening.block_len in
     let seated =
-    are_seated (λ v. v.items) (λ s. s.seat) g.I.Src.Source.remaining g.I.Src.Source.faults g.O.Snk.Sink.contents g.O.Snk.Sink.faults g.T.OpenedAs.opening g.T.OpenedAs.told c.begin_writers-writers.new.pass c.sessions.new.pass c.args.plan.now.queries c.as_slice.result.now asks_are c.requires.rules.some.1
+    are_seated (λ v. v.items) (λ s. s.seat) (λ s. s.seat) g.I.Src.Source.remaining g.I.Src.Source.faults g.O.Snk.Sink.contents g.O.Snk.Sink.faults g.T.OpenedAs.opening g.T.OpenedAs.told c.begin_writers-writers.new.pass c.sessions.new.pass c.args.plan.now.queries c.as_slice.result.now asks_are c.requires.rules.some.1
     c.in-Ok-sessions.answers.items c.in-Ok-sessions.ensures.ok (c.in-Ok-sessions.ensures.fresh (none_live c.begin_writers-writers.new.pass.knows.seen (c.begin_writers-writers.ensures.begin.seen ∙ c.requires.fresh.0))) c.seat_all-jobs.result.items c.seat_all-jobs.ensures in
     let queries_are : c.as_slice-queries.result.now ≡ c.args.plan.now.queries = search rules in
     let same : length c.as_slice-queries.result.now ≡ length c.args.plan.now.queries = ap length queries_are in
@@ -116,19 +124,19 @@ pub answer_beside-requires-clause-can : goal.answer_beside-requires-clause-can
 answer_beside-requires-clause-can g c κs within =
     let asks_are = asks_so c.as_slice.result.now c.in_ok-asks.asks.items c.as_slice-queries.result.now c.args.plan.now.queries c.args.plan.now.block_len g.T.OpenedAs.opening.block_len (search rules) c.in_ok-asks.ensures (search rules) c.requires.opening.block_len in
     let seated =
-    are_seated (λ v. v.items) (λ s. s.seat) g.I.Src.Source.remaining g.I.Src.Source.faults g.O.Snk.Sink.contents g.O.Snk.Sink.faults g.T.OpenedAs.opening g.T.OpenedAs.told c.begin_writers-writers.new.pass c.sessions.new.pass c.args.plan.now.queries c.as_slice.result.now asks_are c.requires.rules.some.1
+    are_seated (λ v. v.items) (λ s. s.seat) (λ s. s.seat) g.I.Src.Source.remaining g.I.Src.Source.faults g.O.Snk.Sink.contents g.O.Snk.Sink.faults g.T.OpenedAs.opening g.T.OpenedAs.told c.begin_writers-writers.new.pass c.sessions.new.pass c.args.plan.now.queries c.as_slice.result.now asks_are c.requires.rules.some.1
     c.in-Ok-sessions.answers.items c.in-Ok-sessions.ensures.ok (c.in-Ok-sessions.ensures.fresh (none_live c.begin_writers-writers.new.pass.knows.seen (c.begin_writers-writers.ensures.begin.seen ∙ c.requires.fresh.0))) c.seat_all-jobs.result.items c.seat_all-jobs.ensures in
     let queries_are : c.as_slice-queries.result.now ≡ c.args.plan.now.queries = search rules in
     let works : AreWorks (seen (g.I.Inputs.bytes_at c.args.inputs.now) (g.I.Inputs.faults_at c.args.inputs.now) (g.O.Outputs.written c.args.outputs.now) (g.O.Outputs.is_created c.args.outputs.now) (g.O.Outputs.faults_at c.args.outputs.now) g.T.OpenedAs.first) (seen (g.I.Inputs.bytes_at c.args.inputs.now) (g.I.Inputs.faults_at c.args.inputs.now) (g.O.Outputs.written c.args.outputs.now) (g.O.Outputs.is_created c.args.outputs.now) (g.O.Outputs.faults_at c.args.outputs.now) g.T.OpenedAs.first) g.T.OpenedAs.opening.block_len c.args.plan.now.queries (map (work_of g.I.Src.Source.remaining g.I.Src.Source.faults g.O.Snk.Sink.contents g.O.Snk.Sink.faults) c.seat_all-jobs.result.items) = works_begin g.I.Src.Source.remaining g.I.Src.Source.faults g.O.Snk.Sink.contents g.O.Snk.Sink.faults (seen (g.I.Inputs.bytes_at c.args.inputs.now) (g.I.Inputs.faults_at c.args.inputs.now) (g.O.Outputs.written c.args.outputs.now) (g.O.Outputs.is_created c.args.outputs.now) (g.O.Outputs.faults_at c.args.outputs.now) g.T.OpenedAs.first) g.T.OpenedAs.opening.block_len (bytes_of g.T.OpenedAs.opening.block_len g.T.OpenedAs.opening.blocks) c.args.plan.now.queries c.seat_all-jobs.result.items seated.begin in
     let works2 : AreWorks (seen (g.I.Inputs.bytes_at c.args.inputs.now) (g.I.Inputs.faults_at c.args.inputs.now) (g.O.Outputs.written c.args.outputs.now) (g.O.Outputs.is_created c.args.outputs.now) (g.O.Outputs.faults_at c.args.outputs.now) g.T.OpenedAs.first) (seen (g.I.Inputs.bytes_at c.open_all.new.inputs) (g.I.Inputs.faults_at c.open_all.new.inputs) (g.O.Outputs.written c.create_all.new.outputs) (g.O.Outputs.is_created c.create_all.new.outputs) (g.O.Outputs.faults_at c.create_all.new.outputs) g.T.OpenedAs.first) g.T.OpenedAs.opening.block_len c.args.plan.now.queries (map (work_of g.I.Src.Source.remaining g.I.Src.Source.faults g.O.Snk.Sink.contents g.O.Snk.Sink.faults) c.open_all.new.jobs.items) = (subst (λ (queries : List Query). KeepsWorks (seen (g.I.Inputs.bytes_at c.args.inputs.now) (g.I.Inputs.faults_at c.args.inputs.now) (g.O.Outputs.written c.create_all.new.outputs) (g.O.Outputs.is_created c.create_all.new.outputs) (g.O.Outputs.faults_at c.create_all.new.outputs) g.T.OpenedAs.first) (seen (g.I.Inputs.bytes_at c.open_all.new.inputs) (g.I.Inputs.faults_at c.open_all.new.inputs) (g.O.Outputs.written c.create_all.new.outputs) (g.O.Outputs.is_created c.create_all.new.outputs) (g.O.Outputs.faults_at c.create_all.new.outputs) g.T.OpenedAs.first) queries (map (work_of g.I.Src.Source.remaining g.I.Src.Source.faults g.O.Snk.Sink.contents g.O.Snk.Sink.faults) c.create_all.new.jobs.items) (map (work_of g.I.Src.Source.remaining g.I.Src.Source.faults g.O.Snk.Sink.contents g.O.Snk.Sink.faults) c.open_all.new.jobs.items)) queries_are (c.open_all.ensures.works (g.O.Outputs.written c.create_all.new.outputs) (g.O.Outputs.is_created c.create_all.new.outputs) (g.O.Outputs.faults_at c.create_all.new.outputs) g.T.OpenedAs.first)) (seen (g.I.Inputs.bytes_at c.args.inputs.now) (g.I.Inputs.faults_at c.args.inputs.now) (g.O.Outputs.written c.args.outputs.now) (g.O.Outputs.is_created c.args.outputs.now) (g.O.Outputs.faults_at c.args.outputs.now) g.T.OpenedAs.first) g.T.OpenedAs.opening.block_len ((subst (λ (queries : List Query). KeepsWorks (seen (g.I.Inputs.bytes_at c.args.inputs.now) (g.I.Inputs.faults_at c.args.inputs.now) (g.O.Outputs.written c.args.outputs.now) (g.O.Outputs.is_created c.args.outputs.now) (g.O.Outputs.faults_at c.args.outputs.now) g.T.OpenedAs.first) (seen (g.I.Inputs.bytes_at c.args.inputs.now) (g.I.Inputs.faults_at c.args.inputs.now) (g.O.Outputs.written c.create_all.new.outputs) (g.O.Outputs.is_created c.create_all.new.outputs) (g.O.Outputs.faults_at c.create_all.new.outputs) g.T.OpenedAs.first) queries (map (work_of g.I.Src.Source.remaining g.I.Src.Source.faults g.O.Snk.Sink.contents g.O.Snk.Sink.faults) c.seat_all-jobs.result.items) (map (work_of g.I.Src.Source.remaining g.I.Src.Source.faults g.O.Snk.Sink.contents g.O.Snk.Sink.faults) c.create_all.new.jobs.items)) queries_are (c.create_all.ensures.works (g.I.Inputs.bytes_at c.args.inputs.now) (g.I.Inputs.faults_at c.args.inputs.now) g.T.OpenedAs.first)) (seen (g.I.Inputs.bytes_at c.args.inputs.now) (g.I.Inputs.faults_at c.args.inputs.now) (g.O.Outputs.written c.args.outputs.now) (g.O.Outputs.is_created c.args.outputs.now) (g.O.Outputs.faults_at c.args.outputs.now) g.T.OpenedAs.first) g.T.OpenedAs.opening.block_len works) in
     subst (λ (queries : List Query). AllCanRun g.I.Src.Source.remaining g.I.Src.Source.faults g.O.Snk.Sink.contents g.O.Snk.Sink.faults (λ s. held_by g.T.OpenedAs.opening g.T.OpenedAs.told s.seat) (λ s. signs_by g.T.OpenedAs.opening s.seat) queries c.as_mut_slice.result.now) (sym queries_are)
-    (subst (AllCanRun g.I.Src.Source.remaining g.I.Src.Source.faults g.O.Snk.Sink.contents g.O.Snk.Sink.faults (λ s. held_by g.T.OpenedAs.opening g.T.OpenedAs.told s.seat) (λ s. signs_by g.T.OpenedAs.opening s.seat) c.args.plan.now.queries) (sym c.as_mut_slice.ensures.value) (all_can (λ v. v.items) (λ s. s.seat) g.I.Src.Source.remaining g.I.Src.Source.faults g.O.Snk.Sink.contents g.O.Snk.Sink.faults g.T.OpenedAs.opening g.T.OpenedAs.told c.sessions.new.pass c.args.plan.now.queries c.in-Ok-sessions.answers.items seated.shapes seated.admits.sessions c.seat_all-jobs.result.items c.open_all.new.jobs.items seated.first (c.open_all.ensures.refused ∙ c.create_all.ensures.refused) (c.open_all.ensures.sessions ∙ c.create_all.ensures.sessions) (seen (g.I.Inputs.bytes_at c.args.inputs.now) (g.I.Inputs.faults_at c.args.inputs.now) (g.O.Outputs.written c.args.outputs.now) (g.O.Outputs.is_created c.args.outputs.now) (g.O.Outputs.faults_at c.args.outputs.now) g.T.OpenedAs.first) (seen (g.I.Inputs.bytes_at c.open_all.new.inputs) (g.I.Inputs.faults_at c.open_all.new.inputs) (g.O.Outputs.written c.create_all.new.outputs) (g.O.Outputs.is_created c.create_all.new.outputs) (g.O.Outputs.faults_at c.create_all.new.outputs) g.T.OpenedAs.first) c.requires.rules.queries c.open_all.ensures.step works2))
+    (subst (AllCanRun g.I.Src.Source.remaining g.I.Src.Source.faults g.O.Snk.Sink.contents g.O.Snk.Sink.faults (λ s. held_by g.T.OpenedAs.opening g.T.OpenedAs.told s.seat) (λ s. signs_by g.T.OpenedAs.opening s.seat) c.args.plan.now.queries) (sym c.as_mut_slice.ensures.value) (all_can (λ s. s.seat) g.I.Src.Source.remaining g.I.Src.Source.faults g.O.Snk.Sink.contents g.O.Snk.Sink.faults g.T.OpenedAs.opening g.T.OpenedAs.told c.sessions.new.pass c.args.plan.now.queries (map (seen_in (λ v. v.items) (λ s. s.seat)) c.in-Ok-sessions.answers.items) seated.shapes seated.admits.sessions c.seat_all-jobs.result.items c.open_all.new.jobs.items seated.first (c.open_all.ensures.refused ∙ c.create_all.ensures.refused) (c.open_all.ensures.sessions ∙ c.create_all.ensures.sessions) (seen (g.I.Inputs.bytes_at c.args.inputs.now) (g.I.Inputs.faults_at c.args.inputs.now) (g.O.Outputs.written c.args.outputs.now) (g.O.Outputs.is_created c.args.outputs.now) (g.O.Outputs.faults_at c.args.outputs.now) g.T.OpenedAs.first) (seen (g.I.Inputs.bytes_at c.open_all.new.inputs) (g.I.Inputs.faults_at c.open_all.new.inputs) (g.O.Outputs.written c.create_all.new.outputs) (g.O.Outputs.is_created c.create_all.new.outputs) (g.O.Outputs.faults_at c.create_all.new.outputs) g.T.OpenedAs.first) c.requires.rules.queries c.open_all.ensures.step works2))
 
 pub close_all-requires-clause-len : goal.close_all-requires-clause-len
 close_all-requires-clause-len g c κs within =
     let asks_are = asks_so c.as_slice.result.now c.in_ok-asks.asks.items c.as_slice-queries.result.now c.args.plan.now.queries c.args.plan.now.block_len g.T.OpenedAs.opening.block_len (search rules) c.in_ok-asks.ensures (search rules) c.requires.opening.block_len in
     let seated =
-    are_seated (λ v. v.items) (λ s. s.seat) g.I.Src.Source.remaining g.I.Src.Source.faults g.O.Snk.Sink.contents g.O.Snk.Sink.faults g.T.OpenedAs.opening g.T.OpenedAs.told c.begin_writers-writers.new.pass c.sessions.new.pass c.args.plan.now.queries c.as_slice.result.now asks_are c.requires.rules.some.1
+    are_seated (λ v. v.items) (λ s. s.seat) (λ s. s.seat) g.I.Src.Source.remaining g.I.Src.Source.faults g.O.Snk.Sink.contents g.O.Snk.Sink.faults g.T.OpenedAs.opening g.T.OpenedAs.told c.begin_writers-writers.new.pass c.sessions.new.pass c.args.plan.now.queries c.as_slice.result.now asks_are c.requires.rules.some.1
     c.in-Ok-sessions.answers.items c.in-Ok-sessions.ensures.ok (c.in-Ok-sessions.ensures.fresh (none_live c.begin_writers-writers.new.pass.knows.seen (c.begin_writers-writers.ensures.begin.seen ∙ c.requires.fresh.0))) c.seat_all-jobs.result.items c.seat_all-jobs.ensures in
     let queries_are : c.as_slice-queries.result.now ≡ c.args.plan.now.queries = search rules in
     let same : length c.as_slice-queries.result.now ≡ length c.args.plan.now.queries = ap length queries_are in
@@ -139,10 +147,10 @@ pub close_all-requires-clause-before : goal.close_all-requires-clause-before
 close_all-requires-clause-before g c κs within =
     let asks_are = asks_so c.as_slice.result.now c.in_ok-asks.asks.items c.as_slice-queries.result.now c.args.plan.now.queries c.args.plan.now.block_len g.T.OpenedAs.opening.block_len (search rules) c.in_ok-asks.ensures (search rules) c.requires.opening.block_len in
     let seated =
-    are_seated (λ v. v.items) (λ s. s.seat) g.I.Src.Source.remaining g.I.Src.Source.faults g.O.Snk.Sink.contents g.O.Snk.Sink.faults g.T.OpenedAs.opening g.T.OpenedAs.told c.begin_writers-writers.new.pass c.sessions.new.pass c.args.plan.now.queries c.as_slice.result.now asks_are c.requires.rules.some.1
+    are_seated (λ v. v.items) (λ s. s.seat) (λ s. s.seat) g.I.Src.Source.remaining g.I.Src.Source.faults g.O.Snk.Sink.contents g.O.Snk.Sink.faults g.T.OpenedAs.opening g.T.OpenedAs.told c.begin_writers-writers.new.pass c.sessions.new.pass c.args.plan.now.queries c.as_slice.result.now asks_are c.requires.rules.some.1
     c.in-Ok-sessions.answers.items c.in-Ok-sessions.ensures.ok (c.in-Ok-sessions.ensures.fresh (none_live c.begin_writers-writers.new.pass.knows.seen (c.begin_writers-writers.ensures.begin.seen ∙ c.requires.fresh.0))) c.seat_all-jobs.result.items c.seat_all-jobs.ensures in
     let ran =
-    have_run (λ v. v.items) (λ s. s.seat) g.I.Src.Source.remaining g.I.Src.Source.faults g.O.Snk.Sink.contents g.O.Snk.Sink.faults g.T.OpenedAs.opening g.T.OpenedAs.told c.begin_writers-writers.new.pass c.sessions.new.pass c.args.plan.now.queries
+    have_run (λ v. v.items) (λ s. s.seat) (λ s. s.seat) g.I.Src.Source.remaining g.I.Src.Source.faults g.O.Snk.Sink.contents g.O.Snk.Sink.faults g.T.OpenedAs.opening g.T.OpenedAs.told c.begin_writers-writers.new.pass c.sessions.new.pass c.args.plan.now.queries
     c.in-Ok-sessions.answers.items c.seat_all-jobs.result.items c.open_all.new.jobs.items (with_items c.open_all.new.jobs c.answer_beside.new.jobs).items seated (sym c.open_all.new.jobs.ok.0 ∙ c.open_all.ensures.len ∙ c.create_all.ensures.len ∙ c.seat_all-jobs.result.ok.0)
     (c.open_all.ensures.refused ∙ c.create_all.ensures.refused) (c.open_all.ensures.sessions ∙ c.create_all.ensures.sessions) c.as_slice-queries.result.now c.as_mut_slice.result.now c.answer_beside.new.jobs (search rules) c.as_mut_slice.ensures.value
     (with_items_is c.open_all.new.jobs c.answer_beside.new.jobs (c.answer_beside.ensures.len ∙ ap length c.as_mut_slice.ensures.value ∙ sym c.open_all.new.jobs.ok.0)) c.answer_beside.ensures.len c.answer_beside.ensures.each in
@@ -154,10 +162,10 @@ pub close_all-requires-clause-sides : goal.close_all-requires-clause-sides
 close_all-requires-clause-sides g c κs within =
     let asks_are = asks_so c.as_slice.result.now c.in_ok-asks.asks.items c.as_slice-queries.result.now c.args.plan.now.queries c.args.plan.now.block_len g.T.OpenedAs.opening.block_len (search rules) c.in_ok-asks.ensures (search rules) c.requires.opening.block_len in
     let seated =
-    are_seated (λ v. v.items) (λ s. s.seat) g.I.Src.Source.remaining g.I.Src.Source.faults g.O.Snk.Sink.contents g.O.Snk.Sink.faults g.T.OpenedAs.opening g.T.OpenedAs.told c.begin_writers-writers.new.pass c.sessions.new.pass c.args.plan.now.queries c.as_slice.result.now asks_are c.requires.rules.some.1
+    are_seated (λ v. v.items) (λ s. s.seat) (λ s. s.seat) g.I.Src.Source.remaining g.I.Src.Source.faults g.O.Snk.Sink.contents g.O.Snk.Sink.faults g.T.OpenedAs.opening g.T.OpenedAs.told c.begin_writers-writers.new.pass c.sessions.new.pass c.args.plan.now.queries c.as_slice.result.now asks_are c.requires.rules.some.1
     c.in-Ok-sessions.answers.items c.in-Ok-sessions.ensures.ok (c.in-Ok-sessions.ensures.fresh (none_live c.begin_writers-writers.new.pass.knows.seen (c.begin_writers-writers.ensures.begin.seen ∙ c.requires.fresh.0))) c.seat_all-jobs.result.items c.seat_all-jobs.ensures in
     let ran =
-    have_run (λ v. v.items) (λ s. s.seat) g.I.Src.Source.remaining g.I.Src.Source.faults g.O.Snk.Sink.contents g.O.Snk.Sink.faults g.T.OpenedAs.opening g.T.OpenedAs.told c.begin_writers-writers.new.pass c.sessions.new.pass c.args.plan.now.queries
+    have_run (λ v. v.items) (λ s. s.seat) (λ s. s.seat) g.I.Src.Source.remaining g.I.Src.Source.faults g.O.Snk.Sink.contents g.O.Snk.Sink.faults g.T.OpenedAs.opening g.T.OpenedAs.told c.begin_writers-writers.new.pass c.sessions.new.pass c.args.plan.now.queries
     c.in-Ok-sessions.answers.items c.seat_all-jobs.result.items c.open_all.new.jobs.items (with_items c.open_all.new.jobs c.answer_beside.new.jobs).items seated (sym c.open_all.new.jobs.ok.0 ∙ c.open_all.ensures.len ∙ c.create_all.ensures.len ∙ c.seat_all-jobs.result.ok.0)
     (c.open_all.ensures.refused ∙ c.create_all.ensures.refused) (c.open_all.ensures.sessions ∙ c.create_all.ensures.sessions) c.as_slice-queries.result.now c.as_mut_slice.result.now c.answer_beside.new.jobs (search rules) c.as_mut_slice.ensures.value
     (with_items_is c.open_all.new.jobs c.answer_beside.new.jobs (c.answer_beside.ensures.len ∙ ap length c.as_mut_slice.ensures.value ∙ sym c.open_all.new.jobs.ok.0)) c.answer_beside.ensures.len c.answer_beside.ensures.each in
@@ -172,7 +180,7 @@ pub finish_all-requires-clause-len : goal.finish_all-requires-clause-len
 finish_all-requires-clause-len g c κs within =
     let asks_are = asks_so c.as_slice.result.now c.in_ok-asks.asks.items c.as_slice-queries.result.now c.args.plan.now.queries c.args.plan.now.block_len g.T.OpenedAs.opening.block_len (search rules) c.in_ok-asks.ensures (search rules) c.requires.opening.block_len in
     let seated =
-    are_seated (λ v. v.items) (λ s. s.seat) g.I.Src.Source.remaining g.I.Src.Source.faults g.O.Snk.Sink.contents g.O.Snk.Sink.faults g.T.OpenedAs.opening g.T.OpenedAs.told c.begin_writers-writers.new.pass c.sessions.new.pass c.args.plan.now.queries c.as_slice.result.now asks_are c.requires.rules.some.1
+    are_seated (λ v. v.items) (λ s. s.seat) (λ s. s.seat) g.I.Src.Source.remaining g.I.Src.Source.faults g.O.Snk.Sink.contents g.O.Snk.Sink.faults g.T.OpenedAs.opening g.T.OpenedAs.told c.begin_writers-writers.new.pass c.sessions.new.pass c.args.plan.now.queries c.as_slice.result.now asks_are c.requires.rules.some.1
     c.in-Ok-sessions.answers.items c.in-Ok-sessions.ensures.ok (c.in-Ok-sessions.ensures.fresh (none_live c.begin_writers-writers.new.pass.knows.seen (c.begin_writers-writers.ensures.begin.seen ∙ c.requires.fresh.0))) c.seat_all-jobs.result.items c.seat_all-jobs.ensures in
     let queries_are : c.as_slice-queries.result.now ≡ c.args.plan.now.queries = search rules in
     let same : length c.as_slice-queries.result.now ≡ length c.args.plan.now.queries = ap length queries_are in
@@ -189,10 +197,10 @@ pub finish_all-requires-clause-created : goal.finish_all-requires-clause-created
 finish_all-requires-clause-created g c κs within =
     let asks_are = asks_so c.as_slice.result.now c.in_ok-asks.asks.items c.as_slice-queries.result.now c.args.plan.now.queries c.args.plan.now.block_len g.T.OpenedAs.opening.block_len (search rules) c.in_ok-asks.ensures (search rules) c.requires.opening.block_len in
     let seated =
-    are_seated (λ v. v.items) (λ s. s.seat) g.I.Src.Source.remaining g.I.Src.Source.faults g.O.Snk.Sink.contents g.O.Snk.Sink.faults g.T.OpenedAs.opening g.T.OpenedAs.told c.begin_writers-writers.new.pass c.sessions.new.pass c.args.plan.now.queries c.as_slice.result.now asks_are c.requires.rules.some.1
+    are_seated (λ v. v.items) (λ s. s.seat) (λ s. s.seat) g.I.Src.Source.remaining g.I.Src.Source.faults g.O.Snk.Sink.contents g.O.Snk.Sink.faults g.T.OpenedAs.opening g.T.OpenedAs.told c.begin_writers-writers.new.pass c.sessions.new.pass c.args.plan.now.queries c.as_slice.result.now asks_are c.requires.rules.some.1
     c.in-Ok-sessions.answers.items c.in-Ok-sessions.ensures.ok (c.in-Ok-sessions.ensures.fresh (none_live c.begin_writers-writers.new.pass.knows.seen (c.begin_writers-writers.ensures.begin.seen ∙ c.requires.fresh.0))) c.seat_all-jobs.result.items c.seat_all-jobs.ensures in
     let ran =
-    have_run (λ v. v.items) (λ s. s.seat) g.I.Src.Source.remaining g.I.Src.Source.faults g.O.Snk.Sink.contents g.O.Snk.Sink.faults g.T.OpenedAs.opening g.T.OpenedAs.told c.begin_writers-writers.new.pass c.sessions.new.pass c.args.plan.now.queries
+    have_run (λ v. v.items) (λ s. s.seat) (λ s. s.seat) g.I.Src.Source.remaining g.I.Src.Source.faults g.O.Snk.Sink.contents g.O.Snk.Sink.faults g.T.OpenedAs.opening g.T.OpenedAs.told c.begin_writers-writers.new.pass c.sessions.new.pass c.args.plan.now.queries
     c.in-Ok-sessions.answers.items c.seat_all-jobs.result.items c.open_all.new.jobs.items (with_items c.open_all.new.jobs c.answer_beside.new.jobs).items seated (sym c.open_all.new.jobs.ok.0 ∙ c.open_all.ensures.len ∙ c.create_all.ensures.len ∙ c.seat_all-jobs.result.ok.0)
     (c.open_all.ensures.refused ∙ c.create_all.ensures.refused) (c.open_all.ensures.sessions ∙ c.create_all.ensures.sessions) c.as_slice-queries.result.now c.as_mut_slice.result.now c.answer_beside.new.jobs (search rules) c.as_mut_slice.ensures.value
     (with_items_is c.open_all.new.jobs c.answer_beside.new.jobs (c.answer_beside.ensures.len ∙ ap length c.as_mut_slice.ensures.value ∙ sym c.open_all.new.jobs.ok.0)) c.answer_beside.ensures.len c.answer_beside.ensures.each in
@@ -211,7 +219,7 @@ pub endings-ends-requires-clause-room : goal.endings-ends-requires-clause-room
 endings-ends-requires-clause-room g c =
     let asks_are = asks_so c.as_slice.result.now c.in_ok-asks.asks.items c.as_slice-queries.result.now c.args.plan.now.queries c.args.plan.now.block_len g.T.OpenedAs.opening.block_len (search rules) c.in_ok-asks.ensures (search rules) c.requires.opening.block_len in
     let seated =
-    are_seated (λ v. v.items) (λ s. s.seat) g.I.Src.Source.remaining g.I.Src.Source.faults g.O.Snk.Sink.contents g.O.Snk.Sink.faults g.T.OpenedAs.opening g.T.OpenedAs.told c.begin_writers-writers.new.pass c.sessions.new.pass c.args.plan.now.queries c.as_slice.result.now asks_are c.requires.rules.some.1
+    are_seated (λ v. v.items) (λ s. s.seat) (λ s. s.seat) g.I.Src.Source.remaining g.I.Src.Source.faults g.O.Snk.Sink.contents g.O.Snk.Sink.faults g.T.OpenedAs.opening g.T.OpenedAs.told c.begin_writers-writers.new.pass c.sessions.new.pass c.args.plan.now.queries c.as_slice.result.now asks_are c.requires.rules.some.1
     c.in-Ok-sessions.answers.items c.in-Ok-sessions.ensures.ok (c.in-Ok-sessions.ensures.fresh (none_live c.begin_writers-writers.new.pass.knows.seen (c.begin_writers-writers.ensures.begin.seen ∙ c.requires.fresh.0))) c.seat_all-jobs.result.items c.seat_all-jobs.ensures in
     let queries_are : c.as_slice-queries.result.now ≡ c.args.plan.now.queries = search rules in
     let same : length c.as_slice-queries.result.now ≡ length c.args.plan.now.queries = ap length queries_are in
@@ -225,17 +233,17 @@ endings-ends-requires-clause-room g c =
     omega (arith, slice, room, same, seated.many, items, l1, l2, l4, l5)
 
 pub end_all-requires-clause-closed : goal.end_all-requires-clause-closed
-end_all-requires-clause-closed g c =
+end_all-requires-clause-closed g c κs within =
     all_closed g.I.Src.Source.remaining g.I.Src.Source.faults g.O.Snk.Sink.contents g.O.Snk.Sink.faults c.finish_all.new.jobs.items c.finish_all.ensures.step
 
 pub end_all-requires-clause-idle : goal.end_all-requires-clause-idle
-end_all-requires-clause-idle g c =
+end_all-requires-clause-idle g c κs within =
     let asks_are = asks_so c.as_slice.result.now c.in_ok-asks.asks.items c.as_slice-queries.result.now c.args.plan.now.queries c.args.plan.now.block_len g.T.OpenedAs.opening.block_len (search rules) c.in_ok-asks.ensures (search rules) c.requires.opening.block_len in
     let seated =
-    are_seated (λ v. v.items) (λ s. s.seat) g.I.Src.Source.remaining g.I.Src.Source.faults g.O.Snk.Sink.contents g.O.Snk.Sink.faults g.T.OpenedAs.opening g.T.OpenedAs.told c.begin_writers-writers.new.pass c.sessions.new.pass c.args.plan.now.queries c.as_slice.result.now asks_are c.requires.rules.some.1
+    are_seated (λ v. v.items) (λ s. s.seat) (λ s. s.seat) g.I.Src.Source.remaining g.I.Src.Source.faults g.O.Snk.Sink.contents g.O.Snk.Sink.faults g.T.OpenedAs.opening g.T.OpenedAs.told c.begin_writers-writers.new.pass c.sessions.new.pass c.args.plan.now.queries c.as_slice.result.now asks_are c.requires.rules.some.1
     c.in-Ok-sessions.answers.items c.in-Ok-sessions.ensures.ok (c.in-Ok-sessions.ensures.fresh (none_live c.begin_writers-writers.new.pass.knows.seen (c.begin_writers-writers.ensures.begin.seen ∙ c.requires.fresh.0))) c.seat_all-jobs.result.items c.seat_all-jobs.ensures in
     let ran =
-    have_run (λ v. v.items) (λ s. s.seat) g.I.Src.Source.remaining g.I.Src.Source.faults g.O.Snk.Sink.contents g.O.Snk.Sink.faults g.T.OpenedAs.opening g.T.OpenedAs.told c.begin_writers-writers.new.pass c.sessions.new.pass c.args.plan.now.queries
+    have_run (λ v. v.items) (λ s. s.seat) (λ s. s.seat) g.I.Src.Source.remaining g.I.Src.Source.faults g.O.Snk.Sink.contents g.O.Snk.Sink.faults g.T.OpenedAs.opening g.T.OpenedAs.told c.begin_writers-writers.new.pass c.sessions.new.pass c.args.plan.now.queries
     c.in-Ok-sessions.answers.items c.seat_all-jobs.result.items c.open_all.new.jobs.items (with_items c.open_all.new.jobs c.answer_beside.new.jobs).items seated (sym c.open_all.new.jobs.ok.0 ∙ c.open_all.ensures.len ∙ c.create_all.ensures.len ∙ c.seat_all-jobs.result.ok.0)
     (c.open_all.ensures.refused ∙ c.create_all.ensures.refused) (c.open_all.ensures.sessions ∙ c.create_all.ensures.sessions) c.as_slice-queries.result.now c.as_mut_slice.result.now c.answer_beside.new.jobs (search rules) c.as_mut_slice.ensures.value
     (with_items_is c.open_all.new.jobs c.answer_beside.new.jobs (c.answer_beside.ensures.len ∙ ap length c.as_mut_slice.ensures.value ∙ sym c.open_all.new.jobs.ok.0)) c.answer_beside.ensures.len c.answer_beside.ensures.each in
@@ -249,10 +257,10 @@ returns-clause-gone g c =
     waits_then c.sessions.new.pass c.answer_beside.new.pass c.end_writers-2.new.pass (stops_waits c.sessions.new.pass c.answer_beside.new.pass c.law_pass-2.ensures.1 c.answer_beside.ensures.stops) c.end_writers-2.ensures.waits in
     let asks_are = asks_so c.as_slice.result.now c.in_ok-asks.asks.items c.as_slice-queries.result.now c.args.plan.now.queries c.args.plan.now.block_len g.T.OpenedAs.opening.block_len (search rules) c.in_ok-asks.ensures (search rules) c.requires.opening.block_len in
     let seated =
-    are_seated (λ v. v.items) (λ s. s.seat) g.I.Src.Source.remaining g.I.Src.Source.faults g.O.Snk.Sink.contents g.O.Snk.Sink.faults g.T.OpenedAs.opening g.T.OpenedAs.told c.begin_writers-writers.new.pass c.sessions.new.pass c.args.plan.now.queries c.as_slice.result.now asks_are c.requires.rules.some.1
+    are_seated (λ v. v.items) (λ s. s.seat) (λ s. s.seat) g.I.Src.Source.remaining g.I.Src.Source.faults g.O.Snk.Sink.contents g.O.Snk.Sink.faults g.T.OpenedAs.opening g.T.OpenedAs.told c.begin_writers-writers.new.pass c.sessions.new.pass c.args.plan.now.queries c.as_slice.result.now asks_are c.requires.rules.some.1
     c.in-Ok-sessions.answers.items c.in-Ok-sessions.ensures.ok (c.in-Ok-sessions.ensures.fresh (none_live c.begin_writers-writers.new.pass.knows.seen (c.begin_writers-writers.ensures.begin.seen ∙ c.requires.fresh.0))) c.seat_all-jobs.result.items c.seat_all-jobs.ensures in
     let ran =
-    have_run (λ v. v.items) (λ s. s.seat) g.I.Src.Source.remaining g.I.Src.Source.faults g.O.Snk.Sink.contents g.O.Snk.Sink.faults g.T.OpenedAs.opening g.T.OpenedAs.told c.begin_writers-writers.new.pass c.sessions.new.pass c.args.plan.now.queries
+    have_run (λ v. v.items) (λ s. s.seat) (λ s. s.seat) g.I.Src.Source.remaining g.I.Src.Source.faults g.O.Snk.Sink.contents g.O.Snk.Sink.faults g.T.OpenedAs.opening g.T.OpenedAs.told c.begin_writers-writers.new.pass c.sessions.new.pass c.args.plan.now.queries
     c.in-Ok-sessions.answers.items c.seat_all-jobs.result.items c.open_all.new.jobs.items (with_items c.open_all.new.jobs c.answer_beside.new.jobs).items seated (sym c.open_all.new.jobs.ok.0 ∙ c.open_all.ensures.len ∙ c.create_all.ensures.len ∙ c.seat_all-jobs.result.ok.0)
     (c.open_all.ensures.refused ∙ c.create_all.ensures.refused) (c.open_all.ensures.sessions ∙ c.create_all.ensures.sessions) c.as_slice-queries.result.now c.as_mut_slice.result.now c.answer_beside.new.jobs (search rules) c.as_mut_slice.ensures.value
     (with_items_is c.open_all.new.jobs c.answer_beside.new.jobs (c.answer_beside.ensures.len ∙ ap length c.as_mut_slice.ensures.value ∙ sym c.open_all.new.jobs.ok.0)) c.answer_beside.ensures.len c.answer_beside.ensures.each in
@@ -268,7 +276,7 @@ pub returns-clause-len : goal.returns-clause-len
 returns-clause-len g c =
     let asks_are = asks_so c.as_slice.result.now c.in_ok-asks.asks.items c.as_slice-queries.result.now c.args.plan.now.queries c.args.plan.now.block_len g.T.OpenedAs.opening.block_len (search rules) c.in_ok-asks.ensures (search rules) c.requires.opening.block_len in
     let seated =
-    are_seated (λ v. v.items) (λ s. s.seat) g.I.Src.Source.remaining g.I.Src.Source.faults g.O.Snk.Sink.contents g.O.Snk.Sink.faults g.T.OpenedAs.opening g.T.OpenedAs.told c.begin_writers-writers.new.pass c.sessions.new.pass c.args.plan.now.queries c.as_slice.result.now asks_are c.requires.rules.some.1
+    are_seated (λ v. v.items) (λ s. s.seat) (λ s. s.seat) g.I.Src.Source.remaining g.I.Src.Source.faults g.O.Snk.Sink.contents g.O.Snk.Sink.faults g.T.OpenedAs.opening g.T.OpenedAs.told c.begin_writers-writers.new.pass c.sessions.new.pass c.args.plan.now.queries c.as_slice.result.now asks_are c.requires.rules.some.1
     c.in-Ok-sessions.answers.items c.in-Ok-sessions.ensures.ok (c.in-Ok-sessions.ensures.fresh (none_live c.begin_writers-writers.new.pass.knows.seen (c.begin_writers-writers.ensures.begin.seen ∙ c.requires.fresh.0))) c.seat_all-jobs.result.items c.seat_all-jobs.ensures in
     let ends_are : map (λ ending. Some ending) c.endings-ends.result.items ≡ map (λ job. job.ended) c.finish_all.new.jobs.items = c.endings-ends.ensures ∙ ap (map (λ job. job.ended)) c.as_slice-2.ensures.value in
     let ends = as_many g.I.Src.Source.remaining g.I.Src.Source.faults g.O.Snk.Sink.contents g.O.Snk.Sink.faults c.finish_all.new.jobs.items c.endings-ends.result.items ends_are in
@@ -287,10 +295,10 @@ returns-clause-ran g c =
     waits_then c.sessions.new.pass c.answer_beside.new.pass c.end_writers-2.new.pass (stops_waits c.sessions.new.pass c.answer_beside.new.pass c.law_pass-2.ensures.1 c.answer_beside.ensures.stops) c.end_writers-2.ensures.waits in
     let asks_are = asks_so c.as_slice.result.now c.in_ok-asks.asks.items c.as_slice-queries.result.now c.args.plan.now.queries c.args.plan.now.block_len g.T.OpenedAs.opening.block_len (search rules) c.in_ok-asks.ensures (search rules) c.requires.opening.block_len in
     let seated =
-    are_seated (λ v. v.items) (λ s. s.seat) g.I.Src.Source.remaining g.I.Src.Source.faults g.O.Snk.Sink.contents g.O.Snk.Sink.faults g.T.OpenedAs.opening g.T.OpenedAs.told c.begin_writers-writers.new.pass c.sessions.new.pass c.args.plan.now.queries c.as_slice.result.now asks_are c.requires.rules.some.1
+    are_seated (λ v. v.items) (λ s. s.seat) (λ s. s.seat) g.I.Src.Source.remaining g.I.Src.Source.faults g.O.Snk.Sink.contents g.O.Snk.Sink.faults g.T.OpenedAs.opening g.T.OpenedAs.told c.begin_writers-writers.new.pass c.sessions.new.pass c.args.plan.now.queries c.as_slice.result.now asks_are c.requires.rules.some.1
     c.in-Ok-sessions.answers.items c.in-Ok-sessions.ensures.ok (c.in-Ok-sessions.ensures.fresh (none_live c.begin_writers-writers.new.pass.knows.seen (c.begin_writers-writers.ensures.begin.seen ∙ c.requires.fresh.0))) c.seat_all-jobs.result.items c.seat_all-jobs.ensures in
     let ran =
-    have_run (λ v. v.items) (λ s. s.seat) g.I.Src.Source.remaining g.I.Src.Source.faults g.O.Snk.Sink.contents g.O.Snk.Sink.faults g.T.OpenedAs.opening g.T.OpenedAs.told c.begin_writers-writers.new.pass c.sessions.new.pass c.args.plan.now.queries
+    have_run (λ v. v.items) (λ s. s.seat) (λ s. s.seat) g.I.Src.Source.remaining g.I.Src.Source.faults g.O.Snk.Sink.contents g.O.Snk.Sink.faults g.T.OpenedAs.opening g.T.OpenedAs.told c.begin_writers-writers.new.pass c.sessions.new.pass c.args.plan.now.queries
     c.in-Ok-sessions.answers.items c.seat_all-jobs.result.items c.open_all.new.jobs.items (with_items c.open_all.new.jobs c.answer_beside.new.jobs).items seated (sym c.open_all.new.jobs.ok.0 ∙ c.open_all.ensures.len ∙ c.create_all.ensures.len ∙ c.seat_all-jobs.result.ok.0)
     (c.open_all.ensures.refused ∙ c.create_all.ensures.refused) (c.open_all.ensures.sessions ∙ c.create_all.ensures.sessions) c.as_slice-queries.result.now c.as_mut_slice.result.now c.answer_beside.new.jobs (search rules) c.as_mut_slice.ensures.value
     (with_items_is c.open_all.new.jobs c.answer_beside.new.jobs (c.answer_beside.ensures.len ∙ ap length c.as_mut_slice.ensures.value ∙ sym c.open_all.new.jobs.ok.0)) c.answer_beside.ensures.len c.answer_beside.ensures.each in

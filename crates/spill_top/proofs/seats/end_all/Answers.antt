@@ -21,7 +21,7 @@ pub let_go-requires-in-loop-jobs-2 : goal.let_go-requires-in-loop-jobs-2
 let_go-requires-in-loop-jobs-2 g c = (of_last (λ job. (job.left ≡ None) × (job.right ≡ None) × (job.sink ≡ None)) c.loop-jobs.jobs.items c.take_last-left.new.self.items c.take_last-left.result c.take_last-left.ensures.items c.loop-jobs.invariant.closed).2
 
 pub end_one-requires-clause-idle : goal.end_one-requires-clause-idle
-end_one-requires-clause-idle g c =
+end_one-requires-clause-idle g c κs within =
     subst (λ session. IfSome session (λ s. (held_by g.T.OpenedAs.opening g.T.OpenedAs.told s.seat).live_clients ≡ 0)) c.in-Some.is
     (of_last (λ job. IfSome job.session (λ s. (held_by g.T.OpenedAs.opening g.T.OpenedAs.told s.seat).live_clients ≡ 0)) c.loop-jobs.jobs.items c.take_last-left.new.self.items c.take_last-left.result c.take_last-left.ensures.items c.loop-jobs.invariant.idle)
 
