@@ -8,6 +8,7 @@ pub mod Forms
 pub mod Heads
 pub mod Same
 pub mod Passes
+pub mod Passing
 pub mod Puts
 pub mod KeptRows
 pub mod Lasts

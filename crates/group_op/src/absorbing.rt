@@ -17,13 +17,11 @@ ghost use Rattle.group_op.specs.Pinning.{HasBegun};
 ghost use Rattle.group_op.specs.Stored.{IsPartialRow, key_at};
 ghost use Rattle.group_op.specs.Wanting.{ShowNoMore};
 
-use crate::flushing::{Fan, Spare};
-use crate::keying::key_of_partial;
+use crate::flushing::{Fan, Spare, key_hash};
 use crate::putting::{put, put_here};
 use bucket_table::BucketTable;
 use partition_stack::Partitions;
 use reservation_tree::PoolErr;
-use row_codec::hash64;
 use std::alloc::Global;
 use store_api::{Client, Shape, Store};
 
@@ -113,7 +111,7 @@ fn take_in<St: Store>(
         )?;
         return Ok(true);
     }
-    if put_here(alloc, store, c, shape, table, parts, &fed.row, hash) {
+    if put_here(alloc, store, c, shape, table, parts, &fed.row, hash, true) {
         return Ok(false);
     }
     parts.law_stack();
@@ -144,8 +142,5 @@ fn key_of<St: Store>(
     if fed.row.len() as u64 > len {
         return Err(PoolErr::Memory);
     }
-    let Ok(true) = key_of_partial(&fed.row, shape, &mut fed.key) else {
-        return Err(PoolErr::Memory);
-    };
-    Ok(hash64(&fed.key))
+    key_hash(shape, fed)
 }

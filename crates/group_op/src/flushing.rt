@@ -1,5 +1,6 @@
 //! The rows of a table go to partitions.
-ghost use Rattle.std.specs.Prelude.{◌+◌, ◌<◌, ◌≤◌, length, OnErr, OnOk, IfErr};
+ghost use Rattle.std.specs.Prelude.{◌≡◌, ◌+◌, ◌<◌, ◌≤◌, length, OnErr, OnOk, IfErr, IfOk};
+ghost use Rattle.reservation_tree.specs.declared.errors.PoolErr.TheVariants as refusal;
 ghost use Rattle.store_api.specs.Conditions.{IsLiveClient};
 ghost use Rattle.store_api.specs.Holdings.{length_of};
 ghost use Rattle.store_api.specs.Signs.{WasAnswered};
@@ -11,10 +12,12 @@ ghost use Rattle.partition_stack.specs.Stack.{HasRoomFrom, over};
 ghost use Rattle.partition_stack.specs.Changes.{ChangesAt};
 ghost use Rattle.group_op.specs.Held.{AreEntries, IsHeld, page_len, state};
 ghost use Rattle.group_op.specs.Putting.{FewCame, HasFlushed, IsFan, Works};
-ghost use Rattle.group_op.specs.Stored.{IsPartialRow, place_of};
+ghost use Rattle.group_op.specs.Stored.{IsPartialRow, key_at, place_of};
+ghost use Rattle.row_codec.specs.Order.{hash_of};
 ghost use Rattle.group_op.specs.Wanting.{StandNoMore};
 
 use crate::keying::key_of_partial;
+use crate::reduction::Reduction;
 use bucket_table::BucketTable;
 use partition_stack::Partitions;
 use reservation_tree::PoolErr;
@@ -41,13 +44,15 @@ pub(crate) const FIRST: Fan = Fan {
     from: 0,
 };
 
-/// Memory that each row takes again.
+/// What stands beside a table: memory that each row takes again, and the counts of its rows.
 #[derive(Drop)]
 pub struct Spare {
     /// A row's bytes.
     pub row: Vec<u8>,
     /// The bytes of its key.
     pub key: Vec<u8>,
+    /// The rows since the table was emptied.
+    pub reduction: Reduction,
 }
 
 impl Spare {
@@ -55,6 +60,7 @@ impl Spare {
         Spare {
             row: Vec::new(alloc),
             key: Vec::new(alloc),
+            reduction: Reduction::new(),
         }
     }
 }
@@ -89,39 +95,54 @@ pub fn flush<St: Store>(
     let mut next = table.first_node();
     while let Some(node) = next {
         table.row_at(node, &mut spare.row)?;
-        send(alloc, store, c, shape, parts, fan, spare)?;
+        let hash = key_hash(shape, spare)?;
+        send(alloc, store, c, shape, parts, fan, &spare.row, hash)?;
         next = table.next_node(node);
     }
     table.clear();
+    spare.reduction = Reduction::new();
     Ok(())
 }
 
-// Appends the row in the spare memory to its partition.
-fn send<St: Store>(
+// The hash of the key of the row in the spare memory.
+pub(crate) fn key_hash(shape: &Shape, spare: &mut Spare) -> Result<u64, PoolErr>
+    ensures row { spare.new.row.items ≡ spare.old.row.items }
+    ensures formed { OnOk result (IsPartialRow shape.now spare.old.row.items) }
+    ensures hash { IfOk result (λ hash. hash ≡ hash_of (key_at shape.now spare.old.row.items)) }
+    ensures cause { IfErr result (λ e. e ≡ refusal.Memory) }
+{
+    let Ok(true) = key_of_partial(&spare.row, shape, &mut spare.key) else {
+        return Err(PoolErr::Memory);
+    };
+    Ok(hash64(&spare.key))
+}
+
+// Appends a row, by the hash of its key, to its partition.
+#[inline]
+pub(crate) fn send<St: Store>(
     alloc: Global,
     store: &mut St,
     c: &Client,
-    shape: &Shape,
+    _shape: &Shape,
     parts: &mut Partitions,
     fan: Fan,
-    spare: &mut Spare,
+    row: &[u8],
+    hash: u64,
 ) -> Result<(), PoolErr>
     requires client { IsLiveClient c.now (St.holds store.old) }
     requires shaped { AreShaped c.now.tracker (over parts.old (St.holds store.old) (St.signs store.old)) }
     requires room { HasRoomFrom c.now.tracker fan.from parts.old (St.holds store.old) (St.signs store.old) }
     requires fan { IsFan fan.level fan.base fan.from parts.old }
-    requires row { IsPartialRow shape.now spare.old.row.items }
-    requires short { length spare.old.row.items ≤ length_of parts.old.page_blocks (St.holds store.old) }
-    ensures went { Feeds c.now.tracker (place_of shape.now fan.level fan.base spare.old.row.items) (came result spare.old.row.items) (over parts.old (St.holds store.old) (St.signs store.old)) (over parts.new (St.holds store.new) (St.signs store.new)) }
+    requires row { IsPartialRow _shape.now row.now }
+    requires hash { hash ≡ hash_of (key_at _shape.now row.now) }
+    requires short { length row.now ≤ length_of parts.old.page_blocks (St.holds store.old) }
+    ensures went { Feeds c.now.tracker (place_of _shape.now fan.level fan.base row.now) (came result row.now) (over parts.old (St.holds store.old) (St.signs store.old)) (over parts.new (St.holds store.new) (St.signs store.new)) }
     ensures at_end { OnOk result (AllAtEnd (over parts.old (St.holds store.old) (St.signs store.old)) → AllAtEnd (over parts.new (St.holds store.new) (St.signs store.new))) }
     ensures few { pages_in (over parts.new (St.holds store.new) (St.signs store.new)) ≤ pages_in (over parts.old (St.holds store.old) (St.signs store.old)) + 1 }
-    ensures changes { ChangesAt (place_of shape.now fan.level fan.base spare.old.row.items) parts.old parts.new }
+    ensures changes { ChangesAt (place_of _shape.now fan.level fan.base row.now) parts.old parts.new }
     ensures cause { IfErr result (λ e. WasAnswered e (St.signs store.old) (St.signs store.new)) }
     ensures full { IfErr result (IsFull parts.old.page_blocks (St.holds store.new).free_slots) }
 {
-    let Ok(true) = key_of_partial(&spare.row, shape, &mut spare.key) else {
-        return Err(PoolErr::Memory);
-    };
-    let at = fan.base + (15 - nibble(hash64(&spare.key), fan.level) as usize);
-    parts.append(alloc, store, c, at, &spare.row)
+    let at = fan.base + (15 - nibble(hash, fan.level) as usize);
+    parts.append(alloc, store, c, at, row)
 }

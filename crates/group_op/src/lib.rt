@@ -3,8 +3,9 @@
 //! Model: a partial row stands as an encoded row, its key's values and then one number an aggregate. The rows in a table and
 //! in the partitions together, combined key by key, are those that were put, in any order and in any parts.
 //! A row that is fed goes into a table: into the entry of its key, or as a new one. A table that is full grows as long as its
-//! client may reserve more; then its rows go to sixteen partitions. Once no more rows are fed, partition after partition is
-//! read through the table, and its groups go to an emitter in the order of their paths and keys.
+//! client may reserve more; then rows of other keys pass it and go to sixteen partitions, or its own rows go there and it
+//! begins anew. Once no more rows are fed, partition after partition is read through the table, and its groups go to an
+//! emitter in the order of their paths and keys.
 #![tactic(auto)]
 
 mod absorbing;
@@ -25,6 +26,7 @@ mod ordering;
 mod own_row;
 mod putting;
 mod reading;
+mod reduction;
 mod scanning;
 mod spelling;
 mod stored;
@@ -33,6 +35,7 @@ pub use flushing::{Fan, Spare, flush};
 pub use laws::{law_asks_own, law_few, law_lengths, law_starts};
 pub use operator::GroupOp;
 pub use putting::put;
+pub use reduction::Reduction;
 pub use row_codec::Agg;
 pub use scanning::leaf_by_scan;
 pub use store_api::{Emit, OpErr, Shape};

@@ -10,7 +10,7 @@ ghost use Rattle.group_op.specs.Putting.{AsManyLeft, FewCame, HasGrown, HasPut, 
 ghost use Rattle.group_op.specs.Stored.{IsPartialRow, key_at};
 ghost use Rattle.group_op.specs.Wanting.{StandNoMore};
 
-use crate::flushing::{Fan, Spare, flush};
+use crate::flushing::{Fan, Spare, flush, send};
 use crate::growing::grow;
 use crate::joining::add_numbers;
 use bucket_table::BucketTable;
@@ -36,8 +36,8 @@ fn find(table: &BucketTable, hash: u64, row: &[u8], shape: &Shape) -> Option<u32
 }
 
 /// Puts a partial row into the table: into the entry of its key, or as a new one. Where there is no room for it, the table
-/// grows by a page, if the client may reserve one more; else the rows of the table go to their partitions first. It takes no
-/// memory where the table has room.
+/// grows by a page, if the client may reserve one more. Else the row goes to its partition, or those of the table go to theirs
+/// first ([`Reduction`] decides which). It takes no memory where the table has room.
 ///
 /// `hash` is that of the key's bytes.
 ///
@@ -72,15 +72,21 @@ pub fn put<St: Store>(
     ensures cause { IfErr result (λ e. WasAnswered e (St.signs store.old) (St.signs store.new)) }
     ensures full { IfErr result (IsFull parts.old.page_blocks (St.holds store.new).free_slots) }
 {
-    if put_here(alloc, store, c, shape, table, parts, row, hash) {
+    let may_grow = !spare.reduction.is_full();
+    if put_here(alloc, store, c, shape, table, parts, row, hash, may_grow) {
+        spare.reduction.keep();
         return Ok(());
+    }
+    if spare.reduction.lets_pass(table.nodes()) {
+        spare.reduction.pass();
+        return send(alloc, store, c, shape, parts, fan, row, hash);
     }
     flush(alloc, store, c, shape, table, parts, fan, spare)?;
     add_entry(table, hash, row);
     Ok(())
 }
 
-// Puts a partial row into the table, which grows if it has no room: whether there was room then.
+// Puts a partial row into the table, which grows if it has no room and may: whether there was room then.
 pub(crate) fn put_here<St: Store>(
     alloc: Global,
     store: &mut St,
@@ -90,6 +96,7 @@ pub(crate) fn put_here<St: Store>(
     parts: &Partitions,
     row: &[u8],
     hash: u64,
+    may_grow: bool,
 ) -> bool
     requires held { IsHeld c.now.tracker (state table.old parts.now (St.holds store.old) (St.signs store.old)) }
     requires entries { AreEntries shape.now (page_len (state table.old parts.now (St.holds store.old) (St.signs store.old))) table.old }
@@ -111,6 +118,9 @@ pub(crate) fn put_here<St: Store>(
     if table.has_room(row.len()) {
         add_entry(table, hash, row);
         return true;
+    }
+    if !may_grow {
+        return false;
     }
     grow(alloc, store, c, shape, table, parts);
     if !table.has_room(row.len()) {

@@ -1,7 +1,6 @@
 -- What the calls for a plan's queries keep of them, place by place: how each was refused, and its session.
 use Rattle.std.proofs.Common.{◌≡◌, ◌∙◌, ℕ, zero, suc, Bool, List, [], ◌∷◌, Option, Some, None, Result, Ok, Err, IsSome, All, length, map, refl, sym, ap, subst, arith}
 use Rattle.std.specs.List.{AllByRecursion, slice_get}
-use Rattle.std.specs.Option.{option_map}
 use Rattle.std.proofs.lemmas.List.Elements.{All-head}
 use Rattle.std.proofs.lemmas.Option.{none-some, same_Some}
 use Rattle.reservation_tree.specs.declared.errors.PoolErr.{PoolErr}

@@ -36,7 +36,8 @@ use std::time::Clock;
 /// outputs are created and inputs are opened, queries run beside each other, each in a thread of its own where one can be
 /// made, and sources and then sinks are given back, each in the order of the plan; of a query that joins the left input
 /// comes first. A query whose output or input can't be opened does not run. The status is the first that is not 0.
-/// A query passes `gate` by its place in the plan, from 0: where its last input ends, and when it was answered.
+/// A query passes `gate` by its place in the plan, from 0: before and after a page of it is stored or loaded, where its last input
+/// ends, and when it was answered.
 /// An answer is promised where all slots tell what they hold. An output is said to be whole where its query has
 /// status 0; else it is empty, or after 7 to 10 a front of the answer.
 ///

@@ -6,6 +6,7 @@ use Rattle.group_op.proofs.Deals.{deals_fed}
 use Rattle.group_op.proofs.Entering.{entries_joined, entries_new, here_found, here_new, lacks_same, works_len, works_none}
 use Rattle.group_op.proofs.Keeping.{works_nodes}
 use Rattle.group_op.proofs.Finding.{entry_row}
+use Rattle.group_op.proofs.Growth.{grown_none}
 use Rattle.group_op.proofs.RowForms.{partial_is_framed}
 use Rattle.group_op.proofs.putting.put_here.Goals as goal
 
@@ -63,3 +64,11 @@ returns-clause-works g c =
 pub returns-then-not-has_room-clause-lacks : goal.returns-then-not-has_room-clause-lacks
 returns-then-not-has_room-clause-lacks g c = λ not.
     lacks_same c.args.shape.now (key_at c.args.shape.now c.args.row.now) c.args.table.now c.grow.new.table c.grow.ensures.rows c.in_default.ensures.none
+
+pub returns-then-not-may_grow-clause-grown : goal.returns-then-not-may_grow-clause-grown
+returns-then-not-may_grow-clause-grown g c = λ not.
+    grown_none c.args.c.now.tracker c.args.shape.now c.args.table.now c.args.parts.now (g.St.Store.holds c.args.store.now) (g.St.Store.signs c.args.store.now) c.requires.held c.requires.entries
+
+pub returns-then-not-may_grow-clause-works : goal.returns-then-not-may_grow-clause-works
+returns-then-not-may_grow-clause-works g c =
+    works_none c.args.c.now.tracker c.args.shape.now c.args.table.now c.args.parts.now (g.St.Store.holds c.args.store.now) (g.St.Store.signs c.args.store.now) c.requires.held c.requires.entries

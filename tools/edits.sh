@@ -1,0 +1,17 @@
+#!/bin/sh
+# Tries the edits of tools/edits/NAME together with those of crates/NAME/must-fail: sh tools/edits.sh NAME..
+# The prover must refuse each. The gate doesn't try these, since the edits of a crate cost as much as its proof. They are
+# tried before a change of the crate lands, on a copy of the repository.
+set -eu
+top=$(cd "$(dirname "$0")/.." && pwd)
+. "$top/tools/toolchain.sh"
+[ $# -gt 0 ] || { echo "usage: sh tools/edits.sh NAME.." >&2; exit 2; }
+copy=$(mktemp -d)
+trap 'rm -rf "$copy"' EXIT
+cp -r "$top/HANDLES" "$top/crates.txt" "$top/crates" "$copy"
+for name in "$@"; do
+    mkdir -p "$copy/crates/$name/must-fail"
+    cp "$top/tools/edits/$name"/*.edit "$copy/crates/$name/must-fail"
+done
+cd "$copy"
+"$RT" must-fail "$@"
