@@ -4,12 +4,12 @@ use std::thread::{sleep, yield_now};
 use std::time::{Clock, Duration};
 
 // So many times in a row only the processor is given up.
-const YIELDS: u32 = 32;
+const YIELDS: u32 = 4;
 
 // From then on a writer sleeps, first for so many microseconds, and twice as long each time, up to the most.
-const FIRST_SLEEP: u64 = 50;
+const FIRST_SLEEP: u64 = 100;
 
-const MOST_DOUBLINGS: u32 = 4;
+const MOST_DOUBLINGS: u32 = 3;
 
 // How many tries in a row found nothing to do.
 #[derive(Drop)]
