@@ -1,5 +1,5 @@
 -- A table comes to a grouping that has none.
-use Rattle.std.proofs.Common.{◌≡◌, ◌∙◌, ℕ, ◌*◌, [], map, Option, Some, None, IsSome, Result, Ok, Err, IfOk, IfErr, OnErr, refl, ap, sym, subst, arith}
+use Rattle.std.proofs.Common.{◌≡◌, ◌∙◌, ℕ, ◌*◌, [], map, Option, Some, None, IsSome, Result, Ok, Err, IfOk, IfErr, IfSome, OnErr, refl, ap, sym, subst, arith}
 use Rattle.std.specs.Bool.{⊤}
 use Rattle.std.specs.List.{sum_by}
 use Rattle.std.specs.Prelude.{All, is_some, if◌then◌else◌}
@@ -79,6 +79,11 @@ had_table c shape p table h signs is =
       entries = is.has.1;
       deals = deals_fed c.tracker (λ i. []) (over p h signs) (over p h signs) (feeds_none c.tracker (over p h signs) is.has.0.owns.shaped);
     }
+
+-- the one that is there
+pub had_opened : (c : ClientToken) (shape : Shape) (p : Stack) (table : Option Table) (h : Holdings) (signs : Signs) → IsOperator (operator c shape p table) h signs → IfSome table (λ own. HasOpened shape table own (state own p h signs) (state own p h signs))
+had_opened c shape p None h signs is = tt
+had_opened c shape p (Some table) h signs is = had_table c shape p table h signs is
 
 module _ (c : ClientToken) (shape : Shape) (p : Stack) (old new : Holdings) (before after : Signs) (is : IsOperator (operator c shape p None) old before) where
   -- a new one

@@ -1,5 +1,5 @@
 //! Rows are fed to a grouping.
-ghost use Rattle.std.specs.Prelude.{◌≡◌, ◌<◌, ◌++◌, ◌∷◌, [], List, None, Option, IfErr, IfOk, OnErr, OnOk};
+ghost use Rattle.std.specs.Prelude.{◌≡◌, ◌<◌, ◌++◌, ◌∷◌, [], List, None, Option, IfErr, IfOk, IfSome, IsSome, OnErr, OnOk};
 ghost use Rattle.pool_model.specs.declared.entry.Entry.{Entry};
 ghost use Rattle.row_codec.specs.declared.values.Value.{Value};
 ghost use Rattle.store_api.specs.Holdings.{length_of};
@@ -103,28 +103,57 @@ fn feed_row<St: Store>(
     law_scratch();
     parts.law_stack();
     let hash = hash64(&fed.key);
-    let mut own = table_or_new(alloc, store, c, shape, parts, table.take())?;
-    let result = put(
-        alloc, store, c, shape, &mut own, parts, FIRST, &fed.row, hash, moved,
-    );
-    // The place is empty, since the table was taken out above.
-    if let Some(other) = mem::replace(table, Some(own)) {
-        other.close(store);
-    }
-    result
+    open_table(alloc, store, c, shape, parts, table)?;
+    let Some(own) = table else { unreachable!() };
+    put(
+        alloc, store, c, shape, own, parts, FIRST, &fed.row, hash, moved,
+    )
 }
 
-// The table, or a new one where there is none: a page of heads and two of rows.
-fn table_or_new<St: Store>(
+// Opens the table where there is none.
+fn open_table<St: Store>(
+    alloc: Global,
+    store: &mut St,
+    c: &Client,
+    shape: &Shape,
+    parts: &Partitions,
+    table: &mut Option<BucketTable>,
+) -> Result<(), PoolErr>
+    requires { IsOperator (operator c.now shape.now parts.now table.old) (St.holds store.old) (St.signs store.old) }
+    ensures has { OnOk result (IfSome table.new (λ own. HasOpened shape.now table.old own (state own parts.now (St.holds store.old) (St.signs store.old)) (state own parts.now (St.holds store.new) (St.signs store.new)))) }
+    ensures held { OnOk result (IfSome table.new (λ own. IsHeld c.now.tracker (state own parts.now (St.holds store.new) (St.signs store.new)))) }
+    ensures some { OnOk result (IsSome table.new) }
+    ensures none { OnErr result (IsOperator (operator c.now shape.now parts.now table.new) (St.holds store.new) (St.signs store.new)) }
+    ensures leaves { LeavesOthers c.now.tracker (St.holds store.old) (St.holds store.new) (St.signs store.old) (St.signs store.new) }
+    ensures slots { SameSlots parts.now.page_blocks (over parts.now (St.holds store.old) (St.signs store.old)) (over parts.now (St.holds store.new) (St.signs store.new)) }
+    ensures made { HaveMade (over parts.now (St.holds store.old) (St.signs store.old)) (over parts.now (St.holds store.new) (St.signs store.new)) }
+    ensures cause { IfErr result (λ e. WasAnswered e (St.signs store.old) (St.signs store.new)) }
+    ensures full { IfErr result (IsFull parts.now.page_blocks (St.holds store.new).free_slots) }
+{
+    if table.is_some() {
+        return Ok(());
+    }
+    let own = new_table(alloc, store, c, shape, parts)?;
+    match mem::replace(table, Some(own)) {
+        None => Ok(()),
+        // There was none.
+        Some(other) => {
+            other.close(store);
+            Ok(())
+        }
+    }
+}
+
+// A new table: a page of heads and two of rows.
+fn new_table<St: Store>(
     alloc: Global,
     store: &mut St,
     c: &Client,
     _shape: &Shape,
     parts: &Partitions,
-    table: Option<BucketTable>,
 ) -> Result<BucketTable, PoolErr>
-    requires { IsOperator (operator c.now _shape.now parts.now table) (St.holds store.old) (St.signs store.old) }
-    ensures has { IfOk result (λ own. HasOpened _shape.now table own (state own parts.now (St.holds store.old) (St.signs store.old)) (state own parts.now (St.holds store.new) (St.signs store.new))) }
+    requires { IsOperator (operator c.now _shape.now parts.now None) (St.holds store.old) (St.signs store.old) }
+    ensures has { IfOk result (λ own. HasOpened _shape.now None own (state own parts.now (St.holds store.old) (St.signs store.old)) (state own parts.now (St.holds store.new) (St.signs store.new))) }
     ensures held { IfOk result (λ own. IsHeld c.now.tracker (state own parts.now (St.holds store.new) (St.signs store.new))) }
     ensures none { OnErr result (IsOperator (operator c.now _shape.now parts.now None) (St.holds store.new) (St.signs store.new)) }
     ensures leaves { LeavesOthers c.now.tracker (St.holds store.old) (St.holds store.new) (St.signs store.old) (St.signs store.new) }
@@ -133,8 +162,5 @@ fn table_or_new<St: Store>(
     ensures cause { IfErr result (λ e. WasAnswered e (St.signs store.old) (St.signs store.new)) }
     ensures full { IfErr result (IsFull parts.now.page_blocks (St.holds store.new).free_slots) }
 {
-    if let Some(own) = table {
-        return Ok(own);
-    }
     BucketTable::open(alloc, store, c, parts.page_blocks(), 2)
 }

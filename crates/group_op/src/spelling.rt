@@ -1,6 +1,6 @@
 //! The partial row of a row, spelled as bytes.
 ghost use Rattle.std.specs.Prelude.{◌≡◌, ◌+◌, ◌-◌, ◌*◌, ◌<◌, ◌≤◌, ◌^◌, ◌++◌, All, drop, flat_map, length, map, OnOk};
-ghost use Rattle.std.specs.Int.{w32, to_be_bytes};
+ghost use Rattle.std.specs.Int.{w32, w128, cast_unsigned, to_be_bytes};
 ghost use Rattle.row_codec.specs.declared.values.Value.TheVariants as value;
 ghost use Rattle.row_codec.specs.Row.{IsValue, kinds_of};
 ghost use Rattle.row_codec.specs.RowBytes.{field_bytes, row_bytes, values_in};
@@ -79,8 +79,23 @@ fn push_wide(number: i128, out: &mut Vec<u8>) -> Result<(), Memory>
     ensures items { OnOk result (out.new.items ≡ out.old.items ++ field_bytes (value.Wide number)) }
     ensures value { IsValue (value.Wide number) }
 {
-    out.extend_from_slice(&number.to_be_bytes())?;
+    out.extend_from_slice(&spelled(number))?;
     Ok(())
+}
+
+// The sixteen bytes that spell a wide number, in two's complement. All of it is turned round before it is parted, which a
+// compiler does by an instruction for each half.
+#[inline]
+fn spelled(number: i128) -> [u8; 16]
+    ensures { result ≡ to_be_bytes w128 (cast_unsigned w128 number) }
+{
+    let turned = number.cast_unsigned().swap_bytes();
+    let first = ((turned % (1 << 64)) as u64).to_le_bytes();
+    let last = ((turned >> 64) as u64).to_le_bytes();
+    let mut out = [0; 16];
+    out[..8].copy_from_slice(&first);
+    out[8..].copy_from_slice(&last);
+    out
 }
 
 // Writes the number of the bytes behind the first four into these.

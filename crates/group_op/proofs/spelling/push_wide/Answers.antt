@@ -6,4 +6,4 @@ use Rattle.group_op.proofs.spelling.push_wide.Goals as goal
 pub returns-clause-items : goal.returns-clause-items
 returns-clause-items c =
     let fits : SFits w128 c.args.number = search rules in
-    c.in_ok-extend_from_slice.ensures.items ∙ ap (λ bytes. c.args.out.now.items ++ bytes) (simp to_z-of_z at c.to_be_bytes.ensures)
+    c.in_ok-extend_from_slice.ensures.items ∙ ap (λ bytes. c.args.out.now.items ++ bytes) (simp to_z-of_z at c.spelled.ensures)
