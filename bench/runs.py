@@ -4,7 +4,7 @@
 usage: runs.py PROGRAM [SCALE]      (SCALE: a factor for all numbers of rows, 1 by default)
 
 The inputs are made once, the same for the same numbers, with their rows in no order, in a folder below TMPDIR, which is removed at the end.
-The programs run in turn, one at a time: three times in runs 1 and 3, once in runs 2 and 4. Printed are the least wall time, the least
+The programs run in turn, one at a time: five times in runs 1 and 3, once in runs 2 and 4. Printed are the least wall time, the least
 processor time (user and system) and the peak resident memory of each, the program's times as a multiple of the other's, and whether the
 answers are the same lines. `plain` is the program of bench/plain, which cargo builds first.
 """
@@ -82,9 +82,9 @@ def join(orders, customers, memory, block_len, page_blocks, times):
 
 def runs(scale):
     of = lambda rows: max(1, int(rows * scale))
-    return [group(of(1000000), of(50000), 1 << 20, 8192, 3),
+    return [group(of(1000000), of(50000), 1 << 20, 8192, 5),
             group(of(20000000), of(5000000), 64 << 20, 65536, 1),
-            join(of(200000), of(10000), 64 << 20, 8192, 8, 3),
+            join(of(200000), of(10000), 64 << 20, 8192, 8, 5),
             join(of(4000000), of(200000), 16 << 20, 65536, 1, 1)]
 
 
