@@ -10,6 +10,7 @@ copy=$(mktemp -d)
 trap 'rm -rf "$copy"' EXIT
 cp -r "$top/HANDLES" "$top/crates.txt" "$top/crates" "$copy"
 for name in "$@"; do
+    [ -d "$top/tools/edits/$name" ] || { echo "tools/edits has no edits of $name" >&2; exit 2; }
     mkdir -p "$copy/crates/$name/must-fail"
     cp "$top/tools/edits/$name"/*.edit "$copy/crates/$name/must-fail"
 done
