@@ -1,5 +1,5 @@
 //! How the bytes of one block lie in memory. Nothing else in this crate knows.
-ghost use Rattle.std.specs.Prelude.{◌≡◌, IfOk, length, replicate};
+ghost use Rattle.std.specs.Prelude.{◌≡◌, ◌≤◌, IfOk, length, replicate};
 ghost use Rattle.std.specs.Borrow.{Lends, Array, sem, u8 as byte};
 ghost use Rattle.block_arena.specs.contracts.layout.Block.{the_row};
 ghost use Rattle.block_arena.specs.Bytes.{fitted};
@@ -7,6 +7,43 @@ ghost use Rattle.block_arena.specs.Bytes.{fitted};
 use crate::shortage::Memory;
 use std::alloc::Global;
 use std::marker::Model;
+
+/// The memory of a block that no buffer has had: taken, but not touched.
+#[derive(Drop)]
+pub(crate) struct Room {
+    own: Vec<u8>,
+}
+
+impl Model for Room {
+    ghost use Rattle.std.specs.Prelude.{◌≡◌, ℕ, vec_len, vec_capacity};
+
+    ghost Value = { ℕ };
+
+    ghost view = { λ room. vec_capacity room.own };
+
+    ghost invariant = { λ room. vec_len room.own ≡ 0 };
+}
+
+impl Room {
+    /// Room for a block of `len` bytes.
+    pub(crate) fn of(alloc: Global, len: usize) -> Result<Room, Memory>
+        ensures { IfOk result (λ room. room ≡ len) }
+    {
+        let own = Vec::with_capacity(alloc, len)?;
+        Ok(Room { own })
+    }
+
+    /// The block of `len` zeros that stands there. Each byte is touched once.
+    pub(crate) fn zeroed(self, len: usize) -> Block
+        requires { len ≤ self }
+        ensures { result ≡ replicate len 0 }
+    {
+        let Room { mut own } = self;
+        // There is room, so nothing is refused.
+        let _grown = own.resize(len, 0);
+        Block { own }
+    }
+}
 
 /// The memory of one block.
 #[derive(Drop)]
@@ -23,14 +60,6 @@ impl Model for Block {
 }
 
 impl Block {
-    /// A block of `len` zeros. Each byte is touched once.
-    pub(crate) fn zeroed(alloc: Global, len: usize) -> Result<Block, Memory>
-        ensures { IfOk result (λ block. block ≡ replicate len 0) }
-    {
-        let own = vec![in alloc; 0; len]?;
-        Ok(Block { own })
-    }
-
     /// The bytes of the block.
     #[inline]
     pub(crate) fn bytes(&self) -> &[u8]

@@ -1,10 +1,10 @@
 //! All blocks of a pool, taken once.
-ghost use Rattle.std.specs.Prelude.{◌≡◌, ◌+◌, ◌-◌, ◌≤◌, IfOk, ℕ, vec_len, vec_capacity};
+ghost use Rattle.std.specs.Prelude.{◌≡◌, ◌+◌, ◌-◌, ◌^◌, ◌≤◌, All, IfOk, ℕ, vec_len, vec_capacity};
 ghost use Rattle.block_arena.specs.Blocks.{AreBlocks, IsBlockLen};
 ghost use Rattle.block_arena.specs.Memory.{IsBufferOf};
 
 use crate::buffer::Buf;
-use crate::layout::Block;
+use crate::layout::{Block, Room};
 use crate::length::BlockLen;
 use crate::shells::Shell;
 use crate::shortage::Memory;
@@ -16,24 +16,28 @@ use std::marker::Model;
 pub struct Arena {
     each: BlockLen,
     opened: u32,
-    free: Vec<Block>,
+    // Free, and no buffer has had them.
+    unused: Vec<Room>,
+    // Free, and came back.
+    back: Vec<Block>,
 }
 
 impl Model for Arena {
-    ghost use Rattle.std.specs.Prelude.{◌≤◌, ◌<◌, ◌^◌, vec_len, vec_capacity};
+    ghost use Rattle.std.specs.Prelude.{◌≡◌, ◌≤◌, ◌<◌, ◌+◌, ◌^◌, All, vec_len, vec_capacity};
     ghost use Rattle.block_arena.specs.Blocks.{AreBlocks};
     ghost use Rattle.block_arena.specs.Memory.{Supply};
 
     ghost Value = { Supply };
 
-    ghost view = { λ arena. record { block_len = 2 ^ arena.each.shift; blocks = arena.opened; free = vec_len arena.free } };
+    ghost view = { λ arena. record { block_len = 2 ^ arena.each.shift; blocks = arena.opened; free = vec_len arena.unused + vec_len arena.back } };
 
-    ghost invariant = { λ arena. (arena.opened < 2 ^ 32) × (vec_len arena.free ≤ arena.opened) × (arena.opened ≤ vec_capacity arena.free) × AreBlocks (2 ^ arena.each.shift) arena.free.items };
+    ghost invariant = { λ arena. (arena.opened < 2 ^ 32) × (vec_len arena.unused + vec_len arena.back ≤ arena.opened) × (arena.opened ≤ vec_capacity arena.back) × All (λ room. room ≡ 2 ^ arena.each.shift) arena.unused.items × AreBlocks (2 ^ arena.each.shift) arena.back.items };
 }
 
 impl Arena {
     /// Takes the memory of `blocks` blocks of `block_len` bytes each. All of them are free.
-    /// A block length is a power of two from 64 to 65536.
+    /// A block length is a power of two from 64 to 65536. The memory is asked of the allocator
+    /// here, all of it; a block is touched when a buffer has it for the first time.
     ///
     /// # Errors
     ///
@@ -43,14 +47,15 @@ impl Arena {
         ensures { IfOk result (λ arena. arena ≡ record { block_len = block_len; blocks = blocks; free = blocks }) }
     {
         let each = BlockLen::of(block_len);
-        let mut free = Vec::with_capacity(alloc, blocks as usize)?;
+        let mut unused = Vec::with_capacity(alloc, blocks as usize)?;
         for _i in 0..blocks {
-            free.push_reserved(Block::zeroed(alloc, each.bytes())?);
+            unused.push_reserved(Room::of(alloc, each.bytes())?);
         }
         Ok(Arena {
             each,
             opened: blocks,
-            free,
+            unused,
+            back: Vec::with_capacity(alloc, blocks as usize)?,
         })
     }
 
@@ -60,10 +65,11 @@ impl Arena {
         ensures value { result ≡ self.now.free }
         ensures most { result ≤ self.now.blocks }
     {
-        self.free.len() as u32
+        (self.unused.len() + self.back.len()) as u32
     }
 
     /// A buffer of as many free blocks as the shell has room for. Its bytes are any bytes.
+    /// Blocks that came back are taken first.
     pub fn fill(&mut self, shell: Shell) -> Buf
         requires { shell ≤ self.old.free }
         ensures buffer { IsBufferOf shell self.old.block_len result }
@@ -74,7 +80,9 @@ impl Arena {
             room,
             none: mut blocks,
         } = shell;
-        move_blocks(&mut self.free, &mut blocks, room);
+        let again = room.min(self.back.len() as u32);
+        move_blocks(&mut self.back, &mut blocks, again);
+        first_blocks(&mut self.unused, &mut blocks, room - again, self.each);
         Buf {
             each: self.each,
             blocks,
@@ -93,7 +101,7 @@ impl Arena {
             mut blocks,
         } = buf;
         let room = blocks.len() as u32;
-        move_blocks(&mut blocks, &mut self.free, room);
+        move_blocks(&mut blocks, &mut self.back, room);
         Shell { room, none: blocks }
     }
 }
@@ -111,5 +119,21 @@ fn move_blocks(from: &mut Vec<Block>, to: &mut Vec<Block>, count: u32)
 {
     for _i in 0..count {
         to.push_reserved(from.take_last());
+    }
+}
+
+// Makes blocks in that many rooms from the end of one list, at the end of another.
+fn first_blocks(from: &mut Vec<Room>, to: &mut Vec<Block>, count: u32, each: BlockLen)
+    requires enough { count ≤ vec_len from.old }
+    requires room { vec_len to.old + count ≤ vec_capacity to.old }
+    requires rooms { All (λ room. room ≡ 2 ^ each.shift) from.old.items }
+    ensures left { vec_len from.new + count ≡ vec_len from.old }
+    ensures made { vec_len to.new ≡ vec_len to.old + count }
+    ensures to_room { vec_capacity to.new ≡ vec_capacity to.old }
+    ensures from_sizes { All (λ room. room ≡ 2 ^ each.shift) from.new.items }
+    ensures to_sizes { AreBlocks (2 ^ each.shift) to.old.items → AreBlocks (2 ^ each.shift) to.new.items }
+{
+    for _i in 0..count {
+        to.push_reserved(from.take_last().zeroed(each.bytes()));
     }
 }

@@ -8,5 +8,5 @@ invariant_of-self c =
     let buf = c.buf.inside in
     let same : 2 ^ buf.each.shift ≡ size = ap (λ b. b.block_len) c.buf.view_is ∙ c.requires.block_len ∙ sym (ap (λ a. a.block_len) c.self.view_is) in
     let sizes : AreBlocks size buf.blocks.items = subst (λ (n : ℕ). AreBlocks n buf.blocks.items) same c.buf.invariant.1 in
-    let room : vec_len c.self.inside.free + length buf.blocks.items ≤ c.self.inside.opened = rw (← c.self.view_is, ← c.buf.view_is) at c.requires.room in
-    (c.self.invariant.0, omega (arith, buf.blocks.ok.0), omega (arith, c.self.invariant.2), c.move_blocks.ensures.to_sizes size sizes c.self.invariant.3)
+    let room : vec_len c.self.inside.unused + vec_len c.self.inside.back + length buf.blocks.items ≤ c.self.inside.opened = rw (← c.self.view_is, ← c.buf.view_is) at c.requires.room in
+    (c.self.invariant.0, omega (arith, buf.blocks.ok.0), omega (arith, c.self.invariant.2), c.self.invariant.3, c.move_blocks.ensures.to_sizes size sizes c.self.invariant.4)
