@@ -30,6 +30,3 @@ pub use full::Full;
 pub use hashing::RowHash;
 pub use laws::{law_loans_leave_pages, law_table_stays};
 pub use table::BucketTable;
-
-#[cfg(test)]
-mod tests;

@@ -14,8 +14,6 @@ mod ending;
 mod laws;
 mod stack;
 mod streams;
-#[cfg(test)]
-mod tests;
 
 pub use laws::{law_few_partitions, law_owned, law_room, law_scratch, law_top};
 pub use stack::Partitions;

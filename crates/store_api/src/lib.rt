@@ -13,10 +13,6 @@ mod laws;
 mod listed;
 mod mem_store;
 mod op_err;
-#[cfg(test)]
-mod page_rows;
-#[cfg(test)]
-mod row_count;
 mod shapes;
 mod store;
 mod tokens;
@@ -33,6 +29,3 @@ pub use row_codec::{Agg, Column, Kind, Value};
 pub use shapes::{JoinShape, Shape};
 pub use store::Store;
 pub use tokens::{Client, Loan, Page};
-
-#[cfg(test)]
-mod tests;

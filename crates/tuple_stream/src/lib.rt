@@ -12,16 +12,12 @@ mod ending;
 mod err;
 mod laws;
 mod opening;
-#[cfg(test)]
-mod pair;
 mod place;
 mod reading;
 mod room;
 mod rows;
 mod spending;
 mod stream;
-#[cfg(test)]
-mod tests;
 
 pub use err::StreamErr;
 pub use laws::{law_few_pages, law_first_place, law_streams_beside};
