@@ -1,5 +1,5 @@
 //! Pages that come and go against worked rows and a plain list.
-ghost use Rattle.std.specs.Prelude.{◌≡◌, ◌+◌, ◌≤◌, OnOk, length};
+ghost use Rattle.std.specs.Prelude.{◌≡◌, ◌+◌, ◌<◌, ◌≤◌, OnOk, length};
 ghost use Rattle.block_arena.specs.Memory.{IsBufferOf};
 ghost use Rattle.page_table.specs.Pages.{HasRoom, IsSpent};
 ghost use Rattle.clean_evict.specs.Eviction.{IsCleanList, blocks_of};
@@ -14,14 +14,15 @@ use std::test::Fail;
 #[test]
 fn the_oldest_page_is_in_front(rt: HostRuntime) -> Result<(), Fail> {
     let mut list = CleanList::with(rt.alloc(), 4)?;
-    assert_eq!(rt; list.oldest(), None);
+    let empty = list.oldest();
     list.push(3);
     list.push(1);
     list.push(0);
-    assert_eq!(rt; list.oldest(), Some(3));
+    let three = list.oldest();
     list.remove(1);
     list.remove(3);
-    assert_eq!(rt; list.oldest(), Some(0));
+    let fronts = [empty, three, list.oldest()];
+    assert_eq!(rt; fronts, [None, Some(3), Some(0)]);
     Ok(())
 }
 
@@ -84,6 +85,69 @@ fn place_of(pages: &PageTable<u32>, id: PageId) -> Option<Place> {
     pages.get(id).map(|entry| entry.place)
 }
 
+// Two pages of one block become clean, where four blocks were free. Their ids, the older one first.
+fn two_clean(
+    rt: &impl Abort,
+    alloc: Global,
+    list: &mut CleanList,
+    arena: &mut Arena,
+    pages: &mut PageTable<u32>,
+) -> Result<[PageId; 2], Fail>
+    requires nodes { pages.old.room ≤ list.old.nodes }
+    requires clean { IsCleanList arena.old pages.old list.old.keys }
+    requires none { length list.old.keys ≡ 0 }
+    requires free { arena.old.free + blocks_of pages.old list.old.keys ≡ 4 }
+    ensures clean { OnOk result (IsCleanList arena.new pages.new list.new.keys) }
+    ensures total { OnOk result (arena.new.free + blocks_of pages.new list.new.keys ≡ 4) }
+    ensures len { OnOk result (length list.new.keys ≤ 2) }
+{
+    let (first, _none) = turned(rt, alloc, list, arena, pages, 1)?;
+    let (second, _none) = turned(rt, alloc, list, arena, pages, 1)?;
+    assert_eq!(rt; (first.name, second.name, arena.free()), (0, 1, 2));
+    Ok([first, second])
+}
+
+// A buffer of some blocks is acquired: the names that are told, and how the two pages stand then.
+fn acquires(
+    rt: &impl Abort,
+    alloc: Global,
+    list: &mut CleanList,
+    arena: &mut Arena,
+    pages: &mut PageTable<u32>,
+    blocks: u32,
+    names: &[u64],
+    places: [Place; 2],
+) -> Result<(), Fail>
+    requires blocks { blocks ≤ 4 }
+    requires names { length names.now ≤ 2 }
+    requires nodes { pages.old.room ≤ list.old.nodes }
+    requires clean { IsCleanList arena.old pages.old list.old.keys }
+    requires none { length list.old.keys ≡ 0 }
+    requires free { arena.old.free + blocks_of pages.old list.old.keys ≡ 4 }
+{
+    let [first, second] = two_clean(rt, alloc, list, arena, pages)?;
+    let shell = Shell::with(alloc, blocks)?;
+    let mut evicted = Vec::with_capacity(alloc, 4)?;
+    list.law_fewest(arena, pages, blocks);
+    let buf = list.acquire(arena, pages, shell, &mut evicted);
+    assert_eq!(rt;
+        (
+            evicted.as_slice(),
+            buf.len(),
+            arena.free() as usize + blocks as usize,
+            [place_of(pages, first), place_of(pages, second)]
+        ),
+        (
+            names,
+            blocks as usize * 64,
+            2 + names.len(),
+            [Some(places[0]), Some(places[1])]
+        ),
+        "{blocks}"
+    );
+    Ok(())
+}
+
 // Two blocks are free and two pages of one block are clean, as a buffer of some blocks is acquired.
 fn makes_room(
     rt: &impl Abort,
@@ -98,26 +162,9 @@ fn makes_room(
     let mut list = CleanList::with(alloc, 2)?;
     let mut arena = Arena::open(alloc, 4, 64)?;
     let mut pages = PageTable::with(alloc, 2, 0)?;
-    let (first, _none) = turned(rt, alloc, &mut list, &mut arena, &mut pages, 1)?;
-    let (second, _none) = turned(rt, alloc, &mut list, &mut arena, &mut pages, 1)?;
-    assert_eq!(rt; (first.name, second.name, arena.free()), (0, 1, 2));
-    let shell = Shell::with(alloc, blocks)?;
-    list.law_fewest(&arena, &pages, blocks);
-    let mut evicted = Vec::with_capacity(alloc, 4)?;
-    let buf = list.acquire(&mut arena, &mut pages, shell, &mut evicted);
-    assert_eq!(rt; evicted.as_slice(), names, "{blocks}");
-    assert_eq!(rt; buf.len(), blocks as usize * 64);
-    assert_eq!(rt;
-        arena.free() as usize + blocks as usize,
-        2 + names.len(),
-        "{blocks}"
-    );
-    assert_eq!(rt;
-        (place_of(&pages, first), place_of(&pages, second)),
-        (Some(places[0]), Some(places[1])),
-        "{blocks}"
-    );
-    Ok(())
+    acquires(
+        rt, alloc, &mut list, &mut arena, &mut pages, blocks, names, places,
+    )
 }
 
 #[test]
@@ -133,6 +180,40 @@ fn the_oldest_pages_go_while_too_few_blocks_are_free(rt: HostRuntime) -> Result<
     makes_room(&rt, rt.alloc(), 2, &[], [Place::Clean, Place::Clean])
 }
 
+// Room for some blocks is made: the names that are told, the free blocks, and whether the list is empty.
+fn makes(
+    rt: &impl Abort,
+    alloc: Global,
+    list: &mut CleanList,
+    arena: &mut Arena,
+    pages: &mut PageTable<u32>,
+    wanted: u32,
+    names: &[u64],
+) -> Result<(), Fail>
+    requires wanted { wanted ≤ 4 }
+    requires names { length names.now ≤ 2 }
+    requires nodes { pages.old.room ≤ list.old.nodes }
+    requires clean { IsCleanList arena.old pages.old list.old.keys }
+    requires none { length list.old.keys ≡ 0 }
+    requires free { arena.old.free + blocks_of pages.old list.old.keys ≡ 4 }
+{
+    two_clean(rt, alloc, list, arena, pages)?;
+    let mut evicted = Vec::with_capacity(alloc, 4)?;
+    list.law_distinct();
+    list.law_fewest(arena, pages, wanted);
+    list.make_room(arena, pages, wanted, &mut evicted);
+    assert_eq!(rt;
+        (
+            evicted.as_slice(),
+            arena.free() as usize,
+            list.oldest().is_none()
+        ),
+        (names, 2 + names.len(), names.len() == 2),
+        "{wanted}"
+    );
+    Ok(())
+}
+
 // Two blocks are free and two pages of one block are clean, as room for some blocks is made.
 fn frees(rt: &impl Abort, alloc: Global, wanted: u32, names: &[u64]) -> Result<(), Fail>
     requires wanted { wanted ≤ 4 }
@@ -141,16 +222,7 @@ fn frees(rt: &impl Abort, alloc: Global, wanted: u32, names: &[u64]) -> Result<(
     let mut list = CleanList::with(alloc, 2)?;
     let mut arena = Arena::open(alloc, 4, 64)?;
     let mut pages = PageTable::with(alloc, 2, 0)?;
-    let (_first, _none) = turned(rt, alloc, &mut list, &mut arena, &mut pages, 1)?;
-    let (_second, _none) = turned(rt, alloc, &mut list, &mut arena, &mut pages, 1)?;
-    list.law_distinct();
-    list.law_fewest(&arena, &pages, wanted);
-    let mut evicted = Vec::with_capacity(alloc, 4)?;
-    list.make_room(&mut arena, &mut pages, wanted, &mut evicted);
-    assert_eq!(rt; evicted.as_slice(), names, "{wanted}");
-    assert_eq!(rt; arena.free() as usize, 2 + names.len(), "{wanted}");
-    assert_eq!(rt; list.oldest().is_none(), names.len() == 2, "{wanted}");
-    Ok(())
+    makes(rt, alloc, &mut list, &mut arena, &mut pages, wanted, names)
 }
 
 #[test]
@@ -214,28 +286,76 @@ fn agrees(
     true
 }
 
-fn matches_a_plain_list(rt: &impl Abort, alloc: Global, stride: u32) -> Result<(), Fail> {
-    let mut list = CleanList::with(alloc, 50)?;
-    let mut arena = Arena::open(alloc, 8, 64)?;
-    let mut pages = PageTable::with(alloc, 50, 0)?;
+// A turn on both, after which they agree. A turn is told by its number and the stride of the numbers of blocks.
+fn turn_agrees(
+    rt: &impl Abort,
+    alloc: Global,
+    list: &mut CleanList,
+    arena: &mut Arena,
+    pages: &mut PageTable<u32>,
+    plain: &mut Plain,
+    all: &mut Vec<PageId>,
+    turn: u32,
+    stride: u32,
+) -> Result<(), Fail>
+    requires turn { turn < 40 }
+    requires nodes { pages.old.room ≤ list.old.nodes }
+    requires clean { IsCleanList arena.old pages.old list.old.keys }
+    requires total { arena.old.free + blocks_of pages.old list.old.keys ≡ 8 }
+    requires len { length list.old.keys ≤ 40 }
+    ensures nodes { OnOk result (pages.new.room ≤ list.new.nodes) }
+    ensures clean { OnOk result (IsCleanList arena.new pages.new list.new.keys) }
+    ensures total { OnOk result (arena.new.free + blocks_of pages.new list.new.keys ≡ 8) }
+    ensures len { OnOk result (length list.new.keys ≤ length list.old.keys + 1) }
+{
+    let blocks = turn * (stride % 100) % 5 + 1;
+    let (id, evicted) = turned(rt, alloc, list, arena, pages, blocks)?;
+    let mut told = Vec::new(alloc);
+    turned_plain(plain, id.name, blocks, &mut told)?;
+    all.push(id)?;
+    assert_eq!(rt;
+        (
+            evicted.as_slice(),
+            agrees(list, arena, pages, plain, all.as_slice())
+        ),
+        (told.as_slice(), true),
+        "{turn} by {stride}"
+    );
+    Ok(())
+}
+
+// Forty turns, from a list with no page and eight free blocks on.
+fn turns_agree(
+    rt: &impl Abort,
+    alloc: Global,
+    list: &mut CleanList,
+    arena: &mut Arena,
+    pages: &mut PageTable<u32>,
+    stride: u32,
+) -> Result<(), Fail>
+    requires nodes { pages.old.room ≤ list.old.nodes }
+    requires clean { IsCleanList arena.old pages.old list.old.keys }
+    requires total { arena.old.free + blocks_of pages.old list.old.keys ≡ 8 }
+    requires none { length list.old.keys ≡ 0 }
+{
     let mut plain = Plain {
         free: 8,
         pages: Vec::new(alloc),
     };
-    let mut all: Vec<PageId> = Vec::new(alloc);
+    let mut all = Vec::new(alloc);
     for turn in 0..40u32 {
-        let blocks = turn * (stride % 100) % 5 + 1;
-        let (id, evicted) = turned(rt, alloc, &mut list, &mut arena, &mut pages, blocks)?;
-        all.push(id)?;
-        let mut told = Vec::new(alloc);
-        turned_plain(&mut plain, id.name, blocks, &mut told)?;
-        assert_eq!(rt; evicted.as_slice(), told.as_slice(), "{turn} by {stride}");
-        assert!(rt;
-            agrees(&list, &arena, &pages, &plain, all.as_slice()),
-            "{turn} by {stride}"
-        );
+        turn_agrees(
+            rt, alloc, list, arena, pages, &mut plain, &mut all, turn, stride,
+        )?;
     }
     Ok(())
+}
+
+fn matches_a_plain_list(rt: &impl Abort, alloc: Global, stride: u32) -> Result<(), Fail> {
+    let mut list = CleanList::with(alloc, 50)?;
+    let mut arena = Arena::open(alloc, 8, 64)?;
+    let mut pages = PageTable::with(alloc, 50, 0)?;
+    turns_agree(rt, alloc, &mut list, &mut arena, &mut pages, stride)
 }
 
 #[test]

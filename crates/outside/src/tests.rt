@@ -4,13 +4,24 @@ use crate::{
     Failed, Gate, Inputs, MeetGate, MemInputs, MemOutputs, MemSink, MemSlot, MemSource, OpenGate,
     Outputs, Point, Sink, Slot, Source,
 };
+use std::alloc::Global;
+use std::process::Abort;
 use std::test::Fail;
 use std::thread::join;
+
+// The next read gives these bytes, or fails where none are given.
+fn expect_read(rt: &impl Abort, source: &mut MemSource, want: Option<&[u8]>) {
+    let mut buf = [0u8; 4];
+    let got = match source.read(&mut buf) {
+        Ok(count) => Some(&buf[..count]),
+        Err(_) => None,
+    };
+    assert_eq!(rt; got, want);
+}
 
 #[test]
 fn a_source_gives_its_chunks_and_fails_where_it_is_listed(rt: HostRuntime) -> Result<(), Fail> {
     let mut source = MemSource::over(rt.alloc(), b"abcdefg", 3, &[1, 4])?;
-    let mut buf = [0u8; 4];
     // Read 1 and read 4 fail, and take nothing.
     for want in [
         Some(b"abc".as_slice()),
@@ -18,14 +29,10 @@ fn a_source_gives_its_chunks_and_fails_where_it_is_listed(rt: HostRuntime) -> Re
         Some(b"def".as_slice()),
         Some(b"g".as_slice()),
         None,
+        Some(b"".as_slice()),
     ] {
-        match (source.read(&mut buf), want) {
-            (Ok(count), Some(bytes)) => assert_eq!(rt; buf.get(..count), Some(bytes)),
-            (Err(_), None) => {}
-            _ => assert!(rt; false, "the read that was listed, and no other, fails"),
-        }
+        expect_read(&rt, &mut source, want);
     }
-    assert_eq!(rt; source.read(&mut buf).ok(), Some(0));
     assert_eq!(rt; source.faults(), 2);
     Ok(())
 }
@@ -33,15 +40,15 @@ fn a_source_gives_its_chunks_and_fails_where_it_is_listed(rt: HostRuntime) -> Re
 #[test]
 fn a_sink_takes_its_chunks_and_fails_where_it_is_listed(rt: HostRuntime) -> Result<(), Fail> {
     let mut sink = MemSink::new(rt.alloc(), 4, &[1])?;
-    for (piece, want) in [
-        (b"abcdef".as_slice(), Some(4)),
-        (b"x".as_slice(), None),
-        (b"ef".as_slice(), Some(2)),
-    ] {
-        assert_eq!(rt; sink.write(piece).ok(), want);
-    }
-    assert_eq!(rt; sink.bytes(), b"abcdef".as_slice());
-    assert_eq!(rt; (sink.faults(), sink.starved()), (1, 0));
+    let took = [
+        sink.write(b"abcdef").ok(),
+        sink.write(b"x").ok(),
+        sink.write(b"ef").ok(),
+    ];
+    assert_eq!(rt;
+        (took, sink.bytes(), sink.faults(), sink.starved()),
+        ([Some(4), None, Some(2)], b"abcdef".as_slice(), 1, 0)
+    );
     Ok(())
 }
 
@@ -49,77 +56,116 @@ fn a_sink_takes_its_chunks_and_fails_where_it_is_listed(rt: HostRuntime) -> Resu
 fn a_slot_shows_its_block_until_a_store_fails(rt: HostRuntime) -> Result<(), Fail> {
     let mut slot = MemSlot::new(rt.alloc(), &[2, 4])?;
     let mut shown = [9u8; 2];
-    assert!(rt; slot.store(&[1, 2]).is_ok());
-    assert!(rt; slot.load(&mut shown).is_ok());
-    assert_eq!(rt; shown.as_slice(), [1, 2].as_slice());
-    assert!(rt; slot.load(&mut shown).is_err());
-    assert!(rt; slot.store(&[3, 4]).is_ok());
-    assert!(rt; slot.store(&[5, 6]).is_err());
-    assert_eq!(rt; (slot.stores(), slot.faults(), slot.starved()), (2, 2, 0));
+    // Call 2 and call 4 fail.
+    let went = [
+        slot.store(&[1, 2]).is_ok(),
+        slot.load(&mut shown).is_ok(),
+        slot.load(&mut [0u8; 2]).is_ok(),
+        slot.store(&[3, 4]).is_ok(),
+        slot.store(&[5, 6]).is_ok(),
+    ];
+    assert_eq!(rt;
+        (went, shown, slot.stores(), slot.faults(), slot.starved()),
+        ([true, true, false, true, false], [1, 2], 2, 2, 0)
+    );
     Ok(())
+}
+
+// The next two reads of a name: how many bytes each gives, none at a fault.
+fn two_reads(inputs: &mut MemInputs, name: &str) -> Result<[Option<usize>; 2], Failed> {
+    let mut source = inputs.open(name)?;
+    let mut buf = [0u8; 8];
+    let counts = [source.read(&mut buf).ok(), source.read(&mut buf).ok()];
+    inputs.close(name, source);
+    Ok(counts)
 }
 
 #[test]
 fn inputs_open_what_was_put_and_count_faults_by_name(rt: HostRuntime) -> Result<(), Fail> {
     let mut inputs = MemInputs::new(rt.alloc())?;
-    assert!(rt; inputs.open("a.csv").is_err());
+    let before = two_reads(&mut inputs, "a.csv");
     inputs.put("a.csv", b"xyz", 2, &[0])?;
-    let Ok(mut source) = inputs.open("a.csv") else {
-        assert!(rt; false, "a name that was put opens");
-        return Ok(());
-    };
-    let mut buf = [0u8; 8];
-    assert!(rt; source.read(&mut buf).is_err());
-    assert_eq!(rt; source.read(&mut buf).ok(), Some(2));
-    inputs.close("a.csv", source);
+    let after = two_reads(&mut inputs, "a.csv");
     // The fault before the name was put is one of all names that are not there.
     assert_eq!(rt;
         (
+            before,
+            after,
             inputs.faults("a.csv"),
             inputs.faults("b.csv"),
             inputs.starved()
         ),
-        (2, 1, 0)
+        (Err(Failed), Ok([None, Some(2)]), 2, 1, 0)
     );
+    Ok(())
+}
+
+// What the one output shows: its bytes, whether they are whole, the faults of its name, and the calls
+// that found no memory.
+fn shown(outputs: &MemOutputs) -> (Option<&[u8]>, bool, u64, u64) {
+    (
+        outputs.bytes("o.csv"),
+        outputs.is_whole("o.csv"),
+        outputs.faults("o.csv"),
+        outputs.starved(),
+    )
+}
+
+fn part_then_answer(rt: &impl Abort, outputs: &mut MemOutputs) -> Result<(), Fail> {
+    assert_eq!(rt; shown(outputs), (None, false, 0, 0));
+    write_out(outputs, b"part", false)?;
+    assert_eq!(rt; shown(outputs), (Some(b"part".as_slice()), false, 0, 0));
+    write_out(outputs, b"answer", true)?;
+    assert_eq!(rt; shown(outputs), (Some(b"answer".as_slice()), true, 0, 0));
     Ok(())
 }
 
 #[test]
 fn an_output_has_the_bytes_of_its_sink_once_it_is_done(rt: HostRuntime) -> Result<(), Fail> {
     let mut outputs = MemOutputs::new(rt.alloc())?;
-    assert!(rt; outputs.bytes("o.csv").is_none());
-    write_out(&mut outputs, b"part", false)?;
-    assert_eq!(rt; outputs.bytes("o.csv"), Some(b"part".as_slice()));
-    assert!(rt; !outputs.is_whole("o.csv"));
-    write_out(&mut outputs, b"answer", true)?;
-    assert_eq!(rt; outputs.bytes("o.csv"), Some(b"answer".as_slice()));
-    assert!(rt; outputs.is_whole("o.csv"));
-    assert_eq!(rt; (outputs.faults("o.csv"), outputs.starved()), (0, 0));
+    part_then_answer(&rt, &mut outputs)
+}
+
+// Three writes of one sink: how many bytes each took, none at a fault.
+fn three_writes(outputs: &mut MemOutputs) -> Result<[Option<usize>; 3], Failed> {
+    let mut sink = outputs.create("o.csv")?;
+    let took = [
+        sink.write(b"ab").ok(),
+        sink.write(b"x").ok(),
+        sink.write(b"c").ok(),
+    ];
+    outputs.done("o.csv", sink, true)?;
+    Ok(took)
+}
+
+fn write_1_fails(rt: &impl Abort, outputs: &mut MemOutputs) -> Result<(), Fail> {
+    outputs.fail("o.csv", &[1])?;
+    // Each sink counts its writes from 0.
+    for faults in [1, 2] {
+        let took = three_writes(outputs)?;
+        assert_eq!(rt;
+            (
+                took,
+                outputs.bytes("o.csv"),
+                outputs.faults("o.csv"),
+                outputs.faults("p.csv")
+            ),
+            ([Some(2), None, Some(1)], Some(b"abc".as_slice()), faults, 0)
+        );
+    }
     Ok(())
 }
 
 #[test]
 fn an_output_fails_at_the_writes_that_were_set(rt: HostRuntime) -> Result<(), Fail> {
     let mut outputs = MemOutputs::new(rt.alloc())?;
-    outputs.fail("o.csv", &[1])?;
-    // Each sink counts its writes from 0.
-    for faults in [1, 2] {
-        let mut sink = outputs.create("o.csv")?;
-        for (piece, want) in [
-            (b"ab".as_slice(), Some(2)),
-            (b"x".as_slice(), None),
-            (b"c".as_slice(), Some(1)),
-        ] {
-            assert_eq!(rt; sink.write(piece).ok(), want);
-        }
-        outputs.done("o.csv", sink, true)?;
-        assert_eq!(rt; outputs.bytes("o.csv"), Some(b"abc".as_slice()));
-        assert_eq!(rt;
-            (outputs.faults("o.csv"), outputs.faults("p.csv")),
-            (faults, 0)
-        );
-    }
-    Ok(())
+    write_1_fails(&rt, &mut outputs)
+}
+
+// Whether an answer is written where `create` and `done` are refused or not.
+fn goes_out(outputs: &mut MemOutputs, create: bool, done: bool) -> Result<bool, Fail> {
+    outputs.refuse("o.csv", create, done)?;
+    Ok(write_out(outputs, b"answer", true).is_ok())
 }
 
 #[test]
@@ -135,23 +181,35 @@ fn a_refused_create_leaves_no_output_and_a_refused_done_none_that_is_whole(
     ];
     for (create, done, bytes, whole, faults) in rows {
         let mut outputs = MemOutputs::new(rt.alloc())?;
-        outputs.refuse("o.csv", create, done)?;
-        let went = write_out(&mut outputs, b"answer", true).is_ok();
-        assert_eq!(rt; went, whole, "create {create}, done {done}");
+        let went = goes_out(&mut outputs, create, done)?;
         assert_eq!(rt;
-            outputs.bytes("o.csv"),
-            bytes,
+            (went, shown(&outputs)),
+            (whole, (bytes, whole, faults, 0)),
             "create {create}, done {done}"
         );
-        assert_eq!(rt;
-            (
-                outputs.is_whole("o.csv"),
-                outputs.faults("o.csv"),
-                outputs.starved()
-            ),
-            (whole, faults, 0),
-            "create {create}, done {done}"
-        );
+    }
+    Ok(())
+}
+
+fn counts_of_inputs(rt: &impl Abort, inputs: &mut MemInputs) -> Result<(), Fail> {
+    inputs.put("a.csv", b"x", 1, &[0])?;
+    inputs.put("b.csv", b"y", 1, &[])?;
+    let counts = two_reads(inputs, "a.csv")?;
+    assert_eq!(rt; counts, [None, Some(1)]);
+    for (name, count) in [("a.csv", 1), ("b.csv", 0), ("c.csv", 0)] {
+        assert_eq!(rt; inputs.faults(name), count, "{name}");
+    }
+    Ok(())
+}
+
+fn counts_of_outputs(rt: &impl Abort, alloc: Global, outputs: &mut MemOutputs) -> Result<(), Fail> {
+    let _created = outputs.create("o.csv")?;
+    let mut sink = MemSink::new(alloc, 1, &[0])?;
+    let took = sink.write(b"x").ok();
+    outputs.done("o.csv", sink, false)?;
+    assert_eq!(rt; took, None);
+    for (name, count) in [("o.csv", 1), ("p.csv", 0)] {
+        assert_eq!(rt; outputs.faults(name), count, "{name}");
     }
     Ok(())
 }
@@ -159,23 +217,9 @@ fn a_refused_create_leaves_no_output_and_a_refused_done_none_that_is_whole(
 #[test]
 fn a_fault_counts_on_its_own_name(rt: HostRuntime) -> Result<(), Fail> {
     let mut inputs = MemInputs::new(rt.alloc())?;
-    inputs.put("a.csv", b"x", 1, &[0])?;
-    inputs.put("b.csv", b"y", 1, &[])?;
-    let mut source = inputs.open("a.csv")?;
-    assert!(rt; source.read(&mut [0u8; 1]).is_err());
-    inputs.close("a.csv", source);
-    for (name, count) in [("a.csv", 1), ("b.csv", 0), ("c.csv", 0)] {
-        assert_eq!(rt; inputs.faults(name), count, "{name}");
-    }
+    counts_of_inputs(&rt, &mut inputs)?;
     let mut outputs = MemOutputs::new(rt.alloc())?;
-    let _created = outputs.create("o.csv")?;
-    let mut sink = MemSink::new(rt.alloc(), 1, &[0])?;
-    assert!(rt; sink.write(b"x").is_err());
-    outputs.done("o.csv", sink, false)?;
-    for (name, count) in [("o.csv", 1), ("p.csv", 0)] {
-        assert_eq!(rt; outputs.faults(name), count, "{name}");
-    }
-    Ok(())
+    counts_of_outputs(&rt, rt.alloc(), &mut outputs)
 }
 
 fn write_out(outputs: &mut MemOutputs, piece: &[u8], whole: bool) -> Result<(), Failed>
@@ -205,17 +249,17 @@ fn two_actors_meet_at_their_points(rt: HostRuntime) -> Result<(), Fail> {
     let gate = MeetGate::new((0, Point::QueryRead), (1, Point::QueryWrote), 10_000_000)?;
     gate.pass(0, Point::BeforeLoad);
     gate.pass(1, Point::QueryRead);
-    assert!(rt; !gate.came());
+    let early = gate.came();
     join(
         &rt,
         || gate.pass(0, Point::QueryRead),
         || gate.pass(1, Point::QueryWrote),
     );
-    assert_eq!(rt; (gate.came(), gate.missed()), (true, false));
+    let met = (gate.came(), gate.missed());
     // Both have passed once, and wait no more.
     gate.pass(1, Point::QueryWrote);
     gate.pass(0, Point::QueryRead);
-    assert!(rt; !gate.missed());
+    assert_eq!(rt; (early, met, gate.missed()), (false, (true, false), false));
     Ok(())
 }
 

@@ -1,19 +1,23 @@
 //! Worked histories, followed by the program over plain maps.
 use super::*;
+use crate::plain_pool::PlainPool;
 use crate::worked::{
-    CLEAN, CLIENT, DIRTY, EVICTED, FLYING, OTHER, PINNED, QUERY, by_session, create,
-    evict_and_load, five_pages, follow, four_pages, one_client, pinned_twice, pins, refuse, row,
-    tracker, two_clients, unpin, with_192,
+    CLEAN, CLIENT, DIRTY, EVICTED, FLYING, OTHER, PINNED, QUERY, create, enter, enter_all,
+    evict_and_load, failed_write, five_pages, follow, four_blocks, four_pages, go_on, may_follow,
+    one_client, pinned_twice, pins, refuse, row, tracker, two_clients, unpin, with_192,
+    write_failed,
 };
-use std::alloc::Global;
+use std::alloc::{AllocError, Global};
 use std::process::Abort;
 use std::test::Fail;
 
+fn load(events: &mut Vec<Event>) -> Result<(), AllocError> {
+    evict_and_load(events)?;
+    events.extend([Event::ReadOk { page: 0 }])
+}
+
 #[test]
 fn a_pin_writes_evicts_and_loads(rt: HostRuntime) -> Result<(), Fail> {
-    let mut events = five_pages(rt.alloc())?;
-    evict_and_load(&mut events)?;
-    events.push(Event::ReadOk { page: 0 })?;
     let rows = [
         (3, row(0, 0, 256, [None; 5])),
         (11, row(256, 256, 0, [PINNED, PINNED, PINNED, PINNED, None])),
@@ -31,29 +35,28 @@ fn a_pin_writes_evicts_and_loads(rt: HostRuntime) -> Result<(), Fail> {
             row(256, 256, 0, [PINNED, EVICTED, PINNED, PINNED, PINNED]),
         ),
     ];
-    let pool = follow(&rt, rt.alloc(), events, &rows)?;
-    assert_eq!(rt; pool.entries, 25);
+    let mut events = five_pages(rt.alloc())?;
+    load(&mut events)?;
+    assert_eq!(rt; follow(&rt, rt.alloc(), events, &rows)?, 25);
     Ok(())
+}
+
+fn refuse_and_pin_again(events: &mut Vec<Event>) -> Result<(), AllocError> {
+    events.extend([
+        Event::Refused {
+            call: Call::Pin { page: 0 },
+            entry: 21,
+        },
+        Event::Ask,
+        Event::StartWrite { page: 1 },
+    ])?;
+    load(events)
 }
 
 #[test]
 fn a_write_that_fails_refuses_the_pin_and_the_next_pin_tries_again(
     rt: HostRuntime,
 ) -> Result<(), Fail> {
-    let mut events = five_pages(rt.alloc())?;
-    events.push(Event::WriteFailed {
-        page: 1,
-        before: FaultSum::of(0),
-        after: FaultSum::of(1),
-    })?;
-    events.push(Event::Refused {
-        call: Call::Pin { page: 0 },
-        entry: 21,
-    })?;
-    events.push(Event::Ask)?;
-    events.push(Event::StartWrite { page: 1 })?;
-    evict_and_load(&mut events)?;
-    events.push(Event::ReadOk { page: 0 })?;
     let rows = [
         (
             22,
@@ -64,29 +67,34 @@ fn a_write_that_fails_refuses_the_pin_and_the_next_pin_tries_again(
             row(256, 256, 0, [PINNED, EVICTED, PINNED, PINNED, PINNED]),
         ),
     ];
-    let pool = follow(&rt, rt.alloc(), events, &rows)?;
-    assert_eq!(rt; pool.entries, 29);
+    let mut events = failed_write(rt.alloc())?;
+    refuse_and_pin_again(&mut events)?;
+    assert_eq!(rt; follow(&rt, rt.alloc(), events, &rows)?, 29);
     Ok(())
+}
+
+fn fail_and_load(events: &mut Vec<Event>) -> Result<(), AllocError> {
+    evict_and_load(events)?;
+    events.extend([
+        Event::ReadFailed {
+            page: 0,
+            before: FaultSum::of(0),
+            after: FaultSum::of(1),
+        },
+        Event::Refused {
+            call: Call::Pin { page: 0 },
+            entry: 24,
+        },
+        Event::Ask,
+        Event::PinLoad { page: 0 },
+        Event::ReadOk { page: 0 },
+    ])
 }
 
 #[test]
 fn a_load_that_fails_refuses_the_pin_and_the_next_pin_tries_again(
     rt: HostRuntime,
 ) -> Result<(), Fail> {
-    let mut events = five_pages(rt.alloc())?;
-    evict_and_load(&mut events)?;
-    events.push(Event::ReadFailed {
-        page: 0,
-        before: FaultSum::of(0),
-        after: FaultSum::of(1),
-    })?;
-    events.push(Event::Refused {
-        call: Call::Pin { page: 0 },
-        entry: 24,
-    })?;
-    events.push(Event::Ask)?;
-    events.push(Event::PinLoad { page: 0 })?;
-    events.push(Event::ReadOk { page: 0 })?;
     let rows = [
         (
             25,
@@ -97,106 +105,110 @@ fn a_load_that_fails_refuses_the_pin_and_the_next_pin_tries_again(
             row(256, 256, 0, [PINNED, EVICTED, PINNED, PINNED, PINNED]),
         ),
     ];
-    let pool = follow(&rt, rt.alloc(), events, &rows)?;
-    assert_eq!(rt; pool.entries, 29);
+    let mut events = five_pages(rt.alloc())?;
+    fail_and_load(&mut events)?;
+    assert_eq!(rt; follow(&rt, rt.alloc(), events, &rows)?, 29);
     Ok(())
+}
+
+// Pages 0 and 1 are left.
+fn two_dirty(alloc: Global) -> Result<Vec<Event>, AllocError> {
+    let mut events = four_pages(alloc)?;
+    leave_two(alloc, &mut events)?;
+    Ok(events)
+}
+
+fn leave_two(alloc: Global, events: &mut Vec<Event>) -> Result<(), AllocError> {
+    for page in [0, 1] {
+        events.extend([unpin(alloc, page, 0)?])?;
+    }
+    Ok(())
+}
+
+// Page 1 is written, and then page 0.
+fn two_clean(alloc: Global) -> Result<Vec<Event>, AllocError> {
+    let mut events = two_dirty(alloc)?;
+    events.extend([
+        Event::StartWrite { page: 1 },
+        Event::WriteOk { page: 1 },
+        Event::StartWrite { page: 0 },
+        Event::WriteOk { page: 0 },
+    ])?;
+    Ok(events)
 }
 
 #[test]
 fn pages_move_in_their_turn_and_within_the_reservation(rt: HostRuntime) -> Result<(), Fail> {
     let alloc = rt.alloc();
-    let pinned = Event::Evict { page: 1 };
     refuse(
         &rt,
         alloc,
         four_pages(alloc)?,
-        pinned,
+        Event::Evict { page: 1 },
         "a pinned page is evicted",
     )?;
-
-    let beyond = Event::PinLoad { page: 0 };
     refuse(
         &rt,
         alloc,
         five_pages(alloc)?,
-        beyond,
+        Event::PinLoad { page: 0 },
         "a pin beyond the reservation",
     )?;
-
-    let mut two_dirty = four_pages(alloc)?;
-    two_dirty.push(unpin(alloc, 0, 0)?)?;
-    two_dirty.push(unpin(alloc, 1, 0)?)?;
-    let older = Event::StartWrite { page: 0 };
     refuse(
         &rt,
         alloc,
-        two_dirty,
-        older,
+        two_dirty(alloc)?,
+        Event::StartWrite { page: 0 },
         "the older dirty page is written first",
     )?;
-
-    let mut two_clean = four_pages(alloc)?;
-    two_clean.push(unpin(alloc, 0, 0)?)?;
-    two_clean.push(unpin(alloc, 1, 0)?)?;
-    for page in [1, 0] {
-        two_clean.push(Event::StartWrite { page })?;
-        two_clean.push(Event::WriteOk { page })?;
-    }
-    let newer = Event::Evict { page: 0 };
     refuse(
         &rt,
         alloc,
-        two_clean,
-        newer,
+        two_clean(alloc)?,
+        Event::Evict { page: 0 },
         "the newer clean page is evicted first",
     )?;
-
     Ok(())
 }
 
 #[test]
 fn what_is_reserved_stays_and_what_is_enabled_is_not_refused(rt: HostRuntime) -> Result<(), Fail> {
     let alloc = rt.alloc();
-    let reserved = Event::CloseTracker {
-        tracker: tracker(CLIENT),
-    };
     refuse(
         &rt,
         alloc,
         four_pages(alloc)?,
-        reserved,
+        Event::CloseTracker {
+            tracker: tracker(CLIENT),
+        },
         "a tracker with reservation is closed",
     )?;
-
-    let mut failed = five_pages(alloc)?;
-    failed.push(Event::WriteFailed {
-        page: 1,
-        before: FaultSum::of(0),
-        after: FaultSum::of(1),
-    })?;
-    let enabled = Event::Refused {
-        call: Call::Pin { page: 1 },
-        entry: 21,
-    };
     refuse(
         &rt,
         alloc,
-        failed,
-        enabled,
+        failed_write(alloc)?,
+        Event::Refused {
+            call: Call::Pin { page: 1 },
+            entry: 21,
+        },
         "a call that is enabled is refused",
     )?;
     Ok(())
 }
 
+fn pin_thrice_and_leave(alloc: Global, events: &mut Vec<Event>) -> Result<(), AllocError> {
+    events.extend([
+        create(0),
+        Event::PinAgain { page: 0 },
+        Event::PinAgain { page: 0 },
+        Event::UnpinOnce { page: 0 },
+        Event::UnpinOnce { page: 0 },
+    ])?;
+    events.extend([unpin(alloc, 0, 0x11)?])
+}
+
 #[test]
 fn each_pin_is_charged_and_the_page_has_its_blocks_once(rt: HostRuntime) -> Result<(), Fail> {
-    let mut events = one_client(rt.alloc(), 192)?;
-    events.push(create(0))?;
-    events.push(Event::PinAgain { page: 0 })?;
-    events.push(Event::PinAgain { page: 0 })?;
-    events.push(Event::UnpinOnce { page: 0 })?;
-    events.push(Event::UnpinOnce { page: 0 })?;
-    events.push(unpin(rt.alloc(), 0, 0x11)?)?;
     let rows = [
         (
             6,
@@ -211,16 +223,33 @@ fn each_pin_is_charged_and_the_page_has_its_blocks_once(rt: HostRuntime) -> Resu
             with_192(row(0, 64, 192, [DIRTY, None, None, None, None])),
         ),
     ];
-    let pool = follow(&rt, rt.alloc(), events, &rows)?;
-    assert_eq!(rt; pool.entries, 10);
+    let mut events = one_client(rt.alloc(), 192)?;
+    pin_thrice_and_leave(rt.alloc(), &mut events)?;
+    assert_eq!(rt; follow(&rt, rt.alloc(), events, &rows)?, 10);
     Ok(())
+}
+
+fn written(alloc: Global) -> Result<Vec<Event>, AllocError> {
+    let mut events = pinned_twice(alloc)?;
+    events.extend([Event::WriteOk { page: 0 }, Event::PinAgain { page: 1 }])?;
+    Ok(events)
+}
+
+fn not_written(alloc: Global) -> Result<Vec<Event>, AllocError> {
+    let mut events = pinned_twice(alloc)?;
+    events.extend([
+        write_failed(0),
+        Event::Refused {
+            call: Call::PinAgain { page: 1 },
+            entry: 13,
+        },
+    ])?;
+    Ok(events)
 }
 
 #[test]
 fn another_pin_waits_for_a_dirty_page_to_be_written(rt: HostRuntime) -> Result<(), Fail> {
-    let mut events = pinned_twice(rt.alloc())?;
-    events.push(Event::WriteOk { page: 0 })?;
-    events.push(Event::PinAgain { page: 1 })?;
+    let alloc = rt.alloc();
     let rows = [
         (
             8,
@@ -239,47 +268,33 @@ fn another_pin_waits_for_a_dirty_page_to_be_written(rt: HostRuntime) -> Result<(
             with_192(row(192, 192, 128, [CLEAN, pins(3), None, None, None])),
         ),
     ];
-    follow(&rt, rt.alloc(), events, &rows)?;
+    follow(&rt, alloc, written(alloc)?, &rows)?;
 
-    let mut failed = pinned_twice(rt.alloc())?;
-    failed.push(Event::WriteFailed {
-        page: 0,
-        before: FaultSum::of(0),
-        after: FaultSum::of(1),
-    })?;
-    failed.push(Event::Refused {
-        call: Call::PinAgain { page: 1 },
-        entry: 13,
-    })?;
     let stays = [(
         14,
         with_192(row(128, 192, 128, [DIRTY, pins(2), None, None, None])),
     )];
-    follow(&rt, rt.alloc(), failed, &stays)?;
+    follow(&rt, alloc, not_written(alloc)?, &stays)?;
     Ok(())
 }
 
 #[test]
 fn one_pin_is_left_with_bytes_and_several_one_by_one(rt: HostRuntime) -> Result<(), Fail> {
     let alloc = rt.alloc();
-    let beyond = Event::PinAgain { page: 1 };
     refuse(
         &rt,
         alloc,
         pinned_twice(alloc)?,
-        beyond,
+        Event::PinAgain { page: 1 },
         "a pin beyond the reservation",
     )?;
-
-    let waits = Event::PinAgain { page: 0 };
     refuse(
         &rt,
         alloc,
         pinned_twice(alloc)?,
-        waits,
+        Event::PinAgain { page: 0 },
         "a page is pinned again that isn't pinned",
     )?;
-
     let whole = unpin(alloc, 1, 0)?;
     refuse(
         &rt,
@@ -288,30 +303,29 @@ fn one_pin_is_left_with_bytes_and_several_one_by_one(rt: HostRuntime) -> Result<
         whole,
         "a page with two pins is left",
     )?;
-
-    let lent = Event::Extract { page: 1, buffer: 0 };
     refuse(
         &rt,
         alloc,
         pinned_twice(alloc)?,
-        lent,
+        Event::Extract { page: 1, buffer: 0 },
         "a page with two pins is extracted",
     )?;
-
-    let last = Event::UnpinOnce { page: 0 };
     refuse(
         &rt,
         alloc,
         four_pages(alloc)?,
-        last,
+        Event::UnpinOnce { page: 0 },
         "the only pin ends without bytes",
     )?;
-
-    let mut destroyed = pinned_twice(alloc)?;
-    destroyed.push(Event::Destroy { page: 1 })?;
-    let pool = follow(&rt, alloc, destroyed, &[])?;
+    let mut pool = four_blocks(alloc)?;
+    destroy(&rt, alloc, &mut pool)?;
     assert_eq!(rt; (pool.held(CLIENT), pool.free()), (64, 192));
     Ok(())
+}
+
+fn destroy(rt: &impl Abort, alloc: Global, pool: &mut PlainPool) -> Result<(), AllocError> {
+    enter_all(rt, pool, pinned_twice(alloc)?, &[])?;
+    go_on(rt, pool, Event::Destroy { page: 1 })
 }
 
 #[test]
@@ -350,77 +364,98 @@ fn a_refused_call_is_on_what_the_session_has(rt: HostRuntime) -> Result<(), Fail
         ),
     ];
     for (call, may) in rows {
-        let mut events = five_pages(alloc)?;
-        events.push(Event::WriteFailed {
-            page: 1,
-            before: FaultSum::of(0),
-            after: FaultSum::of(1),
-        })?;
-        let mut pool = follow(&rt, alloc, events, &[])?;
+        let events = failed_write(alloc)?;
         let refused = Event::Refused { call, entry: 21 };
-        assert_eq!(rt; pool.enter(&by_session(refused))?, may);
+        assert_eq!(rt; may_follow(&rt, alloc, events, refused)?, may);
     }
     Ok(())
 }
 
-#[test]
-fn a_buffer_keeps_its_blocks_and_changes_its_client(rt: HostRuntime) -> Result<(), Fail> {
-    let mut events = two_clients(rt.alloc())?;
-    events.push(create(0))?;
-    events.push(Event::Extract { page: 0, buffer: 7 })?;
-    let mut pool = follow(&rt, rt.alloc(), events, &[])?;
-    assert_eq!(rt;
-        (pool.charge(CLIENT), pool.charge(OTHER), pool.free()),
-        (64, 0, 192)
-    );
+fn extracted(alloc: Global) -> Result<Vec<Event>, AllocError> {
+    let mut events = two_clients(alloc)?;
+    events.extend([create(0), Event::Extract { page: 0, buffer: 7 }])?;
+    Ok(events)
+}
+
+// The charge of each client, and what is free.
+fn charges(pool: &PlainPool) -> (u64, u64, u64) {
+    (pool.charge(CLIENT), pool.charge(OTHER), pool.free())
+}
+
+fn move_and_free(rt: &impl Abort, alloc: Global, pool: &mut PlainPool) -> Result<(), AllocError> {
+    enter_all(rt, pool, extracted(alloc)?, &[])?;
+    assert_eq!(rt; charges(pool), (64, 0, 192));
     let moved = Event::MoveBuffer {
         buffer: 7,
         to: tracker(OTHER),
     };
-    assert!(rt; pool.enter(&by_session(moved))?);
-    assert_eq!(rt;
-        (pool.charge(CLIENT), pool.charge(OTHER), pool.free()),
-        (0, 64, 192)
-    );
-    assert!(rt; pool.enter(&by_session(Event::Free { buffer: 7 }))?);
+    go_on(rt, pool, moved)?;
+    assert_eq!(rt; charges(pool), (0, 64, 192));
+    go_on(rt, pool, Event::Free { buffer: 7 })?;
     assert_eq!(rt; (pool.charge(OTHER), pool.free()), (0, 256));
     Ok(())
 }
 
 #[test]
-fn what_is_given_back_is_written_first(rt: HostRuntime) -> Result<(), Fail> {
-    let mut events = two_clients(rt.alloc())?;
-    events.push(create(0))?;
-    events.push(create(1))?;
-    events.push(unpin(rt.alloc(), 0, 0)?)?;
-    events.push(Event::UnpinRefused { page: 1 })?;
-    let mut pool = follow(&rt, rt.alloc(), events, &[])?;
-    let fall = || Event::Decrease {
+fn a_buffer_keeps_its_blocks_and_changes_its_client(rt: HostRuntime) -> Result<(), Fail> {
+    let mut pool = four_blocks(rt.alloc())?;
+    move_and_free(&rt, rt.alloc(), &mut pool)?;
+    Ok(())
+}
+
+// Page 0 is left with the only slot, and page 1 has to stay.
+fn leave_one(alloc: Global, events: &mut Vec<Event>) -> Result<(), AllocError> {
+    events.extend([create(0), create(1)])?;
+    events.extend([unpin(alloc, 0, 0)?, Event::UnpinRefused { page: 1 }])
+}
+
+fn one_left(alloc: Global) -> Result<Vec<Event>, AllocError> {
+    let mut events = two_clients(alloc)?;
+    leave_one(alloc, &mut events)?;
+    Ok(events)
+}
+
+fn fall() -> Event {
+    Event::Decrease {
         tracker: tracker(CLIENT),
         bytes: 64,
-    };
-    assert!(rt;
-        !pool.enter(&by_session(fall()))?,
-        "a dirty page needs the bytes"
-    );
-    assert!(rt; pool.enter(&by_session(Event::StartWrite { page: 0 }))?);
-    assert!(rt; pool.enter(&by_session(Event::WriteOk { page: 0 }))?);
-    assert!(rt; pool.enter(&by_session(fall()))?);
+    }
+}
+
+fn write_and_fall(rt: &impl Abort, alloc: Global, pool: &mut PlainPool) -> Result<(), AllocError> {
+    enter_all(rt, pool, one_left(alloc)?, &[])?;
+    let may = enter(pool, fall())?;
+    assert!(rt; !may, "a dirty page needs the bytes");
+    go_on(rt, pool, Event::StartWrite { page: 0 })?;
+    go_on(rt, pool, Event::WriteOk { page: 0 })?;
+    go_on(rt, pool, fall())?;
     let reserved = [0, QUERY, CLIENT, OTHER].map(|t| pool.reservation(t));
     assert_eq!(rt; reserved, [128, 128, 64, 64]);
+    Ok(())
+}
+
+fn move_and_close(rt: &impl Abort, pool: &mut PlainPool) -> Result<(), AllocError> {
     let moved = Event::MoveReservation {
         from: tracker(OTHER),
         to: tracker(CLIENT),
         bytes: 64,
     };
-    assert!(rt; pool.enter(&by_session(moved))?);
-    assert!(rt; pool.enter(&by_session(Event::PinHere { page: 0 }))?);
-    assert!(rt; pool.enter(&by_session(Event::Destroy { page: 0 }))?);
+    go_on(rt, pool, moved)?;
+    go_on(rt, pool, Event::PinHere { page: 0 })?;
+    go_on(rt, pool, Event::Destroy { page: 0 })?;
     let closed = Event::CloseTracker {
         tracker: tracker(OTHER),
     };
-    assert!(rt; pool.enter(&by_session(closed))?);
+    go_on(rt, pool, closed)?;
     assert_eq!(rt; (pool.reservation(CLIENT), pool.held(CLIENT)), (128, 64));
+    Ok(())
+}
+
+#[test]
+fn what_is_given_back_is_written_first(rt: HostRuntime) -> Result<(), Fail> {
+    let mut pool = four_blocks(rt.alloc())?;
+    write_and_fall(&rt, rt.alloc(), &mut pool)?;
+    move_and_close(&rt, &mut pool)?;
     Ok(())
 }
 

@@ -59,13 +59,27 @@ fn refused(tracker: TrackerId, wanted: u64, room: u64) -> Result<(), PoolErr> {
     })
 }
 
-#[test]
-fn growths_and_moves_fit_or_name_the_lowest_limit(rt: HostRuntime) -> Result<(), Fail> {
-    let mut tree = Tree::open(rt.alloc(), 64)?;
+// Takes the step, and compares its answer and then the reservations of these trackers.
+fn step_gives(
+    rt: &impl Abort,
+    tree: &mut Tree,
+    step: Step,
+    answer: Result<(), PoolErr>,
+    after: &[(TrackerId, u64)],
+) {
+    let given = take(rt, tree, step);
+    assert_eq!(rt; given, answer);
+    for (t, bytes) in after.iter() {
+        assert_eq!(rt; reserved(rt, tree, *t), *bytes);
+    }
+}
+
+// A query of at most 40 bytes has a client and a sibling of it, of at most 64 and 4 bytes.
+fn grow_and_move(rt: &impl Abort, tree: &mut Tree) -> Result<(), PoolErr> {
     let root = tree.root();
-    let query = child(&rt, &mut tree, root, 40)?;
-    let client = child(&rt, &mut tree, query, 64)?;
-    let sibling = child(&rt, &mut tree, query, 4)?;
+    let query = child(rt, tree, root, 40)?;
+    let client = child(rt, tree, query, 64)?;
+    let sibling = child(rt, tree, query, 4)?;
     let rows = [
         (Step::Increase(client, 32), Ok(()), [32, 32, 32, 0]),
         (
@@ -90,12 +104,32 @@ fn growths_and_moves_fit_or_name_the_lowest_limit(rt: HostRuntime) -> Result<(),
         ),
         (Step::Decrease(client, 28), Ok(()), [4, 4, 0, 4]),
     ];
-    for (step, answer, after) in rows {
-        assert_eq!(rt; take(&rt, &mut tree, step), answer);
-        assert_eq!(rt; reserved(&rt, &tree, root), after[0]);
-        assert_eq!(rt; reserved(&rt, &tree, query), after[1]);
-        assert_eq!(rt; reserved(&rt, &tree, client), after[2]);
-        assert_eq!(rt; reserved(&rt, &tree, sibling), after[3]);
+    for (step, answer, [a, b, c, d]) in rows {
+        let after = [(root, a), (query, b), (client, c), (sibling, d)];
+        step_gives(rt, tree, step, answer, &after);
+    }
+    Ok(())
+}
+
+#[test]
+fn growths_and_moves_fit_or_name_the_lowest_limit(rt: HostRuntime) -> Result<(), Fail> {
+    let mut tree = Tree::open(rt.alloc(), 64)?;
+    grow_and_move(&rt, &mut tree)?;
+    Ok(())
+}
+
+fn grow_under_a_query(rt: &impl Abort, tree: &mut Tree) -> Result<(), PoolErr> {
+    let root = tree.root();
+    let query = child(rt, tree, root, 64)?;
+    let client = child(rt, tree, query, 64)?;
+    let rows = [
+        (Step::Increase(query, 16), [16, 16, 0]),
+        (Step::Increase(client, 24), [24, 24, 24]),
+        (Step::Decrease(client, 8), [16, 16, 16]),
+    ];
+    for (step, [a, b, c]) in rows {
+        let after = [(root, a), (query, b), (client, c)];
+        step_gives(rt, tree, step, Ok(()), &after);
     }
     Ok(())
 }
@@ -103,34 +137,30 @@ fn growths_and_moves_fit_or_name_the_lowest_limit(rt: HostRuntime) -> Result<(),
 #[test]
 fn a_parent_covers_a_growth_by_what_it_has_unused(rt: HostRuntime) -> Result<(), Fail> {
     let mut tree = Tree::open(rt.alloc(), 64)?;
-    let root = tree.root();
-    let query = child(&rt, &mut tree, root, 64)?;
-    let client = child(&rt, &mut tree, query, 64)?;
-    let rows = [
-        (Step::Increase(query, 16), [16, 16, 0]),
-        (Step::Increase(client, 24), [24, 24, 24]),
-        (Step::Decrease(client, 8), [16, 16, 16]),
-    ];
-    for (step, after) in rows {
-        assert_eq!(rt; take(&rt, &mut tree, step), Ok(()));
-        assert_eq!(rt; reserved(&rt, &tree, root), after[0]);
-        assert_eq!(rt; reserved(&rt, &tree, query), after[1]);
-        assert_eq!(rt; reserved(&rt, &tree, client), after[2]);
-    }
+    grow_under_a_query(&rt, &mut tree)?;
     Ok(())
 }
 
-#[test]
-fn a_growth_to_fit_looks_at_what_is_unused(rt: HostRuntime) -> Result<(), Fail> {
-    let mut tree = Tree::open(rt.alloc(), 64)?;
+// Charges 5 bytes of 8 to the tracker, and takes 2 of them back.
+fn charge_three(rt: &impl Abort, tree: &mut Tree, t: TrackerId) {
+    step_gives(rt, tree, Step::Increase(t, 8), Ok(()), &[]);
+    assert!(rt; tree.is_live(t));
+    assert!(rt; tree.unused(t) >= 5);
+    tree.charge(t, 5);
+    assert!(rt; tree.is_live(t));
+    assert!(rt; tree.used(t) >= 2);
+    tree.release(t, 2);
+}
+
+// What is charged to the tracker, what its children have, and its limit.
+fn amounts(rt: &impl Abort, tree: &Tree, t: TrackerId) -> (u64, u64, u64) {
+    assert!(rt; tree.is_live(t));
+    (tree.used(t), tree.children(t), tree.limit(t))
+}
+
+fn grow_to_fit(rt: &impl Abort, tree: &mut Tree) {
     let root = tree.root();
-    assert_eq!(rt; take(&rt, &mut tree, Step::Increase(root, 8)), Ok(()));
-    assert!(rt; tree.is_live(root));
-    assert!(rt; tree.unused(root) >= 5);
-    tree.charge(root, 5);
-    assert!(rt; tree.is_live(root));
-    assert!(rt; tree.used(root) >= 2);
-    tree.release(root, 2);
+    charge_three(rt, tree, root);
     let rows = [
         (Step::Fit(root, 4), Ok(()), 8),
         (Step::Fit(root, 5), Ok(()), 8),
@@ -142,40 +172,45 @@ fn a_growth_to_fit_looks_at_what_is_unused(rt: HostRuntime) -> Result<(), Fail> 
         ),
     ];
     for (step, answer, after) in rows {
-        assert_eq!(rt; take(&rt, &mut tree, step), answer);
-        assert_eq!(rt; reserved(&rt, &tree, root), after);
+        step_gives(rt, tree, step, answer, &[(root, after)]);
     }
-    assert!(rt; tree.is_live(root));
-    assert_eq!(rt; tree.used(root), 3);
-    assert_eq!(rt; tree.children(root), 0);
-    assert_eq!(rt; tree.limit(root), 64);
+    assert_eq!(rt; amounts(rt, tree, root), (3, 0, 64));
+}
+
+#[test]
+fn a_growth_to_fit_looks_at_what_is_unused(rt: HostRuntime) -> Result<(), Fail> {
+    let mut tree = Tree::open(rt.alloc(), 64)?;
+    grow_to_fit(&rt, &mut tree);
+    Ok(())
+}
+
+fn fill(rt: &impl Abort, tree: &mut Tree, root: TrackerId) -> Result<(), PoolErr> {
+    for _child in 1..MAX_TRACKERS {
+        let newest = child(rt, tree, root, 1)?;
+        assert!(rt; newest.number() < MAX_TRACKERS);
+    }
     Ok(())
 }
 
 #[test]
 fn so_many_trackers_may_be_live(rt: HostRuntime) -> Result<(), Fail> {
     let mut tree = Tree::open(rt.alloc(), 1)?;
-    for _child in 1..MAX_TRACKERS {
-        let root = tree.root();
-        let newest = tree.add_child(root, 1)?;
-        assert!(rt; newest.number() < MAX_TRACKERS);
-    }
     let root = tree.root();
+    fill(&rt, &mut tree, root)?;
     assert_eq!(rt;
-        tree.add_child(root, 1),
+        child(&rt, &mut tree, root, 1),
         Err(PoolErr::TooManyTrackers { count: 4096 })
     );
     Ok(())
 }
 
-#[test]
-fn a_way_may_be_as_long_as_there_are_trackers(rt: HostRuntime) -> Result<(), Fail> {
-    let mut tree = Tree::open(rt.alloc(), 9)?;
-    let mut lowest = tree.root();
-    for _child in 1..MAX_TRACKERS {
-        lowest = child(&rt, &mut tree, lowest, 9)?;
-    }
+// Each tracker stands under the one before it.
+fn grow_at_the_end(rt: &impl Abort, tree: &mut Tree) -> Result<(), PoolErr> {
     let root = tree.root();
+    let mut lowest = root;
+    for _child in 1..MAX_TRACKERS {
+        lowest = child(rt, tree, lowest, 9)?;
+    }
     let rows = [
         (Step::Increase(lowest, 7), 7),
         (Step::Transfer(lowest, root, 2), 7),
@@ -183,22 +218,34 @@ fn a_way_may_be_as_long_as_there_are_trackers(rt: HostRuntime) -> Result<(), Fai
         (Step::Decrease(lowest, 3), 4),
     ];
     for (step, after) in rows {
-        assert_eq!(rt; take(&rt, &mut tree, step), Ok(()));
-        assert_eq!(rt; reserved(&rt, &tree, root), after);
+        step_gives(rt, tree, step, Ok(()), &[(root, after)]);
     }
     Ok(())
 }
 
 #[test]
-fn a_number_comes_again(rt: HostRuntime) -> Result<(), Fail> {
+fn a_way_may_be_as_long_as_there_are_trackers(rt: HostRuntime) -> Result<(), Fail> {
     let mut tree = Tree::open(rt.alloc(), 9)?;
+    grow_at_the_end(&rt, &mut tree)?;
+    Ok(())
+}
+
+// The numbers of a tracker that is closed and of the one that is opened next.
+fn open_close_open(rt: &impl Abort, tree: &mut Tree) -> Result<(u32, u32), PoolErr> {
     let root = tree.root();
-    assert_eq!(rt; root, TrackerId::of(0));
     tree.law_fits();
     let first = tree.add_child(root, 1)?;
     tree.close(first);
     assert!(rt; !tree.is_live(first));
-    let second = child(&rt, &mut tree, root, 1)?;
-    assert_eq!(rt; second.number(), first.number());
+    let second = child(rt, tree, root, 1)?;
+    Ok((first.number(), second.number()))
+}
+
+#[test]
+fn a_number_comes_again(rt: HostRuntime) -> Result<(), Fail> {
+    let mut tree = Tree::open(rt.alloc(), 9)?;
+    assert_eq!(rt; tree.root(), TrackerId::of(0));
+    let (first, second) = open_close_open(&rt, &mut tree)?;
+    assert_eq!(rt; second, first);
     Ok(())
 }

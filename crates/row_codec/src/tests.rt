@@ -1,34 +1,57 @@
 use super::*;
-use std::alloc::Global;
+use std::alloc::{AllocError, Global};
 use std::cmp::Ordering;
 use std::collections::BTreeMap;
 use std::process::Abort;
 use std::test::Fail;
 
-/// The bytes of a row, as long as was foretold.
-fn encoded(rt: &impl Abort, alloc: Global, row: &[Value]) -> Result<Vec<u8>, Memory> {
+// The row has these bytes, as many as was foretold.
+fn is_spelled(rt: &impl Abort, alloc: Global, row: &[Value], bytes: &[u8]) -> Result<(), Memory> {
+    let mut out = Vec::new(alloc);
+    spell(rt, row, &mut out)?;
+    assert_eq!(rt; out.as_slice(), bytes);
+    Ok(())
+}
+
+fn spell(rt: &impl Abort, row: &[Value], out: &mut Vec<u8>) -> Result<(), Memory> {
     let len = encoded_len(row);
     assert!(rt; len < 4294967296);
-    let mut out = Vec::new(alloc);
-    encode_row(row, &mut out)?;
+    encode_row(row, out)?;
     assert_eq!(rt; out.len() as u64, len);
+    Ok(())
+}
+
+// What is read from these bytes: whether it is this row, and how many bytes it has.
+fn read(
+    alloc: Global,
+    kinds: &[Kind],
+    bytes: &[u8],
+    row: &[Value],
+) -> Result<Option<(bool, usize)>, Memory> {
+    let found = decode_row(alloc, kinds, bytes)?;
+    Ok(found.map(|(read, len)| (read.as_slice() == row, len)))
+}
+
+// The key of one text.
+fn text_key(rt: &impl Abort, alloc: Global, text: &[u8]) -> Result<Vec<u8>, Memory> {
+    let mut out = Vec::new(alloc);
+    put_text_key(rt, alloc, text, &mut out)?;
     Ok(out)
 }
 
-/// The key of one text.
-fn text_key(rt: &impl Abort, alloc: Global, text: &[u8]) -> Result<Vec<u8>, Memory> {
+fn put_text_key(
+    rt: &impl Abort,
+    alloc: Global,
+    text: &[u8],
+    out: &mut Vec<u8>,
+) -> Result<(), Memory> {
     let row = [Value::Text(Bytes::of(alloc, text)?)];
     let len = encoded_len(&row);
     assert!(rt; len < 4294967296);
-    let mut out = Vec::new(alloc);
-    key_bytes(&row, &[0], &mut out)?;
-    Ok(out)
+    key_bytes(&row, &[0], out)
 }
 
-#[test]
-fn a_text_holds_the_bytes_it_was_filled_with_last(rt: HostRuntime) -> Result<(), Fail> {
-    let alloc = rt.alloc();
-    let mut text = Bytes::of(alloc, b"ab")?;
+fn holds_what_it_was_filled_with(rt: &impl Abort, text: &mut Bytes) -> Result<(), Memory> {
     for bytes in [b"a longer one".as_slice(), b"", b"\xff\x00", b"c"] {
         text.refill(bytes)?;
         assert_eq!(rt; text.as_slice(), bytes);
@@ -37,52 +60,66 @@ fn a_text_holds_the_bytes_it_was_filled_with_last(rt: HostRuntime) -> Result<(),
 }
 
 #[test]
+fn a_text_holds_the_bytes_it_was_filled_with_last(rt: HostRuntime) -> Result<(), Fail> {
+    let mut text = Bytes::of(rt.alloc(), b"ab")?;
+    holds_what_it_was_filled_with(&rt, &mut text)?;
+    Ok(())
+}
+
+#[test]
 fn a_row_has_these_bytes_and_is_not_read_from_fewer(rt: HostRuntime) -> Result<(), Fail> {
     let alloc = rt.alloc();
     let bytes = [0, 0, 0, 14, 0, 0, 0, 0, 0, 0, 1, 2, 0, 0, 0, 2, 97, 98];
-    let mut row = Vec::new(alloc);
-    row.push(Value::Int(258))?;
-    row.push(Value::Text(Bytes::of(alloc, b"ab")?))?;
-    let out = encoded(&rt, alloc, &row)?;
-    assert_eq!(rt; out.as_slice(), bytes.as_slice());
+    let row = [Value::Int(258), Value::Text(Bytes::of(alloc, b"ab")?)];
+    comes_back(&rt, alloc, &row, &bytes)?;
+    Ok(())
+}
 
+fn comes_back(
+    rt: &impl Abort,
+    alloc: Global,
+    row: &[Value],
+    bytes: &[u8; 18],
+) -> Result<(), Memory> {
+    is_spelled(rt, alloc, row, bytes)?;
     let kinds = [Kind::Int, Kind::Text];
-    assert_eq!(rt; decode_row(alloc, &kinds, &bytes[..17])?, None);
-    assert_eq!(rt; decode_row(alloc, &kinds, &bytes)?, Some((row, 18)));
+    let fewer = read(alloc, &kinds, &bytes[..17], row)?;
+    let all = read(alloc, &kinds, bytes, row)?;
+    assert_eq!(rt; (fewer, all), (None, Some((true, 18))));
     Ok(())
 }
 
 #[test]
 fn numbers_are_in_twos_complement_from_the_top(rt: HostRuntime) -> Result<(), Fail> {
     let alloc = rt.alloc();
-    let out = encoded(&rt, alloc, &[Value::Int(-2)])?;
-    assert_eq!(rt;
-        out.as_slice(),
-        [0, 0, 0, 8, 255, 255, 255, 255, 255, 255, 255, 254].as_slice()
-    );
+    is_spelled(
+        &rt,
+        alloc,
+        &[Value::Int(-2)],
+        &[0, 0, 0, 8, 255, 255, 255, 255, 255, 255, 255, 254],
+    )?;
 
     let mut bytes = [255u8; 20];
-    bytes[0] = 0;
-    bytes[1] = 0;
-    bytes[2] = 0;
-    bytes[3] = 16;
-    let out = encoded(&rt, alloc, &[Value::Wide(-1)])?;
-    assert_eq!(rt; out.as_slice(), bytes.as_slice());
-    let mut row = Vec::new(alloc);
-    row.push(Value::Wide(-1))?;
-    assert_eq!(rt; decode_row(alloc, &[Kind::Wide], &bytes)?, Some((row, 20)));
+    bytes[..4].copy_from_slice(&[0, 0, 0, 16]);
+    let row = [Value::Wide(-1)];
+    is_spelled(&rt, alloc, &row, &bytes)?;
+    let all = read(alloc, &[Kind::Wide], &bytes, &row)?;
+    assert_eq!(rt; all, Some((true, 20)));
     law_row_back();
     Ok(())
 }
 
-#[test]
-fn a_key_has_these_bytes(rt: HostRuntime) -> Result<(), Fail> {
-    let alloc = rt.alloc();
+fn put_pair_key(rt: &impl Abort, alloc: Global, out: &mut Vec<u8>) -> Result<(), Memory> {
     let row = [Value::Int(258), Value::Text(Bytes::of(alloc, b"ab")?)];
     let len = encoded_len(&row);
-    assert!(&rt; len < 4294967296);
-    let mut out = Vec::new(alloc);
-    key_bytes(&row, &[0, 1], &mut out)?;
+    assert!(rt; len < 4294967296);
+    key_bytes(&row, &[0, 1], out)
+}
+
+#[test]
+fn a_key_has_these_bytes(rt: HostRuntime) -> Result<(), Fail> {
+    let mut out = Vec::new(rt.alloc());
+    put_pair_key(&rt, rt.alloc(), &mut out)?;
     assert_eq!(rt;
         out.as_slice(),
         [1, 0, 0, 0, 0, 0, 0, 1, 2, 2, 0, 0, 0, 2, 97, 98].as_slice()
@@ -110,6 +147,11 @@ fn a_hash_is_as_published(rt: HostRuntime) -> Result<(), Fail> {
     Ok(())
 }
 
+fn text_hash(rt: &impl Abort, alloc: Global, text: &[u8]) -> Result<u64, Memory> {
+    let key = text_key(rt, alloc, text)?;
+    Ok(hash64(&key))
+}
+
 #[test]
 fn a_text_key_stands_by_the_low_byte_of_its_hash(rt: HostRuntime) -> Result<(), Fail> {
     let alloc = rt.alloc();
@@ -129,36 +171,78 @@ fn a_text_key_stands_by_the_low_byte_of_its_hash(rt: HostRuntime) -> Result<(), 
         (b"R4".as_slice(), 0x89),
     ];
     for (text, low) in rows {
-        let hash = hash64(&text_key(&rt, alloc, text)?);
-        assert_eq!(rt; hash % 256, low);
-        assert_eq!(rt; u64::from(nibble(hash, 0)), low % 16);
+        let hash = text_hash(&rt, alloc, text)?;
+        assert_eq!(rt; (hash % 256, u64::from(nibble(hash, 0))), (low, low % 16));
     }
+    Ok(())
+}
+
+// Puts four texts by their keys, the last of which stays in `key`.
+fn put_texts(
+    rt: &impl Abort,
+    alloc: Global,
+    key: &mut PathKey,
+    texts: &mut BTreeMap<PathKey, u8>,
+) -> Result<(), Memory> {
+    for text in [b"a", b"b", b"c", b"d"] {
+        set_to_text(rt, alloc, key, text)?;
+        texts.insert(key.copy(alloc)?, text[0])?;
+    }
+    Ok(())
+}
+
+fn set_to_text(
+    rt: &impl Abort,
+    alloc: Global,
+    key: &mut PathKey,
+    text: &[u8],
+) -> Result<(), Memory> {
+    let bytes = text_key(rt, alloc, text)?;
+    key.set(&bytes)
+}
+
+fn in_order(alloc: Global, texts: &BTreeMap<PathKey, u8>) -> Result<Vec<u8>, AllocError> {
+    texts.values().copied().collect(alloc)
+}
+
+// The key of "b" against that of "d", and in the map.
+fn finds_b(
+    rt: &impl Abort,
+    alloc: Global,
+    last: &PathKey,
+    texts: &BTreeMap<PathKey, u8>,
+) -> Result<(), Memory> {
+    let b = text_key(rt, alloc, b"b")?;
+    let orders = (path_cmp(&b, last.as_slice()), path_cmp(&b, &b));
+    let found = texts.get(&PathKey::from_vec(b)).copied();
+    assert_eq!(rt; orders, (Ordering::Less, Ordering::Equal));
+    assert_eq!(rt; found, Some(b'b'));
+    Ok(())
+}
+
+fn stand_in_order(
+    rt: &impl Abort,
+    alloc: Global,
+    key: &mut PathKey,
+    texts: &mut BTreeMap<PathKey, u8>,
+) -> Result<(), Memory> {
+    put_texts(rt, alloc, key, texts)?;
+    finds_b(rt, alloc, key, texts)?;
+    let order = in_order(alloc, texts)?;
+    assert_eq!(rt; order.as_slice(), b"bdca".as_slice());
+    assert_eq!(rt;
+        Bytes::from_vec(order).into_vec().as_slice(),
+        b"bdca".as_slice()
+    );
     Ok(())
 }
 
 #[test]
 fn keys_stand_in_the_order_of_their_paths(rt: HostRuntime) -> Result<(), Fail> {
     let alloc = rt.alloc();
-    let mut texts = BTreeMap::new(alloc);
     let mut key = PathKey::of(alloc, b"")?;
-    for text in [b"a", b"b", b"c", b"d"] {
-        key.set(&text_key(&rt, alloc, text)?)?;
-        texts.insert(key.copy(alloc)?, text[0])?;
-    }
-    let mut order = Vec::new(alloc);
-    for (_key, text) in &texts {
-        order.push(*text)?;
-    }
-    assert_eq!(rt; order.as_slice(), b"bdca".as_slice());
-
-    let b = text_key(&rt, alloc, b"b")?;
-    assert_eq!(rt; path_cmp(&b, key.as_slice()), Ordering::Less);
-    assert_eq!(rt; path_cmp(&b, &b), Ordering::Equal);
-    assert_eq!(rt; texts.get(&PathKey::from_vec(b)).copied(), Some(b'b'));
+    let mut texts = BTreeMap::new(alloc);
+    stand_in_order(&rt, alloc, &mut key, &mut texts)?;
     assert_eq!(rt; key.into_vec().as_slice(), [2, 0, 0, 0, 1, b'd'].as_slice());
-    assert_eq!(rt;
-        Bytes::from_vec(order).into_vec().as_slice(),
-        b"bdca".as_slice()
-    );
     Ok(())
 }
