@@ -1,7 +1,7 @@
 #!/bin/sh
 # Tries the edits of tools/edits/NAME together with those of crates/NAME/must-fail: sh tools/edits.sh NAME..
-# The prover must refuse each. The gate doesn't try these, since the edits of a crate cost as much as its proof. They are
-# tried before a change of the crate lands, on a copy of the repository.
+# The prover must refuse each. The gate doesn't try these, since the edits of a crate begin with a proof of it. They are tried
+# before a change of the crate lands, on a copy of the repository. What the gate proved on this machine isn't proved again.
 set -eu
 top=$(cd "$(dirname "$0")/.." && pwd)
 . "$top/tools/toolchain.sh"
@@ -15,4 +15,4 @@ for name in "$@"; do
     cp "$top/tools/edits/$name"/*.edit "$copy/crates/$name/must-fail"
 done
 cd "$copy"
-"$RT" must-fail "$@"
+"$RT" ci "$@"
