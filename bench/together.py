@@ -4,14 +4,14 @@
 usage: together.py PROGRAM [ROWS] [GROUPS]      (rows of each input, 2,000,000 by default, and their groups, 50,000 by default)
 
 Each query groups a file of its own by a text; the files are made once, in a folder below TMPDIR, which is removed at the end. All
-queries fit their memory. In turn, five times each, run: each query alone; W queries in one plan; and, as programs that share nothing, W runs
-of one query each, started together. Printed are the least wall time and the least processor time, and the wall time as a multiple of that of
+queries fit their memory. In turn, fifteen times each, run: each query alone; W queries in one plan; and, as programs that share nothing, W runs
+of one query each, started together. Printed are the least and the middle wall time and processor time, and the wall time as a multiple of that of
 the longest of these queries alone. It exits with 1 where a query of a plan has another output than alone.
 """
-import hashlib, os, resource, shutil, subprocess, sys, tempfile, time
+import hashlib, os, resource, shutil, statistics, subprocess, sys, tempfile, time
 import plans, runs
 
-MEMORY, BLOCK_LEN, TIMES, MOST = 32 << 20, 8192, 5, 4
+MEMORY, BLOCK_LEN, TIMES, MOST = 32 << 20, 65536, 15, 4
 
 
 def query(number):
@@ -55,20 +55,22 @@ def main():
         for name, numbers in plans_of.items():
             write_plan(name, numbers)
         apart = {f"{w} runs": list(range(w)) for w in range(1, MOST + 1)}
-        best, answers = {}, {}
+        times, answers = {}, {}
         for _ in range(TIMES):
             for name, numbers in (plans_of | apart).items():
                 took = run(program, [f"alone {n}" for n in numbers] if name in apart else [name])
-                best[name] = tuple(map(min, best.get(name, took), took))
+                times.setdefault(name, []).append(took)
                 found = digests(numbers)
                 if name.startswith("alone"):
                     answers[numbers[0]] = found[0]
                 elif found != [answers[n] for n in numbers]:
                     sys.exit(f"{name}: another answer than alone")
-        for name, numbers in (plans_of | apart).items():
-            wall, cpu = best[name]
-            longest = max(best[f"alone {n}"][0] for n in numbers)
-            print(f"{name:14} {wall:6.2f} s  processor {cpu:6.2f} s  {wall / longest:5.2f} of the longest alone")
+        for what, of in (("least", min), ("middle", statistics.median)):
+            print(f"{what} of {TIMES}:")
+            for name, numbers in (plans_of | apart).items():
+                wall, cpu = map(of, zip(*times[name]))
+                longest = max(of([wall for wall, _ in times[f"alone {n}"]]) for n in numbers)
+                print(f"  {name:14} {wall:6.2f} s  processor {cpu:6.2f} s  {wall / longest:5.2f} of the longest alone")
     finally:
         os.chdir("/")
         shutil.rmtree(folder)
