@@ -4,6 +4,7 @@ pub mod Lending
 pub mod Looking
 pub mod Regions
 pub mod Rethreading
+pub mod Spreading
 pub mod Staying
 pub mod Tables
 pub mod Threads

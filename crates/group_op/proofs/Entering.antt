@@ -20,6 +20,7 @@ use Rattle.reservation_tree.specs.declared.errors.PoolErr.{PoolErr}
 use Rattle.store_api.proofs.Growing.{grows_refl}
 use Rattle.tuple_stream.specs.Families.{AreShaped}
 use Rattle.tuple_stream.proofs.FamilyWords.{feeds_none}
+use Rattle.bucket_table.specs.Spreading.{spread}
 use Rattle.bucket_table.specs.Tables.{HasNode, Node, Table, new_node, row_of, used_by, with_nodes, with_row}
 use Rattle.partition_stack.specs.Stack.{Stack, over}
 use Rattle.partition_stack.proofs.Slots.{slots_none}
@@ -79,10 +80,10 @@ works_none t shape table p h signs held entries =
 
 -- ---- a new entry
 
-pub entries_new : (shape : Shape) (len hash : ℕ) (row : List ℕ) (table : Table) → AreEntries shape len table → IsPartialRow shape row → length row ≤ len → hash ≡ hash_of (key_at shape row) → AreEntries shape len (with_nodes (new_node (hash % table.heads) row table.nodes ∷ table.nodes) table)
+pub entries_new : (shape : Shape) (len hash : ℕ) (row : List ℕ) (table : Table) → AreEntries shape len table → IsPartialRow shape row → length row ≤ len → hash ≡ hash_of (key_at shape row) → AreEntries shape len (with_nodes (new_node (spread hash % table.heads) row table.nodes ∷ table.nodes) table)
 entries_new shape len hash row table entries p short is =
     record {
-      each = All-cons (IsEntry shape len table.heads) (new_node (hash % table.heads) row table.nodes) table.nodes (record { row = p; short = short; chain = ap (λ (h : ℕ). h % table.heads) is }) entries.each;
+      each = All-cons (IsEntry shape len table.heads) (new_node (spread hash % table.heads) row table.nodes) table.nodes (record { row = p; short = short; chain = ap (λ (h : ℕ). spread h % table.heads) is }) entries.each;
       behind = (refl, entries.behind);
       roomy = entries.roomy;
     }
@@ -119,7 +120,7 @@ module _ (back : RowBack) (shape : Shape) (len node : ℕ) (table : Table) (row 
       record {
         row = are.partial;
         short = let long = are.long in let same = ap length entry.0.row in let short = entry.1.short in omega (arith, long, same, short);
-        chain = entry.1.chain ∙ ap (λ (k : List ℕ). hash_of k % table.heads) (ap (key_at shape) (sym entry.0.row) ∙ sym are.key);
+        chain = entry.1.chain ∙ ap (λ (k : List ℕ). spread (hash_of k) % table.heads) (ap (key_at shape) (sym entry.0.row) ∙ sym are.key);
       }
 
   pub entries_joined : AreEntries shape len (with_nodes (with_row node (joined shape (row_of node table.nodes) row) table.nodes) table)
@@ -205,7 +206,7 @@ lacks_same shape key a b rows lacks = lacked_nodes shape key b.nodes (subst (All
 
 -- a table with the same rows has a new one
 pub here_new : (shape : Shape) (hash : ℕ) (row : List ℕ) (a : State) (table : Table) (parts : Stack) (h : Holdings) (signs : Signs) → rows_of table ≡ rows_of a.table → Deals (λ i. []) (streams_of a) (over parts h signs) → Lacks shape (key_at shape row) a.table
-    → HasPutHere shape row a (state (with_nodes (new_node (hash % table.heads) row table.nodes ∷ table.nodes) table) parts h signs)
+    → HasPutHere shape row a (state (with_nodes (new_node (spread hash % table.heads) row table.nodes ∷ table.nodes) table) parts h signs)
 here_new shape hash row a table parts h signs rows deals lacks =
     record {
       deals = deals;
@@ -287,7 +288,7 @@ moved_then t shape level base a b c rows deals moved =
 
 -- and a new entry
 pub put_moved : (shape : Shape) (level base hash : ℕ) (row : List ℕ) (a : State) (table : Table) (parts : Stack) (h : Holdings) (signs : Signs) → Lacks shape (key_at shape row) a.table → IsTooLong shape (page_len a) row (rows_of a.table) → HasMoved shape level base a (state table parts h signs)
-    → HasPut shape level base row a (state (with_nodes (new_node (hash % table.heads) row table.nodes ∷ table.nodes) table) parts h signs)
+    → HasPut shape level base row a (state (with_nodes (new_node (spread hash % table.heads) row table.nodes ∷ table.nodes) table) parts h signs)
 put_moved shape level base hash row a table parts h signs lacks full moved =
     record {
       gone = moved.gone;
@@ -302,7 +303,7 @@ put_moved shape level base hash row a table parts h signs lacks full moved =
 
 -- after a growth
 pub put_grown : (shape : Shape) (level base hash : ℕ) (row : List ℕ) (t : ℕ) (a m : State) (table : Table) (parts : Stack) (h : Holdings) (signs : Signs) → HasGrown t shape a m → Lacks shape (key_at shape row) m.table → IsTooLong shape (page_len a) row (rows_of a.table) → HasMoved shape level base m (state table parts h signs)
-    → HasPut shape level base row a (state (with_nodes (new_node (hash % table.heads) row table.nodes ∷ table.nodes) table) parts h signs)
+    → HasPut shape level base row a (state (with_nodes (new_node (spread hash % table.heads) row table.nodes ∷ table.nodes) table) parts h signs)
 put_grown shape level base hash row t a m table parts h signs grown lacks full moved =
     put_moved shape level base hash row a table parts h signs (lacks_same shape (key_at shape row) m.table a.table (sym grown.rows) lacks) full
     (moved_then t shape level base a m (state table parts h signs) grown.rows grown.deals moved)

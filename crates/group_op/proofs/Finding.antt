@@ -8,6 +8,7 @@ use Rattle.row_codec.specs.Order.{hash_of}
 use Rattle.row_codec.specs.RowLaws.{RowBack}
 use Rattle.store_api.specs.declared.shapes.Shape.{Shape}
 use Rattle.store_api.specs.Shapes.{IsShape}
+use Rattle.bucket_table.specs.Spreading.{spread}
 use Rattle.bucket_table.specs.Looking.{newest_showing, shows_on}
 use Rattle.bucket_table.specs.Tables.{HasNode, Node, Table, part_of, row_of}
 use Rattle.group_rows.proofs.Keys.{same_true}
@@ -56,16 +57,16 @@ filter_none test (m ∷ ns) zero n none at = ap test (sym (same_Some m n at)) �
 filter_none test (m ∷ ns) (suc i) n none at = filter_none test ns i n (filter_front (test m) m (filter test ns) none).1 at
 
 -- where none was found, no entry has the key
-pub found_none : RowBack → (shape : Shape) (len hash : ℕ) (table : Table) (row bytes : List ℕ) → IsShape shape → AreEntries shape len table → IsPartialRow shape row → hash ≡ hash_of (key_at shape row) → bytes ≡ take (head_len shape row) row → newest_showing (hash % table.heads) 0 bytes table.nodes ≡ None → Lacks shape (key_at shape row) table
+pub found_none : RowBack → (shape : Shape) (len hash : ℕ) (table : Table) (row bytes : List ℕ) → IsShape shape → AreEntries shape len table → IsPartialRow shape row → hash ≡ hash_of (key_at shape row) → bytes ≡ take (head_len shape row) row → newest_showing (spread hash % table.heads) 0 bytes table.nodes ≡ None → Lacks shape (key_at shape row) table
 found_none back shape len hash table row bytes is entries p hash_is bytes_is none =
     let long : length bytes ≡ head_len shape row = head_taken shape row bytes bytes_is in
-    let nothing : filter (shows_on (hash % table.heads) 0 bytes) table.nodes ≡ [] = map_none (λ n. n.place) (filter (shows_on (hash % table.heads) 0 bytes) table.nodes) (none_first (map (λ n. n.place) (filter (shows_on (hash % table.heads) 0 bytes) table.nodes)) none) in
+    let nothing : filter (shows_on (spread hash % table.heads) 0 bytes) table.nodes ≡ [] = map_none (λ n. n.place) (filter (shows_on (spread hash % table.heads) 0 bytes) table.nodes) (none_first (map (λ n. n.place) (filter (shows_on (spread hash % table.heads) 0 bytes) table.nodes)) none) in
     all_placed (λ n. key_at shape n.row ≢ key_at shape row) table.nodes (λ i n at same.
     let entry = at_place (IsEntry shape len table.heads) table.nodes i n entries.each at in
-    let chain : n.chain ≡ hash % table.heads = entry.chain ∙ ap (λ (key : List ℕ). hash_of key % table.heads) same ∙ ap (λ (h : ℕ). h % table.heads) (sym hash_is) in
+    let chain : n.chain ≡ spread hash % table.heads = entry.chain ∙ ap (λ (key : List ℕ). spread (hash_of key) % table.heads) same ∙ ap (λ (h : ℕ). spread h % table.heads) (sym hash_is) in
     let shown : bytes ≡ part_of 0 (length bytes) n.row = bytes_is ∙ sym (key_tells_head back shape row n.row is p entry.row (sym same)) ∙ ap (λ (k : ℕ). take k n.row) (sym long) in
-    let yes_shown : shows_on (hash % table.heads) 0 bytes n ≡ true = rw (eq-eqb n.chain (hash % table.heads) chain) (same_true bytes (part_of 0 (length bytes) n.row) shown) in
-    false≢true (sym (filter_none (shows_on (hash % table.heads) 0 bytes) table.nodes i n nothing at) ∙ yes_shown))
+    let yes_shown : shows_on (spread hash % table.heads) 0 bytes n ≡ true = rw (eq-eqb n.chain (spread hash % table.heads) chain) (same_true bytes (part_of 0 (length bytes) n.row) shown) in
+    false≢true (sym (filter_none (shows_on (spread hash % table.heads) 0 bytes) table.nodes i n nothing at) ∙ yes_shown))
 
 pub if_some : {P Q R : ℕ → Type 0} (o : Option ℕ) → IfSome o P → IfSome o Q → ((x : ℕ) → P x → Q x → R x) → IfSome o R
 if_some None p q so = tt

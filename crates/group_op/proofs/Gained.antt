@@ -7,6 +7,7 @@ use Rattle.row_codec.specs.Order.{hash_of}
 use Rattle.row_codec.specs.RowLaws.{RowBack}
 use Rattle.store_api.specs.Holdings.{Holdings}
 use Rattle.store_api.specs.declared.shapes.Shape.{Shape}
+use Rattle.bucket_table.specs.Spreading.{spread}
 use Rattle.bucket_table.specs.Lending.{Grew, IsApart, Lends, bytes_of, loans_of}
 use Rattle.bucket_table.specs.Tables.{Node, Table, used_by}
 use Rattle.bucket_table.specs.Widening.{Widened, rechained}
@@ -46,6 +47,10 @@ grew_got t more shape len table now old new client bytes_are grew =
 
 -- ---- more chains
 
+-- the hash that a row has in a table
+abbrev spread_at : Shape → List ℕ → ℕ
+spread_at shape row = spread (hash_at shape row)
+
 -- the hash of a partial row's key is found where the row stands
 pub hash_there : RowBack → (shape : Shape) (row : List ℕ) → IsPartialRow shape row → hash_at shape row ≡ hash_of (key_at shape row)
 hash_there back shape row is =
@@ -53,12 +58,12 @@ hash_there back shape row is =
     let body : drop 4 row ≡ found.0 = ap (drop 4) (sym found.1) in
     ap (λ (bytes : List ℕ). hash_of (key_in (parts_at (key_kinds shape) bytes))) body ∙ ap (λ o. hash_of (key_in o)) found.5
 
-entries_wide : RowBack → (shape : Shape) (len heads now : ℕ) (nodes : List Node) → All (IsEntry shape len heads) nodes → All (IsEntry shape len now) (map (rechained (hash_at shape) now) nodes)
+entries_wide : RowBack → (shape : Shape) (len heads now : ℕ) (nodes : List Node) → All (IsEntry shape len heads) nodes → All (IsEntry shape len now) (map (rechained (spread_at shape) now) nodes)
 entries_wide back shape len heads now [] each = All-nil (IsEntry shape len now)
 entries_wide back shape len heads now (n ∷ nodes) each =
     let one = All-head (IsEntry shape len heads) n nodes each in
-    All-cons (IsEntry shape len now) (rechained (hash_at shape) now n) (map (rechained (hash_at shape) now) nodes)
-    (record { row = one.row; short = one.short; chain = ap (λ (h : ℕ). h % now) (hash_there back shape n.row one.row) })
+    All-cons (IsEntry shape len now) (rechained (spread_at shape) now n) (map (rechained (spread_at shape) now) nodes)
+    (record { row = one.row; short = one.short; chain = ap (λ (h : ℕ). spread h % now) (hash_there back shape n.row one.row) })
     (entries_wide back shape len heads now nodes (All-tail (IsEntry shape len heads) n nodes each))
 
 used_wide : (hash : List ℕ → ℕ) (now : ℕ) (nodes : List Node) → used_by (map (rechained hash now) nodes) ≡ used_by nodes
@@ -74,7 +79,7 @@ rows_wide hash now [] = refl
 rows_wide hash now (n ∷ nodes) = ap (λ (rows : List (List ℕ)). n.row ∷ rows) (rows_wide hash now nodes)
 
 -- twice the heads
-pub widened_got : RowBack → (t more : ℕ) (shape : Shape) (len : ℕ) (table now : Table) (old new : Holdings) → table.client ≡ t → bytes_of table.head_loans ≡ more → Widened (hash_at shape) table now old new → Got t more shape len table now old new
+pub widened_got : RowBack → (t more : ℕ) (shape : Shape) (len : ℕ) (table now : Table) (old new : Holdings) → table.client ≡ t → bytes_of table.head_loans ≡ more → Widened (spread_at shape) table now old new → Got t more shape len table now old new
 widened_got back t more shape len table now old new client bytes_are wide =
     let loans_now : loans_of now ≡ (table.head_loans ++ wide.loans) ++ table.node_loans = ap loans_of wide.table in
     let bytes : bytes_of wide.loans ≡ more = wide.bytes ∙ bytes_are in
@@ -98,12 +103,12 @@ widened_got back t more shape len table now old new client bytes_are wide =
               All-append (λ l. l.number ≢ q) table.head_loans table.node_loans (apart_front q table.head_loans wide.loans heads) (apart_behind q (table.head_loans ++ wide.loans) table.node_loans both),
             );
       };
-      rows = ap rows_of wide.table ∙ rows_wide (hash_at shape) (2 * table.heads) table.nodes;
+      rows = ap rows_of wide.table ∙ rows_wide (spread_at shape) (2 * table.heads) table.nodes;
       entries = λ entries.
           subst (AreEntries shape len) (sym wide.table)
           (record {
             each = entries_wide back shape len table.heads (2 * table.heads) table.nodes entries.each;
-            behind = behind_wide (hash_at shape) (2 * table.heads) table.nodes entries.behind;
+            behind = behind_wide (spread_at shape) (2 * table.heads) table.nodes entries.behind;
             roomy = entries.roomy;
           });
     }

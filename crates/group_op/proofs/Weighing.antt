@@ -1,5 +1,5 @@
 -- Rows that don't fit a table weigh more than two pages, and so do those of all keys that were fed.
-use Rattle.std.proofs.Common.{◌≡◌, ◌≢◌, ◌∙◌, ℕ, ◌+◌, ◌*◌, ◌<◌, ◌≤◌, false, List, [], ◌∷◌, ◌++◌, length, map, fold, refl, ap, sym, subst, arith, append-nil}
+use Rattle.std.proofs.Common.{◌≡◌, ◌≢◌, ◌∙◌, ℕ, ◌+◌, ◌*◌, ◌<◌, ◌≤◌, false, List, [], ◌∷◌, ◌++◌, length, map, fold, refl, ap, sym, subst, arith, append-nil, inl, inr}
 use Rattle.std.specs.Prelude.{All, flat_map}
 use Rattle.std.specs.BTreeSet.{insert_key}
 use Rattle.std.specs.List.{AllByRecursion, sum_by}
@@ -31,7 +31,7 @@ use Rattle.group_rows.proofs.Lengths.{length_by_key}
 use Rattle.group_rows.proofs.Merging.{combines}
 use Rattle.group_rows.proofs.Paths.{path_is_order}
 use Rattle.group_op.specs.Held.{AreEntries, StandBehind, rows_of}
-use Rattle.group_op.specs.Putting.{IsTooLong, Lacks}
+use Rattle.group_op.specs.Putting.{AreLong, IsCrowded, IsTooLong, Lacks}
 use Rattle.group_op.specs.Stored.{IsPartialRow, SameGroups, grouping_of, key_at, keys_len, partial_at, partials_at, row_len}
 use Rattle.group_op.proofs.Entering.{apart_false}
 use Rattle.group_op.proofs.Fed.{fed_stands}
@@ -83,14 +83,18 @@ rows_apart shape key (n ∷ nodes) lacks =
 pub too_long : (shape : Shape) (len : ℕ) (row : List ℕ) (table : Table) (rows : List (List ℕ)) → rows_of table ≡ rows → AreEntries shape len table → table.room < used_by table.nodes + 4 + length row → Lacks shape (key_at shape row) table → IsTooLong shape len row rows
 too_long shape len row table rows same entries full lacks =
     subst (IsTooLong shape len row) same
-    (record {
-      long =
-          let used = used_sum table.nodes entries.behind in
+    (inr (
+      let used = used_sum table.nodes entries.behind in
           let roomy = entries.roomy in
           let all : sum_by (λ r. length r + 4) (row ∷ rows_of table) ≡ length row + 4 + sum_by (λ r. length r + 4) (rows_of table) = sum_by-cons (λ (r : List ℕ). length r + 4) row (rows_of table) in
-          omega (arith, used, roomy, all, full);
-      apart = rows_apart shape (key_at shape row) table.nodes lacks;
-    })
+          omega (arith, used, roomy, all, full),
+      rows_apart shape (key_at shape row) table.nodes lacks,
+    ))
+
+-- the rows of a crowded one are long by themselves
+pub crowded_long : (shape : Shape) (len : ℕ) (row : List ℕ) (table : Table) → AreEntries shape len table → IsCrowded len (length row) table → length row ≤ len → 4 ≤ length row → IsTooLong shape len row (rows_of table)
+crowded_long shape len row table entries crowded short four =
+    inl (let used = used_sum table.nodes entries.behind in omega (arith, used, crowded.0, crowded.1, short, four))
 
 -- ---- the keys of all rows
 
@@ -142,23 +146,35 @@ rows_differ shape row (r ∷ rows) apart = (
   rows_differ shape row rows (All-tail (λ r. key_at shape r ≢ key_at shape row) r rows apart),
 )
 
+-- where the rows of a table are longer than two pages, so are those of all keys that were fed
+entries_long : (shape : Shape) (len : ℕ) (fed : List (List Value)) (row : List Value) (entries streams : List (List ℕ)) → IsShape shape → All (IsPartialRow shape) entries → HaveDistinctKeys (partials_at shape entries)
+    → StandFor path_order (grouping_of shape) fed (partials_at shape entries ++ partials_at shape streams) → AreLong len entries → 2 * len < keys_len shape (fed ++ row ∷ [])
+entries_long shape len fed row entries streams is formed distinct stand long =
+    let keys = ap (sum_by (weight_of shape)) (keys_stand_for path_order path_is_order (grouping_of shape) fed (partials_at shape entries ++ partials_at shape streams) stand) in
+    let most = distinct_more (weight_of shape) path_order path_is_order (grouping_of shape) (partials_at shape entries) (partials_at shape streams) distinct in
+    let weigh = rows_weigh shape entries is formed in
+    let more = keys_more (weight_of shape) path_order (key_bytes shape.keys) fed (row ∷ []) in
+    omega (arith, keys, most, weigh, long, more)
+
 -- where rows went to the partitions, the keys of all rows fed weigh more than two pages
 pub fed_long : (shape : Shape) (len : ℕ) (fed : List (List Value)) (row : List Value) (bytes : List ℕ) (entries streams : List (List ℕ)) → IsShape shape → IsPartialRow shape bytes → All (IsPartialRow shape) entries
     → AreValues fed → All IsValue row → partial_at shape bytes ≡ partial_of (grouping_of shape) row → HaveDistinctKeys (partials_at shape entries)
     → StandFor path_order (grouping_of shape) fed (partials_at shape entries ++ partials_at shape streams) → IsTooLong shape len bytes entries → 2 * len < keys_len shape (fed ++ row ∷ [])
 fed_long shape len fed row bytes entries streams is formed all_formed values good says distinct stand full =
-    let g : Grouping = grouping_of shape in
-    let ps : List Partial = partials_at shape (bytes ∷ entries) in
-    let stands : StandFor path_order (grouping_of shape) (fed ++ row ∷ []) (partials_at shape (bytes ∷ entries) ++ partials_at shape streams) =
-    fed_stands shape fed row bytes entries (bytes ∷ entries) [] streams streams values good says
-    (subst (λ (rs : List (List ℕ)). SameGroups (grouping_of shape) (partials_at shape (bytes ∷ entries)) (partials_at shape rs)) (sym (append-nil (bytes ∷ entries))) (same_refl (grouping_of shape) (partials_at shape (bytes ∷ entries))))
-    (subst (IsPermutation streams) (sym (append-nil streams)) (IsPermutation-refl streams)) stand in
-    let keys = ap (sum_by (weight_of shape)) (keys_stand_for path_order path_is_order (grouping_of shape) (fed ++ row ∷ []) (partials_at shape (bytes ∷ entries) ++ partials_at shape streams) stands) in
-    let apart : HaveDistinctKeys (partials_at shape (bytes ∷ entries)) = IsDistinct-cons bytes_eq (key_at shape bytes) (map key_of (partials_at shape entries)) (rows_differ shape bytes entries full.apart) distinct in
-    let most = distinct_more (weight_of shape) path_order path_is_order (grouping_of shape) (partials_at shape (bytes ∷ entries)) (partials_at shape streams) apart in
-    let weigh = rows_weigh shape (bytes ∷ entries) is (All-cons (IsPartialRow shape) bytes entries formed all_formed) in
-    let long = full.long in
-    omega (arith, keys, most, weigh, long)
+    elim full [
+      | inl long ↦ entries_long shape len fed row entries streams is all_formed distinct stand long
+      | inr whole ↦
+          let stands : StandFor path_order (grouping_of shape) (fed ++ row ∷ []) (partials_at shape (bytes ∷ entries) ++ partials_at shape streams) =
+          fed_stands shape fed row bytes entries (bytes ∷ entries) [] streams streams values good says
+          (subst (λ (rs : List (List ℕ)). SameGroups (grouping_of shape) (partials_at shape (bytes ∷ entries)) (partials_at shape rs)) (sym (append-nil (bytes ∷ entries))) (same_refl (grouping_of shape) (partials_at shape (bytes ∷ entries))))
+          (subst (IsPermutation streams) (sym (append-nil streams)) (IsPermutation-refl streams)) stand in
+          let keys = ap (sum_by (weight_of shape)) (keys_stand_for path_order path_is_order (grouping_of shape) (fed ++ row ∷ []) (partials_at shape (bytes ∷ entries) ++ partials_at shape streams) stands) in
+          let apart : HaveDistinctKeys (partials_at shape (bytes ∷ entries)) = IsDistinct-cons bytes_eq (key_at shape bytes) (map key_of (partials_at shape entries)) (rows_differ shape bytes entries whole.1) distinct in
+          let most = distinct_more (weight_of shape) path_order path_is_order (grouping_of shape) (partials_at shape (bytes ∷ entries)) (partials_at shape streams) apart in
+          let weigh = rows_weigh shape (bytes ∷ entries) is (All-cons (IsPartialRow shape) bytes entries formed all_formed) in
+          let long = whole.0 in
+          omega (arith, keys, most, weigh, long)
+    ]
 
 -- more rows are no shorter together
 pub keys_len_more : (shape : Shape) (fed more : List (List Value)) → keys_len shape fed ≤ keys_len shape (fed ++ more)

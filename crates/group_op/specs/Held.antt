@@ -5,6 +5,7 @@ use Rattle.store_api.specs.declared.shapes.Shape.{Shape}
 use Rattle.store_api.specs.Holdings.{Holdings, LiveLoan, account_of, length_of}
 use Rattle.store_api.specs.Signs.{Signs}
 use Rattle.tuple_stream.specs.Families.{Family}
+use Rattle.bucket_table.specs.Spreading.{spread}
 use Rattle.bucket_table.specs.Tables.{Node, Table, used_by}
 use Rattle.bucket_table.specs.Lending.{IsApart, IsTableOf, bytes_of, loans_of}
 use Rattle.partition_stack.specs.Stack.{Stack, over}
@@ -46,11 +47,11 @@ pub record IsHeld (t : ℕ) (s : State) : Type 0 where
 abbrev pub rows_of : Table → List (List ℕ)
 rows_of table = map (λ n. n.row) table.nodes
 
--- a node has a partial row that fits a page, and stands on the chain of its key
+-- a node has a partial row that fits a page, and stands on the chain of its key's hash, which is spread
 pub record IsEntry (shape : Shape) (len heads : ℕ) (n : Node) : Type 0 where
   pub row : IsPartialRow shape n.row
   pub short : length n.row ≤ len
-  pub chain : n.chain ≡ hash_of (key_at shape n.row) % heads
+  pub chain : n.chain ≡ spread (hash_of (key_at shape n.row)) % heads
 
 -- each node stands where the older ones end
 abbrev pub StandBehind : List Node → Type 0

@@ -7,7 +7,7 @@ use Rattle.tuple_stream.specs.Families.{Family, ShowAll, pages_in}
 use Rattle.tuple_stream.specs.FamilyCalls.{AllAtEnd, AllWhole, AreSure, FeedsAll, HaveLaid, shares}
 use Rattle.tuple_stream.specs.Trails.{EnteredEvents, creates_in}
 use Rattle.group_rows.specs.Tables.{HaveDistinctKeys}
-use Rattle.bucket_table.specs.Tables.{Table, with_nodes}
+use Rattle.bucket_table.specs.Tables.{Table, used_by, with_nodes}
 use Rattle.partition_stack.specs.Slots.{SameSlots}
 use Rattle.partition_stack.specs.Stack.{RestBelow, Stack}
 use Rattle.group_op.specs.Held.{AreEntries, IsHeld, Leaves, State, page_len, rows_of, streams_of}
@@ -64,10 +64,17 @@ pub record Deals (more : ℕ → List (List ℕ)) (f g : Family) : Type 0 where
   pub rows : (rows : ℕ → List (List ℕ)) → AreSure f → ShowAll rows f → ShowAll (λ i. rows i ++ more i) g
   pub laid : (start : Option (List Entry)) → AllAtEnd f → EnteredEvents (HaveLaid f) start f.signs.trail → EnteredEvents (HaveLaid g) start g.signs.trail
 
--- with this row, whose key is a new one, and four bytes more each, the rows are longer than two pages
-pub record IsTooLong (shape : Shape) (len : ℕ) (row : List ℕ) (rows : List (List ℕ)) : Type 0 where
-  pub long : 2 * len < sum_by (λ r. length r + 4) (row ∷ rows)
-  pub apart : All (λ r. key_at shape r ≢ key_at shape row) rows
+-- with four bytes more each, these rows are longer than two pages
+abbrev pub AreLong : ℕ → List (List ℕ) → Type 0
+AreLong len rows = 2 * len < sum_by (λ r. length r + 4) rows
+
+-- the rows of a table are that long, by themselves or with this one, whose key is a new one
+abbrev pub IsTooLong : Shape → ℕ → List ℕ → List (List ℕ) → Type 0
+IsTooLong shape len row rows = AreLong len rows ⊎ (AreLong len (row ∷ rows) × All (λ r. key_at shape r ≢ key_at shape row) rows)
+
+-- a table of four pages or more has no room for a row of so many bytes
+abbrev pub IsCrowded : ℕ → ℕ → Table → Type 0
+IsCrowded len long table = (4 * len ≤ table.room) × (table.room < used_by table.nodes + 4 + long)
 
 -- these rows went to the partitions of a level, and of the others and these the table has what it had and this row
 pub record HasPut (shape : Shape) (level base : ℕ) (row : List ℕ) (a b : State) : Type 0 where

@@ -5,28 +5,29 @@ ghost use Rattle.group_op.specs.KeyParts.{hashed, hashed_behind, key_in, parts_a
 ghost use Rattle.group_op.specs.Stored.{key_kinds};
 
 use crate::keying::field_len;
-use bucket_table::RowHash;
+use bucket_table::{RowHash, spread};
 use row_codec::{Kind, hash64};
 use store_api::Shape;
 
 const PRIME: u64 = 1099511628211;
 
-/// The hashes of the keys of partial rows of one shape.
+/// The hashes of the keys of partial rows of one shape, spread over the chains of a table.
 #[derive(Drop)]
 pub(crate) struct KeyHash<'a> {
     pub(crate) shape: &'a Shape,
 }
 
 impl RowHash for KeyHash<'_> {
+    ghost use Rattle.bucket_table.specs.Spreading.{spread};
     ghost use Rattle.group_op.specs.KeyParts.{hash_at};
 
-    ghost hash = { λ h row. hash_at h.shape.now row };
+    ghost hash = { λ h row. spread (hash_at h.shape.now row) };
 
     fn hash_row(&self, row: &[u8]) -> u64 {
         if row.len() < 4 {
-            return hash_parts(&[], self.shape);
+            return spread(hash_parts(&[], self.shape));
         }
-        hash_parts(&row[4..], self.shape)
+        spread(hash_parts(&row[4..], self.shape))
     }
 }
 

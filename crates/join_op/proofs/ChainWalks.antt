@@ -10,6 +10,7 @@ use Rattle.std.proofs.lemmas.Slice.Eq.{bytes_eq-Decides}
 use Rattle.row_codec.specs.declared.values.Value.{Value}
 use Rattle.row_codec.specs.Order.{hash_of}
 use Rattle.store_api.specs.declared.shapes.JoinShape.{JoinShape}
+use Rattle.bucket_table.specs.Spreading.{spread}
 use Rattle.bucket_table.specs.Tables.{HasNode, Node, first_row, from_node, newest_on, next_among, next_on_chain, row_of, used_by}
 use Rattle.join_op.specs.Chunks.{stored_pairs}
 use Rattle.join_op.specs.Handing.{Emitted, EmittedSome}
@@ -186,7 +187,7 @@ module _ (b : Bool) (shape : JoinShape) (row : List ℕ) where
     pub whole : (count : List Value → ℕ) → counts count done + counts count (to_come k nodes next) ≡ counts count (stored nodes)
     pub on : IsOn k nodes next
 
-  module _ (heads k : ℕ) (is : k ≡ hash_of (key_at (read_side b shape) row) % heads) where
+  module _ (heads k : ℕ) (is : k ≡ spread (hash_of (key_at (read_side b shape) row)) % heads) where
     counts_chain : (count : List Value → ℕ) (nodes : List Node) → AreStored (held_side b shape) heads nodes → counts count (stored nodes) ≡ counts count (stored (on_chain k nodes))
     counts_chain count [] are = refl
     counts_chain count (n ∷ older) are =
@@ -198,7 +199,7 @@ module _ (b : Bool) (shape : JoinShape) (row : List ℕ) where
               let met : counts count (stored older ++ n.row ∷ []) ≡ counts count (stored (on_chain k older) ++ n.row ∷ []) = omega (arith, rest, all, late) in
               rw (eq-eqb n.chain k same) met
           | inr apart ↦
-              let differ : key_at (read_side b shape) row ≢ key_at (held_side b shape) n.row = λ same. apart (are.0.chain ∙ ap (λ (key : List ℕ). hash_of key % heads) (sym same) ∙ sym is) in
+              let differ : key_at (read_side b shape) row ≢ key_at (held_side b shape) n.row = λ same. apart (are.0.chain ∙ ap (λ (key : List ℕ). spread (hash_of key) % heads) (sym same) ∙ sym is) in
               let none : counts count (n.row ∷ []) ≡ 0 = ap (sum_by count) (apart_none b shape row n.row differ) in
               let met : counts count (stored older ++ n.row ∷ []) ≡ counts count (stored (on_chain k older)) = omega (arith, rest, all, none) in
               rw (ne_eqb n.chain k apart) met

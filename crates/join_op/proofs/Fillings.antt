@@ -8,6 +8,7 @@ use Rattle.row_codec.specs.Order.{hash_of}
 use Rattle.row_codec.specs.RowBytes.{field_bytes, framed, row_bytes}
 use Rattle.row_codec.specs.RowReading.{number_in}
 use Rattle.row_reading.specs.Reading.{IsRowOf, values_at}
+use Rattle.bucket_table.specs.Spreading.{spread}
 use Rattle.bucket_table.specs.Tables.{IsFramed, Node, Table, new_node, with_nodes}
 use Rattle.bucket_table.proofs.Spelling.{link_back}
 use Rattle.tuple_stream.specs.Places.{IsWithin, Place, first}
@@ -34,7 +35,7 @@ pub row_framed : (kinds : List Kind) (bytes : List ℕ) → IsRowOf kinds bytes 
 row_framed kinds bytes is = subst IsFramed is.spelled (spelled_framed (values_at kinds bytes) is.is_row.fits)
 
 -- a row more
-pub stored_more : (side : Side) (table now : Table) (hash : ℕ) (row : List ℕ) → hash ≡ hash_of (key_at side row) → IsRowOf side.kinds row → AreStored side table.heads table.nodes
+pub stored_more : (side : Side) (table now : Table) (hash : ℕ) (row : List ℕ) → hash ≡ spread (hash_of (key_at side row)) → IsRowOf side.kinds row → AreStored side table.heads table.nodes
     → now ≡ with_nodes (new_node (hash % table.heads) row table.nodes ∷ table.nodes) table → AreStored side now.heads now.nodes
 stored_more side table now hash row is formed before same =
     subst (λ (t : Table). AreStored side t.heads t.nodes) (sym same)

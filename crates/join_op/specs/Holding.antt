@@ -8,6 +8,7 @@ use Rattle.store_api.specs.declared.shapes.JoinShape.{JoinShape}
 use Rattle.store_api.specs.Holdings.{Holdings, length_of, unused_of}
 use Rattle.bucket_table.specs.Tables.{Lent, Node, Table, used_by, with_nodes}
 use Rattle.bucket_table.specs.Lending.{IsTableOf, loans_of}
+use Rattle.bucket_table.specs.Spreading.{spread}
 use Rattle.join_op.specs.declared.feeding.Spare.{Spare}
 use Rattle.join_op.specs.declared.holding.Held.{Held}
 use Rattle.join_op.specs.Chunks.{IsKept, kept_rows, stored_pairs}
@@ -32,10 +33,10 @@ abbrev pub stored : List Node → List (List ℕ)
 stored [] = []
 stored (n ∷ older) = stored older ++ n.row ∷ []
 
--- the newest node has a row of a side, on the chain of its key's hash, and stands behind the older ones
+-- the newest node has a row of a side, on the chain of its key's spread hash, and stands behind the older ones
 pub record IsStored (side : Side) (heads : ℕ) (n : Node) (older : List Node) : Type 0 where
   pub place : n.place ≡ used_by older
-  pub chain : n.chain ≡ hash_of (key_at side n.row) % heads
+  pub chain : n.chain ≡ spread (hash_of (key_at side n.row)) % heads
   pub row : IsRowOf side.kinds n.row
 
 abbrev pub AreStored : Side → ℕ → List Node → Type 0

@@ -15,7 +15,7 @@ ghost use Rattle.join_op.specs.Chunks.{AreColumns, IsKept, ReadsMore, kept_rows}
 ghost use Rattle.join_op.specs.Holding.{AreStored, HoldsOf, IsSameHeld, IsTableAt, LeavesRoom, MayHold, held_rows, held_side, loans_in, stored};
 
 use crate::feeding::Spare;
-use bucket_table::BucketTable;
+use bucket_table::{BucketTable, spread};
 use reservation_tree::PoolErr;
 use row_codec::{Kind, Memory, hash64};
 use row_reading::key_into;
@@ -349,7 +349,7 @@ fn fill_table<St: Store>(
     Ok(())
 }
 
-// Puts a row of the side that is held, where it is one and no longer than there is room, on the chain of its key's hash.
+// Puts a row of the side that is held, where it is one and no longer than there is room, on the chain of its key's spread hash.
 fn put(
     shape: &JoinShape,
     turned: bool,
@@ -364,7 +364,7 @@ fn put(
     ensures table { table.new ≡ with_nodes table.new.nodes table.old }
 {
     key_held(shape, turned, columns, spare)?;
-    let Ok(_node) = table.insert(hash64(&spare.key), &spare.row) else {
+    let Ok(_node) = table.insert(spread(hash64(&spare.key)), &spare.row) else {
         return Err(Memory);
     };
     Ok(())

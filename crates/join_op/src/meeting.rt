@@ -21,7 +21,7 @@ use crate::feeding::Spare;
 use crate::holding::{Held, hold_next, key_held};
 use crate::operator::columns_of;
 use crate::pairing::{Pair, emit_pair};
-use bucket_table::BucketTable;
+use bucket_table::{BucketTable, spread};
 use reservation_tree::PoolErr;
 use row_codec::{Kind, Memory, hash64};
 use row_reading::key_into;
@@ -255,7 +255,7 @@ fn meet_kept<St: Store, E: Emit<St>>(
     Ok(())
 }
 
-// Hands the pairs of a row with those of a table on, which stand on the chain of its key's hash.
+// Hands the pairs of a row with those of a table on, which stand on the chain of its key's spread hash.
 fn meet_chain<St: Store, E: Emit<St>>(
     alloc: Global,
     store: &mut St,
@@ -283,7 +283,7 @@ fn meet_chain<St: Store, E: Emit<St>>(
     ensures stood { Stood (E.admits emit.old) (E.admits emit.new) (E.client emit.old) (E.client emit.new) (E.faults emit.old) (E.faults emit.new) (E.creates emit.old) (E.creates emit.new) (St.holds store.old) (St.holds store.new) (St.signs store.old) (St.signs store.new) }
     ensures slots { KeepSlots (E.client emit.old) (St.holds store.old).free_slots (St.holds store.new).free_slots (E.slots emit.old (St.holds store.old)) (E.slots emit.new (St.holds store.new)) }
 {
-    let mut next = table.find_first(hash64(&row.key));
+    let mut next = table.find_first(spread(hash64(&row.key)));
     'chain: while let Some(node) = next {
         let Ok(()) = read_back(shape, turned, columns, table, node, back) else {
             return Err(OpErr::Pool(PoolErr::Memory));

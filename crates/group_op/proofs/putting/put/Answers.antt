@@ -4,11 +4,11 @@ use Rattle.bucket_table.specs.Tables.{Table, used_by}
 use Rattle.partition_stack.proofs.Results.{any_err}
 use Rattle.group_op.specs.Held.{State, page_len, rows_of, state}
 use Rattle.group_op.specs.Putting.{HasGrown, IsTooLong}
-use Rattle.group_op.proofs.Growth.{grown_then_works}
+use Rattle.group_op.proofs.Growth.{grown_none, grown_then_works}
 use Rattle.group_op.proofs.Entering.{cause_after, entries_new, flushed_moved, four_long, put_grown, put_of_here, rows_formed, works_len}
 use Rattle.group_op.proofs.Keeping.{room_of_fan, works_nodes}
 use Rattle.group_op.proofs.RowForms.{partial_is_framed}
-use Rattle.group_op.proofs.Weighing.{too_long}
+use Rattle.group_op.proofs.Weighing.{crowded_long, too_long}
 use Rattle.group_op.proofs.Wants.{stand_after}
 use Rattle.group_op.proofs.Passing.{put_passed, some_rows, stand_passed, works_passed}
 use Rattle.group_op.proofs.putting.put.Goals as goal
@@ -104,8 +104,50 @@ returns-in_err-flush-clause-stand g c =
     let grown = c.put_here.ensures.grown c.if-put_here.false in
     any_err c.from_residual.result (stand_after a m b grown.rows grown.works.many grown.deals c.in_err-flush.ensures.stand)
 
+-- ---- a crowded table that is bypassed
+
 pub send-requires-clause-room : goal.send-requires-clause-room
-send-requires-clause-room g c = room_of_fan c.args.c.now.tracker c.args.fan.level c.args.fan.base c.args.fan.from c.put_here.new.table c.args.parts.now (g.St.Store.holds c.put_here.new.store) (g.St.Store.signs c.put_here.new.store) c.put_here.ensures.works.held c.requires.fan
+send-requires-clause-room g c =
+    room_of_fan c.args.c.now.tracker c.args.fan.level c.args.fan.base c.args.fan.from c.args.table.now c.args.parts.now (g.St.Store.holds c.args.store.now) (g.St.Store.signs c.args.store.now) c.requires.held c.requires.fan
+
+pub returns-then-is_crowded-clause-ok : goal.returns-then-is_crowded-clause-ok
+returns-then-is_crowded-clause-ok g c =
+    let t : ℕ = c.args.c.now.tracker in
+    let shape = c.args.shape.now in
+    let a : State = state c.args.table.now c.args.parts.now (g.St.Store.holds c.args.store.now) (g.St.Store.signs c.args.store.now) in
+    let four = four_long shape c.args.row.now c.requires.row in
+    put_passed t shape c.args.fan.level c.args.fan.base c.args.fan.from c.args.row.now a c.args.table.now c.args.parts.now c.send.new.parts (g.St.Store.holds c.args.store.now) (g.St.Store.holds c.send.new.store) (g.St.Store.signs c.args.store.now) (g.St.Store.signs c.send.new.store)
+    (grown_none t shape c.args.table.now c.args.parts.now (g.St.Store.holds c.args.store.now) (g.St.Store.signs c.args.store.now) c.requires.held c.requires.entries) c.send.result c.requires.row
+    (crowded_long shape (page_len a) c.args.row.now c.args.table.now c.requires.entries (c.is_crowded.ensures c.if-is_crowded.true) c.requires.short four)
+    c.send.ensures.went c.send.ensures.at_end
+
+pub returns-then-is_crowded-clause-works : goal.returns-then-is_crowded-clause-works
+returns-then-is_crowded-clause-works g c =
+    let t : ℕ = c.args.c.now.tracker in
+    let shape = c.args.shape.now in
+    let a : State = state c.args.table.now c.args.parts.now (g.St.Store.holds c.args.store.now) (g.St.Store.signs c.args.store.now) in
+    let crowded = c.is_crowded.ensures c.if-is_crowded.true in
+    let some = some_rows c.args.table.now.nodes (page_len a) c.args.table.now.room (length c.args.row.now) c.requires.entries.roomy crowded.1 c.requires.short (four_long shape c.args.row.now c.requires.row) in
+    works_passed t shape c.args.fan.level c.args.fan.base c.args.fan.from c.args.row.now a c.args.table.now c.args.parts.now c.send.new.parts (g.St.Store.holds c.args.store.now) (g.St.Store.holds c.send.new.store) (g.St.Store.signs c.args.store.now) (g.St.Store.signs c.send.new.store)
+    (grown_none t shape c.args.table.now c.args.parts.now (g.St.Store.holds c.args.store.now) (g.St.Store.signs c.args.store.now) c.requires.held c.requires.entries) _ c.send.ensures.went c.send.ensures.changes some c.send.ensures.few
+
+pub returns-then-is_crowded-clause-few : goal.returns-then-is_crowded-clause-few
+returns-then-is_crowded-clause-few g c =
+    let a : State = state c.args.table.now c.args.parts.now (g.St.Store.holds c.args.store.now) (g.St.Store.signs c.args.store.now) in
+    let crowded = c.is_crowded.ensures c.if-is_crowded.true in
+    let some = some_rows c.args.table.now.nodes (page_len a) c.args.table.now.room (length c.args.row.now) c.requires.entries.roomy crowded.1 c.requires.short (four_long c.args.shape.now c.args.row.now c.requires.row) in
+    let few = c.send.ensures.few in
+    omega (arith, few, some)
+
+pub returns-then-is_crowded-clause-stand : goal.returns-then-is_crowded-clause-stand
+returns-then-is_crowded-clause-stand g c =
+    let t : ℕ = c.args.c.now.tracker in
+    let shape = c.args.shape.now in
+    let a : State = state c.args.table.now c.args.parts.now (g.St.Store.holds c.args.store.now) (g.St.Store.signs c.args.store.now) in
+    stand_passed t shape c.args.fan.level c.args.fan.base c.args.fan.from c.args.row.now a c.args.table.now c.args.parts.now c.send.new.parts (g.St.Store.holds c.args.store.now) (g.St.Store.holds c.send.new.store) (g.St.Store.signs c.args.store.now) (g.St.Store.signs c.send.new.store)
+    (grown_none t shape c.args.table.now c.args.parts.now (g.St.Store.holds c.args.store.now) (g.St.Store.signs c.args.store.now) c.requires.held c.requires.entries) c.send.result c.requires.fan c.send.ensures.went
+
+-- ---- a full one, which hasn't the row's key
 
 pub returns-then-lets_pass-clause-ok : goal.returns-then-lets_pass-clause-ok
 returns-then-lets_pass-clause-ok g c =
@@ -114,10 +156,10 @@ returns-then-lets_pass-clause-ok g c =
     let a : State = state c.args.table.now c.args.parts.now (g.St.Store.holds c.args.store.now) (g.St.Store.signs c.args.store.now) in
     let m : State = state c.put_here.new.table c.args.parts.now (g.St.Store.holds c.put_here.new.store) (g.St.Store.signs c.put_here.new.store) in
     let grown : HasGrown t shape a m = c.put_here.ensures.grown c.if-put_here.false in
-    put_passed c.args.c.now.tracker c.args.shape.now c.args.fan.level c.args.fan.base c.args.fan.from c.args.row.now (state c.args.table.now c.args.parts.now (g.St.Store.holds c.args.store.now) (g.St.Store.signs c.args.store.now)) c.put_here.new.table c.args.parts.now c.send.new.parts (g.St.Store.holds c.put_here.new.store) (g.St.Store.holds c.send.new.store) (g.St.Store.signs c.put_here.new.store) (g.St.Store.signs c.send.new.store) (c.put_here.ensures.grown c.if-put_here.false) c.send.result c.requires.row
+    put_passed c.args.c.now.tracker c.args.shape.now c.args.fan.level c.args.fan.base c.args.fan.from c.args.row.now (state c.args.table.now c.args.parts.now (g.St.Store.holds c.args.store.now) (g.St.Store.signs c.args.store.now)) c.put_here.new.table c.args.parts.now c.send-then-lets_pass.new.parts (g.St.Store.holds c.put_here.new.store) (g.St.Store.holds c.send-then-lets_pass.new.store) (g.St.Store.signs c.put_here.new.store) (g.St.Store.signs c.send-then-lets_pass.new.store) (c.put_here.ensures.grown c.if-put_here.false) c.send-then-lets_pass.result c.requires.row
     (subst (λ (n : ℕ). IsTooLong shape n c.args.row.now (rows_of c.args.table.now)) (works_len t shape a m c.put_here.ensures.works)
     (too_long shape (page_len m) c.args.row.now m.table (rows_of c.args.table.now) grown.rows c.put_here.ensures.works.entries (c.put_here.ensures.full c.if-put_here.false) (c.put_here.ensures.lacks c.if-put_here.false)))
-    c.send.ensures.went c.send.ensures.at_end
+    c.send-then-lets_pass.ensures.went c.send-then-lets_pass.ensures.at_end
 
 pub returns-then-lets_pass-clause-works : goal.returns-then-lets_pass-clause-works
 returns-then-lets_pass-clause-works g c =
@@ -127,7 +169,7 @@ returns-then-lets_pass-clause-works g c =
     let short : length c.args.row.now ≤ page_len m = subst (λ (n : ℕ). length c.args.row.now ≤ n) (sym (works_len t c.args.shape.now a m c.put_here.ensures.works)) c.requires.short in
     let some =
     some_rows c.put_here.new.table.nodes (page_len m) c.put_here.new.table.room (length c.args.row.now) c.put_here.ensures.works.entries.roomy (c.put_here.ensures.full c.if-put_here.false) short (four_long c.args.shape.now c.args.row.now c.requires.row) in
-    works_passed c.args.c.now.tracker c.args.shape.now c.args.fan.level c.args.fan.base c.args.fan.from c.args.row.now (state c.args.table.now c.args.parts.now (g.St.Store.holds c.args.store.now) (g.St.Store.signs c.args.store.now)) c.put_here.new.table c.args.parts.now c.send.new.parts (g.St.Store.holds c.put_here.new.store) (g.St.Store.holds c.send.new.store) (g.St.Store.signs c.put_here.new.store) (g.St.Store.signs c.send.new.store) (c.put_here.ensures.grown c.if-put_here.false) _ c.send.ensures.went c.send.ensures.changes some c.send.ensures.few
+    works_passed c.args.c.now.tracker c.args.shape.now c.args.fan.level c.args.fan.base c.args.fan.from c.args.row.now (state c.args.table.now c.args.parts.now (g.St.Store.holds c.args.store.now) (g.St.Store.signs c.args.store.now)) c.put_here.new.table c.args.parts.now c.send-then-lets_pass.new.parts (g.St.Store.holds c.put_here.new.store) (g.St.Store.holds c.send-then-lets_pass.new.store) (g.St.Store.signs c.put_here.new.store) (g.St.Store.signs c.send-then-lets_pass.new.store) (c.put_here.ensures.grown c.if-put_here.false) _ c.send-then-lets_pass.ensures.went c.send-then-lets_pass.ensures.changes some c.send-then-lets_pass.ensures.few
 
 pub returns-then-lets_pass-clause-few : goal.returns-then-lets_pass-clause-few
 returns-then-lets_pass-clause-few g c =
@@ -137,13 +179,13 @@ returns-then-lets_pass-clause-few g c =
     let short : length c.args.row.now ≤ page_len m = subst (λ (n : ℕ). length c.args.row.now ≤ n) (sym (works_len t c.args.shape.now a m c.put_here.ensures.works)) c.requires.short in
     let some =
     some_rows c.put_here.new.table.nodes (page_len m) c.put_here.new.table.room (length c.args.row.now) c.put_here.ensures.works.entries.roomy (c.put_here.ensures.full c.if-put_here.false) short (four_long c.args.shape.now c.args.row.now c.requires.row) in
-    let few = c.send.ensures.few in
+    let few = c.send-then-lets_pass.ensures.few in
     let rows = ap length (c.put_here.ensures.grown c.if-put_here.false).rows in
     omega (arith, few, rows, some)
 
 pub returns-then-lets_pass-clause-stand : goal.returns-then-lets_pass-clause-stand
-returns-then-lets_pass-clause-stand g c = stand_passed c.args.c.now.tracker c.args.shape.now c.args.fan.level c.args.fan.base c.args.fan.from c.args.row.now (state c.args.table.now c.args.parts.now (g.St.Store.holds c.args.store.now) (g.St.Store.signs c.args.store.now)) c.put_here.new.table c.args.parts.now c.send.new.parts (g.St.Store.holds c.put_here.new.store) (g.St.Store.holds c.send.new.store) (g.St.Store.signs c.put_here.new.store) (g.St.Store.signs c.send.new.store) (c.put_here.ensures.grown c.if-put_here.false) c.send.result c.requires.fan c.send.ensures.went
+returns-then-lets_pass-clause-stand g c = stand_passed c.args.c.now.tracker c.args.shape.now c.args.fan.level c.args.fan.base c.args.fan.from c.args.row.now (state c.args.table.now c.args.parts.now (g.St.Store.holds c.args.store.now) (g.St.Store.signs c.args.store.now)) c.put_here.new.table c.args.parts.now c.send-then-lets_pass.new.parts (g.St.Store.holds c.put_here.new.store) (g.St.Store.holds c.send-then-lets_pass.new.store) (g.St.Store.signs c.put_here.new.store) (g.St.Store.signs c.send-then-lets_pass.new.store) (c.put_here.ensures.grown c.if-put_here.false) c.send-then-lets_pass.result c.requires.fan c.send-then-lets_pass.ensures.went
 
 pub returns-then-lets_pass-clause-cause : goal.returns-then-lets_pass-clause-cause
 returns-then-lets_pass-clause-cause g c =
-    cause_after (g.St.Store.signs c.args.store.now) (g.St.Store.signs c.put_here.new.store) (g.St.Store.signs c.send.new.store) c.send.result c.put_here.ensures.works.leaves.grows c.send.ensures.cause
+    cause_after (g.St.Store.signs c.args.store.now) (g.St.Store.signs c.put_here.new.store) (g.St.Store.signs c.send-then-lets_pass.new.store) c.send-then-lets_pass.result c.put_here.ensures.works.leaves.grows c.send-then-lets_pass.ensures.cause

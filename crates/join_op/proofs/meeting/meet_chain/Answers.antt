@@ -2,6 +2,7 @@ use Rattle.std.proofs.Common.{rules, ◌≡◌, ℕ, ◌%◌, [], ◌∷◌, Lis
 use Rattle.std.specs.Prelude.{IfSome}
 use Rattle.row_codec.specs.Order.{hash_of}
 use Rattle.row_codec.specs.declared.values.Value.{Value}
+use Rattle.bucket_table.specs.Spreading.{spread}
 use Rattle.bucket_table.specs.Tables.{HasNode, Node, newest_on, row_of}
 use Rattle.store_api.specs.Emitters.{CameOf}
 use Rattle.partition_stack.proofs.Emitters.{came_behind, stood_more, stood_none}
@@ -20,12 +21,12 @@ use Rattle.join_op.proofs.meeting.meet_chain.Goals as goal
 
 pub chain-init : goal.chain-init
 chain-init g c =
-    let k : ℕ = hash_of c.args.row.now.key.items % c.args.table.now.heads in
+    let k : ℕ = spread (hash_of c.args.row.now.key.items) % c.args.table.now.heads in
     let took : List (List Value) → Type 0 = g.E.Emit.took c.args.emit.now (g.St.Store.holds c.args.store.now) in
     let first : c.find_first-next.result ≡ newest_on k c.args.table.now.nodes = search rules in
     record {
       walking = subst (IsWalking c.args.turned c.args.shape.now c.args.row.now.row.items k took took c.args.table.now.nodes) (sym first)
-          (walk_starts c.args.turned c.args.shape.now c.args.row.now.row.items c.args.table.now.heads k (ap (λ (key : List ℕ). hash_of key % c.args.table.now.heads) c.requires.row.key) took c.args.table.now.nodes c.requires.table);
+          (walk_starts c.args.turned c.args.shape.now c.args.row.now.row.items c.args.table.now.heads k (ap (λ (key : List ℕ). spread (hash_of key) % c.args.table.now.heads) c.requires.row.key) took c.args.table.now.nodes c.requires.table);
       there = c.find_first-next.ensures.node;
       stood = stood_none (g.E.Emit.admits c.args.emit.now) (g.E.Emit.client c.args.emit.now) (g.E.Emit.faults c.args.emit.now) (g.St.Store.holds c.args.store.now) (g.St.Store.signs c.args.store.now) c.requires.client;
       slots = keep_none _ _ _;
@@ -34,7 +35,7 @@ chain-init g c =
 
 pub chain-smaller : goal.chain-smaller
 chain-smaller g c =
-    let k : ℕ = hash_of c.args.row.now.key.items % c.args.table.now.heads in
+    let k : ℕ = spread (hash_of c.args.row.now.key.items) % c.args.table.now.heads in
     let nodes : List Node = c.args.table.now.nodes in
     let walking : IsWalking c.args.turned c.args.shape.now c.args.row.now.row.items k (g.E.Emit.took c.args.emit.now (g.St.Store.holds c.args.store.now)) (g.E.Emit.took c.chain.emit (g.St.Store.holds c.chain.store)) nodes (Some c.in-Some.node) = subst (IsWalking c.args.turned c.args.shape.now c.args.row.now.row.items k (g.E.Emit.took c.args.emit.now (g.St.Store.holds c.args.store.now)) (g.E.Emit.took c.chain.emit (g.St.Store.holds c.chain.store)) nodes) c.in-Some.is c.chain.invariant.walking in
     let has : HasNode c.in-Some.node nodes = subst (λ (o : Option ℕ). IfSome o (λ p. HasNode p nodes)) c.in-Some.is c.chain.invariant.there in
@@ -44,7 +45,7 @@ chain-smaller g c =
 
 pub chain-preserved : goal.chain-preserved
 chain-preserved g c =
-    let k : ℕ = hash_of c.args.row.now.key.items % c.args.table.now.heads in
+    let k : ℕ = spread (hash_of c.args.row.now.key.items) % c.args.table.now.heads in
     let nodes : List Node = c.args.table.now.nodes in
     let walking : IsWalking c.args.turned c.args.shape.now c.args.row.now.row.items k (g.E.Emit.took c.args.emit.now (g.St.Store.holds c.args.store.now)) (g.E.Emit.took c.chain.emit (g.St.Store.holds c.chain.store)) nodes (Some c.in-Some.node) = subst (IsWalking c.args.turned c.args.shape.now c.args.row.now.row.items k (g.E.Emit.took c.args.emit.now (g.St.Store.holds c.args.store.now)) (g.E.Emit.took c.chain.emit (g.St.Store.holds c.chain.store)) nodes) c.in-Some.is c.chain.invariant.walking in
     let has : HasNode c.in-Some.node nodes = subst (λ (o : Option ℕ). IfSome o (λ p. HasNode p nodes)) c.in-Some.is c.chain.invariant.there in
@@ -60,7 +61,7 @@ chain-preserved g c =
 
 pub returns-in_err-join_two-clause-err : goal.returns-in_err-join_two-clause-err
 returns-in_err-join_two-clause-err g c =
-    let k : ℕ = hash_of c.args.row.now.key.items % c.args.table.now.heads in
+    let k : ℕ = spread (hash_of c.args.row.now.key.items) % c.args.table.now.heads in
     let nodes : List Node = c.args.table.now.nodes in
     let walking : IsWalking c.args.turned c.args.shape.now c.args.row.now.row.items k (g.E.Emit.took c.args.emit.now (g.St.Store.holds c.args.store.now)) (g.E.Emit.took c.chain.emit (g.St.Store.holds c.chain.store)) nodes (Some c.in-Some.node) = subst (IsWalking c.args.turned c.args.shape.now c.args.row.now.row.items k (g.E.Emit.took c.args.emit.now (g.St.Store.holds c.args.store.now)) (g.E.Emit.took c.chain.emit (g.St.Store.holds c.chain.store)) nodes) c.in-Some.is c.chain.invariant.walking in
     let has : HasNode c.in-Some.node nodes = subst (λ (o : Option ℕ). IfSome o (λ p. HasNode p nodes)) c.in-Some.is c.chain.invariant.there in
@@ -80,7 +81,7 @@ returns-in_err-join_two-clause-stood g c = stood_more _ _ _ _ _ _ _ _ _ _ _ _ _ 
 
 pub returns-in_default-read_back-clause-err : goal.returns-in_default-read_back-clause-err
 returns-in_default-read_back-clause-err g c =
-    let k : ℕ = hash_of c.args.row.now.key.items % c.args.table.now.heads in
+    let k : ℕ = spread (hash_of c.args.row.now.key.items) % c.args.table.now.heads in
     let nodes : List Node = c.args.table.now.nodes in
     let walking : IsWalking c.args.turned c.args.shape.now c.args.row.now.row.items k (g.E.Emit.took c.args.emit.now (g.St.Store.holds c.args.store.now)) (g.E.Emit.took c.chain.emit (g.St.Store.holds c.chain.store)) nodes (Some c.in-Some.node) = subst (IsWalking c.args.turned c.args.shape.now c.args.row.now.row.items k (g.E.Emit.took c.args.emit.now (g.St.Store.holds c.args.store.now)) (g.E.Emit.took c.chain.emit (g.St.Store.holds c.chain.store)) nodes) c.in-Some.is c.chain.invariant.walking in
     walk_some c.args.turned c.args.shape.now c.args.row.now.row.items k (g.E.Emit.took c.args.emit.now (g.St.Store.holds c.args.store.now)) (g.E.Emit.took c.chain.emit (g.St.Store.holds c.chain.store)) nodes (Some c.in-Some.node) walking
@@ -93,7 +94,7 @@ returns-in_err-join_two-clause-want g c = handed_err _ c.from_residual.result c.
 
 pub returns-in_err-join_two-clause-crowded : goal.returns-in_err-join_two-clause-crowded
 returns-in_err-join_two-clause-crowded g c =
-    let k : ℕ = hash_of c.args.row.now.key.items % c.args.table.now.heads in
+    let k : ℕ = spread (hash_of c.args.row.now.key.items) % c.args.table.now.heads in
     let nodes : List Node = c.args.table.now.nodes in
     let walking : IsWalking c.args.turned c.args.shape.now c.args.row.now.row.items k (g.E.Emit.took c.args.emit.now (g.St.Store.holds c.args.store.now)) (g.E.Emit.took c.chain.emit (g.St.Store.holds c.chain.store)) nodes (Some c.in-Some.node) = subst (IsWalking c.args.turned c.args.shape.now c.args.row.now.row.items k (g.E.Emit.took c.args.emit.now (g.St.Store.holds c.args.store.now)) (g.E.Emit.took c.chain.emit (g.St.Store.holds c.chain.store)) nodes) c.in-Some.is c.chain.invariant.walking in
     let has : HasNode c.in-Some.node nodes = subst (λ (o : Option ℕ). IfSome o (λ p. HasNode p nodes)) c.in-Some.is c.chain.invariant.there in
