@@ -5,7 +5,7 @@ ghost use Rattle.store_api.specs.Conditions.{IsLiveClient};
 ghost use Rattle.store_api.specs.Holdings.{unused_of};
 ghost use Rattle.bucket_table.specs.Tables.{HasNode, IsFramed, with_nodes};
 
-use bucket_table::{BucketTable, RowHash};
+use bucket_table::{BucketTable, RowHash, spread};
 use reservation_tree::{Memory, PoolErr};
 use std::alloc::Global;
 use std::process::Abort;
@@ -397,4 +397,20 @@ const ON_NEW_CHAINS: [(Step, &[u8]); 9] = [
 #[test]
 fn rows_come_to_their_new_chains_newest_first(rt: HostRuntime) -> Result<(), Fail> {
     expect(&rt, rt.alloc(), &ON_NEW_CHAINS, Shape::Widened)
+}
+
+// On how many of 256 chains as many rows stand whose hashes have these lowest four bits, as the rows of one partition have.
+fn chains_of(nibble: u64) -> usize {
+    let mut stand = [false; 256];
+    for i in 0..256u64 {
+        let chain = (spread((16 * i) | nibble) % 256) as usize;
+        stand[chain] = true;
+    }
+    stand.iter().filter(|some| **some).count()
+}
+
+#[test]
+fn rows_of_one_partition_stand_on_most_chains(rt: HostRuntime) {
+    let least = (0..16u64).map(chains_of).min();
+    assert_eq!(rt; (spread(1), least), (0x9e3779b9, Some(206)));
 }
