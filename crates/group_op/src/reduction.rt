@@ -16,8 +16,8 @@ const FOUND_OF: u64 = 4;
 /// each row that passes stands for as many rows that were put as each of the table's did when it was full. So it does where keys
 /// come in no order, or where some are frequent; where the rows of a key stand together, those of the table don't come again.
 ///
-/// Where the table has the key of few of the rows that come, the others pass without a look into it: a look waits for memory twice,
-/// and a row that it finds saves no more than a look later.
+/// Where such a table has the key of few of the rows that come, the others pass without a look into it: a look waits for memory
+/// twice, and a row that it finds saves no more than a look later.
 #[derive(Clone, Copy)]
 pub struct Reduction {
     /// The rows that were put until the table was full.
@@ -62,7 +62,7 @@ impl Reduction {
     pub(crate) fn pass(&mut self, rows: u32) {
         self.since = self.since.saturating_add(1);
         self.passed = self.passed.saturating_add(1);
-        self.bypassed = self.bypassed || self.is_judged(rows) && self.finds_few();
+        self.bypassed = self.bypassed || self.is_worth_no_look(rows);
     }
 
     /// Whether one more row passes a full table of so many rows without a look.
@@ -90,6 +90,11 @@ impl Reduction {
     fn reduces(&self, rows: u32) -> bool {
         u128::from(self.since) * u128::from(rows)
             >= u128::from(self.filled) * u128::from(self.passed)
+    }
+
+    // Whether the table is worth keeping, but no look into it.
+    fn is_worth_no_look(&self, rows: u32) -> bool {
+        self.is_judged(rows) && self.finds_few() && self.reduces(rows)
     }
 
     // Whether the table had the key of few rows since it was full.
