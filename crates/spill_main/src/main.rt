@@ -1,37 +1,12 @@
-//! The program `spill`: the words of its command line, files as inputs, standard output as the
-//! report, and for people a sentence on standard error and the progress of a long input.
+//! The program `spill`: the words of its command line go to the top call, with files as inputs and
+//! outputs, a scratch file for its slots, and standard output as the report.
 //!
 //! Only `help` and `--version` are answered here. Every command goes to the top call, which answers
-//! the status; this hands it files and standard output as they are. Each adapter counts its faults and
-//! claims nothing of what it holds.
+//! the status. The crate `host` has what is handed to it, and the words for people.
 #![tactic(auto)]
 
-mod advice;
-mod again;
-mod files;
-mod header_words;
-mod in_use;
-mod input_words;
-mod memory_words;
-mod mistake;
-mod output;
-mod plan_words;
-mod progress;
-mod quota;
-mod quotes;
-mod report;
-mod row_words;
-mod scratch;
-mod sentences;
-mod shown;
-mod usage;
-mod watched;
-
-use files::{FileInputs, FileOutputs};
-use in_use::InUse;
+use host::{FileInputs, FileOutputs, InUse, Report, SLOTS, Scratch, about, advise, tell_output};
 use outside::OpenGate;
-use report::Report;
-use scratch::{SLOTS, Scratch};
 use spill_top::spill_top;
 use std::alloc::AllocError;
 use std::fs::File;
@@ -53,7 +28,7 @@ fn main(rt: HostRuntime) -> ExitCode {
         return ExitCode::from(NO_MEMORY);
     };
     let words = words.as_slice();
-    if let Some(text) = usage::about(words) {
+    if let Some(text) = about(words) {
         return ExitCode::from(status_of(&rt, rt.print(text)));
     }
     let scratch = Scratch::new(&rt);
@@ -80,7 +55,7 @@ fn status_of(rt: &impl Eprint, printed: io::Result<()>) -> u8 {
     match printed {
         Ok(()) => 0,
         Err(why) => {
-            let _ = advice::tell_output(rt, &why);
+            let _ = tell_output(rt, &why);
             OUTPUT_FAULT
         }
     }
@@ -101,9 +76,9 @@ fn tell<R: Files<File = File> + Eprint + AllocGlobal, W: Write>(
     words: &[String],
     report: &Report<W>,
 ) {
-    let _ = advice::advise(rt, rt, status, words, report.text());
+    let _ = advise(rt, rt, status, words, report.text());
     if let Some(why) = report.failed() {
-        let _ = advice::tell_output(rt, why);
+        let _ = tell_output(rt, why);
     }
 }
 
@@ -126,6 +101,3 @@ fn words<R: Env + Eprint + AllocGlobal>(rt: &R) -> Result<Vec<String>, AllocErro
     }
     Ok(words)
 }
-
-#[cfg(test)]
-mod tests;
