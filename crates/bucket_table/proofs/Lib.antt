@@ -4,6 +4,7 @@ pub mod Counted
 pub mod Cuts
 pub mod Doubled
 pub mod Emptied
+pub mod Ends
 pub mod Entered
 pub mod Filled
 pub mod Grown

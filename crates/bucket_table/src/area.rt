@@ -4,6 +4,7 @@ ghost use Rattle.block_arena.specs.Bytes.{written};
 ghost use Rattle.bucket_table.specs.Lending.{bytes_of};
 ghost use Rattle.bucket_table.specs.Regions.{cut, with_bytes};
 
+use crate::same::are_same;
 use crate::stride::Stride;
 use block_arena::Buf;
 use std::marker::Model;
@@ -60,13 +61,6 @@ fn piece_of(buf: &Buf, block: Stride, from: usize, count: usize) -> Option<&[u8]
     }
     let bytes = buf.block(block.part(from));
     Some(&bytes[place..place + count])
-}
-
-#[inline]
-pub(crate) fn are_same(a: &[u8], b: &[u8]) -> bool
-    ensures { result ≡ true ↔ (a.now ≡ b.now) }
-{
-    a == b
 }
 
 impl Area {

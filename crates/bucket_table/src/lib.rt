@@ -20,6 +20,7 @@ mod numbers;
 mod opening;
 mod parts;
 mod rows;
+mod same;
 mod spreading;
 mod stride;
 mod table;

@@ -5,9 +5,9 @@ ghost use Rattle.bucket_table.specs.Looking.{newest_showing};
 ghost use Rattle.bucket_table.specs.Regions.{cut, link_at};
 ghost use Rattle.bucket_table.specs.Threads.{node_in};
 
-use crate::area::are_same;
 use crate::finding::node_of;
 use crate::numbers::spelled;
+use crate::same::are_same;
 use crate::table::BucketTable;
 
 // What a look at a node shows: the next one on its chain, and whether the bytes that are looked for stand in its row.
@@ -37,7 +37,7 @@ fn look_in(front: &[u8], at: usize, end: usize, bytes: &[u8]) -> Look
 
 impl BucketTable {
     // Looks at a node once, for both.
-    #[inline]
+    #[inline(always)]
     fn look_at(&self, node: u32, at: usize, bytes: &[u8]) -> Look
         requires node { HasNode node self.now.nodes }
         requires some { 0 < length bytes.now }
@@ -67,7 +67,7 @@ impl BucketTable {
 
     /// The newest node on the chain of this hash whose row shows these bytes, from a place in it on. This takes no
     /// memory and copies nothing.
-    #[inline]
+    #[inline(always)]
     pub fn find_row(&self, hash: u64, at: usize, bytes: &[u8]) -> Option<u32>
         ensures value { result ≡ newest_showing (hash % self.now.heads) at bytes.now self.now.nodes }
         ensures node { IfSome result (λ node. HasNode node self.now.nodes) }

@@ -45,7 +45,7 @@ impl BucketTable {
     }
 
     /// Makes of the number that sixteen bytes of the row of a node spell, from a place in it on, what a call gives of it.
-    #[inline]
+    #[inline(always)]
     pub fn change_number_at<F: FnOnce(u128) -> u128>(&mut self, node: u32, at: usize, change: F)
         requires node { HasNode node self.old.nodes }
         requires behind { 4 ≤ at }
