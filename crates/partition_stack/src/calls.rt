@@ -1,5 +1,5 @@
 //! Calls of one partition, and of the streams beside each other.
-ghost use Rattle.std.specs.Prelude.{◌≡◌, ℕ, ◌+◌, ◌≤◌, ◌<◌, [], Some, None, length, map, slice_get, if◌then◌else◌, true, IfErr, IfOk, OnOk, OnErr, ⊤};
+ghost use Rattle.std.specs.Prelude.{◌≡◌, ℕ, ◌+◌, ◌≤◌, ◌<◌, Some, None, length, map, if◌then◌else◌, IfErr, IfOk, OnOk, OnErr, ⊤};
 ghost use Rattle.store_api.specs.Conditions.{IsLiveClient};
 ghost use Rattle.store_api.specs.Holdings.{length_of};
 ghost use Rattle.store_api.specs.Signs.{WasAnswered};
@@ -24,6 +24,7 @@ impl Partitions {
     /// # Errors
     ///
     /// The store answered so in this call, or there was no memory. The rows are as before.
+    #[inline(always)]
     pub fn append<St: Store>(
         &mut self,
         alloc: Global,
@@ -62,6 +63,7 @@ impl Partitions {
     ///
     /// The store answered so in this call, or there was no memory, or a page shows no row where one must be. The rows are
     /// as before.
+    #[inline(always)]
     pub fn spend<St: Store>(
         &mut self,
         store: &mut St,

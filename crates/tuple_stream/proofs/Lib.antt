@@ -44,7 +44,6 @@ mod Spends
 mod SpentRows
 pub mod Frames
 pub mod Ends
-pub mod SpendAll
 pub mod OnePlace
 mod FamilyBeside
 pub mod FamilyStep
@@ -54,4 +53,3 @@ pub mod FamilyHolds
 pub mod FamilyRooms
 pub mod FamilyKept
 mod FamilyLawsHold
-mod Dealt

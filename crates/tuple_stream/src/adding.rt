@@ -1,5 +1,5 @@
 //! Rows come.
-ghost use Rattle.std.specs.Prelude.{◌≡◌, ◌+◌, ◌^◌, ◌<◌, ◌≤◌, length, option_map, Some, IsSome, IfSome, IfErr, OnOk, Err};
+ghost use Rattle.std.specs.Prelude.{◌≡◌, ◌+◌, ◌^◌, ◌<◌, ◌≤◌, length, Some, IsSome, IfSome, IfErr, OnOk, Err};
 ghost use Rattle.store_api.specs.Conditions.{IsBlockCount, IsLiveClient};
 ghost use Rattle.tuple_stream.specs.declared.err.StreamErr.TheVariants as failure;
 ghost use Rattle.tuple_stream.specs.PageRows.{IsOneRow};
@@ -22,6 +22,7 @@ impl Stream {
     /// `RowTooLong`, exactly where the row has more bytes than a page. `Pool`: the store answered so in this call,
     /// or there was no memory, also for the number of one row more. The rows are as before; the page that was
     /// pinned may rest.
+    #[inline(always)]
     pub fn append<St: Store>(
         &mut self,
         alloc: Global,

@@ -49,6 +49,7 @@ impl Stream {
     }
 
     // Destroys the first page, of which all rows are spent.
+    #[inline(never)]
     pub(crate) fn end_first<St: Store>(&mut self, store: &mut St)
         requires some { 0 < length self.old.pages }
         requires pages { (t : ℕ) × HasPages t self.old (St.holds store.old) }

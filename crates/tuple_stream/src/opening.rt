@@ -1,5 +1,5 @@
 //! Which page is pinned.
-ghost use Rattle.std.specs.Prelude.{◌≡◌, ◌↔◌, ◌<◌, ◌≤◌, true, ℕ, None, Some, length, option_map, IsOk, IfErr, OnOk, OnErr};
+ghost use Rattle.std.specs.Prelude.{◌≡◌, ◌↔◌, ◌<◌, ◌≤◌, true, ℕ, None, Some, length, IsOk, IfErr, OnOk};
 ghost use Rattle.store_api.specs.Holdings.{unused_of};
 ghost use Rattle.tuple_stream.specs.Streamed.{len_in};
 ghost use Rattle.tuple_stream.specs.Streams.{HasPageRoom, IsOpenAt, IsShaped};
@@ -16,6 +16,7 @@ impl Stream {
     /// # Errors
     ///
     /// `ScratchFull`: the page has no slots, and too few of the quota are free. It stays pinned.
+    #[inline(never)]
     pub fn rest<St: Store>(&mut self, store: &mut St) -> Result<(), PoolErr>
         requires { (t : ℕ) × IsShaped t self.old (St.holds store.old) }
         ensures ok { OnOk result (self.new.pinned ≡ None) }
@@ -39,6 +40,7 @@ impl Stream {
     }
 
     // Pins the page at this place, and lets another one rest.
+    #[inline(always)]
     pub(crate) fn open_at<St: Store>(&mut self, store: &mut St, place: usize) -> Result<(), PoolErr>
         requires stream { (t : ℕ) × IsShaped t self.old (St.holds store.old) × HasPageRoom t self.old (St.holds store.old) }
         requires inside { place < length self.old.pages }
@@ -56,6 +58,7 @@ impl Stream {
     }
 
     // Whether the page at this place is the one that is pinned.
+    #[inline]
     fn is_open_at(&self, place: usize) -> bool
         ensures { (result ≡ true) ↔ IsOpenAt place self.now }
     {
@@ -66,6 +69,7 @@ impl Stream {
     }
 
     // Pins the page at this place, where none is pinned.
+    #[inline(never)]
     fn pin_at<St: Store>(&mut self, store: &mut St, place: usize) -> Result<(), PoolErr>
         requires stream { (t : ℕ) × IsShaped t self.old (St.holds store.old) × (len_in self.old (St.holds store.old) ≤ unused_of t (St.holds store.old)) }
         requires closed { self.old.pinned ≡ None }

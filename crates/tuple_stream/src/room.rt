@@ -13,6 +13,7 @@ use store_api::{Client, Store};
 
 impl Stream {
     // Pins a page that has room for a row of so many bytes: the last one, or a new one where it has none.
+    #[inline(always)]
     pub(crate) fn make_room<St: Store>(
         &mut self,
         alloc: Global,
@@ -51,6 +52,7 @@ impl Stream {
     }
 
     // Lets the pinned page rest, and adds one.
+    #[inline(never)]
     fn begin_page<St: Store>(
         &mut self,
         alloc: Global,

@@ -43,6 +43,7 @@ impl Stream {
 
     /// As [`Stream::next_spend`], into memory that the next row may take again: whether there was a row. Where there
     /// was none, what stands in `out` is left open.
+    #[inline(always)]
     pub fn spend_into<St: Store>(
         &mut self,
         store: &mut St,
