@@ -1,11 +1,11 @@
 -- The hash of a key that is read field by field.
-use Rattle.std.proofs.Common.{◌≡◌, ◌∙◌, ℕ, ◌+◌, ◌<◌, ◌≤◌, List, [], ◌∷◌, ◌++◌, length, drop, Option, Some, None, refl, ap, sym, append-nil}
+use Rattle.std.proofs.Common.{◌≡◌, ◌∙◌, ℕ, ◌+◌, ◌<◌, ◌≤◌, List, [], ◌∷◌, ◌++◌, length, drop, Option, Some, None, refl, ap, ap₂, sym, append-nil}
 use Rattle.std.specs.Prelude.{filter_map, fold, get_or, option_map, option_and_then, slice_get}
 use Rattle.std.specs.List.{cons_option}
 use Rattle.std.proofs.lemmas.Option.{same_Some}
 use Rattle.row_codec.specs.declared.values.Kind.{Kind}
 use Rattle.row_codec.specs.Order.{hash_of, hash_step}
-use Rattle.group_op.specs.KeyParts.{behind_key, cut_at, hashed, key_in, parts_at, tagged}
+use Rattle.group_op.specs.KeyParts.{behind_key, counted, cut_at, hashed, hashed_left, key_in, parts_at, tagged}
 use Rattle.group_op.proofs.KeyWalking.{counted_some, walk_ends, walk_more, walk_stops}
 
 fold_both : (hash : ℕ) (xs ys : List ℕ) → fold hash_step hash (xs ++ ys) ≡ fold hash_step (fold hash_step hash xs) ys
@@ -60,12 +60,34 @@ module _ (kinds : List Kind) (columns : List ℕ) (i : ℕ) (inside : i < length
       let more = more_hashed is.key behind hash now (parts_at (cons_option (slice_get kinds (get_or columns i 0)) []) rest) is.hash_is found in
       record { key = more.0; hash_is = more.1; is = walk_more kinds columns i inside whole is.key more.0 rest behind is.is more.2 }
 
-  pub hashes_stop : None ≡ hashed hash (parts_at (cons_option (slice_get kinds (get_or columns i 0)) []) rest) → hash_of [] ≡ hash_of (key_in whole)
+  pub hashes_stop : None ≡ hashed hash (parts_at (cons_option (slice_get kinds (get_or columns i 0)) []) rest) → None ≡ hashed_left whole
   hashes_stop none =
-      ap (λ (o : Option (List ℕ × List ℕ)). hash_of (key_in o))
+      ap hashed_left
       (walk_stops kinds columns i inside whole is.key rest is.is (none_hashed is.key hash (parts_at (cons_option (slice_get kinds (get_or columns i 0)) []) rest) none))
 
-pub hashes_end : (kinds : List Kind) (columns : List ℕ) (i : ℕ) (whole : Option (List ℕ × List ℕ)) (hash : ℕ) (rest : List ℕ) → length columns ≤ i → Hashes whole hash (parts_at (filter_map (slice_get kinds) (drop i columns)) rest) → hash ≡ hash_of (key_in whole)
+pub hashes_end : (kinds : List Kind) (columns : List ℕ) (i : ℕ) (whole : Option (List ℕ × List ℕ)) (hash : ℕ) (rest : List ℕ) → length columns ≤ i → Hashes whole hash (parts_at (filter_map (slice_get kinds) (drop i columns)) rest)
+    → Some (hash, length rest) ≡ hashed_left whole
 hashes_end kinds columns i whole hash rest end is =
     let last = counted_some whole is.key (length rest) (walk_ends kinds columns i whole is.key rest end is.is) in
-    is.hash_is ∙ ap (λ (o : Option (List ℕ × List ℕ)). hash_of (key_in o)) (sym last.1)
+    ap₂ (λ (h n : ℕ). Some (h, n)) is.hash_is (sym last.2) ∙ ap hashed_left (sym last.1)
+
+-- ---- what was found
+
+pub key_hashed : (o : Option (List ℕ × List ℕ)) (hash left : ℕ) → Some (hash, left) ≡ hashed_left o → hash ≡ hash_of (key_in o)
+key_hashed None hash left is = absurd cc
+key_hashed (Some p) hash left is = ap (λ (q : ℕ × ℕ). q.0) (same_Some (hash, left) (hash_of p.0, length p.1) is)
+
+pub none_keyed : (o : Option (List ℕ × List ℕ)) → None ≡ hashed_left o → hash_of [] ≡ hash_of (key_in o)
+none_keyed None none = refl
+none_keyed (Some p) none = absurd cc
+
+-- a key that has the hash
+pub hashed_some : (o : Option (List ℕ × List ℕ)) (hash left : ℕ) → Some (hash, left) ≡ hashed_left o → (key : List ℕ) × (Some (key, left) ≡ counted o) × (hash ≡ hash_of key)
+hashed_some None hash left is = absurd cc
+hashed_some (Some p) hash left is =
+    let same : (hash, left) ≡ (hash_of p.0, length p.1) = same_Some (hash, left) (hash_of p.0, length p.1) is in
+    (p.0, ap (λ (n : ℕ). Some (p.0, n)) (ap (λ (q : ℕ × ℕ). q.1) same), ap (λ (q : ℕ × ℕ). q.0) same)
+
+pub none_counted : (o : Option (List ℕ × List ℕ)) → None ≡ hashed_left o → None ≡ counted o
+none_counted None none = refl
+none_counted (Some p) none = absurd cc

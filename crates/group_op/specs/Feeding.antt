@@ -9,7 +9,7 @@ use Rattle.group_rows.specs.Partials.{partial_of}
 use Rattle.group_op.specs.Held.{AreEntries, State, page_len, rows_of, streams_of}
 use Rattle.group_op.specs.Operator.{entries_in}
 use Rattle.group_op.specs.Putting.{Deals}
-use Rattle.group_op.specs.Stored.{IsPartialRow, grouping_of, key_at, partial_at}
+use Rattle.group_op.specs.Stored.{IsPartialRow, grouping_of, partial_at}
 
 -- the bytes say what a row of values says by itself, and are no more than its own and sixteen for each aggregate
 pub record Spells (shape : Shape) (bytes : List ℕ) (row : List Value) : Type 0 where
@@ -17,11 +17,10 @@ pub record Spells (shape : Shape) (bytes : List ℕ) (row : List Value) : Type 0
   pub says : partial_at shape bytes ≡ partial_of (grouping_of shape) row
   pub light : length bytes ≤ length (row_bytes row) + 16 * length shape.aggs
 
--- bytes are a partial row that fits in so many, beside its key
-pub record IsSpelled (shape : Shape) (len : ℕ) (bytes key : List ℕ) : Type 0 where
+-- bytes are a partial row that fits in so many
+pub record IsSpelled (shape : Shape) (len : ℕ) (bytes : List ℕ) : Type 0 where
   pub row : IsPartialRow shape bytes
   pub short : length bytes ≤ len
-  pub key_is : key ≡ key_at shape bytes
 
 -- the table is the one that was there, or a new one without rows. `a` is before the call and `b` behind it
 pub record HasOpened (shape : Shape) (was : Option Table) (table : Table) (a b : State) : Type 0 where

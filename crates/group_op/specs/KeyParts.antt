@@ -54,6 +54,10 @@ hash_at shape bytes = hash_of (key_in (parts_at (key_kinds shape) (drop 4 bytes)
 abbrev pub hashed : ℕ → Option (List ℕ × List ℕ) → Option (ℕ × List ℕ)
 hashed hash found = option_map (λ (parts, rest). (fold hash_step hash parts, rest)) found
 
+-- the hash of the key that was found, and how many bytes are left
+abbrev pub hashed_left : Option (List ℕ × List ℕ) → Option (ℕ × ℕ)
+hashed_left found = option_map (λ (parts, rest). (hash_of parts, length rest)) found
+
 -- a hash, and the bytes behind so many of these, where both were found
 abbrev pub hashed_behind : List ℕ → Option (ℕ × ℕ) → Option (ℕ × List ℕ)
 hashed_behind bytes found = option_map (λ (len, hash). (hash, drop len bytes)) found

@@ -17,7 +17,8 @@ ghost use Rattle.group_op.specs.Pinning.{HasBegun};
 ghost use Rattle.group_op.specs.Stored.{IsPartialRow, key_at};
 ghost use Rattle.group_op.specs.Wanting.{ShowNoMore};
 
-use crate::flushing::{Fan, Spare, key_hash};
+use crate::flushing::{Fan, Spare};
+use crate::hashing::hash_of_partial;
 use crate::putting::{put, put_here};
 use bucket_table::BucketTable;
 use partition_stack::Partitions;
@@ -130,17 +131,19 @@ fn key_of<St: Store>(
     store: &St,
     shape: &Shape,
     parts: &Partitions,
-    fed: &mut Spare,
+    fed: &Spare,
 ) -> Result<u64, PoolErr>
-    ensures row { fed.new.row.items ≡ fed.old.row.items }
-    ensures formed { OnOk result (IsPartialRow shape.now fed.old.row.items) }
-    ensures short { OnOk result (length fed.old.row.items ≤ length_of parts.now.page_blocks (St.holds store.now)) }
-    ensures hash { IfOk result (λ hash. hash ≡ hash_of (key_at shape.now fed.old.row.items)) }
+    ensures formed { OnOk result (IsPartialRow shape.now fed.now.row.items) }
+    ensures short { OnOk result (length fed.now.row.items ≤ length_of parts.now.page_blocks (St.holds store.now)) }
+    ensures hash { IfOk result (λ hash. hash ≡ hash_of (key_at shape.now fed.now.row.items)) }
     ensures cause { IfErr result (λ e. e ≡ refusal.Memory) }
 {
     let len = u64::from(parts.page_blocks()) * u64::from(store.block_len());
     if fed.row.len() as u64 > len {
         return Err(PoolErr::Memory);
     }
-    key_hash(shape, fed)
+    match hash_of_partial(&fed.row, shape) {
+        Some(hash) => Ok(hash),
+        None => Err(PoolErr::Memory),
+    }
 }

@@ -16,13 +16,14 @@ ghost use Rattle.group_op.specs.Operator.{Holds, IsFeeding, IsOperator, IsSame, 
 ghost use Rattle.group_op.specs.Putting.{HaveMade};
 
 use crate::flushing::{FIRST, Spare};
+use crate::hashing::hash_of_row;
 use crate::operator::GroupOp;
 use crate::own_row::spell;
 use crate::putting::put;
 use bucket_table::BucketTable;
 use partition_stack::{Partitions, law_scratch};
 use reservation_tree::PoolErr;
-use row_codec::{Value, hash64};
+use row_codec::Value;
 use std::alloc::Global;
 use std::mem;
 use store_api::{Client, OpErr, Shape, Store};
@@ -56,7 +57,7 @@ impl GroupOp {
     {
         self.parts.law_stack();
         let _len = store.block_len();
-        if spell(row, &self.shape, &mut self.fed).is_err() {
+        if spell(row, &self.shape, &mut self.fed.row).is_err() {
             return Err(OpErr::Pool(PoolErr::Memory));
         }
         match feed_row(
@@ -88,7 +89,7 @@ fn feed_row<St: Store>(
 ) -> Result<(), PoolErr>
     requires op { IsOperator (operator c.now shape.now parts.old table.old) (St.holds store.old) (St.signs store.old) }
     requires feeding { IsFeeding (operator c.now shape.now parts.old table.old) }
-    requires row { IsSpelled shape.now (length_of parts.old.page_blocks (St.holds store.old)) fed.now.row.items fed.now.key.items }
+    requires row { IsSpelled shape.now (length_of parts.old.page_blocks (St.holds store.old)) fed.now.row.items }
     ensures keeps { OnOk result ((start : Option (List Entry)) → (rows : List (List Value)) → (row : List Value) → Spells shape.now fed.now.row.items row → Keeps start rows (operator c.now shape.now parts.old table.old) (St.holds store.old) (St.signs store.old) → Keeps start (rows ++ row ∷ []) (operator c.now shape.now parts.new table.new) (St.holds store.new) (St.signs store.new)) }
     ensures holds { OnOk result ((rows : List (List Value)) → (row : List Value) → Spells shape.now fed.now.row.items row → Holds rows (operator c.now shape.now parts.old table.old) (St.holds store.old) (St.signs store.old) → Holds (rows ++ row ∷ []) (operator c.now shape.now parts.new table.new) (St.holds store.new) (St.signs store.new)) }
     ensures makes { Makes (operator c.now shape.now parts.old table.old) (operator c.now shape.now parts.new table.new) (St.holds store.old) (St.signs store.old) (St.signs store.new) }
@@ -102,7 +103,7 @@ fn feed_row<St: Store>(
 {
     law_scratch();
     parts.law_stack();
-    let hash = hash64(&fed.key);
+    let hash = hash_of_row(&fed.row, shape);
     open_table(alloc, store, c, shape, parts, table)?;
     let Some(own) = table else { unreachable!() };
     put(

@@ -1,6 +1,5 @@
 //! The rows of a table go to partitions.
-ghost use Rattle.std.specs.Prelude.{◌≡◌, ◌+◌, ◌<◌, ◌≤◌, length, OnErr, OnOk, IfErr, IfOk};
-ghost use Rattle.reservation_tree.specs.declared.errors.PoolErr.TheVariants as refusal;
+ghost use Rattle.std.specs.Prelude.{◌≡◌, ◌+◌, ◌<◌, ◌≤◌, length, OnErr, OnOk, IfErr};
 ghost use Rattle.store_api.specs.Conditions.{IsLiveClient};
 ghost use Rattle.store_api.specs.Holdings.{length_of};
 ghost use Rattle.store_api.specs.Signs.{WasAnswered};
@@ -16,12 +15,12 @@ ghost use Rattle.group_op.specs.Stored.{IsPartialRow, key_at, place_of};
 ghost use Rattle.row_codec.specs.Order.{hash_of};
 ghost use Rattle.group_op.specs.Wanting.{StandNoMore};
 
-use crate::keying::key_of_partial;
+use crate::hashing::hash_of_partial;
 use crate::reduction::Reduction;
 use bucket_table::BucketTable;
 use partition_stack::Partitions;
 use reservation_tree::PoolErr;
-use row_codec::{hash64, nibble};
+use row_codec::nibble;
 use std::alloc::Global;
 use store_api::{Client, Shape, Store};
 
@@ -49,8 +48,6 @@ pub(crate) const FIRST: Fan = Fan {
 pub struct Spare {
     /// A row's bytes.
     pub row: Vec<u8>,
-    /// The bytes of its key.
-    pub key: Vec<u8>,
     /// The rows since the table was emptied.
     pub reduction: Reduction,
 }
@@ -59,7 +56,6 @@ impl Spare {
     pub(crate) fn new(alloc: Global) -> Spare {
         Spare {
             row: Vec::new(alloc),
-            key: Vec::new(alloc),
             reduction: Reduction::new(),
         }
     }
@@ -71,6 +67,7 @@ impl Spare {
 ///
 /// The store answered so in this call, or there was no memory. The table has all its rows; some of them may stand in
 /// their partitions too, so a caller ends the grouping.
+#[inline(never)]
 pub fn flush<St: Store>(
     alloc: Global,
     store: &mut St,
@@ -95,7 +92,9 @@ pub fn flush<St: Store>(
     let mut next = table.first_node();
     while let Some(node) = next {
         table.row_at(node, &mut spare.row)?;
-        let hash = key_hash(shape, spare)?;
+        let Some(hash) = hash_of_partial(&spare.row, shape) else {
+            return Err(PoolErr::Memory);
+        };
         send(alloc, store, c, shape, parts, fan, &spare.row, hash)?;
         next = table.next_node(node);
     }
@@ -104,21 +103,8 @@ pub fn flush<St: Store>(
     Ok(())
 }
 
-// The hash of the key of the row in the spare memory.
-pub(crate) fn key_hash(shape: &Shape, spare: &mut Spare) -> Result<u64, PoolErr>
-    ensures row { spare.new.row.items ≡ spare.old.row.items }
-    ensures formed { OnOk result (IsPartialRow shape.now spare.old.row.items) }
-    ensures hash { IfOk result (λ hash. hash ≡ hash_of (key_at shape.now spare.old.row.items)) }
-    ensures cause { IfErr result (λ e. e ≡ refusal.Memory) }
-{
-    let Ok(true) = key_of_partial(&spare.row, shape, &mut spare.key) else {
-        return Err(PoolErr::Memory);
-    };
-    Ok(hash64(&spare.key))
-}
-
 // Appends a row, by the hash of its key, to its partition.
-#[inline]
+#[inline(never)]
 pub(crate) fn send<St: Store>(
     alloc: Global,
     store: &mut St,

@@ -1,5 +1,4 @@
 //! A table gets more memory, as long as its client may reserve more.
-ghost use Rattle.std.specs.Prelude.{◌≡◌};
 ghost use Rattle.group_op.specs.Held.{AreEntries, IsHeld, page_len, state};
 ghost use Rattle.group_op.specs.Putting.{HasGrown};
 
@@ -12,6 +11,7 @@ use store_api::{Client, Shape, Store};
 
 // Reserves more memory for the table: a page, and where its chains are few for its rows, as many chains more. What is refused
 // is no error: the table is as it was then.
+#[inline(never)]
 pub(crate) fn grow<St: Store>(
     alloc: Global,
     store: &mut St,

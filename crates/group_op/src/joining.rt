@@ -36,6 +36,7 @@ fn sum_of(agg: Agg, entry: u128, number: u128) -> u128
 }
 
 // Adds the numbers of a partial row to those of an entry of the same key.
+#[inline(always)]
 pub(crate) fn add_numbers(table: &mut BucketTable, node: u32, row: &[u8], shape: &Shape)
     requires shape { IsShape shape.now }
     requires node { HasNode node table.old.nodes }

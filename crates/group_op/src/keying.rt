@@ -24,7 +24,7 @@ pub(crate) fn key_of_partial(row: &[u8], shape: &Shape, key: &mut Vec<u8>) -> Re
 }
 
 // The bytes behind the first four, where these count them.
-fn body_of(row: &[u8]) -> Option<&[u8]>
+pub(crate) fn body_of(row: &[u8]) -> Option<&[u8]>
     ensures some { IfSome result (λ body. (framed body.now ≡ row.now) × (0 < length body.now) × (length body.now < 2 ^ 32)) }
     ensures none { IfNone result ((body : List ℕ) → framed body ≡ row.now → 0 < length body → length body < 2 ^ 32 → ⊥) }
 {

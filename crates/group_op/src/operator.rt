@@ -20,9 +20,9 @@ pub struct GroupOp {
     pub(crate) shape: Shape,
     pub(crate) parts: Partitions,
     pub(crate) table: Option<BucketTable>,
-    // The partial row of the row that is fed, and its key.
+    // The partial row of the row that is fed.
     pub(crate) fed: Spare,
-    // A row that goes from the table to its partition, and its key.
+    // A row that goes from the table to its partition.
     pub(crate) moved: Spare,
 }
 

@@ -4,27 +4,23 @@ ghost use Rattle.row_codec.specs.Row.{IsValue, kinds_of};
 ghost use Rattle.row_codec.specs.RowBytes.{row_bytes};
 ghost use Rattle.store_api.specs.Shapes.{IsShape};
 ghost use Rattle.group_op.specs.Feeding.{Spells};
-ghost use Rattle.group_op.specs.Stored.{IsPartialRow, key_at};
+ghost use Rattle.group_op.specs.Stored.{IsPartialRow};
 
-use crate::flushing::Spare;
 use crate::spelling::spell_own;
-use row_codec::{Memory, Value, key_bytes};
+use row_codec::{Memory, Value};
 use store_api::Shape;
 
-// Spells the own partial row of a row, and its key.
-pub(crate) fn spell(row: &[Value], shape: &Shape, out: &mut Spare) -> Result<(), Memory>
+// Spells the own partial row of a row.
+pub(crate) fn spell(row: &[Value], shape: &Shape, out: &mut Vec<u8>) -> Result<(), Memory>
     requires shape { IsShape shape.now }
     requires kinds { kinds_of row.now ≡ shape.now.kinds }
     requires short { length (row_bytes row.now) + 16 * length shape.now.aggs < 2 ^ 32 }
-    ensures spells { OnOk result (Spells shape.now out.new.row.items row.now) }
-    ensures formed { OnOk result (IsPartialRow shape.now out.new.row.items) }
-    ensures key { OnOk result (out.new.key.items ≡ key_at shape.now out.new.row.items) }
-    ensures short { OnOk result (length out.new.row.items ≤ length (row_bytes row.now) + 16 * length shape.now.aggs) }
+    ensures spells { OnOk result (Spells shape.now out.new.items row.now) }
+    ensures formed { OnOk result (IsPartialRow shape.now out.new.items) }
+    ensures short { OnOk result (length out.new.items ≤ length (row_bytes row.now) + 16 * length shape.now.aggs) }
 {
     law_values(row);
-    spell_own(row, shape, &mut out.row)?;
-    out.key.clear();
-    key_bytes(row, shape.keys.as_slice(), &mut out.key)
+    spell_own(row, shape, out)
 }
 
 // Each value of a row is one of its type.

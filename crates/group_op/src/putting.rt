@@ -1,5 +1,5 @@
 //! A partial row goes into a table.
-ghost use Rattle.std.specs.Prelude.{◌≡◌, true, false, ℕ, ◌+◌, ◌%◌, ◌<◌, ◌≤◌, ◌∷◌, length, IfNone, IfSome, IfErr, OnErr, OnOk};
+ghost use Rattle.std.specs.Prelude.{◌≡◌, ◌↔◌, true, false, ℕ, ◌+◌, ◌%◌, ◌<◌, ◌≤◌, ◌∷◌, length, IfNone, IfSome, IfErr, OnErr, OnOk};
 ghost use Rattle.row_codec.specs.Order.{hash_of};
 ghost use Rattle.store_api.specs.Holdings.{length_of};
 ghost use Rattle.store_api.specs.Shapes.{IsShape};
@@ -23,6 +23,7 @@ use std::alloc::Global;
 use store_api::{Client, Shape, Store};
 
 // The entry of a partial row's key.
+#[inline(always)]
 fn find(table: &BucketTable, hash: u64, row: &[u8], shape: &Shape) -> Option<u32>
     requires shape { IsShape shape.now }
     requires entries { (len : ℕ) × AreEntries shape.now len table.now }
@@ -46,6 +47,7 @@ fn find(table: &BucketTable, hash: u64, row: &[u8], shape: &Shape) -> Option<u32
 /// # Errors
 ///
 /// As for [`flush`].
+#[inline(always)]
 pub fn put<St: Store>(
     alloc: Global,
     store: &mut St,
@@ -96,13 +98,14 @@ pub fn put<St: Store>(
 // Whether a table has no room for one more row of so many bytes, although it has four pages or more for its rows. Then these are
 // longer than two pages by themselves.
 fn is_crowded<St: Store>(store: &St, table: &BucketTable, parts: &Partitions, len: usize) -> bool
-    ensures { result ≡ true → IsCrowded (length_of parts.now.page_blocks (St.holds store.now)) len table.now }
+    ensures { result ≡ true ↔ IsCrowded (length_of parts.now.page_blocks (St.holds store.now)) len table.now }
 {
     let page = u64::from(parts.page_blocks()) * u64::from(store.block_len());
     !table.has_room(len) && table.room() as u64 / 4 >= page
 }
 
 // Puts a partial row into the table, which grows if it has no room and may: whether there was room then.
+#[inline(always)]
 pub(crate) fn put_here<St: Store>(
     alloc: Global,
     store: &mut St,
@@ -147,6 +150,7 @@ pub(crate) fn put_here<St: Store>(
 }
 
 // Adds an entry, for which there is room.
+#[inline(never)]
 fn add_entry(table: &mut BucketTable, hash: u64, row: &[u8])
     requires row { IsFramed row.now }
     requires room { used_by table.old.nodes + 4 + length row.now ≤ table.old.room }

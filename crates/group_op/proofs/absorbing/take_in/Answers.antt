@@ -24,7 +24,7 @@ returns-then-divided-clause-rows g c = λ rows some rest told read.
     let shape = c.args.shape.now in
     let a : State = state c.args.table.now c.args.parts.now (g.St.Store.holds c.args.store.now) (g.St.Store.signs c.args.store.now) in
     let b : State = state c.put.new.table c.put.new.parts (g.St.Store.holds c.put.new.store) (g.St.Store.signs c.put.new.store) in
-    let row : c.deref.result.now ≡ c.args.fed.now.row.items = c.deref.ensures.value ∙ c.key_of.ensures.row in
+    let row : c.deref.result.now ≡ c.args.fed.now.row.items = c.deref.ensures.value in
     let put : HasPut shape c.args.level (c.args.at + 1) c.args.fed.now.row.items a b = subst (λ (r : List ℕ). HasPut shape c.args.level (c.args.at + 1) r a b) row c.in_ok-put.ensures.ok in
     read_more shape c.args.at c.args.level true rows some rest c.args.fed.now.row.items a b (subst (λ (d : Bool). HasRead shape c.args.at c.args.level d rows some rest a) c.if-divided.true read) told put (λ is. absurd (false≢true (sym is)))
 
@@ -33,7 +33,7 @@ returns-then-put_here-clause-rows g c = λ rows some rest told read.
     let shape = c.args.shape.now in
     let a : State = state c.args.table.now c.args.parts.now (g.St.Store.holds c.args.store.now) (g.St.Store.signs c.args.store.now) in
     let b : State = state c.put_here.new.table c.args.parts.now (g.St.Store.holds c.put_here.new.store) (g.St.Store.signs c.put_here.new.store) in
-    let row : c.deref-2.result.now ≡ c.args.fed.now.row.items = c.deref-2.ensures.value ∙ c.key_of.ensures.row in
+    let row : c.deref-2.result.now ≡ c.args.fed.now.row.items = c.deref-2.ensures.value in
     let here : HasPutHere shape c.args.fed.now.row.items a b = subst (λ (r : List ℕ). HasPutHere shape r a b) row (c.put_here.ensures.put c.if-put_here.true) in
     read_more shape c.args.at c.args.level false rows some rest c.args.fed.now.row.items a b (subst (λ (d : Bool). HasRead shape c.args.at c.args.level d rows some rest a) c.if-divided.false read) told
     (put_of_here shape c.args.level (c.args.at + 1) c.args.fed.now.row.items a b here) (λ is. here_gone shape c.args.level (c.args.at + 1) c.args.fed.now.row.items a b here)
@@ -88,7 +88,7 @@ returns-clause-rows g c = λ rows some rest told read.
     let grown : HasGrown t shape a m = c.put_here.ensures.grown c.if-put_here.false in
     let was : Stack = c.requires.read.0 in
     let place : IsRead false c.args.at c.args.level was c.args.parts.now = subst (λ (d : Bool). IsRead d c.args.at c.args.level was c.args.parts.now) c.if-divided.false c.requires.read.2 in
-    let row : c.deref-3.result.now ≡ c.args.fed.now.row.items = c.deref-3.ensures.value ∙ c.key_of.ensures.row in
+    let row : c.deref-3.result.now ≡ c.args.fed.now.row.items = c.deref-3.ensures.value in
     let put : HasPut shape c.args.level (c.args.at + 1) c.args.fed.now.row.items n b = subst (λ (r : List ℕ). HasPut shape c.args.level (c.args.at + 1) r n b) row c.in_ok-put-2.ensures.ok in
     let first : HasRead shape c.args.at c.args.level false rows some rest m = read_grown shape t c.args.at c.args.level false rows some rest a m (subst (λ (d : Bool). HasRead shape c.args.at c.args.level d rows some rest a) c.if-divided.false read) told grown in
     let second : HasRead shape c.args.at c.args.level true rows some rest n = subst (λ (p : Stack). HasRead shape c.args.at c.args.level true rows some rest (state c.put_here.new.table p h s)) (sym made)

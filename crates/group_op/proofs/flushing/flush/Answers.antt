@@ -28,8 +28,8 @@ returns-in_err-row_at-clause-works g c =
     let walked = c.loop-next.invariant in
     works_touched c.args.c.now.tracker c.args.shape.now c.args.table.now c.args.parts.now c.loop-next.parts _ _ _ _ c.requires.held c.requires.entries walked.feeds.steps walked.blocks walked.levels (few_walked _ _ _ _ _ _ c.args.table.now _ _ _ _ _ _ walked)
 
-pub returns-in_err-hash-clause-works : goal.returns-in_err-hash-clause-works
-returns-in_err-hash-clause-works g c =
+pub returns-in_default-hash_of_partial-clause-works : goal.returns-in_default-hash_of_partial-clause-works
+returns-in_default-hash_of_partial-clause-works g c =
     let walked = c.loop-next.invariant in
     works_touched c.args.c.now.tracker c.args.shape.now c.args.table.now c.args.parts.now c.loop-next.parts _ _ _ _ c.requires.held c.requires.entries walked.feeds.steps walked.blocks walked.levels (few_walked _ _ _ _ _ _ c.args.table.now _ _ _ _ _ _ walked)
 
@@ -38,7 +38,7 @@ send-requires-clause-row g c =
     let walked : HasWalked c.args.c.now.tracker c.args.shape.now c.args.fan.level c.args.fan.base c.args.fan.from c.args.table.now.nodes (Some c.in-Some.node) (over c.args.parts.now (g.St.Store.holds c.args.store.now) (g.St.Store.signs c.args.store.now)) c.args.parts.now c.loop-next.parts (g.St.Store.holds c.loop-next.store) (g.St.Store.signs c.loop-next.store) =
     rw c.in-Some.is at c.loop-next.invariant in
     let entry = entry_is _ _ _ _ _ _ _ _ _ _ _ _ c.requires.entries.behind walked (IsEntry c.args.shape.now (length_of c.args.parts.now.page_blocks (g.St.Store.holds c.args.store.now)) c.args.table.now.heads) c.requires.entries.each in
-    let row = c.deref.ensures.value ∙ c.key_hash.ensures.row ∙ c.in_ok-row_at.ensures.ok ∙ row_is _ _ _ _ _ _ _ _ _ _ _ _ c.requires.entries.behind walked in
+    let row = c.deref-in-Some.ensures.value ∙ c.in_ok-row_at.ensures.ok ∙ row_is _ _ _ _ _ _ _ _ _ _ _ _ c.requires.entries.behind walked in
     subst (IsPartialRow c.args.shape.now) (sym row) entry.row
 
 pub send-requires-clause-short : goal.send-requires-clause-short
@@ -46,7 +46,7 @@ send-requires-clause-short g c =
     let walked : HasWalked c.args.c.now.tracker c.args.shape.now c.args.fan.level c.args.fan.base c.args.fan.from c.args.table.now.nodes (Some c.in-Some.node) (over c.args.parts.now (g.St.Store.holds c.args.store.now) (g.St.Store.signs c.args.store.now)) c.args.parts.now c.loop-next.parts (g.St.Store.holds c.loop-next.store) (g.St.Store.signs c.loop-next.store) =
     rw c.in-Some.is at c.loop-next.invariant in
     let entry = entry_is _ _ _ _ _ _ _ _ _ _ _ _ c.requires.entries.behind walked (IsEntry c.args.shape.now (length_of c.args.parts.now.page_blocks (g.St.Store.holds c.args.store.now)) c.args.table.now.heads) c.requires.entries.each in
-    let row = c.deref.ensures.value ∙ c.key_hash.ensures.row ∙ c.in_ok-row_at.ensures.ok ∙ row_is _ _ _ _ _ _ _ _ _ _ _ _ c.requires.entries.behind walked in
+    let row = c.deref-in-Some.ensures.value ∙ c.in_ok-row_at.ensures.ok ∙ row_is _ _ _ _ _ _ _ _ _ _ _ _ c.requires.entries.behind walked in
     let len : length_of c.loop-next.parts.page_blocks (g.St.Store.holds c.loop-next.store) ≡ length_of c.args.parts.now.page_blocks (g.St.Store.holds c.args.store.now) =
     ap (λ (n : ℕ). n * (g.St.Store.holds c.loop-next.store).block_len) walked.blocks ∙ ap (λ (n : ℕ). c.args.parts.now.page_blocks * n) walked.feeds.steps.touches.block_len in
     let short = entry.short in
@@ -92,7 +92,7 @@ loop-next-preserved g c =
     let walked : HasWalked c.args.c.now.tracker c.args.shape.now c.args.fan.level c.args.fan.base c.args.fan.from c.args.table.now.nodes (Some c.in-Some.node) (over c.args.parts.now (g.St.Store.holds c.args.store.now) (g.St.Store.signs c.args.store.now)) c.args.parts.now c.loop-next.parts (g.St.Store.holds c.loop-next.store) (g.St.Store.signs c.loop-next.store) =
     rw c.in-Some.is at c.loop-next.invariant in
     rw c.next_node-next.ensures.value
-    (walked_more _ _ _ _ _ _ _ _ _ _ _ _ c.requires.entries.behind walked c.send.new.parts _ _ c.deref.result.now (c.deref.ensures.value ∙ c.key_hash.ensures.row ∙ c.in_ok-row_at.ensures.ok) c.in_ok-send.ensures.went c.in_ok-send.ensures.at_end c.in_ok-send.ensures.changes c.send.ensures.few)
+    (walked_more _ _ _ _ _ _ _ _ _ _ _ _ c.requires.entries.behind walked c.send.new.parts _ _ c.deref-in-Some.result.now (c.deref-in-Some.ensures.value ∙ c.in_ok-row_at.ensures.ok) c.in_ok-send.ensures.went c.in_ok-send.ensures.at_end c.in_ok-send.ensures.changes c.send.ensures.few)
 
 pub returns-clause-ok : goal.returns-clause-ok
 returns-clause-ok g c =
@@ -110,8 +110,8 @@ returns-clause-works g c =
 pub returns-in_err-row_at-clause-few : goal.returns-in_err-row_at-clause-few
 returns-in_err-row_at-clause-few g c = walked_pages _ _ _ _ _ _ _ _ _ _ _ _ c.loop-next.invariant
 
-pub returns-in_err-hash-clause-few : goal.returns-in_err-hash-clause-few
-returns-in_err-hash-clause-few g c = walked_pages _ _ _ _ _ _ _ _ _ _ _ _ c.loop-next.invariant
+pub returns-in_default-hash_of_partial-clause-few : goal.returns-in_default-hash_of_partial-clause-few
+returns-in_default-hash_of_partial-clause-few g c = walked_pages _ _ _ _ _ _ _ _ _ _ _ _ c.loop-next.invariant
 
 pub returns-in_err-send-clause-few : goal.returns-in_err-send-clause-few
 returns-in_err-send-clause-few g c =
@@ -125,8 +125,8 @@ returns-clause-few g c = walked_pages _ _ _ _ _ _ _ _ _ _ _ _ c.loop-next.invari
 pub returns-in_err-row_at-clause-stand : goal.returns-in_err-row_at-clause-stand
 returns-in_err-row_at-clause-stand g c = any_err c.from_residual.result (stand_walked _ _ _ _ _ _ c.args.table.now c.args.parts.now c.loop-next.parts _ _ _ _ c.loop-next.invariant)
 
-pub returns-in_err-hash-clause-stand : goal.returns-in_err-hash-clause-stand
-returns-in_err-hash-clause-stand g c = any_err c.from_residual-in_err-hash.result (stand_walked _ _ _ _ _ _ c.args.table.now c.args.parts.now c.loop-next.parts _ _ _ _ c.loop-next.invariant)
+pub returns-in_default-hash_of_partial-clause-stand : goal.returns-in_default-hash_of_partial-clause-stand
+returns-in_default-hash_of_partial-clause-stand g c = (stand_walked _ _ _ _ _ _ c.args.table.now c.args.parts.now c.loop-next.parts _ _ _ _ c.loop-next.invariant)
 
 pub returns-in_err-send-clause-stand : goal.returns-in_err-send-clause-stand
 returns-in_err-send-clause-stand g c =

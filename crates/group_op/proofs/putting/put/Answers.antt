@@ -118,7 +118,7 @@ returns-then-is_crowded-clause-ok g c =
     let four = four_long shape c.args.row.now c.requires.row in
     put_passed t shape c.args.fan.level c.args.fan.base c.args.fan.from c.args.row.now a c.args.table.now c.args.parts.now c.send.new.parts (g.St.Store.holds c.args.store.now) (g.St.Store.holds c.send.new.store) (g.St.Store.signs c.args.store.now) (g.St.Store.signs c.send.new.store)
     (grown_none t shape c.args.table.now c.args.parts.now (g.St.Store.holds c.args.store.now) (g.St.Store.signs c.args.store.now) c.requires.held c.requires.entries) c.send.result c.requires.row
-    (crowded_long shape (page_len a) c.args.row.now c.args.table.now c.requires.entries (c.is_crowded.ensures c.if-is_crowded.true) c.requires.short four)
+    (crowded_long shape (page_len a) c.args.row.now c.args.table.now c.requires.entries (c.is_crowded.ensures.0 c.if-is_crowded.true) c.requires.short four)
     c.send.ensures.went c.send.ensures.at_end
 
 pub returns-then-is_crowded-clause-works : goal.returns-then-is_crowded-clause-works
@@ -126,7 +126,7 @@ returns-then-is_crowded-clause-works g c =
     let t : ℕ = c.args.c.now.tracker in
     let shape = c.args.shape.now in
     let a : State = state c.args.table.now c.args.parts.now (g.St.Store.holds c.args.store.now) (g.St.Store.signs c.args.store.now) in
-    let crowded = c.is_crowded.ensures c.if-is_crowded.true in
+    let crowded = c.is_crowded.ensures.0 c.if-is_crowded.true in
     let some = some_rows c.args.table.now.nodes (page_len a) c.args.table.now.room (length c.args.row.now) c.requires.entries.roomy crowded.1 c.requires.short (four_long shape c.args.row.now c.requires.row) in
     works_passed t shape c.args.fan.level c.args.fan.base c.args.fan.from c.args.row.now a c.args.table.now c.args.parts.now c.send.new.parts (g.St.Store.holds c.args.store.now) (g.St.Store.holds c.send.new.store) (g.St.Store.signs c.args.store.now) (g.St.Store.signs c.send.new.store)
     (grown_none t shape c.args.table.now c.args.parts.now (g.St.Store.holds c.args.store.now) (g.St.Store.signs c.args.store.now) c.requires.held c.requires.entries) _ c.send.ensures.went c.send.ensures.changes some c.send.ensures.few
@@ -134,7 +134,7 @@ returns-then-is_crowded-clause-works g c =
 pub returns-then-is_crowded-clause-few : goal.returns-then-is_crowded-clause-few
 returns-then-is_crowded-clause-few g c =
     let a : State = state c.args.table.now c.args.parts.now (g.St.Store.holds c.args.store.now) (g.St.Store.signs c.args.store.now) in
-    let crowded = c.is_crowded.ensures c.if-is_crowded.true in
+    let crowded = c.is_crowded.ensures.0 c.if-is_crowded.true in
     let some = some_rows c.args.table.now.nodes (page_len a) c.args.table.now.room (length c.args.row.now) c.requires.entries.roomy crowded.1 c.requires.short (four_long c.args.shape.now c.args.row.now c.requires.row) in
     let few = c.send.ensures.few in
     omega (arith, few, some)

@@ -3,7 +3,7 @@ use Rattle.std.specs.Prelude.{filter_map, slice_get}
 use Rattle.group_op.specs.KeyParts.{parts_at}
 use Rattle.group_op.specs.Stored.{key_kinds}
 use Rattle.group_op.proofs.KeyHashing.{Hashes}
-use Rattle.group_op.proofs.hashing.hash_parts.Given as goal
+use Rattle.group_op.proofs.hashing.hash_fields.Given as goal
 
 abbrev pub invariant-loop-column : goal.invariant-loop-column
 invariant-loop-column l =

@@ -6,7 +6,7 @@ use Rattle.row_codec.specs.declared.values.Kind.{Kind}
 use Rattle.group_op.specs.KeyParts.{hashed, parts_at}
 use Rattle.group_op.specs.Stored.{key_kinds}
 use Rattle.group_op.proofs.KeyHashing.{Hashes, hashes_more}
-use Rattle.group_op.proofs.hashing.hash_parts.Goals as goal
+use Rattle.group_op.proofs.hashing.hash_fields.Goals as goal
 
 pub loop-column-preserved : goal.loop-column-preserved
 loop-column-preserved c =
@@ -16,7 +16,7 @@ loop-column-preserved c =
     let rest : List ℕ = c.loop-column.rest.now in
     let keys : c.as_slice-column-items.result.now ≡ shape.keys = c.as_slice-column-items.ensures in
     let inside : i < length shape.keys = subst (λ (cs : List ℕ). i < length cs) keys c.loop-column-test.true in
-    let found : Some (c.in-Some.now, drop c.in-Some.len rest) ≡ hashed hash (parts_at (cons_option (slice_get shape.kinds (get_or shape.keys i 0)) []) rest) =
-    c.in-Some.ensures.part ∙ ap₂ (λ (ks : List Kind) (cs : List ℕ). hashed hash (parts_at (cons_option (slice_get ks (get_or cs i 0)) []) rest)) c.as_slice.ensures keys in
-    subst (λ (r : List ℕ). Hashes (parts_at (key_kinds shape) c.args.body.now) c.in-Some.now (parts_at (filter_map (slice_get shape.kinds) (drop (i + 1) shape.keys)) r)) (sym (take_rest rest c.in-Some.len))
-    (hashes_more shape.kinds shape.keys i inside (parts_at (key_kinds shape) c.args.body.now) hash rest c.loop-column.invariant c.in-Some.now (drop c.in-Some.len rest) found)
+    let found : Some (c.in_ok-len.now, drop c.in_ok-len.len rest) ≡ hashed hash (parts_at (cons_option (slice_get shape.kinds (get_or shape.keys i 0)) []) rest) =
+    c.in_ok-len.ensures.part ∙ ap₂ (λ (ks : List Kind) (cs : List ℕ). hashed hash (parts_at (cons_option (slice_get ks (get_or cs i 0)) []) rest)) c.as_slice.ensures keys in
+    subst (λ (r : List ℕ). Hashes (parts_at (key_kinds shape) c.args.body.now) c.in_ok-len.now (parts_at (filter_map (slice_get shape.kinds) (drop (i + 1) shape.keys)) r)) (sym (take_rest rest c.in_ok-len.len))
+    (hashes_more shape.kinds shape.keys i inside (parts_at (key_kinds shape) c.args.body.now) hash rest c.loop-column.invariant c.in_ok-len.now (drop c.in_ok-len.len rest) found)
