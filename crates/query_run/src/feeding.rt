@@ -96,6 +96,7 @@ pub(crate) fn feed_side<St: Store, T: Takes<St>, S: Source>(
 }
 
 // Weighs a row, and feeds it if it passes the filter: whether it did. It is the record of this number.
+#[inline(always)]
 fn feed_row<St: Store, T: Takes<St>>(
     alloc: Global,
     store: &mut St,
