@@ -82,7 +82,7 @@ def join(orders, customers, memory, block_len, page_blocks, times):
 
 def runs(scale):
     of = lambda rows: max(1, int(rows * scale))
-    return [group(of(1000000), of(50000), 1 << 20, 8192, 5),
+    return [group(of(1000000), of(50000), 1 << 20, 32768, 5),
             group(of(20000000), of(5000000), 64 << 20, 65536, 1),
             join(of(200000), of(10000), 64 << 20, 65536, 1, 5),
             join(of(4000000), of(200000), 16 << 20, 65536, 1, 1)]
