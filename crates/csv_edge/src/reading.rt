@@ -96,14 +96,25 @@ impl<'a, S: Source> RowsOver<'a, S, Option<Box<Open>>> {
         ensures never_falls { S.faults self.old.src.now ≤ S.faults self.new.src.now }
         ensures same { self.new.src.ghost_name ≡ self.old.src.ghost_name }
     {
-        let Some(mut open) = self.left.take() else {
+        let Some(open) = &mut self.left else {
             return Ok(false);
         };
-        if !open.next_row(self.src, row)? {
-            return Ok(false);
+        match open.next_row(self.src, row) {
+            Ok(true) => Ok(true),
+            ended => {
+                self.let_go();
+                ended
+            }
         }
-        self.left = Some(open);
-        Ok(true)
+    }
+
+    // Lets the input go. This stands apart, since an input that is let go takes much of the stack.
+    #[cold]
+    #[inline(never)]
+    fn let_go(&mut self)
+        ensures { self.new ≡ record self.old { left = None } }
+    {
+        self.left = None;
     }
 
     /// The next row, or `None` at the end of the input, and behind a refusal or the end.
