@@ -18,6 +18,13 @@ use row_codec::{Column, Value};
 use std::alloc::Global;
 use std::marker::Model;
 
+// The reader takes at most as many bytes of a piece at once as the record has room for. A longer
+// record is taken in several parts, and has more room from then on.
+const ROOM: usize = 4096;
+
+// The room for the ends of its fields.
+const FIELDS: usize = 64;
+
 /// An input whose header was read, as far as it isn't read yet.
 #[derive(Drop)]
 pub struct Open {
@@ -63,7 +70,7 @@ impl Open {
         ensures never_falls { S.faults src.old ≤ S.faults src.new }
     {
         let mut records = Records::over(alloc, src, max_bytes)?;
-        let mut byte_record = ByteRecord::new(alloc);
+        let mut byte_record = ByteRecord::with_capacity(alloc, ROOM, FIELDS)?;
         if !records.next(alloc, src, &mut byte_record)? {
             return Err(InputErr::Header);
         }

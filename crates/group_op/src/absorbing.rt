@@ -100,7 +100,7 @@ fn take_in<St: Store>(
     ensures cause { IfErr result (λ e. WasAnswered e (St.signs store.old) (St.signs store.new)) }
     ensures full { IfErr result (IsFull parts.old.page_blocks (St.holds store.new).free_slots) }
 {
-    let hash = key_of(alloc, store, shape, parts, fed)?;
+    let hash = key_of(store, shape, parts, fed)?;
     let fan = Fan {
         level,
         base: at + 1,
@@ -127,7 +127,6 @@ fn take_in<St: Store>(
 
 // The hash of the key of a row that was read, which is a partial row that fits a page.
 fn key_of<St: Store>(
-    alloc: Global,
     store: &St,
     shape: &Shape,
     parts: &Partitions,

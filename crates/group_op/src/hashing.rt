@@ -57,6 +57,7 @@ pub(crate) fn hash_of_row(row: &[u8], shape: &Shape) -> u64
 }
 
 // The hash of the key, exactly where the bytes are a partial row.
+#[inline(always)]
 pub(crate) fn hash_of_partial(row: &[u8], shape: &Shape) -> Option<u64>
     ensures row { IfSome result (λ hash. IsPartialRow shape.now row.now) }
     ensures hash { IfSome result (λ hash. hash ≡ hash_of (key_at shape.now row.now)) }

@@ -126,7 +126,7 @@ pub returns-in_err-row_at-clause-stand : goal.returns-in_err-row_at-clause-stand
 returns-in_err-row_at-clause-stand g c = any_err c.from_residual.result (stand_walked _ _ _ _ _ _ c.args.table.now c.args.parts.now c.loop-next.parts _ _ _ _ c.loop-next.invariant)
 
 pub returns-in_default-hash_of_partial-clause-stand : goal.returns-in_default-hash_of_partial-clause-stand
-returns-in_default-hash_of_partial-clause-stand g c = (stand_walked _ _ _ _ _ _ c.args.table.now c.args.parts.now c.loop-next.parts _ _ _ _ c.loop-next.invariant)
+returns-in_default-hash_of_partial-clause-stand g c = stand_walked _ _ _ _ _ _ c.args.table.now c.args.parts.now c.loop-next.parts _ _ _ _ c.loop-next.invariant
 
 pub returns-in_err-send-clause-stand : goal.returns-in_err-send-clause-stand
 returns-in_err-send-clause-stand g c =
