@@ -166,6 +166,8 @@ pub struct PartFile<'a, F> {
 impl<F: Clock + Eprint + AllocGlobal + Sync> Sink for PartFile<'_, F> {
     ghost contents = { λ s. None };
 
+    ghost at_failure = { λ s. None };
+
     ghost faults = { λ s. s.output.faults };
 
     fn write(&mut self, piece: &[u8]) -> Result<usize, Failed> {
@@ -183,6 +185,8 @@ pub struct FileOutputs<'a, F> {
     in_use: &'a InUse,
     shows_progress: bool,
     faults: u64,
+    // The ends of whole answers, of any name, that were refused.
+    refused_ends: u64,
 }
 
 impl<'a, F: Files<File = File> + Clock + Eprint + AllocGlobal> FileOutputs<'a, F> {
@@ -193,6 +197,7 @@ impl<'a, F: Files<File = File> + Clock + Eprint + AllocGlobal> FileOutputs<'a, F
             in_use,
             shows_progress,
             faults: 0,
+            refused_ends: 0,
         }
     }
 
@@ -268,6 +273,8 @@ impl<'a, F: Files<File = File> + Clock + Eprint + AllocGlobal + Sync> Outputs
 
     ghost faults_at = { λ s _. s.faults };
 
+    ghost refused_ends = { λ s _. s.refused_ends };
+
     fn create(&mut self, name: &str) -> Result<PartFile<'a, F>, Failed> {
         match self.part_of(name) {
             Ok(part) => Ok(part),
@@ -292,6 +299,9 @@ impl<'a, F: Files<File = File> + Clock + Eprint + AllocGlobal + Sync> Outputs
             Err(e) => {
                 self.tell(name, &e);
                 self.faults = self.faults.saturating_add(1);
+                if whole {
+                    self.refused_ends = self.refused_ends.saturating_add(1);
+                }
                 Err(Failed)
             }
         }

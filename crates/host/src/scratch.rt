@@ -163,6 +163,8 @@ impl<R: Files<File = File> + Env + Eprint + AllocGlobal + Wait> Slot for Place<'
 
     ghost stores = { λ _. None };
 
+    ghost strays = { λ _. None };
+
     ghost faults = { λ s. s.faults };
 
     fn store(&mut self, block: &[u8]) -> Result<(), Failed> {

@@ -1,3 +1,5 @@
 mod Pieces
 mod ByName
 mod FaultsByName
+mod Lies
+pub mod Stopping

@@ -2,7 +2,7 @@
 use Rattle.std.specs.Prelude.{◌≡◌, ℕ, List, Option}
 use Rattle.std.specs.Option.{option_map}
 use Rattle.std.specs.BTreeMap.{get_by_text}
-use Rattle.outside.specs.Entries.{InputFile, faults_by}
+use Rattle.outside.specs.Entries.{InputFile, count_by}
 use Rattle.outside.specs.declared.memory.inputs.MemInputs.{MemInputs}
 
 -- the input that was put under a name
@@ -15,7 +15,7 @@ bytes_of_input inputs name = option_map (λ file. file.bytes) (file_at inputs na
 
 -- the faults of a name; the names under which none was put have one count together
 abbrev pub faults_of_input : MemInputs → List ℕ → ℕ
-faults_of_input inputs name = faults_by inputs.missing (λ file. file.faults) (file_at inputs name)
+faults_of_input inputs name = count_by inputs.missing (λ file. file.faults) (file_at inputs name)
 
 -- an input, its faults apart
 abbrev pub put_of : InputFile → List ℕ × ℕ × List ℕ

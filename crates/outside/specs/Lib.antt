@@ -1,6 +1,8 @@
 pub mod Counts
 pub mod Told
 pub mod Slots
+pub mod Sinks
+pub mod Faults
 pub mod Names
 pub mod Schedule
 pub mod InMemory

@@ -2,7 +2,7 @@
 use Rattle.std.specs.Prelude.{◌≡◌, ◌≢◌, ◌&&◌, ◌<◌, ◌⊎◌, ℕ, Bool, true, false, List, [], Option, Some, None, IsSome, Result, ⊤, if◌then◌else◌}
 use Rattle.std.specs.Str.{bytes_eq}
 use Rattle.std.specs.Result.{is_ok}
-use Rattle.outside.specs.Counts.{Rose}
+use Rattle.outside.specs.Counts.{NoneFell, Rose}
 
 -- an output: its bytes, and whether they are a whole answer
 pub record Written : Type 0 where
@@ -56,3 +56,8 @@ StaysCreated before now = (name : List ℕ) → before name ≡ true → now nam
 -- a count of faults took up those of an object that was given back
 abbrev pub TakesFaults : ℕ → ℕ → ℕ → Type 0
 TakesFaults object before now = 0 < object → Rose before now
+
+-- a count for each name, which a refused end raises under its name, and which stays else
+abbrev pub CountsEnd : List ℕ → Bool → (List ℕ → ℕ) → (List ℕ → ℕ) → Type 0
+CountsEnd name true before now = Rose (before name) (now name) × NoneFell before now
+CountsEnd name false before now = AllStay before now

@@ -3,7 +3,7 @@ use Rattle.std.specs.Prelude.{◌≡◌, ℕ, Bool, List, Option, Some, None, is
 use Rattle.std.specs.Option.{option_map}
 use Rattle.std.specs.BTreeMap.{get_by_text}
 use Rattle.outside.specs.Names.{AllStay, Written, fresh}
-use Rattle.outside.specs.Entries.{OutputEntry, Failing, failing_of, faults_by}
+use Rattle.outside.specs.Entries.{OutputEntry, Failing, failing_of, count_by}
 use Rattle.outside.specs.declared.memory.outputs.MemOutputs.{MemOutputs}
 
 -- the output that was created under a name
@@ -33,7 +33,11 @@ bytes_under outputs name = option_map (λ entry. entry.written.bytes) (output_at
 
 -- the faults of a name; the names that were never created have one count together
 abbrev pub faults_of_output : MemOutputs → List ℕ → ℕ
-faults_of_output outputs name = faults_by outputs.missing (λ entry. entry.faults) (output_at outputs name)
+faults_of_output outputs name = count_by outputs.missing (λ entry. entry.faults) (output_at outputs name)
+
+-- the calls of `done` for a name that were refused though a whole answer was given back: none before it was created
+abbrev pub refused_ends_of : MemOutputs → List ℕ → ℕ
+refused_ends_of outputs name = count_by 0 (λ entry. entry.refused_ends) (output_at outputs name)
 
 -- the calls on outputs that found no memory, those on sinks that came back included
 abbrev pub starved_outputs : MemOutputs → ℕ

@@ -19,11 +19,14 @@ pub enum Point {
     QueryRead,
     /// A query has written its whole answer.
     QueryWrote,
+    /// A fragment has taken a batch.
+    FragmentTook,
 }
 
 /// Something that actors pass at the points of their work. It promises nothing.
 pub trait Gate: Sync {
-    /// Lets `who` pass `point`: a query by its number from 0, a writer by its own from 1000.
+    /// Lets `who` pass `point`: a query by its number from 0, a writer by its own from 1000, a
+    /// fragment by its own from 2000.
     fn pass(&self, who: u32, point: Point);
 }
 

@@ -1,9 +1,9 @@
 // Inputs and outputs by name.
 
-ghost use Rattle.std.specs.Prelude.{◌≡◌, ℕ, Bool, true, List, Option, IfOk, OnOk, OnErr};
+ghost use Rattle.std.specs.Prelude.{◌≡◌, ◌&&◌, ℕ, Bool, true, is_err, List, Option, None, IfOk, OnOk, OnErr};
 ghost use Rattle.outside.specs.Counts.{NoneFell, Rose};
 ghost use Rattle.outside.specs.Told.{GivesBytes};
-ghost use Rattle.outside.specs.Names.{AllStay, Written, NowWritten, TakesBytes, StartsEmpty, OthersStay, StaysCreated, TakesFaults, fresh};
+ghost use Rattle.outside.specs.Names.{AllStay, Written, NowWritten, TakesBytes, StartsEmpty, OthersStay, StaysCreated, TakesFaults, fresh, CountsEnd};
 
 use crate::stream::{Failed, Sink, Source};
 
@@ -49,17 +49,22 @@ pub trait Outputs {
     // The faults of a name so far.
     ghost faults_at: { Self → List ℕ → ℕ };
 
+    // The calls of `done` for a name that failed though a whole answer was given back. They never fall.
+    ghost refused_ends: { Self → List ℕ → ℕ };
+
     /// An empty sink for `name`, which has no bytes from then on.
     fn create(&mut self, name: &str) -> Result<Self::Snk, Failed>
         ensures ok { OnOk result (NowWritten (written self.old name.now) (written self.new name.now) fresh) }
         ensures created { OnOk result (is_created self.new name.now ≡ true) }
         ensures empty { IfOk result (λ snk. StartsEmpty (written self.old name.now) (Self.Snk.contents snk)) }
         ensures fresh { IfOk result (λ snk. Self.Snk.faults snk ≡ 0) }
+        ensures unbroken { IfOk result (λ snk. Self.Snk.at_failure snk ≡ None) }
         ensures quiet { OnOk result (AllStay (faults_at self.old) (faults_at self.new)) }
 
         ensures others { OthersStay name.now (written self.old) (written self.new) }
         ensures stays { StaysCreated (is_created self.old) (is_created self.new) }
         ensures err { OnErr result (written self.new name.now ≡ written self.old name.now) }
+        ensures ends { AllStay (refused_ends self.old) (refused_ends self.new) }
         ensures never_falls { NoneFell (faults_at self.old) (faults_at self.new) }
         ensures failed { OnErr result (Rose (faults_at self.old name.now) (faults_at self.new name.now)) };
 
@@ -69,6 +74,7 @@ pub trait Outputs {
     fn done(&mut self, name: &str, snk: Self::Snk, whole: bool) -> Result<(), Failed>
         requires { is_created self.old name.now ≡ true }
         ensures bytes { TakesBytes (written self.old name.now) (written self.new name.now) (Self.Snk.contents snk) whole result }
+        ensures ends { CountsEnd name.now (whole && is_err result) (refused_ends self.old) (refused_ends self.new) }
         ensures takes { TakesFaults (Self.Snk.faults snk) (faults_at self.old name.now) (faults_at self.new name.now) }
         ensures quiet { OnOk result (Self.Snk.faults snk ≡ 0 → AllStay (faults_at self.old) (faults_at self.new)) }
 

@@ -40,6 +40,13 @@ impl Schedule {
         self.faults
     }
 
+    // The calls so far.
+    pub(crate) fn calls(&self) -> u64
+        ensures { result ≡ self.now.calls }
+    {
+        self.calls
+    }
+
     // Whether the next call fails.
     pub(crate) fn fails_next(&self) -> bool
         ensures { IsTrue result ↔ FailsNext self.now }

@@ -1,8 +1,9 @@
 // Bytes that come in, and bytes that go out.
 
-ghost use Rattle.std.specs.Prelude.{◌≡◌, ◌<◌, ◌≤◌, ℕ, List, Option, length, IfOk, OnOk, OnErr};
+ghost use Rattle.std.specs.Prelude.{◌≡◌, ◌<◌, ◌≤◌, ℕ, List, Option, length, is_err, IfOk, OnOk, OnErr};
 ghost use Rattle.std.specs.Io.KnownBytes.{ReadConsumes, WriteAppends};
 ghost use Rattle.outside.specs.Counts.{Rose};
+ghost use Rattle.outside.specs.Sinks.{first_failure};
 
 /// A device answered with a fault. Which one is not told: the count of the object that was asked
 /// shows that there was one.
@@ -33,6 +34,9 @@ pub trait Sink {
     // The bytes that stand there, where they are told.
     ghost contents: { Self → Option (List ℕ) };
 
+    // The bytes that stood there at the first failed write, if one failed and they were told.
+    ghost at_failure: { Self → Option (List ℕ) };
+
     // The faults so far.
     ghost faults: { Self → ℕ };
 
@@ -44,6 +48,7 @@ pub trait Sink {
         ensures some { IfOk result (λ n. 0 < n) }
         ensures count { IfOk result (λ n. n ≤ length piece.now) }
         ensures bytes { WriteAppends (contents self.old) (contents self.new) result piece.now }
+        ensures at_failure { at_failure self.new ≡ first_failure (is_err result) (contents self.old) (at_failure self.old) }
         ensures quiet { OnOk result (faults self.new ≡ faults self.old) }
         ensures never_falls { faults self.old ≤ faults self.new }
         ensures failed { OnErr result (Rose (faults self.old) (faults self.new)) };

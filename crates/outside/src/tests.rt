@@ -39,16 +39,36 @@ fn a_source_gives_its_chunks_and_fails_where_it_is_listed(rt: HostRuntime) -> Re
 
 #[test]
 fn a_sink_takes_its_chunks_and_fails_where_it_is_listed(rt: HostRuntime) -> Result<(), Fail> {
-    let mut sink = MemSink::new(rt.alloc(), 4, &[1])?;
+    let mut sink = MemSink::new(rt.alloc(), 4, &[1, 3])?;
     let took = [
         sink.write(b"abcdef").ok(),
         sink.write(b"x").ok(),
         sink.write(b"ef").ok(),
+        sink.write(b"y").ok(),
     ];
     assert_eq!(rt;
         (took, sink.bytes(), sink.faults(), sink.starved()),
-        ([Some(4), None, Some(2)], b"abcdef".as_slice(), 1, 0)
+        ([Some(4), None, Some(2), None], b"abcdef".as_slice(), 2, 0)
     );
+    Ok(())
+}
+
+#[test]
+fn a_sink_keeps_what_stood_at_its_first_failed_write(rt: HostRuntime) -> Result<(), Fail> {
+    let mut sink = MemSink::new(rt.alloc(), 4, &[1, 3])?;
+    // The pieces, how much of each is taken, and the bytes at the first failed write from then on.
+    let rows = [
+        (b"ab".as_slice(), Some(2), None),
+        (b"x".as_slice(), None, Some(b"ab".as_slice())),
+        (b"cd".as_slice(), Some(2), Some(b"ab".as_slice())),
+        (b"y".as_slice(), None, Some(b"ab".as_slice())),
+    ];
+    for (piece, took, at_failure) in rows {
+        assert_eq!(rt;
+            (sink.write(piece).ok(), sink.at_failure()),
+            (took, at_failure)
+        );
+    }
     Ok(())
 }
 
@@ -191,6 +211,33 @@ fn a_refused_create_leaves_no_output_and_a_refused_done_none_that_is_whole(
     Ok(())
 }
 
+#[test]
+fn a_refused_end_of_a_whole_answer_is_counted(rt: HostRuntime) -> Result<(), Fail> {
+    let mut outputs = MemOutputs::new(rt.alloc())?;
+    // Whether done is refused, whether a whole answer is given back, and the refused ends then.
+    let rows = [
+        (false, true, 0),
+        (true, false, 0),
+        (true, true, 1),
+        (true, true, 2),
+        (false, true, 2),
+    ];
+    for (refused, whole, ends) in rows {
+        outputs.refuse("o.csv", false, refused)?;
+        let went = write_out(&mut outputs, b"x", whole).is_ok();
+        assert_eq!(rt;
+            (
+                went,
+                outputs.refused_ends("o.csv"),
+                outputs.refused_ends("p.csv")
+            ),
+            (!refused, ends, 0),
+            "refused {refused}, whole {whole}"
+        );
+    }
+    Ok(())
+}
+
 fn counts_of_inputs(rt: &impl Abort, inputs: &mut MemInputs) -> Result<(), Fail> {
     inputs.put("a.csv", b"x", 1, &[0])?;
     inputs.put("b.csv", b"y", 1, &[])?;
@@ -239,6 +286,7 @@ fn the_open_gate_lets_all_pass() {
         Point::AfterLoad,
         Point::QueryRead,
         Point::QueryWrote,
+        Point::FragmentTook,
     ] {
         OpenGate.pass(1000, point);
     }

@@ -1,11 +1,11 @@
 // Outputs in memory.
 
-ghost use Rattle.std.specs.Prelude.{◌≡◌, ◌<◌, ◌↔◌, ℕ, true, List, [], Some, None, IfOk, IsErr, OnOk, OnErr, IsTrue, IfSome, option_map, if◌then◌else◌};
+ghost use Rattle.std.specs.Prelude.{◌≡◌, ◌<◌, ◌≤◌, ◌↔◌, ◌&&◌, ℕ, true, is_err, List, [], Some, None, IfOk, IsErr, OnOk, OnErr, IsTrue, IfSome, option_map, if◌then◌else◌};
 ghost use Rattle.outside.specs.Counts.{NoneFell, Rose, counted, last_count, more_counted};
-ghost use Rattle.outside.specs.Names.{AllStay, Changes, NowWritten, OtherCountsStay, OthersStay, StaysCreated, TakesBytes, fresh};
+ghost use Rattle.outside.specs.Names.{AllStay, Changes, CountsEnd, NowWritten, OtherCountsStay, OthersStay, StaysCreated, TakesBytes, fresh};
 ghost use Rattle.outside.specs.InMemory.{fresh_sink};
-ghost use Rattle.outside.specs.Entries.{fails_nowhere, with_bytes};
-ghost use Rattle.outside.specs.Outputs.{KeepsOutputs, failing_at, output_at, written_under, was_created, bytes_under, is_whole_under, faults_of_output, starved_outputs};
+ghost use Rattle.outside.specs.Entries.{ended, fails_nowhere};
+ghost use Rattle.outside.specs.Outputs.{KeepsOutputs, failing_at, output_at, written_under, was_created, bytes_under, is_whole_under, faults_of_output, refused_ends_of, starved_outputs};
 
 use crate::memory::by_name::{self, Faulty};
 use crate::memory::{MemSink, Memory};
@@ -21,6 +21,8 @@ struct MemOutput {
     bytes: Vec<u8>,
     whole: bool,
     faults: u64,
+    // The ends of whole answers that were refused.
+    refused_ends: u64,
 }
 
 impl Model for MemOutput {
@@ -28,15 +30,20 @@ impl Model for MemOutput {
 
     ghost Value = { OutputEntry };
 
-    ghost view = { λ o. record { written = record { bytes = o.bytes.items; whole = o.whole }; faults = o.faults } };
+    ghost view = { λ o. record { written = record { bytes = o.bytes.items; whole = o.whole }; faults = o.faults; refused_ends = o.refused_ends } };
 }
 
 impl MemOutput {
-    fn write(&mut self, bytes: Vec<u8>, whole: bool)
-        ensures { self.new ≡ with_bytes bytes.items whole self.old }
+    // Takes the bytes of a sink. Where the end is refused, they do not count as a whole answer.
+    fn end(&mut self, bytes: Vec<u8>, whole: bool, refused: bool)
+        ensures state { self.new ≡ ended bytes.items whole refused self.old }
+        ensures never_falls { self.old.refused_ends ≤ self.new.refused_ends }
     {
         self.bytes = bytes;
-        self.whole = whole;
+        self.whole = whole && !refused;
+        if whole && refused {
+            self.refused_ends = self.refused_ends.saturating_add(1);
+        }
     }
 }
 
@@ -157,6 +164,16 @@ impl MemOutputs {
         }
     }
 
+    /// The calls of `done` for a name so far that were refused though a whole answer was given back.
+    pub fn refused_ends(&self, name: &str) -> u64
+        ensures { result ≡ refused_ends_of self.now name.now }
+    {
+        match self.entries.get(name) {
+            Some(output) => output.refused_ends,
+            None => 0,
+        }
+    }
+
     /// The calls that found no memory so far, those of the sinks that came back included.
     pub fn starved(&self) -> u64
         ensures { result ≡ starved_outputs self.now }
@@ -208,6 +225,7 @@ impl MemOutputs {
         ensures here { faults_of_output self.new name.now ≡ more_counted more (faults_of_output self.old name.now) }
         ensures never_falls { NoneFell (faults_of_output self.old) (faults_of_output self.new) }
         ensures written { AllStay (written_under self.old) (written_under self.new) }
+        ensures ends { AllStay (refused_ends_of self.old) (refused_ends_of self.new) }
         ensures created { AllStay (was_created self.old) (was_created self.new) }
         ensures others { OtherCountsStay name.now (output_at self.old) (faults_of_output self.old) (faults_of_output self.new) }
         ensures starved { starved_outputs self.new ≡ starved_outputs self.old }
@@ -220,7 +238,7 @@ impl MemOutputs {
 
     // Makes a name one that was created, with no bytes and the faults that it had.
     fn begin(&mut self, name: &str) -> Result<MemSink, Memory>
-        ensures ok { OnOk result (Changes name.now (Some (record { written = fresh; faults = faults_of_output self.old name.now })) (output_at self.old) (output_at self.new)) }
+        ensures ok { OnOk result (Changes name.now (Some (record { written = fresh; faults = faults_of_output self.old name.now; refused_ends = refused_ends_of self.old name.now })) (output_at self.old) (output_at self.new)) }
         ensures sink { IfOk result (λ sink. sink ≡ fresh_sink last_count (failing_at self.old name.now).fails) }
         ensures err { OnErr result (AllStay (output_at self.old) (output_at self.new)) }
         ensures missing { self.new.missing ≡ self.old.missing }
@@ -232,15 +250,17 @@ impl MemOutputs {
             bytes: Vec::new(self.alloc),
             whole: false,
             faults: self.faults(name),
+            refused_ends: self.refused_ends(name),
         };
         by_name::put(&mut self.entries, self.alloc, name, output)?;
         Ok(sink)
     }
 
-    // Gives a name that was created its bytes.
-    fn write(&mut self, name: &str, bytes: Vec<u8>, whole: bool)
+    // Gives a name that was created its bytes, and counts a refused end.
+    fn end(&mut self, name: &str, bytes: Vec<u8>, whole: bool, refused: bool)
         requires { was_created self.old name.now ≡ true }
-        ensures entry { IfSome (output_at self.old name.now) (λ entry. Changes name.now (Some (with_bytes bytes.items whole entry)) (output_at self.old) (output_at self.new)) }
+        ensures ends { CountsEnd name.now (whole && refused) (refused_ends_of self.old) (refused_ends_of self.new) }
+        ensures entry { IfSome (output_at self.old name.now) (λ entry. Changes name.now (Some (ended bytes.items whole refused entry)) (output_at self.old) (output_at self.new)) }
         ensures faults { AllStay (faults_of_output self.old) (faults_of_output self.new) }
         ensures starved { starved_outputs self.new ≡ starved_outputs self.old }
         ensures failing { self.new.failing ≡ self.old.failing }
@@ -248,7 +268,7 @@ impl MemOutputs {
         let Some(output) = self.entries.get_mut(name) else {
             unreachable!();
         };
-        output.write(bytes, whole);
+        output.end(bytes, whole, refused);
     }
 }
 
@@ -260,6 +280,8 @@ impl Outputs for MemOutputs {
     ghost is_created = { was_created };
 
     ghost faults_at = { faults_of_output };
+
+    ghost refused_ends = { refused_ends_of };
 
     fn create(&mut self, name: &str) -> Result<MemSink, Failed>
         // It fails exactly where it is refused, or memory was wanted, which is counted.
@@ -277,6 +299,7 @@ impl Outputs for MemOutputs {
         ensures others { OthersStay name.now (written_under self.old) (written_under self.new) }
         ensures stays { StaysCreated (was_created self.old) (was_created self.new) }
         ensures err { OnErr result (written_under self.new name.now ≡ written_under self.old name.now) }
+        ensures ends { AllStay (refused_ends_of self.old) (refused_ends_of self.new) }
         ensures never_falls { NoneFell (faults_of_output self.old) (faults_of_output self.new) }
         ensures failed { OnErr result (Rose (faults_of_output self.old name.now) (faults_of_output self.new name.now)) }
     {
@@ -304,6 +327,7 @@ impl Outputs for MemOutputs {
         ensures counts { OtherCountsStay name.now (output_at self.old) (faults_of_output self.old) (faults_of_output self.new) }
 
         ensures bytes { TakesBytes (written_under self.old name.now) (written_under self.new name.now) (Some snk.bytes) whole result }
+        ensures ends { CountsEnd name.now (whole && is_err result) (refused_ends_of self.old) (refused_ends_of self.new) }
         ensures quiet { OnOk result (snk.plan.faults ≡ 0 → AllStay (faults_of_output self.old) (faults_of_output self.new)) }
         ensures others { OthersStay name.now (written_under self.old) (written_under self.new) }
         ensures stays { StaysCreated (was_created self.old) (was_created self.new) }
@@ -319,7 +343,7 @@ impl Outputs for MemOutputs {
         if more > 0 {
             self.add_faults(name, more);
         }
-        self.write(name, snk.into_bytes(), whole && !refused);
+        self.end(name, snk.into_bytes(), whole, refused);
         if refused { Err(Failed) } else { Ok(()) }
     }
 }

@@ -1,10 +1,12 @@
 // A sink that keeps its bytes in memory.
 
-ghost use Rattle.std.specs.Prelude.{◌≡◌, ◌≤◌, ◌<◌, ◌⊎◌, ◌++◌, min, length, take, Some, IsErr, IfOk, OnOk, OnErr};
+ghost use Rattle.std.specs.Prelude.{◌≡◌, ◌≤◌, ◌<◌, ◌⊎◌, ◌++◌, min, length, take, Some, is_err, IsErr, IfOk, OnOk, OnErr};
+ghost use Rattle.std.specs.Option.{option_map, ForSome};
 ghost use Rattle.std.specs.Io.KnownBytes.{WriteAppends};
 ghost use Rattle.outside.specs.Counts.{Rose};
 ghost use Rattle.outside.specs.Schedule.{FailsNext, after_call};
-ghost use Rattle.outside.specs.InMemory.{fresh_sink, WriteFailed, WriteStarved};
+ghost use Rattle.outside.specs.Sinks.{first_failure};
+ghost use Rattle.outside.specs.InMemory.{after_failure, fresh_sink, WriteFailed, WriteStarved};
 
 use crate::memory::Memory;
 use crate::schedule::Schedule;
@@ -20,15 +22,19 @@ pub struct MemSink {
     chunk: usize,
     schedule: Schedule,
     starved: u64,
+    // How many bytes there were at the first write that failed.
+    at_failure: Option<usize>,
+    ghost within: { ForSome at_failure (λ count. count ≤ length bytes.items) },
 }
 
 impl Model for MemSink {
-    ghost use Rattle.std.specs.Prelude.{◌<◌};
+    ghost use Rattle.std.specs.Prelude.{◌<◌, take};
+    ghost use Rattle.std.specs.Option.{option_map};
     ghost use Rattle.outside.specs.InMemory.{SinkState};
 
     ghost Value = { SinkState };
 
-    ghost view = { λ s. record { bytes = s.bytes.items; chunk = s.chunk; plan = s.schedule; starved = s.starved } };
+    ghost view = { λ s. record { bytes = s.bytes.items; chunk = s.chunk; plan = s.schedule; starved = s.starved; at_failure = option_map (λ count. take count s.bytes.items) s.at_failure } };
 
     ghost invariant = { λ s. 0 < s.chunk };
 }
@@ -45,6 +51,7 @@ impl MemSink {
             chunk,
             schedule: Schedule::new(alloc, fails)?,
             starved: 0,
+            at_failure: None,
         })
     }
 
@@ -55,11 +62,32 @@ impl MemSink {
         self.bytes.as_slice()
     }
 
+    /// The bytes at the first write that failed, `None` exactly where none did.
+    pub fn at_failure(&self) -> Option<&[u8]>
+        ensures { option_map (λ bytes. bytes.now) result ≡ self.now.at_failure }
+    {
+        match self.at_failure {
+            Some(count) => Some(&self.bytes.as_slice()[..count]),
+            None => None,
+        }
+    }
+
     /// The bytes that were appended, without a copy.
     pub(crate) fn into_bytes(self) -> Vec<u8>
         ensures { result.items ≡ self.bytes }
     {
         self.bytes
+    }
+
+    // Counts a write that failed.
+    fn fail(&mut self)
+        ensures state { self.new ≡ after_failure self.old }
+        ensures never_falls { self.old.plan.faults ≤ self.new.plan.faults }
+    {
+        self.schedule.fail();
+        if self.at_failure.is_none() {
+            self.at_failure = Some(self.bytes.len());
+        }
     }
 
     /// The writes that failed so far, those that found no memory included.
@@ -80,6 +108,8 @@ impl MemSink {
 impl Sink for MemSink {
     ghost contents = { λ s. Some s.bytes };
 
+    ghost at_failure = { λ s. s.at_failure };
+
     ghost faults = { λ s. s.plan.faults };
 
     fn write(&mut self, piece: &[u8]) -> Result<usize, Failed>
@@ -93,17 +123,18 @@ impl Sink for MemSink {
         ensures some { IfOk result (λ n. 0 < n) }
         ensures count { IfOk result (λ n. n ≤ length piece.now) }
         ensures bytes { WriteAppends (Some self.old.bytes) (Some self.new.bytes) result piece.now }
+        ensures at_failure { self.new.at_failure ≡ first_failure (is_err result) (Some self.old.bytes) self.old.at_failure }
         ensures quiet { OnOk result (self.new.plan.faults ≡ self.old.plan.faults) }
         ensures never_falls { self.old.plan.faults ≤ self.new.plan.faults }
         ensures failed { OnErr result (Rose self.old.plan.faults self.new.plan.faults) }
     {
         if self.schedule.fails_next() {
-            self.schedule.fail();
+            self.fail();
             return Err(Failed);
         }
         let size = self.chunk.min(piece.len());
         if self.bytes.extend_from_slice(&piece[..size]).is_err() {
-            self.schedule.fail();
+            self.fail();
             self.starved = self.starved.saturating_add(1);
             return Err(Failed);
         }

@@ -4,7 +4,7 @@ use Rattle.csv_edge.proofs.sink.write_whole.Given as goal
 
 abbrev pub invariant-loop-at : goal.invariant-loop-at
 invariant-loop-at g l = (l.at ≤ length l.piece) × Appends (g.K.Sink.contents l.initial.sink) (g.K.Sink.contents l.sink) (take l.at l.piece)
-    × (g.K.Sink.faults l.sink ≡ g.K.Sink.faults l.initial.sink)
+    × (g.K.Sink.faults l.sink ≡ g.K.Sink.faults l.initial.sink) × (g.K.Sink.at_failure l.sink ≡ g.K.Sink.at_failure l.initial.sink)
 
 abbrev pub decreases-loop-at : goal.decreases-loop-at
 decreases-loop-at g l = length l.piece - l.at
