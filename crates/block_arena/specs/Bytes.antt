@@ -8,3 +8,7 @@ fitted old bytes = take (length old) (bytes ++ drop (length bytes) old)
 -- the list where `piece` was written over what stood at `at` and after it
 abbrev pub written : ℕ → List ℕ → List ℕ → List ℕ
 written at piece bytes = take at bytes ++ (piece ++ drop (at + length piece) bytes)
+
+-- what stands behind the first twenty of these bytes, in the place of `old`
+abbrev pub behind_front : List ℕ → List ℕ → List ℕ
+behind_front old bytes = fitted old (drop 20 bytes)

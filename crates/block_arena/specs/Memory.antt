@@ -1,5 +1,5 @@
 -- What a contract sees of an arena and of a buffer. Lengths are in bytes.
-use Rattle.std.specs.Prelude.{◌≡◌, ℕ, ◌+◌, ◌*◌, List, length, slice_range}
+use Rattle.std.specs.Prelude.{◌≡◌, ℕ, ◌+◌, ◌*◌, List, drop, length, slice_range}
 use Rattle.block_arena.specs.Bytes.{fitted, written}
 
 -- how many blocks an arena was opened with, how many of them are free, and the length of each
@@ -31,3 +31,7 @@ with_bytes buf bytes = record buf { bytes = bytes }
 -- the buffer whose i-th block is left with these bytes
 abbrev pub with_block : Buffer → ℕ → List ℕ → Buffer
 with_block buf i bytes = with_bytes buf (written (i * buf.block_len) (fitted (block_of buf i) bytes) buf.bytes)
+
+-- the same, where these bytes are the block's behind the first twenty
+abbrev pub with_marked : Buffer → ℕ → List ℕ → Buffer
+with_marked buf i bytes = with_block buf i (drop 20 bytes)

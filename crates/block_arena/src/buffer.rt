@@ -1,9 +1,9 @@
 //! A buffer: some blocks, seen as one list of bytes.
-ghost use Rattle.std.specs.Prelude.{◌≡◌, ◌+◌, ◌*◌, ◌^◌, ◌%◌, ◌<◌, ◌≤◌, length, replicate, slice_range};
+ghost use Rattle.std.specs.Prelude.{◌≡◌, ◌+◌, ◌*◌, ◌^◌, ◌%◌, ◌<◌, ◌≤◌, drop, length, replicate, slice_range};
 ghost use Rattle.std.specs.Borrow.{Lends, Array, sem, u8 as byte};
 ghost use Rattle.block_arena.specs.contracts.buffer.Buf.{the_row};
 ghost use Rattle.block_arena.specs.Bytes.{written};
-ghost use Rattle.block_arena.specs.Memory.{block_of, with_block, with_bytes};
+ghost use Rattle.block_arena.specs.Memory.{block_of, with_block, with_bytes, with_marked};
 
 use crate::layout::Block;
 use crate::length::BlockLen;
@@ -59,6 +59,28 @@ impl Buf {
     {
         let block = &mut self.blocks[i];
         block.bytes_mut()
+    }
+
+    /// The bytes of the block `i` with the twenty that stand in front of them, in which a mark has room.
+    #[inline]
+    pub fn marked(&self, i: usize) -> &[u8]
+        requires { i < self.now.blocks }
+        ensures value { drop 20 result.now ≡ block_of self.now i }
+        ensures len { length result.now ≡ 20 + self.now.block_len }
+    {
+        self.blocks[i].marked()
+    }
+
+    /// The same, to be written. What is left behind the first twenty is the block's.
+    #[inline]
+    pub fn marked_mut(&mut self, i: usize) -> &mut [u8]
+        requires { i < self.old.blocks }
+        ensures* writes_back { sem 𝓛 (Lends the_row (Array byte 0) self.entry result (with_marked self.entry.now i)) }
+        ensures value { drop 20 result.now ≡ block_of self.old i }
+        ensures len { length result.now ≡ 20 + self.old.block_len }
+    {
+        let block = &mut self.blocks[i];
+        block.marked_mut()
     }
 
     /// Copies the bytes from `at` on into `out`. They may lie in several blocks.

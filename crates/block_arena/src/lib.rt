@@ -19,6 +19,3 @@ pub use buffer::Buf;
 pub use shells::Shell;
 pub use shortage::Memory;
 pub use supply::Arena;
-
-#[cfg(test)]
-mod tests;

@@ -11,7 +11,7 @@ use Rattle.index_list.specs.Listing.{stands_in}
 use Rattle.page_table.specs.declared.page_id.PageId.{PageId}
 use Rattle.page_table.specs.declared.entry.Entry.{Entry}
 use Rattle.page_table.specs.Pages.{Pages, HasRoom, IsProper, with_entry}
-use Rattle.page_table.proofs.Maps.{get_same, get_other, len_same, is_there}
+use Rattle.reservation_tree.proofs.Maps.{get_same, get_other, len_same, is_there}
 use Rattle.page_table.proofs.Proper.{proper-written}
 use Rattle.clean_evict.specs.Eviction.{blocks_at, blocks_of, evicted, evicted_if, evicted_at, evicted_all}
 

@@ -11,7 +11,7 @@ use Rattle.index_list.proofs.Places.{front-others, stands-from_get}
 use Rattle.page_table.specs.declared.page_id.PageId.{PageId}
 use Rattle.page_table.specs.declared.entry.Entry.{Entry}
 use Rattle.page_table.specs.Pages.{Pages, IsProper, id_of, with_entry}
-use Rattle.page_table.proofs.Maps.{get_other}
+use Rattle.reservation_tree.proofs.Maps.{get_other}
 use Rattle.page_table.proofs.Entries.{one_of}
 use Rattle.clean_evict.specs.Cleans.{Cleans, without}
 use Rattle.clean_evict.specs.Eviction.{name_at, blocks_at, blocks_of, with_freed, evicted, evicted_all, IsCleanPage, IsCleanList}

@@ -16,6 +16,3 @@ mod list;
 
 pub use index_list::Memory;
 pub use list::CleanList;
-
-#[cfg(test)]
-mod tests;

@@ -6,7 +6,7 @@ use Rattle.slab.specs.Slab.{Slab, get, Updates}
 use Rattle.page_table.specs.declared.row.Row.{Row}
 use Rattle.page_table.specs.Slots.{entries_in}
 use Rattle.page_table.specs.Rows.{AreApart}
-use Rattle.page_table.proofs.Maps.{get_same, get_other, removed_same, removed_other, alike, same_or_other}
+use Rattle.reservation_tree.proofs.Maps.{get_same, get_other, removed_same, removed_other, alike, same_or_other}
 use Rattle.page_table.proofs.Entries.{one_of, entry-there, entry-absent, row_named}
 
 module _ {E : Type 0} where

@@ -7,7 +7,7 @@ use Rattle.slab.specs.Slab.{Slab, get}
 use Rattle.page_table.specs.declared.row.Row.{Row}
 use Rattle.page_table.specs.Slots.{entries_from, entries_in}
 use Rattle.page_table.specs.Rows.{AreApart}
-use Rattle.page_table.proofs.Maps.{get_same, get_other, same_or_other}
+use Rattle.reservation_tree.proofs.Maps.{get_same, get_other, same_or_other}
 
 -- the same value is found once
 pub one_of : {X : Type 0} (o : Option X) (x y : X) → o ≡ Some x → o ≡ Some y → x ≡ y

@@ -7,7 +7,7 @@ use Rattle.page_table.specs.declared.page_id.PageId.{PageId}
 use Rattle.page_table.specs.declared.row.Row.{Row}
 use Rattle.page_table.specs.Pages.{Pages, IsLive, if_named, entry_of, id_of}
 use Rattle.page_table.specs.Rows.{pages_in, AreApart, IsSound}
-use Rattle.page_table.proofs.Maps.{get_same, get_other, same_or_other, found}
+use Rattle.reservation_tree.proofs.Maps.{get_same, get_other, same_or_other, found}
 use Rattle.page_table.proofs.Names.{name_in, get-names}
 use Rattle.page_table.proofs.Entries.{one_of, entry-there, entry-absent}
 

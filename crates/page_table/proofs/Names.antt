@@ -6,7 +6,7 @@ use Rattle.std.specs.FinMap as map
 use Rattle.slab.specs.Slab.{Slab, get, Updates}
 use Rattle.page_table.specs.declared.row.Row.{Row}
 use Rattle.page_table.specs.Slots.{names_from, names_in}
-use Rattle.page_table.proofs.Maps.{get_same, get_other, removed_same, removed_other, alike, same_or_other}
+use Rattle.reservation_tree.proofs.Maps.{get_same, get_other, removed_same, removed_other, alike, same_or_other}
 
 module _ {E : Type 0} where
   abbrev pub name_in : Row E → ℕ

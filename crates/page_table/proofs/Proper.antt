@@ -3,7 +3,7 @@ use Rattle.std.proofs.Common.{◌≡◌, ℕ, ◌≢◌, ◌+◌, ◌<◌, Optio
 use Rattle.std.specs.FinMap.{get, insert, remove, len}
 use Rattle.page_table.specs.declared.page_id.PageId.{PageId}
 use Rattle.page_table.specs.Pages.{Pages, IsLive, HasRoom, IsProper, with_entry, with_page, without_page}
-use Rattle.page_table.proofs.Maps.{get_same, get_other, removed_same, removed_other, same_or_other, found, is_there, len_same, len_more, len_less}
+use Rattle.reservation_tree.proofs.Maps.{get_same, get_other, removed_same, removed_other, same_or_other, found, is_there, len_same, len_more, len_less}
 use Rattle.page_table.proofs.Entries.{one_of}
 
 nothing : {X : Type 0} (o : Option X) → (IsSome o → ⊥) → o ≡ None

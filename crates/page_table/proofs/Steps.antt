@@ -11,7 +11,7 @@ use Rattle.page_table.specs.declared.row.Row.{Row}
 use Rattle.page_table.specs.Pages.{Pages, IsLive, IsProper, opened, with_entry, with_page, without_page}
 use Rattle.page_table.specs.Slots.{names_in, entries_in}
 use Rattle.page_table.specs.Rows.{pages_in, IsSound}
-use Rattle.page_table.proofs.Maps.{same_or_other, found, is_there, len_same, len_more, len_less}
+use Rattle.reservation_tree.proofs.Maps.{same_or_other, found, is_there, len_same, len_more, len_less}
 use Rattle.page_table.proofs.Names.{name_in, get-names, names-empty, names-put, names-kept, names-gone}
 use Rattle.page_table.proofs.Entries.{one_of, entry-there, entry-absent, row_named, entries-empty}
 use Rattle.page_table.proofs.Changes.{stood, put_there, IsOwn, apart-put, entries-put, apart-gone, entries-gone}

@@ -68,8 +68,8 @@ mem_code = code_by (Option (Buffer ⊎ ℕ)) (coded_option (coded⊎ buffer_code
 abbrev pub entry_code : {S : Type 0} → Coded S → Coded (Entry S)
 entry_code {S} scratch_code =
     code_by
-    (ℕ × (ℕ × (ℕ × (ℕ × (Place × (Mem × S))))))
-    (coded× coded_ℕ (coded× coded_ℕ (coded× coded_ℕ (coded× coded_ℕ (coded× place_code (coded× mem_code scratch_code))))))
-    (λ e. (e.name, (e.session, (e.client, (e.blocks, (e.place, (e.mem, e.scratch)))))))
-    (λ p. record { name = p.0; session = p.1.0; client = p.1.1.0; blocks = p.1.1.1.0; place = p.1.1.1.1.0; mem = p.1.1.1.1.1.0; scratch = p.1.1.1.1.1.1 })
+    (ℕ × (ℕ × (ℕ × (ℕ × (ℕ × (Place × (Mem × S)))))))
+    (coded× coded_ℕ (coded× coded_ℕ (coded× coded_ℕ (coded× coded_ℕ (coded× coded_ℕ (coded× place_code (coded× mem_code scratch_code)))))))
+    (λ e. (e.name, (e.session, (e.client, (e.blocks, (e.version, (e.place, (e.mem, e.scratch))))))))
+    (λ p. record { name = p.0; session = p.1.0; client = p.1.1.0; blocks = p.1.1.1.0; version = p.1.1.1.1.0; place = p.1.1.1.1.1.0; mem = p.1.1.1.1.1.1.0; scratch = p.1.1.1.1.1.1.1 })
     (λ _. refl)

@@ -85,4 +85,4 @@ module _ {E : Type 0} where
 -- a page as it begins: pinned once
 abbrev pub new_entry : {S : Type 0} → ℕ → ℕ → ℕ → ℕ → Mem → S → Entry S
 new_entry name session client blocks mem scratch =
-    record { name = name; session = session; client = client; blocks = blocks; place = Pinned 1; mem = mem; scratch = scratch }
+    record { name = name; session = session; client = client; blocks = blocks; version = 0; place = Pinned 1; mem = mem; scratch = scratch }

@@ -40,6 +40,8 @@ pub struct Entry<S> {
     pub client: u32,
     /// How many blocks its buffer has.
     pub blocks: u32,
+    /// The number of the history's entry by which its last write began; 0 before the first.
+    pub version: u64,
     pub place: Place,
     pub mem: Mem,
     pub scratch: S,

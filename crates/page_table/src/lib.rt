@@ -17,6 +17,3 @@ pub use block_arena::Memory;
 pub use entry::{Entry, Mem, Place};
 pub use page_id::PageId;
 pub use table::PageTable;
-
-#[cfg(test)]
-mod tests;

@@ -108,6 +108,7 @@ impl<S> PageTable<S> {
             session,
             client,
             blocks,
+            version: 0,
             place: Place::Pinned(1),
             mem,
             scratch,

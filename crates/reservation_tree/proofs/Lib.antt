@@ -14,3 +14,5 @@ pub mod Strides
 pub mod Members
 pub mod Places
 pub mod Climbs
+pub mod Ways
+pub mod Marks

@@ -5,3 +5,5 @@ pub mod Tree
 pub mod Table
 pub mod Rows
 pub mod Answer
+pub mod Ways
+pub mod Marks

@@ -1,6 +1,7 @@
 //! The refusals of a pool, and want of memory.
 ghost use Rattle.std.specs.Prelude.{◌≡◌};
 
+use crate::mark::Mark;
 use crate::tracker_id::TrackerId;
 use std::alloc::{AllocError, AllocFailed};
 use thiserror::Error;
@@ -55,6 +56,12 @@ pub enum PoolErr {
     /// No memory was left.
     #[error("out of memory")]
     Memory,
+    /// A load gave a block with another mark than the wanted one.
+    #[error("block {} of page {}, version {}, was wanted, and block {} of page {}, version {}, was found", .wanted.block, .wanted.name, .wanted.version, .found.block, .found.name, .found.version)]
+    Stale {
+        wanted: Mark,
+        found: Mark,
+    },
 }
 
 impl From<Memory> for PoolErr {

@@ -10,10 +10,14 @@
 //!
 //! A growth and the rise of a move go from the top down, one call a level that changes, so that each
 //! tree on the way fits. They look for a refusal first, and a refused call has written nothing.
+//!
+//! The refusals of a pool stand here too, with the mark of a stored block, which one of them names.
 #![tactic(auto)]
 
 mod changes;
 mod errors;
+mod laws;
+mod mark;
 mod row;
 #[cfg(test)]
 mod tests;
@@ -21,5 +25,7 @@ mod tracker_id;
 mod tree;
 
 pub use errors::{Memory, PoolErr};
+pub use laws::{law_marks, law_ways};
+pub use mark::{MARK_LEN, Mark};
 pub use tracker_id::TrackerId;
 pub use tree::{MAX_TRACKERS, Tree};

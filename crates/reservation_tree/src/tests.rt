@@ -249,3 +249,40 @@ fn a_number_comes_again(rt: HostRuntime) -> Result<(), Fail> {
     assert_eq!(rt; second, first);
     Ok(())
 }
+
+#[test]
+fn a_mark_is_three_numbers_with_their_highest_bytes_first(rt: HostRuntime) -> Result<(), Fail> {
+    let rows = [
+        (
+            (0, 14, 0),
+            [
+                0, 0, 0, 0, 0, 0, 0, 0, 0, 0, 0, 0, 0, 0, 0, 14, 0, 0, 0, 0, 17,
+            ],
+        ),
+        (
+            (1, 20, 0),
+            [
+                0, 0, 0, 0, 0, 0, 0, 1, 0, 0, 0, 0, 0, 0, 0, 20, 0, 0, 0, 0, 17,
+            ],
+        ),
+        (
+            (0x0102030405060708, 0x090a0b0c0d0e0f10, 0x11121314),
+            [
+                1, 2, 3, 4, 5, 6, 7, 8, 9, 10, 11, 12, 13, 14, 15, 16, 17, 18, 19, 20, 17,
+            ],
+        ),
+    ];
+    for ((name, version, block), written) in rows {
+        let mark = Mark {
+            name,
+            version,
+            block,
+        };
+        let mut bytes = [17u8; 21];
+        mark.write(&mut bytes);
+        assert_eq!(rt; bytes, written);
+        assert_eq!(rt; Mark::read(&bytes), mark);
+    }
+    assert_eq!(rt; MARK_LEN, 20);
+    Ok(())
+}

@@ -1,3 +1,4 @@
+pub mod Behind
 pub mod Steps
 pub mod Shown
 pub mod Quotas

@@ -1,5 +1,5 @@
 -- One more call on the slots of a row: xs are the slots as they were, ys as they are before the call on the slot i.
-use Rattle.std.proofs.Common.{◌≡◌, ℕ, ◌+◌, ◌<◌, ◌≤◌, List, Ok, Err, length, drop, sym, ap, ◌∙◌, arith, inl, inr, set, get_or}
+use Rattle.std.proofs.Common.{◌≡◌, ℕ, ◌+◌, ◌<◌, ◌≤◌, List, Result, Ok, Err, length, drop, sym, ap, ◌∙◌, arith, inl, inr, set, get_or}
 use Rattle.std.specs.Prelude.{IsErr, OnErr}
 use Rattle.std.specs.List.{sum_by}
 use Rattle.std.proofs.lemmas.Bool.{cases_eq, false≢true}
@@ -10,7 +10,7 @@ use Rattle.outside.specs.declared.stream.Failed.{Failed}
 use Rattle.scratch_dev.specs.Rows.{Ended, WentWell, Walked}
 
 -- what holds anyway holds of a failure
-pub on_failure : {P : Type 0} (ended : Ended) → P → OnErr ended P
+pub on_failure : {P E : Type 0} (ended : Result (Unit {0}) E) → P → OnErr ended P
 on_failure (Ok _) p = tt
 on_failure (Err _) p = p
 
@@ -28,9 +28,9 @@ module _ {D : Type 0} (xs ys : List D) (i : ℕ) where
   later_more y later =
       drop-set-lt (i + 1) ys i y (omega arith) ∙ sym (drop-drop 1 i ys) ∙ ap (drop 1) later ∙ drop-drop 1 i xs
 
-  module _ (Call : List ℕ → Ended → D → D → Type 0) (old new : ℕ → List ℕ) (x y : D) where
+  module _ {E : Type 0} (Call : ℕ → List ℕ → Result (Unit {0}) E → D → D → Type 0) (old new : ℕ → List ℕ) (x y : D) where
     -- it went well, and the blocks of the calls before it are what they were
-    pub walk_more : i < length ys → ((k : ℕ) → k < i → new k ≡ old k) → WentWell (λ k. Call (old k)) i xs ys → drop i ys ≡ drop i xs → x ≡ get_or ys i x → Call (new i) (Ok tt) x y → WentWell (λ k. Call (new k)) (i + 1) xs (set ys i y)
+    pub walk_more : i < length ys → ((k : ℕ) → k < i → new k ≡ old k) → WentWell (λ k. Call k (old k)) i xs ys → drop i ys ≡ drop i xs → x ≡ get_or ys i x → Call i (new i) (Ok tt) x y → WentWell (λ k. Call k (new k)) (i + 1) xs (set ys i y)
     walk_more inside same earlier later is call = λ k d within.
         elim (cases_eq k i) [
           | inl here ↦
@@ -40,10 +40,9 @@ module _ {D : Type 0} (xs ys : List D) (i : ℕ) where
           | inr other ↦ rw (get_or-set_other ys i k y d other, same k (omega arith)) (earlier k d (omega arith))
         ]
 
-    -- it failed
-    pub walk_failed : (ended : Ended) (failure : Failed) → IsErr ended → i < length ys → length ys ≡ length xs → ((k : ℕ) → k < i → new k ≡ old k) → WentWell (λ k. Call (old k)) i xs ys → drop i ys ≡ drop i xs → x ≡ get_or ys i x → Call (new i) (Err failure) x y → Walked (λ k. Call (new k)) ended xs (set ys i y)
-    walk_failed (Ok _) failure bad inside len same earlier later is call = absurd (false≢true bad)
-    walk_failed (Err _) failure bad inside len same earlier later is call = (
+    -- it ended the walk
+    pub walk_ended : (failure : E) → i < length ys → length ys ≡ length xs → ((k : ℕ) → k < i → new k ≡ old k) → WentWell (λ k. Call k (old k)) i xs ys → drop i ys ≡ drop i xs → x ≡ get_or ys i x → Call i (new i) (Err failure) x y → Walked (λ k. Call k (new k)) (Err failure) xs (set ys i y)
+    walk_ended failure inside len same earlier later is call = (
       i,
       record {
         inside = omega arith;
@@ -57,6 +56,12 @@ module _ {D : Type 0} (xs ys : List D) (i : ℕ) where
         later = later_more y later;
       },
     )
+
+  -- it failed
+  pub walk_failed : (Call : List ℕ → Ended → D → D → Type 0) (old new : ℕ → List ℕ) (x y : D) (ended : Ended) (failure : Failed) → IsErr ended → i < length ys → length ys ≡ length xs → ((k : ℕ) → k < i → new k ≡ old k)
+      → WentWell (λ k. Call (old k)) i xs ys → drop i ys ≡ drop i xs → x ≡ get_or ys i x → Call (new i) (Err failure) x y → Walked (λ k. Call (new k)) ended xs (set ys i y)
+  walk_failed Call old new x y (Ok _) failure bad inside len same earlier later is call = absurd (false≢true bad)
+  walk_failed Call old new x y (Err e) failure bad inside len same earlier later is call = walk_ended (λ _. Call) old new x y e inside len same earlier later is call
 
 module _ {D : Type 0} (faults : D → ℕ) (xs ys : List D) (i : ℕ) (x y : D) (inside : i < length ys) (is : x ≡ get_or ys i x) (never_falls : sum_by faults xs ≤ sum_by faults ys) where
   changed : sum_by faults (set ys i y) + faults x ≡ sum_by faults ys + faults y

@@ -12,6 +12,7 @@
 #![tactic(auto)]
 
 mod blocks;
+mod marked;
 mod pool;
 mod quota;
 mod shells;
@@ -19,5 +20,6 @@ mod shells;
 mod tests;
 
 pub use blocks::{load_all, store_all};
+pub use marked::{LoadErr, load_marked, store_marked};
 pub use pool::SlotPool;
 pub use shells::{SlotRow, SlotShell};

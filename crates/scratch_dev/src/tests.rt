@@ -1,10 +1,12 @@
 //! Rows of slots, and blocks in them.
 ghost use Rattle.std.specs.Prelude.{◌≡◌, ◌<◌, ◌^◌, None, IfOk, length, replicate};
 
-use crate::{SlotPool, SlotRow, SlotShell, load_all, store_all};
+use crate::{
+    LoadErr, SlotPool, SlotRow, SlotShell, load_all, load_marked, store_all, store_marked,
+};
 use block_arena::{Arena, Shell};
-use outside::{Failed, MemSlot};
-use reservation_tree::{Memory, PoolErr};
+use outside::{Failed, MemSlot, Slot};
+use reservation_tree::{Mark, Memory, PoolErr};
 use std::alloc::Global;
 use std::process::Abort;
 use std::test::Fail;
@@ -128,5 +130,53 @@ fn the_first_slot_that_fails_ends_the_call(rt: HostRuntime) -> Result<(), Fail> 
     for place in 0..4 {
         stores_and_loads(&rt, rt.alloc(), place)?;
     }
+    Ok(())
+}
+
+// One slot that gives this block at its call of this number.
+fn lying(alloc: Global, call: u64, block: &[u8]) -> Result<SlotRow<MemSlot>, Memory>
+    ensures { IfOk result (λ row. length row ≡ 1) }
+{
+    let mut slots = Vec::with_capacity(alloc, 1)?;
+    let lies = [(call, Vec::from_slice(alloc, block)?)];
+    match MemSlot::lying(alloc, &[], &lies) {
+        Ok(slot) => slots.push_reserved(slot),
+        Err(_) => return Err(Memory),
+    }
+    Ok(SlotRow { slots })
+}
+
+#[test]
+fn a_block_with_another_mark_is_stale(rt: HostRuntime) -> Result<(), Fail> {
+    let alloc = rt.alloc();
+    let mut arena = Arena::open(alloc, 1, 64)?;
+    let mut buf = arena.fill(Shell::with(alloc, 1)?);
+    let found = Mark {
+        name: 1,
+        version: 20,
+        block: 0,
+    };
+    let mut other = [0x22; 84];
+    found.write(&mut other);
+
+    let mut row = lying(alloc, 1, &other)?;
+    buf.block_mut(0).copy_from_slice(&[0x11; 64]);
+    assert_eq!(rt; store_marked(&mut buf, &mut row, 0, 14), Ok(()));
+    let wanted = Mark {
+        name: 0,
+        version: 14,
+        block: 0,
+    };
+    let stale = LoadErr::Stale { wanted, found };
+    assert_eq!(rt; load_marked(&mut buf, &mut row, 0, 14), Err(stale));
+    assert_eq!(rt; row.slots[0].strays(), 1);
+    buf.zero();
+    assert_eq!(rt; load_marked(&mut buf, &mut row, 0, 14), Ok(()));
+    assert_eq!(rt; buf.block(0), [0x11; 64].as_slice());
+    let mut bytes = [0; 84];
+    assert_eq!(rt; row.slots[0].load(&mut bytes), Ok(()));
+    let front = [0, 0, 0, 0, 0, 0, 0, 0, 0, 0, 0, 0, 0, 0, 0, 14, 0, 0, 0, 0];
+    assert_eq!(rt; &bytes[0..20], front.as_slice());
+    assert_eq!(rt; &bytes[20..84], [0x11; 64].as_slice());
     Ok(())
 }

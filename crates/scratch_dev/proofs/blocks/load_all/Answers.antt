@@ -26,7 +26,7 @@ loop-i-preserved g c =
     let call = rw (← shows_new c.loop-i.buf c.loop-i.i c.load_block.new.block whole fits) at (c.in_ok-load_block.ensures) in
     record {
       len = length-set c.loop-i.row-inside.slots.items c.loop-i.i c.load_block.new.slot ∙ c.loop-i.invariant.len;
-      earlier = walk_more c.row.inside.slots.items c.loop-i.row-inside.slots.items c.loop-i.i (IsLoaded g.D.Slot) (block_of c.loop-i.buf) (block_of (with_block c.loop-i.buf c.loop-i.i c.load_block.new.block)) c.index_mut.result.now c.load_block.new.slot inside (shows_old c.loop-i.buf c.loop-i.i c.load_block.new.block whole fits) c.loop-i.invariant.earlier c.loop-i.invariant.later c.index_mut.ensures.value call;
+      earlier = walk_more c.row.inside.slots.items c.loop-i.row-inside.slots.items c.loop-i.i (λ k. IsLoaded g.D.Slot) (block_of c.loop-i.buf) (block_of (with_block c.loop-i.buf c.loop-i.i c.load_block.new.block)) c.index_mut.result.now c.load_block.new.slot inside (shows_old c.loop-i.buf c.loop-i.i c.load_block.new.block whole fits) c.loop-i.invariant.earlier c.loop-i.invariant.later c.index_mut.ensures.value call;
       later = later_more c.row.inside.slots.items c.loop-i.row-inside.slots.items c.loop-i.i c.load_block.new.slot c.loop-i.invariant.later;
       never_falls = sum_holds g.D.Slot.faults c.row.inside.slots.items c.loop-i.row-inside.slots.items c.loop-i.i c.index_mut.result.now c.load_block.new.slot inside c.index_mut.ensures.value c.loop-i.invariant.never_falls (c.in_ok-load_block.ensures).never_falls;
       blocks = c.loop-i.invariant.blocks;

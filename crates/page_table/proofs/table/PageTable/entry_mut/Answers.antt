@@ -1,7 +1,7 @@
 use Rattle.std.proofs.Common.{◌≡◌, refl, sym, ap, ◌∙◌}
 use Rattle.std.specs.FinMap as map
 use Rattle.slab.specs.Slab.{get}
-use Rattle.page_table.proofs.Maps.{is_there}
+use Rattle.reservation_tree.proofs.Maps.{is_there}
 use Rattle.page_table.proofs.Entries.{one_of}
 use Rattle.page_table.proofs.Found.{row_of_live, entry_of_row}
 use Rattle.page_table.proofs.Steps.{wrote}

@@ -1,7 +1,7 @@
 use Rattle.std.proofs.Common.{ap, sym, ◌∙◌}
 use Rattle.std.specs.FinMap as map
 use Rattle.slab.specs.Slab.{get}
-use Rattle.page_table.proofs.Maps.{is_there}
+use Rattle.reservation_tree.proofs.Maps.{is_there}
 use Rattle.page_table.proofs.Found.{row_of_live, name_of_live, entry_of_row}
 use Rattle.page_table.proofs.Steps.{went}
 use Rattle.page_table.proofs.table.PageTable.remove.Goals as goal
