@@ -4,7 +4,7 @@ use Rattle.std.specs.Ordering.{nat_cmp}
 use Rattle.std.specs.FinMap.{get, insert, remove, get-empty}
 use Rattle.reservation_tree.proofs.Maps.{get_same, get_other, removed_same, removed_other, same_or_other}
 use Rattle.pool_model.specs.declared.event.Event.{Event}
-use Rattle.pool_model.specs.declared.event.Event.TheVariants.{AddTracker, Create, PinHere, PinLoad, ReadOk, ReadFailed, PinAgain, UnpinOnce, Unpin, Extract, Destroy, StartWrite, WriteOk, WriteFailed, Evict}
+use Rattle.pool_model.specs.declared.event.Event.TheVariants.{AddTracker, Create, PinHere, PinLoad, ReadOk, ReadFailed, ReadStale, PinAgain, UnpinOnce, Unpin, Extract, Destroy, StartWrite, WriteOk, WriteFailed, Evict}
 use Rattle.pool_model.specs.declared.entry.Entry.{Entry}
 use Rattle.pool_model.specs.Makers.{IsSession}
 use Rattle.pool_model.specs.State.{Place, Pinned, Dirty, Flying, Loading, Clean, Evicted, Page, Pages, page_at, State}
@@ -62,6 +62,10 @@ module _ (before : List Entry) (s : State) (sound : IsSound s) (owned : PagesOwn
   put_page : (p : ℕ) (x : Page) → get s.pages p ≡ Some x → (place : Place) (q : ℕ) → busy_in m (get (insert s.pages p (record (page_at s p) { place = place })) q) ≡ busy_in m (get (insert s.pages p (record x { place = place })) q)
   put_page p x is place q = ap (λ (z : Page). busy_in m (get (insert s.pages p (record z { place = place })) q)) (page_is s p x is)
 
+  -- the version doesn't show
+  flown : (p n : ℕ) (place : Place) (q : ℕ) → busy_in m (get (insert s.pages p (record (page_at s p) { place = place; version = n })) q) ≡ busy_in m (get (insert s.pages p (record (page_at s p) { place = place })) q)
+  flown p n place q = busy_put m s.pages p (record (page_at s p) { place = place; version = n }) q ∙ sym (busy_put m s.pages p (record (page_at s p) { place = place }) q)
+
   -- from a place to another, neither of which is busy for it
   idle : (p : ℕ) (x : Page) → get s.pages p ≡ Some x → (old place : Place) → x.place ≡ old → is_busy m old ≡ is_busy m place → (q : ℕ) → busy_in m (get (insert s.pages p (record (page_at s p) { place = place })) q) ≡ busy_in m (get s.pages q)
   idle p x is old place was same q =
@@ -81,18 +85,19 @@ module _ (before : List Entry) (s : State) (sound : IsSound s) (owned : PagesOwn
   busy_by_other : (maker : ℕ) → maker ≢ m → (event : Event) → Allows before s maker event → (q : ℕ) → busy_in m (get (effect maker event s).pages q) ≡ busy_in m (get s.pages q)
   busy_by_other maker other (AddTracker t parent limit (Some quota)) may q = refl
   busy_by_other maker other (AddTracker t parent limit None) may q = refl
-  busy_by_other maker other (Create p client blocks key) may q = same_there m s.pages p _ (busy_theirs m (record { key = key; session = maker; client = client; blocks = blocks; place = Pinned 1; has_slots = false }) other ∙ sym (ap (busy_in m) (fresh p may.next))) q
+  busy_by_other maker other (Create p client blocks key) may q = same_there m s.pages p _ (busy_theirs m (record { key = key; session = maker; client = client; blocks = blocks; place = Pinned 1; has_slots = false; version = 0 }) other ∙ sym (ap (busy_in m) (fresh p may.next))) q
   busy_by_other maker other (PinHere p) may q = put_theirs p may.page may.own.lives (λ same. other (sym may.own.own ∙ same)) (Pinned 1) q
   busy_by_other maker other (PinLoad p) may q = put_theirs p may.page may.own.lives (λ same. other (sym may.own.own ∙ same)) Loading q
   busy_by_other maker other (ReadOk p) may q = put_theirs p may.page may.own.lives (λ same. other (sym may.own.own ∙ same)) (Pinned 1) q
   busy_by_other maker other (ReadFailed p sum_before sum_after) may q = put_theirs p may.ends.page may.ends.own.lives (λ same. other (sym may.ends.own.own ∙ same)) Evicted q
+  busy_by_other maker other (ReadStale p wanted found) may q = put_theirs p may.ends.page may.ends.own.lives (λ same. other (sym may.ends.own.own ∙ same)) Evicted q
   busy_by_other maker other (PinAgain p) may q = put_theirs p may.page may.own.lives (λ same. other (sym may.own.own ∙ same)) (Pinned (pins_at s p + 1)) q
   busy_by_other maker other (UnpinOnce p) may q = put_theirs p may.page may.own.lives (λ same. other (sym may.own.own ∙ same)) (Pinned (pins_at s p - 1)) q
   busy_by_other maker other (Unpin p content) may q =
       ap (λ (ps : Pages). busy_in m (get ps q)) (unpinned_pages s p may.page may.own.lives) ∙ theirs p may.page (record may.page { place = Dirty; has_slots = true }) may.own.lives (λ same. other (sym may.own.own ∙ same)) refl q
   busy_by_other maker other (Extract p f) may q = none_gone m s.pages p (ap (busy_in m) may.own.lives ∙ busy_theirs m may.page (λ same. other (sym may.own.own ∙ same))) q
   busy_by_other maker other (Destroy p) may q = none_gone m s.pages p (ap (busy_in m) may.own.lives ∙ busy_theirs m may.page (λ same. other (sym may.own.own ∙ same))) q
-  busy_by_other maker other (StartWrite p) may q = idle p may.page may.lives Dirty (Flying maker) may.dirty (sym (ne_eqb maker m other)) q
+  busy_by_other maker other (StartWrite p) may q = flown p s.entries (Flying maker) q ∙ idle p may.page may.lives Dirty (Flying maker) may.dirty (sym (ne_eqb maker m other)) q
   busy_by_other maker other (WriteOk p) may q = idle p may.page may.lives (Flying maker) Clean may.flying (ne_eqb maker m other) q
   busy_by_other maker other (WriteFailed p sum_before sum_after) may q = idle p may.ends.page may.ends.lives (Flying maker) Dirty may.ends.flying (ne_eqb maker m other) q
   busy_by_other maker other (Evict p) may q = idle p may.page may.lives Clean Evicted may.clean refl q
@@ -121,6 +126,7 @@ module _ (before : List Entry) (s : State) (sound : IsSound s) (owned : PagesOwn
   busy_by_itself session (PinLoad p) may q = put_ours p may.page may.own.lives may.own.own Loading true refl q
   busy_by_itself session (ReadOk p) may q = put_ours p may.page may.own.lives may.own.own (Pinned 1) false refl q
   busy_by_itself session (ReadFailed p sum_before sum_after) may q = put_ours p may.ends.page may.ends.own.lives may.ends.own.own Evicted false refl q
+  busy_by_itself session (ReadStale p wanted found) may q = put_ours p may.ends.page may.ends.own.lives may.ends.own.own Evicted false refl q
   busy_by_itself session (PinAgain p) may q = idle p may.page may.own.lives (Pinned may.count) (Pinned (pins_at s p + 1)) may.pinned refl q
   busy_by_itself session (UnpinOnce p) may q = idle p may.page may.own.lives (Pinned may.count) (Pinned (pins_at s p - 1)) may.pinned refl q
   busy_by_itself session (Unpin p content) may q =
@@ -130,7 +136,7 @@ module _ (before : List Entry) (s : State) (sound : IsSound s) (owned : PagesOwn
       (either (x.session == m) false ∙ sym (ap (busy_in m) may.own.lives ∙ ap (λ (place : Place). if x.session == m then is_busy m place else false) may.pinned ∙ either (x.session == m) false)) q
   busy_by_itself session (Extract p f) may q = busy_gone m s.pages p q
   busy_by_itself session (Destroy p) may q = busy_gone m s.pages p q
-  busy_by_itself session (StartWrite p) may q = put_ours p may.page may.lives (may.own session) (Flying m) true (eq-eqb m m refl) q
+  busy_by_itself session (StartWrite p) may q = flown p s.entries (Flying m) q ∙ put_ours p may.page may.lives (may.own session) (Flying m) true (eq-eqb m m refl) q
   busy_by_itself session (WriteOk p) may q = ended p may.page may.lives may.flying Clean refl q
     where
       ended : (p : ℕ) (x : Page) → get s.pages p ≡ Some x → x.place ≡ Flying m → (place : Place) → is_busy m place ≡ false → (q : ℕ) → busy_in m (get (insert s.pages p (record (page_at s p) { place = place })) q) ≡ (if p == q then false else busy_in m (get s.pages q))

@@ -7,7 +7,7 @@ use Rattle.reservation_tree.proofs.Maps.{same_or_other}
 use Rattle.reservation_tree.proofs.Outline.{reservation_is}
 use Rattle.reservation_tree.proofs.Shares.{children-none}
 use Rattle.pool_model.specs.declared.event.Event.{Event}
-use Rattle.pool_model.specs.declared.event.Event.TheVariants.{Ask, AddTracker, CloseTracker, Increase, IncreaseToFit, Decrease, MoveReservation, Create, PinHere, PinLoad, ReadOk, ReadFailed, PinAgain, UnpinOnce, Unpin, UnpinRefused, Extract, Destroy, Alloc, Free, MoveBuffer, StartWrite, WriteOk, WriteFailed, Evict, Refused}
+use Rattle.pool_model.specs.declared.event.Event.TheVariants.{Ask, AddTracker, CloseTracker, Increase, IncreaseToFit, Decrease, MoveReservation, Create, PinHere, PinLoad, ReadOk, ReadFailed, ReadStale, PinAgain, UnpinOnce, Unpin, UnpinRefused, Extract, Destroy, Alloc, Free, MoveBuffer, StartWrite, WriteOk, WriteFailed, Evict, Refused}
 use Rattle.pool_model.specs.declared.entry.Entry.{Entry}
 use Rattle.pool_model.specs.State.{Pinned, Dirty, Flying, Loading, Clean, Evicted, Page, Pages, page_at, Buffer, Session, State, pins_of}
 use Rattle.pool_model.specs.Sums.{charge_of, times_charged, slots_of, free_slots, memory}
@@ -27,7 +27,7 @@ use Rattle.store_api.specs.Changes.{shortfall}
 use Rattle.own_entries.specs.OwnHoldings.{step, has_client, moved_between, given_to_query, taken_from_query, query_grown, query_fallen}
 use Rattle.own_entries.specs.LiveParts.{is_under, Tells}
 use Rattle.own_entries.proofs.Views.{account_is}
-use Rattle.own_entries.proofs.Ways.{IsHigh}
+use Rattle.reservation_tree.specs.Ways.{IsUnderRoot}
 use Rattle.own_entries.proofs.Facts.{fits, root_under, query_under, query_free, high, seat, same_one, own_under, own_low}
 use Rattle.own_entries.proofs.OwnPages.{pin_here, pin_load, read_ok, read_failed, pinned_again, unpinned_once, unpinned, destroyed}
 use Rattle.own_entries.proofs.LoansTold.{created, lent, freed}
@@ -42,7 +42,7 @@ nothing_moves a b n h same = ap (λ (r : Bool). if r then h else with_account b 
 
 module _ (left : ℕ → List ℕ) (before : List Entry) (s : State) (sound : IsSound s) (owned : PagesOwned s) (m : ℕ) (x : Session) (is : get s.sessions m ≡ Some x) (h : Holdings)
     (told : Tells left s.block_len s.trackers s.pages s.buffers m x.query x.quota h) where
-  its_high : IsHigh s.trackers x.query
+  its_high : IsUnderRoot s.trackers x.query
   its_high = high s sound x.query (seat s sound m x is)
 
   query_apart : is_under x.query (get s.trackers x.query) ≡ false
@@ -201,6 +201,9 @@ module _ (left : ℕ → List ℕ) (before : List Entry) (s : State) (sound : Is
   by_itself (ReadFailed p sum_before sum_after) may old stays =
       placed left before s sound owned m x is h told left _ p may.ends.page may.ends.own.lives Evicted
       (read_failed left s.block_len s.trackers s.pages s.buffers m x.query x.quota h told p may.ends.page may.ends.own.lives may.ends.own.own (page_under p may.ends.page may.ends.own.lives may.ends.own.own) (fits s sound may.ends.page.client) may.ends.loading)
+  by_itself (ReadStale p wanted found) may old stays =
+      placed left before s sound owned m x is h told left _ p may.ends.page may.ends.own.lives Evicted
+      (read_failed left s.block_len s.trackers s.pages s.buffers m x.query x.quota h told p may.ends.page may.ends.own.lives may.ends.own.own (page_under p may.ends.page may.ends.own.lives may.ends.own.own) (fits s sound may.ends.page.client) may.ends.loading)
   by_itself (PinAgain p) may old stays =
       subst (λ (n : ℕ). Tells left s.block_len s.trackers (insert s.pages p (record (page_at s p) { place = Pinned (n + 1) })) s.buffers m x.query x.quota (step (PinAgain p) h)) (sym (pins_are s p may.page may.own.lives may.count may.pinned))
       (placed left before s sound owned m x is h told left _ p may.page may.own.lives (Pinned (may.count + 1))
@@ -226,8 +229,8 @@ module _ (left : ℕ → List ℕ) (before : List Entry) (s : State) (sound : Is
       subst (λ (z : Buffer). Tells left s.block_len s.trackers s.pages (insert s.buffers f (record z { client = to })) m x.query x.quota (step (MoveBuffer f to) h)) (sym (buffer_is s f may.buffer may.lives))
       (moved_buffer left s.block_len s.trackers s.pages s.buffers m x.query x.quota h told f to may.buffer may.lives
       (own_under s sound m x is may.buffer.client may.own) (own_under s sound m x is to may.own_to) may.other (fits s sound may.buffer.client))
-  by_itself (StartWrite p) may old stays = quietly left before s sound owned m x is h told p may.page may.lives Dirty (Flying m) may.dirty refl (λ l. refl) refl
-  by_itself (WriteOk p) may old stays = quietly left before s sound owned m x is h told p may.page may.lives (Flying m) Clean may.flying refl (λ l. refl) refl
-  by_itself (WriteFailed p sum_before sum_after) may old stays = quietly left before s sound owned m x is h told p may.ends.page may.ends.lives (Flying m) Dirty may.ends.flying refl (λ l. refl) refl
-  by_itself (Evict p) may old stays = quietly left before s sound owned m x is h told p may.page may.lives Clean Evicted may.clean refl (λ l. refl) refl
+  by_itself (StartWrite p) may old stays = quietly left before s sound owned m x is h told (λ n. s.entries) p may.page may.lives Dirty (Flying m) may.dirty refl (λ l. refl) refl
+  by_itself (WriteOk p) may old stays = quietly left before s sound owned m x is h told (λ n. n) p may.page may.lives (Flying m) Clean may.flying refl (λ l. refl) refl
+  by_itself (WriteFailed p sum_before sum_after) may old stays = quietly left before s sound owned m x is h told (λ n. n) p may.ends.page may.ends.lives (Flying m) Dirty may.ends.flying refl (λ l. refl) refl
+  by_itself (Evict p) may old stays = quietly left before s sound owned m x is h told (λ n. n) p may.page may.lives Clean Evicted may.clean refl (λ l. refl) refl
   by_itself (Refused call entry) may old stays = told

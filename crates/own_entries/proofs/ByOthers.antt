@@ -6,7 +6,7 @@ use Rattle.reservation_tree.specs.Change.{grow, shrink, move_to, lacking}
 use Rattle.reservation_tree.proofs.Maps.{get_same, same_or_other}
 use Rattle.reservation_tree.proofs.Outline.{reservation_is}
 use Rattle.pool_model.specs.declared.event.Event.{Event}
-use Rattle.pool_model.specs.declared.event.Event.TheVariants.{Ask, AddTracker, CloseTracker, Increase, IncreaseToFit, Decrease, MoveReservation, Create, PinHere, PinLoad, ReadOk, ReadFailed, PinAgain, UnpinOnce, Unpin, UnpinRefused, Extract, Destroy, Alloc, Free, MoveBuffer, StartWrite, WriteOk, WriteFailed, Evict, Refused}
+use Rattle.pool_model.specs.declared.event.Event.TheVariants.{Ask, AddTracker, CloseTracker, Increase, IncreaseToFit, Decrease, MoveReservation, Create, PinHere, PinLoad, ReadOk, ReadFailed, ReadStale, PinAgain, UnpinOnce, Unpin, UnpinRefused, Extract, Destroy, Alloc, Free, MoveBuffer, StartWrite, WriteOk, WriteFailed, Evict, Refused}
 use Rattle.pool_model.specs.declared.entry.Entry.{Entry}
 use Rattle.pool_model.specs.State.{Place, Pinned, Dirty, Flying, Loading, Clean, Evicted, Page, Pages, no_page, page_at, Buffer, no_buffer, buffer_at, Session, State, pins_of}
 use Rattle.pool_model.specs.Sums.{charge_of, times_charged}
@@ -21,7 +21,7 @@ use Rattle.pool_model.proofs.Pages.{page_is}
 use Rattle.pool_model.proofs.Failures.{PagesOwned}
 use Rattle.store_api.specs.Holdings.{Holdings}
 use Rattle.own_entries.specs.LiveParts.{is_under, left_at, Tells}
-use Rattle.own_entries.proofs.Ways.{IsHigh, IsLow}
+use Rattle.reservation_tree.specs.Ways.{IsUnderRoot, IsUnderQuery}
 use Rattle.own_entries.proofs.Facts.{root_under, not_root, query_under, high, low, seat, foreign_query, foreign_under, foreign_apart}
 use Rattle.own_entries.proofs.PagesTold.{quiet, foreign_put, foreign_gone, insert_again}
 use Rattle.own_entries.proofs.LoansTold.{foreign_page, foreign_lent, foreign_freed}
@@ -71,11 +71,11 @@ module _ (left : ℕ → List ℕ) (before : List Entry) (s : State) (sound : Is
       subst (λ (z : Page). Tells left2 s.block_len s.trackers (insert s.pages p (record z { place = place })) s.buffers m x.query x.quota h2) (sym (page_is s p y there))
 
   -- writes and evictions, whoever makes them
-  pub quietly : (p : ℕ) (y : Page) → get s.pages p ≡ Some y → (old place : Place) → y.place ≡ old → pins_of place ≡ pins_of old → ((l : List ℕ) → left_at place l ≡ left_at old l) → times_charged place ≡ times_charged old
-      → Tells left s.block_len s.trackers (insert s.pages p (record (page_at s p) { place = place })) s.buffers m x.query x.quota h
-  quietly p y there old place was pins lefts charges =
-      placed left h p y there place
-      (quiet left s.block_len s.trackers s.pages s.buffers m x.query x.quota h told p y there place (pins ∙ sym (ap pins_of was)) (λ l. lefts l ∙ sym (ap (λ (a : Place). left_at a l) was)) (charges ∙ sym (ap times_charged was)))
+  pub quietly : (version : ℕ → ℕ) (p : ℕ) (y : Page) → get s.pages p ≡ Some y → (old place : Place) → y.place ≡ old → pins_of place ≡ pins_of old → ((l : List ℕ) → left_at place l ≡ left_at old l) → times_charged place ≡ times_charged old
+      → Tells left s.block_len s.trackers (insert s.pages p (record (page_at s p) { place = place; version = version (page_at s p).version })) s.buffers m x.query x.quota h
+  quietly version p y there old place was pins lefts charges =
+      subst (λ (z : Page). Tells left s.block_len s.trackers (insert s.pages p (record z { place = place; version = version z.version })) s.buffers m x.query x.quota h) (sym (page_is s p y there))
+      (quiet left s.block_len s.trackers s.pages s.buffers m x.query x.quota h told p y there version place (pins ∙ sym (ap pins_of was)) (λ l. lefts l ∙ sym (ap (λ (a : Place). left_at a l) was)) (charges ∙ sym (ap times_charged was)))
 
   module _ (maker : ℕ) (other : maker ≢ m) where
     foreign : (t : ℕ) → IsTrackerOf s maker t → IsForeign s.trackers x.query t
@@ -91,7 +91,7 @@ module _ (left : ℕ → List ℕ) (before : List Entry) (s : State) (sound : Is
     query_foreign : (z : Session) → get s.sessions maker ≡ Some z → IsForeign s.trackers x.query z.query
     query_foreign z lives = foreign z.query (inl (record { session = z; lives = lives; is = refl }))
 
-    query_high : (z : Session) → get s.sessions maker ≡ Some z → IsHigh s.trackers z.query
+    query_high : (z : Session) → get s.sessions maker ≡ Some z → IsUnderRoot s.trackers z.query
     query_high z lives = high s sound z.query (sound.seated.seats maker z lives)
 
     abbrev Kept : Trackers → Type 0
@@ -128,7 +128,7 @@ module _ (left : ℕ → List ℕ) (before : List Entry) (s : State) (sound : Is
       | inl same ↦ foreign_itself left s.block_len s.pages s.buffers m x.query x.quota h (charge_of s) s.trackers told root_foreign n ca.session.query (query_high ca.session ca.opened) (query_foreign ca.session ca.opened) a b same
       | inr apart ↦
           foreign_beside left s.block_len s.pages s.buffers m x.query x.quota h (charge_of s) s.trackers told root_foreign n ca.session.query (query_high ca.session ca.opened) (query_foreign ca.session ca.opened)
-          a (low s sound maker a ca) (foreign a (inr ca)) b (subst (IsLow s.trackers b) (same_query cb.session ca.session cb.opened ca.opened) (low s sound maker b cb)) (foreign b (inr cb)) apart
+          a (low s sound maker a ca) (foreign a (inr ca)) b (subst (IsUnderQuery s.trackers b) (same_query cb.session ca.session cb.opened ca.opened) (low s sound maker b cb)) (foreign b (inr cb)) apart
     ]
 
     closed : (t : ℕ) (y : Tracker) → get s.trackers t ≡ Some y → IsForeign s.trackers x.query t → reservation_of s.trackers t ≡ 0 → ((f : ℕ) (b : Buffer) → get s.buffers f ≡ Some b → b.client ≢ t) → Kept (remove s.trackers t)
@@ -180,6 +180,7 @@ module _ (left : ℕ → List ℕ) (before : List Entry) (s : State) (sound : Is
     by_other (PinLoad p) may = place_there p may.page may.own.lives may.own.own Loading
     by_other (ReadOk p) may = place_there p may.page may.own.lives may.own.own (Pinned 1)
     by_other (ReadFailed p sum_before sum_after) may = place_there p may.ends.page may.ends.own.lives may.ends.own.own Evicted
+    by_other (ReadStale p wanted found) may = place_there p may.ends.page may.ends.own.lives may.ends.own.own Evicted
     by_other (PinAgain p) may = place_there p may.page may.own.lives may.own.own (Pinned (pins_at s p + 1))
     by_other (UnpinOnce p) may = place_there p may.page may.own.lives may.own.own (Pinned (pins_at s p - 1))
     by_other (Unpin p content) may =
@@ -201,8 +202,8 @@ module _ (left : ℕ → List ℕ) (before : List Entry) (s : State) (sound : Is
         subst (λ (z : Buffer). Tells left s.block_len s.trackers s.pages (insert s.buffers f (record z { client = to })) m x.query x.quota h) (sym (buffer_is s f may.buffer may.lives))
         (foreign_moved left s.block_len s.trackers s.pages s.buffers m x.query x.quota h told f to may.buffer may.lives
         (foreign_under s sound m x is maker other may.buffer.client may.own) (foreign_under s sound m x is maker other to may.own_to))
-    by_other (StartWrite p) may = quietly p may.page may.lives Dirty (Flying maker) may.dirty refl (λ l. refl) refl
-    by_other (WriteOk p) may = quietly p may.page may.lives (Flying maker) Clean may.flying refl (λ l. refl) refl
-    by_other (WriteFailed p sum_before sum_after) may = quietly p may.ends.page may.ends.lives (Flying maker) Dirty may.ends.flying refl (λ l. refl) refl
-    by_other (Evict p) may = quietly p may.page may.lives Clean Evicted may.clean refl (λ l. refl) refl
+    by_other (StartWrite p) may = quietly (λ n. s.entries) p may.page may.lives Dirty (Flying maker) may.dirty refl (λ l. refl) refl
+    by_other (WriteOk p) may = quietly (λ n. n) p may.page may.lives (Flying maker) Clean may.flying refl (λ l. refl) refl
+    by_other (WriteFailed p sum_before sum_after) may = quietly (λ n. n) p may.ends.page may.ends.lives (Flying maker) Dirty may.ends.flying refl (λ l. refl) refl
+    by_other (Evict p) may = quietly (λ n. n) p may.page may.lives Clean Evicted may.clean refl (λ l. refl) refl
     by_other (Refused call entry) may = told

@@ -2,15 +2,16 @@
 use Rattle.std.proofs.Common.{◌≡◌, ℕ, ◌+◌, ◌-◌, ◌≤◌, ◌==◌, List, [], ◌∷◌, ◌++◌, Bool, true, false, if◌then◌else◌, Option, Some, None, IsSome, is_some, All, refl, ap, ◌∙◌, arith, inl, inr, le-leb}
 use Rattle.std.proofs.Math.Path.{fun_ext}
 use Rattle.reservation_tree.specs.declared.errors.PoolErr.{PoolErr}
-use Rattle.reservation_tree.specs.declared.errors.PoolErr.TheVariants.{WriteFault, ReadFault, NamesSpent}
+use Rattle.reservation_tree.specs.declared.errors.PoolErr.TheVariants.{WriteFault, ReadFault, NamesSpent, Stale}
+use Rattle.reservation_tree.specs.declared.mark.Mark.{Mark}
 use Rattle.pool_model.specs.declared.call.Call.{Call}
 use Rattle.pool_model.specs.declared.call.Call.TheVariants as call
 use Rattle.pool_model.specs.declared.event.Event.{Event}
-use Rattle.pool_model.specs.declared.event.Event.TheVariants.{CloseTracker, MoveReservation, PinHere, PinLoad, ReadOk, ReadFailed, StartWrite, WriteOk, WriteFailed, Evict, Refused}
+use Rattle.pool_model.specs.declared.event.Event.TheVariants.{CloseTracker, MoveReservation, PinHere, PinLoad, ReadOk, ReadFailed, ReadStale, StartWrite, WriteOk, WriteFailed, Evict, Refused}
 use Rattle.pool_model.specs.declared.entry.Entry.{Entry}
 use Rattle.store_api.specs.Holdings.{Account, Holdings, put, or_else, no_account, account_of, page_of, unused_of, page_len}
 use Rattle.store_api.specs.Changes.{charged, released, lowered, after_end_client, after_reserve, shortfall, after_give_back, after_move_reservation, after_pin, after_unpin_once}
-use Rattle.store_api.specs.Entries.{by, AreWrites, IsEvict, IsAsked, IsTaken, IsPin, IsFailedLoad, IsRefusal}
+use Rattle.store_api.specs.Entries.{by, AreWrites, IsEvict, IsAsked, IsTaken, IsPin, IsFailedLoad, IsStaleLoad, IsRefusal}
 use Rattle.reservation_tree.proofs.Maps.{found}
 use Rattle.std.proofs.lemmas.List.Elements.{All-head, All-tail}
 use Rattle.store_api.proofs.Puts.{put_here, put_same}
@@ -82,9 +83,15 @@ failed_load_holds who h p entry events can failed =
     taken_hold who h (PinLoad p ∷ ReadFailed p failed.0 failed.1 ∷ Refused (call.Pin p) entry ∷ []) events failed.2
     ∙ charge_returns h (page_of p h).client (page_len p h) can.client can.unused
 
+stale_load_holds : (who : ℕ) (h : Holdings) (p : ℕ) (wanted found : Mark) (events : List Event) → CanBeCharged p h → IsStaleLoad who h p wanted found events → after_events h events ≡ h
+stale_load_holds who h p wanted found events can stale =
+    taken_hold who h (PinLoad p ∷ ReadStale p wanted found ∷ Refused (call.Pin p) stale.0 ∷ []) events stale.1
+    ∙ charge_returns h (page_of p h).client (page_len p h) can.client can.unused
+
 refused : (who : ℕ) (h : Holdings) (what : Call) (e : PoolErr) (events : List Event) → ((p : ℕ) → what ≡ call.Pin p → CanBeCharged p h) → IsRefusal who h what e events → after_events h events ≡ h
 refused who h what (WriteFault entry) events can is = asked_hold who h (Refused what entry ∷ []) events is
 refused who h (call.Pin p) (ReadFault entry) events can is = failed_load_holds who h p entry events (can p refl) is
+refused who h (call.Pin p) (Stale wanted found) events can is = stale_load_holds who h p wanted found events (can p refl) is
 refused who h what NamesSpent events can is = asked_hold who h [] events is
 refused who h what _ events can is = ap (after_events h) is
 

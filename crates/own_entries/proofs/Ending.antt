@@ -28,7 +28,7 @@ use Rattle.own_entries.specs.LiveParts.{Tells}
 use Rattle.own_entries.specs.ClientLaws.{LegalEndsIdle}
 use Rattle.own_entries.specs.HeldLaws.{own_holdings}
 use Rattle.own_entries.proofs.Setting.{reservation_here}
-use Rattle.own_entries.proofs.Ways.{never_refused, moves_up}
+use Rattle.reservation_tree.proofs.Ways.{never_refused, moves_up}
 use Rattle.own_entries.proofs.Facts.{own_low, seat, high}
 use Rattle.own_entries.proofs.Held.{legal_holdings_are_told}
 use Rattle.own_entries.proofs.Behind.{told_client}

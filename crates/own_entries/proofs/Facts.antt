@@ -12,7 +12,7 @@ use Rattle.pool_model.specs.Sound.{IsQuery, IsSound}
 use Rattle.pool_model.proofs.ByClients.{charges_held, not_client}
 use Rattle.pool_model.proofs.Seats.{some_is, root_depth, query_depth, own_client}
 use Rattle.own_entries.specs.LiveParts.{is_parent, is_under, charge_in}
-use Rattle.own_entries.proofs.Ways.{IsHigh, IsLow}
+use Rattle.reservation_tree.specs.Ways.{IsUnderRoot, IsUnderQuery}
 
 module _ (s : State) (sound : IsSound s) where
   ts : Trackers
@@ -36,8 +36,8 @@ module _ (s : State) (sound : IsSound s) where
       let root : (y : Tracker) × (get s.trackers 0 ≡ Some y) = found (get s.trackers 0) sound.seated.tree.root in
       ap (is_under query) root.1 ∙ ap (is_parent query) (at_root s.trackers sound.seated.tree 0 root.0 root.1 top).0
 
-  pub high : (q : ℕ) → IsQuery s.trackers q → IsHigh s.trackers q
-  high q seat = record { deep = query_depth s.trackers sound.seated.tree q seat; up = parent_is s.trackers q seat.tracker 0 seat.lives seat.under; top = top }
+  pub high : (q : ℕ) → IsQuery s.trackers q → IsUnderRoot s.trackers q
+  high q seat = record { depth = query_depth s.trackers sound.seated.tree q seat; parent = parent_is s.trackers q seat.tracker 0 seat.lives seat.under; root = top }
 
   pub not_root : (q : ℕ) → IsQuery s.trackers q → 0 ≢ q
   not_root q seat same = let one : depth_of s.trackers 0 ≡ depth_of s.trackers q = ap (depth_of s.trackers) same in let deep : depth_of s.trackers q ≡ 1 = query_depth s.trackers sound.seated.tree q seat in let low = top in omega (arith, one, deep, low)
@@ -53,11 +53,11 @@ module _ (s : State) (sound : IsSound s) where
       let pages : pages_for times_charged s.block_len s.pages q ≤ pages_for times_held s.block_len s.pages q = charges_held s.block_len s.pages q in
       omega (arith, none, pages)
 
-  pub low : (maker c : ℕ) (client : IsClientOf s maker c) → IsLow s.trackers c client.session.query
+  pub low : (maker c : ℕ) (client : IsClientOf s maker c) → IsUnderQuery s.trackers c client.session.query
   low maker c client = record {
-    deep = (own_client s sound.seated maker c client).deep;
-    up = parent_is s.trackers c client.tracker client.session.query client.lives client.under;
-    high = high client.session.query (sound.seated.seats maker client.session client.opened);
+    depth = (own_client s sound.seated maker c client).deep;
+    parent = parent_is s.trackers c client.tracker client.session.query client.lives client.under;
+    query = high client.session.query (sound.seated.seats maker client.session client.opened);
   }
 
   module _ (m : ℕ) (x : Session) (is : get s.sessions m ≡ Some x) where
@@ -70,8 +70,8 @@ module _ (s : State) (sound : IsSound s) where
     pub own_under : (c : ℕ) → IsClientOf s m c → is_under x.query (get s.trackers c) ≡ true
     own_under c client = ap (is_under x.query) client.lives ∙ ap (is_parent x.query) client.under ∙ eq-eqb client.session.query x.query (ap (λ (z : Session). z.query) (same_one client.session client.opened))
 
-    pub own_low : (c : ℕ) → IsClientOf s m c → IsLow s.trackers c x.query
-    own_low c client = subst (λ (z : Session). IsLow s.trackers c z.query) (same_one client.session client.opened) (low m c client)
+    pub own_low : (c : ℕ) → IsClientOf s m c → IsUnderQuery s.trackers c x.query
+    own_low c client = subst (λ (z : Session). IsUnderQuery s.trackers c z.query) (same_one client.session client.opened) (low m c client)
 
     -- other sessions' trackers
     module _ (maker : ℕ) (other : maker ≢ m) where
@@ -84,6 +84,6 @@ module _ (s : State) (sound : IsSound s) where
       pub foreign_apart : (c : ℕ) → IsClientOf s maker c → c ≢ x.query
       foreign_apart c client same =
           let one : depth_of s.trackers c ≡ depth_of s.trackers x.query = ap (depth_of s.trackers) same in
-          let two : depth_of s.trackers c ≡ 2 = (low maker c client).deep in
+          let two : depth_of s.trackers c ≡ 2 = (low maker c client).depth in
           let deep : depth_of s.trackers x.query ≡ 1 = query_depth s.trackers sound.seated.tree x.query seat in
           omega (arith, one, two, deep)

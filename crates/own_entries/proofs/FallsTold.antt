@@ -12,15 +12,16 @@ use Rattle.store_api.proofs.Puts.{put_there}
 use Rattle.own_entries.specs.OwnHoldings.{query_fallen, given_to_query, taken_from_query}
 use Rattle.own_entries.specs.LiveParts.{is_under, charge_in, Tells}
 use Rattle.own_entries.proofs.Setting.{limit_stays, depth_stays, parent_stays, under_stays, count_stays, reservation_here, reservation_there, other_set}
-use Rattle.own_entries.proofs.Ways.{IsHigh, IsLow, query_falls, client_falls, moves_up, moves_down, moves_beside}
+use Rattle.reservation_tree.specs.Ways.{IsUnderRoot, IsUnderQuery}
+use Rattle.reservation_tree.proofs.Ways.{query_falls, client_falls, moves_up, moves_down, moves_beside}
 use Rattle.own_entries.proofs.TrackersTold.{accounts_kept, retold, foreign_set, query_low, lowered_told, raised_told}
 
 -- ways stay where a reservation is set
-high_stays : (ts : Trackers) (t bytes q : ℕ) → IsHigh ts q → IsHigh (set_reservation bytes t ts) q
-high_stays ts t bytes q high = record { deep = depth_stays ts t bytes q ∙ high.deep; up = parent_stays ts t bytes q ∙ high.up; top = depth_stays ts t bytes 0 ∙ high.top }
+high_stays : (ts : Trackers) (t bytes q : ℕ) → IsUnderRoot ts q → IsUnderRoot (set_reservation bytes t ts) q
+high_stays ts t bytes q high = record { depth = depth_stays ts t bytes q ∙ high.depth; parent = parent_stays ts t bytes q ∙ high.parent; root = depth_stays ts t bytes 0 ∙ high.root }
 
-low_stays : (ts : Trackers) (t bytes c q : ℕ) → IsLow ts c q → IsLow (set_reservation bytes t ts) c q
-low_stays ts t bytes c q low = record { deep = depth_stays ts t bytes c ∙ low.deep; up = parent_stays ts t bytes c ∙ low.up; high = high_stays ts t bytes q low.high }
+low_stays : (ts : Trackers) (t bytes c q : ℕ) → IsUnderQuery ts c q → IsUnderQuery (set_reservation bytes t ts) c q
+low_stays ts t bytes c q low = record { depth = depth_stays ts t bytes c ∙ low.depth; parent = parent_stays ts t bytes c ∙ low.parent; query = high_stays ts t bytes q low.query }
 
 module _ (left : ℕ → List ℕ) (len : ℕ) (pages : Pages) (buffers : Buffers) (m query quota : ℕ) (n : ℕ) where
   abbrev cost : ℕ → ℕ
@@ -38,7 +39,7 @@ module _ (left : ℕ → List ℕ) (len : ℕ) (pages : Pages) (buffers : Buffer
       (accounts_kept query cost ts ts2 h.clients told.clients query (under_stays ts query bytes query) (λ c other mine. get_other ts query _ c other) query_apart)
 
   module _ (ts : Trackers) (h : Holdings) (told : Tells left len ts pages buffers m query quota h)
-      (high : IsHigh ts query) (query_apart : is_under query (get ts query) ≡ false) (root_apart : is_under query (get ts 0) ≡ false) (free : cost query ≡ 0) where
+      (high : IsUnderRoot ts query) (query_apart : is_under query (get ts query) ≡ false) (root_apart : is_under query (get ts 0) ≡ false) (free : cost query ≡ 0) where
     root_beside : 0 ≢ query
     root_beside same = query_low left len ts pages buffers m query quota h told high query_apart root_apart free n (sym same)
 
@@ -50,7 +51,7 @@ module _ (left : ℕ → List ℕ) (len : ℕ) (pages : Pages) (buffers : Buffer
         subst (λ (t2 : Trackers). Tells left len t2 pages buffers m query quota (query_fallen n h)) (sym (query_falls cost ts n query high))
         (foreign_set left len (lower n query ts) pages buffers m query quota (query_fallen n h) first 0 (reservation_of (lower n query ts) 0 - n) root_beside (under_stays ts query (reservation_of ts query - n) query 0 ∙ root_apart))
 
-    module _ (t : ℕ) (low : IsLow ts t query) (mine : is_under query (get ts t) ≡ true) (fits : cost t ≤ reservation_of ts t) (few : n ≤ reservation_of ts t) where
+    module _ (t : ℕ) (low : IsUnderQuery ts t query) (mine : is_under query (get ts t) ≡ true) (fits : cost t ≤ reservation_of ts t) (few : n ≤ reservation_of ts t) where
       up : Tells left len (lower n t ts) pages buffers m query quota (given_to_query t n h)
       up = lowered_told left len ts pages buffers m query quota h told high query_apart root_apart free n t low mine fits few
 
@@ -70,7 +71,7 @@ module _ (left : ℕ → List ℕ) (len : ℕ) (pages : Pages) (buffers : Buffer
       pub gave_up : Tells left len (move_to n t query ts) pages buffers m query quota (given_to_query t n h)
       gave_up = subst (λ (t2 : Trackers). Tells left len t2 pages buffers m query quota (given_to_query t n h)) (sym (moves_up cost ts n query high t low)) up
 
-      pub moved_beside : (b : ℕ) → IsLow ts b query → is_under query (get ts b) ≡ true → cost b ≤ reservation_of ts b → t ≢ b → Tells left len (move_to n t b ts) pages buffers m query quota (after_move_reservation t b n h)
+      pub moved_beside : (b : ℕ) → IsUnderQuery ts b query → is_under query (get ts b) ≡ true → cost b ≤ reservation_of ts b → t ≢ b → Tells left len (move_to n t b ts) pages buffers m query quota (after_move_reservation t b n h)
       moved_beside b low_b mine_b fits_b apart =
           let a : ℕ = reservation_of ts t - n in
           let ts1 : Trackers = lower n t ts in
@@ -91,7 +92,7 @@ module _ (left : ℕ → List ℕ) (len : ℕ) (pages : Pages) (buffers : Buffer
     pub moved_itself : (a b : ℕ) → a ≡ b → Tells left len (move_to n a b ts) pages buffers m query quota h
     moved_itself a b same = subst (λ (t2 : Trackers). Tells left len t2 pages buffers m query quota h) (sym (no_move ts n a b same)) told
 
-    pub took : (t : ℕ) → IsLow ts t query → is_under query (get ts t) ≡ true → cost t ≤ reservation_of ts t → n ≤ h.room → Tells left len (move_to n query t ts) pages buffers m query quota (taken_from_query t n h)
+    pub took : (t : ℕ) → IsUnderQuery ts t query → is_under query (get ts t) ≡ true → cost t ≤ reservation_of ts t → n ≤ h.room → Tells left len (move_to n query t ts) pages buffers m query quota (taken_from_query t n h)
     took t low mine fits few =
         subst (λ (t2 : Trackers). Tells left len t2 pages buffers m query quota (taken_from_query t n h)) (sym (moves_down cost ts n query high t low))
         (raised_told left len ts pages buffers m query quota h told high query_apart root_apart free n t low mine fits few)

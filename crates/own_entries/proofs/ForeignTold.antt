@@ -2,13 +2,14 @@
 use Rattle.std.proofs.Common.{◌≡◌, ◌≢◌, ℕ, ◌+◌, ◌-◌, List, false, sym, ◌∙◌, subst}
 use Rattle.std.specs.FinMap.{get}
 use Rattle.reservation_tree.specs.Tracker.{Trackers, reservation_of}
-use Rattle.reservation_tree.specs.Change.{set_reservation, lower, grow, shrink, move_to}
+use Rattle.reservation_tree.specs.Change.{lacking, set_reservation, lower, grow, shrink, move_to}
 use Rattle.reservation_tree.proofs.Climbs.{no_move}
 use Rattle.pool_model.specs.State.{Pages, Buffers}
 use Rattle.store_api.specs.Holdings.{Holdings}
 use Rattle.own_entries.specs.LiveParts.{is_under, Tells}
 use Rattle.own_entries.proofs.Setting.{under_stays}
-use Rattle.own_entries.proofs.Ways.{IsHigh, IsLow, root_growth, query_growth, query_grows, query_falls, client_grows, client_falls, moves_up, moves_down, moves_beside}
+use Rattle.reservation_tree.specs.Ways.{IsUnderRoot, IsUnderQuery}
+use Rattle.reservation_tree.proofs.Ways.{query_grows, query_falls, client_grows, client_falls, moves_up, moves_down, moves_beside}
 use Rattle.own_entries.proofs.TrackersTold.{foreign_set}
 
 -- neither the query nor a client of it
@@ -26,7 +27,7 @@ module _ (left : ℕ → List ℕ) (len : ℕ) (pages : Pages) (buffers : Buffer
   set : (ts : Trackers) → Told ts → (t bytes : ℕ) → IsForeign ts query t → Told (set_reservation bytes t ts)
   set ts told t bytes it = foreign_set left len ts pages buffers m query quota h told t bytes it.apart it.not
 
-  module _ (charge : ℕ → ℕ) (ts : Trackers) (told : Told ts) (root : IsForeign ts query 0) (n q : ℕ) (high : IsHigh ts q) (q_foreign : IsForeign ts query q) where
+  module _ (charge : ℕ → ℕ) (ts : Trackers) (told : Told ts) (root : IsForeign ts query 0) (n q : ℕ) (high : IsUnderRoot ts q) (q_foreign : IsForeign ts query q) where
     two : (a b : ℕ) → Told (set_reservation a q (set_reservation b 0 ts))
     two a b = set (set_reservation b 0 ts) (set ts told 0 b root) q a (foreign_still ts query 0 b q q_foreign)
 
@@ -37,11 +38,11 @@ module _ (left : ℕ → List ℕ) (len : ℕ) (pages : Pages) (buffers : Buffer
     foreign_query_falls = subst Told (sym (query_falls charge ts n q high))
         (set (lower n q ts) (set ts told q (reservation_of ts q - n) q_foreign) 0 _ (foreign_still ts query q (reservation_of ts q - n) 0 root))
 
-    module _ (t : ℕ) (low : IsLow ts t q) (t_foreign : IsForeign ts query t) where
+    module _ (t : ℕ) (low : IsUnderQuery ts t q) (t_foreign : IsForeign ts query t) where
       pub foreign_client_grows : Told (grow charge n t ts)
       foreign_client_grows =
-          let g : ℕ = query_growth charge ts n q high t low in
-          let b : ℕ = reservation_of ts 0 + root_growth charge ts n q high g in
+          let g : ℕ = lacking charge n q ts in
+          let b : ℕ = reservation_of ts 0 + lacking charge g 0 ts in
           let a : ℕ = reservation_of (set_reservation b 0 ts) q + g in
           subst Told (sym (client_grows charge ts n q high t low))
           (set (set_reservation a q (set_reservation b 0 ts)) (two a b) t _ (foreign_still (set_reservation b 0 ts) query q a t (foreign_still ts query 0 b t t_foreign)))
@@ -60,7 +61,7 @@ module _ (left : ℕ → List ℕ) (len : ℕ) (pages : Pages) (buffers : Buffer
       pub foreign_down : Told (move_to n q t ts)
       foreign_down = subst Told (sym (moves_down charge ts n q high t low)) (set ts told t _ t_foreign)
 
-      pub foreign_beside : (b : ℕ) → IsLow ts b q → IsForeign ts query b → t ≢ b → Told (move_to n t b ts)
+      pub foreign_beside : (b : ℕ) → IsUnderQuery ts b q → IsForeign ts query b → t ≢ b → Told (move_to n t b ts)
       foreign_beside b low_b b_foreign apart =
           let a : ℕ = reservation_of ts t - n in
           subst Told (sym (moves_beside charge ts n q t b high low low_b apart)) (set (lower n t ts) (set ts told t a t_foreign) b _ (foreign_still ts query t a b b_foreign))

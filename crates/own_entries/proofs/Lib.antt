@@ -6,7 +6,6 @@ pub mod OwnPages
 pub mod LoansTold
 pub mod BuffersMoved
 pub mod Setting
-pub mod Ways
 pub mod TrackersTold
 pub mod FallsTold
 pub mod ComingTold

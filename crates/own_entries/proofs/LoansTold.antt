@@ -77,9 +77,9 @@ module _ (left : ℕ → List ℕ) (len : ℕ) (ts : Trackers) (pages : Pages) (
         let none : weight_at (λ _ x. slots_at m x) p (get pages p) ≡ 0 = ap (weight_at (λ _ x. slots_at m x) p) fresh in
         omega (arith, sum, none, is)
 
-    pub created : is_under query (get ts client) ≡ true → Tells left len ts (insert pages p (record { key = key; session = m; client = client; blocks = blocks; place = Pinned 1; has_slots = false })) buffers m query quota (after_create p key client blocks h)
+    pub created : is_under query (get ts client) ≡ true → Tells left len ts (insert pages p (record { key = key; session = m; client = client; blocks = blocks; place = Pinned 1; has_slots = false; version = 0 })) buffers m query quota (after_create p key client blocks h)
     created own =
-        let w : Page = record { key = key; session = m; client = client; blocks = blocks; place = Pinned 1; has_slots = false } in
+        let w : Page = record { key = key; session = m; client = client; blocks = blocks; place = Pinned 1; has_slots = false; version = 0 } in
         let v : LivePage = record { key = key; client = client; blocks = blocks; pins = 1; left = []; has_slots = false } in
         let reads : live_page m (left p) (Some w) ≡ Some v = ap (λ (b : Bool). if b then Some v else None) (eq-eqb m m refl) in
         let slots : slots_of (insert pages p w) m ≡ slots_of pages m = no_slots_yet w (ap (λ (b : Bool). only_if b 0) (eq-eqb m m refl)) in
@@ -95,9 +95,9 @@ module _ (left : ℕ → List ℕ) (len : ℕ) (ts : Trackers) (pages : Pages) (
         (pages_put_told m left left pages h.pages told.live_pages p (λ q apart. refl) w (Some v) reads)
         told.loans (told.free_slots ∙ ap (λ (n : ℕ). Some (quota - n)) (sym slots)) (subst (λ (n : ℕ). n ≤ quota) (sym slots) told.slots)
 
-    pub foreign_page : (maker : ℕ) → maker ≢ m → is_under query (get ts client) ≡ false → Tells left len ts (insert pages p (record { key = key; session = maker; client = client; blocks = blocks; place = Pinned 1; has_slots = false })) buffers m query quota h
+    pub foreign_page : (maker : ℕ) → maker ≢ m → is_under query (get ts client) ≡ false → Tells left len ts (insert pages p (record { key = key; session = maker; client = client; blocks = blocks; place = Pinned 1; has_slots = false; version = 0 })) buffers m query quota h
     foreign_page maker other theirs =
-        let w : Page = record { key = key; session = maker; client = client; blocks = blocks; place = Pinned 1; has_slots = false } in
+        let w : Page = record { key = key; session = maker; client = client; blocks = blocks; place = Pinned 1; has_slots = false; version = 0 } in
         let v : LivePage = record { key = key; client = client; blocks = blocks; pins = 1; left = []; has_slots = false } in
         let reads : live_page m (left p) (Some w) ≡ None = ap (λ (b : Bool). if b then Some v else None) (ne_eqb maker m other) in
         let slots : slots_of (insert pages p w) m ≡ slots_of pages m = no_slots_yet w (ap (λ (b : Bool). only_if b 0) (ne_eqb maker m other)) in

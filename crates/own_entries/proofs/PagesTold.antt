@@ -52,10 +52,10 @@ module _ (left : ℕ → List ℕ) (len : ℕ) (ts : Trackers) (pages : Pages) (
         omega (arith, sum, whose)
 
     -- the page reads as before from where it goes
-    pub quiet : (place : Place) → pins_of place ≡ pins_of x.place → ((l : List ℕ) → left_at place l ≡ left_at x.place l) → times_charged place ≡ times_charged x.place
-        → Tells left len ts (insert pages p (record x { place = place })) buffers m query quota h
-    quiet place pins lefts charges =
-        let w : Page = record x { place = place } in
+    pub quiet : (version : ℕ → ℕ) (place : Place) → pins_of place ≡ pins_of x.place → ((l : List ℕ) → left_at place l ≡ left_at x.place l) → times_charged place ≡ times_charged x.place
+        → Tells left len ts (insert pages p (record x { place = place; version = version x.version })) buffers m query quota h
+    quiet version place pins lefts charges =
+        let w : Page = record x { place = place; version = version x.version } in
         let same : page_bytes times_charged len w ≡ page_bytes times_charged len x = ap (λ (n : ℕ). n * bytes_of len x.blocks) charges in
         let sum : slots_of (insert pages p w) m + slots_at m x ≡ slots_of pages m + slots_at m x = slots_put m pages p x w is in
         let slots : slots_of (insert pages p w) m ≡ slots_of pages m = omega (arith, sum) in

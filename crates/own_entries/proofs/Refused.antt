@@ -1,12 +1,12 @@
 -- A pool refuses growths, moves and unpins where what the session holds says so.
-use Rattle.std.proofs.Common.{◌≡◌, ℕ, suc, ◌-◌, leb, List, Bool, true, false, if◌then◌else◌, Option, Some, None, IsSome, [], ◌↔◌, option_map, unwrap_or, refl, sym, ap, ◌∙◌, subst, inl, inr, eq-eqb, ne_eqb}
+use Rattle.std.proofs.Common.{◌≡◌, ℕ, ◌-◌, leb, List, Bool, true, false, if◌then◌else◌, Option, Some, None, IsSome, [], ◌↔◌, option_map, unwrap_or, refl, sym, ap, ◌∙◌, subst, inl, inr, eq-eqb, ne_eqb}
 use Rattle.std.specs.FinMap.{get}
-use Rattle.reservation_tree.specs.Tracker.{parent_of, Trackers, unused, reservation_of}
+use Rattle.reservation_tree.specs.Tracker.{unused, reservation_of}
 use Rattle.reservation_tree.specs.Tracker.{room_of as tree_room}
 use Rattle.std.specs.Option.{option_or}
 use Rattle.reservation_tree.specs.declared.errors.PoolErr.{PoolErr}
 use Rattle.reservation_tree.specs.Change.{move_refusal as tree_move_refusal}
-use Rattle.reservation_tree.specs.Change.{Refusal, or_else, over, grown_refusal, grow_refusal}
+use Rattle.reservation_tree.specs.Change.{Refusal, or_else, over, grow_refusal}
 use Rattle.reservation_tree.specs.Answer.{no_reservation}
 use Rattle.reservation_tree.proofs.Outline.{reservation_is, limit_is}
 use Rattle.pool_model.specs.declared.entry.Entry.{Entry}
@@ -31,17 +31,10 @@ use Rattle.own_entries.proofs.Behind.{IsTold, told_client, told_page, pinned_onc
 use Rattle.own_entries.proofs.Held.{legal_holdings_are_told}
 use Rattle.own_entries.specs.RefusalLaws.{RefusesAsTold, LegalRefusesAsTold}
 use Rattle.own_entries.proofs.Views.{told_account, account_is}
-use Rattle.own_entries.proofs.Ways.{or_none, refused_beside, refused_itself, IsLow}
+use Rattle.reservation_tree.proofs.Climbs.{no_move_refusal}
+use Rattle.reservation_tree.proofs.Ways.{or_none, client_refused, refused_beside}
 use Rattle.own_entries.proofs.Facts.{own_under, own_low, high, seat}
 use Rattle.own_entries.proofs.ByItself.{room_is}
-
--- the refusal of a client's growth, written out
-refusal_is : (charge : ℕ → ℕ) (ts : Trackers) (n q t : ℕ) → IsLow ts t q → grow_refusal charge n t ts ≡ or_else (over ts n t) (or_else (over ts (n - unused charge ts q) q) (or_else (over ts ((n - unused charge ts q) - unused charge ts 0) 0) None))
-unfolding grow_refusal
-refusal_is charge ts n q t low =
-    ap (λ (d : ℕ). grown_refusal charge ts (suc d) n t) low.deep
-    ∙ ap (λ (p : ℕ). or_else (over ts n t) (or_else (over ts (n - unused charge ts p) p) (or_else (over ts ((n - unused charge ts p) - unused charge ts (parent_of ts p)) (parent_of ts p)) None))) low.up
-    ∙ ap (λ (r : ℕ). or_else (over ts n t) (or_else (over ts (n - unused charge ts q) q) (or_else (over ts ((n - unused charge ts q) - unused charge ts r) r) None))) low.high.up
 
 or_assoc : (a b c : Option Refusal) → or_else a (or_else b c) ≡ or_else (or_else a b) c
 or_assoc None b c = refl
@@ -89,10 +82,10 @@ module _ (left : ℕ → List ℕ) (before : List Entry) (s : State) (sound : Is
       let own : Option Refusal = or_else (told_over t bytes (client_room t h)) (told_over h.query (query_growth bytes h) (h.limit - h.reservation)) in
       let root : Option Refusal = over s.trackers (query_growth bytes h - unused (charge_of s) s.trackers 0) 0 in
       let growth : grow_refusal (charge_of s) bytes t s.trackers ≡ or_else own root =
-      refusal_is (charge_of s) s.trackers bytes x.query t (own_low s sound m x is t client)
-      ∙ ap (λ (o : Option Refusal). or_else o (or_else (over s.trackers (bytes - unused (charge_of s) s.trackers x.query) x.query) (or_else (over s.trackers ((bytes - unused (charge_of s) s.trackers x.query) - unused (charge_of s) s.trackers 0) 0) None))) first
-      ∙ ap (λ (o : Option Refusal). or_else (told_over t bytes (client_room t h)) (or_else o (or_else (over s.trackers ((bytes - unused (charge_of s) s.trackers x.query) - unused (charge_of s) s.trackers 0) 0) None))) second
-      ∙ ap (λ (o : Option Refusal). or_else (told_over t bytes (client_room t h)) (or_else (told_over h.query (query_growth bytes h) (h.limit - h.reservation)) o)) (or_none _ ∙ third)
+      client_refused (charge_of s) s.trackers bytes x.query (high s sound x.query (seat s sound m x is)) t (own_low s sound m x is t client)
+      ∙ ap (λ (o : Option Refusal). or_else o (or_else (over s.trackers (bytes - unused (charge_of s) s.trackers x.query) x.query) (over s.trackers ((bytes - unused (charge_of s) s.trackers x.query) - unused (charge_of s) s.trackers 0) 0))) first
+      ∙ ap (λ (o : Option Refusal). or_else (told_over t bytes (client_room t h)) (or_else o (over s.trackers ((bytes - unused (charge_of s) s.trackers x.query) - unused (charge_of s) s.trackers 0) 0))) second
+      ∙ ap (λ (o : Option Refusal). or_else (told_over t bytes (client_room t h)) (or_else (told_over h.query (query_growth bytes h) (h.limit - h.reservation)) o)) third
       ∙ or_assoc (told_over t bytes (client_room t h)) (told_over h.query (query_growth bytes h) (h.limit - h.reservation)) (over s.trackers (query_growth bytes h - unused (charge_of s) s.trackers 0) 0) in
       let call : reserve_refusal t bytes (record h { above = Shared }) ≡ option_map no_reservation own =
       ap (unless_fits t bytes (client_room t h)) (as_call h.query (query_growth bytes h) (h.limit - h.reservation) None)
@@ -103,7 +96,7 @@ module _ (left : ℕ → List ℕ) (before : List Entry) (s : State) (sound : Is
   move_refused : (from to bytes : ℕ) → IsClientOf s m from → IsClientOf s m to → option_map no_reservation (tree_move_refusal bytes from to s.trackers) ≡ move_refusal from to bytes h
   move_refused from to bytes client other = elim (same_or_other from to) [
     | inl same ↦
-        ap (option_map no_reservation) (refused_itself s.trackers bytes from to same) ∙ sym (ap (λ (b : Bool). if b then None else unless_fits to bytes (client_room to h) None) (eq-eqb from to same))
+        ap (option_map no_reservation) (no_move_refusal s.trackers bytes from to same) ∙ sym (ap (λ (b : Bool). if b then None else unless_fits to bytes (client_room to h) None) (eq-eqb from to same))
     | inr apart ↦
         ap (option_map no_reservation) (refused_beside (charge_of s) s.trackers bytes x.query from to (high s sound x.query (seat s sound m x is)) (own_low s sound m x is from client) (own_low s sound m x is to other) apart
         ∙ ap (told_over to bytes) (room_as_told to other) ∙ sym (or_none (told_over to bytes (client_room to h))))

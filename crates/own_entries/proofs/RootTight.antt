@@ -24,7 +24,8 @@ use Rattle.pool_model.proofs.Fronts.{holds_after}
 use Rattle.own_entries.specs.LiveParts.{is_parent, is_under}
 use Rattle.own_entries.specs.AboveLaws.{LegalRootIsTight}
 use Rattle.own_entries.proofs.Setting.{under_stays, reservation_here, reservation_there, child_set, other_set}
-use Rattle.own_entries.proofs.Ways.{IsLow, query_growth, query_grows, query_falls, client_grows, client_falls, moves_up, moves_down, moves_beside}
+use Rattle.reservation_tree.specs.Ways.{IsUnderQuery}
+use Rattle.reservation_tree.proofs.Ways.{query_grows, query_falls, client_grows, client_falls, moves_up, moves_down, moves_beside}
 use Rattle.own_entries.proofs.Facts.{root_under, not_root, high, low}
 use Rattle.own_entries.proofs.AboveTold.{own_within}
 
@@ -79,7 +80,7 @@ module _ (s : State) (sound : IsSound s) (tight : reservation_of s.trackers 0 �
         let second : children_of (lower n 0 ts1) 0 ≡ children_of ts1 0 = other_set ts1 0 b 0 (under_stays s.trackers q a 0 0 ∙ root_low) in
         subst Tight (sym (query_falls (charge_of s) s.trackers n q (high s sound q its))) (omega (arith, first, root_was, here, second, tight, few))
 
-    module _ (t : ℕ) (way : IsLow s.trackers t q) (t_apart : t ≢ 0) (t_under : is_under 0 (get s.trackers t) ≡ false) (t_query : t ≢ q) where
+    module _ (t : ℕ) (way : IsUnderQuery s.trackers t q) (t_apart : t ≢ 0) (t_under : is_under 0 (get s.trackers t) ≡ false) (t_query : t ≢ q) where
       -- a client alone doesn't show at the root
       client_set : (ts : Trackers) (n : ℕ) → is_under 0 (get ts t) ≡ false → Tight ts → Tight (set_reservation n t ts)
       client_set ts n low_there was =
@@ -89,7 +90,7 @@ module _ (s : State) (sound : IsSound s) (tight : reservation_of s.trackers 0 �
 
       client_grown : (n : ℕ) → Tight (grow (charge_of s) n t s.trackers)
       client_grown n =
-          let g : ℕ = query_growth (charge_of s) s.trackers n q (high s sound q its) t way in
+          let g : ℕ = lacking (charge_of s) n q s.trackers in
           let a : ℕ = reservation_of s.trackers 0 + (g - unused (charge_of s) s.trackers 0) in
           let b : ℕ = reservation_of (set_reservation a 0 s.trackers) q + g in
           subst Tight (sym (client_grows (charge_of s) s.trackers n q (high s sound q its) t way))
@@ -115,12 +116,12 @@ module _ (s : State) (sound : IsSound s) (tight : reservation_of s.trackers 0 �
   module _ (maker : ℕ) where
     client_apart : (t : ℕ) → (client : IsClientOf s maker t) → (t ≢ 0) × (is_under 0 (get s.trackers t) ≡ false) × (t ≢ client.session.query)
     client_apart t client =
-        let way : IsLow s.trackers t client.session.query = low s sound maker t client in
+        let way : IsUnderQuery s.trackers t client.session.query = low s sound maker t client in
         let its : IsQuery s.trackers client.session.query = sound.seated.seats maker client.session client.opened in
-        let deep : depth_of s.trackers t ≡ 2 = way.deep in (
-          λ same. let one : depth_of s.trackers t ≡ depth_of s.trackers 0 = ap (depth_of s.trackers) same in let top : depth_of s.trackers 0 ≡ 0 = way.high.top in omega (arith, one, top, deep),
+        let deep : depth_of s.trackers t ≡ 2 = way.depth in (
+          λ same. let one : depth_of s.trackers t ≡ depth_of s.trackers 0 = ap (depth_of s.trackers) same in let top : depth_of s.trackers 0 ≡ 0 = way.query.root in omega (arith, one, top, deep),
           ap (is_under 0) client.lives ∙ ap (is_parent 0) client.under ∙ ne_eqb client.session.query 0 (q_apart client.session.query its),
-          λ same. let one : depth_of s.trackers t ≡ depth_of s.trackers client.session.query = ap (depth_of s.trackers) same in let high_up : depth_of s.trackers client.session.query ≡ 1 = way.high.deep in omega (arith, one, high_up, deep),
+          λ same. let one : depth_of s.trackers t ≡ depth_of s.trackers client.session.query = ap (depth_of s.trackers) same in let high_up : depth_of s.trackers client.session.query ≡ 1 = way.query.depth in omega (arith, one, high_up, deep),
         )
 
     seat_of : (t : ℕ) → (query : IsQueryOf s maker t) → IsQuery s.trackers t
@@ -162,7 +163,7 @@ module _ (s : State) (sound : IsSound s) (tight : reservation_of s.trackers 0 �
     moves a b n (inr ca) (inr cb) = elim (same_or_other a b) [
       | inl same ↦ subst Tight (sym (no_move s.trackers n a b same)) tight
       | inr apart ↦
-          let way_b : IsLow s.trackers b ca.session.query = subst (IsLow s.trackers b) (same_query cb.session ca.session cb.opened ca.opened) (low s sound maker b cb) in
+          let way_b : IsUnderQuery s.trackers b ca.session.query = subst (IsUnderQuery s.trackers b) (same_query cb.session ca.session cb.opened ca.opened) (low s sound maker b cb) in
           let c : ℕ = reservation_of s.trackers a - n in
           subst Tight (sym (moves_beside (charge_of s) s.trackers n ca.session.query a b (high s sound ca.session.query (sound.seated.seats maker ca.session ca.opened)) (low s sound maker a ca) way_b apart))
           (one_set b cb (lower n a s.trackers) (reservation_of (lower n a s.trackers) b + n) (under_stays s.trackers a c 0 b ∙ (client_apart b cb).1) (one_set a ca s.trackers c (client_apart a ca).1 tight))

@@ -2,7 +2,7 @@
 use Rattle.std.proofs.Common.{◌≡◌, ◌≢◌, ℕ, ◌+◌, ◌-◌, ◌≤◌, List, Bool, true, false, if◌then◌else◌, Option, Some, None, refl, sym, ap, ◌∙◌, subst, arith, inl, inr}
 use Rattle.std.specs.FinMap.{get}
 use Rattle.reservation_tree.specs.Tracker.{Tracker, Trackers, tracker_at, reservation_of, limit_of, depth_of, children_of, unused}
-use Rattle.reservation_tree.specs.Change.{set_reservation, raise, lower, grow}
+use Rattle.reservation_tree.specs.Change.{lacking, set_reservation, raise, lower, grow}
 use Rattle.reservation_tree.proofs.Maps.{get_same, get_other, same_or_other}
 use Rattle.reservation_tree.proofs.Outline.{tracker_is, reservation_is}
 use Rattle.pool_model.specs.State.{Pages, Buffer, Buffers}
@@ -13,7 +13,8 @@ use Rattle.own_entries.specs.OwnHoldings.{query_grown, given_to_query, taken_fro
 use Rattle.own_entries.specs.LiveParts.{is_under, live_account, live_loan, charge_in, count_under, Tells}
 use Rattle.own_entries.proofs.Views.{at, told_account, account_is, mine_tracker}
 use Rattle.own_entries.proofs.Setting.{limit_stays, under_stays, count_stays, reservation_here, reservation_there, child_set, other_set}
-use Rattle.own_entries.proofs.Ways.{IsHigh, IsLow, root_growth, query_growth, query_grows, client_grows, not_query}
+use Rattle.reservation_tree.specs.Ways.{IsUnderRoot, IsUnderQuery}
+use Rattle.reservation_tree.proofs.Ways.{query_grows, client_grows, not_query}
 
 pub account_none : (query charge : ℕ) (o : Option Tracker) → is_under query o ≡ false → live_account query charge o ≡ None
 account_none query charge None is = refl
@@ -87,9 +88,9 @@ module _ (left : ℕ → List ℕ) (len : ℕ) (ts : Trackers) (pages : Pages) (
       (told.reservation ∙ sym res) (omega (arith, was, res, children))
       (accounts_kept query charge ts ts2 h.clients told.clients t (under_stays ts t bytes query) (λ c other mine. get_other ts t _ c other) not)
 
-  module _ (high : IsHigh ts query) (query_apart : is_under query (get ts query) ≡ false) (root_apart : is_under query (get ts 0) ≡ false) (free : charge query ≡ 0) (n : ℕ) where
+  module _ (high : IsUnderRoot ts query) (query_apart : is_under query (get ts query) ≡ false) (root_apart : is_under query (get ts 0) ≡ false) (free : charge query ≡ 0) (n : ℕ) where
     pub query_low : query ≢ 0
-    query_low same = let one : depth_of ts query ≡ depth_of ts 0 = ap (depth_of ts) same in omega (arith, one, high.deep, high.top)
+    query_low same = let one : depth_of ts query ≡ depth_of ts 0 = ap (depth_of ts) same in omega (arith, one, high.depth, high.root)
 
     pub unused_is : unused charge ts query ≡ h.room
     unused_is = let was : h.room + children_of ts query ≡ reservation_of ts query = told.room in omega (arith, was, free)
@@ -134,15 +135,15 @@ module _ (left : ℕ → List ℕ) (len : ℕ) (ts : Trackers) (pages : Pages) (
     -- the query grows
     pub grown_told : Tells left len (grow charge n query ts) pages buffers m query quota (query_grown n h)
     grown_told =
-        let res : reservation_of (raise (root_growth charge ts n query high n) 0 ts) query ≡ reservation_of ts query = reservation_there ts 0 _ query query_low in
+        let res : reservation_of (raise (lacking charge n 0 ts) 0 ts) query ≡ reservation_of ts query = reservation_there ts 0 _ query query_low in
         let was : h.room + children_of ts query ≡ reservation_of ts query = told.room in
         let has : h.reservation ≡ reservation_of ts query = told.reservation in
         subst (λ (t2 : Trackers). Tells left len t2 pages buffers m query quota (query_grown n h)) (sym (query_grows charge ts n query high))
-        (both_told (reservation_of (raise (root_growth charge ts n query high n) 0 ts) query + n) (reservation_of ts 0 + root_growth charge ts n query high n) (h.reservation + n) (h.room + n) _
+        (both_told (reservation_of (raise (lacking charge n 0 ts) 0 ts) query + n) (reservation_of ts 0 + lacking charge n 0 ts) (h.reservation + n) (h.room + n) _
         (omega (arith, res, has)) (omega (arith, res, was)))
 
     -- a client grows
-    module _ (t : ℕ) (low : IsLow ts t query) (mine : is_under query (get ts t) ≡ true) (fits : charge t ≤ reservation_of ts t) where
+    module _ (t : ℕ) (low : IsUnderQuery ts t query) (mine : is_under query (get ts t) ≡ true) (fits : charge t ≤ reservation_of ts t) where
       it : (y : Tracker) × (get ts t ≡ Some y)
       it = mine_tracker query (get ts t) mine
 
@@ -168,8 +169,8 @@ module _ (left : ℕ → List ℕ) (len : ℕ) (ts : Trackers) (pages : Pages) (
 
       pub reserved : Tells left len (grow charge n t ts) pages buffers m query quota (after_reserve t n h)
       reserved =
-          let g : ℕ = query_growth charge ts n query high t low in
-          let of_root : ℕ = reservation_of ts 0 + root_growth charge ts n query high g in
+          let g : ℕ = lacking charge n query ts in
+          let of_root : ℕ = reservation_of ts 0 + lacking charge g 0 ts in
           let of_query : ℕ = reservation_of (set_reservation of_root 0 ts) query + g in
           let inner : Trackers = both of_query of_root in
           let inner_at : get inner t ≡ Some it.0 = both_others of_query of_root t mine ∙ it.1 in

@@ -2,7 +2,7 @@
 use Rattle.std.specs.Prelude.{◌≡◌, ℕ, ◌==◌, List, [], ◌∷◌, Bool, true, false, if◌then◌else◌, Option, Some, None}
 use Rattle.std.specs.FinMap.{get}
 use Rattle.pool_model.specs.declared.event.Event.{Event}
-use Rattle.pool_model.specs.declared.event.Event.TheVariants.{AddTracker, Create, PinLoad, ReadOk, ReadFailed, StartWrite, WriteOk, WriteFailed, Extract, Destroy}
+use Rattle.pool_model.specs.declared.event.Event.TheVariants.{AddTracker, Create, PinLoad, ReadOk, ReadFailed, ReadStale, StartWrite, WriteOk, WriteFailed, Extract, Destroy}
 use Rattle.pool_model.specs.declared.entry.Entry.{Entry}
 use Rattle.pool_model.specs.State.{Opening, Place, Flying, Loading, Page}
 use Rattle.pool_model.specs.Makers.{IsSession}
@@ -27,6 +27,7 @@ busy_after p (Create q client blocks key) was = if q == p then false else was
 busy_after p (PinLoad q) was = if q == p then true else was
 busy_after p (ReadOk q) was = if q == p then false else was
 busy_after p (ReadFailed q before after) was = if q == p then false else was
+busy_after p (ReadStale q wanted found) was = if q == p then false else was
 busy_after p (StartWrite q) was = if q == p then true else was
 busy_after p (WriteOk q) was = if q == p then false else was
 busy_after p (WriteFailed q before after) was = if q == p then false else was

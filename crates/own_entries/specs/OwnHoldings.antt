@@ -2,7 +2,7 @@
 -- writes and evictions, change none of it.
 use Rattle.std.specs.Prelude.{ℕ, ◌+◌, ◌-◌, List, [], ◌∷◌, Bool, true, false, leb, if◌then◌else◌, Some, None, is_some}
 use Rattle.pool_model.specs.declared.event.Event.{Event}
-use Rattle.pool_model.specs.declared.event.Event.TheVariants.{AddTracker, CloseTracker, Increase, IncreaseToFit, Decrease, MoveReservation, Create, PinHere, PinLoad, ReadOk, ReadFailed, PinAgain, UnpinOnce, Unpin, Extract, Destroy, Alloc, Free, MoveBuffer}
+use Rattle.pool_model.specs.declared.event.Event.TheVariants.{AddTracker, CloseTracker, Increase, IncreaseToFit, Decrease, MoveReservation, Create, PinHere, PinLoad, ReadOk, ReadFailed, ReadStale, PinAgain, UnpinOnce, Unpin, Extract, Destroy, Alloc, Free, MoveBuffer}
 use Rattle.pool_model.specs.declared.entry.Entry.{Entry}
 use Rattle.store_api.specs.Holdings.{Above, Holdings, put, account_of, page_of, page_len}
 use Rattle.store_api.specs.Changes.{with_page, charged, released, after_add_client, grown_above, fallen_above, raised, lowered, after_reserve, shortfall, after_give_back, after_move_reservation, after_create, after_pin, after_pin_again, after_unpin_once, after_unpin, after_extract, after_destroy, after_alloc, after_free, after_move_buffer}
@@ -94,6 +94,7 @@ step (PinHere p) h = after_pin p h
 step (PinLoad p) h = charged (page_of p h).client (page_len p h) h
 step (ReadOk p) h = with_page p (Some (record (page_of p h) { pins = (page_of p h).pins + 1; left = [] })) h
 step (ReadFailed p before after) h = released (page_of p h).client (page_len p h) h
+step (ReadStale p wanted found) h = released (page_of p h).client (page_len p h) h
 step (PinAgain p) h = after_pin_again p h
 step (UnpinOnce p) h = if has_several_pins p h then after_unpin_once p h else h
 step (Unpin p content) h = after_unpin p content h

@@ -30,7 +30,7 @@ taken s sound c bytes room t = elim (same_or_other c t) [
 -- a page comes
 pub create_sound : (s : State) → IsSound s → (maker p client blocks key : ℕ) → MayCreate s maker p client blocks → IsSound (create_page maker p client blocks key s)
 create_sound s sound maker p client blocks key may =
-    let y : Page = record { key = key; session = maker; client = client; blocks = blocks; place = Pinned 1; has_slots = false } in
+    let y : Page = record { key = key; session = maker; client = client; blocks = blocks; place = Pinned 1; has_slots = false; version = 0 } in
     record {
       seated = sound.seated;
       owned = record {

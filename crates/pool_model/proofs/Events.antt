@@ -7,9 +7,9 @@ use Rattle.pool_model.specs.State.{Place, Pinned, Dirty, Flying, Loading, Clean,
 use Rattle.pool_model.specs.Sums.{times_held, is_in_memory, once, length_of, held_by, HasRoom, free_bytes}
 use Rattle.pool_model.specs.PageRows.{MayPinHere, MayPinLoad, MayPinAgain, MayUnpinOnce, MayUnpin, MayDestroy}
 use Rattle.pool_model.specs.ScratchRows.{MayEndRead, MayStartWrite, MayEndWrite, MayEvict}
-use Rattle.pool_model.specs.Parts.{pins_at, put_in, give_slots, end_page, unqueue, queue_dirty, queue_clean, note_failure}
+use Rattle.pool_model.specs.Parts.{pins_at, put_in, put_flying, give_slots, end_page, unqueue, queue_dirty, queue_clean, note_failure}
 use Rattle.pool_model.specs.Sound.{HasPins, IsSound}
-use Rattle.pool_model.proofs.Pages.{page_is, Grants, put_sound, slots_sound, end_sound, unqueue_sound, dirty_sound, clean_sound, noted_sound}
+use Rattle.pool_model.proofs.Pages.{page_is, Grants, put_sound, flying_sound, slots_sound, end_sound, unqueue_sound, dirty_sound, clean_sound, noted_sound}
 
 -- from this place the other needs so much
 from : (s : State) (x : Page) (old place : Place) (held_more memory_more : ℕ) → x.place ≡ old
@@ -56,6 +56,9 @@ module _ (s : State) (sound : IsSound s) (maker p : ℕ) where
       let next : IsSound t = noted_sound s sound p in
       put_sound t next p may.page may.own.lives Evicted (at_once t next may.page Loading Evicted may.loading (omega arith) (omega arith) tt)
 
+  pub read_stale : MayEndRead s maker p → IsSound (put_in Evicted p s)
+  read_stale may = put_sound s sound p may.page may.own.lives Evicted (at_once s sound may.page Loading Evicted may.loading (omega arith) (omega arith) tt)
+
   pub pin_again : MayPinAgain s maker p → IsSound (put_in (Pinned (pins_at s p + 1)) p s)
   pin_again may =
       let count : ℕ = may.count in
@@ -86,11 +89,11 @@ module _ (s : State) (sound : IsSound s) (maker p : ℕ) where
   pub destroy : MayDestroy s maker p → IsSound (end_page p (unqueue p s))
   destroy may = end_sound (unqueue p s) (unqueue_sound s sound p) p may.page may.own.lives
 
-  pub start_write : MayStartWrite s maker p → IsSound (put_in (Flying maker) p (unqueue p s))
+  pub start_write : MayStartWrite s maker p → IsSound (put_flying maker p (unqueue p s))
   start_write may =
       let t : State = unqueue p s in
       let next : IsSound t = unqueue_sound s sound p in
-      put_sound t next p may.page may.lives (Flying maker) (at_once t next may.page Dirty (Flying maker) may.dirty (omega arith) (omega arith) tt)
+      flying_sound t next p may.page may.lives maker (at_once t next may.page Dirty (Flying maker) may.dirty (omega arith) (omega arith) tt)
 
   pub write_ok : MayEndWrite s maker p → IsSound (put_in Clean p (queue_clean p s))
   write_ok may =

@@ -3,7 +3,7 @@ use Rattle.std.proofs.Common.{◌≡◌, ◌≢◌, ℕ, true, false, Some, None
 use Rattle.std.specs.FinMap.{get, insert}
 use Rattle.reservation_tree.proofs.Maps.{get_other, removed_other}
 use Rattle.pool_model.specs.declared.event.Event.{Event}
-use Rattle.pool_model.specs.declared.event.Event.TheVariants.{AddTracker, CloseTracker, Increase, IncreaseToFit, Decrease, MoveReservation, Create, PinHere, PinLoad, ReadOk, ReadFailed, PinAgain, UnpinOnce, Unpin, Extract, Destroy, Alloc, Free, MoveBuffer, StartWrite, WriteOk, WriteFailed, Evict}
+use Rattle.pool_model.specs.declared.event.Event.TheVariants.{AddTracker, CloseTracker, Increase, IncreaseToFit, Decrease, MoveReservation, Create, PinHere, PinLoad, ReadOk, ReadFailed, ReadStale, PinAgain, UnpinOnce, Unpin, Extract, Destroy, Alloc, Free, MoveBuffer, StartWrite, WriteOk, WriteFailed, Evict}
 use Rattle.pool_model.specs.State.{State, page_at}
 use Rattle.pool_model.specs.Effects.{effect, after}
 use Rattle.pool_model.specs.Frames.{page_in, buffer_in, is_of_trackers, EntriesLeaveRest}
@@ -19,6 +19,7 @@ pages_left maker (PinHere p) s q other = get_other s.pages p _ q (apart p q othe
 pages_left maker (PinLoad p) s q other = get_other s.pages p _ q (apart p q other)
 pages_left maker (ReadOk p) s q other = get_other s.pages p _ q (apart p q other)
 pages_left maker (ReadFailed p before after) s q other = get_other s.pages p _ q (apart p q other)
+pages_left maker (ReadStale p wanted found) s q other = get_other s.pages p _ q (apart p q other)
 pages_left maker (PinAgain p) s q other = get_other s.pages p _ q (apart p q other)
 pages_left maker (UnpinOnce p) s q other = get_other s.pages p _ q (apart p q other)
 pages_left maker (Unpin p content) s q other =
@@ -55,6 +56,11 @@ same_len maker (AddTracker t parent limit (Some quota)) s = refl
 same_len maker (AddTracker t parent limit None) s = refl
 same_len maker _ s = refl
 
+same_marked : (maker : ℕ) (event : Event) (s : State) → (effect maker event s).marked ≡ s.marked
+same_marked maker (AddTracker t parent limit (Some quota)) s = refl
+same_marked maker (AddTracker t parent limit None) s = refl
+same_marked maker _ s = refl
+
 same_blocks : (maker : ℕ) (event : Event) (s : State) → (effect maker event s).blocks ≡ s.blocks
 same_blocks maker (AddTracker t parent limit (Some quota)) s = refl
 same_blocks maker (AddTracker t parent limit None) s = refl
@@ -66,5 +72,6 @@ entries_leave_rest s e = record {
   buffers = buffers_left e.maker e.event s;
   trackers = trackers_left e.maker e.event s;
   block_len = same_len e.maker e.event s;
+  marked = same_marked e.maker e.event s;
   blocks = same_blocks e.maker e.event s;
 }

@@ -5,7 +5,7 @@ use Rattle.reservation_tree.specs.Tracker.{IsLive}
 use Rattle.reservation_tree.specs.Change.{lacking}
 use Rattle.reservation_tree.proofs.Maps.{is_there}
 use Rattle.pool_model.specs.declared.event.Event.{Event}
-use Rattle.pool_model.specs.declared.event.Event.TheVariants.{Ask, AddTracker, CloseTracker, Increase, IncreaseToFit, Decrease, MoveReservation, Create, PinHere, PinLoad, ReadOk, ReadFailed, PinAgain, UnpinOnce, Unpin, UnpinRefused, Extract, Destroy, Alloc, Free, MoveBuffer, StartWrite, WriteOk, WriteFailed, Evict, Refused}
+use Rattle.pool_model.specs.declared.event.Event.TheVariants.{Ask, AddTracker, CloseTracker, Increase, IncreaseToFit, Decrease, MoveReservation, Create, PinHere, PinLoad, ReadOk, ReadFailed, ReadStale, PinAgain, UnpinOnce, Unpin, UnpinRefused, Extract, Destroy, Alloc, Free, MoveBuffer, StartWrite, WriteOk, WriteFailed, Evict, Refused}
 use Rattle.pool_model.specs.declared.entry.Entry.{Entry}
 use Rattle.pool_model.specs.State.{opened, State}
 use Rattle.pool_model.specs.Sums.{charge_of}
@@ -22,7 +22,7 @@ use Rattle.pool_model.proofs.Coming.{add_sound, open_sound, forget_sound}
 use Rattle.pool_model.proofs.Going.{close_sound}
 use Rattle.pool_model.proofs.Opened.{opened_sound}
 use Rattle.pool_model.proofs.Pages.{counted_sound}
-use Rattle.pool_model.proofs.Events.{pin_here, pin_load, read_ok, read_failed, pin_again, unpin_once, unpin, destroy, start_write, write_ok, write_failed, evict}
+use Rattle.pool_model.proofs.Events.{pin_here, pin_load, read_ok, read_failed, read_stale, pin_again, unpin_once, unpin, destroy, start_write, write_ok, write_failed, evict}
 use Rattle.pool_model.proofs.Blocks.{create_sound, alloc_sound}
 use Rattle.pool_model.proofs.Loans.{move_buffer_sound, free_sound, extract_sound}
 
@@ -44,6 +44,7 @@ event_sound before s sound maker (PinHere p) may = pin_here s sound maker p may
 event_sound before s sound maker (PinLoad p) may = pin_load s sound maker p may
 event_sound before s sound maker (ReadOk p) may = read_ok s sound maker p may
 event_sound before s sound maker (ReadFailed p sum_before sum_after) may = read_failed s sound maker p may.ends
+event_sound before s sound maker (ReadStale p wanted found) may = read_stale s sound maker p may.ends
 event_sound before s sound maker (PinAgain p) may = pin_again s sound maker p may
 event_sound before s sound maker (UnpinOnce p) may = unpin_once s sound maker p may
 event_sound before s sound maker (Unpin p content) may = unpin s sound maker p content may

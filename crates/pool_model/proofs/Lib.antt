@@ -38,3 +38,6 @@ pub mod Contents
 pub mod Resting
 pub mod Pins
 pub mod Refused
+pub mod Traces
+pub mod Unique
+pub mod Written

@@ -5,7 +5,7 @@ use Rattle.std.specs.FinMap.{get, insert, get-empty}
 use Rattle.reservation_tree.proofs.Maps.{get_same, get_other, removed_same, removed_other}
 use Rattle.reservation_tree.proofs.Members.{live_apart}
 use Rattle.pool_model.specs.declared.event.Event.{Event}
-use Rattle.pool_model.specs.declared.event.Event.TheVariants.{AddTracker, CloseTracker, Create, PinHere, PinLoad, ReadOk, ReadFailed, PinAgain, UnpinOnce, Unpin, Extract, Destroy, StartWrite, WriteOk, WriteFailed, Evict}
+use Rattle.pool_model.specs.declared.event.Event.TheVariants.{AddTracker, CloseTracker, Create, PinHere, PinLoad, ReadOk, ReadFailed, ReadStale, PinAgain, UnpinOnce, Unpin, Extract, Destroy, StartWrite, WriteOk, WriteFailed, Evict}
 use Rattle.pool_model.specs.declared.entry.Entry.{Entry}
 use Rattle.pool_model.specs.State.{Opening, opened, Place, Pinned, Dirty, Flying, Loading, Clean, Evicted, Page, page_at, State, dirty_of}
 use Rattle.pool_model.specs.MayFollow.{Allows, MayFollow}
@@ -18,7 +18,7 @@ use Rattle.pool_model.proofs.Fronts.{holds_after}
 use Rattle.pool_model.proofs.Times.{AreBelow, below_more}
 use Rattle.pool_model.proofs.Waiting.{unchanged, left, renewed}
 use Rattle.pool_model.proofs.Arriving.{queued, washed}
-use Rattle.pool_model.proofs.Lining.{not_for, idle_dirty, idle_clean, leaves, idles, ends, comes}
+use Rattle.pool_model.proofs.Lining.{not_for, idle_dirty, idle_clean, goes, leaves, idles, ends, comes}
 
 module _ (h : List Entry) (s : State) (sound : IsSound s) (queues : AreQueues h s) (dirt_below : AreBelow dirtied h) (wash_below : AreBelow cleaned h) where
   -- a page that waits nowhere comes to its client's dirty ones
@@ -46,6 +46,7 @@ module _ (h : List Entry) (s : State) (sound : IsSound s) (queues : AreQueues h 
   step maker (PinLoad p) may = idles h s sound queues _ _ refl refl p may.page _ Evicted Loading may.own.lives may.evicted refl refl refl refl refl refl refl refl
   step maker (ReadOk p) may = idles h s sound queues _ _ refl refl p may.page _ Loading (Pinned 1) may.own.lives may.loading refl refl refl refl refl refl refl refl
   step maker (ReadFailed p sum_before sum_after) may = idles h s sound queues _ _ refl refl p may.ends.page _ Loading Evicted may.ends.own.lives may.ends.loading refl refl refl refl refl refl refl refl
+  step maker (ReadStale p wanted found) may = idles h s sound queues _ _ refl refl p may.ends.page _ Loading Evicted may.ends.own.lives may.ends.loading refl refl refl refl refl refl refl refl
   step maker (PinAgain p) may = idles h s sound queues _ _ refl refl p may.page _ (Pinned may.count) _ may.own.lives may.pinned refl refl refl refl refl refl refl refl
   step maker (UnpinOnce p) may = idles h s sound queues _ _ refl refl p may.page _ (Pinned may.count) _ may.own.lives may.pinned refl refl refl refl refl refl refl refl
   step maker (Unpin p content) may =
@@ -62,7 +63,7 @@ module _ (h : List Entry) (s : State) (sound : IsSound s) (queues : AreQueues h 
       left h s (end_page p (unqueue p s)) _ queues refl refl p (page_at s p).client refl refl
       (λ c apart. not_for c (get s.pages p) (λ z there same. apart (sym same ∙ sym (ap (λ (y : Page). y.client) (page_is s p z there)))))
       (λ q away. removed_other s.pages p q away) (λ c. ap (dirty_for c) (removed_same s.pages p)) (ap clean_at (removed_same s.pages p))
-  step maker (StartWrite p) may = leaves h s sound queues _ refl refl p may.page may.lives (Flying maker) refl refl
+  step maker (StartWrite p) may = goes h s sound queues _ _ refl refl p may.page _ may.lives (Flying maker) refl refl refl refl refl refl
   step maker (WriteOk p) may =
       let x : Page = may.page in
       let w : Page = record (page_at s p) { place = Clean } in

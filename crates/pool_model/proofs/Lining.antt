@@ -25,16 +25,20 @@ idle_clean o x place is at idle = ap clean_at is ∙ ap is_clean at ∙ idle
 
 module _ (h : List Entry) (s : State) (sound : IsSound s) (queues : AreQueues h s) where
   -- a page that waits goes where it doesn't
+  pub goes : (new : State) (e : Entry) → dirtied e.event ≡ None → cleaned e.event ≡ None → (p : ℕ) (x w : Page) → get s.pages p ≡ Some x → (place : Place) → is_dirty place ≡ false → is_clean place ≡ false
+      → new.dirty ≡ (unqueue p s).dirty → new.clean ≡ (unqueue p s).clean → new.pages ≡ insert s.pages p w → w.place ≡ place → AreQueues (h ++ e ∷ []) new
+  goes new e no_dirt no_wash p x w is place idle idle_too dirty clean pages put =
+      let now : get new.pages p ≡ Some w = ap (λ m. get m p) pages ∙ get_same s.pages p w in
+      left h s new e queues no_dirt no_wash p (page_at s p).client dirty clean
+      (λ c apart. not_for c (get s.pages p) (λ z there same. apart (sym same ∙ sym (ap (λ (y : Page). y.client) (page_is s p z there)))))
+      (λ q away. ap (λ m. get m q) pages ∙ get_other s.pages p w q away)
+      (λ c. idle_dirty c (get new.pages p) w place now put idle)
+      (idle_clean (get new.pages p) w place now put idle_too)
+
   pub leaves : (e : Entry) → dirtied e.event ≡ None → cleaned e.event ≡ None → (p : ℕ) (x : Page) → get s.pages p ≡ Some x → (place : Place) → is_dirty place ≡ false → is_clean place ≡ false
       → AreQueues (h ++ e ∷ []) (put_in place p (unqueue p s))
   leaves e no_dirt no_wash p x is place idle idle_too =
-      let w : Page = record (page_at s p) { place = place } in
-      let now : get (insert s.pages p w) p ≡ Some w = get_same s.pages p w in
-      left h s (put_in place p (unqueue p s)) e queues no_dirt no_wash p (page_at s p).client refl refl
-      (λ c apart. not_for c (get s.pages p) (λ z there same. apart (sym same ∙ sym (ap (λ (y : Page). y.client) (page_is s p z there)))))
-      (λ q away. get_other s.pages p w q away)
-      (λ c. idle_dirty c (get (insert s.pages p w) p) w place now refl idle)
-      (idle_clean (get (insert s.pages p w) p) w place now refl idle_too)
+      goes (put_in place p (unqueue p s)) e no_dirt no_wash p x (record (page_at s p) { place = place }) is place idle idle_too refl refl refl refl
 
   -- a page that doesn't wait goes where it doesn't either
   pub idles : (new : State) (e : Entry) → dirtied e.event ≡ None → cleaned e.event ≡ None → (p : ℕ) (x w : Page) (old place : Place) → get s.pages p ≡ Some x → x.place ≡ old

@@ -5,7 +5,7 @@ use Rattle.std.specs.Ordering.{nat_cmp}
 use Rattle.std.specs.FinMap.{get, insert, remove, get-empty}
 use Rattle.reservation_tree.proofs.Maps.{get_same, get_other, removed_same, removed_other, same_or_other}
 use Rattle.pool_model.specs.declared.event.Event.{Event}
-use Rattle.pool_model.specs.declared.event.Event.TheVariants.{AddTracker, Create, PinHere, PinLoad, ReadOk, ReadFailed, PinAgain, UnpinOnce, Unpin, Extract, Destroy, StartWrite, WriteOk, WriteFailed, Evict}
+use Rattle.pool_model.specs.declared.event.Event.TheVariants.{AddTracker, Create, PinHere, PinLoad, ReadOk, ReadFailed, ReadStale, PinAgain, UnpinOnce, Unpin, Extract, Destroy, StartWrite, WriteOk, WriteFailed, Evict}
 use Rattle.pool_model.specs.declared.entry.Entry.{Entry}
 use Rattle.pool_model.specs.State.{Opening, Page, page_at, State}
 use Rattle.pool_model.specs.LookingBack.{Made, makes, maker_of}
@@ -59,6 +59,7 @@ live_before before s maker (PinHere p) may q y is = inl (put_before s p may.page
 live_before before s maker (PinLoad p) may q y is = inl (put_before s p may.page _ may.own.lives refl q y is)
 live_before before s maker (ReadOk p) may q y is = inl (put_before s p may.page _ may.own.lives refl q y is)
 live_before before s maker (ReadFailed p sum_before sum_after) may q y is = inl (put_before s p may.ends.page _ may.ends.own.lives refl q y is)
+live_before before s maker (ReadStale p wanted found) may q y is = inl (put_before s p may.ends.page _ may.ends.own.lives refl q y is)
 live_before before s maker (PinAgain p) may q y is = inl (put_before s p may.page _ may.own.lives refl q y is)
 live_before before s maker (UnpinOnce p) may q y is = inl (put_before s p may.page _ may.own.lives refl q y is)
 live_before before s maker (Unpin p content) may q y is =

@@ -4,9 +4,9 @@ use Rattle.std.specs.FinMap.{get, insert, remove}
 use Rattle.reservation_tree.specs.Tracker.{reservation_of}
 use Rattle.reservation_tree.proofs.Maps.{get_same, get_other, removed_same, removed_other, same_or_other}
 use Rattle.pool_model.specs.Bytes.{only_if}
-use Rattle.pool_model.specs.State.{Place, Page, no_page, page_at, State}
+use Rattle.pool_model.specs.State.{Place, Flying, Page, no_page, page_at, State}
 use Rattle.pool_model.specs.Sums.{times_held, is_in_memory, once, length_of, page_bytes, bytes_in, pages_for, buffers_for, buffer_bytes, held_by, HasRoom, IsClient, bytes_in_memory, memory, free_bytes}
-use Rattle.pool_model.specs.Parts.{put_in, give_slots, end_page, unqueue, queue_dirty, queue_clean, note_failure, keep_first}
+use Rattle.pool_model.specs.Parts.{put_in, put_flying, give_slots, end_page, unqueue, queue_dirty, queue_clean, note_failure, keep_first}
 use Rattle.pool_model.specs.Effects.{count_entry}
 use Rattle.pool_model.specs.Sound.{HasPins, IsOwned, IsSound}
 use Rattle.pool_model.proofs.Weights.{mine, not_mine}
@@ -35,9 +35,9 @@ pub record Grants (s : State) (x : Page) (place : Place) : Type 0 where
 
 module _ (s : State) (sound : IsSound s) (p : ℕ) (x : Page) (is : get s.pages p ≡ Some x) where
   -- a page of the same client, with the same blocks and name
-  owned_put : (place : Place) (has_slots : Bool) → HasPins place → IsOwned s.trackers (insert s.pages p (record x { place = place; has_slots = has_slots })) s.buffers s.next_name
-  owned_put place has_slots has =
-      let y : Page = record x { place = place; has_slots = has_slots } in record {
+  owned_put : (place : Place) (has_slots : Bool) (version : ℕ) → HasPins place → IsOwned s.trackers (insert s.pages p (record x { place = place; has_slots = has_slots; version = version })) s.buffers s.next_name
+  owned_put place has_slots version has =
+      let y : Page = record x { place = place; has_slots = has_slots; version = version } in record {
         page_clients = λ q z there. elim (same_or_other q p) [
           | inl here ↦
               let same : y ≡ z = some_is y z (sym (get_same s.pages p y) ∙ ap (get (insert s.pages p y)) (sym here) ∙ there) in
@@ -57,10 +57,10 @@ module _ (s : State) (sound : IsSound s) (p : ℕ) (x : Page) (is : get s.pages 
         ];
       }
 
-  held_put : (place : Place) (has_slots : Bool) → Grants s x place → (t : ℕ)
-      → pages_for times_held s.block_len (insert s.pages p (record x { place = place; has_slots = has_slots })) t + buffers_for s.block_len s.buffers t ≤ reservation_of s.trackers t
-  held_put place has_slots grants t =
-      let y : Page = record x { place = place; has_slots = has_slots } in
+  held_put : (place : Place) (has_slots : Bool) (version : ℕ) → Grants s x place → (t : ℕ)
+      → pages_for times_held s.block_len (insert s.pages p (record x { place = place; has_slots = has_slots; version = version })) t + buffers_for s.block_len s.buffers t ≤ reservation_of s.trackers t
+  held_put place has_slots version grants t =
+      let y : Page = record x { place = place; has_slots = has_slots; version = version } in
       let sum : pages_for times_held s.block_len (insert s.pages p y) t + only_if (x.client == t) (page_bytes times_held s.block_len x) ≡ pages_for times_held s.block_len s.pages t + only_if (x.client == t) (page_bytes times_held s.block_len y) =
       pages_put times_held s.block_len s.pages p x is y t in
       let was : held_by s t ≤ reservation_of s.trackers t = sound.within.held t in
@@ -78,13 +78,13 @@ module _ (s : State) (sound : IsSound s) (p : ℕ) (x : Page) (is : get s.pages 
       ]
 
   -- the page goes to another place, with or without slots
-  pub placed : (place : Place) (has_slots : Bool) → Grants s x place → IsSound (record s { pages = insert s.pages p (record x { place = place; has_slots = has_slots }) })
-  placed place has_slots grants =
-      let y : Page = record x { place = place; has_slots = has_slots } in record {
+  pub placed : (place : Place) (has_slots : Bool) (version : ℕ) → Grants s x place → IsSound (record s { pages = insert s.pages p (record x { place = place; has_slots = has_slots; version = version }) })
+  placed place has_slots version grants =
+      let y : Page = record x { place = place; has_slots = has_slots; version = version } in record {
         seated = sound.seated;
-        owned = owned_put place has_slots grants.pins;
+        owned = owned_put place has_slots version grants.pins;
         within = record {
-          held = held_put place has_slots grants;
+          held = held_put place has_slots version grants;
           memory =
               let sum : bytes_in (once is_in_memory) s.block_len (insert s.pages p y) + page_bytes (once is_in_memory) s.block_len x ≡ bytes_in (once is_in_memory) s.block_len s.pages + page_bytes (once is_in_memory) s.block_len y =
               bytes_put (once is_in_memory) s.block_len s.pages p x is y in
@@ -95,14 +95,19 @@ module _ (s : State) (sound : IsSound s) (p : ℕ) (x : Page) (is : get s.pages 
       }
 
   pub put_sound : (place : Place) → Grants s x place → IsSound (put_in place p s)
-  put_sound place grants = subst (λ (z : Page). IsSound (record s { pages = insert s.pages p (record z { place = place }) })) (sym (page_is s p x is)) (placed place x.has_slots grants)
+  put_sound place grants = subst (λ (z : Page). IsSound (record s { pages = insert s.pages p (record z { place = place }) })) (sym (page_is s p x is)) (placed place x.has_slots x.version grants)
+
+  -- the page is written from now on
+  pub flying_sound : (writer : ℕ) → Grants s x (Flying writer) → IsSound (put_flying writer p s)
+  flying_sound writer grants =
+      subst (λ (z : Page). IsSound (record s { pages = insert s.pages p (record z { place = Flying writer; version = s.entries }) })) (sym (page_is s p x is)) (placed (Flying writer) x.has_slots s.entries grants)
 
   -- the page has slots now
   pub slots_sound : IsSound (give_slots p s)
   slots_sound =
       let room : held_by s x.client + 0 ≤ reservation_of s.trackers x.client = let was : held_by s x.client ≤ reservation_of s.trackers x.client = sound.within.held x.client in omega (arith, was) in
       subst (λ (z : Page). IsSound (record s { pages = insert s.pages p (record z { has_slots = true }) })) (sym (page_is s p x is))
-      (placed x.place true (record { held_more = 0; memory_more = 0; held = omega arith; room = room; memory = omega arith; free = omega arith; pins = sound.owned.pins p x is }))
+      (placed x.place true x.version (record { held_more = 0; memory_more = 0; held = omega arith; room = room; memory = omega arith; free = omega arith; pins = sound.owned.pins p x is }))
 
   -- the page ends
   pub end_sound : IsSound (end_page p s)

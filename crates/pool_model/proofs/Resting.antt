@@ -5,7 +5,7 @@ use Rattle.std.specs.FinMap.{get, insert, remove, get-empty}
 use Rattle.std.specs.Ordering.{nat_cmp}
 use Rattle.reservation_tree.proofs.Maps.{get_same, get_other, removed_same, removed_other, same_or_other}
 use Rattle.pool_model.specs.declared.event.Event.{Event}
-use Rattle.pool_model.specs.declared.event.Event.TheVariants.{AddTracker, Create, PinHere, PinLoad, ReadOk, ReadFailed, PinAgain, UnpinOnce, Unpin, Extract, Destroy, StartWrite, WriteOk, WriteFailed, Evict}
+use Rattle.pool_model.specs.declared.event.Event.TheVariants.{AddTracker, Create, PinHere, PinLoad, ReadOk, ReadFailed, ReadStale, PinAgain, UnpinOnce, Unpin, Extract, Destroy, StartWrite, WriteOk, WriteFailed, Evict}
 use Rattle.pool_model.specs.declared.entry.Entry.{Entry}
 use Rattle.pool_model.specs.Bytes.{bytes_of}
 use Rattle.pool_model.specs.State.{opened, Place, Pinned, Dirty, Flying, Loading, Clean, Evicted, no_page, Page, page_at, State}
@@ -56,12 +56,12 @@ module _ (before : List Entry) (s : State) (kept : (p : ℕ) (x : Page) → get 
   not_bare : (p : ℕ) (x : Page) → get s.pages p ≡ Some x → (old place : Place) → x.place ≡ old → ((count : ℕ) → old ≢ Pinned count) → x.has_slots ≡ false → IsPinned place
   not_bare p x is old place at never bare = let was : IsPinned x.place = (kept p x is).pinned bare in absurd (never was.0 (sym at ∙ was.1))
 
-  put_left : (p : ℕ) (x : Page) → get s.pages p ≡ Some x → (place : Place) → (x.has_slots ≡ false → IsPinned place) → (q : ℕ) (y : Page) → get (insert s.pages p (record (page_at s p) { place = place })) q ≡ Some y → WasLeft before q y
-  put_left p x is place pinned q y there = elim (same_or_other q p) [
+  put_left : (p : ℕ) (x : Page) → get s.pages p ≡ Some x → (place : Place) (version : ℕ → ℕ) → (x.has_slots ≡ false → IsPinned place) → (q : ℕ) (y : Page) → get (insert s.pages p (record (page_at s p) { place = place; version = version (page_at s p).version })) q ≡ Some y → WasLeft before q y
+  put_left p x is place version pinned q y there = elim (same_or_other q p) [
     | inl here ↦
-        let w : Page = record x { place = place } in
-        let now : get (insert s.pages p (record (page_at s p) { place = place })) p ≡ Some w = get_same s.pages p _ ∙ ap (λ (z : Page). Some (record z { place = place })) (page_is s p x is) in
-        let same : w ≡ y = some_is w y (sym now ∙ ap (get (insert s.pages p (record (page_at s p) { place = place }))) (sym here) ∙ there) in
+        let w : Page = record x { place = place; version = version x.version } in
+        let now : get (insert s.pages p (record (page_at s p) { place = place; version = version (page_at s p).version })) p ≡ Some w = get_same s.pages p _ ∙ ap (λ (z : Page). Some (record z { place = place; version = version z.version })) (page_is s p x is) in
+        let same : w ≡ y = some_is w y (sym now ∙ ap (get (insert s.pages p (record (page_at s p) { place = place; version = version (page_at s p).version }))) (sym here) ∙ there) in
         subst (λ (r : ℕ). WasLeft before r y) (sym here) (subst (WasLeft before p) same (record { pinned = pinned; left = (kept p x is).left }))
     | inr apart ↦ kept q y (sym (get_other s.pages p _ q apart) ∙ there)
   ]
@@ -94,26 +94,28 @@ module _ (before : List Entry) (s : State) (kept : (p : ℕ) (x : Page) → get 
   left_on maker (AddTracker t parent limit None) may q y there = more_left before q y _ (kept q y there)
   left_on maker (Create p client blocks key) may q y there = elim (same_or_other q p) [
     | inl here ↦
-        let w : Page = record { key = key; session = maker; client = client; blocks = blocks; place = Pinned 1; has_slots = false } in
+        let w : Page = record { key = key; session = maker; client = client; blocks = blocks; place = Pinned 1; has_slots = false; version = 0 } in
         let same : w ≡ y = some_is w y (sym (get_same s.pages p w) ∙ ap (get (insert s.pages p w)) (sym here) ∙ there) in
         subst (WasLeft (before ++ record { maker = maker; event = Create p client blocks key } ∷ []) q) same (record { pinned = λ bare. (1, refl); left = λ has. let never : false ≡ true = has in cc })
     | inr apart ↦ more_left before q y _ (kept q y (sym (get_other s.pages p _ q apart) ∙ there))
   ]
-  left_on maker (PinHere p) may q y there = more_left before q y _ (put_left p may.page may.own.lives (Pinned 1) (λ bare. (1, refl)) q y there)
-  left_on maker (PinLoad p) may q y there = more_left before q y _ (put_left p may.page may.own.lives Loading (not_bare p may.page may.own.lives Evicted Loading may.evicted (λ count same. cc)) q y there)
-  left_on maker (ReadOk p) may q y there = more_left before q y _ (put_left p may.page may.own.lives (Pinned 1) (λ bare. (1, refl)) q y there)
+  left_on maker (PinHere p) may q y there = more_left before q y _ (put_left p may.page may.own.lives (Pinned 1) (λ n. n) (λ bare. (1, refl)) q y there)
+  left_on maker (PinLoad p) may q y there = more_left before q y _ (put_left p may.page may.own.lives Loading (λ n. n) (not_bare p may.page may.own.lives Evicted Loading may.evicted (λ count same. cc)) q y there)
+  left_on maker (ReadOk p) may q y there = more_left before q y _ (put_left p may.page may.own.lives (Pinned 1) (λ n. n) (λ bare. (1, refl)) q y there)
   left_on maker (ReadFailed p sum_before sum_after) may q y there =
-      more_left before q y _ (put_left p may.ends.page may.ends.own.lives Evicted (not_bare p may.ends.page may.ends.own.lives Loading Evicted may.ends.loading (λ count same. cc)) q y there)
-  left_on maker (PinAgain p) may q y there = more_left before q y _ (put_left p may.page may.own.lives _ (λ bare. (_, refl)) q y there)
-  left_on maker (UnpinOnce p) may q y there = more_left before q y _ (put_left p may.page may.own.lives _ (λ bare. (_, refl)) q y there)
+      more_left before q y _ (put_left p may.ends.page may.ends.own.lives Evicted (λ n. n) (not_bare p may.ends.page may.ends.own.lives Loading Evicted may.ends.loading (λ count same. cc)) q y there)
+  left_on maker (ReadStale p wanted found) may q y there =
+      more_left before q y _ (put_left p may.ends.page may.ends.own.lives Evicted (λ n. n) (not_bare p may.ends.page may.ends.own.lives Loading Evicted may.ends.loading (λ count same. cc)) q y there)
+  left_on maker (PinAgain p) may q y there = more_left before q y _ (put_left p may.page may.own.lives _ (λ n. n) (λ bare. (_, refl)) q y there)
+  left_on maker (UnpinOnce p) may q y there = more_left before q y _ (put_left p may.page may.own.lives _ (λ n. n) (λ bare. (_, refl)) q y there)
   left_on maker (Unpin p content) may q y there = unpin_left maker p content q y there
   left_on maker (Extract p f) may q y there = more_left before q y _ (gone_left p q y there)
   left_on maker (Destroy p) may q y there = more_left before q y _ (gone_left p q y there)
-  left_on maker (StartWrite p) may q y there = more_left before q y _ (put_left p may.page may.lives (Flying maker) (not_bare p may.page may.lives Dirty (Flying maker) may.dirty (λ count same. cc)) q y there)
-  left_on maker (WriteOk p) may q y there = more_left before q y _ (put_left p may.page may.lives Clean (not_bare p may.page may.lives (Flying maker) Clean may.flying (λ count same. cc)) q y there)
+  left_on maker (StartWrite p) may q y there = more_left before q y _ (put_left p may.page may.lives (Flying maker) (λ _. s.entries) (not_bare p may.page may.lives Dirty (Flying maker) may.dirty (λ count same. cc)) q y there)
+  left_on maker (WriteOk p) may q y there = more_left before q y _ (put_left p may.page may.lives Clean (λ n. n) (not_bare p may.page may.lives (Flying maker) Clean may.flying (λ count same. cc)) q y there)
   left_on maker (WriteFailed p sum_before sum_after) may q y there =
-      more_left before q y _ (put_left p may.ends.page may.ends.lives Dirty (not_bare p may.ends.page may.ends.lives (Flying maker) Dirty may.ends.flying (λ count same. cc)) q y there)
-  left_on maker (Evict p) may q y there = more_left before q y _ (put_left p may.page may.lives Evicted (not_bare p may.page may.lives Clean Evicted may.clean (λ count same. cc)) q y there)
+      more_left before q y _ (put_left p may.ends.page may.ends.lives Dirty (λ n. n) (not_bare p may.ends.page may.ends.lives (Flying maker) Dirty may.ends.flying (λ count same. cc)) q y there)
+  left_on maker (Evict p) may q y there = more_left before q y _ (put_left p may.page may.lives Evicted (λ n. n) (not_bare p may.page may.lives Clean Evicted may.clean (λ count same. cc)) q y there)
   left_on maker event may q y there = more_left before q y _ (kept q y there)
 
 record Tells (block_len : ℕ) (h : List Entry) (s : State) : Type 0 where

@@ -6,7 +6,7 @@ use Rattle.reservation_tree.specs.Total.{total, weight_at}
 use Rattle.reservation_tree.proofs.Maps.{get_same, get_other, same_or_other}
 use Rattle.reservation_tree.proofs.Sums.{total-insert, total-remove, total-none}
 use Rattle.pool_model.specs.declared.event.Event.{Event}
-use Rattle.pool_model.specs.declared.event.Event.TheVariants.{Ask, AddTracker, CloseTracker, Create, PinHere, PinLoad, ReadOk, ReadFailed, PinAgain, UnpinOnce, Unpin, Extract, Destroy, StartWrite, WriteOk, WriteFailed, Evict}
+use Rattle.pool_model.specs.declared.event.Event.TheVariants.{Ask, AddTracker, CloseTracker, Create, PinHere, PinLoad, ReadOk, ReadFailed, ReadStale, PinAgain, UnpinOnce, Unpin, Extract, Destroy, StartWrite, WriteOk, WriteFailed, Evict}
 use Rattle.pool_model.specs.declared.entry.Entry.{Entry}
 use Rattle.pool_model.specs.Bytes.{only_if}
 use Rattle.pool_model.specs.State.{Place, Pinned, Dirty, Flying, Loading, Clean, Evicted, Page, Pages, no_page, page_at, Session, State}
@@ -53,11 +53,11 @@ no_slots m pages none = total-none (λ _ x. slots_at m x) pages (λ p x is. ap (
 
 module _ (s : State) (m p : ℕ) (x : Page) (is : get s.pages p ≡ Some x) where
   -- the page goes to another place
-  elsewhere : (place : Place) → slots_of (insert s.pages p (record (page_at s p) { place = place })) m ≤ slots_of s.pages m
-  elsewhere place =
-      let w : Page = record x { place = place } in
+  elsewhere : (place : Place) (version : ℕ → ℕ) → slots_of (insert s.pages p (record (page_at s p) { place = place; version = version (page_at s p).version })) m ≤ slots_of s.pages m
+  elsewhere place version =
+      let w : Page = record x { place = place; version = version x.version } in
       let sum : slots_of (insert s.pages p w) m + slots_at m x ≡ slots_of s.pages m + slots_at m x = slots_put m s.pages p x is w in
-      subst (λ (z : Page). slots_of (insert s.pages p (record z { place = place })) m ≤ slots_of s.pages m) (sym (page_is s p x is)) (omega (arith, sum))
+      subst (λ (z : Page). slots_of (insert s.pages p (record z { place = place; version = version z.version })) m ≤ slots_of s.pages m) (sym (page_is s p x is)) (omega (arith, sum))
 
   gone : slots_of (remove s.pages p) m ≤ slots_of s.pages m
   gone = let sum : slots_of (remove s.pages p) m + slots_at m x ≡ slots_of s.pages m = slots_gone m s.pages p x is in omega (arith, sum)
@@ -108,19 +108,20 @@ module _ (before : List Entry) (s : State) (fits : FitsQuotas s) (maker m : ℕ)
       let new : slots_of (effect maker (Create p client blocks key) s).pages m ≤ slots_of s.pages m + only_if (maker == m) 0 = slots_new m s.pages p _ in
       let none : only_if (maker == m) 0 ≡ 0 = only_none (maker == m) in
       fewer _ (omega (arith, new, none))
-  slots_kept (PinHere p) may = fewer _ (elsewhere s m p may.page may.own.lives (Pinned 1))
-  slots_kept (PinLoad p) may = fewer _ (elsewhere s m p may.page may.own.lives Loading)
-  slots_kept (ReadOk p) may = fewer _ (elsewhere s m p may.page may.own.lives (Pinned 1))
-  slots_kept (ReadFailed p sum_before sum_after) may = fewer _ (elsewhere s m p may.ends.page may.ends.own.lives Evicted)
-  slots_kept (PinAgain p) may = fewer _ (elsewhere s m p may.page may.own.lives _)
-  slots_kept (UnpinOnce p) may = fewer _ (elsewhere s m p may.page may.own.lives _)
+  slots_kept (PinHere p) may = fewer _ (elsewhere s m p may.page may.own.lives (Pinned 1) (λ n. n))
+  slots_kept (PinLoad p) may = fewer _ (elsewhere s m p may.page may.own.lives Loading (λ n. n))
+  slots_kept (ReadOk p) may = fewer _ (elsewhere s m p may.page may.own.lives (Pinned 1) (λ n. n))
+  slots_kept (ReadFailed p sum_before sum_after) may = fewer _ (elsewhere s m p may.ends.page may.ends.own.lives Evicted (λ n. n))
+  slots_kept (ReadStale p wanted found) may = fewer _ (elsewhere s m p may.ends.page may.ends.own.lives Evicted (λ n. n))
+  slots_kept (PinAgain p) may = fewer _ (elsewhere s m p may.page may.own.lives _ (λ n. n))
+  slots_kept (UnpinOnce p) may = fewer _ (elsewhere s m p may.page may.own.lives _ (λ n. n))
   slots_kept (Unpin p content) may = taken p may.page may.own.lives may.own.own may.slots _ (dirtied s m p may.page may.own.lives)
   slots_kept (Extract p f) may = fewer _ (gone s m p may.page may.own.lives)
   slots_kept (Destroy p) may = fewer _ (gone s m p may.page may.own.lives)
-  slots_kept (StartWrite p) may = fewer _ (elsewhere s m p may.page may.lives (Flying maker))
-  slots_kept (WriteOk p) may = fewer _ (elsewhere s m p may.page may.lives Clean)
-  slots_kept (WriteFailed p sum_before sum_after) may = fewer _ (elsewhere s m p may.ends.page may.ends.lives Dirty)
-  slots_kept (Evict p) may = fewer _ (elsewhere s m p may.page may.lives Evicted)
+  slots_kept (StartWrite p) may = fewer _ (elsewhere s m p may.page may.lives (Flying maker) (λ _. s.entries))
+  slots_kept (WriteOk p) may = fewer _ (elsewhere s m p may.page may.lives Clean (λ n. n))
+  slots_kept (WriteFailed p sum_before sum_after) may = fewer _ (elsewhere s m p may.ends.page may.ends.lives Dirty (λ n. n))
+  slots_kept (Evict p) may = fewer _ (elsewhere s m p may.page may.lives Evicted (λ n. n))
   slots_kept _ may = fits m x is
 
 -- the session was live with the same quota, or it is the maker's new one

@@ -3,11 +3,11 @@ use Rattle.std.specs.Prelude.{ℕ, ◌+◌, ◌-◌, Some, None}
 use Rattle.std.specs.FinMap.{remove}
 use Rattle.reservation_tree.specs.Change.{grow, lacking, shrink, move_to}
 use Rattle.pool_model.specs.declared.event.Event.{Event}
-use Rattle.pool_model.specs.declared.event.Event.TheVariants.{Ask, AddTracker, CloseTracker, Increase, IncreaseToFit, Decrease, MoveReservation, Create, PinHere, PinLoad, ReadOk, ReadFailed, PinAgain, UnpinOnce, Unpin, UnpinRefused, Extract, Destroy, Alloc, Free, MoveBuffer, StartWrite, WriteOk, WriteFailed, Evict, Refused}
+use Rattle.pool_model.specs.declared.event.Event.TheVariants.{Ask, AddTracker, CloseTracker, Increase, IncreaseToFit, Decrease, MoveReservation, Create, PinHere, PinLoad, ReadOk, ReadFailed, ReadStale, PinAgain, UnpinOnce, Unpin, UnpinRefused, Extract, Destroy, Alloc, Free, MoveBuffer, StartWrite, WriteOk, WriteFailed, Evict, Refused}
 use Rattle.pool_model.specs.declared.entry.Entry.{Entry}
-use Rattle.pool_model.specs.State.{Pinned, Dirty, Flying, Loading, Clean, Evicted, State, shown, page_at, buffer_at}
+use Rattle.pool_model.specs.State.{Pinned, Dirty, Loading, Clean, Evicted, State, shown, page_at, buffer_at}
 use Rattle.pool_model.specs.Sums.{charge_of}
-use Rattle.pool_model.specs.Parts.{with_trackers, pins_at, put_in, give_slots, end_page, queue_dirty, unqueue, queue_clean, note_failure, forget_failures, open_session, add_client, close_tracker, create_page, put_buffer}
+use Rattle.pool_model.specs.Parts.{with_trackers, pins_at, put_in, put_flying, give_slots, end_page, queue_dirty, unqueue, queue_clean, note_failure, forget_failures, open_session, add_client, close_tracker, create_page, put_buffer}
 
 -- what an event does, but that it is counted
 abbrev pub effect : ℕ → Event → State → State
@@ -24,6 +24,7 @@ effect maker (PinHere p) s = put_in (Pinned 1) p (unqueue p s)
 effect maker (PinLoad p) s = put_in Loading p s
 effect maker (ReadOk p) s = put_in (Pinned 1) p s
 effect maker (ReadFailed p before after) s = put_in Evicted p (note_failure p s)
+effect maker (ReadStale p wanted found) s = put_in Evicted p s
 effect maker (PinAgain p) s = put_in (Pinned (pins_at s p + 1)) p s
 effect maker (UnpinOnce p) s = put_in (Pinned (pins_at s p - 1)) p s
 effect maker (Unpin p content) s = put_in Dirty p (give_slots p (queue_dirty p s))
@@ -33,7 +34,7 @@ effect maker (Destroy p) s = end_page p (unqueue p s)
 effect maker (Alloc f client blocks) s = put_buffer f (record { client = client; blocks = blocks }) s
 effect maker (Free f) s = record s { buffers = remove s.buffers f }
 effect maker (MoveBuffer f to) s = put_buffer f (record (buffer_at s f) { client = to }) s
-effect maker (StartWrite p) s = put_in (Flying maker) p (unqueue p s)
+effect maker (StartWrite p) s = put_flying maker p (unqueue p s)
 effect maker (WriteOk p) s = put_in Clean p (queue_clean p s)
 effect maker (WriteFailed p before after) s = put_in Dirty p (queue_dirty p (note_failure p s))
 effect maker (Evict p) s = put_in Evicted p (unqueue p s)

@@ -2,7 +2,7 @@
 use Rattle.std.specs.Prelude.{ℕ, ◌==◌, List, [], length, filter, find, Bool, false, ◌&&◌, ◌||◌, Option, Some, None, option_map}
 use Rattle.std.specs.List.{list_any}
 use Rattle.pool_model.specs.declared.event.Event.{Event}
-use Rattle.pool_model.specs.declared.event.Event.TheVariants.{AddTracker, CloseTracker, ReadFailed, WriteFailed}
+use Rattle.pool_model.specs.declared.event.Event.TheVariants.{AddTracker, CloseTracker, ReadFailed, ReadStale, WriteFailed}
 use Rattle.pool_model.specs.declared.entry.Entry.{Entry}
 use Rattle.pool_model.specs.LookingBack.{since, last_of, Numbered, numbered, opens, is_ask, is_by, Made, maker_of}
 
@@ -52,9 +52,10 @@ first_failed h maker c entries = option_map (λ n. n.number) (find (λ n. fails 
 abbrev pub first_failure : List Entry → ℕ → ℕ → Option ℕ
 first_failure h maker c = first_failed h maker c (since (λ n. forgets maker c n.entry) [] (numbered 0 h))
 
--- a read of this page failed
+-- a read of this page failed, or gave another block than was wanted
 abbrev pub fails_read : ℕ → Event → Bool
 fails_read p (ReadFailed q before after) = q == p
+fails_read p (ReadStale q wanted found) = q == p
 fails_read p _ = false
 
 -- the number of the last read of the page by this maker that failed, since its last Ask

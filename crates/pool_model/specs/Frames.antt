@@ -2,7 +2,7 @@
 use Rattle.std.specs.Prelude.{◌≡◌, ◌≢◌, ℕ, Bool, true, false, Option, Some, None}
 use Rattle.std.specs.FinMap.{get}
 use Rattle.pool_model.specs.declared.event.Event.{Event}
-use Rattle.pool_model.specs.declared.event.Event.TheVariants.{AddTracker, CloseTracker, Increase, IncreaseToFit, Decrease, MoveReservation, Create, PinHere, PinLoad, ReadOk, ReadFailed, PinAgain, UnpinOnce, Unpin, UnpinRefused, Extract, Destroy, Alloc, Free, MoveBuffer, StartWrite, WriteOk, WriteFailed, Evict}
+use Rattle.pool_model.specs.declared.event.Event.TheVariants.{AddTracker, CloseTracker, Increase, IncreaseToFit, Decrease, MoveReservation, Create, PinHere, PinLoad, ReadOk, ReadFailed, ReadStale, PinAgain, UnpinOnce, Unpin, UnpinRefused, Extract, Destroy, Alloc, Free, MoveBuffer, StartWrite, WriteOk, WriteFailed, Evict}
 use Rattle.pool_model.specs.declared.entry.Entry.{Entry}
 use Rattle.pool_model.specs.State.{State}
 use Rattle.pool_model.specs.Effects.{after}
@@ -14,6 +14,7 @@ page_in (PinHere p) = Some p
 page_in (PinLoad p) = Some p
 page_in (ReadOk p) = Some p
 page_in (ReadFailed p before after) = Some p
+page_in (ReadStale p wanted found) = Some p
 page_in (PinAgain p) = Some p
 page_in (UnpinOnce p) = Some p
 page_in (Unpin p content) = Some p
@@ -51,6 +52,7 @@ pub record LeavesRest (s : State) (e : Entry) : Type 0 where
   pub buffers : (f : ℕ) → buffer_in e.event ≢ Some f → get (after s e).buffers f ≡ get s.buffers f
   pub trackers : is_of_trackers e.event ≡ false → (after s e).trackers ≡ s.trackers
   pub block_len : (after s e).block_len ≡ s.block_len
+  pub marked : (after s e).marked ≡ s.marked
   pub blocks : (after s e).blocks ≡ s.blocks
 
 abbrev pub EntriesLeaveRest : Type 0

@@ -20,3 +20,6 @@ pub mod OwnLaws
 pub mod RefusalLaws
 pub mod Frames
 pub mod Orders
+pub mod Traces
+pub mod TraceLaws
+pub mod StoredBlocks

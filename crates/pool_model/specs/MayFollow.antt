@@ -2,13 +2,13 @@
 use Rattle.std.specs.Prelude.{ℕ, ◌⊎◌, List, Some, None}
 use Rattle.std.specs.Bool.{⊤}
 use Rattle.pool_model.specs.declared.event.Event.{Event}
-use Rattle.pool_model.specs.declared.event.Event.TheVariants.{Ask, AddTracker, CloseTracker, Increase, IncreaseToFit, Decrease, MoveReservation, Create, PinHere, PinLoad, ReadOk, ReadFailed, PinAgain, UnpinOnce, Unpin, UnpinRefused, Extract, Destroy, Alloc, Free, MoveBuffer, StartWrite, WriteOk, WriteFailed, Evict, Refused}
+use Rattle.pool_model.specs.declared.event.Event.TheVariants.{Ask, AddTracker, CloseTracker, Increase, IncreaseToFit, Decrease, MoveReservation, Create, PinHere, PinLoad, ReadOk, ReadFailed, ReadStale, PinAgain, UnpinOnce, Unpin, UnpinRefused, Extract, Destroy, Alloc, Free, MoveBuffer, StartWrite, WriteOk, WriteFailed, Evict, Refused}
 use Rattle.pool_model.specs.declared.entry.Entry.{Entry}
 use Rattle.pool_model.specs.Makers.{IsSession, IsWriter}
 use Rattle.pool_model.specs.State.{State}
 use Rattle.pool_model.specs.TrackerRows.{MayOpenSession, MayAddClient, MayCloseTracker, MayIncrease, MayIncreaseToFit, MayDecrease, MayMoveReservation}
 use Rattle.pool_model.specs.PageRows.{MayCreate, MayPinHere, MayPinLoad, MayPinAgain, MayUnpinOnce, MayUnpin, MayRefuseUnpin, MayExtract, MayDestroy, MayAlloc, MayFree, MayMoveBuffer}
-use Rattle.pool_model.specs.ScratchRows.{MayEndRead, MayFailRead, MayStartWrite, MayEndWrite, MayFailWrite, MayEvict}
+use Rattle.pool_model.specs.ScratchRows.{MayEndRead, MayFailRead, MayFindStale, MayStartWrite, MayEndWrite, MayFailWrite, MayEvict}
 use Rattle.pool_model.specs.Refusals.{MayRefuse}
 
 -- sessions make all events, writers only those of writes
@@ -33,6 +33,7 @@ Allows before s maker (PinHere p) = MayPinHere s maker p
 Allows before s maker (PinLoad p) = MayPinLoad s maker p
 Allows before s maker (ReadOk p) = MayEndRead s maker p
 Allows before s maker (ReadFailed p sum_before sum_after) = MayFailRead s maker p sum_before sum_after
+Allows before s maker (ReadStale p wanted found) = MayFindStale s maker p wanted found
 Allows before s maker (PinAgain p) = MayPinAgain s maker p
 Allows before s maker (UnpinOnce p) = MayUnpinOnce s maker p
 Allows before s maker (Unpin p content) = MayUnpin s maker p content

@@ -4,7 +4,7 @@ use Rattle.std.specs.Ordering.{nat_cmp}
 use Rattle.std.specs.FinMap.{FinMap, get, insert, remove, empty}
 use Rattle.reservation_tree.specs.Tracker.{Trackers}
 use Rattle.reservation_tree.specs.Change.{with_child}
-use Rattle.pool_model.specs.State.{Place, Pinned, Buffer, Sessions, State, pins_of, page_at, dirty_of}
+use Rattle.pool_model.specs.State.{Place, Pinned, Flying, Buffer, Sessions, State, pins_of, page_at, dirty_of}
 
 -- the names but this one, in their order
 abbrev pub without : ℕ → List ℕ → List ℕ
@@ -16,6 +16,10 @@ with_trackers ts s = record s { trackers = ts }
 -- the page goes to another place
 abbrev pub put_in : Place → ℕ → State → State
 put_in place p s = record s { pages = insert s.pages p (record (page_at s p) { place = place }) }
+
+-- the page is written from now on, and the number of this entry is its version
+abbrev pub put_flying : ℕ → ℕ → State → State
+put_flying writer p s = record s { pages = insert s.pages p (record (page_at s p) { place = Flying writer; version = s.entries }) }
 
 -- the pins of a page
 abbrev pub pins_at : State → ℕ → ℕ
@@ -84,7 +88,7 @@ close_tracker maker t s = record s {
 
 abbrev pub create_page : ℕ → ℕ → ℕ → ℕ → ℕ → State → State
 create_page maker p client blocks key s = record s {
-  pages = insert s.pages p (record { key = key; session = maker; client = client; blocks = blocks; place = Pinned 1; has_slots = false });
+  pages = insert s.pages p (record { key = key; session = maker; client = client; blocks = blocks; place = Pinned 1; has_slots = false; version = 0 });
   next_name = s.next_name + 1;
 }
 

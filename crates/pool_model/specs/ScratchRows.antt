@@ -1,6 +1,7 @@
 -- When pages may go to scratch and come back. Each row is what its event needs.
-use Rattle.std.specs.Prelude.{◌≡◌, ℕ, ◌<◌, ◌≤◌, ◌⊎◌, List, [], ◌∷◌, ◌++◌, Some}
+use Rattle.std.specs.Prelude.{◌≡◌, ◌≢◌, ℕ, ◌<◌, ◌≤◌, ◌⊎◌, List, [], ◌∷◌, ◌++◌, Some}
 use Rattle.std.specs.FinMap.{get}
+use Rattle.reservation_tree.specs.declared.mark.Mark.{Mark}
 use Rattle.pool_model.specs.Makers.{IsSession}
 use Rattle.pool_model.specs.State.{Dirty, Flying, Loading, Clean, Page, State, dirty_of}
 use Rattle.pool_model.specs.Owning.{IsPageOf}
@@ -17,6 +18,14 @@ pub record MayEndRead (s : State) (maker p : ℕ) : Type 0 where
 pub record MayFailRead (s : State) (maker p before after : ℕ) : Type 0 where
   pub ends : MayEndRead s maker p
   pub fault : IsFault before after
+
+-- a load gave a block whose mark isn't the one under which it was stored last
+pub record MayFindStale (s : State) (maker p : ℕ) (wanted found : Mark) : Type 0 where
+  pub ends : MayEndRead s maker p
+  pub name : wanted.name ≡ p
+  pub version : wanted.version ≡ ends.page.version
+  pub block : wanted.block < ends.page.blocks
+  pub other : found ≢ wanted
 
 -- a session writes its own pages, a writer those of all; the newest of the client's dirty pages goes first
 pub record MayStartWrite (s : State) (maker p : ℕ) : Type 0 where

@@ -7,11 +7,12 @@ use Rattle.reservation_tree.specs.Tracker.{Trackers}
 use Rattle.reservation_tree.specs.Change.{root_alone}
 use Rattle.pool_model.specs.Bytes.{bytes_of}
 
--- with what a pool is opened: its blocks, their length in bytes, the name of its first page, its slots, and
--- the sums of their counts of faults and stores then
+-- with what a pool is opened: its blocks, their length in bytes, whether stored blocks have marks, the name of its
+-- first page, its slots, and the sums of their counts of faults and stores then
 pub record Opening : Type 0 where
   pub blocks : ℕ
   pub block_len : ℕ
+  pub marked : Bool
   pub first_name : ℕ
   pub slots : ℕ
   pub faults : ℕ
@@ -27,7 +28,7 @@ pub data Place : Type 0 where
   Evicted : Place
 
 -- a live page: the key by which the pool finds it, for whom it was made, how many blocks it has, where it is,
--- and whether it has slots
+-- whether it has slots, and the number of the entry by which its last write began
 pub record Page : Type 0 where
   pub key : ℕ
   pub session : ℕ
@@ -35,6 +36,7 @@ pub record Page : Type 0 where
   pub blocks : ℕ
   pub place : Place
   pub has_slots : Bool
+  pub version : ℕ
 
 -- a live buffer: who is charged for it, and how many blocks it has
 pub record Buffer : Type 0 where
@@ -62,6 +64,7 @@ Sessions = FinMap nat_cmp Session
 pub record State : Type 0 where
   pub block_len : ℕ
   pub blocks : ℕ
+  pub marked : Bool
   pub trackers : Trackers
   pub sessions : Sessions
   pub pages : Pages
@@ -80,6 +83,7 @@ abbrev pub opened : Opening → State
 opened o = record {
   block_len = o.block_len;
   blocks = o.blocks;
+  marked = o.marked;
   trackers = root_alone (bytes_of o.block_len o.blocks);
   sessions = empty;
   pages = empty;
@@ -92,7 +96,7 @@ opened o = record {
 
 -- what is read where no page is live
 abbrev pub no_page : Page
-no_page = record { key = 0; session = 0; client = 0; blocks = 0; place = Evicted; has_slots = false }
+no_page = record { key = 0; session = 0; client = 0; blocks = 0; place = Evicted; has_slots = false; version = 0 }
 
 abbrev pub page_at : State → ℕ → Page
 page_at s p = unwrap_or (get s.pages p) no_page

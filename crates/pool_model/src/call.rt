@@ -2,7 +2,7 @@
 
 use reservation_tree::TrackerId;
 
-/// A call of a session that may be refused for want of room, or for a load that failed.
+/// A call of a session that may be refused for want of room, or for a load that failed or gave another block.
 #[derive(Clone, Copy, Debug, PartialEq, Eq)]
 pub enum Call {
     /// A page is to be pinned.

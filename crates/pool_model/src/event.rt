@@ -3,7 +3,7 @@
 use crate::call::Call;
 use crate::content::Content;
 use crate::fault_sum::FaultSum;
-use reservation_tree::TrackerId;
+use reservation_tree::{Mark, TrackerId};
 
 /// One step of a pool. Pages have names that never come again; trackers and buffers have numbers that may.
 ///
@@ -69,6 +69,12 @@ pub enum Event {
         page: u64,
         before: FaultSum,
         after: FaultSum,
+    },
+    /// A load gave a block with another mark than the wanted one: the page is evicted again.
+    ReadStale {
+        page: u64,
+        wanted: Mark,
+        found: Mark,
     },
     /// A pinned page is pinned once more, and charged once more.
     PinAgain {

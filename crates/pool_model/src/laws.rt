@@ -4,6 +4,7 @@ ghost use Rattle.pool_model.specs.Frames.{EntriesLeaveRest};
 ghost use Rattle.pool_model.specs.Orders.{LegalKeepsQueues};
 ghost use Rattle.pool_model.specs.OwnLaws.{LegalSessionsAreTold, LegalContentsAreTold, LegalKeptFailuresRose, FailuresGrow};
 ghost use Rattle.pool_model.specs.RefusalLaws.{LegalRefusalsNameOwn};
+ghost use Rattle.pool_model.specs.StoredBlocks.{LegalMarksShowContent, LegalVersionsAreTold, MarksAreUnique};
 ghost use Rattle.pool_model.specs.HistoryLaws.{LegalFronts, LegalGrows, LegalGrowsSo, StateRunsOn, LegalNamesAreNew, CountsEntries, LegalPagesAsMade, LegalPagesAreOwned, LegalKeepsFailures};
 
 /// Charges and the reservations of children fit each reservation, and each reservation fits its limit.
@@ -119,4 +120,17 @@ pub fn law_contents()
 #[tactic(auto, using(crate::proofs::Refused::legal_refusals_name_own))]
 pub fn law_refusals()
     ensures { LegalRefusalsNameOwn }
+{}
+
+/// A page whose bytes are on scratch has the version of its last write, which began with these bytes.
+#[tactic(auto, using(crate::proofs::Written::legal_versions_are_told))]
+pub fn law_versions()
+    ensures { LegalVersionsAreTold }
+{}
+
+/// While fewer entries stand than the greatest u64, what a history stores under one mark is one block.
+/// So what was stored under the mark that is wanted of a page is the page's content.
+pub fn law_marks()
+    ensures unique { MarksAreUnique }
+    ensures content { LegalMarksShowContent }
 {}

@@ -5,8 +5,11 @@
 //! A pinned page is charged to its client once for each of its pins, and has its blocks once.
 //! No code of a pool runs here: the types are the words of entries, and each law is the contract of a
 //! function that does nothing.
+//!
+//! A trace is a history without the bytes of pages and the numbers that contracts alone see.
 #![tactic(auto)]
 
+mod bare;
 mod call;
 mod content;
 mod entry;
@@ -14,29 +17,22 @@ mod event;
 mod fault_sum;
 mod laws;
 mod maker;
-#[cfg(test)]
-mod plain_pages;
-#[cfg(test)]
-mod plain_pool;
-#[cfg(test)]
-mod plain_rules;
-#[cfg(test)]
-mod plain_scratch;
-#[cfg(test)]
-mod plain_trackers;
+mod skeleton;
 #[cfg(test)]
 mod tests;
-#[cfg(test)]
-mod worked;
+mod trace_laws;
 
+pub use bare::Bare;
 pub use call::Call;
 pub use content::Content;
 pub use entry::Entry;
 pub use event::Event;
 pub use fault_sum::FaultSum;
 pub use laws::{
-    law_clients, law_contents, law_count, law_failures, law_fronts, law_made, law_names,
+    law_clients, law_contents, law_count, law_failures, law_fronts, law_made, law_marks, law_names,
     law_orders, law_owners, law_pins, law_quotas, law_refusals, law_rest, law_room, law_sessions,
-    law_sound, law_trackers,
+    law_sound, law_trackers, law_versions,
 };
 pub use maker::{FIRST_WRITER, MAX_SESSIONS, MAX_WRITERS, Maker};
+pub use skeleton::Skeleton;
+pub use trace_laws::law_traces;

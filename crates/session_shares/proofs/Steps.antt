@@ -3,7 +3,7 @@ use Rattle.std.proofs.Common.{◌≡◌, ◌≢◌, ℕ, ◌+◌, ◌-◌, ◌*�
 use Rattle.std.specs.FinMap.{get, insert}
 use Rattle.reservation_tree.proofs.Maps.{same_or_other}
 use Rattle.pool_model.specs.declared.event.Event.{Event}
-use Rattle.pool_model.specs.declared.event.Event.TheVariants.{AddTracker, Create, PinHere, PinLoad, ReadOk, ReadFailed, PinAgain, UnpinOnce, Unpin, Extract, Destroy, StartWrite, WriteOk, WriteFailed, Evict}
+use Rattle.pool_model.specs.declared.event.Event.TheVariants.{AddTracker, Create, PinHere, PinLoad, ReadOk, ReadFailed, ReadStale, PinAgain, UnpinOnce, Unpin, Extract, Destroy, StartWrite, WriteOk, WriteFailed, Evict}
 use Rattle.pool_model.specs.declared.entry.Entry.{Entry}
 use Rattle.pool_model.specs.Bytes.{bytes_of, only_if}
 use Rattle.pool_model.specs.State.{Place, Pinned, Dirty, Flying, Loading, Clean, Evicted, Page, page_at, State}
@@ -58,7 +58,7 @@ module _ (m len : ℕ) (whole before : List Entry) (s : State) (sound : IsSound 
   -- a write that ended well stored its page
   written : (maker p : ℕ) (x : Page) → get s.pages p ≡ Some x → x.place ≡ Flying maker → Keeps maker (WriteOk p)
   written maker p x is flying =
-      let now = moved m len s p x is (Flying maker) Clean flying in
+      let now = moved m len s p x is (λ n. n) (Flying maker) Clean flying in
       let none : counted m len s p x is Clean ≡ 0 = not_counted m len s p x is Clean refl in
       let blocks : stored_for m whole (WriteOk p) ≡ (if x.session == m then x.blocks else 0) = ap (λ o. if is_own m o then blocks_of o else 0) (known p (made x) (tells.as_made p x is)) in
       let stored : stored_for m whole (WriteOk p) * len ≡ counted m len s p x is (Flying maker) = ap (λ (n : ℕ). n * len) blocks ∙ all_or_none (x.session == m) len x.blocks in
@@ -79,7 +79,7 @@ module _ (m len : ℕ) (whole before : List Entry) (s : State) (sound : IsSound 
   -- a page that another session pins here, or ends, doesn't count
   pinned_here : (maker p : ℕ) (x : Page) → get s.pages p ≡ Some x → x.session ≡ maker → maker ≢ m → Keeps maker (PinHere p)
   pinned_here maker p x is own other =
-      let now = moved m len s p x is x.place (Pinned 1) refl in
+      let now = moved m len s p x is (λ n. n) x.place (Pinned 1) refl in
       let was : counted m len s p x is x.place ≡ 0 = foreign maker x own other in
       omega (arith, now, was)
 
@@ -105,7 +105,7 @@ module _ (m len : ℕ) (whole before : List Entry) (s : State) (sound : IsSound 
   keeps maker (AddTracker t parent limit (Some quota)) may building = omega arith
   keeps maker (AddTracker t parent limit None) may building = omega arith
   keeps maker (Create p client blocks key) may building =
-      let more = came m len s.pages p (record { key = key; session = maker; client = client; blocks = blocks; place = Pinned 1; has_slots = false })
+      let more = came m len s.pages p (record { key = key; session = maker; client = client; blocks = blocks; place = Pinned 1; has_slots = false; version = 0 })
       (none_there (get s.pages p) (λ y there. let low = sound.owned.names p y there in let next : p ≡ s.next_name = may.next in omega (arith, low, next))) in
       omega (arith, more)
   keeps maker (PinHere p) may building = elim (same_or_other maker m) [
@@ -115,6 +115,7 @@ module _ (m len : ℕ) (whole before : List Entry) (s : State) (sound : IsSound 
   keeps maker (PinLoad p) may building = let more = rested p may.page may.own.lives Evicted Loading may.evicted refl in omega (arith, more)
   keeps maker (ReadOk p) may building = let more = rested p may.page may.own.lives Loading (Pinned 1) may.loading refl in omega (arith, more)
   keeps maker (ReadFailed p sum_before sum_after) may building = let more = rested p may.ends.page may.ends.own.lives Loading Evicted may.ends.loading refl in omega (arith, more)
+  keeps maker (ReadStale p wanted found) may building = let more = rested p may.ends.page may.ends.own.lives Loading Evicted may.ends.loading refl in omega (arith, more)
   keeps maker (PinAgain p) may building = let more = rested p may.page may.own.lives (Pinned may.count) (Pinned (pins_at s p + 1)) may.pinned refl in omega (arith, more)
   keeps maker (UnpinOnce p) may building = let more = rested p may.page may.own.lives (Pinned may.count) (Pinned (pins_at s p - 1)) may.pinned refl in omega (arith, more)
   keeps maker (Unpin p content) may building = left_dirty maker p content may.page may.own.lives may.own.own may.pinned may.whole
@@ -123,8 +124,8 @@ module _ (m len : ℕ) (whole before : List Entry) (s : State) (sound : IsSound 
     | inl own ↦ absurd (building own)
     | inr other ↦ ended maker p may.page may.own.lives may.own.own other
   ]
-  keeps maker (StartWrite p) may building = let now = moved m len s p may.page may.lives Dirty (Flying maker) may.dirty in omega (arith, now)
+  keeps maker (StartWrite p) may building = let now = moved m len s p may.page may.lives (λ n. s.entries) Dirty (Flying maker) may.dirty in omega (arith, now)
   keeps maker (WriteOk p) may building = written maker p may.page may.lives may.flying
-  keeps maker (WriteFailed p sum_before sum_after) may building = let now = moved m len s p may.ends.page may.ends.lives (Flying maker) Dirty may.ends.flying in omega (arith, now)
+  keeps maker (WriteFailed p sum_before sum_after) may building = let now = moved m len s p may.ends.page may.ends.lives (λ n. n) (Flying maker) Dirty may.ends.flying in omega (arith, now)
   keeps maker (Evict p) may building = let more = rested p may.page may.lives Clean Evicted may.clean refl in omega (arith, more)
   keeps maker _ may building = omega arith

@@ -53,19 +53,21 @@ module _ (m len : ℕ) (s : State) (p : ℕ) (x : Page) (is : get s.pages p ≡ 
   abbrev pub counted : Place → ℕ
   counted place = only_if (x.session == m) (times_unwritten place * bytes_of len x.blocks)
 
-  -- a page goes from one place to another
-  pub moved : (old place : Place) → x.place ≡ old
-      → unwritten_for m len (insert s.pages p (record (page_at s p) { place = place })) + counted old ≡ unwritten_for m len s.pages + counted place
-  moved old place was =
-      subst (λ (z : Page). unwritten_for m len (insert s.pages p (record z { place = place })) + counted old ≡ unwritten_for m len s.pages + counted place) (sym (page_is s p x is))
-      (subst (λ (a : Place). unwritten_for m len (insert s.pages p (record x { place = place })) + counted a ≡ unwritten_for m len s.pages + counted place) was
-      (put m len s.pages p x is (record x { place = place })))
+  -- a page goes from one place to another, maybe with another version
+  pub moved : (version : ℕ → ℕ) (old place : Place) → x.place ≡ old
+      → unwritten_for m len (insert s.pages p (record (page_at s p) { place = place; version = version (page_at s p).version })) + counted old
+      ≡ unwritten_for m len s.pages + counted place
+  moved version old place was =
+      let now : Page → Page = λ z. record z { place = place; version = version z.version } in
+      subst (λ (z : Page). unwritten_for m len (insert s.pages p (now z)) + counted old ≡ unwritten_for m len s.pages + counted place) (sym (page_is s p x is))
+      (subst (λ (a : Place). unwritten_for m len (insert s.pages p (now x)) + counted a ≡ unwritten_for m len s.pages + counted place) was
+      (put m len s.pages p x is (now x)))
 
   -- from where it wasn't to be written: no fewer bytes are to be written then
   pub moved_less : (old place : Place) → x.place ≡ old → counted old ≡ 0
       → unwritten_for m len s.pages ≤ unwritten_for m len (insert s.pages p (record (page_at s p) { place = place }))
   moved_less old place was none =
-      let put = moved old place was in
+      let put = moved (λ n. n) old place was in
       omega (arith, put, none)
 
   -- a place where none is to be written

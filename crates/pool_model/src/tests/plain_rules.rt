@@ -1,6 +1,6 @@
 //! Which entry may follow and what it does, over plain maps.
 
-use crate::plain_pool::PlainPool;
+use crate::tests::plain_pool::PlainPool;
 use crate::{Entry, Event};
 use std::alloc::AllocError;
 

@@ -1,7 +1,7 @@
 //! The events of pages and buffers over plain maps.
 
 use crate::Event;
-use crate::plain_pool::{Buffer, Page, Place, PlainPool};
+use crate::tests::plain_pool::{Buffer, Page, Place, PlainPool};
 use std::alloc::AllocError;
 
 impl PlainPool {
@@ -67,6 +67,7 @@ impl PlainPool {
                     blocks: *blocks,
                     place: Place::Pinned(1),
                     has_slots: false,
+                    version: 0,
                 };
                 self.pages.insert(*page, new)?;
                 self.next_name = self.next_name.saturating_add(1);

@@ -1,6 +1,6 @@
 //! Reads, writes, evictions and refusals over plain maps.
 
-use crate::plain_pool::{Buffer, Place, PlainPool};
+use crate::tests::plain_pool::{Buffer, Kind, Page, Place, PlainPool};
 use crate::{Call, Event};
 use std::alloc::AllocError;
 
@@ -15,6 +15,17 @@ impl PlainPool {
             } => {
                 self.own_page(maker, *page, Place::Loading).is_some()
                     && is_fault(before.shown(), after.shown())
+            }
+            Event::ReadStale {
+                page,
+                wanted,
+                found,
+            } => {
+                let own = self.own_page(maker, *page, Place::Loading);
+                let is_wanted = |x: Page| {
+                    wanted.name == *page && wanted.version == x.version && wanted.block < x.blocks
+                };
+                own.is_some_and(is_wanted) && found != wanted
             }
             Event::StartWrite { page } => self.pages.get(page).is_some_and(|x| {
                 (maker >= 240 || x.session == maker)
@@ -42,19 +53,23 @@ impl PlainPool {
         match event {
             Event::ReadOk { page } => self.put(*page, Place::Pinned(1)),
             Event::ReadFailed { page, .. } => {
-                self.note_failure(maker, *page, true)?;
+                self.note_failure(maker, *page, Kind::Read)?;
+                self.put(*page, Place::Evicted);
+            }
+            Event::ReadStale { page, .. } => {
+                self.note_failure(maker, *page, Kind::Stale)?;
                 self.put(*page, Place::Evicted);
             }
             Event::StartWrite { page } => {
                 self.unqueue(*page);
-                self.put(*page, Place::Flying(maker));
+                self.fly(*page, maker);
             }
             Event::WriteOk { page } => {
                 self.clean.push(*page)?;
                 self.put(*page, Place::Clean);
             }
             Event::WriteFailed { page, .. } => {
-                self.note_failure(maker, *page, false)?;
+                self.note_failure(maker, *page, Kind::Write)?;
                 self.dirty.push(*page)?;
                 self.put(*page, Place::Dirty);
             }

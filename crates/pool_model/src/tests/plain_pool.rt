@@ -28,6 +28,8 @@ pub struct Page {
     pub blocks: u32,
     pub place: Place,
     pub has_slots: bool,
+    /// The number of the entry by which its last write began.
+    pub version: u64,
 }
 
 #[derive(Clone, Copy)]
@@ -44,14 +46,22 @@ pub struct Session {
     pub asked: Option<u64>,
 }
 
-/// A write or a read that failed.
+/// A write or a read that failed, or a read that gave another block.
 #[derive(Clone, Copy)]
 pub struct Failure {
     pub entry: u64,
     pub maker: u32,
     pub page: u64,
     pub client: u32,
-    pub is_read: bool,
+    pub kind: Kind,
+}
+
+/// What went wrong. A stale read is no failure, but a pin is refused for it.
+#[derive(Clone, Copy, PartialEq, Eq)]
+pub enum Kind {
+    Write,
+    Read,
+    Stale,
 }
 
 #[derive(Drop)]
@@ -276,19 +286,28 @@ impl PlainPool {
         }
     }
 
+    /// The page is written from this entry on.
+    pub fn fly(&mut self, page: u64, writer: u32) {
+        let version = self.entries;
+        if let Some(found) = self.pages.get_mut(&page) {
+            found.place = Place::Flying(writer);
+            found.version = version;
+        }
+    }
+
     pub fn unqueue(&mut self, page: u64) {
         self.dirty.retain(|x| *x != page);
         self.clean.retain(|x| *x != page);
     }
 
-    pub fn note_failure(&mut self, maker: u32, page: u64, is_read: bool) -> Result<(), AllocError> {
+    pub fn note_failure(&mut self, maker: u32, page: u64, kind: Kind) -> Result<(), AllocError> {
         if let Some(found) = self.pages.get(&page) {
             let failure = Failure {
                 entry: self.entries,
                 maker,
                 page,
                 client: found.client,
-                is_read,
+                kind,
             };
             self.failures.push(failure)?;
         }
@@ -298,7 +317,7 @@ impl PlainPool {
     /// The first failure on the client's pages since this entry.
     pub fn first_failure(&self, client: u32, since: u64) -> Option<u64> {
         for failure in self.failures.iter() {
-            if failure.client == client && failure.entry > since {
+            if failure.client == client && failure.kind != Kind::Stale && failure.entry > since {
                 return Some(failure.entry);
             }
         }
@@ -309,7 +328,7 @@ impl PlainPool {
     pub fn last_failed_read(&self, maker: u32, page: u64, since: u64) -> Option<u64> {
         let mut last = None;
         for failure in self.failures.iter() {
-            if failure.is_read
+            if failure.kind != Kind::Write
                 && failure.maker == maker
                 && failure.page == page
                 && failure.entry > since

@@ -1,5 +1,5 @@
 //! Worked histories, for the tests.
-use crate::plain_pool::{Place, PlainPool};
+use crate::tests::plain_pool::{Place, PlainPool};
 use crate::{Content, Entry, Event, FaultSum, Maker};
 use reservation_tree::TrackerId;
 use std::alloc::{AllocError, Global};

@@ -1,7 +1,7 @@
 //! The events of trackers over plain maps.
 
 use crate::Event;
-use crate::plain_pool::{PlainPool, Session, Tracker};
+use crate::tests::plain_pool::{PlainPool, Session, Tracker};
 use std::alloc::AllocError;
 
 impl PlainPool {
