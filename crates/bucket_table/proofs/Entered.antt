@@ -4,7 +4,7 @@ use Rattle.std.specs.Prelude.{All}
 use Rattle.std.proofs.lemmas.List.{map-append}
 use Rattle.std.proofs.lemmas.List.Elements.{All-append, All-cons, All-head, All-nil, All-tail}
 use Rattle.reservation_tree.specs.declared.errors.PoolErr.{PoolErr}
-use Rattle.reservation_tree.specs.declared.errors.PoolErr.TheVariants.{NoReservation, ScratchFull, WriteFault, ReadFault, TooManyTrackers, NamesSpent, Memory}
+use Rattle.reservation_tree.specs.declared.errors.PoolErr.TheVariants.{NoReservation, ScratchFull, WriteFault, ReadFault, TooManyTrackers, NamesSpent, Memory, Stale}
 use Rattle.pool_model.specs.declared.call.Call.TheVariants as call
 use Rattle.pool_model.specs.declared.event.Event.{Event}
 use Rattle.pool_model.specs.declared.event.Event.TheVariants.{Ask, Alloc, Free, StartWrite, WriteOk, WriteFailed, Evict, Refused}
@@ -86,6 +86,7 @@ module _ (t : ℕ) (h : Holdings) where
   of_refused client blocks (TooManyTrackers count) old new cause = absurd cause
   of_refused client blocks NamesSpent old new cause = absurd cause
   of_refused client blocks Memory old new cause = λ events is. subst (All IsOfLoans) (sym is) (All-nil IsOfLoans)
+  of_refused client blocks (Stale wanted found) old new cause = absurd cause
 
 -- none was lent
 pub refused_entered : (t client blocks : ℕ) (e : PoolErr) (h new : Holdings) (before after : Signs) → WasRefused t (call.Alloc client blocks) h new before after e → EnteredLoans before.trail after.trail

@@ -3,7 +3,7 @@ use Rattle.std.proofs.Common.{◌≡◌, ◌≢◌, ℕ, List, [], ◌∷◌, �
 use Rattle.std.specs.Prelude.{All}
 use Rattle.std.proofs.lemmas.List.Elements.{All-append, All-cons, All-head}
 use Rattle.reservation_tree.specs.declared.errors.PoolErr.{PoolErr}
-use Rattle.reservation_tree.specs.declared.errors.PoolErr.TheVariants.{NoReservation, ScratchFull, WriteFault, ReadFault, TooManyTrackers, NamesSpent, Memory}
+use Rattle.reservation_tree.specs.declared.errors.PoolErr.TheVariants.{NoReservation, ScratchFull, WriteFault, ReadFault, TooManyTrackers, NamesSpent, Memory, Stale}
 use Rattle.store_api.specs.Holdings.{Holdings}
 use Rattle.store_api.specs.Changes.{after_free}
 use Rattle.store_api.specs.Signs.{Signs, Grows}
@@ -83,6 +83,7 @@ short_before (ReadFault entry) t blocks a b c grows is = absurd is.cause
 short_before (TooManyTrackers count) t blocks a b c grows is = absurd is.cause
 short_before NamesSpent t blocks a b c grows is = absurd is.cause
 short_before Memory t blocks a b c grows is = record { cause = tt; answered = tt }
+short_before (Stale wanted found) t blocks a b c grows is = absurd is.cause
 
 pub short_after : (e : PoolErr) (t blocks : ℕ) (a b c : Signs) → WasShort t blocks a b e → Grows b c → WasShort t blocks a c e
 short_after (NoReservation tracker wanted room) t blocks a b c is grows = absurd is.cause
@@ -92,6 +93,7 @@ short_after (ReadFault entry) t blocks a b c is grows = absurd is.cause
 short_after (TooManyTrackers count) t blocks a b c is grows = absurd is.cause
 short_after NamesSpent t blocks a b c is grows = absurd is.cause
 short_after Memory t blocks a b c is grows = record { cause = tt; answered = tt }
+short_after (Stale wanted found) t blocks a b c is grows = absurd is.cause
 
 pub if_err : {E X : Type 0} {P Q : E → Type 0} (r : Result X E) → IfErr r P → ((e : E) → P e → Q e) → IfErr r Q
 if_err (Ok x) is so = tt

@@ -5,7 +5,7 @@ use Rattle.std.specs.List.{sum_by}
 use Rattle.std.specs.Prelude.{All, is_some, if◌then◌else◌}
 use Rattle.std.proofs.lemmas.List.Elements.{All-nil}
 use Rattle.reservation_tree.specs.declared.errors.PoolErr.{PoolErr}
-use Rattle.reservation_tree.specs.declared.errors.PoolErr.TheVariants.{NoReservation, ScratchFull, WriteFault, ReadFault, TooManyTrackers, NamesSpent, Memory}
+use Rattle.reservation_tree.specs.declared.errors.PoolErr.TheVariants.{NoReservation, ScratchFull, WriteFault, ReadFault, TooManyTrackers, NamesSpent, Memory, Stale}
 use Rattle.store_api.specs.Alike.{Alike}
 use Rattle.store_api.specs.Emitters.{OthersStay}
 use Rattle.store_api.specs.Holdings.{Account, Holdings, account_of, length_of, no_account, or_else, unused_of}
@@ -40,6 +40,7 @@ short_full t blocks free before after (ReadFault entry) was = tt
 short_full t blocks free before after (TooManyTrackers count) was = tt
 short_full t blocks free before after NamesSpent was = tt
 short_full t blocks free before after Memory was = tt
+short_full t blocks free before after (Stale wanted found) was = tt
 
 pub short_cause : {X : Type 0} (t blocks : ℕ) (before after : Signs) (result : Result X PoolErr) → IfErr result (WasShort t blocks before after) → IfErr result (λ e. WasAnswered e before after)
 short_cause t blocks before after (Ok x) was = tt

@@ -2,7 +2,7 @@
 use Rattle.std.proofs.Common.{◌≡◌, ◌≢◌, ◌∙◌, ℕ, ◌*◌, Option, Some, None, IsSome, Result, Ok, Err, IfErr, ap, sym, subst, arith}
 use Rattle.std.specs.Prelude.{slice_get, sum_by}
 use Rattle.reservation_tree.specs.declared.errors.PoolErr.{PoolErr}
-use Rattle.reservation_tree.specs.declared.errors.PoolErr.TheVariants.{NoReservation, ScratchFull, WriteFault, ReadFault, TooManyTrackers, NamesSpent, Memory}
+use Rattle.reservation_tree.specs.declared.errors.PoolErr.TheVariants.{NoReservation, ScratchFull, WriteFault, ReadFault, TooManyTrackers, NamesSpent, Memory, Stale}
 use Rattle.store_api.specs.Emitters.{CameOf, KeepsRoom, OthersStay}
 use Rattle.store_api.specs.Holdings.{Holdings, no_page, page_of}
 use Rattle.store_api.specs.Signs.{Signs}
@@ -72,6 +72,7 @@ none_refused blocks total before after (ReadFault entry) same came = tt
 none_refused blocks total before after (TooManyTrackers count) same came = tt
 none_refused blocks total before after NamesSpent same came = tt
 none_refused blocks total before after Memory same came = tt
+none_refused blocks total before after (Stale wanted found) same came = tt
 
 -- what shows nothing refused no unpin
 pub alone_want : (blocks f g : ℕ) (total : Option ℕ) (before after : Signs) (e : OpErr) → after ≡ before → CameOf f g before after e → IsWantOf blocks total e

@@ -6,7 +6,7 @@ use Rattle.std.proofs.lemmas.List.Sums.{sum_by-append, sum_by-cons}
 use Rattle.std.proofs.lemmas.Option.{none-some, same_Some}
 use Rattle.std.proofs.Math.Nat.{mul-le-mul_right}
 use Rattle.reservation_tree.specs.declared.errors.PoolErr.{PoolErr}
-use Rattle.reservation_tree.specs.declared.errors.PoolErr.TheVariants.{NoReservation, ScratchFull, WriteFault, ReadFault, TooManyTrackers, NamesSpent, Memory}
+use Rattle.reservation_tree.specs.declared.errors.PoolErr.TheVariants.{NoReservation, ScratchFull, WriteFault, ReadFault, TooManyTrackers, NamesSpent, Memory, Stale}
 use Rattle.row_codec.specs.RowBytes.{row_bytes}
 use Rattle.row_codec.specs.declared.values.Value.{Value}
 use Rattle.store_api.specs.Conditions.{IsBlockCount}
@@ -64,6 +64,7 @@ below_more m n total (ReadFault entry) more want = tt
 below_more m n total (TooManyTrackers count) more want = tt
 below_more m n total NamesSpent more want = tt
 below_more m n total Memory more want = tt
+below_more m n total (Stale wanted found) more want = tt
 
 pub below_more_of : (m n : ℕ) (total : Option ℕ) (e : OpErr) → m ≤ n → IsWantBelowOf m total e → IsWantBelowOf n total e
 below_more_of m n total (Pool e) more want = below_more m n total e more want
@@ -128,6 +129,7 @@ not_wanting most total before after (ReadFault entry) same came = tt
 not_wanting most total before after (TooManyTrackers count) same came = tt
 not_wanting most total before after NamesSpent same came = tt
 not_wanting most total before after Memory same came = tt
+not_wanting most total before after (Stale wanted found) same came = tt
 
 pub alone_below : (f g most : ℕ) (total : Option ℕ) (before after : Signs) (e : OpErr) → after ≡ before → CameOf f g before after e → IsWantBelowOf most total e
 alone_below f g most total before after (Pool e) same came = not_wanting most total before after e same came
@@ -231,6 +233,7 @@ wide_want blocks most mine pages others own all free (Pool (ReadFault entry)) lo
 wide_want blocks most mine pages others own all free (Pool (TooManyTrackers count)) low many sum want = tt
 wide_want blocks most mine pages others own all free (Pool NamesSpent) low many sum want = tt
 wide_want blocks most mine pages others own all free (Pool Memory) low many sum want = tt
+wide_want blocks most mine pages others own all free (Pool (Stale wanted found)) low many sum want = tt
 wide_want blocks most mine pages others own all free Sink low many sum want = tt
 
 pub below_top : (p : Stack) (ss : List Streamed) (s : Streamed) (most : ℕ) (h : Holdings) (signs : Signs) (e : OpErr) → p.streams ≡ ss ++ s ∷ [] → IsStack p → s.page_blocks ≡ p.page_blocks → pages_in (over p h signs) ≤ most

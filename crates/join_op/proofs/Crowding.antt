@@ -3,7 +3,7 @@ use Rattle.std.proofs.Common.{◌≡◌, ◌∙◌, ℕ, ◌+◌, ◌*◌, ◌<�
 use Rattle.std.specs.List.{sum_by}
 use Rattle.std.proofs.lemmas.Option.{same_Some}
 use Rattle.reservation_tree.specs.declared.errors.PoolErr.{PoolErr}
-use Rattle.reservation_tree.specs.declared.errors.PoolErr.TheVariants.{NoReservation, ScratchFull, WriteFault, ReadFault, TooManyTrackers, NamesSpent, Memory}
+use Rattle.reservation_tree.specs.declared.errors.PoolErr.TheVariants.{NoReservation, ScratchFull, WriteFault, ReadFault, TooManyTrackers, NamesSpent, Memory, Stale}
 use Rattle.row_codec.specs.declared.values.Value.{Value}
 use Rattle.store_api.specs.Emitters.{CameOf, WantsSlots}
 use Rattle.store_api.specs.Holdings.{Holdings}
@@ -32,6 +32,7 @@ theirs_below page most total (Pool (ReadFault entry)) wants = tt
 theirs_below page most total (Pool (TooManyTrackers trackers)) wants = tt
 theirs_below page most total (Pool NamesSpent) wants = tt
 theirs_below page most total (Pool Memory) wants = tt
+theirs_below page most total (Pool (Stale wanted found)) wants = tt
 theirs_below page most total Sink wants = tt
 
 pub theirs_want : (page most : ℕ) (total : Option ℕ) (e : OpErr) → WantsSlots page most total e → IsWantOf page total e
@@ -43,6 +44,7 @@ theirs_want page most total (Pool (ReadFault entry)) wants = tt
 theirs_want page most total (Pool (TooManyTrackers trackers)) wants = tt
 theirs_want page most total (Pool NamesSpent) wants = tt
 theirs_want page most total (Pool Memory) wants = tt
+theirs_want page most total (Pool (Stale wanted found)) wants = tt
 theirs_want page most total Sink wants = tt
 
 -- the row that it wanted them for is a pair
@@ -72,6 +74,7 @@ own_below blocks slots most free (ReadFault entry) low full = tt
 own_below blocks slots most free (TooManyTrackers trackers) low full = tt
 own_below blocks slots most free NamesSpent low full = tt
 own_below blocks slots most free Memory low full = tt
+own_below blocks slots most free (Stale wanted found) low full = tt
 
 pub own_want : (blocks page slots pages : ℕ) (free : Option ℕ) (e : PoolErr) → page ≡ blocks → slots ≡ pages * page → IsFull blocks free e → IsWant blocks (with_more slots free) e
 own_want blocks page slots pages free e same are full = want_with blocks slots pages free (are ∙ ap (λ (n : ℕ). pages * n) same) e full
@@ -86,6 +89,7 @@ below_with most slots more total (ReadFault entry) low below = tt
 below_with most slots more total (TooManyTrackers trackers) low below = tt
 below_with most slots more total NamesSpent low below = tt
 below_with most slots more total Memory low below = tt
+below_with most slots more total (Stale wanted found) low below = tt
 
 -- an error of the join, of which no pair came yet
 pub own_some : (was : List (List Value) → Type 0) (slots_for : List (List Value) → ℕ) (most slots : ℕ) (total : Option ℕ) (e : PoolErr) (pairs : List (List Value)) → ((rows : List (List Value)) → was rows → slots ≤ slots_for rows) → IsWantBelow most total e
@@ -122,6 +126,7 @@ pages_below blocks most taken more total (ReadFault entry) low below = tt
 pages_below blocks most taken more total (TooManyTrackers trackers) low below = tt
 pages_below blocks most taken more total NamesSpent low below = tt
 pages_below blocks most taken more total Memory low below = tt
+pages_below blocks most taken more total (Stale wanted found) low below = tt
 
 pub crowd_beside : (slots_for : List (List Value) → ℕ) (blocks most taken slots : ℕ) (free : Option ℕ) (e : OpErr) → taken ≤ most * blocks → (rows : List (List Value)) → Crowds slots_for blocks (with_more slots free) e rows → Crowds slots_for ((most + 1) * blocks) (with_more slots (with_more taken free)) e rows
 crowd_beside slots_for blocks most taken slots free (Pool e) low rows below =
@@ -139,6 +144,7 @@ less_below most more total (ReadFault entry) low below = tt
 less_below most more total (TooManyTrackers trackers) low below = tt
 less_below most more total NamesSpent low below = tt
 less_below most more total Memory low below = tt
+less_below most more total (Stale wanted found) low below = tt
 
 less_below_of : (most more : ℕ) (total : Option ℕ) (e : OpErr) → most ≤ more → IsWantBelowOf most total e → IsWantBelowOf more total e
 less_below_of most more total (Pool e) low below = less_below most more total e low below

@@ -2,7 +2,7 @@
 use Rattle.std.proofs.Common.{◌≡◌, ◌≢◌, ◌∙◌, ℕ, ◌+◌, List, Option, Some, None, refl, ap, sym, subst, arith}
 use Rattle.std.specs.Prelude.{slice_get, sum_by}
 use Rattle.reservation_tree.specs.declared.errors.PoolErr.{PoolErr}
-use Rattle.reservation_tree.specs.declared.errors.PoolErr.TheVariants.{NoReservation, ScratchFull, WriteFault, ReadFault, TooManyTrackers, NamesSpent, Memory}
+use Rattle.reservation_tree.specs.declared.errors.PoolErr.TheVariants.{NoReservation, ScratchFull, WriteFault, ReadFault, TooManyTrackers, NamesSpent, Memory, Stale}
 use Rattle.store_api.specs.Emitters.{CameOf, OthersStay}
 use Rattle.store_api.specs.Holdings.{Holdings, no_page, page_of}
 use Rattle.store_api.specs.Signs.{Grows, Signs}
@@ -35,6 +35,7 @@ none_refused blocks free before after (ReadFault entry) same came = tt
 none_refused blocks free before after (TooManyTrackers count) same came = tt
 none_refused blocks free before after NamesSpent same came = tt
 none_refused blocks free before after Memory same came = tt
+none_refused blocks free before after (Stale wanted found) same came = tt
 
 -- what shows nothing refused no unpin
 pub alone_full : (blocks f g : ℕ) (free : Option ℕ) (before after : Signs) (e : OpErr) → after ≡ before → CameOf f g before after e → IsFullOf blocks free e

@@ -7,7 +7,7 @@ use Rattle.std.proofs.lemmas.Bool.{cases_eq}
 use Rattle.std.proofs.lemmas.Option.{same_Some}
 use Rattle.std.proofs.Math.Nat.{add-mul-div_right, div-mul-le_self, le-div_iff_mul-le, mul-le-mul_right}
 use Rattle.reservation_tree.specs.declared.errors.PoolErr.{PoolErr}
-use Rattle.reservation_tree.specs.declared.errors.PoolErr.TheVariants.{NoReservation, ScratchFull, WriteFault, ReadFault, TooManyTrackers, NamesSpent, Memory}
+use Rattle.reservation_tree.specs.declared.errors.PoolErr.TheVariants.{NoReservation, ScratchFull, WriteFault, ReadFault, TooManyTrackers, NamesSpent, Memory, Stale}
 use Rattle.store_api.specs.Tokens.{PageToken}
 use Rattle.store_api.specs.Holdings.{Holdings, length_of, page_of}
 use Rattle.tuple_stream.specs.Bounds.{AllFew, FewPages}
@@ -166,3 +166,4 @@ want_comes_late blocks most f (ReadFault entry) sized many full = tt
 want_comes_late blocks most f (TooManyTrackers trackers) sized many full = tt
 want_comes_late blocks most f NamesSpent sized many full = tt
 want_comes_late blocks most f Memory sized many full = tt
+want_comes_late blocks most f (Stale wanted found) sized many full = tt

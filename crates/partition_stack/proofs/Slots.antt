@@ -5,7 +5,7 @@ use Rattle.std.proofs.Math.Nat.{add-mul, mul-add-mod_self_right, one-mul}
 use Rattle.std.proofs.lemmas.Nat.{mod-mul-add}
 use Rattle.std.proofs.lemmas.List.Sums.{sum_by-append, sum_by-cons}
 use Rattle.reservation_tree.specs.declared.errors.PoolErr.{PoolErr}
-use Rattle.reservation_tree.specs.declared.errors.PoolErr.TheVariants.{NoReservation, ScratchFull, WriteFault, ReadFault, TooManyTrackers, NamesSpent, Memory}
+use Rattle.reservation_tree.specs.declared.errors.PoolErr.TheVariants.{NoReservation, ScratchFull, WriteFault, ReadFault, TooManyTrackers, NamesSpent, Memory, Stale}
 use Rattle.store_api.specs.Tokens.{PageToken}
 use Rattle.store_api.specs.Holdings.{Holdings, LivePage, or_else, no_page, page_of}
 use Rattle.store_api.specs.Signs.{Signs}
@@ -118,6 +118,7 @@ want_with blocks total times free is (ReadFault entry) full = tt
 want_with blocks total times free is (TooManyTrackers count) full = tt
 want_with blocks total times free is NamesSpent full = tt
 want_with blocks total times free is Memory full = tt
+want_with blocks total times free is (Stale wanted found) full = tt
 
 pub full_want : (blocks : ℕ) (f : Family) → AllSized blocks f → (e : PoolErr) → IsFull blocks f.held.free_slots e → IsWant blocks (slots_in f) e
 full_want blocks f sized e full =
@@ -198,6 +199,7 @@ want_front blocks times total more free is (ReadFault entry) want = tt
 want_front blocks times total more free is (TooManyTrackers count) want = tt
 want_front blocks times total more free is NamesSpent want = tt
 want_front blocks times total more free is Memory want = tt
+want_front blocks times total more free is (Stale wanted found) want = tt
 
 -- an emitter that has the same client still
 pub keep_after : (client now m0 m1 m2 : Option ℕ) (n0 n1 n2 : ℕ) → now ≡ client → KeepSlots client m0 m1 n0 n1 → KeepSlots now m1 m2 n1 n2 → KeepSlots client m0 m2 n0 n2

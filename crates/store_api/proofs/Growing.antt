@@ -20,6 +20,7 @@ grows_refl s =
       failures = omega arith;
       failures_of = λ t. omega arith;
       refused_unpins = omega arith;
+      stale = omega arith;
       spent = λ e. e;
       trail = prolongs_refl s.trail;
     }
@@ -31,6 +32,7 @@ grows_trans a b c first second =
       failures = omega (arith, first.failures, second.failures);
       failures_of = λ t. omega (arith, first.failures_of t, second.failures_of t);
       refused_unpins = omega (arith, first.refused_unpins, second.refused_unpins);
+      stale = omega (arith, first.stale, second.stale);
       spent = λ e. second.spent (first.spent e);
       trail = prolongs_trans a.trail b.trail c.trail first.trail second.trail;
     }

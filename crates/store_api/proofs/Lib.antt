@@ -12,6 +12,7 @@ pub mod LoanTurns
 pub mod Reserving
 pub mod Growing
 pub mod Answered
+pub mod Causes
 pub mod Stopping
 pub mod Unfit
 pub mod Reserved
@@ -24,3 +25,4 @@ pub mod Writing
 pub mod Pins
 pub mod Left
 pub mod Names
+pub mod Chained

@@ -3,7 +3,7 @@ use Rattle.std.proofs.Common.{◌≡◌, ℕ, ◌+◌, ◌≤◌, List, [], ◌�
 use Rattle.std.proofs.lemmas.List.{length-append, map-append}
 use Rattle.std.proofs.lemmas.List.Elements.{All-head, All-tail, filter_map-append}
 use Rattle.reservation_tree.specs.declared.errors.PoolErr.{PoolErr}
-use Rattle.reservation_tree.specs.declared.errors.PoolErr.TheVariants.{WriteFault, ReadFault, NamesSpent}
+use Rattle.reservation_tree.specs.declared.errors.PoolErr.TheVariants.{WriteFault, ReadFault, NamesSpent, Stale}
 use Rattle.pool_model.specs.declared.call.Call.{Call}
 use Rattle.pool_model.specs.declared.call.Call.TheVariants as call
 use Rattle.pool_model.specs.declared.event.Event.{Event}
@@ -56,10 +56,11 @@ module _ (maker : ℕ) where
   pub refusal_makes : (t : ℕ) (h : Holdings) (what : Call) (e : PoolErr) (events : List Event) → IsRefusal t h what e events → names_by events ≡ []
   refusal_makes t h what (WriteFault entry) events was = asked_makes t h _ events was
   refusal_makes t h (call.Pin p) (ReadFault entry) events was = taken_makes t h _ events was.2
+  refusal_makes t h (call.Pin p) (Stale wanted found) events was = taken_makes t h _ events was.1
   refusal_makes t h what NamesSpent events was = asked_makes t h _ events was
   refusal_makes t h what _ events was = ap names_by was
 
-entered_so : (P Q : List Entry → Type 0) → ((more : List Entry) → P more → Q more) → (old new : Option (List Entry)) → Entered P old new → Entered Q old new
+pub entered_so : (P Q : List Entry → Type 0) → ((more : List Entry) → P more → Q more) → (old new : Option (List Entry)) → Entered P old new → Entered Q old new
 entered_so P Q so None new entered = entered
 entered_so P Q so (Some before) new entered = (entered.0, entered.1, so entered.0 entered.2)
 

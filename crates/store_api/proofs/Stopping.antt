@@ -2,7 +2,7 @@
 use Rattle.std.proofs.Common.{◌≡◌, ℕ, ◌<◌, ◌≤◌, ◌+◌, leb, true, false, Result, Ok, Err, IfErr, refl, sym, subst, inl, inr, arith, rules}
 use Rattle.std.proofs.lemmas.Bool.{cases_Bool}
 use Rattle.reservation_tree.specs.declared.errors.PoolErr.{PoolErr}
-use Rattle.reservation_tree.specs.declared.errors.PoolErr.TheVariants.{NoReservation, ScratchFull, WriteFault, ReadFault, TooManyTrackers, NamesSpent, Memory}
+use Rattle.reservation_tree.specs.declared.errors.PoolErr.TheVariants.{NoReservation, ScratchFull, WriteFault, ReadFault, TooManyTrackers, NamesSpent, Memory, Stale}
 use Rattle.store_api.specs.Holdings.{Holdings}
 use Rattle.store_api.specs.Signs.{Signs, Grows, WasAnswered}
 use Rattle.store_api.specs.Walks.{StoppedRound, StoppedWalk}
@@ -17,6 +17,7 @@ answered_stops (ReadFault entry) old new was = was
 answered_stops (TooManyTrackers count) old new was = was
 answered_stops NamesSpent old new was = was
 answered_stops Memory old new was = was
+answered_stops (Stale wanted found) old new was = was
 
 -- of a span that begins earlier, and of one that ends later
 pub stopped_before : (e : PoolErr) (a b c : Signs) → Grows a b → StoppedRound b c e → StoppedRound a c e
@@ -27,6 +28,7 @@ stopped_before (ReadFault entry) a b c first stop = answered_before (ReadFault e
 stopped_before (TooManyTrackers count) a b c first stop = stop
 stopped_before NamesSpent a b c first stop = answered_before NamesSpent a b c first stop
 stopped_before Memory a b c first stop = stop
+stopped_before (Stale wanted found) a b c first stop = answered_before (Stale wanted found) a b c first stop
 
 pub stopped_after : (e : PoolErr) (a b c : Signs) → StoppedRound a b e → Grows b c → StoppedRound a c e
 stopped_after (NoReservation tracker wanted room) a b c stop second = stop
@@ -36,6 +38,7 @@ stopped_after (ReadFault entry) a b c stop second = answered_after (ReadFault en
 stopped_after (TooManyTrackers count) a b c stop second = stop
 stopped_after NamesSpent a b c stop second = answered_after NamesSpent a b c stop second
 stopped_after Memory a b c stop second = stop
+stopped_after (Stale wanted found) a b c stop second = answered_after (Stale wanted found) a b c stop second
 
 pub too_great : (wanted room : ℕ) → leb wanted room ≡ false → room < wanted
 too_great wanted room is = grind (arith, rules)
@@ -49,6 +52,7 @@ stops_walk h (ReadFault entry) old new few stop = (few, stop)
 stops_walk h (TooManyTrackers count) old new few stop = absurd stop
 stops_walk h NamesSpent old new few stop = (few, stop)
 stops_walk h Memory old new few stop = (few, stop)
+stops_walk h (Stale wanted found) old new few stop = (few, stop)
 
 pub walk_stops : {X : Type 0} (result : Result X PoolErr) (h : Holdings) (a b c d : Signs) → h.live_clients < 15 → Grows a b → IfErr result (StoppedRound b c) → Grows c d → IfErr result (StoppedWalk h a d)
 walk_stops (Ok x) h a b c d few first stop last = tt

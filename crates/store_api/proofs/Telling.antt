@@ -3,6 +3,7 @@ use Rattle.std.proofs.Common.{◌≡◌, ◌≢◌, ℕ, ◌+◌, ◌-◌, List,
 use Rattle.std.proofs.lemmas.List.Elements.{All-head, All-tail, filter_map-append}
 use Rattle.std.specs.FinMap.{get}
 use Rattle.reservation_tree.proofs.Maps.{get_same}
+use Rattle.reservation_tree.specs.declared.mark.Mark.{Mark}
 use Rattle.pool_model.specs.declared.event.Event.{Event}
 use Rattle.pool_model.specs.declared.event.Event.TheVariants.{Ask, Create, Alloc, MoveBuffer, PinAgain, UnpinOnce, StartWrite, WriteOk, WriteFailed}
 use Rattle.pool_model.specs.State.{State, Page, Buffer, no_page, no_buffer, Pinned, Evicted, pins_of, page_at, buffer_at}
@@ -11,7 +12,7 @@ use Rattle.pool_model.specs.Effects.{after}
 use Rattle.pool_model.specs.Frames.{page_in}
 use Rattle.pool_model.specs.Legal.{run}
 use Rattle.store_api.specs.Holdings.{Holdings}
-use Rattle.store_api.specs.Entries.{by, AreWrites, IsAsked, IsTaken, IsPin, IsFailedLoad}
+use Rattle.store_api.specs.Entries.{by, AreWrites, IsAsked, IsTaken, IsPin, IsFailedLoad, IsStaleLoad}
 use Rattle.store_api.specs.WriteLaws.{write_in, written}
 use Rattle.store_api.specs.EntryLaws.{AllEntriesTell}
 use Rattle.pool_model.proofs.Frames.{entries_leave_rest}
@@ -88,7 +89,11 @@ module _ (maker : ℕ) (s : State) (events : List Event) where
   failure_tells t h p entry failed =
       ap (λ (x : Page). x.place) (page_told _ p _ (taken_ends _ _ _ failed.2) (get_same _ p _))
 
-  create_tells : (t : ℕ) (h : Holdings) (p client blocks key : ℕ) → IsTaken t h (Create p client blocks key ∷ []) events → page_at now p ≡ record { key = key; session = maker; client = client; blocks = blocks; place = Pinned 1; has_slots = false }
+  stale_tells : (t : ℕ) (h : Holdings) (p : ℕ) (wanted found : Mark) → IsStaleLoad t h p wanted found events → (page_at now p).place ≡ Evicted
+  stale_tells t h p wanted found stale =
+      ap (λ (x : Page). x.place) (page_told _ p _ (taken_ends _ _ _ stale.1) (get_same _ p _))
+
+  create_tells : (t : ℕ) (h : Holdings) (p client blocks key : ℕ) → IsTaken t h (Create p client blocks key ∷ []) events → page_at now p ≡ record { key = key; session = maker; client = client; blocks = blocks; place = Pinned 1; has_slots = false; version = 0 }
   create_tells t h p client blocks key taken = page_told _ p _ (taken_ends _ _ _ taken) (get_same _ p _)
 
   alloc_tells : (t : ℕ) (h : Holdings) (f client blocks : ℕ) → IsTaken t h (Alloc f client blocks ∷ []) events → buffer_at now f ≡ record { client = client; blocks = blocks }
@@ -119,6 +124,7 @@ entries_tell maker s events =
     record {
       pinned = pin_tells maker s events;
       not_loaded = failure_tells maker s events;
+      stale = stale_tells maker s events;
       created = create_tells maker s events;
       lent = alloc_tells maker s events;
       moved = move_tells maker s events;

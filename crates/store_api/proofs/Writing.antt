@@ -3,7 +3,7 @@ use Rattle.std.proofs.Common.{◌≡◌, ℕ, ◌<◌, List, [], ◌∷◌, ◌+
 use Rattle.std.specs.Option.{option_or}
 use Rattle.std.proofs.lemmas.List.Elements.{All-nil, All-cons, All-head, All-tail, All-append, filter_map-append}
 use Rattle.reservation_tree.specs.declared.errors.PoolErr.{PoolErr}
-use Rattle.reservation_tree.specs.declared.errors.PoolErr.TheVariants.{WriteFault, ReadFault, NamesSpent}
+use Rattle.reservation_tree.specs.declared.errors.PoolErr.TheVariants.{WriteFault, ReadFault, NamesSpent, Stale}
 use Rattle.pool_model.specs.declared.call.Call.{Call}
 use Rattle.pool_model.specs.declared.call.Call.TheVariants as call
 use Rattle.pool_model.specs.declared.event.Event.{Event}
@@ -60,6 +60,7 @@ module _ (t : ℕ) (h : Holdings) where
     refusal_own : (what : Call) (e : PoolErr) → IsRefusal t h what e events → Own events
     refusal_own what (WriteFault entry) was = asked_own _ refl was
     refusal_own (call.Pin p) (ReadFault entry) was = taken_own _ refl was.2
+    refusal_own (call.Pin p) (Stale wanted found) was = taken_own _ refl was.1
     refusal_own what NamesSpent was = asked_own _ refl was
     refusal_own what _ was = nothing_own was
 

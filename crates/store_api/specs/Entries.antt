@@ -1,21 +1,19 @@
 -- The entries that a call of a store makes, the oldest first. Those of other makers may stand between them in
 -- the pool's history; a store's trail has its own alone. `t` is the client of the call, and `h` what the store held
 -- before it.
-use Rattle.std.specs.Prelude.{◌≡◌, ◌⊎◌, ◌<◌, ℕ, List, [], ◌∷◌, ◌++◌, Option, Some, None, map, All, ⊤}
+use Rattle.std.specs.Prelude.{◌≡◌, ◌⊎◌, ◌<◌, ℕ, List, [], ◌∷◌, ◌++◌, Option, Some, None, All, ⊤}
 use Rattle.reservation_tree.specs.declared.errors.PoolErr.{PoolErr}
-use Rattle.reservation_tree.specs.declared.errors.PoolErr.TheVariants.{WriteFault, ReadFault, NamesSpent}
+use Rattle.reservation_tree.specs.declared.errors.PoolErr.TheVariants.{WriteFault, ReadFault, NamesSpent, Stale}
+use Rattle.reservation_tree.specs.declared.mark.Mark.{Mark}
 use Rattle.pool_model.specs.declared.call.Call.{Call}
 use Rattle.pool_model.specs.declared.call.Call.TheVariants as call
 use Rattle.pool_model.specs.declared.event.Event.{Event}
-use Rattle.pool_model.specs.declared.event.Event.TheVariants.{Ask, PinHere, PinLoad, ReadOk, ReadFailed, StartWrite, WriteOk, WriteFailed, Evict, Refused}
+use Rattle.pool_model.specs.declared.event.Event.TheVariants.{Ask, PinHere, PinLoad, ReadOk, ReadFailed, ReadStale, StartWrite, WriteOk, WriteFailed, Evict, Refused}
 use Rattle.pool_model.specs.declared.entry.Entry.{Entry}
 use Rattle.pool_model.specs.LookingBack.{content_from, names_in}
 use Rattle.store_api.specs.Holdings.{LivePage, Holdings, IsPageOf}
+pub use Rattle.store_api.specs.Refusing.{by}
 use Rattle.store_api.specs.Signs.{Signs, Entered}
-
--- entries of one maker
-abbrev pub by : ℕ → List Event → List Entry
-by maker events = map (λ e. record { maker = maker; event = e }) events
 
 -- writes of the client's pages that were begun and ended, each before the next
 abbrev pub AreWrites : ℕ → Holdings → List Event → Type 0
@@ -44,10 +42,15 @@ IsPin t h p events = IsAsked t h (PinHere p ∷ []) events ⊎ IsTaken t h (PinL
 abbrev pub IsFailedLoad : ℕ → Holdings → ℕ → ℕ → List Event → Type 0
 IsFailedLoad t h p entry events = (before after : ℕ) × IsTaken t h (PinLoad p ∷ ReadFailed p before after ∷ Refused (call.Pin p) entry ∷ []) events
 
+-- a load gave a block with another mark than the wanted one
+abbrev pub IsStaleLoad : ℕ → Holdings → ℕ → Mark → Mark → List Event → Type 0
+IsStaleLoad t h p wanted found events = (entry : ℕ) × IsTaken t h (PinLoad p ∷ ReadStale p wanted found ∷ Refused (call.Pin p) entry ∷ []) events
+
 -- a call was refused, with this error: `Memory` comes before all else, and names are looked at last
 abbrev pub IsRefusal : ℕ → Holdings → Call → PoolErr → List Event → Type 0
 IsRefusal t h what (WriteFault entry) events = IsAsked t h (Refused what entry ∷ []) events
 IsRefusal t h (call.Pin p) (ReadFault entry) events = IsFailedLoad t h p entry events
+IsRefusal t h (call.Pin p) (Stale wanted found) events = IsStaleLoad t h p wanted found events
 IsRefusal t h what NamesSpent events = IsAsked t h [] events
 IsRefusal t h what _ events = events ≡ []
 

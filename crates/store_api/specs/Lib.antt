@@ -1,6 +1,7 @@
 pub mod Tokens
 pub mod Holdings
 pub mod Changes
+pub mod Refusing
 pub mod Signs
 pub mod Entries
 pub mod Refusals
@@ -14,6 +15,7 @@ pub mod WriteLaws
 pub mod Shapes
 pub mod Emitters
 pub mod EmitterLaws
+pub mod Handing
 pub mod OwnLaws
 pub mod MemAccounts
 pub mod MemPieces

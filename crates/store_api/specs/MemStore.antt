@@ -28,7 +28,7 @@ held_in s = record {
 }
 
 abbrev pub no_signs : Signs
-no_signs = record { failures = 0; failures_of = λ t. 0; refused_unpins = 0; spent = false; trail = None }
+no_signs = record { failures = 0; failures_of = λ t. 0; refused_unpins = 0; stale = 0; spent = false; trail = None }
 
 -- a piece came at this key, with a buffer of zeros, and its client is charged for it; nothing else changed
 pub record AddsPiece (piece : Piece) (key : ℕ) (buf : Buffer) (old new : MemStore) : Type 0 where

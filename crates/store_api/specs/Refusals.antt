@@ -1,8 +1,8 @@
 -- What the calls of a store may answer that isn't Ok, and what they leave then. Lengths are in bytes.
-use Rattle.std.specs.Prelude.{◌≡◌, ℕ, ◌-◌, ◌<◌, ◌==◌, [], ◌∷◌, leb, true, false, if◌then◌else◌, Option, Some, None, ⊤}
+use Rattle.std.specs.Prelude.{◌≡◌, ◌≢◌, ℕ, ◌-◌, ◌<◌, ◌==◌, [], ◌∷◌, leb, true, false, if◌then◌else◌, Option, Some, None, ⊤}
 use Rattle.block_arena.specs.Memory.{Buffer}
 use Rattle.reservation_tree.specs.declared.errors.PoolErr.{PoolErr}
-use Rattle.reservation_tree.specs.declared.errors.PoolErr.TheVariants.{NoReservation, ScratchFull, WriteFault, ReadFault, NamesSpent, Memory}
+use Rattle.reservation_tree.specs.declared.errors.PoolErr.TheVariants.{NoReservation, ScratchFull, WriteFault, ReadFault, NamesSpent, Memory, Stale}
 use Rattle.pool_model.specs.declared.call.Call.{Call}
 use Rattle.pool_model.specs.declared.call.Call.TheVariants.{Pin, Create, Alloc}
 use Rattle.pool_model.specs.declared.event.Event.TheVariants.{UnpinRefused}
@@ -41,11 +41,12 @@ IsSharedRefusal growth _ _ = ⊥
 abbrev pub move_refusal : ℕ → ℕ → ℕ → Holdings → Option PoolErr
 move_refusal from to bytes h = if from == to then None else unless_fits to bytes (client_room to h) None
 
--- why a call that needs room of this client may be refused: a write failed; the page's load failed; no name or no
--- memory was left
+-- why a call that needs room of this client may be refused: a write failed; the page's load failed, or gave a block with
+-- another mark than the wanted one; no name or no memory was left
 abbrev pub MayRefuse : ℕ → Call → Signs → Signs → PoolErr → Type 0
 MayRefuse t what before after (WriteFault entry) = FailedFor t before after
 MayRefuse t (Pin p) before after (ReadFault entry) = FailedFor t before after
+MayRefuse t (Pin p) before after (Stale wanted found) = (found ≢ wanted) × (before.stale < after.stale)
 MayRefuse t (Create client blocks) before after NamesSpent = after.spent ≡ true
 MayRefuse t (Create client blocks) before after Memory = ⊤
 MayRefuse t (Alloc client blocks) before after Memory = ⊤

@@ -1,5 +1,5 @@
 //! Laws of entries and changes: each is the contract of a function that does nothing.
-ghost use Rattle.store_api.specs.EntryLaws.{AllEntriesTell, FallsUndoGrowths};
+ghost use Rattle.store_api.specs.EntryLaws.{AllEntriesTell, AllRefusalsTell, FallsUndoGrowths};
 ghost use Rattle.store_api.specs.WriteLaws.{CallsWriteOwn, NamesAboveAreNew};
 ghost use Rattle.store_api.specs.PinLaws.{PagesComeAndGo, PinsAreCounted};
 ghost use Rattle.store_api.specs.EmitterLaws.{EmittersLeaveOthers};
@@ -7,11 +7,12 @@ ghost use Rattle.store_api.specs.HoldingLaws.{LacksAsInPool, RefusesOverLimits, 
 
 /// After the entries of a call a pool has the page or the buffer as the call left it: pinned, with a pin more or one
 /// less, evicted where it couldn't be loaded, new, or another client's. The pages that the entries write are live pages
-/// of the call's client.
-#[tactic(auto, using(crate::proofs::Telling::entries_tell, crate::proofs::Writing::calls_write_own))]
+/// of the call's client. The entries of a refusal tell whether a write failed, a read failed, or a load was stale.
+#[tactic(auto, using(crate::proofs::Telling::entries_tell, crate::proofs::Writing::calls_write_own, crate::proofs::Causes::refusals_tell))]
 pub fn law_entries()
     ensures tell { AllEntriesTell }
     ensures writes { CallsWriteOwn }
+    ensures refusals { AllRefusalsTell }
 {}
 
 /// To give back what a client was just given leaves a store as it was, where the query has no room of its own.

@@ -8,7 +8,7 @@ ghost use Rattle.pool_model.specs.declared.call.Call.TheVariants as call;
 ghost use Rattle.pool_model.specs.declared.event.Event.TheVariants as event;
 ghost use Rattle.store_api.specs.Holdings.{Holdings, length_of, account_of, page_of, unused_of, page_len, loan_len};
 ghost use Rattle.store_api.specs.Changes.{query_growth, shortfall, after_end_client, after_reserve, after_give_back, after_move_reservation, after_pin, after_pin_again, after_unpin_once, after_unpin, after_extract, after_destroy, after_free, after_move_buffer};
-ghost use Rattle.store_api.specs.Signs.{Signs, Grows, CountsRefused};
+ghost use Rattle.store_api.specs.Signs.{Signs, Grows, CountsRefused, CountsStale};
 ghost use Rattle.store_api.specs.Entries.{Made, MadeThese, IsTaken, IsAsked, IsPin, IsAboveNames, TellsLeft};
 ghost use Rattle.store_api.specs.Refusals.{reserve_refusal, move_refusal, IsSharedRefusal, WasRefused, IsUntouched, StaysPinned, LacksSlots};
 ghost use Rattle.store_api.specs.Conditions.{IsBlockCount, IsLiveClient, IsPage, Fits, IsLoan, IsHeld, IsIdle, FitsAccount, FitsQuery, IsNewClient, IsNewPage, IsNewLoan, ShowsLeft};
@@ -26,7 +26,7 @@ pub trait Store {
     // What the store holds. Each call says exactly what that is afterwards.
     ghost holds: { Self → Holdings };
 
-    // Its counts of failures, and its trail: the entries that it made so far, where they are told. They only grow.
+    // Its counts of failures and of stale loads, and its trail: the entries that it made so far, where they are told. They only grow.
     ghost signs: { Self → Signs };
 
     /// The length of a block, in bytes: a power of two from 64 to 65536.
@@ -35,7 +35,8 @@ pub trait Store {
         ensures least { 64 ≤ result }
         ensures most { result ≤ 65536 }
         ensures power { IsBlockLen result }
-        ensures counted { CountsRefused (signs self.now).trail (signs self.now).refused_unpins };
+        ensures counted { CountsRefused (signs self.now).trail (signs self.now).refused_unpins }
+        ensures counted_stale { CountsStale (signs self.now).trail (signs self.now).stale };
 
     /// How much of the query's reservation no client has, in bytes.
     fn room(&self) -> u64
@@ -158,7 +159,8 @@ pub trait Store {
     /// # Errors
     ///
     /// `WriteFault`: a write of a page of this client failed, and there is no room. `ReadFault`: the page
-    /// couldn't be loaded.
+    /// couldn't be loaded. `Stale`: its load gave a block with another mark than the wanted one. The page is evicted
+    /// again, and may be pinned anew.
     fn pin(&mut self, p: &Page) -> Result<Buf, PoolErr>
         requires page { IsPage p.now (holds self.old) }
         requires rests { (page_of p.now.name (holds self.old)).pins ≡ 0 }

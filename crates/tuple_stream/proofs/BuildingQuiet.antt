@@ -3,10 +3,10 @@ use Rattle.std.proofs.Common.{◌≡◌, ℕ, ◌+◌, List, [], ◌∷◌, ◌+
 use Rattle.std.specs.List.{All, filter_map}
 use Rattle.std.proofs.lemmas.List.Elements.{All-nil, All-cons, All-append, All-head, All-tail, filter_map-append}
 use Rattle.reservation_tree.specs.declared.errors.PoolErr.{PoolErr}
-use Rattle.reservation_tree.specs.declared.errors.PoolErr.TheVariants.{WriteFault, ReadFault, NamesSpent}
+use Rattle.reservation_tree.specs.declared.errors.PoolErr.TheVariants.{WriteFault, ReadFault, NamesSpent, Stale}
 use Rattle.pool_model.specs.declared.call.Call.TheVariants as call
 use Rattle.pool_model.specs.declared.event.Event.{Event}
-use Rattle.pool_model.specs.declared.event.Event.TheVariants.{Ask, Create, StartWrite, WriteOk, WriteFailed, Evict, PinHere, PinLoad, ReadOk, ReadFailed, Refused, Unpin, UnpinRefused}
+use Rattle.pool_model.specs.declared.event.Event.TheVariants.{Ask, Create, StartWrite, WriteOk, WriteFailed, Evict, PinHere, PinLoad, ReadOk, ReadFailed, ReadStale, Refused, Unpin, UnpinRefused}
 use Rattle.pool_model.specs.LookingBack.{name_in}
 use Rattle.store_api.specs.Holdings.{Holdings}
 use Rattle.store_api.specs.Entries.{AreWrites, IsAsked, IsEvict, IsPin, IsRefusal, IsTaken}
@@ -110,5 +110,6 @@ module _ (t : ℕ) (h : Holdings) where
   pub refused_creates : (p : ℕ) (e : PoolErr) (events : List Event) → IsRefusal t h (call.Pin p) e events → creates_in events ≡ 0
   refused_creates p (WriteFault entry) events is = asked_creates (Refused (call.Pin p) entry ∷ []) events is
   refused_creates p (ReadFault entry) events is = taken_creates (PinLoad p ∷ ReadFailed p is.0 is.1 ∷ Refused (call.Pin p) entry ∷ []) events is.2
+  refused_creates p (Stale wanted found) events is = taken_creates (PinLoad p ∷ ReadStale p wanted found ∷ Refused (call.Pin p) is.0 ∷ []) events is.1
   refused_creates p NamesSpent events is = asked_creates [] events is
   refused_creates p _ events is = ap creates_in is

@@ -3,10 +3,10 @@ use Rattle.std.proofs.Common.{ℕ, List, [], ◌∷◌, ◌++◌, sym, subst, in
 use Rattle.std.specs.List.{All}
 use Rattle.std.proofs.lemmas.List.Elements.{All-head, All-tail}
 use Rattle.reservation_tree.specs.declared.errors.PoolErr.{PoolErr}
-use Rattle.reservation_tree.specs.declared.errors.PoolErr.TheVariants.{WriteFault, ReadFault, NamesSpent}
+use Rattle.reservation_tree.specs.declared.errors.PoolErr.TheVariants.{WriteFault, ReadFault, NamesSpent, Stale}
 use Rattle.pool_model.specs.declared.call.Call.TheVariants as call
 use Rattle.pool_model.specs.declared.event.Event.{Event}
-use Rattle.pool_model.specs.declared.event.Event.TheVariants.{StartWrite, WriteOk, WriteFailed, Evict, PinHere, PinLoad, ReadOk, ReadFailed, Refused}
+use Rattle.pool_model.specs.declared.event.Event.TheVariants.{StartWrite, WriteOk, WriteFailed, Evict, PinHere, PinLoad, ReadOk, ReadFailed, ReadStale, Refused}
 use Rattle.store_api.specs.Holdings.{Holdings}
 use Rattle.store_api.specs.Entries.{AreWrites, IsEvict, IsAsked, IsTaken, IsPin, IsRefusal}
 use Rattle.tuple_stream.specs.Trails.{PinsFirst, HasPin}
@@ -51,5 +51,6 @@ module _ (t : ℕ) (h : Holdings) where
   pub refused_pins_first : (p : ℕ) (e : PoolErr) (events : List Event) → IsRefusal t h (call.Pin p) e events → PinsFirst events
   refused_pins_first p (WriteFault entry) events refused = asked_pins_first (Refused (call.Pin p) entry ∷ []) events tt refused
   refused_pins_first p (ReadFault entry) events refused = taken_pins_first (PinLoad p ∷ ReadFailed p refused.0 refused.1 ∷ Refused (call.Pin p) entry ∷ []) events tt refused.2
+  refused_pins_first p (Stale wanted found) events refused = taken_pins_first (PinLoad p ∷ ReadStale p wanted found ∷ Refused (call.Pin p) refused.0 ∷ []) events tt refused.1
   refused_pins_first p NamesSpent events refused = asked_pins_first [] events tt refused
   refused_pins_first p _ events refused = subst PinsFirst (sym refused) tt
