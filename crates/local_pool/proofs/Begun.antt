@@ -1,5 +1,5 @@
 -- One owner's pool begins.
-use Rattle.std.proofs.Common.{◌≡◌, ℕ, ◌+◌, ◌-◌, ◌<◌, ◌≤◌, leb, true, false, if◌then◌else◌, List, [], ◌∷◌, ◌++◌, length, Option, Some, None, is_some, Result, Ok, Err, IfOk, IfSome, inl, inr, refl, sym, ap, ◌∙◌, subst, arith}
+use Rattle.std.proofs.Common.{◌≡◌, ℕ, ◌+◌, ◌-◌, ◌<◌, ◌≤◌, ◌==◌, leb, true, false, if◌then◌else◌, List, [], ◌∷◌, ◌++◌, length, Option, Some, None, is_some, Result, Ok, Err, IfOk, IfSome, inl, inr, refl, sym, ap, ◌∙◌, subst, arith}
 use Rattle.std.proofs.lemmas.Bool.{false≢true, leb-true, leb-false, eqb-true}
 use Rattle.std.proofs.lemmas.List.{append-nil}
 use Rattle.std.specs.FinMap.{get, empty, get-empty}
@@ -56,10 +56,10 @@ use Rattle.local_pool.proofs.Keeping.{named}
 use Rattle.pin_core.proofs.Tallied.{uncounted_yet, counted_as}
 
 abbrev pub opening_with : PoolConf → ℕ → Opening
-opening_with conf count = record { blocks = conf.blocks; block_len = conf.block_len; first_name = conf.first_name; slots = count; faults = 0; stores = 0 }
+opening_with conf count = record { blocks = conf.blocks; block_len = conf.block_len; marked = (conf.profile == 2); first_name = conf.first_name; slots = count; faults = 0; stores = 0 }
 
 pub is_opening : (conf : PoolConf) (count : ℕ) → IsOpeningOf conf count (opening_with conf count)
-is_opening conf count = record { blocks = refl; block_len = refl; first_name = refl; slots = refl }
+is_opening conf count = record { blocks = refl; block_len = refl; marked = refl; first_name = refl; slots = refl }
 
 pub none_when : {X : Type 0} (o : Option X) → is_some o ≡ false → o ≡ None
 none_when None is = refl

@@ -13,7 +13,7 @@ use Rattle.pool_model.specs.Failures.{is_own, is_for_own, failures_in}
 use Rattle.pool_model.proofs.Fronts.{state_runs_on}
 use Rattle.pool_model.proofs.Names.{legal_names_are_new}
 use Rattle.store_api.specs.Holdings.{Holdings, Room}
-use Rattle.store_api.specs.Signs.{Grows, Signs, refuses_unpin}
+use Rattle.store_api.specs.Signs.{Grows, Signs, is_stale_load, refuses_unpin}
 use Rattle.store_api.specs.Refusals.{WasRefused}
 use Rattle.store_api.specs.Entries.{by}
 use Rattle.own_entries.specs.OwnHoldings.{Outset, holdings_of}
@@ -30,7 +30,7 @@ use Rattle.session_calls.specs.Acting.{held_by, signs_by}
 use Rattle.session_calls.specs.Having.{Worked}
 use Rattle.session_calls.specs.Jobs.{DoesIn}
 use Rattle.session_calls.specs.Turning.{Refuses as IsRefused}
-use Rattle.session_calls.proofs.Sized.{run_blocks, run_len}
+use Rattle.session_calls.proofs.Sized.{run_blocks, run_len, run_marked}
 use Rattle.session_calls.proofs.Lists.{alone_more}
 use Rattle.session_calls.proofs.Doing.{does_all, does_grows}
 use Rattle.local_pool.specs.declared.sole.Shelf.{Shelf}
@@ -51,8 +51,9 @@ pub named : {D : Type 0} (slot : Ghosts D) (o : Opening) (u : Outset) (own : Han
 named slot o u own ready faults stores =
     let blocks : o.blocks ≡ (state_of own.state).blocks = sym (ap (λ (s : State). s.blocks) ready.whole.stands.state ∙ run_blocks (opened o) own.trail) in
     let len : o.block_len ≡ (state_of own.state).block_len = sym (ap (λ (s : State). s.block_len) ready.whole.stands.state ∙ run_len (opened o) own.trail) in
+    let form : o.marked ≡ (state_of own.state).marked = sym (ap (λ (s : State). s.marked) ready.whole.stands.state ∙ run_marked (opened o) own.trail) in
     let first : o.first_name ≡ (state_of own.state).next_name - length (names_in own.trail) = let next = next_is slot o u own ready in omega (arith, next) in
-    λ i. record { blocks = blocks i; block_len = len i; first_name = first i; slots = sym ready.whole.home i; faults = faults i; stores = stores i }
+    λ i. record { blocks = blocks i; block_len = len i; marked = form i; first_name = first i; slots = sym ready.whole.home i; faults = faults i; stores = stores i }
 
 module _ {D : Type 0} (slot : Ghosts D) {first : Option AtOpening} (own : Hand D) (is : Stands slot first own) where
   -- what the session holds is what the owner does
@@ -69,6 +70,7 @@ module _ {D : Type 0} (slot : Ghosts D) {first : Option AtOpening} (own : Hand D
         failures = failures_in (is_own own.session) own.trail;
         failures_of = λ t. failures_in (is_for_own own.session t) own.trail;
         refused_unpins = length (filter (λ e. refuses_unpin e.event) (is.whole i));
+        stale = length (filter (λ e. is_stale_load e.event) (is.whole i));
         spent = leb 18446744073709551615 (next i);
         trail = Some (is.whole i);
       }

@@ -11,7 +11,7 @@ use Rattle.store_api.specs.Tokens.{ClientToken, PageToken, LoanToken}
 use Rattle.store_api.specs.Holdings.{Holdings}
 use Rattle.store_api.specs.Conditions.{IsNewClient, IsNewPage, IsNewLoan}
 use Rattle.store_api.specs.Entries.{IsTaken}
-use Rattle.store_api.specs.Signs.{Grows, CountsRefused}
+use Rattle.store_api.specs.Signs.{Grows, CountsRefused, CountsStale}
 use Rattle.store_api.specs.Refusals.{IsUntouched, StaysPinned}
 use Rattle.store_api.proofs.Growing.{grows_refl}
 use Rattle.own_entries.specs.OwnHoldings.{after_events}
@@ -28,6 +28,10 @@ use Rattle.local_pool.proofs.Making.{makes_held, makes_grows}
 pub counted : {D : Type 0} (own : Hand D) → CountsRefused (signs_of own).trail (signs_of own).refused_unpins
 unfolding signs_of
 counted own = refl
+
+pub counted_stale : {D : Type 0} (own : Hand D) → CountsStale (signs_of own).trail (signs_of own).stale
+unfolding signs_of
+counted_stale own = refl
 
 module _ {D : Type 0} (slot : Ghosts D) where
   -- the owner holds blocks of the pool's length

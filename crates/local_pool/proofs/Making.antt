@@ -1,12 +1,12 @@
 -- What shows of what calls of one owner make.
-use Rattle.std.proofs.Common.{◌≡◌, ℕ, ◌+◌, ◌≤◌, List, length, length-append, filter, Some, refl, sym, ap, ◌∙◌, subst, arith}
+use Rattle.std.proofs.Common.{◌≡◌, ℕ, ◌+◌, ◌≤◌, List, ◌++◌, Bool, length, length-append, filter, Some, refl, sym, ap, ◌∙◌, subst, arith}
 use Rattle.std.proofs.lemmas.List.Elements.{filter-append}
 use Rattle.outside.specs.declared.slot.Slot.{Ghosts}
 use Rattle.pool_model.specs.declared.event.Event.{Event}
 use Rattle.pool_model.specs.declared.entry.Entry.{Entry}
 use Rattle.pool_model.specs.Failures.{is_own, is_for_own, failures_in}
 use Rattle.pool_model.proofs.Rising.{failures_grow}
-use Rattle.store_api.specs.Signs.{Grows, refuses_unpin}
+use Rattle.store_api.specs.Signs.{Grows, is_stale_load, refuses_unpin}
 use Rattle.store_api.specs.Entries.{by, Made}
 use Rattle.own_entries.specs.OwnHoldings.{Outset, after_events, holdings_of}
 use Rattle.own_entries.proofs.Outsets.{outsets_stay}
@@ -15,6 +15,11 @@ use Rattle.pin_core.specs.StateOf.{state_of}
 use Rattle.session_calls.specs.declared.hand.Hand.{Hand}
 use Rattle.local_pool.specs.Told.{outset_of, held_of, signs_of}
 use Rattle.local_pool.specs.Making.{Makes}
+
+-- entries that came are counted beside those before
+counted_more : (counts : Entry → Bool) (before now more : List Entry) → now ≡ before ++ more → length (filter counts now) ≡ length (filter counts before) + length (filter counts more)
+counted_more counts before now more grew =
+    ap (λ (h : List Entry). length (filter counts h)) grew ∙ ap length (filter-append counts before more) ∙ length-append (filter counts before) (filter counts more)
 
 -- whose entries they are
 pub whose : {D : Type 0} (slot : Ghosts D) (own : Hand D) → (held_of slot own).session ≡ own.session
@@ -39,11 +44,8 @@ module _ {D : Type 0} (slot : Ghosts D) where
           (subst (λ (h : List Entry). failures_in (is_own old.session) old.trail ≤ failures_in (is_own old.session) h) (sym made.trail) (failures_grow (is_own old.session) refl old.trail (by old.session made.events)));
       failures_of = λ t. subst (λ (m : ℕ). failures_in (is_for_own old.session t) old.trail ≤ failures_in (is_for_own m t) new.trail) (sym made.session)
           (subst (λ (h : List Entry). failures_in (is_for_own old.session t) old.trail ≤ failures_in (is_for_own old.session t) h) (sym made.trail) (failures_grow (is_for_own old.session t) refl old.trail (by old.session made.events)));
-      refused_unpins =
-          let more : length (filter (λ e. refuses_unpin e.event) new.trail) ≡ length (filter (λ e. refuses_unpin e.event) old.trail) + length (filter (λ e. refuses_unpin e.event) (by old.session made.events)) =
-          ap (λ (h : List Entry). length (filter (λ e. refuses_unpin e.event) h)) made.trail ∙ ap length (filter-append (λ (e : Entry). refuses_unpin e.event) old.trail (by old.session made.events))
-          ∙ length-append (filter (λ e. refuses_unpin e.event) old.trail) (filter (λ e. refuses_unpin e.event) (by old.session made.events)) in
-          omega (arith, more);
+      refused_unpins = let more = counted_more (λ e. refuses_unpin e.event) old.trail new.trail (by old.session made.events) made.trail in omega (arith, more);
+      stale = let more = counted_more (λ e. is_stale_load e.event) old.trail new.trail (by old.session made.events) made.trail in omega (arith, more);
       spent = made.spent;
       trail = (by old.session made.events, ap Some made.trail);
     }

@@ -6,7 +6,7 @@ use Rattle.pool_model.specs.Sums.{memory}
 use Rattle.pool_model.specs.LookingBack.{names_in}
 use Rattle.pool_model.specs.Failures.{is_own, is_for_own, failures_in}
 use Rattle.store_api.specs.Holdings.{Holdings, Room}
-use Rattle.store_api.specs.Signs.{Signs, refuses_unpin}
+use Rattle.store_api.specs.Signs.{Signs, is_stale_load, refuses_unpin}
 use Rattle.own_entries.specs.OwnHoldings.{Outset, holdings_of}
 use Rattle.session_calls.specs.Moving.{slots_out}
 use Rattle.pin_core.specs.declared.parts.Parts.{Parts}
@@ -29,6 +29,7 @@ module _ {D : Type 0} (slot : Ghosts D) where
   opening_of own = record {
     blocks = (state_of own.state).blocks;
     block_len = (state_of own.state).block_len;
+    marked = (state_of own.state).marked;
     first_name = (state_of own.state).next_name - length (names_in own.trail);
     slots = slots_home (λ d. 1) own.state + slots_out (state_of own.state).pages;
     faults = 0;
@@ -49,6 +50,7 @@ signs_of own = record {
   failures = failures_in (is_own own.session) own.trail;
   failures_of = λ t. failures_in (is_for_own own.session t) own.trail;
   refused_unpins = length (filter (λ e. refuses_unpin e.event) own.trail);
+  stale = length (filter (λ e. is_stale_load e.event) own.trail);
   spent = is_spent (state_of own.state);
   trail = Some own.trail;
 }

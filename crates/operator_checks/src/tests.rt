@@ -32,6 +32,7 @@ fn opened<D: Slot + Drop>(
         blocks,
         block_len: 64,
         first_name: 0,
+        profile: 1,
     };
     let bytes = u64::from(blocks) * 64;
     let quota = slots.len() as u32;

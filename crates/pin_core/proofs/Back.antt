@@ -23,6 +23,7 @@ use Rattle.pin_core.specs.StateOf.{place_in, state_of}
 use Rattle.pin_core.specs.Invariant.{IsKept, IsKeptOf, list_at, is_clean_spot, is_home}
 use Rattle.pin_core.specs.Lawful.{Lawful}
 use Rattle.pin_core.specs.Changes.{entry_at}
+use Rattle.pin_core.specs.Marking.{under_of}
 use Rattle.pin_core.specs.Jobs.{IsWriteJob, IsReadJob}
 use Rattle.pin_core.specs.Ends.{ComesBack}
 use Rattle.pin_core.proofs.Found.{Found, found_page}
@@ -68,6 +69,16 @@ module _ {D : Type 0} (v : Parts D) (laws : Lawful v) where
   write_client job is =
       let f : Found v (record { name = job.id.name; key = job.id.key; client = 0 }) (entry_at v job.id.name) = found_id job.id is.lives is.key in
       sym is.client ∙ ap (λ (y : Page). y.client) f.is
+
+  pub write_under : (job : WriteJob D) → IsWriteJob (state_of v) job → job.under ≡ under_of v.marked (entry_at v job.id.name).version
+  write_under job is =
+      let f : Found v (record { name = job.id.name; key = job.id.key; client = 0 }) (entry_at v job.id.name) = found_id job.id is.lives is.key in
+      is.under ∙ ap (λ (y : Page). under_of v.marked y.version) f.is
+
+  pub read_under : (job : ReadJob D) → IsReadJob (state_of v) job → job.under ≡ under_of v.marked (entry_at v job.id.name).version
+  read_under job is =
+      let f : Found v (record { name = job.id.name; key = job.id.key; client = 0 }) (entry_at v job.id.name) = found_id job.id is.lives is.key in
+      is.under ∙ ap (λ (y : Page). under_of v.marked y.version) f.is
 
   pub read_back : (job : ReadJob D) → IsReadJob (state_of v) job → ComesBack v spot.Loading job.id (entry_at v job.id.name) job.buf job.row
   read_back job is =

@@ -69,7 +69,7 @@ module _ (pages : Pages) (p : ℕ) (y : Page) (none : get pages p ≡ None) wher
 
 -- a page as it begins
 abbrev pub page_made : ℕ → ℕ → ℕ → ℕ → Page
-page_made key session c blocks = record { key = key; session = session; client = c; blocks = blocks; place = Pinned 1; has_slots = false }
+page_made key session c blocks = record { key = key; session = session; client = c; blocks = blocks; place = Pinned 1; has_slots = false; version = 0 }
 
 -- and its entry
 abbrev pub entry_made : {D : Type 0} → PageId → ℕ → ℕ → ℕ → Entry (Kept D)

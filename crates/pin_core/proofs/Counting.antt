@@ -9,9 +9,10 @@ use Rattle.outside.specs.Counts.{Rose, last_count}
 use Rattle.outside.specs.Slots.{CountsStore}
 use Rattle.outside.specs.declared.slot.Slot.{Ghosts}
 use Rattle.outside.specs.declared.stream.Failed.{Failed}
-use Rattle.scratch_dev.specs.Rows.{Ended, IsStored, IsLoaded, Walked, FailedAt, stores_in, uncounted_in, stores_at, uncounted, CountsStores}
-use Rattle.pin_core.specs.Runs.{stuck, CountsFaults}
-use Rattle.pin_core.proofs.Rowed.{at_slot}
+use Rattle.scratch_dev.specs.Rows.{Ended, MarkedEnded, IsStored, Walked, FailedAt, stores_in, uncounted_in, stores_at, uncounted, CountsStores}
+use Rattle.scratch_dev.specs.declared.marked.LoadErr.TheVariants as loading
+use Rattle.pin_core.specs.Runs.{stuck, CountsFaults, IsLoadedAs, load_end}
+use Rattle.pin_core.proofs.Rowed.{at_slot, stays}
 
 -- one slot counts so many stores more, where it counts them still
 record Counts (n : ℕ) (a b : Option ℕ) : Type 0 where
@@ -143,5 +144,14 @@ module _ {D : Type 0} (slot : Ghosts D) where
     pub stores_failed : Walked (λ i. IsStored slot (block i)) ended before now → CountsFaults slot (if is_err ended then 1 else 0) before now
     stores_failed = walk_counted (λ i. IsStored slot (block i)) (λ i r a b is. is.never_falls) (λ i e a b is. is.failed) before now same ended
 
-    pub loads_failed : Walked (λ i. IsLoaded slot (block i)) ended before now → CountsFaults slot (if is_err ended then 1 else 0) before now
-    loads_failed = walk_counted (λ i. IsLoaded slot (block i)) (λ i r a b is. is.never_falls) (λ i e a b is. is.failed) before now same ended
+  -- a load that failed raised the count, and one that found another mark didn't lower it
+  one_failed : (under : Option ℕ) (name i : ℕ) (shown : List ℕ) (a b : D) → IsLoadedAs slot under name i shown (Err loading.Failed) a b → Rose (slot.faults a) (slot.faults b)
+  one_failed (Some version) name i shown a b is = is.failed
+  one_failed None name i shown a b is = is.failed
+
+  pub loads_failed : (under : Option ℕ) (name : ℕ) (block : ℕ → List ℕ) (before now : List D) → length now ≡ length before → (ended : MarkedEnded) → Walked (λ i. IsLoadedAs slot under name i (block i)) ended before now
+      → CountsFaults slot (if (load_end ended).0 then 1 else 0) before now
+  loads_failed under name block before now same (Ok u) walked = none_fell before now same (λ i d lt. (stays slot under name block (Ok u) before now walked i d lt).never_falls)
+  loads_failed under name block before now same (Err loading.Failed) walked =
+      one_rose walked.0 before now same walked.1.inside (λ i d lt. (stays slot under name block (Err loading.Failed) before now walked i d lt).never_falls) (λ d. one_failed under name walked.0 (block walked.0) _ _ (walked.1.here d))
+  loads_failed under name block before now same (Err (loading.Stale wanted found)) walked = none_fell before now same (λ i d lt. (stays slot under name block (Err (loading.Stale wanted found)) before now walked i d lt).never_falls)

@@ -28,6 +28,7 @@ use Rattle.pin_core.specs.StateOf.{page_of, pages_in, state_of}
 use Rattle.pin_core.specs.Invariant.{HasHistory, AreCounted, IsQuota, IsKept, slots_in}
 use Rattle.pin_core.specs.Lawful.{Lawful}
 use Rattle.pin_core.specs.Standing.{Holds, Enters, slots_home}
+use Rattle.pin_core.specs.Marking.{Form, form_of, front_of, under_of}
 use Rattle.pin_core.specs.Coming.{CanHold, ReadyCreate, created, create_entry}
 use Rattle.pin_core.proofs.Amounts.{rose}
 use Rattle.pin_core.proofs.Comes.{IsFreeKey, page_made, entry_made, pages_come, bytes_come, slots_come, all_slots_come, no_page_yet, come_placed, come_stray, come_clean, come_dirty, come_pages}
@@ -103,7 +104,7 @@ module _ {D : Type 0} (v : Parts D) (is_kept : IsKept v) (laws : Lawful v) (c : 
 
     create_state : state_of new ≡ after (state_of v) entry
     create_state =
-        same_state (state_of new) (after (state_of v) entry) refl refl refl refl pages refl
+        same_state (state_of new) (after (state_of v) entry) refl refl refl refl refl pages refl
         (come_dirty v is_kept laws id key c.session c.tracker blocks (holder_open v is_kept c blocks can) (can.some, can.few))
         (come_clean v is_kept laws id key c.session c.tracker blocks (holder_open v is_kept c blocks can) (can.some, can.few)) refl refl
 
@@ -147,11 +148,11 @@ module _ {D : Type 0} (v : Parts D) (is_kept : IsKept v) (laws : Lawful v) (c : 
             holds = λ q x there. elim (same_or_other q id.name) [
               | inl same ↦
                   let page_is : made_entry ≡ x = some_is made_entry x (sym (get_same v.pages.entries id.name made_entry) ∙ ap (get (insert v.pages.entries id.name made_entry)) (sym same) ∙ there) in
-                  subst (λ (z : Entry (Kept D)). Holds slot v.arena.block_len (content_of o (h ++ entry ∷ []) q) z) page_is (record { mem = tt; kept = tt })
+                  subst (λ (z : Entry (Kept D)). Holds slot (form_of v) q (content_of o (h ++ entry ∷ []) q) z) page_is (record { mem = tt; kept = tt })
               | inr other ↦
                   let before : get v.pages.entries q ≡ Some x = sym (get_other v.pages.entries id.name made_entry q other) ∙ there in
                   let bytes : content_of o (h ++ entry ∷ []) q ≡ content_of o h q = content_grows o h entry q (made (page_of v.pages q x)) (was_made slot o h v stood q x before) in
-                  subst (λ (b : List ℕ). Holds slot v.arena.block_len b x) (sym bytes) (stood.holds q x before)
+                  subst (λ (b : List ℕ). Holds slot (form_of v) q b x) (sym bytes) (stood.holds q x before)
             ];
           };
       slots = λ measure. let same = create_slots measure in omega (arith, same);

@@ -75,6 +75,7 @@ module _ {D : Type 0} (v : Parts D) (is_kept : IsKept v) (laws : Lawful v) (id :
     queues = left_queues v.lists laws.whole x.client id.key x.place home at_x.on;
     clean = left_keys v.clean id.key x.place at_x.clean;
     block_len = refl;
+    form = refl;
     opens = left_opens v.lists id.key x.place;
     lens = left_lens v.lists id.key x.place;
   }
@@ -121,7 +122,7 @@ module _ {D : Type 0} (v : Parts D) (is_kept : IsKept v) (laws : Lawful v) (id :
 
   pub destroy_state : state_of new ≡ after (state_of v) entry
   destroy_state =
-      same_state (state_of new) _ refl refl refl refl pages refl (gone_dirty id.key id.name x v new goes laws.proper is_kept laws.whole x.client at_x.opened off)
+      same_state (state_of new) _ refl refl refl refl refl pages refl (gone_dirty id.key id.name x v new goes laws.proper is_kept laws.whole x.client at_x.opened off)
       (gone_clean id.key id.name x v new goes laws.proper is_kept laws.whole) refl refl
       ∙ sym (destroy_effect (state_of v) x.session id.name (page_of v.pages id.name x) was)
 

@@ -4,18 +4,20 @@ use Rattle.std.specs.FinMap.{FinMap, get, insert, remove}
 use Rattle.std.specs.Ordering.{nat_cmp}
 use Rattle.reservation_tree.specs.Tracker.{Trackers}
 use Rattle.reservation_tree.proofs.Maps.{get_same}
-use Rattle.pool_model.specs.declared.event.Event.TheVariants.{Unpin, StartWrite, WriteOk, WriteFailed, PinHere, PinLoad, PinAgain, UnpinOnce, ReadOk, ReadFailed, Evict, Destroy, Extract}
+use Rattle.reservation_tree.specs.declared.mark.Mark.{Mark}
+use Rattle.pool_model.specs.declared.event.Event.TheVariants.{Unpin, StartWrite, WriteOk, WriteFailed, PinHere, PinLoad, PinAgain, UnpinOnce, ReadOk, ReadFailed, ReadStale, Evict, Destroy, Extract}
 use Rattle.pool_model.specs.State.{State, Place, Page, Pages, Dirty, Flying, Clean, Pinned, Loading, Evicted, no_page, page_at, pins_of, dirty_of, shown}
 use Rattle.pool_model.specs.Effects.{after}
 use Rattle.pool_model.specs.Parts.{without, give_slots, queue_dirty, with_failures, keep_first}
 use Rattle.pool_model.proofs.Pages.{page_is}
 use Rattle.pin_core.proofs.Mapped.{put_twice}
 
-pub same_state : (a b : State) → a.block_len ≡ b.block_len → a.blocks ≡ b.blocks → a.trackers ≡ b.trackers → a.sessions ≡ b.sessions
+pub same_state : (a b : State) → a.block_len ≡ b.block_len → a.marked ≡ b.marked → a.blocks ≡ b.blocks → a.trackers ≡ b.trackers → a.sessions ≡ b.sessions
     → a.pages ≡ b.pages → a.buffers ≡ b.buffers → a.dirty ≡ b.dirty → a.clean ≡ b.clean → a.next_name ≡ b.next_name → a.entries ≡ b.entries → a ≡ b
-same_state a b p1 p2 p3 p4 p5 p6 p7 p8 p9 p10 = λ i. record {
+same_state a b p1 p0 p2 p3 p4 p5 p6 p7 p8 p9 p10 = λ i. record {
   block_len = p1 i;
   blocks = p2 i;
+  marked = p0 i;
   trackers = p3 i;
   sessions = p4 i;
   pages = p5 i;
@@ -49,13 +51,13 @@ module _ (s : State) (maker p : ℕ) (y : Page) (is : get s.pages p ≡ Some y) 
       (put_twice s.pages p (record y { has_slots = true }) (record y { place = Dirty; has_slots = true }))
 
   pub start_effect : after s (record { maker = maker; event = StartWrite p }) ≡ record s {
-    pages = insert s.pages p (record y { place = Flying maker });
+    pages = insert s.pages p (record y { place = Flying maker; version = s.entries });
     dirty = insert s.dirty y.client (without p (dirty_of s y.client));
     clean = without p s.clean;
     entries = shown (s.entries + 1);
   }
   start_effect = ap (λ (a : Page). record s {
-    pages = insert s.pages p (record a { place = Flying maker });
+    pages = insert s.pages p (record a { place = Flying maker; version = s.entries });
     dirty = insert s.dirty a.client (without p (dirty_of s a.client));
     clean = without p s.clean;
     entries = shown (s.entries + 1);
@@ -118,6 +120,12 @@ module _ (s : State) (maker p : ℕ) (y : Page) (is : get s.pages p ≡ Some y) 
     dirty = insert s.dirty a.client (dirty_of s a.client ++ p ∷ []);
     entries = shown (s.entries + 1);
   }) page_y
+
+  pub stale_effect : (wanted found : Mark) → after s (record { maker = maker; event = ReadStale p wanted found }) ≡ record s {
+    pages = insert s.pages p (record y { place = Evicted });
+    entries = shown (s.entries + 1);
+  }
+  stale_effect wanted found = ap (λ (a : Page). record s { pages = insert s.pages p (record a { place = Evicted }); entries = shown (s.entries + 1) }) page_y
 
   pub unread_effect : (before now : ℕ) → after s (record { maker = maker; event = ReadFailed p before now }) ≡ record s {
     pages = insert s.pages p (record y { place = Evicted });

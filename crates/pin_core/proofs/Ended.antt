@@ -153,7 +153,7 @@ module _ {D : Type 0} (v : Parts D) (is_kept : IsKept v) (laws : Lawful v) (s : 
           };
           clients = refl;
           sessions = length-set v.slots.quotas s None;
-          state = same_state (state_of (unseated s x.query v)) (after (state_of v) event_made) refl refl refl sessions refl refl dirty refl refl refl;
+          state = same_state (state_of (unseated s x.query v)) (after (state_of v) event_made) refl refl refl refl sessions refl refl dirty refl refl refl;
           may = λ h. record {
             makes = low;
             allows = record {

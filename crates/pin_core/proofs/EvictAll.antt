@@ -93,6 +93,10 @@ module _ {D : Type 0} where
   all_pages [] v = refl
   all_pages (key ∷ keys) v = all_pages keys (evict_one key v)
 
+  pub all_marked : (keys : List ℕ) (v : Parts D) → (evict_all keys v).marked ≡ v.marked
+  all_marked [] v = refl
+  all_marked (key ∷ keys) v = all_marked keys (evict_one key v)
+
   pub all_free : (keys : List ℕ) (v : Parts D) → (evict_all keys v).arena ≡ with_freed (blocks_of v.pages keys) v.arena
   all_free [] v = ap (λ (n : ℕ). record v.arena { free = n }) (omega arith)
   all_free (key ∷ keys) v =

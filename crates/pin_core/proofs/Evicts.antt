@@ -34,6 +34,7 @@ use Rattle.pin_core.specs.StateOf.{page_of, pages_in, place_in, dirty_in, state_
 use Rattle.pin_core.specs.Lawful.{Lawful}
 use Rattle.pin_core.specs.Invariant.{list_at, IsKeptOf, IsPlaced, IsKept}
 use Rattle.pin_core.specs.Standing.{StandsFor, Holds, KeptHolds, slots_home}
+use Rattle.pin_core.specs.Marking.{Form, form_of, front_of, under_of}
 use Rattle.pin_core.specs.Evictions.{evict_one}
 use Rattle.pin_core.proofs.Mapped.{put_again}
 use Rattle.pin_core.proofs.Moving.{Moves, moved_pages}
@@ -53,10 +54,10 @@ module _ {D : Type 0} where
   stored_kept blocks (kept.Held row) is = is
   stored_kept blocks kept.Out is = let no : true ≡ false = is in cc
 
-  stored_holds : (slot : Ghosts D) (len : ℕ) (bytes : List ℕ) (k : Kept D) → KeptHolds slot len bytes spot.Clean k → KeptHolds slot len bytes spot.Evicted k
-  stored_holds slot len bytes (kept.Empty shell) is = tt
-  stored_holds slot len bytes (kept.Held row) is = is
-  stored_holds slot len bytes kept.Out is = tt
+  stored_holds : (slot : Ghosts D) (under : Option ℕ) (name len : ℕ) (bytes : List ℕ) (k : Kept D) → KeptHolds slot under name len bytes spot.Clean k → KeptHolds slot under name len bytes spot.Evicted k
+  stored_holds slot under name len bytes (kept.Empty shell) is = tt
+  stored_holds slot under name len bytes (kept.Held row) is = is
+  stored_holds slot under name len bytes kept.Out is = tt
 
   module _ (v : Parts D) (is_kept : IsKept v) (laws : Lawful v) (maker : ℕ) (makes : maker < 240) (key : ℕ) (rest : List ℕ) (first : v.clean.keys ≡ key ∷ rest) where
     pub stands : stands_in key v.clean.keys ≡ true
@@ -89,6 +90,7 @@ module _ {D : Type 0} where
       lists = λ k apart. refl;
       clean = λ k apart. ap (stands_in k) left ∙ sym (ap (stands_in k) first ∙ ap (λ (b : Bool). b || stands_in k rest) (ne_eqb k key apart));
       block_len = refl;
+      form = refl;
       opens = refl;
       lens = λ k apart. refl;
     }
@@ -128,7 +130,7 @@ module _ {D : Type 0} where
         ap (names_of v.pages) left
         ∙ sym (ap (names_of v.pages) (ap (others key) first ∙ drop_head key rest alone))
         ∙ names_without v.pages key c.name c.live (one_key v.pages laws.proper key c.name c.live) v.clean.keys (clean_key_live v is_kept) in
-        same_state (state_of new) _ refl refl refl refl pages refl dirty_eq clean_eq refl refl
+        same_state (state_of new) _ refl refl refl refl refl pages refl dirty_eq clean_eq refl refl
         ∙ sym (evict_effect (state_of v) maker c.name (page_of v.pages c.name c.page) was)
 
     evict_may : (h : List Event) → MayFollow h (state_of v) e
@@ -173,12 +175,12 @@ module _ {D : Type 0} where
     pub evict_kept : IsKept new
     evict_kept = told_kept key c.name c.page w v new e is_kept laws.proper evict_tells
 
-    same_content : (slot : Ghosts D) (o : Opening) (h : List Event) → StandsFor slot o h v → KeptHolds slot v.arena.block_len (content_of o (h ++ e ∷ []) c.name) spot.Evicted c.page.scratch
+    same_content : (slot : Ghosts D) (o : Opening) (h : List Event) → StandsFor slot o h v → KeptHolds slot (under_of v.marked c.page.version) c.name v.arena.block_len (content_of o (h ++ e ∷ []) c.name) spot.Evicted c.page.scratch
     same_content slot o h stood =
-        let held : Holds slot v.arena.block_len (content_of o h c.name) c.page = stood.holds c.name c.page c.there in
+        let held : Holds slot (form_of v) c.name (content_of o h c.name) c.page = stood.holds c.name c.page c.there in
         let bytes : content_of o (h ++ e ∷ []) c.name ≡ content_of o h c.name = content_grows o h e c.name (made (page_of v.pages c.name c.page)) (was_made slot o h v stood c.name c.page c.there) in
-        subst (λ (b : List ℕ). KeptHolds slot v.arena.block_len b spot.Evicted c.page.scratch) (sym bytes)
-        (stored_holds slot v.arena.block_len (content_of o h c.name) c.page.scratch (subst (λ p. KeptHolds slot v.arena.block_len (content_of o h c.name) p c.page.scratch) c.clean held.kept))
+        subst (λ (b : List ℕ). KeptHolds slot (under_of v.marked c.page.version) c.name v.arena.block_len b spot.Evicted c.page.scratch) (sym bytes)
+        (stored_holds slot (under_of v.marked c.page.version) c.name v.arena.block_len (content_of o h c.name) c.page.scratch (subst (λ p. KeptHolds slot (under_of v.marked c.page.version) c.name v.arena.block_len (content_of o h c.name) p c.page.scratch) c.clean held.kept))
 
     pub evict_stands : (slot : Ghosts D) (o : Opening) (h : List Event) → StandsFor slot o h v → StandsFor slot o (h ++ record { maker = maker; event = event.Evict (name_at v.pages key) } ∷ []) new
     evict_stands slot o h stood =

@@ -98,6 +98,7 @@ module _ {D : Type 0} (v : Parts D) (is_kept : IsKept v) (laws : Lawful v) (id :
       queues = λ d. nodes_on-without v.lists.pages.lists (place d which.Dirty) id.key;
       clean = sym (others-all id.key v.clean.keys out);
       block_len = refl;
+      form = refl;
       opens = refl;
       lens = λ k. refl;
     }
@@ -113,7 +114,7 @@ module _ {D : Type 0} (v : Parts D) (is_kept : IsKept v) (laws : Lawful v) (id :
 
     extract_state : state_of new ≡ after (state_of v) entry
     extract_state =
-        same_state (state_of new) _ refl refl refl refl pages lent (kept_dirty id.key id.name x v new goes laws.proper is_kept laws.whole off)
+        same_state (state_of new) _ refl refl refl refl refl pages lent (kept_dirty id.key id.name x v new goes laws.proper is_kept laws.whole off)
         (kept_clean id.key id.name x v new goes laws.proper is_kept laws.whole out) refl refl
         ∙ sym (extract_effect (state_of v) x.session id.name (page_of v.pages id.name x) was f)
 

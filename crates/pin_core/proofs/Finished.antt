@@ -1,5 +1,5 @@
 -- What the end of a write leaves.
-use Rattle.std.proofs.Common.{◌≡◌, ℕ, Bool, true, false, refl, sym, subst, inl, arith}
+use Rattle.std.proofs.Common.{◌≡◌, ℕ, Option, Bool, true, false, refl, sym, subst, inl, arith}
 use Rattle.outside.specs.declared.slot.Slot.{Ghosts}
 use Rattle.page_table.specs.declared.entry.Place.TheVariants as spot
 use Rattle.pool_model.specs.ScratchRows.{IsFault}
@@ -10,9 +10,10 @@ use Rattle.pin_core.specs.Invariant.{IsKept}
 use Rattle.pin_core.specs.Lawful.{Lawful}
 use Rattle.pin_core.specs.Changes.{entry_at}
 use Rattle.pin_core.specs.Jobs.{IsWriteJob}
+use Rattle.pin_core.specs.Standing.{AreHeld}
 use Rattle.pin_core.specs.Ends.{ComesBack, write_ended}
 use Rattle.pin_core.specs.Returning.{EntersWhere, IsWritten, write_ends, write_entry}
-use Rattle.pin_core.proofs.Back.{write_back, write_client}
+use Rattle.pin_core.proofs.Back.{write_back, write_client, write_under}
 use Rattle.pin_core.proofs.Unwritten.{unwritten_kept, unwritten_state, unwritten_stands, unwritten_slots}
 use Rattle.pin_core.proofs.Writes.{written_kept, written_state, written_stands, written_slots}
 
@@ -33,7 +34,7 @@ module _ {D : Type 0} where
         → EntersWhere slot (IsWritten slot v.arena.block_len job) (record { maker = job.who; event = write_ends failed job.id.name before now }) job.row v (write_ended failed job.id (entry_at v job.id.name) job.buf job.row v)
     ended_enters false so slot before now fault = record {
       state = written_state v is_kept laws job.who is.maker job.id (entry_at v job.id.name) job.buf job.row back;
-      stands = λ o h stands w. written_stands v is_kept laws job.who is.maker job.id (entry_at v job.id.name) job.buf job.row back slot o h stands w.content (w.held so);
+      stands = λ o h stands w. written_stands v is_kept laws job.who is.maker job.id (entry_at v job.id.name) job.buf job.row back slot o h stands w.content (subst (λ (u : Option ℕ). AreHeld slot u job.id.name v.arena.block_len job.row job.buf.bytes) (write_under v laws job is) (w.held so));
       slots = written_slots v is_kept laws job.who is.maker job.id (entry_at v job.id.name) job.buf job.row back;
     }
     ended_enters true so slot before now fault = record {

@@ -24,6 +24,7 @@ use Rattle.pin_core.specs.Keeping.{has_slots, row_in}
 use Rattle.pin_core.specs.StateOf.{page_of, pages_in, place_in, buffers_in, state_of}
 use Rattle.pin_core.specs.Invariant.{HasHistory, IsQuota, IsSized, AreSeated, AreLent, IsKept, slots_in}
 use Rattle.pin_core.specs.Standing.{Holds, StandsFor, slots_home}
+use Rattle.pin_core.specs.Marking.{Form, form_of, front_of, under_of}
 use Rattle.pin_core.proofs.Histories.{GrewBy, grew, history_grows, content_grows}
 use Rattle.pin_core.proofs.Stands.{was_made}
 use Rattle.pin_core.proofs.Without.{Goes, gone_placed, gone_stray, gone_pages, page_gone, page_before}
@@ -117,8 +118,8 @@ module _ {D : Type 0} where
           holds = λ q page there.
               let before = page_before key name x v new ends.goes proper q page there in
               let bytes : content_of o (h ++ e ∷ []) q ≡ content_of o h q = content_grows o h e q (made (page_of v.pages q page)) (was_made slot o h v stands q page before) ∙ leaves q (content_of o h q) in
-              subst (λ (n : ℕ). Holds slot n (content_of o (h ++ e ∷ []) q) page) (sym ends.goes.block_len)
-              (subst (λ (b : List ℕ). Holds slot v.arena.block_len b page) (sym bytes) (stands.holds q page before));
+              subst (λ (f : Form). Holds slot f q (content_of o (h ++ e ∷ []) q) page) (sym ends.goes.form)
+              (subst (λ (b : List ℕ). Holds slot (form_of v) q b page) (sym bytes) (stands.holds q page before));
         }
 
     -- the slots at home change by those of this page, and by those that are free

@@ -104,7 +104,7 @@ module _ {D : Type 0} where
     event_made = record { maker = s; event = event.AddTracker t x.query limit None }
 
     state : state_of (joined s x.query limit t v) ≡ after (state_of v) event_made
-    state = same_state (state_of (joined s x.query limit t v)) (after (state_of v) event_made) refl refl refl (sessions_joined v.seats s t) refl refl
+    state = same_state (state_of (joined s x.query limit t v)) (after (state_of v) event_made) refl refl refl refl (sessions_joined v.seats s t) refl refl
         (dirty_came v.pages v.lists t within (laws.whole.bare t which.Dirty was_closed)) refl refl refl
 
     pub joined_done : Done (record { maker = s; event = event.AddTracker t x.query limit None } ∷ []) [] [] v (joined s x.query limit t v)

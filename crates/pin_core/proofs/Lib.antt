@@ -53,6 +53,7 @@ pub mod Taken
 pub mod Seated
 pub mod Started
 pub mod Turned
+pub mod Sure
 pub mod Shown
 pub mod Rowed
 pub mod PinReady
@@ -72,6 +73,7 @@ pub mod Back
 pub mod Finished
 pub mod ReadBack
 pub mod Unread
+pub mod Outdated
 pub mod ReadReady
 pub mod ReadEnded
 pub mod Refused
@@ -100,3 +102,5 @@ pub mod Tallied
 pub mod Stored
 pub mod Plain
 pub mod Summed
+pub mod Gathered
+pub mod ReadContent

@@ -35,8 +35,8 @@ module _ {D : Type 0} (v : Parts D) (is_kept : IsKept v) (laws : Lawful v) (id :
   pub fill_parts : (new : Parts D) → new ≡ loaded id (entry_at mid id.name) mid → new ≡ loaded_over id x v
   fill_parts new is = is ∙ ap (λ (y : Entry (Kept D)). loaded id y mid) entry_is ∙ ap (loaded id x) mid_is
 
-  pub fill_job : (job : ReadJob D) (buf : Buffer) → job ≡ read_job id (entry_at mid id.name) buf → job ≡ read_job id x buf
-  fill_job job buf is = is ∙ ap (λ (y : Entry (Kept D)). read_job id y buf) entry_is
+  pub fill_job : (job : ReadJob D) (buf : Buffer) → job ≡ read_job v.marked id (entry_at mid id.name) buf → job ≡ read_job v.marked id x buf
+  fill_job job buf is = is ∙ ap (λ (y : Entry (Kept D)). read_job v.marked id y buf) entry_is
 
   pub fill_buffer : (buf : Buffer) → IsBufferOf (entry_at mid id.name).blocks mid.arena.block_len buf → IsBufferOf x.blocks v.arena.block_len buf
   fill_buffer buf is =

@@ -91,6 +91,7 @@ module _ {D : Type 0} where
       lists = λ k apart. list-with_node_other v.lists laws.whole x.client id.key bytes which.Pinned k apart;
       clean = λ k apart. refl;
       block_len = refl;
+      form = refl;
       opens = refl;
       lens = λ k apart. len-with_node_other v.lists x.client id.key bytes which.Pinned k apart;
     }
@@ -138,7 +139,7 @@ module _ {D : Type 0} where
         let pages = moved_pages id.key id.name x w v new moves laws.proper ∙ ap (λ (b : Bool). insert (pages_in v.pages) id.name (record (page_of v.pages id.name w) { has_slots = b })) (sym had) in
         let dirties = dirty_same v.pages new.pages v.lists new.lists refl refl
         (λ d. nodes-with_node_other v.lists laws.whole x.client id.key bytes which.Pinned d which.Dirty (λ same. absurd (omega arith))) in
-        same_state (state_of new) _ refl refl refl refl pages refl dirties refl refl refl
+        same_state (state_of new) _ refl refl refl refl refl pages refl dirties refl refl refl
         ∙ sym (load_effect (state_of v) x.session id.name (page_of v.pages id.name x) was)
 
     load_may : (h : List Event) → MayFollow h (state_of v) e

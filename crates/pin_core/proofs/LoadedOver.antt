@@ -23,6 +23,7 @@ use Rattle.pin_core.specs.Lawful.{Lawful}
 use Rattle.pin_core.specs.Keeping.{row_in}
 use Rattle.pin_core.specs.Invariant.{IsKept, IsPlaced, IsKeptOf, is_clean_spot}
 use Rattle.pin_core.specs.Standing.{StandsFor, Holds, KeptHolds, AreHeld}
+use Rattle.pin_core.specs.Marking.{Form, form_of, front_of, under_of}
 use Rattle.pin_core.specs.Changes.{no_entry, entry_at}
 use Rattle.pin_core.specs.Evictions.{evictions, keys_gone, names_gone, with_room}
 use Rattle.pin_core.specs.Loads.{CanLoad, ReadyLoad, loaded, loaded_over, load_entries}
@@ -64,10 +65,10 @@ module _ {D : Type 0} where
   ]
 
   -- what a job's slots hold
-  pub job_holds : (slot : Ghosts D) (len blocks : ℕ) (bytes : List ℕ) (k : Kept D) → IsKeptOf blocks spot.Evicted k → KeptHolds slot len bytes spot.Evicted k → AreHeld slot len (row_in k) bytes
-  job_holds slot len blocks bytes (kept.Held row) is holds = holds refl
-  job_holds slot len blocks bytes (kept.Empty shell) is holds = absurd (false≢true is.0)
-  job_holds slot len blocks bytes kept.Out is holds = absurd (false≢true (sym is))
+  pub job_holds : (slot : Ghosts D) (under : Option ℕ) (name len blocks : ℕ) (bytes : List ℕ) (k : Kept D) → IsKeptOf blocks spot.Evicted k → KeptHolds slot under name len bytes spot.Evicted k → AreHeld slot under name len (row_in k) bytes
+  job_holds slot under name len blocks bytes (kept.Held row) is holds = holds refl
+  job_holds slot under name len blocks bytes (kept.Empty shell) is holds = absurd (false≢true is.0)
+  job_holds slot under name len blocks bytes kept.Out is holds = absurd (false≢true (sym is))
 
   -- a page that isn't clean stays as it is
   module _ (v : Parts D) (is_kept : IsKept v) (laws : Lawful v) (id : PageId) (x : Entry (Kept D))
@@ -137,8 +138,8 @@ module _ {D : Type 0} where
           (evicted_done x.session (keys_gone x.blocks v) v mid gone) (load_done mid gone.kept gone.laws id x can_still enough)
 
     -- the slots that it takes along hold its content
-    pub over_holds : (slot : Ghosts D) (o : Opening) (h : List Event) → StandsFor slot o h v → AreHeld slot v.arena.block_len (row_in x.scratch) (content_of o h id.name)
+    pub over_holds : (slot : Ghosts D) (o : Opening) (h : List Event) → StandsFor slot o h v → AreHeld slot (under_of v.marked x.version) id.name v.arena.block_len (row_in x.scratch) (content_of o h id.name)
     over_holds slot o h stood =
-        let held : Holds slot v.arena.block_len (content_of o h id.name) x = stood.holds id.name x can.there in
-        job_holds slot v.arena.block_len x.blocks (content_of o h id.name) x.scratch (subst (λ p. IsKeptOf x.blocks p x.scratch) can.evicted at_x.kept)
-        (subst (λ p. KeptHolds slot v.arena.block_len (content_of o h id.name) p x.scratch) can.evicted held.kept)
+        let held : Holds slot (form_of v) id.name (content_of o h id.name) x = stood.holds id.name x can.there in
+        job_holds slot (under_of v.marked x.version) id.name v.arena.block_len x.blocks (content_of o h id.name) x.scratch (subst (λ p. IsKeptOf x.blocks p x.scratch) can.evicted at_x.kept)
+        (subst (λ p. KeptHolds slot (under_of v.marked x.version) id.name v.arena.block_len (content_of o h id.name) p x.scratch) can.evicted held.kept)

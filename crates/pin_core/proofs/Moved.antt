@@ -22,6 +22,7 @@ use Rattle.pin_core.specs.Keeping.{has_slots, row_in}
 use Rattle.pin_core.specs.StateOf.{page_of, pages_in, state_of}
 use Rattle.pin_core.specs.Invariant.{HasHistory, IsPlaced, IsQuota, IsSized, AreSeated, AreLent, IsKept}
 use Rattle.pin_core.specs.Standing.{Holds, StandsFor, slots_home}
+use Rattle.pin_core.specs.Marking.{Form, form_of, front_of, under_of}
 use Rattle.pin_core.proofs.Mapped.{get_mapped}
 use Rattle.pin_core.proofs.Histories.{history_grows}
 use Rattle.pin_core.proofs.Moving.{Moves, moved_placed, moved_stray, moved_pages}
@@ -57,7 +58,7 @@ module _ {D : Type 0} where
 
     pub told_stands : (slot : Ghosts D) (o : Opening) (h : List Event) → StandsFor slot o h v
         → ((q : ℕ) (old : List ℕ) → q ≢ name → left_in q e.event old ≡ old)
-        → Holds slot v.arena.block_len (content_of o (h ++ e ∷ []) name) w
+        → Holds slot (form_of v) name (content_of o (h ++ e ∷ []) name) w
         → StandsFor slot o (h ++ e ∷ []) new
     told_stands slot o h stands others here = stands_moved slot o h v stands key name x w new tells.moves proper e (tells.may h) tells.state others here
 

@@ -16,6 +16,7 @@ use Rattle.pool_model.proofs.Seats.{some_is}
 use Rattle.pin_core.specs.declared.kept.Kept.{Kept}
 use Rattle.pin_core.specs.declared.parts.Parts.{Parts}
 use Rattle.pin_core.specs.StateOf.{page_of, pages_in}
+use Rattle.pin_core.specs.Marking.{form_of}
 use Rattle.pin_core.specs.Invariant.{IsMem, IsPlaced, AllPlaced, NoneStray}
 use Rattle.pin_core.proofs.Mapped.{get_mapped, mapped_put}
 
@@ -28,6 +29,7 @@ module _ {D : Type 0} where
     pub lists : (k : ℕ) → k ≢ key → list_with k new.lists.pages.lists ≡ list_with k v.lists.pages.lists
     pub clean : (k : ℕ) → k ≢ key → stands_in k new.clean.keys ≡ stands_in k v.clean.keys
     pub block_len : new.arena.block_len ≡ v.arena.block_len
+    pub form : form_of new ≡ form_of v
     pub opens : new.lists.is_open ≡ v.lists.is_open
     pub lens : (k : ℕ) → k ≢ key → len_of k new.lists.pages ≡ len_of k v.lists.pages
 

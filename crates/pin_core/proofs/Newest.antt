@@ -102,11 +102,11 @@ module _ {D : Type 0} where
   id_found v key o id is found_it named = ap (λ (r : Option PageId). unwrap_or r id) (sym is ∙ found_it ∙ named)
 
   pub start_done : (v : Parts D) (who c key : ℕ) (id : PageId) → id ≡ id_with key v → (entry_at v (id_with key v).name).client ≡ c
-      → (pages : Table (Entry (Kept D))) → pages ≡ with_entry v.pages id (flying who (entry_at v id.name))
+      → (pages : Table (Entry (Kept D))) → pages ≡ with_entry v.pages id (flying who v.entries (entry_at v id.name))
       → (lists : Clients) → lists ≡ shifted c which.Flying key v.lists
       → (entries : ℕ) → entries ≡ shown (v.entries + 1)
       → record v { pages = pages; lists = lists; entries = entries } ≡ flown who (id_with key v) (entry_at v (id_with key v).name) v
   start_done v who c key id id_is client pages pages_are lists lists_are entries entries_are =
-      let p : pages ≡ with_entry v.pages (id_with key v) (flying who (entry_at v (id_with key v).name)) = pages_are ∙ ap (λ (j : PageId). with_entry v.pages j (flying who (entry_at v j.name))) id_is in
+      let p : pages ≡ with_entry v.pages (id_with key v) (flying who v.entries (entry_at v (id_with key v).name)) = pages_are ∙ ap (λ (j : PageId). with_entry v.pages j (flying who v.entries (entry_at v j.name))) id_is in
       let l : lists ≡ shifted (entry_at v (id_with key v).name).client which.Flying key v.lists = lists_are ∙ ap (λ (n : ℕ). shifted n which.Flying key v.lists) (sym client) in
       λ i. record v { pages = p i; lists = l i; entries = entries_are i }

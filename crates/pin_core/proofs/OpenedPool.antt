@@ -1,5 +1,5 @@
 -- What a call that opens a pool leaves.
-use Rattle.std.proofs.Common.{◌≡◌, ℕ, ◌+◌, ◌<◌, ◌≤◌, false, List, [], ◌∷◌, length, replicate, None, refl, ap, sym, ◌∙◌, subst, inl, inr, arith, eqb, ne_eqb}
+use Rattle.std.proofs.Common.{◌==◌, ◌≡◌, ℕ, ◌+◌, ◌<◌, ◌≤◌, false, List, [], ◌∷◌, length, replicate, None, refl, ap, sym, ◌∙◌, subst, inl, inr, arith, eqb, ne_eqb}
 use Rattle.std.specs.List.{sum_by, list_any}
 use Rattle.std.proofs.lemmas.Bool.{cases_lt, false≢true}
 use Rattle.outside.specs.declared.slot.Slot.{Ghosts}
@@ -50,10 +50,11 @@ module _ {D : Type 0} (conf : PoolConf) (opens : OpensWith conf) (items : List D
     (tree : parts.tree ≡ trees.opened (bytes_of conf.block_len conf.blocks)) (pages : parts.pages ≡ table.opened (conf.blocks + count) conf.first_name) (lists : parts.lists ≡ clients.fresh 4096 (conf.blocks + count))
     (clean : parts.clean ≡ cleans.empty (conf.blocks + count)) (arena : parts.arena ≡ record { block_len = conf.block_len; blocks = conf.blocks; free = conf.blocks })
     (buffers : parts.buffers ≡ book.opened conf.blocks) (seats : parts.seats ≡ vacant) (slots : parts.slots ≡ record { free = items; quotas = replicate 240 None; spare = count })
-    (block_len : parts.block_len ≡ conf.block_len) (entries : parts.entries ≡ 0) (counted : IsCounted parts.slots) where
-  parts_are : start conf.block_len conf.blocks conf.first_name (conf.blocks + count) items count ≡ parts
+    (block_len : parts.block_len ≡ conf.block_len) (marked : parts.marked ≡ (conf.profile == 2)) (entries : parts.entries ≡ 0) (counted : IsCounted parts.slots) where
+  parts_are : start conf.block_len conf.blocks conf.first_name (conf.blocks + count) (conf.profile == 2) items count ≡ parts
   parts_are = sym (λ i. record {
     block_len = block_len i;
+    marked = marked i;
     tree = tree i;
     pages = pages i;
     lists = lists i;
@@ -66,16 +67,16 @@ module _ {D : Type 0} (conf : PoolConf) (opens : OpensWith conf) (items : List D
   })
 
   counts : length items ≡ count
-  counts = opens_spare conf.block_len conf.blocks conf.first_name (conf.blocks + count) items count (subst (λ (s : Scratch D). IsCounted s) slots counted)
+  counts = opens_spare conf.block_len conf.blocks conf.first_name (conf.blocks + count) (conf.profile == 2) items count (subst (λ (s : Scratch D). IsCounted s) slots counted)
 
   pub all_kept : IsKept parts
   all_kept =
       let short = short_block conf.block_len opens.block_len in
-      subst IsKept parts_are (opens_kept conf.block_len conf.blocks conf.first_name (conf.blocks + count) items count short.0 short.1 opens.memory (let n = counts in omega (arith, n)))
+      subst IsKept parts_are (opens_kept conf.block_len conf.blocks conf.first_name (conf.blocks + count) (conf.profile == 2) items count short.0 short.1 opens.memory (let n = counts in omega (arith, n)))
 
   pub all_stands : (slot : Ghosts D) (other : Opening) → IsOpeningOf conf (length items) other → StandsFor slot other [] parts
   all_stands slot other is =
-      subst (StandsFor slot other []) parts_are (opens_standing conf.block_len conf.blocks conf.first_name (conf.blocks + count) items count slot other is.blocks is.block_len is.first_name)
+      subst (StandsFor slot other []) parts_are (opens_standing conf.block_len conf.blocks conf.first_name (conf.blocks + count) (conf.profile == 2) items count slot other is.blocks is.block_len is.first_name is.marked)
 
   pub all_slots : (measure : D → ℕ) → slots_home measure parts ≡ sum_by measure items
-  all_slots measure = ap (slots_home measure) (sym parts_are) ∙ opens_slots conf.block_len conf.blocks conf.first_name (conf.blocks + count) items count measure
+  all_slots measure = ap (slots_home measure) (sym parts_are) ∙ opens_slots conf.block_len conf.blocks conf.first_name (conf.blocks + count) (conf.profile == 2) items count measure

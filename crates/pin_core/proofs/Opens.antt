@@ -96,11 +96,12 @@ root_closed bytes c = elim (same_or_other c 0) [
 root_alone_counts : (bytes : ℕ) → len (trees.opened bytes).trackers ≡ 1
 root_alone_counts bytes = len_more empty 0 (new_root bytes) (get-empty nat_cmp 0) ∙ ap (λ (n : ℕ). n + 1) (len-empty nat_cmp _)
 
-module _ {D : Type 0} (block_len blocks first room : ℕ) (slots : List D) (spare : ℕ) where
+module _ {D : Type 0} (block_len blocks first room : ℕ) (marked : Bool) (slots : List D) (spare : ℕ) where
   -- the parts as they open
   abbrev pub start : Parts D
   start = record {
     block_len = block_len;
+    marked = marked;
     tree = trees.opened (bytes_of block_len blocks);
     pages = table.opened room first;
     lists = clients.fresh 4096 room;
@@ -113,7 +114,7 @@ module _ {D : Type 0} (block_len blocks first room : ℕ) (slots : List D) (spar
   }
 
   abbrev o : Opening
-  o = record { blocks = blocks; block_len = block_len; first_name = first; slots = length slots; faults = 0; stores = 0 }
+  o = record { blocks = blocks; block_len = block_len; marked = marked; first_name = first; slots = length slots; faults = 0; stores = 0 }
 
   start_pages : pages_in start.pages ≡ empty
   start_pages = alike _ _ (λ q. get_mapped (page_of start.pages) empty q ∙ ap (λ (r : Option (Entry (Kept D))). option_map (page_of start.pages q) r) (get-empty nat_cmp q) ∙ sym (get-empty nat_cmp q))
@@ -128,7 +129,7 @@ module _ {D : Type 0} (block_len blocks first room : ℕ) (slots : List D) (spar
       ∙ sym (get-empty nat_cmp q))
 
   start_state : state_of start ≡ opened o
-  start_state = same_state (state_of start) (opened o) refl refl refl no_sessions start_pages start_buffers start_dirty refl refl refl
+  start_state = same_state (state_of start) (opened o) refl refl refl refl no_sessions start_pages start_buffers start_dirty refl refl refl
 
   start_off : (key : ℕ) → list_with key start.lists.pages.lists ≡ None
   start_off key = elim (list_with key start.lists.pages.lists) as (λ r. list_with key start.lists.pages.lists ≡ r → list_with key start.lists.pages.lists ≡ None) [
@@ -192,10 +193,10 @@ module _ {D : Type 0} (block_len blocks first room : ℕ) (slots : List D) (spar
     };
   }
 
-  pub opens_standing : (slot : Ghosts D) (other : Opening) → other.blocks ≡ blocks → other.block_len ≡ block_len → other.first_name ≡ first → StandsFor slot other [] start
-  opens_standing slot other same_blocks same_len same_first = record {
+  pub opens_standing : (slot : Ghosts D) (other : Opening) → other.blocks ≡ blocks → other.block_len ≡ block_len → other.first_name ≡ first → other.marked ≡ marked → StandsFor slot other [] start
+  opens_standing slot other same_blocks same_len same_first same_marked = record {
     legal = tt;
-    state = start_state ∙ sym (λ i. opened (record { blocks = same_blocks i; block_len = same_len i; first_name = same_first i; slots = length slots; faults = 0; stores = 0 }));
+    state = start_state ∙ sym (λ i. opened (record { blocks = same_blocks i; block_len = same_len i; marked = same_marked i; first_name = same_first i; slots = length slots; faults = 0; stores = 0 }));
     holds = λ name page there. absurd (none_found page name there);
   }
 

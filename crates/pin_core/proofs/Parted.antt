@@ -142,7 +142,7 @@ module _ {D : Type 0} where
           };
           clients = length-set v.lists.is_open t false;
           sessions = refl;
-          state = same_state (state_of (parted s t v)) (after (state_of v) event_made) refl refl refl sessions refl refl (dirty_went v.pages v.lists t within) refl refl refl;
+          state = same_state (state_of (parted s t v)) (after (state_of v) event_made) refl refl refl refl sessions refl refl (dirty_went v.pages v.lists t within) refl refl refl;
           may = λ h. record {
             makes = low;
             allows = record {

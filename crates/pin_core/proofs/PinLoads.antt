@@ -1,5 +1,5 @@
 -- What a load leaves, and what its job is.
-use Rattle.std.proofs.Common.{◌≡◌, ℕ, [], length, Some, refl, ap, sym, ◌∙◌, subst}
+use Rattle.std.proofs.Common.{Bool, ◌≡◌, ℕ, [], length, Some, refl, ap, sym, ◌∙◌, subst}
 use Rattle.std.specs.FinMap.{get}
 use Rattle.std.proofs.lemmas.Bool.{false≢true}
 use Rattle.outside.specs.declared.slot.Slot.{Ghosts}
@@ -26,11 +26,12 @@ use Rattle.pin_core.specs.Changes.{entry_at}
 use Rattle.pin_core.specs.Jobs.{IsReadJob}
 use Rattle.pin_core.specs.Evictions.{MakesRoom, keys_gone, names_gone, with_room}
 use Rattle.pin_core.specs.Loads.{CanLoad, loading, loaded_over, load_entries, read_job}
+use Rattle.pin_core.specs.Marking.{under_of}
 use Rattle.pin_core.specs.PinTurns.{IsLoad}
 use Rattle.pin_core.specs.PinSteps.{IsLoaded}
 use Rattle.pin_core.proofs.Found.{key_found}
 use Rattle.pin_core.proofs.Moved.{page_known}
-use Rattle.pin_core.proofs.EvictAll.{all_pages, all_free}
+use Rattle.pin_core.proofs.EvictAll.{all_pages, all_free, all_marked}
 use Rattle.pin_core.proofs.Entered.{Done}
 use Rattle.pin_core.proofs.LoadedOver.{over_done, over_holds}
 use Rattle.pin_core.proofs.Goes.{makes_room}
@@ -77,22 +78,24 @@ module _ {D : Type 0} where
       at_x : IsPlaced v id.key x
       at_x = is_kept.placed id.key id.name x live there
 
-      job_is : IsReadJob (state_of over) (read_job id x job.buf)
+      job_is : IsReadJob (state_of over) (read_job v.marked id x job.buf)
       job_is = record {
         lives = now_there ∙ ap Some (sym now_page);
         key = ap (λ (y : Page). y.key) now_page ∙ now_key;
         loads = ap (λ (y : Page). y.place) now_page;
         client = ap (λ (y : Page). y.client) now_page;
+        under = ap (λ (b : Bool). under_of b x.version) (sym (all_marked (keys_gone x.blocks v) v)) ∙ ap (λ (y : Page). under_of over.marked y.version) (sym now_page);
         buffer = subst (λ (y : Page). IsBufferOf y.blocks over.arena.block_len job.buf) (sym now_page)
             (subst (λ (len : ℕ). IsBufferOf x.blocks len job.buf) (sym (ap (λ (a : Supply). a.block_len) (all_free (keys_gone x.blocks v) v))) is.buffer);
         slots = row_len x.blocks x.scratch (subst (λ at. IsKeptOf x.blocks at x.scratch) is.evicted at_x.kept) ∙ ap (λ (y : Page). y.blocks) (sym now_page);
       }
 
-      load_is : (slot : Ghosts D) → IsLoad slot p (read_job id x job.buf) v over
+      load_is : (slot : Ghosts D) → IsLoad slot p (read_job v.marked id x job.buf) v over
       load_is slot = record {
         is = job_is;
         id = refl;
         whole = refl;
+        fresh = refl;
         goes = subst (λ (y : Page). MakesRoom (state_of v) (length_of (state_of v) y.blocks) (names_gone y.blocks v)) (sym page) (makes_room v is_kept laws x.blocks is.enough);
         content = over_holds v is_kept laws id x can slot;
       }

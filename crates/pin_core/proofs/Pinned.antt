@@ -28,6 +28,7 @@ use Rattle.pin_core.specs.StateOf.{page_of, pages_in, place_in, dirty_in, state_
 use Rattle.pin_core.specs.Lawful.{Lawful}
 use Rattle.pin_core.specs.Invariant.{IsHeld, IsKeptOf, IsPlaced, IsKept}
 use Rattle.pin_core.specs.Standing.{StandsFor, Holds}
+use Rattle.pin_core.specs.Marking.{Form, form_of, front_of, under_of}
 use Rattle.pin_core.specs.Flights.{buffer_in}
 use Rattle.pin_core.specs.Pinning.{ReadyHere, with_client, pinned_here}
 use Rattle.pin_core.proofs.Moving.{Moves, moved_pages}
@@ -81,7 +82,7 @@ module _ {D : Type 0} (v : Parts D) (is_kept : IsKept v) (laws : Lawful v) (id :
   here_whole = taken_buffer len x.blocks x.mem held
 
   pub here_content : (slot : Ghosts D) (o : Opening) (h : List Event) → StandsFor slot o h v → (buffer_in x.mem).bytes ≡ content_of o h id.name
-  here_content slot o h stood = let holds : Holds slot len (content_of o h id.name) x = stood.holds id.name x there in taken_bytes len x.blocks x.mem (content_of o h id.name) held holds.mem
+  here_content slot o h stood = let holds : Holds slot (form_of v) id.name (content_of o h id.name) x = stood.holds id.name x there in taken_bytes len x.blocks x.mem (content_of o h id.name) held holds.mem
 
   module _ (lists : Clients) (clean : Cleans) where
     abbrev new : Parts D
@@ -108,6 +109,7 @@ module _ {D : Type 0} (v : Parts D) (is_kept : IsKept v) (laws : Lawful v) (id :
         lists = are.others;
         clean = are.cleans;
         block_len = refl;
+        form = refl;
         opens = are.opens;
         lens = are.lens;
       }
@@ -176,7 +178,7 @@ module _ {D : Type 0} (v : Parts D) (is_kept : IsKept v) (laws : Lawful v) (id :
             state = state;
             stands = λ o h stood. told_stands id.key id.name x w v new e is_kept laws.proper tells slot o h stood (λ q old other. refl) (record {
               mem = tt;
-              kept = pinned_holds slot len (content_of o (h ++ e ∷ []) id.name) 1 x.scratch;
+              kept = pinned_holds slot (under_of v.marked x.version) id.name len (content_of o (h ++ e ∷ []) id.name) 1 x.scratch;
             });
             slots = λ measure. let told = told_slots id.key id.name x w v new e is_kept laws.proper tells measure in omega (arith, told);
           };
@@ -187,5 +189,5 @@ module _ {D : Type 0} (v : Parts D) (is_kept : IsKept v) (laws : Lawful v) (id :
           → names_of v.pages clean.keys ≡ without id.name (names_of v.pages v.clean.keys)
           → state_of new ≡ after (state_of v) e
       here_state dirties cleans =
-          same_state (state_of new) _ refl refl refl refl (moved_pages id.key id.name x w v new moves laws.proper) refl dirties cleans refl refl
+          same_state (state_of new) _ refl refl refl refl refl (moved_pages id.key id.name x w v new moves laws.proper) refl dirties cleans refl refl
           ∙ sym (here_effect (state_of v) x.session id.name (page_of v.pages id.name x) was)

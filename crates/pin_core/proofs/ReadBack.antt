@@ -56,13 +56,13 @@ module _ {D : Type 0} (v : Parts D) (is_kept : IsKept v) (laws : Lawful v) (id :
   ok = record { maker = x.session; event = event.ReadOk id.name }
 
   read_moves : Moves id.key id.name x (back_pinned row x) v new
-  read_moves = record { live = back.live; there = back.there; pages = refl; lists = λ k apart. refl; clean = λ k apart. refl; block_len = refl; opens = refl; lens = λ k apart. refl }
+  read_moves = record { live = back.live; there = back.there; pages = refl; lists = λ k apart. refl; clean = λ k apart. refl; block_len = refl; form = refl; opens = refl; lens = λ k apart. refl }
 
   pub read_state : state_of new ≡ after (state_of v) ok
   read_state =
       let pages = moved_pages id.key id.name x (back_pinned row x) v new read_moves laws.proper ∙ ap (λ (b : Bool). insert (pages_in v.pages) id.name (record (page_of v.pages id.name (back_pinned row x)) { has_slots = b })) (sym had) in
       let dirties = dirty_same v.pages new.pages v.lists new.lists refl refl (λ d. refl) in
-      same_state (state_of new) _ refl refl refl refl pages refl dirties refl refl refl
+      same_state (state_of new) _ refl refl refl refl refl pages refl dirties refl refl refl
       ∙ sym (read_effect (state_of v) x.session id.name (page_of v.pages id.name x) was)
 
   read_tells : Tells id.key id.name x (back_pinned row x) v new ok

@@ -20,6 +20,7 @@ use Rattle.pin_core.specs.declared.parts.Parts.{Parts}
 use Rattle.pin_core.specs.StateOf.{page_of, pages_in, state_of}
 use Rattle.pin_core.specs.Invariant.{HasHistory, IsQuota, AreSeated, IsKept}
 use Rattle.pin_core.specs.Standing.{StandsFor, Holds}
+use Rattle.pin_core.specs.Marking.{Form, form_of, front_of, under_of}
 use Rattle.pin_core.specs.Rearranging.{rearranged}
 use Rattle.pin_core.proofs.Entered.{Done}
 use Rattle.pin_core.proofs.Histories.{GrewBy, grew, history_grows, content_grows}
@@ -69,7 +70,7 @@ module _ {D : Type 0} where
         let more : GrewBy o h (state_of v) e = grew o h (state_of v) e stands.legal stands.state (r.may h) in record {
           legal = more.legal;
           state = r.state ∙ more.state;
-          holds = λ q page there. subst (λ (b : List ℕ). Holds slot v.arena.block_len b page)
+          holds = λ q page there. subst (λ (b : List ℕ). Holds slot (form_of v) q b page)
               (sym (content_grows o h e q (made (page_of v.pages q page)) (was_made slot o h v stands q page there) ∙ r.leaves q (content_of o h q))) (stands.holds q page there);
         }
 

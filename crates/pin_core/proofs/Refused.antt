@@ -10,6 +10,7 @@ use Rattle.pin_core.specs.declared.parts.Parts.{Parts}
 use Rattle.pin_core.specs.StateOf.{page_of, state_of}
 use Rattle.pin_core.specs.Invariant.{IsKept}
 use Rattle.pin_core.specs.Standing.{StandsFor, Holds}
+use Rattle.pin_core.specs.Marking.{Form, form_of, front_of, under_of}
 use Rattle.pin_core.specs.Changes.{counted}
 use Rattle.pin_core.specs.Refusing.{MayEnter, refusal_of}
 use Rattle.pin_core.specs.Returning.{EntersWhere}
@@ -44,7 +45,7 @@ module _ {D : Type 0} (slot : Ghosts D) where
         let more : GrewBy o h (state_of v) e = grew o h (state_of v) e stands.legal stands.state may in record {
           legal = more.legal;
           state = more.state;
-          holds = λ q page there. subst (λ (b : List ℕ). Holds slot v.arena.block_len b page) (sym (content_grows o h e q (made (page_of v.pages q page)) (was_made slot o h v stands q page there))) (stands.holds q page there);
+          holds = λ q page there. subst (λ (b : List ℕ). Holds slot (form_of v) q b page) (sym (content_grows o h e q (made (page_of v.pages q page)) (was_made slot o h v stands q page there))) (stands.holds q page there);
         }
 
     pub refused : IsKept v → MayEnter slot v e → Refused v (counted v) e

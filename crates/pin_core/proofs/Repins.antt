@@ -1,5 +1,5 @@
 -- A pinned page has another number of pins.
-use Rattle.std.proofs.Common.{◌≡◌, ◌≢◌, ℕ, ◌+◌, ◌-◌, ◌*◌, ◌≤◌, ◌==◌, Bool, true, false, List, [], ◌∷◌, ◌++◌, Some, refl, ap, sym, ◌∙◌, subst, arith, add-mul}
+use Rattle.std.proofs.Common.{Option, ◌≡◌, ◌≢◌, ℕ, ◌+◌, ◌-◌, ◌*◌, ◌≤◌, ◌==◌, Bool, true, false, List, [], ◌∷◌, ◌++◌, Some, refl, ap, sym, ◌∙◌, subst, arith, add-mul}
 use Rattle.std.specs.FinMap.{get, insert}
 use Rattle.std.proofs.lemmas.Bool.{false≢true}
 use Rattle.outside.specs.declared.slot.Slot.{Ghosts}
@@ -23,6 +23,7 @@ use Rattle.pin_core.specs.StateOf.{page_of, pages_in, place_in, state_of}
 use Rattle.pin_core.specs.Lawful.{Lawful}
 use Rattle.pin_core.specs.Invariant.{list_at, is_clean_spot, IsMem, IsKeptOf, IsPlaced, IsKept}
 use Rattle.pin_core.specs.Standing.{MemHolds, KeptHolds}
+use Rattle.pin_core.specs.Marking.{Form, form_of, front_of, under_of}
 use Rattle.pin_core.specs.Pins.{CanRepin, pins_in, with_pins, repinned, pinned_again, unpinned_once}
 use Rattle.pin_core.proofs.Moving.{Moves, moved_pages}
 use Rattle.pin_core.proofs.Moved.{Tells, page_known, quiet_quotas, told_kept, told_stands, told_slots}
@@ -46,10 +47,10 @@ module _ {D : Type 0} where
   pinned_kept blocks count now (kept.Held row) is = is
   pinned_kept blocks count now kept.Out is = is
 
-  pub pinned_holds : (slot : Ghosts D) (len : ℕ) (bytes : List ℕ) (count : ℕ) (k : Kept D) → KeptHolds slot len bytes (spot.Pinned count) k
-  pinned_holds slot len bytes count (kept.Empty shell) = tt
-  pinned_holds slot len bytes count (kept.Held row) = λ stored. absurd (false≢true stored)
-  pinned_holds slot len bytes count kept.Out = tt
+  pub pinned_holds : (slot : Ghosts D) (under : Option ℕ) (name len : ℕ) (bytes : List ℕ) (count : ℕ) (k : Kept D) → KeptHolds slot under name len bytes (spot.Pinned count) k
+  pinned_holds slot under name len bytes count (kept.Empty shell) = tt
+  pinned_holds slot under name len bytes count (kept.Held row) = λ stored. absurd (false≢true stored)
+  pinned_holds slot under name len bytes count kept.Out = tt
 
   module _ (v : Parts D) (is_kept : IsKept v) (laws : Lawful v) (id : PageId) (x : Entry (Kept D)) (can : CanRepin v id x) where
     at_x : IsPlaced v id.key x
@@ -77,6 +78,7 @@ module _ {D : Type 0} where
         lists = λ k apart. refl;
         clean = λ k apart. refl;
         block_len = refl;
+        form = refl;
         opens = refl;
         lens = λ k apart. refl;
       }
@@ -96,7 +98,7 @@ module _ {D : Type 0} where
       pub repin_state : after (state_of v) e ≡ record (state_of v) { pages = insert (pages_in v.pages) id.name (record (page_of v.pages id.name x) { place = Pinned now }); entries = new.entries }
           → state_of new ≡ after (state_of v) e
       repin_state effect =
-          same_state (state_of new) _ refl refl refl refl (moved_pages id.key id.name x w v new moves laws.proper) refl
+          same_state (state_of new) _ refl refl refl refl refl (moved_pages id.key id.name x w v new moves laws.proper) refl
           (dirty_same v.pages new.pages v.lists new.lists refl refl (λ d. refl)) refl refl refl
           ∙ sym effect
 
@@ -134,7 +136,7 @@ module _ {D : Type 0} where
             state = state;
             stands = λ o h stood. told_stands id.key id.name x w v new e is_kept laws.proper tells slot o h stood others (record {
               mem = subst (MemHolds (content_of o (h ++ e ∷ []) id.name)) (sym (subst (λ p. IsMem len x.blocks p x.mem) can.pinned at_x.mem)) tt;
-              kept = pinned_holds slot len (content_of o (h ++ e ∷ []) id.name) now x.scratch;
+              kept = pinned_holds slot (under_of v.marked x.version) id.name len (content_of o (h ++ e ∷ []) id.name) now x.scratch;
             });
             slots = λ measure. let told = told_slots id.key id.name x w v new e is_kept laws.proper tells measure in omega (arith, told);
           };

@@ -18,6 +18,7 @@ use Rattle.pin_core.specs.declared.kept.Kept.{Kept}
 use Rattle.pin_core.specs.declared.parts.Parts.{Parts}
 use Rattle.pin_core.specs.StateOf.{page_of, pages_in, state_of}
 use Rattle.pin_core.specs.Standing.{StandsFor, Holds}
+use Rattle.pin_core.specs.Marking.{Form, form_of, front_of, under_of}
 use Rattle.pin_core.proofs.Mapped.{get_mapped}
 use Rattle.pin_core.proofs.Histories.{GrewBy, grew, content_grows}
 use Rattle.pin_core.proofs.Moving.{Moves, entry_here, entry_other}
@@ -32,21 +33,21 @@ module _ {D : Type 0} (slot : Ghosts D) (o : Opening) (h : List Event) (v : Part
   pub stands_moved : (key name : ℕ) (x w : Entry (Kept D)) (new : Parts D) → Moves key name x w v new → IsProper v.pages → (e : Event)
       → MayFollow h (state_of v) e → state_of new ≡ after (state_of v) e
       → ((q : ℕ) (old : List ℕ) → q ≢ name → left_in q e.event old ≡ old)
-      → Holds slot v.arena.block_len (content_of o (h ++ e ∷ []) name) w
+      → Holds slot (form_of v) name (content_of o (h ++ e ∷ []) name) w
       → StandsFor slot o (h ++ e ∷ []) new
   stands_moved key name x w new moves proper e may is others here =
       let more : GrewBy o h (state_of v) e = grew o h (state_of v) e stands.legal stands.state may in
       record {
         legal = more.legal;
         state = is ∙ more.state;
-        holds = λ q page there. subst (λ (len : ℕ). Holds slot len (content_of o (h ++ e ∷ []) q) page) (sym moves.block_len) (elim (same_or_other q name) [
+        holds = λ q page there. subst (λ (f : Form). Holds slot f q (content_of o (h ++ e ∷ []) q) page) (sym moves.form) (elim (same_or_other q name) [
           | inl same ↦
               let page_is : w ≡ page = some_is w page (sym (entry_here key name x w v new moves proper) ∙ ap (get new.pages.entries) (sym same) ∙ there) in
-              subst (λ (z : Entry (Kept D)). Holds slot v.arena.block_len (content_of o (h ++ e ∷ []) q) z) page_is
-              (subst (λ (n : ℕ). Holds slot v.arena.block_len (content_of o (h ++ e ∷ []) n) w) (sym same) here)
+              subst (λ (z : Entry (Kept D)). Holds slot (form_of v) q (content_of o (h ++ e ∷ []) q) z) page_is
+              (subst (λ (n : ℕ). Holds slot (form_of v) n (content_of o (h ++ e ∷ []) n) w) (sym same) here)
           | inr other ↦
               let before : get v.pages.entries q ≡ Some page = sym (entry_other key name x w v new moves proper q other) ∙ there in
               let bytes : content_of o (h ++ e ∷ []) q ≡ content_of o h q = content_grows o h e q (made (page_of v.pages q page)) (was_made q page before) ∙ others q (content_of o h q) other in
-              subst (λ (b : List ℕ). Holds slot v.arena.block_len b page) (sym bytes) (stands.holds q page before)
+              subst (λ (b : List ℕ). Holds slot (form_of v) q b page) (sym bytes) (stands.holds q page before)
         ]);
       }

@@ -27,6 +27,7 @@ use Rattle.pin_core.specs.Standing.{StandsFor, Enters}
 use Rattle.pin_core.specs.Changes.{entry_at}
 use Rattle.pin_core.specs.Jobs.{IsWriteJob}
 use Rattle.pin_core.specs.Flights.{id_with, flying, flown, job_of}
+use Rattle.pin_core.specs.Marking.{under_of}
 use Rattle.pin_core.specs.Turns.{IsStarted, StartIs, Starts, start_entries, start_entry, start_slots}
 use Rattle.pin_core.proofs.Found.{key_found}
 use Rattle.pin_core.proofs.Known.{known_now}
@@ -81,19 +82,20 @@ module _ {D : Type 0} (v : Parts D) (is_kept : IsKept v) (laws : Lawful v) (who 
     was : get (pages_in v.pages) id.name ≡ Some (page_of v.pages id.name x)
     was = page_known v id.name x n.there
 
-    now_there : get (pages_in new.pages) id.name ≡ Some (page_of new.pages id.name (flying who x))
-    now_there = page_known new id.name (flying who x) (get_same v.pages.entries id.name (flying who x))
+    now_there : get (pages_in new.pages) id.name ≡ Some (page_of new.pages id.name (flying who v.entries x))
+    now_there = page_known new id.name (flying who v.entries x) (get_same v.pages.entries id.name (flying who v.entries x))
 
-    now_page : page_at (state_of new) id.name ≡ page_of new.pages id.name (flying who x)
-    now_page = page_is (state_of new) id.name (page_of new.pages id.name (flying who x)) now_there
+    now_page : page_at (state_of new) id.name ≡ page_of new.pages id.name (flying who v.entries x)
+    now_page = page_is (state_of new) id.name (page_of new.pages id.name (flying who v.entries x)) now_there
 
-    job_is : IsWriteJob (state_of new) (job_of who id x)
+    job_is : IsWriteJob (state_of new) (job_of who (under_of v.marked v.entries) id x)
     job_is = record {
       lives = now_there ∙ ap Some (sym now_page);
       key = ap (λ (y : Page). y.key) now_page ∙ key_found v.pages laws.proper key id.name n.live;
       flies = ap (λ (y : Page). y.place) now_page;
       client = ap (λ (y : Page). y.client) now_page;
-      buffer = subst (λ (y : Page). IsBufferOf y.blocks v.arena.block_len (job_of who id x).buf) (sym now_page) (taken_buffer v.arena.block_len x.blocks x.mem n.held);
+      under = ap (λ (y : Page). under_of v.marked y.version) (sym now_page);
+      buffer = subst (λ (y : Page). IsBufferOf y.blocks v.arena.block_len (job_of who (under_of v.marked v.entries) id x).buf) (sym now_page) (taken_buffer v.arena.block_len x.blocks x.mem n.held);
       slots = taken_slots x.blocks x.scratch n.slots ∙ ap (λ (y : Page). y.blocks) (sym now_page);
       maker = makes;
     }
@@ -101,7 +103,7 @@ module _ {D : Type 0} (v : Parts D) (is_kept : IsKept v) (laws : Lawful v) (who 
     open_c : IsOpen c v.lists
     open_c = subst (λ (d : ℕ). IsOpen d v.lists) n.client n.at.opened
 
-    started_at : Started v new who c (job_of who id x)
+    started_at : Started v new who c (job_of who (under_of v.marked v.entries) id x)
     started_at =
         let owned : IsClientOf (state_of v) x.session x.client = page_owned (state_of v) is_kept.legal id.name (page_of v.pages id.name x) was in
         let session : IsSession who → x.session ≡ who = one_session x.session (subst (IsClientOf (state_of v) x.session) n.client owned) in

@@ -50,7 +50,7 @@ module _ {D : Type 0} where
     new = flown who id x v
 
     abbrev w : Entry (Kept D)
-    w = flying who x
+    w = flying who v.entries x
 
     abbrev event : Event
     event = record { maker = who; event = StartWrite id.name }
@@ -72,6 +72,7 @@ module _ {D : Type 0} where
       lists = list-shifted_other v.lists laws.whole x.client id.key which.Dirty on which.Flying;
       clean = λ k apart. refl;
       block_len = refl;
+      form = refl;
       opens = refl;
       lens = λ k apart. len-shifted v.lists x.client id.key which.Flying k;
     }
@@ -103,7 +104,7 @@ module _ {D : Type 0} where
         ∙ ap (without id.name) (sym names) in
         let dirties = dirty_changed v.pages new.pages v.lists new.lists x.client (without id.name (dirty_of (state_of v) x.client)) refl refl at_x.opened queue
         (λ d other. nodes-shifted_other v.lists laws.whole x.client id.key which.Dirty on which.Flying d which.Dirty (λ e. other (omega arith)) (λ e. absurd (omega arith))) in
-        same_state (state_of new) _ refl refl refl refl pages refl dirties (sym (not_clean v is_kept laws.proper id.key id.name live out)) refl refl
+        same_state (state_of new) _ refl refl refl refl refl pages refl dirties (sym (not_clean v is_kept laws.proper id.key id.name live out)) refl refl
         ∙ sym (start_effect (state_of v) who id.name (page_of v.pages id.name x) was)
 
     start_may : (h : List Event) → MayFollow h (state_of v) event

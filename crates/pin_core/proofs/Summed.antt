@@ -1,5 +1,5 @@
 -- The sums over a pool's slots after each kind of call.
-use Rattle.std.proofs.Common.{◌≡◌, ℕ, ◌+◌, ◌≤◌, List, [], ◌∷◌, ◌++◌, length, Bool, true, false, if◌then◌else◌, Some, refl, sym, ap, ◌∙◌, subst, arith}
+use Rattle.std.proofs.Common.{◌≡◌, ℕ, ◌+◌, ◌≤◌, List, [], ◌∷◌, ◌++◌, length, Bool, true, false, if◌then◌else◌, Some, refl, sym, ap, ◌∙◌, subst, arith, Option, None}
 use Rattle.std.proofs.lemmas.List.Sums.{sum_by-append}
 use Rattle.std.specs.List.{sum_by}
 use Rattle.std.specs.FinMap.{get}
@@ -10,6 +10,7 @@ use Rattle.pool_model.specs.State.{Opening, Page, State, page_at}
 use Rattle.pool_model.specs.LookingBack.{maker_of}
 use Rattle.pool_model.specs.HistoryLaws.{made}
 use Rattle.pool_model.proofs.Made.{legal_tells, still_made}
+use Rattle.pin_core.specs.declared.jobs.Stale.{Stale}
 use Rattle.pin_core.specs.declared.parts.Parts.{Parts}
 use Rattle.pin_core.specs.declared.jobs.WriteJob.{WriteJob}
 use Rattle.pin_core.specs.declared.tally.Tally.{Tally}
@@ -96,13 +97,15 @@ module _ {D : Type 0} (slot : Ghosts D) where
   write_stored true h m p before now blocks is = refl
   write_stored false h m p before now blocks is = omega (arith, is)
 
-  read_failures : (b : Bool) (m p before now : ℕ) → all_failures (record { maker = m; event = read_ends b p before now } ∷ []) ≡ (if b then 1 else 0)
-  read_failures true m p before now = refl
-  read_failures false m p before now = refl
+  read_failures : (b : Bool) (stale : Option Stale) (m p before now : ℕ) → all_failures (record { maker = m; event = read_ends b stale p before now } ∷ []) ≡ (if b then 1 else 0)
+  read_failures true stale m p before now = refl
+  read_failures false None m p before now = refl
+  read_failures false (Some stale) m p before now = refl
 
-  read_stored : (b : Bool) (h : List Event) (m p before now : ℕ) → sum_by (λ (e : Event). stored_by h e.event) (record { maker = m; event = read_ends b p before now } ∷ []) ≡ 0
-  read_stored true h m p before now = refl
-  read_stored false h m p before now = refl
+  read_stored : (b : Bool) (stale : Option Stale) (h : List Event) (m p before now : ℕ) → sum_by (λ (e : Event). stored_by h e.event) (record { maker = m; event = read_ends b stale p before now } ∷ []) ≡ 0
+  read_stored true stale h m p before now = refl
+  read_stored false None h m p before now = refl
+  read_stored false (Some stale) h m p before now = refl
 
   pub sums_grow_written : SumsGrowWritten slot
   sums_grow_written first o h out others taken job before now old new is rest ran stores enters knows sums =
@@ -118,8 +121,8 @@ module _ {D : Type 0} (slot : Ghosts D) where
       let e : Event = read_entry (state_of old) job before now in
       let m : ℕ = (page_at (state_of old) job.id.name).session in
       more_sums first o h (e ∷ []) out others old new (if job.failed then 1 else 0) 0
-      (read_failures job.failed m job.id.name before now)
-      (read_stored job.failed (h ++ e ∷ []) m job.id.name before now)
+      (read_failures job.failed job.stale m job.id.name before now)
+      (read_stored job.failed job.stale (h ++ e ∷ []) m job.id.name before now)
       (back_counts old new out others taken job.row (if job.failed then 1 else 0) 0 rest ran (same_stores slot taken job.row (sym stores)) enters.slots)
       (enters.stands o h sums.stands knows) sums
 

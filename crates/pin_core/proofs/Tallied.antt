@@ -10,7 +10,7 @@ use Rattle.pool_model.specs.declared.event.Event.TheVariants.{ReadFailed, WriteO
 use Rattle.pool_model.specs.declared.entry.Entry.{Entry as Event}
 use Rattle.pool_model.specs.Failures.{fails}
 use Rattle.pin_core.specs.declared.tally.Tally.{Tally}
-use Rattle.pin_core.specs.Runs.{CountsFaults}
+use Rattle.pin_core.specs.Runs.{CountsFaults, is_sure}
 use Rattle.pin_core.specs.Tallies.{Counted, all_failures, stored_by, silence, tally_by}
 use Rattle.pin_core.specs.Plain.{ArePlain, is_plain}
 
@@ -96,8 +96,8 @@ weigh_alike tells (d ∷ xs) =
     sum_by-cons (λ e. if tells e then 0 else 1) d xs ∙ ap (λ (n : ℕ). (if tells d then 0 else 1) + n) (weigh_alike tells xs)
     ∙ sym (sum_by-cons (λ (t : Bool). if t then 0 else 1) (tells d) (map tells xs))
 
-pub same_silence : {D : Type 0} (slot : Ghosts D) (a b : List D) → map slot.tells a ≡ map slot.tells b → sum_by (silence slot) a ≡ sum_by (silence slot) b
-same_silence slot a b same = weigh_alike slot.tells a ∙ ap (sum_by (λ (t : Bool). if t then 0 else 1)) same ∙ sym (weigh_alike slot.tells b)
+pub same_silence : {D : Type 0} (slot : Ghosts D) (a b : List D) → map (is_sure slot) a ≡ map (is_sure slot) b → sum_by (silence slot) a ≡ sum_by (silence slot) b
+same_silence slot a b same = weigh_alike (is_sure slot) a ∙ ap (sum_by (λ (t : Bool). if t then 0 else 1)) same ∙ sym (weigh_alike (is_sure slot) b)
 
 -- plain entries are no failures, and stored nothing
 pub plain_failure : (m : ℕ) (e : What) → is_plain e ≡ true → all_failures (record { maker = m; event = e } ∷ []) ≡ 0

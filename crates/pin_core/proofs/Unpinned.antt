@@ -34,6 +34,7 @@ use Rattle.pin_core.specs.StateOf.{page_of, pages_in, place_in, state_of}
 use Rattle.pin_core.specs.Invariant.{HasHistory, IsKept, IsKeptOf, IsPlaced, list_at}
 use Rattle.pin_core.specs.Lawful.{Lawful}
 use Rattle.pin_core.specs.Standing.{Holds, StandsFor, Enters}
+use Rattle.pin_core.specs.Marking.{Form, form_of, front_of, under_of}
 use Rattle.pin_core.specs.Needs.{IsLastPin, id_in}
 use Rattle.pin_core.proofs.Found.{Found, found_page}
 use Rattle.pin_core.specs.Changes.{entry_at, counted}
@@ -74,7 +75,7 @@ module _ {D : Type 0} where
         let more : GrewBy o h (state_of v) e = grew o h (state_of v) e stands.legal stands.state (may h) in record {
           legal = more.legal;
           state = is ∙ more.state;
-          holds = λ q page there. subst (λ (b : List ℕ). Holds slot v.arena.block_len b page)
+          holds = λ q page there. subst (λ (b : List ℕ). Holds slot (form_of v) q b page)
               (sym (content_grows o h e q (made (page_of v.pages q page)) (was_made slot o h v stands q page there) ∙ leaves q (content_of o h q))) (stands.holds q page there);
         }
 

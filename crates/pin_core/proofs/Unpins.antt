@@ -35,6 +35,7 @@ use Rattle.pin_core.specs.Keeping.{need_of, kept_then, slots_then, has_slots, ro
 use Rattle.pin_core.specs.StateOf.{page_of, pages_in, place_in, buffers_in, state_of}
 use Rattle.pin_core.specs.Invariant.{HasHistory, AreSeated, IsSized, list_at, is_clean_spot, IsKeptOf, IsPlaced, IsQuota, IsKept}
 use Rattle.pin_core.specs.Standing.{KeptHolds, StandsFor, slots_home}
+use Rattle.pin_core.specs.Marking.{Form, form_of, front_of, under_of}
 use Rattle.pin_core.specs.Unpinning.{CanUnpin, left_dirty, unpinned}
 use Rattle.pin_core.proofs.Histories.{content_unpinned}
 use Rattle.pin_core.proofs.Moved.{Tells, told_kept, told_slots}
@@ -70,10 +71,10 @@ module _ {D : Type 0} where
   kept_dirty slots blocks (kept.Held row) is enough = (refl, is.1)
   kept_dirty slots blocks kept.Out is enough = absurd (false≢true (sym is))
 
-  no_store : (slot : Ghosts D) (len : ℕ) (bytes : List ℕ) (k : Kept D) → KeptHolds slot len bytes spot.Dirty k
-  no_store slot len bytes (kept.Empty shell) = tt
-  no_store slot len bytes (kept.Held row) = λ stored. absurd (false≢true stored)
-  no_store slot len bytes kept.Out = tt
+  no_store : (slot : Ghosts D) (under : Option ℕ) (name len : ℕ) (bytes : List ℕ) (k : Kept D) → KeptHolds slot under name len bytes spot.Dirty k
+  no_store slot under name len bytes (kept.Empty shell) = tt
+  no_store slot under name len bytes (kept.Held row) = λ stored. absurd (false≢true stored)
+  no_store slot under name len bytes kept.Out = tt
 
   may_slots : (blocks free : ℕ) (k : Kept D) → IsKeptOf blocks (spot.Pinned 1) k → need_of k ≤ free → (has_slots k ≡ true) ⊎ (blocks ≤ free)
   may_slots blocks free (kept.Empty shell) is enough = let same : shell ≡ blocks = is.1 in inr (omega (arith, same, enough))
@@ -158,6 +159,7 @@ module _ {D : Type 0} where
       lists = list-shifted_other v.lists whole x.client id.key which.Pinned on which.Dirty;
       clean = λ k apart. refl;
       block_len = refl;
+      form = refl;
       opens = refl;
       lens = λ k apart. len-shifted v.lists x.client id.key which.Dirty k;
     }
@@ -221,7 +223,7 @@ module _ {D : Type 0} where
           ∙ sym (ap (λ (r : Option (List ℕ)). unwrap_or r [] ++ id.name ∷ []) (dirty_open v.pages v.lists x.client opened)) in
           let dirty = dirty_changed v.pages new.pages v.lists new.lists x.client (dirty_of (state_of v) x.client ++ id.name ∷ []) refl refl opened queue
           (λ d other. nodes-shifted_other v.lists whole x.client id.key which.Pinned on which.Dirty d which.Dirty (λ e. other (omega arith)) (λ e. other (omega arith))) in
-          same_state (state_of new) _ refl refl refl refl pages refl dirty refl refl refl
+          same_state (state_of new) _ refl refl refl refl refl pages refl dirty refl refl refl
           ∙ sym (unpin_effect (state_of v) x.session id.name (page_of v.pages id.name x) was buf.bytes)
 
       pub unpin_may : (h : List Event) → MayFollow h (state_of v) event
@@ -269,5 +271,5 @@ module _ {D : Type 0} where
           (λ q old other. ap (λ (b : Bool). if b then buf.bytes else old) (ne_eqb id.name q (λ same. other (sym same))))
           (record {
             mem = sym (content_unpinned o h x.session id.name buf.bytes (made (page_of v.pages id.name x)) (was_made slot o h v stands id.name x can.there));
-            kept = no_store slot v.arena.block_len _ (kept_then v.slots x.scratch);
+            kept = no_store slot (under_of v.marked x.version) id.name v.arena.block_len _ (kept_then v.slots x.scratch);
           })

@@ -29,6 +29,7 @@ use Rattle.pin_core.specs.StateOf.{page_of, pages_in, place_in, state_of}
 use Rattle.pin_core.specs.Invariant.{list_at, is_clean_spot, IsPlaced, IsKept}
 use Rattle.pin_core.specs.Lawful.{Lawful}
 use Rattle.pin_core.specs.Standing.{StandsFor, AreHeld, slots_home}
+use Rattle.pin_core.specs.Marking.{Form, form_of, front_of, under_of}
 use Rattle.pin_core.specs.Ends.{ComesBack, back_evicted, unread}
 use Rattle.pin_core.proofs.Back.{slots_had, none_home}
 use Rattle.pin_core.proofs.Histories.{content_grows}
@@ -73,13 +74,13 @@ module _ {D : Type 0} (v : Parts D) (is_kept : IsKept v) (laws : Lawful v) (id :
     failed = record { maker = x.session; event = event.ReadFailed id.name before now }
 
     unread_moves : Moves id.key id.name x (back_evicted row x) v new
-    unread_moves = record { live = back.live; there = back.there; pages = refl; lists = list-without_node_other v.lists laws.whole x.client id.key which.Pinned on; clean = λ k apart. refl; block_len = refl; opens = refl; lens = λ k apart. refl }
+    unread_moves = record { live = back.live; there = back.there; pages = refl; lists = list-without_node_other v.lists laws.whole x.client id.key which.Pinned on; clean = λ k apart. refl; block_len = refl; form = refl; opens = refl; lens = λ k apart. refl }
 
     pub unread_state : state_of new ≡ after (state_of v) failed
     unread_state =
         let pages = moved_pages id.key id.name x (back_evicted row x) v new unread_moves laws.proper ∙ ap (λ (b : Bool). insert (pages_in v.pages) id.name (record (page_of v.pages id.name (back_evicted row x)) { has_slots = b })) (sym had) in
         let dirties = dirty_same v.pages new.pages v.lists new.lists refl refl (λ d. nodes-without_node_other v.lists laws.whole x.client id.key which.Pinned on d which.Dirty (λ e. absurd (omega arith))) in
-        same_state (state_of new) _ refl refl refl (noted_sessions v is_kept laws id.name x back.there v.entries) pages refl dirties refl refl refl
+        same_state (state_of new) _ refl refl refl refl (noted_sessions v is_kept laws id.name x back.there v.entries) pages refl dirties refl refl refl
         ∙ sym (unread_effect (state_of v) x.session id.name (page_of v.pages id.name x) was before now)
 
     unread_tells : Tells id.key id.name x (back_evicted row x) v new failed
@@ -127,11 +128,11 @@ module _ {D : Type 0} (v : Parts D) (is_kept : IsKept v) (laws : Lawful v) (id :
     unread_kept = told_kept id.key id.name x (back_evicted row x) v new failed is_kept laws.proper unread_tells
 
     -- the slots of a failed load still hold what they held
-    pub unread_stands : (slot : Ghosts D) (o : Opening) (h : List Event) → StandsFor slot o h v → AreHeld slot v.arena.block_len row (content_of o h id.name) → StandsFor slot o (h ++ failed ∷ []) new
+    pub unread_stands : (slot : Ghosts D) (o : Opening) (h : List Event) → StandsFor slot o h v → AreHeld slot (under_of v.marked x.version) id.name v.arena.block_len row (content_of o h id.name) → StandsFor slot o (h ++ failed ∷ []) new
     unread_stands slot o h stands held =
         let same : content_of o (h ++ failed ∷ []) id.name ≡ content_of o h id.name = content_grows o h failed id.name (made (page_of v.pages id.name x)) (was_made slot o h v stands id.name x back.there) in
         told_stands id.key id.name x (back_evicted row x) v new failed is_kept laws.proper unread_tells slot o h stands (λ q old other. refl)
-        (record { mem = tt; kept = λ stored. subst (AreHeld slot v.arena.block_len row) (sym same) held })
+        (record { mem = tt; kept = λ stored. subst (AreHeld slot (under_of v.marked x.version) id.name v.arena.block_len row) (sym same) held })
 
     pub unread_slots : (measure : D → ℕ) → slots_home measure new ≡ slots_home measure v + sum_by measure row
     unread_slots measure =

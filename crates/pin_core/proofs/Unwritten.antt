@@ -70,6 +70,7 @@ module _ {D : Type 0} (v : Parts D) (is_kept : IsKept v) (laws : Lawful v) (who 
       lists = list-shifted_other v.lists laws.whole x.client id.key which.Flying on which.Dirty;
       clean = λ k apart. refl;
       block_len = refl;
+      form = refl;
       opens = refl;
       lens = λ k apart. len-shifted v.lists x.client id.key which.Dirty k;
     }
@@ -83,7 +84,7 @@ module _ {D : Type 0} (v : Parts D) (is_kept : IsKept v) (laws : Lawful v) (who 
         ∙ sym (ap (λ (r : Option (List ℕ)). unwrap_or r [] ++ id.name ∷ []) (dirty_open v.pages v.lists x.client at_x.opened)) in
         let dirties = dirty_changed v.pages new.pages v.lists new.lists x.client (dirty_of (state_of v) x.client ++ id.name ∷ []) refl refl at_x.opened queue
         (λ d other. nodes-shifted_other v.lists laws.whole x.client id.key which.Flying on which.Dirty d which.Dirty (λ e. absurd (omega arith)) (λ e. other (omega arith))) in
-        same_state (state_of new) _ refl refl refl (noted_sessions v is_kept laws id.name x back.there v.entries) pages refl dirties refl refl refl
+        same_state (state_of new) _ refl refl refl refl (noted_sessions v is_kept laws id.name x back.there v.entries) pages refl dirties refl refl refl
         ∙ sym (failed_effect (state_of v) who id.name (page_of v.pages id.name x) was before now)
 
     unwritten_tells : Tells id.key id.name x (back_dirty buf row x) v new failed

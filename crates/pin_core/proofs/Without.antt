@@ -18,6 +18,7 @@ use Rattle.pool_model.proofs.Seats.{some_is}
 use Rattle.pin_core.specs.declared.kept.Kept.{Kept}
 use Rattle.pin_core.specs.declared.parts.Parts.{Parts}
 use Rattle.pin_core.specs.StateOf.{key_of, page_of, pages_in, dirty_in, state_of}
+use Rattle.pin_core.specs.Marking.{form_of}
 use Rattle.pin_core.specs.Invariant.{IsMem, IsPlaced, AllPlaced, NoneStray, IsKept}
 use Rattle.pin_core.proofs.Mapped.{get_mapped, mapped_gone, mapped_alike}
 use Rattle.pin_core.proofs.Found.{key_found}
@@ -36,6 +37,7 @@ module _ {D : Type 0} where
     pub queues : (d : ℕ) → nodes_of d which.Dirty new.lists ≡ others key (nodes_of d which.Dirty v.lists)
     pub clean : new.clean.keys ≡ others key v.clean.keys
     pub block_len : new.arena.block_len ≡ v.arena.block_len
+    pub form : form_of new ≡ form_of v
     pub opens : new.lists.is_open ≡ v.lists.is_open
     pub lens : (k : ℕ) → len_of k new.lists.pages ≡ len_of k v.lists.pages
 

@@ -29,6 +29,7 @@ use Rattle.pin_core.specs.StateOf.{page_of, pages_in, place_in, state_of}
 use Rattle.pin_core.specs.Invariant.{list_at, IsPlaced, IsKept}
 use Rattle.pin_core.specs.Lawful.{Lawful}
 use Rattle.pin_core.specs.Standing.{StandsFor, AreHeld, slots_home}
+use Rattle.pin_core.specs.Marking.{Form, form_of, front_of, under_of}
 use Rattle.pin_core.specs.Ends.{ComesBack, back_clean, written}
 use Rattle.pin_core.proofs.Back.{slots_had, none_home}
 use Rattle.pin_core.proofs.Histories.{content_grows}
@@ -66,6 +67,7 @@ module _ {D : Type 0} (v : Parts D) (is_kept : IsKept v) (laws : Lawful v) (who 
     lists = list-without_node_other v.lists laws.whole x.client id.key which.Flying on;
     clean = λ k apart. stands_in-same k id.key v.clean.keys (λ same. apart (sym same));
     block_len = refl;
+    form = refl;
     opens = refl;
     lens = λ k apart. refl;
   }
@@ -74,7 +76,7 @@ module _ {D : Type 0} (v : Parts D) (is_kept : IsKept v) (laws : Lawful v) (who 
   written_state =
       let pages = moved_pages id.key id.name x (back_clean buf row x) v new written_moves laws.proper ∙ ap (λ (b : Bool). insert (pages_in v.pages) id.name (record (page_of v.pages id.name (back_clean buf row x)) { has_slots = b })) (sym had) in
       let dirties = dirty_same v.pages new.pages v.lists new.lists refl refl (λ d. nodes-without_node_other v.lists laws.whole x.client id.key which.Flying on d which.Dirty (λ e. absurd (omega arith))) in
-      same_state (state_of new) _ refl refl refl refl pages refl dirties (names_more v.pages id.key id.name v.clean.keys back.live) refl refl
+      same_state (state_of new) _ refl refl refl refl refl pages refl dirties (names_more v.pages id.key id.name v.clean.keys back.live) refl refl
       ∙ sym (written_effect (state_of v) who id.name (page_of v.pages id.name x) was)
 
   written_tells : Tells id.key id.name x (back_clean buf row x) v new ok
@@ -108,12 +110,12 @@ module _ {D : Type 0} (v : Parts D) (is_kept : IsKept v) (laws : Lawful v) (who 
   pub written_kept : IsKept new
   written_kept = told_kept id.key id.name x (back_clean buf row x) v new ok is_kept laws.proper written_tells
 
-  pub written_stands : (slot : Ghosts D) (o : Opening) (h : List Event) → StandsFor slot o h v → buf.bytes ≡ content_of o h id.name → AreHeld slot v.arena.block_len row buf.bytes → StandsFor slot o (h ++ ok ∷ []) new
+  pub written_stands : (slot : Ghosts D) (o : Opening) (h : List Event) → StandsFor slot o h v → buf.bytes ≡ content_of o h id.name → AreHeld slot (under_of v.marked x.version) id.name v.arena.block_len row buf.bytes → StandsFor slot o (h ++ ok ∷ []) new
   written_stands slot o h stands bytes held =
       let same : content_of o (h ++ ok ∷ []) id.name ≡ content_of o h id.name = content_grows o h ok id.name (made (page_of v.pages id.name x)) (was_made slot o h v stands id.name x back.there) in
       let now : buf.bytes ≡ content_of o (h ++ ok ∷ []) id.name = bytes ∙ sym same in
       told_stands id.key id.name x (back_clean buf row x) v new ok is_kept laws.proper written_tells slot o h stands (λ q old other. refl)
-      (record { mem = now; kept = λ stored. subst (AreHeld slot v.arena.block_len row) now held })
+      (record { mem = now; kept = λ stored. subst (AreHeld slot (under_of v.marked x.version) id.name v.arena.block_len row) now held })
 
   pub written_slots : (measure : D → ℕ) → slots_home measure new ≡ slots_home measure v + sum_by measure row
   written_slots measure =

@@ -13,7 +13,7 @@ use Rattle.pin_core.specs.declared.parts.Parts.{Parts}
 module _ {D : Type 0} where
   -- what is read where no page is live
   abbrev pub no_entry : Entry (Kept D)
-  no_entry = record { name = 0; session = 0; client = 0; blocks = 0; place = spot.Evicted; mem = mem.Out; scratch = kept.Out }
+  no_entry = record { name = 0; session = 0; client = 0; blocks = 0; version = 0; place = spot.Evicted; mem = mem.Out; scratch = kept.Out }
 
   abbrev pub entry_in : Table (Entry (Kept D)) → ℕ → Entry (Kept D)
   entry_in t name = unwrap_or (get t.entries name) no_entry

@@ -1,5 +1,5 @@
 -- Pages come back from a job, by the parts.
-use Rattle.std.specs.Prelude.{◌≡◌, ◌+◌, ◌-◌, List, Some, Bool, true, false, length}
+use Rattle.std.specs.Prelude.{◌≡◌, ◌+◌, ◌-◌, List, Option, Some, None, Bool, true, false, length}
 use Rattle.std.specs.FinMap.{get}
 use Rattle.block_arena.specs.Memory.{Buffer, IsBufferOf}
 use Rattle.page_table.specs.declared.page_id.PageId.{PageId}
@@ -17,6 +17,7 @@ use Rattle.pool_model.specs.Bytes.{bytes_of}
 use Rattle.pool_model.specs.State.{shown}
 use Rattle.pin_core.specs.declared.kept.Kept.{Kept}
 use Rattle.pin_core.specs.declared.parts.Parts.{Parts}
+use Rattle.pin_core.specs.declared.jobs.Stale.{Stale}
 use Rattle.pin_core.specs.Flights.{put_back}
 
 module _ {D : Type 0} where
@@ -73,10 +74,21 @@ module _ {D : Type 0} where
     entries = shown (v.entries + 1);
   }
 
+  -- the load gave another mark
+  abbrev pub outdated : PageId → Entry (Kept D) → List D → Parts D → Parts D
+  outdated id x row v = record v {
+    pages = with_entry v.pages id (back_evicted row x);
+    lists = without_node id.key v.lists;
+    tree = set_charge (charge_in v.tree x.client - bytes_of v.arena.block_len x.blocks) x.client v.tree;
+    arena = record v.arena { free = v.arena.free + x.blocks };
+    entries = shown (v.entries + 1);
+  }
+
   abbrev pub write_ended : Bool → PageId → Entry (Kept D) → Buffer → List D → Parts D → Parts D
   write_ended true id x buf row v = unwritten id x buf row v
   write_ended false id x buf row v = written id x buf row v
 
-  abbrev pub read_ended : Bool → PageId → Entry (Kept D) → List D → Parts D → Parts D
-  read_ended true id x row v = unread id x row v
-  read_ended false id x row v = read id x row v
+  abbrev pub read_ended : Bool → Option Stale → PageId → Entry (Kept D) → List D → Parts D → Parts D
+  read_ended true stale id x row v = unread id x row v
+  read_ended false (Some stale) id x row v = outdated id x row v
+  read_ended false None id x row v = read id x row v

@@ -1,5 +1,5 @@
 -- How pages leave for a job, and come back from it.
-use Rattle.std.specs.Prelude.{ℕ, ◌+◌, [], List, Bool, true, false}
+use Rattle.std.specs.Prelude.{ℕ, ◌+◌, [], List, Bool, true, false, Option}
 use Rattle.block_arena.specs.Memory.{Buffer}
 use Rattle.page_table.specs.declared.page_id.PageId.{PageId}
 use Rattle.page_table.specs.declared.entry.Place.{Place as Spot}
@@ -36,17 +36,18 @@ module _ {D : Type 0} where
   abbrev pub put_back : Spot → Mem → List D → Entry (Kept D) → Entry (Kept D)
   put_back place m row x = record x { place = place; mem = m; scratch = kept.Held row }
 
-  abbrev pub flying : ℕ → Entry (Kept D) → Entry (Kept D)
-  flying who x = record x { place = spot.Flying who; mem = mem.Out; scratch = kept.Out }
+  -- the page goes out to be written, by the entry of this number
+  abbrev pub flying : ℕ → ℕ → Entry (Kept D) → Entry (Kept D)
+  flying who version x = record x { place = spot.Flying who; version = version; mem = mem.Out; scratch = kept.Out }
 
   -- what a page takes along that this maker writes
-  abbrev pub job_of : ℕ → PageId → Entry (Kept D) → WriteJob D
-  job_of who id x = record { id = id; who = who; client = x.client; buf = buffer_in x.mem; row = row_in x.scratch; failed = false }
+  abbrev pub job_of : ℕ → Option ℕ → PageId → Entry (Kept D) → WriteJob D
+  job_of who under id x = record { id = id; who = who; client = x.client; under = under; buf = buffer_in x.mem; row = row_in x.scratch; failed = false }
 
   -- a dirty page went out to be written
   abbrev pub flown : ℕ → PageId → Entry (Kept D) → Parts D → Parts D
   flown who id x v = record v {
-    pages = with_entry v.pages id (flying who x);
+    pages = with_entry v.pages id (flying who v.entries x);
     lists = shifted x.client which.Flying id.key v.lists;
     entries = shown (v.entries + 1);
   }

@@ -5,6 +5,7 @@ use Rattle.block_arena.specs.Memory.{IsBufferOf}
 use Rattle.pool_model.specs.Makers.{IsSession, IsWriter}
 use Rattle.pool_model.specs.State.{Flying, Loading, State, page_at}
 use Rattle.pin_core.specs.declared.jobs.WriteJob.{WriteJob}
+use Rattle.pin_core.specs.Marking.{under_of}
 use Rattle.pin_core.specs.declared.jobs.ReadJob.{ReadJob}
 
 module _ {D : Type 0} where
@@ -14,6 +15,7 @@ module _ {D : Type 0} where
     pub key : (page_at s job.id.name).key ≡ job.id.key
     pub flies : (page_at s job.id.name).place ≡ Flying job.who
     pub client : (page_at s job.id.name).client ≡ job.client
+    pub under : job.under ≡ under_of s.marked (page_at s job.id.name).version
     pub buffer : IsBufferOf (page_at s job.id.name).blocks s.block_len job.buf
     pub slots : length job.row ≡ (page_at s job.id.name).blocks
     pub maker : IsSession job.who ⊎ IsWriter job.who
@@ -24,5 +26,6 @@ module _ {D : Type 0} where
     pub key : (page_at s job.id.name).key ≡ job.id.key
     pub loads : (page_at s job.id.name).place ≡ Loading
     pub client : (page_at s job.id.name).client ≡ job.client
+    pub under : job.under ≡ under_of s.marked (page_at s job.id.name).version
     pub buffer : IsBufferOf (page_at s job.id.name).blocks s.block_len job.buf
     pub slots : length job.row ≡ (page_at s job.id.name).blocks

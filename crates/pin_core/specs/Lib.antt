@@ -2,6 +2,7 @@ pub mod Codes
 pub mod Keeping
 pub mod Lawful
 pub mod StateOf
+pub mod Marking
 pub mod Standing
 pub mod Invariant
 pub mod Needs

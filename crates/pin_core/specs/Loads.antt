@@ -1,5 +1,5 @@
 -- An evicted page gets blocks, and is loading.
-use Rattle.std.specs.Prelude.{ℕ, ◌≡◌, ◌+◌, ◌-◌, ◌≤◌, ◌<◌, ◌++◌, ◌∷◌, [], List, Some, None, false}
+use Rattle.std.specs.Prelude.{ℕ, ◌≡◌, ◌+◌, ◌-◌, ◌≤◌, ◌<◌, ◌++◌, ◌∷◌, [], List, Some, None, Bool, false}
 use Rattle.std.specs.FinMap.{get}
 use Rattle.block_arena.specs.Memory.{Buffer}
 use Rattle.index_list.specs.Listing.{list_with}
@@ -23,6 +23,7 @@ use Rattle.pin_core.specs.declared.jobs.ReadJob.{ReadJob}
 use Rattle.pin_core.specs.declared.parts.Parts.{Parts}
 use Rattle.pin_core.specs.StateOf.{state_of}
 use Rattle.pin_core.specs.Keeping.{row_in}
+use Rattle.pin_core.specs.Marking.{under_of}
 use Rattle.pin_core.specs.Invariant.{IsKeptOf}
 use Rattle.pin_core.specs.Evictions.{evictions, names_gone, with_room}
 
@@ -66,8 +67,8 @@ module _ {D : Type 0} where
   loaded_over id x v = loaded id x (with_room x.blocks v)
 
   -- the page with its slots and this buffer
-  abbrev pub read_job : PageId → Entry (Kept D) → Buffer → ReadJob D
-  read_job id x buf = record { id = id; client = x.client; buf = buf; row = row_in x.scratch; failed = false }
+  abbrev pub read_job : Bool → PageId → Entry (Kept D) → Buffer → ReadJob D
+  read_job marked id x buf = record { id = id; client = x.client; under = under_of marked x.version; buf = buf; row = row_in x.scratch; failed = false; stale = None }
 
   -- what a load enters: the evictions that make room, and then the load
   abbrev pub load_entries : ℕ → ℕ → ℕ → Parts D → List Event

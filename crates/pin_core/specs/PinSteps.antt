@@ -58,7 +58,7 @@ module _ {D : Type 0} where
     pub room : HasRoom (state_of v) x.client (bytes_at v x)
     pub enough : x.blocks ≤ (with_room x.blocks v).arena.free
     pub parts : new ≡ loaded_over id x v
-    pub is : job ≡ read_job id x job.buf
+    pub is : job ≡ read_job v.marked id x job.buf
     pub buffer : IsBufferOf x.blocks v.arena.block_len job.buf
 
   -- the answer, by the parts

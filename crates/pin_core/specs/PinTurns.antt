@@ -55,8 +55,9 @@ module _ {D : Type 0} where
     pub is : IsReadJob (state_of new) job
     pub id : job.id ≡ id_in p
     pub whole : job.failed ≡ false
+    pub fresh : job.stale ≡ None
     pub goes : MakesRoom (state_of old) (length_of (state_of old) (page_at (state_of old) p.name).blocks) (names_gone (page_at (state_of old) p.name).blocks old)
-    pub content : (o : Opening) (h : List Event) → StandsFor slot o h old → AreHeld slot (state_of old).block_len job.row (content_of o h p.name)
+    pub content : (o : Opening) (h : List Event) → StandsFor slot o h old → AreHeld slot job.under p.name (state_of old).block_len job.row (content_of o h p.name)
 
   -- exactly the answer that applies; all but a pin, a load and a start of a write leave all as it was
   abbrev pub PinAnswer : Ghosts D → Parts D → Parts D → ℕ → PageToken → PinTurn D → Type 0

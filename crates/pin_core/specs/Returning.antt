@@ -1,6 +1,7 @@
 -- Jobs come back, and refusals are entered: entries for which the parts stand where the caller knows something
 -- of the history.
-use Rattle.std.specs.Prelude.{ℕ, ◌≡◌, ◌+◌, ◌++◌, ◌∷◌, [], List, Bool, true, false}
+use Rattle.std.specs.Prelude.{ℕ, ◌≡◌, ◌+◌, ◌++◌, ◌∷◌, [], List, Bool, true, false, Option, Some, None}
+use Rattle.std.specs.Option.{is_some}
 use Rattle.std.specs.List.{sum_by}
 use Rattle.outside.specs.declared.slot.Slot.{Ghosts}
 use Rattle.pool_model.specs.declared.entry.Entry.{Entry as Event}
@@ -11,7 +12,10 @@ use Rattle.pool_model.specs.Effects.{after}
 use Rattle.pool_model.specs.LookingBack.{content_of}
 use Rattle.pin_core.specs.declared.finish.Wrote.{Wrote}
 use Rattle.pin_core.specs.declared.finish.Wrote.TheVariants.{Done, Failed}
+use Rattle.reservation_tree.specs.declared.errors.PoolErr.{PoolErr}
+use Rattle.reservation_tree.specs.declared.errors.PoolErr.TheVariants as refusal
 use Rattle.pin_core.specs.declared.jobs.ReadJob.{ReadJob}
+use Rattle.pin_core.specs.declared.jobs.Stale.{Stale}
 use Rattle.pin_core.specs.declared.jobs.WriteJob.{WriteJob}
 use Rattle.pin_core.specs.declared.parts.Parts.{Parts}
 use Rattle.pin_core.specs.StateOf.{state_of}
@@ -29,10 +33,22 @@ abbrev pub write_ends : Bool → ℕ → ℕ → ℕ → What
 write_ends true name before now = event.WriteFailed name before now
 write_ends false name before now = event.WriteOk name
 
--- how a read of a page ended
-abbrev pub read_ends : Bool → ℕ → ℕ → ℕ → What
-read_ends true name before now = event.ReadFailed name before now
-read_ends false name before now = event.ReadOk name
+-- how a read of a page ended: with a failure, with another mark, or well
+abbrev pub read_ends : Bool → Option Stale → ℕ → ℕ → ℕ → What
+read_ends true stale name before now = event.ReadFailed name before now
+read_ends false (Some stale) name before now = event.ReadStale name stale.wanted stale.found
+read_ends false None name before now = event.ReadOk name
+
+-- whether a read ended badly
+abbrev pub ended_badly : Bool → Option Stale → Bool
+ended_badly true stale = true
+ended_badly false stale = is_some stale
+
+-- why, where the failure has this number
+abbrev pub read_refusal : Bool → Option Stale → ℕ → PoolErr
+read_refusal true stale entry = refusal.ReadFault entry
+read_refusal false (Some stale) entry = refusal.Stale stale.wanted stale.found
+read_refusal false None entry = refusal.ReadFault entry
 
 abbrev pub wrote : Bool → ℕ → Wrote
 wrote true name = Failed name
@@ -43,13 +59,13 @@ module _ {D : Type 0} where
   write_entry job before now = record { maker = job.who; event = write_ends job.failed job.id.name before now }
 
   abbrev pub read_entry : State → ReadJob D → ℕ → ℕ → Event
-  read_entry s job before now = record { maker = (page_at s job.id.name).session; event = read_ends job.failed job.id.name before now }
+  read_entry s job before now = record { maker = (page_at s job.id.name).session; event = read_ends job.failed job.stale job.id.name before now }
 
   -- the buffer has the page's content, and, where no store failed, the slots hold it
   pub record IsWritten (slot : Ghosts D) (len : ℕ) (job : WriteJob D) (o : Opening) (h : List Event) : Type 0 where
     pub content : job.buf.bytes ≡ content_of o h job.id.name
-    pub held : job.failed ≡ false → AreHeld slot len job.row job.buf.bytes
+    pub held : job.failed ≡ false → AreHeld slot job.under job.id.name len job.row job.buf.bytes
 
   -- the slots hold the page's content
   abbrev pub IsRead : Ghosts D → ℕ → ReadJob D → Opening → List Event → Type 0
-  IsRead slot len job o h = AreHeld slot len job.row (content_of o h job.id.name)
+  IsRead slot len job o h = AreHeld slot job.under job.id.name len job.row (content_of o h job.id.name)

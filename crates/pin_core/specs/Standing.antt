@@ -1,5 +1,5 @@
 -- For which histories the parts stand, and what entries make of them.
-use Rattle.std.specs.Prelude.{ℕ, ◌≡◌, ◌<◌, ◌+◌, ◌*◌, ◌++◌, Bool, true, false, List, Some, length, slice_range, slice_index_or}
+use Rattle.std.specs.Prelude.{ℕ, ◌≡◌, ◌<◌, ◌+◌, ◌*◌, ◌++◌, Bool, true, false, List, Option, Some, length, slice_range, slice_index_or}
 use Rattle.std.specs.Bool.{⊤}
 use Rattle.std.specs.FinMap.{get}
 use Rattle.std.specs.List.{sum_by}
@@ -19,6 +19,7 @@ use Rattle.pin_core.specs.declared.kept.Kept.{Kept}
 use Rattle.pin_core.specs.declared.kept.Kept.TheVariants as kept
 use Rattle.pin_core.specs.declared.parts.Parts.{Parts}
 use Rattle.pin_core.specs.Keeping.{row_in}
+use Rattle.pin_core.specs.Marking.{Form, form_of, front_of, under_of}
 use Rattle.pin_core.specs.StateOf.{state_of}
 
 -- a page's bytes are in its slots
@@ -33,25 +34,26 @@ MemHolds bytes (mem.Held buf) = buf.bytes ≡ bytes
 MemHolds bytes _ = ⊤
 
 module _ {D : Type 0} (slot : Ghosts D) where
-  -- each slot holds its block of these bytes, as far as slots tell
-  abbrev pub AreHeld : ℕ → List D → List ℕ → Type 0
-  AreHeld len row bytes = (i : ℕ) (d : D) → i < length row →
-      slot.held (slice_index_or row i d) ≡ told_block (slot.tells (slice_index_or row i d)) (slice_range bytes (i * len) (i * len + len))
+  -- each slot holds its block of these bytes, as far as slots tell: behind the mark of this page and version, where
+  -- there is one
+  abbrev pub AreHeld : Option ℕ → ℕ → ℕ → List D → List ℕ → Type 0
+  AreHeld under name len row bytes = (i : ℕ) (d : D) → i < length row →
+      slot.held (slice_index_or row i d) ≡ told_block (slot.tells (slice_index_or row i d)) (front_of under name i ++ slice_range bytes (i * len) (i * len + len))
 
-  abbrev pub KeptHolds : ℕ → List ℕ → Spot → Kept D → Type 0
-  KeptHolds len bytes at (kept.Held row) = is_stored at ≡ true → AreHeld len row bytes
-  KeptHolds len bytes at _ = ⊤
+  abbrev pub KeptHolds : Option ℕ → ℕ → ℕ → List ℕ → Spot → Kept D → Type 0
+  KeptHolds under name len bytes at (kept.Held row) = is_stored at ≡ true → AreHeld under name len row bytes
+  KeptHolds under name len bytes at _ = ⊤
 
   -- what the page has in memory and on scratch holds these bytes
-  pub record Holds (len : ℕ) (bytes : List ℕ) (page : Entry (Kept D)) : Type 0 where
+  pub record Holds (form : Form) (name : ℕ) (bytes : List ℕ) (page : Entry (Kept D)) : Type 0 where
     pub mem : MemHolds bytes page.mem
-    pub kept : KeptHolds len bytes page.place page.scratch
+    pub kept : KeptHolds (under_of form.marked page.version) name form.len bytes page.place page.scratch
 
   -- these parts stand for this history
   pub record StandsFor (o : Opening) (h : List Event) (v : Parts D) : Type 0 where
     pub legal : IsLegal o h
     pub state : state_of v ≡ state_after o h
-    pub holds : (name : ℕ) (page : Entry (Kept D)) → get v.pages.entries name ≡ Some page → Holds v.arena.block_len (content_of o h name) page
+    pub holds : (name : ℕ) (page : Entry (Kept D)) → get v.pages.entries name ≡ Some page → Holds (form_of v) name (content_of o h name) page
 
 -- what all slots that aren't in a job count together, by any measure
 abbrev pub slots_home : {D : Type 0} → (D → ℕ) → Parts D → ℕ

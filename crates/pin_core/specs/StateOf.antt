@@ -51,7 +51,7 @@ module _ {D : Type 0} where
 
   -- the page of this name, where this is its entry
   abbrev pub page_of : Table (Entry (Kept D)) → ℕ → Entry (Kept D) → Page
-  page_of t name e = record { key = key_of t name; session = e.session; client = e.client; blocks = e.blocks; place = place_in e.place; has_slots = has_slots e.scratch }
+  page_of t name e = record { key = key_of t name; session = e.session; client = e.client; blocks = e.blocks; place = place_in e.place; has_slots = has_slots e.scratch; version = e.version }
 
   abbrev pub pages_in : Table (Entry (Kept D)) → Pages
   pages_in t = mapped (page_of t) t.entries
@@ -70,6 +70,7 @@ module _ {D : Type 0} where
   state_of v = record {
     block_len = v.arena.block_len;
     blocks = v.arena.blocks;
+    marked = v.marked;
     trackers = v.tree.trackers;
     sessions = sessions_in v.seats;
     pages = pages_in v.pages;

@@ -12,7 +12,7 @@ use Rattle.pin_core.specs.declared.parts.Parts.{Parts}
 use Rattle.pin_core.specs.declared.tally.Tally.{Tally}
 use Rattle.pin_core.specs.StateOf.{state_of}
 use Rattle.pin_core.specs.Standing.{StandsFor, Enters, slots_home}
-use Rattle.pin_core.specs.Runs.{CountsFaults}
+use Rattle.pin_core.specs.Runs.{CountsFaults, is_sure}
 use Rattle.pin_core.specs.Jobs.{IsWriteJob}
 use Rattle.pin_core.specs.Returning.{EntersWhere, IsRead, IsWritten, write_entry, read_entry}
 use Rattle.pin_core.specs.Tallies.{Counted, SumsWithJobs, all_failures, written_blocks, tally_of}
@@ -27,7 +27,7 @@ module _ {D : Type 0} (slot : Ghosts D) where
   pub record WasRun (failures : ℕ) (before now : List D) : Type 0 where
     pub faults : CountsFaults slot failures before now
     pub never_falls : faults_of slot before ≤ faults_of slot now
-    pub tells : map slot.tells now ≡ map slot.tells before
+    pub tells : map (is_sure slot) now ≡ map (is_sure slot) before
     pub len : length now ≡ length before
 
   -- at the opening

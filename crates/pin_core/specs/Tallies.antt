@@ -12,7 +12,7 @@ use Rattle.pool_model.specs.State.{Opening}
 use Rattle.pin_core.specs.declared.parts.Parts.{Parts}
 use Rattle.pin_core.specs.declared.tally.Tally.{Tally}
 use Rattle.pin_core.specs.Standing.{StandsFor, slots_home}
-use Rattle.pin_core.specs.Runs.{stuck}
+use Rattle.pin_core.specs.Runs.{stuck, is_sure}
 
 -- how many writes and reads failed
 abbrev pub all_failures : List Event → ℕ
@@ -34,7 +34,7 @@ written_blocks h = sum_by (λ e. stored_by h e.event) h
 
 -- the faults never fell, and rose with each failure where no count of them stands at its last value; where all slots
 -- count their stores still, they stored so many blocks more; a count that stood at its last value does still; and as
--- many slots are there, of which as many tell what they hold
+-- many slots are there, of which as many give nothing but what they tell
 pub record Counted (failures blocks : ℕ) (before now : Tally) : Type 0 where
   pub never_fall : before.faults ≤ now.faults
   pub failed : now.stuck ≡ 0 → before.faults + failures ≤ now.faults
@@ -45,9 +45,9 @@ pub record Counted (failures blocks : ℕ) (before now : Tally) : Type 0 where
   pub slots : now.slots ≡ before.slots
 
 module _ {D : Type 0} (slot : Ghosts D) where
-  -- 1 for a slot that doesn't tell what it holds
+  -- 1 for a slot that doesn't tell what it holds, or may give another block
   abbrev pub silence : D → ℕ
-  silence d = if slot.tells d then 0 else 1
+  silence d = if is_sure slot d then 0 else 1
 
   -- what slots count together, over which measures are summed so
   abbrev pub tally_by : ((D → ℕ) → ℕ) → Tally

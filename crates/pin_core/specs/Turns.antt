@@ -22,6 +22,7 @@ use Rattle.pin_core.specs.Standing.{StandsFor}
 use Rattle.pin_core.specs.Changes.{entry_at}
 use Rattle.pin_core.specs.Jobs.{IsWriteJob}
 use Rattle.pin_core.specs.Flights.{id_with, job_of, flown}
+use Rattle.pin_core.specs.Marking.{under_of}
 
 -- the bytes that are wanted
 abbrev pub amount_of : Want → ℕ
@@ -87,7 +88,7 @@ module _ {D : Type 0} where
     pub key : ℕ
     pub last : newest c v.lists ≡ Some key
     pub parts : new ≡ flown who (id_with key v) (entry_at v (id_with key v).name) v
-    pub job_is : job ≡ job_of who (id_with key v) (entry_at v (id_with key v).name)
+    pub job_is : job ≡ job_of who (under_of v.marked v.entries) (id_with key v) (entry_at v (id_with key v).name)
 
   pub record Lacks (v : Parts D) (session c bytes : ℕ) (first : Option ℕ) : Type 0 where
     pub full : HasRoom (state_of v) c bytes → ⊥

@@ -9,4 +9,6 @@ pub struct PoolConf {
     pub block_len: u32,
     /// The name of its first page.
     pub first_name: u64,
+    /// How blocks lie in slots: 1 for bare ones, 2 for blocks behind their marks.
+    pub profile: u32,
 }

@@ -60,6 +60,7 @@ impl<D: Drop> Parts<D> {
             id,
             who: _,
             client,
+            under: _,
             buf,
             row,
             failed,

@@ -5,11 +5,13 @@ ghost use Rattle.page_table.specs.Pages.{IsLive, with_entry};
 ghost use Rattle.pin_core.specs.Changes.{entry_in};
 ghost use Rattle.pin_core.specs.Invariant.{IsKeptOf};
 ghost use Rattle.pin_core.specs.Keeping.{row_in};
+ghost use Rattle.pin_core.specs.Marking.{under_of};
 ghost use Rattle.pin_core.specs.Flights.{buffer_in, flying, is_held_mem, job_of, put_back};
 
 use crate::kept::Kept;
 use block_arena::Buf;
 use page_table::{Entry, Mem, PageId, PageTable, Place};
+use reservation_tree::Mark;
 use scratch_dev::SlotRow;
 use std::mem;
 
@@ -18,6 +20,8 @@ pub struct WriteJob<D> {
     pub id: PageId,
     pub who: u32,
     pub client: u32,
+    /// The version under which its blocks are stored, where they get marks.
+    pub under: Option<u64>,
     pub buf: Buf,
     pub row: SlotRow<D>,
     /// Whether a store failed.
@@ -28,22 +32,41 @@ pub struct WriteJob<D> {
 pub struct ReadJob<D> {
     pub id: PageId,
     pub client: u32,
+    /// The version under which its blocks were stored, where they have marks.
+    pub under: Option<u64>,
     pub buf: Buf,
     pub row: SlotRow<D>,
     /// Whether a load failed.
     pub failed: bool,
+    /// The mark that was found in the place of another, where that ended the loads.
+    pub stale: Option<Stale>,
+}
+
+/// The mark that was wanted of a block, and the one that was found.
+#[derive(Clone, Copy, Debug, PartialEq, Eq)]
+pub struct Stale {
+    pub wanted: Mark,
+    pub found: Mark,
+}
+
+// The version, where blocks have marks.
+pub(crate) fn under(marked: bool, version: u64) -> Option<u64>
+    ensures { result ≡ under_of marked version }
+{
+    if marked { Some(version) } else { None }
 }
 
 // A dirty page goes out with its buffer and its slots.
 #[inline]
-fn fly<D: Drop>(entry: &mut Entry<Kept<D>>, who: u32) -> (Buf, SlotRow<D>)
+fn fly<D: Drop>(entry: &mut Entry<Kept<D>>, who: u32, version: u64) -> (Buf, SlotRow<D>)
     requires held { is_held_mem entry.old.mem ≡ true }
     requires slots { IsKeptOf entry.old.blocks spot.Dirty entry.old.scratch }
-    ensures entry { entry.new ≡ flying who entry.old }
+    ensures entry { entry.new ≡ flying who version entry.old }
     ensures buffer { result.0 ≡ buffer_in entry.old.mem }
     ensures row { result.1 ≡ row_in entry.old.scratch }
 {
     entry.place = Place::Flying(who);
+    entry.version = version;
     let Mem::Held(buf) = mem::replace(&mut entry.mem, Mem::Out) else {
         unreachable!()
     };
@@ -54,20 +77,27 @@ fn fly<D: Drop>(entry: &mut Entry<Kept<D>>, who: u32) -> (Buf, SlotRow<D>)
 }
 
 // The same of the page in the table.
-pub(crate) fn fly_at<D: Drop>(pages: &mut PageTable<Kept<D>>, id: PageId, who: u32) -> WriteJob<D>
+pub(crate) fn fly_at<D: Drop>(
+    pages: &mut PageTable<Kept<D>>,
+    id: PageId,
+    who: u32,
+    version: u64,
+    under: Option<u64>,
+) -> WriteJob<D>
     requires live { IsLive pages.old id }
     requires held { is_held_mem (entry_in pages.old id.name).mem ≡ true }
     requires slots { IsKeptOf (entry_in pages.old id.name).blocks spot.Dirty (entry_in pages.old id.name).scratch }
-    ensures pages { pages.new ≡ with_entry pages.old id (flying who (entry_in pages.old id.name)) }
-    ensures job { result ≡ job_of who id (entry_in pages.old id.name) }
+    ensures pages { pages.new ≡ with_entry pages.old id (flying who version (entry_in pages.old id.name)) }
+    ensures job { result ≡ job_of who under id (entry_in pages.old id.name) }
 {
     let entry = pages.entry_mut(id);
     let client = entry.client;
-    let (buf, row) = fly(entry, who);
+    let (buf, row) = fly(entry, who, version);
     WriteJob {
         id,
         who,
         client,
+        under,
         buf,
         row,
         failed: false,

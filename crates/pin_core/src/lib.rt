@@ -47,7 +47,7 @@ mod unpin;
 
 pub use conf::PoolConf;
 pub use finish::Wrote;
-pub use jobs::{ReadJob, WriteJob};
+pub use jobs::{ReadJob, Stale, WriteJob};
 pub use kept::Kept;
 pub use parts::Parts;
 pub use pin::PinTurn;

@@ -11,7 +11,7 @@ ghost use Rattle.pin_core.specs.Changes.{entry_in, entry_at};
 ghost use Rattle.pin_core.specs.Evictions.{with_room};
 ghost use Rattle.pin_core.specs.Loads.{CanLoad, ReadyLoad, loading, loaded, loaded_over, read_job};
 
-use crate::jobs::ReadJob;
+use crate::jobs::{ReadJob, under};
 use crate::kept::Kept;
 use crate::lengths;
 use crate::look::look_at;
@@ -31,21 +31,22 @@ impl<D: Drop> Parts<D> {
         requires can { CanLoad self.old id (entry_at self.old id.name) }
         requires capacity { 256 ≤ vec_capacity evicted.old }
         ensures parts { self.new ≡ loaded_over id (entry_at self.old id.name) self.old }
-        ensures job { result ≡ read_job id (entry_at self.old id.name) result.buf }
+        ensures job { result ≡ read_job self.old.marked id (entry_at self.old id.name) result.buf }
         ensures buffer { IsBufferOf (entry_at self.old id.name).blocks self.old.arena.block_len result.buf }
         ensures enough { (entry_at self.old id.name).blocks ≤ (with_room (entry_at self.old id.name).blocks self.old).arena.free }
         ensures capacity_kept { 256 ≤ vec_capacity evicted.new }
     {
+        let marked = self.marked;
         let look = look_at(&self.pages, id);
         self.make_room(look.blocks, evicted);
-        self.fill(id)
+        self.fill(id, marked)
     }
 
     // The page gets free blocks.
-    fn fill(&mut self, id: PageId) -> ReadJob<D>
+    fn fill(&mut self, id: PageId, marked: bool) -> ReadJob<D>
         requires ready { ReadyLoad self.old id (entry_at self.old id.name) }
         ensures parts { self.new ≡ loaded id (entry_at self.old id.name) self.old }
-        ensures job { result ≡ read_job id (entry_at self.old id.name) result.buf }
+        ensures job { result ≡ read_job marked id (entry_at self.old id.name) result.buf }
         ensures buffer { IsBufferOf (entry_at self.old id.name).blocks self.old.arena.block_len result.buf }
     {
         self.entries = lengths::counted(self.entries);
@@ -54,6 +55,7 @@ impl<D: Drop> Parts<D> {
             row,
             client,
             blocks,
+            version,
         } = lend_at(&mut self.pages, id);
         let len = lengths::bytes(self.block_len, blocks);
         let buf = self.arena.fill(shell);
@@ -62,9 +64,11 @@ impl<D: Drop> Parts<D> {
         ReadJob {
             id,
             client,
+            under: under(marked, version),
             buf,
             row,
             failed: false,
+            stale: None,
         }
     }
 }
@@ -75,6 +79,7 @@ struct Lent<D> {
     row: SlotRow<D>,
     client: u32,
     blocks: u32,
+    version: u64,
 }
 
 // An evicted page lends its shell and its slots, and is loading.
@@ -106,15 +111,18 @@ fn lend_at<D: Drop>(pages: &mut PageTable<Kept<D>>, id: PageId) -> Lent<D>
     ensures row { result.row ≡ row_in (entry_in pages.old id.name).scratch }
     ensures client { result.client ≡ (entry_in pages.old id.name).client }
     ensures blocks { result.blocks ≡ (entry_in pages.old id.name).blocks }
+    ensures version { result.version ≡ (entry_in pages.old id.name).version }
 {
     let entry = pages.entry_mut(id);
     let client = entry.client;
     let blocks = entry.blocks;
+    let version = entry.version;
     let (shell, row) = lend(entry);
     Lent {
         shell,
         row,
         client,
         blocks,
+        version,
     }
 }

@@ -16,6 +16,8 @@ use session_table::SessionTable;
 #[derive(Drop)]
 pub struct Parts<D> {
     pub block_len: u32,
+    /// Whether each block lies in its slot behind a mark.
+    pub marked: bool,
     pub tree: Tree,
     pub pages: PageTable<Kept<D>>,
     pub lists: ClientLists,

@@ -81,7 +81,7 @@ impl<D: Slot + Drop> PoolState<D> {
         };
         slots.law_counted();
         Ok(PoolState {
-            parts: rooms.with(conf.block_len, slots),
+            parts: rooms.with(conf.block_len, conf.profile == 2, slots),
             evicted,
         })
     }
@@ -143,8 +143,8 @@ impl<D: Drop> Rooms<D> {
         })
     }
 
-    fn with(self, block_len: u32, slots: SlotPool<D>) -> Parts<D>
-        ensures { result ≡ record { block_len = block_len; tree = self.tree; pages = self.pages; lists = self.lists; clean = self.clean; arena = self.arena; slots = slots; buffers = self.buffers; seats = self.seats; entries = 0 } }
+    fn with(self, block_len: u32, marked: bool, slots: SlotPool<D>) -> Parts<D>
+        ensures { result ≡ record { block_len = block_len; marked = marked; tree = self.tree; pages = self.pages; lists = self.lists; clean = self.clean; arena = self.arena; slots = slots; buffers = self.buffers; seats = self.seats; entries = 0 } }
     {
         let Rooms {
             tree,
@@ -157,6 +157,7 @@ impl<D: Drop> Rooms<D> {
         } = self;
         Parts {
             block_len,
+            marked,
             tree,
             pages,
             lists,

@@ -5,9 +5,10 @@ ghost use Rattle.pin_core.specs.Invariant.{IsKept};
 ghost use Rattle.pin_core.specs.Lawful.{Lawful};
 ghost use Rattle.pin_core.specs.Changes.{entry_at};
 ghost use Rattle.pin_core.specs.Flights.{flown, id_with, job_of};
+ghost use Rattle.pin_core.specs.Marking.{under_of};
 ghost use Rattle.pin_core.specs.Turns.{StartIs};
 
-use crate::jobs::{WriteJob, fly_at};
+use crate::jobs::{WriteJob, fly_at, under};
 use crate::lengths;
 use crate::parts::Parts;
 use crate::pool::PoolState;
@@ -44,11 +45,12 @@ impl<D: Drop> Parts<D> {
         requires laws { Lawful self.old }
         requires newest { newest client self.old.lists ≡ Some key }
         ensures parts { self.new ≡ flown who (id_with key self.old) (entry_at self.old (id_with key self.old).name) self.old }
-        ensures job { result ≡ job_of who (id_with key self.old) (entry_at self.old (id_with key self.old).name) }
+        ensures job { result ≡ job_of who (under_of self.old.marked self.old.entries) (id_with key self.old) (entry_at self.old (id_with key self.old).name) }
     {
-        self.entries = lengths::counted(self.entries);
+        let entry = self.entries;
+        self.entries = lengths::counted(entry);
         let id = self.pages.id_at(key).unwrap();
-        let job = fly_at(&mut self.pages, id, who);
+        let job = fly_at(&mut self.pages, id, who, entry, under(self.marked, entry));
         self.lists.shift(client, key, Which::Flying);
         job
     }

@@ -1,7 +1,7 @@
 -- That a call was refused stays true of a beginning before which the session entered nothing.
 use Rattle.std.proofs.Common.{◌≡◌, ℕ, ◌<◌, List, Option, sym, subst, arith}
 use Rattle.reservation_tree.specs.declared.errors.PoolErr.{PoolErr}
-use Rattle.reservation_tree.specs.declared.errors.PoolErr.TheVariants.{WriteFault, ReadFault, NamesSpent, Memory}
+use Rattle.reservation_tree.specs.declared.errors.PoolErr.TheVariants.{WriteFault, ReadFault, NamesSpent, Memory, Stale}
 use Rattle.pool_model.specs.declared.call.Call.{Call}
 use Rattle.pool_model.specs.declared.call.Call.TheVariants.{Pin, Create, Alloc}
 use Rattle.pool_model.specs.declared.event.Event.{Event}
@@ -19,6 +19,7 @@ module _ (t : ℕ) (a b c : Signs) (first : Grows a b) where
   may_before : (what : Call) (e : PoolErr) → MayRefuse t what b c e → MayRefuse t what a c e
   may_before what (WriteFault entry) may = failed_before may
   may_before (Pin p) (ReadFault entry) may = failed_before may
+  may_before (Pin p) (Stale wanted found) may = (may.0, let less = first.stale in let rose = may.1 in omega (arith, less, rose))
   may_before (Create client blocks) NamesSpent may = may
   may_before (Create client blocks) Memory may = may
   may_before (Alloc client blocks) Memory may = may

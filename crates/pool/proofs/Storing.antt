@@ -13,7 +13,7 @@ use Rattle.store_api.specs.Tokens.{ClientToken, LoanToken, PageToken}
 use Rattle.store_api.specs.Holdings.{page_of}
 use Rattle.store_api.specs.Conditions.{IsNewClient, IsNewLoan, IsNewPage}
 use Rattle.store_api.specs.Entries.{by, IsTaken, Made, MadeThese}
-use Rattle.store_api.specs.Signs.{CountsRefused, Grows, Signs, WasAnswered, refuses_unpin}
+use Rattle.store_api.specs.Signs.{CountsRefused, CountsStale, Grows, Signs, WasAnswered, refuses_unpin}
 use Rattle.store_api.specs.Refusals.{IsScratchFull, IsUntouched, StaysPinned}
 use Rattle.own_entries.specs.OwnHoldings.{after_events}
 use Rattle.own_entries.proofs.Calls.{calls_tell}
@@ -49,6 +49,11 @@ answered blocks (Some free) e before after cause rose = subst (λ (err : PoolErr
 pub counted : (o : Opening) (s : Sitting) → CountsRefused (signs_by o s).trail (signs_by o s).refused_unpins
 unfolding signs_in
 counted o s = refl
+
+-- and the count of stale loads is that of its
+pub counted_stale : (o : Opening) (s : Sitting) → CountsStale (signs_by o s).trail (signs_by o s).stale
+unfolding signs_in
+counted_stale o s = refl
 
 module _ (o : Opening) (told : Bool) where
   -- where nothing was called, nothing was entered

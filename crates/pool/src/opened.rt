@@ -21,7 +21,7 @@ impl OpenedAs for Brand {
     ghost use Rattle.std.specs.Prelude.{false};
     ghost use Rattle.session_calls.specs.Outgoing.{no_tally};
 
-    ghost opening = { record { blocks = 0; block_len = 0; first_name = 0; slots = 0; faults = 0; stores = 0 } };
+    ghost opening = { record { blocks = 0; block_len = 0; marked = false; first_name = 0; slots = 0; faults = 0; stores = 0 } };
 
     ghost told = { false };
 

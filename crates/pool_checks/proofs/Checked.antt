@@ -19,6 +19,7 @@ use Rattle.pin_core.specs.declared.parts.Parts.{Parts}
 use Rattle.pin_core.specs.Ending.{IsPinnedWith, IsUnpinned}
 use Rattle.pin_core.specs.Invariant.{IsKept}
 use Rattle.pin_core.specs.Jobs.{IsReadJob, IsWriteJob}
+use Rattle.pin_core.specs.Marking.{under_of}
 use Rattle.pin_core.specs.Lawful.{Lawful}
 use Rattle.pin_core.specs.Needs.{IsLastPin, IsPage, id_in}
 use Rattle.pin_core.specs.Pins.{HasPinToSpare, IsPinned}
@@ -123,25 +124,27 @@ module _ {D : Type 0} where
       slots = len ∙ slots ∙ sym fits.blocks;
     }
 
-    pub written_job : (job : WriteJob D) → job.id ≡ id → job.client ≡ client → job.buf ≡ buf → length job.row ≡ count → place_in x.place ≡ Flying job.who → (IsSession job.who ⊎ IsWriter job.who) → IsWriteJob (state_of v) job
-    written_job job id_is client_is buf_is row_is flies maker =
+    pub written_job : (job : WriteJob D) → job.id ≡ id → job.client ≡ client → job.buf ≡ buf → length job.row ≡ count → place_in x.place ≡ Flying job.who → job.under ≡ under_of v.marked x.version → (IsSession job.who ⊎ IsWriter job.who) → IsWriteJob (state_of v) job
+    written_job job id_is client_is buf_is row_is flies under maker =
         let at : page_at (state_of v) job.id.name ≡ page_of v.pages id.name x = ap (λ (j : PageId). page_at (state_of v) j.name) id_is ∙ is in record {
           lives = ap (λ (j : PageId). get (state_of v).pages j.name) id_is ∙ known.0 ∙ ap Some (sym at);
           key = ap (λ (y : Page). y.key) at ∙ known.1 ∙ sym (ap (λ (j : PageId). j.key) id_is);
           flies = ap (λ (y : Page). y.place) at ∙ flies;
           client = ap (λ (y : Page). y.client) at ∙ same ∙ sym client_is;
+          under = under ∙ sym (ap (λ (y : Page). under_of v.marked y.version) at);
           buffer = subst (λ (n : ℕ). IsBufferOf n v.arena.block_len job.buf) (sym (ap (λ (y : Page). y.blocks) at)) (subst (IsBufferOf x.blocks v.arena.block_len) (sym buf_is) fits);
           slots = row_is ∙ slots ∙ sym (ap (λ (y : Page). y.blocks) at);
           maker = maker;
         }
 
-    pub read_job : (job : ReadJob D) → job.id ≡ id → job.client ≡ client → job.buf ≡ buf → length job.row ≡ count → place_in x.place ≡ Loading → IsReadJob (state_of v) job
-    read_job job id_is client_is buf_is row_is loads =
+    pub read_job : (job : ReadJob D) → job.id ≡ id → job.client ≡ client → job.buf ≡ buf → length job.row ≡ count → place_in x.place ≡ Loading → job.under ≡ under_of v.marked x.version → IsReadJob (state_of v) job
+    read_job job id_is client_is buf_is row_is loads under =
         let at : page_at (state_of v) job.id.name ≡ page_of v.pages id.name x = ap (λ (j : PageId). page_at (state_of v) j.name) id_is ∙ is in record {
           lives = ap (λ (j : PageId). get (state_of v).pages j.name) id_is ∙ known.0 ∙ ap Some (sym at);
           key = ap (λ (y : Page). y.key) at ∙ known.1 ∙ sym (ap (λ (j : PageId). j.key) id_is);
           loads = ap (λ (y : Page). y.place) at ∙ loads;
           client = ap (λ (y : Page). y.client) at ∙ same ∙ sym client_is;
+          under = under ∙ sym (ap (λ (y : Page). under_of v.marked y.version) at);
           buffer = subst (λ (n : ℕ). IsBufferOf n v.arena.block_len job.buf) (sym (ap (λ (y : Page). y.blocks) at)) (subst (IsBufferOf x.blocks v.arena.block_len) (sym buf_is) fits);
           slots = row_is ∙ slots ∙ sym (ap (λ (y : Page). y.blocks) at);
         }

@@ -1,8 +1,9 @@
 //! What calls need of jobs.
-ghost use Rattle.std.specs.Prelude.{◌≡◌, ◌⊎◌, IsTrue};
+ghost use Rattle.std.specs.Prelude.{◌≡◌, ◌⊎◌, IsTrue, length};
 ghost use Rattle.pool_model.specs.Makers.{IsSession, IsWriter};
 ghost use Rattle.pin_core.specs.Jobs.{IsReadJob, IsWriteJob};
-ghost use Rattle.pin_core.specs.Runs.{IsFit};
+ghost use Rattle.pin_core.specs.Marking.{under_of};
+ghost use Rattle.pin_core.specs.Runs.{IfFoundOther, IsFit};
 ghost use Rattle.pin_core.specs.StateOf.{state_of};
 
 use crate::pages::{entry_at, fits};
@@ -21,13 +22,15 @@ pub fn is_write_job<D: Drop>(pool: &PoolState<D>, job: &WriteJob<D>) -> bool
         && entry.client == job.client
         && fits(pool, entry.blocks, &job.buf)
         && job.row.len() == entry.blocks as usize
+        && job.under == version_under(pool, entry.version)
         && is_maker(job.who)
 }
 
-/// Whether the pool waits for this load.
+/// Whether the pool waits for this load; another mark that it found is one that it may tell.
 pub fn is_read_job<D: Drop>(pool: &PoolState<D>, job: &ReadJob<D>) -> bool
     ensures job { IsTrue result → IsReadJob (state_of pool.now) job.now }
     ensures fit { IsTrue result → IsFit job.now.buf job.now.row }
+    ensures found { IsTrue result → IfFoundOther job.now.under job.now.id.name (length job.now.row) job.now.stale }
 {
     let Some(entry) = entry_at(pool, job.id) else {
         return false;
@@ -36,6 +39,29 @@ pub fn is_read_job<D: Drop>(pool: &PoolState<D>, job: &ReadJob<D>) -> bool
         && entry.client == job.client
         && fits(pool, entry.blocks, &job.buf)
         && job.row.len() == entry.blocks as usize
+        && job.under == version_under(pool, entry.version)
+        && may_be_found(job)
+}
+
+// Whether the mark that was wanted is that of one of the job's blocks, and another was found.
+fn may_be_found<D>(job: &ReadJob<D>) -> bool
+    ensures { IsTrue result → IfFoundOther job.now.under job.now.id.name (length job.now.row) job.now.stale }
+{
+    let Some(stale) = job.stale else {
+        return true;
+    };
+    job.under == Some(stale.wanted.version)
+        && stale.wanted.name == job.id.name
+        && (stale.wanted.block as usize) < job.row.len()
+        && stale.found != stale.wanted
+}
+
+// The version, where the pool's stored blocks have marks.
+fn version_under<D>(pool: &PoolState<D>, version: u64) -> Option<u64>
+    ensures { result ≡ under_of pool.now.marked version }
+{
+    let parts = pool.parts();
+    if parts.marked { Some(version) } else { None }
 }
 
 /// Whether the number is a session's or a writer's.

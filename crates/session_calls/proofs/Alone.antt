@@ -6,7 +6,7 @@ use Rattle.std.specs.FinMap.{get, insert, remove, get-empty}
 use Rattle.reservation_tree.proofs.Maps.{get_same, get_other, removed_same, removed_other, same_or_other}
 use Rattle.outside.specs.declared.slot.Slot.{Ghosts}
 use Rattle.pool_model.specs.declared.event.Event.{Event}
-use Rattle.pool_model.specs.declared.event.Event.TheVariants.{AddTracker, Create, PinHere, PinLoad, ReadOk, ReadFailed, PinAgain, UnpinOnce, Unpin, Extract, Destroy, StartWrite, WriteOk, WriteFailed, Evict}
+use Rattle.pool_model.specs.declared.event.Event.TheVariants.{AddTracker, Create, PinHere, PinLoad, ReadOk, ReadFailed, ReadStale, PinAgain, UnpinOnce, Unpin, Extract, Destroy, StartWrite, WriteOk, WriteFailed, Evict}
 use Rattle.pool_model.specs.declared.entry.Entry.{Entry}
 use Rattle.pool_model.specs.State.{Opening, Page, Pages, State}
 use Rattle.pool_model.specs.LookingBack.{Made, makes, maker_of, made_by}
@@ -65,6 +65,7 @@ module _ (m : ℕ) where
   flown_on maker (PinLoad p) s own all = put_flown s.pages p _ refl all
   flown_on maker (ReadOk p) s own all = put_flown s.pages p _ refl all
   flown_on maker (ReadFailed p before now) s own all = put_flown s.pages p _ refl all
+  flown_on maker (ReadStale p wanted found) s own all = put_flown s.pages p _ refl all
   flown_on maker (PinAgain p) s own all = put_flown s.pages p _ refl all
   flown_on maker (UnpinOnce p) s own all = put_flown s.pages p _ refl all
   flown_on maker (Unpin p content) s own all = put_again s.pages p _ _ refl all

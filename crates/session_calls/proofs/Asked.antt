@@ -9,13 +9,14 @@ use Rattle.pool_model.specs.declared.event.Event.{Event}
 use Rattle.pool_model.specs.declared.event.Event.TheVariants.{Ask, Evict, Refused}
 use Rattle.pool_model.specs.declared.entry.Entry.{Entry}
 use Rattle.pool_model.specs.State.{Opening, State}
-use Rattle.pool_model.specs.LookingBack.{opens, made_by}
+use Rattle.pool_model.specs.LookingBack.{opens}
 use Rattle.pool_model.specs.Failures.{is_own, is_for_own, failures_in, asks_in}
 use Rattle.pool_model.specs.Legal.{state_after, IsLegal}
 use Rattle.pool_model.specs.MayFollow.{MayFollow}
 use Rattle.store_api.specs.Holdings.{Holdings}
-use Rattle.store_api.specs.Signs.{Grows, TellRefused}
-use Rattle.store_api.specs.Entries.{by, IsAsked, IsEvict, IsTaken}
+use Rattle.store_api.specs.Signs.{Grows}
+use Rattle.store_api.specs.Entries.{IsAsked, IsEvict, IsTaken}
+use Rattle.store_api.proofs.Causes.{write_answered}
 use Rattle.own_entries.specs.OwnHoldings.{Outset}
 use Rattle.own_entries.proofs.Calls.{asked_hold}
 use Rattle.pin_core.specs.StateOf.{state_of}
@@ -28,7 +29,7 @@ use Rattle.session_calls.specs.Coming.{Evicts}
 use Rattle.session_calls.specs.Wanting.{IsRoomCall, Wants}
 use Rattle.session_calls.specs.Writing.{IsWrite}
 use Rattle.session_calls.proofs.Failures.{rose_for, rose_in_all}
-use Rattle.session_calls.proofs.Lists.{NoneOpens, by_append}
+use Rattle.session_calls.proofs.Lists.{NoneOpens}
 use Rattle.session_calls.proofs.Asks.{asked_none, asked_more, asked_last}
 use Rattle.session_calls.proofs.RoomCalls.{may_refuse}
 use Rattle.session_calls.proofs.Roomed.{stored_for}
@@ -53,10 +54,6 @@ use Rattle.session_calls.proofs.Outgoing.{counts_rest}
 use Rattle.session_calls.proofs.Quotas.{quota_stays}
 use Rattle.session_calls.proofs.SinceAsked.{does_ask, has_asked}
 use Rattle.session_calls.proofs.Steps.{acts_does}
-
--- the last of these is the refusal
-tell_refused : (m entry : ℕ) (call : Call) (front all : List Event) → all ≡ front ++ Refused call entry ∷ [] → TellRefused entry (by m all)
-tell_refused m entry call front all is = (by m front, m, call, [], ap (by m) is ∙ by_append m front (Refused call entry ∷ []))
 
 evict_opens : (e : Event) → IsEvict e → opens e ≡ false
 evict_opens (Evict p) is = refl
@@ -208,10 +205,7 @@ module _ {D : Type 0} where
               was = record {
                 held = did_held o u start new all ∙ asked_hold t (held_by o u start) (Refused call entry ∷ []) all.does.events all.does.is;
                 cause = for_client;
-                answered = record {
-                  rose = in_all;
-                  told = (by start.session all.does.events, ap Some (ap (made_by new.trail) all.session ∙ all.does.own), tell_refused start.session entry call (Ask ∷ all.does.is.0) all.does.events all.does.is.2);
-                };
+                answered = write_answered (held_by o u start).session t (held_by o u start) (signs_by o start) (signs_by o new) call entry in_all (did_made o u start new all);
                 entries = did_made o u start new all;
               };
               grows = did_grows o u start new all;

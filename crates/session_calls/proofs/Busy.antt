@@ -2,7 +2,7 @@
 use Rattle.std.proofs.Common.{◌≡◌, ℕ, ◌==◌, List, [], ◌∷◌, ◌++◌, Bool, true, false, if◌then◌else◌, Some, None, refl, ap, ◌∙◌}
 use Rattle.std.specs.List.{AllByRecursion}
 use Rattle.pool_model.specs.declared.event.Event.{Event}
-use Rattle.pool_model.specs.declared.event.Event.TheVariants.{AddTracker, Create, PinLoad, ReadOk, ReadFailed, StartWrite, WriteOk, WriteFailed, Extract, Destroy}
+use Rattle.pool_model.specs.declared.event.Event.TheVariants.{AddTracker, Create, PinLoad, ReadOk, ReadFailed, ReadStale, StartWrite, WriteOk, WriteFailed, Extract, Destroy}
 use Rattle.pool_model.specs.declared.entry.Entry.{Entry}
 use Rattle.store_api.specs.Entries.{by}
 use Rattle.own_entries.specs.Busy.{busy_after, busy_from}
@@ -25,6 +25,7 @@ still_after p (Create q client blocks key) still = either (q == p) false
 still_after p (PinLoad q) still = let never : false ≡ true = still in cc
 still_after p (ReadOk q) still = either (q == p) false
 still_after p (ReadFailed q before now) still = either (q == p) false
+still_after p (ReadStale q wanted found) still = either (q == p) false
 still_after p (StartWrite q) still = let never : false ≡ true = still in cc
 still_after p (WriteOk q) still = either (q == p) false
 still_after p (WriteFailed q before now) still = either (q == p) false

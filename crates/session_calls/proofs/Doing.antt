@@ -1,5 +1,5 @@
 -- What a session did, as the clauses of a store say it.
-use Rattle.std.proofs.Common.{◌≡◌, ◌≤◌, ℕ, ◌+◌, List, [], ◌++◌, filter, length, length-append, Some, refl, sym, ap, ◌∙◌, subst, arith, le-leb}
+use Rattle.std.proofs.Common.{◌≡◌, ◌≤◌, ℕ, ◌+◌, List, [], ◌++◌, Bool, filter, length, length-append, Some, refl, sym, ap, ◌∙◌, subst, arith, le-leb}
 use Rattle.std.proofs.lemmas.Bool.{leb-true}
 use Rattle.std.proofs.lemmas.List.{append_assoc, append-nil}
 use Rattle.std.proofs.lemmas.List.Elements.{filter-append, filter_map-append}
@@ -10,7 +10,7 @@ use Rattle.pool_model.specs.LookingBack.{is_by, made_by, names_in, name_in}
 use Rattle.pool_model.specs.Failures.{is_own, is_for_own, failures_in}
 use Rattle.pool_model.proofs.Rising.{failures_grow}
 use Rattle.store_api.specs.Entries.{by, Made}
-use Rattle.store_api.specs.Signs.{Grows, refuses_unpin}
+use Rattle.store_api.specs.Signs.{Grows, is_stale_load, refuses_unpin}
 use Rattle.own_entries.specs.AboveLaws.{AllBy}
 use Rattle.own_entries.specs.OwnHoldings.{Outset, after_events, holdings_of}
 use Rattle.own_entries.proofs.Calls.{calls_run_on}
@@ -21,6 +21,13 @@ use Rattle.session_calls.specs.Doing.{Does}
 
 names_more : (a b : List Entry) → length (names_in (a ++ b)) ≡ length (names_in a) + length (names_in b)
 names_more a b = ap length (filter_map-append (λ (e : Entry). name_in e.event) a b) ∙ length-append (names_in a) (names_in b)
+
+-- of a maker's entries those that it made last are counted beside those before
+pub counted_more : (counts : Entry → Bool) (m : ℕ) (before now : List Entry) (events : List Event) → made_by now m ≡ made_by before m ++ by m events
+    → length (filter counts (made_by now m)) ≡ length (filter counts (made_by before m)) + length (filter counts (by m events))
+counted_more counts m before now events own =
+    ap (λ (h : List Entry). length (filter counts h)) own ∙ ap length (filter-append counts (made_by before m) (by m events))
+    ∙ length-append (filter counts (made_by before m)) (filter counts (by m events))
 
 -- whose entries they are
 pub whose : (o : Opening) (u : Outset) (m : ℕ) (h : List Entry) → (held_in o u m h).session ≡ m
@@ -37,11 +44,8 @@ module _ {P : List Event → Type 0} (o : Opening) (u : Outset) (m : ℕ) (befor
   does_grows = record {
     failures = subst (λ (h : List Entry). failures_in (is_own m) before ≤ failures_in (is_own m) h) (sym does.grew) (failures_grow (is_own m) refl before does.more);
     failures_of = λ t. subst (λ (h : List Entry). failures_in (is_for_own m t) before ≤ failures_in (is_for_own m t) h) (sym does.grew) (failures_grow (is_for_own m t) refl before does.more);
-    refused_unpins =
-        let more : length (filter (λ e. refuses_unpin e.event) (made_by now m)) ≡ length (filter (λ e. refuses_unpin e.event) (made_by before m)) + length (filter (λ e. refuses_unpin e.event) (by m does.events)) =
-        ap (λ (h : List Entry). length (filter (λ e. refuses_unpin e.event) h)) does.own ∙ ap length (filter-append (λ (e : Entry). refuses_unpin e.event) (made_by before m) (by m does.events))
-        ∙ length-append (filter (λ e. refuses_unpin e.event) (made_by before m)) (filter (λ e. refuses_unpin e.event) (by m does.events)) in
-        omega (arith, more);
+    refused_unpins = let more = counted_more (λ e. refuses_unpin e.event) m before now does.events does.own in omega (arith, more);
+    stale = let more = counted_more (λ e. is_stale_load e.event) m before now does.events does.own in omega (arith, more);
     spent = λ was.
         let first : 18446744073709551615 ≤ o.first_name + length (names_in before) = leb-true 18446744073709551615 (o.first_name + length (names_in before)) was in
         let more : length (names_in now) ≡ length (names_in before) + length (names_in does.more) = ap (λ (h : List Entry). length (names_in h)) does.grew ∙ names_more before does.more in

@@ -1,26 +1,23 @@
 -- A turn of a pin loads the page.
 use Rattle.std.proofs.Common.{◌≡◌, ℕ, ◌+◌, ◌*◌, ◌<◌, ◌≤◌, ◌||◌, ◌==◌, Bool, true, false, if◌then◌else◌, List, [], ◌∷◌, ◌++◌, length, map, take, T, Result, Ok, Err, IfOk, IfErr, refl, sym, ap, ◌∙◌, subst, arith, inr}
-use Rattle.std.proofs.lemmas.List.{append_assoc}
 use Rattle.std.proofs.lemmas.List.Folds.{list_any-append}
 use Rattle.std.specs.List.{AllByRecursion, list_any, sum_by}
 use Rattle.outside.specs.declared.slot.Slot.{Ghosts}
 use Rattle.block_arena.specs.Memory.{Buffer, IsBufferOf}
-use Rattle.reservation_tree.specs.declared.errors.PoolErr.{PoolErr}
+use Rattle.reservation_tree.specs.declared.mark.Mark.{Mark}
 use Rattle.reservation_tree.specs.declared.errors.PoolErr.TheVariants.{ReadFault}
 use Rattle.pool_model.specs.declared.call.Call.TheVariants.{Pin}
 use Rattle.pool_model.specs.declared.event.Event.{Event}
-use Rattle.pool_model.specs.declared.event.Event.TheVariants.{PinLoad, ReadOk, ReadFailed, Evict}
+use Rattle.pool_model.specs.declared.event.Event.TheVariants.{PinLoad, ReadOk, ReadFailed, ReadStale, Evict}
 use Rattle.pool_model.specs.declared.entry.Entry.{Entry}
-use Rattle.pool_model.specs.State.{Opening, Loading, Page, State, page_at}
+use Rattle.pool_model.specs.State.{Opening, Page, State, page_at}
 use Rattle.pool_model.specs.Sums.{free_bytes, length_of}
-use Rattle.pool_model.specs.Effects.{after}
-use Rattle.pool_model.specs.Legal.{run, state_after, IsLegal}
+use Rattle.pool_model.specs.Legal.{run, state_after}
 use Rattle.pool_model.specs.LookingBack.{content_from, content_of, is_ask, made_by}
 use Rattle.pool_model.specs.Failures.{is_for_own, failures_in}
 use Rattle.pool_model.specs.Refusals.{FailedToLoad}
 use Rattle.pool_model.specs.MayFollow.{MayFollow}
 use Rattle.pool_model.proofs.Rising.{failures_grow}
-use Rattle.pool_model.proofs.Fronts.{legal_fronts, legal_grows_so, state_runs_on}
 use Rattle.store_api.specs.Tokens.{PageToken}
 use Rattle.store_api.specs.Holdings.{Holdings, page_of, page_len}
 use Rattle.store_api.specs.Conditions.{IsPage, ShowsLeft}
@@ -32,37 +29,39 @@ use Rattle.pin_core.specs.declared.jobs.ReadJob.{ReadJob}
 use Rattle.pin_core.specs.StateOf.{state_of}
 use Rattle.pin_core.specs.Standing.{StandsFor, Enters, AreHeld}
 use Rattle.pin_core.specs.Tallies.{silence, tally_of}
-use Rattle.pin_core.specs.Evictions.{blocks_in, evictions, names_gone}
+use Rattle.pin_core.specs.Evictions.{blocks_in, names_gone}
 use Rattle.pin_core.specs.Loads.{load_entries}
 use Rattle.pin_core.specs.PinTurns.{IsLoad}
 use Rattle.pin_core.specs.Refusing.{refusal_of}
 use Rattle.session_calls.specs.Coming.{Evicts}
-use Rattle.session_calls.specs.Pinning.{CanBePinned, FailedPin, HasAsked, IsFailedRead, IsPinned}
+use Rattle.session_calls.specs.Pinning.{BadPin, CanBePinned, HasAsked, IsBadLoad, IsPinned}
 use Rattle.session_calls.proofs.Contents.{content_told, content_whole}
-use Rattle.session_calls.proofs.Fetching.{fetching, fetching_by, fetches, fetching_holds, content_append, fetching_leaves, fetching_alike, put_alike, evicts_rest}
+use Rattle.session_calls.proofs.Fetching.{fetching, fetching_by, fetches, fetching_holds, content_append, fetching_leaves, fetching_alike, evicts_rest}
 use Rattle.session_calls.proofs.Lists.{NoneOpens}
 use Rattle.session_calls.proofs.Known.{left_of}
 use Rattle.session_calls.proofs.Pages.{IsThere, is_there, fits_here, left_here, not_pinned, page_len_here}
 use Rattle.session_calls.proofs.Sized.{run_len}
 use Rattle.session_calls.specs.declared.hand.Hand.{Hand}
+use Rattle.session_calls.specs.declared.jobs.Unread.{Unread}
 use Rattle.session_calls.specs.declared.count.Count.{Count}
 use Rattle.session_calls.specs.declared.count.Count.TheVariants.{Out}
 use Rattle.session_calls.specs.Told.{held_in}
-use Rattle.session_calls.specs.Moving.{keeps_seats, quota_at, rests, slots_out}
+use Rattle.session_calls.specs.Moving.{keeps_seats, quota_at, slots_out}
 use Rattle.session_calls.specs.Outgoing.{CountsWhole, no_tally, tally_or}
 use Rattle.session_calls.specs.Ready.{StandsWhole}
 use Rattle.session_calls.specs.Acting.{held_by}
 use Rattle.session_calls.specs.Having.{Sight, MayGive, IsAtWork}
-use Rattle.session_calls.specs.Jobs.{DoesIn, CanRead, IsRead, IsUnread}
+use Rattle.session_calls.specs.Jobs.{DoesIn, CanRead, IsBadEnd, IsRead, IsUnread}
 use Rattle.session_calls.specs.Needing.{AreNeeded, EntersNeeded}
 use Rattle.session_calls.proofs.AtWork.{back_at_work}
+use Rattle.session_calls.proofs.BadEnds.{of_bad}
 use Rattle.session_calls.proofs.Between.{worked_on}
 use Rattle.session_calls.proofs.Entered.{Entered}
 use Rattle.session_calls.proofs.Did.{entered_did, did_more, did_held}
 use Rattle.session_calls.proofs.Knowing.{Knows, knows}
 use Rattle.session_calls.proofs.Needed.{needed_evicts, needed_then, needs_more}
 use Rattle.session_calls.proofs.Needs.{AreFree, IsFree, needs_does}
-use Rattle.session_calls.proofs.Out.{out_run, out_loading}
+use Rattle.session_calls.proofs.LoadsOut.{out_fetching}
 use Rattle.session_calls.proofs.Outgoing.{counts_went, tally_last}
 use Rattle.session_calls.proofs.Quotas.{quotas_run}
 use Rattle.session_calls.proofs.Spare.{ones}
@@ -76,10 +75,6 @@ fetching_opens : (names : List ℕ) (p : ℕ) → NoneOpens (fetching names p)
 fetching_opens [] p = (refl, tt)
 fetching_opens (n ∷ names) p = (refl, fetching_opens names p)
 
-evictions_rest : (m : ℕ) (names : List ℕ) → AllByRecursion (λ e. rests e.event ≡ true) (evictions m names)
-evictions_rest m [] = tt
-evictions_rest m (n ∷ names) = (refl, evictions_rest m names)
-
 -- the page is in no job once the load has ended
 off : (b : Bool) → (if b then false else (if b then true else false)) ≡ false
 off true = refl
@@ -89,50 +84,18 @@ read_rests : (q m : ℕ) (names : List ℕ) (p : ℕ) → busy_from q false (by 
 read_rests q m [] p = off (p == q)
 read_rests q m (n ∷ names) p = read_rests q m names p
 
-unread_rests : (q m : ℕ) (names : List ℕ) (p before now : ℕ) → busy_from q false (by m (fetching names p ++ ReadFailed p before now ∷ [])) ≡ false
-unread_rests q m [] p before now = off (p == q)
-unread_rests q m (n ∷ names) p before now = unread_rests q m names p before now
+failed_rests : (q m : ℕ) (names : List ℕ) (p before now : ℕ) → busy_from q false (by m (fetching names p ++ ReadFailed p before now ∷ [])) ≡ false
+failed_rests q m [] p before now = off (p == q)
+failed_rests q m (n ∷ names) p before now = failed_rests q m names p before now
 
--- the slots of a page go out with its load, whatever clean pages go before
-module _ (o : Opening) (h : List Entry) (m : ℕ) (names : List ℕ) (p : ℕ) (legal : IsLegal o (h ++ (evictions m names ++ record { maker = m; event = PinLoad p } ∷ []))) where
-  abbrev loading : Entry
-  loading = record { maker = m; event = PinLoad p }
-
-  abbrev front_gone : List Entry
-  front_gone = h ++ evictions m names
-
-  split : h ++ (evictions m names ++ loading ∷ []) ≡ front_gone ++ loading ∷ []
-  split = sym (append_assoc h (evictions m names) (loading ∷ []))
-
-  legal_split : IsLegal o (front_gone ++ loading ∷ [])
-  legal_split = subst (IsLegal o) split legal
-
-  may_load : MayFollow front_gone (state_after o front_gone) loading
-  may_load = (legal_grows_so o front_gone (loading ∷ []) legal_split).0
-
-  last_is : state_after o (h ++ (evictions m names ++ loading ∷ [])) ≡ after (state_after o front_gone) loading
-  last_is = ap (state_after o) split ∙ state_runs_on o front_gone (loading ∷ [])
-
-  blocks_same : (page_at (state_after o front_gone) p).blocks ≡ (page_at (state_after o (h ++ (evictions m names ++ loading ∷ []))) p).blocks
-  blocks_same = sym (ap (λ (s : State). (page_at s p).blocks) last_is ∙ put_alike (λ y. y.blocks) (λ y at. refl) (state_after o front_gone).pages p Loading p)
-
-  pub out_fetching : slots_out (state_after o (h ++ (evictions m names ++ loading ∷ []))).pages ≡ slots_out (state_after o h).pages + (page_at (state_after o (h ++ (evictions m names ++ loading ∷ []))) p).blocks
-  out_fetching =
-      let gone : slots_out (state_after o front_gone).pages ≡ slots_out (state_after o h).pages = out_run (λ p b. b) o h (evictions m names) (legal_fronts o front_gone (loading ∷ []) legal_split) (evictions_rest m names) in
-      let went : slots_out (after (state_after o front_gone) loading).pages ≡ slots_out (state_after o front_gone).pages + (page_at (state_after o front_gone) p).blocks = out_loading (λ p b. b) front_gone (state_after o front_gone) m p may_load in
-      let last : slots_out (state_after o (h ++ (evictions m names ++ loading ∷ []))).pages ≡ slots_out (after (state_after o front_gone) loading).pages = ap (λ (s : State). slots_out s.pages) last_is in
-      let same = blocks_same in
-      omega (arith, gone, went, last, same)
+stale_rests : (q m : ℕ) (names : List ℕ) (p : ℕ) (wanted found : Mark) → busy_from q false (by m (fetching names p ++ ReadStale p wanted found ∷ [])) ≡ false
+stale_rests q m [] p wanted found = off (p == q)
+stale_rests q m (n ∷ names) p wanted found = stale_rests q m names p wanted found
 
 -- what is shown is told at the outset
 told_is : (o : Opening) (u : Outset) (m : ℕ) (h : List Entry) → (held_in o u m h).told ≡ u.told
 unfolding held_in
 told_is o u m h = (outsets_stay o.block_len m u (made_by h m)).shows
-
--- the number in an error
-abbrev entry_of : PoolErr → ℕ
-entry_of (ReadFault entry) = entry
-entry_of _ = 0
 
 module _ {D : Type 0} (slot : Ghosts D) (o : Opening) (u : Outset) (seen : Sight) (hand : Hand D) (is : IsAtWork slot o u seen hand) (p : PageToken) (can : CanBePinned p (held_by o u hand)) (job : ReadJob D) (went : Hand D)
     (load : IsLoad slot p job hand.state went.state)
@@ -224,8 +187,9 @@ module _ {D : Type 0} (slot : Ghosts D) (o : Opening) (u : Outset) (seen : Sight
     is = load.is;
     whose = ap (λ (q : ℕ). (page_at t q).session) name_is ∙ whose_is ∙ sym session;
     held =
-        subst (λ (n : ℕ). AreHeld slot n job.row (content_from job.id.name [] went.trail)) (sym len_is_here)
-        (subst (AreHeld slot s.block_len job.row) (content_here ∙ sym content_went ∙ ap (λ (q : ℕ). content_from q [] went.trail) (sym name_is)) (load.content o hand.trail is.ready.whole.stands));
+        subst (λ (q : ℕ). AreHeld slot job.under q t.block_len job.row (content_from q [] went.trail)) (sym name_is)
+        (subst (λ (n : ℕ). AreHeld slot job.under p.name n job.row (content_from p.name [] went.trail)) (sym len_is_here)
+        (subst (AreHeld slot job.under p.name s.block_len job.row) (content_here ∙ sym content_went) (load.content o hand.trail is.ready.whole.stands)));
     whole = ap (λ (q : ℕ). length (content_from q [] went.trail)) name_is ∙ ap length content_went ∙ content_len ∙ sym job_len;
     counts = ap (tally_or no_tally job.id.name) counts_are ∙ tally_last hand.counts job.id.name (tally_of slot job.row);
     tell = none_silent;
@@ -297,9 +261,9 @@ module _ {D : Type 0} (slot : Ghosts D) (o : Opening) (u : Outset) (seen : Sight
         (needs_does p.client (page_len p.name h) slot o went new went_stands may.whole.stands did (subst (AreFree p.client (page_len p.name h)) (sym did.does.is) (free, tt)))
 
     -- the page came back with its buffer
-    module _ (result : Result Buffer PoolErr) (ok : IfOk result (λ buf. IsRead u.told job buf went new)) (buf : Buffer) (answered : result ≡ Ok buf) where
-      abbrev read : IsRead u.told job buf went new
-      read = subst (λ (r : Result Buffer PoolErr). IfOk r (λ b. IsRead u.told job b went new)) answered ok
+    module _ (result : Result Buffer Unread) (ok : IfOk result (λ buf. IsRead o u.told job buf went new)) (buf : Buffer) (answered : result ≡ Ok buf) where
+      abbrev read : IsRead o u.told job buf went new
+      read = subst (λ (r : Result Buffer Unread). IfOk r (λ b. IsRead o u.told job b went new)) answered ok
 
       read_events : read.did.does.events ≡ ReadOk p.name ∷ []
       read_events = read.did.does.is ∙ ap (λ (q : ℕ). ReadOk q ∷ []) name_is
@@ -327,36 +291,43 @@ module _ {D : Type 0} (slot : Ghosts D) (o : Opening) (u : Outset) (seen : Sight
         bytes = λ told. read.shows (sym (told_is o u m hand.trail) ∙ told) ∙ ap (λ (q : ℕ). content_from q [] went.trail) name_is ∙ content_went ∙ sym (left_here its p can.page can.rests);
       }
 
-    -- its load failed
-    module _ (result : Result Buffer PoolErr) (err : IfErr result (λ e. IsUnread job e went new)) (e : PoolErr) (answered : result ≡ Err e) where
+    -- its load ended badly
+    module _ (result : Result Buffer Unread) (err : IfErr result (λ e. IsUnread job e went new)) (e : Unread) (answered : result ≡ Err e) where
       abbrev unread : IsUnread job e went new
-      unread = subst (λ (r : Result Buffer PoolErr). IfErr r (λ d. IsUnread job d went new)) answered err
+      unread = subst (λ (r : Result Buffer Unread). IfErr r (λ d. IsUnread job d went new)) answered err
 
       abbrev end : Event
-      end = ReadFailed p.name unread.before unread.now
+      end = unread.end
 
-      unread_events : unread.did.does.events ≡ end ∷ []
-      unread_events = unread.did.does.is ∙ ap (λ (q : ℕ). ReadFailed q unread.before unread.now ∷ []) name_is
+      bad : IsBadEnd p.name e end
+      bad = subst (λ (q : ℕ). IsBadEnd q e end) name_is unread.ended
 
-      abbrev came_not : DoesIn (IsFailedRead p.name) hand new
+      abbrev came_not : DoesIn (IsBadLoad p.name e) hand new
       came_not = did_more hand went new began unread.did
-          (unread.before, unread.now, subst (λ (es : List Event). Evicts (PinLoad p.name ∷ end ∷ []) (front ++ es)) (sym unread_events) (fetches names p.name (end ∷ [])))
+          (end, bad, subst (λ (es : List Event). Evicts (PinLoad p.name ∷ end ∷ []) (front ++ es)) (sym unread.did.does.is) (fetches names p.name (end ∷ [])))
 
-      pub did_unread : DoesIn (IsFailedRead p.name) hand new
+      pub did_unread : DoesIn (IsBadLoad p.name e) hand new
       did_unread = came_not
 
       pub needed_unread : EntersNeeded p.client (page_len p.name h) hand new
-      needed_unread = needed_end (ReadFailed job.id.name unread.before unread.now) (λ v. tt) unread.did
+      needed_unread = needed_end end (of_bad p.name e.entry (IsFree p.client (page_len p.name h)) (λ sum_before sum_now v. tt) (λ wanted found v. tt) e.err end bad) unread.did
 
-      ends : after_events h came_not.does.events ≡ after_events h (PinLoad p.name ∷ end ∷ [])
-      ends = ap (λ (es : List Event). after_events h (front ++ es)) unread_events ∙ fetching_holds names p.name (end ∷ []) h
+      -- what is held is what a failed load leaves
+      abbrev left_then : Holdings
+      left_then = after_events h (PinLoad p.name ∷ ReadFailed p.name 0 0 ∷ [])
+
+      ends : after_events h came_not.does.events ≡ left_then
+      ends =
+          ap (λ (es : List Event). after_events h (front ++ es)) unread.did.does.is ∙ fetching_holds names p.name (end ∷ []) h
+          ∙ of_bad p.name e.entry (λ d. after_events h (PinLoad p.name ∷ d ∷ []) ≡ left_then) (λ sum_before sum_now. refl) (λ wanted found. refl) e.err end bad
 
       pub works_unread : IsAtWork slot o u now new
       works_unread =
-          back_at_work slot o u now hand new is.ready came_not may (after_events h (PinLoad p.name ∷ end ∷ [])) ends is.ready.rests.live is.ready.rests.few
-          (λ q. ap (λ (es : List Event). busy_from q false (by m (front ++ es))) unread_events ∙ unread_rests q m names p.name unread.before unread.now)
+          back_at_work slot o u now hand new is.ready came_not may left_then ends is.ready.rests.live is.ready.rests.few
+          (λ q. ap (λ (es : List Event). busy_from q false (by m (front ++ es))) unread.did.does.is
+          ∙ of_bad p.name e.entry (λ d. busy_from q false (by m (front ++ d ∷ [])) ≡ false) (failed_rests q m names p.name) (stale_rests q m names p.name) e.err end bad)
 
-      held_new : held_by o u new ≡ after_events h (PinLoad p.name ∷ end ∷ [])
+      held_new : held_by o u new ≡ left_then
       held_new = did_held o u hand new came_not ∙ ends
 
       page_new : IsPage p (held_by o u new)
@@ -371,29 +342,29 @@ module _ {D : Type 0} (slot : Ghosts D) (o : Opening) (u : Outset) (seen : Sight
           ∙ list_any-append (λ (d : Entry). is_ask d.event) (made_by hand.trail m) (by m came_not.does.events)
           ∙ ap (λ (b : Bool). b || list_any (λ d. is_ask d.event) (by m came_not.does.events)) asked
 
-      failed : FailedToLoad new.trail new.session (Pin p.name) unread.entry
-      failed = subst (λ (q : ℕ). FailedToLoad new.trail new.session (Pin q) unread.entry) name_is unread.failed
+      failed : FailedToLoad new.trail new.session (Pin p.name) e.entry
+      failed = subst (λ (q : ℕ). FailedToLoad new.trail new.session (Pin q) e.entry) name_is unread.failed
 
-      may_refuse : (entry : ℕ) → entry ≡ unread.entry → HasAsked hand → MayFollow new.trail (state_of new.state) (refusal_of new.session (Pin p.name) entry)
-      may_refuse entry same asked = record {
+      may_refuse : HasAsked hand → MayFollow new.trail (state_of new.state) (refusal_of new.session (Pin p.name) e.entry)
+      may_refuse asked = record {
         makes = works_unread.ready.rests.number;
         allows = record {
           asked = subst T (sym (asked_new asked)) tt;
           own = (page_at (state_of new.state) p.name, record { lives = there_new.page.lives; own = there_new.whose });
-          why = inr (subst (FailedToLoad new.trail new.session (Pin p.name)) (sym same) failed);
+          why = inr failed;
         };
       }
 
-      -- a failure of the page's client was counted
-      rose : failures_in (is_for_own m p.client) hand.trail < failures_in (is_for_own m p.client) new.trail
-      rose =
+      -- where a load failed, a failure of the page's client was counted
+      rose : e.err ≡ ReadFault e.entry → failures_in (is_for_own m p.client) hand.trail < failures_in (is_for_own m p.client) new.trail
+      rose fault =
           let client : job.client ≡ p.client = sym load.is.client ∙ ap (λ (q : ℕ). (page_at t q).client) name_is ∙ client_is in
           let now_more : failures_in (is_for_own m p.client) went.trail < failures_in (is_for_own m p.client) new.trail =
           subst (λ (c : ℕ). failures_in (is_for_own m c) went.trail < failures_in (is_for_own m c) new.trail) client
-          (subst (λ (k : ℕ). failures_in (is_for_own k job.client) went.trail < failures_in (is_for_own k job.client) new.trail) session unread.rose) in
+          (subst (λ (k : ℕ). failures_in (is_for_own k job.client) went.trail < failures_in (is_for_own k job.client) new.trail) session (unread.rose fault)) in
           let before : failures_in (is_for_own m p.client) hand.trail ≤ failures_in (is_for_own m p.client) went.trail =
           subst (λ (es : List Entry). failures_in (is_for_own m p.client) hand.trail ≤ failures_in (is_for_own m p.client) es) (sym went_trail) (failures_grow (is_for_own m p.client) refl hand.trail (by m front)) in
           omega (arith, now_more, before)
 
-      pub failed_pin : (entry : ℕ) → e ≡ ReadFault entry → HasAsked hand → FailedPin p.client p.name entry hand new
-      failed_pin entry fault asked = record { may = may_refuse entry (ap entry_of (sym fault ∙ unread.cause)) asked; rose = rose }
+      pub bad_pin : HasAsked hand → BadPin p.client p.name e hand new
+      bad_pin asked = record { may = may_refuse asked; rose = rose }

@@ -13,7 +13,8 @@ use Rattle.pool_model.proofs.Pages.{page_is}
 use Rattle.pool_model.proofs.Resting.{legal_contents_are_told}
 use Rattle.pin_core.specs.declared.jobs.WriteJob.{WriteJob}
 use Rattle.pin_core.specs.Jobs.{IsWriteJob}
-use Rattle.session_calls.proofs.Sized.{run_len}
+use Rattle.pin_core.specs.Marking.{under_of}
+use Rattle.session_calls.proofs.Sized.{run_len, run_marked}
 use Rattle.session_calls.specs.declared.count.Count.{Count}
 use Rattle.session_calls.specs.Outgoing.{no_tally, pages_counted, pages_out, tally_or}
 use Rattle.session_calls.specs.Having.{Sight, AllBeside}
@@ -33,13 +34,14 @@ shown_in_job o h legal m p x is job =
     it.left (it.rests (no_pin m x job)) []
 
 -- the job is that of a page still which is as it was
-same_job : {D : Type 0} (s t : State) (job : WriteJob D) → get t.pages job.id.name ≡ Some (page_at s job.id.name) → t.block_len ≡ s.block_len → IsWriteJob s job → IsWriteJob t job
-same_job s t job there len is =
+same_job : {D : Type 0} (s t : State) (job : WriteJob D) → get t.pages job.id.name ≡ Some (page_at s job.id.name) → t.block_len ≡ s.block_len → t.marked ≡ s.marked → IsWriteJob s job → IsWriteJob t job
+same_job s t job there len form is =
     let page : page_at t job.id.name ≡ page_at s job.id.name = page_is t job.id.name (page_at s job.id.name) there in record {
       lives = there ∙ ap Some (sym page);
       key = ap (λ (x : Page). x.key) page ∙ is.key;
       flies = ap (λ (x : Page). x.place) page ∙ is.flies;
       client = ap (λ (x : Page). x.client) page ∙ is.client;
+      under = is.under ∙ ap (λ (b : Bool). under_of b (page_at s job.id.name).version) (sym form) ∙ ap (λ (x : Page). under_of t.marked x.version) (sym page);
       buffer = subst (λ (x : Page). IsBufferOf x.blocks t.block_len job.buf) (sym page) (subst (λ (n : ℕ). IsBufferOf (page_at s job.id.name).blocks n job.buf) (sym len) is.buffer);
       slots = is.slots ∙ ap (λ (x : Page). x.blocks) (sym page);
       maker = is.maker;
@@ -60,7 +62,8 @@ module _ {D : Type 0} (slot : Ghosts D) (o : Opening) (told : Bool) (m : ℕ) (b
       let state : state_after o now.trail ≡ state_after o (before.trail ++ others) = ap (state_after o) grew in
       record {
         is = same_job s (state_after o now.trail) job (ap (λ (u : State). get u.pages p) state ∙ page_lasts m o before.trail others legal beside p x out.is.lives flies)
-            (ap (λ (u : State). u.block_len) (state ∙ state_runs_on o before.trail others) ∙ run_len s others) out.is;
+            (ap (λ (u : State). u.block_len) (state ∙ state_runs_on o before.trail others) ∙ run_len s others)
+            (ap (λ (u : State). u.marked) (state ∙ state_runs_on o before.trail others) ∙ run_marked s others) out.is;
         by = out.by;
         content = out.content ∙ sym (ap (content_from p []) grew ∙ content_lasts m o before.trail others legal beside p x out.is.lives flies);
         noted = pages;

@@ -4,7 +4,7 @@ use Rattle.std.specs.FinMap.{get}
 use Rattle.reservation_tree.proofs.Maps.{same_or_other}
 use Rattle.reservation_tree.proofs.Sums.{total-same}
 use Rattle.pool_model.specs.declared.event.Event.{Event}
-use Rattle.pool_model.specs.declared.event.Event.TheVariants.{PinLoad, ReadOk, ReadFailed, StartWrite, WriteOk, WriteFailed}
+use Rattle.pool_model.specs.declared.event.Event.TheVariants.{PinLoad, ReadOk, ReadFailed, ReadStale, StartWrite, WriteOk, WriteFailed}
 use Rattle.pool_model.specs.declared.entry.Entry.{Entry}
 use Rattle.pool_model.specs.State.{Place, Dirty, Evicted, Page, Pages, page_at, State}
 use Rattle.pool_model.specs.MayFollow.{MayFollow}
@@ -16,12 +16,13 @@ use Rattle.session_calls.specs.declared.count.Count.TheVariants.{Out}
 use Rattle.session_calls.specs.Moving.{is_moving}
 use Rattle.session_calls.specs.Outgoing.{no_tally, number_out, page_out, tally_or}
 use Rattle.session_calls.proofs.CountLists.{tally_other}
-use Rattle.session_calls.proofs.Out.{out_by, out_started, out_loading, back_written, back_unwritten, back_read, back_unread}
+use Rattle.session_calls.proofs.Out.{out_by, out_started, out_loading, back_written, back_unwritten, back_read, back_unread, back_outdated}
 
 -- the event ends a job of this page
 abbrev pub EndsJob : ℕ → Event → Type 0
 EndsJob p (ReadOk q) = q ≡ p
 EndsJob p (ReadFailed q before now) = q ≡ p
+EndsJob p (ReadStale q wanted found) = q ≡ p
 EndsJob p (WriteOk q) = q ≡ p
 EndsJob p (WriteFailed q before now) = q ≡ p
 EndsJob p _ = ⊥
@@ -65,6 +66,7 @@ module _ (h : List Entry) (s : State) (m p : ℕ) where
     pub comes_back : (end : Event) → EndsJob p end → MayFollow h s (made end) → out_by w (after s (made end)).pages + w p (page_at s p).blocks ≡ out_by w s.pages
     comes_back (ReadOk q) ends may = subst (Falls (ReadOk q)) ends (back_read w h s m q may)
     comes_back (ReadFailed q before now) ends may = subst (Falls (ReadFailed q before now)) ends (back_unread w h s m q before now may)
+    comes_back (ReadStale q wanted found) ends may = subst (Falls (ReadStale q wanted found)) ends (back_outdated w h s m q wanted found may)
     comes_back (WriteOk q) ends may = subst (Falls (WriteOk q)) ends (back_written w h s m q may)
     comes_back (WriteFailed q before now) ends may = subst (Falls (WriteFailed q before now)) ends (back_unwritten w h s m q before now may)
     comes_back _ ends may = absurd ends

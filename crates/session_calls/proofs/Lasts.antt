@@ -5,7 +5,7 @@ use Rattle.std.proofs.lemmas.List.{append_assoc, append-nil}
 use Rattle.std.specs.FinMap.{get, insert, remove}
 use Rattle.reservation_tree.proofs.Maps.{get_other, removed_other}
 use Rattle.pool_model.specs.declared.event.Event.{Event}
-use Rattle.pool_model.specs.declared.event.Event.TheVariants.{AddTracker, Create, PinHere, PinLoad, ReadOk, ReadFailed, PinAgain, UnpinOnce, Unpin, Extract, Destroy, StartWrite, WriteOk, WriteFailed, Evict}
+use Rattle.pool_model.specs.declared.event.Event.TheVariants.{AddTracker, Create, PinHere, PinLoad, ReadOk, ReadFailed, ReadStale, PinAgain, UnpinOnce, Unpin, Extract, Destroy, StartWrite, WriteOk, WriteFailed, Evict}
 use Rattle.pool_model.specs.declared.entry.Entry.{Entry}
 use Rattle.pool_model.specs.State.{Opening, Place, Pinned, Dirty, Flying, Loading, Clean, Evicted, Page, State}
 use Rattle.pool_model.specs.LookingBack.{made_by, left_in, content_from}
@@ -67,6 +67,7 @@ module _ (before : List Entry) (s : State) (sound : IsSound s) (maker m p : ℕ)
   event_leaves (PinLoad q) may = put_apart q _ (not_idle q may.page may.own.lives Evicted may.evicted refl)
   event_leaves (ReadOk q) may = put_apart q _ (not_theirs q may.page may.own.lives may.loading may.own.own)
   event_leaves (ReadFailed q sum_before sum_after) may = put_apart q _ (not_theirs q may.ends.page may.ends.own.lives may.ends.loading may.ends.own.own)
+  event_leaves (ReadStale q wanted found) may = put_apart q _ (not_theirs q may.ends.page may.ends.own.lives may.ends.loading may.ends.own.own)
   event_leaves (PinAgain q) may = put_apart q _ (not_idle q may.page may.own.lives (Pinned may.count) may.pinned refl)
   event_leaves (UnpinOnce q) may = put_apart q _ (not_idle q may.page may.own.lives (Pinned may.count) may.pinned refl)
   event_leaves (Unpin q content) may =

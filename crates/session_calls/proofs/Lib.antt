@@ -49,6 +49,8 @@ pub mod Lasts
 pub mod Flights
 pub mod Between
 pub mod Failing
+pub mod Stored
+pub mod BadEnds
 pub mod Returned
 pub mod Written
 pub mod Loaded
@@ -60,6 +62,7 @@ pub mod Called
 pub mod AtWork
 pub mod Idle
 pub mod Pinned
+pub mod LoadsOut
 pub mod Fetched
 pub mod PinMade
 pub mod Ending

@@ -5,8 +5,9 @@ use Rattle.std.specs.FinMap.{get, insert, remove}
 use Rattle.reservation_tree.specs.Total.{total, weight_at}
 use Rattle.reservation_tree.proofs.Maps.{get_same}
 use Rattle.reservation_tree.proofs.Sums.{total-insert, total-remove}
+use Rattle.reservation_tree.specs.declared.mark.Mark.{Mark}
 use Rattle.pool_model.specs.declared.event.Event.{Event}
-use Rattle.pool_model.specs.declared.event.Event.TheVariants.{AddTracker, Create, PinHere, PinLoad, ReadOk, ReadFailed, PinAgain, UnpinOnce, Unpin, Extract, Destroy, StartWrite, WriteOk, WriteFailed, Evict}
+use Rattle.pool_model.specs.declared.event.Event.TheVariants.{AddTracker, Create, PinHere, PinLoad, ReadOk, ReadFailed, ReadStale, PinAgain, UnpinOnce, Unpin, Extract, Destroy, StartWrite, WriteOk, WriteFailed, Evict}
 use Rattle.pool_model.specs.declared.entry.Entry.{Entry}
 use Rattle.pool_model.specs.State.{Opening, Place, Pinned, Dirty, Flying, Loading, Clean, Evicted, Page, Pages, page_at, State}
 use Rattle.pool_model.specs.MayFollow.{Allows, MayFollow}
@@ -72,6 +73,13 @@ module _ (w : ℕ → ℕ → ℕ) where
         subst (λ (z : Page). out_by w (insert s.pages p (record z { place = place })) + out_in old (w p z.blocks) ≡ out_by w s.pages + out_in place (w p z.blocks)) (sym (page_is s p x is))
         (subst (λ (n : ℕ). out_by w (insert s.pages p (record x { place = place })) + n ≡ out_by w s.pages + out_in place (w p x.blocks)) (out_at p x old was) (out_put s.pages p x is (record x { place = place })))
 
+    -- it flies off, under a version
+    flown : (maker version : ℕ) (old : Place) → x.place ≡ old
+        → out_by w (insert s.pages p (record (page_at s p) { place = Flying maker; version = version })) + out_in old (w p (page_at s p).blocks) ≡ out_by w s.pages + w p (page_at s p).blocks
+    flown maker version old was =
+        subst (λ (z : Page). out_by w (insert s.pages p (record z { place = Flying maker; version = version })) + out_in old (w p z.blocks) ≡ out_by w s.pages + w p z.blocks) (sym (page_is s p x is))
+        (subst (λ (n : ℕ). out_by w (insert s.pages p (record x { place = Flying maker; version = version })) + n ≡ out_by w s.pages + w p x.blocks) (out_at p x old was) (out_put s.pages p x is (record x { place = Flying maker; version = version })))
+
     -- it ends, and was in no job
     ended : is_moving x.place ≡ false → out_by w (remove s.pages p) ≡ out_by w s.pages
     ended still =
@@ -115,6 +123,7 @@ module _ (w : ℕ → ℕ → ℕ) where
     event_stays m (PinLoad p) sound may still = let never : false ≡ true = still in cc
     event_stays m (ReadOk p) sound may still = let never : false ≡ true = still in cc
     event_stays m (ReadFailed p sum_before sum_after) sound may still = let never : false ≡ true = still in cc
+    event_stays m (ReadStale p wanted found) sound may still = let never : false ≡ true = still in cc
     event_stays m (PinAgain p) sound may still = stays s p may.page may.own.lives (Pinned may.count) _ may.pinned refl refl
     event_stays m (UnpinOnce p) sound may still = stays s p may.page may.own.lives (Pinned may.count) _ may.pinned refl refl
     event_stays m (Unpin p content) sound may still = dirtied (queue_dirty p s) p may.page may.own.lives may.pinned
@@ -134,7 +143,7 @@ module _ (w : ℕ → ℕ → ℕ) where
       -- a page's slots go out with its write
       pub out_started : MayFollow h s (record { maker = m; event = StartWrite p }) → out_by w (after s (record { maker = m; event = StartWrite p })).pages ≡ out_by w s.pages + w p (page_at s p).blocks
       out_started may =
-          let sum : out_by w (after s (record { maker = m; event = StartWrite p })).pages + 0 ≡ out_by w s.pages + w p (page_at s p).blocks = moved s p may.allows.page may.allows.lives Dirty (Flying m) may.allows.dirty in
+          let sum : out_by w (after s (record { maker = m; event = StartWrite p })).pages + 0 ≡ out_by w s.pages + w p (page_at s p).blocks = flown s p may.allows.page may.allows.lives m s.entries Dirty may.allows.dirty in
           omega (arith, sum)
 
       -- or with its load
@@ -162,6 +171,11 @@ module _ (w : ℕ → ℕ → ℕ) where
       pub back_unread : (before now : ℕ) → MayFollow h s (record { maker = m; event = ReadFailed p before now }) → out_by w (after s (record { maker = m; event = ReadFailed p before now })).pages + w p (page_at s p).blocks ≡ out_by w s.pages
       back_unread before now may =
           let sum : out_by w (after s (record { maker = m; event = ReadFailed p before now })).pages + w p (page_at s p).blocks ≡ out_by w s.pages + 0 = moved s p may.allows.ends.page may.allows.ends.own.lives Loading Evicted may.allows.ends.loading in
+          omega (arith, sum)
+
+      pub back_outdated : (wanted found : Mark) → MayFollow h s (record { maker = m; event = ReadStale p wanted found }) → out_by w (after s (record { maker = m; event = ReadStale p wanted found })).pages + w p (page_at s p).blocks ≡ out_by w s.pages
+      back_outdated wanted found may =
+          let sum : out_by w (after s (record { maker = m; event = ReadStale p wanted found })).pages + w p (page_at s p).blocks ≡ out_by w s.pages + 0 = moved s p may.allows.ends.page may.allows.ends.own.lives Loading Evicted may.allows.ends.loading in
           omega (arith, sum)
 
   follow_out : (h : List Entry) (s : State) (es : List Entry) → IsSound s → Follow h s es → AllByRecursion (λ e. rests e.event ≡ true) es → out_by w (run s es).pages ≡ out_by w s.pages

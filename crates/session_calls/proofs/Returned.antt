@@ -20,7 +20,7 @@ use Rattle.pin_core.specs.StateOf.{state_of}
 use Rattle.pin_core.specs.Standing.{StandsFor, slots_home}
 use Rattle.pin_core.specs.Returning.{EntersWhere}
 use Rattle.pin_core.specs.Tallies.{Counted, all_failures, silence, stored_by, tally_by, tally_of}
-use Rattle.session_calls.proofs.Sized.{run_len}
+use Rattle.session_calls.proofs.Sized.{run_len, run_marked}
 use Rattle.session_calls.proofs.Lists.{by_own, none_own}
 use Rattle.session_calls.specs.declared.hand.Hand.{Hand}
 use Rattle.session_calls.specs.declared.count.Count.{Count}
@@ -110,6 +110,11 @@ module _ {D : Type 0} (slot : Ghosts D) (o : Opening) (told : Bool) (old mid : H
   same_len =
       ap (λ (u : State). u.block_len) (taken.whole.stands.state ∙ ap (state_after o) grew ∙ state_runs_on o old.trail taken.others)
       ∙ run_len (state_after o old.trail) taken.others ∙ sym (ap (λ (u : State). u.block_len) stood.stands.state)
+
+  pub same_marked : t.marked ≡ s.marked
+  same_marked =
+      ap (λ (u : State). u.marked) (taken.whole.stands.state ∙ ap (state_after o) grew ∙ state_runs_on o old.trail taken.others)
+      ∙ run_marked (state_after o old.trail) taken.others ∙ sym (ap (λ (u : State). u.marked) stood.stands.state)
 
   module _ (p : ℕ) (lives : get s.pages p ≡ Some (page_at s p)) (job : IsInJob old.session (page_at s p)) where
     was : get (state_after o old.trail).pages p ≡ Some (page_at s p)

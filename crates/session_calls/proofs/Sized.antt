@@ -1,4 +1,4 @@
--- What entries never change of a pool: the length of its blocks, and how many it has.
+-- What entries never change of a pool: the length of its blocks, how many it has, and whether stored blocks have marks.
 use Rattle.std.proofs.Common.{◌≡◌, ℕ, List, [], ◌∷◌, ◌++◌, refl, ap, ◌∙◌}
 use Rattle.pool_model.specs.declared.entry.Entry.{Entry}
 use Rattle.pool_model.specs.Bytes.{bytes_of}
@@ -19,6 +19,11 @@ run_len s (e ∷ es) = run_len (after s e) es ∙ (entries_leave_rest s e).block
 pub run_blocks : (s : State) (es : List Entry) → (run s es).blocks ≡ s.blocks
 run_blocks s [] = refl
 run_blocks s (e ∷ es) = run_blocks (after s e) es ∙ (entries_leave_rest s e).blocks
+
+-- and whether stored blocks have marks
+pub run_marked : (s : State) (es : List Entry) → (run s es).marked ≡ s.marked
+run_marked s [] = refl
+run_marked s (e ∷ es) = run_marked (after s e) es ∙ (entries_leave_rest s e).marked
 
 pub run_memory : (s : State) (es : List Entry) → memory (run s es) ≡ memory s
 run_memory s es = ap (λ (len : ℕ). bytes_of len (run s es).blocks) (run_len s es) ∙ ap (bytes_of s.block_len) (run_blocks s es)

@@ -87,10 +87,10 @@ module _ (s : State) (m c p : ℕ) (it : IsDirtyOf s c p) (older : List ℕ) (ne
   client_is : (page_at s p).client ≡ c
   client_is = ap (λ (x : Page). x.client) it.is ∙ it.client
 
-  here : get mid.pages p ≡ Some (record (page_at s p) { place = Flying m })
+  here : get mid.pages p ≡ Some (record (page_at s p) { place = Flying m; version = s.entries })
   here = get_same s.pages p _
 
-  mid_is : page_at mid p ≡ record (page_at s p) { place = Flying m }
+  mid_is : page_at mid p ≡ record (page_at s p) { place = Flying m; version = s.entries }
   mid_is = ap (λ (o : Option Page). unwrap_or o no_page) here
 
   left_dirty : dirty_of mid c ≡ without p (dirty_of s c)

@@ -87,7 +87,7 @@ row_counts slot home was row m p before now silent len fall false faults stores 
 -- a job whose slots were stored is that of its page still
 still_job : {D : Type 0} (s : State) (was job : WriteJob D) → job ≡ after_stores job.row job.failed was → length job.row ≡ length was.row → IsWriteJob s was → IsWriteJob s job
 still_job s was job rest len is =
-    subst (IsWriteJob s) (sym rest) (record { lives = is.lives; key = is.key; flies = is.flies; client = is.client; buffer = is.buffer; slots = len ∙ is.slots; maker = is.maker })
+    subst (IsWriteJob s) (sym rest) (record { lives = is.lives; key = is.key; flies = is.flies; client = is.client; under = is.under; buffer = is.buffer; slots = len ∙ is.slots; maker = is.maker })
 
 -- the faults that its slots counted when they went out
 abbrev sum_of : Sight → ℕ → ℕ
@@ -151,8 +151,8 @@ module _ {D : Type 0} (slot : Ghosts D) (o : Opening) (told : Bool) (mid new : H
   is_written = record {
     content = left ∙ sym (shown_in_job o mid.trail stood.stands.legal m p (page_at s p) there (inl (job_is.flies ∙ ap (λ (k : ℕ). Flying k) by_maker)));
     held = λ whole.
-        subst (λ (n : ℕ). AreHeld slot n job.row job.buf.bytes) (ap (λ (j : WriteJob D). j.buf.block_len) (sym back.ran.rest) ∙ job_is.buffer.block_len)
-        (subst (AreHeld slot was.buf.block_len job.row) (sym bytes_are) (back.ran.held whole));
+        subst (λ (n : ℕ). AreHeld slot job.under p n job.row job.buf.bytes) job_is.buffer.block_len
+        (subst (λ (j : WriteJob D). AreHeld slot j.under j.id.name j.buf.block_len job.row j.buf.bytes) (sym back.ran.rest) (back.ran.held whole));
   }
 
   entry_is : write_entry job sum faults ≡ e

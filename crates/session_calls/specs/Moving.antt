@@ -4,7 +4,7 @@ use Rattle.std.specs.FinMap.{get}
 use Rattle.std.specs.List.{AllByRecursion}
 use Rattle.reservation_tree.specs.Total.{total}
 use Rattle.pool_model.specs.declared.event.Event.{Event}
-use Rattle.pool_model.specs.declared.event.Event.TheVariants.{AddTracker, CloseTracker, PinLoad, ReadOk, ReadFailed, StartWrite, WriteOk, WriteFailed}
+use Rattle.pool_model.specs.declared.event.Event.TheVariants.{AddTracker, CloseTracker, PinLoad, ReadOk, ReadFailed, ReadStale, StartWrite, WriteOk, WriteFailed}
 use Rattle.pool_model.specs.LookingBack.{opens}
 use Rattle.pool_model.specs.State.{Place, Flying, Loading, Page, Pages, State}
 
@@ -41,6 +41,7 @@ abbrev pub rests : Event → Bool
 rests (PinLoad p) = false
 rests (ReadOk p) = false
 rests (ReadFailed p before now) = false
+rests (ReadStale p wanted found) = false
 rests (StartWrite p) = false
 rests (WriteOk p) = false
 rests (WriteFailed p before now) = false

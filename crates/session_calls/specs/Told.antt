@@ -5,7 +5,7 @@ use Rattle.pool_model.specs.declared.entry.Entry.{Entry}
 use Rattle.pool_model.specs.LookingBack.{made_by, names_in}
 use Rattle.pool_model.specs.Failures.{is_own, is_for_own, failures_in}
 use Rattle.store_api.specs.Holdings.{Holdings}
-use Rattle.store_api.specs.Signs.{Signs, refuses_unpin}
+use Rattle.store_api.specs.Signs.{Signs, is_stale_load, refuses_unpin}
 use Rattle.own_entries.specs.OwnHoldings.{Outset}
 use Rattle.own_entries.specs.HeldLaws.{own_holdings}
 
@@ -13,13 +13,14 @@ use Rattle.own_entries.specs.HeldLaws.{own_holdings}
 unfoldable pub held_in : Opening → Outset → ℕ → List Entry → Holdings
 held_in o u m h = own_holdings o u h m
 
--- what only grows: failures of the session's pages, whoever wrote or read them; its refused unpins; whether the
--- greatest name is next, which is never given; and its own entries
+-- what only grows: failures of the session's pages, whoever wrote or read them; its refused unpins and stale loads;
+-- whether the greatest name is next, which is never given; and its own entries
 unfoldable pub signs_in : Opening → ℕ → List Entry → Signs
 signs_in o m h = record {
   failures = failures_in (is_own m) h;
   failures_of = λ t. failures_in (is_for_own m t) h;
   refused_unpins = length (filter (λ e. refuses_unpin e.event) (made_by h m));
+  stale = length (filter (λ e. is_stale_load e.event) (made_by h m));
   spent = leb 18446744073709551615 (o.first_name + length (names_in h));
   trail = Some (made_by h m);
 }

@@ -1,9 +1,9 @@
 //! Pages are written and loaded while the value isn't in hand.
 ghost use Rattle.std.specs.Prelude.{◌≡◌, ◌++◌, ◌∷◌, [], ℕ, true, IfErr, IfOk};
 ghost use Rattle.scratch_dev.specs.Rows.{faults_of};
-ghost use Rattle.pin_core.specs.Returning.{read_ends, write_entry};
+ghost use Rattle.pin_core.specs.Returning.{write_entry};
 ghost use Rattle.session_calls.specs.Having.{MayGive};
-ghost use Rattle.session_calls.specs.Jobs.{CanRead, CanWrite, IsRead, IsUnread, Wrote};
+ghost use Rattle.session_calls.specs.Jobs.{CanRead, CanWrite, IsRead, IsUnread, Wrote, ended_load};
 
 use crate::access::Access;
 use crate::hand::Hand;
@@ -74,19 +74,26 @@ fn enter_write<N: Adds<Entry>, B: Before, D: Slot>(trail: &mut Solo<Entry>, _job
     trail.tick::<N>();
 }
 
+// A load that ended badly: its error, and the number of the entry that tells it.
+#[derive(Clone, Copy, Debug, PartialEq, Eq)]
+pub(crate) struct Unread {
+    pub err: PoolErr,
+    pub entry: u64,
+}
+
 // A page that is loading is read, and comes back: pinned with this buffer, or evicted again.
 pub(crate) fn read_back<O: Origin, A: Access<D>, D: Slot + Drop>(
     access: &A,
     place: &mut A::Place,
     hand: Hand<D>,
     job: ReadJob<D>,
-) -> (Hand<D>, Result<Buf, PoolErr>)
+) -> (Hand<D>, Result<Buf, Unread>)
     requires turns { A.turns O.opening O.outset access.now place.old hand.session }
     requires may { MayGive D.Slot O.opening O.outset.told (A.seen place.old) hand }
     requires can { CanRead D.Slot O.outset.told job hand }
     ensures turns { A.turns O.opening O.outset access.now place.new result.0.session }
     ensures may { MayGive D.Slot O.opening O.outset.told (A.seen place.new) result.0 }
-    ensures ok { IfOk result.1 (λ buf. IsRead O.outset.told job buf hand result.0) }
+    ensures ok { IfOk result.1 (λ buf. IsRead O.opening O.outset.told job buf hand result.0) }
     ensures err { IfErr result.1 (λ e. IsUnread job e hand result.0) }
 {
     read_named::<Brand, O, A, D>(access, place, hand, job)
@@ -97,14 +104,14 @@ fn read_named<B: Before, O: Origin, A: Access<D>, D: Slot + Drop>(
     place: &mut A::Place,
     hand: Hand<D>,
     mut job: ReadJob<D>,
-) -> (Hand<D>, Result<Buf, PoolErr>)
+) -> (Hand<D>, Result<Buf, Unread>)
     requires before { B.sum ≡ faults_of D.Slot job.row }
     requires turns { A.turns O.opening O.outset access.now place.old hand.session }
     requires may { MayGive D.Slot O.opening O.outset.told (A.seen place.old) hand }
     requires can { CanRead D.Slot O.outset.told job hand }
     ensures turns { A.turns O.opening O.outset access.now place.new result.0.session }
     ensures may { MayGive D.Slot O.opening O.outset.told (A.seen place.new) result.0 }
-    ensures ok { IfOk result.1 (λ buf. IsRead O.outset.told job buf hand result.0) }
+    ensures ok { IfOk result.1 (λ buf. IsRead O.opening O.outset.told job buf hand result.0) }
     ensures err { IfErr result.1 (λ e. IsUnread job e hand result.0) }
 {
     let session = hand.session;
@@ -114,8 +121,12 @@ fn read_named<B: Before, O: Origin, A: Access<D>, D: Slot + Drop>(
     access.pass(Point::AfterLoad);
     let mut hand = access.take::<O>(place, session);
     enter_load::<Brand, B, D>(&mut hand.trail, session, &job);
-    let result = hand.state.finish_read(0, job);
-    (hand, result)
+    // The entry is counted before it is entered, so that its number is exact also at the end of the numbers.
+    let entry = hand.state.parts().entries;
+    match hand.state.finish_read(0, job) {
+        Ok(buf) => (hand, Ok(buf)),
+        Err(err) => (hand, Err(Unread { err, entry })),
+    }
 }
 
 fn enter_load<N: Adds<Entry>, B: Before, D: Slot>(
@@ -123,8 +134,8 @@ fn enter_load<N: Adds<Entry>, B: Before, D: Slot>(
     _session: u32,
     _job: &ReadJob<D>,
 )
-    requires named { N.entries ≡ record { maker = _session; event = read_ends _job.now.failed _job.now.id.name B.sum (faults_of D.Slot _job.now.row) } ∷ [] }
-    ensures { trail.new ≡ trail.old ++ record { maker = _session; event = read_ends _job.now.failed _job.now.id.name B.sum (faults_of D.Slot _job.now.row) } ∷ [] }
+    requires named { N.entries ≡ ended_load _session _job.now B.sum (faults_of D.Slot _job.now.row) ∷ [] }
+    ensures { trail.new ≡ trail.old ++ ended_load _session _job.now B.sum (faults_of D.Slot _job.now.row) ∷ [] }
 {
     trail.tick::<N>();
 }

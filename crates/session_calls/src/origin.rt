@@ -16,7 +16,7 @@ impl Origin for Brand {
     ghost use Rattle.std.specs.Prelude.{false};
     ghost use Rattle.store_api.specs.Holdings.{Shared};
 
-    ghost opening = { record { blocks = 0; block_len = 0; first_name = 0; slots = 0; faults = 0; stores = 0 } };
+    ghost opening = { record { blocks = 0; block_len = 0; marked = false; first_name = 0; slots = 0; faults = 0; stores = 0 } };
 
     ghost outset = { record { above = Shared; told = false } };
 }

@@ -20,7 +20,7 @@ use crate::access::Access;
 use crate::count::{count_read, count_write};
 use crate::entering::{enter, enter_named};
 use crate::hand::Hand;
-use crate::jobs::{read_back, write_out};
+use crate::jobs::{Unread, read_back, write_out};
 use crate::origin::Origin;
 use crate::turning::{enter_started, wait};
 use block_arena::Buf;
@@ -40,8 +40,8 @@ pub(crate) enum PinStep {
     Refused { entry: u64 },
     /// A page was written, or a store of it failed; or one in flight was waited for.
     Wrote,
-    /// The page itself couldn't be loaded. The number is that of the entry.
-    Failed { entry: u64 },
+    /// The page itself couldn't be loaded, or a load gave another block.
+    Unread(Unread),
 }
 
 /// Pins a page that rests: where it is, or once there is room for it, after a load where it isn't in memory.
@@ -74,9 +74,9 @@ pub fn pin<O: Origin, A: Access<D>, D: Slot + Drop>(
                 return (hand, Err(PoolErr::WriteFault { entry }));
             }
             PinStep::Wrote => left = access.again(left),
-            PinStep::Failed { entry } => {
-                hand.refuse::<O>(&call, entry);
-                return (hand, Err(PoolErr::ReadFault { entry }));
+            PinStep::Unread(unread) => {
+                hand.refuse::<O>(&call, unread.entry);
+                return (hand, Err(unread.err));
             }
         }
     }
@@ -133,12 +133,7 @@ fn step<G: Adds<Entry>, O: Origin, A: Access<D>, D: Slot + Drop>(
             let (hand, result) = read_back::<O, A, D>(access, place, hand, job);
             match result {
                 Ok(buf) => (hand, PinStep::Pinned(buf)),
-                Err(e) => {
-                    let PoolErr::ReadFault { entry } = e else {
-                        unreachable!();
-                    };
-                    (hand, PinStep::Failed { entry })
-                }
+                Err(unread) => (hand, PinStep::Unread(unread)),
             }
         }
         PinTurn::Refused { entry } => (hand, PinStep::Refused { entry }),

@@ -34,6 +34,7 @@ fn eight_blocks() -> PoolConf
         blocks: 8,
         block_len: 64,
         first_name: 1,
+        profile: 1,
     }
 }
 

@@ -35,6 +35,7 @@ pub fn open(
         blocks,
         block_len: 64,
         first_name,
+        profile: 1,
     };
     let quota = slots.len() as u32;
     match LocalPool::open(alloc, &conf, slots, bytes, quota, bytes) {

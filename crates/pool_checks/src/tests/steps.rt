@@ -40,6 +40,7 @@ pub fn open(
         blocks,
         block_len: 64,
         first_name,
+        profile: 1,
     };
     match PoolState::open(alloc, &conf, slots) {
         Ok(pool) => pool,

@@ -182,6 +182,7 @@ fn slots_after<D: Slot + Drop, T: OpenedWith>(
         blocks: 20,
         block_len: 64,
         first_name: 0,
+        profile: 1,
     };
     let quota = slots.len() as u32;
     let Ok(mut pool) = LocalPool::<D, T>::open(alloc, &conf, slots, 1280, quota, 1280) else {

@@ -42,13 +42,13 @@ pub returns-in-Refused-clause-err : goal.returns-in-Refused-clause-err
 returns-in-Refused-clause-err g c =
     was_lacking g.D.Slot g.O.Origin.opening g.O.Origin.outset c.args.p.now c.args.hand c.loop-buf.hand c.loop-buf.invariant.2 c.loop-buf.invariant.1.ready c.requires.can c.pin_step-now.result.0 c.pin_step-now.result.1 c.pin_step-now.ensures.step c.in-Refused.entry c.in-Refused.is c.name.result c.name.ensures c.refuse.new.self c.refuse.ensures.acts
 
-pub returns-in-Failed-clause-at_work : goal.returns-in-Failed-clause-at_work
-returns-in-Failed-clause-at_work g c =
-    works_with g.D.Slot g.O.Origin.opening g.O.Origin.outset (g.A.Access.seen c.pin_step-now.new.place) c.pin_step-now.result.0 c.refuse-in-Failed.new.self c.pin_step-now.ensures.at_work c.refuse-in-Failed.ensures.acts c.refuse-in-Failed.ensures.ready
+pub returns-in-Unread-clause-at_work : goal.returns-in-Unread-clause-at_work
+returns-in-Unread-clause-at_work g c =
+    works_with g.D.Slot g.O.Origin.opening g.O.Origin.outset (g.A.Access.seen c.pin_step-now.new.place) c.pin_step-now.result.0 c.refuse-in-Unread.new.self c.pin_step-now.ensures.at_work c.refuse-in-Unread.ensures.acts c.refuse-in-Unread.ensures.ready
 
-pub returns-in-Failed-clause-err : goal.returns-in-Failed-clause-err
-returns-in-Failed-clause-err g c =
-    was_unread g.D.Slot g.O.Origin.opening g.O.Origin.outset c.args.p.now c.args.hand c.loop-buf.hand c.loop-buf.invariant.2 c.loop-buf.invariant.1.ready c.requires.can c.pin_step-now.result.0 c.pin_step-now.result.1 c.pin_step-now.ensures.step c.in-Failed.entry c.in-Failed.is c.name.result c.name.ensures c.refuse-in-Failed.new.self c.refuse-in-Failed.ensures.acts
+pub returns-in-Unread-clause-err : goal.returns-in-Unread-clause-err
+returns-in-Unread-clause-err g c =
+    was_unread g.D.Slot g.O.Origin.opening g.O.Origin.outset c.args.p.now c.args.hand c.loop-buf.hand c.loop-buf.invariant.2 c.loop-buf.invariant.1.ready c.requires.can c.pin_step-now.result.0 c.pin_step-now.result.1 c.pin_step-now.ensures.step c.in-Unread.unread c.in-Unread.is c.name.result c.name.ensures c.refuse-in-Unread.new.self c.refuse-in-Unread.ensures.acts
 
 pub loop-buf-preserved : goal.loop-buf-preserved
 loop-buf-preserved g c = (
@@ -73,8 +73,8 @@ returns-in-Refused-clause-needed g c =
     c.pin_step-now.ensures.at_work.ready (stays g.D.Slot g.O.Origin.opening g.O.Origin.outset c.args.p.now c.args.hand c.loop-buf.hand c.loop-buf.invariant.2 c.loop-buf.invariant.1.ready c.requires.can c.pin_step-now.result.0 c.pin_step-now.result.1 c.pin_step-now.ensures.step)
     (Pin c.name.result) c.in-Refused.entry c.refuse.new.self c.refuse.ensures.acts c.refuse.ensures.ready
 
-pub returns-in-Failed-clause-needed : goal.returns-in-Failed-clause-needed
-returns-in-Failed-clause-needed g c =
+pub returns-in-Unread-clause-needed : goal.returns-in-Unread-clause-needed
+returns-in-Unread-clause-needed g c =
     needs_refused g.D.Slot g.O.Origin.opening g.O.Origin.outset c.args.p.now c.args.hand c.loop-buf.hand c.loop-buf.invariant.2 c.loop-buf.invariant.1.ready c.requires.can c.pin_step-now.result.0 c.loop-buf.invariant.3 c.pin_step-now.ensures.needed
     c.pin_step-now.ensures.at_work.ready (stays g.D.Slot g.O.Origin.opening g.O.Origin.outset c.args.p.now c.args.hand c.loop-buf.hand c.loop-buf.invariant.2 c.loop-buf.invariant.1.ready c.requires.can c.pin_step-now.result.0 c.pin_step-now.result.1 c.pin_step-now.ensures.step)
-    (Pin c.name.result) c.in-Failed.entry c.refuse-in-Failed.new.self c.refuse-in-Failed.ensures.acts c.refuse-in-Failed.ensures.ready
+    (Pin c.name.result) c.in-Unread.unread.entry c.refuse-in-Unread.new.self c.refuse-in-Unread.ensures.acts c.refuse-in-Unread.ensures.ready

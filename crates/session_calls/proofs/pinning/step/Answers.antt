@@ -11,7 +11,7 @@ use Rattle.session_calls.proofs.Ending.{same_works}
 use Rattle.session_calls.proofs.Pinned.{can_pin, client_lives, shows_here, works_here, did_here, needed_here, lacks_here, starts_here, waited_here, waits_never}
 use Rattle.session_calls.proofs.Needed.{needs_none}
 use Rattle.session_calls.proofs.Needs.{needs_waited}
-use Rattle.session_calls.proofs.Fetched.{can_read, may_load_it, did_read, needed_read, works_read, shows_read, did_unread, needed_unread, works_unread, failed_pin}
+use Rattle.session_calls.proofs.Fetched.{can_read, may_load_it, did_read, needed_read, works_read, shows_read, did_unread, needed_unread, works_unread, bad_pin}
 use Rattle.session_calls.proofs.Turned.{can_write, may_write, wrote_one, works_on, needed_out, left_turn}
 use Rattle.session_calls.proofs.pinning.step.Goals as goal
 
@@ -56,16 +56,16 @@ returns-in-Ok-clause-step g c =
       shows_read g.D.Slot g.O.Origin.opening g.O.Origin.outset (g.A.Access.seen c.args.place.now) c.args.hand c.requires.at_work c.args.p.now c.requires.can c.in-Load.job went c.in-Load.ensures.turn.2 c.in-Load.ensures.enters g.G.Adds.entries c.requires.named c.enter_named.ensures c.count_read.ensures refl (g.A.Access.seen c.read_back-hand.new.place) c.read_back-hand.result.0 c.read_back-hand.ensures.may c.read_back-hand.result.1 c.read_back-hand.ensures.ok c.in-Ok.buf c.in-Ok.is,
     )
 
-pub returns-in-ReadFault-clause-at_work : goal.returns-in-ReadFault-clause-at_work
-returns-in-ReadFault-clause-at_work g c =
+pub returns-in-Err-clause-at_work : goal.returns-in-Err-clause-at_work
+returns-in-Err-clause-at_work g c =
     let went : Hand g.row.D.Denot = record { state = c.pin_turn.new.self; trail = c.enter_named.new.trail; counts = c.count_read.new.counts; session = c.args.hand.session } in
-    works_unread g.D.Slot g.O.Origin.opening g.O.Origin.outset (g.A.Access.seen c.args.place.now) c.args.hand c.requires.at_work c.args.p.now c.requires.can c.in-Load.job went c.in-Load.ensures.turn.2 c.in-Load.ensures.enters g.G.Adds.entries c.requires.named c.enter_named.ensures c.count_read.ensures refl (g.A.Access.seen c.read_back-hand.new.place) c.read_back-hand.result.0 c.read_back-hand.ensures.may c.read_back-hand.result.1 c.read_back-hand.ensures.err c.in-Err.e c.in-Err.is
+    works_unread g.D.Slot g.O.Origin.opening g.O.Origin.outset (g.A.Access.seen c.args.place.now) c.args.hand c.requires.at_work c.args.p.now c.requires.can c.in-Load.job went c.in-Load.ensures.turn.2 c.in-Load.ensures.enters g.G.Adds.entries c.requires.named c.enter_named.ensures c.count_read.ensures refl (g.A.Access.seen c.read_back-hand.new.place) c.read_back-hand.result.0 c.read_back-hand.ensures.may c.read_back-hand.result.1 c.read_back-hand.ensures.err c.in-Err.unread c.in-Err.is
 
-pub returns-in-ReadFault-clause-step : goal.returns-in-ReadFault-clause-step
-returns-in-ReadFault-clause-step g c =
+pub returns-in-Err-clause-step : goal.returns-in-Err-clause-step
+returns-in-Err-clause-step g c =
     let went : Hand g.row.D.Denot = record { state = c.pin_turn.new.self; trail = c.enter_named.new.trail; counts = c.count_read.new.counts; session = c.args.hand.session } in (
-      failed_pin g.D.Slot g.O.Origin.opening g.O.Origin.outset (g.A.Access.seen c.args.place.now) c.args.hand c.requires.at_work c.args.p.now c.requires.can c.in-Load.job went c.in-Load.ensures.turn.2 c.in-Load.ensures.enters g.G.Adds.entries c.requires.named c.enter_named.ensures c.count_read.ensures refl (g.A.Access.seen c.read_back-hand.new.place) c.read_back-hand.result.0 c.read_back-hand.ensures.may c.read_back-hand.result.1 c.read_back-hand.ensures.err c.in-Err.e c.in-Err.is c.in-ReadFault.entry c.in-ReadFault.is c.requires.asked,
-      did_unread g.D.Slot g.O.Origin.opening g.O.Origin.outset (g.A.Access.seen c.args.place.now) c.args.hand c.requires.at_work c.args.p.now c.requires.can c.in-Load.job went c.in-Load.ensures.turn.2 c.in-Load.ensures.enters g.G.Adds.entries c.requires.named c.enter_named.ensures c.count_read.ensures refl (g.A.Access.seen c.read_back-hand.new.place) c.read_back-hand.result.0 c.read_back-hand.ensures.may c.read_back-hand.result.1 c.read_back-hand.ensures.err c.in-Err.e c.in-Err.is,
+      bad_pin g.D.Slot g.O.Origin.opening g.O.Origin.outset (g.A.Access.seen c.args.place.now) c.args.hand c.requires.at_work c.args.p.now c.requires.can c.in-Load.job went c.in-Load.ensures.turn.2 c.in-Load.ensures.enters g.G.Adds.entries c.requires.named c.enter_named.ensures c.count_read.ensures refl (g.A.Access.seen c.read_back-hand.new.place) c.read_back-hand.result.0 c.read_back-hand.ensures.may c.read_back-hand.result.1 c.read_back-hand.ensures.err c.in-Err.unread c.in-Err.is c.requires.asked,
+      did_unread g.D.Slot g.O.Origin.opening g.O.Origin.outset (g.A.Access.seen c.args.place.now) c.args.hand c.requires.at_work c.args.p.now c.requires.can c.in-Load.job went c.in-Load.ensures.turn.2 c.in-Load.ensures.enters g.G.Adds.entries c.requires.named c.enter_named.ensures c.count_read.ensures refl (g.A.Access.seen c.read_back-hand.new.place) c.read_back-hand.result.0 c.read_back-hand.ensures.may c.read_back-hand.result.1 c.read_back-hand.ensures.err c.in-Err.unread c.in-Err.is,
     )
 
 pub returns-in-Refused-clause-at_work : goal.returns-in-Refused-clause-at_work
@@ -131,13 +131,13 @@ returns-in-Ok-clause-needed g c =
 pub returns-in-Ok-clause-further : goal.returns-in-Ok-clause-further
 returns-in-Ok-clause-further g c = λ alone. tt
 
-pub returns-in-ReadFault-clause-needed : goal.returns-in-ReadFault-clause-needed
-returns-in-ReadFault-clause-needed g c =
+pub returns-in-Err-clause-needed : goal.returns-in-Err-clause-needed
+returns-in-Err-clause-needed g c =
     let went : Hand g.row.D.Denot = record { state = c.pin_turn.new.self; trail = c.enter_named.new.trail; counts = c.count_read.new.counts; session = c.args.hand.session } in
-    needed_unread g.D.Slot g.O.Origin.opening g.O.Origin.outset (g.A.Access.seen c.args.place.now) c.args.hand c.requires.at_work c.args.p.now c.requires.can c.in-Load.job went c.in-Load.ensures.turn.2 c.in-Load.ensures.enters g.G.Adds.entries c.requires.named c.enter_named.ensures c.count_read.ensures refl (g.A.Access.seen c.read_back-hand.new.place) c.read_back-hand.result.0 c.read_back-hand.ensures.may c.read_back-hand.result.1 c.read_back-hand.ensures.err c.in-Err.e c.in-Err.is
+    needed_unread g.D.Slot g.O.Origin.opening g.O.Origin.outset (g.A.Access.seen c.args.place.now) c.args.hand c.requires.at_work c.args.p.now c.requires.can c.in-Load.job went c.in-Load.ensures.turn.2 c.in-Load.ensures.enters g.G.Adds.entries c.requires.named c.enter_named.ensures c.count_read.ensures refl (g.A.Access.seen c.read_back-hand.new.place) c.read_back-hand.result.0 c.read_back-hand.ensures.may c.read_back-hand.result.1 c.read_back-hand.ensures.err c.in-Err.unread c.in-Err.is
 
-pub returns-in-ReadFault-clause-further : goal.returns-in-ReadFault-clause-further
-returns-in-ReadFault-clause-further g c = λ alone. tt
+pub returns-in-Err-clause-further : goal.returns-in-Err-clause-further
+returns-in-Err-clause-further g c = λ alone. tt
 
 pub returns-in-Refused-clause-needed : goal.returns-in-Refused-clause-needed
 returns-in-Refused-clause-needed g c =

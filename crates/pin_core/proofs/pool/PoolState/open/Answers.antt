@@ -18,6 +18,7 @@ invariant_of-result g c = (
       (ap (λ p. p.seats) c.with.ensures ∙ c.in-Some.ensures.seats)
       (ap (λ p. p.slots) c.with.ensures ∙ c.in-Ok-open.ensures.ok)
       (ap (λ p. p.block_len) c.with.ensures)
+      (ap (λ p. p.marked) c.with.ensures)
       (ap (λ p. p.entries) c.with.ensures)
       (subst IsCounted (sym (ap (λ p. p.slots) c.with.ensures)) c.law_counted.ensures),
   search rules,
@@ -35,6 +36,7 @@ returns-clause-stands g c =
     (ap (λ p. p.seats) c.with.ensures ∙ c.in-Some.ensures.seats)
     (ap (λ p. p.slots) c.with.ensures ∙ c.in-Ok-open.ensures.ok)
     (ap (λ p. p.block_len) c.with.ensures)
+    (ap (λ p. p.marked) c.with.ensures)
     (ap (λ p. p.entries) c.with.ensures)
     (subst IsCounted (sym (ap (λ p. p.slots) c.with.ensures)) c.law_counted.ensures)
     g.D.Slot
@@ -51,5 +53,6 @@ returns-clause-slots g c =
     (ap (λ p. p.seats) c.with.ensures ∙ c.in-Some.ensures.seats)
     (ap (λ p. p.slots) c.with.ensures ∙ c.in-Ok-open.ensures.ok)
     (ap (λ p. p.block_len) c.with.ensures)
+    (ap (λ p. p.marked) c.with.ensures)
     (ap (λ p. p.entries) c.with.ensures)
     (subst IsCounted (sym (ap (λ p. p.slots) c.with.ensures)) c.law_counted.ensures)

@@ -1,4 +1,4 @@
-use Rattle.std.proofs.Common.{◌≡◌, ◌≤◌, ℕ, refl, arith}
+use Rattle.std.proofs.Common.{◌≡◌, ◌≤◌, ℕ, refl, arith, inl}
 use Rattle.pool_model.specs.Bytes.{bytes_of}
 use Rattle.pool_checks.proofs.tests.steps.open.Goals as goal
 
@@ -10,4 +10,4 @@ pub open-requires-clause-conf : goal.open-requires-clause-conf
 open-requires-clause-conf g c =
     let some = c.if-assert.false in
     let le = c.if-assert-2.false in
-    record { block_len = refl; some = omega (arith, some); blocks = omega (arith, le); memory = few c.args.blocks (omega (arith, le)) }
+    record { block_len = refl; some = omega (arith, some); blocks = omega (arith, le); memory = few c.args.blocks (omega (arith, le)); profile = inl refl }

@@ -1,0 +1,129 @@
+-- A load of a page gave another mark: the page is evicted again.
+use Rattle.std.proofs.Common.{◌≡◌, ℕ, ◌+◌, ◌*◌, ◌≤◌, ◌==◌, Bool, true, List, [], ◌∷◌, ◌++◌, length, Some, refl, ap, sym, ◌∙◌, subst, arith, zero-mul, ◌≢◌, ◌<◌}
+use Rattle.std.specs.FinMap.{get, insert}
+use Rattle.std.specs.List.{sum_by}
+use Rattle.outside.specs.declared.slot.Slot.{Ghosts}
+use Rattle.block_arena.specs.Memory.{Buffer}
+use Rattle.index_list.specs.Listing.{list_with}
+use Rattle.page_table.specs.declared.page_id.PageId.{PageId}
+use Rattle.page_table.specs.declared.entry.Place.TheVariants as spot
+use Rattle.page_table.specs.declared.entry.Entry.{Entry}
+use Rattle.client_lists.specs.declared.which.Which.TheVariants as which
+use Rattle.client_lists.specs.Clients.{place}
+use Rattle.client_lists.proofs.Nodes.{list-without_node, list-without_node_other, nodes-without_node_other}
+use Rattle.reservation_tree.specs.Tree.{charge_of as charge_in}
+use Rattle.pool_model.specs.declared.event.Event.TheVariants as event
+use Rattle.pool_model.specs.declared.entry.Entry.{Entry as Event}
+use Rattle.pool_model.specs.Bytes.{bytes_of, only_if}
+use Rattle.reservation_tree.specs.declared.mark.Mark.{Mark}
+use Rattle.pin_core.proofs.Unread.{covered}
+use Rattle.pool_model.specs.State.{Opening}
+use Rattle.pool_model.specs.Sums.{times_charged, is_in_memory, once, page_bytes, pages_for}
+use Rattle.pool_model.specs.Effects.{after}
+use Rattle.pool_model.specs.LookingBack.{content_of}
+use Rattle.pool_model.specs.HistoryLaws.{made}
+use Rattle.pool_model.proofs.Weights.{only_none, one_time}
+use Rattle.pin_core.specs.declared.kept.Kept.{Kept}
+use Rattle.pin_core.specs.declared.parts.Parts.{Parts}
+use Rattle.pin_core.specs.Keeping.{has_slots}
+use Rattle.pin_core.specs.StateOf.{page_of, pages_in, place_in, state_of}
+use Rattle.pin_core.specs.Invariant.{list_at, is_clean_spot, IsPlaced, IsKept}
+use Rattle.pin_core.specs.Lawful.{Lawful}
+use Rattle.pin_core.specs.Standing.{StandsFor, AreHeld, slots_home}
+use Rattle.pin_core.specs.Marking.{Form, form_of, front_of, under_of}
+use Rattle.pin_core.specs.Ends.{outdated, ComesBack, back_evicted, unread}
+use Rattle.pin_core.proofs.Back.{slots_had, none_home}
+use Rattle.pin_core.proofs.Histories.{content_grows}
+use Rattle.pin_core.proofs.Moving.{Moves, moved_pages}
+use Rattle.pin_core.proofs.Moved.{Tells, page_known, quiet_quotas, told_kept, told_stands, told_slots}
+use Rattle.pin_core.proofs.Queued.{dirty_same}
+use Rattle.pin_core.proofs.Amounts.{fell, charge_covers}
+use Rattle.pin_core.proofs.Effects.{same_state, stale_effect}
+use Rattle.pin_core.proofs.Places.{HasQuota, has_quota}
+use Rattle.pin_core.proofs.Listed.{bytes_plus}
+use Rattle.pin_core.proofs.Stands.{was_made}
+
+module _ {D : Type 0} (v : Parts D) (is_kept : IsKept v) (laws : Lawful v) (id : PageId) (x : Entry (Kept D)) (buf : Buffer) (row : List D) (back : ComesBack v spot.Loading id x buf row) where
+  at_x : IsPlaced v id.key x
+  at_x = is_kept.placed id.key id.name x back.live back.there
+
+  on : list_with id.key v.lists.pages.lists ≡ Some (place x.client which.Pinned)
+  on = at_x.on ∙ ap (list_at x.client) back.place
+
+  was : get (pages_in v.pages) id.name ≡ Some (page_of v.pages id.name x)
+  was = page_known v id.name x back.there
+
+  had : has_slots x.scratch ≡ true
+  had = slots_had v is_kept spot.Loading id x buf row back refl
+
+  quota : HasQuota v x
+  quota = has_quota v is_kept id.name x was
+
+  abbrev new : Parts D
+  new = outdated id x row v
+
+  module _ (wanted found : Mark) (name_is : wanted.name ≡ id.name) (version : wanted.version ≡ x.version) (block : wanted.block < x.blocks) (other : found ≢ wanted) where
+    abbrev stale : Event
+    stale = record { maker = x.session; event = event.ReadStale id.name wanted found }
+
+    outdated_moves : Moves id.key id.name x (back_evicted row x) v new
+    outdated_moves = record { live = back.live; there = back.there; pages = refl; lists = list-without_node_other v.lists laws.whole x.client id.key which.Pinned on; clean = λ k apart. refl; block_len = refl; form = refl; opens = refl; lens = λ k apart. refl }
+
+    pub outdated_state : state_of new ≡ after (state_of v) stale
+    outdated_state =
+        let pages = moved_pages id.key id.name x (back_evicted row x) v new outdated_moves laws.proper ∙ ap (λ (b : Bool). insert (pages_in v.pages) id.name (record (page_of v.pages id.name (back_evicted row x)) { has_slots = b })) (sym had) in
+        let dirties = dirty_same v.pages new.pages v.lists new.lists refl refl (λ d. nodes-without_node_other v.lists laws.whole x.client id.key which.Pinned on d which.Dirty (λ e. absurd (omega arith))) in
+        same_state (state_of new) _ refl refl refl refl refl pages refl dirties refl refl refl
+        ∙ sym (stale_effect (state_of v) x.session id.name (page_of v.pages id.name x) was wanted found)
+
+    outdated_tells : Tells id.key id.name x (back_evicted row x) v new stale
+    outdated_tells = record {
+      moves = outdated_moves;
+      placed = record {
+        on = list-without_node v.lists laws.whole x.client id.key which.Pinned on;
+        opened = at_x.opened;
+        size = at_x.size;
+        clean = at_x.clean ∙ ap is_clean_spot back.place;
+        blocks = at_x.blocks;
+        mem = refl;
+        kept = (refl, back.slots);
+      };
+      charges = record {
+        client = refl;
+        blocks = refl;
+        arena_blocks = refl;
+        buffers = refl;
+        charge = λ t.
+            let fall = fell v.tree x.client (bytes_of v.arena.block_len x.blocks) (covered v is_kept laws id x buf row back) t in
+            let all : only_if (x.client == t) (times_charged (place_in x.place) * bytes_of v.arena.block_len x.blocks) ≡ only_if (x.client == t) (bytes_of v.arena.block_len x.blocks) =
+            ap (λ p. only_if (x.client == t) (times_charged (place_in p) * bytes_of v.arena.block_len x.blocks)) back.place ∙ ap (only_if (x.client == t)) (one_time (bytes_of v.arena.block_len x.blocks)) in
+            let none : only_if (x.client == t) (0 * bytes_of v.arena.block_len x.blocks) ≡ 0 = ap (only_if (x.client == t)) (zero-mul (bytes_of v.arena.block_len x.blocks)) ∙ only_none (x.client == t) in
+            omega (arith, fall, all, none);
+        free =
+            let sum = bytes_plus v.arena.block_len v.arena.free x.blocks in
+            let in_it : once is_in_memory (place_in x.place) * bytes_of v.arena.block_len x.blocks ≡ 1 * bytes_of v.arena.block_len x.blocks = ap (λ p. once is_in_memory (place_in p) * bytes_of v.arena.block_len x.blocks) back.place in
+            omega (arith, sum, in_it);
+        stock = ap (λ (b : Bool). length v.slots.free + only_if b x.blocks) (sym had);
+      };
+      quotas = quiet_quotas id.key id.name x (back_evicted row x) v new outdated_moves laws.proper is_kept refl refl (sym had) refl (λ q n is. is);
+      seated = let s = is_kept.seated in record { clients = s.clients; opens = s.opens; few = s.few };
+      sized = let s = is_kept.sized in record { len = s.len; some = s.some; short = s.short; clients = s.clients; sessions = s.sessions; nodes = s.nodes; cleans = s.cleans; memory = s.memory; book = s.book };
+      state = outdated_state;
+      may = λ h. record { makes = quota.low; allows = record { ends = record { page = page_of v.pages id.name x; own = record { lives = was; own = refl }; loading = ap place_in back.place }; name = name_is; version = version; block = block; other = other } };
+    }
+
+    pub outdated_kept : IsKept new
+    outdated_kept = told_kept id.key id.name x (back_evicted row x) v new stale is_kept laws.proper outdated_tells
+
+    -- the slots still hold what they held
+    pub outdated_stands : (slot : Ghosts D) (o : Opening) (h : List Event) → StandsFor slot o h v → AreHeld slot (under_of v.marked x.version) id.name v.arena.block_len row (content_of o h id.name) → StandsFor slot o (h ++ stale ∷ []) new
+    outdated_stands slot o h stands held =
+        let same : content_of o (h ++ stale ∷ []) id.name ≡ content_of o h id.name = content_grows o h stale id.name (made (page_of v.pages id.name x)) (was_made slot o h v stands id.name x back.there) in
+        told_stands id.key id.name x (back_evicted row x) v new stale is_kept laws.proper outdated_tells slot o h stands (λ q old other. refl)
+        (record { mem = tt; kept = λ stored. subst (AreHeld slot (under_of v.marked x.version) id.name v.arena.block_len row) (sym same) held })
+
+    pub outdated_slots : (measure : D → ℕ) → slots_home measure new ≡ slots_home measure v + sum_by measure row
+    outdated_slots measure =
+        let told = told_slots id.key id.name x (back_evicted row x) v new stale is_kept laws.proper outdated_tells measure in
+        let none = none_home v is_kept spot.Loading id x buf row back refl measure in
+        omega (arith, told, none)
