@@ -39,7 +39,7 @@ use Rattle.partition_stack.proofs.Scratch.{counts_once}
 use Rattle.partition_stack.proofs.Slots.{more_taken}
 use Rattle.partition_stack.proofs.Stacking.{first_is_stack}
 use Rattle.outside.specs.Counts.{Rose}
-use Rattle.reservation_tree.specs.declared.errors.PoolErr.TheVariants.{NoReservation, ScratchFull, WriteFault, ReadFault, TooManyTrackers, NamesSpent, Memory}
+use Rattle.reservation_tree.specs.declared.errors.PoolErr.TheVariants.{NoReservation, ScratchFull, WriteFault, ReadFault, TooManyTrackers, NamesSpent, Memory, Stale}
 use Rattle.query_run.specs.Ending.{cause_of_handed}
 use Rattle.query_run.specs.FedRows.{AreFed, IsFed}
 use Rattle.query_run.specs.Feeder.{Feeds, HasEnded, HasStopped, Took, TookOf, own_slots, pages_made, slots_for_rows, slots_in}
@@ -266,6 +266,7 @@ wants_slots blocks most total (op_err.Pool (ReadFault entry)) want below = tt
 wants_slots blocks most total (op_err.Pool (TooManyTrackers count)) want below = tt
 wants_slots blocks most total (op_err.Pool NamesSpent) want below = tt
 wants_slots blocks most total (op_err.Pool Memory) want below = tt
+wants_slots blocks most total (op_err.Pool (Stale wanted found)) want below = tt
 wants_slots blocks most total op_err.Sink want below = tt
 
 -- so it is of what stopped the grouping

@@ -23,6 +23,7 @@ use Rattle.query_plan.specs.Sizes.{page_len}
 use Rattle.query_plan.specs.declared.plan.Query.{Query}
 use Rattle.query_plan.specs.declared.plan.Side.TheVariants.{Left}
 use Rattle.query_plan.specs.declared.plan.SidePlan.{SidePlan}
+use Rattle.outside.specs.Faults.{Faults}
 use Rattle.query_run.specs.Both.{Told, both_told, passing_of_both}
 use Rattle.query_run.specs.Causes.{OfPool}
 use Rattle.query_run.specs.Ending.{IsEndedBy, cause_of_handed}
@@ -105,7 +106,7 @@ module _ (keeps : Option (List Entry) → List (List Value) → List (List Value
   abbrev Wants : PoolErr → Type 0
   Wants why = (start : Option (List Entry)) (lefts rights : List (List Value)) → keeps start lefts rights → tells → IsWantBelow (most lefts rights) total why
 
-  pub ended_pairs : (before : Begun) (rows : List (List Value)) (contents : Option (List ℕ)) (faults : ℕ) (stopped : Option QueryErr) (waits : List ℕ) (count : ℕ) (totals : List ℤ) (handed : Result Unit OpErr) (e : QueryErr)
+  pub ended_pairs : (before : Begun) (rows : List (List Value)) (contents : Option (List ℕ)) (faults : Faults) (stopped : Option QueryErr) (waits : List ℕ) (count : ℕ) (totals : List ℤ) (handed : Result Unit OpErr) (e : QueryErr)
       → IfErr handed (λ why. (start : Option (List Entry)) (lefts rights : List (List Value)) → keeps start lefts rights → tells → IsWantBelowOf (most lefts rights) total why) → HasTaken before rows (written contents faults stopped waits count totals) → IsEndedBy stopped handed e → OfPool Wants e
   ended_pairs before rows contents faults None waits count totals (Ok done) e wants taken ended = absurd ended
   ended_pairs before rows contents faults None waits count totals (Err (op.Pool why)) e wants taken ended = subst (OfPool Wants) (sym ended) wants

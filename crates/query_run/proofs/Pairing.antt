@@ -10,6 +10,7 @@ use Rattle.join_op.specs.Pairs.{SameRows}
 use Rattle.store_api.specs.declared.op_err.OpErr.{OpErr}
 use Rattle.query_plan.specs.Sizes.{groups}
 use Rattle.query_plan.specs.declared.plan.Query.{Query}
+use Rattle.outside.specs.Faults.{Faults}
 use Rattle.query_run.specs.Answer.{LineNumbers, answer_text, header_of, lines_of}
 use Rattle.query_run.specs.Joined.{HasTakenPairs, HasTakenSomePairs, WrotePairs, WroteSomePairs}
 use Rattle.query_run.specs.Parts.{FrontOf}
@@ -19,7 +20,7 @@ use Rattle.query_run.specs.declared.outcome.Ran.{Ran}
 use Rattle.query_run.proofs.Ended.{more_lines, sent_front, sent_whole, taken_front, wider}
 use Rattle.query_run.proofs.Sending.{appends_front}
 
-module _ (pairs : List (List Value)) (before : Begun) (stopped : Option QueryErr) (contents : Option (List ℕ)) (faults : ℕ) (waits : List ℕ) (count : ℕ) (totals : List ℤ) where
+module _ (pairs : List (List Value)) (before : Begun) (stopped : Option QueryErr) (contents : Option (List ℕ)) (faults : Faults) (waits : List ℕ) (count : ℕ) (totals : List ℤ) where
   all_some : HasTakenPairs pairs before (written contents faults stopped waits count totals) → HasTakenSomePairs pairs before (written contents faults stopped waits count totals)
   all_some taken = record { some = taken.out; rest = []; same = subst (λ rows. SameRows rows pairs) (sym (append-nil taken.out)) taken.same; taken = taken.taken }
 
@@ -71,7 +72,7 @@ pub no_pairs : (plan : Query) (pairs : List (List Value)) (now : Option (List �
 no_pairs plan pairs now none = record { out = pairs; same = λ count. refl; written = none }
 
 -- nothing is summed where nothing is grouped
-pub pair_numbers : (plan : Query) (pairs : List (List Value)) (before : Begun) (stopped : Option QueryErr) (contents : Option (List ℕ)) (faults : ℕ) (waits : List ℕ) (totals : List ℤ) (ran : Ran) → groups plan ≡ false → plan.aggs ≡ []
+pub pair_numbers : (plan : Query) (pairs : List (List Value)) (before : Begun) (stopped : Option QueryErr) (contents : Option (List ℕ)) (faults : Faults) (waits : List ℕ) (totals : List ℤ) (ran : Ran) → groups plan ≡ false → plan.aggs ≡ []
     → before.columns ≡ [] → ran.totals ≡ totals → HasTakenPairs pairs before (written contents faults stopped waits ran.lines totals) → LineNumbers plan pairs ran
 pair_numbers plan pairs before stopped contents faults waits totals ran alone none columns is taken =
     let summed : ran.totals ≡ [] = is ∙ taken.taken.totals ∙ ap (map (λ column. aggregate (Sum column) taken.out)) columns in

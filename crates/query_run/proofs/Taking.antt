@@ -14,6 +14,9 @@ use Rattle.group_rows.specs.Aggregates.{aggregate, number_at, numbers_at, own_nu
 use Rattle.group_rows.specs.Partials.{combined_numbers}
 use Rattle.query_run.specs.Answer.{lines_of}
 use Rattle.outside.specs.Counts.{Rose}
+use Rattle.outside.specs.Faults.{Faults}
+use Rattle.outside.specs.Sinks.{StopsAt}
+use Rattle.outside.proofs.Stopping.{stops_later}
 use Rattle.query_run.specs.Parts.{FrontOf, HasSent, StopsWriting}
 use Rattle.query_run.specs.Writing.{Begun, HasTaken, text_behind, written}
 use Rattle.query_run.specs.declared.outcome.QueryErr.{QueryErr}
@@ -49,32 +52,32 @@ pub written_over : {X : Type 0} (len : ℕ) (new rest : List X) → length new �
 written_over len new rest long = subst (λ n. take n (new ++ rest) ≡ new) long (take-append_seam new rest)
 
 -- a row was taken
-pub took_row : (before : Begun) (rows : List (List Value)) (row : List Value) (stopped : Option QueryErr) (contents contents' : Option (List ℕ)) (faults faults' : ℕ) (waits waits' : List ℕ) (count next : ℕ) (totals totals' : List ℤ) (sums : List Agg)
+pub took_row : (before : Begun) (rows : List (List Value)) (row : List Value) (stopped : Option QueryErr) (contents contents' : Option (List ℕ)) (faults faults' : Faults) (waits waits' : List ℕ) (count next : ℕ) (totals totals' : List ℤ) (sums : List Agg)
     → next ≡ count + 1 → stopped ≡ None → HasTaken before rows (written contents faults stopped waits count totals)
     → ((start : Option (List ℕ)) (text : List ℕ) → HasSent start contents waits text → HasSent start contents' waits' (text ++ line_of row))
-    → faults' ≡ faults → sums ≡ map Sum before.columns → totals' ≡ combined_numbers sums totals (map (λ agg. own_number agg row) sums)
+    → faults'.count ≡ faults.count → faults'.first ≡ faults.first → sums ≡ map Sum before.columns → totals' ≡ combined_numbers sums totals (map (λ agg. own_number agg row) sums)
     → HasTaken before (rows ++ row ∷ []) (written contents' faults' stopped waits' next totals')
-took_row before rows row (Some why) contents contents' faults faults' waits waits' count next totals totals' sums is none taken sends quiet are combined = absurd (cc)
-took_row before rows row None contents contents' faults faults' waits waits' count next totals totals' sums is none taken sends quiet are combined =
+took_row before rows row (Some why) contents contents' faults faults' waits waits' count next totals totals' sums is none taken sends quiet whole are combined = absurd (cc)
+took_row before rows row None contents contents' faults faults' waits waits' count next totals totals' sums is none taken sends quiet whole are combined =
     let more = length-append rows (row ∷ []) in
     let so-far = taken.counted in
     record {
-      sent = (subst (HasSent before.contents contents' waits') (text_more before.front row rows) (sends before.contents (text_behind before.front rows) taken.sent.0), quiet ∙ taken.sent.1);
+      sent = (subst (HasSent before.contents contents' waits') (text_more before.front row rows) (sends before.contents (text_behind before.front rows) taken.sent.0), quiet ∙ taken.sent.1, whole ∙ taken.sent.2);
       counted = omega (arith, more, so-far, is);
       totals = combined ∙ rw (are, taken.totals) (sums_more before.columns row rows);
     }
 
 -- nothing more is taken
-pub took_stop : (before : Begun) (rows : List (List Value)) (why : QueryErr) (stopped : Option QueryErr) (contents contents' : Option (List ℕ)) (faults faults' : ℕ) (waits waits' : List ℕ) (count : ℕ) (totals : List ℤ)
+pub took_stop : (before : Begun) (rows : List (List Value)) (why : QueryErr) (stopped : Option QueryErr) (contents contents' : Option (List ℕ)) (faults faults' : Faults) (waits waits' : List ℕ) (count : ℕ) (totals : List ℤ)
     → stopped ≡ None → HasTaken before rows (written contents faults stopped waits count totals)
-    → FrontOf contents contents' waits → (why ≡ SinkFault → Rose faults faults') → (why ≢ SinkFault → faults' ≡ faults) → StopsWriting why
+    → FrontOf contents contents' waits → (why ≡ SinkFault → Rose faults.count faults'.count) → (why ≢ SinkFault → faults'.count ≡ faults.count) → StopsWriting why → StopsAt (why ≡ SinkFault) faults.first faults'.first contents'
     → HasTaken before rows (written contents' faults' (Some why) waits' count totals)
-took_stop before rows why (Some old) contents contents' faults faults' waits waits' count totals none taken front fault quiet stops = absurd (cc)
-took_stop before rows why None contents contents' faults faults' waits waits' count totals none taken front fault quiet stops =
+took_stop before rows why (Some old) contents contents' faults faults' waits waits' count totals none taken front fault quiet stops ends = absurd (cc)
+took_stop before rows why None contents contents' faults faults' waits waits' count totals none taken front fault quiet stops ends =
     let all : FrontOf before.contents contents' (text_behind before.front rows) =
     subst (FrontOf before.contents contents') (append-nil (text_behind before.front rows)) (front_on before.contents contents contents' waits (text_behind before.front rows) [] taken.sent.0 front) in
     record {
-      sent = (all, (λ is. subst (λ n. Rose n faults') taken.sent.1 (fault is)), λ other. quiet other ∙ taken.sent.1, stops);
+      sent = (all, (λ is. subst (λ n. Rose n faults'.count) taken.sent.1 (fault is)), (λ other. quiet other ∙ taken.sent.1), stops, stops_later (why ≡ SinkFault) before.faults.first faults.first faults'.first contents' taken.sent.2 ends);
       counted = taken.counted;
       totals = taken.totals;
     }

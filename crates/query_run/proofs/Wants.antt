@@ -6,7 +6,7 @@ use Rattle.std.proofs.lemmas.List.Sums.{sum_by-append, sum_by-cons}
 use Rattle.std.proofs.lemmas.Nat.{le-div}
 use Rattle.pool_model.specs.declared.entry.Entry.{Entry}
 use Rattle.reservation_tree.specs.declared.errors.PoolErr.{PoolErr}
-use Rattle.reservation_tree.specs.declared.errors.PoolErr.TheVariants.{NoReservation, ScratchFull, WriteFault, ReadFault, TooManyTrackers, NamesSpent, Memory}
+use Rattle.reservation_tree.specs.declared.errors.PoolErr.TheVariants.{NoReservation, ScratchFull, WriteFault, ReadFault, TooManyTrackers, NamesSpent, Memory, Stale}
 use Rattle.row_codec.specs.declared.values.Value.{Value}
 use Rattle.row_codec.specs.RowBytes.{row_bytes}
 use Rattle.store_api.specs.Conditions.{IsBlockCount}
@@ -20,6 +20,7 @@ use Rattle.partition_stack.specs.Stack.{over}
 use Rattle.group_op.specs.Operator.{Keeps, Operator, bytes_for, page_of, slots_for}
 use Rattle.query_plan.specs.Sizes.{page_len}
 use Rattle.query_plan.specs.declared.plan.Query.{Query}
+use Rattle.outside.specs.Faults.{Faults}
 use Rattle.query_run.specs.Both.{Told, both_told, right_passing}
 use Rattle.query_run.specs.Causes.{OfPool}
 use Rattle.query_run.specs.Ending.{IsEndedBy}
@@ -43,6 +44,7 @@ want_more m n total (ReadFault entry) more below = tt
 want_more m n total (TooManyTrackers count) more below = tt
 want_more m n total NamesSpent more below = tt
 want_more m n total Memory more below = tt
+want_more m n total (Stale wanted found) more below = tt
 
 pub div_more : (a b k : ℕ) → 0 < k → a ≤ b → a / k ≤ b / k
 div_more a b k some less = le-div (a / k) b k some (le_trans (div-mul-le_self a k) less)
@@ -92,7 +94,7 @@ module _ (holds : List (List Value) → Type 0) (tells : Type 0) (most : List (L
   abbrev Wants : PoolErr → Type 0
   Wants why = (fed : List (List Value)) → holds fed → tells → IsWantBelow (most fed) total why
 
-  pub ended_wants : (before : Begun) (rows : List (List Value)) (contents : Option (List ℕ)) (faults : ℕ) (stopped : Option QueryErr) (waits : List ℕ) (count : ℕ) (totals : List ℤ) (handed : Result Unit OpErr) (e : QueryErr)
+  pub ended_wants : (before : Begun) (rows : List (List Value)) (contents : Option (List ℕ)) (faults : Faults) (stopped : Option QueryErr) (waits : List ℕ) (count : ℕ) (totals : List ℤ) (handed : Result Unit OpErr) (e : QueryErr)
       → IfErr handed (λ why. (fed : List (List Value)) → holds fed → tells → IsWantBelowOf (most fed) total why) → HasTaken before rows (written contents faults stopped waits count totals) → IsEndedBy stopped handed e → OfPool Wants e
   ended_wants before rows contents faults None waits count totals (Ok done) e wants taken ended = absurd ended
   ended_wants before rows contents faults None waits count totals (Err (op.Pool why)) e wants taken ended = subst (OfPool Wants) (sym ended) wants

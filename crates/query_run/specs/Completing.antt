@@ -18,11 +18,12 @@ abbrev pub IsQuiet : Source → Type 0
 IsQuiet input = Rose input.faults input.faults_now → ⊥
 
 -- the store tells what a pin shows, and its quota has the slots of the pages that the query needs over these bytes; no write and no
--- read of a page failed, and a name is left
+-- read of a page failed, no load was stale, and a name is left
 pub record StoreSuffices (plan : Query) (both : Told) (start : Holdings) (old new : Signs) : Type 0 where
   pub tells : start.told ≡ true
   pub enough : IfSome start.free_slots (λ free. need plan (page_len plan start.block_len) both * plan.page_blocks ≤ free)
   pub failures : new.failures ≡ old.failures
+  pub stale : new.stale ≡ old.stale
   pub names : new.spent ≡ false
 
 -- nothing stands in the way of an answer: the bytes of the inputs are told, and accepted to their ends, the store suffices for them, and neither

@@ -1,6 +1,8 @@
 -- An emitter that writes the lines of rows behind a text that waits.
 use Rattle.std.specs.Prelude.{◌≡◌, ◌≢◌, ℕ, List, ◌++◌, Option, Some, None, length, map, ℤ}
 use Rattle.outside.specs.Counts.{Rose}
+use Rattle.outside.specs.Faults.{Faults}
+use Rattle.outside.specs.Sinks.{StopsAt}
 use Rattle.row_codec.specs.declared.values.Agg.TheVariants.{Sum}
 use Rattle.row_codec.specs.declared.values.Value.{Value}
 use Rattle.row_codec.specs.Order.{path_order}
@@ -22,20 +24,20 @@ use Rattle.query_run.specs.declared.outcome.QueryErr.TheVariants.{SinkFault}
 -- the columns of numbers that are summed
 pub record Begun : Type 0 where
   pub contents : Option (List ℕ)
-  pub faults : ℕ
+  pub faults : Faults
   pub front : List ℕ
   pub columns : List ℕ
 
 -- the sink now; why it stopped, if it did; the text that waits; and the number of rows and the sums so far
 pub record Written : Type 0 where
   pub contents : Option (List ℕ)
-  pub faults : ℕ
+  pub faults : Faults
   pub stopped : Option QueryErr
   pub waits : List ℕ
   pub count : ℕ
   pub totals : List ℤ
 
-abbrev pub written : Option (List ℕ) → ℕ → Option QueryErr → List ℕ → ℕ → List ℤ → Written
+abbrev pub written : Option (List ℕ) → Faults → Option QueryErr → List ℕ → ℕ → List ℤ → Written
 written contents faults stopped waits count totals =
     record { contents = contents; faults = faults; stopped = stopped; waits = waits; count = count; totals = totals }
 
@@ -43,12 +45,14 @@ written contents faults stopped waits count totals =
 abbrev pub text_behind : List ℕ → List (List Value) → List ℕ
 text_behind front rows = front ++ lines_of rows
 
--- as long as the sink goes on, the text was sent but for what waits; once it stopped, which is for want of memory or because
--- the sink failed, a front of the text was sent, and a fault was counted exactly where the sink failed
+-- as long as the sink goes on, the text was sent but for what waits, and no write failed; once it stopped, which is for want of
+-- memory or because the sink failed, a front of the text was sent, nothing of it behind the first failed write, and a fault was
+-- counted exactly where the sink failed
 abbrev pub HasSentOf : Option QueryErr → Begun → Written → List ℕ → Type 0
-HasSentOf None before now text = HasSent before.contents now.contents now.waits text × (now.faults ≡ before.faults)
+HasSentOf None before now text = HasSent before.contents now.contents now.waits text × (now.faults.count ≡ before.faults.count) × (now.faults.first ≡ before.faults.first)
 HasSentOf (Some why) before now text =
-    FrontOf before.contents now.contents text × (why ≡ SinkFault → Rose before.faults now.faults) × (why ≢ SinkFault → now.faults ≡ before.faults) × StopsWriting why
+    FrontOf before.contents now.contents text × (why ≡ SinkFault → Rose before.faults.count now.faults.count) × (why ≢ SinkFault → now.faults.count ≡ before.faults.count)
+    × StopsWriting why × StopsAt (why ≡ SinkFault) before.faults.first now.faults.first now.contents
 
 -- these rows were taken
 pub record HasTaken (before : Begun) (rows : List (List Value)) (now : Written) : Type 0 where

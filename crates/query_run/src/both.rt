@@ -2,6 +2,7 @@
 
 ghost use Rattle.std.specs.Prelude.{◌≡◌, ◌≢◌, ◌+◌, ◌*◌, ◌++◌, ◌≤◌, ◌<◌, ◌^◌, ◌⊎◌, [], List, Option, IfErr, IfOk, IfSome, IsErrOf, IsSome, None, OnErr, OnOk, Some, length, true};
 ghost use Rattle.std.specs.Io.KnownBytes.{Appends, IsAtEnd};
+ghost use Rattle.outside.specs.Sinks.{StopsAt};
 ghost use Rattle.pool_model.specs.declared.entry.Entry.{Entry};
 ghost use Rattle.row_codec.specs.declared.values.Value.{Value};
 ghost use Rattle.csv_edge.specs.Written.{AppendsFront};
@@ -129,6 +130,7 @@ fn write_both<St: Store, K: Sink>(
     ensures enough { IfErr result.0 (OfPool (λ e. (start : Option (List Entry)) → (lefts rights : List (List Value)) → Keeps start lefts rights join (St.holds store.old) (St.signs store.old) → (St.holds store.old).told ≡ true → IsWantBelow (slots_of_both plan.now page lefts rights (pairs_of join.shape lefts rights)) (join_slots join (St.holds store.old) (St.signs store.old)) e)) }
     ensures free { (St.holds store.new).free_slots ≡ join_slots join (St.holds store.old) (St.signs store.old) }
     ensures sink { CountsSink (IsErrOf result.0 QueryErr.SinkFault) (K.faults sink.old) (K.faults sink.new) }
+    ensures stops { StopsAt (IsErrOf result.0 QueryErr.SinkFault) (K.at_failure sink.old) (K.at_failure sink.new) (K.contents sink.new) }
     ensures second { HasStopped second result.1 (St.holds store.new) }
     ensures gone { HasEndedFirst join.client.tracker second.tracker (St.holds store.old) (St.holds store.new) (St.signs store.old) (St.signs store.new) }
 {
@@ -178,6 +180,7 @@ fn answer<St: Store, S: Source, K: Sink>(
     ensures stopped { IfErr result.0 (λ _. (sink.new ≡ sink.old) ⊎ (IsAtEnd (S.remaining left.new) × IsAtEnd (S.remaining right.new) × ((St.holds store.old).told ≡ true → WroteFront plan.now page (both_told (S.remaining left.old) (S.remaining right.old)) (K.contents sink.old) (K.contents sink.new)))) }
     ensures front { (St.holds store.old).told ≡ true → IsErrOf result.0 QueryErr.SinkFault → WroteFront plan.now page (both_told (S.remaining left.old) (S.remaining right.old)) (K.contents sink.old) (K.contents sink.new) }
     ensures sink { CountsSink (IsErrOf result.0 QueryErr.SinkFault) (K.faults sink.old) (K.faults sink.new) }
+    ensures stops { StopsAt (IsErrOf result.0 QueryErr.SinkFault) (K.at_failure sink.old) (K.at_failure sink.new) (K.contents sink.new) }
     ensures kept { OnOk result.0 (KeptSides plan.now asked.now page (S.remaining left.old) (S.remaining right.old) (St.signs store.old).trail (St.signs store.new).trail) }
     ensures clients { HasStopped second result.1 (St.holds store.new) × HasEndedFirst join.client.tracker second.tracker (St.holds store.old) (St.holds store.new) (St.signs store.old) (St.signs store.new) }
     ensures sources_kept { (S.faults left.old ≤ S.faults left.new) × (S.faults right.old ≤ S.faults right.new) }
@@ -221,6 +224,7 @@ pub(crate) fn run_both<St: Store, S: Source, K: Sink>(
     ensures untouched { IfErr result (λ e. IsSome (side_of e) → sink.new ≡ sink.old) }
     ensures stopped { IfErr result (λ _. (sink.new ≡ sink.old) ⊎ (IsAtEnd (S.remaining left.new) × IsAtEnd (S.remaining right.new) × ((St.holds store.old).told ≡ true → WroteFront plan.now (page_len plan.now (St.holds store.old).block_len) (both_told (S.remaining left.old) (S.remaining right.old)) (K.contents sink.old) (K.contents sink.new)))) }
     ensures sink { CountsSink (IsErrOf result QueryErr.SinkFault) (K.faults sink.old) (K.faults sink.new) }
+    ensures stops { StopsAt (IsErrOf result QueryErr.SinkFault) (K.at_failure sink.old) (K.at_failure sink.new) (K.contents sink.new) }
     ensures kept { OnOk result (KeptRows plan.now (page_len plan.now (St.holds store.old).block_len) (S.remaining left.old) (S.remaining right.old) (St.signs store.old).trail (St.signs store.new).trail) }
     ensures store { RanOver plan.now (both_told (S.remaining left.old) (S.remaining right.old)) (St.holds store.old) (St.holds store.new) (St.signs store.old) (St.signs store.new) }
     ensures sources_kept { (S.faults left.old ≤ S.faults left.new) × (S.faults right.old ≤ S.faults right.new) }

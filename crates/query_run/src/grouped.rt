@@ -2,6 +2,7 @@
 
 ghost use Rattle.std.specs.Prelude.{◌≡◌, ◌*◌, ◌++◌, ◌≤◌, ◌<◌, ◌^◌, ◌⊎◌, [], Some, IfErr, IfOk, IfSome, IsErrOf, IsSome, OnOk, true};
 ghost use Rattle.std.specs.Io.KnownBytes.{IsAtEnd};
+ghost use Rattle.outside.specs.Sinks.{StopsAt};
 ghost use Rattle.tuple_stream.specs.Families.{slots_in};
 ghost use Rattle.partition_stack.specs.Making.{MakesFew};
 ghost use Rattle.partition_stack.specs.Slots.{IsWantBelow};
@@ -50,6 +51,7 @@ pub(crate) fn run_grouped<St: Store, S: Source, K: Sink>(
     ensures untouched { IfErr result (λ e. IsSome (side_of e) → sink.new ≡ sink.old) }
     ensures stopped { IfErr result (λ _. (sink.new ≡ sink.old) ⊎ (IsAtEnd (S.remaining left.new) × ((St.holds store.old).told ≡ true → WroteFront plan.now (page_len plan.now (St.holds store.old).block_len) (both_told (S.remaining left.old) (Some [])) (K.contents sink.old) (K.contents sink.new)))) }
     ensures sink { CountsSink (IsErrOf result QueryErr.SinkFault) (K.faults sink.old) (K.faults sink.new) }
+    ensures stops { StopsAt (IsErrOf result QueryErr.SinkFault) (K.at_failure sink.old) (K.at_failure sink.new) (K.contents sink.new) }
     ensures kept { OnOk result (KeptGroups plan.now (page_len plan.now (St.holds store.old).block_len) (S.remaining left.old) (St.signs store.old).trail (St.signs store.new).trail) }
     ensures store { RanOver plan.now (both_told (S.remaining left.old) (Some [])) (St.holds store.old) (St.holds store.new) (St.signs store.old) (St.signs store.new) }
     ensures source_kept { S.faults left.old ≤ S.faults left.new }
@@ -158,6 +160,7 @@ fn answer<St: Store, S: Source, K: Sink>(
     ensures untouched { IfErr result (λ e. IsSome (side_of e) → sink.new ≡ sink.old) }
     ensures stopped { IfErr result (λ _. (sink.new ≡ sink.old) ⊎ (IsAtEnd (S.remaining left.new) × ((St.holds store.old).told ≡ true → WroteFront plan.now page (both_told (S.remaining left.old) (Some [])) (K.contents sink.old) (K.contents sink.new)))) }
     ensures sink { CountsSink (IsErrOf result QueryErr.SinkFault) (K.faults sink.old) (K.faults sink.new) }
+    ensures stops { StopsAt (IsErrOf result QueryErr.SinkFault) (K.at_failure sink.old) (K.at_failure sink.new) (K.contents sink.new) }
     ensures kept { OnOk result (KeptAndRead plan.now page (S.remaining left.old) (over op.new.parts (St.holds store.new) (St.signs store.new)) (St.signs store.old).trail (St.signs store.new).trail) }
     ensures went { GoesOn op.old op.new (St.holds store.old) (St.holds store.new) (St.signs store.old) (St.signs store.new) }
     ensures source_kept { S.faults left.old ≤ S.faults left.new }

@@ -3,6 +3,8 @@
 ghost use Rattle.std.specs.Prelude.{◌≡◌, ◌+◌, ◌*◌, ◌≤◌, [], List, Option, None, Some, true, map, length, pos, replicate, IfErr, IfOk, IsErrOf, OnErr, OnOk};
 ghost use Rattle.std.specs.List.{range_with_len};
 ghost use Rattle.std.specs.Io.KnownBytes.{Appends};
+ghost use Rattle.outside.specs.Sinks.{StopsAt};
+ghost use Rattle.outside.specs.Faults.{faults_of};
 ghost use Rattle.pool_model.specs.declared.entry.Entry.{Entry};
 ghost use Rattle.row_codec.specs.declared.values.Agg.TheVariants.{Sum};
 ghost use Rattle.row_codec.specs.declared.values.Value.{Value};
@@ -67,6 +69,7 @@ pub(crate) fn write_groups<St: Store, K: Sink>(
     ensures pool { IfErr result (StoppedOver op.old.parts.page_blocks (slots_in (over op.old.parts (St.holds store.old) (St.signs store.old))) (St.signs store.old) (St.signs store.new)) }
     ensures enough { IfErr result (OfPool (λ e. (fed : List (List Value)) → Holds fed op.old (St.holds store.old) (St.signs store.old) → (St.holds store.old).told ≡ true → IsWantBelow (slots_for 544 op.old (St.holds store.old) fed) (slots_in (over op.old.parts (St.holds store.old) (St.signs store.old))) e)) }
     ensures sink { CountsSink (IsErrOf result QueryErr.SinkFault) (K.faults sink.old) (K.faults sink.new) }
+    ensures stops { StopsAt (IsErrOf result QueryErr.SinkFault) (K.at_failure sink.old) (K.at_failure sink.new) (K.contents sink.new) }
     ensures went { HandedOn op.old op.new (St.holds store.old) (St.holds store.new) (St.signs store.old) (St.signs store.new) }
 {
     let (part, sums, totals) = before_rows(alloc, plan)?;
@@ -171,10 +174,10 @@ fn drive<'a, B: Start, St: Store, K: Sink>(
     requires feeding { IsFeeding op.old }
     requires name { lines.sink.ghost_name ≡ B.name }
     requires sums { lines.sums.items ≡ map Sum B.before.columns }
-    requires none { HasTaken B.before [] (written (K.contents lines.sink.now) (K.faults lines.sink.now) lines.stopped lines.part.lines lines.rows lines.totals.items) }
-    ensures ok { OnOk result.0 ((rows : List (List Value)) → HoldsFor rows op.old (St.holds store.old) (St.signs store.old) → (St.holds store.old).told ≡ true → HasTakenGroups op.old.shape rows B.before (written (K.contents result.1.sink.now) (K.faults result.1.sink.now) result.1.stopped result.1.part.lines result.1.rows result.1.totals.items)) }
-    ensures err { OnErr result.0 ((rows : List (List Value)) → HoldsFor rows op.old (St.holds store.old) (St.signs store.old) → (St.holds store.old).told ≡ true → HasTakenSome op.old.shape rows B.before (written (K.contents result.1.sink.now) (K.faults result.1.sink.now) result.1.stopped result.1.part.lines result.1.rows result.1.totals.items)) }
-    ensures any { (rows : List (List Value)) × HasTaken B.before rows (written (K.contents result.1.sink.now) (K.faults result.1.sink.now) result.1.stopped result.1.part.lines result.1.rows result.1.totals.items) }
+    requires none { HasTaken B.before [] (written (K.contents lines.sink.now) (faults_of K.Sink lines.sink.now) lines.stopped lines.part.lines lines.rows lines.totals.items) }
+    ensures ok { OnOk result.0 ((rows : List (List Value)) → HoldsFor rows op.old (St.holds store.old) (St.signs store.old) → (St.holds store.old).told ≡ true → HasTakenGroups op.old.shape rows B.before (written (K.contents result.1.sink.now) (faults_of K.Sink result.1.sink.now) result.1.stopped result.1.part.lines result.1.rows result.1.totals.items)) }
+    ensures err { OnErr result.0 ((rows : List (List Value)) → HoldsFor rows op.old (St.holds store.old) (St.signs store.old) → (St.holds store.old).told ≡ true → HasTakenSome op.old.shape rows B.before (written (K.contents result.1.sink.now) (faults_of K.Sink result.1.sink.now) result.1.stopped result.1.part.lines result.1.rows result.1.totals.items)) }
+    ensures any { (rows : List (List Value)) × HasTaken B.before rows (written (K.contents result.1.sink.now) (faults_of K.Sink result.1.sink.now) result.1.stopped result.1.part.lines result.1.rows result.1.totals.items) }
     ensures kept { OnOk result.0 ((start : Option (List Entry)) (rows : List (List Value)) → Keeps start rows op.old (St.holds store.old) (St.signs store.old) → EnteredEvents (HoldsGroups op.old.shape (page_of op.old (St.holds store.old)) rows (over op.new.parts (St.holds store.new) (St.signs store.new))) start (St.signs store.new).trail) }
     ensures made { (fed : List (List Value)) → Holds fed op.old (St.holds store.old) (St.signs store.old) → (St.holds store.old).told ≡ true → MakesFew (15 * length fed + length (entries_in op.old.table)) (St.signs store.old) (St.signs store.new) }
     ensures enough { IfErr result.0 (λ e. (fed : List (List Value)) → Holds fed op.old (St.holds store.old) (St.signs store.old) → (St.holds store.old).told ≡ true → IsWantBelowOf (slots_for 544 op.old (St.holds store.old) fed) (slots_in (over op.old.parts (St.holds store.old) (St.signs store.old))) e) }

@@ -2,6 +2,7 @@
 
 ghost use Rattle.std.specs.Prelude.{◌≡◌, ◌≢◌, ◌*◌, ◌≤◌, ◌<◌, ◌^◌, ◌⊎◌, [], Some, IfErr, IfOk, IfSome, IsErrOf, IsSome, OnOk, false, length, true};
 ghost use Rattle.std.specs.Io.KnownBytes.{IsAtEnd};
+ghost use Rattle.outside.specs.Sinks.{StopsAt};
 ghost use Rattle.partition_stack.specs.Leaving.{LeavesOthers};
 ghost use Rattle.partition_stack.specs.Making.{MakesFew};
 ghost use Rattle.partition_stack.specs.Slots.{IsWantBelow};
@@ -63,6 +64,7 @@ pub(crate) fn run_joined<St: Store, S: Source, K: Sink>(
     ensures untouched { IfErr result (λ e. IsSome (side_of e) → sink.new ≡ sink.old) }
     ensures stopped { IfErr result (λ _. (sink.new ≡ sink.old) ⊎ (IsAtEnd (S.remaining left.new) × IsAtEnd (S.remaining right.new) × ((St.holds store.old).told ≡ true → WroteFront plan.now (page_len plan.now (St.holds store.old).block_len) (both_told (S.remaining left.old) (S.remaining right.old)) (K.contents sink.old) (K.contents sink.new)))) }
     ensures sink { CountsSink (IsErrOf result QueryErr.SinkFault) (K.faults sink.old) (K.faults sink.new) }
+    ensures stops { StopsAt (IsErrOf result QueryErr.SinkFault) (K.at_failure sink.old) (K.at_failure sink.new) (K.contents sink.new) }
     ensures kept { OnOk result (KeptRows plan.now (page_len plan.now (St.holds store.old).block_len) (S.remaining left.old) (S.remaining right.old) (St.signs store.old).trail (St.signs store.new).trail) }
     ensures store { RanOver plan.now (both_told (S.remaining left.old) (S.remaining right.old)) (St.holds store.old) (St.holds store.new) (St.signs store.old) (St.signs store.new) }
     ensures sources_kept { (S.faults left.old ≤ S.faults left.new) × (S.faults right.old ≤ S.faults right.new) }
@@ -152,6 +154,7 @@ fn answer<St: Store, S: Source, K: Sink>(
     ensures stopped { IfErr result.0 (λ _. (sink.new ≡ sink.old) ⊎ (IsAtEnd (S.remaining left.new) × IsAtEnd (S.remaining right.new) × ((St.holds store.old).told ≡ true → WroteFront plan.now page (both_told (S.remaining left.old) (S.remaining right.old)) (K.contents sink.old) (K.contents sink.new)))) }
     ensures front { (St.holds store.old).told ≡ true → IsErrOf result.0 QueryErr.SinkFault → WroteFront plan.now page (both_told (S.remaining left.old) (S.remaining right.old)) (K.contents sink.old) (K.contents sink.new) }
     ensures sink { CountsSink (IsErrOf result.0 QueryErr.SinkFault) (K.faults sink.old) (K.faults sink.new) }
+    ensures stops { StopsAt (IsErrOf result.0 QueryErr.SinkFault) (K.at_failure sink.old) (K.at_failure sink.new) (K.contents sink.new) }
     ensures kept { OnOk result.0 (KeptBoth plan.now asked.now page (S.remaining left.old) (S.remaining right.old) (over result.1.left (St.holds store.new) (St.signs store.new)) (over result.1.right (St.holds store.new) (St.signs store.new)) (St.signs store.old).trail (St.signs store.new).trail) }
     ensures op { IsOperator result.1 (St.holds store.new) (St.signs store.new) × (result.1.client ≡ op.client) }
     ensures leaves { LeavesOthers op.client.tracker (St.holds store.old) (St.holds store.new) (St.signs store.old) (St.signs store.new) }

@@ -1,6 +1,8 @@
 // The pairs of what was fed become the lines of an answer.
 
 ghost use Rattle.std.specs.Prelude.{◌≡◌, ◌+◌, ◌*◌, ◌≤◌, ◌<◌, ◌^◌, [], List, Option, None, Some, false, length, true, ⊤, map, IfErr, IfOk, IsErrOf, OnErr, OnOk};
+ghost use Rattle.outside.specs.Sinks.{StopsAt};
+ghost use Rattle.outside.specs.Faults.{faults_of};
 ghost use Rattle.pool_model.specs.declared.entry.Entry.{Entry};
 ghost use Rattle.row_codec.specs.declared.values.Agg.TheVariants.{Sum};
 ghost use Rattle.row_codec.specs.declared.values.Value.{Value};
@@ -60,6 +62,7 @@ pub(crate) fn write_pairs<St: Store, K: Sink>(
     ensures pool { IfErr result (StoppedOver op.old.left.page_blocks (join_slots op.old (St.holds store.old) (St.signs store.old)) (St.signs store.old) (St.signs store.new)) }
     ensures enough { IfErr result (OfPool (λ e. (start : Option (List Entry)) → (lefts rights : List (List Value)) → Keeps start lefts rights op.old (St.holds store.old) (St.signs store.old) → (St.holds store.old).told ≡ true → IsWantBelow (slots_for op.old (St.holds store.old) lefts rights) (join_slots op.old (St.holds store.old) (St.signs store.old)) e)) }
     ensures sink { CountsSink (IsErrOf result QueryErr.SinkFault) (K.faults sink.old) (K.faults sink.new) }
+    ensures stops { StopsAt (IsErrOf result QueryErr.SinkFault) (K.at_failure sink.old) (K.at_failure sink.new) (K.contents sink.new) }
     ensures op { IsOperator op.new (St.holds store.new) (St.signs store.new) }
     ensures client { op.new.client ≡ op.old.client }
     ensures leaves { LeavesOthers op.old.client.tracker (St.holds store.old) (St.holds store.new) (St.signs store.old) (St.signs store.new) }
@@ -108,10 +111,10 @@ fn drive_pairs<'a, B: Start, St: Store, K: Sink>(
     requires feeding { IsFeeding op.old }
     requires name { lines.sink.ghost_name ≡ B.name }
     requires sums { lines.sums.items ≡ map Sum B.before.columns }
-    requires none { HasTaken B.before [] (written (K.contents lines.sink.now) (K.faults lines.sink.now) lines.stopped lines.part.lines lines.rows lines.totals.items) }
-    ensures ok { OnOk result.0 ((start : Option (List Entry)) → (lefts rights : List (List Value)) → Keeps start lefts rights op.old (St.holds store.old) (St.signs store.old) → (St.holds store.old).told ≡ true → HasTakenPairs (pairs_of op.old.shape lefts rights) B.before (written (K.contents result.1.sink.now) (K.faults result.1.sink.now) result.1.stopped result.1.part.lines result.1.rows result.1.totals.items)) }
-    ensures err { OnErr result.0 ((start : Option (List Entry)) → (lefts rights : List (List Value)) → Keeps start lefts rights op.old (St.holds store.old) (St.signs store.old) → (St.holds store.old).told ≡ true → HasTakenSomePairs (pairs_of op.old.shape lefts rights) B.before (written (K.contents result.1.sink.now) (K.faults result.1.sink.now) result.1.stopped result.1.part.lines result.1.rows result.1.totals.items)) }
-    ensures any { (rows : List (List Value)) × HasTaken B.before rows (written (K.contents result.1.sink.now) (K.faults result.1.sink.now) result.1.stopped result.1.part.lines result.1.rows result.1.totals.items) }
+    requires none { HasTaken B.before [] (written (K.contents lines.sink.now) (faults_of K.Sink lines.sink.now) lines.stopped lines.part.lines lines.rows lines.totals.items) }
+    ensures ok { OnOk result.0 ((start : Option (List Entry)) → (lefts rights : List (List Value)) → Keeps start lefts rights op.old (St.holds store.old) (St.signs store.old) → (St.holds store.old).told ≡ true → HasTakenPairs (pairs_of op.old.shape lefts rights) B.before (written (K.contents result.1.sink.now) (faults_of K.Sink result.1.sink.now) result.1.stopped result.1.part.lines result.1.rows result.1.totals.items)) }
+    ensures err { OnErr result.0 ((start : Option (List Entry)) → (lefts rights : List (List Value)) → Keeps start lefts rights op.old (St.holds store.old) (St.signs store.old) → (St.holds store.old).told ≡ true → HasTakenSomePairs (pairs_of op.old.shape lefts rights) B.before (written (K.contents result.1.sink.now) (faults_of K.Sink result.1.sink.now) result.1.stopped result.1.part.lines result.1.rows result.1.totals.items)) }
+    ensures any { (rows : List (List Value)) × HasTaken B.before rows (written (K.contents result.1.sink.now) (faults_of K.Sink result.1.sink.now) result.1.stopped result.1.part.lines result.1.rows result.1.totals.items) }
     ensures kept { OnOk result.0 ((start : Option (List Entry)) → (lefts rights : List (List Value)) → Keeps start lefts rights op.old (St.holds store.old) (St.signs store.old) → EnteredEvents (HoldsSides op.old.shape lefts rights (over op.new.left (St.holds store.new) (St.signs store.new)) (over op.new.right (St.holds store.new) (St.signs store.new)) ⊤) start (St.signs store.new).trail) }
     ensures op { IsOperator op.new (St.holds store.new) (St.signs store.new) }
     ensures client { op.new.client ≡ op.old.client }

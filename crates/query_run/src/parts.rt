@@ -3,6 +3,7 @@
 ghost use Rattle.std.specs.Prelude.{Option, ◌≡◌, ◌≢◌, ◌≤◌, ℕ, List, [], ◌++◌, IfErr, IfOk, IsErrOf, OnErr, OnOk};
 ghost use Rattle.std.specs.Io.KnownBytes.{Appends};
 ghost use Rattle.outside.specs.Counts.{Rose};
+ghost use Rattle.outside.specs.Sinks.{EndsAt, StopsAt};
 ghost use Rattle.row_codec.specs.declared.values.Value.{Value};
 ghost use Rattle.csv_edge.specs.Lines.{line_of};
 ghost use Rattle.query_run.specs.Parts.{FrontOf, HasSent, StopsWriting};
@@ -51,6 +52,8 @@ impl Part {
         ensures front { OnErr result (FrontOf (K.contents sink.old) (K.contents sink.new) self.old.lines) }
         ensures cause { IfErr result StopsWriting }
         ensures fault { IsErrOf result QueryErr.SinkFault → Rose (K.faults sink.old) (K.faults sink.new) }
+        ensures unbroken { OnOk result (K.at_failure sink.new ≡ K.at_failure sink.old) }
+        ensures stops { IfErr result (λ e. StopsAt (e ≡ QueryErr.SinkFault) (K.at_failure sink.old) (K.at_failure sink.new) (K.contents sink.new)) }
         ensures quiet { OnOk result (K.faults sink.new ≡ K.faults sink.old) }
         ensures quiet_stop { IfErr result (λ e. e ≢ QueryErr.SinkFault → K.faults sink.new ≡ K.faults sink.old) }
         ensures never_falls { K.faults sink.old ≤ K.faults sink.new }
@@ -72,6 +75,8 @@ impl Part {
         ensures front { OnErr result (FrontOf (K.contents sink.old) (K.contents sink.new) self.old.lines) }
         ensures cause { IfErr result StopsWriting }
         ensures fault { IsErrOf result QueryErr.SinkFault → Rose (K.faults sink.old) (K.faults sink.new) }
+        ensures unbroken { OnOk result (K.at_failure sink.new ≡ K.at_failure sink.old) }
+        ensures stops { IfErr result (λ e. StopsAt (e ≡ QueryErr.SinkFault) (K.at_failure sink.old) (K.at_failure sink.new) (K.contents sink.new)) }
         ensures quiet { OnOk result (K.faults sink.new ≡ K.faults sink.old) }
         ensures quiet_stop { IfErr result (λ e. e ≢ QueryErr.SinkFault → K.faults sink.new ≡ K.faults sink.old) }
         ensures never_falls { K.faults sink.old ≤ K.faults sink.new }
@@ -93,6 +98,8 @@ impl Part {
         ensures front { OnErr result (FrontOf (K.contents sink.old) (K.contents sink.new) self.old.lines) }
         ensures cause { IfErr result StopsWriting }
         ensures fault { IsErrOf result QueryErr.SinkFault → Rose (K.faults sink.old) (K.faults sink.new) }
+        ensures unbroken { OnOk result (K.at_failure sink.new ≡ K.at_failure sink.old) }
+        ensures stops { IfErr result (λ e. StopsAt (e ≡ QueryErr.SinkFault) (K.at_failure sink.old) (K.at_failure sink.new) (K.contents sink.new)) }
         ensures quiet { OnOk result (K.faults sink.new ≡ K.faults sink.old) }
         ensures quiet_stop { IfErr result (λ e. e ≢ QueryErr.SinkFault → K.faults sink.new ≡ K.faults sink.old) }
         ensures never_falls { K.faults sink.old ≤ K.faults sink.new }
@@ -124,6 +131,8 @@ fn room_of(row: &[Value]) -> usize {
 fn write_parts<K: Sink>(sink: &mut K, text: &[u8]) -> Result<(), Failed>
     ensures ok { OnOk result (Appends (K.contents sink.old) (K.contents sink.new) text.now) }
     ensures err { IfErr result (λ _. FrontOf (K.contents sink.old) (K.contents sink.new) text.now) }
+    ensures unbroken { OnOk result (K.at_failure sink.new ≡ K.at_failure sink.old) }
+    ensures stops { OnErr result (EndsAt (K.at_failure sink.old) (K.at_failure sink.new) (K.contents sink.new)) }
     ensures quiet { OnOk result (K.faults sink.new ≡ K.faults sink.old) }
     ensures failed { IfErr result (λ _. Rose (K.faults sink.old) (K.faults sink.new)) }
     ensures never_falls { K.faults sink.old ≤ K.faults sink.new }

@@ -2,6 +2,7 @@
 
 ghost use Rattle.std.specs.Prelude.{◌≡◌, ◌≤◌, ◌⊎◌, IfErr, IfOk, IfSome, IsErrOf, IsSome, OnOk, is_some, true};
 ghost use Rattle.std.specs.Io.KnownBytes.{IsAtEnd};
+ghost use Rattle.outside.specs.Sinks.{StopsAt};
 ghost use Rattle.query_plan.specs.Sizes.{joins, page_len};
 ghost use Rattle.query_run.specs.Answer.{Numbers, WroteAnswer, WroteFront};
 ghost use Rattle.query_run.specs.Both.{HoldsInput, both_told, faults_in, told_in};
@@ -63,6 +64,7 @@ pub fn run_query<St: Store, S: Source, K: Sink>(
     ensures untouched { IfErr result (λ e. IsSome (side_of e) → sink.new ≡ sink.old) }
     ensures stopped { IfErr result (λ _. (sink.new ≡ sink.old) ⊎ (IsAtEnd (S.remaining left.new) × IsAtEnd (told_in S.remaining right.new) × ((St.holds store.old).told ≡ true → WroteFront plan.now (page_len plan.now (St.holds store.old).block_len) (both_told (S.remaining left.old) (told_in S.remaining right.old)) (K.contents sink.old) (K.contents sink.new)))) }
     ensures sink { CountsSink (IsErrOf result QueryErr.SinkFault) (K.faults sink.old) (K.faults sink.new) }
+    ensures stops { StopsAt (IsErrOf result QueryErr.SinkFault) (K.at_failure sink.old) (K.at_failure sink.new) (K.contents sink.new) }
 
     ensures kept { OnOk result (KeptRows plan.now (page_len plan.now (St.holds store.old).block_len) (S.remaining left.old) (told_in S.remaining right.old) (St.signs store.old).trail (St.signs store.new).trail) }
     ensures store { RanOver plan.now (both_told (S.remaining left.old) (told_in S.remaining right.old)) (St.holds store.old) (St.holds store.new) (St.signs store.old) (St.signs store.new) }

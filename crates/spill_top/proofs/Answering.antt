@@ -13,7 +13,8 @@ use Rattle.query_run.specs.Answer.{Numbers, WroteAnswer, WroteFront}
 use Rattle.query_run.specs.Both.{HoldsInput, Told, both_told, faults_in, told_in}
 use Rattle.query_run.specs.Causes.{OfPool, side_of}
 use Rattle.query_run.specs.Refused.{SaysOfInputs, source}
-use Rattle.query_run.specs.Stopped.{MayStop, RanOver}
+use Rattle.query_run.specs.Stopped.{RanOver}
+use Rattle.spill_top.specs.Unmarked.{MayStopUnmarked}
 use Rattle.query_run.specs.Trail.{KeptRows}
 use Rattle.query_run.specs.declared.outcome.QueryErr.{QueryErr}
 use Rattle.query_run.specs.declared.outcome.QueryErr.TheVariants as cause
@@ -103,7 +104,7 @@ module _ {S K St : Type 0} (remaining : S → Option (List ℕ)) (reads : S → 
 
   -- it stopped
   pub with_stop : (why : QueryErr) → SaysOfInputs query page (source (remaining left) (remaining left_now) (reads left) (reads left_now)) (source (told_in remaining right) (told_in remaining right_now) (faults_in reads right) (faults_in reads right_now)) why
-      → MayStop query given (holds session) (signs session) (signs later) why → (why ≡ cause.SinkFault → Rose (writes sink) (writes sink_now)) → (IsSome (side_of why) → sink_now ≡ sink)
+      → MayStopUnmarked query given (holds session) (signs session) (signs later) why → (why ≡ cause.SinkFault → Rose (writes sink) (writes sink_now)) → (IsSome (side_of why) → sink_now ≡ sink)
       → (sink_now ≡ sink) ⊎ (IsAtEnd (remaining left_now) × IsAtEnd (told_in remaining right_now) × ((holds session).told ≡ true → WroteFront query page given (contents sink) (contents sink_now)))
       → IsAnswered remaining reads contents writes holds signs query before (after (Stopped why))
   with_stop why says may fault untouched stopped = record {

@@ -1,6 +1,7 @@
 -- Why a command was refused.
 use Rattle.std.proofs.Common.{◌≡◌, ◌≢◌, ◌∙◌, ◌*◌, ◌^◌, ◌<◌, ◌≤◌, ℕ, List, Option, Some, None, IfSome, sym, refl, subst, arith}
 use Rattle.std.proofs.lemmas.Option.{none-some, same_Some}
+use Rattle.outside.specs.Faults.{Faults}
 use Rattle.outside.specs.Counts.{Rose}
 use Rattle.outside.specs.Told.{GivesBytes}
 use Rattle.pin_core.specs.declared.tally.Tally.{Tally}
@@ -59,7 +60,7 @@ device told before now slots slots_now command (Write entry) cause eight = cause
 device told before now slots slots_now command (Read entry) cause eight = cause
 
 -- status 8 is a fault of a slot
-pub device_fault : (status : ℕ) (command : Command) (told : Option (List ℕ)) (faults faults_now : ℕ) (slots slots_now : Tally) (report report_now : Option (List ℕ)) (writes writes_now : ℕ) → status ≡ 8
+pub device_fault : (status : ℕ) (command : Command) (told : Option (List ℕ)) (faults faults_now : ℕ) (slots slots_now : Tally) (report report_now : Option (List ℕ)) (writes writes_now : Faults) → status ≡ 8
     → Refuses status command told faults faults_now slots slots_now report report_now writes writes_now → HaveFailed slots slots_now
 device_fault status command told faults faults_now slots slots_now report report_now writes writes_now eight refuses =
     device told faults faults_now slots slots_now command refuses.why refuses.cause (sym refuses.status_is ∙ eight)
@@ -83,7 +84,7 @@ wants told before now slots slots_now command Names cause seven enough =
 wants told before now slots slots_now command (Write entry) cause seven enough = absurd (omega (arith, seven))
 wants told before now slots slots_now command (Read entry) cause seven enough = absurd (omega (arith, seven))
 
-pub never_wants : (status : ℕ) (command : Command) (told : Option (List ℕ)) (faults faults_now : ℕ) (slots slots_now : Tally) (report report_now : Option (List ℕ)) (writes writes_now : ℕ)
+pub never_wants : (status : ℕ) (command : Command) (told : Option (List ℕ)) (faults faults_now : ℕ) (slots slots_now : Tally) (report report_now : Option (List ℕ)) (writes writes_now : Faults)
     → (status ≢ 0 → status ≢ 9 → status ≢ 10 → Refuses status command told faults faults_now slots slots_now report report_now writes writes_now) → Suffices told slots command → status ≢ 7
 never_wants status command told faults faults_now slots slots_now report report_now writes writes_now refused enough = λ seven.
     let refuses = refused (λ (is : status ≡ 0). omega (arith, is, seven)) (λ (is : status ≡ 9). omega (arith, is, seven)) (λ (is : status ≡ 10). omega (arith, is, seven)) in

@@ -40,9 +40,9 @@ few-rows check range =
     omega (arith, pass, long, most, sum)
 
 -- a line of an answer that met no fault tells it whole, or found no memory
-pub told_clear : (line : List ℕ) (before after : Telling) (status : ℕ) → (Rose before.faults after.faults → ⊥) → TellsAnswer line before after status → (status ≡ 0) ⊎ (status ≡ 10)
+pub told_clear : (line : List ℕ) (before after : Telling) (status : ℕ) → (Rose before.faults.count after.faults.count → ⊥) → TellsAnswer line before after status → (status ≡ 0) ⊎ (status ≡ 10)
 told_clear line before after status quiet (inl whole) = inl whole.0
-told_clear line before after status quiet (inr (inl front)) = absurd (quiet front.2)
+told_clear line before after status quiet (inr (inl (nine, front, rose, ends))) = absurd (quiet rose)
 told_clear line before after status quiet (inr (inr missing)) = inr missing.0
 
 module _ (check : Check) (range : IsInRange check) (quota : ℕ) (start now : Seen) (before after : Telling) (clear : IsCheckClear check quota start now before after) where
@@ -66,6 +66,7 @@ module _ (check : Check) (range : IsInRange check) (quota : ℕ) (start now : Se
   pool-clear (pool.TooManyTrackers count) stop = absurd stop
   pool-clear pool.NamesSpent stop = absurd (has-names stop)
   pool-clear pool.Memory stop = refl
+  pool-clear (pool.Stale wanted found) stop = absurd stop
 
   stop-clear : (why : QueryErr) (failed : Type 0) → (failed → ⊥) → IsCheckStop check (all_tell start.slots) quota (HaveFailed start.slots now.slots) failed why → status_of_error why ≡ 10
   stop-clear (query.SourceFault side) failed never stop = absurd stop

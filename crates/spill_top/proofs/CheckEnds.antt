@@ -88,6 +88,7 @@ module _ (check : Check) (quota : ℕ) (start now : Seen) (before after : Tellin
   pool-status page told S (pool.TooManyTrackers count) stop = absurd stop
   pool-status page told S pool.NamesSpent stop = inl refl
   pool-status page told S pool.Memory stop = inr (inr refl)
+  pool-status page told S (pool.Stale wanted found) stop = absurd stop
 
   stop-status : (tell : Bool) (why : QueryErr) (S failed : Type 0) → IsCheckStop check tell quota S failed why → (status_of_error why ≡ 7) ⊎ (status_of_error why ≡ 8) ⊎ (status_of_error why ≡ 9) ⊎ (status_of_error why ≡ 10)
   stop-status tell (query.SourceFault side) S failed stop = absurd stop

@@ -77,7 +77,7 @@ check_fits check range none =
     let some = range.some_blocks in
     let few = range.blocks in
     record {
-      opens = record { block_len = refl; some = some; blocks = omega (arith, few); memory = omega (arith, few) };
+      opens = record { block_len = refl; some = some; blocks = omega (arith, few); memory = omega (arith, few); profile = inl refl };
       first = refl;
       least = fits (check.blocks * 8192) 163840 none;
       allowed = fits (check.blocks * 8192) 163840 none;

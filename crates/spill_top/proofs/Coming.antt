@@ -141,6 +141,7 @@ one-or-refused (Err (pool.ReadFault entry)) is = is
 one-or-refused (Err (pool.TooManyTrackers count)) is = is
 one-or-refused (Err pool.NamesSpent) is = is
 one-or-refused (Err pool.Memory) is = is
+one-or-refused (Err (pool.Stale wanted found)) is = is
 
 -- ---- and so its job begins
 

@@ -63,6 +63,7 @@ module _ (plan : Query) (page : ℕ) (tell : Bool) (bytes : Side → Option (Lis
   stopped-complete (query.Pool (pool.TooManyTrackers count)) stopped = absurd stopped.pool
   stopped-complete (query.Pool pool.NamesSpent) stopped = absurd (clear.few stopped.pool)
   stopped-complete (query.Pool pool.Memory) stopped = refl
+  stopped-complete (query.Pool (pool.Stale wanted found)) stopped = absurd stopped.pool
 
   pub complete : (ending : Ending) → IsEnding plan page bytes (if_told tell (both_on bytes)) R W F N refused ending → IsComplete ending
   complete (Lines lines) so = tt

@@ -57,7 +57,7 @@ runs command =
 pub pool_fits : (command : Command) → HasMemoryFor (counting command) counting_conf
 unfolding bytes_of
 pool_fits command = record {
-  opens = record { block_len = refl; some = omega arith; blocks = omega arith; memory = omega arith };
+  opens = record { block_len = refl; some = omega arith; blocks = omega arith; memory = omega arith; profile = inl refl };
   first = refl;
   least = omega arith;
   allowed = omega arith;

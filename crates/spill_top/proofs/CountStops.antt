@@ -4,6 +4,8 @@ use Rattle.std.specs.Io.KnownBytes.{Appends, Keeps}
 use Rattle.std.proofs.lemmas.Bool.{false≢true}
 use Rattle.std.proofs.lemmas.Option.{none-some, same_Some}
 use Rattle.outside.specs.Counts.{Rose}
+use Rattle.outside.specs.Faults.{Faults, NoneFailed}
+use Rattle.outside.proofs.Stopping.{ends_later}
 use Rattle.outside.specs.Told.{GivesBytes}
 use Rattle.csv_edge.specs.Written.{AppendsFront}
 use Rattle.reservation_tree.specs.declared.errors.PoolErr.{PoolErr}
@@ -90,6 +92,7 @@ pool_cause told given before now quota slots slots_now command (pool.TooManyTrac
 pool_cause told given before now quota slots slots_now command pool.NamesSpent refusal is gives many stop =
     subst (IsCause told before now slots slots_now command) (same_Some _ refusal is) (with-told (all_tell slots) told given _ gives stop)
 pool_cause told given before now quota slots slots_now command pool.Memory refusal is gives many stop = absurd (none-some refusal is)
+pool_cause told given before now quota slots slots_now command (pool.Stale wanted found) refusal is gives many stop = absurd stop
 
 pool-answers : (plan : Query) (page quota : ℕ) (told : Option Told) (slots slots_now : Tally) (why : PoolErr) → IsPoolStop plan page told quota (HaveFailed slots slots_now) why → (why ≡ pool.Memory) ⊎ IsSome (refusal_of_pool why)
 pool-answers plan page quota told slots slots_now (pool.NoReservation tracker wanted room) stop = absurd stop
@@ -99,6 +102,7 @@ pool-answers plan page quota told slots slots_now (pool.ReadFault entry) stop = 
 pool-answers plan page quota told slots slots_now (pool.TooManyTrackers count) stop = absurd stop
 pool-answers plan page quota told slots slots_now pool.NamesSpent stop = inr refl
 pool-answers plan page quota told slots slots_now pool.Memory stop = inl refl
+pool-answers plan page quota told slots slots_now (pool.Stale wanted found) stop = absurd stop
 
 pub answers_so : (plan : Query) (page quota : ℕ) (told : Option Told) (slots slots_now : Tally) (e : QueryErr) → OfPool (IsPoolStop plan page told quota (HaveFailed slots slots_now)) e → OfPool (λ why. (why ≡ pool.Memory) ⊎ IsSome (refusal_of_pool why)) e
 answers_so plan page quota told slots slots_now (query.SourceFault side) stop = tt
@@ -135,6 +139,7 @@ of-pool (pool.ReadFault entry) refusal is = subst IsOfPool (same_Some _ refusal 
 of-pool (pool.TooManyTrackers count) refusal is = absurd (none-some refusal is)
 of-pool pool.NamesSpent refusal is = subst IsOfPool (same_Some _ refusal is) tt
 of-pool pool.Memory refusal is = absurd (none-some refusal is)
+of-pool (pool.Stale wanted found) refusal is = absurd (none-some refusal is)
 
 both : (written : Bool) → written ≡ false → written ≡ true → ⊥
 both written unwritten is = false≢true (sym unwritten ∙ is)
@@ -156,8 +161,8 @@ no_fault e refusal is same = none-some refusal (sym (ap refusal_for same) ∙ is
 pub memory_alone : (e : QueryErr) → e ≡ query.Pool pool.Memory → e ≡ query.SinkFault → ⊥
 memory_alone e memory fault = cc
 
--- then the report's faults stay
-pub stays_so : {T : Type 0} (result : Result T QueryErr) (e : QueryErr) (before now : ℕ) → result ≡ Err e → (e ≡ query.SinkFault → ⊥) → (result ≡ Err query.SinkFault) ⊎ (now ≡ before) → now ≡ before
+-- then what a call keeps unless its sink failed stays
+pub stays_so : {T X : Type 0} (result : Result T QueryErr) (e : QueryErr) (before now : X) → result ≡ Err e → (e ≡ query.SinkFault → ⊥) → (result ≡ Err query.SinkFault) ⊎ (now ≡ before) → now ≡ before
 stays_so {T} result e before now is apart (inl fault) =
     let two : ◌≡◌ {A = Result T QueryErr} (Err e) (Err query.SinkFault) = sym is ∙ fault in
     let same : e ≡ query.SinkFault = cc in
@@ -202,10 +207,11 @@ keeps-behind (Some xs) (Some ys) new kept more = subst (λ (zs : List ℕ). Keep
 front-behind : (old mid new : Option (List ℕ)) (line : List ℕ) → Keeps old mid → AppendsFront mid new line → AppendsFront old new line
 front-behind old mid new line kept (n, few, more) = (n, few, appends-behind old mid new _ kept more)
 
-pub told_behind : (line : List ℕ) (old mid new : Option (List ℕ)) (before between now : ℕ) → Keeps old mid → between ≡ before → Tells line mid new between now → Tells line old new before now
-told_behind line old mid new before between now kept same (inl (more, quiet)) = inl (appends-behind old mid new line kept more, quiet ∙ same)
-told_behind line old mid new before between now kept same (inr (rose, front)) = inr (subst (λ (n : ℕ). Rose n now) same rose, front-behind old mid new line kept front)
+pub told_behind : (line : List ℕ) (old mid new : Option (List ℕ)) (before between now : Faults) → Keeps old mid → NoneFailed before between → Tells line mid new between now → Tells line old new before now
+told_behind line old mid new before between now kept same (inl (more, quiet)) = inl (appends-behind old mid new line kept more, (quiet.0 ∙ same.0, quiet.1 ∙ same.1))
+told_behind line old mid new before between now kept same (inr (fails, front)) =
+    inr ((subst (λ (n : ℕ). Rose n now.count) same.0 fails.0, ends_later before.first between.first now.first new same.1 fails.1), front-behind old mid new line kept front)
 
-pub missed_behind : (line : List ℕ) (old mid new : Option (List ℕ)) (before between now : ℕ) → Keeps old mid → between ≡ before → TellsOrMisses line mid new between now → TellsOrMisses line old new before now
+pub missed_behind : (line : List ℕ) (old mid new : Option (List ℕ)) (before between now : Faults) → Keeps old mid → NoneFailed before between → TellsOrMisses line mid new between now → TellsOrMisses line old new before now
 missed_behind line old mid new before between now kept same (inl tells) = inl (told_behind line old mid new before between now kept same tells)
-missed_behind line old mid new before between now kept same (inr (more, quiet)) = inr (keeps-behind old mid new kept more, quiet ∙ same)
+missed_behind line old mid new before between now kept same (inr (more, quiet)) = inr (keeps-behind old mid new kept more, (quiet.0 ∙ same.0, quiet.1 ∙ same.1))

@@ -61,5 +61,6 @@ mod SharedNames
 mod SharedStops
 mod SharedStored
 mod Seating
+mod NoMarks
 mod Answering
 mod AtGate

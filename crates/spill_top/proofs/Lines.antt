@@ -7,6 +7,8 @@ use Rattle.spill_top.proofs.Places.{drop_here}
 use Rattle.std.specs.Io.KnownBytes.{Appends}
 use Rattle.csv_edge.specs.Written.{AppendsFront}
 use Rattle.outside.specs.Counts.{Rose}
+use Rattle.outside.specs.Sinks.{EndsAt}
+use Rattle.outside.specs.Faults.{Faults, FailsAt, NoneFailed}
 use Rattle.query_plan.specs.declared.plan.Query.{Query}
 use Rattle.spill_top.specs.declared.ending.Ending.{Ending}
 use Rattle.spill_top.specs.Ran.{IsRunStatus, Reported, Telling, first_status, if_made, line_of_query, lines_from}
@@ -120,13 +122,13 @@ lines_end queries ends place text missing status before now all is tells status_
 pub status_first : (first status : ℕ) (made : List Bool) (before now : Telling) → first ≢ 0 → status ≡ first → IsRunStatus first made before now status
 status_first first status made before now some is = inl (some, is)
 
-pub status_fault : (first : ℕ) (made : List Bool) (before now : Telling) → first ≡ 0 → Rose before.faults now.faults → IsRunStatus first made before now 9
-status_fault first made before now none rose = inr (none, inr (inl (refl, rose)))
+pub status_fault : (first : ℕ) (made : List Bool) (before now : Telling) → first ≡ 0 → FailsAt before.faults now.faults now.text → IsRunStatus first made before now 9
+status_fault first made before now none fails = inr (none, inr (inl (refl, fails)))
 
 pub status_missing : (first : ℕ) (made : List Bool) (before now : Telling) → first ≡ 0 → list_all (λ is. is) made ≡ false → IsRunStatus first made before now 10
 status_missing first made before now none short = inr (none, inr (inr (refl, short)))
 
-pub status_ok : (first status : ℕ) (made : List Bool) (before now : Telling) → first ≡ 0 → status ≡ first → list_all (λ is. is) made ≡ true → now.faults ≡ before.faults → IsRunStatus first made before now status
+pub status_ok : (first status : ℕ) (made : List Bool) (before now : Telling) → first ≡ 0 → status ≡ first → list_all (λ is. is) made ≡ true → NoneFailed before.faults now.faults → IsRunStatus first made before now status
 status_ok first status made before now none is whole same = inr (none, inl (is ∙ none, whole, same))
 
 -- what a call that failed, or did not, ensures
@@ -138,7 +140,7 @@ pub ok_holds : {E : Type 0} {P : Type 0} (result : Result Unit E) → is_err res
 ok_holds (Ok u) is holds = holds
 ok_holds (Err e) is holds = absurd (false≢true (sym is))
 
-pub told_so : {E : Type 0} (text piece : List ℕ) (old new : Option (List ℕ)) (before now : ℕ) (result : Result Unit E) → piece ≡ text → OnOk result (Appends old new piece) → OnErr result (AppendsFront old new piece)
-    → OnOk result (now ≡ before) → OnErr result (Rose before now) → Tells text old new before now
-told_so text piece old new before now (Ok u) same ok err quiet failed = inl (subst (λ (t : List ℕ). Appends old new t) same ok, quiet)
-told_so text piece old new before now (Err e) same ok err quiet failed = inr (failed, subst (λ (t : List ℕ). AppendsFront old new t) same err)
+pub told_so : {E : Type 0} (text piece : List ℕ) (old new : Option (List ℕ)) (before now : Faults) (result : Result Unit E) → piece ≡ text → OnOk result (Appends old new piece) → OnErr result (AppendsFront old new piece)
+    → OnOk result (now.count ≡ before.count) → OnErr result (Rose before.count now.count) → OnOk result (now.first ≡ before.first) → OnErr result (EndsAt before.first now.first new) → Tells text old new before now
+told_so text piece old new before now (Ok u) same ok err quiet failed unbroken stops = inl (subst (λ (t : List ℕ). Appends old new t) same ok, (quiet, unbroken))
+told_so text piece old new before now (Err e) same ok err quiet failed unbroken stops = inr ((failed, stops), subst (λ (t : List ℕ). AppendsFront old new t) same err)

@@ -31,7 +31,8 @@ use Rattle.pool.proofs.Seated.{quotas_begun, quotas_ended}
 use Rattle.query_plan.specs.declared.plan.Query.{Query}
 use Rattle.query_plan.specs.Sizes.{least_of, page_len}
 use Rattle.query_run.specs.Both.{both_told}
-use Rattle.query_run.specs.Stopped.{IsLeft, MayStop, RanOver}
+use Rattle.query_run.specs.Stopped.{IsLeft, RanOver}
+use Rattle.spill_top.specs.Unmarked.{MayStopUnmarked}
 use Rattle.query_run.specs.Trail.{KeptRows}
 use Rattle.query_run.specs.declared.outcome.QueryErr.{QueryErr}
 use Rattle.query_run.specs.declared.outcome.Ran.{Ran}
@@ -190,7 +191,7 @@ module _ (o : Opening) (told : Bool) (limit quota least slots : ℕ) (before mid
 module _ (o : Opening) (told : Bool) (plan : Query) (quota least slots : ℕ) (before mid later after : Spot Item) (s last : Sitting) (opened : (free : ℕ) × IsPass slots free before) (lent : (free : ℕ) × IsPass slots free later) (back : (free : ℕ) × IsPass slots free after) (fresh : before.knows.seen ≡ []) (is : least ≡ least_of plan o.block_len) (begins : Begins o told plan.limit quota least before mid s) (waits : Waits mid later) (sits : Sits o told last) (ends : Ends o last later after) where
   pub ran_alone : (lefts rights : Option (List ℕ)) (result : Result Ran QueryErr)
       → RanOver plan (both_told lefts rights) (held_by o told s) (held_by o told last) (signs_by o s) (signs_by o last)
-      → IfErr result (MayStop plan (both_told lefts rights) (held_by o told s) (signs_by o s) (signs_by o last))
+      → IfErr result (MayStopUnmarked plan (both_told lefts rights) (held_by o told s) (signs_by o s) (signs_by o last))
       → OnOk result (KeptRows plan (page_len plan (held_by o told s).block_len) lefts rights (signs_by o s).trail (signs_by o last).trail)
       → RanAlone o told plan quota after lefts rights result
   unfolding sat_alone

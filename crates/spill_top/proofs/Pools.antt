@@ -21,7 +21,8 @@ use Rattle.query_plan.specs.Sizes.{page_len}
 use Rattle.query_plan.specs.declared.plan.Query.{Query}
 use Rattle.query_run.specs.Both.{Told}
 use Rattle.query_run.specs.Causes.{OfPool}
-use Rattle.query_run.specs.Stopped.{IsWant, IsWantBelow, MakesFew, MayStop, StoppedQuery}
+use Rattle.query_run.specs.Stopped.{IsWant, IsWantBelow, MakesFew}
+use Rattle.spill_top.specs.Unmarked.{MayStopUnmarked, StoppedUnmarked}
 use Rattle.query_run.specs.Through.{need, rows_through}
 use Rattle.query_run.specs.declared.outcome.QueryErr.{QueryErr}
 use Rattle.query_run.specs.declared.outcome.QueryErr.TheVariants as query
@@ -106,22 +107,23 @@ lacks-slots plan page quota told start blocks free is paged enough =
 
 stop : (plan : Query) (page quota : ℕ) (told : Option Told) (tell : Bool) (start : Holdings) (old new : Signs) (failures blocks : ℕ) (before now : Tally) (e : PoolErr) → Counted failures blocks before now → new.failures ≤ failures
     → start.free_slots ≡ Some quota → page_len plan start.block_len ≡ page → (tell ≡ true → start.told ≡ true) → (new.spent ≡ true → MaySpendNames plan (if_told tell told))
-    → StoppedQuery plan told start old new e → IsPoolStop plan page (if_told tell told) quota (HaveFailed before now) e
-stop plan page quota told tell start old new failures blocks before now (pool.NoReservation tracker wanted room) counted fails free paged tells names stopped = absurd stopped.answered
+    → StoppedUnmarked plan told start old new e → IsPoolStop plan page (if_told tell told) quota (HaveFailed before now) e
+stop plan page quota told tell start old new failures blocks before now (pool.NoReservation tracker wanted room) counted fails free paged tells names stopped = absurd stopped.by_store.answered
 stop plan page quota told tell start old new failures blocks before now (pool.ScratchFull lacks left) counted fails free paged tells names stopped = (
-  subst (λ (o : Option ℕ). IsWant plan.page_blocks o (pool.ScratchFull lacks left)) free stopped.want,
-  if-tells tell told _ (λ does. lacks-slots plan page quota told start lacks left free paged (stopped.enough (tells does))),
+  subst (λ (o : Option ℕ). IsWant plan.page_blocks o (pool.ScratchFull lacks left)) free stopped.by_store.want,
+  if-tells tell told _ (λ does. lacks-slots plan page quota told start lacks left free paged (stopped.by_store.enough (tells does))),
 )
-stop plan page quota told tell start old new failures blocks before now (pool.WriteFault entry) counted fails free paged tells names stopped = let answered = stopped.answered in failed old new failures blocks before now counted fails answered.rose
-stop plan page quota told tell start old new failures blocks before now (pool.ReadFault entry) counted fails free paged tells names stopped = let answered = stopped.answered in failed old new failures blocks before now counted fails answered.rose
-stop plan page quota told tell start old new failures blocks before now (pool.TooManyTrackers count) counted fails free paged tells names stopped = absurd stopped.answered
-stop plan page quota told tell start old new failures blocks before now pool.NamesSpent counted fails free paged tells names stopped = names stopped.answered
+stop plan page quota told tell start old new failures blocks before now (pool.WriteFault entry) counted fails free paged tells names stopped = let answered = stopped.by_store.answered in failed old new failures blocks before now counted fails answered.rose
+stop plan page quota told tell start old new failures blocks before now (pool.ReadFault entry) counted fails free paged tells names stopped = let answered = stopped.by_store.answered in failed old new failures blocks before now counted fails answered.rose
+stop plan page quota told tell start old new failures blocks before now (pool.TooManyTrackers count) counted fails free paged tells names stopped = absurd stopped.by_store.answered
+stop plan page quota told tell start old new failures blocks before now pool.NamesSpent counted fails free paged tells names stopped = names stopped.by_store.answered
 stop plan page quota told tell start old new failures blocks before now pool.Memory counted fails free paged tells names stopped = tt
+stop plan page quota told tell start old new failures blocks before now (pool.Stale wanted found) counted fails free paged tells names stopped = absurd stopped.unmarked
 
 -- what the pool stopped the query with, as its slots tell it
 pub pool_stop : (plan : Query) (page quota : ℕ) (told : Option Told) (start : Holdings) (old new : Signs) (failures blocks : ℕ) (before now : Tally) (e : QueryErr) → Counted failures blocks before now → new.failures ≤ failures
     → start.free_slots ≡ Some quota → page_len plan start.block_len ≡ page → (all_tell before ≡ true → start.told ≡ true) → (new.spent ≡ true → MaySpendNames plan (if_told (all_tell before) told))
-    → MayStop plan told start old new e → OfPool (IsPoolStop plan page (if_told (all_tell before) told) quota (HaveFailed before now)) e
+    → MayStopUnmarked plan told start old new e → OfPool (IsPoolStop plan page (if_told (all_tell before) told) quota (HaveFailed before now)) e
 pool_stop plan page quota told start old new failures blocks before now (query.SourceFault side) counted fails free paged tells names may = tt
 pool_stop plan page quota told start old new failures blocks before now (query.BadHeader side) counted fails free paged tells names may = tt
 pool_stop plan page quota told start old new failures blocks before now (query.BadCsv side number) counted fails free paged tells names may = tt

@@ -2,6 +2,7 @@
 use Rattle.std.proofs.Common.{◌≡◌, ◌∙◌, ◌↔◌, ◌==◌, inl, inr, ℕ, Bool, true, false, List, [], ◌∷◌, Option, Some, None, IfSome, refl, sym, subst, arith}
 use Rattle.std.specs.Prelude.{if◌then◌else◌}
 use Rattle.std.proofs.lemmas.Option.{none-some}
+use Rattle.outside.specs.Faults.{Faults}
 use Rattle.pin_core.specs.declared.tally.Tally.{Tally}
 use Rattle.reservation_tree.specs.declared.errors.PoolErr.{PoolErr}
 use Rattle.reservation_tree.specs.declared.errors.PoolErr.TheVariants as pool
@@ -16,7 +17,7 @@ use Rattle.spill_top.specs.Report.{Tells, shortage}
 use Rattle.spill_top.specs.Running.{Seen}
 use Rattle.spill_top.specs.Words.{Command}
 
-short-count : (bytes_at : List ℕ → Option (List ℕ)) (faults faults_now : List ℕ → ℕ) (slots slots_now : Tally) (report report_now : Option (List ℕ)) (writes writes_now : ℕ) (command : Command) → Tells shortage report report_now writes writes_now
+short-count : (bytes_at : List ℕ → Option (List ℕ)) (faults faults_now : List ℕ → ℕ) (slots slots_now : Tally) (report report_now : Option (List ℕ)) (writes writes_now : Faults) (command : Command) → Tells shortage report report_now writes writes_now
     → Counted bytes_at faults faults_now slots slots_now report report_now writes writes_now 10 command
 short-count bytes_at faults faults_now slots slots_now report report_now writes writes_now command tells = record {
   status_is = inr (inr (inr (inr (inr (inr (inr refl))))));
@@ -44,7 +45,7 @@ pub of_each : {A : Type 0} → (found : Option A) (holds : A → Type 0) → ((x
 of_each None holds all = tt
 of_each (Some x) holds all = all x
 
-pub counted_short : (bytes_at : List ℕ → Option (List ℕ)) (faults faults_now : List ℕ → ℕ) (slots slots_now : Tally) (report report_now : Option (List ℕ)) (writes writes_now status : ℕ) (command : Command) → status ≡ 10 → Tells shortage report report_now writes writes_now
+pub counted_short : (bytes_at : List ℕ → Option (List ℕ)) (faults faults_now : List ℕ → ℕ) (slots slots_now : Tally) (report report_now : Option (List ℕ)) (writes writes_now : Faults) (status : ℕ) (command : Command) → status ≡ 10 → Tells shortage report report_now writes writes_now
     → Counted bytes_at faults faults_now slots slots_now report report_now writes writes_now status command
 counted_short bytes_at faults faults_now slots slots_now report report_now writes writes_now status command is tells =
     subst (λ (n : ℕ). Counted bytes_at faults faults_now slots slots_now report report_now writes writes_now n command) (sym is) (short-count bytes_at faults faults_now slots slots_now report report_now writes writes_now command tells)
@@ -72,6 +73,7 @@ pool-one (pool.ReadFault entry) one = omega (arith, one)
 pool-one (pool.TooManyTrackers count) one = omega (arith, one)
 pool-one pool.NamesSpent one = omega (arith, one)
 pool-one pool.Memory one = omega (arith, one)
+pool-one (pool.Stale wanted found) one = omega (arith, one)
 
 error-one : (why : QueryErr) → status_of_error why ≡ 1 → ⊥
 error-one (query.SourceFault side) one = omega (arith, one)

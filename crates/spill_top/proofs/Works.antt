@@ -67,6 +67,7 @@ stop-later plan page given told F F' N (pool.ReadFault entry) tells slots is = s
 stop-later plan page given told F F' N (pool.TooManyTrackers count) tells slots is = is
 stop-later plan page given told F F' N pool.NamesSpent tells slots is = is
 stop-later plan page given told F F' N pool.Memory tells slots is = is
+stop-later plan page given told F F' N (pool.Stale wanted found) tells slots is = is
 
 pub pool_later : (plan : Query) (page : ℕ) (given told : Option Told) (F F' N : Type 0) (why : QueryErr) → ((A : Told → Type 0) → IfSome given A → IfSome told A) → (F → F')
     → OfPool (IsSharedStop plan page given plan.quota F N) why → OfPool (IsSharedStop plan page told plan.quota F' N) why

@@ -42,7 +42,7 @@ checking check = record {
 
 -- with what its pool opens: a page is a block
 abbrev pub checking_conf : Check → PoolConf
-checking_conf check = record { blocks = check.blocks; block_len = 8192; first_name = 0 }
+checking_conf check = record { blocks = check.blocks; block_len = 8192; first_name = 0; profile = 1 }
 
 -- the bytes that it reads: the table
 abbrev pub table_of : Check → Told

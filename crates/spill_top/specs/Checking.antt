@@ -2,6 +2,7 @@
 use Rattle.std.specs.Prelude.{◌≡◌, ◌≤◌, ◌⊎◌, true, pos, ℕ, Bool, List, Option, Some, None, IsSome, slice_index_or}
 use Rattle.std.specs.Io.KnownBytes.{Appends, Keeps}
 use Rattle.outside.specs.Counts.{Rose}
+use Rattle.outside.specs.Faults.{FailsAt, NoneFailed}
 use Rattle.outside.specs.Names.{Written}
 use Rattle.csv_edge.specs.Written.{AppendsFront}
 use Rattle.pin_core.specs.declared.tally.Tally.{Tally}
@@ -68,9 +69,9 @@ summary_of ran = Summary ran.left ran.lines (slice_index_or ran.totals 0 (pos 0)
 -- the line of an answer was told: whole, or where the report failed a front of it, or it found no memory; the status says which
 abbrev pub TellsAnswer : List ℕ → Telling → Telling → ℕ → Type 0
 TellsAnswer line before after status =
-    ((status ≡ 0) × Appends before.text after.text line × (after.faults ≡ before.faults))
-    ⊎ ((status ≡ 9) × AppendsFront before.text after.text line × Rose before.faults after.faults)
-    ⊎ ((status ≡ 10) × Keeps before.text after.text × (after.faults ≡ before.faults))
+    ((status ≡ 0) × Appends before.text after.text line × NoneFailed before.faults after.faults)
+    ⊎ ((status ≡ 9) × AppendsFront before.text after.text line × FailsAt before.faults after.faults after.text)
+    ⊎ ((status ≡ 10) × Keeps before.text after.text × NoneFailed before.faults after.faults)
 
 -- the statuses of a check
 abbrev pub IsCheckStatus : ℕ → Type 0
@@ -97,7 +98,7 @@ pub record IsCheckClear (check : Check) (quota : ℕ) (start now : Seen) (before
   pub enough : need (checking check) page_bytes (table_of check) ≤ quota
   pub stored : HaveFailed start.slots now.slots → ⊥
   pub written : Rose (start.writes output_name) (now.writes output_name) → ⊥
-  pub told : Rose before.faults after.faults → ⊥
+  pub told : Rose before.faults.count after.faults.count → ⊥
 
 -- what a check comes to over so many slots: an answer, or the cause of its status; or memory was wanting before anything was done.
 -- Other outputs stay, and so do the inputs, and all slots are there again. Where nothing stands in its way it answers, or memory was wanting

@@ -23,4 +23,4 @@ counting command = record {
 
 -- with what its pool opens: a page is a block, and all memory is as much as it may reserve
 abbrev pub counting_conf : PoolConf
-counting_conf = record { blocks = 1024; block_len = 8192; first_name = 0 }
+counting_conf = record { blocks = 1024; block_len = 8192; first_name = 0; profile = 1 }

@@ -2,6 +2,7 @@
 use Rattle.std.specs.Prelude.{◌≡◌, ◌≢◌, ◌^◌, ◌≤◌, ◌<◌, ◌⊎◌, ℕ, List, [], Option, Some, IfSome, length, option_map, true}
 use Rattle.std.specs.Io.KnownBytes.{Keeps}
 use Rattle.outside.specs.Counts.{Rose}
+use Rattle.outside.specs.Faults.{Faults, FailsAt, NoneFailed}
 use Rattle.pin_core.specs.declared.tally.Tally.{Tally}
 use Rattle.spill_top.specs.Pooled.{memory_of}
 use Rattle.query_run.specs.Both.{Told, both_told}
@@ -61,14 +62,14 @@ IsCause told before now slots slots_now command Names = MaySpendNames (counting 
 IsCause told before now slots slots_now command (Write entry) = HaveFailed slots slots_now
 IsCause told before now slots slots_now command (Read entry) = HaveFailed slots slots_now
 
--- a front of the answer, which is not empty, was appended before the pool refused, and nothing behind it
-pub record Breaks (told : Option (List ℕ)) (slots : Tally) (report report_now : Option (List ℕ)) (writes writes_now : ℕ) (command : Command) : Type 0 where
+-- a front of the answer, which is not empty, was appended before the pool refused, and nothing behind it; no write failed
+pub record Breaks (told : Option (List ℕ)) (slots : Tally) (report report_now : Option (List ℕ)) (writes writes_now : Faults) (command : Command) : Type 0 where
   pub front : all_tell slots ≡ true → WroteFrontOver (counting command) page_bytes told report report_now
   pub some : Lengthens report report_now
-  pub quiet : writes_now ≡ writes
+  pub quiet : NoneFailed writes writes_now
 
 -- a refusal of this status: why, and its line in the report, unless that found no memory, or some of the answer was written
-pub record Refuses (status : ℕ) (command : Command) (told : Option (List ℕ)) (faults faults_now : ℕ) (slots slots_now : Tally) (report report_now : Option (List ℕ)) (writes writes_now : ℕ) : Type 0 where
+pub record Refuses (status : ℕ) (command : Command) (told : Option (List ℕ)) (faults faults_now : ℕ) (slots slots_now : Tally) (report report_now : Option (List ℕ)) (writes writes_now : Faults) : Type 0 where
   pub why : Refusal
   pub status_is : status ≡ status_of why
   pub cause : IsCause told faults faults_now slots slots_now command why
@@ -79,9 +80,9 @@ abbrev pub WroteLess : (List ℕ → Option (List ℕ)) → Option (List ℕ) �
 WroteLess bytes_at before now command = Keeps before now ⊎ AnswersInPart bytes_at before now command
 
 -- want of memory: the report has its line, or no more than a front of the answer and no new fault
-abbrev pub LacksMemory : (List ℕ → Option (List ℕ)) → Tally → Option (List ℕ) → Option (List ℕ) → ℕ → ℕ → Command → Type 0
+abbrev pub LacksMemory : (List ℕ → Option (List ℕ)) → Tally → Option (List ℕ) → Option (List ℕ) → Faults → Faults → Command → Type 0
 LacksMemory bytes_at slots report report_now writes writes_now command =
-    Tells shortage report report_now writes writes_now ⊎ ((all_tell slots ≡ true → WroteLess bytes_at report report_now command) × (writes_now ≡ writes))
+    Tells shortage report report_now writes writes_now ⊎ ((all_tell slots ≡ true → WroteLess bytes_at report report_now command) × NoneFailed writes writes_now)
 
 -- the bytes of the input are told, and this is the first refusal in them; they are no more than allowed
 pub record RefusesBytes (told : Option (List ℕ)) (command : Command) (why : QueryErr) : Type 0 where
@@ -121,18 +122,18 @@ StoresCount told slots slots_now command = HaveStored page_bytes (owed (counting
 -- a count: its answer, where all slots tell what they hold, or the cause of its status. Where they do and the bytes of the input
 -- are refused, that is answered, unless it can't be read or the pool stopped the count before; where these are accepted and no
 -- count rises, slots or memory can be wanting, and slots only where they don't suffice
-pub record Counted (bytes_at : List ℕ → Option (List ℕ)) (faults faults_now : List ℕ → ℕ) (slots slots_now : Tally) (report report_now : Option (List ℕ)) (writes writes_now status : ℕ) (command : Command) : Type 0 where
+pub record Counted (bytes_at : List ℕ → Option (List ℕ)) (faults faults_now : List ℕ → ℕ) (slots slots_now : Tally) (report report_now : Option (List ℕ)) (writes writes_now : Faults) (status : ℕ) (command : Command) : Type 0 where
   pub status_is : IsStatus status
   pub answer : all_tell slots ≡ true → status ≡ 0 → Answers bytes_at report report_now command
   pub input_fault : status ≡ 3 → Rose (faults command.file) (faults_now command.file)
   pub device_fault : status ≡ 8 → HaveFailed slots slots_now
   pub refused : status ≢ 0 → status ≢ 9 → status ≢ 10 → Refuses status command (bytes_at command.file) (faults command.file) (faults_now command.file) slots slots_now report report_now writes writes_now
   pub lacks_memory : status ≡ 10 → LacksMemory bytes_at slots report report_now writes writes_now command
-  pub quiet : status ≡ 0 → writes_now ≡ writes
+  pub quiet : status ≡ 0 → NoneFailed writes writes_now
   pub stored : status ≡ 0 → StoresCount (bytes_at command.file) slots slots_now command
-  pub output_fault : status ≡ 9 → Rose writes writes_now
+  pub output_fault : status ≡ 9 → FailsAt writes writes_now report_now
   pub part : all_tell slots ≡ true → status ≡ 9 → AnswersInPart bytes_at report report_now command
   pub refuses : all_tell slots ≡ true → (why : QueryErr) → RefusesBytes (bytes_at command.file) command why → IsStatusOf why status ⊎ (status ≡ 3) ⊎ IsPoolStatus status
   pub too_many : all_tell slots ≡ true → HasTooMany (bytes_at command.file) → (status ≡ 4) ⊎ (status ≡ 5) ⊎ (status ≡ 3) ⊎ IsPoolStatus status
-  pub succeeds : AcceptsInput (bytes_at command.file) command → (Rose (faults command.file) (faults_now command.file) ⊎ Rose writes writes_now ⊎ HaveFailed slots slots_now) ⊎ ((status ≡ 0) ⊎ (status ≡ 7) ⊎ (status ≡ 10))
+  pub succeeds : AcceptsInput (bytes_at command.file) command → (Rose (faults command.file) (faults_now command.file) ⊎ Rose writes.count writes_now.count ⊎ HaveFailed slots slots_now) ⊎ ((status ≡ 0) ⊎ (status ≡ 7) ⊎ (status ≡ 10))
   pub suffices : Suffices (bytes_at command.file) slots command → status ≢ 7

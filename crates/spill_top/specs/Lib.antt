@@ -7,6 +7,7 @@ pub mod Refusals
 pub mod Counting
 pub mod OneInput
 pub mod Pooled
+pub mod Unmarked
 pub mod Seated
 pub mod Storing
 pub mod Headline

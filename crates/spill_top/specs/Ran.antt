@@ -2,6 +2,7 @@
 use Rattle.std.specs.Prelude.{◌≡◌, ◌≢◌, ◌+◌, ◌*◌, ◌++◌, ◌==◌, ◌⊎◌, ℕ, Bool, true, false, List, [], ◌∷◌, Option, Some, None, Ok, Err, IfSome, length, if◌then◌else◌}
 use Rattle.std.specs.List.{list_all}
 use Rattle.outside.specs.Counts.{Rose}
+use Rattle.outside.specs.Faults.{Faults, FailsAt, NoneFailed}
 use Rattle.query_plan.specs.PlanOf.{plan_of}
 use Rattle.query_plan.specs.declared.error.PlanErr.{PlanErr}
 use Rattle.query_plan.specs.declared.plan.Plan.{Plan}
@@ -16,12 +17,12 @@ use Rattle.spill_top.specs.Reserving.{refusals_of}
 use Rattle.spill_top.specs.Running.{HaveEnded, Seen, Went}
 use Rattle.spill_top.specs.Storing.{HaveStored, all_owed}
 
--- the report's bytes, where they are told, and its faults
+-- the report: its bytes, where they are told, and its faults
 pub record Telling : Type 0 where
   pub text : Option (List ℕ)
-  pub faults : ℕ
+  pub faults : Faults
 
-abbrev pub telling : Option (List ℕ) → ℕ → Telling
+abbrev pub telling : Option (List ℕ) → Faults → Telling
 telling text faults = record { text = text; faults = faults }
 
 -- the line of the query at a place, which is counted from 0
@@ -46,7 +47,7 @@ first_status (ending ∷ ends) = if status_of ending == 0 then first_status ends
 abbrev pub IsRunStatus : ℕ → List Bool → Telling → Telling → ℕ → Type 0
 IsRunStatus first made before now status =
     ((first ≢ 0) × (status ≡ first))
-    ⊎ ((first ≡ 0) × (((status ≡ 0) × (list_all (λ is. is) made ≡ true) × (now.faults ≡ before.faults)) ⊎ ((status ≡ 9) × Rose before.faults now.faults) ⊎ ((status ≡ 10) × (list_all (λ is. is) made ≡ false))))
+    ⊎ ((first ≡ 0) × (((status ≡ 0) × (list_all (λ is. is) made ≡ true) × NoneFailed before.faults now.faults) ⊎ ((status ≡ 9) × FailsAt before.faults now.faults now.text) ⊎ ((status ≡ 10) × (list_all (λ is. is) made ≡ false))))
 
 -- a line for each query was appended to the report, or a front of them where its faults rose
 pub record Reported (queries : List Query) (ends : List Ending) (before now : Telling) (status : ℕ) : Type 0 where

@@ -1,5 +1,6 @@
 -- Which refusal the cause of a query is, and what a command says of it.
 use Rattle.std.specs.Prelude.{◌≡◌, ℕ, List, Option, Some, None, ⊤}
+use Rattle.outside.specs.Faults.{Faults}
 use Rattle.reservation_tree.specs.declared.errors.PoolErr.{PoolErr}
 use Rattle.reservation_tree.specs.declared.errors.PoolErr.TheVariants as pool
 use Rattle.query_run.specs.declared.outcome.QueryErr.{QueryErr}
@@ -37,6 +38,6 @@ IsOfPool (Row number weight) = ⊥
 IsOfPool _ = ⊤
 
 -- the status is that of the refusal, and the report has its line, unless that found no memory
-pub record Says (refusal : Refusal) (status : ℕ) (report report_now : Option (List ℕ)) (writes writes_now : ℕ) : Type 0 where
+pub record Says (refusal : Refusal) (status : ℕ) (report report_now : Option (List ℕ)) (writes writes_now : Faults) : Type 0 where
   pub status_is : status ≡ status_of refusal
   pub tells : TellsOrMisses (line_of refusal) report report_now writes writes_now

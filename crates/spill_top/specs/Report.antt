@@ -1,7 +1,7 @@
 -- What the report says where there is no answer, and how much of it.
 use Rattle.std.specs.Prelude.{◌≡◌, ◌<◌, ◌⊎◌, ℕ, List, Option, None, Some, length, ⊤}
 use Rattle.std.specs.Io.KnownBytes.{Appends, Keeps}
-use Rattle.outside.specs.Counts.{Rose}
+use Rattle.outside.specs.Faults.{Faults, FailsAt, NoneFailed}
 use Rattle.csv_edge.specs.Written.{AppendsFront}
 use Rattle.query_plan.specs.declared.plan.Side.TheVariants.{Left}
 use Rattle.run_report.specs.declared.cause.Cause.{Cause}
@@ -50,13 +50,14 @@ outcome_of refusal = Refused (status_of refusal) (cause_of refusal)
 abbrev pub line_of : Refusal → List ℕ
 line_of refusal = outcome_text None (outcome_of refusal)
 
--- a line was appended to the report, whose faults stay, or a front of it where they rose
-abbrev pub Tells : List ℕ → Option (List ℕ) → Option (List ℕ) → ℕ → ℕ → Type 0
-Tells line old new before now = (Appends old new line × (now ≡ before)) ⊎ (Rose before now × AppendsFront old new line)
+-- a line was appended to the report, of which no write failed; or one did, and a front of the line stands there, and nothing
+-- behind that write
+abbrev pub Tells : List ℕ → Option (List ℕ) → Option (List ℕ) → Faults → Faults → Type 0
+Tells line old new before now = (Appends old new line × NoneFailed before now) ⊎ (FailsAt before now new × AppendsFront old new line)
 
 -- the same, or where the line found no memory, nothing was appended
-abbrev pub TellsOrMisses : List ℕ → Option (List ℕ) → Option (List ℕ) → ℕ → ℕ → Type 0
-TellsOrMisses line old new before now = Tells line old new before now ⊎ (Keeps old new × (now ≡ before))
+abbrev pub TellsOrMisses : List ℕ → Option (List ℕ) → Option (List ℕ) → Faults → Faults → Type 0
+TellsOrMisses line old new before now = Tells line old new before now ⊎ (Keeps old new × NoneFailed before now)
 
 -- what is known to stand there became longer
 abbrev pub Lengthens : Option (List ℕ) → Option (List ℕ) → Type 0

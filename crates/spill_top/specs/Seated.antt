@@ -2,6 +2,7 @@
 use Rattle.std.specs.Prelude.{◌≡◌, ◌<◌, ◌≤◌, ◌⊎◌, ◌++◌, ℕ, Bool, true, List, [], ◌∷◌, Option, Result, Err, IfErr, IfOk, IfSome, IsErrOf, IsSome, OnOk, filter}
 use Rattle.std.specs.Io.KnownBytes.{IsAtEnd}
 use Rattle.std.specs.List.{AllByRecursion}
+use Rattle.outside.specs.Sinks.{StopsAt}
 use Rattle.pool_model.specs.LookingBack.{is_by}
 use Rattle.pool_model.specs.State.{Opening}
 use Rattle.pool_model.specs.declared.entry.Entry.{Entry}
@@ -22,7 +23,8 @@ use Rattle.query_run.specs.Answer.{Numbers, WroteAnswer, WroteFront}
 use Rattle.query_run.specs.Both.{HoldsInput, Told, both_told, faults_in, told_in}
 use Rattle.query_run.specs.Causes.{side_of}
 use Rattle.query_run.specs.Refused.{SaysOfInputs, source}
-use Rattle.query_run.specs.Stopped.{CountsSink, MayStop, RanOver}
+use Rattle.query_run.specs.Stopped.{CountsSink, RanOver}
+use Rattle.spill_top.specs.Unmarked.{MayStopUnmarked}
 use Rattle.query_run.specs.Trail.{KeptRows}
 use Rattle.query_run.specs.declared.outcome.Ran.{Ran}
 use Rattle.query_run.specs.declared.outcome.QueryErr.{QueryErr}
@@ -50,7 +52,7 @@ pub record SatAlone (o : Opening) (told : Bool) (limit quota least : ℕ) (pass 
 pub record RanAlone (o : Opening) (told : Bool) (plan : Query) (quota : ℕ) (pass : Spot Item) (lefts rights : Option (List ℕ)) (result : Result Ran QueryErr) : Type 0 where
   pub sat : SatAlone o told plan.limit quota (least_of plan o.block_len) pass
   pub over : RanOver plan (both_told lefts rights) (held_by o told sat.first) (held_by o told sat.last) (signs_by o sat.first) (signs_by o sat.last)
-  pub stop : IfErr result (MayStop plan (both_told lefts rights) (held_by o told sat.first) (signs_by o sat.first) (signs_by o sat.last))
+  pub stop : IfErr result (MayStopUnmarked plan (both_told lefts rights) (held_by o told sat.first) (signs_by o sat.first) (signs_by o sat.last))
   pub kept : OnOk result (KeptRows plan (page_len plan o.block_len) lefts rights (signs_by o sat.first).trail (signs_by o sat.last).trail)
 
 -- a plan ran over such a session, or there was no memory for one
@@ -58,7 +60,7 @@ abbrev pub RanIfSeated : Opening → Bool → Query → ℕ → Spot Item → Op
 RanIfSeated o told plan quota pass lefts rights result = (result ≡ Err (Pool Memory)) ⊎ RanAlone o told plan quota pass lefts rights result
 
 -- a query ran over a store: what it wrote and read, how it stopped, and what it left its store
-module _ {S K St : Type 0} (remaining : S → Option (List ℕ)) (reads : S → ℕ) (contents : K → Option (List ℕ)) (writes : K → ℕ) (holds : St → Holdings) (signs : St → Signs)
+module _ {S K St : Type 0} (remaining : S → Option (List ℕ)) (reads : S → ℕ) (contents at_failure : K → Option (List ℕ)) (writes : K → ℕ) (holds : St → Holdings) (signs : St → Signs)
     (plan : Query) (left_old left_new : S) (right_old right_new : Option S) (sink_old sink_new : K) (old new : St) (result : Result Ran QueryErr) where
   abbrev len : ℕ
   len = page_len plan (holds old).block_len
@@ -71,11 +73,12 @@ module _ {S K St : Type 0} (remaining : S → Option (List ℕ)) (reads : S → 
     pub read : OnOk result (IsAtEnd (remaining left_new) × IsAtEnd (told_in remaining right_new))
     pub numbers : IfOk result (λ ran. IfSome inputs (Numbers plan len (holds old).told ran))
     pub input : IfErr result (SaysOfInputs plan len (source (remaining left_old) (remaining left_new) (reads left_old) (reads left_new)) (source (told_in remaining right_old) (told_in remaining right_new) (faults_in reads right_old) (faults_in reads right_new)))
-    pub pool : IfErr result (MayStop plan inputs (holds old) (signs old) (signs new))
+    pub pool : IfErr result (MayStopUnmarked plan inputs (holds old) (signs old) (signs new))
     pub front : (holds old).told ≡ true → IsErrOf result SinkFault → WroteFront plan len inputs (contents sink_old) (contents sink_new)
     pub untouched : IfErr result (λ e. IsSome (side_of e) → sink_new ≡ sink_old)
     pub stopped : IfErr result (λ _. (sink_new ≡ sink_old) ⊎ (IsAtEnd (remaining left_new) × IsAtEnd (told_in remaining right_new) × ((holds old).told ≡ true → WroteFront plan len inputs (contents sink_old) (contents sink_new))))
     pub sink : CountsSink (IsErrOf result SinkFault) (writes sink_old) (writes sink_new)
+    pub stops : StopsAt (IsErrOf result SinkFault) (at_failure sink_old) (at_failure sink_new) (contents sink_new)
     pub kept : OnOk result (KeptRows plan len (remaining left_old) (told_in remaining right_old) (signs old).trail (signs new).trail)
     pub store : RanOver plan inputs (holds old) (holds new) (signs old) (signs new)
     pub sources : (reads left_old ≤ reads left_new) × HoldsInput reads right_old right_new

@@ -27,7 +27,8 @@ use Rattle.query_plan.specs.declared.plan.Query.{Query}
 use Rattle.query_plan.specs.declared.plan.Side.TheVariants.{Left, Right}
 use Rattle.query_run.specs.Both.{Told, both_told, told_in}
 use Rattle.query_run.specs.Causes.{OfPool}
-use Rattle.query_run.specs.Stopped.{HasRoomFor, MakesFew, MayStop, RanOver}
+use Rattle.query_run.specs.Stopped.{HasRoomFor, MakesFew, RanOver}
+use Rattle.spill_top.specs.Unmarked.{MayStopUnmarked}
 use Rattle.query_run.specs.Through.{rows_through}
 use Rattle.query_run.specs.Trail.{KeptRows}
 use Rattle.query_run.specs.declared.outcome.QueryErr.{QueryErr}
@@ -76,7 +77,7 @@ over_seat see job = record { refused = job.refused; left = job.left; right = job
 pub record StopsAs (start at : Seen) (block_len : ℕ) (all : List Query) (query : Query) (before : Holdings) (old new : Signs) : Type 0 where
   pub told : all_tell start.slots ≡ true → before.told ≡ true
   pub block_len_is : before.block_len ≡ block_len
-  pub stop : (told : Option Told) (why : QueryErr) → MayStop query told before old new why
+  pub stop : (told : Option Told) (why : QueryErr) → MayStopUnmarked query told before old new why
       → OfPool (IsSharedStop query (page_len query block_len) (if_told (all_tell start.slots) told) query.quota (HaveFailed start.slots at.slots) (SomeSpends all start)) why
 
 module _ {S K St : Type 0} (remaining : S → Option (List ℕ)) (reads : S → ℕ) (contents : K → Option (List ℕ)) (writes : K → ℕ) (holds : St → Holdings) (signs : St → Signs) where

@@ -21,6 +21,7 @@ pub(crate) fn checking_pool(check: Check) -> PoolConf
         blocks: check.blocks,
         block_len: BLOCK_LEN,
         first_name: 0,
+        profile: 1,
     }
 }
 

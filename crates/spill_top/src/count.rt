@@ -3,6 +3,7 @@
 ghost use Rattle.std.specs.Prelude.{◌≡◌, ◌≢◌, ◌≤◌, ◌⊎◌, [], ◌∷◌, Some, IfErr, IsSome, OnOk, false, true, vec_len};
 ghost use Rattle.outside.specs.Counts.{NoneFell};
 ghost use Rattle.outside.specs.Names.{AllStay};
+ghost use Rattle.outside.specs.Faults.{NoneFailed, faults_of};
 ghost use Rattle.pin_core.specs.Tallies.{tally_of};
 ghost use Rattle.row_codec.specs.declared.values.Kind.TheVariants.{Text};
 ghost use Rattle.query_run.specs.Causes.{NamesInt, OfPool};
@@ -51,8 +52,8 @@ pub(crate) fn count<W: Wait + Threads + Clock + Sync, I: Inputs, R: Sink, D: Slo
 ) -> Result<(), Stop>
     requires few { vec_len slots.old ≤ 1048576 }
     ensures answer { all_tell (tally_of D.Slot slots.old.items) ≡ true → OnOk result (Answers (I.bytes_at inputs.old) (R.contents report.old) (R.contents report.new) (record { file = file.now; column = column.now })) }
-    ensures quiet { OnOk result (R.faults report.new ≡ R.faults report.old) }
-    ensures stop { IfErr result (IsStop (I.bytes_at inputs.old) (I.faults_at inputs.old file.now) (I.faults_at inputs.new file.now) (tally_of D.Slot slots.old.items) (tally_of D.Slot slots.new.items) (R.contents report.old) (R.contents report.new) (R.faults report.old) (R.faults report.new) (record { file = file.now; column = column.now })) }
+    ensures quiet { OnOk result (NoneFailed (faults_of R.Sink report.old) (faults_of R.Sink report.new)) }
+    ensures stop { IfErr result (IsStop (I.bytes_at inputs.old) (I.faults_at inputs.old file.now) (I.faults_at inputs.new file.now) (tally_of D.Slot slots.old.items) (tally_of D.Slot slots.new.items) (R.contents report.old) (R.contents report.new) (faults_of R.Sink report.old) (faults_of R.Sink report.new) (record { file = file.now; column = column.now })) }
     ensures stored { OnOk result (StoresCount (I.bytes_at inputs.old file.now) (tally_of D.Slot slots.old.items) (tally_of D.Slot slots.new.items) (record { file = file.now; column = column.now })) }
     ensures inputs { AllStay (I.bytes_at inputs.old) (I.bytes_at inputs.new) }
     ensures never_falls { NoneFell (I.faults_at inputs.old) (I.faults_at inputs.new) }

@@ -3,6 +3,7 @@
 ghost use Rattle.std.specs.Prelude.{◌≡◌, ◌≢◌, ◌≤◌, ◌⊎◌, true, vec_len};
 ghost use Rattle.outside.specs.Counts.{NoneFell, Rose};
 ghost use Rattle.outside.specs.Names.{AllStay};
+ghost use Rattle.outside.specs.Faults.{FailsAt, NoneFailed, faults_of};
 ghost use Rattle.pin_core.specs.Tallies.{tally_of};
 ghost use Rattle.query_run.specs.declared.outcome.QueryErr.{QueryErr};
 ghost use Rattle.spill_top.specs.Headline.{AcceptsInput, Answers, AnswersInPart, HasTooMany, IsPoolStatus, IsStatus, IsStatusOf, LacksMemory, Refuses, RefusesBytes, StoresCount};
@@ -38,11 +39,11 @@ pub(crate) fn answer_count<
     // Every other status has its cause.
     ensures status { IsStatus result }
     ensures input_fault { result ≡ 3 → Rose (I.faults_at inputs.old file.now) (I.faults_at inputs.new file.now) }
-    ensures refused { result ≢ 0 → result ≢ 9 → result ≢ 10 → Refuses result (record { file = file.now; column = column.now }) (I.bytes_at inputs.old file.now) (I.faults_at inputs.old file.now) (I.faults_at inputs.new file.now) (tally_of D.Slot slots.old.items) (tally_of D.Slot slots.new.items) (R.contents report.old) (R.contents report.new) (R.faults report.old) (R.faults report.new) }
-    ensures lacks_memory { result ≡ 10 → LacksMemory (I.bytes_at inputs.old) (tally_of D.Slot slots.old.items) (R.contents report.old) (R.contents report.new) (R.faults report.old) (R.faults report.new) (record { file = file.now; column = column.now }) }
-    ensures quiet { result ≡ 0 → R.faults report.new ≡ R.faults report.old }
+    ensures refused { result ≢ 0 → result ≢ 9 → result ≢ 10 → Refuses result (record { file = file.now; column = column.now }) (I.bytes_at inputs.old file.now) (I.faults_at inputs.old file.now) (I.faults_at inputs.new file.now) (tally_of D.Slot slots.old.items) (tally_of D.Slot slots.new.items) (R.contents report.old) (R.contents report.new) (faults_of R.Sink report.old) (faults_of R.Sink report.new) }
+    ensures lacks_memory { result ≡ 10 → LacksMemory (I.bytes_at inputs.old) (tally_of D.Slot slots.old.items) (R.contents report.old) (R.contents report.new) (faults_of R.Sink report.old) (faults_of R.Sink report.new) (record { file = file.now; column = column.now }) }
+    ensures quiet { result ≡ 0 → NoneFailed (faults_of R.Sink report.old) (faults_of R.Sink report.new) }
     ensures stored { result ≡ 0 → StoresCount (I.bytes_at inputs.old file.now) (tally_of D.Slot slots.old.items) (tally_of D.Slot slots.new.items) (record { file = file.now; column = column.now }) }
-    ensures output_fault { result ≡ 9 → Rose (R.faults report.old) (R.faults report.new) }
+    ensures output_fault { result ≡ 9 → FailsAt (faults_of R.Sink report.old) (faults_of R.Sink report.new) (R.contents report.new) }
     ensures part { all_tell (tally_of D.Slot slots.old.items) ≡ true → result ≡ 9 → AnswersInPart (I.bytes_at inputs.old) (R.contents report.old) (R.contents report.new) (record { file = file.now; column = column.now }) }
 
     // Where the bytes of the input are refused, that is answered, unless it can't be read or the pool stops the count before.

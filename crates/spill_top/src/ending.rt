@@ -127,9 +127,10 @@ fn cause_of_pool(e: PoolErr) -> Cause
         PoolErr::NamesSpent => Cause::Names,
         PoolErr::WriteFault { entry } => Cause::Write { entry },
         PoolErr::ReadFault { entry } => Cause::Read { entry },
-        PoolErr::NoReservation { .. } | PoolErr::TooManyTrackers { .. } | PoolErr::Memory => {
-            Cause::Memory
-        }
+        PoolErr::NoReservation { .. }
+        | PoolErr::TooManyTrackers { .. }
+        | PoolErr::Stale { .. }
+        | PoolErr::Memory => { Cause::Memory }
     }
 }
 

@@ -22,6 +22,7 @@ mod seats;
 mod selfcheck;
 mod steps;
 mod top;
+mod unmarked;
 mod watched;
 mod words;
 mod writers;

@@ -6,9 +6,9 @@ ghost use Rattle.spill_top.specs.Together.{CanRun, IsAnswered};
 use crate::ending::Ending;
 use crate::job::{Job, let_go};
 use crate::passing::{at_gate, source_of};
+use crate::unmarked::run_unmarked;
 use outside::{Gate, Point, Sink, Source};
 use query_plan::Query;
-use query_run::run_query;
 use std::alloc::Global;
 use std::mem;
 use store_api::Store;
@@ -34,7 +34,7 @@ pub(crate) fn answer<S: Source, K: Sink, St: Store>(
     let Some(sink) = &mut job.sink else {
         unreachable!();
     };
-    let ran = run_query(alloc, session, query, left, &mut job.right, sink);
+    let ran = run_unmarked(alloc, session, query, left, &mut job.right, sink);
     job.ended = match ran {
         Ok(ran) => Some(Ending::Lines(ran.lines)),
         Err(e) => Some(Ending::Stopped(e)),

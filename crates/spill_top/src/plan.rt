@@ -19,6 +19,7 @@ pub(crate) fn counting_pool() -> PoolConf
         blocks: 1024,
         block_len: 8192,
         first_name: 0,
+        profile: 1,
     }
 }
 

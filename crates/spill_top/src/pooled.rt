@@ -2,6 +2,7 @@
 
 ghost use Rattle.std.specs.Prelude.{◌≡◌, ◌≤◌, ◌⊎◌, [], IfErr, IfOk, IfSome, IsErrOf, IsSome, OnOk, Some, is_some, map, true, vec_len};
 ghost use Rattle.std.specs.Io.KnownBytes.{IsAtEnd};
+ghost use Rattle.outside.specs.Sinks.{StopsAt};
 ghost use Rattle.pin_core.specs.Tallies.{tally_of};
 ghost use Rattle.pool_model.specs.Bytes.{bytes_of};
 ghost use Rattle.pool.specs.Items.{all_rights};
@@ -21,12 +22,13 @@ ghost use Rattle.spill_top.specs.Seated.{RanIfSeated, RanQuery};
 ghost use Rattle.spill_top.specs.Sides.{if_told};
 ghost use Rattle.spill_top.specs.Storing.{HaveStored, owed};
 
+use crate::unmarked::run_unmarked;
 use crate::writers::{begin_writers, beside_writers, end_writers};
 use outside::{OpenGate, Sink, Slot, Source};
 use pin_core::PoolConf;
 use pool::{At, OpenedAs, Pass, Pool};
 use query_plan::{Query, least};
-use query_run::{QueryErr, Ran, law_spill, run_query};
+use query_run::{QueryErr, Ran, law_spill};
 use reservation_tree::PoolErr;
 use session_shares::law_shares;
 use std::alloc::Global;
@@ -74,6 +76,7 @@ pub(crate) fn run_pooled<
     ensures stopped { IfErr result (λ _. (sink.new ≡ sink.old) ⊎ (IsAtEnd (S.remaining left.new) × IsAtEnd (told_in S.remaining right.new) × (all_tell (tally_of D.Slot slots.old.items) ≡ true → WroteFront query.now (page_len query.now conf.now.block_len) (both_told (S.remaining left.old) (told_in S.remaining right.old)) (K.contents sink.old) (K.contents sink.new)))) }
 
     ensures sink { CountsSink (IsErrOf result QueryErr.SinkFault) (K.faults sink.old) (K.faults sink.new) }
+    ensures stops { StopsAt (IsErrOf result QueryErr.SinkFault) (K.at_failure sink.old) (K.at_failure sink.new) (K.contents sink.new) }
     ensures sources { (S.faults left.old ≤ S.faults left.new) × HoldsInput S.faults right.old right.new }
     ensures slots { ComeBack (tally_of D.Slot slots.old.items) (tally_of D.Slot slots.new.items) }
     ensures stored { OnOk result (HaveStored conf.now.block_len (owed query.now (memory_of conf.now) (both_told (S.remaining left.old) (told_in S.remaining right.old))) (tally_of D.Slot slots.old.items) (tally_of D.Slot slots.new.items)) }
@@ -121,6 +124,7 @@ fn run_counted<
     ensures untouched { IfErr result (λ e. IsSome (side_of e) → sink.new ≡ sink.old) }
     ensures stopped { IfErr result (λ _. (sink.new ≡ sink.old) ⊎ (IsAtEnd (S.remaining left.new) × IsAtEnd (told_in S.remaining right.new) × (all_tell (tally_of D.Slot slots.old.items) ≡ true → WroteFront query.now (page_len query.now conf.now.block_len) (both_told (S.remaining left.old) (told_in S.remaining right.old)) (K.contents sink.old) (K.contents sink.new)))) }
     ensures sink { CountsSink (IsErrOf result QueryErr.SinkFault) (K.faults sink.old) (K.faults sink.new) }
+    ensures stops { StopsAt (IsErrOf result QueryErr.SinkFault) (K.at_failure sink.old) (K.at_failure sink.new) (K.contents sink.new) }
     ensures sources { (S.faults left.old ≤ S.faults left.new) × HoldsInput S.faults right.old right.new }
     ensures slots { ComeBack (tally_of D.Slot slots.old.items) (tally_of D.Slot slots.new.items) }
     ensures stored { OnOk result (HaveStored conf.now.block_len (owed query.now (memory_of conf.now) (both_told (S.remaining left.old) (told_in S.remaining right.old))) (tally_of D.Slot slots.old.items) (tally_of D.Slot slots.new.items)) }
@@ -195,6 +199,7 @@ fn run_seated<
     ensures untouched { IfErr result (λ e. IsSome (side_of e) → sink.new ≡ sink.old) }
     ensures stopped { IfErr result (λ _. (sink.new ≡ sink.old) ⊎ (IsAtEnd (S.remaining left.new) × IsAtEnd (told_in S.remaining right.new) × (T.told ≡ true → WroteFront query.now (page_len query.now block_len) (both_told (S.remaining left.old) (told_in S.remaining right.old)) (K.contents sink.old) (K.contents sink.new)))) }
     ensures sink { CountsSink (IsErrOf result QueryErr.SinkFault) (K.faults sink.old) (K.faults sink.new) }
+    ensures stops { StopsAt (IsErrOf result QueryErr.SinkFault) (K.at_failure sink.old) (K.at_failure sink.new) (K.contents sink.new) }
     ensures sources { (S.faults left.old ≤ S.faults left.new) × HoldsInput S.faults right.old right.new }
 {
     let wanted = least(query, block_len);
@@ -257,13 +262,13 @@ fn run_beside<
     requires store { HasRoomFor query.now (St.holds store.old) }
     requires right { is_some right.old ≡ joins query.now }
     requires table { pass.old.table ≡ pool.now }
-    ensures ran { RanQuery S.remaining S.faults K.contents K.faults St.holds St.signs query.now left.old left.new right.old right.new sink.old sink.new store.old store.new result }
+    ensures ran { RanQuery S.remaining S.faults K.contents K.at_failure K.faults St.holds St.signs query.now left.old left.new right.old right.new sink.old sink.new store.old store.new result }
     ensures stops { Stops pass.old pass.new }
     ensures at { map (λ w. w.seat.spot.table) writers.new ≡ map (λ w. w.seat.spot.table) writers.old }
 {
     let mut work = || -> Result<Ran, QueryErr>
         requires { IsRunnable query.now × HasRoomFor query.now (St.holds store.now) × (is_some right.now ≡ joins query.now) }
-        ensures { RanQuery S.remaining S.faults K.contents K.faults St.holds St.signs query.entry.now left.entry.now left.exit.now right.entry.now right.exit.now sink.entry.now sink.exit.now store.entry.now store.exit.now result }
-    { run_query(alloc, store, query, left, right, sink) };
+        ensures { RanQuery S.remaining S.faults K.contents K.at_failure K.faults St.holds St.signs query.entry.now left.entry.now left.exit.now right.entry.now right.exit.now sink.entry.now sink.exit.now store.entry.now store.exit.now result }
+    { run_unmarked(alloc, store, query, left, right, sink) };
     beside_writers(rt, pool, pass, writers, &OpenGate, &mut work)
 }

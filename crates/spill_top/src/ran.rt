@@ -1,6 +1,7 @@
 // The command `run`.
 
 ghost use Rattle.std.specs.Prelude.{◌≡◌, ◌<◌, ◌≤◌, ◌-◌, ◌^◌, ◌++◌, OnErr, OnOk, length, vec_len};
+ghost use Rattle.outside.specs.Faults.{faults_of};
 ghost use Rattle.pin_core.specs.Tallies.{tally_of};
 ghost use Rattle.spill_top.specs.Ran.{RanPlan, Reported, first_status, line_of_query, telling};
 ghost use Rattle.spill_top.specs.Running.{Went, seen};
@@ -39,7 +40,7 @@ pub(crate) fn run<
     gate: &G,
 ) -> u8
     requires few { vec_len slots.old ≤ 1048576 }
-    ensures ran { RanPlan file.now (vec_len slots.old) (seen (I.bytes_at inputs.old) (I.faults_at inputs.old) (O.written outputs.old) (O.is_created outputs.old) (O.faults_at outputs.old) (tally_of D.Slot slots.old.items)) (seen (I.bytes_at inputs.new) (I.faults_at inputs.new) (O.written outputs.new) (O.is_created outputs.new) (O.faults_at outputs.new) (tally_of D.Slot slots.new.items)) (telling (R.contents report.old) (R.faults report.old)) (telling (R.contents report.new) (R.faults report.new)) result }
+    ensures ran { RanPlan file.now (vec_len slots.old) (seen (I.bytes_at inputs.old) (I.faults_at inputs.old) (O.written outputs.old) (O.is_created outputs.old) (O.faults_at outputs.old) (tally_of D.Slot slots.old.items)) (seen (I.bytes_at inputs.new) (I.faults_at inputs.new) (O.written outputs.new) (O.is_created outputs.new) (O.faults_at outputs.new) (tally_of D.Slot slots.new.items)) (telling (R.contents report.old) (faults_of R.Sink report.old)) (telling (R.contents report.new) (faults_of R.Sink report.new)) result }
     ensures went { Went (seen (I.bytes_at inputs.old) (I.faults_at inputs.old) (O.written outputs.old) (O.is_created outputs.old) (O.faults_at outputs.old) (tally_of D.Slot slots.old.items)) (seen (I.bytes_at inputs.new) (I.faults_at inputs.new) (O.written outputs.new) (O.is_created outputs.new) (O.faults_at outputs.new) (tally_of D.Slot slots.new.items)) }
     ensures report { R.faults report.old ≤ R.faults report.new }
 {
@@ -63,7 +64,7 @@ pub(crate) fn run<
 fn report_all<R: Sink>(alloc: Global, report: &mut R, queries: &[Query], ends: &[Ending]) -> u8
     requires len { length queries.now ≡ length ends.now }
     requires few { length queries.now ≤ 16 }
-    ensures reported { Reported queries.now ends.now (telling (R.contents report.old) (R.faults report.old)) (telling (R.contents report.new) (R.faults report.new)) result }
+    ensures reported { Reported queries.now ends.now (telling (R.contents report.old) (faults_of R.Sink report.old)) (telling (R.contents report.new) (faults_of R.Sink report.new)) result }
     ensures report { R.faults report.old ≤ R.faults report.new }
 {
     let mut text = Vec::new(alloc);

@@ -1,6 +1,7 @@
 // The lines of refusals.
 
 ghost use Rattle.std.specs.Prelude.{◌≡◌, ◌≤◌, IfOk, Some, None};
+ghost use Rattle.outside.specs.Faults.{faults_of};
 ghost use Rattle.run_report.specs.declared.outcome.Outcome.TheVariants.{Refused};
 ghost use Rattle.run_report.specs.Report.{outcome_text};
 ghost use Rattle.spill_top.specs.Report.{Tells, TellsOrMisses, line_of, outcome_of, shortage, usage, status_of};
@@ -66,8 +67,10 @@ impl Refusal {
             PoolErr::NamesSpent => Some(Refusal::Names),
             PoolErr::WriteFault { entry } => Some(Refusal::Write { entry }),
             PoolErr::ReadFault { entry } => Some(Refusal::Read { entry }),
-            PoolErr::NoReservation { .. } | PoolErr::TooManyTrackers { .. } | PoolErr::Memory =>
-                None,
+            PoolErr::NoReservation { .. }
+            | PoolErr::TooManyTrackers { .. }
+            | PoolErr::Stale { .. }
+            | PoolErr::Memory => None,
         }
     }
 
@@ -120,7 +123,7 @@ impl Refusal {
 
 // Appends the line of a refusal to the report, unless it finds no memory, and answers its status.
 pub(crate) fn refuse<R: Sink>(alloc: Global, report: &mut R, refusal: Refusal) -> u8
-    ensures says { Says refusal result (R.contents report.old) (R.contents report.new) (R.faults report.old) (R.faults report.new) }
+    ensures says { Says refusal result (R.contents report.old) (R.contents report.new) (faults_of R.Sink report.old) (faults_of R.Sink report.new) }
     ensures never_falls { R.faults report.old ≤ R.faults report.new }
 {
     let status = refusal.status();
@@ -134,7 +137,7 @@ pub(crate) fn refuse<R: Sink>(alloc: Global, report: &mut R, refusal: Refusal) -
 // Appends the line of a command that is refused so, unless it finds no memory, and answers its status.
 pub(crate) fn refuse_as<R: Sink>(alloc: Global, report: &mut R, status: u8, cause: Cause) -> u8
     ensures status { result ≡ status }
-    ensures tells { TellsOrMisses (outcome_text None (Refused status cause)) (R.contents report.old) (R.contents report.new) (R.faults report.old) (R.faults report.new) }
+    ensures tells { TellsOrMisses (outcome_text None (Refused status cause)) (R.contents report.old) (R.contents report.new) (faults_of R.Sink report.old) (faults_of R.Sink report.new) }
     ensures never_falls { R.faults report.old ≤ R.faults report.new }
 {
     if let Ok(line) = outcome_line(alloc, None, &Outcome::Refused { status, cause }) {
@@ -146,7 +149,7 @@ pub(crate) fn refuse_as<R: Sink>(alloc: Global, report: &mut R, status: u8, caus
 // Appends the line for want of memory, which takes none, and answers its status.
 pub(crate) fn refuse_memory<R: Sink>(report: &mut R) -> u8
     ensures status { result ≡ 10 }
-    ensures tells { Tells shortage (R.contents report.old) (R.contents report.new) (R.faults report.old) (R.faults report.new) }
+    ensures tells { Tells shortage (R.contents report.old) (R.contents report.new) (faults_of R.Sink report.old) (faults_of R.Sink report.new) }
     ensures never_falls { R.faults report.old ≤ R.faults report.new }
 {
     tell(report, b"10 memory\n");
@@ -155,7 +158,7 @@ pub(crate) fn refuse_memory<R: Sink>(report: &mut R) -> u8
 
 // Appends the line for words that are no command.
 pub(crate) fn refuse_words<R: Sink>(report: &mut R)
-    ensures tells { Tells usage (R.contents report.old) (R.contents report.new) (R.faults report.old) (R.faults report.new) }
+    ensures tells { Tells usage (R.contents report.old) (R.contents report.new) (faults_of R.Sink report.old) (faults_of R.Sink report.new) }
     ensures never_falls { R.faults report.old ≤ R.faults report.new }
 {
     tell(report, b"1 words\n");
@@ -163,7 +166,7 @@ pub(crate) fn refuse_words<R: Sink>(report: &mut R)
 
 // Appends a line.
 pub(crate) fn tell<R: Sink>(report: &mut R, line: &[u8])
-    ensures tells { Tells line.now (R.contents report.old) (R.contents report.new) (R.faults report.old) (R.faults report.new) }
+    ensures tells { Tells line.now (R.contents report.old) (R.contents report.new) (faults_of R.Sink report.old) (faults_of R.Sink report.new) }
     ensures never_falls { R.faults report.old ≤ R.faults report.new }
 {
     let _ = write_whole(report, line);

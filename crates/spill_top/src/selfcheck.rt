@@ -2,6 +2,7 @@
 
 ghost use Rattle.std.specs.Prelude.{◌≡◌, ◌≤◌, ℕ, List, Option, IfErr, IfOk, OnOk, None, Some, vec_len};
 ghost use Rattle.outside.specs.Counts.{Rose};
+ghost use Rattle.outside.specs.Faults.{faults_of};
 ghost use Rattle.spill_top.specs.Pooled.{memory_of};
 ghost use Rattle.pin_core.specs.Tallies.{tally_of};
 ghost use Rattle.query_run.specs.Answer.{Numbers, WroteAnswer};
@@ -46,7 +47,7 @@ pub(crate) fn self_check<
     requires few { vec_len slots.old ≤ 1048576 }
     ensures checked { (files : List ℕ → Option (List ℕ)) (reads : List ℕ → ℕ) → Checked (vec_len slots.old)
         (seen files reads (O.written outputs.old) (O.is_created outputs.old) (O.faults_at outputs.old) (tally_of D.Slot slots.old.items)) (seen files reads (O.written outputs.new) (O.is_created outputs.new) (O.faults_at outputs.new) (tally_of D.Slot slots.new.items))
-        (telling (R.contents report.old) (R.faults report.old)) (telling (R.contents report.new) (R.faults report.new)) result check }
+        (telling (R.contents report.old) (faults_of R.Sink report.old)) (telling (R.contents report.new) (faults_of R.Sink report.new)) result check }
     ensures report { R.faults report.old ≤ R.faults report.new }
     ensures slots { ComeBack (tally_of D.Slot slots.old.items) (tally_of D.Slot slots.new.items) }
 {
@@ -129,7 +130,7 @@ fn run_table<W: Wait + Threads + Clock + Sync, K: Sink, D: Slot + Drop + Send>(
 
 // Tells the numbers of an answer, and answers the status.
 fn tell_answer<R: Sink>(alloc: Global, report: &mut R, ran: &Ran) -> u8
-    ensures tells { TellsAnswer (outcome_text None (summary_of ran.now)) (telling (R.contents report.old) (R.faults report.old)) (telling (R.contents report.new) (R.faults report.new)) result }
+    ensures tells { TellsAnswer (outcome_text None (summary_of ran.now)) (telling (R.contents report.old) (faults_of R.Sink report.old)) (telling (R.contents report.new) (faults_of R.Sink report.new)) result }
     ensures report { R.faults report.old ≤ R.faults report.new }
 {
     let Ok(line) = outcome_line(alloc, None, &summary(ran)) else {
@@ -157,7 +158,7 @@ fn summary(ran: &Ran) -> Outcome
 // Tells why there is no answer, unless the line finds no memory, and answers the status.
 fn tell_ending<R: Sink>(alloc: Global, report: &mut R, plan: &Query, ending: &Ending) -> u8
     ensures status { result ≡ status_of ending.now }
-    ensures tells { TellsOrMisses (outcome_text None (outcome_of plan.now ending.now)) (R.contents report.old) (R.contents report.new) (R.faults report.old) (R.faults report.new) }
+    ensures tells { TellsOrMisses (outcome_text None (outcome_of plan.now ending.now)) (R.contents report.old) (R.contents report.new) (faults_of R.Sink report.old) (faults_of R.Sink report.new) }
     ensures report { R.faults report.old ≤ R.faults report.new }
 {
     if let Ok(line) = ending_line(alloc, plan, ending) {

@@ -3,6 +3,7 @@
 ghost use Rattle.std.specs.Prelude.{◌≡◌, ◌≤◌, ◌↔◌, None, IfSome, map, string_bytes, vec_len};
 ghost use Rattle.outside.specs.Counts.{NoneFell};
 ghost use Rattle.outside.specs.Names.{AllStay};
+ghost use Rattle.outside.specs.Faults.{faults_of};
 ghost use Rattle.pin_core.specs.Tallies.{tally_of};
 ghost use Rattle.spill_top.specs.Checking.{Checked};
 ghost use Rattle.spill_top.specs.Headline.{Counted};
@@ -81,18 +82,18 @@ pub fn spill_top<
     requires { vec_len slots.old ≤ 1048576 }
     // Words that are no command are refused as such, and no others.
     ensures words { (result ≡ 1) ↔ ((command_of (map string_bytes words.now) ≡ None) × (plan_file_of (map string_bytes words.now) ≡ None) × (check_of (map string_bytes words.now) ≡ None)) }
-    ensures usage { result ≡ 1 → Tells usage (R.contents report.old) (R.contents report.new) (R.faults report.old) (R.faults report.new) }
+    ensures usage { result ≡ 1 → Tells usage (R.contents report.old) (R.contents report.new) (faults_of R.Sink report.old) (faults_of R.Sink report.new) }
 
     // A command has its answer, or a status with its cause.
-    ensures count { IfSome (command_of (map string_bytes words.now)) (Counted (I.bytes_at inputs.old) (I.faults_at inputs.old) (I.faults_at inputs.new) (tally_of D.Slot slots.old.items) (tally_of D.Slot slots.new.items) (R.contents report.old) (R.contents report.new) (R.faults report.old) (R.faults report.new) result) }
+    ensures count { IfSome (command_of (map string_bytes words.now)) (Counted (I.bytes_at inputs.old) (I.faults_at inputs.old) (I.faults_at inputs.new) (tally_of D.Slot slots.old.items) (tally_of D.Slot slots.new.items) (R.contents report.old) (R.contents report.new) (faults_of R.Sink report.old) (faults_of R.Sink report.new) result) }
     ensures run { IfSome (plan_file_of (map string_bytes words.now)) (λ file. RanPlan file (vec_len slots.old)
         (seen (I.bytes_at inputs.old) (I.faults_at inputs.old) (O.written outputs.old) (O.is_created outputs.old) (O.faults_at outputs.old) (tally_of D.Slot slots.old.items))
         (seen (I.bytes_at inputs.new) (I.faults_at inputs.new) (O.written outputs.new) (O.is_created outputs.new) (O.faults_at outputs.new) (tally_of D.Slot slots.new.items))
-        (telling (R.contents report.old) (R.faults report.old)) (telling (R.contents report.new) (R.faults report.new)) result) }
+        (telling (R.contents report.old) (faults_of R.Sink report.old)) (telling (R.contents report.new) (faults_of R.Sink report.new)) result) }
     ensures selfcheck { IfSome (check_of (map string_bytes words.now)) (Checked (vec_len slots.old)
         (seen (I.bytes_at inputs.old) (I.faults_at inputs.old) (O.written outputs.old) (O.is_created outputs.old) (O.faults_at outputs.old) (tally_of D.Slot slots.old.items))
         (seen (I.bytes_at inputs.new) (I.faults_at inputs.new) (O.written outputs.new) (O.is_created outputs.new) (O.faults_at outputs.new) (tally_of D.Slot slots.new.items))
-        (telling (R.contents report.old) (R.faults report.old)) (telling (R.contents report.new) (R.faults report.new)) result) }
+        (telling (R.contents report.old) (faults_of R.Sink report.old)) (telling (R.contents report.new) (faults_of R.Sink report.new)) result) }
 
     // All slots are there again, and their counts of faults did not fall.
     ensures slots { ComeBack (tally_of D.Slot slots.old.items) (tally_of D.Slot slots.new.items) }

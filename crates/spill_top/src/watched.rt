@@ -2,6 +2,7 @@
 
 ghost use Rattle.std.specs.Prelude.{◌≡◌, ◌≤◌, ◌⊎◌, ℕ, [], List, None, Option, Some, IfErr, IsErrOf, IsSome, OnOk, false, true, vec_len};
 ghost use Rattle.std.specs.Io.KnownBytes.{Keeps};
+ghost use Rattle.outside.specs.Sinks.{StopsAt};
 ghost use Rattle.spill_top.specs.Pooled.{memory_of};
 ghost use Rattle.pin_core.specs.Tallies.{tally_of};
 ghost use Rattle.query_plan.specs.Sizes.{page_len};
@@ -64,6 +65,8 @@ struct Tied<'a, R: Sink, B: Start> {
 impl<'a, R: Sink, B: Start> Sink for Tied<'a, R, B> {
     ghost contents = { λ s. R.contents s.watched.sink.now };
 
+    ghost at_failure = { λ s. R.at_failure s.watched.sink.now };
+
     ghost faults = { λ s. R.faults s.watched.sink.now };
 
     fn write(&mut self, piece: &[u8]) -> Result<usize, Failed> {
@@ -108,6 +111,7 @@ pub(crate) fn run_watched<
     ensures kept { result.1.written ≡ false → Keeps (R.contents watched.entry.sink.now) (R.contents result.1.sink.now) }
     ensures longer { result.1.written ≡ true → Lengthens (R.contents watched.entry.sink.now) (R.contents result.1.sink.now) }
     ensures sink { CountsSink (IsErrOf result.0 QueryErr.SinkFault) (R.faults watched.entry.sink.now) (R.faults result.1.sink.now) }
+    ensures stops { StopsAt (IsErrOf result.0 QueryErr.SinkFault) (R.at_failure watched.entry.sink.now) (R.at_failure result.1.sink.now) (R.contents result.1.sink.now) }
     ensures source_kept { S.faults left.old ≤ S.faults left.new }
     ensures slots { ComeBack (tally_of D.Slot slots.old.items) (tally_of D.Slot slots.new.items) }
     ensures stored { OnOk result.0 (HaveStored conf.now.block_len (owed plan.now (memory_of conf.now) (both_told (S.remaining left.old) (Some []))) (tally_of D.Slot slots.old.items) (tally_of D.Slot slots.new.items)) }

@@ -1,4 +1,6 @@
-use Rattle.std.proofs.Common.{◌≡◌, ◌∙◌, ◌+◌, ◌*◌, List, true, length, pos, replicate, ap, sym, refl, arith, rules}
+use Rattle.std.proofs.Common.{◌≡◌, Err, inl, ◌∙◌, ◌+◌, ◌*◌, List, true, length, pos, replicate, ap, sym, refl, arith, rules}
+use Rattle.outside.specs.Sinks.{StopsAt}
+use Rattle.query_run.specs.declared.outcome.QueryErr.TheVariants.{SinkFault}
 use Rattle.row_codec.specs.declared.values.Value.{Value}
 use Rattle.tuple_stream.specs.Families.{slots_in}
 use Rattle.partition_stack.specs.Slots.{IsWantBelow}
@@ -11,7 +13,8 @@ use Rattle.store_api.specs.declared.shapes.Shape.{Shape}
 use Rattle.partition_stack.proofs.Results.{any_err, on_err, on_ok}
 use Rattle.query_run.specs.Answer.{answer_text, group_rows}
 use Rattle.query_run.specs.Plans.{grouping_of}
-use Rattle.query_run.proofs.Ended.{all_handed, not_stopped, numbers_are, some_anyhow, stopped_front, took_none, unsent_front, untouched, whole_answer}
+use Rattle.outside.proofs.Stopping.{stops_later}
+use Rattle.query_run.proofs.Ended.{all_handed, ended_stops, none_failed, not_stopped, numbers_are, some_anyhow, stopped_front, stops_as, took_none, unsent_front, untouched, whole_answer}
 use Rattle.query_run.proofs.Wants.{ended_wants}
 use Rattle.query_run.proofs.Whole.{grouped}
 use Rattle.query_run.proofs.grouping.write_groups.Goals as goal
@@ -67,3 +70,25 @@ returns-in_err-went_through-clause-enough g c =
     let all : OfPool (λ why. (fed : List (List Value)) → Holds fed op h s → h.told ≡ true → IsWantBelow (slots_for 544 op h fed) total why) e =
     ended_wants (λ fed. Holds fed op h s) (h.told ≡ true) (slots_for 544 op h) total _ _ _ _ c.drive-handed.result.1.stopped _ _ _ c.drive-handed.result.0 e c.drive-handed.ensures.enough c.drive-handed.ensures.any.1 ended in
     search (rules, all)
+
+pub returns-in_err-went_through-clause-stops : goal.returns-in_err-went_through-clause-stops
+returns-in_err-went_through-clause-stops g c =
+    let e = c.in_err-went_through.field-0.0 in
+    let ended : IsEndedBy c.drive-handed.result.1.stopped c.drive-handed.result.0 e = search rules in
+    let here : StopsAt (c.from_residual-in_err-went_through.result ≡ Err SinkFault) (g.K.Sink.at_failure c.args.sink.now) (g.K.Sink.at_failure c.drive-handed.result.1.sink.now) (g.K.Sink.contents c.drive-handed.result.1.sink.now) =
+    stops_as c.from_residual-in_err-went_through.result e _ _ _ (search rules) (ended_stops _ _ c.drive-handed.result.1.stopped _ _ _ _ _ c.drive-handed.result.0 e c.drive-handed.ensures.any.1 ended) in
+    search (rules, here)
+
+pub returns-in_err-send-clause-stops : goal.returns-in_err-send-clause-stops
+returns-in_err-send-clause-stops g c =
+    let none = not_stopped c.drive-handed.result.1.stopped c.drive-handed.result.0 c.in_ok-went_through.ensures.ok in
+    let here : StopsAt (c.from_residual-in_err-send.result ≡ Err SinkFault) (g.K.Sink.at_failure c.args.sink.now) (g.K.Sink.at_failure c.send.new.sink) (g.K.Sink.contents c.send.new.sink) =
+    stops_as c.from_residual-in_err-send.result c.in_err-send.field-0.0 _ _ _ (search rules)
+    (stops_later _ _ _ _ _ (none_failed _ _ c.drive-handed.result.1.stopped _ _ _ _ _ none c.drive-handed.ensures.any.1) c.in_err-send.ensures.stops) in
+    search (rules, here)
+
+pub returns-clause-stops : goal.returns-clause-stops
+returns-clause-stops g c =
+    let none = not_stopped c.drive-handed.result.1.stopped c.drive-handed.result.0 c.in_ok-went_through.ensures.ok in
+    let same : g.K.Sink.at_failure c.send.new.sink ≡ g.K.Sink.at_failure c.args.sink.now = c.in_ok-send.ensures.unbroken ∙ none_failed _ _ c.drive-handed.result.1.stopped _ _ _ _ _ none c.drive-handed.ensures.any.1 in
+    inl (search (rules, same))

@@ -1,4 +1,6 @@
-use Rattle.std.proofs.Common.{◌≡◌, ◌+◌, ◌*◌, List, Option, true, length, refl, arith, rules}
+use Rattle.std.proofs.Common.{◌≡◌, Err, ◌∙◌, inl, ◌+◌, ◌*◌, List, Option, true, length, refl, arith, rules}
+use Rattle.outside.specs.Sinks.{StopsAt}
+use Rattle.query_run.specs.declared.outcome.QueryErr.TheVariants.{SinkFault}
 use Rattle.pool_model.specs.declared.entry.Entry.{Entry}
 use Rattle.row_codec.specs.declared.values.Value.{Value}
 use Rattle.partition_stack.specs.Slots.{IsWantBelow}
@@ -11,7 +13,8 @@ use Rattle.query_run.specs.Answer.{answer_text, header_of}
 use Rattle.query_run.specs.Causes.{OfPool}
 use Rattle.query_run.specs.Ending.{IsEndedBy}
 use Rattle.query_run.specs.Taking.{join_slots}
-use Rattle.query_run.proofs.Ended.{all_handed, not_stopped, took_none, untouched}
+use Rattle.outside.proofs.Stopping.{stops_later}
+use Rattle.query_run.proofs.Ended.{all_handed, ended_stops, none_failed, not_stopped, stops_as, took_none, untouched}
 use Rattle.query_run.proofs.JoinWants.{ended_pairs}
 use Rattle.query_run.proofs.Pairing.{no_pairs, pair_numbers, some_pairs, stopped_pairs, unsent_pairs, whole_pairs}
 use Rattle.query_run.proofs.pairs.write_pairs.Goals as goal
@@ -77,3 +80,25 @@ returns-in_err-went_through-clause-enough g c =
     let all : OfPool (λ why. (start : Option (List Entry)) (lefts rights : List (List Value)) → Keeps start lefts rights op h s → h.told ≡ true → IsWantBelow (slots_for op h lefts rights) total why) e =
     ended_pairs (λ start lefts rights. Keeps start lefts rights op h s) (h.told ≡ true) (slots_for op h) total _ _ _ _ c.drive_pairs-handed.result.1.stopped _ _ _ c.drive_pairs-handed.result.0 e c.drive_pairs-handed.ensures.enough c.drive_pairs-handed.ensures.any.1 ended in
     search (rules, all)
+
+pub returns-in_err-went_through-clause-stops : goal.returns-in_err-went_through-clause-stops
+returns-in_err-went_through-clause-stops g c =
+    let e = c.in_err-went_through.field-0.0 in
+    let ended : IsEndedBy c.drive_pairs-handed.result.1.stopped c.drive_pairs-handed.result.0 e = search rules in
+    let here : StopsAt (c.from_residual-in_err-went_through.result ≡ Err SinkFault) (g.K.Sink.at_failure c.args.sink.now) (g.K.Sink.at_failure c.drive_pairs-handed.result.1.sink.now) (g.K.Sink.contents c.drive_pairs-handed.result.1.sink.now) =
+    stops_as c.from_residual-in_err-went_through.result e _ _ _ (search rules) (ended_stops _ _ c.drive_pairs-handed.result.1.stopped _ _ _ _ _ c.drive_pairs-handed.result.0 e c.drive_pairs-handed.ensures.any.1 ended) in
+    search (rules, here)
+
+pub returns-in_err-send-clause-stops : goal.returns-in_err-send-clause-stops
+returns-in_err-send-clause-stops g c =
+    let none = not_stopped c.drive_pairs-handed.result.1.stopped c.drive_pairs-handed.result.0 c.in_ok-went_through.ensures.ok in
+    let here : StopsAt (c.from_residual-in_err-send.result ≡ Err SinkFault) (g.K.Sink.at_failure c.args.sink.now) (g.K.Sink.at_failure c.send.new.sink) (g.K.Sink.contents c.send.new.sink) =
+    stops_as c.from_residual-in_err-send.result c.in_err-send.field-0.0 _ _ _ (search rules)
+    (stops_later _ _ _ _ _ (none_failed _ _ c.drive_pairs-handed.result.1.stopped _ _ _ _ _ none c.drive_pairs-handed.ensures.any.1) c.in_err-send.ensures.stops) in
+    search (rules, here)
+
+pub returns-clause-stops : goal.returns-clause-stops
+returns-clause-stops g c =
+    let none = not_stopped c.drive_pairs-handed.result.1.stopped c.drive_pairs-handed.result.0 c.in_ok-went_through.ensures.ok in
+    let same : g.K.Sink.at_failure c.send.new.sink ≡ g.K.Sink.at_failure c.args.sink.now = c.in_ok-send.ensures.unbroken ∙ none_failed _ _ c.drive_pairs-handed.result.1.stopped _ _ _ _ _ none c.drive_pairs-handed.ensures.any.1 in
+    inl (search (rules, same))

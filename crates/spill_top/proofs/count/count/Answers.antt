@@ -2,6 +2,8 @@ use Rattle.std.proofs.Common.{◌≡◌, ◌∙◌, ◌⊎◌, IsSome, Some, Err
 use Rattle.outside.specs.Counts.{Rose}
 use Rattle.pin_core.specs.Tallies.{tally_of}
 use Rattle.pin_core.specs.declared.conf.PoolConf.{PoolConf}
+use Rattle.outside.specs.Faults.{faults_of}
+use Rattle.outside.proofs.Stopping.{ends_there, fails_or_not}
 use Rattle.spill_top.specs.Pooled.{memory_of}
 use Rattle.query_plan.specs.Sizes.{page_len}
 use Rattle.query_plan.specs.declared.plan.Query.{Query}
@@ -74,6 +76,7 @@ returns-clause-stop g c =
     let result = c.run_watched-ran.result.0 in
     let written = c.run_watched-ran.result.1.written in
     let counts = c.run_watched-ran.ensures.sink in
+    let broken = fails_or_not _ _ _ c.run_watched-ran.ensures.stops in
     let says : SaysOfSide c.in-Ok.plan Left c.in-Ok.plan.left (page_len c.in-Ok.plan c.counting_pool-pool.result.block_len) (source (g.I.Src.Source.remaining c.in-Ok-open.left) (g.I.Src.Source.remaining c.run_watched-ran.new.left) (g.I.Src.Source.faults c.in-Ok-open.left) (g.I.Src.Source.faults c.run_watched-ran.new.left)) c.in-Err.e = search rules in
     let stop : OfPool (IsPoolStop c.in-Ok.plan (page_len c.in-Ok.plan c.counting_pool-pool.result.block_len) (told_with slots (g.I.Src.Source.remaining c.in-Ok-open.left)) (vec_len c.args.slots.now) (HaveFailed slots slots_now)) c.in-Err.e = search rules in
     let untouched : IsSome (side_of c.in-Err.e) → written ≡ false = search rules in
@@ -85,24 +88,24 @@ returns-clause-stop g c =
     let cause : (why : Refusal) → refusal_for c.in-Err.e ≡ Some why → IsCause told faults faults_now slots slots_now command why =
     λ why is. cause_is told faults faults_now slots slots_now command c.in-Err.e why is (refused_so command c.in-Ok.plan c.counting_pool-pool.result.block_len told _ c.in-Err.e c.in-Ok.ensures len c.in-Ok-open.ensures.gives says.refused) counted
     (pool_causes told _ faults faults_now (vec_len c.args.slots.now) c.counting_pool-pool.result.block_len slots slots_now command c.in-Ok.plan c.in-Err.e c.in-Ok.ensures len c.in-Ok-open.ensures.gives many stop) in
-    let here : IsStop (g.I.Inputs.bytes_at c.args.inputs.now) faults faults_now slots slots_now old new (g.R.Sink.faults c.args.report.now) (g.R.Sink.faults c.run_watched-ran.result.1.sink.now) command c.of.result =
-    stop_is (IsStop (g.I.Inputs.bytes_at c.args.inputs.now) faults faults_now slots slots_now old new (g.R.Sink.faults c.args.report.now) (g.R.Sink.faults c.run_watched-ran.result.1.sink.now) command) c.of.result
+    let here : IsStop (g.I.Inputs.bytes_at c.args.inputs.now) faults faults_now slots slots_now old new (faults_of g.R.Sink c.args.report.now) (faults_of g.R.Sink c.run_watched-ran.result.1.sink.now) command c.of.result =
+    stop_is (IsStop (g.I.Inputs.bytes_at c.args.inputs.now) faults faults_now slots slots_now old new (faults_of g.R.Sink c.args.report.now) (faults_of g.R.Sink c.run_watched-ran.result.1.sink.now) command) c.of.result
     (λ is. let failed : result ≡ Err SinkFault = c.in-Err.is ∙ ap (λ (e : QueryErr). Err e) (c.of.ensures.report is) in
-    (counts.fault failed, λ tell. part (λ t. c.run_watched-ran.ensures.front t failed) tell))
+    ((counts.fault failed, ends_there _ _ _ c.run_watched-ran.ensures.stops), λ tell. part (λ t. c.run_watched-ran.ensures.front t failed) tell))
     (λ is. absurd (c.of.ensures.apart is))
     (λ is. let memory = c.of.ensures.short is in (
       less_so written old new (all_tell slots ≡ true) (AnswersInPart (g.I.Inputs.bytes_at c.args.inputs.now) old new command) c.run_watched-ran.ensures.kept (λ front. part front) either,
-      stays_so result c.in-Err.e _ _ c.in-Err.is (λ fault. memory_alone c.in-Err.e memory fault) counts.quiet,
+      (stays_so result c.in-Err.e _ _ c.in-Err.is (λ fault. memory_alone c.in-Err.e memory fault) counts.quiet, stays_so result c.in-Err.e _ _ c.in-Err.is (λ fault. memory_alone c.in-Err.e memory fault) broken),
     ))
     (λ why is. let of = c.of.ensures.refused why is in
-    (cause why of.0, c.run_watched-ran.ensures.kept of.1, stays_so result c.in-Err.e _ _ c.in-Err.is (no_fault c.in-Err.e why of.0) counts.quiet))
+    (cause why of.0, c.run_watched-ran.ensures.kept of.1, (stays_so result c.in-Err.e _ _ c.in-Err.is (no_fault c.in-Err.e why of.0) counts.quiet, stays_so result c.in-Err.e _ _ c.in-Err.is (no_fault c.in-Err.e why of.0) broken)))
     (λ why is. let of = c.of.ensures.broken why is in (
       cause why of.0,
       pool_alone c.in-Err.e why written of.0 untouched of.1,
       record {
         front = λ tell. part (front_of written (all_tell slots ≡ true → WroteFrontOver c.in-Ok.plan (page_len c.in-Ok.plan c.counting_pool-pool.result.block_len) (g.I.Src.Source.remaining c.in-Ok-open.left) old new) of.1 either) tell;
         some = c.run_watched-ran.ensures.longer of.1;
-        quiet = stays_so result c.in-Err.e _ _ c.in-Err.is (no_fault c.in-Err.e why of.0) counts.quiet;
+        quiet = (stays_so result c.in-Err.e _ _ c.in-Err.is (no_fault c.in-Err.e why of.0) counts.quiet, stays_so result c.in-Err.e _ _ c.in-Err.is (no_fault c.in-Err.e why of.0) broken);
       },
     )) in
     search (rules, here)

@@ -5,8 +5,8 @@ use Rattle.spill_top.proofs.Runnable.{runnable}
 use Rattle.spill_top.proofs.over.answer.Goals.{in-Err, in-Ok}
 use Rattle.spill_top.proofs.over.answer.Goals as goal
 
-pub run_query-ran-requires-clause-plan : goal.run_query-ran-requires-clause-plan
-run_query-ran-requires-clause-plan g c = runnable c.args.query.now c.requires.rules
+pub run_unmarked-ran-requires-clause-plan : goal.run_unmarked-ran-requires-clause-plan
+run_unmarked-ran-requires-clause-plan g c = runnable c.args.query.now c.requires.rules
 
 pub returns : goal.returns
 returns g c =
@@ -14,16 +14,16 @@ returns g c =
     let is : c.args.job.now ≡ job_of c.args.job.now.refused c.in-Some-left.left c.args.job.now.right c.in-Some-sink.sink None c.in-Some.session =
     goes_on c.args.job.now c.in-Some-left.left c.in-Some-sink.sink c.in-Some.session c.in-Some-left.is c.in-Some-sink.is on c.in-Some.is in
     elim c.match-ran.branch [
-      | in-Ok w ↦ of_job g.S.Source.remaining g.S.Source.faults g.K.Sink.contents g.K.Sink.faults g.St.Store.holds g.St.Store.signs c.args.query.now c.args.job.now.refused c.in-Some-left.left c.run_query-ran.new.left c.args.job.now.right c.run_query-ran.new.right c.in-Some-sink.sink c.run_query-ran.new.sink c.in-Some.session c.run_query-ran.new.store
-          c.run_query-ran.ensures.sources.1 c.run_query-ran.ensures.store
+      | in-Ok w ↦ of_job g.S.Source.remaining g.S.Source.faults g.K.Sink.contents g.K.Sink.faults g.St.Store.holds g.St.Store.signs c.args.query.now c.args.job.now.refused c.in-Some-left.left c.run_unmarked-ran.new.left c.args.job.now.right c.run_unmarked-ran.new.right c.in-Some-sink.sink c.run_unmarked-ran.new.sink c.in-Some.session c.run_unmarked-ran.new.store
+          c.run_unmarked-ran.ensures.sources.1 c.run_unmarked-ran.ensures.store
           c.args.job.now c.match-ran.job (Lines w.in-Ok.ran.lines) is w.job-is
-          (with_answer g.S.Source.remaining g.S.Source.faults g.K.Sink.contents g.K.Sink.faults g.St.Store.holds g.St.Store.signs c.args.query.now c.args.job.now.refused c.in-Some-left.left c.run_query-ran.new.left c.args.job.now.right c.run_query-ran.new.right c.in-Some-sink.sink c.run_query-ran.new.sink c.in-Some.session c.run_query-ran.new.store
-          c.run_query-ran.ensures.sources.1 c.run_query-ran.ensures.store
+          (with_answer g.S.Source.remaining g.S.Source.faults g.K.Sink.contents g.K.Sink.faults g.St.Store.holds g.St.Store.signs c.args.query.now c.args.job.now.refused c.in-Some-left.left c.run_unmarked-ran.new.left c.args.job.now.right c.run_unmarked-ran.new.right c.in-Some-sink.sink c.run_unmarked-ran.new.sink c.in-Some.session c.run_unmarked-ran.new.store
+          c.run_unmarked-ran.ensures.sources.1 c.run_unmarked-ran.ensures.store
           w.in-Ok.ran w.in-Ok.ensures.answer w.in-Ok.ensures.numbers w.in-Ok.ensures.kept)
-      | in-Err w ↦ of_job g.S.Source.remaining g.S.Source.faults g.K.Sink.contents g.K.Sink.faults g.St.Store.holds g.St.Store.signs c.args.query.now c.args.job.now.refused c.in-Some-left.left c.run_query-ran.new.left c.args.job.now.right c.run_query-ran.new.right c.in-Some-sink.sink c.run_query-ran.new.sink c.in-Some.session c.run_query-ran.new.store
-          c.run_query-ran.ensures.sources.1 c.run_query-ran.ensures.store
+      | in-Err w ↦ of_job g.S.Source.remaining g.S.Source.faults g.K.Sink.contents g.K.Sink.faults g.St.Store.holds g.St.Store.signs c.args.query.now c.args.job.now.refused c.in-Some-left.left c.run_unmarked-ran.new.left c.args.job.now.right c.run_unmarked-ran.new.right c.in-Some-sink.sink c.run_unmarked-ran.new.sink c.in-Some.session c.run_unmarked-ran.new.store
+          c.run_unmarked-ran.ensures.sources.1 c.run_unmarked-ran.ensures.store
           c.args.job.now c.match-ran.job (Stopped w.in-Err.e) is w.job-is
-          (with_stop g.S.Source.remaining g.S.Source.faults g.K.Sink.contents g.K.Sink.faults g.St.Store.holds g.St.Store.signs c.args.query.now c.args.job.now.refused c.in-Some-left.left c.run_query-ran.new.left c.args.job.now.right c.run_query-ran.new.right c.in-Some-sink.sink c.run_query-ran.new.sink c.in-Some.session c.run_query-ran.new.store
-          c.run_query-ran.ensures.sources.1 c.run_query-ran.ensures.store
-          w.in-Err.e w.in-Err.ensures.input w.in-Err.ensures.pool (λ fault. c.run_query-ran.ensures.sink.fault (search (rules, fault, w.in-Err.is))) w.in-Err.ensures.untouched w.in-Err.ensures.stopped)
+          (with_stop g.S.Source.remaining g.S.Source.faults g.K.Sink.contents g.K.Sink.faults g.St.Store.holds g.St.Store.signs c.args.query.now c.args.job.now.refused c.in-Some-left.left c.run_unmarked-ran.new.left c.args.job.now.right c.run_unmarked-ran.new.right c.in-Some-sink.sink c.run_unmarked-ran.new.sink c.in-Some.session c.run_unmarked-ran.new.store
+          c.run_unmarked-ran.ensures.sources.1 c.run_unmarked-ran.ensures.store
+          w.in-Err.e w.in-Err.ensures.input w.in-Err.ensures.pool (λ fault. c.run_unmarked-ran.ensures.sink.fault (search (rules, fault, w.in-Err.is))) w.in-Err.ensures.untouched w.in-Err.ensures.stopped)
     ]

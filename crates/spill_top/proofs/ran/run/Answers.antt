@@ -5,6 +5,7 @@ use Rattle.query_plan.specs.PlanOf.{plan_of}
 use Rattle.query_plan.specs.Rules.{KeepsRules}
 use Rattle.query_plan.specs.declared.error.PlanErr.TheVariants.{Memory}
 use Rattle.query_plan.specs.declared.plan.Query.{Query}
+use Rattle.outside.specs.Faults.{faults_of}
 use Rattle.spill_top.specs.declared.ending.Ending.{Ending}
 use Rattle.spill_top.specs.Ran.{Reported, telling}
 use Rattle.spill_top.specs.Running.{Went, seen}
@@ -59,8 +60,8 @@ returns-in-Ok-run_queries-clause-ran g c =
       as_many = many;
       ended = c.in-Ok-run_queries.ensures.ended;
       stored = c.in-Ok-run_queries.ensures.stored;
-      reported = subst (λ (queries : List Query). Reported queries c.in-Ok-run_queries.ends.items (telling (g.R.Sink.contents c.args.report.now) (g.R.Sink.faults c.args.report.now)) (telling (g.R.Sink.contents c.report_all.new.report) (g.R.Sink.faults c.report_all.new.report)) c.report_all.result) queries_are
-          (subst (λ (ends : List Ending). Reported c.as_slice-in-Ok-run_queries.result.now ends (telling (g.R.Sink.contents c.args.report.now) (g.R.Sink.faults c.args.report.now)) (telling (g.R.Sink.contents c.report_all.new.report) (g.R.Sink.faults c.report_all.new.report)) c.report_all.result) ends_are c.report_all.ensures.reported);
+      reported = subst (λ (queries : List Query). Reported queries c.in-Ok-run_queries.ends.items (telling (g.R.Sink.contents c.args.report.now) (faults_of g.R.Sink c.args.report.now)) (telling (g.R.Sink.contents c.report_all.new.report) (faults_of g.R.Sink c.report_all.new.report)) c.report_all.result) queries_are
+          (subst (λ (ends : List Ending). Reported c.as_slice-in-Ok-run_queries.result.now ends (telling (g.R.Sink.contents c.args.report.now) (faults_of g.R.Sink c.args.report.now)) (telling (g.R.Sink.contents c.report_all.new.report) (faults_of g.R.Sink c.report_all.new.report)) c.report_all.result) ends_are c.report_all.ensures.reported);
     })
 
 pub returns-clause-ran : goal.returns-clause-ran

@@ -1,5 +1,6 @@
 use Rattle.std.proofs.Common.{◌≡◌, ℕ, List, Option, Some, IfSome, map, string_bytes, vec_len, arith, refl, sym, subst, rules}
 use Rattle.pin_core.specs.Tallies.{tally_of}
+use Rattle.outside.specs.Faults.{faults_of}
 use Rattle.spill_top.specs.Headline.{Counted}
 use Rattle.spill_top.specs.Ran.{RanPlan, telling}
 use Rattle.spill_top.specs.Running.{seen}
@@ -14,7 +15,7 @@ pub returns-in_default-clause-count : goal.returns-in_default-clause-count
 returns-in_default-clause-count g c = of_each (command_of (map string_bytes c.args.words.now)) _ (λ command. counted_short _ _ _ _ _ _ _ _ _ _ command c.refuse_memory.ensures.status c.refuse_memory.ensures.tells)
 
 pub returns-in_default-clause-run : goal.returns-in_default-clause-run
-returns-in_default-clause-run g c = of_each (plan_file_of (map string_bytes c.args.words.now)) _ (λ file. ran_short file _ _ (seen (g.I.Inputs.bytes_at c.args.inputs.now) (g.I.Inputs.faults_at c.args.inputs.now) (g.O.Outputs.written c.args.outputs.now) (g.O.Outputs.is_created c.args.outputs.now) (g.O.Outputs.faults_at c.args.outputs.now) (tally_of g.D.Slot c.args.slots.now.items)) (seen (g.I.Inputs.bytes_at c.args.inputs.now) (g.I.Inputs.faults_at c.args.inputs.now) (g.O.Outputs.written c.args.outputs.now) (g.O.Outputs.is_created c.args.outputs.now) (g.O.Outputs.faults_at c.args.outputs.now) (tally_of g.D.Slot c.args.slots.now.items)) (telling (g.R.Sink.contents c.args.report.now) (g.R.Sink.faults c.args.report.now)) (telling (g.R.Sink.contents c.refuse_memory.new.report) (g.R.Sink.faults c.refuse_memory.new.report)) c.refuse_memory.ensures.status (λ name. refl) c.refuse_memory.ensures.tells)
+returns-in_default-clause-run g c = of_each (plan_file_of (map string_bytes c.args.words.now)) _ (λ file. ran_short file _ _ (seen (g.I.Inputs.bytes_at c.args.inputs.now) (g.I.Inputs.faults_at c.args.inputs.now) (g.O.Outputs.written c.args.outputs.now) (g.O.Outputs.is_created c.args.outputs.now) (g.O.Outputs.faults_at c.args.outputs.now) (tally_of g.D.Slot c.args.slots.now.items)) (seen (g.I.Inputs.bytes_at c.args.inputs.now) (g.I.Inputs.faults_at c.args.inputs.now) (g.O.Outputs.written c.args.outputs.now) (g.O.Outputs.is_created c.args.outputs.now) (g.O.Outputs.faults_at c.args.outputs.now) (tally_of g.D.Slot c.args.slots.now.items)) (telling (g.R.Sink.contents c.args.report.now) (faults_of g.R.Sink c.args.report.now)) (telling (g.R.Sink.contents c.refuse_memory.new.report) (faults_of g.R.Sink c.refuse_memory.new.report)) c.refuse_memory.ensures.status (λ name. refl) c.refuse_memory.ensures.tells)
 
 pub returns-in-Some-Count-clause-words : goal.returns-in-Some-Count-clause-words
 returns-in-Some-Count-clause-words g c =
@@ -28,7 +29,7 @@ pub returns-in-Some-Count-clause-count : goal.returns-in-Some-Count-clause-count
 returns-in-Some-Count-clause-count g c =
     let command : Command = record { file = c.in-Some-Count.file.now; column = c.in-Some-Count.column.now } in
     let is : command_of (map string_bytes c.args.words.now) ≡ Some (record { file = c.in-Some-Count.file.now; column = c.in-Some-Count.column.now }) = search rules in
-    let counted : Counted (g.I.Inputs.bytes_at c.args.inputs.now) (g.I.Inputs.faults_at c.args.inputs.now) (g.I.Inputs.faults_at c.answer_count.new.inputs) (tally_of g.D.Slot c.args.slots.now.items) (tally_of g.D.Slot c.answer_count.new.slots.items) (g.R.Sink.contents c.args.report.now) (g.R.Sink.contents c.answer_count.new.report) (g.R.Sink.faults c.args.report.now) (g.R.Sink.faults c.answer_count.new.report) c.answer_count.result command = record {
+    let counted : Counted (g.I.Inputs.bytes_at c.args.inputs.now) (g.I.Inputs.faults_at c.args.inputs.now) (g.I.Inputs.faults_at c.answer_count.new.inputs) (tally_of g.D.Slot c.args.slots.now.items) (tally_of g.D.Slot c.answer_count.new.slots.items) (g.R.Sink.contents c.args.report.now) (g.R.Sink.contents c.answer_count.new.report) (faults_of g.R.Sink c.args.report.now) (faults_of g.R.Sink c.answer_count.new.report) c.answer_count.result command = record {
       status_is = c.answer_count.ensures.status;
       answer = c.answer_count.ensures.answer;
       input_fault = c.answer_count.ensures.input_fault;
@@ -55,7 +56,7 @@ pub returns-in-Some-Run-clause-usage : goal.returns-in-Some-Run-clause-usage
 returns-in-Some-Run-clause-usage g c = λ one. absurd (run_never_one _ _ _ _ _ _ _ c.run.ensures.ran one)
 
 pub returns-in_default-clause-selfcheck : goal.returns-in_default-clause-selfcheck
-returns-in_default-clause-selfcheck g c = of_each (check_of (map string_bytes c.args.words.now)) _ (λ check. checked_short check _ _ _ (telling (g.R.Sink.contents c.args.report.now) (g.R.Sink.faults c.args.report.now)) (telling (g.R.Sink.contents c.refuse_memory.new.report) (g.R.Sink.faults c.refuse_memory.new.report)) _ c.refuse_memory.ensures.status c.refuse_memory.ensures.tells refl (no_call (seen (g.I.Inputs.bytes_at c.args.inputs.now) (g.I.Inputs.faults_at c.args.inputs.now) (g.O.Outputs.written c.args.outputs.now) (g.O.Outputs.is_created c.args.outputs.now) (g.O.Outputs.faults_at c.args.outputs.now) (tally_of g.D.Slot c.args.slots.now.items))))
+returns-in_default-clause-selfcheck g c = of_each (check_of (map string_bytes c.args.words.now)) _ (λ check. checked_short check _ _ _ (telling (g.R.Sink.contents c.args.report.now) (faults_of g.R.Sink c.args.report.now)) (telling (g.R.Sink.contents c.refuse_memory.new.report) (faults_of g.R.Sink c.refuse_memory.new.report)) _ c.refuse_memory.ensures.status c.refuse_memory.ensures.tells refl (no_call (seen (g.I.Inputs.bytes_at c.args.inputs.now) (g.I.Inputs.faults_at c.args.inputs.now) (g.O.Outputs.written c.args.outputs.now) (g.O.Outputs.is_created c.args.outputs.now) (g.O.Outputs.faults_at c.args.outputs.now) (tally_of g.D.Slot c.args.slots.now.items))))
 
 pub self_check-requires-clause-range : goal.self_check-requires-clause-range
 self_check-requires-clause-range g c κs within =
@@ -93,5 +94,5 @@ returns-in-Some-Run-clause-run g c =
     RanPlan name (vec_len c.args.slots.now)
     (seen (g.I.Inputs.bytes_at c.args.inputs.now) (g.I.Inputs.faults_at c.args.inputs.now) (g.O.Outputs.written c.args.outputs.now) (g.O.Outputs.is_created c.args.outputs.now) (g.O.Outputs.faults_at c.args.outputs.now) (tally_of g.D.Slot c.args.slots.now.items))
     (seen (g.I.Inputs.bytes_at c.run.new.inputs) (g.I.Inputs.faults_at c.run.new.inputs) (g.O.Outputs.written c.run.new.outputs) (g.O.Outputs.is_created c.run.new.outputs) (g.O.Outputs.faults_at c.run.new.outputs) (tally_of g.D.Slot c.run.new.slots.items))
-    (telling (g.R.Sink.contents c.args.report.now) (g.R.Sink.faults c.args.report.now)) (telling (g.R.Sink.contents c.run.new.report) (g.R.Sink.faults c.run.new.report)) c.run.result))
+    (telling (g.R.Sink.contents c.args.report.now) (faults_of g.R.Sink c.args.report.now)) (telling (g.R.Sink.contents c.run.new.report) (faults_of g.R.Sink c.run.new.report)) c.run.result))
     (sym is) c.run.ensures.ran
