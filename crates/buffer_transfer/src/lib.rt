@@ -11,8 +11,6 @@
 
 mod book;
 mod lent;
-#[cfg(test)]
-mod tests;
 
 pub use block_arena::Memory;
 pub use book::BufferBook;

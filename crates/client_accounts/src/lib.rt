@@ -12,8 +12,6 @@
 
 mod account;
 mod accounts;
-#[cfg(test)]
-mod tests;
 
 pub use account::ClientAccount;
 pub use accounts::{ClientAccounts, MOST};

@@ -14,8 +14,6 @@
 mod links;
 mod shortage;
 mod table;
-#[cfg(test)]
-mod tests;
 
 pub use shortage::Memory;
 pub use table::Lists;

@@ -14,8 +14,6 @@ mod path_key;
 mod reading;
 mod shortage;
 mod spelling;
-#[cfg(test)]
-mod tests;
 mod values;
 
 pub use byte_list::Bytes;

@@ -9,8 +9,6 @@ mod decoding;
 mod framing;
 mod keying;
 mod laws;
-#[cfg(test)]
-mod tests;
 
 pub use decoding::decode_into;
 pub use keying::key_into;

@@ -13,6 +13,3 @@ pub use cause::Cause;
 pub use outcome::Outcome;
 pub use report::outcome_line;
 pub use row_codec::Memory;
-
-#[cfg(test)]
-mod tests;

@@ -9,6 +9,3 @@ mod pred;
 
 pub use passing::passes;
 pub use pred::{Cmp, Pred};
-
-#[cfg(test)]
-mod tests;

@@ -11,8 +11,6 @@
 mod member;
 mod row;
 mod table;
-#[cfg(test)]
-mod tests;
 
 pub use member::Member;
 pub use reservation_tree::Memory;

@@ -8,6 +8,3 @@ mod line;
 mod source;
 
 pub use source::TableSource;
-
-#[cfg(test)]
-mod tests;

@@ -1,0 +1,7 @@
+mod accounts;
+mod arena;
+mod books;
+mod cleans;
+mod lists;
+mod pages;
+mod sessions;

@@ -1,0 +1,6 @@
+mod filters;
+mod groups;
+mod reading;
+mod reports;
+mod rows;
+mod tables;
