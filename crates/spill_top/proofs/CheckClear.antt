@@ -42,7 +42,7 @@ few-rows check range =
 -- a line of an answer that met no fault tells it whole, or found no memory
 pub told_clear : (line : List ℕ) (before after : Telling) (status : ℕ) → (Rose before.faults.count after.faults.count → ⊥) → TellsAnswer line before after status → (status ≡ 0) ⊎ (status ≡ 10)
 told_clear line before after status quiet (inl whole) = inl whole.0
-told_clear line before after status quiet (inr (inl (nine, front, rose, ends))) = absurd (quiet rose)
+told_clear line before after status quiet (inr (inl failed)) = absurd (quiet failed.2.0)
 told_clear line before after status quiet (inr (inr missing)) = inr missing.0
 
 module _ (check : Check) (range : IsInRange check) (quota : ℕ) (start now : Seen) (before after : Telling) (clear : IsCheckClear check quota start now before after) where

@@ -61,6 +61,5 @@ mod SharedNames
 mod SharedStops
 mod SharedStored
 mod Seating
-mod NoMarks
 mod Answering
 mod AtGate

@@ -108,4 +108,5 @@ returns-clause-stop g c =
         quiet = (stays_so result c.in-Err.e _ _ c.in-Err.is (no_fault c.in-Err.e why of.0) counts.quiet, stays_so result c.in-Err.e _ _ c.in-Err.is (no_fault c.in-Err.e why of.0) broken);
       },
     )) in
-    search (rules, here)
+    let same : c.report-1.given.0 ≡ c.run_watched-ran.result.1.sink.now = search rules in
+    subst (λ (sink : g.row.R.Denot). IsStop (g.I.Inputs.bytes_at c.args.inputs.now) faults faults_now slots slots_now old (g.R.Sink.contents sink) (faults_of g.R.Sink c.args.report.now) (faults_of g.R.Sink sink) command c.of.result) (sym same) here
