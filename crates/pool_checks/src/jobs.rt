@@ -1,5 +1,5 @@
 //! What calls need of jobs.
-ghost use Rattle.std.specs.Prelude.{◌≡◌, ◌⊎◌, IsTrue, length};
+ghost use Rattle.std.specs.Prelude.{◌≡◌, ◌<◌, ◌⊎◌, IsTrue, length};
 ghost use Rattle.pool_model.specs.Makers.{IsSession, IsWriter};
 ghost use Rattle.pin_core.specs.Jobs.{IsReadJob, IsWriteJob};
 ghost use Rattle.pin_core.specs.Marking.{under_of};
@@ -50,10 +50,17 @@ fn may_be_found<D>(job: &ReadJob<D>) -> bool
     let Some(stale) = job.stale else {
         return true;
     };
-    job.under == Some(stale.wanted.version)
-        && stale.wanted.name == job.id.name
-        && (stale.wanted.block as usize) < job.row.len()
-        && stale.found != stale.wanted
+    let (wanted, found) = (stale.wanted, stale.found);
+    job.under == Some(wanted.version)
+        && wanted.name == job.id.name
+        && is_inside(wanted.block, job.row.len())
+        && found != wanted
+}
+
+fn is_inside(block: u32, blocks: usize) -> bool
+    ensures { IsTrue result → block < blocks }
+{
+    (block as usize) < blocks
 }
 
 // The version, where the pool's stored blocks have marks.
