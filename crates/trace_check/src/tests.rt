@@ -1,0 +1,3 @@
+//! Texts of traces.
+mod lines;
+mod texts;

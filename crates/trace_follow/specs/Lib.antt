@@ -1,0 +1,15 @@
+pub mod Tables
+pub mod Queues
+pub mod Rows
+pub mod Showing
+pub mod Following
+pub mod Judging
+pub mod Looking
+pub mod Beginning
+pub mod Wanting
+pub mod Moving
+pub mod Waiting
+pub mod Ending
+pub mod Noting
+pub mod Unpinning
+pub mod Changing
