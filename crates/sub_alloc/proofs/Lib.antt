@@ -1,0 +1,15 @@
+pub mod Tiles
+pub mod Outs
+pub mod Leaving
+pub mod Looks
+pub mod Halves
+pub mod Whole
+pub mod Lent
+pub mod Asked
+pub mod Beside
+pub mod Cuts
+pub mod Shut
+pub mod Took
+pub mod Room
+pub mod Made
+pub mod Returned
