@@ -1,5 +1,0 @@
-use Rattle.pool_checks.proofs.CheckedIdle.{vacant_told}
-use Rattle.pool_checks.proofs.idle.has_no_session.Goals as goal
-
-pub returns : goal.returns
-returns g c = λ is. vacant_told c.parts-parts.result.now c.args.pool.now c.parts-parts.ensures.parts (c.are_vacant.ensures is)

@@ -1,5 +1,0 @@
-use Rattle.pool_checks.proofs.Checked.{known_maybe}
-use Rattle.pool_checks.proofs.pages.entry_at.Goals as goal
-
-pub returns : goal.returns
-returns g c = known_maybe c.parts-parts.result.now c.args.pool.now c.parts-parts.ensures.parts c.parts-parts.ensures.laws c.args.id c.get.result c.get.ensures.value

@@ -1,6 +1,0 @@
-use Rattle.std.proofs.Common.{◌≡◌}
-use Rattle.session_checks.specs.Ending.{AsMany}
-use Rattle.session_checks.proofs.tests.asks.ask_turns.Given as goal
-
-abbrev pub invariant-loop-asked : goal.invariant-loop-asked
-invariant-loop-asked g l = (l.pass.table ≡ l.pool) × AsMany l.initial.pass l.pass

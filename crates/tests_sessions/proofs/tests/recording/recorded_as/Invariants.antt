@@ -1,0 +1,5 @@
+use Rattle.std.proofs.Common.{Some}
+use Rattle.tests_sessions.proofs.tests.recording.recorded_as.Given as goal
+
+abbrev pub ghosts-play_scene : goal.ghosts-play_scene
+ghosts-play_scene g a = record { table = Some a.pool.now }
