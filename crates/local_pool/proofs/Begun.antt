@@ -1,5 +1,5 @@
 -- One owner's pool begins.
-use Rattle.std.proofs.Common.{◌≡◌, ℕ, ◌+◌, ◌-◌, ◌<◌, ◌≤◌, ◌==◌, leb, true, false, if◌then◌else◌, List, [], ◌∷◌, ◌++◌, length, Option, Some, None, is_some, Result, Ok, Err, IfOk, IfSome, inl, inr, refl, sym, ap, ◌∙◌, subst, arith}
+use Rattle.std.proofs.Common.{◌≡◌, ◌≢◌, ℕ, ◌+◌, ◌-◌, ◌<◌, ◌≤◌, ◌==◌, leb, true, false, if◌then◌else◌, List, [], ◌∷◌, ◌++◌, length, Option, Some, None, is_some, Result, Ok, Err, IfOk, IfSome, inl, inr, refl, sym, ap, ◌∙◌, subst, arith}
 use Rattle.std.proofs.lemmas.Bool.{false≢true, leb-true, leb-false, eqb-true}
 use Rattle.std.proofs.lemmas.List.{append-nil}
 use Rattle.std.specs.FinMap.{get, empty, get-empty}
@@ -39,7 +39,7 @@ use Rattle.pin_core.specs.declared.tally.Tally.{Tally}
 use Rattle.local_pool.specs.Told.{opening_of, outset_of, held_of}
 use Rattle.local_pool.specs.declared.sole.Shelf.{Shelf}
 use Rattle.local_pool.specs.Counting.{AtOpening, BeginsNames, CountsFrom, HasBlocks, at_opening}
-use Rattle.pin_core.specs.Tallies.{Counted, all_failures, silence, tally_in, written_blocks}
+use Rattle.pin_core.specs.Tallies.{Counted, all_failures, all_stale, silence, tally_in, written_blocks}
 use Rattle.session_calls.specs.declared.count.Count.TheVariants as count
 use Rattle.session_calls.specs.Outgoing.{CountsWhole, opening_tally, pages_counted, pages_out, tally_whole}
 use Rattle.session_calls.proofs.Alone.{none_moves}
@@ -146,8 +146,8 @@ module _ {D : Type 0} (slot : Ghosts D) (own : Hand D) (q limit quota least : �
       counts_first = record {
         pages = ap pages_counted counts ∙ sym (ap pages_out trail);
         counted =
-            counted_as 0 (all_failures own.trail) 0 (written_blocks own.trail) (opening_tally own.counts) (tally_whole slot own.counts own.state) (sym (ap all_failures trail)) (sym (ap written_blocks trail))
-            (subst (Counted 0 0 (opening_tally own.counts)) (opening_first ∙ sym whole_first) (uncounted_yet (opening_tally own.counts)));
+            counted_as 0 (all_failures own.trail) 0 (written_blocks own.trail) 0 (all_stale own.trail) (opening_tally own.counts) (tally_whole slot own.counts own.state) (sym (ap all_failures trail)) (sym (ap written_blocks trail)) (sym (ap all_stale trail))
+            (subst (Counted 0 0 0 (opening_tally own.counts)) (opening_first ∙ sym whole_first) (uncounted_yet (opening_tally own.counts)));
       }
 
       -- the owner's session is between two calls
@@ -242,10 +242,10 @@ module _ (conf : PoolConf) (count : ℕ) (s : State) (fresh : s ≡ opened (open
   lacks limit least (inl few) = inl few
   lacks limit least (inr few) = inr (let a = room_is in let b = growth_is least in omega (arith, a, b, few))
 
-  refusal_of : (t limit least n r : ℕ) (e : PoolErr) → n ≡ least → r ≡ memory_of conf
+  refusal_of : (t limit least n r : ℕ) (e : PoolErr) → t ≢ 0 → n ≡ least → r ≡ memory_of conf
       → IsFrom (or_else (if leb least limit then None else Some (record { tracker = t; wanted = least; room = limit })) (if leb n r then None else Some (record { tracker = 0; wanted = n; room = r }))) e
       → IsLeastRefusal conf limit least e
-  refusal_of t limit least n r e wanted room from = elim (leb least limit) as (λ b. leb least limit ≡ b → IsFrom (or_else (if b then None else Some (record { tracker = t; wanted = least; room = limit })) (if leb n r then None else Some (record { tracker = 0; wanted = n; room = r }))) e → IsLeastRefusal conf limit least e) [
+  refusal_of t limit least n r e apart wanted room from = elim (leb least limit) as (λ b. leb least limit ≡ b → IsFrom (or_else (if b then None else Some (record { tracker = t; wanted = least; room = limit })) (if leb n r then None else Some (record { tracker = 0; wanted = n; room = r }))) e → IsLeastRefusal conf limit least e) [
     | true ↦ λ fits is. elim (leb n r) as (λ b. leb n r ≡ b → IsFrom (if b then None else Some (record { tracker = 0; wanted = n; room = r })) e → IsLeastRefusal conf limit least e) [
       | true ↦ λ also is_none. absurd is_none
       | false ↦ λ over_it is_it.
@@ -255,11 +255,17 @@ module _ (conf : PoolConf) (count : ℕ) (s : State) (fresh : s ≡ opened (open
     ] refl is
     | false ↦ λ over_it is.
         let below : limit < least = leb-false least limit over_it in
-        subst (IsLeastRefusal conf limit least) (sym is) (refl, inl (below, refl))
+        subst (IsLeastRefusal conf limit least) (sym is) (refl, inl (below, apart, refl))
   ] refl from
 
-  pub cause_of : (t limit least : ℕ) (e : PoolErr) → IsFrom (least_refusal s t limit least) e → IsLeastRefusal conf limit least e
-  cause_of t limit least e from = refusal_of t limit least (root_growth s least) (room_of s.trackers 0) e (growth_is least) room_is from
+  pub cause_of : (t limit least : ℕ) (e : PoolErr) → t ≢ 0 → IsFrom (least_refusal s t limit least) e → IsLeastRefusal conf limit least e
+  cause_of t limit least e apart from = refusal_of t limit least (root_growth s least) (room_of s.trackers 0) e apart (growth_is least) room_is from
+
+-- a tracker that comes to a pool that has just opened isn't the root
+pub never_root : (o : Opening) (t : ℕ) → get (opened o).trackers t ≡ None → t ≢ 0
+never_root o t fresh same =
+    let none : get (opened o).trackers 0 ≡ None = subst (λ (k : ℕ). get (opened o).trackers k ≡ None) same fresh in
+    false≢true (sym (ap is_some none) ∙ ap is_some (get_same empty 0 (new_root (bytes_of o.block_len o.blocks))))
 
 -- a pool that began over a pool's value with these slots began with them
 pub begins : {D E : Type 0} (slot : Ghosts D) (conf : PoolConf) (slots : List D) (limit quota least : ℕ) (pool : Parts D) → ((measure : D → ℕ) → slots_home measure pool ≡ sum_by measure slots)

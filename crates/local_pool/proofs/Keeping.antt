@@ -88,7 +88,7 @@ module _ {D : Type 0} (slot : Ghosts D) {first : Option AtOpening} (own : Hand D
   abbrev u : Outset
   u = outset_of slot own.state
 
-  opening_same : opening_of slot new ≡ o
+  pub opening_same : opening_of slot new ≡ o
   opening_same = sym (named slot o u new ready refl refl)
 
   -- where it made all of what was seen on the shelf, and worked on since

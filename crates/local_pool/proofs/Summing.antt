@@ -9,7 +9,7 @@ use Rattle.own_entries.specs.AboveLaws.{AllBy}
 use Rattle.pin_core.specs.declared.parts.Parts.{Parts}
 use Rattle.pin_core.specs.declared.tally.Tally.{Tally}
 use Rattle.pin_core.specs.StateOf.{state_of}
-use Rattle.pin_core.specs.Tallies.{Counted, all_failures, tally_in, written_blocks}
+use Rattle.pin_core.specs.Tallies.{Counted, all_failures, all_stale, tally_in, written_blocks}
 use Rattle.session_calls.specs.declared.count.Count.{Count}
 use Rattle.session_calls.specs.declared.count.Count.TheVariants.{Opening, Out}
 use Rattle.session_calls.specs.declared.hand.Hand.{Hand}
@@ -42,17 +42,19 @@ module _ {D : Type 0} (slot : Ghosts D) (counts : List Count) (v : Parts D) (res
     stuck = at_home (λ t. t.stuck) (tally_in slot v).stuck i;
     stores = at_home (λ t. t.stores) (tally_in slot v).stores i;
     uncounted = at_home (λ t. t.uncounted) (tally_in slot v).uncounted i;
+    strays = at_home (λ t. t.strays) (tally_in slot v).strays i;
+    unstrayed = at_home (λ t. t.unstrayed) (tally_in slot v).unstrayed i;
     silent = at_home (λ t. t.silent) (tally_in slot v).silent i;
     slots = at_home (λ t. t.slots) (tally_in slot v).slots i;
   }
 
 -- so it is of a session that is ready, and made the history alone
 pub counted_home : {D : Type 0} (slot : Ghosts D) (o : AnOpening) (u : Outset) (own : Hand D) → IsReady slot o u own → AllBy own.session own.trail
-    → Counted (all_failures own.trail) (written_blocks own.trail) (opening_tally own.counts) (tally_in slot own.state)
+    → Counted (all_failures own.trail) (written_blocks own.trail) (all_stale own.trail) (opening_tally own.counts) (tally_in slot own.state)
 counted_home slot o u own ready all =
-    subst (Counted (all_failures own.trail) (written_blocks own.trail) (opening_tally own.counts)) (all_home slot own.counts own.state (none_moving slot o u own ready all)) ready.whole.sums.counted
+    subst (Counted (all_failures own.trail) (written_blocks own.trail) (all_stale own.trail) (opening_tally own.counts)) (all_home slot own.counts own.state (none_moving slot o u own ready all)) ready.whole.sums.counted
 
 pub sums_hold : {D : Type 0} (slot : Ghosts D) (first : Option AtOpening) (own : Hand D) → Stands slot first own → SumsHold first own.trail (tally_in slot own.state)
 sums_hold slot None own is = tt
 sums_hold slot (Some first) own is =
-    subst (λ (t : Tally). Counted (all_failures own.trail) (written_blocks own.trail) t (tally_in slot own.state)) is.sums (counted_home slot (opening_of slot own) (outset_of slot own.state) own is.ready is.alone)
+    subst (λ (t : Tally). Counted (all_failures own.trail) (written_blocks own.trail) (all_stale own.trail) t (tally_in slot own.state)) is.sums (counted_home slot (opening_of slot own) (outset_of slot own.state) own is.ready is.alone)

@@ -1,5 +1,5 @@
 -- How one owner's pool begins, and why it doesn't.
-use Rattle.std.specs.Prelude.{◌≡◌, ◌⊎◌, ℕ, ◌-◌, ◌<◌, ◌≤◌, List, [], ◌∷◌, None, Some}
+use Rattle.std.specs.Prelude.{◌≡◌, ◌≢◌, ◌⊎◌, ℕ, ◌-◌, ◌<◌, ◌≤◌, List, [], ◌∷◌, None, Some}
 use Rattle.std.specs.List.{sum_by}
 use Rattle.std.specs.Bool.{⊤}
 use Rattle.outside.specs.declared.slot.Slot.{Ghosts}
@@ -46,9 +46,9 @@ pub record Begins {D : Type 0} (slot : Ghosts D) (conf : PoolConf) (slots : List
 abbrev pub LacksLeast : PoolConf → ℕ → ℕ → Type 0
 LacksLeast conf limit least = (limit < least) ⊎ (memory_of conf < least)
 
--- the refusal names the query's tracker with its limit, or the root with all memory
+-- the refusal names the query's tracker with its limit, which isn't the root and is gone again, or the root with all memory
 abbrev pub IsLeastRefusal : PoolConf → ℕ → ℕ → PoolErr → Type 0
 IsLeastRefusal conf limit least (NoReservation tracker wanted room) =
-    (wanted ≡ least) × (((limit < least) × (room ≡ limit)) ⊎ ((least ≤ limit) × (memory_of conf < least) × (tracker ≡ 0) × (room ≡ memory_of conf)))
+    (wanted ≡ least) × (((limit < least) × (tracker ≢ 0) × (room ≡ limit)) ⊎ ((least ≤ limit) × (memory_of conf < least) × (tracker ≡ 0) × (room ≡ memory_of conf)))
 IsLeastRefusal conf limit least Memory = ⊤
 IsLeastRefusal conf limit least _ = ⊥

@@ -5,7 +5,7 @@ use Rattle.pool_model.specs.declared.entry.Entry.{Entry}
 use Rattle.pin_core.specs.declared.tally.Tally.{Tally}
 use Rattle.session_calls.specs.declared.count.Count.{Count}
 use Rattle.session_calls.specs.Outgoing.{opening_tally}
-use Rattle.pin_core.specs.Tallies.{Counted, all_failures, written_blocks}
+use Rattle.pin_core.specs.Tallies.{Counted, all_failures, all_stale, written_blocks}
 
 -- what the slots of a pool counted when it opened, the name of its first page, and how many blocks it has
 pub record AtOpening : Type 0 where
@@ -24,7 +24,7 @@ CountsFrom (Some first) counts = opening_tally counts ≡ first.tally
 -- where it is named, the slots count so now, by what the trail tells
 abbrev pub SumsHold : Option AtOpening → List Entry → Tally → Type 0
 SumsHold None trail now = ⊤
-SumsHold (Some first) trail now = Counted (all_failures trail) (written_blocks trail) first.tally now
+SumsHold (Some first) trail now = Counted (all_failures trail) (written_blocks trail) (all_stale trail) first.tally now
 
 -- where it is named, the first page had this name
 abbrev pub BeginsNames : Option AtOpening → ℕ → Type 0

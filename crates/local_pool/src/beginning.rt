@@ -17,13 +17,13 @@ use crate::owned::Alone;
 use crate::sole::Shelf;
 use crate::tally::OpenedWith;
 use outside::Slot;
-use pin_core::{PoolConf, PoolState};
-use pool_model::{Entry, Event};
+use pin_core::{EvictedPages, PoolConf, PoolState};
+use pool_model::Event;
 use reservation_tree::{PoolErr, TrackerId};
-use session_calls::{Count, Hand, count_opening, enter};
+use session_calls::{Count, Hand, Log, count_opening, enter};
 use std::alloc::Global;
 use std::marker::{Brand, PhantomData};
-use turn_table::{Adds, Solo};
+use turn_table::Solo;
 
 impl<D: Slot + Drop, T: OpenedWith> Alone<D, T> {
     /// A pool with these numbers and slots, whose owner may reserve up to `limit` bytes and has `least` of them, and
@@ -49,16 +49,12 @@ impl<D: Slot + Drop, T: OpenedWith> Alone<D, T> {
         ensures cause { IfErr result (λ e. IsLeastRefusal conf.now limit least e.1) }
         ensures back { IfErr result (λ e. (measure : D → ℕ) → sum_by measure e.0.items ≡ sum_by measure slots.items) }
     {
-        let (Ok(trail), Ok(mut counts), Ok(shelf)) = (
-            Solo::open(alloc),
-            Solo::open(alloc),
-            Shelf::open(alloc),
-        ) else {
+        let Some(mut books) = Books::open(alloc) else {
             return Err((slots, PoolErr::Memory));
         };
-        count_opening(&mut counts, slots.as_slice());
+        count_opening(&mut books.counts, slots.as_slice());
         match PoolState::open(alloc, conf, slots) {
-            Ok(pool) => begin(pool, trail, counts, shelf, conf, limit, quota, least),
+            Ok(pool) => begin(pool, books, conf, limit, quota, least),
             Err((slots, _)) => Err((slots, PoolErr::Memory)),
         }
     }
@@ -76,18 +72,46 @@ impl<D: Slot + Drop, T: OpenedWith> Alone<D, T> {
             trail: _,
             counts: _,
             session,
+            gone: _,
         } = self.hand;
         state.end_session(session);
         state.close()
     }
 }
 
+// What the owner has beside the pool's value when it begins: nothing is entered, counted, evicted or seen.
+#[derive(Drop)]
+struct Books<D> {
+    trail: Log,
+    counts: Solo<Count>,
+    gone: EvictedPages,
+    shelf: Shelf<D>,
+}
+
+impl<D> Books<D> {
+    fn open(alloc: Global) -> Option<Books<D>>
+        ensures { IfSome result (λ books. (books.trail ≡ []) × (books.counts ≡ []) × (books.shelf.seen ≡ []) × (books.shelf.counted ≡ [])) }
+    {
+        // An owner has its own trail, so that nothing of it is kept here.
+        let Ok(trail) = Log::open(alloc, 0) else {
+            return None;
+        };
+        let counts = Solo::open(alloc).ok()?;
+        let gone = EvictedPages::open(alloc).ok()?;
+        let shelf = Shelf::open(alloc).ok()?;
+        Some(Books {
+            trail,
+            counts,
+            gone,
+            shelf,
+        })
+    }
+}
+
 // The owner's session begins.
 fn begin<D: Slot + Drop, T: OpenedWith>(
     mut pool: PoolState<D>,
-    mut trail: Solo<Entry>,
-    counts: Solo<Count>,
-    mut shelf: Shelf<D>,
+    books: Books<D>,
     _conf: &PoolConf,
     limit: u64,
     quota: u32,
@@ -95,8 +119,8 @@ fn begin<D: Slot + Drop, T: OpenedWith>(
 ) -> Result<Alone<D, T>, (Vec<D>, PoolErr)>
     requires conf { OpensWith _conf.now }
     requires fresh { (o : Opening) → IsOpeningOf _conf.now (spare_of pool) o → StandsFor D.Slot o [] pool }
-    requires empty { (trail ≡ []) × (shelf.seen ≡ []) × (shelf.counted ≡ []) }
-    requires counts { counts ≡ count.Opening (tally_in D.Slot pool) ∷ [] }
+    requires empty { (books.trail ≡ []) × (books.shelf.seen ≡ []) × (books.shelf.counted ≡ []) }
+    requires counts { books.counts ≡ count.Opening (tally_in D.Slot pool) ∷ [] }
     requires quota { quota ≤ spare_of pool }
     requires opens { IfSome T.opened (λ first. first ≡ at_opening (tally_in D.Slot pool) _conf.now.first_name _conf.now.blocks) }
     ensures ok { IfOk result (λ own. IsBegun _conf.now limit quota least (held_of D.Slot own)) }
@@ -106,6 +130,12 @@ fn begin<D: Slot + Drop, T: OpenedWith>(
     ensures cause { IfErr result (λ e. IsLeastRefusal _conf.now limit least e.1) }
     ensures back { IfErr result (λ e. (measure : D → ℕ) → sum_by measure e.0.items ≡ slots_home measure pool) }
 {
+    let Books {
+        mut trail,
+        counts,
+        gone,
+        mut shelf,
+    } = books;
     let session = match pool.open_session(limit, quota, least) {
         Ok(session) => session,
         Err(refusal) => return Err((pool.close(), refusal)),
@@ -134,6 +164,7 @@ fn begin<D: Slot + Drop, T: OpenedWith>(
         trail,
         counts,
         session,
+        gone,
     };
     shelf.see(&hand);
     Ok(Alone {

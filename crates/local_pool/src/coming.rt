@@ -1,7 +1,10 @@
 //! Pages and loans come.
-ghost use Rattle.std.specs.Prelude.{◌≡◌, ◌≤◌, ◌<◌, [], ◌∷◌, IfOk, IfErr};
+ghost use Rattle.std.specs.Prelude.{◌≡◌, ◌≤◌, ◌<◌, [], ◌∷◌, Err, IfOk, IfErr};
+ghost use Rattle.reservation_tree.specs.declared.errors.PoolErr.TheVariants as refusal;
 ghost use Rattle.pool_model.specs.declared.call.Call.TheVariants as call;
 ghost use Rattle.pool_model.specs.declared.event.Event.TheVariants as event;
+ghost use Rattle.pool_model.specs.Sums.{HasRoom};
+ghost use Rattle.pin_core.specs.StateOf.{state_of};
 ghost use Rattle.store_api.specs.Holdings.{length_of, unused_of};
 ghost use Rattle.store_api.specs.Conditions.{IsBlockCount, IsLiveClient};
 ghost use Rattle.store_api.specs.Entries.{IsTaken};
@@ -24,7 +27,7 @@ use store_api::{Client, Loan, Page};
 
 impl<D: Slot + Drop, T: OpenedWith> Alone<D, T> {
     /// A new page of so many blocks, which have so many bytes, once there is room.
-    pub(crate) fn create(self, what: Coming<'_>) -> (Alone<D, T>, Result<(Page, Buf), PoolErr>)
+    pub fn create(self, what: Coming<'_>) -> (Alone<D, T>, Result<(Page, Buf), PoolErr>)
         requires client { IsLiveClient what.client.now (held_of D.Slot self) }
         requires blocks { IsBlockCount what.blocks }
         requires bytes { what.bytes ≡ length_of what.blocks (held_of D.Slot self) }
@@ -32,6 +35,9 @@ impl<D: Slot + Drop, T: OpenedWith> Alone<D, T> {
         ensures ok { IfOk result.1 (λ made. Makes D.Slot (IsTaken what.entry.client.now.tracker (held_of D.Slot self) (event.Create made.0.name what.entry.client.now.tracker what.entry.blocks made.0.key ∷ [])) self result.0) }
         ensures page { IfOk result.1 (λ made. IsFreshPage what.entry.client.now.tracker what.entry.blocks made (held_of D.Slot self) (signs_of self)) }
         ensures err { IfErr result.1 (Refuses D.Slot what.entry.client.now.tracker (call.Create what.entry.client.now.tracker what.entry.blocks) self result.0) }
+
+        // Names are looked at once there is room.
+        ensures spent { result.1 ≡ Err refusal.NamesSpent → HasRoom (state_of result.0.state) what.entry.client.now.tracker what.entry.bytes }
 
         // Pages are written only while room lacks, and clean ones go only while fewer bytes are free.
         ensures needed { EntersNeeded what.entry.client.now.tracker what.entry.bytes self result.0 }
@@ -54,7 +60,7 @@ impl<D: Slot + Drop, T: OpenedWith> Alone<D, T> {
     }
 
     /// A new loan of so many blocks, which have so many bytes, once there is room.
-    pub(crate) fn alloc(self, what: Coming<'_>) -> (Alone<D, T>, Result<Loan, PoolErr>)
+    pub fn alloc(self, what: Coming<'_>) -> (Alone<D, T>, Result<Loan, PoolErr>)
         requires client { IsLiveClient what.client.now (held_of D.Slot self) }
         requires blocks { IsBlockCount what.blocks }
         requires bytes { what.bytes ≡ length_of what.blocks (held_of D.Slot self) }

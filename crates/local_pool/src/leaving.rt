@@ -46,7 +46,7 @@ impl<D: Slot + Drop, T: OpenedWith> Alone<D, T> {
     }
 
     /// Ends a page.
-    pub(crate) fn destroy(self, what: Ending) -> (Alone<D, T>, ())
+    pub fn destroy(self, what: Ending) -> (Alone<D, T>, ())
         requires page { IsPage what.page (held_of D.Slot self) }
         requires buffer { IsHeld what.page (held_of D.Slot self) what.buf }
         ensures { Makes D.Slot (λ events. events ≡ event.Destroy what.page.name ∷ []) self result.0 }

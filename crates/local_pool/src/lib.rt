@@ -23,4 +23,5 @@ mod trackers;
 pub use local::LocalPool;
 pub use owned::Alone;
 pub use sole::Shelf;
+pub use taking::{Coming, Ending, Handing, Passing, Shrinking};
 pub use tally::OpenedWith;

@@ -1,11 +1,23 @@
 //! The pool of one owner as a store.
-ghost use Rattle.std.specs.Prelude.{◌≡◌, ◌≤◌, ℕ, IsErr, IfOk, IfErr, IfSome, vec_len};
+ghost use Rattle.std.specs.Prelude.{◌≡◌, ◌≤◌, ℕ, IsErr, IfOk, IfErr, IfSome, OnOk, vec_len};
 ghost use Rattle.std.specs.List.{sum_by};
 ghost use Rattle.block_arena.specs.Blocks.{IsBlockLen};
 ghost use Rattle.pin_core.specs.Setup.{OpensWith};
 ghost use Rattle.pin_core.specs.Standing.{slots_home};
 ghost use Rattle.own_entries.specs.ClientLaws.{IsWholeIdle};
-ghost use Rattle.local_pool.specs.Told.{held_of, signs_of};
+ghost use Rattle.store_api.specs.Holdings.{page_len, page_of, unused_of};
+ghost use Rattle.store_api.specs.Changes.{after_pin};
+ghost use Rattle.store_api.specs.Conditions.{IsPage, ShowsLeft};
+ghost use Rattle.store_api.specs.Entries.{IsPin, Made};
+ghost use Rattle.store_api.specs.Refusals.{WasRefused};
+ghost use Rattle.store_api.specs.Signs.{Grows};
+ghost use Rattle.session_calls.specs.Needing.{EntersNeeded};
+ghost use Rattle.session_calls.specs.Showing.{ShowsStored};
+ghost use Rattle.pool_model.specs.declared.call.Call.TheVariants as call;
+ghost use Rattle.pool_model.specs.Legal.{IsLegal, state_after};
+ghost use Rattle.pin_core.specs.StateOf.{state_of};
+ghost use Rattle.session_calls.specs.Throughout.{FitsThroughout};
+ghost use Rattle.local_pool.specs.Told.{held_of, opening_of, signs_of};
 ghost use Rattle.local_pool.specs.Agreeing.{AgreesWith};
 ghost use Rattle.local_pool.specs.Counting.{SpendsNames, SumsHold, at_opening};
 ghost use Rattle.local_pool.specs.History.{IsHistory};
@@ -39,7 +51,8 @@ pub struct LocalPool<D: Slot, T: OpenedWith = Brand> {
 
 impl<D: Slot + Drop, T: OpenedWith> LocalPool<D, T> {
     /// A pool with these numbers and slots, whose owner may reserve up to `limit` bytes and has `least` of them, and
-    /// whose pages may take `quota` slots. Takes all the memory that it will ever use, but for pages and loans.
+    /// whose pages may take `quota` slots. Takes all the memory that it will ever use, but for pages and loans. No entry
+    /// is kept, whatever `trace` is.
     ///
     /// # Errors
     ///
@@ -82,6 +95,25 @@ impl<D: Slot + Drop, T: OpenedWith> LocalPool<D, T> {
         ensures { result ≡ self.now.alone.session }
     {
         self.alone.session()
+    }
+
+    /// The pool's value stands for the owner's trail, which is a legal history; and at each entry of it, each tracker's
+    /// charges and its children's reservations fit its reservation, and that fits its limit; what each client holds
+    /// fits its reservation; and what is in memory fits the pool.
+    pub fn law_throughout(&self)
+        ensures legal { IsLegal (opening_of D.Slot self.now.alone) self.now.alone.trail }
+        ensures state { state_of self.now.alone.state ≡ state_after (opening_of D.Slot self.now.alone) self.now.alone.trail }
+        ensures fits { FitsThroughout (opening_of D.Slot self.now.alone) self.now.alone.trail }
+    {
+        self.alone.law_throughout();
+    }
+
+    /// The owner's value, whose calls take it and give it back, and say that pages are written and evicted only as
+    /// needed.
+    pub fn into_alone(self) -> Alone<D, T>
+        ensures { result ≡ self.alone }
+    {
+        self.alone
     }
 
     /// Ends a pool that has no client, and gives back its slots.
@@ -179,7 +211,23 @@ impl<D: Slot + Drop, T: OpenedWith> Store for LocalPool<D, T> {
         result
     }
 
-    fn pin(&mut self, p: &Page) -> Result<Buf, PoolErr> {
+    fn pin(&mut self, p: &Page) -> Result<Buf, PoolErr>
+        requires page { IsPage p.now (held_of D.Slot self.old.alone) }
+        requires rests { (page_of p.now.name (held_of D.Slot self.old.alone)).pins ≡ 0 }
+        requires unused { page_len p.now.name (held_of D.Slot self.old.alone) ≤ unused_of p.now.client (held_of D.Slot self.old.alone) }
+        ensures ok { OnOk result (held_of D.Slot self.new.alone ≡ after_pin p.now.name (held_of D.Slot self.old.alone)) }
+        ensures bytes { IfOk result (ShowsLeft (page_of p.now.name (held_of D.Slot self.old.alone)) (held_of D.Slot self.old.alone)) }
+
+        // Where blocks have marks, and each block of the buffer was stored in this pool, the buffer shows what was left.
+        ensures stored { IfOk result (ShowsStored (opening_of D.Slot self.new.alone) self.new.alone.trail p.now.name (page_of p.now.name (held_of D.Slot self.old.alone))) }
+        ensures err { IfErr result (WasRefused p.now.client (call.Pin p.now.name) (held_of D.Slot self.old.alone) (held_of D.Slot self.new.alone) (signs_of self.old.alone) (signs_of self.new.alone)) }
+
+        ensures grows { Grows (signs_of self.old.alone) (signs_of self.new.alone) }
+        ensures entries { OnOk result (Made (held_of D.Slot self.old.alone).session (IsPin p.now.client (held_of D.Slot self.old.alone) p.now.name) (signs_of self.old.alone) (signs_of self.new.alone)) }
+
+        // Pages are written only while room lacks, and clean ones go only while fewer bytes are free.
+        ensures needed { EntersNeeded p.now.client (page_len p.now.name (held_of D.Slot self.old.alone)) self.old.alone self.new.alone }
+    {
         let alone = &mut self.alone;
         let result = replace_with(alone, p, Alone::pin);
         alone.law_whole();

@@ -3,7 +3,10 @@ ghost use Rattle.std.specs.Prelude.{◌≡◌};
 ghost use Rattle.store_api.specs.Holdings.{account_of, unused_of};
 ghost use Rattle.store_api.specs.Conditions.{FitsAccount, FitsQuery, IsLiveClient};
 ghost use Rattle.own_entries.specs.ClientLaws.{IsWholeIdle};
-ghost use Rattle.local_pool.specs.Told.{held_of};
+ghost use Rattle.pool_model.specs.Legal.{IsLegal, state_after};
+ghost use Rattle.pin_core.specs.StateOf.{state_of};
+ghost use Rattle.session_calls.specs.Throughout.{FitsThroughout};
+ghost use Rattle.local_pool.specs.Told.{held_of, opening_of};
 ghost use Rattle.local_pool.specs.Agreeing.{AgreesWith};
 
 use crate::owned::Alone;
@@ -44,6 +47,17 @@ impl<D: Slot + Drop, T: OpenedWith> Alone<D, T> {
         ensures { result ≡ self.now.session }
     {
         self.hand.session
+    }
+
+    /// The pool's value stands for the owner's trail, which is a legal history; and at each entry of it, each tracker's
+    /// charges and its children's reservations fit its reservation, and that fits its limit; what each client holds
+    /// fits its reservation; and what is in memory fits the pool.
+    pub fn law_throughout(&self)
+        ensures legal { IsLegal (opening_of D.Slot self.now) self.now.trail }
+        ensures state { state_of self.now.state ≡ state_after (opening_of D.Slot self.now) self.now.trail }
+        ensures fits { FitsThroughout (opening_of D.Slot self.now) self.now.trail }
+    {
+        let _shelf = &self.shelf;
     }
 
     /// Clients and queries that have nothing under them have their whole reservation unused.

@@ -21,7 +21,7 @@ use store_api::{Client, Loan, Page};
 
 impl<D: Slot + Drop, T: OpenedWith> Alone<D, T> {
     /// Pins a pinned page once more, once there is room.
-    pub(crate) fn pin_again(self, p: &Page) -> (Alone<D, T>, Result<(), PoolErr>)
+    pub fn pin_again(self, p: &Page) -> (Alone<D, T>, Result<(), PoolErr>)
         requires page { IsPage p.now (held_of D.Slot self) }
         requires pinned { 1 ≤ (page_of p.now.name (held_of D.Slot self)).pins }
         requires unused { page_len p.now.name (held_of D.Slot self) ≤ unused_of p.now.client (held_of D.Slot self) }
@@ -50,10 +50,7 @@ impl<D: Slot + Drop, T: OpenedWith> Alone<D, T> {
     }
 
     /// Charges a loan to another client, once that one has room.
-    pub(crate) fn move_buffer(
-        self,
-        what: Handing<'_>,
-    ) -> (Alone<D, T>, Result<Loan, (Loan, PoolErr)>)
+    pub fn move_buffer(self, what: Handing<'_>) -> (Alone<D, T>, Result<Loan, (Loan, PoolErr)>)
         requires loan { IsLoan what.loan (held_of D.Slot self) }
         requires to { IsLiveClient what.to.now (held_of D.Slot self) }
         requires apart { what.loan.client ≢ what.to.now.tracker }

@@ -22,7 +22,7 @@ use store_api::Client;
 
 impl<D: Slot + Drop, T: OpenedWith> Alone<D, T> {
     /// Lowers the client's reservation, once what it holds fits.
-    pub(crate) fn give_back(self, what: Shrinking<'_>) -> (Alone<D, T>, Result<(), PoolErr>)
+    pub fn give_back(self, what: Shrinking<'_>) -> (Alone<D, T>, Result<(), PoolErr>)
         requires client { IsLiveClient what.client.now (held_of D.Slot self) }
         requires unused { what.bytes ≤ unused_of what.client.now.tracker (held_of D.Slot self) }
         ensures ok { OnOk result.1 (Makes D.Slot (IsAsked what.entry.client.now.tracker (held_of D.Slot self) (event.Decrease what.entry.client.now.tracker what.entry.bytes ∷ [])) self result.0) }
@@ -44,7 +44,7 @@ impl<D: Slot + Drop, T: OpenedWith> Alone<D, T> {
     }
 
     /// Moves unused reservation, once what the first client holds fits.
-    pub(crate) fn move_reservation(self, what: Passing<'_>) -> (Alone<D, T>, Result<(), PoolErr>)
+    pub fn move_reservation(self, what: Passing<'_>) -> (Alone<D, T>, Result<(), PoolErr>)
         requires from { IsLiveClient what.from.now (held_of D.Slot self) }
         requires to { IsLiveClient what.to.now (held_of D.Slot self) }
         requires unused { what.bytes ≤ unused_of what.from.now.tracker (held_of D.Slot self) }

@@ -121,7 +121,7 @@ impl<S> PageTable<S> {
         }
     }
 
-    /// The page's entry.
+    /// The page's entry, or `None` exactly where no page of this name and key is live.
     #[inline]
     pub fn get(&self, id: PageId) -> Option<&Entry<S>>
         ensures value { option_copied result ≡ entry_of self.now id }
@@ -134,6 +134,8 @@ impl<S> PageTable<S> {
     }
 
     /// The page's entry, to be written. What is left there is the page's, and nothing else changes.
+    ///
+    /// It is `None` exactly where no page of this name and key is live.
     #[inline]
     pub fn get_mut(&mut self, id: PageId) -> Option<&mut Entry<S>>
         ensures* writes_back { sem 𝓛 (lends_get S.row self.entry id result) }
@@ -169,7 +171,7 @@ impl<S> PageTable<S> {
         entry
     }
 
-    /// The live page with this key.
+    /// The live page with this key, or `None` exactly where no live page has it.
     #[inline]
     pub fn id_at(&self, key: u32) -> Option<PageId>
         ensures { result ≡ id_of self.now key }

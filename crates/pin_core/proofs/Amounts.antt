@@ -1,7 +1,6 @@
 -- The numbers that the code keeps, when one page goes to another place.
-use Rattle.std.proofs.Common.{◌≡◌, ◌≢◌, ℕ, ◌+◌, ◌-◌, ◌*◌, ◌<◌, ◌≤◌, ◌==◌, Bool, true, false, length, Option, Some, None, unwrap_or, option_map, refl, ap, sym, ◌∙◌, subst, inl, inr, arith}
-use Rattle.std.specs.FinMap.{FinMap, get, insert}
-use Rattle.std.specs.Ordering.{nat_cmp}
+use Rattle.std.proofs.Common.{◌≡◌, ℕ, ◌+◌, ◌-◌, ◌*◌, ◌≤◌, ◌==◌, length, Option, Some, None, unwrap_or, option_map, ap, sym, ◌∙◌, subst, inl, inr, arith}
+use Rattle.std.specs.FinMap.{get, insert}
 use Rattle.page_table.specs.declared.entry.Entry.{Entry}
 use Rattle.page_table.specs.Pages.{IsProper}
 use Rattle.reservation_tree.proofs.Maps.{get_same, get_other, same_or_other}
@@ -10,9 +9,8 @@ use Rattle.reservation_tree.proofs.Sums.{total-insert, weight-le-total}
 use Rattle.reservation_tree.specs.Tree.{TreeState, charge_of as charge_in, set_charge}
 use Rattle.scratch_dev.specs.declared.quota.Quota.{Quota}
 use Rattle.scratch_dev.specs.Pool.{quota_of, free_of, free_in}
-use Rattle.buffer_transfer.specs.Buffers.{Book}
 use Rattle.pool_model.specs.Bytes.{bytes_of, only_if}
-use Rattle.pool_model.specs.State.{Place, Page, Pages, Session, State}
+use Rattle.pool_model.specs.State.{Place, Page, Pages, Session}
 use Rattle.pool_model.specs.Sums.{times_charged, is_in_memory, once, charge_of, pages_for, buffers_for, bytes_in, buffer_bytes, bytes_in_memory, memory, page_bytes, slots_of, free_slots}
 use Rattle.pool_model.proofs.PageSums.{pages_put, bytes_put}
 use Rattle.pool_model.proofs.Weights.{mine, not_mine}

@@ -15,9 +15,9 @@ use Rattle.pin_core.specs.Runs.{stuck, CountsFaults, IsLoadedAs, load_end}
 use Rattle.pin_core.proofs.Rowed.{at_slot, stays}
 
 -- one slot counts so many stores more, where it counts them still
-record Counts (n : ℕ) (a b : Option ℕ) : Type 0 where
-  short : uncounted_in a ≤ uncounted_in b
-  more : uncounted_in b ≡ 0 → stores_in a + n ≤ stores_in b
+pub record Counts (n : ℕ) (a b : Option ℕ) : Type 0 where
+  pub short : uncounted_in a ≤ uncounted_in b
+  pub more : uncounted_in b ≡ 0 → stores_in a + n ≤ stores_in b
 
 -- a count at its last value, and one below it
 at_last : (n : ℕ) → leb last_count n ≡ true → uncounted_in (Some n) ≡ 1
@@ -86,10 +86,10 @@ module _ {D : Type 0} (slot : Ghosts D) where
         (λ i d lt. at_slot (λ i. IsStored slot (block i)) (λ a b. Counts 0 (slot.stores a) (slot.stores b)) (λ i r a b is. weaker _ _ _ (one_store _ _ r is.stores)) (λ d. unmet (slot.stores d)) (Err e) before now walked i d lt))
 
 -- a count of faults that didn't fall, and one that rose
-unfallen : (before now : ℕ) → before ≤ now → Counts 0 (Some before) (Some now)
+pub unfallen : (before now : ℕ) → before ≤ now → Counts 0 (Some before) (Some now)
 unfallen before now at_least = rises before now 0 at_least (λ below. omega (arith, at_least))
 
-risen : (before now : ℕ) → before ≤ now → Rose before now → Counts 1 (Some before) (Some now)
+pub risen : (before now : ℕ) → before ≤ now → Rose before now → Counts 1 (Some before) (Some now)
 risen before now at_least rose = rises before now 1 at_least (λ below. let more : before < now = rose below in omega (arith, more))
 
 module _ {D : Type 0} (slot : Ghosts D) where

@@ -1,12 +1,10 @@
 -- What single entries do to a state, where the page that they name is known.
-use Rattle.std.proofs.Common.{◌≡◌, ◌≢◌, ℕ, ◌+◌, ◌-◌, Bool, true, List, [], ◌∷◌, ◌++◌, Option, Some, None, unwrap_or, refl, ap, sym, ◌∙◌}
-use Rattle.std.specs.FinMap.{FinMap, get, insert, remove}
-use Rattle.std.specs.Ordering.{nat_cmp}
-use Rattle.reservation_tree.specs.Tracker.{Trackers}
+use Rattle.std.proofs.Common.{◌≡◌, ℕ, ◌+◌, ◌-◌, true, List, [], ◌∷◌, ◌++◌, Option, Some, unwrap_or, ap, ◌∙◌}
+use Rattle.std.specs.FinMap.{get, insert, remove}
 use Rattle.reservation_tree.proofs.Maps.{get_same}
 use Rattle.reservation_tree.specs.declared.mark.Mark.{Mark}
 use Rattle.pool_model.specs.declared.event.Event.TheVariants.{Unpin, StartWrite, WriteOk, WriteFailed, PinHere, PinLoad, PinAgain, UnpinOnce, ReadOk, ReadFailed, ReadStale, Evict, Destroy, Extract}
-use Rattle.pool_model.specs.State.{State, Place, Page, Pages, Dirty, Flying, Clean, Pinned, Loading, Evicted, no_page, page_at, pins_of, dirty_of, shown}
+use Rattle.pool_model.specs.State.{State, Page, Pages, Dirty, Flying, Clean, Pinned, Loading, Evicted, no_page, page_at, pins_of, dirty_of, shown}
 use Rattle.pool_model.specs.Effects.{after}
 use Rattle.pool_model.specs.Parts.{without, give_slots, queue_dirty, with_failures, keep_first}
 use Rattle.pool_model.proofs.Pages.{page_is}

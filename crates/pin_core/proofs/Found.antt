@@ -1,14 +1,14 @@
 -- A page that the state knows is in the table.
-use Rattle.std.proofs.Common.{◌≡◌, ℕ, Option, Some, None, unwrap_or, option_map, refl, ap, sym, ◌∙◌, subst}
+use Rattle.std.proofs.Common.{◌≡◌, ℕ, Option, Some, None, unwrap_or, option_map, refl, ap, sym, ◌∙◌}
 use Rattle.std.specs.FinMap.{get}
 use Rattle.page_table.specs.declared.entry.Entry.{Entry}
 use Rattle.page_table.specs.Pages.{Pages as Table, IsProper}
-use Rattle.reservation_tree.proofs.Maps.{found, is_there}
+use Rattle.reservation_tree.proofs.Maps.{is_there}
 use Rattle.pool_model.specs.State.{Page, page_at}
 use Rattle.store_api.specs.Tokens.{PageToken}
 use Rattle.pin_core.specs.declared.kept.Kept.{Kept}
 use Rattle.pin_core.specs.declared.parts.Parts.{Parts}
-use Rattle.pin_core.specs.StateOf.{key_of, page_of, pages_in, state_of}
+use Rattle.pin_core.specs.StateOf.{key_of, page_of, state_of}
 use Rattle.pin_core.specs.Changes.{no_entry, entry_at}
 use Rattle.pin_core.specs.Needs.{IsPage}
 use Rattle.pin_core.proofs.Keys.{key_is}

@@ -24,7 +24,7 @@ use Rattle.pin_core.specs.Keeping.{has_slots, row_in}
 use Rattle.pin_core.specs.StateOf.{page_of, pages_in, place_in, buffers_in, state_of}
 use Rattle.pin_core.specs.Invariant.{HasHistory, IsQuota, IsSized, AreSeated, AreLent, IsKept, slots_in}
 use Rattle.pin_core.specs.Standing.{Holds, StandsFor, slots_home}
-use Rattle.pin_core.specs.Marking.{Form, form_of, front_of, under_of}
+use Rattle.pin_core.specs.Marking.{Form, form_of}
 use Rattle.pin_core.proofs.Histories.{GrewBy, grew, history_grows, content_grows}
 use Rattle.pin_core.proofs.Stands.{was_made}
 use Rattle.pin_core.proofs.Without.{Goes, gone_placed, gone_stray, gone_pages, page_gone, page_before}

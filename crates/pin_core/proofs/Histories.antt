@@ -1,15 +1,12 @@
 -- How histories grow by one entry, and what they tell of contents.
-use Rattle.std.proofs.Common.{◌≡◌, ◌≢◌, ℕ, ◌==◌, Bool, true, false, if◌then◌else◌, List, [], ◌∷◌, ◌++◌, Option, Some, None, replicate, unwrap_or, refl, ap, sym, ◌∙◌, subst, eq-eqb}
-use Rattle.std.specs.FinMap.{get, insert}
-use Rattle.reservation_tree.proofs.Maps.{get_same}
-use Rattle.pool_model.specs.declared.event.Event.{Event}
+use Rattle.std.proofs.Common.{◌≡◌, ℕ, Bool, if◌then◌else◌, List, [], ◌∷◌, ◌++◌, Option, Some, None, replicate, refl, ap, sym, ◌∙◌, subst, eq-eqb}
 use Rattle.pool_model.specs.declared.event.Event.TheVariants.{Unpin}
 use Rattle.pool_model.specs.declared.entry.Entry.{Entry}
 use Rattle.pool_model.specs.Bytes.{bytes_of}
-use Rattle.pool_model.specs.State.{Opening, Place, Dirty, Page, Pages, no_page, State}
+use Rattle.pool_model.specs.State.{Opening, State}
 use Rattle.pool_model.specs.MayFollow.{MayFollow}
 use Rattle.pool_model.specs.Effects.{after}
-use Rattle.pool_model.specs.Legal.{run, Follow, state_after, IsLegal}
+use Rattle.pool_model.specs.Legal.{state_after, IsLegal}
 use Rattle.pool_model.specs.LookingBack.{Made, maker_of, left_in, content_from, content_of}
 use Rattle.pool_model.proofs.Fronts.{legal_grows, state_runs_on}
 use Rattle.pool_model.proofs.Made.{still_made}

@@ -23,7 +23,7 @@ use Rattle.pin_core.specs.declared.parts.Parts.{Parts}
 use Rattle.pin_core.specs.StateOf.{page_of, buffers_in, state_of}
 use Rattle.pin_core.specs.Invariant.{HasHistory, IsKept}
 use Rattle.pin_core.specs.Standing.{Holds, Enters}
-use Rattle.pin_core.specs.Marking.{Form, form_of, front_of, under_of}
+use Rattle.pin_core.specs.Marking.{form_of}
 use Rattle.pin_core.proofs.Histories.{GrewBy, grew, history_grows, content_grows}
 use Rattle.pin_core.proofs.Mapped.{get_mapped}
 use Rattle.pin_core.proofs.Places.{quota_open, index_in}

@@ -100,6 +100,7 @@ pub mod OpenedPool
 pub mod Readings
 pub mod Tallied
 pub mod Stored
+pub mod Strayed
 pub mod Plain
 pub mod Summed
 pub mod Gathered

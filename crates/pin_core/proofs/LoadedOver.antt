@@ -23,7 +23,7 @@ use Rattle.pin_core.specs.Lawful.{Lawful}
 use Rattle.pin_core.specs.Keeping.{row_in}
 use Rattle.pin_core.specs.Invariant.{IsKept, IsPlaced, IsKeptOf, is_clean_spot}
 use Rattle.pin_core.specs.Standing.{StandsFor, Holds, KeptHolds, AreHeld}
-use Rattle.pin_core.specs.Marking.{Form, form_of, front_of, under_of}
+use Rattle.pin_core.specs.Marking.{form_of, under_of}
 use Rattle.pin_core.specs.Changes.{no_entry, entry_at}
 use Rattle.pin_core.specs.Evictions.{evictions, keys_gone, names_gone, with_room}
 use Rattle.pin_core.specs.Loads.{CanLoad, ReadyLoad, loaded, loaded_over, load_entries}

@@ -1,8 +1,8 @@
 -- Maps whose values are replaced each by what a function gives of its key and it.
-use Rattle.std.proofs.Common.{◌≡◌, ℕ, ◌≢◌, Bool, true, false, cond, List, [], ◌∷◌, map, Option, Some, None, option_map, refl, ap, sym, ◌∙◌, inl, inr, subst}
+use Rattle.std.proofs.Common.{◌≡◌, ℕ, Bool, true, false, cond, List, [], ◌∷◌, map, Option, Some, None, option_map, refl, ap, sym, ◌∙◌, inl, inr, subst}
 use Rattle.std.specs.Ordering.{nat_cmp, eq_by_cmp}
 use Rattle.std.specs.Cmp.{nat_cmp_total}
-use Rattle.std.specs.FinMap.{FinMap, get, insert, remove, entries, from_entries, get-from_entries, get-entries, find}
+use Rattle.std.specs.FinMap.{FinMap, get, insert, remove, entries, get-from_entries, get-entries, find}
 use Rattle.reservation_tree.proofs.Maps.{get_same, get_other, removed_same, removed_other, alike, same_or_other, same_number, other_number}
 use Rattle.pin_core.specs.StateOf.{mapped}
 

@@ -1,5 +1,5 @@
 -- One page went to another place: all that follows.
-use Rattle.std.proofs.Common.{◌≡◌, ◌≢◌, ℕ, ◌+◌, ◌<◌, ◌≤◌, ◌==◌, Bool, true, false, List, [], ◌∷◌, ◌++◌, length, Option, Some, None, option_map, refl, ap, sym, ◌∙◌, subst, arith}
+use Rattle.std.proofs.Common.{◌≡◌, ◌≢◌, ℕ, ◌+◌, ◌<◌, ◌≤◌, ◌==◌, Bool, List, [], ◌∷◌, ◌++◌, Option, Some, option_map, ap, sym, ◌∙◌, subst, arith}
 use Rattle.std.specs.FinMap.{get, insert}
 use Rattle.std.specs.List.{sum_by}
 use Rattle.buffer_transfer.specs.declared.lent.Lent.{Lent}
@@ -20,9 +20,9 @@ use Rattle.pin_core.specs.declared.kept.Kept.{Kept}
 use Rattle.pin_core.specs.declared.parts.Parts.{Parts}
 use Rattle.pin_core.specs.Keeping.{has_slots, row_in}
 use Rattle.pin_core.specs.StateOf.{page_of, pages_in, state_of}
-use Rattle.pin_core.specs.Invariant.{HasHistory, IsPlaced, IsQuota, IsSized, AreSeated, AreLent, IsKept}
+use Rattle.pin_core.specs.Invariant.{HasHistory, IsPlaced, IsQuota, IsSized, AreSeated, IsKept}
 use Rattle.pin_core.specs.Standing.{Holds, StandsFor, slots_home}
-use Rattle.pin_core.specs.Marking.{Form, form_of, front_of, under_of}
+use Rattle.pin_core.specs.Marking.{form_of}
 use Rattle.pin_core.proofs.Mapped.{get_mapped}
 use Rattle.pin_core.proofs.Histories.{history_grows}
 use Rattle.pin_core.proofs.Moving.{Moves, moved_placed, moved_stray, moved_pages}

@@ -1,17 +1,13 @@
 -- One page goes to another place: what stays of the others.
-use Rattle.std.proofs.Common.{◌≡◌, ◌≢◌, ℕ, ◌+◌, ◌<◌, ◌≤◌, ◌==◌, Bool, true, false, List, [], ◌∷◌, Option, Some, None, get_or, unwrap_or, option_map, refl, ap, sym, ◌∙◌, subst, inl, inr, arith}
+use Rattle.std.proofs.Common.{◌≡◌, ◌≢◌, ℕ, Bool, false, List, Option, Some, None, get_or, option_map, ap, sym, ◌∙◌, subst, inl, inr}
 use Rattle.std.specs.FinMap.{FinMap, get, insert}
 use Rattle.std.specs.Ordering.{nat_cmp}
 use Rattle.index_list.specs.Listing.{list_with, stands_in}
-use Rattle.block_arena.specs.Memory.{Supply}
 use Rattle.page_table.specs.declared.entry.Entry.{Entry}
-use Rattle.page_table.specs.declared.page_id.PageId.{PageId}
 use Rattle.page_table.specs.Pages.{Pages as Table, IsProper, with_entry}
 use Rattle.client_lists.specs.Clients.{len_of}
 use Rattle.reservation_tree.proofs.Maps.{get_same, get_other, same_or_other}
-use Rattle.reservation_tree.specs.Tree.{charge_of as charge_in}
-use Rattle.pool_model.specs.Bytes.{bytes_of, only_if}
-use Rattle.pool_model.specs.State.{State, Page}
+use Rattle.pool_model.specs.Bytes.{bytes_of}
 use Rattle.pool_model.proofs.Seats.{some_is}
 use Rattle.pin_core.specs.declared.kept.Kept.{Kept}
 use Rattle.pin_core.specs.declared.parts.Parts.{Parts}

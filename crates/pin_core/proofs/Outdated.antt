@@ -1,5 +1,5 @@
 -- A load of a page gave another mark: the page is evicted again.
-use Rattle.std.proofs.Common.{◌≡◌, ℕ, ◌+◌, ◌*◌, ◌≤◌, ◌==◌, Bool, true, List, [], ◌∷◌, ◌++◌, length, Some, refl, ap, sym, ◌∙◌, subst, arith, zero-mul, ◌≢◌, ◌<◌}
+use Rattle.std.proofs.Common.{◌≡◌, ℕ, ◌+◌, ◌*◌, ◌==◌, Bool, true, List, [], ◌∷◌, ◌++◌, length, Some, refl, ap, sym, ◌∙◌, subst, arith, zero-mul, ◌≢◌, ◌<◌}
 use Rattle.std.specs.FinMap.{get, insert}
 use Rattle.std.specs.List.{sum_by}
 use Rattle.outside.specs.declared.slot.Slot.{Ghosts}
@@ -11,14 +11,13 @@ use Rattle.page_table.specs.declared.entry.Entry.{Entry}
 use Rattle.client_lists.specs.declared.which.Which.TheVariants as which
 use Rattle.client_lists.specs.Clients.{place}
 use Rattle.client_lists.proofs.Nodes.{list-without_node, list-without_node_other, nodes-without_node_other}
-use Rattle.reservation_tree.specs.Tree.{charge_of as charge_in}
 use Rattle.pool_model.specs.declared.event.Event.TheVariants as event
 use Rattle.pool_model.specs.declared.entry.Entry.{Entry as Event}
 use Rattle.pool_model.specs.Bytes.{bytes_of, only_if}
 use Rattle.reservation_tree.specs.declared.mark.Mark.{Mark}
 use Rattle.pin_core.proofs.Unread.{covered}
 use Rattle.pool_model.specs.State.{Opening}
-use Rattle.pool_model.specs.Sums.{times_charged, is_in_memory, once, page_bytes, pages_for}
+use Rattle.pool_model.specs.Sums.{times_charged, is_in_memory, once}
 use Rattle.pool_model.specs.Effects.{after}
 use Rattle.pool_model.specs.LookingBack.{content_of}
 use Rattle.pool_model.specs.HistoryLaws.{made}
@@ -30,14 +29,14 @@ use Rattle.pin_core.specs.StateOf.{page_of, pages_in, place_in, state_of}
 use Rattle.pin_core.specs.Invariant.{list_at, is_clean_spot, IsPlaced, IsKept}
 use Rattle.pin_core.specs.Lawful.{Lawful}
 use Rattle.pin_core.specs.Standing.{StandsFor, AreHeld, slots_home}
-use Rattle.pin_core.specs.Marking.{Form, form_of, front_of, under_of}
-use Rattle.pin_core.specs.Ends.{outdated, ComesBack, back_evicted, unread}
+use Rattle.pin_core.specs.Marking.{under_of}
+use Rattle.pin_core.specs.Ends.{outdated, ComesBack, back_evicted}
 use Rattle.pin_core.proofs.Back.{slots_had, none_home}
 use Rattle.pin_core.proofs.Histories.{content_grows}
 use Rattle.pin_core.proofs.Moving.{Moves, moved_pages}
 use Rattle.pin_core.proofs.Moved.{Tells, page_known, quiet_quotas, told_kept, told_stands, told_slots}
 use Rattle.pin_core.proofs.Queued.{dirty_same}
-use Rattle.pin_core.proofs.Amounts.{fell, charge_covers}
+use Rattle.pin_core.proofs.Amounts.{fell}
 use Rattle.pin_core.proofs.Effects.{same_state, stale_effect}
 use Rattle.pin_core.proofs.Places.{HasQuota, has_quota}
 use Rattle.pin_core.proofs.Listed.{bytes_plus}

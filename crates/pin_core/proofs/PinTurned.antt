@@ -1,5 +1,5 @@
 -- What a call that pins a page leaves, and what its answer says of the state.
-use Rattle.std.proofs.Common.{◌≡◌, ℕ, ◌≤◌, [], ◌∷◌, Option, Some, None, refl, ap, sym, ◌∙◌, subst, inl, inr, arith}
+use Rattle.std.proofs.Common.{◌≡◌, ℕ, ◌≤◌, List, [], ◌∷◌, Option, Some, None, refl, ap, sym, ◌∙◌, subst, inl, inr, arith}
 use Rattle.outside.specs.declared.slot.Slot.{Ghosts}
 use Rattle.block_arena.specs.Memory.{Buffer, IsBufferOf}
 use Rattle.page_table.specs.declared.page_id.PageId.{PageId}
@@ -23,12 +23,13 @@ use Rattle.pin_core.specs.Invariant.{IsKept, IsHeld}
 use Rattle.pin_core.specs.Standing.{Enters}
 use Rattle.pin_core.specs.Needs.{id_in}
 use Rattle.pin_core.specs.Changes.{entry_at}
+use Rattle.pin_core.specs.Evictions.{names_gone}
 use Rattle.pin_core.specs.Flights.{buffer_in}
 use Rattle.pin_core.specs.Pins.{HasRoomFor}
 use Rattle.pin_core.specs.Pinning.{pinned_dirty, pinned_clean}
 use Rattle.pin_core.specs.Turns.{LacksRoom, IsStarted, IsWriting, TurnIs}
-use Rattle.pin_core.specs.PinTurns.{CanPin, CanPinHere, LacksRoomFor, IsContent, PinAnswer, pin_entries, pin_slots}
-use Rattle.pin_core.specs.PinSteps.{CanPinAt, IsAway, IsPinnedDirty, IsPinnedClean, IsLoaded, PinIs, bytes_at}
+use Rattle.pin_core.specs.PinTurns.{CanPin, CanPinHere, LacksRoomFor, IsContent, PinAnswer, pin_entries, pin_gone, pin_slots}
+use Rattle.pin_core.specs.PinSteps.{CanPinAt, IsAway, IsPinnedDirty, IsPinnedClean, IsLoaded, PinIs, bytes_at, told_gone}
 use Rattle.pin_core.proofs.Found.{Found, found_page}
 use Rattle.pin_core.proofs.Entered.{Done}
 use Rattle.pin_core.proofs.InMemory.{IsHere}
@@ -153,6 +154,14 @@ module _ {D : Type 0} where
           enters = t.enters;
         }
 
+    -- which pages went, by the page
+    pub gone_told : (before : List ℕ) (r : PinTurn D) → told_gone before x v r ≡ pin_gone before p.name v r
+    gone_told before (Here buf) = refl
+    gone_told before (Load job) = ap (λ (y : Page). names_gone y.blocks v) (sym page)
+    gone_told before (Refused entry) = refl
+    gone_told before (Write job) = refl
+    gone_told before Wait = refl
+
   -- the same, where the parts and the page are known by equations
   module _ (v old : Parts D) (id : PageId) (p : PageToken) (same : v ≡ old) (named : id ≡ id_in p) (is_kept : IsKept v) (laws : Lawful v) (session : ℕ) (can : CanPin (state_of old) session p) where
     pub pin_can : CanPinAt v session id (entry_at v id.name)
@@ -165,3 +174,9 @@ module _ {D : Type 0} where
         subst (λ (z : Parts D). PinTurned z new session p r) same
         (pin_done v is_kept laws session p (subst (λ (z : Parts D). CanPin (state_of z) session p) (sym same) can) r new
         (subst (λ (i : PageId). PinIs v new session i (entry_at v i.name) r) named is))
+
+    pub pin_told_gone : (before : List ℕ) (r : PinTurn D) → told_gone before (entry_at v id.name) v r ≡ pin_gone before p.name old r
+    pin_told_gone before r =
+        subst (λ (z : Parts D). told_gone before (entry_at v id.name) v r ≡ pin_gone before p.name z r) same
+        (subst (λ (i : PageId). told_gone before (entry_at v i.name) v r ≡ pin_gone before p.name v r) (sym named)
+        (gone_told v is_kept laws session p (subst (λ (z : Parts D). CanPin (state_of z) session p) (sym same) can) before r))

@@ -28,7 +28,7 @@ use Rattle.pin_core.specs.StateOf.{page_of, pages_in, place_in, dirty_in, state_
 use Rattle.pin_core.specs.Lawful.{Lawful}
 use Rattle.pin_core.specs.Invariant.{IsHeld, IsKeptOf, IsPlaced, IsKept}
 use Rattle.pin_core.specs.Standing.{StandsFor, Holds}
-use Rattle.pin_core.specs.Marking.{Form, form_of, front_of, under_of}
+use Rattle.pin_core.specs.Marking.{form_of, under_of}
 use Rattle.pin_core.specs.Flights.{buffer_in}
 use Rattle.pin_core.specs.Pinning.{ReadyHere, with_client, pinned_here}
 use Rattle.pin_core.proofs.Moving.{Moves, moved_pages}

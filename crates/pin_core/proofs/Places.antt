@@ -1,10 +1,10 @@
 -- What follows for one page where all stand at their places.
-use Rattle.std.proofs.Common.{◌≡◌, ◌≢◌, ℕ, ◌+◌, ◌*◌, ◌<◌, ◌≤◌, Bool, true, false, List, [], ◌∷◌, length, get_or, Option, Some, None, refl, ap, sym, ◌∙◌, subst, inl, inr, arith}
+use Rattle.std.proofs.Common.{◌≡◌, ℕ, ◌<◌, true, false, List, [], length, get_or, Option, Some, None, refl, ap, sym, ◌∙◌, subst, inl, inr, arith}
 use Rattle.std.specs.FinMap.{get}
 use Rattle.std.specs.List.{slice_index_or}
 use Rattle.std.proofs.lemmas.Bool.{false≢true, cases_Bool, cases_lt}
 use Rattle.std.proofs.lemmas.List.{get_or_past}
-use Rattle.index_list.specs.Listing.{list_with, stands_in, nodes_on}
+use Rattle.index_list.specs.Listing.{list_with, stands_in}
 use Rattle.index_list.proofs.Places.{stands-from_list}
 use Rattle.client_lists.specs.declared.which.Which.{Which}
 use Rattle.client_lists.specs.declared.which.Which.TheVariants.{Pinned, Dirty, Flying}
@@ -20,7 +20,6 @@ use Rattle.pin_core.specs.declared.kept.Kept.{Kept}
 use Rattle.pin_core.specs.declared.parts.Parts.{Parts}
 use Rattle.pin_core.specs.StateOf.{page_of, pages_in, state_of}
 use Rattle.pin_core.specs.Invariant.{HasHistory, IsQuota, IsKept}
-use Rattle.reservation_tree.specs.Tracker.{Tracker}
 
 -- a list's number is in range where a node stands on it
 pub list_in : (t : Clients) (node c : ℕ) (which : Which) → list_with node t.pages.lists ≡ Some (place c which) → place c which < length t.pages.lists.lists

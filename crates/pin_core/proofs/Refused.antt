@@ -10,7 +10,7 @@ use Rattle.pin_core.specs.declared.parts.Parts.{Parts}
 use Rattle.pin_core.specs.StateOf.{page_of, state_of}
 use Rattle.pin_core.specs.Invariant.{IsKept}
 use Rattle.pin_core.specs.Standing.{StandsFor, Holds}
-use Rattle.pin_core.specs.Marking.{Form, form_of, front_of, under_of}
+use Rattle.pin_core.specs.Marking.{form_of}
 use Rattle.pin_core.specs.Changes.{counted}
 use Rattle.pin_core.specs.Refusing.{MayEnter, refusal_of}
 use Rattle.pin_core.specs.Returning.{EntersWhere}

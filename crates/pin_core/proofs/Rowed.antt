@@ -1,12 +1,12 @@
 -- What a walk over a row leaves of its slots, and what a load shows.
-use Rattle.std.proofs.Common.{◌≡◌, ℕ, suc, ◌+◌, ◌-◌, ◌*◌, ◌<◌, Bool, false, List, [], ◌∷◌, length, map, get_or, Ok, Err, refl, ap, sym, ◌∙◌, subst, inl, inr, arith, ◌≤◌, ◌++◌, Option, Some, None, Result, take, length-append}
+use Rattle.std.proofs.Common.{◌≡◌, ℕ, suc, ◌+◌, ◌-◌, ◌*◌, ◌<◌, Bool, true, false, List, [], ◌∷◌, length, map, get_or, Ok, Err, refl, ap, sym, ◌∙◌, subst, inl, inr, arith, ◌≤◌, ◌++◌, Option, Some, None, Result, take, length-append}
 use Rattle.std.specs.List.{slice_range, slice_index_or}
 use Rattle.std.specs.Result.{is_err}
 use Rattle.std.proofs.lemmas.Bool.{false≢true, cases_lt}
 use Rattle.std.proofs.lemmas.List.{get_or-drop}
 use Rattle.outside.specs.Slots.{told_block, ShowsHeld, Strays, KeepsStrays}
 use Rattle.outside.specs.declared.slot.Slot.{Ghosts}
-use Rattle.scratch_dev.specs.Rows.{Ended, MarkedEnded, IsLoaded, IsLoadedUnder, GaveOther, IsStored, Walked, FailedAt, mark_of}
+use Rattle.scratch_dev.specs.Rows.{Ended, MarkedEnded, IsLoaded, GaveOther, IsStored, Walked, FailedAt, mark_of}
 use Rattle.scratch_dev.specs.declared.marked.LoadErr.TheVariants as loading
 use Rattle.reservation_tree.specs.declared.mark.Mark.{Mark}
 use Rattle.reservation_tree.specs.Marks.{mark_bytes}
@@ -108,6 +108,16 @@ module _ {D : Type 0} (slot : Ghosts D) where
       row_shown slot under name len n before bytes shown count same long held tell
       (λ i d lt. gives_held _ _ _ _ (all_gave under name (λ i. slice_range shown (i * len) (i * len + len)) r before now walked well i d lt).shows (gives i d lt))
 
+  -- a load that gave another mark didn't show the block that the slot told
+  pub other_given : (name version len i : ℕ) (wanted found : Mark) (a b : D) (block piece : List ℕ) → length block ≡ len → length piece ≡ len → slot.held a ≡ told_block (slot.tells a) (mark_bytes (mark_of name version i) ++ block)
+      → wanted ≡ mark_of name version i → (g : GaveOther slot (length piece) wanted found a b) → slot.tells a ≡ true → ShowsHeld (slot.held a) g.given → ⊥
+  other_given name version len i wanted found a b block piece size shown_size held named g does shows =
+      let front_size : length (mark_bytes (mark_of name version i) ++ block) ≡ 20 + length block = length-append (mark_bytes (mark_of name version i)) block ∙ ap (λ (k : ℕ). k + length block) (length-mark (mark_of name version i)) in
+      let given : g.given ≡ mark_bytes (mark_of name version i) ++ block =
+      tells_shown (slot.tells a) (slot.held a) (mark_bytes (mark_of name version i) ++ block) g.given does held shows (omega (arith, front_size, size, shown_size, g.long)) in
+      let marks : mark_bytes found ≡ mark_bytes wanted = sym g.front ∙ ap (take 20) given ∙ take-mark (mark_of name version i) block ∙ ap mark_bytes (sym named) in
+      g.other (marks_differ found wanted g.found_is g.wanted_is marks)
+
   -- nor was another mark found then
   pub none_stale : (under : Option ℕ) (name len n : ℕ) (wanted found : Mark) (before now : List D) (shown : List ℕ) → Walked (λ i. IsLoadedAs slot under name i (slice_range shown (i * len) (i * len + len))) (Err (loading.Stale wanted found)) before now
       → n ≡ length before → length shown ≡ n * len → (bytes : List ℕ) → length bytes ≡ n * len → AllTell slot before → AllGiveHeld slot before now → AreHeld slot under name len before bytes → ⊥
@@ -119,12 +129,5 @@ module _ {D : Type 0} (slot : Ghosts D) where
       let both : (wanted ≡ mark_of name version i) × GaveOther slot (length (slice_range shown (i * len) (i * len + len))) wanted found (slice_index_or before i d) (slice_index_or now i d) = walked.1.here d in
       let g : GaveOther slot (length (slice_range shown (i * len) (i * len + len))) wanted found (slice_index_or before i d) (slice_index_or now i d) = both.1 in
       let below : i < n = omega (arith, inside, count) in
-      let block : List ℕ = slice_range bytes (i * len) (i * len + len) in
-      let size : length block ≡ len = block_length len n i bytes same below in
-      let shown_size : length (slice_range shown (i * len) (i * len + len)) ≡ len = block_length len n i shown long below in
-      let front_size : length (mark_bytes (mark_of name version i) ++ block) ≡ 20 + length block = length-append (mark_bytes (mark_of name version i)) block ∙ ap (λ (k : ℕ). k + length block) (length-mark (mark_of name version i)) in
-      let given : g.given ≡ mark_bytes (mark_of name version i) ++ block =
-      tells_shown (slot.tells (slice_index_or before i d)) (slot.held (slice_index_or before i d)) (mark_bytes (mark_of name version i) ++ block) g.given (tell i d inside) (held i d inside)
-      (gives_held _ _ _ _ g.loaded.shows (gives i d inside)) (omega (arith, front_size, size, shown_size, g.long)) in
-      let marks : mark_bytes found ≡ mark_bytes wanted = sym g.front ∙ ap (take 20) given ∙ take-mark (mark_of name version i) block ∙ ap mark_bytes (sym both.0) in
-      g.other (marks_differ found wanted g.found_is g.wanted_is marks)
+      other_given name version len i wanted found (slice_index_or before i d) (slice_index_or now i d) (slice_range bytes (i * len) (i * len + len)) (slice_range shown (i * len) (i * len + len))
+      (block_length len n i bytes same below) (block_length len n i shown long below) (held i d inside) both.0 g (tell i d inside) (gives_held _ _ _ _ g.loaded.shows (gives i d inside))

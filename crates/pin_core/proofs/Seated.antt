@@ -1,11 +1,10 @@
 -- The sessions that the table has, as the state has them.
-use Rattle.std.proofs.Common.{◌≡◌, ℕ, ◌<◌, Option, Some, None, IsSome, unwrap_or, option_map, refl, ap, sym, ◌∙◌, arith}
+use Rattle.std.proofs.Common.{◌≡◌, ℕ, Option, Some, None, IsSome, unwrap_or, option_map, refl, ap, sym, ◌∙◌}
 use Rattle.std.specs.FinMap.{get}
 use Rattle.std.specs.Option.{option_and_then}
 use Rattle.reservation_tree.proofs.Maps.{is_there}
 use Rattle.session_table.specs.Seats.{Seat, Seats, AreProper, members_in, seat_of, members_of, first_of}
 use Rattle.session_table.specs.Sessions.{session_in, sessions_in}
-use Rattle.session_table.proofs.Changes.{seat_within}
 use Rattle.session_table.proofs.Failures.{first_is}
 use Rattle.session_table.proofs.Found.{get_sessions}
 use Rattle.pool_model.specs.State.{Session}

@@ -1,7 +1,6 @@
 -- For which history the parts stand once one page went to another place.
-use Rattle.std.proofs.Common.{◌≡◌, ◌≢◌, ℕ, List, [], ◌∷◌, ◌++◌, Option, Some, None, option_map, refl, ap, sym, ◌∙◌, subst, inl, inr}
-use Rattle.std.specs.FinMap.{FinMap, get}
-use Rattle.std.specs.Ordering.{nat_cmp}
+use Rattle.std.proofs.Common.{◌≡◌, ◌≢◌, ℕ, List, [], ◌∷◌, ◌++◌, Option, Some, option_map, ap, sym, ◌∙◌, subst, inl, inr}
+use Rattle.std.specs.FinMap.{get}
 use Rattle.outside.specs.declared.slot.Slot.{Ghosts}
 use Rattle.page_table.specs.declared.entry.Entry.{Entry}
 use Rattle.page_table.specs.Pages.{IsProper}
@@ -10,15 +9,15 @@ use Rattle.pool_model.specs.declared.entry.Entry.{Entry as Event}
 use Rattle.pool_model.specs.State.{Opening, State}
 use Rattle.pool_model.specs.MayFollow.{MayFollow}
 use Rattle.pool_model.specs.Effects.{after}
-use Rattle.pool_model.specs.LookingBack.{Made, maker_of, left_in, content_of}
+use Rattle.pool_model.specs.LookingBack.{maker_of, left_in, content_of}
 use Rattle.pool_model.specs.HistoryLaws.{made}
 use Rattle.pool_model.proofs.Made.{legal_pages_as_made}
 use Rattle.pool_model.proofs.Seats.{some_is}
 use Rattle.pin_core.specs.declared.kept.Kept.{Kept}
 use Rattle.pin_core.specs.declared.parts.Parts.{Parts}
-use Rattle.pin_core.specs.StateOf.{page_of, pages_in, state_of}
+use Rattle.pin_core.specs.StateOf.{page_of, state_of}
 use Rattle.pin_core.specs.Standing.{StandsFor, Holds}
-use Rattle.pin_core.specs.Marking.{Form, form_of, front_of, under_of}
+use Rattle.pin_core.specs.Marking.{Form, form_of}
 use Rattle.pin_core.proofs.Mapped.{get_mapped}
 use Rattle.pin_core.proofs.Histories.{GrewBy, grew, content_grows}
 use Rattle.pin_core.proofs.Moving.{Moves, entry_here, entry_other}

@@ -6,24 +6,27 @@ use Rattle.std.specs.List.{sum_by}
 use Rattle.outside.specs.declared.slot.Slot.{Ghosts}
 use Rattle.scratch_dev.specs.Rows.{stores_in, uncounted_in, stores_at, uncounted, faults_of, CountsStores}
 use Rattle.pool_model.specs.declared.event.Event.{Event as What}
-use Rattle.pool_model.specs.declared.event.Event.TheVariants.{ReadFailed, WriteOk, WriteFailed}
+use Rattle.pool_model.specs.declared.event.Event.TheVariants.{ReadFailed, ReadStale, WriteOk, WriteFailed}
 use Rattle.pool_model.specs.declared.entry.Entry.{Entry as Event}
 use Rattle.pool_model.specs.Failures.{fails}
+use Rattle.store_api.specs.Signs.{is_stale_load}
 use Rattle.pin_core.specs.declared.tally.Tally.{Tally}
-use Rattle.pin_core.specs.Runs.{CountsFaults, is_sure}
-use Rattle.pin_core.specs.Tallies.{Counted, all_failures, stored_by, silence, tally_by}
+use Rattle.pin_core.specs.Runs.{CountsFaults, CountsStrays, is_sure}
+use Rattle.pin_core.specs.Tallies.{Counted, all_failures, all_stale, stored_by, silence, tally_by}
 use Rattle.pin_core.specs.Plain.{ArePlain, is_plain}
 
 -- nothing happened
-pub uncounted_yet : (t : Tally) → Counted 0 0 t t
-uncounted_yet t = record { never_fall = omega arith; failed = λ free. omega arith; stays = omega arith; stores = λ all. omega arith; short = omega arith; silent = refl; slots = refl }
+pub uncounted_yet : (t : Tally) → Counted 0 0 0 t t
+uncounted_yet t = record { never_fall = omega arith; failed = λ free. omega arith; stays = omega arith; stores = λ all. omega arith; short = omega arith; strays = λ all. omega arith; loose = omega arith; silent = refl; slots = refl }
 
-pub counted_more : (f g b d : ℕ) (x y z : Tally) → Counted f b x y → Counted g d y z → Counted (f + g) (b + d) x z
-counted_more f g b d x y z one two =
+pub counted_more : (f g b d s t : ℕ) (x y z : Tally) → Counted f b s x y → Counted g d t y z → Counted (f + g) (b + d) (s + t) x z
+counted_more f g b d s t x y z one two =
     let fall = one.never_fall in
     let fall_too = two.never_fall in
     let short = one.short in
     let short_too = two.short in
+    let loose = one.loose in
+    let loose_too = two.loose in
     let stays = one.stays in
     let stays_too = two.stays in record {
       never_fall = omega (arith, fall, fall_too);
@@ -37,12 +40,17 @@ counted_more f g b d x y z one two =
           let first = one.stores (omega (arith, all, short_too)) in
           omega (arith, first, later);
       short = omega (arith, short, short_too);
+      strays = λ all.
+          let later = two.strays all in
+          let first = one.strays (omega (arith, all, loose_too)) in
+          omega (arith, first, later);
+      loose = omega (arith, loose, loose_too);
       silent = two.silent ∙ one.silent;
       slots = two.slots ∙ one.slots;
     }
 
-pub counted_as : (f g b d : ℕ) (x y : Tally) → f ≡ g → b ≡ d → Counted f b x y → Counted g d x y
-counted_as f g b d x y failures blocks it = subst (λ (n : ℕ). Counted g n x y) blocks (subst (λ (n : ℕ). Counted n b x y) failures it)
+pub counted_as : (f g b d s t : ℕ) (x y : Tally) → f ≡ g → b ≡ d → s ≡ t → Counted f b s x y → Counted g d t x y
+counted_as f g b d s t x y failures blocks stale it = subst (λ (n : ℕ). Counted g d n x y) stale (subst (λ (n : ℕ). Counted g n s x y) blocks (subst (λ (n : ℕ). Counted n b s x y) failures it))
 
 -- the same sums are the same tally
 pub tally_same : {D : Type 0} (slot : Ghosts D) (f g : (D → ℕ) → ℕ) → ((measure : D → ℕ) → f measure ≡ g measure) → tally_by slot f ≡ tally_by slot g
@@ -67,11 +75,12 @@ same_stores slot before now same =
     record { short = omega (arith, short); stores = λ all. omega (arith, stores) }
 
 -- the slots of a job came back, beside those that were home
-pub came_back : {D : Type 0} (slot : Ghosts D) (home : (D → ℕ) → ℕ) (before now : List D) (failures blocks : ℕ)
-    → faults_of slot before ≤ faults_of slot now → CountsFaults slot failures before now → CountsStores slot blocks before now
+pub came_back : {D : Type 0} (slot : Ghosts D) (home : (D → ℕ) → ℕ) (before now : List D) (failures blocks stale : ℕ)
+    → faults_of slot before ≤ faults_of slot now → CountsFaults slot failures before now → CountsStores slot blocks before now → CountsStrays slot stale before now
     → sum_by (silence slot) now ≡ sum_by (silence slot) before → length now ≡ length before
-    → Counted failures blocks (tally_by slot (λ measure. home measure + sum_by measure before)) (tally_by slot (λ measure. home measure + sum_by measure now))
-came_back slot home before now failures blocks fall faults stores silent len =
+    → Counted failures blocks stale (tally_by slot (λ measure. home measure + sum_by measure before)) (tally_by slot (λ measure. home measure + sum_by measure now))
+came_back slot home before now failures blocks stale fall faults stores strays silent len =
+    let loose = strays.loose in
     let short = stores.short in
     let stays = faults.stays in record {
       never_fall = omega (arith, fall);
@@ -79,6 +88,8 @@ came_back slot home before now failures blocks fall faults stores silent len =
       stays = omega (arith, stays);
       stores = λ all. let more = stores.stores (omega (arith, all)) in omega (arith, more);
       short = omega (arith, short);
+      strays = λ all. let more = strays.strays (omega (arith, all)) in omega (arith, more);
+      loose = omega (arith, loose);
       silent = ap (λ (n : ℕ). home (silence slot) + n) silent;
       slots = ap (λ (n : ℕ). home (λ d. 1) + n) (ones now ∙ len ∙ sym (ones before));
     }
@@ -88,6 +99,10 @@ pub failures_append : (a b : List Event) → all_failures (a ++ b) ≡ all_failu
 failures_append a b =
     ap length (filter-append (λ (e : Event). fails (λ made. true) a e.event) a b)
     ∙ length-append (filter (λ (e : Event). fails (λ made. true) a e.event) a) (filter (λ (e : Event). fails (λ made. true) a e.event) b)
+
+pub stale_append : (a b : List Event) → all_stale (a ++ b) ≡ all_stale a + all_stale b
+stale_append a b =
+    ap length (filter-append (λ (e : Event). is_stale_load e.event) a b) ∙ length-append (filter (λ (e : Event). is_stale_load e.event) a) (filter (λ (e : Event). is_stale_load e.event) b)
 
 -- rows that tell alike are alike in how many tell
 weigh_alike : {D : Type 0} (tells : D → Bool) (xs : List D) → sum_by (λ d. if tells d then 0 else 1) xs ≡ sum_by (λ (t : Bool). if t then 0 else 1) (map tells xs)
@@ -105,12 +120,24 @@ plain_failure m (ReadFailed p before now) plain = let never : false ≡ true = p
 plain_failure m (WriteFailed p before now) plain = let never : false ≡ true = plain in cc
 plain_failure m _ plain = refl
 
+pub none_stale : (m : ℕ) (e : What) → is_plain e ≡ true → all_stale (record { maker = m; event = e } ∷ []) ≡ 0
+none_stale m (ReadStale p wanted found) plain = let never : false ≡ true = plain in cc
+none_stale m _ plain = refl
+
 pub plain_failures : (events : List Event) → ArePlain events → all_failures events ≡ 0
 plain_failures [] plain = refl
 plain_failures (e ∷ events) plain =
     let both = failures_append (e ∷ []) events in
     let first = plain_failure e.maker e.event plain.0 in
     let rest = plain_failures events plain.1 in
+    omega (arith, both, first, rest)
+
+pub plain_stale : (events : List Event) → ArePlain events → all_stale events ≡ 0
+plain_stale [] plain = refl
+plain_stale (e ∷ events) plain =
+    let both = stale_append (e ∷ []) events in
+    let first = none_stale e.maker e.event plain.0 in
+    let rest = plain_stale events plain.1 in
     omega (arith, both, first, rest)
 
 pub plain_stored : (h : List Event) (e : What) → is_plain e ≡ true → stored_by h e ≡ 0

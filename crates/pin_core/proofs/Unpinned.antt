@@ -1,8 +1,7 @@
 -- What a call of unpin leaves.
-use Rattle.std.proofs.Common.{◌≡◌, ◌↔◌, ℕ, ◌+◌, ◌<◌, ◌≤◌, Bool, true, false, List, [], ◌∷◌, ◌++◌, length, Option, Some, None, Result, Ok, Err, OnOk, OnErr, IsErr, IfErr, IsSome, unwrap_or, option_map, refl, ap, sym, ◌∙◌, subst, arith, inl, inr}
+use Rattle.std.proofs.Common.{◌≡◌, ◌↔◌, ℕ, ◌<◌, ◌≤◌, false, List, [], ◌∷◌, ◌++◌, length, None, Result, Ok, Err, OnOk, OnErr, IsErr, IfErr, refl, ap, sym, ◌∙◌, subst, arith, inl, inr}
 use Rattle.std.proofs.lemmas.Bool.{false≢true, cases_lt}
 use Rattle.std.proofs.lemmas.List.Sums.{get_or-le-sum_by}
-use Rattle.std.specs.FinMap.{get}
 use Rattle.outside.specs.declared.slot.Slot.{Ghosts}
 use Rattle.block_arena.specs.Memory.{Buffer, IsBufferOf}
 use Rattle.page_table.specs.declared.page_id.PageId.{PageId}
@@ -10,14 +9,13 @@ use Rattle.page_table.specs.declared.entry.Entry.{Entry}
 use Rattle.page_table.specs.declared.entry.Place.{Place as Spot}
 use Rattle.page_table.specs.declared.entry.Place.TheVariants as spot
 use Rattle.client_lists.specs.declared.which.Which.TheVariants as which
-use Rattle.client_lists.specs.Clients.{place}
 use Rattle.scratch_dev.specs.Pool.{quota_of, free_of, free_in}
 use Rattle.reservation_tree.proofs.Maps.{is_there}
 use Rattle.pool_model.specs.declared.event.Event.TheVariants as event
 use Rattle.pool_model.specs.declared.entry.Entry.{Entry as Event}
 use Rattle.pool_model.specs.Bytes.{bytes_of}
 use Rattle.reservation_tree.specs.Tree.{charge_of as charge_in}
-use Rattle.pool_model.specs.State.{Opening, State, Page, Place, Pinned, pins_of, page_at}
+use Rattle.pool_model.specs.State.{Opening, Page, Place, Pinned, pins_of, page_at}
 use Rattle.pool_model.specs.Sums.{free_slots}
 use Rattle.pool_model.specs.MayFollow.{MayFollow}
 use Rattle.pool_model.specs.Effects.{after}
@@ -30,11 +28,11 @@ use Rattle.pin_core.specs.declared.kept.Kept.{Kept}
 use Rattle.pin_core.specs.declared.kept.Kept.TheVariants as kept
 use Rattle.pin_core.specs.declared.parts.Parts.{Parts}
 use Rattle.pin_core.specs.Keeping.{need_of, has_slots}
-use Rattle.pin_core.specs.StateOf.{page_of, pages_in, place_in, state_of}
+use Rattle.pin_core.specs.StateOf.{page_of, place_in, state_of}
 use Rattle.pin_core.specs.Invariant.{HasHistory, IsKept, IsKeptOf, IsPlaced, list_at}
 use Rattle.pin_core.specs.Lawful.{Lawful}
 use Rattle.pin_core.specs.Standing.{Holds, StandsFor, Enters}
-use Rattle.pin_core.specs.Marking.{Form, form_of, front_of, under_of}
+use Rattle.pin_core.specs.Marking.{form_of}
 use Rattle.pin_core.specs.Needs.{IsLastPin, id_in}
 use Rattle.pin_core.proofs.Found.{Found, found_page}
 use Rattle.pin_core.specs.Changes.{entry_at, counted}

@@ -1,13 +1,12 @@
 -- A pinned page is left with its bytes.
-use Rattle.std.proofs.Common.{◌≡◌, ◌≢◌, ℕ, ◌+◌, ◌-◌, ◌*◌, ◌<◌, ◌≤◌, ◌==◌, ◌⊎◌, Bool, true, false, List, [], ◌∷◌, ◌++◌, take, drop, length, get_or, Option, Some, None, unwrap_or, refl, ap, sym, ◌∙◌, subst, inl, inr, arith, ne_eqb, zero-mul, if◌then◌else◌}
-use Rattle.std.specs.FinMap.{FinMap, get, insert}
-use Rattle.std.specs.Ordering.{nat_cmp}
+use Rattle.std.proofs.Common.{◌≡◌, ℕ, ◌+◌, ◌-◌, ◌*◌, ◌<◌, ◌≤◌, ◌==◌, ◌⊎◌, Bool, true, List, [], ◌∷◌, ◌++◌, length, Option, Some, None, unwrap_or, refl, ap, sym, ◌∙◌, subst, inl, inr, arith, ne_eqb, zero-mul, if◌then◌else◌}
+use Rattle.std.specs.FinMap.{get, insert}
 use Rattle.std.proofs.lemmas.Bool.{false≢true}
 use Rattle.std.proofs.lemmas.List.{get_or-set_same, get_or-set_other, length-take, length-drop, length-set}
 use Rattle.std.proofs.lemmas.List.Sums.{sum_by-take-drop}
 use Rattle.std.specs.List.{sum_by}
 use Rattle.outside.specs.declared.slot.Slot.{Ghosts}
-use Rattle.block_arena.specs.Memory.{Buffer, IsBufferOf}
+use Rattle.block_arena.specs.Memory.{Buffer}
 use Rattle.index_list.specs.Listing.{list_with}
 use Rattle.page_table.specs.declared.page_id.PageId.{PageId}
 use Rattle.page_table.specs.declared.entry.Place.TheVariants as spot
@@ -23,8 +22,8 @@ use Rattle.reservation_tree.proofs.Maps.{same_or_other}
 use Rattle.pool_model.specs.declared.event.Event.TheVariants.{Unpin}
 use Rattle.pool_model.specs.declared.entry.Entry.{Entry as Event}
 use Rattle.pool_model.specs.Bytes.{bytes_of, only_if}
-use Rattle.pool_model.specs.State.{State, Opening, Session, Sessions, Page, Dirty, dirty_of}
-use Rattle.pool_model.specs.Sums.{times_charged, is_in_memory, once, charge_of, slots_of, free_slots, buffers_for, page_bytes, pages_for}
+use Rattle.pool_model.specs.State.{Opening, Session, Sessions, Dirty, dirty_of}
+use Rattle.pool_model.specs.Sums.{times_charged, is_in_memory, once, slots_of, free_slots, page_bytes, pages_for}
 use Rattle.pool_model.specs.MayFollow.{MayFollow}
 use Rattle.pool_model.specs.Effects.{after}
 use Rattle.pool_model.proofs.Weights.{only_none, one_time, mine, not_mine}
@@ -32,17 +31,17 @@ use Rattle.pin_core.specs.declared.kept.Kept.{Kept}
 use Rattle.pin_core.specs.declared.kept.Kept.TheVariants as kept
 use Rattle.pin_core.specs.declared.parts.Parts.{Parts}
 use Rattle.pin_core.specs.Keeping.{need_of, kept_then, slots_then, has_slots, row_in}
-use Rattle.pin_core.specs.StateOf.{page_of, pages_in, place_in, buffers_in, state_of}
-use Rattle.pin_core.specs.Invariant.{HasHistory, AreSeated, IsSized, list_at, is_clean_spot, IsKeptOf, IsPlaced, IsQuota, IsKept}
+use Rattle.pin_core.specs.StateOf.{page_of, pages_in, place_in, state_of}
+use Rattle.pin_core.specs.Invariant.{IsSized, list_at, is_clean_spot, IsKeptOf, IsPlaced, IsQuota, IsKept}
 use Rattle.pin_core.specs.Standing.{KeptHolds, StandsFor, slots_home}
-use Rattle.pin_core.specs.Marking.{Form, form_of, front_of, under_of}
+use Rattle.pin_core.specs.Marking.{under_of}
 use Rattle.pin_core.specs.Unpinning.{CanUnpin, left_dirty, unpinned}
 use Rattle.pin_core.proofs.Histories.{content_unpinned}
 use Rattle.pin_core.proofs.Moved.{Tells, told_kept, told_slots}
-use Rattle.pin_core.proofs.Moving.{Moves, moved_placed, moved_stray, moved_pages, page_there}
+use Rattle.pin_core.proofs.Moving.{Moves, moved_pages, page_there}
 use Rattle.client_lists.proofs.Nodes.{list-shifted, list-shifted_other, nodes-shifted_to, nodes-shifted_other, len-shifted}
 use Rattle.pin_core.proofs.Queued.{dirty_changed, dirty_open, names_more}
-use Rattle.pin_core.proofs.Amounts.{fell, charge_covers, slots_put, free_is, Charges, moved_counted}
+use Rattle.pin_core.proofs.Amounts.{fell, charge_covers, slots_put, free_is, Charges}
 use Rattle.pin_core.proofs.Effects.{same_state, unpin_effect}
 use Rattle.pin_core.proofs.Places.{HasQuota, has_quota}
 use Rattle.pin_core.proofs.Stands.{stands_moved, was_made}

@@ -29,7 +29,7 @@ use Rattle.pin_core.specs.StateOf.{page_of, pages_in, place_in, state_of}
 use Rattle.pin_core.specs.Invariant.{list_at, IsPlaced, IsKept}
 use Rattle.pin_core.specs.Lawful.{Lawful}
 use Rattle.pin_core.specs.Standing.{StandsFor, AreHeld, slots_home}
-use Rattle.pin_core.specs.Marking.{Form, form_of, front_of, under_of}
+use Rattle.pin_core.specs.Marking.{under_of}
 use Rattle.pin_core.specs.Ends.{ComesBack, back_clean, written}
 use Rattle.pin_core.proofs.Back.{slots_had, none_home}
 use Rattle.pin_core.proofs.Histories.{content_grows}

@@ -16,7 +16,7 @@ use Rattle.scratch_dev.specs.Pool.{quota_of}
 use Rattle.buffer_transfer.specs.declared.lent.Lent.{Lent}
 use Rattle.session_table.specs.Seats.{Seat, seat_of, trackers_of, tracker_count}
 use Rattle.reservation_tree.specs.Total.{total}
-use Rattle.reservation_tree.specs.Tracker.{Tracker, Trackers}
+use Rattle.reservation_tree.specs.Tracker.{Trackers}
 use Rattle.reservation_tree.specs.Tree.{charge_of as charge_in}
 use Rattle.pool_model.specs.declared.entry.Entry.{Entry as Event}
 use Rattle.pool_model.specs.Bytes.{bytes_of, only_if}

@@ -1,5 +1,5 @@
 -- What calls need of the state of a pool.
-use Rattle.std.specs.Prelude.{ℕ, ◌≡◌, Some}
+use Rattle.std.specs.Prelude.{◌≡◌, Some}
 use Rattle.std.specs.FinMap.{get}
 use Rattle.block_arena.specs.Memory.{Buffer, IsBufferOf}
 use Rattle.page_table.specs.declared.page_id.PageId.{PageId}

@@ -1,5 +1,5 @@
 -- The steps of a call that pins a page, by the parts. No public clause cites this module.
-use Rattle.std.specs.Prelude.{ℕ, ◌≡◌, ◌≢◌, ◌≤◌, ◌⊎◌, Some}
+use Rattle.std.specs.Prelude.{ℕ, ◌≡◌, ◌≢◌, ◌≤◌, ◌⊎◌, List, Some}
 use Rattle.std.specs.FinMap.{get}
 use Rattle.block_arena.specs.Memory.{Buffer, IsBufferOf}
 use Rattle.page_table.specs.declared.page_id.PageId.{PageId}
@@ -18,7 +18,7 @@ use Rattle.pin_core.specs.declared.pin.PinTurn.TheVariants.{Here, Load, Refused,
 use Rattle.pin_core.specs.declared.room.RoomTurn.TheVariants as turn
 use Rattle.pin_core.specs.StateOf.{state_of}
 use Rattle.pin_core.specs.Flights.{buffer_in}
-use Rattle.pin_core.specs.Evictions.{with_room}
+use Rattle.pin_core.specs.Evictions.{names_gone, with_room}
 use Rattle.pin_core.specs.Pinning.{pinned_dirty, pinned_clean}
 use Rattle.pin_core.specs.Loads.{loaded_over, read_job}
 use Rattle.pin_core.specs.Turns.{TurnIs}
@@ -68,3 +68,8 @@ module _ {D : Type 0} where
   PinIs v new session id x (Refused entry) = IsAway x.place × TurnIs v new session x.client (bytes_at v x) (turn.Refused entry)
   PinIs v new session id x (Write job) = IsAway x.place × TurnIs v new session x.client (bytes_at v x) (turn.Write job)
   PinIs v new session id x Wait = (((writer : ℕ) × (x.place ≡ spot.Flying writer)) × (new ≡ v)) ⊎ (IsAway x.place × TurnIs v new session x.client (bytes_at v x) turn.Wait)
+
+  -- which pages a load evicted; any other answer leaves what was told before
+  abbrev pub told_gone : List ℕ → Entry (Kept D) → Parts D → PinTurn D → List ℕ
+  told_gone before x v (Load job) = names_gone x.blocks v
+  told_gone before x v _ = before

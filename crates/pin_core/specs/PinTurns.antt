@@ -80,3 +80,8 @@ module _ {D : Type 0} where
   pin_slots (Load job) = job.row
   pin_slots (Write job) = job.row
   pin_slots _ = []
+
+  -- which pages a load evicted, as its entries name them; any other answer leaves what was told before
+  abbrev pub pin_gone : List ℕ → ℕ → Parts D → PinTurn D → List ℕ
+  pin_gone before p old (Load job) = names_gone (page_at (state_of old) p).blocks old
+  pin_gone before p old _ = before

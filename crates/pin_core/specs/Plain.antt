@@ -1,9 +1,9 @@
--- Entries that end no write well, and of which none is a failure.
+-- Entries that end no write well, and of which none is a failure or a stale load.
 use Rattle.std.specs.Prelude.{◌≡◌, ℕ, List, Bool, true, false, Option}
 use Rattle.std.specs.List.{AllByRecursion}
 use Rattle.page_table.specs.declared.page_id.PageId.{PageId}
 use Rattle.pool_model.specs.declared.event.Event.{Event as What}
-use Rattle.pool_model.specs.declared.event.Event.TheVariants.{ReadFailed, WriteOk, WriteFailed}
+use Rattle.pool_model.specs.declared.event.Event.TheVariants.{ReadFailed, ReadStale, WriteOk, WriteFailed}
 use Rattle.pool_model.specs.declared.entry.Entry.{Entry as Event}
 use Rattle.store_api.specs.Tokens.{ClientToken}
 use Rattle.pin_core.specs.declared.jobs.WriteJob.{WriteJob}
@@ -14,9 +14,10 @@ use Rattle.pin_core.specs.Coming.{alloc_entries, create_entries}
 use Rattle.pin_core.specs.PinTurns.{pin_entries}
 use Rattle.pin_core.specs.Turns.{room_entries, start_entries}
 
--- no failure, and no write that ended well
+-- no failure, no write that ended well, and no load that gave another mark
 abbrev pub is_plain : What → Bool
 is_plain (ReadFailed p before now) = false
+is_plain (ReadStale p wanted found) = false
 is_plain (WriteOk p) = false
 is_plain (WriteFailed p before now) = false
 is_plain _ = true

@@ -39,6 +39,12 @@ read_ends true stale name before now = event.ReadFailed name before now
 read_ends false (Some stale) name before now = event.ReadStale name stale.wanted stale.found
 read_ends false None name before now = event.ReadOk name
 
+-- how many loads gave another mark where a read ended so
+abbrev pub stale_loads : Bool → Option Stale → ℕ
+stale_loads true stale = 0
+stale_loads false None = 0
+stale_loads false (Some stale) = 1
+
 -- whether a read ended badly
 abbrev pub ended_badly : Bool → Option Stale → Bool
 ended_badly true stale = true

@@ -44,6 +44,16 @@ abbrev pub gives_back : Option Strays → Bool
 gives_back None = false
 gives_back (Some strays) = is_empty strays.further
 
+-- the strays that a slot counts, and 1 where it doesn't count them to the end or doesn't tell what it holds
+abbrev pub strays_in : Option Strays → ℕ
+strays_in None = 0
+strays_in (Some strays) = strays.count
+
+abbrev pub unstrayed_in : Bool → Option Strays → ℕ
+unstrayed_in false strays = 1
+unstrayed_in true None = 1
+unstrayed_in true (Some strays) = if leb last_count strays.count then 1 else 0
+
 module _ {D : Type 0} (slot : Ghosts D) where
   -- a slot tells what it holds, and gives nothing else
   abbrev pub is_sure : D → Bool
@@ -68,6 +78,18 @@ module _ {D : Type 0} (slot : Ghosts D) where
   pub record CountsFaults (more : ℕ) (before now : List D) : Type 0 where
     pub stays : sum_by stuck before ≤ sum_by stuck now
     pub faults : sum_by stuck now ≡ 0 → sum_by slot.faults before + more ≤ sum_by slot.faults now
+
+  -- how many loads of a slot strayed, as far as it tells, and 1 where it doesn't tell that to the end, or what it holds
+  abbrev pub strays_at : D → ℕ
+  strays_at d = strays_in (slot.strays d)
+
+  abbrev pub unstrayed : D → ℕ
+  unstrayed d = unstrayed_in (slot.tells d) (slot.strays d)
+
+  -- so many loads more of the slots strayed, where all tell that still; and none tells it that didn't before
+  pub record CountsStrays (more : ℕ) (before now : List D) : Type 0 where
+    pub loose : sum_by unstrayed before ≤ sum_by unstrayed now
+    pub strays : sum_by unstrayed now ≡ 0 → sum_by strays_at before + more ≤ sum_by strays_at now
 
 -- how the loads of a job ended: whether one failed, and which other mark was found
 abbrev pub load_end : MarkedEnded → Bool × Option Stale

@@ -12,10 +12,10 @@ use Rattle.pin_core.specs.declared.parts.Parts.{Parts}
 use Rattle.pin_core.specs.declared.tally.Tally.{Tally}
 use Rattle.pin_core.specs.StateOf.{state_of}
 use Rattle.pin_core.specs.Standing.{StandsFor, Enters, slots_home}
-use Rattle.pin_core.specs.Runs.{CountsFaults, is_sure}
+use Rattle.pin_core.specs.Runs.{CountsFaults, CountsStrays, is_sure}
 use Rattle.pin_core.specs.Jobs.{IsWriteJob}
-use Rattle.pin_core.specs.Returning.{EntersWhere, IsRead, IsWritten, write_entry, read_entry}
-use Rattle.pin_core.specs.Tallies.{Counted, SumsWithJobs, all_failures, written_blocks, tally_of}
+use Rattle.pin_core.specs.Returning.{EntersWhere, IsRead, IsWritten, write_entry, read_entry, stale_loads}
+use Rattle.pin_core.specs.Tallies.{Counted, SumsWithJobs, all_failures, all_stale, written_blocks, tally_of}
 use Rattle.pin_core.specs.Plain.{ArePlain, is_plain}
 
 module _ {D : Type 0} (slot : Ghosts D) where
@@ -23,9 +23,10 @@ module _ {D : Type 0} (slot : Ghosts D) where
   abbrev pub IsRest : List D → List D → List D → Type 0
   IsRest taken out others = (measure : D → ℕ) → sum_by measure out ≡ sum_by measure taken + sum_by measure others
 
-  -- a job was run: of its slots `before` it made the slots `now`, which counted so many failures
-  pub record WasRun (failures : ℕ) (before now : List D) : Type 0 where
+  -- a job was run: of its slots `before` it made the slots `now`, which counted so many failures and so many strays
+  pub record WasRun (failures stale : ℕ) (before now : List D) : Type 0 where
     pub faults : CountsFaults slot failures before now
+    pub strays : CountsStrays slot stale before now
     pub never_falls : faults_of slot before ≤ faults_of slot now
     pub tells : map (is_sure slot) now ≡ map (is_sure slot) before
     pub len : length now ≡ length before
@@ -47,16 +48,16 @@ module _ {D : Type 0} (slot : Ghosts D) where
   -- after a write that was run
   abbrev pub SumsGrowWritten : Type 0
   SumsGrowWritten = (first : Tally) (o : Opening) (h : List Event) (out others taken : List D) (job : WriteJob D) (before now : ℕ) (old new : Parts D)
-      → IsWriteJob (state_of old) job → IsRest taken out others → WasRun (if job.failed then 1 else 0) taken job.row → CountsStores slot (if job.failed then 0 else length taken) taken job.row
+      → IsWriteJob (state_of old) job → IsRest taken out others → WasRun (if job.failed then 1 else 0) 0 taken job.row → CountsStores slot (if job.failed then 0 else length taken) taken job.row
       → EntersWhere slot (IsWritten slot (state_of old).block_len job) (write_entry job before now) job.row old new → IsWritten slot (state_of old).block_len job o h → SumsWithJobs slot first o h out old → SumsWithJobs slot first o (h ++ write_entry job before now ∷ []) others new
 
   -- after a read that was run
   abbrev pub SumsGrowRead : Type 0
   SumsGrowRead = (first : Tally) (o : Opening) (h : List Event) (out others taken : List D) (job : ReadJob D) (before now : ℕ) (old new : Parts D)
-      → IsRest taken out others → WasRun (if job.failed then 1 else 0) taken job.row → map slot.stores job.row ≡ map slot.stores taken
+      → IsRest taken out others → WasRun (if job.failed then 1 else 0) (stale_loads job.failed job.stale) taken job.row → map slot.stores job.row ≡ map slot.stores taken
       → EntersWhere slot (IsRead slot (state_of old).block_len job) (read_entry (state_of old) job before now) job.row old new → IsRead slot (state_of old).block_len job o h → SumsWithJobs slot first o h out old → SumsWithJobs slot first o (h ++ read_entry (state_of old) job before now ∷ []) others new
 
   -- of the slots that come back once no job is out
   abbrev pub SumsEnd : Type 0
   SumsEnd = (first : Tally) (o : Opening) (h : List Event) (back : List D) (v : Parts D) → ((measure : D → ℕ) → sum_by measure back ≡ slots_home measure v)
-      → SumsWithJobs slot first o h [] v → Counted (all_failures h) (written_blocks h) first (tally_of slot back)
+      → SumsWithJobs slot first o h [] v → Counted (all_failures h) (written_blocks h) (all_stale h) first (tally_of slot back)

@@ -1,5 +1,5 @@
 -- What the slots of a pool count together, and what entries make of that.
-use Rattle.std.specs.Prelude.{◌≡◌, ℕ, ◌+◌, ◌≤◌, if◌then◌else◌, List, Option, Some, None, true}
+use Rattle.std.specs.Prelude.{◌≡◌, ℕ, ◌+◌, ◌≤◌, if◌then◌else◌, List, Option, Some, None, true, filter, length}
 use Rattle.std.specs.List.{sum_by}
 use Rattle.outside.specs.declared.slot.Slot.{Ghosts}
 use Rattle.scratch_dev.specs.Rows.{stores_at, uncounted}
@@ -9,10 +9,11 @@ use Rattle.pool_model.specs.declared.entry.Entry.{Entry as Event}
 use Rattle.pool_model.specs.LookingBack.{Made, maker_of}
 use Rattle.pool_model.specs.Failures.{failures_in}
 use Rattle.pool_model.specs.State.{Opening}
+use Rattle.store_api.specs.Signs.{is_stale_load}
 use Rattle.pin_core.specs.declared.parts.Parts.{Parts}
 use Rattle.pin_core.specs.declared.tally.Tally.{Tally}
 use Rattle.pin_core.specs.Standing.{StandsFor, slots_home}
-use Rattle.pin_core.specs.Runs.{stuck, is_sure}
+use Rattle.pin_core.specs.Runs.{stuck, strays_at, unstrayed, is_sure}
 
 -- how many writes and reads failed
 abbrev pub all_failures : List Event → ℕ
@@ -32,15 +33,22 @@ stored_by h _ = 0
 abbrev pub written_blocks : List Event → ℕ
 written_blocks h = sum_by (λ e. stored_by h e.event) h
 
+-- how many loads gave a block with another mark than the wanted one
+abbrev pub all_stale : List Event → ℕ
+all_stale h = length (filter (λ e. is_stale_load e.event) h)
+
 -- the faults never fell, and rose with each failure where no count of them stands at its last value; where all slots
--- count their stores still, they stored so many blocks more; a count that stood at its last value does still; and as
--- many slots are there, of which as many give nothing but what they tell
-pub record Counted (failures blocks : ℕ) (before now : Tally) : Type 0 where
+-- count their stores still, they stored so many blocks more; where all tell what they hold and count their strays still,
+-- so many loads more strayed; a count that stood at its last value does still; and as many slots are there, of which as
+-- many give nothing but what they tell
+pub record Counted (failures blocks stale : ℕ) (before now : Tally) : Type 0 where
   pub never_fall : before.faults ≤ now.faults
   pub failed : now.stuck ≡ 0 → before.faults + failures ≤ now.faults
   pub stays : before.stuck ≤ now.stuck
   pub stores : now.uncounted ≡ 0 → before.stores + blocks ≤ now.stores
   pub short : before.uncounted ≤ now.uncounted
+  pub strays : now.unstrayed ≡ 0 → before.strays + stale ≤ now.strays
+  pub loose : before.unstrayed ≤ now.unstrayed
   pub silent : now.silent ≡ before.silent
   pub slots : now.slots ≡ before.slots
 
@@ -51,7 +59,7 @@ module _ {D : Type 0} (slot : Ghosts D) where
 
   -- what slots count together, over which measures are summed so
   abbrev pub tally_by : ((D → ℕ) → ℕ) → Tally
-  tally_by sum = record { faults = sum slot.faults; stuck = sum (stuck slot); stores = sum (stores_at slot); uncounted = sum (uncounted slot); silent = sum silence; slots = sum (λ d. 1) }
+  tally_by sum = record { faults = sum slot.faults; stuck = sum (stuck slot); stores = sum (stores_at slot); uncounted = sum (uncounted slot); strays = sum (strays_at slot); unstrayed = sum (unstrayed slot); silent = sum silence; slots = sum (λ d. 1) }
 
   -- these slots; those of a pool that are in no job; and the same with those in jobs, as these took them
   abbrev pub tally_of : List D → Tally
@@ -67,4 +75,4 @@ module _ {D : Type 0} (slot : Ghosts D) where
   -- count what the history tells, beside what they counted when the pool opened
   pub record SumsWithJobs (first : Tally) (o : Opening) (h : List Event) (out : List D) (v : Parts D) : Type 0 where
     pub stands : StandsFor slot o h v
-    pub counted : Counted (all_failures h) (written_blocks h) first (tally_with v out)
+    pub counted : Counted (all_failures h) (written_blocks h) (all_stale h) first (tally_with v out)

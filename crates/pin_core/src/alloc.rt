@@ -4,6 +4,7 @@ ghost use Rattle.std.specs.FinMap.{get};
 ghost use Rattle.pin_core.specs.StateOf.{state_of};
 ghost use Rattle.pin_core.specs.Coming.{ReadyLend, alloc_entries, lent, zeros};
 
+use crate::evicted::EvictedPages;
 use crate::lengths;
 use crate::parts::Parts;
 use crate::pool::PoolState;
@@ -20,17 +21,19 @@ impl<D: Slot + Drop> PoolState<D> {
 
     /// A loan for a client that has room for it, with as many blocks as the shell has room for. Its bytes are
     /// zero. While too few blocks are free, the page that has been clean longest goes out of memory.
+    /// `gone` then has the names of those that went.
     ///
     /// Which number the loan gets is open, but that no live buffer has it.
-    pub fn alloc_now(&mut self, c: &Client, shell: Shell) -> Loan
+    pub fn alloc_now(&mut self, c: &Client, shell: Shell, gone: &mut EvictedPages) -> Loan
         requires can { CanHold (state_of self.old) c.now shell }
         ensures enters { Enters D.Slot (alloc_entries c.now result.number shell self.old) [] [] self.old self.new }
         ensures goes { MakesRoom (state_of self.old) (length_of (state_of self.old) shell) (names_gone shell self.old) }
+        ensures gone { gone.new ≡ names_gone shell self.old }
         ensures fresh { get (state_of self.old).buffers result.number ≡ None }
         ensures loan { result ≡ record { number = result.number; client = c.now.tracker; buf = zeros shell (state_of self.old).block_len } }
     {
         self.parts.laws();
-        self.parts.make_room(shell.room(), &mut self.evicted);
+        self.parts.make_room(shell.room(), gone);
         self.parts.lend(c.tracker(), shell)
     }
 }

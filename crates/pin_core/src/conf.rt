@@ -11,4 +11,7 @@ pub struct PoolConf {
     pub first_name: u64,
     /// How blocks lie in slots: 1 for bare ones, 2 for blocks behind their marks.
     pub profile: u32,
+    /// How many of its first entries a pool keeps that sessions share: any number. Memory for all of them is taken when
+    /// it opens. 0 keeps none, and needs none.
+    pub trace: u32,
 }

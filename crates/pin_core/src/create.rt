@@ -6,6 +6,7 @@ ghost use Rattle.pin_core.specs.Needs.{id_in};
 ghost use Rattle.pin_core.specs.Coming.{ReadyCreate, create_entries, created, zeros};
 
 use crate::alloc::zeroed;
+use crate::evicted::EvictedPages;
 use crate::kept::Kept;
 use crate::lengths;
 use crate::parts::Parts;
@@ -27,7 +28,7 @@ impl<D: Slot + Drop> PoolState<D> {
 
     /// A new page for a client that has room for it, pinned, with as many blocks as the shell has room for.
     /// Its bytes are zero. While too few blocks are free, the page that has been clean longest goes out of
-    /// memory.
+    /// memory. `gone` then has the names of those that went.
     ///
     /// Which key the page gets is open.
     ///
@@ -39,11 +40,13 @@ impl<D: Slot + Drop> PoolState<D> {
         c: &Client,
         shell: Shell,
         slots: SlotShell<D>,
+        gone: &mut EvictedPages,
     ) -> Result<(Page, Buf), (Shell, SlotShell<D>, PoolErr)>
         requires can { CanHold (state_of self.old) c.now shell }
         requires slots { slots ≡ shell }
         ensures enters { IfOk result (λ made. Enters D.Slot (create_entries c.now (id_in made.0) shell self.old) [] [] self.old self.new) }
         ensures goes { OnOk result (MakesRoom (state_of self.old) (length_of (state_of self.old) shell) (names_gone shell self.old)) }
+        ensures gone { OnOk result (gone.new ≡ names_gone shell self.old) }
         ensures page { IfOk result (λ made. made.0 ≡ record { name = (state_of self.old).next_name; key = made.0.key; client = c.now.tracker }) }
         ensures buffer { IfOk result (λ made. made.1 ≡ zeros shell (state_of self.old).block_len) }
 
@@ -51,13 +54,13 @@ impl<D: Slot + Drop> PoolState<D> {
         ensures refused { IsErr result ↔ ((state_of self.old).next_name ≡ 18446744073709551615) }
         ensures cause { IfErr result (λ e. e.2 ≡ PoolErr.NamesSpent) }
         ensures back { IfErr result (λ e. (e.0 ≡ shell) × (e.1 ≡ slots)) }
-        ensures err { OnErr result (self.new ≡ self.old) }
+        ensures err { OnErr result ((self.new ≡ self.old) × (gone.new ≡ gone.old)) }
     {
         if self.parts.pages.spent() {
             return Err((shell, slots, PoolErr::NamesSpent));
         }
         self.parts.laws();
-        self.parts.make_room(shell.room(), &mut self.evicted);
+        self.parts.make_room(shell.room(), gone);
         let (id, buf) = self.parts.create(c.session(), c.tracker(), shell, slots);
         Ok((Page::of(id.name, id.key, c.tracker()), buf))
     }

@@ -19,6 +19,7 @@ mod conf;
 mod create;
 mod destroy;
 mod evict;
+mod evicted;
 mod extract;
 mod finish;
 mod finish_read;
@@ -46,6 +47,7 @@ mod tally;
 mod unpin;
 
 pub use conf::PoolConf;
+pub use evicted::EvictedPages;
 pub use finish::Wrote;
 pub use jobs::{ReadJob, Stale, WriteJob};
 pub use kept::Kept;

@@ -1,5 +1,5 @@
 //! An evicted page gets blocks.
-ghost use Rattle.std.specs.Prelude.{◌≡◌, ◌≤◌, vec_capacity};
+ghost use Rattle.std.specs.Prelude.{◌≡◌, ◌≤◌};
 ghost use Rattle.block_arena.specs.Memory.{IsBufferOf};
 ghost use Rattle.page_table.specs.Pages.{IsLive, with_entry};
 ghost use Rattle.page_table.specs.declared.entry.Mem.TheVariants as mem;
@@ -8,9 +8,10 @@ ghost use Rattle.pin_core.specs.Invariant.{IsKept, IsKeptOf};
 ghost use Rattle.pin_core.specs.Lawful.{Lawful};
 ghost use Rattle.pin_core.specs.Keeping.{row_in};
 ghost use Rattle.pin_core.specs.Changes.{entry_in, entry_at};
-ghost use Rattle.pin_core.specs.Evictions.{with_room};
+ghost use Rattle.pin_core.specs.Evictions.{names_gone, with_room};
 ghost use Rattle.pin_core.specs.Loads.{CanLoad, ReadyLoad, loading, loaded, loaded_over, read_job};
 
+use crate::evicted::EvictedPages;
 use crate::jobs::{ReadJob, under};
 use crate::kept::Kept;
 use crate::lengths;
@@ -25,20 +26,19 @@ use std::mem;
 
 impl<D: Drop> Parts<D> {
     // Clean pages make room where too few blocks are free, and the page gets its blocks.
-    pub(crate) fn load(&mut self, id: PageId, evicted: &mut Vec<u64>) -> ReadJob<D>
+    pub(crate) fn load(&mut self, id: PageId, gone: &mut EvictedPages) -> ReadJob<D>
         requires kept { IsKept self.old }
         requires laws { Lawful self.old }
         requires can { CanLoad self.old id (entry_at self.old id.name) }
-        requires capacity { 256 ≤ vec_capacity evicted.old }
         ensures parts { self.new ≡ loaded_over id (entry_at self.old id.name) self.old }
         ensures job { result ≡ read_job self.old.marked id (entry_at self.old id.name) result.buf }
         ensures buffer { IsBufferOf (entry_at self.old id.name).blocks self.old.arena.block_len result.buf }
         ensures enough { (entry_at self.old id.name).blocks ≤ (with_room (entry_at self.old id.name).blocks self.old).arena.free }
-        ensures capacity_kept { 256 ≤ vec_capacity evicted.new }
+        ensures gone { gone.new ≡ names_gone (entry_at self.old id.name).blocks self.old }
     {
         let marked = self.marked;
         let look = look_at(&self.pages, id);
-        self.make_room(look.blocks, evicted);
+        self.make_room(look.blocks, gone);
         self.fill(id, marked)
     }
 

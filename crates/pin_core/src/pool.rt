@@ -7,11 +7,10 @@ use page_table::PageId;
 use std::marker::Model;
 use store_api::Page;
 
-/// The value of a pool: its parts, and room for the names of the pages that one call evicts.
+/// The value of a pool: its parts.
 #[derive(Drop)]
 pub struct PoolState<D> {
     pub(crate) parts: Parts<D>,
-    pub(crate) evicted: Vec<u64>,
 }
 
 impl<D> Model for PoolState<D> {
@@ -26,12 +25,11 @@ impl<D> Model for PoolState<D> {
 
     ghost coded = { Prim.hlevel (codes, state_code, pages_code, book_code, seats_code, D.code) };
 
-    ghost use Rattle.std.specs.Prelude.{◌≤◌, vec_capacity};
     ghost use Rattle.pin_core.specs.Invariant.{IsKept};
 
     ghost view = { λ s. s.parts };
 
-    ghost invariant = { λ s. IsKept s.parts × (256 ≤ vec_capacity s.evicted) };
+    ghost invariant = { λ s. IsKept s.parts };
 }
 
 impl<D> PoolState<D> {

@@ -7,7 +7,8 @@ ghost use Rattle.pool_model.specs.ScratchRows.{IsFault};
 ghost use Rattle.scratch_dev.specs.Rows.{IsStored, Walked, RoseIfFailed, faults_of, CountsStores};
 ghost use Rattle.pin_core.specs.Marking.{front_of};
 ghost use Rattle.pin_core.specs.Standing.{AreHeld};
-ghost use Rattle.pin_core.specs.Runs.{AllTell, AllGiveHeld, CountsFaults, GaveBytes, IfFoundOther, IsFit, IsLoadedAs, after_loads, after_stores, load_end, is_sure};
+ghost use Rattle.pin_core.specs.Returning.{stale_loads};
+ghost use Rattle.pin_core.specs.Runs.{AllTell, AllGiveHeld, CountsFaults, CountsStrays, GaveBytes, IfFoundOther, IsFit, IsLoadedAs, after_loads, after_stores, load_end, is_sure};
 
 use crate::jobs::{ReadJob, Stale, WriteJob};
 use block_arena::Buf;
@@ -23,8 +24,9 @@ impl<D: Slot> WriteJob<D> {
         ensures held { self.new.failed ≡ false → AreHeld D.Slot self.old.under self.old.id.name self.old.buf.block_len self.new.row self.old.buf.bytes }
         ensures tells { map (is_sure D.Slot) self.new.row ≡ map (is_sure D.Slot) self.old.row }
 
-        // Each slot counts a store, unless one failed.
+        // Each slot counts a store, unless one failed, and no stray.
         ensures stores { CountsStores D.Slot (if self.new.failed then 0 else length self.old.row) self.old.row self.new.row }
+        ensures strayed { CountsStrays D.Slot 0 self.old.row self.new.row }
 
         // The sum of the slots' counts of faults never falls. It rises with a failure where none of them stands at its
         // last value, and where the sum itself is less than that.
@@ -58,6 +60,9 @@ impl<D: Slot> ReadJob<D> {
         ensures tells { map (is_sure D.Slot) self.new.row ≡ map (is_sure D.Slot) self.old.row }
         ensures stores { map D.Slot.stores self.new.row ≡ map D.Slot.stores self.old.row }
         ensures strays { (i : ℕ) → (d : D) → i < length self.old.row → KeepsStrays (D.Slot.strays (slice_index_or self.old.row i d)) (D.Slot.strays (slice_index_or self.new.row i d)) }
+
+        // Where the slots hold the page's bytes, as far as they tell, and another mark was found, one of them counts a stray.
+        ensures strayed { (bytes : List ℕ) → length bytes ≡ length self.old.buf.bytes → AreHeld D.Slot self.old.under self.old.id.name self.old.buf.block_len self.old.row bytes → CountsStrays D.Slot (stale_loads self.new.failed self.new.stale) self.old.row self.new.row }
 
         // The sum of the slots' counts of faults never falls. It rises with a failure where none of them stands at its
         // last value, and where the sum itself is less than that.

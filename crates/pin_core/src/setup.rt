@@ -25,9 +25,6 @@ use scratch_dev::SlotPool;
 use session_table::{MAX_SESSIONS, SessionTable};
 use std::alloc::Global;
 
-// How many pages one call evicts at most: it needs up to 256 blocks, and each page gives one or more.
-const MOST_EVICTED: usize = 256;
-
 // All of a pool but its slots.
 #[derive(Drop)]
 struct Rooms<D> {
@@ -72,9 +69,6 @@ impl<D: Slot + Drop> PoolState<D> {
         let Some(rooms) = Rooms::open(alloc, conf, count) else {
             return Err((slots, Memory));
         };
-        let Ok(evicted) = Vec::with_capacity(alloc, MOST_EVICTED) else {
-            return Err((slots, Memory));
-        };
         let slots = match SlotPool::open(alloc, slots, MAX_SESSIONS) {
             Ok(slots) => slots,
             Err(refused) => return Err(refused),
@@ -82,7 +76,6 @@ impl<D: Slot + Drop> PoolState<D> {
         slots.law_counted();
         Ok(PoolState {
             parts: rooms.with(conf.block_len, conf.profile == 2, slots),
-            evicted,
         })
     }
 
@@ -93,7 +86,7 @@ impl<D: Slot + Drop> PoolState<D> {
         ensures slots { (measure : D → ℕ) → sum_by measure result.items ≡ slots_home measure self }
     {
         self.parts.laws();
-        let PoolState { parts, evicted: _ } = self;
+        let PoolState { parts } = self;
         parts.into_slots().close()
     }
 }

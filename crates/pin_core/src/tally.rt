@@ -14,6 +14,10 @@ pub struct Tally {
     pub stores: u64,
     /// How many of them don't count their stores, or stand at the last value.
     pub uncounted: u64,
+    /// How many of their loads gave another block than the one held, as far as they tell.
+    pub strays: u64,
+    /// How many of them don't tell what they hold or how many of their loads strayed, or stand at the last value.
+    pub unstrayed: u64,
     /// How many of them don't tell what they hold.
     pub silent: u64,
     /// How many they are.

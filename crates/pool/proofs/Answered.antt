@@ -8,6 +8,7 @@ use Rattle.std.specs.List.{All}
 use Rattle.reservation_tree.specs.declared.errors.PoolErr.{PoolErr}
 use Rattle.reservation_tree.proofs.Maps.{get_same, get_other, same_or_other}
 use Rattle.pool_model.specs.State.{Opening}
+use Rattle.pool_model.specs.Legal.{IsLegal}
 use Rattle.turn_table.specs.declared.view.View.{View}
 use Rattle.turn_table.specs.Lists.{needed, same, times, without}
 use Rattle.turn_table.specs.Knowledge.{GrewBeside, NeedsOnly}
@@ -222,9 +223,9 @@ module _ (o : Opening) (told : Bool) (m : ℕ) (before after : List Item) (adds 
   }
 
 -- each session that came did nothing since
-pub come_coming : (o : Opening) (told : Bool) (ask : Ask) (before : List Item) (ms : List ℕ) (after all : List Item) → HaveCome ask before ms after → Adds after all → ask.least ≤ ask.limit → All (IsComing o told all ask) ms
-come_coming o told ask before [] after all come adds fits = All-nil (IsComing o told all ask)
-come_coming o told ask before (m ∷ ms) after all come adds fits =
+pub come_coming : (o : Opening) (told : Bool) (ask : Ask) (before : List Item) (ms : List ℕ) (after all : List Item) → HaveCome ask before ms after → Adds after all → IsLegal o (history all) → ask.least ≤ ask.limit → All (IsComing o told all ask) ms
+come_coming o told ask before [] after all come adds legal fits = All-nil (IsComing o told all ask)
+come_coming o told ask before (m ∷ ms) after all come adds legal fits =
     let now : List Item = before ++ beginning_items m come.0 ask.limit ask.quota ask.least in
     let since : Adds now all = adds_then now after all (come_adds ask now ms after come.3) adds in
     let there : get (quotas_in now) m ≡ Some ask.quota = ap (λ (q : Quotas). get q m) (quotas_begun before m come.0 ask.limit ask.quota ask.least come.2) ∙ get_same (quotas_in before) m ask.quota in
@@ -234,9 +235,10 @@ come_coming o told ask before (m ∷ ms) after all come adds fits =
       fits = fits;
       held = begun_still o told m now all since none (begun o told before m come.0 ask.limit ask.quota ask.least);
       rests = rests_still o told m now all since none (begun_rests o told before m come.0 ask.limit ask.quota ask.least come.1);
+      legal = legal;
       query = come.0;
       own = own_same o told m now all since none ∙ own_first o told before m come.0 ask.limit ask.quota ask.least;
-    }) (come_coming o told ask now ms after all come.3 adds fits)
+    }) (come_coming o told ask now ms after all come.3 adds legal fits)
 
 own_fits : (n : ℕ) (ask : Ask) (left : Left) → 0 < n → first_refusal n ask left ≡ None → ask.least ≤ ask.limit
 own_fits zero ask left some none = absurd (omega (arith, some))
@@ -247,18 +249,18 @@ behind_low zero ask left low = low
 behind_low (suc n) ask left low = behind_low n ask (less ask left) (omega (arith, low))
 
 pub answered_coming : (o : Opening) (told : Bool) (most : ℕ) (asks : List Ask) (left : Left) (before : List Item) (answers : List (Result (List ℕ) PoolErr)) (after : List Item) → left.numbers ≤ 240
-    → All (λ ask. min ask.count 240 ≤ most) asks → All (λ ask. 1 ≤ ask.count) asks → AreAnswered asks left before answers after → AllComing o told after most asks answers
-answered_coming o told most [] left before [] after low few some are = tt
-answered_coming o told most [] left before (r ∷ answers) after low few some are = absurd are
-answered_coming o told most (ask ∷ asks) left before [] after low few some are = absurd are
-answered_coming o told most (ask ∷ asks) left before (Ok ms ∷ answers) after low few some are =
+    → All (λ ask. min ask.count 240 ≤ most) asks → All (λ ask. 1 ≤ ask.count) asks → AreAnswered asks left before answers after → IsLegal o (history after) → AllComing o told after most asks answers
+answered_coming o told most [] left before [] after low few some are legal = tt
+answered_coming o told most [] left before (r ∷ answers) after low few some are legal = absurd are
+answered_coming o told most (ask ∷ asks) left before [] after low few some are legal = absurd are
+answered_coming o told most (ask ∷ asks) left before (Ok ms ∷ answers) after low few some are legal =
     let count : length ms ≡ ask.count = are.1 in
     let here : min ask.count 240 ≤ most = All-head (λ x. min x.count 240 ≤ most) ask asks few in
     let within : ask.count ≤ left.numbers = few_granted ask.count ask left are.0 in
     let lower : (left_behind ask.count ask left).numbers ≤ 240 = behind_low ask.count ask left low in (
       omega (arith, count, here, within, low),
-      come_coming o told ask before ms are.2 after are.3 (answered_adds asks (left_behind ask.count ask left) are.2 answers after are.4) (own_fits ask.count ask left (All-head (λ x. 1 ≤ x.count) ask asks some) are.0),
-      answered_coming o told most asks (left_behind ask.count ask left) are.2 answers after lower (All-tail (λ x. min x.count 240 ≤ most) ask asks few) (All-tail (λ x. 1 ≤ x.count) ask asks some) are.4,
+      come_coming o told ask before ms are.2 after are.3 (answered_adds asks (left_behind ask.count ask left) are.2 answers after are.4) legal (own_fits ask.count ask left (All-head (λ x. 1 ≤ x.count) ask asks some) are.0),
+      answered_coming o told most asks (left_behind ask.count ask left) are.2 answers after lower (All-tail (λ x. min x.count 240 ≤ most) ask asks few) (All-tail (λ x. 1 ≤ x.count) ask asks some) are.4 legal,
     )
-answered_coming o told most (ask ∷ asks) left before (Err e ∷ answers) after low few some are =
-    answered_coming o told most asks left before answers after low (All-tail (λ x. min x.count 240 ≤ most) ask asks few) (All-tail (λ x. 1 ≤ x.count) ask asks some) are.1
+answered_coming o told most (ask ∷ asks) left before (Err e ∷ answers) after low few some are legal =
+    answered_coming o told most asks left before answers after low (All-tail (λ x. min x.count 240 ≤ most) ask asks few) (All-tail (λ x. 1 ≤ x.count) ask asks some) are.1 legal

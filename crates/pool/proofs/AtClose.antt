@@ -1,28 +1,34 @@
 -- A pool whose sessions have ended closes.
-use Rattle.std.proofs.Common.{◌≡◌, ℕ, ◌<◌, Bool, List, [], Option, Some, None, option_map, refl, sym, ap, ◌∙◌, subst, arith}
+use Rattle.std.proofs.Common.{◌≡◌, ℕ, ◌<◌, ◌++◌, Bool, List, [], length, take, drop, Option, Some, None, option_map, refl, sym, ap, ◌∙◌, subst, arith}
 use Rattle.std.specs.Ordering.{nat_cmp}
 use Rattle.std.specs.FinMap.{get, get-empty, empty_of_len}
 use Rattle.std.specs.List.{sum_by}
+use Rattle.std.proofs.lemmas.List.{take-append-drop}
 use Rattle.outside.specs.declared.slot.Slot.{Ghosts}
 use Rattle.pool_model.specs.Owning.{IsClientOf}
 use Rattle.pool_model.specs.State.{Opening, Session}
+use Rattle.pool_model.specs.declared.entry.Entry.{Entry}
+use Rattle.pool_model.specs.Traces.{IsLegalTrace, skeletons}
+use Rattle.pool_model.specs.TraceLaws.{LegalHistoriesHaveTraces, TraceFronts}
 use Rattle.pool_model.proofs.Failures.{PagesOwned, legal_pages_are_owned}
 use Rattle.pin_core.specs.declared.parts.Parts.{Parts}
 use Rattle.pin_core.specs.StateOf.{state_of}
 use Rattle.pin_core.specs.Standing.{slots_home}
 use Rattle.pin_core.specs.declared.tally.Tally.{Tally}
-use Rattle.pin_core.specs.Tallies.{Counted, all_failures, silence, tally_of, written_blocks}
+use Rattle.pin_core.specs.Tallies.{Counted, all_failures, all_stale, silence, tally_of, written_blocks}
 use Rattle.pin_core.proofs.Tallied.{tally_same}
 use Rattle.turn_table.specs.Lists.{times}
 use Rattle.turn_table.specs.Knowledge.{GrewBeside}
 use Rattle.turn_table.specs.Face.{Spot}
+use Rattle.session_calls.specs.declared.trace.Trace.{Trace}
+use Rattle.session_calls.specs.Kept.{IsTraceOf}
 use Rattle.session_calls.specs.Having.{Sight}
 use Rattle.session_calls.specs.Moving.{slots_out}
 use Rattle.session_calls.specs.Outgoing.{opening_tally, tally_whole}
 use Rattle.pool.specs.declared.item.Item.{Item}
-use Rattle.pool.specs.Items.{door, needs_of}
+use Rattle.pool.specs.Items.{door, history, needs_of}
 use Rattle.pool.specs.Seats.{Quotas, live_in, quotas_in}
-use Rattle.pool.specs.Opening.{ClosesWith}
+use Rattle.pool.specs.Opening.{ClosesTraced, ClosesWith}
 use Rattle.pool.specs.Standing.{StandsAs}
 use Rattle.pool.proofs.Beside.{quotas_beside}
 use Rattle.pool.proofs.Summed.{none_out, ones, whole_home}
@@ -73,6 +79,22 @@ module _ {D : Type 0} (slot : Ghosts D) (o : Opening) (told : Bool) (first : Tal
       counted =
           let same : tally_whole slot sight.counts v ≡ tally_of slot slots =
           whole_home slot sight.counts v no_page ∙ tally_same slot (λ measure. slots_home measure v) (λ measure. sum_by measure slots) (λ measure. sym (home measure)) in
-          subst (λ (z : Sight). Counted (all_failures z.trail) (written_blocks z.trail) (opening_tally z.counts) (tally_of slot slots)) stood.sight_is
-          (subst (Counted (all_failures sight.trail) (written_blocks sight.trail) (opening_tally sight.counts)) same stood.whole.sums.counted);
+          subst (λ (z : Sight). Counted (all_failures z.trail) (written_blocks z.trail) (all_stale z.trail) (opening_tally z.counts) (tally_of slot slots)) stood.sight_is
+          (subst (Counted (all_failures sight.trail) (written_blocks sight.trail) (all_stale sight.trail) (opening_tally sight.counts)) same stood.whole.sums.counted);
     }
+
+    -- and the trace is that of a legal history, cut
+    pub closed_traced : (slots : List D) → ((measure : D → ℕ) → sum_by measure slots ≡ slots_home measure v) → (trace : Trace) → IsTraceOf sight.trail trace → LegalHistoriesHaveTraces → TraceFronts
+        → ClosesTraced slot o told first pass slots trace
+    unfolding closed_with
+    closed_traced slots home trace is legal fronts =
+        let same : history log ≡ sight.trail = sym (ap (λ (z : Sight). z.trail) stood.sight_is) in
+        let all = skeletons (history log) in
+        let its : IsTraceOf (history log) trace = subst (λ (h : List Entry). IsTraceOf h trace) (sym same) is in
+        let count = length trace.entries.items in
+        record {
+          closes = closed_with slots home;
+          entries = its;
+          legal = subst (IsLegalTrace o) (sym its.first)
+              (fronts o (take count all) (drop count all) (subst (IsLegalTrace o) (sym (take-append-drop count all)) (legal o (history log) (legal_here slot o told first log sight v stood))));
+        }

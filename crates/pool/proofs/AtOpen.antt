@@ -43,7 +43,7 @@ module _ {D : Type 0} (slot : Ghosts D) (o : Opening) (told : Bool) (first : Tal
       let same : tally_whole slot counts v ≡ tally_of slot slots =
       whole_home slot counts v (λ p. ap (λ (s : State). get s.pages p) stood.state ∙ get-empty nat_cmp p)
       ∙ tally_same slot (λ measure. slots_home measure v) (λ measure. sum_by measure slots) home in
-      let here : CountsWhole slot [] counts v = record { pages = refl; counted = subst (Counted 0 0 (tally_of slot slots)) (sym same) (uncounted_yet (tally_of slot slots)) } in
+      let here : CountsWhole slot [] counts v = record { pages = refl; counted = subst (Counted 0 0 0 (tally_of slot slots)) (sym same) (uncounted_yet (tally_of slot slots)) } in
       subst (λ (h : List Entry). CountsWhole slot h sight.counts v) (sym none) (subst (λ (cs : List Count). CountsWhole slot [] cs v) (sym begun) here)
 
   pub stands_open : (conf : PoolConf) (slots : List D) (sight : Sight) (v : Parts D) → OpensAs slot conf slots o told first → sight.trail ≡ [] → sight.counts ≡ count.Opening (tally_of slot slots) ∷ []

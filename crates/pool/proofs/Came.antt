@@ -9,6 +9,7 @@ use Rattle.outside.specs.declared.slot.Slot.{Ghosts}
 use Rattle.reservation_tree.specs.Total.{total}
 use Rattle.reservation_tree.specs.declared.errors.PoolErr.{PoolErr}
 use Rattle.pool_model.specs.State.{Opening, Session, State}
+use Rattle.pool_model.specs.Legal.{IsLegal}
 use Rattle.pin_core.specs.declared.parts.Parts.{Parts}
 use Rattle.pin_core.specs.declared.tally.Tally.{Tally}
 use Rattle.pin_core.specs.StateOf.{state_of}
@@ -159,11 +160,12 @@ module _ (o : Opening) {free ticket : ℕ} {pass : Spot Item} {now : View Item} 
       held : HasBegun o.block_len told limit quota least (held_by o told sitting)
       held = subst (λ (items : List Item). HasBegun o.block_len told limit quota least (held_in o (shared told) m (history items))) (sym seen_seat) (begun o told now.seen m query limit quota least)
 
-      came_sits : Sits o told sitting
-      came_sits = record {
+      came_sits : IsLegal o (history whole) → Sits o told sitting
+      came_sits legal = record {
         idle = ap (λ (w : View Item). w.stage) comes;
         right = ap (λ (w : View Item). w.rights) comes;
         rests = subst (λ (items : List Item). IsResting o (shared told) m (history items)) (sym seen_seat) (begun_rests o told now.seen m query limit quota least few);
+        legal = subst (λ (items : List Item). IsLegal o (history items)) (sym seen_seat) legal;
       }
 
       enough : (MustTurnAway (state_of v) limit least → ⊥) → least ≤ limit
@@ -172,10 +174,10 @@ module _ (o : Opening) {free ticket : ℕ} {pass : Spot Item} {now : View Item} 
         | inr fits ↦ fits
       ]
 
-      pub came_keeps : (MustTurnAway (state_of v) limit least → ⊥) → (block_len : ℕ) → IsBlockLen block_len → block_len ≡ o.block_len
+      pub came_keeps : IsLegal o (history whole) → (MustTurnAway (state_of v) limit least → ⊥) → (block_len : ℕ) → IsBlockLen block_len → block_len ≡ o.block_len
           → (ledger : Ledger) → ledger.room ≡ least → ledger.accounts ≡ [] → KeepsSeat o told block_len ledger sitting
-      came_keeps granted block_len power len ledger room none = record {
-        sits = came_sits;
+      came_keeps legal granted block_len power len ledger room none = record {
+        sits = came_sits legal;
         power = power;
         len = len;
         tells = begun_tells held ledger room none;

@@ -1,16 +1,21 @@
 -- A session's turn: what it has in hand at first, and what it did when the turn is over.
-use Rattle.std.proofs.Common.{filter, ◌≡◌, ℕ, ◌<◌, ◌≤◌, List, [], ◌∷◌, ◌++◌, Bool, false, is_some, length, Result, Ok, Err, IfOk, IsErr, OnOk, None, option_map, inl, inr, sym, ap, ◌∙◌, subst, arith}
+use Rattle.std.proofs.Common.{filter, ◌≡◌, ℕ, ◌<◌, ◌≤◌, List, [], ◌∷◌, ◌++◌, Bool, false, is_some, length, Result, Ok, Err, IfOk, IfErr, IsErr, OnOk, OnErr, Option, None, option_map, inl, inr, sym, ap, ◌∙◌, subst, arith}
 use Rattle.std.proofs.lemmas.Bool.{cases_lt, false≢true}
 use Rattle.std.proofs.lemmas.List.Elements.{filter-append}
 use Rattle.std.proofs.lemmas.List.{append_assoc, append-nil}
 use Rattle.atomic_table.specs.Seated.{TableId}
 use Rattle.client_accounts.specs.Unused.{unused_in}
 use Rattle.outside.specs.declared.slot.Slot.{Ghosts}
+use Rattle.reservation_tree.specs.declared.errors.PoolErr.{PoolErr}
+use Rattle.reservation_tree.specs.Answer.{IsFrom}
+use Rattle.reservation_tree.specs.Change.{Refusal}
 use Rattle.pool_model.specs.declared.event.Event.{Event}
 use Rattle.pool_model.specs.declared.entry.Entry.{Entry}
-use Rattle.pool_model.specs.State.{Opening}
+use Rattle.pool_model.specs.State.{Opening, State}
+use Rattle.pool_model.specs.Legal.{IsLegal, state_after}
 use Rattle.pool_model.specs.LookingBack.{is_by, made_by}
 use Rattle.pin_core.specs.declared.tally.Tally.{Tally}
+use Rattle.pin_core.specs.StateOf.{state_of}
 use Rattle.store_api.specs.Tokens.{ClientToken}
 use Rattle.store_api.specs.Holdings.{Holdings}
 use Rattle.store_api.specs.Entries.{by}
@@ -111,6 +116,7 @@ module _ {D : Type 0} (slot : Ghosts D) (o : Opening) (told : Bool) (first : Tal
       idle = ap (λ (v : View Item). v.stage) grows;
       right = ap (λ (v : View Item). v.rights) grows ∙ may.rights;
       rests = subst (IsResting o (shared told) hand.session) (sym seen_now) may.ready.rests;
+      legal = subst (IsLegal o) (sym seen_now) may.ready.whole.stands.legal;
     };
     tells = subst (TellsHeld after) held_now tells;
     fits = subst FitsHeld held_now fits;
@@ -192,6 +198,13 @@ module _ {D : Type 0} {slot : Ghosts D} {o : Opening} {told : Bool} {tally : Tal
               ∙ ap (λ (m : ℕ). filter (is_by was.number) (by m acts.events)) begun.session ∙ by_own was.number acts.events;
         });
       }
+
+      -- what refused a call by what the value had, does by what was seen then
+      pub refused_as_seen : {A : Type 0} (rule : State → Option Refusal) (r : Result A PoolErr) → OnErr r (next ≡ hand) → IfErr r (IsFrom (rule (state_of hand.state))) → IfErr r (IsFrom (rule (state_after o (history now.knows.seen))))
+      refused_as_seen rule (Ok x) same cause = tt
+      refused_as_seen rule (Err e) same cause =
+          subst (λ (s : State). IsFrom (rule s) e)
+          (begun.ready.whole.stands.state ∙ ap (state_after o) (ap (λ (h : Hand D). h.trail) (sym same) ∙ sym ended.seen)) cause
 
       pub sits_on : {P : List Event → Type 0} {block_len : ℕ} {first : Ledger} → Acts P hand next → KeepsSeat o told block_len first was → KeepsSeat o told block_len ledger (record { number = was.number; spot = now })
       sits_on {P} {block_len} acts kept =

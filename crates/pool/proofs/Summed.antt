@@ -29,20 +29,21 @@ none_counted number counts pages none =
 plus_none : (a b : ℕ) → b ≡ 0 → a + b ≡ a
 plus_none a b is = omega (arith, is)
 
-abbrev tally : ℕ → ℕ → ℕ → ℕ → ℕ → ℕ → Tally
-tally a b c d e f = record { faults = a; stuck = b; stores = c; uncounted = d; silent = e; slots = f }
+abbrev tally : ℕ → ℕ → ℕ → ℕ → ℕ → ℕ → ℕ → ℕ → Tally
+tally a b c d e f g h = record { faults = a; stuck = b; stores = c; uncounted = d; strays = e; unstrayed = f; silent = g; slots = h }
 
-tally_alone : (t u : Tally) → u.faults ≡ 0 → u.stuck ≡ 0 → u.stores ≡ 0 → u.uncounted ≡ 0 → u.silent ≡ 0 → u.slots ≡ 0 → tally_plus t u ≡ t
-tally_alone t u faults stuck stores uncounted silent slots = λ i.
+tally_alone : (t u : Tally) → u.faults ≡ 0 → u.stuck ≡ 0 → u.stores ≡ 0 → u.uncounted ≡ 0 → u.strays ≡ 0 → u.unstrayed ≡ 0 → u.silent ≡ 0 → u.slots ≡ 0 → tally_plus t u ≡ t
+tally_alone t u faults stuck stores uncounted strays unstrayed silent slots = λ i.
     tally (plus_none t.faults u.faults faults i) (plus_none t.stuck u.stuck stuck i) (plus_none t.stores u.stores stores i)
-    (plus_none t.uncounted u.uncounted uncounted i) (plus_none t.silent u.silent silent i) (plus_none t.slots u.slots slots i)
+    (plus_none t.uncounted u.uncounted uncounted i) (plus_none t.strays u.strays strays i) (plus_none t.unstrayed u.unstrayed unstrayed i)
+    (plus_none t.silent u.silent silent i) (plus_none t.slots u.slots slots i)
 
 -- and all slots count what those at home do
 pub whole_home : {D : Type 0} (slot : Ghosts D) (counts : List Count) (v : Parts D) → ((p : ℕ) → get (state_of v).pages p ≡ None) → tally_whole slot counts v ≡ tally_in slot v
 whole_home slot counts v none =
     let out : (number : Tally → ℕ) → number_out number counts (state_of v).pages ≡ 0 = λ number. none_counted number counts (state_of v).pages none in
     tally_alone (tally_in slot v) (tally_out counts (state_of v).pages)
-    (out (λ t. t.faults)) (out (λ t. t.stuck)) (out (λ t. t.stores)) (out (λ t. t.uncounted)) (out (λ t. t.silent)) (out (λ t. t.slots))
+    (out (λ t. t.faults)) (out (λ t. t.stuck)) (out (λ t. t.stores)) (out (λ t. t.uncounted)) (out (λ t. t.strays)) (out (λ t. t.unstrayed)) (out (λ t. t.silent)) (out (λ t. t.slots))
 
 -- how many there are
 pub ones : {D : Type 0} (slots : List D) → sum_by (λ d. 1) slots ≡ length slots

@@ -4,12 +4,15 @@ use Rattle.std.specs.List.{AllByRecursion, sum_by}
 use Rattle.outside.specs.declared.slot.Slot.{Ghosts}
 use Rattle.pool_model.specs.State.{Opening}
 use Rattle.pool_model.specs.Legal.{IsLegal}
+use Rattle.pool_model.specs.Traces.{IsLegalTrace}
 use Rattle.pin_core.specs.declared.conf.PoolConf.{PoolConf}
 use Rattle.pin_core.specs.Setup.{IsOpeningOf}
 use Rattle.pin_core.specs.declared.tally.Tally.{Tally}
-use Rattle.pin_core.specs.Tallies.{Counted, all_failures, silence, tally_of, written_blocks}
+use Rattle.pin_core.specs.Tallies.{Counted, all_failures, all_stale, silence, tally_of, written_blocks}
 use Rattle.turn_table.specs.Knowledge.{GrewBeside}
 use Rattle.turn_table.specs.Face.{Spot}
+use Rattle.session_calls.specs.declared.trace.Trace.{Trace}
+use Rattle.session_calls.specs.Kept.{IsTraceOf}
 use Rattle.pool.specs.declared.item.Item.{Item}
 use Rattle.pool.specs.Items.{history, needs_of}
 use Rattle.pool.specs.Standing.{IsMarked}
@@ -31,4 +34,10 @@ module _ {D : Type 0} (slot : Ghosts D) where
     pub marked : AllByRecursion IsMarked items
     pub count : length slots ≡ o.slots
     pub tell : told ≡ true → sum_by (silence slot) slots ≡ 0
-    pub counted : Counted (all_failures (history items)) (written_blocks (history items)) first (tally_of slot slots)
+    pub counted : Counted (all_failures (history items)) (written_blocks (history items)) (all_stale (history items)) first (tally_of slot slots)
+
+  -- and with this trace, which is legal: it has the first entries of the history, and tells whether there were more
+  pub record ClosesTraced (o : Opening) (told : Bool) (first : Tally) (pass : Spot Item) (slots : List D) (trace : Trace) : Type 0 where
+    pub closes : ClosesWith o told first pass slots
+    pub entries : IsTraceOf (history closes.items) trace
+    pub legal : IsLegalTrace o trace.entries.items

@@ -5,6 +5,7 @@ use Rattle.std.specs.List.{All}
 use Rattle.atomic_table.specs.Seated.{TableId}
 use Rattle.reservation_tree.specs.declared.errors.PoolErr.{PoolErr}
 use Rattle.pool_model.specs.State.{Opening}
+use Rattle.pool_model.specs.Legal.{IsLegal}
 use Rattle.turn_table.specs.declared.view.View.{View}
 use Rattle.turn_table.specs.Lists.{times, without}
 use Rattle.turn_table.specs.Steps.{parted}
@@ -25,6 +26,7 @@ pub record IsComing (o : Opening) (told : Bool) (items : List Item) (ask : Ask) 
   pub fits : ask.least ≤ ask.limit
   pub held : HasBegun o.block_len told ask.limit ask.quota ask.least (held_in o (shared told) m (history items))
   pub rests : IsResting o (shared told) m (history items)
+  pub legal : IsLegal o (history items)
   pub query : ℕ
   pub own : own_in m items ≡ history (beginning_items m query ask.limit ask.quota ask.least)
 

@@ -4,6 +4,7 @@ use Rattle.reservation_tree.specs.declared.errors.PoolErr.{PoolErr}
 use Rattle.pool_model.specs.State.{Opening}
 use Rattle.pool_model.specs.declared.call.Call.{Call}
 use Rattle.pool_model.specs.declared.event.Event.{Event}
+use Rattle.pool_model.specs.Legal.{IsLegal}
 use Rattle.store_api.specs.Holdings.{Holdings, Shared}
 use Rattle.store_api.specs.Signs.{Grows, Signs}
 use Rattle.store_api.specs.Refusals.{WasRefused}
@@ -33,11 +34,12 @@ held_by o told s = held_in o (shared told) s.number (history s.spot.knows.seen)
 abbrev pub signs_by : Opening → Sitting → Signs
 signs_by o s = signs_in o s.number (history s.spot.knows.seen)
 
--- a live session between two turns, which has the right of its number
+-- a live session between two turns, which has the right of its number and has seen a legal history
 pub record Sits (o : Opening) (told : Bool) (s : Sitting) : Type 0 where
   pub idle : IsIdle s.spot.knows
   pub right : s.spot.knows.rights ≡ s.number ∷ []
   pub rests : IsResting o (shared told) s.number (history s.spot.knows.seen)
+  pub legal : IsLegal o (history s.spot.knows.seen)
 
 -- the session did what this says, whatever others did
 pub record Did (P : List Event → Type 0) (old new : Sitting) : Type 0 where

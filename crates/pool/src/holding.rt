@@ -32,6 +32,7 @@ pub(crate) fn take_hand<D: Slot + Drop, T: OpenedAs, R: Wait>(
         state,
         trail,
         counts,
+        gone,
         stopped,
         first: _,
     } = turns.enter(rt, &mut place.seat);
@@ -41,6 +42,7 @@ pub(crate) fn take_hand<D: Slot + Drop, T: OpenedAs, R: Wait>(
         trail,
         counts,
         session: number,
+        gone,
     }
 }
 
@@ -61,11 +63,13 @@ pub(crate) fn give_hand<D: Slot + Drop, T: OpenedAs>(
         trail,
         counts,
         session,
+        gone,
     } = hand;
     let shared = Shared {
         state,
         trail,
         counts,
+        gone,
         stopped: place.stopped,
         first: PhantomData,
     };
@@ -83,7 +87,7 @@ fn leave_made<N: Adds<Item>, D: Slot + Drop, T: OpenedAs>(
     requires table { seat.old.table ≡ turns.now }
     requires turn { HasTurn seat.old.knows }
     requires stop { shared.stopped ≡ is_stopped seat.old.knows.seen }
-    requires gives { Gives D.Slot T.opening T.told T.first seat.old (record { state = shared.state; trail = shared.trail; counts = shared.counts; session = _session }) }
+    requires gives { Gives D.Slot T.opening T.told T.first seat.old (record { state = shared.state; trail = shared.trail; counts = shared.counts; session = _session; gone = shared.gone }) }
     ensures table { seat.new.table ≡ turns.now }
     ensures grown { seat.new.knows ≡ grown (made_since _session seat.old.knows.seen (record { trail = shared.trail; counts = shared.counts })) seat.old.knows }
 {

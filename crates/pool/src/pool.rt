@@ -4,7 +4,7 @@ ghost use Rattle.std.specs.List.{All, sum_by};
 ghost use Rattle.std.specs.Option.{ForSome};
 ghost use Rattle.pin_core.specs.Setup.{OpensWith};
 ghost use Rattle.pool.specs.Items.{all_rights};
-ghost use Rattle.pool.specs.Opening.{ClosesWith, OpensAs};
+ghost use Rattle.pool.specs.Opening.{ClosesTraced, ClosesWith, OpensAs};
 ghost use Rattle.pool.specs.Passing.{writers_out};
 ghost use Rattle.pool.specs.Seats.{live_in, taken_in};
 ghost use Rattle.pool.specs.Seating.{Begins, TurnsAway};
@@ -23,9 +23,10 @@ use crate::shared::Shared;
 use crate::together::seat_sessions;
 use client_accounts::ClientAccounts;
 use outside::Slot;
-use pin_core::{PoolConf, PoolState};
+use pin_core::{EvictedPages, PoolConf, PoolState};
+use pool_model::law_traces;
 use reservation_tree::{Memory, PoolErr};
-use session_calls::count_opening;
+use session_calls::{Log, Trace, count_opening};
 use std::alloc::Global;
 use std::marker::{Brand, Model, PhantomData};
 use std::sync::Wait;
@@ -72,10 +73,13 @@ impl<D: Slot + Drop, T: OpenedAs> Pool<D, T> {
         ensures back { IfErr result (λ e. (measure : D → ℕ) → sum_by measure e.0.items ≡ sum_by measure slots.items) }
     {
         let spare = slots.len() as u32;
-        let Ok(trail) = Solo::open(alloc) else {
+        let Ok(trail) = Log::open(alloc, conf.trace) else {
             return Err((slots, Memory));
         };
         let Ok(mut counts) = Solo::open(alloc) else {
+            return Err((slots, Memory));
+        };
+        let Ok(gone) = EvictedPages::open(alloc) else {
             return Err((slots, Memory));
         };
         count_opening(&mut counts, slots.as_slice());
@@ -87,6 +91,7 @@ impl<D: Slot + Drop, T: OpenedAs> Pool<D, T> {
             state,
             trail,
             counts,
+            gone,
             stopped: false,
             first: PhantomData,
         };
@@ -201,5 +206,30 @@ impl<D: Slot + Drop, T: OpenedAs> Pool<D, T> {
         } = self;
         let Pass { seat, spare: _ } = pass;
         turns.close(seat).state.close()
+    }
+
+    /// The same, with the first entries of the pool's history, as many as it was opened to keep, and whether there were
+    /// more. How many it was opened to keep, contracts don't tell.
+    pub fn close_traced(self, pass: Pass<D, T>) -> (Vec<D>, Trace)
+        requires table { pass.table ≡ self }
+        requires none { live_in pass.knows.seen ≡ 0 }
+        requires no_writer { writers_out pass ≡ 0 }
+        ensures { ClosesTraced D.Slot T.opening T.told T.first pass result.0.items result.1 }
+    {
+        let Pool {
+            turns,
+            block_len: _,
+        } = self;
+        let Pass { seat, spare: _ } = pass;
+        let Shared {
+            state,
+            trail,
+            counts: _,
+            gone: _,
+            stopped: _,
+            first: _,
+        } = turns.close(seat);
+        law_traces();
+        (state.close(), trail.into_trace())
     }
 }

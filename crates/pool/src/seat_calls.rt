@@ -1,12 +1,15 @@
 //! The calls of a session that take one turn.
 ghost use Rattle.std.specs.Prelude.{◌≡◌, ◌↔◌, ◌≤◌, [], ◌∷◌, None, Err, IsErr, IfOk, IfErr, IfSome, IfNone, OnOk, OnErr};
+ghost use Rattle.reservation_tree.specs.Answer.{IsFrom};
 ghost use Rattle.reservation_tree.specs.declared.errors.PoolErr.TheVariants as refusal;
 ghost use Rattle.pool_model.specs.declared.event.Event.TheVariants as event;
 ghost use Rattle.store_api.specs.Holdings.{account_of, page_of};
 ghost use Rattle.store_api.specs.Changes.{query_growth, shortfall};
 ghost use Rattle.store_api.specs.Conditions.{Fits, IsIdle, IsLiveClient, IsLoan, IsPage};
 ghost use Rattle.store_api.specs.Refusals.{IsScratchFull, IsSharedRefusal, LacksSlots, reserve_refusal};
+ghost use Rattle.pin_core.specs.Entering.{fit_refusal, growth_refusal};
 ghost use Rattle.session_calls.specs.Coming.{IsFresh};
+ghost use Rattle.pool.specs.Seating.{state_in};
 ghost use Rattle.pool.specs.Sitting.{Did, DidThese, held_by};
 
 use crate::opened::{Among, OpenedAs};
@@ -72,6 +75,7 @@ impl<D: Slot + Drop, T: OpenedAs> SessionSeat<D, T> {
         ensures ok { OnOk result (DidThese (event.Increase c.now.tracker bytes ∷ []) self.old self.new) }
         ensures refused { IfSome (reserve_refusal c.now.tracker bytes (held_by T.opening T.told self.old)) (λ e. result ≡ Err e) }
         ensures shared { IfNone (reserve_refusal c.now.tracker bytes (held_by T.opening T.told self.old)) (IfErr result (IsSharedRefusal (query_growth bytes (held_by T.opening T.told self.old)) (held_by T.opening T.told self.old).above)) }
+        ensures cause { IfErr result (IsFrom (growth_refusal (state_in T.opening self.new.spot.knows.seen) c.now.tracker bytes)) }
         ensures err { OnErr result (DidThese [] self.old self.new) }
     {
         let mut hand = begin_turn(rt, turns, &mut self.spot, self.number);
@@ -94,6 +98,7 @@ impl<D: Slot + Drop, T: OpenedAs> SessionSeat<D, T> {
         ensures ok { OnOk result (DidThese (event.IncreaseToFit c.now.tracker bytes ∷ []) self.old self.new) }
         ensures refused { IfSome (reserve_refusal c.now.tracker (shortfall c.now.tracker bytes (held_by T.opening T.told self.old)) (held_by T.opening T.told self.old)) (λ e. result ≡ Err e) }
         ensures shared { IfNone (reserve_refusal c.now.tracker (shortfall c.now.tracker bytes (held_by T.opening T.told self.old)) (held_by T.opening T.told self.old)) (IfErr result (IsSharedRefusal (query_growth (shortfall c.now.tracker bytes (held_by T.opening T.told self.old)) (held_by T.opening T.told self.old)) (held_by T.opening T.told self.old).above)) }
+        ensures cause { IfErr result (IsFrom (fit_refusal (state_in T.opening self.new.spot.knows.seen) c.now.tracker bytes)) }
         ensures err { OnErr result (DidThese [] self.old self.new) }
     {
         let mut hand = begin_turn(rt, turns, &mut self.spot, self.number);

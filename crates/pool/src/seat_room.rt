@@ -1,7 +1,9 @@
 //! The calls of a session that need room of a client, and those that may have to wait for a page.
 ghost use Rattle.std.specs.Prelude.{◌≡◌, ◌≢◌, ◌≤◌, [], ◌∷◌, Err, IfErr, IfNone, IfOk, IfSome, OnOk};
+ghost use Rattle.reservation_tree.specs.declared.errors.PoolErr.TheVariants as refusal;
 ghost use Rattle.pool_model.specs.declared.call.Call.TheVariants as call;
 ghost use Rattle.pool_model.specs.declared.event.Event.TheVariants as event;
+ghost use Rattle.pool_model.specs.Sums.{HasRoom};
 ghost use Rattle.store_api.specs.Holdings.{loan_len, length_of, page_len, page_of, unused_of};
 ghost use Rattle.store_api.specs.Conditions.{IsBlockCount, IsHeld, IsLiveClient, IsLoan, IsPage, ShowsLeft};
 ghost use Rattle.store_api.specs.Entries.{IsAsked, IsPin, IsTaken};
@@ -9,6 +11,9 @@ ghost use Rattle.store_api.specs.Refusals.{move_refusal};
 ghost use Rattle.session_calls.specs.Coming.{IsFreshLoan};
 ghost use Rattle.session_calls.specs.Pinning.{CanBePinned};
 ghost use Rattle.session_calls.specs.Coming.{IsFreshPage};
+ghost use Rattle.session_calls.specs.Showing.{ShowsStored};
+ghost use Rattle.pool.specs.Items.{history};
+ghost use Rattle.pool.specs.Seating.{state_in};
 ghost use Rattle.pool.specs.Sitting.{Did, DidThese, WasDeclined, held_by, signs_by};
 
 use crate::at_gate::Points;
@@ -108,6 +113,9 @@ impl<D: Slot + Drop, T: OpenedAs> SessionSeat<D, T> {
         ensures ok { IfOk result (λ made. Did (IsTaken c.now.tracker (held_by T.opening T.told self.old) (event.Create made.0.name c.now.tracker blocks made.0.key ∷ [])) self.old self.new) }
         ensures page { IfOk result (λ made. IsFreshPage c.now.tracker blocks made (held_by T.opening T.told self.old) (signs_by T.opening self.old)) }
         ensures err { IfErr result (WasDeclined T.opening T.told c.now.tracker (call.Create c.now.tracker blocks) self.old self.new) }
+
+        // Names are looked at once there is room.
+        ensures spent { result ≡ Err refusal.NamesSpent → HasRoom (state_in T.opening self.new.spot.knows.seen) c.now.tracker bytes }
     {
         let lock = Lock { rt, turns, at };
         let hand = begin_turn(rt, turns, &mut self.spot, self.number);
@@ -173,6 +181,7 @@ impl<D: Slot + Drop, T: OpenedAs> SessionSeat<D, T> {
         ensures table { self.new.spot.table ≡ turns.now }
         ensures ok { OnOk result (Did (IsPin p.now.client (held_by T.opening T.told self.old) p.now.name) self.old self.new) }
         ensures bytes { IfOk result (ShowsLeft (page_of p.now.name (held_by T.opening T.told self.old)) (held_by T.opening T.told self.old)) }
+        ensures stored { IfOk result (ShowsStored T.opening (history self.new.spot.knows.seen) p.now.name (page_of p.now.name (held_by T.opening T.told self.old))) }
         ensures err { IfErr result (WasDeclined T.opening T.told p.now.client (call.Pin p.now.name) self.old self.new) }
     {
         let lock = Lock { rt, turns, at };

@@ -1,9 +1,22 @@
 //! A session of a shared pool, as a store.
-ghost use Rattle.std.specs.Prelude.{◌≡◌};
+ghost use Rattle.std.specs.Prelude.{◌≡◌, ◌≤◌, [], ◌∷◌, Err, IfErr, IfNone, IfOk, IfSome, OnErr, OnOk};
 ghost use Rattle.std.specs.Option.{ForSome};
+ghost use Rattle.reservation_tree.specs.Answer.{IsFrom};
+ghost use Rattle.pool_model.specs.declared.call.Call.TheVariants as call;
+ghost use Rattle.pool_model.specs.declared.event.Event.TheVariants as event;
+ghost use Rattle.store_api.specs.Holdings.{page_len, page_of, unused_of};
+ghost use Rattle.store_api.specs.Changes.{after_pin, after_reserve, query_growth, shortfall};
+ghost use Rattle.store_api.specs.Conditions.{IsLiveClient, IsPage, ShowsLeft};
+ghost use Rattle.store_api.specs.Entries.{IsPin, Made, MadeThese};
+ghost use Rattle.store_api.specs.Refusals.{IsSharedRefusal, IsUntouched, WasRefused, reserve_refusal};
+ghost use Rattle.store_api.specs.Signs.{Grows};
+ghost use Rattle.pin_core.specs.Entering.{fit_refusal, growth_refusal};
 ghost use Rattle.own_entries.specs.ClientLaws.{IsWholeIdle};
+ghost use Rattle.session_calls.specs.Showing.{ShowsStored};
+ghost use Rattle.session_calls.specs.Throughout.{FitsThroughout};
+ghost use Rattle.pool.specs.Items.{history};
 ghost use Rattle.pool.specs.Sitting.{Sits, held_by, signs_by};
-ghost use Rattle.pool.specs.Seating.{Ends};
+ghost use Rattle.pool.specs.Seating.{Ends, state_in};
 
 use crate::at_gate::AtGate;
 use crate::ending::unseat_session;
@@ -81,9 +94,18 @@ impl<'a, D: Slot + Drop, R: Wait, T: OpenedAs, N: At, G: Gate> Session<'a, D, R,
         ensures { ForSome N.table (λ table. self.now.seat.spot.table ≡ table) }
     {}
 
-    /// The session sits, and has the right of its number alone.
+    /// The session sits, has the right of its number alone, and has seen a legal history.
     pub fn law_sits(&self)
         ensures { Sits T.opening T.told self.now.seat }
+    {
+        self.seat.law_sits();
+    }
+
+    /// At each entry of what the session has seen, each tracker's charges and its children's reservations fit its
+    /// reservation, and that fits its limit; what each client holds fits its reservation; and what is in memory fits
+    /// the pool.
+    pub fn law_throughout(&self)
+        ensures { FitsThroughout T.opening (history self.now.seat.spot.knows.seen) }
     {
         self.seat.law_sits();
     }
@@ -144,14 +166,38 @@ impl<'a, D: Slot + Drop, R: Wait, T: OpenedAs, N: At, G: Gate> Store
         seat.law_whole();
     }
 
-    fn reserve(&mut self, c: &Client, bytes: u64) -> Result<(), PoolErr> {
+    fn reserve(&mut self, c: &Client, bytes: u64) -> Result<(), PoolErr>
+        requires { IsLiveClient c.now (held_by T.opening T.told self.old.seat) }
+        ensures ok { OnOk result (held_by T.opening T.told self.new.seat ≡ after_reserve c.now.tracker bytes (held_by T.opening T.told self.old.seat)) }
+        ensures refused { IfSome (reserve_refusal c.now.tracker bytes (held_by T.opening T.told self.old.seat)) (λ e. result ≡ Err e) }
+        ensures shared { IfNone (reserve_refusal c.now.tracker bytes (held_by T.opening T.told self.old.seat)) (IfErr result (IsSharedRefusal (query_growth bytes (held_by T.opening T.told self.old.seat)) (held_by T.opening T.told self.old.seat).above)) }
+
+        // A refusal is the one that the rule of growth gives in what the session has seen.
+        ensures cause { IfErr result (IsFrom (growth_refusal (state_in T.opening self.new.seat.spot.knows.seen) c.now.tracker bytes)) }
+        ensures err { OnErr result (IsUntouched (held_by T.opening T.told self.old.seat) (held_by T.opening T.told self.new.seat) (signs_by T.opening self.old.seat) (signs_by T.opening self.new.seat)) }
+
+        ensures grows { Grows (signs_by T.opening self.old.seat) (signs_by T.opening self.new.seat) }
+        ensures entries { OnOk result (MadeThese (held_by T.opening T.told self.old.seat).session (event.Increase c.now.tracker bytes ∷ []) (signs_by T.opening self.old.seat) (signs_by T.opening self.new.seat)) }
+    {
         let seat = &mut self.seat;
         let result = seat.reserve(self.rt, self.turns, c, bytes);
         seat.law_whole();
         result
     }
 
-    fn reserve_to_fit(&mut self, c: &Client, bytes: u64) -> Result<(), PoolErr> {
+    fn reserve_to_fit(&mut self, c: &Client, bytes: u64) -> Result<(), PoolErr>
+        requires { IsLiveClient c.now (held_by T.opening T.told self.old.seat) }
+        ensures ok { OnOk result (held_by T.opening T.told self.new.seat ≡ after_reserve c.now.tracker (shortfall c.now.tracker bytes (held_by T.opening T.told self.old.seat)) (held_by T.opening T.told self.old.seat)) }
+        ensures refused { IfSome (reserve_refusal c.now.tracker (shortfall c.now.tracker bytes (held_by T.opening T.told self.old.seat)) (held_by T.opening T.told self.old.seat)) (λ e. result ≡ Err e) }
+        ensures shared { IfNone (reserve_refusal c.now.tracker (shortfall c.now.tracker bytes (held_by T.opening T.told self.old.seat)) (held_by T.opening T.told self.old.seat)) (IfErr result (IsSharedRefusal (query_growth (shortfall c.now.tracker bytes (held_by T.opening T.told self.old.seat)) (held_by T.opening T.told self.old.seat)) (held_by T.opening T.told self.old.seat).above)) }
+
+        // A refusal is the one that the rule of growth gives in what the session has seen.
+        ensures cause { IfErr result (IsFrom (fit_refusal (state_in T.opening self.new.seat.spot.knows.seen) c.now.tracker bytes)) }
+        ensures err { OnErr result (IsUntouched (held_by T.opening T.told self.old.seat) (held_by T.opening T.told self.new.seat) (signs_by T.opening self.old.seat) (signs_by T.opening self.new.seat)) }
+
+        ensures grows { Grows (signs_by T.opening self.old.seat) (signs_by T.opening self.new.seat) }
+        ensures entries { OnOk result (MadeThese (held_by T.opening T.told self.old.seat).session (event.IncreaseToFit c.now.tracker bytes ∷ []) (signs_by T.opening self.old.seat) (signs_by T.opening self.new.seat)) }
+    {
         let seat = &mut self.seat;
         let result = seat.reserve_to_fit(self.rt, self.turns, c, bytes);
         seat.law_whole();
@@ -180,7 +226,20 @@ impl<'a, D: Slot + Drop, R: Wait, T: OpenedAs, N: At, G: Gate> Store
         result
     }
 
-    fn pin(&mut self, p: &Page) -> Result<Buf, PoolErr> {
+    fn pin(&mut self, p: &Page) -> Result<Buf, PoolErr>
+        requires page { IsPage p.now (held_by T.opening T.told self.old.seat) }
+        requires rests { (page_of p.now.name (held_by T.opening T.told self.old.seat)).pins ≡ 0 }
+        requires unused { page_len p.now.name (held_by T.opening T.told self.old.seat) ≤ unused_of p.now.client (held_by T.opening T.told self.old.seat) }
+        ensures ok { OnOk result (held_by T.opening T.told self.new.seat ≡ after_pin p.now.name (held_by T.opening T.told self.old.seat)) }
+        ensures bytes { IfOk result (ShowsLeft (page_of p.now.name (held_by T.opening T.told self.old.seat)) (held_by T.opening T.told self.old.seat)) }
+
+        // Where blocks have marks, and each block of the buffer was stored in this pool, the buffer shows what was left.
+        ensures stored { IfOk result (ShowsStored T.opening (history self.new.seat.spot.knows.seen) p.now.name (page_of p.now.name (held_by T.opening T.told self.old.seat))) }
+        ensures err { IfErr result (WasRefused p.now.client (call.Pin p.now.name) (held_by T.opening T.told self.old.seat) (held_by T.opening T.told self.new.seat) (signs_by T.opening self.old.seat) (signs_by T.opening self.new.seat)) }
+
+        ensures grows { Grows (signs_by T.opening self.old.seat) (signs_by T.opening self.new.seat) }
+        ensures entries { OnOk result (Made (held_by T.opening T.told self.old.seat).session (IsPin p.now.client (held_by T.opening T.told self.old.seat) p.now.name) (signs_by T.opening self.old.seat) (signs_by T.opening self.new.seat)) }
+    {
         let seat = &mut self.seat;
         let result = seat.pin(self.rt, self.turns, &self.at, p);
         seat.law_whole();

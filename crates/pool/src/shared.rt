@@ -2,19 +2,19 @@
 use crate::item::Item;
 use crate::opened::OpenedAs;
 use outside::Slot;
-use pin_core::PoolState;
-use pool_model::Entry;
-use session_calls::Count;
+use pin_core::{EvictedPages, PoolState};
+use session_calls::{Count, Log};
 use std::marker::{Brand, PhantomData};
 use turn_table::{Logged, Solo};
 
-/// A pool's value under a turn lock, the history for which it stands, what its slots counted, and whether its writers have
-/// to end. `T` names with what the pool opened.
+/// A pool's value under a turn lock, the history for which it stands, what its slots counted, the pages that it evicted
+/// last, and whether its writers have to end. `T` names with what the pool opened.
 #[derive(Drop)]
 pub struct Shared<D: Slot, T: OpenedAs = Brand> {
     pub(crate) state: PoolState<D>,
-    pub(crate) trail: Solo<Entry>,
+    pub(crate) trail: Log,
     pub(crate) counts: Solo<Count>,
+    pub(crate) gone: EvictedPages,
     pub(crate) stopped: bool,
     pub(crate) first: PhantomData<T>,
 }

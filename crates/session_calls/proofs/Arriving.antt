@@ -70,11 +70,12 @@ module _ {D : Type 0} (slot : Ghosts D) (hand new : Hand D) (blocks : ℕ) (e : 
   events = evicts_for blocks hand ++ e ∷ []
 
   -- a call of the pool that evicts clean pages first
-  pub goes_evicting : (entered : Event) (mid gone : List Entry) → gone ≡ by hand.session (evicts_for blocks hand) → mid ≡ hand.trail ++ gone → new.trail ≡ mid ++ by hand.session (entered ∷ []) → entered ≡ e → new.session ≡ hand.session → new.counts ≡ hand.counts
+  pub goes_evicting : (entered : Event) (mid : List Entry) (told : List ℕ) → told ≡ names → mid ≡ hand.trail ++ evictions hand.session told → new.trail ≡ mid ++ by hand.session (entered ∷ []) → entered ≡ e → new.session ≡ hand.session → new.counts ≡ hand.counts
       → Enters slot (evictions hand.session names ++ record { maker = hand.session; event = e } ∷ []) [] [] hand.state new.state → Goes slot events hand new
-  goes_evicting entered mid gone named first trail same session counts enters =
+  goes_evicting entered mid told is first trail same session counts enters =
       let m : ℕ = hand.session in
       let evicts : List Event = evicts_for blocks hand in
+      let named : evictions m told ≡ by m evicts = ap (evictions m) is ∙ sym (evicts_by m names) in
       let both : by m events ≡ by m evicts ++ by m (e ∷ []) = by_append m evicts (e ∷ []) in
       record {
         trail =

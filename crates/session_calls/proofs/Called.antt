@@ -35,6 +35,10 @@ all_front P (x ∷ front) rest all = All-cons P x front (All-head P x (front ++ 
 pub in_ok : {A E : Type 0} (P : Type 0) (r : Result A E) (x : A) → r ≡ Ok x → OnOk r P → P
 in_ok P r x is ok = subst (λ s. OnOk s P) is ok
 
+-- a call that was refused left the value as it was, so what held of it still does
+pub in_err_same : {A V : Type 0} (Q : Type 0) (P : V → Type 0) (old new : V) (r : Result A PoolErr) (e : PoolErr) → r ≡ Err e → OnErr r ((new ≡ old) × Q) → P old → P new
+in_err_same Q P old new r e is err held = subst P (sym ((subst (λ s. OnErr s ((new ≡ old) × Q)) is err).0)) held
+
 module _ {D : Type 0} (o : Opening) (u : Outset) where
   -- a call asked, and got its room
   module _ {A : Type 0} (t : ℕ) (start now : Hand D) (r : Result A PoolErr) (x : A) (is : r ≡ Ok x) (ok : OnOk r (DoesIn (IsAsked t (held_by o u start) []) start now)) where

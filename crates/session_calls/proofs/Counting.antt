@@ -3,20 +3,21 @@ use Rattle.std.proofs.Common.{◌≡◌, ℕ, List, [], ◌∷◌, Bool, true, f
 use Rattle.std.proofs.lemmas.List.Sums.{sum_by-cons}
 use Rattle.std.specs.List.{sum_by, AllByRecursion}
 use Rattle.pool_model.specs.declared.event.Event.{Event}
-use Rattle.pool_model.specs.declared.event.Event.TheVariants.{ReadFailed, WriteOk, WriteFailed}
+use Rattle.pool_model.specs.declared.event.Event.TheVariants.{ReadFailed, ReadStale, WriteOk, WriteFailed}
 use Rattle.pool_model.specs.declared.entry.Entry.{Entry}
 use Rattle.store_api.specs.Entries.{by}
-use Rattle.pin_core.specs.Tallies.{all_failures, stored_by}
+use Rattle.pin_core.specs.Tallies.{all_failures, all_stale, stored_by}
 use Rattle.pin_core.specs.Plain.{is_plain}
-use Rattle.pin_core.proofs.Tallied.{failures_append, plain_failure, plain_stored}
+use Rattle.pin_core.proofs.Tallied.{failures_append, none_stale, plain_failure, plain_stored, stale_append}
 use Rattle.session_calls.specs.Moving.{rests}
 
--- no event is a failure, or a write that ended well
+-- no event is a failure, a write that ended well, or a load that gave another mark
 abbrev pub EventsArePlain : List Event → Type 0
 EventsArePlain events = AllByRecursion (λ e. is_plain e ≡ true) events
 
 rests_plain : (e : Event) → rests e ≡ true → is_plain e ≡ true
 rests_plain (ReadFailed p before now) rest = rest
+rests_plain (ReadStale p wanted found) rest = rest
 rests_plain (WriteOk p) rest = rest
 rests_plain (WriteFailed p before now) rest = rest
 rests_plain _ rest = refl
@@ -31,6 +32,14 @@ plain_failures m (e ∷ events) plain =
     let both = failures_append (by m (e ∷ [])) (by m events) in
     let first = plain_failure m e plain.0 in
     let rest = plain_failures m events plain.1 in
+    omega (arith, both, first, rest)
+
+pub plain_stale : (m : ℕ) (events : List Event) → EventsArePlain events → all_stale (by m events) ≡ 0
+plain_stale m [] plain = refl
+plain_stale m (e ∷ events) plain =
+    let both = stale_append (by m (e ∷ [])) (by m events) in
+    let first = none_stale m e plain.0 in
+    let rest = plain_stale m events plain.1 in
     omega (arith, both, first, rest)
 
 pub plain_stores : (h : List Entry) (m : ℕ) (events : List Event) → EventsArePlain events → sum_by (λ e. stored_by h e.event) (by m events) ≡ 0

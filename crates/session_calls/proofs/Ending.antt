@@ -102,5 +102,9 @@ pub waits_none : {D : Type 0} (hand : Hand D) → DoesIn (λ events. events ≡ 
 waits_none hand = record { session = refl; went = []; counts = sym (append-nil hand.counts); does = does_none hand.session hand.trail }
 
 -- the same value in hand
-pub same_works : {D : Type 0} (slot : Ghosts D) (o : Opening) (u : Outset) (seen : Sight) (hand : Hand D) (v : Parts D) → IsAtWork slot o u seen hand → v ≡ hand.state → IsAtWork slot o u seen (record hand { state = v })
-same_works {D} slot o u seen hand v is same = subst (λ (w : Parts D). IsAtWork slot o u seen (record hand { state = w })) (sym same) is
+pub same_hand : {D : Type 0} (hand : Hand D) (v : Parts D) (gone : List ℕ) → v ≡ hand.state → gone ≡ hand.gone → record hand { state = v; gone = gone } ≡ hand
+same_hand hand v gone same told = λ i. record hand { state = same i; gone = told i }
+
+pub same_works : {D : Type 0} (slot : Ghosts D) (o : Opening) (u : Outset) (seen : Sight) (hand : Hand D) (v : Parts D) (gone : List ℕ) → IsAtWork slot o u seen hand → v ≡ hand.state → gone ≡ hand.gone
+    → IsAtWork slot o u seen (record hand { state = v; gone = gone })
+same_works slot o u seen hand v gone is same told = subst (IsAtWork slot o u seen) (sym (same_hand hand v gone same told)) is

@@ -1,16 +1,17 @@
 -- A turn of a pin loads the page.
-use Rattle.std.proofs.Common.{◌≡◌, ℕ, ◌+◌, ◌*◌, ◌<◌, ◌≤◌, ◌||◌, ◌==◌, Bool, true, false, if◌then◌else◌, List, [], ◌∷◌, ◌++◌, length, map, take, T, Result, Ok, Err, IfOk, IfErr, refl, sym, ap, ◌∙◌, subst, arith, inr}
+use Rattle.std.proofs.Common.{◌≡◌, ℕ, ◌+◌, ◌*◌, ◌<◌, ◌≤◌, ◌||◌, ◌==◌, Bool, true, false, if◌then◌else◌, List, [], ◌∷◌, ◌++◌, length, map, take, T, Result, Ok, Err, IfOk, IfErr, refl, sym, ap, ◌∙◌, subst, arith, inr, Option, Some}
 use Rattle.std.proofs.lemmas.List.Folds.{list_any-append}
 use Rattle.std.specs.List.{AllByRecursion, list_any, sum_by}
 use Rattle.outside.specs.declared.slot.Slot.{Ghosts}
-use Rattle.block_arena.specs.Memory.{Buffer, IsBufferOf}
+use Rattle.block_arena.specs.Memory.{Buffer, IsBufferOf, block_of}
 use Rattle.reservation_tree.specs.declared.mark.Mark.{Mark}
 use Rattle.reservation_tree.specs.declared.errors.PoolErr.TheVariants.{ReadFault}
 use Rattle.pool_model.specs.declared.call.Call.TheVariants.{Pin}
 use Rattle.pool_model.specs.declared.event.Event.{Event}
 use Rattle.pool_model.specs.declared.event.Event.TheVariants.{PinLoad, ReadOk, ReadFailed, ReadStale, Evict}
 use Rattle.pool_model.specs.declared.entry.Entry.{Entry}
-use Rattle.pool_model.specs.State.{Opening, Page, State, page_at}
+use Rattle.pool_model.specs.State.{Opening, Page, State, page_at, shown}
+use Rattle.pool_model.specs.StoredBlocks.{IsStored, version_of}
 use Rattle.pool_model.specs.Sums.{free_bytes, length_of}
 use Rattle.pool_model.specs.Legal.{run, state_after}
 use Rattle.pool_model.specs.LookingBack.{content_from, content_of, is_ask, made_by}
@@ -26,10 +27,12 @@ use Rattle.own_entries.specs.OwnHoldings.{Outset, after_events}
 use Rattle.own_entries.specs.Busy.{busy_from}
 use Rattle.own_entries.proofs.Outsets.{outsets_stay}
 use Rattle.pin_core.specs.declared.jobs.ReadJob.{ReadJob}
+use Rattle.pin_core.specs.Marking.{front_of}
 use Rattle.pin_core.specs.StateOf.{state_of}
+use Rattle.session_calls.specs.Showing.{ShowsStored}
 use Rattle.pin_core.specs.Standing.{StandsFor, Enters, AreHeld}
 use Rattle.pin_core.specs.Tallies.{silence, tally_of}
-use Rattle.pin_core.specs.Evictions.{blocks_in, names_gone}
+use Rattle.pin_core.specs.Evictions.{blocks_in, evictions, names_gone}
 use Rattle.pin_core.specs.Loads.{load_entries}
 use Rattle.pin_core.specs.PinTurns.{IsLoad}
 use Rattle.pin_core.specs.Refusing.{refusal_of}
@@ -97,10 +100,18 @@ told_is : (o : Opening) (u : Outset) (m : ℕ) (h : List Entry) → (held_in o u
 unfolding held_in
 told_is o u m h = (outsets_stay o.block_len m u (made_by h m)).shows
 
+-- what a load enters is told by the names of the pages that went
+pub load_entered : {D : Type 0} (hand : Hand D) (p page : ℕ) (told : List ℕ) (new : List Entry) → page ≡ p → told ≡ names_gone (page_at (state_of hand.state) p).blocks hand.state
+    → new ≡ hand.trail ++ (evictions hand.session told ++ record { maker = hand.session; event = PinLoad page } ∷ [])
+    → new ≡ hand.trail ++ load_entries hand.session p (page_at (state_of hand.state) p).blocks hand.state
+load_entered hand p page told new same is grew =
+    grew ∙ ap (λ (q : ℕ). hand.trail ++ (evictions hand.session told ++ record { maker = hand.session; event = PinLoad q } ∷ [])) same
+    ∙ ap (λ (names : List ℕ). hand.trail ++ (evictions hand.session names ++ record { maker = hand.session; event = PinLoad p } ∷ [])) is
+
 module _ {D : Type 0} (slot : Ghosts D) (o : Opening) (u : Outset) (seen : Sight) (hand : Hand D) (is : IsAtWork slot o u seen hand) (p : PageToken) (can : CanBePinned p (held_by o u hand)) (job : ReadJob D) (went : Hand D)
     (load : IsLoad slot p job hand.state went.state)
     (enters : Enters slot (load_entries hand.session p.name (page_at (state_of hand.state) p.name).blocks hand.state) job.row [] hand.state went.state)
-    (entries : List Entry) (named : entries ≡ load_entries hand.session p.name (page_at (state_of hand.state) p.name).blocks hand.state) (grew : went.trail ≡ hand.trail ++ entries)
+    (entered : went.trail ≡ hand.trail ++ load_entries hand.session p.name (page_at (state_of hand.state) p.name).blocks hand.state)
     (counts_are : went.counts ≡ hand.counts ++ Out job.id.name (tally_of slot job.row) ∷ []) (session : went.session ≡ hand.session) where
   abbrev s : State
   s = state_of hand.state
@@ -134,9 +145,6 @@ module _ {D : Type 0} (slot : Ghosts D) (o : Opening) (u : Outset) (seen : Sight
 
   name_is : job.id.name ≡ p.name
   name_is = ap (λ i. i.name) load.id
-
-  entered : went.trail ≡ hand.trail ++ load_entries m p.name x.blocks hand.state
-  entered = grew ∙ ap (λ (es : List Entry). hand.trail ++ es) named
 
   went_trail : went.trail ≡ hand.trail ++ by m front
   went_trail = entered ∙ ap (λ (es : List Entry). hand.trail ++ es) front_is
@@ -290,6 +298,20 @@ module _ {D : Type 0} (slot : Ghosts D) (o : Opening) (u : Outset) (seen : Sight
             (subst (λ (n : ℕ). IsBufferOf x.blocks n buf) len_is_here (subst (λ (n : ℕ). IsBufferOf n t.block_len buf) (ap (λ (q : ℕ). (page_at t q).blocks) name_is ∙ blocks_are) read.fits));
         bytes = λ told. read.shows (sym (told_is o u m hand.trail) ∙ told) ∙ ap (λ (q : ℕ). content_from q [] went.trail) name_is ∙ content_went ∙ sym (left_here its p can.page can.rests);
       }
+
+      pub stored_read : ShowsStored o new.trail p.name (page_of p.name h) buf
+      stored_read = λ began marked ended few stored.
+          let under : job.under ≡ Some (shown began) = read.version began marked (ap (version_of new.trail) name_is ∙ ended) in
+          let count : length job.row ≡ (page_of p.name h).blocks = load.is.slots ∙ ap (λ (q : ℕ). (page_at t q).blocks) name_is ∙ blocks_are ∙ sym there.blocks in
+          read.stored (record {
+            version = shown began;
+            under = under;
+            few = few;
+            blocks = λ i inside.
+                subst (λ (w : Option ℕ). IsStored o new.trail (front_of w job.id.name i ++ block_of buf i)) (sym under)
+                (subst (λ (q : ℕ). IsStored o new.trail (front_of (Some (shown began)) q i ++ block_of buf i)) (sym name_is) (stored i (subst (λ (n : ℕ). i < n) count inside)));
+          })
+          ∙ ap (λ (q : ℕ). content_from q [] went.trail) name_is ∙ content_went ∙ sym (left_here its p can.page can.rests)
 
     -- its load ended badly
     module _ (result : Result Buffer Unread) (err : IfErr result (λ e. IsUnread job e went new)) (e : Unread) (answered : result ≡ Err e) where

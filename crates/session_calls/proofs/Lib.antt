@@ -66,3 +66,4 @@ pub mod LoadsOut
 pub mod Fetched
 pub mod PinMade
 pub mod Ending
+pub mod Throughout

@@ -1,5 +1,5 @@
 -- A page comes back from its load.
-use Rattle.std.proofs.Common.{◌≡◌, ◌↔◌, ℕ, ◌+◌, ◌<◌, ◌≤◌, ◌==◌, List, [], ◌∷◌, ◌++◌, map, length, length-append, Bool, true, false, if◌then◌else◌, Option, Some, None, Result, Ok, Err, IsErr, is_err, IfOk, IfErr, refl, sym, ap, ◌∙◌, subst, arith, inl, inr, eq-eqb}
+use Rattle.std.proofs.Common.{◌≡◌, ◌↔◌, ℕ, ◌+◌, ◌<◌, ◌≤◌, ◌==◌, List, [], ◌∷◌, ◌++◌, map, length, length-append, Bool, true, false, if◌then◌else◌, Option, Some, None, unwrap_or, Result, Ok, Err, IsErr, is_err, IfOk, IfErr, refl, sym, ap, ◌∙◌, subst, arith, inl, inr, eq-eqb}
 use Rattle.std.proofs.lemmas.Bool.{false≢true, and_from}
 use Rattle.std.specs.FinMap.{get}
 use Rattle.std.specs.List.{slice_index_or, sum_by}
@@ -13,9 +13,10 @@ use Rattle.scratch_dev.specs.Rows.{faults_of, CountsStores}
 use Rattle.pool_model.specs.declared.event.Event.{Event}
 use Rattle.pool_model.specs.declared.event.Event.TheVariants.{ReadOk, ReadFailed, ReadStale, StartWrite}
 use Rattle.pool_model.specs.declared.entry.Entry.{Entry}
-use Rattle.pool_model.specs.State.{Opening, Page, State, page_at}
+use Rattle.pool_model.specs.State.{Opening, Page, State, opened, page_at, shown}
 use Rattle.pool_model.specs.LookingBack.{is_ask, opens, content_of, content_from, maker_of}
-use Rattle.pool_model.specs.StoredBlocks.{IsStored}
+use Rattle.pool_model.specs.StoredBlocks.{IsStored, WasWritten, Writes, is_on_scratch, is_written, version_of}
+use Rattle.pool_model.specs.HistoryLaws.{made}
 use Rattle.pool_model.specs.Failures.{is_for_own, failures_in, fails_read, last_failed_read}
 use Rattle.pool_model.specs.ScratchRows.{IsFault}
 use Rattle.pool_model.specs.MayFollow.{MayFollow}
@@ -23,16 +24,17 @@ use Rattle.pool_model.specs.Effects.{after}
 use Rattle.pool_model.proofs.Made.{legal_pages_as_made}
 use Rattle.pool_model.proofs.Names.{counts_entries}
 use Rattle.pool_model.proofs.Rising.{failures_grow}
+use Rattle.pool_model.proofs.Written.{legal_versions_are_told, writes_more}
 use Rattle.store_api.specs.Entries.{by}
 use Rattle.pin_core.specs.declared.jobs.ReadJob.{ReadJob}
 use Rattle.pin_core.specs.declared.jobs.Stale.{Stale}
 use Rattle.pin_core.specs.Marking.{front_of, under_of}
 use Rattle.pin_core.specs.StateOf.{state_of}
 use Rattle.pin_core.specs.Standing.{AreHeld, StandsFor, slots_home}
-use Rattle.pin_core.specs.Runs.{AllGiveHeld, AllTell, CountsFaults, IfFoundOther, after_loads, is_sure}
+use Rattle.pin_core.specs.Runs.{AllGiveHeld, AllTell, CountsFaults, CountsStrays, IfFoundOther, after_loads, is_sure}
 use Rattle.pin_core.specs.Jobs.{IsReadJob}
-use Rattle.pin_core.specs.Returning.{EntersWhere, ended_badly, read_ends, read_entry, read_refusal, IsRead as HoldsContent}
-use Rattle.pin_core.specs.Tallies.{Counted, all_failures, silence, tally_by}
+use Rattle.pin_core.specs.Returning.{EntersWhere, ended_badly, read_ends, read_entry, read_refusal, stale_loads, IsRead as HoldsContent}
+use Rattle.pin_core.specs.Tallies.{Counted, all_failures, all_stale, silence, tally_by}
 use Rattle.pin_core.proofs.Tallied.{came_back, same_silence, same_stores}
 use Rattle.session_calls.proofs.Silent.{none_silent, none_strayed}
 use Rattle.session_calls.specs.declared.hand.Hand.{Hand}
@@ -45,6 +47,7 @@ use Rattle.session_calls.proofs.Out.{back_outdated, back_read, back_unread}
 use Rattle.session_calls.proofs.Lasts.{IsInJob}
 use Rattle.session_calls.proofs.Failing.{failed_last, failed_counts}
 use Rattle.session_calls.proofs.Outgoing.{EndsJob}
+use Rattle.session_calls.proofs.Sized.{run_marked}
 use Rattle.session_calls.proofs.Stored.{stored_before}
 use Rattle.session_calls.proofs.Returned.{grew, same_len, same_marked, same_there, same_page, same_tally, content_mid, came_quotas, came_whole, did, worked}
 
@@ -116,13 +119,13 @@ well true stale good = absurd (good refl)
 well false (Some marks) good = absurd (good refl)
 well false None good = (refl, refl)
 
--- a failure raised the count, and another mark didn't
+-- a failure raised the count of faults, and another mark that of strays
 row_counts : {D : Type 0} (slot : Ghosts D) (home : (D → ℕ) → ℕ) (was row : List D) (m p before now : ℕ) → sum_by (silence slot) row ≡ sum_by (silence slot) was → length row ≡ length was
-    → faults_of slot was ≤ faults_of slot row → CountsStores slot 0 was row → (b : Bool) (stale : Option Stale) → CountsFaults slot (if b then 1 else 0) was row
-    → Counted (all_failures (by m (read_ends b stale p before now ∷ []))) 0 (tally_by slot (λ measure. home measure + sum_by measure was)) (tally_by slot (λ measure. home measure + sum_by measure row))
-row_counts slot home was row m p before now silent len fall stores true stale faults = came_back slot home was row 1 0 fall faults stores silent len
-row_counts slot home was row m p before now silent len fall stores false (Some marks) faults = came_back slot home was row 0 0 fall faults stores silent len
-row_counts slot home was row m p before now silent len fall stores false None faults = came_back slot home was row 0 0 fall faults stores silent len
+    → faults_of slot was ≤ faults_of slot row → CountsStores slot 0 was row → (b : Bool) (stale : Option Stale) → CountsFaults slot (if b then 1 else 0) was row → CountsStrays slot (stale_loads b stale) was row
+    → Counted (all_failures (by m (read_ends b stale p before now ∷ []))) 0 (all_stale (by m (read_ends b stale p before now ∷ []))) (tally_by slot (λ measure. home measure + sum_by measure was)) (tally_by slot (λ measure. home measure + sum_by measure row))
+row_counts slot home was row m p before now silent len fall stores true stale faults strays = came_back slot home was row 1 0 0 fall faults stores strays silent len
+row_counts slot home was row m p before now silent len fall stores false (Some marks) faults strays = came_back slot home was row 0 0 1 fall faults stores strays silent len
+row_counts slot home was row m p before now silent len fall stores false None faults strays = came_back slot home was row 0 0 0 fall faults stores strays silent len
 
 -- what a job found is the same of it after its loads
 pub still_found : {D : Type 0} (job ran : ReadJob D) → ran ≡ after_loads ran.buf.bytes ran.row ran.failed ran.stale job → length ran.row ≡ length job.row
@@ -213,8 +216,9 @@ module _ {D : Type 0} (slot : Ghosts D) (o : Opening) (told : Bool) (old mid : H
         ] refl)
 
     pub may_give_loaded : map (is_sure slot) ran.row ≡ map (is_sure slot) job.row → faults_of slot job.row ≤ faults_of slot ran.row → CountsFaults slot (if ran.failed then 1 else 0) job.row ran.row
-        → map slot.stores ran.row ≡ map slot.stores job.row → MayGive slot o told now new
-    may_give_loaded tells fall more stores = record {
+        → map slot.stores ran.row ≡ map slot.stores job.row
+        → ((bytes : List ℕ) → length bytes ≡ length job.buf.bytes → AreHeld slot job.under job.id.name job.buf.block_len job.row bytes → CountsStrays slot (stale_loads ran.failed ran.stale) job.row ran.row) → MayGive slot o told now new
+    may_give_loaded tells fall more stores strayed = record {
       worked = worked slot o told old mid stood before now seen taken new end trail none_out session (goes_on ran.id.name sum faults ran.failed ran.stale)
           (came_quotas slot o told mid new taken.whole old.session end trail none_out ran.row job.row (HoldsContent slot t.block_len ran) enters_so holds (keeps ran.id.name sum faults ran.failed ran.stale));
       whole =
@@ -224,9 +228,10 @@ module _ {D : Type 0} (slot : Ghosts D) (o : Opening) (told : Bool) (old mid : H
           job.id.name (subst (λ (p : ℕ). EndsJob p end) name_is (ends_job ran.id.name sum faults ran.failed ran.stale))
           (same_tally slot o told old mid stood before now seen taken job.id.name can.is.lives loads ∙ can.counts)
           (subst
-          (λ (n : ℕ). Counted (all_failures (e ∷ [])) n (tally_by slot (λ measure. slots_home measure mid.state + sum_by measure job.row)) (tally_by slot (λ measure. slots_home measure mid.state + sum_by measure ran.row)))
+          (λ (n : ℕ). Counted (all_failures (e ∷ [])) n (all_stale (e ∷ [])) (tally_by slot (λ measure. slots_home measure mid.state + sum_by measure job.row)) (tally_by slot (λ measure. slots_home measure mid.state + sum_by measure ran.row)))
           (sym (unstored (mid.trail ++ by old.session (end ∷ [])) old.session end (never_stored ran.id.name sum faults ran.failed ran.stale)))
-          (row_counts slot (λ measure. slots_home measure mid.state) job.row ran.row old.session ran.id.name sum faults (same_silence slot ran.row job.row tells) len fall (same_stores slot job.row ran.row (sym stores)) ran.failed ran.stale more));
+          (row_counts slot (λ measure. slots_home measure mid.state) job.row ran.row old.session ran.id.name sum faults (same_silence slot ran.row job.row tells) len fall (same_stores slot job.row ran.row (sym stores)) ran.failed ran.stale more
+          (strayed left can.whole (subst (λ (n : ℕ). AreHeld slot job.under job.id.name n job.row left) (sym can.is.buffer.block_len) can.held))));
     }
 
     -- the session did this, by what the end is
@@ -262,6 +267,16 @@ module _ {D : Type 0} (slot : Ghosts D) (o : Opening) (told : Bool) (old mid : H
               (stored_before o mid.trail e (starts_none ran.id.name sum faults ran.failed ran.stale) (front_of job.under job.id.name i ++ block_of buf i)
               (subst (λ (h : List Entry). IsStored o h (front_of job.under job.id.name i ++ block_of buf i)) trail (is.blocks i (omega (arith, inside, len)))))))
               ∙ ap (content_of o mid.trail) name_is ∙ content_mid slot o told old mid stood before now seen taken job.id.name can.is.lives loads;
+          version = λ began marked ended.
+              let x : Page = page_at s job.id.name in
+              let w : WasWritten o mid.trail job.id.name x.place x.version (made x) =
+              legal_versions_are_told o mid.trail taken.whole.stands.legal job.id.name x (ap (λ (u : State). get u.pages job.id.name) (sym taken.whole.stands.state) ∙ there) (ap is_on_scratch can.is.loads) in
+              let same_writes : version_of new.trail job.id.name ≡ version_of mid.trail job.id.name =
+              ap (λ (h : List Entry). version_of h job.id.name) (trail ∙ ap (λ (f : Event). mid.trail ++ by old.session (f ∷ [])) event_is)
+              ∙ ap (λ (writes : Writes). writes.ended) (writes_more job.id.name mid.trail (record { maker = old.session; event = ReadOk job.id.name })) in
+              let number : began ≡ length w.before = ap (λ (n : Option ℕ). unwrap_or n 0) (sym ended ∙ same_writes ∙ w.ended (ap is_written can.is.loads)) in
+              let here : s.marked ≡ true = ap (λ (u : State). u.marked) stood.stands.state ∙ run_marked (opened o) old.trail ∙ marked in
+              can.is.under ∙ ap (λ (b : Bool). under_of b x.version) here ∙ ap Some (w.shows ∙ ap shown (sym number));
         }
 
     -- the page was made by the session, for the client

@@ -17,14 +17,14 @@ use Rattle.pin_core.specs.declared.tally.Tally.{Tally}
 use Rattle.pin_core.specs.Plain.{is_plain}
 use Rattle.pin_core.specs.StateOf.{state_of}
 use Rattle.pin_core.specs.Standing.{StandsFor, slots_home}
-use Rattle.pin_core.specs.Tallies.{Counted, all_failures, stored_by, tally_by, tally_of, written_blocks}
+use Rattle.pin_core.specs.Tallies.{Counted, all_failures, all_stale, stored_by, tally_by, tally_of, written_blocks}
 use Rattle.pin_core.proofs.Tallied.{uncounted_yet}
 use Rattle.session_calls.specs.declared.count.Count.{Count}
 use Rattle.session_calls.specs.declared.count.Count.TheVariants.{Out}
 use Rattle.session_calls.specs.Outgoing.{CountsWhole, no_tally, number_out, opening_tally, page_out, pages_out, tally_or, tally_out, tally_plus, tally_whole}
 use Rattle.session_calls.specs.Moving.{rests}
 use Rattle.session_calls.proofs.Lists.{by_append}
-use Rattle.session_calls.proofs.Counting.{EventsArePlain, rest_plain, plain_failures, plain_stores}
+use Rattle.session_calls.proofs.Counting.{EventsArePlain, rest_plain, plain_failures, plain_stale, plain_stores}
 use Rattle.session_calls.proofs.Counts.{counts_grew}
 use Rattle.session_calls.proofs.CountLists.{counted_append, none_out, opening_still, out_append, out_same}
 use Rattle.session_calls.proofs.JobsOut.{comes_back, end_out, goes_out, number_kept, was_home}
@@ -64,8 +64,8 @@ module _ {D : Type 0} (slot : Ghosts D) (o : Opening) (h : List Entry) (counts :
       record {
         pages = was.pages ∙ sym (out_same h (by m events) (none_out m events rest));
         counted =
-            counts_grew o h (by m events) (h ++ by m events) stood.legal refl 0 0 (plain_failures m events plain) (plain_stores (h ++ by m events) m events plain) (opening_tally counts)
-            (tally_whole slot counts old) (tally_whole slot counts new) (subst (Counted 0 0 (tally_whole slot counts old)) same (uncounted_yet (tally_whole slot counts old))) was.counted;
+            counts_grew o h (by m events) (h ++ by m events) stood.legal refl 0 0 0 (plain_failures m events plain) (plain_stores (h ++ by m events) m events plain) (plain_stale m events plain) (opening_tally counts)
+            (tally_whole slot counts old) (tally_whole slot counts new) (subst (Counted 0 0 0 (tally_whole slot counts old)) same (uncounted_yet (tally_whole slot counts old))) was.counted;
       }
 
   -- the last of these events took a page's slots out
@@ -97,16 +97,16 @@ module _ {D : Type 0} (slot : Ghosts D) (o : Opening) (h : List Entry) (counts :
         pages =
             counted_append counts (Out p t ∷ []) ∙ ap (λ (pages : List ℕ). pages ++ p ∷ []) (was.pages ∙ sym (out_same h (by m front) (none_out m front rest)))
             ∙ ap (λ (pages : List ℕ). pages_out mid ++ pages) (sym (ap (λ (pages : List ℕ). pages ++ []) goes)) ∙ sym (out_append mid (e ∷ [])) ∙ sym (ap pages_out parts);
-        counted = subst (λ (f : Tally). Counted (all_failures (h ++ by m events)) (written_blocks (h ++ by m events)) f (tally_whole slot later new)) (sym first)
-            (counts_grew o h (by m events) (h ++ by m events) stood.legal refl 0 0 (plain_failures m events plain) (plain_stores (h ++ by m events) m events plain) (opening_tally counts)
-            (tally_whole slot counts old) (tally_whole slot later new) (subst (Counted 0 0 (tally_whole slot counts old)) same (uncounted_yet (tally_whole slot counts old))) was.counted);
+        counted = subst (λ (f : Tally). Counted (all_failures (h ++ by m events)) (written_blocks (h ++ by m events)) (all_stale (h ++ by m events)) f (tally_whole slot later new)) (sym first)
+            (counts_grew o h (by m events) (h ++ by m events) stood.legal refl 0 0 0 (plain_failures m events plain) (plain_stores (h ++ by m events) m events plain) (plain_stale m events plain) (opening_tally counts)
+            (tally_whole slot counts old) (tally_whole slot later new) (subst (Counted 0 0 0 (tally_whole slot counts old)) same (uncounted_yet (tally_whole slot counts old))) was.counted);
       }
 
   -- a page's slots came back with its job's end, and count more than they did when they went out
   pub counts_came : (m p : ℕ) (end : Event) (went row : List D) (new : Parts D) → EndsJob p end → StandsFor slot o (h ++ by m (end ∷ [])) new
       → tally_or no_tally p counts ≡ tally_of slot went
       → ((measure : D → ℕ) → slots_home measure new ≡ slots_home measure old + sum_by measure row)
-      → Counted (all_failures (by m (end ∷ []))) (sum_by (λ e. stored_by (h ++ by m (end ∷ [])) e.event) (by m (end ∷ [])))
+      → Counted (all_failures (by m (end ∷ []))) (sum_by (λ e. stored_by (h ++ by m (end ∷ [])) e.event) (by m (end ∷ []))) (all_stale (by m (end ∷ [])))
       (tally_by slot (λ measure. slots_home measure old + sum_by measure went)) (tally_by slot (λ measure. slots_home measure old + sum_by measure row))
       → CountsWhole slot (h ++ by m (end ∷ [])) counts new
   counts_came m p end went row new ends stands its slots more =
@@ -116,6 +116,7 @@ module _ {D : Type 0} (slot : Ghosts D) (o : Opening) (h : List Entry) (counts :
       let state : state_of new ≡ after s e = stands.state ∙ state_runs_on o h (e ∷ []) in
       let failures : ℕ = all_failures (e ∷ []) in
       let blocks : ℕ = sum_by (λ d. stored_by (h ++ e ∷ []) d.event) (e ∷ []) in
+      let stale : ℕ = all_stale (e ∷ []) in
       let rest : Tally = tally_out counts (state_of new).pages in
       let before : Tally = tally_by slot (λ measure. slots_home measure old + sum_by measure went) in
       let now : Tally = tally_by slot (λ measure. slots_home measure old + sum_by measure row) in
@@ -132,7 +133,7 @@ module _ {D : Type 0} (slot : Ghosts D) (o : Opening) (h : List Entry) (counts :
       record {
         pages = was.pages ∙ sym (out_same h (e ∷ []) (ap (λ (pages : List ℕ). pages ++ []) (end_out p end ends)));
         counted =
-            counts_grew o h (e ∷ []) (h ++ e ∷ []) stood.legal refl failures blocks refl refl (opening_tally counts) (tally_whole slot counts old) (tally_whole slot counts new)
-            (subst (Counted failures blocks (tally_whole slot counts old)) is_now
-            (subst (λ (t : Tally). Counted failures blocks t (tally_plus now rest)) was_before (counted_beside failures blocks before now rest more))) was.counted;
+            counts_grew o h (e ∷ []) (h ++ e ∷ []) stood.legal refl failures blocks stale refl refl refl (opening_tally counts) (tally_whole slot counts old) (tally_whole slot counts new)
+            (subst (Counted failures blocks stale (tally_whole slot counts old)) is_now
+            (subst (λ (t : Tally). Counted failures blocks stale t (tally_plus now rest)) was_before (counted_beside failures blocks stale before now rest more))) was.counted;
       }

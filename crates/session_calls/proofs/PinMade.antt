@@ -29,6 +29,7 @@ use Rattle.pin_core.specs.StateOf.{state_of}
 use Rattle.pin_core.specs.Turns.{LacksRoom}
 use Rattle.session_calls.specs.Coming.{Evicts}
 use Rattle.session_calls.specs.Pinning.{CanBePinned, IsBadLoad, IsPinned}
+use Rattle.session_calls.specs.Showing.{ShowsStored}
 use Rattle.session_calls.specs.Writing.{IsWrite, writes_left}
 use Rattle.session_calls.proofs.Failures.{more_in_all}
 use Rattle.session_calls.proofs.Lists.{NoneOpens, by_append}
@@ -169,6 +170,9 @@ module _ {D : Type 0} (slot : Ghosts D) (o : Opening) (u : Outset) (p : PageToke
 
       pub shows_pin : ShowsLeft (page_of p.name h) h buf
       shows_pin = subst (λ (g : Holdings). ShowsLeft (page_of p.name g) g buf) same ((turned (step.Pinned buf) answered).1)
+
+      pub stored_pin : ShowsStored o new.trail p.name (page_of p.name h) buf
+      stored_pin = subst (λ (g : Holdings). ShowsStored o new.trail p.name (page_of p.name g) buf) same ((turned (step.Pinned buf) answered).2)
 
     -- its client lacks room for it
     module _ (entry : ℕ) (answered : r ≡ step.Refused entry) where

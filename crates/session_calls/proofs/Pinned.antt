@@ -4,6 +4,7 @@ use Rattle.std.proofs.lemmas.Bool.{false≢true}
 use Rattle.outside.specs.declared.slot.Slot.{Ghosts}
 use Rattle.block_arena.specs.Memory.{Buffer}
 use Rattle.pool_model.specs.declared.event.Event.{Event}
+use Rattle.pool_model.specs.declared.entry.Entry.{Entry}
 use Rattle.pool_model.specs.declared.event.Event.TheVariants.{PinHere}
 use Rattle.pool_model.specs.State.{Opening, Flying, Page, State, page_at}
 use Rattle.store_api.specs.Tokens.{PageToken}
@@ -21,7 +22,8 @@ use Rattle.pin_core.specs.Turns.{LacksRoom, IsStarted, IsWriting}
 use Rattle.session_calls.specs.Pinning.{CanBePinned, IsPinned}
 use Rattle.session_calls.specs.Moving.{is_moving}
 use Rattle.session_calls.specs.Needing.{EntersNeeded}
-use Rattle.session_calls.proofs.Contents.{shows_left}
+use Rattle.session_calls.specs.Showing.{ShowsStored}
+use Rattle.session_calls.proofs.Contents.{content_left, shows_left}
 use Rattle.session_calls.proofs.Pages.{is_there, page_client_lives, can_pin as may_pin, lacks_room}
 use Rattle.session_calls.specs.declared.hand.Hand.{Hand}
 use Rattle.session_calls.specs.Acting.{Goes, held_by}
@@ -55,6 +57,10 @@ module _ {D : Type 0} (slot : Ghosts D) (o : Opening) (u : Outset) (seen : Sight
   pub shows_here : (buf : Buffer) → HasContent slot p.name buf hand.state → ShowsLeft (page_of p.name h) h buf
   shows_here = shows_left slot hand.state o hand.trail is.ready.whole.stands its p can.page can.rests
 
+  pub stored_here : (buf : Buffer) → HasContent slot p.name buf hand.state → (now : List Entry) → ShowsStored o now p.name (page_of p.name h) buf
+  stored_here buf content now = λ began marked ended few stored.
+      content.content o hand.trail is.ready.whole.stands ∙ content_left slot hand.state o hand.trail is.ready.whole.stands its p can.page can.rests
+
   -- the page is pinned where it is
   module _ (new : Hand D) (trail : new.trail ≡ hand.trail ++ record { maker = hand.session; event = PinHere p.name } ∷ []) (session : new.session ≡ hand.session) (counts : new.counts ≡ hand.counts)
       (enters : Enters slot (record { maker = hand.session; event = PinHere p.name } ∷ []) [] [] hand.state new.state) where
@@ -83,8 +89,8 @@ module _ {D : Type 0} (slot : Ghosts D) (o : Opening) (u : Outset) (seen : Sight
   waits_never all (inr other) = none_written slot o u hand is.ready all x.client other.1
 
 -- the value was given back and taken again, as it was found
-pub waited_here : {D : Type 0} {P : List Event → Type 0} (hand new : Hand D) (v : Parts D) → DoesIn (λ events. events ≡ []) (record hand { state = v }) new → DoesIn (λ events. (events ≡ []) ⊎ P events) hand new
-waited_here hand new v did = record {
+pub waited_here : {D : Type 0} {P : List Event → Type 0} (hand new : Hand D) (v : Parts D) (gone : List ℕ) → DoesIn (λ events. events ≡ []) (record hand { state = v; gone = gone }) new → DoesIn (λ events. (events ≡ []) ⊎ P events) hand new
+waited_here hand new v gone did = record {
   session = did.session;
   went = did.went;
   counts = did.counts;

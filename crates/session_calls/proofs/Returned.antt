@@ -19,7 +19,7 @@ use Rattle.store_api.specs.Entries.{by}
 use Rattle.pin_core.specs.StateOf.{state_of}
 use Rattle.pin_core.specs.Standing.{StandsFor, slots_home}
 use Rattle.pin_core.specs.Returning.{EntersWhere}
-use Rattle.pin_core.specs.Tallies.{Counted, all_failures, silence, stored_by, tally_by, tally_of}
+use Rattle.pin_core.specs.Tallies.{Counted, all_failures, all_stale, silence, stored_by, tally_by, tally_of}
 use Rattle.session_calls.proofs.Sized.{run_len, run_marked}
 use Rattle.session_calls.proofs.Lists.{by_own, none_own}
 use Rattle.session_calls.specs.declared.hand.Hand.{Hand}
@@ -59,7 +59,7 @@ module _ {D : Type 0} (slot : Ghosts D) (o : Opening) (told : Bool) (mid new : H
   pub came_whole : (MayFollow mid.trail r last → slots_out (after r last).pages + length row ≡ slots_out r.pages)
       → sum_by (silence slot) row ≡ sum_by (silence slot) went → (told ≡ true → sum_by (silence slot) went ≡ 0)
       → (p : ℕ) → EndsJob p end → tally_or no_tally p mid.counts ≡ tally_of slot went
-      → Counted (all_failures (last ∷ [])) (sum_by (λ d. stored_by (mid.trail ++ last ∷ []) d.event) (last ∷ []))
+      → Counted (all_failures (last ∷ [])) (sum_by (λ d. stored_by (mid.trail ++ last ∷ []) d.event) (last ∷ [])) (all_stale (last ∷ []))
       (tally_by slot (λ measure. slots_home measure mid.state + sum_by measure went)) (tally_by slot (λ measure. slots_home measure mid.state + sum_by measure row))
       → StandsWhole slot o told new.trail new.counts new.state
   came_whole comes silent tell p ends tally counts = record {

@@ -6,15 +6,16 @@ use Rattle.scratch_dev.specs.Rows.{stores_at, uncounted}
 use Rattle.pin_core.specs.declared.parts.Parts.{Parts}
 use Rattle.pin_core.specs.declared.tally.Tally.{Tally}
 use Rattle.pin_core.specs.StateOf.{state_of}
-use Rattle.pin_core.specs.Runs.{stuck}
+use Rattle.pin_core.specs.Runs.{strays_at, stuck, unstrayed}
 use Rattle.pin_core.specs.Standing.{slots_home}
 use Rattle.pin_core.specs.Tallies.{silence, Counted, tally_of}
 use Rattle.session_calls.specs.declared.count.Count.{Count}
 use Rattle.session_calls.specs.Outgoing.{number_out, tally_plus}
 
 -- the same slots beside both count nothing more
-pub counted_beside : (failures blocks : ℕ) (x y z : Tally) → Counted failures blocks x y → Counted failures blocks (tally_plus x z) (tally_plus y z)
-counted_beside failures blocks x y z it =
+pub counted_beside : (failures blocks stale : ℕ) (x y z : Tally) → Counted failures blocks stale x y → Counted failures blocks stale (tally_plus x z) (tally_plus y z)
+counted_beside failures blocks stale x y z it =
+    let loose = it.loose in
     let fall = it.never_fall in
     let stays = it.stays in
     let short = it.short in record {
@@ -23,6 +24,8 @@ counted_beside failures blocks x y z it =
       stays = omega (arith, stays);
       stores = λ all. let more = it.stores (omega (arith, all)) in omega (arith, more);
       short = omega (arith, short);
+      strays = λ all. let more = it.strays (omega (arith, all)) in omega (arith, more);
+      loose = omega (arith, loose);
       silent = ap (λ (n : ℕ). n + z.silent) it.silent;
       slots = ap (λ (n : ℕ). n + z.slots) it.slots;
     }
@@ -39,6 +42,8 @@ module _ {D : Type 0} (slot : Ghosts D) where
     stuck = f (λ t. t.stuck) (stuck slot);
     stores = f (λ t. t.stores) (stores_at slot);
     uncounted = f (λ t. t.uncounted) (uncounted slot);
+    strays = f (λ t. t.strays) (strays_at slot);
+    unstrayed = f (λ t. t.unstrayed) (unstrayed slot);
     silent = f (λ t. t.silent) (silence slot);
     slots = f (λ t. t.slots) (λ d. 1);
   }
@@ -49,6 +54,8 @@ module _ {D : Type 0} (slot : Ghosts D) where
     stuck = same (λ t. t.stuck) (stuck slot) (λ row. refl) i;
     stores = same (λ t. t.stores) (stores_at slot) (λ row. refl) i;
     uncounted = same (λ t. t.uncounted) (uncounted slot) (λ row. refl) i;
+    strays = same (λ t. t.strays) (strays_at slot) (λ row. refl) i;
+    unstrayed = same (λ t. t.unstrayed) (unstrayed slot) (λ row. refl) i;
     silent = same (λ t. t.silent) (silence slot) (λ row. refl) i;
     slots = same (λ t. t.slots) (λ d. 1) (λ row. refl) i;
   }

@@ -21,10 +21,10 @@ use Rattle.pin_core.specs.declared.jobs.WriteJob.{WriteJob}
 use Rattle.pin_core.specs.declared.tally.Tally.{Tally}
 use Rattle.pin_core.specs.StateOf.{state_of}
 use Rattle.pin_core.specs.Standing.{AreHeld, slots_home}
-use Rattle.pin_core.specs.Runs.{CountsFaults, after_stores}
+use Rattle.pin_core.specs.Runs.{CountsFaults, CountsStrays, after_stores}
 use Rattle.pin_core.specs.Jobs.{IsWriteJob}
 use Rattle.pin_core.specs.Returning.{EntersWhere, IsWritten, write_ends, write_entry}
-use Rattle.pin_core.specs.Tallies.{Counted, all_failures, blocks_of, silence, stored_by, tally_by}
+use Rattle.pin_core.specs.Tallies.{Counted, all_failures, all_stale, blocks_of, silence, stored_by, tally_by}
 use Rattle.pin_core.proofs.Tallied.{came_back, same_silence}
 use Rattle.session_calls.specs.Writing.{IsEnd, stored_with}
 use Rattle.session_calls.specs.declared.hand.Hand.{Hand}
@@ -78,11 +78,11 @@ stored_end h m p blocks before now same false = omega (arith, same)
 
 -- a failure raised the count, and a store was counted for each slot otherwise
 row_counts : {D : Type 0} (slot : Ghosts D) (home : (D → ℕ) → ℕ) (was row : List D) (m p before now : ℕ) → sum_by (silence slot) row ≡ sum_by (silence slot) was → length row ≡ length was
-    → faults_of slot was ≤ faults_of slot row → (b : Bool) → CountsFaults slot (if b then 1 else 0) was row → CountsStores slot (if b then 0 else length was) was row
-    → Counted (all_failures (by m (write_ends b p before now ∷ []))) (stored_with (length was) (write_ends b p before now))
+    → faults_of slot was ≤ faults_of slot row → (b : Bool) → CountsFaults slot (if b then 1 else 0) was row → CountsStores slot (if b then 0 else length was) was row → CountsStrays slot 0 was row
+    → Counted (all_failures (by m (write_ends b p before now ∷ []))) (stored_with (length was) (write_ends b p before now)) (all_stale (by m (write_ends b p before now ∷ [])))
     (tally_by slot (λ measure. home measure + sum_by measure was)) (tally_by slot (λ measure. home measure + sum_by measure row))
-row_counts slot home was row m p before now silent len fall true faults stores = came_back slot home was row 1 0 fall faults stores silent len
-row_counts slot home was row m p before now silent len fall false faults stores = came_back slot home was row 0 (length was) fall faults stores silent len
+row_counts slot home was row m p before now silent len fall true faults stores strays = came_back slot home was row 1 0 0 fall faults stores strays silent len
+row_counts slot home was row m p before now silent len fall false faults stores strays = came_back slot home was row 0 (length was) 0 fall faults stores strays silent len
 
 -- a job whose slots were stored is that of its page still
 still_job : {D : Type 0} (s : State) (was job : WriteJob D) → job ≡ after_stores job.row job.failed was → length job.row ≡ length was.row → IsWriteJob s was → IsWriteJob s job
@@ -197,9 +197,9 @@ module _ {D : Type 0} (slot : Ghosts D) (o : Opening) (told : Bool) (mid new : H
         (λ may. subst (λ (n : ℕ). slots_out (after s e).pages + n ≡ slots_out s.pages) (sym job_is.slots) (comes_back p sum faults job.failed mid.trail s m may))
         silent back.out.tell p (ends_job p sum faults job.failed) (ap (λ (q : ℕ). tally_or no_tally q mid.counts) name_is ∙ back.out.counts)
         (subst
-        (λ (n : ℕ). Counted (all_failures (e ∷ [])) n (tally_by slot (λ measure. slots_home measure mid.state + sum_by measure was.row)) (tally_by slot (λ measure. slots_home measure mid.state + sum_by measure job.row)))
+        (λ (n : ℕ). Counted (all_failures (e ∷ [])) n (all_stale (e ∷ [])) (tally_by slot (λ measure. slots_home measure mid.state + sum_by measure was.row)) (tally_by slot (λ measure. slots_home measure mid.state + sum_by measure job.row)))
         (sym (stored_end (mid.trail ++ e ∷ []) m p (length was.row) sum faults was_made job.failed))
-        (row_counts slot (λ measure. slots_home measure mid.state) was.row job.row m p sum faults silent back.ran.len back.ran.never_falls job.failed back.ran.faults back.ran.stores));
+        (row_counts slot (λ measure. slots_home measure mid.state) was.row job.row m p sum faults silent back.ran.len back.ran.never_falls job.failed back.ran.faults back.ran.stores back.ran.strayed));
     place = ap (λ (u : State). (page_at u p).place) enters_so.state ∙ put_back p sum faults m s job.failed;
     content = left ∙ sym (ap (content_from p []) end_trail ∙ content_more p [] mid.trail e ∙ leaves p sum faults (content_from p [] mid.trail) job.failed);
   }

@@ -13,7 +13,7 @@ use Rattle.store_api.specs.Entries.{by}
 use Rattle.pin_core.specs.declared.jobs.WriteJob.{WriteJob}
 use Rattle.pin_core.specs.StateOf.{state_of}
 use Rattle.pin_core.specs.Standing.{AreHeld}
-use Rattle.pin_core.specs.Runs.{is_sure, CountsFaults, after_stores}
+use Rattle.pin_core.specs.Runs.{is_sure, CountsFaults, CountsStrays, after_stores}
 use Rattle.pin_core.specs.Jobs.{IsWriteJob}
 use Rattle.pin_core.specs.Returning.{write_ends}
 use Rattle.pin_core.specs.Tallies.{silence, tally_of}
@@ -37,6 +37,7 @@ module _ {D : Type 0} (slot : Ghosts D) where
     pub held : new.failed ≡ false → AreHeld slot old.under old.id.name old.buf.block_len new.row old.buf.bytes
     pub tells : map (is_sure slot) new.row ≡ map (is_sure slot) old.row
     pub stores : CountsStores slot (if new.failed then 0 else length old.row) old.row new.row
+    pub strayed : CountsStrays slot 0 old.row new.row
     pub faults : CountsFaults slot (if new.failed then 1 else 0) old.row new.row
     pub never_falls : faults_of slot old.row ≤ faults_of slot new.row
     pub failed : new.failed ≡ true → IsFault (faults_of slot old.row) (faults_of slot new.row)

@@ -8,12 +8,12 @@ use Rattle.reservation_tree.specs.declared.errors.PoolErr.TheVariants.{ReadFault
 use Rattle.pool_model.specs.declared.event.Event.{Event}
 use Rattle.pool_model.specs.declared.event.Event.TheVariants.{ReadOk, ReadFailed, ReadStale}
 use Rattle.pool_model.specs.declared.entry.Entry.{Entry}
-use Rattle.pool_model.specs.State.{Opening, page_at}
+use Rattle.pool_model.specs.State.{Opening, page_at, shown}
 use Rattle.pool_model.specs.declared.call.Call.TheVariants.{Pin}
 use Rattle.pool_model.specs.Failures.{is_for_own, failures_in}
 use Rattle.pool_model.specs.Refusals.{FailedToLoad}
 use Rattle.pool_model.specs.LookingBack.{content_from}
-use Rattle.pool_model.specs.StoredBlocks.{IsStored}
+use Rattle.pool_model.specs.StoredBlocks.{IsStored, version_of}
 use Rattle.pin_core.specs.declared.jobs.ReadJob.{ReadJob}
 use Rattle.pin_core.specs.declared.jobs.WriteJob.{WriteJob}
 use Rattle.pin_core.specs.Marking.{front_of}
@@ -88,12 +88,13 @@ module _ {D : Type 0} where
     pub blocks : (i : ℕ) → i < length job.row → IsStored o h (front_of job.under job.id.name i ++ block_of buf i)
 
   -- the page is pinned with this buffer. It shows what was left, where slots tell, and where its blocks are stored in this
-  -- pool
+  -- pool; where blocks have marks, those wanted were that of the page's last write that ended well
   pub record IsRead (o : Opening) (told : Bool) (job : ReadJob D) (buf : Buffer) (old new : Hand D) : Type 0 where
     pub did : DoesIn (λ events. events ≡ ReadOk job.id.name ∷ []) old new
     pub fits : IsBufferOf (page_at (state_of old.state) job.id.name).blocks (state_of old.state).block_len buf
     pub shows : told ≡ true → buf.bytes ≡ content_from job.id.name [] old.trail
     pub stored : AreStored o job buf new.trail → buf.bytes ≡ content_from job.id.name [] old.trail
+    pub version : (began : ℕ) → o.marked ≡ true → version_of new.trail job.id.name ≡ Some began → job.under ≡ Some (shown began)
 
   -- the page is evicted again, and the pin may be refused by the entry that tells why; a failure was counted where a load
   -- failed

@@ -1,4 +1,5 @@
 pub mod Told
+pub mod Kept
 pub mod Moving
 pub mod Outgoing
 pub mod Writing
@@ -14,3 +15,5 @@ pub mod Flying
 pub mod Needing
 pub mod Turning
 pub mod Pinning
+pub mod Throughout
+pub mod Showing

@@ -10,13 +10,13 @@ use Rattle.pool_model.specs.State.{Pages}
 use Rattle.pin_core.specs.declared.parts.Parts.{Parts}
 use Rattle.pin_core.specs.declared.tally.Tally.{Tally}
 use Rattle.pin_core.specs.StateOf.{state_of}
-use Rattle.pin_core.specs.Tallies.{Counted, all_failures, tally_in, written_blocks}
+use Rattle.pin_core.specs.Tallies.{Counted, all_failures, all_stale, tally_in, written_blocks}
 use Rattle.session_calls.specs.declared.count.Count.{Count}
 use Rattle.session_calls.specs.declared.count.Count.TheVariants.{Opening, Out}
 use Rattle.session_calls.specs.Moving.{is_moving}
 
 abbrev pub no_tally : Tally
-no_tally = record { faults = 0; stuck = 0; stores = 0; uncounted = 0; silent = 0; slots = 0 }
+no_tally = record { faults = 0; stuck = 0; stores = 0; uncounted = 0; strays = 0; unstrayed = 0; silent = 0; slots = 0 }
 
 -- what all slots counted when the pool opened
 abbrev pub opening_tally : List Count → Tally
@@ -40,6 +40,8 @@ tally_out counts pages = record {
   stuck = number_out (λ t. t.stuck) counts pages;
   stores = number_out (λ t. t.stores) counts pages;
   uncounted = number_out (λ t. t.uncounted) counts pages;
+  strays = number_out (λ t. t.strays) counts pages;
+  unstrayed = number_out (λ t. t.unstrayed) counts pages;
   silent = number_out (λ t. t.silent) counts pages;
   slots = number_out (λ t. t.slots) counts pages;
 }
@@ -50,6 +52,8 @@ tally_plus t u = record {
   stuck = t.stuck + u.stuck;
   stores = t.stores + u.stores;
   uncounted = t.uncounted + u.uncounted;
+  strays = t.strays + u.strays;
+  unstrayed = t.unstrayed + u.unstrayed;
   silent = t.silent + u.silent;
   slots = t.slots + u.slots;
 }
@@ -77,4 +81,4 @@ pages_out (e ∷ h) = page_out e.event ++ pages_out h
 -- when the pool opened
 pub record CountsWhole {D : Type 0} (slot : Ghosts D) (h : List Entry) (counts : List Count) (v : Parts D) : Type 0 where
   pub pages : pages_counted counts ≡ pages_out h
-  pub counted : Counted (all_failures h) (written_blocks h) (opening_tally counts) (tally_whole slot counts v)
+  pub counted : Counted (all_failures h) (written_blocks h) (all_stale h) (opening_tally counts) (tally_whole slot counts v)

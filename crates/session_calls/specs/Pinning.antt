@@ -24,6 +24,7 @@ use Rattle.session_calls.specs.declared.pinning.PinStep.{PinStep}
 use Rattle.session_calls.specs.declared.pinning.PinStep.TheVariants as step
 use Rattle.session_calls.specs.Acting.{held_by}
 use Rattle.session_calls.specs.Jobs.{DoesIn, IsBadEnd}
+use Rattle.session_calls.specs.Showing.{ShowsStored}
 
 -- a page of the session rests, and its client has its length unused
 pub record CanBePinned (p : PageToken) (h : Holdings) : Type 0 where
@@ -56,7 +57,7 @@ module _ {D : Type 0} where
   -- whether the page is pinned and shows what was left, the call is refused for a failure, a page was written or waited
   -- for, or the page's load ended badly
   abbrev pub PinIs : Opening → Outset → PageToken → PinStep → Hand D → Hand D → Type 0
-  PinIs o u p (step.Pinned buf) old new = DoesIn (IsPinned p.name) old new × ShowsLeft (page_of p.name (held_by o u old)) (held_by o u old) buf
+  PinIs o u p (step.Pinned buf) old new = DoesIn (IsPinned p.name) old new × ShowsLeft (page_of p.name (held_by o u old)) (held_by o u old) buf × ShowsStored o new.trail p.name (page_of p.name (held_by o u old)) buf
   PinIs o u p (step.Refused entry) old new = LacksRoomFor (state_of old.state) old.session p.name (Some entry) × (new ≡ old)
   PinIs o u p step.Wrote old new = DoesIn (λ events. (events ≡ []) ⊎ IsWrite p.client (held_by o u old) events) old new
   PinIs o u p (step.Unread e) old new = BadPin p.client p.name e old new × DoesIn (IsBadLoad p.name e) old new

@@ -1,5 +1,6 @@
 //! A call begins, its client's pages are written until there is room, or it is refused.
-ghost use Rattle.std.specs.Prelude.{◌≡◌, ◌++◌, ◌≤◌, [], ◌∷◌, IfErr, OnOk};
+ghost use Rattle.std.specs.Prelude.{◌≡◌, ◌≢◌, ◌++◌, ◌≤◌, [], ◌∷◌, IfErr, OnOk};
+ghost use Rattle.reservation_tree.specs.declared.errors.PoolErr.TheVariants as refusal;
 ghost use Rattle.pool_model.specs.declared.event.Event.TheVariants as event;
 ghost use Rattle.pool_model.specs.Sums.{HasRoom};
 ghost use Rattle.pool_model.specs.MayFollow.{MayFollow};
@@ -24,11 +25,9 @@ use crate::origin::Origin;
 use crate::turning::{Turn, room_turn};
 use outside::Slot;
 use pin_core::Want;
-use pool_model::{Call, Entry, Event};
+use pool_model::{Call, Event};
 use reservation_tree::PoolErr;
-use std::marker::Brand;
 use store_api::Client;
-use turn_table::{Adds, Solo};
 
 impl<D: Slot + Drop> Hand<D> {
     /// A call begins.
@@ -49,15 +48,13 @@ impl<D: Slot + Drop> Hand<D> {
         ensures ready { IsReady D.Slot O.opening O.outset self.new }
     {
         self.state.refuse(self.session, call, entry);
-        enter_refused::<Brand>(&mut self.trail, self.session, call, entry);
+        let call = *call;
+        enter(
+            &mut self.trail,
+            self.session,
+            Event::Refused { call, entry },
+        );
     }
-}
-
-fn enter_refused<N: Adds<Entry>>(trail: &mut Solo<Entry>, _session: u32, _call: &Call, _entry: u64)
-    requires named { N.entries ≡ refusal_of _session _call.now _entry ∷ [] }
-    ensures { trail.new ≡ trail.old ++ refusal_of _session _call.now _entry ∷ [] }
-{
-    trail.tick::<N>();
 }
 
 // A call begins, and the client's dirty pages are written, one at a time and the newest first, until the client can
@@ -80,6 +77,7 @@ pub(crate) fn make_room<O: Origin, A: Access<D>, D: Slot + Drop>(
     ensures ok { OnOk result.1 (DoesIn (IsAsked c.now.tracker (held_by O.opening O.outset hand) []) hand result.0) }
     ensures room { OnOk result.1 (HasRoom (state_of result.0.state) c.now.tracker (amount_of want)) }
     ensures err { IfErr result.1 (Refuses O.opening O.outset c.now.tracker call.now hand result.0) }
+    ensures cause { IfErr result.1 (λ e. e ≢ refusal.NamesSpent) }
     ensures needed { EntersNeeded c.now.tracker (amount_of want) hand result.0 }
 {
     hand.ask::<O>();

@@ -1,7 +1,10 @@
 //! The calls that need room of a client, whole.
 ghost use Rattle.std.specs.Prelude.{◌≡◌, ◌≢◌, ◌≤◌, [], ◌∷◌, Err, IfErr, IfNone, IfOk, IfSome, OnOk};
+ghost use Rattle.reservation_tree.specs.declared.errors.PoolErr.TheVariants as refusal;
 ghost use Rattle.pool_model.specs.declared.call.Call.TheVariants as call;
 ghost use Rattle.pool_model.specs.declared.event.Event.TheVariants as event;
+ghost use Rattle.pool_model.specs.Sums.{HasRoom};
+ghost use Rattle.pin_core.specs.StateOf.{state_of};
 ghost use Rattle.store_api.specs.Holdings.{loan_len, length_of, page_len, page_of, unused_of};
 ghost use Rattle.store_api.specs.Conditions.{IsBlockCount, IsLiveClient, IsLoan, IsPage};
 ghost use Rattle.store_api.specs.Entries.{IsAsked, IsTaken};
@@ -113,6 +116,9 @@ pub fn create<O: Origin, A: Access<D>, D: Slot + Drop>(
     ensures ok { IfOk result.1 (λ made. DoesIn (IsTaken c.now.tracker (held_by O.opening O.outset hand) (event.Create made.0.name c.now.tracker blocks made.0.key ∷ [])) hand result.0) }
     ensures page { IfOk result.1 (λ made. IsFreshPage c.now.tracker blocks made (held_by O.opening O.outset hand) (signs_by O.opening hand)) }
     ensures err { IfErr result.1 (Refuses O.opening O.outset c.now.tracker (call.Create c.now.tracker blocks) hand result.0) }
+
+    // Names are looked at once there is room.
+    ensures spent { result.1 ≡ Err refusal.NamesSpent → HasRoom (state_of result.0.state) c.now.tracker bytes }
     ensures needed { EntersNeeded c.now.tracker bytes hand result.0 }
 {
     let Ok(shell) = Shell::with(alloc, blocks) else {

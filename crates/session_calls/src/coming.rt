@@ -10,24 +10,21 @@ ghost use Rattle.pin_core.specs.Coming.{CanHold, zeros};
 ghost use Rattle.pin_core.specs.Evictions.{MakesRoom, names_gone};
 ghost use Rattle.store_api.specs.Holdings.{length_of};
 ghost use Rattle.store_api.specs.Conditions.{IsBlockCount, IsLiveClient};
-ghost use Rattle.store_api.specs.Entries.{by};
 ghost use Rattle.session_calls.specs.Needing.{EntersNeeded};
 ghost use Rattle.session_calls.specs.Coming.{Evicts, IsFreshLoan};
 ghost use Rattle.session_calls.specs.Ready.{IsReady};
 ghost use Rattle.session_calls.specs.Acting.{Acts, Goes, held_by, signs_by};
 ghost use Rattle.session_calls.specs.Coming.{IsFreshPage, evicts_for};
 
-use crate::entering::{enter, enter_named};
+use crate::entering::{enter, enter_evicted};
 use crate::hand::Hand;
 use crate::origin::Origin;
 use block_arena::{Buf, Shell};
 use outside::Slot;
-use pool_model::{Entry, Event};
+use pool_model::Event;
 use reservation_tree::{PoolErr, TrackerId};
 use scratch_dev::SlotShell;
-use std::marker::Brand;
 use store_api::{Client, Loan, Page};
-use turn_table::Adds;
 
 impl<D: Slot + Drop> Hand<D> {
     /// There is room for the page, so it comes, unless no name is left. Clean pages make room for its blocks.
@@ -49,7 +46,7 @@ impl<D: Slot + Drop> Hand<D> {
         ensures needed { EntersNeeded c.now.tracker (length_of shell (held_by O.opening O.outset self.old)) self.old self.new }
         ensures ready { IsReady D.Slot O.opening O.outset self.new }
     {
-        create_named::<Brand, D>(self, c.tracker(), shell, slots)
+        bring_page(self, c.tracker(), shell, slots)
     }
 
     /// There is room for the loan, so it comes. Clean pages make room for its blocks.
@@ -63,18 +60,17 @@ impl<D: Slot + Drop> Hand<D> {
         ensures needed { EntersNeeded c.now.tracker (length_of shell (held_by O.opening O.outset self.old)) self.old self.new }
         ensures ready { IsReady D.Slot O.opening O.outset self.new }
     {
-        alloc_named::<Brand, D>(self, c.tracker(), shell)
+        bring_loan(self, c.tracker(), shell)
     }
 }
 
-// `G` names the entries of the clean pages that go.
-fn create_named<G: Adds<Entry>, D: Slot + Drop>(
+// A page comes behind the clean pages that go.
+fn bring_page<D: Slot + Drop>(
     hand: &mut Hand<D>,
     client: TrackerId,
     shell: Shell,
     slots: SlotShell<D>,
 ) -> Result<(Page, Buf), PoolErr>
-    requires gone { G.entries ≡ by hand.old.session (evicts_for shell hand.old) }
     requires can { CanHold (state_of hand.old.state) (record { session = hand.old.session; tracker = client }) shell }
     requires slots { slots ≡ shell }
     ensures goes { IfOk result (λ made. Goes D.Slot (evicts_for shell hand.old ++ event.Create made.0.name client shell made.0.key ∷ []) hand.old hand.new) }
@@ -86,12 +82,12 @@ fn create_named<G: Adds<Entry>, D: Slot + Drop>(
 {
     let blocks = shell.room();
     let mine = Client::of(hand.session, client);
-    let made = hand.state.create_now(&mine, shell, slots);
+    let made = hand.state.create_now(&mine, shell, slots, &mut hand.gone);
     mine.into_tracker();
     let Ok((page, buf)) = made else {
         return Err(PoolErr::NamesSpent);
     };
-    enter_named::<G>(&mut hand.trail);
+    enter_evicted(&mut hand.trail, hand.session, &hand.gone);
     enter(
         &mut hand.trail,
         hand.session,
@@ -106,12 +102,7 @@ fn create_named<G: Adds<Entry>, D: Slot + Drop>(
 }
 
 // The same of a loan.
-fn alloc_named<G: Adds<Entry>, D: Slot + Drop>(
-    hand: &mut Hand<D>,
-    client: TrackerId,
-    shell: Shell,
-) -> Loan
-    requires gone { G.entries ≡ by hand.old.session (evicts_for shell hand.old) }
+fn bring_loan<D: Slot + Drop>(hand: &mut Hand<D>, client: TrackerId, shell: Shell) -> Loan
     requires can { CanHold (state_of hand.old.state) (record { session = hand.old.session; tracker = client }) shell }
     ensures goes { Goes D.Slot (evicts_for shell hand.old ++ event.Alloc result.number client shell ∷ []) hand.old hand.new }
     ensures room { MakesRoom (state_of hand.old.state) (bytes_of (state_of hand.old.state).block_len shell) (names_gone shell hand.old.state) }
@@ -120,9 +111,9 @@ fn alloc_named<G: Adds<Entry>, D: Slot + Drop>(
 {
     let blocks = shell.room();
     let mine = Client::of(hand.session, client);
-    let loan = hand.state.alloc_now(&mine, shell);
+    let loan = hand.state.alloc_now(&mine, shell, &mut hand.gone);
     mine.into_tracker();
-    enter_named::<G>(&mut hand.trail);
+    enter_evicted(&mut hand.trail, hand.session, &hand.gone);
     enter(
         &mut hand.trail,
         hand.session,

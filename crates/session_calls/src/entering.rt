@@ -1,30 +1,26 @@
-//! A history grows, for contracts alone.
+//! A history grows.
 ghost use Rattle.std.specs.Prelude.{◌≡◌, ◌++◌, ◌∷◌, []};
+ghost use Rattle.pin_core.specs.Evictions.{evictions};
 
-use pool_model::{Entry, Event};
+use crate::log::Log;
+use pin_core::EvictedPages;
+use pool_model::Event;
 use std::marker::Brand;
-use turn_table::{Adds, Solo};
 
 /// This event of the maker was entered.
 #[inline]
-pub fn enter(trail: &mut Solo<Entry>, maker: u32, event: Event)
+pub fn enter(trail: &mut Log, maker: u32, event: Event)
     ensures { trail.new ≡ trail.old ++ record { maker = maker; event = event } ∷ [] }
 {
-    enter_one::<Brand>(trail, maker, &event);
+    trail.enter::<Brand>(maker, &event);
 }
 
+// These pages were evicted, one after the other.
 #[inline]
-fn enter_one<N: Adds<Entry>>(trail: &mut Solo<Entry>, _maker: u32, _event: &Event)
-    requires named { N.entries ≡ record { maker = _maker; event = _event.now } ∷ [] }
-    ensures { trail.new ≡ trail.old ++ record { maker = _maker; event = _event.now } ∷ [] }
+pub(crate) fn enter_evicted(trail: &mut Log, maker: u32, gone: &EvictedPages)
+    ensures { trail.new ≡ trail.old ++ evictions maker gone.now }
 {
-    trail.tick::<N>();
-}
-
-/// These entries were entered, which `N` names.
-#[inline]
-pub fn enter_named<N: Adds<Entry>>(trail: &mut Solo<Entry>)
-    ensures { trail.new ≡ trail.old ++ N.entries }
-{
-    trail.tick::<N>();
+    for page in gone.names() {
+        enter(trail, maker, Event::Evict { page: *page });
+    }
 }

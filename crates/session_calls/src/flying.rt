@@ -10,6 +10,8 @@ ghost use Rattle.session_calls.specs.Flying.{IsBack, Returns, Sends, end_of};
 
 use crate::count::{Count, count_write};
 use crate::hand::Hand;
+use crate::jobs::write_ended;
+use crate::log::Log;
 use crate::origin::Origin;
 use crate::turning::enter_started;
 use outside::Slot;
@@ -47,13 +49,9 @@ impl<D: Slot + Drop> Hand<D> {
 }
 
 // The write of this job ended.
-fn enter_end<N: Adds<Entry>, D: Slot>(
-    trail: &mut Solo<Entry>,
-    _counts: &Solo<Count>,
-    _job: &WriteJob<D>,
-)
-    requires named { N.entries ≡ record { maker = _job.now.who; event = end_of D.Slot (record { trail = trail.old; counts = _counts.now }) _job.now } ∷ [] }
-    ensures { trail.new ≡ trail.old ++ record { maker = _job.now.who; event = end_of D.Slot (record { trail = trail.old; counts = _counts.now }) _job.now } ∷ [] }
+fn enter_end<N: Adds<Entry>, D: Slot>(trail: &mut Log, _counts: &Solo<Count>, job: &WriteJob<D>)
+    requires named { N.entries ≡ record { maker = job.now.who; event = end_of D.Slot (record { trail = trail.old; counts = _counts.now }) job.now } ∷ [] }
+    ensures { trail.new ≡ trail.old ++ record { maker = job.now.who; event = end_of D.Slot (record { trail = trail.old; counts = _counts.now }) job.now } ∷ [] }
 {
-    trail.tick::<N>();
+    trail.enter_bare::<N>(job.who, write_ended(job));
 }

@@ -1,20 +1,22 @@
 //! Pages are written and loaded while the value isn't in hand.
 ghost use Rattle.std.specs.Prelude.{◌≡◌, ◌++◌, ◌∷◌, [], ℕ, true, IfErr, IfOk};
 ghost use Rattle.scratch_dev.specs.Rows.{faults_of};
-ghost use Rattle.pin_core.specs.Returning.{write_entry};
+ghost use Rattle.pool_model.specs.Traces.{bare_of};
+ghost use Rattle.pin_core.specs.Returning.{read_ends, write_ends, write_entry};
 ghost use Rattle.session_calls.specs.Having.{MayGive};
 ghost use Rattle.session_calls.specs.Jobs.{CanRead, CanWrite, IsRead, IsUnread, Wrote, ended_load};
 
 use crate::access::Access;
 use crate::hand::Hand;
+use crate::log::Log;
 use crate::origin::Origin;
 use block_arena::Buf;
 use outside::{OpenGate, Point, Slot};
 use pin_core::{ReadJob, WriteJob};
-use pool_model::Entry;
+use pool_model::{Bare, Entry};
 use reservation_tree::PoolErr;
 use std::marker::Brand;
-use turn_table::{Adds, Solo};
+use turn_table::Adds;
 
 // Names a sum of faults for contracts alone: that of a job's slots before it is run. A call at `Brand` picks it.
 pub(crate) trait Before {
@@ -67,11 +69,23 @@ fn write_named<B: Before, O: Origin, A: Access<D>, D: Slot + Drop>(
     hand
 }
 
-fn enter_write<N: Adds<Entry>, B: Before, D: Slot>(trail: &mut Solo<Entry>, _job: &WriteJob<D>)
-    requires named { N.entries ≡ write_entry _job.now B.sum (faults_of D.Slot _job.now.row) ∷ [] }
-    ensures { trail.new ≡ trail.old ++ write_entry _job.now B.sum (faults_of D.Slot _job.now.row) ∷ [] }
+fn enter_write<N: Adds<Entry>, B: Before, D: Slot>(trail: &mut Log, job: &WriteJob<D>)
+    requires named { N.entries ≡ write_entry job.now B.sum (faults_of D.Slot job.now.row) ∷ [] }
+    ensures { trail.new ≡ trail.old ++ write_entry job.now B.sum (faults_of D.Slot job.now.row) ∷ [] }
 {
-    trail.tick::<N>();
+    trail.enter_bare::<N>(job.who, write_ended(job));
+}
+
+// What a trace tells of the end of this write.
+pub(crate) fn write_ended<D>(job: &WriteJob<D>) -> Bare
+    ensures { (before now : ℕ) → result ≡ bare_of (write_ends job.now.failed job.now.id.name before now) }
+{
+    let page = job.id.name;
+    if job.failed {
+        Bare::WriteFailed { page }
+    } else {
+        Bare::WriteOk { page }
+    }
 }
 
 // A load that ended badly: its error, and the number of the entry that tells it.
@@ -129,13 +143,26 @@ fn read_named<B: Before, O: Origin, A: Access<D>, D: Slot + Drop>(
     }
 }
 
-fn enter_load<N: Adds<Entry>, B: Before, D: Slot>(
-    trail: &mut Solo<Entry>,
-    _session: u32,
-    _job: &ReadJob<D>,
-)
-    requires named { N.entries ≡ ended_load _session _job.now B.sum (faults_of D.Slot _job.now.row) ∷ [] }
-    ensures { trail.new ≡ trail.old ++ ended_load _session _job.now B.sum (faults_of D.Slot _job.now.row) ∷ [] }
+fn enter_load<N: Adds<Entry>, B: Before, D: Slot>(trail: &mut Log, session: u32, job: &ReadJob<D>)
+    requires named { N.entries ≡ ended_load session job.now B.sum (faults_of D.Slot job.now.row) ∷ [] }
+    ensures { trail.new ≡ trail.old ++ ended_load session job.now B.sum (faults_of D.Slot job.now.row) ∷ [] }
 {
-    trail.tick::<N>();
+    trail.enter_bare::<N>(session, read_ended(job));
+}
+
+// What a trace tells of the end of this read.
+fn read_ended<D>(job: &ReadJob<D>) -> Bare
+    ensures { (before now : ℕ) → result ≡ bare_of (read_ends job.now.failed job.now.stale job.now.id.name before now) }
+{
+    let page = job.id.name;
+    if job.failed {
+        return Bare::ReadFailed { page };
+    }
+    match &job.stale {
+        None => Bare::ReadOk { page },
+        Some(stale) => Bare::ReadStale {
+            wanted: stale.wanted,
+            found: stale.found,
+        },
+    }
 }

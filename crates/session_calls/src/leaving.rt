@@ -13,12 +13,12 @@ ghost use Rattle.store_api.specs.Refusals.{LacksSlots, IsScratchFull};
 ghost use Rattle.session_calls.specs.Ready.{IsReady};
 ghost use Rattle.session_calls.specs.Acting.{ActsThese, Goes, held_by};
 
-use crate::entering::{enter, enter_named};
+use crate::entering::enter;
 use crate::hand::Hand;
 use crate::origin::Origin;
 use block_arena::Buf;
 use outside::Slot;
-use pool_model::{Entry, Event};
+use pool_model::{Bare, Entry, Event};
 use reservation_tree::PoolErr;
 use std::marker::Brand;
 use store_api::{Loan, Page};
@@ -99,7 +99,8 @@ fn leave<G: Adds<Entry>, D: Slot + Drop>(
     let page = p.name();
     match hand.state.unpin(p, buf) {
         Ok(()) => {
-            enter_named::<G>(&mut hand.trail);
+            let event = Bare::Unpin { page };
+            hand.trail.enter_bare::<G>(hand.session, event);
             Ok(())
         }
         Err(refused) => {

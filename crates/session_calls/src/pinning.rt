@@ -1,10 +1,8 @@
 //! Pages that rest are pinned, or end.
-ghost use Rattle.std.specs.Prelude.{◌≡◌, ◌∷◌, [], true, IfErr, IfOk, OnOk};
+ghost use Rattle.std.specs.Prelude.{◌≡◌, ◌∷◌, ◌++◌, [], true, IfErr, IfOk, OnOk};
 ghost use Rattle.pool_model.specs.declared.call.Call.TheVariants as call;
 ghost use Rattle.pool_model.specs.declared.event.Event.TheVariants as event;
-ghost use Rattle.pool_model.specs.State.{page_at};
-ghost use Rattle.pin_core.specs.StateOf.{state_of};
-ghost use Rattle.pin_core.specs.Loads.{load_entries};
+ghost use Rattle.pin_core.specs.Evictions.{evictions};
 ghost use Rattle.store_api.specs.Holdings.{page_len, page_of};
 ghost use Rattle.store_api.specs.Conditions.{IsHeld, IsPage, ShowsLeft};
 ghost use Rattle.store_api.specs.Entries.{IsPin};
@@ -14,23 +12,23 @@ ghost use Rattle.session_calls.specs.Having.{IsAtWork};
 ghost use Rattle.session_calls.specs.Jobs.{DoesIn};
 ghost use Rattle.session_calls.specs.Needing.{EntersNeeded};
 ghost use Rattle.session_calls.specs.Pinning.{GoesFurther, HasAsked, PinIs};
+ghost use Rattle.session_calls.specs.Showing.{ShowsStored};
 ghost use Rattle.session_calls.specs.Turning.{Refuses};
 
 use crate::access::Access;
 use crate::count::{count_read, count_write};
-use crate::entering::{enter, enter_named};
+use crate::entering::{enter, enter_evicted};
 use crate::hand::Hand;
 use crate::jobs::{Unread, read_back, write_out};
+use crate::log::Log;
 use crate::origin::Origin;
 use crate::turning::{enter_started, wait};
 use block_arena::Buf;
 use outside::Slot;
-use pin_core::PinTurn;
-use pool_model::{Call, Entry, Event};
+use pin_core::{EvictedPages, PinTurn};
+use pool_model::{Call, Event};
 use reservation_tree::PoolErr;
-use std::marker::Brand;
 use store_api::Page;
-use turn_table::Adds;
 
 /// What became of one turn of a pin.
 pub(crate) enum PinStep {
@@ -58,6 +56,7 @@ pub fn pin<O: Origin, A: Access<D>, D: Slot + Drop>(
     ensures at_work { IsAtWork D.Slot O.opening O.outset (A.seen place.new) result.0 }
     ensures ok { OnOk result.1 (DoesIn (IsPin p.now.client (held_by O.opening O.outset hand) p.now.name) hand result.0) }
     ensures bytes { IfOk result.1 (ShowsLeft (page_of p.now.name (held_by O.opening O.outset hand)) (held_by O.opening O.outset hand)) }
+    ensures stored { IfOk result.1 (ShowsStored O.opening result.0.trail p.now.name (page_of p.now.name (held_by O.opening O.outset hand))) }
     ensures err { IfErr result.1 (Refuses O.opening O.outset p.now.client (call.Pin p.now.name) hand result.0) }
     ensures needed { EntersNeeded p.now.client (page_len p.now.name (held_by O.opening O.outset hand)) hand result.0 }
 {
@@ -87,30 +86,9 @@ pub fn pin<O: Origin, A: Access<D>, D: Slot + Drop>(
 fn pin_step<O: Origin, A: Access<D>, D: Slot + Drop>(
     access: &A,
     place: &mut A::Place,
-    hand: Hand<D>,
-    p: &Page,
-) -> (Hand<D>, PinStep)
-    requires turns { A.turns O.opening O.outset access.now place.old hand.session }
-    requires at_work { IsAtWork D.Slot O.opening O.outset (A.seen place.old) hand }
-    requires can { CanBePinned p.now (held_by O.opening O.outset hand) }
-    requires asked { HasAsked hand }
-    ensures turns { A.turns O.opening O.outset access.now place.new result.0.session }
-    ensures at_work { IsAtWork D.Slot O.opening O.outset (A.seen place.new) result.0 }
-    ensures step { PinIs O.opening O.outset p.now result.1 hand result.0 }
-    ensures needed { EntersNeeded p.now.client (page_len p.now.name (held_by O.opening O.outset hand)) hand result.0 }
-    ensures further { A.alone ≡ true → GoesFurther p.now.client result.1 hand result.0 }
-{
-    step::<Brand, O, A, D>(access, place, hand, p)
-}
-
-// One turn, with the entries of a load, which `G` names, since they evict what the turn finds to evict.
-fn step<G: Adds<Entry>, O: Origin, A: Access<D>, D: Slot + Drop>(
-    access: &A,
-    place: &mut A::Place,
     mut hand: Hand<D>,
     p: &Page,
 ) -> (Hand<D>, PinStep)
-    requires named { G.entries ≡ load_entries hand.session p.now.name (page_at (state_of hand.state) p.now.name).blocks hand.state }
     requires turns { A.turns O.opening O.outset access.now place.old hand.session }
     requires at_work { IsAtWork D.Slot O.opening O.outset (A.seen place.old) hand }
     requires can { CanBePinned p.now (held_by O.opening O.outset hand) }
@@ -121,14 +99,14 @@ fn step<G: Adds<Entry>, O: Origin, A: Access<D>, D: Slot + Drop>(
     ensures needed { EntersNeeded p.now.client (page_len p.now.name (held_by O.opening O.outset hand)) hand result.0 }
     ensures further { A.alone ≡ true → GoesFurther p.now.client result.1 hand result.0 }
 {
-    match hand.state.pin_turn(hand.session, 0, p) {
+    match hand.state.pin_turn(hand.session, 0, p, &mut hand.gone) {
         PinTurn::Here(buf) => {
             let page = p.name();
             enter(&mut hand.trail, hand.session, Event::PinHere { page });
             (hand, PinStep::Pinned(buf))
         }
         PinTurn::Load(job) => {
-            enter_named::<G>(&mut hand.trail);
+            enter_begun(&mut hand.trail, hand.session, p.name(), &hand.gone);
             count_read(&mut hand.counts, &job);
             let (hand, result) = read_back::<O, A, D>(access, place, hand, job);
             match result {
@@ -147,6 +125,14 @@ fn step<G: Adds<Entry>, O: Origin, A: Access<D>, D: Slot + Drop>(
         }
         PinTurn::Wait => (wait::<O, A, D>(access, place, hand), PinStep::Wrote),
     }
+}
+
+// Clean pages went, and a load of this page began.
+fn enter_begun(trail: &mut Log, session: u32, page: u64, gone: &EvictedPages)
+    ensures { trail.new ≡ trail.old ++ (evictions session gone.now ++ record { maker = session; event = event.PinLoad page } ∷ []) }
+{
+    enter_evicted(trail, session, gone);
+    enter(trail, session, Event::PinLoad { page });
 }
 
 /// Ends a page. One that is in flight is waited for.

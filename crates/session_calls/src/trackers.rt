@@ -1,7 +1,10 @@
 //! Clients come and go, and reservations grow.
 ghost use Rattle.std.specs.Prelude.{◌≡◌, ◌↔◌, ◌≤◌, [], ◌∷◌, None, Err, IsErr, IfOk, IfErr, IfSome, IfNone, OnOk, OnErr};
 ghost use Rattle.reservation_tree.specs.declared.errors.PoolErr.TheVariants as refusal;
+ghost use Rattle.reservation_tree.specs.Answer.{IsFrom};
 ghost use Rattle.pool_model.specs.declared.event.Event.TheVariants as event;
+ghost use Rattle.pin_core.specs.Entering.{fit_refusal, growth_refusal};
+ghost use Rattle.pin_core.specs.StateOf.{state_of};
 ghost use Rattle.store_api.specs.Holdings.{account_of};
 ghost use Rattle.store_api.specs.Changes.{query_growth, shortfall};
 ghost use Rattle.store_api.specs.Conditions.{IsLiveClient, IsIdle};
@@ -80,6 +83,7 @@ impl<D: Slot + Drop> Hand<D> {
         ensures ok { OnOk result (ActsThese (event.Increase c.now.tracker bytes ∷ []) self.old self.new) }
         ensures refused { IfSome (reserve_refusal c.now.tracker bytes (held_by O.opening O.outset self.old)) (λ e. result ≡ Err e) }
         ensures shared { IfNone (reserve_refusal c.now.tracker bytes (held_by O.opening O.outset self.old)) (IfErr result (IsSharedRefusal (query_growth bytes (held_by O.opening O.outset self.old)) (held_by O.opening O.outset self.old).above)) }
+        ensures cause { IfErr result (IsFrom (growth_refusal (state_of self.old.state) c.now.tracker bytes)) }
         ensures err { OnErr result (self.new ≡ self.old) }
         ensures ready { IsReady D.Slot O.opening O.outset self.new }
     {
@@ -105,6 +109,7 @@ impl<D: Slot + Drop> Hand<D> {
         ensures ok { OnOk result (ActsThese (event.IncreaseToFit c.now.tracker bytes ∷ []) self.old self.new) }
         ensures refused { IfSome (reserve_refusal c.now.tracker (shortfall c.now.tracker bytes (held_by O.opening O.outset self.old)) (held_by O.opening O.outset self.old)) (λ e. result ≡ Err e) }
         ensures shared { IfNone (reserve_refusal c.now.tracker (shortfall c.now.tracker bytes (held_by O.opening O.outset self.old)) (held_by O.opening O.outset self.old)) (IfErr result (IsSharedRefusal (query_growth (shortfall c.now.tracker bytes (held_by O.opening O.outset self.old)) (held_by O.opening O.outset self.old)) (held_by O.opening O.outset self.old).above)) }
+        ensures cause { IfErr result (IsFrom (fit_refusal (state_of self.old.state) c.now.tracker bytes)) }
         ensures err { OnErr result (self.new ≡ self.old) }
         ensures ready { IsReady D.Slot O.opening O.outset self.new }
     {

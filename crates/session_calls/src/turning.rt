@@ -12,16 +12,16 @@ ghost use Rattle.session_calls.specs.Turning.{GoesFurther, TurnIs};
 
 use crate::access::Access;
 use crate::count::count_write;
+use crate::entering::enter;
 use crate::hand::Hand;
 use crate::jobs::write_out;
+use crate::log::Log;
 use crate::origin::Origin;
 use outside::Slot;
 use pin_core::{RoomTurn, Want, WriteJob};
-use pool_model::Entry;
-use std::marker::Brand;
+use pool_model::Event;
 use std::thread::yield_now;
 use store_api::Client;
-use turn_table::{Adds, Solo};
 
 /// What became of one turn.
 #[derive(Clone, Copy, Debug, PartialEq, Eq)]
@@ -88,16 +88,9 @@ pub(crate) fn wait<O: Origin, A: Access<D>, D: Slot + Drop>(
 
 // The session began to write the page of this job.
 #[inline]
-pub(crate) fn enter_started<D>(trail: &mut Solo<Entry>, session: u32, job: &WriteJob<D>)
+pub(crate) fn enter_started<D>(trail: &mut Log, session: u32, job: &WriteJob<D>)
     ensures { trail.new ≡ trail.old ++ record { maker = session; event = event.StartWrite job.now.id.name } ∷ [] }
 {
-    enter_start::<Brand, D>(trail, session, job);
-}
-
-#[inline]
-fn enter_start<N: Adds<Entry>, D>(trail: &mut Solo<Entry>, _session: u32, _job: &WriteJob<D>)
-    requires named { N.entries ≡ record { maker = _session; event = event.StartWrite _job.now.id.name } ∷ [] }
-    ensures { trail.new ≡ trail.old ++ record { maker = _session; event = event.StartWrite _job.now.id.name } ∷ [] }
-{
-    trail.tick::<N>();
+    let page = job.id.name;
+    enter(trail, session, Event::StartWrite { page });
 }

@@ -15,7 +15,7 @@ use Rattle.session_calls.specs.declared.count.Count.TheVariants as count
 use Rattle.local_pool.specs.Beginning.{first_events}
 use Rattle.pin_core.proofs.Tallied.{tally_same}
 use Rattle.local_pool.proofs.Shelved.{seen_first}
-use Rattle.local_pool.proofs.Begun.{opening_with, is_opening, not_full, lacks, cause_of, none_left, stands_first, fits_first, counted_alike, begun, first_query, sits_first}
+use Rattle.local_pool.proofs.Begun.{opening_with, is_opening, not_full, lacks, cause_of, never_root, none_left, stands_first, fits_first, counted_alike, begun, first_query, sits_first}
 use Rattle.local_pool.proofs.beginning.begin.Goals as goal
 
 pub close-requires : goal.close-requires
@@ -33,7 +33,8 @@ returns-in-Err-clause-cause g c =
     let o : Opening = opening_with c.args._conf.now (spare_of c.args.pool) in
     let fresh : StandsFor g.D.Slot o [] c.args.pool = c.requires.fresh o (is_opening c.args._conf.now (spare_of c.args.pool)) in
     let closed = c.in-Err.ensures.err (not_full c.args._conf.now (spare_of c.args.pool) (state_of c.args.pool) fresh.state) in
-    cause_of c.args._conf.now (spare_of c.args.pool) (state_of c.args.pool) fresh.state closed.tracker c.args.limit c.args.least c.in-Err.refusal closed.cause
+    cause_of c.args._conf.now (spare_of c.args.pool) (state_of c.args.pool) fresh.state closed.tracker c.args.limit c.args.least c.in-Err.refusal
+    (never_root o closed.tracker (closed.enters.stands o [] fresh).legal.0.allows.fresh) closed.cause
 
 pub returns-in-Err-clause-back : goal.returns-in-Err-clause-back
 returns-in-Err-clause-back g c measure =
@@ -63,9 +64,9 @@ invariant_of-result g c =
     let o : Opening = opening_with c.args._conf.now (spare_of c.args.pool) in
     let fresh : StandsFor g.D.Slot o [] c.args.pool = c.requires.fresh o (is_opening c.args._conf.now (spare_of c.args.pool)) in
     let q : ℕ = query_of (state_of c.open_session.new.self) c.in-Ok.session in
-    let own : Hand g.row.D.Denot = record { state = c.open_session.new.self; trail = c.enter-2.new.trail; counts = c.args.counts; session = c.in-Ok.session } in
+    let own : Hand g.row.D.Denot = record { state = c.open_session.new.self; trail = c.enter-2.new.trail; counts = c.args.books.counts; session = c.in-Ok.session; gone = c.args.books.gone } in
     let trail : own.trail ≡ by own.session (first_events q c.args.limit c.args.quota c.args.least) =
-    trail_is c.args.trail c.enter.new.trail c.enter-2.new.trail c.in-Ok.session c.tracker-tracker.result q c.of.result c.args.limit c.args.quota c.args.least c.requires.empty.0 c.tracker-tracker.ensures c.of.ensures c.enter.ensures c.enter-2.ensures in
+    trail_is c.args.books.trail c.enter.new.trail c.enter-2.new.trail c.in-Ok.session c.tracker-tracker.result q c.of.result c.args.limit c.args.quota c.args.least c.requires.empty.0 c.tracker-tracker.ensures c.of.ensures c.enter.ensures c.enter-2.ensures in
     let stood : StandsFor g.D.Slot o own.trail own.state = subst (λ (h : List Entry). StandsFor g.D.Slot o h own.state) (sym trail) (c.in-Ok.ensures.ok.stands o [] fresh) in
     let same : tally_in g.D.Slot c.args.pool ≡ tally_in g.D.Slot own.state =
     tally_same g.D.Slot (λ measure. slots_home measure c.args.pool) (λ measure. slots_home measure own.state) (λ measure. let home = c.in-Ok.ensures.ok.slots measure in omega (arith, home)) in
@@ -73,7 +74,7 @@ invariant_of-result g c =
       stands_first g.D.Slot own q c.args.limit c.args.quota c.args.least trail c.args._conf.now o (is_opening c.args._conf.now (spare_of c.args.pool)) stood c.in-Ok.ensures.fresh.0 counts
           g.T.OpenedWith.opened (counted_alike g.T.OpenedWith.opened (tally_in g.D.Slot c.args.pool) (tally_in g.D.Slot own.state) c.args._conf.now.first_name _ same c.requires.opens),
       fits_first g.D.Slot own q c.args.limit c.args.quota c.args.least trail c.args._conf.now o (is_opening c.args._conf.now (spare_of c.args.pool)) stood c.in-Ok.ensures.fresh.0 counts
-          c.see.new.self (c.see.ensures.seen ∙ seen_first c.args.shelf.seen own.trail c.requires.empty.1) (c.see.ensures.counted ∙ seen_first c.args.shelf.counted own.counts c.requires.empty.2),
+          c.see.new.self (c.see.ensures.seen ∙ seen_first c.args.books.shelf.seen own.trail c.requires.empty.1) (c.see.ensures.counted ∙ seen_first c.args.books.shelf.counted own.counts c.requires.empty.2),
     )
 
 pub returns-clause-ok : goal.returns-clause-ok
@@ -81,18 +82,18 @@ returns-clause-ok g c =
     let o : Opening = opening_with c.args._conf.now (spare_of c.args.pool) in
     let fresh : StandsFor g.D.Slot o [] c.args.pool = c.requires.fresh o (is_opening c.args._conf.now (spare_of c.args.pool)) in
     let q : ℕ = query_of (state_of c.open_session.new.self) c.in-Ok.session in
-    let own : Hand g.row.D.Denot = record { state = c.open_session.new.self; trail = c.enter-2.new.trail; counts = c.args.counts; session = c.in-Ok.session } in
+    let own : Hand g.row.D.Denot = record { state = c.open_session.new.self; trail = c.enter-2.new.trail; counts = c.args.books.counts; session = c.in-Ok.session; gone = c.args.books.gone } in
     let trail : own.trail ≡ by own.session (first_events q c.args.limit c.args.quota c.args.least) =
-    trail_is c.args.trail c.enter.new.trail c.enter-2.new.trail c.in-Ok.session c.tracker-tracker.result q c.of.result c.args.limit c.args.quota c.args.least c.requires.empty.0 c.tracker-tracker.ensures c.of.ensures c.enter.ensures c.enter-2.ensures in
+    trail_is c.args.books.trail c.enter.new.trail c.enter-2.new.trail c.in-Ok.session c.tracker-tracker.result q c.of.result c.args.limit c.args.quota c.args.least c.requires.empty.0 c.tracker-tracker.ensures c.of.ensures c.enter.ensures c.enter-2.ensures in
     begun g.D.Slot own q c.args.limit c.args.quota c.args.least trail c.args._conf.now o (is_opening c.args._conf.now (spare_of c.args.pool))
     (subst (λ (h : List Entry). StandsFor g.D.Slot o h own.state) (sym trail) (c.in-Ok.ensures.ok.stands o [] fresh))
 
 pub returns-clause-trail : goal.returns-clause-trail
 returns-clause-trail g c =
     let q : ℕ = query_of (state_of c.open_session.new.self) c.in-Ok.session in
-    let own : Hand g.row.D.Denot = record { state = c.open_session.new.self; trail = c.enter-2.new.trail; counts = c.args.counts; session = c.in-Ok.session } in
+    let own : Hand g.row.D.Denot = record { state = c.open_session.new.self; trail = c.enter-2.new.trail; counts = c.args.books.counts; session = c.in-Ok.session; gone = c.args.books.gone } in
     let trail : own.trail ≡ by own.session (first_events q c.args.limit c.args.quota c.args.least) =
-    trail_is c.args.trail c.enter.new.trail c.enter-2.new.trail c.in-Ok.session c.tracker-tracker.result q c.of.result c.args.limit c.args.quota c.args.least c.requires.empty.0 c.tracker-tracker.ensures c.of.ensures c.enter.ensures c.enter-2.ensures in
+    trail_is c.args.books.trail c.enter.new.trail c.enter-2.new.trail c.in-Ok.session c.tracker-tracker.result q c.of.result c.args.limit c.args.quota c.args.least c.requires.empty.0 c.tracker-tracker.ensures c.of.ensures c.enter.ensures c.enter-2.ensures in
     trail ∙ ap (λ (k : ℕ). by own.session (first_events k c.args.limit c.args.quota c.args.least)) (sym (first_query g.D.Slot own q c.args.limit c.args.quota c.args.least trail))
 
 pub returns-clause-refused : goal.returns-clause-refused

@@ -14,7 +14,7 @@ use Rattle.pool.proofs.AllIn.{live_here}
 use Rattle.pool.proofs.Barred.{only_memory}
 use Rattle.pool.proofs.Came.{still_pass, turned_away, has_rights, came_pass, came_keeps, came, none_there, spare_enough, still_right}
 use Rattle.pool.proofs.Fresh.{fresh_left}
-use Rattle.pool.proofs.Stood.{stands_begun, state_here}
+use Rattle.pool.proofs.Stood.{legal_here, stands_begun, state_here}
 use Rattle.pool.proofs.seating.seat_session.Goals as goal
 
 pub invariant_of-pass : goal.invariant_of-pass
@@ -69,6 +69,7 @@ invariant_of-result g c =
     came_keeps g.T.OpenedAs.opening c.pass.invariant c.enter-shared.ensures.kept.1 c.enter-shared.ensures.seen c.enter-shared.ensures.stands.0 c.admit-number.result c.admit-number.ensures.opens.number c.admit-number.ensures.opens.vacant
     (query_of (state_of c.admit-number.new.shared.state) c.admit-number.result) c.args.limit c.args.quota c.args.least c.leave_begun.new.seat c.split-seat.new.seat c.split-seat.result
     c.leave_begun.ensures.grown c.split-seat.ensures.parted c.split-seat.ensures.newcomer
+    (legal_here g.D.Slot g.T.OpenedAs.opening g.T.OpenedAs.told g.T.OpenedAs.first _ _ _ (stands_begun g.D.Slot g.T.OpenedAs.opening g.T.OpenedAs.told g.T.OpenedAs.first c.enter-shared.new.seat.knows.seen (record { trail = c.enter-shared.result.trail; counts = c.enter-shared.result.counts }) (record { trail = c.admit-number.new.shared.trail; counts = c.admit-number.new.shared.counts }) c.enter-shared.result.state c.admit-number.new.shared.state c.admit-number.result (query_of (state_of c.admit-number.new.shared.state) c.admit-number.result) c.args.limit c.args.quota c.args.least c.enter-shared.ensures.stands.0 c.admit-number.ensures.opens.vacant c.admit-number.ensures.trail c.admit-number.ensures.counts.0 c.admit-number.ensures.opens.enters c.admit-number.ensures.opens.spare))
     c.in-Ok.ensures.ok c.args.block_len c.requires.power c.requires.len (record { room = c.args.least; accounts = c.in-Ok.accounts }) refl
     (none_there c.args.accounts c.in-Ok.accounts c.in-Ok.ensures.accounts c.requires.none)
 

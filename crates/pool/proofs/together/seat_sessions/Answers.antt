@@ -18,7 +18,7 @@ use Rattle.pool.proofs.AllIn.{admits, all_is, all_pass, can_hand, first_gone, li
 use Rattle.pool.proofs.Answered.{answered_coming}
 use Rattle.pool.proofs.Came.{spare_enough}
 use Rattle.pool.proofs.Fresh.{fresh_left}
-use Rattle.pool.proofs.Stood.{state_here}
+use Rattle.pool.proofs.Stood.{legal_here, state_here}
 use Rattle.pool.proofs.Vacant.{at_most}
 use Rattle.pool.proofs.together.seat_sessions.Goals as goal
 
@@ -72,7 +72,7 @@ part_all-requires g c =
         came =
             subst (λ (items : List Item). AllComing g.T.OpenedAs.opening g.T.OpenedAs.told items c.requires.rooms.most asks answers)
             (sym (seen_gone g.T.OpenedAs.opening c.pass.invariant c.enter-shared.ensures.kept.1 c.enter-shared.ensures.seen asks left answers done.after are c.admit_all-numbers.new.shared.trail (ap (λ z. z.trail) done.stands.sight_is) c.leave_admitted.new.seat c.leave_admitted.ensures.grown))
-            (answered_coming g.T.OpenedAs.opening g.T.OpenedAs.told c.requires.rooms.most asks left c.enter-shared.new.seat.knows.seen answers done.after (at_most (state_of c.enter-shared.result.state).sessions 240) c.requires.rooms.few c.requires.some are);
+            (answered_coming g.T.OpenedAs.opening g.T.OpenedAs.told c.requires.rooms.most asks left c.enter-shared.new.seat.knows.seen answers done.after (at_most (state_of c.enter-shared.result.state).sessions 240) c.requires.rooms.few c.requires.some are (legal_here g.D.Slot g.T.OpenedAs.opening g.T.OpenedAs.told g.T.OpenedAs.first _ _ _ done.stands));
       };
       none = c.requires.none.1;
       room = c.requires.room.1;
@@ -105,7 +105,7 @@ returns g c =
     let come : AllComing g.T.OpenedAs.opening g.T.OpenedAs.told c.leave_admitted.new.seat.knows.seen c.requires.rooms.most asks answers =
     subst (λ (items : List Item). AllComing g.T.OpenedAs.opening g.T.OpenedAs.told items c.requires.rooms.most asks answers)
     (sym (seen_gone g.T.OpenedAs.opening c.pass.invariant c.enter-shared.ensures.kept.1 c.enter-shared.ensures.seen asks left answers done.after are c.admit_all-numbers.new.shared.trail (ap (λ z. z.trail) done.stands.sight_is) c.leave_admitted.new.seat c.leave_admitted.ensures.grown))
-    (answered_coming g.T.OpenedAs.opening g.T.OpenedAs.told c.requires.rooms.most asks left c.enter-shared.new.seat.knows.seen answers done.after (at_most (state_of c.enter-shared.result.state).sessions 240) c.requires.rooms.few c.requires.some are) in
+    (answered_coming g.T.OpenedAs.opening g.T.OpenedAs.told c.requires.rooms.most asks left c.enter-shared.new.seat.knows.seen answers done.after (at_most (state_of c.enter-shared.result.state).sessions 240) c.requires.rooms.few c.requires.some are (legal_here g.D.Slot g.T.OpenedAs.opening g.T.OpenedAs.told g.T.OpenedAs.first _ _ _ done.stands)) in
     let home : c.part_all.new.seat.table ≡ c.pass.inside.seat.table = c.part_all.ensures.table ∙ sym c.requires.table ∙ ap (λ (p : Spot Item). p.table) (sym c.pass.view_is) in
     record {
       admits =

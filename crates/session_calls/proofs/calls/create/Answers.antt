@@ -1,12 +1,14 @@
 use Rattle.std.proofs.Common.{ℕ, [], ◌∷◌, IsSome, IfOk, refl, sym, subst}
+use Rattle.reservation_tree.specs.declared.errors.PoolErr.TheVariants.{NamesSpent}
 use Rattle.pool_model.specs.declared.event.Event.TheVariants.{Create}
 use Rattle.pool_model.specs.Sums.{HasRoom}
 use Rattle.store_api.specs.Holdings.{Holdings}
 use Rattle.pin_core.specs.StateOf.{state_of}
+use Rattle.session_calls.specs.declared.hand.Hand.{Hand}
 use Rattle.session_calls.specs.Coming.{Evicts}
 use Rattle.session_calls.specs.Acting.{Acts, held_by, signs_by}
 use Rattle.session_calls.specs.Coming.{IsFreshPage}
-use Rattle.session_calls.proofs.Called.{in_ok, granted, granted_held, length_now, taken_created, works_created, refused_created, fresh_taken}
+use Rattle.session_calls.proofs.Called.{in_err_same, in_ok, granted, granted_held, length_now, taken_created, works_created, refused_created, fresh_taken}
 use Rattle.session_calls.proofs.Needed.{needs_as, needs_more}
 use Rattle.session_calls.proofs.calls.create.Goals as goal
 
@@ -44,3 +46,8 @@ returns-clause-needed g c =
     c.make_room-hand.ensures.needed
     (needs_as c.args.c.now.tracker _ c.args.c.now.tracker c.args.bytes c.make_room-hand.result.0 c.create-made.new.self refl
     (sym (length_now g.O.Origin.opening g.O.Origin.outset c.args.c.now.tracker c.args.hand c.make_room-hand.result.0 c.make_room-hand.result.1 _ c.in_default-result.is c.make_room-hand.ensures.ok c.args.bytes c.args.blocks c.in-Ok.shell c.requires.bytes.0 c.in-Ok.ensures)) c.create-made.ensures.needed)
+
+pub returns-clause-spent : goal.returns-clause-spent
+returns-clause-spent g c = λ is.
+    in_err_same _ (λ (hand : Hand g.row.D.Denot). HasRoom (state_of hand.state) c.args.c.now.tracker c.args.bytes) c.make_room-hand.result.0 c.create-made.new.self c.create-made.result NamesSpent is c.create-made.ensures.err
+    (in_ok (HasRoom (state_of c.make_room-hand.result.0.state) c.args.c.now.tracker c.args.bytes) c.make_room-hand.result.1 _ c.in_default-result.is c.make_room-hand.ensures.room)

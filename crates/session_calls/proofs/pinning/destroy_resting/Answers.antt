@@ -22,7 +22,7 @@ destroy_unpinned-requires g c = record {
 pub returns-in-Ok-clause-at_work : goal.returns-in-Ok-clause-at_work
 returns-in-Ok-clause-at_work g c =
     let hand : Hand g.row.D.Denot = c.loop-hand.hand in
-    let new : Hand g.row.D.Denot = record { state = c.destroy_unpinned.new.self; trail = c.enter.new.trail; counts = hand.counts; session = hand.session } in
+    let new : Hand g.row.D.Denot = record { state = c.destroy_unpinned.new.self; trail = c.enter.new.trail; counts = hand.counts; session = hand.session; gone = hand.gone } in
     let name : c.name-page.result ≡ c.loop-hand.p.name = c.name-page.ensures ∙ ap (λ (q : PageToken). q.name) (sym c.loop-hand.invariant.3) in
     works_ended g.D.Slot g.O.Origin.opening g.O.Origin.outset (g.A.Access.seen c.loop-hand.place) hand c.loop-hand.invariant.1 c.loop-hand.p
     (page_still g.O.Origin.opening g.O.Origin.outset c.args.hand hand c.loop-hand.invariant.2 c.args.p c.loop-hand.p c.loop-hand.invariant.3 c.requires.page) new
@@ -31,7 +31,7 @@ returns-in-Ok-clause-at_work g c =
 pub returns-in-Ok-clause-did : goal.returns-in-Ok-clause-did
 returns-in-Ok-clause-did g c =
     let hand : Hand g.row.D.Denot = c.loop-hand.hand in
-    let new : Hand g.row.D.Denot = record { state = c.destroy_unpinned.new.self; trail = c.enter.new.trail; counts = hand.counts; session = hand.session } in
+    let new : Hand g.row.D.Denot = record { state = c.destroy_unpinned.new.self; trail = c.enter.new.trail; counts = hand.counts; session = hand.session; gone = hand.gone } in
     let name : c.name-page.result ≡ c.loop-hand.p.name = c.name-page.ensures ∙ ap (λ (q : PageToken). q.name) (sym c.loop-hand.invariant.3) in
     subst (λ (q : PageToken). DoesIn (λ events. events ≡ Destroy q.name ∷ []) c.args.hand new) c.loop-hand.invariant.3
     (then_did g.O.Origin.opening g.O.Origin.outset c.args.hand hand c.loop-hand.invariant.2 (Destroy c.loop-hand.p.name ∷ []) new
@@ -41,7 +41,7 @@ returns-in-Ok-clause-did g c =
 
 pub wait-hand-requires-clause-at_work : goal.wait-hand-requires-clause-at_work
 wait-hand-requires-clause-at_work g c =
-    same_works g.D.Slot g.O.Origin.opening g.O.Origin.outset (g.A.Access.seen c.loop-hand.place) c.loop-hand.hand c.destroy_unpinned.new.self c.loop-hand.invariant.1 c.in-Err.ensures.err
+    same_works g.D.Slot g.O.Origin.opening g.O.Origin.outset (g.A.Access.seen c.loop-hand.place) c.loop-hand.hand c.destroy_unpinned.new.self c.loop-hand.hand.gone c.loop-hand.invariant.1 c.in-Err.ensures.err refl
 
 pub loop-hand-preserved : goal.loop-hand-preserved
 loop-hand-preserved g c = (

@@ -7,7 +7,7 @@ use Rattle.session_calls.specs.Writing.{writes_left}
 use Rattle.session_calls.specs.Acting.{held_by}
 use Rattle.session_calls.proofs.Asked.{works_with, asked_first}
 use Rattle.session_calls.proofs.Needs.{needs_step}
-use Rattle.session_calls.proofs.PinMade.{needs_turn, needs_refused, further_wrote, stays, can_now, asked_now, asks_more, asked_pin, shows_pin, may_refuse_lacking, was_lacking, was_unread}
+use Rattle.session_calls.proofs.PinMade.{needs_turn, needs_refused, further_wrote, stays, can_now, asked_now, asks_more, asked_pin, shows_pin, stored_pin, may_refuse_lacking, was_lacking, was_unread}
 use Rattle.session_calls.proofs.Rounds.{goes_down}
 use Rattle.session_calls.proofs.pinning.pin.Goals as goal
 
@@ -30,6 +30,9 @@ returns-in-Pinned-clause-ok g c = asked_pin g.D.Slot g.O.Origin.opening g.O.Orig
 
 pub returns-in-Pinned-clause-bytes : goal.returns-in-Pinned-clause-bytes
 returns-in-Pinned-clause-bytes g c = shows_pin g.D.Slot g.O.Origin.opening g.O.Origin.outset c.args.p.now c.args.hand c.loop-buf.hand c.loop-buf.invariant.2 c.loop-buf.invariant.1.ready c.requires.can c.pin_step-now.result.0 c.pin_step-now.result.1 c.pin_step-now.ensures.step c.in-Pinned.buf c.in-Pinned.is
+
+pub returns-in-Pinned-clause-stored : goal.returns-in-Pinned-clause-stored
+returns-in-Pinned-clause-stored g c = stored_pin g.D.Slot g.O.Origin.opening g.O.Origin.outset c.args.p.now c.args.hand c.loop-buf.hand c.loop-buf.invariant.2 c.loop-buf.invariant.1.ready c.requires.can c.pin_step-now.result.0 c.pin_step-now.result.1 c.pin_step-now.ensures.step c.in-Pinned.buf c.in-Pinned.is
 
 pub refuse-requires-clause-may : goal.refuse-requires-clause-may
 refuse-requires-clause-may g c = may_refuse_lacking g.D.Slot g.O.Origin.opening g.O.Origin.outset c.args.p.now c.args.hand c.loop-buf.hand c.loop-buf.invariant.2 c.loop-buf.invariant.1.ready c.requires.can c.pin_step-now.result.0 c.pin_step-now.result.1 c.pin_step-now.ensures.step c.in-Refused.entry c.in-Refused.is c.name.result c.name.ensures

@@ -19,12 +19,12 @@ room_turn-requires-clause-unused g c =
 
 pub write_out-requires-clause-may : goal.write_out-requires-clause-may
 write_out-requires-clause-may g c =
-    let went : Hand g.row.D.Denot = record { state = c.room_turn.new.self; trail = c.enter_started.new.trail; counts = c.count_write.new.counts; session = c.args.hand.session } in
+    let went : Hand g.row.D.Denot = record { state = c.room_turn.new.self; trail = c.enter_started.new.trail; counts = c.count_write.new.counts; session = c.args.hand.session; gone = c.args.hand.gone } in
     may_write g.D.Slot g.O.Origin.opening g.O.Origin.outset (g.A.Access.seen c.args.place.now) c.args.hand c.requires.at_work c.args.c.now.tracker c.requires.client c.in-Write.job went c.in-Write.ensures.turn.1 c.in-Write.ensures.enters c.enter_started.ensures c.count_write.ensures refl
 
 pub write_out-requires-clause-can : goal.write_out-requires-clause-can
 write_out-requires-clause-can g c =
-    let went : Hand g.row.D.Denot = record { state = c.room_turn.new.self; trail = c.enter_started.new.trail; counts = c.count_write.new.counts; session = c.args.hand.session } in
+    let went : Hand g.row.D.Denot = record { state = c.room_turn.new.self; trail = c.enter_started.new.trail; counts = c.count_write.new.counts; session = c.args.hand.session; gone = c.args.hand.gone } in
     can_write g.D.Slot g.O.Origin.opening g.O.Origin.outset (g.A.Access.seen c.args.place.now) c.args.hand c.requires.at_work c.args.c.now.tracker c.requires.client c.in-Write.job went c.in-Write.ensures.turn.1 c.in-Write.ensures.enters c.enter_started.ensures c.count_write.ensures refl
 
 pub wait-requires-clause-at_work : goal.wait-requires-clause-at_work
@@ -41,13 +41,13 @@ returns-in-Refused-clause-at_work g c =
 
 pub returns-in-Write-clause-at_work : goal.returns-in-Write-clause-at_work
 returns-in-Write-clause-at_work g c =
-    let went : Hand g.row.D.Denot = record { state = c.room_turn.new.self; trail = c.enter_started.new.trail; counts = c.count_write.new.counts; session = c.args.hand.session } in
+    let went : Hand g.row.D.Denot = record { state = c.room_turn.new.self; trail = c.enter_started.new.trail; counts = c.count_write.new.counts; session = c.args.hand.session; gone = c.args.hand.gone } in
     works_on g.D.Slot g.O.Origin.opening g.O.Origin.outset (g.A.Access.seen c.args.place.now) c.args.hand c.requires.at_work c.args.c.now.tracker c.requires.client c.in-Write.job went c.in-Write.ensures.turn.1 c.in-Write.ensures.enters c.enter_started.ensures c.count_write.ensures refl
     (g.A.Access.seen c.write_out.new.place) c.write_out.result c.write_out.ensures.may c.write_out.ensures.wrote
 
 pub returns-in-Write-clause-turn : goal.returns-in-Write-clause-turn
 returns-in-Write-clause-turn g c =
-    let went : Hand g.row.D.Denot = record { state = c.room_turn.new.self; trail = c.enter_started.new.trail; counts = c.count_write.new.counts; session = c.args.hand.session } in (
+    let went : Hand g.row.D.Denot = record { state = c.room_turn.new.self; trail = c.enter_started.new.trail; counts = c.count_write.new.counts; session = c.args.hand.session; gone = c.args.hand.gone } in (
       c.in-Write.ensures.turn.0,
       wrote_one g.D.Slot g.O.Origin.opening g.O.Origin.outset (g.A.Access.seen c.args.place.now) c.args.hand c.requires.at_work c.args.c.now.tracker c.requires.client c.in-Write.job went c.in-Write.ensures.turn.1 c.in-Write.ensures.enters c.enter_started.ensures c.count_write.ensures refl
           (g.A.Access.seen c.write_out.new.place) c.write_out.result c.write_out.ensures.may c.write_out.ensures.wrote,
@@ -71,13 +71,13 @@ returns-in-Refused-clause-further g c = λ alone. tt
 
 pub returns-in-Write-clause-needed : goal.returns-in-Write-clause-needed
 returns-in-Write-clause-needed g c =
-    let went : Hand g.row.D.Denot = record { state = c.room_turn.new.self; trail = c.enter_started.new.trail; counts = c.count_write.new.counts; session = c.args.hand.session } in
+    let went : Hand g.row.D.Denot = record { state = c.room_turn.new.self; trail = c.enter_started.new.trail; counts = c.count_write.new.counts; session = c.args.hand.session; gone = c.args.hand.gone } in
     needed_out g.D.Slot g.O.Origin.opening g.O.Origin.outset (g.A.Access.seen c.args.place.now) c.args.hand c.requires.at_work c.args.c.now.tracker c.requires.client c.in-Write.job went c.in-Write.ensures.turn.1 c.in-Write.ensures.enters c.enter_started.ensures c.count_write.ensures refl
     (g.A.Access.seen c.write_out.new.place) c.write_out.result c.write_out.ensures.may c.write_out.ensures.wrote (amount_of c.args.want) c.in-Write.ensures.turn.0.full
 
 pub returns-in-Write-clause-further : goal.returns-in-Write-clause-further
 returns-in-Write-clause-further g c = λ alone.
-    let went : Hand g.row.D.Denot = record { state = c.room_turn.new.self; trail = c.enter_started.new.trail; counts = c.count_write.new.counts; session = c.args.hand.session } in
+    let went : Hand g.row.D.Denot = record { state = c.room_turn.new.self; trail = c.enter_started.new.trail; counts = c.count_write.new.counts; session = c.args.hand.session; gone = c.args.hand.gone } in
     left_turn g.D.Slot g.O.Origin.opening g.O.Origin.outset (g.A.Access.seen c.args.place.now) c.args.hand c.requires.at_work c.args.c.now.tracker c.requires.client c.in-Write.job went c.in-Write.ensures.turn.1 c.in-Write.ensures.enters c.enter_started.ensures c.count_write.ensures refl
     (g.A.Access.seen c.write_out.new.place) c.write_out.result c.write_out.ensures.may c.write_out.ensures.wrote
     (all_worked g.O.Origin.opening (g.A.Access.seen c.write_out.new.place) c.write_out.result c.write_out.ensures.may.worked

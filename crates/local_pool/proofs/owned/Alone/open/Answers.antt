@@ -30,5 +30,5 @@ begin-requires-clause-counts g c =
     let slots = c.args.slots.items in
     let pool = c.in-Ok.pool in
     let same : tally_of g.D.Slot slots ≡ tally_in g.D.Slot pool = tally_same g.D.Slot (λ measure. sum_by measure slots) (λ measure. slots_home measure pool) (λ measure. sym (c.in-Ok.ensures.slots measure)) in
-    c.count_opening.ensures ∙ ap (λ (l : List Count). l ++ count.Opening (tally_of g.D.Slot c.as_slice.result.now) ∷ []) c.in-Ok-Ok-Ok.ensures'
+    c.count_opening.ensures ∙ ap (λ (l : List Count). l ++ count.Opening (tally_of g.D.Slot c.as_slice.result.now) ∷ []) c.in-Some.ensures.1
     ∙ ap (λ (xs : List g.row.D.Denot). count.Opening (tally_of g.D.Slot xs) ∷ []) c.as_slice.ensures.value ∙ ap (λ (t : Tally). count.Opening t ∷ []) same

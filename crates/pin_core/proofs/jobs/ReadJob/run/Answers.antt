@@ -1,12 +1,14 @@
-use Rattle.std.proofs.Common.{◌≡◌, ◌*◌, ◌+◌, ℕ, List, Bool, Option, length, ap, sym, ◌∙◌, subst}
+use Rattle.std.proofs.Common.{◌*◌, ◌+◌, ℕ, Bool, Option, ap, sym, ◌∙◌, subst}
 use Rattle.std.specs.List.{slice_range}
 use Rattle.block_arena.specs.Memory.{Buffer, block_of}
 use Rattle.scratch_dev.specs.Rows.{Walked}
 use Rattle.pin_core.specs.declared.jobs.Stale.{Stale}
-use Rattle.pin_core.specs.Runs.{IsLoadedAs, load_end}
+use Rattle.pin_core.specs.Returning.{stale_loads}
+use Rattle.pin_core.specs.Runs.{CountsStrays, IsLoadedAs}
 use Rattle.pin_core.proofs.Counting.{loads_failed}
 use Rattle.pin_core.proofs.Gathered.{well_is, fault_is, found_is, fresh_is}
 use Rattle.pin_core.proofs.Rowed.{all_gave, stays, loaded_stores, loaded_tells, still_held, load_shows}
+use Rattle.pin_core.proofs.Strayed.{loads_strayed}
 use Rattle.pin_core.proofs.jobs.ReadJob.run.Goals as goal
 
 pub returns-clause-gave : goal.returns-clause-gave
@@ -51,3 +53,10 @@ returns-clause-failed g c = λ did. fault_is c.load_blocks-ended.result c.end_of
 pub returns-clause-strays : goal.returns-clause-strays
 returns-clause-strays g c = λ i d lt.
     (stays g.D.Slot c.args.self.now.under c.args.self.now.id.name (λ i. block_of c.load_blocks-ended.new.buf i) c.load_blocks-ended.result c.args.self.now.row c.load_blocks-ended.new.row c.load_blocks-ended.ensures.slots i d lt).strays
+
+pub returns-clause-strayed : goal.returns-clause-strayed
+returns-clause-strayed g c = λ bytes same held.
+    subst (λ (p : Bool × Option Stale). CountsStrays g.D.Slot (stale_loads p.0 p.1) c.args.self.now.row c.load_blocks-ended.new.row) (sym c.end_of-failed.ensures)
+    (loads_strayed g.D.Slot c.args.self.now.under c.args.self.now.id.name c.args.self.now.buf.block_len c.args.self.now.buf.blocks c.load_blocks-ended.result c.args.self.now.row c.load_blocks-ended.new.row c.load_blocks-ended.new.buf.bytes
+    (subst (λ (len : ℕ). Walked (λ i. IsLoadedAs g.D.Slot c.args.self.now.under c.args.self.now.id.name i (slice_range c.load_blocks-ended.new.buf.bytes (i * len) (i * len + len))) c.load_blocks-ended.result c.args.self.now.row c.load_blocks-ended.new.row) (ap (λ (b : Buffer). b.block_len) c.load_blocks-ended.ensures.buffer) c.load_blocks-ended.ensures.slots)
+    c.load_blocks-ended.ensures.len (sym c.requires.fit.slots) (c.load_blocks-ended.ensures.bytes ∙ c.requires.fit.whole.whole) bytes (same ∙ c.requires.fit.whole.whole) held)

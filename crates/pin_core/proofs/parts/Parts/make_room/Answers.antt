@@ -11,7 +11,7 @@ make_room-requires-clause-room g c =
     let few = few_go c.args.self.now c.requires.kept c.requires.laws c.args.blocks c.requires.few in
     let none = c.clear.ensures.len in
     let wide = c.clear.ensures.capacity in
-    let had = c.requires.capacity in
+    let had = c.gone.invariant in
     omega (arith, few, none, wide, had)
 
 pub returns-clause-parts : goal.returns-clause-parts

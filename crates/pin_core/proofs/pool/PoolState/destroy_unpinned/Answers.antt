@@ -15,24 +15,22 @@ returns-then-is_flying-clause-refused g c =
 
 pub destroy-requires-clause-can : goal.destroy-requires-clause-can
 destroy-requires-clause-can g c =
-    (unpinned_ends c.self.inside.parts c.args.self.now c.id_of-id.result c.args.p c.self.view_is c.id_of-id.ensures c.self.invariant.0 c.laws.ensures c.requires.unpinned
+    (unpinned_ends c.self.inside.parts c.args.self.now c.id_of-id.result c.args.p c.self.view_is c.id_of-id.ensures c.self.invariant c.laws.ensures c.requires.unpinned
     (sym c.is_flying.ensures ∙ c.if-is_flying.false)).can
 
 pub destroy-requires-clause-ready : goal.destroy-requires-clause-ready
 destroy-requires-clause-ready g c =
-    (unpinned_ends c.self.inside.parts c.args.self.now c.id_of-id.result c.args.p c.self.view_is c.id_of-id.ensures c.self.invariant.0 c.laws.ensures c.requires.unpinned
+    (unpinned_ends c.self.inside.parts c.args.self.now c.id_of-id.result c.args.p c.self.view_is c.id_of-id.ensures c.self.invariant c.laws.ensures c.requires.unpinned
     (sym c.is_flying.ensures ∙ c.if-is_flying.false)).ready
 
 pub invariant_of-self : goal.invariant_of-self
-invariant_of-self g c = (
-  ((unpinned_ends c.self.inside.parts c.args.self.now c.id_of-id.result c.args.p c.self.view_is c.id_of-id.ensures c.self.invariant.0 c.laws.ensures c.requires.unpinned
-      (sym c.is_flying.ensures ∙ c.if-is_flying.false)).ends c.destroy.new.self c.destroy.ensures).kept,
-  c.self.invariant.1,
-)
+invariant_of-self g c =
+    ((unpinned_ends c.self.inside.parts c.args.self.now c.id_of-id.result c.args.p c.self.view_is c.id_of-id.ensures c.self.invariant c.laws.ensures c.requires.unpinned
+    (sym c.is_flying.ensures ∙ c.if-is_flying.false)).ends c.destroy.new.self c.destroy.ensures).kept
 
 pub returns-clause-enters : goal.returns-clause-enters
 returns-clause-enters g c =
-    ((unpinned_ends c.self.inside.parts c.args.self.now c.id_of-id.result c.args.p c.self.view_is c.id_of-id.ensures c.self.invariant.0 c.laws.ensures c.requires.unpinned
+    ((unpinned_ends c.self.inside.parts c.args.self.now c.id_of-id.result c.args.p c.self.view_is c.id_of-id.ensures c.self.invariant c.laws.ensures c.requires.unpinned
     (sym c.is_flying.ensures ∙ c.if-is_flying.false)).ends c.destroy.new.self c.destroy.ensures).enters g.D.Slot
 
 pub returns-clause-refused : goal.returns-clause-refused

@@ -9,8 +9,8 @@ finish_write-requires-clause-client g c = (finished_back c.self.inside.parts c.a
 
 pub invariant_of-self : goal.invariant_of-self
 invariant_of-self g c =
-    ((finished_told c.self.inside.parts c.args.self.now c.finish_write.new.self c.self.view_is c.self.invariant.0 c.laws.ensures c.args.job c.requires.job c.finish_write.ensures.parts).kept, c.self.invariant.1)
+    (finished_told c.self.inside.parts c.args.self.now c.finish_write.new.self c.self.view_is c.self.invariant c.laws.ensures c.args.job c.requires.job c.finish_write.ensures.parts).kept
 
 pub returns-clause-enters : goal.returns-clause-enters
 returns-clause-enters g c =
-    (finished_told c.self.inside.parts c.args.self.now c.finish_write.new.self c.self.view_is c.self.invariant.0 c.laws.ensures c.args.job c.requires.job c.finish_write.ensures.parts).enters g.D.Slot
+    (finished_told c.self.inside.parts c.args.self.now c.finish_write.new.self c.self.view_is c.self.invariant c.laws.ensures c.args.job c.requires.job c.finish_write.ensures.parts).enters g.D.Slot

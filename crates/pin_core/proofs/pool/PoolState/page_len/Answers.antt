@@ -11,5 +11,5 @@ page_blocks-blocks-requires-clause-there g c =
 
 pub returns : goal.returns
 returns g c =
-    len_told c.self.inside.parts c.args.self.now c.self.view_is c.laws.ensures c.args.p.now c.requires c.id_of.result c.id_of.ensures c.self.invariant.0
+    len_told c.self.inside.parts c.args.self.now c.self.view_is c.laws.ensures c.args.p.now c.requires c.id_of.result c.id_of.ensures c.self.invariant
     c.page_blocks-blocks.result c.bytes.result c.page_blocks-blocks.ensures c.bytes.ensures

@@ -10,9 +10,9 @@ use Rattle.pool.proofs.pool.Pool.open.Goals as goal
 
 pub with-requires-clause-stands : goal.with-requires-clause-stands
 with-requires-clause-stands g c = (
-  stands_open g.D.Slot g.T.OpenedAs.opening g.T.OpenedAs.told g.T.OpenedAs.first c.args.conf.now c.args.slots.items (record { trail = c.in-Ok.trail; counts = c.count_opening.new.counts }) c.in-Ok-open-2.state
+  stands_open g.D.Slot g.T.OpenedAs.opening g.T.OpenedAs.told g.T.OpenedAs.first c.args.conf.now c.args.slots.items (record { trail = c.in-Ok.trail; counts = c.count_opening.new.counts }) c.in-Ok-open-3.state
       c.requires.opens c.in-Ok.ensures (first_count g.D.Slot c.args.slots.items c.as_slice.result.now c.in-Ok-open.counts c.count_opening.new.counts c.in-Ok-open.ensures c.count_opening.ensures c.as_slice.ensures.value)
-      c.in-Ok-open-2.ensures.stands c.in-Ok-open-2.ensures.slots c.in-Ok-open-2.ensures.spare,
+      c.in-Ok-open-3.ensures.stands c.in-Ok-open-3.ensures.slots c.in-Ok-open-3.ensures.spare,
   refl,
 )
 
@@ -28,12 +28,12 @@ pub close-requires : goal.close-requires
 close-requires g c = record {
   ended = λ m.
       ap (λ (v : Parts g.row.D.Denot). get (state_of v).sessions m) (ap (λ x. x.state) c.in-Err-with.ensures.err)
-      ∙ none_opened g.D.Slot g.T.OpenedAs.opening g.T.OpenedAs.told g.T.OpenedAs.first (record { trail = c.in-Ok.trail; counts = c.count_opening.new.counts }) c.in-Ok-open-2.state
-      (stands_open g.D.Slot g.T.OpenedAs.opening g.T.OpenedAs.told g.T.OpenedAs.first c.args.conf.now c.args.slots.items (record { trail = c.in-Ok.trail; counts = c.count_opening.new.counts }) c.in-Ok-open-2.state
+      ∙ none_opened g.D.Slot g.T.OpenedAs.opening g.T.OpenedAs.told g.T.OpenedAs.first (record { trail = c.in-Ok.trail; counts = c.count_opening.new.counts }) c.in-Ok-open-3.state
+      (stands_open g.D.Slot g.T.OpenedAs.opening g.T.OpenedAs.told g.T.OpenedAs.first c.args.conf.now c.args.slots.items (record { trail = c.in-Ok.trail; counts = c.count_opening.new.counts }) c.in-Ok-open-3.state
       c.requires.opens c.in-Ok.ensures (first_count g.D.Slot c.args.slots.items c.as_slice.result.now c.in-Ok-open.counts c.count_opening.new.counts c.in-Ok-open.ensures c.count_opening.ensures c.as_slice.ensures.value)
-      c.in-Ok-open-2.ensures.stands c.in-Ok-open-2.ensures.slots c.in-Ok-open-2.ensures.spare) m;
+      c.in-Ok-open-3.ensures.stands c.in-Ok-open-3.ensures.slots c.in-Ok-open-3.ensures.spare) m;
 }
 
 pub returns-in-Err-with-clause-back : goal.returns-in-Err-with-clause-back
 returns-in-Err-with-clause-back g c measure =
-    c.close.ensures.slots measure ∙ ap (λ (v : Parts g.row.D.Denot). slots_home measure v) (ap (λ x. x.state) c.in-Err-with.ensures.err) ∙ c.in-Ok-open-2.ensures.slots measure
+    c.close.ensures.slots measure ∙ ap (λ (v : Parts g.row.D.Denot). slots_home measure v) (ap (λ x. x.state) c.in-Err-with.ensures.err) ∙ c.in-Ok-open-3.ensures.slots measure

@@ -1,6 +1,9 @@
-use Rattle.std.proofs.Common.{◌≡◌, ◌≤◌, [], ◌∷◌}
+use Rattle.std.proofs.Common.{◌≡◌, ◌≤◌, [], ◌∷◌, sym, ap, ◌∙◌, subst}
 use Rattle.pool_model.specs.declared.call.Call.TheVariants as call
 use Rattle.pool_model.specs.declared.event.Event.TheVariants.{Create}
+use Rattle.pool_model.specs.State.{State}
+use Rattle.pool_model.specs.Sums.{HasRoom}
+use Rattle.pool_model.specs.Legal.{state_after}
 use Rattle.store_api.specs.Holdings.{Holdings, length_of, unused_of}
 use Rattle.store_api.specs.Conditions.{IsLiveClient}
 use Rattle.store_api.specs.Entries.{IsTaken}
@@ -49,3 +52,8 @@ pub returns-clause-err : goal.returns-clause-err
 returns-clause-err g c =
     err_so c.create-hand.result.1 c.create-hand.ensures.err
     (declined_then c.self.view_is c.begin_turn-hand.ensures.begins c.end_turn.ensures.ends c.args.c.now.tracker (call.Create c.args.c.now.tracker c.args.blocks))
+
+pub returns-clause-spent : goal.returns-clause-spent
+returns-clause-spent g c = λ is.
+    subst (λ (s : State). HasRoom s c.args.c.now.tracker c.args.bytes) (c.create-hand.ensures.at_work.ready.whole.stands.state ∙ ap (state_after g.T.OpenedAs.opening) (sym c.end_turn.ensures.ends.seen))
+    (c.create-hand.ensures.spent is)

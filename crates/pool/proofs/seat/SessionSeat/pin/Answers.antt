@@ -1,8 +1,12 @@
+use Rattle.std.proofs.Common.{List, sym, subst}
+use Rattle.pool_model.specs.declared.entry.Entry.{Entry}
 use Rattle.pool_model.specs.declared.call.Call.TheVariants as call
 use Rattle.store_api.specs.Holdings.{Holdings, page_of}
 use Rattle.store_api.specs.Conditions.{ShowsLeft}
 use Rattle.store_api.specs.Entries.{IsPin}
 use Rattle.session_calls.specs.Pinning.{CanBePinned}
+use Rattle.session_calls.specs.Showing.{ShowsStored}
+use Rattle.pool.specs.Sitting.{held_by}
 use Rattle.pool.proofs.Doings.{as_held, as_was}
 use Rattle.pool.proofs.Results.{err_so, ok_so}
 use Rattle.pool.proofs.Charged.{pin_stays}
@@ -38,6 +42,13 @@ returns-clause-ok g c =
 pub returns-clause-bytes : goal.returns-clause-bytes
 returns-clause-bytes g c =
     ok_so c.pin-hand.result.1 c.pin-hand.ensures.bytes (λ buf. as_was c.self.view_is c.begin_turn-hand.ensures.begins (λ (h : Holdings). ShowsLeft (page_of c.args.p.now.name h) h buf))
+
+pub returns-clause-stored : goal.returns-clause-stored
+returns-clause-stored g c =
+    ok_so c.pin-hand.result.1 c.pin-hand.ensures.stored
+    (λ buf stored.
+    subst (λ (h : List Entry). ShowsStored g.T.OpenedAs.opening h c.args.p.now.name (page_of c.args.p.now.name (held_by g.T.OpenedAs.opening g.T.OpenedAs.told c.args.self.now)) buf) (sym c.end_turn.ensures.ends.seen)
+    (as_was c.self.view_is c.begin_turn-hand.ensures.begins (λ (h : Holdings). ShowsStored g.T.OpenedAs.opening c.pin-hand.result.0.trail c.args.p.now.name (page_of c.args.p.now.name h) buf) stored))
 
 pub returns-clause-err : goal.returns-clause-err
 returns-clause-err g c =

@@ -1,8 +1,10 @@
 use Rattle.std.proofs.Common.{inl, ◌≡◌, Err, IfErr, IfNone, IfSome, refl}
+use Rattle.pool_model.specs.State.{State}
 use Rattle.store_api.specs.Changes.{query_growth}
 use Rattle.store_api.specs.Conditions.{IsLiveClient}
 use Rattle.store_api.specs.Refusals.{IsSharedRefusal, reserve_refusal}
-use Rattle.pool.proofs.Doings.{as_held, as_was, may_stay, did_these, sits_on}
+use Rattle.pin_core.specs.Entering.{growth_refusal}
+use Rattle.pool.proofs.Doings.{as_held, as_was, may_stay, did_these, refused_as_seen, sits_on}
 use Rattle.pool.proofs.Results.{on_ok_so, on_err_so}
 use Rattle.pool.proofs.Stays.{acts_none, acts_either, stays_reserved}
 use Rattle.pool.proofs.seat.SessionSeat.reserve.Goals as goal
@@ -41,3 +43,7 @@ pub returns-clause-err : goal.returns-clause-err
 returns-clause-err g c =
     on_err_so c.reserve-result.result c.reserve-result.ensures.err
     (λ same. did_these c.self.view_is c.begin_turn-hand.ensures.begins c.reserve-result.new.self c.end_turn.ensures.ends (acts_none c.begin_turn-hand.result c.reserve-result.new.self same) tt c.end_turn.ensures.table c.requires.table)
+
+pub returns-clause-cause : goal.returns-clause-cause
+returns-clause-cause g c =
+    refused_as_seen c.self.view_is c.begin_turn-hand.ensures.begins c.reserve-result.new.self c.end_turn.ensures.ends (λ (s : State). growth_refusal s c.args.c.now.tracker c.args.bytes) c.reserve-result.result c.reserve-result.ensures.err c.reserve-result.ensures.cause

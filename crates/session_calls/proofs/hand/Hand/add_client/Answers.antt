@@ -22,7 +22,7 @@ returns-in_err-c-clause-refused g c =
 
 pub returns-clause-ok : goal.returns-clause-ok
 returns-clause-ok g c =
-    let new : Hand g.row.D.Denot = record { state = c.add_client.new.self; trail = c.enter.new.trail; counts = c.args.self.now.counts; session = c.args.self.now.session } in
+    let new : Hand g.row.D.Denot = record { state = c.add_client.new.self; trail = c.enter.new.trail; counts = c.args.self.now.counts; session = c.args.self.now.session; gone = c.args.self.now.gone } in
     (came g.D.Slot g.O.Origin.opening g.O.Origin.outset c.args.self.now c.requires.ready c.in_ok-c.c.tracker c.tracker.result c.tracker-query.result c.args.limit new c.tracker.ensures c.tracker-query.ensures
     (λ full. false≢true (c.in_ok-c.ensures.refused.1 full)) c.in_ok-c.ensures.ok c.enter.ensures refl refl).1
 
@@ -39,6 +39,6 @@ returns-clause-refused g c = (
 
 pub returns-clause-ready : goal.returns-clause-ready
 returns-clause-ready g c =
-    let new : Hand g.row.D.Denot = record { state = c.add_client.new.self; trail = c.enter.new.trail; counts = c.args.self.now.counts; session = c.args.self.now.session } in
+    let new : Hand g.row.D.Denot = record { state = c.add_client.new.self; trail = c.enter.new.trail; counts = c.args.self.now.counts; session = c.args.self.now.session; gone = c.args.self.now.gone } in
     (came g.D.Slot g.O.Origin.opening g.O.Origin.outset c.args.self.now c.requires.ready c.in_ok-c.c.tracker c.tracker.result c.tracker-query.result c.args.limit new c.tracker.ensures c.tracker-query.ensures
     (λ full. false≢true (c.in_ok-c.ensures.refused.1 full)) c.in_ok-c.ensures.ok c.enter.ensures refl refl).0

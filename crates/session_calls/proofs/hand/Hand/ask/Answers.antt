@@ -11,12 +11,12 @@ ask-requires g c = record { live = ap is_some (knows g.D.Slot g.O.Origin.opening
 
 pub returns-clause-acts : goal.returns-clause-acts
 returns-clause-acts g c =
-    let new : Hand g.row.D.Denot = record { state = c.ask.new.self; trail = c.enter.new.trail; counts = c.args.self.now.counts; session = c.args.self.now.session } in
+    let new : Hand g.row.D.Denot = record { state = c.ask.new.self; trail = c.enter.new.trail; counts = c.args.self.now.counts; session = c.args.self.now.session; gone = c.args.self.now.gone } in
     let went : Goes g.D.Slot (Ask ∷ []) c.args.self.now new = record { trail = c.enter.ensures; session = refl; counts = refl; enters = c.ask.ensures.enters } in
     one_acts g.D.Slot g.O.Origin.opening g.O.Origin.outset c.args.self.now new c.requires.ready Ask went refl refl
 
 pub returns-clause-ready : goal.returns-clause-ready
 returns-clause-ready g c =
-    let new : Hand g.row.D.Denot = record { state = c.ask.new.self; trail = c.enter.new.trail; counts = c.args.self.now.counts; session = c.args.self.now.session } in
+    let new : Hand g.row.D.Denot = record { state = c.ask.new.self; trail = c.enter.new.trail; counts = c.args.self.now.counts; session = c.args.self.now.session; gone = c.args.self.now.gone } in
     let went : Goes g.D.Slot (Ask ∷ []) c.args.self.now new = record { trail = c.enter.ensures; session = refl; counts = refl; enters = c.ask.ensures.enters } in
     one_ready g.D.Slot g.O.Origin.opening g.O.Origin.outset c.args.self.now new c.requires.ready Ask went refl refl (held_by g.O.Origin.opening g.O.Origin.outset c.args.self.now) refl c.requires.ready.rests.live c.requires.ready.rests.few

@@ -19,7 +19,7 @@ end_client-requires-clause-idle g c = token_idle g.D.Slot g.O.Origin.opening g.O
 
 pub returns-clause-acts : goal.returns-clause-acts
 returns-clause-acts g c =
-    let new : Hand g.row.D.Denot = record { state = c.end_client.new.self; trail = c.enter-2.new.trail; counts = c.args.self.now.counts; session = c.args.self.now.session } in
+    let new : Hand g.row.D.Denot = record { state = c.end_client.new.self; trail = c.enter-2.new.trail; counts = c.args.self.now.counts; session = c.args.self.now.session; gone = c.args.self.now.gone } in
     (left g.D.Slot g.O.Origin.opening g.O.Origin.outset c.args.self.now c.requires.ready c.of.result c.into_tracker-tracker.result c.args.c.tracker c.of.ensures c.into_tracker-tracker.ensures c.requires.client c.requires.idle
     c.tracker-query.result c.reservation-bytes.result new c.enter.new.trail c.tracker-query.ensures c.reservation-bytes.ensures c.end_client.ensures.enters c.enter.ensures c.enter-2.ensures refl refl).1
 
@@ -28,6 +28,6 @@ returns-clause-apart g c = (knows g.D.Slot g.O.Origin.opening g.O.Origin.outset 
 
 pub returns-clause-ready : goal.returns-clause-ready
 returns-clause-ready g c =
-    let new : Hand g.row.D.Denot = record { state = c.end_client.new.self; trail = c.enter-2.new.trail; counts = c.args.self.now.counts; session = c.args.self.now.session } in
+    let new : Hand g.row.D.Denot = record { state = c.end_client.new.self; trail = c.enter-2.new.trail; counts = c.args.self.now.counts; session = c.args.self.now.session; gone = c.args.self.now.gone } in
     (left g.D.Slot g.O.Origin.opening g.O.Origin.outset c.args.self.now c.requires.ready c.of.result c.into_tracker-tracker.result c.args.c.tracker c.of.ensures c.into_tracker-tracker.ensures c.requires.client c.requires.idle
     c.tracker-query.result c.reservation-bytes.result new c.enter.new.trail c.tracker-query.ensures c.reservation-bytes.ensures c.end_client.ensures.enters c.enter.ensures c.enter-2.ensures refl refl).0

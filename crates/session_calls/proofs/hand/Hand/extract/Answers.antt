@@ -17,5 +17,5 @@ returns-clause-client g c = ap (λ (l : LoanToken). l.client) c.extract-loan.ens
 
 pub returns-clause-ready : goal.returns-clause-ready
 returns-clause-ready g c =
-    let new : Hand g.row.D.Denot = record { state = c.extract-loan.new.self; trail = c.enter.new.trail; counts = c.args.self.now.counts; session = c.args.self.now.session } in
+    let new : Hand g.row.D.Denot = record { state = c.extract-loan.new.self; trail = c.enter.new.trail; counts = c.args.self.now.counts; session = c.args.self.now.session; gone = c.args.self.now.gone } in
     extracted g.D.Slot g.O.Origin.opening g.O.Origin.outset c.args.self.now new c.requires.ready c.args.p c.name-page.result c.number-buffer.result c.extract-loan.result.number c.requires.page c.name-page.ensures c.number-buffer.ensures c.enter.ensures refl refl c.extract-loan.ensures.enters

@@ -10,10 +10,10 @@ free-requires g c = record { loan = loan_there (knows g.D.Slot g.O.Origin.openin
 
 pub returns-clause-acts : goal.returns-clause-acts
 returns-clause-acts g c =
-    let new : Hand g.row.D.Denot = record { state = c.free.new.self; trail = c.enter.new.trail; counts = c.args.self.now.counts; session = c.args.self.now.session } in
+    let new : Hand g.row.D.Denot = record { state = c.free.new.self; trail = c.enter.new.trail; counts = c.args.self.now.counts; session = c.args.self.now.session; gone = c.args.self.now.gone } in
     (freed g.D.Slot g.O.Origin.opening g.O.Origin.outset c.args.self.now new c.requires.ready c.args.loan c.number-buffer.result c.requires.loan c.number-buffer.ensures c.enter.ensures refl refl c.free.ensures.enters).1
 
 pub returns-clause-ready : goal.returns-clause-ready
 returns-clause-ready g c =
-    let new : Hand g.row.D.Denot = record { state = c.free.new.self; trail = c.enter.new.trail; counts = c.args.self.now.counts; session = c.args.self.now.session } in
+    let new : Hand g.row.D.Denot = record { state = c.free.new.self; trail = c.enter.new.trail; counts = c.args.self.now.counts; session = c.args.self.now.session; gone = c.args.self.now.gone } in
     (freed g.D.Slot g.O.Origin.opening g.O.Origin.outset c.args.self.now new c.requires.ready c.args.loan c.number-buffer.result c.requires.loan c.number-buffer.ensures c.enter.ensures refl refl c.free.ensures.enters).0

@@ -12,6 +12,6 @@ decrease_now-requires-clause-unused g c = token_unused g.D.Slot g.O.Origin.openi
 
 pub returns-clause-ready : goal.returns-clause-ready
 returns-clause-ready g c =
-    let new : Hand g.row.D.Denot = record { state = c.decrease_now.new.self; trail = c.enter.new.trail; counts = c.args.self.now.counts; session = c.args.self.now.session } in
+    let new : Hand g.row.D.Denot = record { state = c.decrease_now.new.self; trail = c.enter.new.trail; counts = c.args.self.now.counts; session = c.args.self.now.session; gone = c.args.self.now.gone } in
     gave_up g.D.Slot g.O.Origin.opening g.O.Origin.outset c.args.self.now c.requires.ready c.of-mine.result c.tracker-tracker.result c.args.c.now.tracker c.of-mine.ensures c.tracker-tracker.ensures c.args.bytes new
     c.decrease_now.ensures.enters c.enter.ensures refl refl

@@ -28,7 +28,7 @@ unwrap-requires g c =
 
 pub returns-clause-ready : goal.returns-clause-ready
 returns-clause-ready g c =
-    let new : Hand g.row.D.Denot = record { state = c.move_now.new.self; trail = c.enter.new.trail; counts = c.args.self.now.counts; session = c.args.self.now.session } in
+    let new : Hand g.row.D.Denot = record { state = c.move_now.new.self; trail = c.enter.new.trail; counts = c.args.self.now.counts; session = c.args.self.now.session; gone = c.args.self.now.gone } in
     let ok : IsOk c.move_now.result = search rules in
     passed_on g.D.Slot g.O.Origin.opening g.O.Origin.outset c.args.self.now c.requires.ready c.of-mine.result c.tracker-giver.result c.args.from.now.tracker c.of-mine.ensures c.tracker-giver.ensures
     c.of-other.result c.tracker-getter.result c.args.to.now.tracker c.of-other.ensures c.tracker-getter.ensures c.args.bytes new

@@ -13,5 +13,5 @@ pin_again_now-requires-clause-room g c = page_room_here (knows g.D.Slot g.O.Orig
 
 pub returns-clause-ready : goal.returns-clause-ready
 returns-clause-ready g c =
-    let new : Hand g.row.D.Denot = record { state = c.pin_again_now.new.self; trail = c.enter.new.trail; counts = c.args.self.now.counts; session = c.args.self.now.session } in
+    let new : Hand g.row.D.Denot = record { state = c.pin_again_now.new.self; trail = c.enter.new.trail; counts = c.args.self.now.counts; session = c.args.self.now.session; gone = c.args.self.now.gone } in
     pinned_again g.D.Slot g.O.Origin.opening g.O.Origin.outset c.args.self.now c.requires.ready c.args.p.now c.requires.page c.name-page.result c.name-page.ensures new c.pin_again_now.ensures.enters c.enter.ensures refl refl

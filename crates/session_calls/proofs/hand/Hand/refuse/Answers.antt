@@ -8,10 +8,10 @@ refuse-requires g c = record { may = record { opening = g.O.Origin.opening; hist
 
 pub returns-clause-acts : goal.returns-clause-acts
 returns-clause-acts g c =
-    let new : Hand g.row.D.Denot = record { state = c.refuse.new.self; trail = c.enter_refused.new.trail; counts = c.args.self.now.counts; session = c.args.self.now.session } in
-    acts_refused g.D.Slot g.O.Origin.opening g.O.Origin.outset c.args.self.now new c.requires.ready c.args.call.now c.args.entry c.requires.may c.refuse.ensures.enters c.enter_refused.ensures refl refl
+    let new : Hand g.row.D.Denot = record { state = c.refuse.new.self; trail = c.enter.new.trail; counts = c.args.self.now.counts; session = c.args.self.now.session; gone = c.args.self.now.gone } in
+    acts_refused g.D.Slot g.O.Origin.opening g.O.Origin.outset c.args.self.now new c.requires.ready c.args.call.now c.args.entry c.requires.may c.refuse.ensures.enters c.enter.ensures refl refl
 
 pub returns-clause-ready : goal.returns-clause-ready
 returns-clause-ready g c =
-    let new : Hand g.row.D.Denot = record { state = c.refuse.new.self; trail = c.enter_refused.new.trail; counts = c.args.self.now.counts; session = c.args.self.now.session } in
-    ready_refused g.D.Slot g.O.Origin.opening g.O.Origin.outset c.args.self.now new c.requires.ready c.args.call.now c.args.entry c.requires.may c.refuse.ensures.enters c.enter_refused.ensures refl refl
+    let new : Hand g.row.D.Denot = record { state = c.refuse.new.self; trail = c.enter.new.trail; counts = c.args.self.now.counts; session = c.args.self.now.session; gone = c.args.self.now.gone } in
+    ready_refused g.D.Slot g.O.Origin.opening g.O.Origin.outset c.args.self.now new c.requires.ready c.args.call.now c.args.entry c.requires.may c.refuse.ensures.enters c.enter.ensures refl refl

@@ -30,5 +30,5 @@ returns-clause-refused g c =
 
 pub returns-clause-ready : goal.returns-clause-ready
 returns-clause-ready g c =
-    let new : Hand g.row.D.Denot = record { state = c.increase-result.new.self; trail = c.enter.new.trail; counts = c.args.self.now.counts; session = c.args.self.now.session } in
+    let new : Hand g.row.D.Denot = record { state = c.increase-result.new.self; trail = c.enter.new.trail; counts = c.args.self.now.counts; session = c.args.self.now.session; gone = c.args.self.now.gone } in
     (grew_by g.D.Slot g.O.Origin.opening g.O.Origin.outset c.args.self.now c.requires.ready c.of-mine.result c.tracker-tracker.result c.args.c.now.tracker c.of-mine.ensures c.tracker-tracker.ensures c.requires.client c.args.bytes new c.in_ok-result.ensures.ok c.enter.ensures refl refl).0
