@@ -13,10 +13,11 @@ use Rattle.store_api.specs.declared.shapes.JoinShape.{JoinShape}
 use Rattle.bucket_table.specs.Spreading.{spread}
 use Rattle.bucket_table.specs.Tables.{HasNode, Node, first_row, from_node, newest_on, next_among, next_on_chain, row_of, used_by}
 use Rattle.join_op.specs.Chunks.{stored_pairs}
-use Rattle.join_op.specs.Handing.{Emitted, EmittedSome}
+use Rattle.join_op.specs.Handing.{Emitted}
 use Rattle.join_op.specs.Holding.{AreStored, held_side, pairs_with, read_side, stored}
+use Rattle.join_op.specs.Pairs.{SameRows}
 use Rattle.join_op.specs.Stored.{Side, key_at, left_side, right_side}
-use Rattle.join_op.proofs.ChunkPairs.{emitted_then, some_first, some_then, with_helds, none_held}
+use Rattle.join_op.proofs.ChunkPairs.{emitted_then, with_helds, none_held}
 use Rattle.join_op.proofs.Handed.{emitted_as, emitted_none}
 
 -- the nodes of a chain
@@ -219,17 +220,15 @@ module _ (b : Bool) (shape : JoinShape) (row : List ℕ) where
     pub walk_ends : IsWalking k took0 took nodes None → Emitted took0 took (pairs_with b shape (row ∷ []) (stored nodes))
     walk_ends so = emitted_as took0 took (pairs_with b shape (row ∷ []) so.done) (pairs_with b shape (row ∷ []) (stored nodes)) (λ count. let none = counts_none count in let whole = so.whole count in let all : counts count so.done ≡ counts count (stored nodes) = omega (arith, none, whole) in all) so.emitted
 
-    pub walk_some : (next : Option ℕ) → IsWalking k took0 took nodes next → EmittedSome took0 took (pairs_with b shape (row ∷ []) (stored nodes))
-    walk_some next so =
-        some_first took0 took (pairs_with b shape (row ∷ []) so.done) (pairs_with b shape (row ∷ []) (to_come k nodes next)) (pairs_with b shape (row ∷ []) (stored nodes)) so.emitted
-        (λ count. sum_by-append count (pairs_with b shape (row ∷ []) so.done) (pairs_with b shape (row ∷ []) (to_come k nodes next)) ∙ so.whole count)
+    pub walk_left : (next : Option ℕ) (so : IsWalking k took0 took nodes next) → SameRows (pairs_with b shape (row ∷ []) so.done ++ pairs_with b shape (row ∷ []) (to_come k nodes next)) (pairs_with b shape (row ∷ []) (stored nodes))
+    walk_left next so count = sum_by-append count (pairs_with b shape (row ∷ []) so.done) (pairs_with b shape (row ∷ []) (to_come k nodes next)) ∙ so.whole count
 
-    module _ (p : ℕ) (so : IsWalking k took0 took nodes (Some p)) (step : HasNext k nodes p) (now : List (List Value) → Type 0) where
+    module _ (p : ℕ) (so : IsWalking k took0 took nodes (Some p)) (step : HasNext k nodes p) where
       shared : (count : List Value → ℕ) → counts count (to_come k nodes (Some p)) ≡ counts count (to_come k nodes (next_on_chain p nodes)) + counts count (row_of p nodes ∷ [])
       shared count = ap (counts count) step.comes ∙ counts_both count (to_come k nodes (next_on_chain p nodes)) (row_of p nodes ∷ [])
 
-      pub walk_on : Emitted took now (pairs_with b shape (row ∷ []) (row_of p nodes ∷ [])) → IsWalking k took0 now nodes (next_on_chain p nodes)
-      walk_on met =
+      pub walk_on : (now : List (List Value) → Type 0) → Emitted took now (pairs_with b shape (row ∷ []) (row_of p nodes ∷ [])) → IsWalking k took0 now nodes (next_on_chain p nodes)
+      walk_on now met =
           record {
             done = so.done ++ row_of p nodes ∷ [];
             emitted = emitted_as took0 now (pairs_with b shape (row ∷ []) so.done ++ pairs_with b shape (row ∷ []) (row_of p nodes ∷ [])) (pairs_with b shape (row ∷ []) (so.done ++ row_of p nodes ∷ []))
@@ -239,20 +238,17 @@ module _ (b : Bool) (shape : JoinShape) (row : List ℕ) where
             on = step.on;
           }
 
-      pub walk_part : EmittedSome took now (pairs_with b shape (row ∷ []) (row_of p nodes ∷ [])) → EmittedSome took0 now (pairs_with b shape (row ∷ []) (stored nodes))
-      walk_part met =
+      pub walk_split : SameRows (pairs_with b shape (row ∷ []) so.done ++ (pairs_with b shape (row ∷ []) (row_of p nodes ∷ []) ++ pairs_with b shape (row ∷ []) (to_come k nodes (next_on_chain p nodes)))) (pairs_with b shape (row ∷ []) (stored nodes))
+      walk_split count =
           let front : List (List Value) = pairs_with b shape (row ∷ []) so.done in
           let mine : List (List Value) = pairs_with b shape (row ∷ []) (row_of p nodes ∷ []) in
           let rest : List (List Value) = pairs_with b shape (row ∷ []) (to_come k nodes (next_on_chain p nodes)) in
-          some_then took0 took now front so.emitted mine rest (pairs_with b shape (row ∷ []) (stored nodes))
-          (λ count.
           let was = so.whole count in
           let parts = shared count in
           let one : sum_by count (front ++ (mine ++ rest)) ≡ sum_by count front + sum_by count (mine ++ rest) = sum_by-append count front (mine ++ rest) in
           let two : sum_by count (mine ++ rest) ≡ sum_by count mine + sum_by count rest = sum_by-append count mine rest in
           let all : sum_by count (front ++ (mine ++ rest)) ≡ counts count (stored nodes) = omega (arith, was, parts, one, two) in
-          all)
-          met
+          all
 
 -- how many nodes may still come
 abbrev pub left_on : Option ℕ → ℕ

@@ -41,10 +41,6 @@ stored_more side table now hash row is formed before same =
     subst (λ (t : Table). AreStored side t.heads t.nodes) (sym same)
     (record { place = refl; chain = ap (λ (n : ℕ). n % table.heads) is; row = formed }, before)
 
-pub none_stored : (nodes : List Node) → length (stored nodes) ≡ 0 → nodes ≡ []
-none_stored [] none = refl
-none_stored (n ∷ older) none = absurd (let long : length (stored older ++ n.row ∷ []) ≡ length (stored older) + 1 = length-append (stored older) (n.row ∷ []) in omega (arith, none, long))
-
 pub stored_count : (nodes : List Node) → length (stored nodes) ≡ length nodes
 stored_count [] = refl
 stored_count (n ∷ older) = let long : length (stored older ++ n.row ∷ []) ≡ length (stored older) + 1 = length-append (stored older) (n.row ∷ []) in let rest = stored_count older in omega (arith, long, rest)

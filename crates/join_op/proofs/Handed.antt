@@ -16,11 +16,6 @@ emitted_none was = record { rows = []; same = λ count. refl; came = λ taken to
 pub emitted_as : (was now : List (List Value) → Type 0) (xs ys : List (List Value)) → SameRows xs ys → Emitted was now xs → Emitted was now ys
 emitted_as was now xs ys same emitted = record { rows = emitted.rows; same = λ count. emitted.same count ∙ same count; came = emitted.came }
 
-pub some_as : (was now : List (List Value) → Type 0) (xs ys : List (List Value)) → SameRows xs ys → EmittedSome was now xs → EmittedSome was now ys
-some_as was now xs ys same emitted taken took =
-    let came = emitted taken took in
-    record { some = came.some; rest = came.rest; same = λ count. came.same count ∙ same count; came = came.came }
-
 module _ (was mid now : List (List Value) → Type 0) (rows : List (List Value)) (first : (taken : List (List Value)) → was taken → mid (taken ++ rows)) where
   pub came_more : (more : List (List Value)) → ((taken : List (List Value)) → mid taken → now (taken ++ more)) → (taken : List (List Value)) → was taken → now (taken ++ (rows ++ more))
   came_more more second taken took = subst now (append_assoc taken rows more) (second (taken ++ rows) (first taken took))

@@ -1,7 +1,6 @@
 -- The rows of a chunk, one after the other.
 use Rattle.std.proofs.Common.{◌≡◌, ℕ, zero, suc, ◌+◌, ◌<◌, List, [], ◌∷◌, ◌++◌, length, take, drop, refl, ap, ◌∙◌, arith}
-use Rattle.std.specs.Prelude.{All, slice_index_or}
-use Rattle.std.proofs.lemmas.List.Elements.{All-head, All-tail}
+use Rattle.std.specs.Prelude.{slice_index_or}
 use Rattle.join_op.specs.declared.feeding.Spare.{Spare}
 use Rattle.join_op.specs.Chunks.{kept_rows}
 
@@ -17,8 +16,3 @@ pub rows_split : (es : List Spare) (i : ℕ) (d : Spare) → i < length es → k
 rows_split [] i d inside = absurd (omega (arith, inside))
 rows_split (e ∷ es) zero d inside = refl
 rows_split (e ∷ es) (suc i) d inside = ap (λ (rs : List (List ℕ)). e.row.items ∷ rs) (rows_split es i d (omega (arith, inside)))
-
-pub one_kept : (P : Spare → Type 0) (es : List Spare) (i : ℕ) (d : Spare) → i < length es → All P es → P (slice_index_or es i d)
-one_kept P [] i d inside all = absurd (omega (arith, inside))
-one_kept P (e ∷ es) zero d inside all = All-head P e es all
-one_kept P (e ∷ es) (suc i) d inside all = one_kept P es i d (omega (arith, inside)) (All-tail P e es all)

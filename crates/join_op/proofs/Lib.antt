@@ -21,9 +21,11 @@ pub mod Rooms
 pub mod BothRead
 pub mod First
 pub mod ChunkPairs
+pub mod PairSteps
 pub mod KeptList
 pub mod Halves
 pub mod Paired
+pub mod FinishSteps
 pub mod BothFrames
 pub mod ChunkJoins
 pub mod ChunkRounds

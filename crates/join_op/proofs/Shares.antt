@@ -25,9 +25,6 @@ with_suc k these rows i =
       | inr apart ↦ rw (ne_eqb (suc i) (suc k) (suc_apart i k apart), ne_eqb i k apart) refl
     ]
 
-pub with_here : (k : ℕ) (these : List (List ℕ)) (rows : ℕ → List (List ℕ)) → with_rows k these rows k ≡ these
-with_here k these rows = rw (eq-eqb k k refl) refl
-
 pub one_more : (w : List ℕ → ℕ) (n k : ℕ) (rows : ℕ → List (List ℕ)) (row : List ℕ) → k < n → sum_by w (shares n (with_rows k (rows k ++ row ∷ []) rows)) ≡ sum_by w (shares n rows) + w row
 one_more w zero k rows row inside = absurd (omega (arith, inside))
 one_more w (suc n) zero rows row inside =

@@ -28,6 +28,10 @@ abbrev pub pairs_with : Bool → JoinShape → List (List ℕ) → List (List �
 pairs_with true shape reads helds = stored_pairs shape helds reads
 pairs_with false shape reads helds = stored_pairs shape reads helds
 
+-- those of one row that is read
+abbrev pub meets : Bool → JoinShape → Spare → List (List ℕ) → List (List Value)
+meets turned shape e helds = pairs_with turned shape (e.row.items ∷ []) helds
+
 -- the rows of a table's nodes, the oldest first
 abbrev pub stored : List Node → List (List ℕ)
 stored [] = []

@@ -1,4 +1,5 @@
 pub mod Pairs
+pub mod PairCalls
 pub mod PairLaws
 pub mod Stored
 pub mod Operator
@@ -8,9 +9,14 @@ pub mod Beside
 pub mod Handing
 pub mod Laid
 pub mod Dividing
+pub mod SideCalls
 pub mod Joining
+pub mod PartCalls
+pub mod FinishCalls
+pub mod FeedCalls
 pub mod Rested
 pub mod Chunks
+pub mod StreamCalls
 pub mod Holding
 pub mod Alone
 pub mod Slots

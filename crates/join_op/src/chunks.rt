@@ -1,19 +1,10 @@
 //! The pairs of two streams of rows. Rows of one stream are held at a time, in a table of the store or in memory.
-ghost use Rattle.std.specs.Prelude.{◌≡◌, ◌<◌, ℕ, IfErr, List, OnErr, OnOk, true};
-ghost use Rattle.row_codec.specs.declared.values.Value.{Value};
-ghost use Rattle.store_api.specs.Holdings.{Holdings};
+ghost use Rattle.std.specs.Prelude.{◌≡◌, ◌<◌, IfErr, OnOk, false, true};
 ghost use Rattle.store_api.specs.Shapes.{IsJoinShape};
-ghost use Rattle.bucket_table.specs.Lending.{Lends};
-ghost use Rattle.tuple_stream.specs.Spending.{PinsAgain};
-ghost use Rattle.tuple_stream.specs.Streams.{HasRows};
-ghost use Rattle.tuple_stream.specs.Trails.{EnteredEvents};
-ghost use Rattle.partition_stack.specs.Causes.{CameBeside};
-ghost use Rattle.partition_stack.specs.Emitting.{IsBeside, StaysEmitter, WentOn};
-ghost use Rattle.partition_stack.specs.Slots.{IsWantOf, KeepSlots, with_more};
-ghost use Rattle.join_op.specs.Chunks.{AdmitsJoined, AreReadable, IsResting, ReadBoth, stored_pairs};
-ghost use Rattle.join_op.specs.Handing.{Emitted, EmittedSome};
+ghost use Rattle.join_op.specs.Chunks.{AreReadable, IsResting, ReadBoth};
 ghost use Rattle.join_op.specs.Holding.{IsSameHeld, IsTableAt, MayHold, loans_in};
-ghost use Rattle.join_op.specs.Slots.{CameFull, Crowds, SameMost, slots_of_two};
+ghost use Rattle.join_op.specs.StreamCalls.{CameOfTwo, HandsTwo, MayEmit, ReadLent};
+ghost use Rattle.join_op.specs.SideCalls.{PinsAgainAt};
 
 use crate::holding::{Held, hold};
 use crate::meeting::join_held;
@@ -41,16 +32,10 @@ pub fn leaf_by_chunks<St: Store, E: Emit<St>>(
     requires streams { AreReadable c.now left.old right.old (St.holds store.old) }
     requires shape { IsJoinShape shape.now }
     requires some { 0 < chunk }
-    requires emitter { IsBeside c.now.tracker (E.client emit.old) (St.holds store.old) }
-    requires stands { (taken : List (List Value)) × E.took emit.old (St.holds store.old) taken }
-    requires admits { AdmitsJoined shape.now (E.admits emit.old) }
-    ensures ok { OnOk result ((lefts rights : List (List ℕ)) → (St.holds store.old).told ≡ true → HasRows lefts left.old (St.holds store.old) → HasRows rights right.old (St.holds store.old) → Emitted (E.took emit.old (St.holds store.old)) (E.took emit.new (St.holds store.new)) (stored_pairs shape.now lefts rights)) }
-    ensures err { OnErr result ((lefts rights : List (List ℕ)) → (St.holds store.old).told ≡ true → HasRows lefts left.old (St.holds store.old) → HasRows rights right.old (St.holds store.old) → EmittedSome (E.took emit.old (St.holds store.old)) (E.took emit.new (St.holds store.new)) (stored_pairs shape.now lefts rights)) }
-    ensures stands { WentOn (E.took emit.old (St.holds store.old)) (E.took emit.new (St.holds store.new)) }
-    ensures cause { IfErr result (CameBeside left.old.page_blocks (slots_of_two left.old right.old (St.holds store.old)) (E.client emit.old) (E.faults emit.old) (E.faults emit.new) (St.signs store.old) (St.signs store.new)) }
+    requires emits { MayEmit St.Store E.Emit c.now.tracker shape.now emit.old store.old }
+    ensures hands { HandsTwo St.Store E.Emit false shape.now left.old left.new right.old right.new emit.old emit.new store.old store.new result }
+    ensures cause { IfErr result (CameOfTwo St.Store E.Emit left.old right.old emit.old emit.new store.old store.new) }
     ensures streams { ReadBoth c.now.tracker (E.client emit.old) left.old left.new right.old right.new (St.holds store.old) (St.holds store.new) }
-    ensures slots { KeepSlots (E.client emit.old) (slots_of_two left.old right.old (St.holds store.old)) (slots_of_two left.new right.new (St.holds store.new)) (E.slots emit.old (St.holds store.old)) (E.slots emit.new (St.holds store.new)) }
-    ensures emitter { StaysEmitter (E.admits emit.old) (E.admits emit.new) (E.client emit.old) (E.client emit.new) (E.faults emit.old) (E.faults emit.new) (E.creates emit.old) (E.creates emit.new) (St.holds store.new) (St.signs store.old) (St.signs store.new) }
 {
     let held = Held::few(alloc, chunk);
     join_pair(alloc, store, c, left, right, shape, false, held, emit)
@@ -71,20 +56,10 @@ pub(crate) fn leaf_by_table<St: Store, E: Emit<St>>(
     requires streams { AreReadable c.now left.old right.old (St.holds store.old) }
     requires shape { IsJoinShape shape.now }
     requires blocks { blocks ≡ left.old.page_blocks }
-    requires emitter { IsBeside c.now.tracker (E.client emit.old) (St.holds store.old) }
-    requires stands { (taken : List (List Value)) × E.took emit.old (St.holds store.old) taken }
-    requires admits { AdmitsJoined shape.now (E.admits emit.old) }
-    ensures ok { OnOk result ((lefts rights : List (List ℕ)) → (St.holds store.old).told ≡ true → HasRows lefts left.old (St.holds store.old) → HasRows rights right.old (St.holds store.old) → Emitted (E.took emit.old (St.holds store.old)) (E.took emit.new (St.holds store.new)) (stored_pairs shape.now lefts rights)) }
-    ensures err { OnErr result ((lefts rights : List (List ℕ)) → (St.holds store.old).told ≡ true → HasRows lefts left.old (St.holds store.old) → HasRows rights right.old (St.holds store.old) → EmittedSome (E.took emit.old (St.holds store.old)) (E.took emit.new (St.holds store.new)) (stored_pairs shape.now lefts rights)) }
-    ensures stands { WentOn (E.took emit.old (St.holds store.old)) (E.took emit.new (St.holds store.new)) }
-    ensures cause { IfErr result (CameFull left.old.page_blocks (St.holds store.new).free_slots (E.client emit.old) (E.faults emit.old) (E.faults emit.new) (St.signs store.old) (St.signs store.new)) }
-    ensures want { E.page_blocks ≡ left.old.page_blocks → IfErr result (IsWantOf left.old.page_blocks (with_more (E.slots emit.new (St.holds store.new)) (St.holds store.new).free_slots)) }
-    ensures crowded { IfErr result (λ e. (lefts rights : List (List ℕ)) → (St.holds store.old).told ≡ true → HasRows lefts left.old (St.holds store.old) → HasRows rights right.old (St.holds store.old) → EmittedSome (E.took emit.old (St.holds store.old)) (Crowds (E.slots_for emit.old) left.old.page_blocks (with_more (E.slots emit.new (St.holds store.new)) (St.holds store.new).free_slots) e) (stored_pairs shape.now lefts rights)) }
-    ensures most { SameMost (E.slots_for emit.old) (E.slots_for emit.new) }
-    ensures first { OnOk result (IsResting left.old → IsResting right.old → EnteredEvents PinsAgain (St.signs store.old).trail (St.signs store.new).trail) }
+    requires emits { MayEmit St.Store E.Emit c.now.tracker shape.now emit.old store.old }
+    ensures hands { HandsTwo St.Store E.Emit false shape.now left.old left.new right.old right.new emit.old emit.new store.old store.new result }
+    ensures first { OnOk result (IsResting left.old → IsResting right.old → PinsAgainAt St.Store store.old store.new) }
     ensures streams { ReadBoth c.now.tracker (E.client emit.old) left.old left.new right.old right.new (St.holds store.old) (St.holds store.new) }
-    ensures slots { KeepSlots (E.client emit.old) (slots_of_two left.old right.old (St.holds store.old)) (slots_of_two left.new right.new (St.holds store.new)) (E.slots emit.old (St.holds store.old)) (E.slots emit.new (St.holds store.new)) }
-    ensures emitter { StaysEmitter (E.admits emit.old) (E.admits emit.new) (E.client emit.old) (E.client emit.new) (E.faults emit.old) (E.faults emit.new) (E.creates emit.old) (E.creates emit.new) (St.holds store.new) (St.signs store.old) (St.signs store.new) }
 {
     let turned = left.pages() < right.pages();
     let (pages, rows) = if turned {
@@ -112,20 +87,10 @@ fn join_pair<St: Store, E: Emit<St>>(
     requires shape { IsJoinShape shape.now }
     requires may { MayHold held }
     requires table { IsTableAt c.now.tracker held.table (St.holds store.old) }
-    requires emitter { IsBeside c.now.tracker (E.client emit.old) (St.holds store.old) }
-    requires stands { (taken : List (List Value)) × E.took emit.old (St.holds store.old) taken }
-    requires admits { AdmitsJoined shape.now (E.admits emit.old) }
-    ensures ok { OnOk result ((lefts rights : List (List ℕ)) → (St.holds store.old).told ≡ true → HasRows lefts left.old (St.holds store.old) → HasRows rights right.old (St.holds store.old) → Emitted (E.took emit.old (St.holds store.old)) (E.took emit.new (St.holds store.new)) (stored_pairs shape.now lefts rights)) }
-    ensures err { OnErr result ((lefts rights : List (List ℕ)) → (St.holds store.old).told ≡ true → HasRows lefts left.old (St.holds store.old) → HasRows rights right.old (St.holds store.old) → EmittedSome (E.took emit.old (St.holds store.old)) (E.took emit.new (St.holds store.new)) (stored_pairs shape.now lefts rights)) }
-    ensures stands { WentOn (E.took emit.old (St.holds store.old)) (E.took emit.new (St.holds store.new)) }
-    ensures cause { IfErr result (CameFull left.old.page_blocks (St.holds store.new).free_slots (E.client emit.old) (E.faults emit.old) (E.faults emit.new) (St.signs store.old) (St.signs store.new)) }
-    ensures want { E.page_blocks ≡ left.old.page_blocks → IfErr result (IsWantOf left.old.page_blocks (with_more (E.slots emit.new (St.holds store.new)) (St.holds store.new).free_slots)) }
-    ensures crowded { IfErr result (λ e. (lefts rights : List (List ℕ)) → (St.holds store.old).told ≡ true → HasRows lefts left.old (St.holds store.old) → HasRows rights right.old (St.holds store.old) → EmittedSome (E.took emit.old (St.holds store.old)) (Crowds (E.slots_for emit.old) left.old.page_blocks (with_more (E.slots emit.new (St.holds store.new)) (St.holds store.new).free_slots) e) (stored_pairs shape.now lefts rights)) }
-    ensures most { SameMost (E.slots_for emit.old) (E.slots_for emit.new) }
-    ensures first { OnOk result (IsResting left.old → IsResting right.old → EnteredEvents PinsAgain (St.signs store.old).trail (St.signs store.new).trail) }
-    ensures streams { (less : Holdings) → Lends c.now.tracker (loans_in held.table) less (St.holds store.old) → AreReadable c.now left.old right.old less → ReadBoth c.now.tracker (E.client emit.old) left.old left.new right.old right.new less (St.holds store.new) }
-    ensures slots { KeepSlots (E.client emit.old) (slots_of_two left.old right.old (St.holds store.old)) (slots_of_two left.new right.new (St.holds store.new)) (E.slots emit.old (St.holds store.old)) (E.slots emit.new (St.holds store.new)) }
-    ensures emitter { StaysEmitter (E.admits emit.old) (E.admits emit.new) (E.client emit.old) (E.client emit.new) (E.faults emit.old) (E.faults emit.new) (E.creates emit.old) (E.creates emit.new) (St.holds store.new) (St.signs store.old) (St.signs store.new) }
+    requires emits { MayEmit St.Store E.Emit c.now.tracker shape.now emit.old store.old }
+    ensures hands { HandsTwo St.Store E.Emit false shape.now left.old left.new right.old right.new emit.old emit.new store.old store.new result }
+    ensures first { OnOk result (IsResting left.old → IsResting right.old → PinsAgainAt St.Store store.old store.new) }
+    ensures streams { ReadLent c.now (loans_in held.table) (E.client emit.old) left.old left.new right.old right.new (St.holds store.old) (St.holds store.new) }
 {
     let mut held = held;
     let result = join_streams(alloc, store, c, left, right, shape, turned, &mut held, emit);
@@ -148,21 +113,11 @@ fn join_streams<St: Store, E: Emit<St>>(
     requires streams { AreReadable c.now left.old right.old (St.holds store.old) }
     requires shape { IsJoinShape shape.now }
     requires may { MayHold held.old }
-    requires emitter { IsBeside c.now.tracker (E.client emit.old) (St.holds store.old) }
-    requires stands { (taken : List (List Value)) × E.took emit.old (St.holds store.old) taken }
-    requires admits { AdmitsJoined shape.now (E.admits emit.old) }
-    ensures ok { OnOk result ((lefts rights : List (List ℕ)) → (St.holds store.old).told ≡ true → HasRows lefts left.old (St.holds store.old) → HasRows rights right.old (St.holds store.old) → Emitted (E.took emit.old (St.holds store.old)) (E.took emit.new (St.holds store.new)) (stored_pairs shape.now lefts rights)) }
-    ensures err { OnErr result ((lefts rights : List (List ℕ)) → (St.holds store.old).told ≡ true → HasRows lefts left.old (St.holds store.old) → HasRows rights right.old (St.holds store.old) → EmittedSome (E.took emit.old (St.holds store.old)) (E.took emit.new (St.holds store.new)) (stored_pairs shape.now lefts rights)) }
-    ensures stands { WentOn (E.took emit.old (St.holds store.old)) (E.took emit.new (St.holds store.new)) }
-    ensures cause { IfErr result (CameFull left.old.page_blocks (St.holds store.new).free_slots (E.client emit.old) (E.faults emit.old) (E.faults emit.new) (St.signs store.old) (St.signs store.new)) }
-    ensures want { E.page_blocks ≡ left.old.page_blocks → IfErr result (IsWantOf left.old.page_blocks (with_more (E.slots emit.new (St.holds store.new)) (St.holds store.new).free_slots)) }
-    ensures crowded { IfErr result (λ e. (lefts rights : List (List ℕ)) → (St.holds store.old).told ≡ true → HasRows lefts left.old (St.holds store.old) → HasRows rights right.old (St.holds store.old) → EmittedSome (E.took emit.old (St.holds store.old)) (Crowds (E.slots_for emit.old) left.old.page_blocks (with_more (E.slots emit.new (St.holds store.new)) (St.holds store.new).free_slots) e) (stored_pairs shape.now lefts rights)) }
-    ensures most { SameMost (E.slots_for emit.old) (E.slots_for emit.new) }
-    ensures first { OnOk result (IsResting left.old → IsResting right.old → EnteredEvents PinsAgain (St.signs store.old).trail (St.signs store.new).trail) }
+    requires emits { MayEmit St.Store E.Emit c.now.tracker shape.now emit.old store.old }
+    ensures hands { HandsTwo St.Store E.Emit false shape.now left.old left.new right.old right.new emit.old emit.new store.old store.new result }
+    ensures first { OnOk result (IsResting left.old → IsResting right.old → PinsAgainAt St.Store store.old store.new) }
     ensures streams { ReadBoth c.now.tracker (E.client emit.old) left.old left.new right.old right.new (St.holds store.old) (St.holds store.new) }
-    ensures slots { KeepSlots (E.client emit.old) (slots_of_two left.old right.old (St.holds store.old)) (slots_of_two left.new right.new (St.holds store.new)) (E.slots emit.old (St.holds store.old)) (E.slots emit.new (St.holds store.new)) }
     ensures held { IsSameHeld held.old held.new }
-    ensures emitter { StaysEmitter (E.admits emit.old) (E.admits emit.new) (E.client emit.old) (E.client emit.new) (E.faults emit.old) (E.faults emit.new) (E.creates emit.old) (E.creates emit.new) (St.holds store.new) (St.signs store.old) (St.signs store.new) }
 {
     if turned {
         return join_held(alloc, store, c, right, left, shape, true, held, emit);

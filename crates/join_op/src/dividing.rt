@@ -1,20 +1,14 @@
 //! The top partition of one side is divided while the other side rests.
-ghost use Rattle.std.specs.Prelude.{◌≡◌, ◌+◌, ◌<◌, ◌∷◌, ℕ, [], All, List, Some, IfErr, OnErr, OnOk, length, slice_get, true, map};
+ghost use Rattle.std.specs.Prelude.{◌≡◌, ◌+◌, ◌<◌, All, Some, IfErr, OnErr, OnOk, length, slice_get, true, map};
 ghost use Rattle.row_reading.specs.Reading.{IsKeyColumn};
-ghost use Rattle.store_api.specs.Signs.{WasAnswered};
-ghost use Rattle.tuple_stream.specs.Families.{AllClosed, ShowAll};
-ghost use Rattle.tuple_stream.specs.FamilyCalls.{AllWhole, Feeds, shares};
-ghost use Rattle.tuple_stream.specs.Spending.{PinsAgain};
+ghost use Rattle.tuple_stream.specs.Families.{AllClosed};
+ghost use Rattle.tuple_stream.specs.FamilyCalls.{AllWhole};
 ghost use Rattle.tuple_stream.specs.Streamed.{Streamed};
-ghost use Rattle.tuple_stream.specs.Touches.{IsFull};
-ghost use Rattle.tuple_stream.specs.Trails.{EnteredEvents};
 ghost use Rattle.partition_stack.specs.Making.{MakesFew};
-ghost use Rattle.partition_stack.specs.Laws.{NoneFrom};
-ghost use Rattle.partition_stack.specs.Stack.{over};
-ghost use Rattle.join_op.specs.Beside.{CallsBeside, MayCall};
-ghost use Rattle.join_op.specs.Dividing.{AreFewPages, DealsAll, DealsNew, HasCalled, HasPart, IsDivided, IsFan, WholeBut, side_of};
+ghost use Rattle.join_op.specs.Beside.{MayCall};
+ghost use Rattle.join_op.specs.Dividing.{IsDivided, IsFan, WholeBut, side_of};
 ghost use Rattle.join_op.specs.Joining.{HasRowsAt};
-ghost use Rattle.join_op.specs.Stored.{place_of};
+ghost use Rattle.join_op.specs.SideCalls.{SendsAt, side_at, CallsBesideAt, HasCalledAt, WasRefused, PinsAgainAt, StaysShown, DealsNewAt, DealsAllAt, DealsPartAt, HasFewAt, StaysWhole};
 
 use crate::feeding::Spare;
 use partition_stack::{Partitions, law_scratch};
@@ -42,13 +36,13 @@ fn send<St: Store>(
     requires may { MayCall c.now parts.old _other.now (St.holds store.old) (St.signs store.old) }
     requires fan { IsFan level at parts.old }
     requires columns { All (IsKeyColumn kinds.now) columns.now }
-    ensures went { OnOk result (Feeds c.now.tracker (place_of (side_of kinds.now columns.now) level (at + 1) spare.old.row.items) (spare.old.row.items ∷ []) (over parts.old (St.holds store.old) (St.signs store.old)) (over parts.new (St.holds store.new) (St.signs store.new))) }
+    ensures went { OnOk result (SendsAt St.Store c.now.tracker (side_of kinds.now columns.now) level at spare.old.row.items parts.old parts.new store.old store.new) }
     ensures fan { IsFan level at parts.new }
-    ensures beside { CallsBeside c.now.tracker parts.old parts.new _other.now (St.holds store.old) (St.holds store.new) (St.signs store.old) (St.signs store.new) }
+    ensures beside { CallsBesideAt St.Store c.now.tracker parts.old parts.new _other.now store.old store.new }
     ensures made { MakesFew 1 (St.signs store.old) (St.signs store.new) }
     ensures spent { map (λ s. s.spent) parts.new.streams ≡ map (λ s. s.spent) parts.old.streams }
-    ensures stays { OnErr result ((rows : ℕ → List (List ℕ)) → (St.holds store.old).told ≡ true → ShowAll rows (over parts.old (St.holds store.old) (St.signs store.old)) → ShowAll rows (over parts.new (St.holds store.new) (St.signs store.new))) }
-    ensures answers { IfErr result (λ e. WasAnswered e (St.signs store.old) (St.signs store.new) × IsFull parts.old.page_blocks (St.holds store.new).free_slots e) }
+    ensures stays { OnErr result (StaysShown St.Store parts.old parts.new store.old store.new) }
+    ensures answers { IfErr result (WasRefused St.Store parts.old.page_blocks store.old store.new) }
 {
     let len = u64::from(parts.page_blocks()) * u64::from(store.block_len());
     if spare.row.len() as u64 > len {
@@ -78,14 +72,14 @@ fn spend_side<St: Store>(
     requires fan { IsFan level at parts.old }
     requires columns { All (IsKeyColumn kinds.now) columns.now }
     requires some { HasRowsAt at parts.old }
-    ensures dealt { OnOk result (DealsNew (side_of kinds.now columns.now) level at (over parts.old (St.holds store.old) (St.signs store.old)) (over parts.new (St.holds store.new) (St.signs store.new))) }
-    ensures part { OnErr result ((rows : ℕ → List (List ℕ)) → (St.holds store.old).told ≡ true → NoneFrom (at + 1) rows → ShowAll rows (over parts.old (St.holds store.old) (St.signs store.old)) → HasPart (side_of kinds.now columns.now) level at rows (over parts.new (St.holds store.new) (St.signs store.new))) }
-    ensures whole { AllWhole (over parts.old (St.holds store.old) (St.signs store.old)) → WholeBut at (over parts.new (St.holds store.new) (St.signs store.new)) }
-    ensures first { OnOk result (AllClosed (over parts.old (St.holds store.old) (St.signs store.old)) → EnteredEvents PinsAgain (St.signs store.old).trail (St.signs store.new).trail) }
+    ensures dealt { OnOk result (DealsNewAt St.Store (side_of kinds.now columns.now) level at parts.old parts.new store.old store.new) }
+    ensures part { OnErr result (DealsPartAt St.Store (side_of kinds.now columns.now) level at parts.old parts.new store.old store.new) }
+    ensures whole { AllWhole (side_at St.Store parts.old store.old) → WholeBut at (side_at St.Store parts.new store.new) }
+    ensures first { OnOk result (AllClosed (side_at St.Store parts.old store.old) → PinsAgainAt St.Store store.old store.new) }
     ensures fan { IsFan level at parts.new }
-    ensures beside { CallsBeside c.now.tracker parts.old parts.new other.now (St.holds store.old) (St.holds store.new) (St.signs store.old) (St.signs store.new) }
+    ensures beside { CallsBesideAt St.Store c.now.tracker parts.old parts.new other.now store.old store.new }
     ensures made { (s : Streamed) → slice_get parts.old.streams at ≡ Some s → MakesFew s.count (St.signs store.old) (St.signs store.new) }
-    ensures answers { IfErr result (λ e. WasAnswered e (St.signs store.old) (St.signs store.new) × IsFull parts.old.page_blocks (St.holds store.new).free_slots e) }
+    ensures answers { IfErr result (WasRefused St.Store parts.old.page_blocks store.old store.new) }
 {
     let mut left = parts.rows(at);
     while left > 0 {
@@ -117,19 +111,19 @@ pub(crate) fn divide_side<St: Store>(
     requires top { length parts.old.streams ≡ at + 1 }
     requires level { slice_get parts.old.levels at ≡ Some level }
     requires deep { level < 16 }
-    requires closed { AllClosed (over parts.old (St.holds store.old) (St.signs store.old)) }
+    requires closed { AllClosed (side_at St.Store parts.old store.old) }
     requires alike { other.now.page_blocks ≡ parts.old.page_blocks }
     requires columns { All (IsKeyColumn kinds.now) columns.now }
     requires some { HasRowsAt at parts.old }
-    ensures dealt { OnOk result (DealsAll (side_of kinds.now columns.now) level at (over parts.old (St.holds store.old) (St.signs store.old)) (over parts.new (St.holds store.new) (St.signs store.new))) }
-    ensures few { (rows : ℕ → List (List ℕ)) → (St.holds store.old).told ≡ true → ShowAll rows (over parts.old (St.holds store.old) (St.signs store.old)) → AllWhole (over parts.old (St.holds store.old) (St.signs store.old)) → AreFewPages parts.old.page_blocks 273 (shares (length parts.old.streams) rows) (over parts.new (St.holds store.new) (St.signs store.new)) }
-    ensures whole { OnOk result ((rows : ℕ → List (List ℕ)) → (St.holds store.old).told ≡ true → ShowAll rows (over parts.old (St.holds store.old) (St.signs store.old)) → AllWhole (over parts.old (St.holds store.old) (St.signs store.old)) → AllWhole (over parts.new (St.holds store.new) (St.signs store.new))) }
+    ensures dealt { OnOk result (DealsAllAt St.Store (side_of kinds.now columns.now) level at parts.old parts.new store.old store.new) }
+    ensures few { HasFewAt St.Store parts.old parts.new store.old store.new }
+    ensures whole { OnOk result (StaysWhole St.Store parts.old parts.new store.old store.new) }
     ensures divided { OnOk result (IsDivided level at parts.old parts.new) }
-    ensures closed { OnOk result (AllClosed (over parts.new (St.holds store.new) (St.signs store.new))) }
-    ensures first { OnOk result (EnteredEvents PinsAgain (St.signs store.old).trail (St.signs store.new).trail) }
-    ensures called { HasCalled c.now.tracker parts.old parts.new other.now (St.holds store.old) (St.holds store.new) (St.signs store.old) (St.signs store.new) }
+    ensures closed { OnOk result (AllClosed (side_at St.Store parts.new store.new)) }
+    ensures first { OnOk result (PinsAgainAt St.Store store.old store.new) }
+    ensures called { HasCalledAt St.Store c.now.tracker parts.old parts.new other.now store.old store.new }
     ensures made { (s : Streamed) → slice_get parts.old.streams at ≡ Some s → MakesFew s.count (St.signs store.old) (St.signs store.new) }
-    ensures answers { IfErr result (λ e. WasAnswered e (St.signs store.old) (St.signs store.new) × IsFull parts.old.page_blocks (St.holds store.new).free_slots e) }
+    ensures answers { IfErr result (WasRefused St.Store parts.old.page_blocks store.old store.new) }
 {
     parts.law_stack();
     other.law_stack();

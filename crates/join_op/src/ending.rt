@@ -3,10 +3,9 @@ ghost use Rattle.std.specs.Prelude.{◌≡◌};
 ghost use Rattle.store_api.specs.Conditions.{IsIdle};
 ghost use Rattle.partition_stack.specs.Leaving.{LeavesOthers};
 ghost use Rattle.partition_stack.specs.Making.{MakesFew};
-ghost use Rattle.partition_stack.specs.Stack.{over};
 ghost use Rattle.tuple_stream.specs.Families.{AllClosed, slots_in};
-ghost use Rattle.tuple_stream.specs.Trails.{EnteredEvents, PinsFirst};
 ghost use Rattle.join_op.specs.Operator.{IsOperator, over_both};
+ghost use Rattle.join_op.specs.SideCalls.{side_at, PinsFirstAt};
 
 use crate::operator::JoinOp;
 use store_api::{Client, Store};
@@ -17,7 +16,7 @@ impl JoinOp {
         requires { IsOperator self (St.holds store.old) (St.signs store.old) }
         ensures client { result ≡ self.client }
         // Where no page was pinned, none is left before one is pinned again.
-        ensures first { AllClosed (over self.left (St.holds store.old) (St.signs store.old)) → AllClosed (over self.right (St.holds store.old) (St.signs store.old)) → EnteredEvents PinsFirst (St.signs store.old).trail (St.signs store.new).trail }
+        ensures first { AllClosed (side_at St.Store self.left store.old) → AllClosed (side_at St.Store self.right store.old) → PinsFirstAt St.Store store.old store.new }
         ensures idle { IsIdle self.client.tracker (St.holds store.new) }
         ensures few { MakesFew 0 (St.signs store.old) (St.signs store.new) }
         ensures slots { (St.holds store.new).free_slots ≡ slots_in (over_both self.left self.right (St.holds store.old) (St.signs store.old)) }

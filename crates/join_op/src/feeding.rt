@@ -1,24 +1,21 @@
 //! Rows are fed to a join.
-ghost use Rattle.std.specs.Prelude.{◌≡◌, ◌++◌, ◌^◌, ◌∷◌, [], List, Option, length, true, IfErr, OnErr, OnOk};
-ghost use Rattle.pool_model.specs.declared.entry.Entry.{Entry};
+ghost use Rattle.std.specs.Prelude.{◌≡◌, ◌^◌, length, true, IfErr, OnErr, OnOk};
 ghost use Rattle.row_codec.specs.declared.values.Value.{Value};
 ghost use Rattle.row_codec.specs.RowLaws.{IsRow};
 ghost use Rattle.row_codec.specs.RowBytes.{key_bytes, row_bytes};
 ghost use Rattle.store_api.specs.Holdings.{length_of};
-ghost use Rattle.store_api.specs.Signs.{WasAnswered};
-ghost use Rattle.tuple_stream.specs.Families.{pages_in, slots_in};
-ghost use Rattle.tuple_stream.specs.FamilyCalls.{AllAtEnd, Feeds, RestsSome};
+ghost use Rattle.tuple_stream.specs.Families.{pages_in};
+ghost use Rattle.tuple_stream.specs.FamilyCalls.{AllAtEnd};
 ghost use Rattle.tuple_stream.specs.PageRows.{IsOneRow};
 ghost use Rattle.tuple_stream.specs.Steps.{came};
-ghost use Rattle.tuple_stream.specs.Touches.{IsFull};
-ghost use Rattle.partition_stack.specs.Leaving.{CameOfStore, LeavesOthers};
-ghost use Rattle.partition_stack.specs.Slots.{IsWantBelowOf, IsWantOf};
 ghost use Rattle.partition_stack.specs.Making.{MakesFew};
-ghost use Rattle.partition_stack.specs.Stack.{RestBelow, over};
-ghost use Rattle.join_op.specs.Operator.{HasNoRight, IsFeeding, IsOperator, IsSame, Keeps, MayBeFed, over_both, slots_for};
+ghost use Rattle.partition_stack.specs.Stack.{RestBelow};
+ghost use Rattle.join_op.specs.Operator.{HasNoRight, IsFeeding, IsOperator, MayBeFed};
 ghost use Rattle.join_op.specs.Stored.{left_side, right_side};
-ghost use Rattle.join_op.specs.Beside.{CallsBeside, IsSpellable, MayCall, first_place};
+ghost use Rattle.join_op.specs.FeedCalls.{TakesLeft, TakesRight};
+ghost use Rattle.join_op.specs.Beside.{IsSpellable, MayCall, first_place};
 ghost use Rattle.partition_stack.specs.Sides.{OwnBoth};
+ghost use Rattle.join_op.specs.SideCalls.{RestsAllAt, side_at, CallsBesideAt, WasRefused, FeedsAt};
 
 use crate::operator::JoinOp;
 use partition_stack::{Partitions, law_scratch};
@@ -61,17 +58,8 @@ impl JoinOp {
         requires feeding { IsFeeding self.old }
         requires first { HasNoRight self.old }
         requires row { MayBeFed (left_side self.old.shape) self.old (St.holds store.old) row.now }
-        ensures keeps { OnOk result ((start : Option (List Entry)) → (lefts rights : List (List Value)) → Keeps start lefts rights self.old (St.holds store.old) (St.signs store.old) → Keeps start (lefts ++ row.now ∷ []) rights self.new (St.holds store.new) (St.signs store.new)) }
-        ensures op { IsOperator self.new (St.holds store.new) (St.signs store.new) }
-        ensures feeding { IsFeeding self.new }
-        ensures same { IsSame self.old self.new }
+        ensures takes { TakesLeft St.Store row.now self.old self.new store.old store.new result }
         ensures right { self.new.right ≡ self.old.right }
-        ensures leaves { LeavesOthers self.old.client.tracker (St.holds store.old) (St.holds store.new) (St.signs store.old) (St.signs store.new) }
-        ensures slots { slots_in (over_both self.new.left self.new.right (St.holds store.new) (St.signs store.new)) ≡ slots_in (over_both self.old.left self.old.right (St.holds store.old) (St.signs store.old)) }
-        ensures cause { IfErr result (CameOfStore self.old.left.page_blocks (St.holds store.new) (St.signs store.old) (St.signs store.new)) }
-        ensures few { MakesFew 1 (St.signs store.old) (St.signs store.new) }
-        ensures want { IfErr result (IsWantOf self.old.left.page_blocks (slots_in (over_both self.old.left self.old.right (St.holds store.old) (St.signs store.old)))) }
-        ensures enough { IfErr result (λ e. (start : Option (List Entry)) → (lefts rights : List (List Value)) → Keeps start lefts rights self.old (St.holds store.old) (St.signs store.old) → IsWantBelowOf (slots_for self.old (St.holds store.old) (lefts ++ row.now ∷ []) rights) (slots_in (over_both self.old.left self.old.right (St.holds store.old) (St.signs store.old))) e) }
     {
         self.left.law_stack();
         self.right.law_stack();
@@ -107,16 +95,7 @@ impl JoinOp {
         requires op { IsOperator self.old (St.holds store.old) (St.signs store.old) }
         requires feeding { IsFeeding self.old }
         requires row { MayBeFed (right_side self.old.shape) self.old (St.holds store.old) row.now }
-        ensures keeps { OnOk result ((start : Option (List Entry)) → (lefts rights : List (List Value)) → Keeps start lefts rights self.old (St.holds store.old) (St.signs store.old) → Keeps start lefts (rights ++ row.now ∷ []) self.new (St.holds store.new) (St.signs store.new)) }
-        ensures op { IsOperator self.new (St.holds store.new) (St.signs store.new) }
-        ensures feeding { IsFeeding self.new }
-        ensures same { IsSame self.old self.new }
-        ensures leaves { LeavesOthers self.old.client.tracker (St.holds store.old) (St.holds store.new) (St.signs store.old) (St.signs store.new) }
-        ensures slots { slots_in (over_both self.new.left self.new.right (St.holds store.new) (St.signs store.new)) ≡ slots_in (over_both self.old.left self.old.right (St.holds store.old) (St.signs store.old)) }
-        ensures cause { IfErr result (CameOfStore self.old.left.page_blocks (St.holds store.new) (St.signs store.old) (St.signs store.new)) }
-        ensures few { MakesFew 1 (St.signs store.old) (St.signs store.new) }
-        ensures want { IfErr result (IsWantOf self.old.left.page_blocks (slots_in (over_both self.old.left self.old.right (St.holds store.old) (St.signs store.old)))) }
-        ensures enough { IfErr result (λ e. (start : Option (List Entry)) → (lefts rights : List (List Value)) → Keeps start lefts rights self.old (St.holds store.old) (St.signs store.old) → IsWantBelowOf (slots_for self.old (St.holds store.old) lefts (rights ++ row.now ∷ [])) (slots_in (over_both self.old.left self.old.right (St.holds store.old) (St.signs store.old))) e) }
+        ensures { TakesRight St.Store row.now self.old self.new store.old store.new result }
     {
         self.left.law_stack();
         self.right.law_stack();
@@ -158,15 +137,15 @@ pub(crate) fn rest_left<St: Store>(
     requires own { OwnBoth c.now.tracker 0 left.old.streams _right.now.streams (St.holds store.old) (St.signs store.old) }
     requires flag { left_rests.old ≡ true → RestBelow (length left.old.streams) left.old }
     ensures still { left_rests.old ≡ true → (left.new ≡ left.old) × (St.holds store.new ≡ St.holds store.old) × (St.signs store.new ≡ St.signs store.old) }
-    ensures beside { CallsBeside c.now.tracker left.old left.new _right.now (St.holds store.old) (St.holds store.new) (St.signs store.old) (St.signs store.new) }
+    ensures beside { CallsBesideAt St.Store c.now.tracker left.old left.new _right.now store.old store.new }
     ensures made { MakesFew 0 (St.signs store.old) (St.signs store.new) }
-    ensures pages { pages_in (over left.new (St.holds store.new) (St.signs store.new)) ≡ pages_in (over left.old (St.holds store.old) (St.signs store.old)) }
-    ensures rested { OnOk result (RestsSome c.now.tracker (length left.old.streams) (over left.old (St.holds store.old) (St.signs store.old)) (over left.new (St.holds store.new) (St.signs store.new))) }
+    ensures pages { pages_in (side_at St.Store left.new store.new) ≡ pages_in (side_at St.Store left.old store.old) }
+    ensures rested { OnOk result (RestsAllAt St.Store c.now.tracker left.old left.new store.old store.new) }
     ensures rests { OnOk result (RestBelow (length left.new.streams) left.new) }
     ensures flag { left_rests.new ≡ true → RestBelow (length left.new.streams) left.new }
     ensures set { OnOk result (left_rests.new ≡ true) }
     ensures unset { OnErr result (left_rests.new ≡ left_rests.old) }
-    ensures answers { IfErr result (λ e. WasAnswered e (St.signs store.old) (St.signs store.new) × IsFull left.old.page_blocks (St.holds store.new).free_slots e) }
+    ensures answers { IfErr result (WasRefused St.Store left.old.page_blocks store.old store.new) }
 {
     if *left_rests {
         return Ok(());
@@ -190,12 +169,12 @@ fn put_row<St: Store>(
     requires may { MayCall c.now parts.old _other.now (St.holds store.old) (St.signs store.old) }
     requires sixteen { length parts.old.streams ≡ 16 }
     requires row { IsSpellable columns.now (length_of parts.old.page_blocks (St.holds store.old)) row.now }
-    ensures beside { CallsBeside c.now.tracker parts.old parts.new _other.now (St.holds store.old) (St.holds store.new) (St.signs store.old) (St.signs store.new) }
-    ensures went { Feeds c.now.tracker (first_place columns.now row.now) (came result (row_bytes row.now)) (over parts.old (St.holds store.old) (St.signs store.old)) (over parts.new (St.holds store.new) (St.signs store.new)) }
-    ensures at_end { OnOk result (AllAtEnd (over parts.old (St.holds store.old) (St.signs store.old)) → AllAtEnd (over parts.new (St.holds store.new) (St.signs store.new))) }
+    ensures beside { CallsBesideAt St.Store c.now.tracker parts.old parts.new _other.now store.old store.new }
+    ensures went { FeedsAt St.Store c.now.tracker (first_place columns.now row.now) (came result (row_bytes row.now)) parts.old parts.new store.old store.new }
+    ensures at_end { OnOk result (AllAtEnd (side_at St.Store parts.old store.old) → AllAtEnd (side_at St.Store parts.new store.new)) }
     ensures few { MakesFew 1 (St.signs store.old) (St.signs store.new) }
     ensures is_row { OnOk result (IsRow row.now) }
-    ensures answers { IfErr result (λ e. WasAnswered e (St.signs store.old) (St.signs store.new) × IsFull parts.old.page_blocks (St.holds store.new).free_slots e) }
+    ensures answers { IfErr result (WasRefused St.Store parts.old.page_blocks store.old store.new) }
 {
     parts.law_stack();
     let _len = store.block_len();

@@ -6,13 +6,13 @@ ghost use Rattle.store_api.specs.Signs.{Grows, WasAnswered};
 ghost use Rattle.bucket_table.specs.Lending.{Lends};
 ghost use Rattle.bucket_table.specs.Tables.{with_nodes};
 ghost use Rattle.tuple_stream.specs.Places.{IsWithin};
-ghost use Rattle.tuple_stream.specs.Steps.{Reads, scene};
+ghost use Rattle.tuple_stream.specs.Steps.{Reads};
 ghost use Rattle.tuple_stream.specs.Touches.{IsFull};
-ghost use Rattle.tuple_stream.specs.Trails.{EnteredEvents, PinsFirst};
 ghost use Rattle.partition_stack.specs.Making.{MakesFew};
 ghost use Rattle.partition_stack.specs.Reading.{IsReadable};
-ghost use Rattle.join_op.specs.Chunks.{AreColumns, IsKept, ReadsMore, kept_rows};
+ghost use Rattle.join_op.specs.Chunks.{AreColumns, IsKept, kept_rows};
 ghost use Rattle.join_op.specs.Holding.{AreStored, HoldsOf, IsSameHeld, IsTableAt, LeavesRoom, MayHold, held_rows, held_side, loans_in, stored};
+ghost use Rattle.join_op.specs.SideCalls.{read_at, PinsFirstAt, ReadsMoreAt};
 
 use crate::feeding::Spare;
 use bucket_table::{BucketTable, spread};
@@ -111,7 +111,7 @@ pub(crate) fn hold<St: Store>(
     ensures room { LeavesRoom c.now.tracker blocks (St.holds store.old) (St.holds store.new) }
     ensures grows { Grows (St.signs store.old) (St.signs store.new) }
     ensures made { MakesFew 0 (St.signs store.old) (St.signs store.new) }
-    ensures first { EnteredEvents PinsFirst (St.signs store.old).trail (St.signs store.new).trail }
+    ensures first { PinsFirstAt St.Store store.old store.new }
 {
     let longest = blocks as usize * store.block_len() as usize;
     let table = table_for(alloc, store, c, blocks, pages, rows);
@@ -165,7 +165,7 @@ fn table_for<St: Store>(
     ensures room { LeavesRoom c.now.tracker blocks (St.holds store.old) (St.holds store.new) }
     ensures grows { Grows (St.signs store.old) (St.signs store.new) }
     ensures made { MakesFew 0 (St.signs store.old) (St.signs store.new) }
-    ensures first { EnteredEvents PinsFirst (St.signs store.old).trail (St.signs store.new).trail }
+    ensures first { PinsFirstAt St.Store store.old store.new }
 {
     let len = u64::from(blocks) * u64::from(store.block_len());
     let (heads, nodes) = buffers_in(len, pages, rows, store.unused(c))?;
@@ -190,10 +190,10 @@ pub(crate) fn hold_next<St: Store>(
     requires place { IsWithin place.old builds.old }
     requires may { MayHold held.old }
     ensures each { OnOk result (HoldsOf (held_side turned shape.now) held.new) }
-    ensures reads { OnOk result (ReadsMore (held_rows held.new) place.old place.new (scene builds.old (St.holds store.old) (St.signs store.old)) (scene builds.new (St.holds store.new) (St.signs store.new))) }
+    ensures reads { OnOk result (ReadsMoreAt St.Store (held_rows held.new) place.old place.new builds.old builds.new store.old store.new) }
     ensures last { OnOk result (length (held_rows held.new) ≡ 0 → place.new.row ≡ builds.new.count) }
     ensures held { IsSameHeld held.old held.new }
-    ensures went { Reads c.now.tracker (scene builds.old (St.holds store.old) (St.signs store.old)) (scene builds.new (St.holds store.new) (St.signs store.new)) }
+    ensures went { Reads c.now.tracker (read_at St.Store builds.old store.old) (read_at St.Store builds.new store.new) }
     ensures same { builds.new ≡ record builds.old { pinned = builds.new.pinned } }
     ensures cause { IfErr result (λ e. WasAnswered e (St.signs store.old) (St.signs store.new)) }
     ensures full { IfErr result (IsFull builds.old.page_blocks (St.holds store.new).free_slots) }
@@ -249,9 +249,9 @@ fn keep_chunk<St: Store>(
     requires columns { AreColumns (held_side turned shape.now) columns.now }
     requires place { IsWithin place.old builds.old }
     ensures each { OnOk result (All (IsKept (held_side turned shape.now)) kept.new.items) }
-    ensures reads { OnOk result (ReadsMore (kept_rows kept.new.items) place.old place.new (scene builds.old (St.holds store.old) (St.signs store.old)) (scene builds.new (St.holds store.new) (St.signs store.new))) }
+    ensures reads { OnOk result (ReadsMoreAt St.Store (kept_rows kept.new.items) place.old place.new builds.old builds.new store.old store.new) }
     ensures last { OnOk result (length kept.new.items < chunk → place.new.row ≡ builds.new.count) }
-    ensures went { Reads c.now.tracker (scene builds.old (St.holds store.old) (St.signs store.old)) (scene builds.new (St.holds store.new) (St.signs store.new)) }
+    ensures went { Reads c.now.tracker (read_at St.Store builds.old store.old) (read_at St.Store builds.new store.new) }
     ensures same { builds.new ≡ record builds.old { pinned = builds.new.pinned } }
     ensures cause { IfErr result (λ e. WasAnswered e (St.signs store.old) (St.signs store.new)) }
     ensures full { IfErr result (IsFull builds.old.page_blocks (St.holds store.new).free_slots) }
@@ -329,10 +329,10 @@ fn fill_table<St: Store>(
     requires place { IsWithin place.old builds.old }
     requires room { 4 + longest ≤ table.old.room }
     ensures each { AreStored (held_side turned shape.now) table.new.heads table.new.nodes }
-    ensures reads { OnOk result (ReadsMore (stored table.new.nodes) place.old place.new (scene builds.old (St.holds store.old) (St.signs store.old)) (scene builds.new (St.holds store.new) (St.signs store.new))) }
+    ensures reads { OnOk result (ReadsMoreAt St.Store (stored table.new.nodes) place.old place.new builds.old builds.new store.old store.new) }
     ensures last { OnOk result (length (stored table.new.nodes) ≡ 0 → place.new.row ≡ builds.new.count) }
     ensures table { table.new ≡ with_nodes table.new.nodes table.old }
-    ensures went { Reads c.now.tracker (scene builds.old (St.holds store.old) (St.signs store.old)) (scene builds.new (St.holds store.new) (St.signs store.new)) }
+    ensures went { Reads c.now.tracker (read_at St.Store builds.old store.old) (read_at St.Store builds.new store.new) }
     ensures same { builds.new ≡ record builds.old { pinned = builds.new.pinned } }
     ensures cause { IfErr result (λ e. WasAnswered e (St.signs store.old) (St.signs store.new)) }
     ensures full { IfErr result (IsFull builds.old.page_blocks (St.holds store.new).free_slots) }

@@ -1,25 +1,18 @@
 //! Partitions of both sides are joined from the top, each with the one of its number.
-ghost use Rattle.std.specs.Prelude.{◌≡◌, ◌≢◌, ◌⊎◌, ◌+◌, ◌<◌, ℕ, List, None, true, false, Some, IfErr, OnErr, OnOk, length, slice_get};
-ghost use Rattle.row_codec.specs.declared.values.Value.{Value};
+ghost use Rattle.std.specs.Prelude.{◌≡◌, ◌≢◌, ◌⊎◌, ◌+◌, ◌<◌, ℕ, List, true, false, Some, IfErr, OnOk, length, slice_get};
 ghost use Rattle.store_api.specs.Conditions.{IsLiveClient};
-ghost use Rattle.store_api.specs.Emitters.{CameOf};
 ghost use Rattle.store_api.specs.Signs.{WasAnswered};
 ghost use Rattle.tuple_stream.specs.Families.{AllClosed, ShowAll};
 ghost use Rattle.tuple_stream.specs.FamilyCalls.{AllWhole};
-ghost use Rattle.tuple_stream.specs.Spending.{PinsAgain};
-ghost use Rattle.tuple_stream.specs.Trails.{EnteredEvents, PinsFirst};
-ghost use Rattle.partition_stack.specs.Emitting.{IsBeside, LeavesBeside, StandsStill};
-ghost use Rattle.partition_stack.specs.Leaving.{LeavesOthers};
+ghost use Rattle.tuple_stream.specs.Trails.{EnteredEvents};
 ghost use Rattle.partition_stack.specs.Making.{MakesBeside, MakesFew};
 ghost use Rattle.partition_stack.specs.Sides.{OwnBoth};
-ghost use Rattle.partition_stack.specs.Slots.{IsWant, IsWantBelow, IsWantBelowOf, IsWantOf, KeepSlots, with_more};
-ghost use Rattle.partition_stack.specs.Stack.{over, weight};
-ghost use Rattle.join_op.specs.Slots.{Crowds, SameMost};
-ghost use Rattle.join_op.specs.Chunks.{AdmitsJoined, stored_pairs};
-ghost use Rattle.join_op.specs.Dividing.{HasCalled};
-ghost use Rattle.join_op.specs.Handing.{Emitted, EmittedSome};
-ghost use Rattle.join_op.specs.Joining.{Advances, AreColumnsOfBoth, HasDivided, HasPopped, HasNoRowsAt, HasRowsAt, IsBetween, PinsBefore, ShowBoth, both, owed_both, pairs_down, slots_both, slots_by};
+ghost use Rattle.partition_stack.specs.Slots.{IsWant};
+ghost use Rattle.partition_stack.specs.Stack.{weight};
+ghost use Rattle.join_op.specs.PartCalls.{HasDividedAt, MakesForRows, both_at, OfShown, IsWantFor, HandsDown, HandsTop, HasAdvanced, HasJoined, HasPaired, MakesOwed, MayJoin};
+ghost use Rattle.join_op.specs.Joining.{AreColumnsOfBoth, HasPopped, HasNoRowsAt, HasRowsAt, IsBetween, PinsBefore, ShowBoth, slots_both};
 ghost use Rattle.join_op.specs.Operator.{IsOperator, operator};
+ghost use Rattle.join_op.specs.SideCalls.{side_at, HasCalledAt, LeavesOthersAt, PinsAgainAt, PinsFirstAt};
 
 use crate::chunks::leaf_by_table;
 use crate::dividing::divide_side;
@@ -34,13 +27,13 @@ use store_api::{Client, Emit, JoinShape, OpErr, Store};
 fn drop_one<St: Store>(store: &mut St, c: &Client, parts: &mut Partitions, _other: &Partitions)
     requires own { OwnBoth c.now.tracker 0 parts.old.streams _other.now.streams (St.holds store.old) (St.signs store.old) }
     requires some { 0 < length parts.old.streams }
-    ensures called { HasCalled c.now.tracker parts.old parts.new _other.now (St.holds store.old) (St.holds store.new) (St.signs store.old) (St.signs store.new) }
+    ensures called { HasCalledAt St.Store c.now.tracker parts.old parts.new _other.now store.old store.new }
     ensures made { MakesFew 0 (St.signs store.old) (St.signs store.new) }
-    ensures shows { (rows : ℕ → List (List ℕ)) → ShowAll rows (over parts.old (St.holds store.old) (St.signs store.old)) → ShowAll rows (over parts.new (St.holds store.new) (St.signs store.new)) }
-    ensures whole { AllWhole (over parts.old (St.holds store.old) (St.signs store.old)) → AllWhole (over parts.new (St.holds store.new) (St.signs store.new)) }
+    ensures shows { (rows : ℕ → List (List ℕ)) → ShowAll rows (side_at St.Store parts.old store.old) → ShowAll rows (side_at St.Store parts.new store.new) }
+    ensures whole { AllWhole (side_at St.Store parts.old store.old) → AllWhole (side_at St.Store parts.new store.new) }
     ensures popped { (at : ℕ) → length parts.old.streams ≡ at + 1 → HasPopped at parts.old parts.new }
-    ensures closed { AllClosed (over parts.old (St.holds store.old) (St.signs store.old)) → AllClosed (over parts.new (St.holds store.new) (St.signs store.new)) }
-    ensures first { AllClosed (over parts.old (St.holds store.old) (St.signs store.old)) → EnteredEvents PinsFirst (St.signs store.old).trail (St.signs store.new).trail }
+    ensures closed { AllClosed (side_at St.Store parts.old store.old) → AllClosed (side_at St.Store parts.new store.new) }
+    ensures first { AllClosed (side_at St.Store parts.old store.old) → PinsFirstAt St.Store store.old store.new }
 {
     let mut top = parts.pop();
     top.drop_all(store);
@@ -57,17 +50,17 @@ fn drop_top<St: Store>(
     _at: usize,
 )
     requires op { IsOperator (operator c.now shape.now left.old right.old) (St.holds store.old) (St.signs store.old) }
-    requires between { IsBetween (both left.old right.old (St.holds store.old) (St.signs store.old)) }
+    requires between { IsBetween (both_at St.Store left.old right.old store.old) }
     requires top { length left.old.streams ≡ _at + 1 }
     ensures op { IsOperator (operator c.now shape.now left.new right.new) (St.holds store.new) (St.signs store.new) }
-    ensures leaves { LeavesOthers c.now.tracker (St.holds store.old) (St.holds store.new) (St.signs store.old) (St.signs store.new) }
+    ensures leaves { LeavesOthersAt St.Store c.now.tracker store.old store.new }
     ensures made { MakesFew 0 (St.signs store.old) (St.signs store.new) }
     ensures blocks { left.new.page_blocks ≡ left.old.page_blocks }
-    ensures between { IsBetween (both left.new right.new (St.holds store.new) (St.signs store.new)) }
-    ensures shows { (lefts rights : ℕ → List (List ℕ)) → ShowBoth lefts rights (both left.old right.old (St.holds store.old) (St.signs store.old)) → ShowBoth lefts rights (both left.new right.new (St.holds store.new) (St.signs store.new)) }
+    ensures between { IsBetween (both_at St.Store left.new right.new store.new) }
+    ensures shows { OfShown St.Store left.old right.old store.old (λ lefts rights. ShowBoth lefts rights (both_at St.Store left.new right.new store.new)) }
     ensures popped { HasPopped _at left.old left.new }
-    ensures slots { slots_both (both left.new right.new (St.holds store.new) (St.signs store.new)) ≡ slots_both (both left.old right.old (St.holds store.old) (St.signs store.old)) }
-    ensures first { EnteredEvents PinsFirst (St.signs store.old).trail (St.signs store.new).trail }
+    ensures slots { slots_both (both_at St.Store left.new right.new store.new) ≡ slots_both (both_at St.Store left.old right.old store.old) }
+    ensures first { PinsFirstAt St.Store store.old store.new }
 {
     drop_one(store, c, left, right);
     drop_one(store, c, right, left);
@@ -89,19 +82,19 @@ fn divide_both<St: Store>(
 ) -> Result<(), PoolErr>
     requires op { IsOperator (operator c.now shape.now left.old right.old) (St.holds store.old) (St.signs store.old) }
     requires columns { AreColumnsOfBoth shape.now left_columns.now right_columns.now }
-    requires between { IsBetween (both left.old right.old (St.holds store.old) (St.signs store.old)) }
+    requires between { IsBetween (both_at St.Store left.old right.old store.old) }
     requires top { length left.old.streams ≡ at + 1 }
     requires level { slice_get left.old.levels at ≡ Some level }
     requires deep { level < 16 }
     requires some { HasRowsAt at left.old × HasRowsAt at right.old }
     ensures op { IsOperator (operator c.now shape.now left.new right.new) (St.holds store.new) (St.signs store.new) }
-    ensures leaves { LeavesOthers c.now.tracker (St.holds store.old) (St.holds store.new) (St.signs store.old) (St.signs store.new) }
-    ensures made { (lefts rights : ℕ → List (List ℕ)) → ShowBoth lefts rights (both left.old right.old (St.holds store.old) (St.signs store.old)) → MakesFew (length (lefts at) + length (rights at)) (St.signs store.old) (St.signs store.new) }
+    ensures leaves { LeavesOthersAt St.Store c.now.tracker store.old store.new }
+    ensures made { MakesForRows St.Store at left.old right.old store.old store.new }
     ensures blocks { left.new.page_blocks ≡ left.old.page_blocks }
-    ensures divided { OnOk result (HasDivided shape.now at level (both left.old right.old (St.holds store.old) (St.signs store.old)) (both left.new right.new (St.holds store.new) (St.signs store.new))) }
-    ensures slots { slots_both (both left.new right.new (St.holds store.new) (St.signs store.new)) ≡ slots_both (both left.old right.old (St.holds store.old) (St.signs store.old)) }
-    ensures want { IfErr result (IsWant left.old.page_blocks (slots_both (both left.old right.old (St.holds store.old) (St.signs store.old)))) }
-    ensures enough { IfErr result (λ e. (lefts rights : ℕ → List (List ℕ)) → ShowBoth lefts rights (both left.old right.old (St.holds store.old) (St.signs store.old)) → IsWantBelow (slots_by (both left.old right.old (St.holds store.old) (St.signs store.old)) lefts rights) (slots_both (both left.old right.old (St.holds store.old) (St.signs store.old))) e) }
+    ensures divided { OnOk result (HasDividedAt St.Store shape.now at level left.old left.new right.old right.new store.old store.new) }
+    ensures slots { slots_both (both_at St.Store left.new right.new store.new) ≡ slots_both (both_at St.Store left.old right.old store.old) }
+    ensures want { IfErr result (IsWant left.old.page_blocks (slots_both (both_at St.Store left.old right.old store.old))) }
+    ensures enough { IfErr result (IsWantFor St.Store left.old right.old store.old) }
     ensures cause { IfErr result (λ e. WasAnswered e (St.signs store.old) (St.signs store.new)) }
 {
     left.law_stack();
@@ -147,27 +140,14 @@ fn pair_top<St: Store, E: Emit<St>>(
     emit: &mut E,
     _at: usize,
 ) -> Result<(), OpErr>
-    requires op { IsOperator (operator c.now shape.now left.old right.old) (St.holds store.old) (St.signs store.old) }
-    requires between { IsBetween (both left.old right.old (St.holds store.old) (St.signs store.old)) }
+    requires may { MayJoin St.Store E.Emit c.now shape.now left.old right.old emit.old store.old }
     requires top { length left.old.streams ≡ _at + 1 }
-    requires emitter { IsBeside c.now.tracker (E.client emit.old) (St.holds store.old) }
-    requires admits { AdmitsJoined shape.now (E.admits emit.old) }
-    requires stands { (rows : List (List Value)) × E.took emit.old (St.holds store.old) rows }
-    ensures ok { OnOk result ((lefts rights : ℕ → List (List ℕ)) → ShowBoth lefts rights (both left.old right.old (St.holds store.old) (St.signs store.old)) → ShowBoth lefts rights (both left.new right.new (St.holds store.new) (St.signs store.new)) × Emitted (E.took emit.old (St.holds store.old)) (E.took emit.new (St.holds store.new)) (stored_pairs shape.now (lefts _at) (rights _at))) }
-    ensures err { OnErr result ((lefts rights : ℕ → List (List ℕ)) → ShowBoth lefts rights (both left.old right.old (St.holds store.old) (St.signs store.old)) → EmittedSome (E.took emit.old (St.holds store.old)) (E.took emit.new (St.holds store.new)) (stored_pairs shape.now (lefts _at) (rights _at))) }
-    ensures popped { HasPopped _at left.old left.new × IsBetween (both left.new right.new (St.holds store.new) (St.signs store.new)) }
-    ensures op { IsOperator (operator c.now shape.now left.new right.new) (St.holds store.new) (St.signs store.new) }
-    ensures leaves { LeavesBeside c.now.tracker (E.client emit.old) (St.holds store.old) (St.holds store.new) (St.signs store.old) (St.signs store.new) }
+    ensures hands { HandsTop St.Store E.Emit _at c.now shape.now left.old left.new right.old right.new emit.old emit.new store.old store.new result }
+    ensures ok { OnOk result (HasPaired St.Store E.Emit _at shape.now left.old left.new right.old right.new emit.old emit.new store.old store.new) }
+    ensures popped { HasPopped _at left.old left.new × IsBetween (both_at St.Store left.new right.new store.new) }
     ensures made { MakesBeside 0 (E.creates emit.old) (E.creates emit.new) (St.signs store.old) (St.signs store.new) }
     ensures blocks { left.new.page_blocks ≡ left.old.page_blocks }
-    ensures emitter { StandsStill (E.admits emit.old) (E.admits emit.new) (E.client emit.old) (E.client emit.new) (E.faults emit.old) (E.faults emit.new) (E.took emit.old (St.holds store.old)) (E.took emit.new (St.holds store.new)) (St.holds store.new) }
-    ensures slots { KeepSlots (E.client emit.old) (slots_both (both left.old right.old (St.holds store.old) (St.signs store.old))) (slots_both (both left.new right.new (St.holds store.new) (St.signs store.new))) (E.slots emit.old (St.holds store.old)) (E.slots emit.new (St.holds store.new)) }
-    ensures alone { E.client emit.old ≡ None → IfErr result (IsWantOf left.old.page_blocks (slots_both (both left.old right.old (St.holds store.old) (St.signs store.old)))) }
-    ensures want { E.page_blocks ≡ left.old.page_blocks → IfErr result (IsWantOf left.old.page_blocks (with_more (E.slots emit.old (St.holds store.old)) (slots_both (both left.old right.old (St.holds store.old) (St.signs store.old))))) }
-    ensures enough { IfErr result (λ e. (lefts rights : ℕ → List (List ℕ)) → ShowBoth lefts rights (both left.old right.old (St.holds store.old) (St.signs store.old)) → EmittedSome (E.took emit.old (St.holds store.old)) (Crowds (E.slots_for emit.old) (slots_by (both left.old right.old (St.holds store.old) (St.signs store.old)) lefts rights) (with_more (E.slots emit.old (St.holds store.old)) (slots_both (both left.old right.old (St.holds store.old) (St.signs store.old)))) e) (stored_pairs shape.now (lefts _at) (rights _at))) }
-    ensures most { SameMost (E.slots_for emit.old) (E.slots_for emit.new) }
-    ensures first { OnOk result (HasRowsAt _at left.old → HasRowsAt _at right.old → EnteredEvents PinsAgain (St.signs store.old).trail (St.signs store.new).trail) }
-    ensures cause { IfErr result (CameOf (E.faults emit.old) (E.faults emit.new) (St.signs store.old) (St.signs store.new)) }
+    ensures first { OnOk result (HasRowsAt _at left.old → HasRowsAt _at right.old → PinsAgainAt St.Store store.old store.new) }
 {
     left.law_stack();
     right.law_stack();
@@ -217,15 +197,15 @@ fn reserve_top<St: Store>(
     right: &Partitions,
 )
     requires op { IsOperator (operator c.now _shape.now left.now right.now) (St.holds store.old) (St.signs store.old) }
-    requires between { IsBetween (both left.now right.now (St.holds store.old) (St.signs store.old)) }
+    requires between { IsBetween (both_at St.Store left.now right.now store.old) }
     requires some { 0 < length left.now.streams }
     ensures op { IsOperator (operator c.now _shape.now left.now right.now) (St.holds store.new) (St.signs store.new) }
-    ensures between { IsBetween (both left.now right.now (St.holds store.new) (St.signs store.new)) }
-    ensures shows { (lefts rights : ℕ → List (List ℕ)) → ShowBoth lefts rights (both left.now right.now (St.holds store.old) (St.signs store.old)) → ShowBoth lefts rights (both left.now right.now (St.holds store.new) (St.signs store.new)) }
-    ensures slots { slots_both (both left.now right.now (St.holds store.new) (St.signs store.new)) ≡ slots_both (both left.now right.now (St.holds store.old) (St.signs store.old)) }
-    ensures leaves { LeavesOthers c.now.tracker (St.holds store.old) (St.holds store.new) (St.signs store.old) (St.signs store.new) }
+    ensures between { IsBetween (both_at St.Store left.now right.now store.new) }
+    ensures shows { OfShown St.Store left.now right.now store.old (λ lefts rights. ShowBoth lefts rights (both_at St.Store left.now right.now store.new)) }
+    ensures slots { slots_both (both_at St.Store left.now right.now store.new) ≡ slots_both (both_at St.Store left.now right.now store.old) }
+    ensures leaves { LeavesOthersAt St.Store c.now.tracker store.old store.new }
     ensures made { MakesFew 0 (St.signs store.old) (St.signs store.new) }
-    ensures first { EnteredEvents PinsFirst (St.signs store.old).trail (St.signs store.new).trail }
+    ensures first { PinsFirstAt St.Store store.old store.new }
 {
     let at = left.len() - 1;
     if !have_rows(left, right, at) {
@@ -276,28 +256,15 @@ fn advance<St: Store, E: Emit<St>>(
     emit: &mut E,
     spare: &mut Spare,
 ) -> Result<(), OpErr>
-    requires op { IsOperator (operator c.now shape.now left.old right.old) (St.holds store.old) (St.signs store.old) }
+    requires may { MayJoin St.Store E.Emit c.now shape.now left.old right.old emit.old store.old }
     requires columns { AreColumnsOfBoth shape.now left_columns.now right_columns.now }
-    requires between { IsBetween (both left.old right.old (St.holds store.old) (St.signs store.old)) }
     requires some { 0 < length left.old.streams }
-    requires emitter { IsBeside c.now.tracker (E.client emit.old) (St.holds store.old) }
-    requires admits { AdmitsJoined shape.now (E.admits emit.old) }
-    requires stands { (rows : List (List Value)) × E.took emit.old (St.holds store.old) rows }
-    ensures ok { OnOk result (IsBetween (both left.new right.new (St.holds store.new) (St.signs store.new)) × ((lefts rights : ℕ → List (List ℕ)) → ShowBoth lefts rights (both left.old right.old (St.holds store.old) (St.signs store.old)) → Advances shape.now (E.took emit.old (St.holds store.old)) (E.took emit.new (St.holds store.new)) (E.creates emit.old) (E.creates emit.new) lefts rights (both left.old right.old (St.holds store.old) (St.signs store.old)) (both left.new right.new (St.holds store.new) (St.signs store.new)))) }
-    ensures err { OnErr result ((lefts rights : ℕ → List (List ℕ)) → ShowBoth lefts rights (both left.old right.old (St.holds store.old) (St.signs store.old)) → EmittedSome (E.took emit.old (St.holds store.old)) (E.took emit.new (St.holds store.new)) (pairs_down shape.now (length left.old.streams) lefts rights)) }
+    ensures hands { HandsDown St.Store E.Emit c.now shape.now left.old left.new right.old right.new emit.old emit.new store.old store.new result }
+    ensures ok { OnOk result (HasAdvanced St.Store E.Emit shape.now left.old left.new right.old right.new emit.old emit.new store.old store.new) }
     ensures less { OnOk result (weight left.new < weight left.old) }
     ensures first { OnOk result (EnteredEvents (PinsBefore (emit.new ≡ emit.old)) (St.signs store.old).trail (St.signs store.new).trail) }
-    ensures op { IsOperator (operator c.now shape.now left.new right.new) (St.holds store.new) (St.signs store.new) }
-    ensures leaves { LeavesBeside c.now.tracker (E.client emit.old) (St.holds store.old) (St.holds store.new) (St.signs store.old) (St.signs store.new) }
-    ensures made { (lefts rights : ℕ → List (List ℕ)) → ShowBoth lefts rights (both left.old right.old (St.holds store.old) (St.signs store.old)) → MakesBeside (owed_both (both left.old right.old (St.holds store.old) (St.signs store.old)) lefts rights) (E.creates emit.old) (E.creates emit.new) (St.signs store.old) (St.signs store.new) }
+    ensures made { MakesOwed St.Store E.Emit left.old right.old emit.old emit.new store.old store.new }
     ensures blocks { left.new.page_blocks ≡ left.old.page_blocks }
-    ensures emitter { StandsStill (E.admits emit.old) (E.admits emit.new) (E.client emit.old) (E.client emit.new) (E.faults emit.old) (E.faults emit.new) (E.took emit.old (St.holds store.old)) (E.took emit.new (St.holds store.new)) (St.holds store.new) }
-    ensures slots { KeepSlots (E.client emit.old) (slots_both (both left.old right.old (St.holds store.old) (St.signs store.old))) (slots_both (both left.new right.new (St.holds store.new) (St.signs store.new))) (E.slots emit.old (St.holds store.old)) (E.slots emit.new (St.holds store.new)) }
-    ensures alone { E.client emit.old ≡ None → IfErr result (IsWantOf left.old.page_blocks (slots_both (both left.old right.old (St.holds store.old) (St.signs store.old)))) }
-    ensures want { E.page_blocks ≡ left.old.page_blocks → IfErr result (IsWantOf left.old.page_blocks (with_more (E.slots emit.old (St.holds store.old)) (slots_both (both left.old right.old (St.holds store.old) (St.signs store.old))))) }
-    ensures enough { IfErr result (λ e. (lefts rights : ℕ → List (List ℕ)) → ShowBoth lefts rights (both left.old right.old (St.holds store.old) (St.signs store.old)) → EmittedSome (E.took emit.old (St.holds store.old)) (Crowds (E.slots_for emit.old) (slots_by (both left.old right.old (St.holds store.old) (St.signs store.old)) lefts rights) (with_more (E.slots emit.old (St.holds store.old)) (slots_both (both left.old right.old (St.holds store.old) (St.signs store.old)))) e) (pairs_down shape.now (length left.old.streams) lefts rights)) }
-    ensures most { SameMost (E.slots_for emit.old) (E.slots_for emit.new) }
-    ensures cause { IfErr result (CameOf (E.faults emit.old) (E.faults emit.new) (St.signs store.old) (St.signs store.new)) }
 {
     let at = left.len() - 1;
     let level = left.level(at);
@@ -337,26 +304,13 @@ pub(crate) fn join_parts<St: Store, E: Emit<St>>(
     emit: &mut E,
     spare: &mut Spare,
 ) -> Result<(), OpErr>
-    requires op { IsOperator (operator c.now shape.now left.old right.old) (St.holds store.old) (St.signs store.old) }
+    requires may { MayJoin St.Store E.Emit c.now shape.now left.old right.old emit.old store.old }
     requires columns { AreColumnsOfBoth shape.now left_columns.now right_columns.now }
-    requires between { IsBetween (both left.old right.old (St.holds store.old) (St.signs store.old)) }
-    requires emitter { IsBeside c.now.tracker (E.client emit.old) (St.holds store.old) }
-    requires admits { AdmitsJoined shape.now (E.admits emit.old) }
-    requires stands { (rows : List (List Value)) × E.took emit.old (St.holds store.old) rows }
-    ensures ok { OnOk result ((lefts rights : ℕ → List (List ℕ)) → ShowBoth lefts rights (both left.old right.old (St.holds store.old) (St.signs store.old)) → Emitted (E.took emit.old (St.holds store.old)) (E.took emit.new (St.holds store.new)) (pairs_down shape.now (length left.old.streams) lefts rights)) }
-    ensures err { OnErr result ((lefts rights : ℕ → List (List ℕ)) → ShowBoth lefts rights (both left.old right.old (St.holds store.old) (St.signs store.old)) → EmittedSome (E.took emit.old (St.holds store.old)) (E.took emit.new (St.holds store.new)) (pairs_down shape.now (length left.old.streams) lefts rights)) }
+    ensures hands { HandsDown St.Store E.Emit c.now shape.now left.old left.new right.old right.new emit.old emit.new store.old store.new result }
+    ensures ok { OnOk result (HasJoined St.Store E.Emit shape.now left.old right.old emit.old emit.new store.old store.new) }
     ensures first { OnOk result (EnteredEvents (PinsBefore (emit.new ≡ emit.old)) (St.signs store.old).trail (St.signs store.new).trail) }
-    ensures op { IsOperator (operator c.now shape.now left.new right.new) (St.holds store.new) (St.signs store.new) }
-    ensures leaves { LeavesBeside c.now.tracker (E.client emit.old) (St.holds store.old) (St.holds store.new) (St.signs store.old) (St.signs store.new) }
-    ensures made { (lefts rights : ℕ → List (List ℕ)) → ShowBoth lefts rights (both left.old right.old (St.holds store.old) (St.signs store.old)) → MakesBeside (owed_both (both left.old right.old (St.holds store.old) (St.signs store.old)) lefts rights) (E.creates emit.old) (E.creates emit.new) (St.signs store.old) (St.signs store.new) }
-    ensures closed { OnOk result (IsBetween (both left.new right.new (St.holds store.new) (St.signs store.new))) }
-    ensures emitter { StandsStill (E.admits emit.old) (E.admits emit.new) (E.client emit.old) (E.client emit.new) (E.faults emit.old) (E.faults emit.new) (E.took emit.old (St.holds store.old)) (E.took emit.new (St.holds store.new)) (St.holds store.new) }
-    ensures slots { KeepSlots (E.client emit.old) (slots_both (both left.old right.old (St.holds store.old) (St.signs store.old))) (slots_both (both left.new right.new (St.holds store.new) (St.signs store.new))) (E.slots emit.old (St.holds store.old)) (E.slots emit.new (St.holds store.new)) }
-    ensures alone { E.client emit.old ≡ None → IfErr result (IsWantOf left.old.page_blocks (slots_both (both left.old right.old (St.holds store.old) (St.signs store.old)))) }
-    ensures want { E.page_blocks ≡ left.old.page_blocks → IfErr result (IsWantOf left.old.page_blocks (with_more (E.slots emit.old (St.holds store.old)) (slots_both (both left.old right.old (St.holds store.old) (St.signs store.old))))) }
-    ensures enough { IfErr result (λ e. (lefts rights : ℕ → List (List ℕ)) → ShowBoth lefts rights (both left.old right.old (St.holds store.old) (St.signs store.old)) → EmittedSome (E.took emit.old (St.holds store.old)) (Crowds (E.slots_for emit.old) (slots_by (both left.old right.old (St.holds store.old) (St.signs store.old)) lefts rights) (with_more (E.slots emit.old (St.holds store.old)) (slots_both (both left.old right.old (St.holds store.old) (St.signs store.old)))) e) (pairs_down shape.now (length left.old.streams) lefts rights)) }
-    ensures most { SameMost (E.slots_for emit.old) (E.slots_for emit.new) }
-    ensures cause { IfErr result (CameOf (E.faults emit.old) (E.faults emit.new) (St.signs store.old) (St.signs store.new)) }
+    ensures made { MakesOwed St.Store E.Emit left.old right.old emit.old emit.new store.old store.new }
+    ensures closed { OnOk result (IsBetween (both_at St.Store left.new right.new store.new)) }
 {
     let _len = store.block_len();
     'down: while left.len() > 0 {

@@ -1,21 +1,14 @@
 //! The rows of one side meet those of the other one that are held.
-ghost use Rattle.std.specs.Prelude.{◌≡◌, ◌∷◌, ℕ, [], All, IfErr, IfOk, List, OnErr, OnOk, true};
-ghost use Rattle.row_codec.specs.declared.values.Value.{Value};
-ghost use Rattle.store_api.specs.Emitters.{CameOf, HasClient};
+ghost use Rattle.std.specs.Prelude.{◌≡◌, ◌∷◌, [], All, IfOk, OnOk, false, true};
 ghost use Rattle.store_api.specs.Shapes.{IsJoinShape};
 ghost use Rattle.bucket_table.specs.Tables.{HasNode, row_of};
-ghost use Rattle.tuple_stream.specs.Spending.{PinsAgain};
-ghost use Rattle.tuple_stream.specs.Streams.{HasRows};
-ghost use Rattle.tuple_stream.specs.Touches.{slots_with};
-ghost use Rattle.tuple_stream.specs.Trails.{EnteredEvents};
-ghost use Rattle.partition_stack.specs.Emitting.{IsBeside, StaysEmitter, Stood, WentOn};
 ghost use Rattle.partition_stack.specs.Reading.{IsReadable};
-ghost use Rattle.partition_stack.specs.Slots.{IsWantOf, KeepSlots, with_more};
-ghost use Rattle.join_op.specs.Chunks.{AdmitsJoined, AreColumns, AreReadable, IsKept, IsResting, ReadBoth, ReadOne, kept_rows, stored_pairs};
-ghost use Rattle.join_op.specs.Handing.{Emitted, EmittedSome};
-ghost use Rattle.join_op.specs.Holding.{AreStored, HoldsOf, IsSameHeld, MayHold, held_rows, held_side, pairs_with, read_side, stored};
-ghost use Rattle.join_op.specs.Slots.{CameFull, Crowds, SameMost, slots_of_two};
+ghost use Rattle.join_op.specs.Chunks.{AreColumns, AreReadable, IsKept, IsResting, ReadBoth, ReadOne, kept_rows};
+ghost use Rattle.join_op.specs.PairCalls.{HandsPairs, MayPair};
+ghost use Rattle.join_op.specs.StreamCalls.{HandsOne, HandsTwo, MayEmit};
+ghost use Rattle.join_op.specs.Holding.{AreStored, HoldsOf, IsSameHeld, MayHold, held_rows, held_side, meets, read_side, stored};
 ghost use Rattle.join_op.specs.Stored.{left_side, right_side};
+ghost use Rattle.join_op.specs.SideCalls.{PinsAgainAt};
 
 use crate::feeding::Spare;
 use crate::holding::{Held, hold_next, key_held};
@@ -72,21 +65,11 @@ pub(crate) fn join_held<St: Store, E: Emit<St>>(
     requires streams { AreReadable c.now reads.old builds.old (St.holds store.old) }
     requires shape { IsJoinShape shape.now }
     requires may { MayHold held.old }
-    requires emitter { IsBeside c.now.tracker (E.client emit.old) (St.holds store.old) }
-    requires stands { (taken : List (List Value)) × E.took emit.old (St.holds store.old) taken }
-    requires admits { AdmitsJoined shape.now (E.admits emit.old) }
-    ensures ok { OnOk result ((firsts seconds : List (List ℕ)) → (St.holds store.old).told ≡ true → HasRows firsts reads.old (St.holds store.old) → HasRows seconds builds.old (St.holds store.old) → Emitted (E.took emit.old (St.holds store.old)) (E.took emit.new (St.holds store.new)) (pairs_with turned shape.now firsts seconds)) }
-    ensures err { OnErr result ((firsts seconds : List (List ℕ)) → (St.holds store.old).told ≡ true → HasRows firsts reads.old (St.holds store.old) → HasRows seconds builds.old (St.holds store.old) → EmittedSome (E.took emit.old (St.holds store.old)) (E.took emit.new (St.holds store.new)) (pairs_with turned shape.now firsts seconds)) }
-    ensures stands { WentOn (E.took emit.old (St.holds store.old)) (E.took emit.new (St.holds store.new)) }
-    ensures cause { IfErr result (CameFull reads.old.page_blocks (St.holds store.new).free_slots (E.client emit.old) (E.faults emit.old) (E.faults emit.new) (St.signs store.old) (St.signs store.new)) }
-    ensures want { E.page_blocks ≡ reads.old.page_blocks → IfErr result (IsWantOf reads.old.page_blocks (with_more (E.slots emit.new (St.holds store.new)) (St.holds store.new).free_slots)) }
-    ensures crowded { IfErr result (λ e. (firsts seconds : List (List ℕ)) → (St.holds store.old).told ≡ true → HasRows firsts reads.old (St.holds store.old) → HasRows seconds builds.old (St.holds store.old) → EmittedSome (E.took emit.old (St.holds store.old)) (Crowds (E.slots_for emit.old) reads.old.page_blocks (with_more (E.slots emit.new (St.holds store.new)) (St.holds store.new).free_slots) e) (pairs_with turned shape.now firsts seconds)) }
-    ensures most { SameMost (E.slots_for emit.old) (E.slots_for emit.new) }
-    ensures first { OnOk result (IsResting builds.old → EnteredEvents PinsAgain (St.signs store.old).trail (St.signs store.new).trail) }
+    requires emits { MayEmit St.Store E.Emit c.now.tracker shape.now emit.old store.old }
+    ensures hands { HandsTwo St.Store E.Emit turned shape.now reads.old reads.new builds.old builds.new emit.old emit.new store.old store.new result }
+    ensures first { OnOk result (IsResting builds.old → PinsAgainAt St.Store store.old store.new) }
     ensures streams { ReadBoth c.now.tracker (E.client emit.old) reads.old reads.new builds.old builds.new (St.holds store.old) (St.holds store.new) }
-    ensures slots { KeepSlots (E.client emit.old) (slots_of_two reads.old builds.old (St.holds store.old)) (slots_of_two reads.new builds.new (St.holds store.new)) (E.slots emit.old (St.holds store.old)) (E.slots emit.new (St.holds store.new)) }
     ensures held { IsSameHeld held.old held.new }
-    ensures emitter { StaysEmitter (E.admits emit.old) (E.admits emit.new) (E.client emit.old) (E.client emit.new) (E.faults emit.old) (E.faults emit.new) (E.creates emit.old) (E.creates emit.new) (St.holds store.new) (St.signs store.old) (St.signs store.new) }
 {
     let Ok((read_columns, held_columns)) = columns_by(alloc, shape, turned) else {
         return Err(OpErr::Pool(PoolErr::Memory));
@@ -148,19 +131,9 @@ fn join_chunk<St: Store, E: Emit<St>>(
     requires stream { IsReadable c.now reads.old (St.holds store.old) }
     requires columns { AreColumns (read_side turned shape.now) columns.now × AreColumns (held_side turned shape.now) held_columns.now }
     requires held { HoldsOf (held_side turned shape.now) held.now }
-    requires emitter { IsBeside c.now.tracker (E.client emit.old) (St.holds store.old) }
-    requires stands { (taken : List (List Value)) × E.took emit.old (St.holds store.old) taken }
-    requires admits { AdmitsJoined shape.now (E.admits emit.old) }
-    ensures ok { OnOk result ((firsts : List (List ℕ)) → (St.holds store.old).told ≡ true → HasRows firsts reads.old (St.holds store.old) → Emitted (E.took emit.old (St.holds store.old)) (E.took emit.new (St.holds store.new)) (pairs_with turned shape.now firsts (held_rows held.now))) }
-    ensures err { OnErr result ((firsts : List (List ℕ)) → (St.holds store.old).told ≡ true → HasRows firsts reads.old (St.holds store.old) → EmittedSome (E.took emit.old (St.holds store.old)) (E.took emit.new (St.holds store.new)) (pairs_with turned shape.now firsts (held_rows held.now))) }
-    ensures stands { WentOn (E.took emit.old (St.holds store.old)) (E.took emit.new (St.holds store.new)) }
-    ensures cause { IfErr result (CameFull reads.old.page_blocks (St.holds store.new).free_slots (E.client emit.old) (E.faults emit.old) (E.faults emit.new) (St.signs store.old) (St.signs store.new)) }
-    ensures want { E.page_blocks ≡ reads.old.page_blocks → IfErr result (IsWantOf reads.old.page_blocks (with_more (E.slots emit.new (St.holds store.new)) (St.holds store.new).free_slots)) }
-    ensures crowded { IfErr result (λ e. (firsts : List (List ℕ)) → (St.holds store.old).told ≡ true → HasRows firsts reads.old (St.holds store.old) → EmittedSome (E.took emit.old (St.holds store.old)) (Crowds (E.slots_for emit.old) reads.old.page_blocks (with_more (E.slots emit.new (St.holds store.new)) (St.holds store.new).free_slots) e) (pairs_with turned shape.now firsts (held_rows held.now))) }
-    ensures most { SameMost (E.slots_for emit.old) (E.slots_for emit.new) }
+    requires emits { MayEmit St.Store E.Emit c.now.tracker shape.now emit.old store.old }
+    ensures hands { HandsOne St.Store E.Emit turned shape.now held.now reads.old reads.new emit.old emit.new store.old store.new result }
     ensures stream { ReadOne c.now.tracker (E.client emit.old) reads.old reads.new (St.holds store.old) (St.holds store.new) }
-    ensures slots { KeepSlots (E.client emit.old) (slots_with reads.old (St.holds store.old)) (slots_with reads.new (St.holds store.new)) (E.slots emit.old (St.holds store.old)) (E.slots emit.new (St.holds store.new)) }
-    ensures emitter { StaysEmitter (E.admits emit.old) (E.admits emit.new) (E.client emit.old) (E.client emit.new) (E.faults emit.old) (E.faults emit.new) (E.creates emit.old) (E.creates emit.new) (St.holds store.new) (St.signs store.old) (St.signs store.new) }
 {
     let mut place = At::first();
     'lefts: while reads.keep_into(store, c, &mut place, &mut spare.row)? {
@@ -204,17 +177,8 @@ fn meet<St: Store, E: Emit<St>>(
     requires row { IsKept (read_side turned shape.now) row.now }
     requires columns { AreColumns (held_side turned shape.now) columns.now }
     requires held { HoldsOf (held_side turned shape.now) held.now }
-    requires client { HasClient (E.client emit.old) (St.holds store.old) }
-    requires stands { (taken : List (List Value)) × E.took emit.old (St.holds store.old) taken }
-    requires admits { AdmitsJoined shape.now (E.admits emit.old) }
-    ensures ok { OnOk result (Emitted (E.took emit.old (St.holds store.old)) (E.took emit.new (St.holds store.new)) (pairs_with turned shape.now (row.now.row.items ∷ []) (held_rows held.now))) }
-    ensures err { OnErr result (EmittedSome (E.took emit.old (St.holds store.old)) (E.took emit.new (St.holds store.new)) (pairs_with turned shape.now (row.now.row.items ∷ []) (held_rows held.now))) }
-    ensures cause { IfErr result (CameOf (E.faults emit.old) (E.faults emit.new) (St.signs store.old) (St.signs store.new)) }
-    ensures want { IfErr result (IsWantOf E.page_blocks (with_more (E.slots emit.new (St.holds store.new)) (St.holds store.new).free_slots)) }
-    ensures crowded { IfErr result (λ e. EmittedSome (E.took emit.old (St.holds store.old)) (Crowds (E.slots_for emit.old) 0 (with_more (E.slots emit.new (St.holds store.new)) (St.holds store.new).free_slots) e) (pairs_with turned shape.now (row.now.row.items ∷ []) (held_rows held.now))) }
-    ensures most { SameMost (E.slots_for emit.old) (E.slots_for emit.new) }
-    ensures stood { Stood (E.admits emit.old) (E.admits emit.new) (E.client emit.old) (E.client emit.new) (E.faults emit.old) (E.faults emit.new) (E.creates emit.old) (E.creates emit.new) (St.holds store.old) (St.holds store.new) (St.signs store.old) (St.signs store.new) }
-    ensures slots { KeepSlots (E.client emit.old) (St.holds store.old).free_slots (St.holds store.new).free_slots (E.slots emit.old (St.holds store.old)) (E.slots emit.new (St.holds store.new)) }
+    requires may { MayPair St.Store E.Emit shape.now emit.old store.old }
+    ensures { HandsPairs St.Store E.Emit (meets turned shape.now row.now (held_rows held.now)) emit.old emit.new store.old store.new result }
 {
     match &held.table {
         Some(table) => meet_chain(
@@ -237,17 +201,8 @@ fn meet_kept<St: Store, E: Emit<St>>(
 ) -> Result<(), OpErr>
     requires row { IsKept (read_side turned shape.now) row.now }
     requires kept { All (IsKept (held_side turned shape.now)) kept.now }
-    requires client { HasClient (E.client emit.old) (St.holds store.old) }
-    requires stands { (taken : List (List Value)) × E.took emit.old (St.holds store.old) taken }
-    requires admits { AdmitsJoined shape.now (E.admits emit.old) }
-    ensures ok { OnOk result (Emitted (E.took emit.old (St.holds store.old)) (E.took emit.new (St.holds store.new)) (pairs_with turned shape.now (row.now.row.items ∷ []) (kept_rows kept.now))) }
-    ensures err { OnErr result (EmittedSome (E.took emit.old (St.holds store.old)) (E.took emit.new (St.holds store.new)) (pairs_with turned shape.now (row.now.row.items ∷ []) (kept_rows kept.now))) }
-    ensures cause { IfErr result (CameOf (E.faults emit.old) (E.faults emit.new) (St.signs store.old) (St.signs store.new)) }
-    ensures want { IfErr result (IsWantOf E.page_blocks (with_more (E.slots emit.new (St.holds store.new)) (St.holds store.new).free_slots)) }
-    ensures crowded { IfErr result (λ e. EmittedSome (E.took emit.old (St.holds store.old)) (Crowds (E.slots_for emit.old) 0 (with_more (E.slots emit.new (St.holds store.new)) (St.holds store.new).free_slots) e) (pairs_with turned shape.now (row.now.row.items ∷ []) (kept_rows kept.now))) }
-    ensures most { SameMost (E.slots_for emit.old) (E.slots_for emit.new) }
-    ensures stood { Stood (E.admits emit.old) (E.admits emit.new) (E.client emit.old) (E.client emit.new) (E.faults emit.old) (E.faults emit.new) (E.creates emit.old) (E.creates emit.new) (St.holds store.old) (St.holds store.new) (St.signs store.old) (St.signs store.new) }
-    ensures slots { KeepSlots (E.client emit.old) (St.holds store.old).free_slots (St.holds store.new).free_slots (E.slots emit.old (St.holds store.old)) (E.slots emit.new (St.holds store.new)) }
+    requires may { MayPair St.Store E.Emit shape.now emit.old store.old }
+    ensures { HandsPairs St.Store E.Emit (meets turned shape.now row.now (kept_rows kept.now)) emit.old emit.new store.old store.new result }
 {
     for right in kept {
         join_two(alloc, store, shape, turned, row, right, pair, emit)?;
@@ -271,17 +226,8 @@ fn meet_chain<St: Store, E: Emit<St>>(
     requires row { IsKept (read_side turned shape.now) row.now }
     requires columns { AreColumns (held_side turned shape.now) columns.now }
     requires table { AreStored (held_side turned shape.now) table.now.heads table.now.nodes }
-    requires client { HasClient (E.client emit.old) (St.holds store.old) }
-    requires stands { (taken : List (List Value)) × E.took emit.old (St.holds store.old) taken }
-    requires admits { AdmitsJoined shape.now (E.admits emit.old) }
-    ensures ok { OnOk result (Emitted (E.took emit.old (St.holds store.old)) (E.took emit.new (St.holds store.new)) (pairs_with turned shape.now (row.now.row.items ∷ []) (stored table.now.nodes))) }
-    ensures err { OnErr result (EmittedSome (E.took emit.old (St.holds store.old)) (E.took emit.new (St.holds store.new)) (pairs_with turned shape.now (row.now.row.items ∷ []) (stored table.now.nodes))) }
-    ensures cause { IfErr result (CameOf (E.faults emit.old) (E.faults emit.new) (St.signs store.old) (St.signs store.new)) }
-    ensures want { IfErr result (IsWantOf E.page_blocks (with_more (E.slots emit.new (St.holds store.new)) (St.holds store.new).free_slots)) }
-    ensures crowded { IfErr result (λ e. EmittedSome (E.took emit.old (St.holds store.old)) (Crowds (E.slots_for emit.old) 0 (with_more (E.slots emit.new (St.holds store.new)) (St.holds store.new).free_slots) e) (pairs_with turned shape.now (row.now.row.items ∷ []) (stored table.now.nodes))) }
-    ensures most { SameMost (E.slots_for emit.old) (E.slots_for emit.new) }
-    ensures stood { Stood (E.admits emit.old) (E.admits emit.new) (E.client emit.old) (E.client emit.new) (E.faults emit.old) (E.faults emit.new) (E.creates emit.old) (E.creates emit.new) (St.holds store.old) (St.holds store.new) (St.signs store.old) (St.signs store.new) }
-    ensures slots { KeepSlots (E.client emit.old) (St.holds store.old).free_slots (St.holds store.new).free_slots (E.slots emit.old (St.holds store.old)) (E.slots emit.new (St.holds store.new)) }
+    requires may { MayPair St.Store E.Emit shape.now emit.old store.old }
+    ensures { HandsPairs St.Store E.Emit (meets turned shape.now row.now (stored table.now.nodes)) emit.old emit.new store.old store.new result }
 {
     let mut next = table.find_first(spread(hash64(&row.key)));
     'chain: while let Some(node) = next {
@@ -327,17 +273,8 @@ fn join_two<St: Store, E: Emit<St>>(
 ) -> Result<(), OpErr>
     requires row { IsKept (read_side turned shape.now) row.now }
     requires other { IsKept (held_side turned shape.now) other.now }
-    requires client { HasClient (E.client emit.old) (St.holds store.old) }
-    requires stands { (taken : List (List Value)) × E.took emit.old (St.holds store.old) taken }
-    requires admits { AdmitsJoined shape.now (E.admits emit.old) }
-    ensures ok { OnOk result (Emitted (E.took emit.old (St.holds store.old)) (E.took emit.new (St.holds store.new)) (pairs_with turned shape.now (row.now.row.items ∷ []) (other.now.row.items ∷ []))) }
-    ensures err { OnErr result (EmittedSome (E.took emit.old (St.holds store.old)) (E.took emit.new (St.holds store.new)) (pairs_with turned shape.now (row.now.row.items ∷ []) (other.now.row.items ∷ []))) }
-    ensures cause { IfErr result (CameOf (E.faults emit.old) (E.faults emit.new) (St.signs store.old) (St.signs store.new)) }
-    ensures want { IfErr result (IsWantOf E.page_blocks (with_more (E.slots emit.new (St.holds store.new)) (St.holds store.new).free_slots)) }
-    ensures crowded { IfErr result (λ e. EmittedSome (E.took emit.old (St.holds store.old)) (Crowds (E.slots_for emit.old) 0 (with_more (E.slots emit.new (St.holds store.new)) (St.holds store.new).free_slots) e) (pairs_with turned shape.now (row.now.row.items ∷ []) (other.now.row.items ∷ []))) }
-    ensures most { SameMost (E.slots_for emit.old) (E.slots_for emit.new) }
-    ensures stood { Stood (E.admits emit.old) (E.admits emit.new) (E.client emit.old) (E.client emit.new) (E.faults emit.old) (E.faults emit.new) (E.creates emit.old) (E.creates emit.new) (St.holds store.old) (St.holds store.new) (St.signs store.old) (St.signs store.new) }
-    ensures slots { KeepSlots (E.client emit.old) (St.holds store.old).free_slots (St.holds store.new).free_slots (E.slots emit.old (St.holds store.old)) (E.slots emit.new (St.holds store.new)) }
+    requires may { MayPair St.Store E.Emit shape.now emit.old store.old }
+    ensures { HandsPairs St.Store E.Emit (meets turned shape.now row.now (other.now.row.items ∷ [])) emit.old emit.new store.old store.new result }
 {
     if turned {
         return join_one(alloc, store, shape, other, row, pair, emit);
@@ -357,17 +294,8 @@ fn join_one<St: Store, E: Emit<St>>(
 ) -> Result<(), OpErr>
     requires left { IsKept (left_side shape.now) left.now }
     requires right { IsKept (right_side shape.now) right.now }
-    requires client { HasClient (E.client emit.old) (St.holds store.old) }
-    requires stands { (taken : List (List Value)) × E.took emit.old (St.holds store.old) taken }
-    requires admits { AdmitsJoined shape.now (E.admits emit.old) }
-    ensures ok { OnOk result (Emitted (E.took emit.old (St.holds store.old)) (E.took emit.new (St.holds store.new)) (stored_pairs shape.now (left.now.row.items ∷ []) (right.now.row.items ∷ []))) }
-    ensures err { OnErr result (EmittedSome (E.took emit.old (St.holds store.old)) (E.took emit.new (St.holds store.new)) (stored_pairs shape.now (left.now.row.items ∷ []) (right.now.row.items ∷ []))) }
-    ensures cause { IfErr result (CameOf (E.faults emit.old) (E.faults emit.new) (St.signs store.old) (St.signs store.new)) }
-    ensures want { IfErr result (IsWantOf E.page_blocks (with_more (E.slots emit.new (St.holds store.new)) (St.holds store.new).free_slots)) }
-    ensures crowded { IfErr result (λ e. EmittedSome (E.took emit.old (St.holds store.old)) (Crowds (E.slots_for emit.old) 0 (with_more (E.slots emit.new (St.holds store.new)) (St.holds store.new).free_slots) e) (stored_pairs shape.now (left.now.row.items ∷ []) (right.now.row.items ∷ []))) }
-    ensures most { SameMost (E.slots_for emit.old) (E.slots_for emit.new) }
-    ensures stood { Stood (E.admits emit.old) (E.admits emit.new) (E.client emit.old) (E.client emit.new) (E.faults emit.old) (E.faults emit.new) (E.creates emit.old) (E.creates emit.new) (St.holds store.old) (St.holds store.new) (St.signs store.old) (St.signs store.new) }
-    ensures slots { KeepSlots (E.client emit.old) (St.holds store.old).free_slots (St.holds store.new).free_slots (E.slots emit.old (St.holds store.old)) (E.slots emit.new (St.holds store.new)) }
+    requires may { MayPair St.Store E.Emit shape.now emit.old store.old }
+    ensures { HandsPairs St.Store E.Emit (meets false shape.now left.now (right.now.row.items ∷ [])) emit.old emit.new store.old store.new result }
 {
     if left.key.as_slice() != right.key.as_slice() {
         return Ok(());

@@ -1,13 +1,9 @@
 //! A pair goes to an emitter as a row of values.
-ghost use Rattle.std.specs.Prelude.{◌≡◌, ◌∷◌, [], IfErr, List, OnErr, OnOk};
-ghost use Rattle.row_codec.specs.declared.values.Value.{Value};
+ghost use Rattle.std.specs.Prelude.{◌≡◌, ◌∷◌, [], OnOk};
 ghost use Rattle.row_reading.specs.Reading.{IsRowOf};
-ghost use Rattle.store_api.specs.Emitters.{CameOf, HasClient};
-ghost use Rattle.partition_stack.specs.Emitting.{Stood};
-ghost use Rattle.partition_stack.specs.Slots.{IsWantOf, KeepSlots, with_more};
-ghost use Rattle.join_op.specs.Slots.{Crowds, SameMost};
+ghost use Rattle.store_api.specs.Handing.{MayHand};
 ghost use Rattle.join_op.specs.Chunks.{pair_at};
-ghost use Rattle.join_op.specs.Handing.{Emitted, EmittedSome};
+ghost use Rattle.join_op.specs.PairCalls.{HandsPairs};
 
 use reservation_tree::PoolErr;
 use row_codec::{Memory, Value};
@@ -48,17 +44,8 @@ pub(crate) fn emit_pair<St: Store, E: Emit<St>>(
 ) -> Result<(), OpErr>
     requires left { IsRowOf shape.now.left left.now }
     requires right { IsRowOf shape.now.right right.now }
-    requires client { HasClient (E.client emit.old) (St.holds store.old) }
-    requires stands { (taken : List (List Value)) × E.took emit.old (St.holds store.old) taken }
-    requires admits { E.admits emit.old (pair_at shape.now left.now right.now) }
-    ensures ok { OnOk result (Emitted (E.took emit.old (St.holds store.old)) (E.took emit.new (St.holds store.new)) (pair_at shape.now left.now right.now ∷ [])) }
-    ensures err { OnErr result (EmittedSome (E.took emit.old (St.holds store.old)) (E.took emit.new (St.holds store.new)) (pair_at shape.now left.now right.now ∷ [])) }
-    ensures cause { IfErr result (CameOf (E.faults emit.old) (E.faults emit.new) (St.signs store.old) (St.signs store.new)) }
-    ensures want { IfErr result (IsWantOf E.page_blocks (with_more (E.slots emit.new (St.holds store.new)) (St.holds store.new).free_slots)) }
-    ensures crowded { IfErr result (λ e. EmittedSome (E.took emit.old (St.holds store.old)) (Crowds (E.slots_for emit.old) 0 (with_more (E.slots emit.new (St.holds store.new)) (St.holds store.new).free_slots) e) (pair_at shape.now left.now right.now ∷ [])) }
-    ensures most { SameMost (E.slots_for emit.old) (E.slots_for emit.new) }
-    ensures stood { Stood (E.admits emit.old) (E.admits emit.new) (E.client emit.old) (E.client emit.new) (E.faults emit.old) (E.faults emit.new) (E.creates emit.old) (E.creates emit.new) (St.holds store.old) (St.holds store.new) (St.signs store.old) (St.signs store.new) }
-    ensures slots { KeepSlots (E.client emit.old) (St.holds store.old).free_slots (St.holds store.new).free_slots (E.slots emit.old (St.holds store.old)) (E.slots emit.new (St.holds store.new)) }
+    requires may { MayHand St.Store E.Emit (pair_at shape.now left.now right.now ∷ []) emit.old store.old }
+    ensures { HandsPairs St.Store E.Emit (pair_at shape.now left.now right.now ∷ []) emit.old emit.new store.old store.new result }
 {
     let Ok(()) = read_pair(alloc, shape, left, right, pair) else {
         return Err(OpErr::Pool(PoolErr::Memory));

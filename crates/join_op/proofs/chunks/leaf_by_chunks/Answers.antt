@@ -22,7 +22,7 @@ returns-clause-cause g c =
     (λ e came. record {
       came = came.came;
       want = λ none.
-          subst (λ (o : Option ℕ). IsWantOf blocks o e) (c.join_pair.ensures.slots.alone none)
+          subst (λ (o : Option ℕ). IsWantOf blocks o e) (c.join_pair.ensures.hands.slots.alone none)
           (full_two_of blocks c.join_pair.new.left c.join_pair.new.right (g.St.Store.holds c.join_pair.new.store) (ap (λ (s : Streamed). s.page_blocks) read.left_same) (ap (λ (s : Streamed). s.page_blocks) read.right_same ∙ c.requires.streams.alike) e (came.full none));
     })
-    c.join_pair.ensures.cause
+    c.join_pair.ensures.hands.cause

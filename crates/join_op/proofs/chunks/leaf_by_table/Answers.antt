@@ -1,4 +1,4 @@
-use Rattle.std.proofs.Common.{◌∙◌, ℕ, List, sym, subst}
+use Rattle.std.proofs.Common.{rules, ◌∙◌, ℕ, List, sym, subst}
 use Rattle.row_codec.specs.declared.values.Value.{Value}
 use Rattle.store_api.specs.Conditions.{IsBlockCount}
 use Rattle.bucket_table.specs.Lending.{Lends}
@@ -21,77 +21,44 @@ join_pair-requires-clause-streams g c =
     readable_lent c.args.c.now c.args.left.now c.args.right.now _ _ _ c.hold-held.ensures.lends
     (subst (λ (n : ℕ). LeavesRoom c.args.c.now.tracker n (g.St.Store.holds c.args.store.now) (g.St.Store.holds c.hold-held.new.store)) c.requires.blocks c.hold-held.ensures.room) c.requires.streams
 
-pub join_pair-requires-clause-emitter : goal.join_pair-requires-clause-emitter
-join_pair-requires-clause-emitter g c = beside_lent c.args.c.now.tracker _ _ _ _ c.hold-held.ensures.lends c.requires.emitter
-
-pub join_pair-requires-clause-stands : goal.join_pair-requires-clause-stands
-join_pair-requires-clause-stands g c =
+pub join_pair-requires-clause-emits : goal.join_pair-requires-clause-emits
+join_pair-requires-clause-emits g c =
     let t = c.args.c.now.tracker in
     let h0 = g.St.Store.holds c.args.store.now in
     let h1 = g.St.Store.holds c.hold-held.new.store in
     let lends : Lends t (loans_in c.hold-held.result.table) h0 h1 = c.hold-held.ensures.lends in
     let still : (rows : List (List Value)) → g.E.Emit.took c.args.emit.now h0 rows → g.E.Emit.took c.args.emit.now h1 rows =
-    λ rows. g.met.E.Emit.asks_own c.args.emit.now h0 h1 rows (own_lent t (loans_in c.hold-held.result.table) h0 h1 lends (g.E.Emit.client c.args.emit.now) c.requires.emitter.apart) in
-    (c.requires.stands.0, still c.requires.stands.0 c.requires.stands.1)
+    λ rows. g.met.E.Emit.asks_own c.args.emit.now h0 h1 rows (own_lent t (loans_in c.hold-held.result.table) h0 h1 lends (g.E.Emit.client c.args.emit.now) c.requires.emits.emitter.apart) in
+    record {
+      emitter = beside_lent c.args.c.now.tracker _ _ _ _ c.hold-held.ensures.lends c.requires.emits.emitter;
+      stands = (c.requires.emits.stands.0, still c.requires.emits.stands.0 c.requires.emits.stands.1);
+      admits = search rules;
+    }
 
-pub returns-clause-ok : goal.returns-clause-ok
-returns-clause-ok g c =
+pub returns-clause-hands : goal.returns-clause-hands
+returns-clause-hands g c =
     let t = c.args.c.now.tracker in
     let h0 = g.St.Store.holds c.args.store.now in
     let h1 = g.St.Store.holds c.hold-held.new.store in
     let lends : Lends t (loans_in c.hold-held.result.table) h0 h1 = c.hold-held.ensures.lends in
     let still : (rows : List (List Value)) → g.E.Emit.took c.args.emit.now h0 rows → g.E.Emit.took c.args.emit.now h1 rows =
-    λ rows. g.met.E.Emit.asks_own c.args.emit.now h0 h1 rows (own_lent t (loans_in c.hold-held.result.table) h0 h1 lends (g.E.Emit.client c.args.emit.now) c.requires.emitter.apart) in
-    on_ok c.join_pair.result (λ came lefts rights told one two. emitted_since (g.E.Emit.took c.args.emit.now h0) (g.E.Emit.took c.args.emit.now h1) (g.E.Emit.took c.join_pair.new.emit (g.St.Store.holds c.join_pair.new.store)) still (stored_pairs c.args.shape.now lefts rights) (came lefts rights (told_lent t (loans_in c.hold-held.result.table) h0 h1 lends ∙ told) (rows_stay t (loans_in c.hold-held.result.table) h0 h1 lends c.args.left.now lefts c.requires.streams.left_shape one) (rows_stay t (loans_in c.hold-held.result.table) h0 h1 lends c.args.right.now rights c.requires.streams.right_shape two))) c.join_pair.ensures.ok
-
-pub returns-clause-err : goal.returns-clause-err
-returns-clause-err g c =
-    let t = c.args.c.now.tracker in
-    let h0 = g.St.Store.holds c.args.store.now in
-    let h1 = g.St.Store.holds c.hold-held.new.store in
-    let lends : Lends t (loans_in c.hold-held.result.table) h0 h1 = c.hold-held.ensures.lends in
-    let still : (rows : List (List Value)) → g.E.Emit.took c.args.emit.now h0 rows → g.E.Emit.took c.args.emit.now h1 rows =
-    λ rows. g.met.E.Emit.asks_own c.args.emit.now h0 h1 rows (own_lent t (loans_in c.hold-held.result.table) h0 h1 lends (g.E.Emit.client c.args.emit.now) c.requires.emitter.apart) in
-    on_err c.join_pair.result (λ came lefts rights told one two. some_since (g.E.Emit.took c.args.emit.now h0) (g.E.Emit.took c.args.emit.now h1) (g.E.Emit.took c.join_pair.new.emit (g.St.Store.holds c.join_pair.new.store)) still (stored_pairs c.args.shape.now lefts rights) (came lefts rights (told_lent t (loans_in c.hold-held.result.table) h0 h1 lends ∙ told) (rows_stay t (loans_in c.hold-held.result.table) h0 h1 lends c.args.left.now lefts c.requires.streams.left_shape one) (rows_stay t (loans_in c.hold-held.result.table) h0 h1 lends c.args.right.now rights c.requires.streams.right_shape two))) c.join_pair.ensures.err
-
-pub returns-clause-stands : goal.returns-clause-stands
-returns-clause-stands g c =
-    let t = c.args.c.now.tracker in
-    let h0 = g.St.Store.holds c.args.store.now in
-    let h1 = g.St.Store.holds c.hold-held.new.store in
-    let lends : Lends t (loans_in c.hold-held.result.table) h0 h1 = c.hold-held.ensures.lends in
-    let still : (rows : List (List Value)) → g.E.Emit.took c.args.emit.now h0 rows → g.E.Emit.took c.args.emit.now h1 rows =
-    λ rows. g.met.E.Emit.asks_own c.args.emit.now h0 h1 rows (own_lent t (loans_in c.hold-held.result.table) h0 h1 lends (g.E.Emit.client c.args.emit.now) c.requires.emitter.apart) in
-    went_since (g.E.Emit.took c.args.emit.now h0) (g.E.Emit.took c.args.emit.now h1) (g.E.Emit.took c.join_pair.new.emit (g.St.Store.holds c.join_pair.new.store)) still c.join_pair.ensures.stands
-
-pub returns-clause-cause : goal.returns-clause-cause
-returns-clause-cause g c = if_err c.join_pair.result (λ e came. full_since _ _ _ _ _ _ _ _ e c.hold-held.ensures.grows came) c.join_pair.ensures.cause
+    λ rows. g.met.E.Emit.asks_own c.args.emit.now h0 h1 rows (own_lent t (loans_in c.hold-held.result.table) h0 h1 lends (g.E.Emit.client c.args.emit.now) c.requires.emits.emitter.apart) in
+    record {
+      ok = on_ok c.join_pair.result (λ came lefts rights told one two. emitted_since (g.E.Emit.took c.args.emit.now h0) (g.E.Emit.took c.args.emit.now h1) (g.E.Emit.took c.join_pair.new.emit (g.St.Store.holds c.join_pair.new.store)) still (stored_pairs c.args.shape.now lefts rights) (came lefts rights (told_lent t (loans_in c.hold-held.result.table) h0 h1 lends ∙ told) (rows_stay t (loans_in c.hold-held.result.table) h0 h1 lends c.args.left.now lefts c.requires.streams.left_shape one) (rows_stay t (loans_in c.hold-held.result.table) h0 h1 lends c.args.right.now rights c.requires.streams.right_shape two))) c.join_pair.ensures.hands.ok;
+      err = on_err c.join_pair.result (λ came lefts rights told one two. some_since (g.E.Emit.took c.args.emit.now h0) (g.E.Emit.took c.args.emit.now h1) (g.E.Emit.took c.join_pair.new.emit (g.St.Store.holds c.join_pair.new.store)) still (stored_pairs c.args.shape.now lefts rights) (came lefts rights (told_lent t (loans_in c.hold-held.result.table) h0 h1 lends ∙ told) (rows_stay t (loans_in c.hold-held.result.table) h0 h1 lends c.args.left.now lefts c.requires.streams.left_shape one) (rows_stay t (loans_in c.hold-held.result.table) h0 h1 lends c.args.right.now rights c.requires.streams.right_shape two))) c.join_pair.ensures.hands.err;
+      stands = went_since (g.E.Emit.took c.args.emit.now h0) (g.E.Emit.took c.args.emit.now h1) (g.E.Emit.took c.join_pair.new.emit (g.St.Store.holds c.join_pair.new.store)) still c.join_pair.ensures.hands.stands;
+      cause = if_err c.join_pair.result (λ e came. full_since _ _ _ _ _ _ _ _ e c.hold-held.ensures.grows came) c.join_pair.ensures.hands.cause;
+      want = search rules;
+      crowded = if_err c.join_pair.result
+          (λ e came lefts rights told one two. some_since (g.E.Emit.took c.args.emit.now h0) (g.E.Emit.took c.args.emit.now h1) (Crowds (g.E.Emit.slots_for c.args.emit.now) c.args.left.now.page_blocks (with_more (g.E.Emit.slots c.join_pair.new.emit (g.St.Store.holds c.join_pair.new.store)) (g.St.Store.holds c.join_pair.new.store).free_slots) e) still (stored_pairs c.args.shape.now lefts rights) (came lefts rights (told_lent t (loans_in c.hold-held.result.table) h0 h1 lends ∙ told) (rows_stay t (loans_in c.hold-held.result.table) h0 h1 lends c.args.left.now lefts c.requires.streams.left_shape one) (rows_stay t (loans_in c.hold-held.result.table) h0 h1 lends c.args.right.now rights c.requires.streams.right_shape two)))
+          c.join_pair.ensures.hands.crowded;
+      most = search rules;
+      slots = keep_lent t (loans_in c.hold-held.result.table) h0 h1 (g.St.Store.holds c.join_pair.new.store) c.args.left.now c.args.right.now c.join_pair.new.left c.join_pair.new.right (g.E.Emit.client c.args.emit.now) _ _ _ lends (g.met.E.Emit.slots_own c.args.emit.now h0 h1 (own_lent t (loans_in c.hold-held.result.table) h0 h1 lends (g.E.Emit.client c.args.emit.now) c.requires.emits.emitter.apart)) c.join_pair.ensures.hands.slots;
+      emitter = stays_since _ _ _ _ _ _ _ _ _ _ c.hold-held.ensures.grows c.hold-held.ensures.made c.join_pair.ensures.hands.emitter;
+    }
 
 pub returns-clause-streams : goal.returns-clause-streams
 returns-clause-streams g c = c.join_pair.ensures.streams _ c.hold-held.ensures.lends c.requires.streams
-
-pub returns-clause-emitter : goal.returns-clause-emitter
-returns-clause-emitter g c = stays_since _ _ _ _ _ _ _ _ _ _ c.hold-held.ensures.grows c.hold-held.ensures.made c.join_pair.ensures.emitter
-
-pub returns-clause-slots : goal.returns-clause-slots
-returns-clause-slots g c =
-    let t = c.args.c.now.tracker in
-    let h0 = g.St.Store.holds c.args.store.now in
-    let h1 = g.St.Store.holds c.hold-held.new.store in
-    let lends : Lends t (loans_in c.hold-held.result.table) h0 h1 = c.hold-held.ensures.lends in
-    keep_lent t (loans_in c.hold-held.result.table) h0 h1 (g.St.Store.holds c.join_pair.new.store) c.args.left.now c.args.right.now c.join_pair.new.left c.join_pair.new.right (g.E.Emit.client c.args.emit.now) _ _ _ lends (g.met.E.Emit.slots_own c.args.emit.now h0 h1 (own_lent t (loans_in c.hold-held.result.table) h0 h1 lends (g.E.Emit.client c.args.emit.now) c.requires.emitter.apart)) c.join_pair.ensures.slots
-
-pub returns-clause-crowded : goal.returns-clause-crowded
-returns-clause-crowded g c =
-    let t = c.args.c.now.tracker in
-    let h0 = g.St.Store.holds c.args.store.now in
-    let h1 = g.St.Store.holds c.hold-held.new.store in
-    let lends : Lends t (loans_in c.hold-held.result.table) h0 h1 = c.hold-held.ensures.lends in
-    let still : (rows : List (List Value)) → g.E.Emit.took c.args.emit.now h0 rows → g.E.Emit.took c.args.emit.now h1 rows =
-    λ rows. g.met.E.Emit.asks_own c.args.emit.now h0 h1 rows (own_lent t (loans_in c.hold-held.result.table) h0 h1 lends (g.E.Emit.client c.args.emit.now) c.requires.emitter.apart) in
-    if_err c.join_pair.result
-    (λ e came lefts rights told one two. some_since (g.E.Emit.took c.args.emit.now h0) (g.E.Emit.took c.args.emit.now h1) (Crowds (g.E.Emit.slots_for c.args.emit.now) c.args.left.now.page_blocks (with_more (g.E.Emit.slots c.join_pair.new.emit (g.St.Store.holds c.join_pair.new.store)) (g.St.Store.holds c.join_pair.new.store).free_slots) e) still (stored_pairs c.args.shape.now lefts rights) (came lefts rights (told_lent t (loans_in c.hold-held.result.table) h0 h1 lends ∙ told) (rows_stay t (loans_in c.hold-held.result.table) h0 h1 lends c.args.left.now lefts c.requires.streams.left_shape one) (rows_stay t (loans_in c.hold-held.result.table) h0 h1 lends c.args.right.now rights c.requires.streams.right_shape two)))
-    c.join_pair.ensures.crowded
 
 pub returns-clause-first : goal.returns-clause-first
 returns-clause-first g c = on_ok c.join_pair.result (λ pins left right. pins_later _ _ _ c.hold-held.ensures.first (pins left right)) c.join_pair.ensures.first

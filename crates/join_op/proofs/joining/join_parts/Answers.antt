@@ -1,4 +1,4 @@
-use Rattle.std.proofs.Common.{◌≡◌, refl, ◌∙◌, ◌++◌, ℕ, ◌<◌, List, Option, length, subst, arith, sym}
+use Rattle.std.proofs.Common.{rules, ◌≡◌, refl, ◌∙◌, ◌++◌, ℕ, ◌<◌, List, Option, length, subst, arith, sym}
 use Rattle.row_codec.specs.declared.values.Value.{Value}
 use Rattle.store_api.specs.Emitters.{CameOf}
 use Rattle.store_api.specs.Holdings.{length_of}
@@ -24,7 +24,7 @@ down-init g c =
       slots = keep_none _ _ _;
       most = λ rows. refl;
       gone = gone_none (c.args.emit.now ≡ c.args.emit.now) refl c.args.c.now c.args.shape.now _ (g.E.Emit.client c.args.emit.now) _ (g.E.Emit.took c.args.emit.now (g.St.Store.holds c.args.store.now)) (both c.args.left.now c.args.right.now (g.St.Store.holds c.args.store.now) (g.St.Store.signs c.args.store.now))
-          c.requires.between c.requires.op c.requires.emitter.lives;
+          c.requires.may.between c.requires.may.op c.requires.may.emits.emitter.lives;
     }
 
 pub reserve_top-requires-clause-op : goal.reserve_top-requires-clause-op
@@ -33,41 +33,30 @@ reserve_top-requires-clause-op g c = c.down.invariant.gone.op
 pub reserve_top-requires-clause-between : goal.reserve_top-requires-clause-between
 reserve_top-requires-clause-between g c = c.down.invariant.gone.between
 
-pub advance-requires-clause-emitter : goal.advance-requires-clause-emitter
-advance-requires-clause-emitter g c =
+pub advance-requires-clause-may : goal.advance-requires-clause-may
+advance-requires-clause-may g c =
     let h0 = g.St.Store.holds c.args.store.now in
     let s0 = g.St.Store.signs c.args.store.now in
     let h = g.St.Store.holds c.down.store in
     let s = g.St.Store.signs c.down.store in
     let hm = g.St.Store.holds c.reserve_top.new.store in
     let sm = g.St.Store.signs c.reserve_top.new.store in
-    let beside : IsBeside c.args.c.now.tracker (g.E.Emit.client c.down.emit) h = down_beside (c.down.emit ≡ c.args.emit.now) c.args.c.now c.args.shape.now _ _ _ _ _ _ _ _ (both c.args.left.now c.args.right.now h0 s0) (both c.down.left c.down.right h s) c.down.invariant.gone c.requires.emitter in
+    let beside : IsBeside c.args.c.now.tracker (g.E.Emit.client c.down.emit) h = down_beside (c.down.emit ≡ c.args.emit.now) c.args.c.now c.args.shape.now _ _ _ _ _ _ _ _ (both c.args.left.now c.args.right.now h0 s0) (both c.down.left c.down.right h s) c.down.invariant.gone c.requires.may.emits.emitter in
     let still : (taken : List (List Value)) → g.E.Emit.took c.down.emit h taken → g.E.Emit.took c.down.emit hm taken =
     λ taken. g.met.E.Emit.asks_own c.down.emit h hm taken (same_beside c.args.c.now.tracker (g.E.Emit.client c.down.emit) h hm s sm beside.apart c.reserve_top.ensures.leaves) in
     let mid : HasGoneDown (c.down.emit ≡ c.args.emit.now) c.args.c.now c.args.shape.now (g.E.Emit.admits c.args.emit.now) (g.E.Emit.admits c.down.emit) (g.E.Emit.client c.args.emit.now) (g.E.Emit.client c.down.emit) (g.E.Emit.faults c.args.emit.now) (g.E.Emit.faults c.down.emit) (g.E.Emit.creates c.args.emit.now) (g.E.Emit.creates c.down.emit) (g.E.Emit.took c.args.emit.now h0) (g.E.Emit.took c.down.emit hm) (both c.args.left.now c.args.right.now h0 s0) (both c.down.left c.down.right hm sm) =
-    down_reserved (c.down.emit ≡ c.args.emit.now) c.args.c.now c.args.shape.now _ _ _ _ _ _ _ (g.E.Emit.took c.down.emit h) (both c.args.left.now c.args.right.now h0 s0) (both c.down.left c.down.right h s) c.down.invariant.gone (g.E.Emit.took c.down.emit hm) hm sm c.requires.emitter c.reserve_top.ensures.leaves still
+    down_reserved (c.down.emit ≡ c.args.emit.now) c.args.c.now c.args.shape.now _ _ _ _ _ _ _ (g.E.Emit.took c.down.emit h) (both c.args.left.now c.args.right.now h0 s0) (both c.down.left c.down.right h s) c.down.invariant.gone (g.E.Emit.took c.down.emit hm) hm sm c.requires.may.emits.emitter c.reserve_top.ensures.leaves still
     c.reserve_top.ensures.between c.reserve_top.ensures.op c.reserve_top.ensures.first c.reserve_top.ensures.shows c.reserve_top.ensures.made in
-    beside_stands c.args.c.now.tracker _ _ _ _ _ _ _ _ h0 hm c.requires.emitter mid.stands
-
-pub advance-requires-clause-admits : goal.advance-requires-clause-admits
-advance-requires-clause-admits g c = λ left right one left_kinds other right_kinds. (c.down.invariant.gone.stands.admits_same (left ++ right)).0 (c.requires.admits left right one left_kinds other right_kinds)
-
-pub advance-requires-clause-stands : goal.advance-requires-clause-stands
-advance-requires-clause-stands g c =
-    let h0 = g.St.Store.holds c.args.store.now in
-    let s0 = g.St.Store.signs c.args.store.now in
-    let h = g.St.Store.holds c.down.store in
-    let s = g.St.Store.signs c.down.store in
-    let hm = g.St.Store.holds c.reserve_top.new.store in
-    let sm = g.St.Store.signs c.reserve_top.new.store in
-    let beside : IsBeside c.args.c.now.tracker (g.E.Emit.client c.down.emit) h = down_beside (c.down.emit ≡ c.args.emit.now) c.args.c.now c.args.shape.now _ _ _ _ _ _ _ _ (both c.args.left.now c.args.right.now h0 s0) (both c.down.left c.down.right h s) c.down.invariant.gone c.requires.emitter in
-    let still : (taken : List (List Value)) → g.E.Emit.took c.down.emit h taken → g.E.Emit.took c.down.emit hm taken =
-    λ taken. g.met.E.Emit.asks_own c.down.emit h hm taken (same_beside c.args.c.now.tracker (g.E.Emit.client c.down.emit) h hm s sm beside.apart c.reserve_top.ensures.leaves) in
-    let mid : HasGoneDown (c.down.emit ≡ c.args.emit.now) c.args.c.now c.args.shape.now (g.E.Emit.admits c.args.emit.now) (g.E.Emit.admits c.down.emit) (g.E.Emit.client c.args.emit.now) (g.E.Emit.client c.down.emit) (g.E.Emit.faults c.args.emit.now) (g.E.Emit.faults c.down.emit) (g.E.Emit.creates c.args.emit.now) (g.E.Emit.creates c.down.emit) (g.E.Emit.took c.args.emit.now h0) (g.E.Emit.took c.down.emit hm) (both c.args.left.now c.args.right.now h0 s0) (both c.down.left c.down.right hm sm) =
-    down_reserved (c.down.emit ≡ c.args.emit.now) c.args.c.now c.args.shape.now _ _ _ _ _ _ _ (g.E.Emit.took c.down.emit h) (both c.args.left.now c.args.right.now h0 s0) (both c.down.left c.down.right h s) c.down.invariant.gone (g.E.Emit.took c.down.emit hm) hm sm c.requires.emitter c.reserve_top.ensures.leaves still
-    c.reserve_top.ensures.between c.reserve_top.ensures.op c.reserve_top.ensures.first c.reserve_top.ensures.shows c.reserve_top.ensures.made in
-    let more = mid.stands.took c.requires.stands.0 c.requires.stands.1 in
-    (c.requires.stands.0 ++ more.0, more.1)
+    let more = mid.stands.took c.requires.may.emits.stands.0 c.requires.may.emits.stands.1 in
+    record {
+      op = search rules;
+      between = search rules;
+      emits = record {
+        emitter = beside_stands c.args.c.now.tracker _ _ _ _ _ _ _ _ h0 hm c.requires.may.emits.emitter mid.stands;
+        stands = (c.requires.may.emits.stands.0 ++ more.0, more.1);
+        admits = λ left right one left_kinds other right_kinds. (c.down.invariant.gone.stands.admits_same (left ++ right)).0 (c.requires.may.emits.admits left right one left_kinds other right_kinds);
+      };
+    }
 
 pub down-smaller : goal.down-smaller
 down-smaller g c = c.in_ok-advance.ensures.less
@@ -80,127 +69,108 @@ down-preserved g c =
     let s = g.St.Store.signs c.down.store in
     let hm = g.St.Store.holds c.reserve_top.new.store in
     let sm = g.St.Store.signs c.reserve_top.new.store in
-    let beside : IsBeside c.args.c.now.tracker (g.E.Emit.client c.down.emit) h = down_beside (c.down.emit ≡ c.args.emit.now) c.args.c.now c.args.shape.now _ _ _ _ _ _ _ _ (both c.args.left.now c.args.right.now h0 s0) (both c.down.left c.down.right h s) c.down.invariant.gone c.requires.emitter in
+    let beside : IsBeside c.args.c.now.tracker (g.E.Emit.client c.down.emit) h = down_beside (c.down.emit ≡ c.args.emit.now) c.args.c.now c.args.shape.now _ _ _ _ _ _ _ _ (both c.args.left.now c.args.right.now h0 s0) (both c.down.left c.down.right h s) c.down.invariant.gone c.requires.may.emits.emitter in
     let still : (taken : List (List Value)) → g.E.Emit.took c.down.emit h taken → g.E.Emit.took c.down.emit hm taken =
     λ taken. g.met.E.Emit.asks_own c.down.emit h hm taken (same_beside c.args.c.now.tracker (g.E.Emit.client c.down.emit) h hm s sm beside.apart c.reserve_top.ensures.leaves) in
     let mid : HasGoneDown (c.down.emit ≡ c.args.emit.now) c.args.c.now c.args.shape.now (g.E.Emit.admits c.args.emit.now) (g.E.Emit.admits c.down.emit) (g.E.Emit.client c.args.emit.now) (g.E.Emit.client c.down.emit) (g.E.Emit.faults c.args.emit.now) (g.E.Emit.faults c.down.emit) (g.E.Emit.creates c.args.emit.now) (g.E.Emit.creates c.down.emit) (g.E.Emit.took c.args.emit.now h0) (g.E.Emit.took c.down.emit hm) (both c.args.left.now c.args.right.now h0 s0) (both c.down.left c.down.right hm sm) =
-    down_reserved (c.down.emit ≡ c.args.emit.now) c.args.c.now c.args.shape.now _ _ _ _ _ _ _ (g.E.Emit.took c.down.emit h) (both c.args.left.now c.args.right.now h0 s0) (both c.down.left c.down.right h s) c.down.invariant.gone (g.E.Emit.took c.down.emit hm) hm sm c.requires.emitter c.reserve_top.ensures.leaves still
+    down_reserved (c.down.emit ≡ c.args.emit.now) c.args.c.now c.args.shape.now _ _ _ _ _ _ _ (g.E.Emit.took c.down.emit h) (both c.args.left.now c.args.right.now h0 s0) (both c.down.left c.down.right h s) c.down.invariant.gone (g.E.Emit.took c.down.emit hm) hm sm c.requires.may.emits.emitter c.reserve_top.ensures.leaves still
     c.reserve_top.ensures.between c.reserve_top.ensures.op c.reserve_top.ensures.first c.reserve_top.ensures.shows c.reserve_top.ensures.made in
     let h1 = g.St.Store.holds c.advance.new.store in
     let s1 = g.St.Store.signs c.advance.new.store in
     let steps = down_stepped (c.down.emit ≡ c.args.emit.now) c.args.c.now c.args.shape.now _ _ _ _ _ _ _ (g.E.Emit.took c.down.emit hm) (both c.args.left.now c.args.right.now h0 s0) (both c.down.left c.down.right hm sm) mid (c.advance.new.emit ≡ c.down.emit) (c.advance.new.emit ≡ c.args.emit.now) (λ so next. next ∙ so) (g.E.Emit.admits c.advance.new.emit) (g.E.Emit.client c.advance.new.emit) (g.E.Emit.faults c.advance.new.emit) (g.E.Emit.took c.advance.new.emit h1)
-    (both c.advance.new.left c.advance.new.right h1 s1) c.in_ok-advance.ensures.ok c.advance.ensures.op c.advance.ensures.leaves c.advance.ensures.blocks c.advance.ensures.emitter c.in_ok-advance.ensures.first in
+    (both c.advance.new.left c.advance.new.right h1 s1) c.in_ok-advance.ensures.ok c.advance.ensures.hands.op c.advance.ensures.hands.leaves c.advance.ensures.blocks c.advance.ensures.hands.emitter c.in_ok-advance.ensures.first in
     let still_slots : g.E.Emit.slots c.down.emit hm ≡ g.E.Emit.slots c.down.emit h = g.met.E.Emit.slots_own c.down.emit h hm (same_beside c.args.c.now.tracker (g.E.Emit.client c.down.emit) h hm s sm beside.apart c.reserve_top.ensures.leaves) in
     let reserved : KeepSlots (g.E.Emit.client c.args.emit.now) (slots_both (both c.args.left.now c.args.right.now h0 s0)) (slots_both (both c.down.left c.down.right hm sm)) (g.E.Emit.slots c.args.emit.now h0) (g.E.Emit.slots c.down.emit hm) =
     keep_then _ _ _ _ _ _ _ c.down.invariant.slots (keep_own (g.E.Emit.client c.args.emit.now) _ _ _ _ c.reserve_top.ensures.slots still_slots) in
-    record { most = λ rows. c.advance.ensures.most rows ∙ c.down.invariant.most rows; gone = steps; slots = keep_after _ _ _ _ _ _ _ _ c.down.invariant.gone.stands.client_same reserved c.advance.ensures.slots }
+    record { most = λ rows. c.advance.ensures.hands.most rows ∙ c.down.invariant.most rows; gone = steps; slots = keep_after _ _ _ _ _ _ _ _ c.down.invariant.gone.stands.client_same reserved c.advance.ensures.hands.slots }
 
-pub returns-in_err-advance-clause-err : goal.returns-in_err-advance-clause-err
-returns-in_err-advance-clause-err g c =
+pub returns-in_err-advance-clause-hands : goal.returns-in_err-advance-clause-hands
+returns-in_err-advance-clause-hands g c =
     let h0 = g.St.Store.holds c.args.store.now in
     let s0 = g.St.Store.signs c.args.store.now in
     let h = g.St.Store.holds c.down.store in
     let s = g.St.Store.signs c.down.store in
     let hm = g.St.Store.holds c.reserve_top.new.store in
     let sm = g.St.Store.signs c.reserve_top.new.store in
-    let beside : IsBeside c.args.c.now.tracker (g.E.Emit.client c.down.emit) h = down_beside (c.down.emit ≡ c.args.emit.now) c.args.c.now c.args.shape.now _ _ _ _ _ _ _ _ (both c.args.left.now c.args.right.now h0 s0) (both c.down.left c.down.right h s) c.down.invariant.gone c.requires.emitter in
+    let beside : IsBeside c.args.c.now.tracker (g.E.Emit.client c.down.emit) h = down_beside (c.down.emit ≡ c.args.emit.now) c.args.c.now c.args.shape.now _ _ _ _ _ _ _ _ (both c.args.left.now c.args.right.now h0 s0) (both c.down.left c.down.right h s) c.down.invariant.gone c.requires.may.emits.emitter in
     let still : (taken : List (List Value)) → g.E.Emit.took c.down.emit h taken → g.E.Emit.took c.down.emit hm taken =
     λ taken. g.met.E.Emit.asks_own c.down.emit h hm taken (same_beside c.args.c.now.tracker (g.E.Emit.client c.down.emit) h hm s sm beside.apart c.reserve_top.ensures.leaves) in
     let mid : HasGoneDown (c.down.emit ≡ c.args.emit.now) c.args.c.now c.args.shape.now (g.E.Emit.admits c.args.emit.now) (g.E.Emit.admits c.down.emit) (g.E.Emit.client c.args.emit.now) (g.E.Emit.client c.down.emit) (g.E.Emit.faults c.args.emit.now) (g.E.Emit.faults c.down.emit) (g.E.Emit.creates c.args.emit.now) (g.E.Emit.creates c.down.emit) (g.E.Emit.took c.args.emit.now h0) (g.E.Emit.took c.down.emit hm) (both c.args.left.now c.args.right.now h0 s0) (both c.down.left c.down.right hm sm) =
-    down_reserved (c.down.emit ≡ c.args.emit.now) c.args.c.now c.args.shape.now _ _ _ _ _ _ _ (g.E.Emit.took c.down.emit h) (both c.args.left.now c.args.right.now h0 s0) (both c.down.left c.down.right h s) c.down.invariant.gone (g.E.Emit.took c.down.emit hm) hm sm c.requires.emitter c.reserve_top.ensures.leaves still
+    down_reserved (c.down.emit ≡ c.args.emit.now) c.args.c.now c.args.shape.now _ _ _ _ _ _ _ (g.E.Emit.took c.down.emit h) (both c.args.left.now c.args.right.now h0 s0) (both c.down.left c.down.right h s) c.down.invariant.gone (g.E.Emit.took c.down.emit hm) hm sm c.requires.may.emits.emitter c.reserve_top.ensures.leaves still
     c.reserve_top.ensures.between c.reserve_top.ensures.op c.reserve_top.ensures.first c.reserve_top.ensures.shows c.reserve_top.ensures.made in
     let h1 = g.St.Store.holds c.advance.new.store in
     let some : (lefts rights : ℕ → List (List ℕ)) → ShowBoth lefts rights (both c.args.left.now c.args.right.now h0 s0) → EmittedSome (g.E.Emit.took c.args.emit.now h0) (g.E.Emit.took c.advance.new.emit h1) (pairs_down c.args.shape.now (length c.args.left.now.streams) lefts rights) =
     λ lefts rights shows.
     let first = mid.rows lefts rights shows in
     advances_some c.args.shape.now (g.E.Emit.took c.args.emit.now h0) (g.E.Emit.took c.down.emit hm) (g.E.Emit.took c.advance.new.emit h1) lefts rights (both c.args.left.now c.args.right.now h0 s0) (both c.down.left c.down.right hm sm) first
-    (c.in_err-advance.ensures.err first.lefts_now first.rights_now first.shows) in
-    any_err c.from_residual.result some
-
-pub returns-in_err-advance-clause-op : goal.returns-in_err-advance-clause-op
-returns-in_err-advance-clause-op g c = c.advance.ensures.op
-
-pub returns-in_err-advance-clause-leaves : goal.returns-in_err-advance-clause-leaves
-returns-in_err-advance-clause-leaves g c =
-    let h0 = g.St.Store.holds c.args.store.now in
-    let s0 = g.St.Store.signs c.args.store.now in
-    let h = g.St.Store.holds c.down.store in
-    let s = g.St.Store.signs c.down.store in
-    let hm = g.St.Store.holds c.reserve_top.new.store in
-    let sm = g.St.Store.signs c.reserve_top.new.store in
-    let beside : IsBeside c.args.c.now.tracker (g.E.Emit.client c.down.emit) h = down_beside (c.down.emit ≡ c.args.emit.now) c.args.c.now c.args.shape.now _ _ _ _ _ _ _ _ (both c.args.left.now c.args.right.now h0 s0) (both c.down.left c.down.right h s) c.down.invariant.gone c.requires.emitter in
-    let still : (taken : List (List Value)) → g.E.Emit.took c.down.emit h taken → g.E.Emit.took c.down.emit hm taken =
-    λ taken. g.met.E.Emit.asks_own c.down.emit h hm taken (same_beside c.args.c.now.tracker (g.E.Emit.client c.down.emit) h hm s sm beside.apart c.reserve_top.ensures.leaves) in
-    let mid : HasGoneDown (c.down.emit ≡ c.args.emit.now) c.args.c.now c.args.shape.now (g.E.Emit.admits c.args.emit.now) (g.E.Emit.admits c.down.emit) (g.E.Emit.client c.args.emit.now) (g.E.Emit.client c.down.emit) (g.E.Emit.faults c.args.emit.now) (g.E.Emit.faults c.down.emit) (g.E.Emit.creates c.args.emit.now) (g.E.Emit.creates c.down.emit) (g.E.Emit.took c.args.emit.now h0) (g.E.Emit.took c.down.emit hm) (both c.args.left.now c.args.right.now h0 s0) (both c.down.left c.down.right hm sm) =
-    down_reserved (c.down.emit ≡ c.args.emit.now) c.args.c.now c.args.shape.now _ _ _ _ _ _ _ (g.E.Emit.took c.down.emit h) (both c.args.left.now c.args.right.now h0 s0) (both c.down.left c.down.right h s) c.down.invariant.gone (g.E.Emit.took c.down.emit hm) hm sm c.requires.emitter c.reserve_top.ensures.leaves still
-    c.reserve_top.ensures.between c.reserve_top.ensures.op c.reserve_top.ensures.first c.reserve_top.ensures.shows c.reserve_top.ensures.made in
-    beside_more c.args.c.now.tracker _ _ _ _ _ _ _ _ mid.stands.client_same mid.leaves c.advance.ensures.leaves
-
-pub returns-in_err-advance-clause-emitter : goal.returns-in_err-advance-clause-emitter
-returns-in_err-advance-clause-emitter g c =
-    let h0 = g.St.Store.holds c.args.store.now in
-    let s0 = g.St.Store.signs c.args.store.now in
-    let h = g.St.Store.holds c.down.store in
-    let s = g.St.Store.signs c.down.store in
-    let hm = g.St.Store.holds c.reserve_top.new.store in
-    let sm = g.St.Store.signs c.reserve_top.new.store in
-    let beside : IsBeside c.args.c.now.tracker (g.E.Emit.client c.down.emit) h = down_beside (c.down.emit ≡ c.args.emit.now) c.args.c.now c.args.shape.now _ _ _ _ _ _ _ _ (both c.args.left.now c.args.right.now h0 s0) (both c.down.left c.down.right h s) c.down.invariant.gone c.requires.emitter in
-    let still : (taken : List (List Value)) → g.E.Emit.took c.down.emit h taken → g.E.Emit.took c.down.emit hm taken =
-    λ taken. g.met.E.Emit.asks_own c.down.emit h hm taken (same_beside c.args.c.now.tracker (g.E.Emit.client c.down.emit) h hm s sm beside.apart c.reserve_top.ensures.leaves) in
-    let mid : HasGoneDown (c.down.emit ≡ c.args.emit.now) c.args.c.now c.args.shape.now (g.E.Emit.admits c.args.emit.now) (g.E.Emit.admits c.down.emit) (g.E.Emit.client c.args.emit.now) (g.E.Emit.client c.down.emit) (g.E.Emit.faults c.args.emit.now) (g.E.Emit.faults c.down.emit) (g.E.Emit.creates c.args.emit.now) (g.E.Emit.creates c.down.emit) (g.E.Emit.took c.args.emit.now h0) (g.E.Emit.took c.down.emit hm) (both c.args.left.now c.args.right.now h0 s0) (both c.down.left c.down.right hm sm) =
-    down_reserved (c.down.emit ≡ c.args.emit.now) c.args.c.now c.args.shape.now _ _ _ _ _ _ _ (g.E.Emit.took c.down.emit h) (both c.args.left.now c.args.right.now h0 s0) (both c.down.left c.down.right h s) c.down.invariant.gone (g.E.Emit.took c.down.emit hm) hm sm c.requires.emitter c.reserve_top.ensures.leaves still
-    c.reserve_top.ensures.between c.reserve_top.ensures.op c.reserve_top.ensures.first c.reserve_top.ensures.shows c.reserve_top.ensures.made in
-    stands_then _ _ _ _ _ _ _ _ _ _ _ _ _ _ mid.stands c.advance.ensures.emitter
-
-pub returns-in_err-advance-clause-cause : goal.returns-in_err-advance-clause-cause
-returns-in_err-advance-clause-cause g c =
-    let h0 = g.St.Store.holds c.args.store.now in
-    let s0 = g.St.Store.signs c.args.store.now in
-    let h = g.St.Store.holds c.down.store in
-    let s = g.St.Store.signs c.down.store in
-    let hm = g.St.Store.holds c.reserve_top.new.store in
-    let sm = g.St.Store.signs c.reserve_top.new.store in
-    let beside : IsBeside c.args.c.now.tracker (g.E.Emit.client c.down.emit) h = down_beside (c.down.emit ≡ c.args.emit.now) c.args.c.now c.args.shape.now _ _ _ _ _ _ _ _ (both c.args.left.now c.args.right.now h0 s0) (both c.down.left c.down.right h s) c.down.invariant.gone c.requires.emitter in
-    let still : (taken : List (List Value)) → g.E.Emit.took c.down.emit h taken → g.E.Emit.took c.down.emit hm taken =
-    λ taken. g.met.E.Emit.asks_own c.down.emit h hm taken (same_beside c.args.c.now.tracker (g.E.Emit.client c.down.emit) h hm s sm beside.apart c.reserve_top.ensures.leaves) in
-    let mid : HasGoneDown (c.down.emit ≡ c.args.emit.now) c.args.c.now c.args.shape.now (g.E.Emit.admits c.args.emit.now) (g.E.Emit.admits c.down.emit) (g.E.Emit.client c.args.emit.now) (g.E.Emit.client c.down.emit) (g.E.Emit.faults c.args.emit.now) (g.E.Emit.faults c.down.emit) (g.E.Emit.creates c.args.emit.now) (g.E.Emit.creates c.down.emit) (g.E.Emit.took c.args.emit.now h0) (g.E.Emit.took c.down.emit hm) (both c.args.left.now c.args.right.now h0 s0) (both c.down.left c.down.right hm sm) =
-    down_reserved (c.down.emit ≡ c.args.emit.now) c.args.c.now c.args.shape.now _ _ _ _ _ _ _ (g.E.Emit.took c.down.emit h) (both c.args.left.now c.args.right.now h0 s0) (both c.down.left c.down.right h s) c.down.invariant.gone (g.E.Emit.took c.down.emit hm) hm sm c.requires.emitter c.reserve_top.ensures.leaves still
-    c.reserve_top.ensures.between c.reserve_top.ensures.op c.reserve_top.ensures.first c.reserve_top.ensures.shows c.reserve_top.ensures.made in
+    (c.in_err-advance.ensures.hands.err first.lefts_now first.rights_now first.shows) in
     let came : CameOf (g.E.Emit.faults c.args.emit.now) (g.E.Emit.faults c.advance.new.emit) (g.St.Store.signs c.args.store.now) (g.St.Store.signs c.advance.new.store) c.in_err-advance.field-0.0 =
-    came_behind _ _ _ _ _ _ _ mid.stands.never_falls mid.leaves.grows c.in_err-advance.ensures.cause in
-    handed_err _ c.from_residual.result c.in_err-advance.field-0.0 c.from_residual.ensures came
-
-pub returns-in_err-advance-clause-alone : goal.returns-in_err-advance-clause-alone
-returns-in_err-advance-clause-alone g c = λ none.
-    let h0 = g.St.Store.holds c.args.store.now in
-    let s0 = g.St.Store.signs c.args.store.now in
-    let h = g.St.Store.holds c.down.store in
-    let s = g.St.Store.signs c.down.store in
-    let hm = g.St.Store.holds c.reserve_top.new.store in
-    let sm = g.St.Store.signs c.reserve_top.new.store in
-    let was = c.down.invariant.gone in
-    let sums : slots_both (both c.down.left c.down.right hm sm) ≡ slots_both (both c.args.left.now c.args.right.now h0 s0) = c.reserve_top.ensures.slots ∙ c.down.invariant.slots.alone none in
-    let want : IsWantOf c.args.left.now.page_blocks (slots_both (both c.args.left.now c.args.right.now h0 s0)) c.in_err-advance.field-0.0 =
-    subst (λ (n : ℕ). IsWantOf n (slots_both (both c.args.left.now c.args.right.now h0 s0)) c.in_err-advance.field-0.0) was.blocks
-    (subst (λ (o : Option ℕ). IsWantOf c.down.left.page_blocks o c.in_err-advance.field-0.0) sums (c.in_err-advance.ensures.alone (was.stands.client_same ∙ none))) in
-    handed_err _ c.from_residual.result c.in_err-advance.field-0.0 c.from_residual.ensures want
-
-pub returns-in_err-advance-clause-slots : goal.returns-in_err-advance-clause-slots
-returns-in_err-advance-clause-slots g c =
-    let h0 = g.St.Store.holds c.args.store.now in
-    let s0 = g.St.Store.signs c.args.store.now in
-    let h = g.St.Store.holds c.down.store in
-    let s = g.St.Store.signs c.down.store in
-    let hm = g.St.Store.holds c.reserve_top.new.store in
-    let sm = g.St.Store.signs c.reserve_top.new.store in
-    let beside : IsBeside c.args.c.now.tracker (g.E.Emit.client c.down.emit) h = down_beside (c.down.emit ≡ c.args.emit.now) c.args.c.now c.args.shape.now _ _ _ _ _ _ _ _ (both c.args.left.now c.args.right.now h0 s0) (both c.down.left c.down.right h s) c.down.invariant.gone c.requires.emitter in
+    came_behind _ _ _ _ _ _ _ mid.stands.never_falls mid.leaves.grows c.in_err-advance.ensures.hands.cause in
     let still_slots : g.E.Emit.slots c.down.emit hm ≡ g.E.Emit.slots c.down.emit h = g.met.E.Emit.slots_own c.down.emit h hm (same_beside c.args.c.now.tracker (g.E.Emit.client c.down.emit) h hm s sm beside.apart c.reserve_top.ensures.leaves) in
     let reserved : KeepSlots (g.E.Emit.client c.args.emit.now) (slots_both (both c.args.left.now c.args.right.now h0 s0)) (slots_both (both c.down.left c.down.right hm sm)) (g.E.Emit.slots c.args.emit.now h0) (g.E.Emit.slots c.down.emit hm) =
     keep_then _ _ _ _ _ _ _ c.down.invariant.slots (keep_own (g.E.Emit.client c.args.emit.now) _ _ _ _ c.reserve_top.ensures.slots still_slots) in
-    keep_after _ _ _ _ _ _ _ _ c.down.invariant.gone.stands.client_same reserved c.advance.ensures.slots
+    record {
+      err = any_err c.from_residual.result some;
+      op = c.advance.ensures.hands.op;
+      leaves = beside_more c.args.c.now.tracker _ _ _ _ _ _ _ _ mid.stands.client_same mid.leaves c.advance.ensures.hands.leaves;
+      emitter = stands_then _ _ _ _ _ _ _ _ _ _ _ _ _ _ mid.stands c.advance.ensures.hands.emitter;
+      slots = keep_after _ _ _ _ _ _ _ _ c.down.invariant.gone.stands.client_same reserved c.advance.ensures.hands.slots;
+      alone = λ none.
+          let h0 = g.St.Store.holds c.args.store.now in
+          let s0 = g.St.Store.signs c.args.store.now in
+          let h = g.St.Store.holds c.down.store in
+          let s = g.St.Store.signs c.down.store in
+          let hm = g.St.Store.holds c.reserve_top.new.store in
+          let sm = g.St.Store.signs c.reserve_top.new.store in
+          let was = c.down.invariant.gone in
+          let sums : slots_both (both c.down.left c.down.right hm sm) ≡ slots_both (both c.args.left.now c.args.right.now h0 s0) = c.reserve_top.ensures.slots ∙ c.down.invariant.slots.alone none in
+          let want : IsWantOf c.args.left.now.page_blocks (slots_both (both c.args.left.now c.args.right.now h0 s0)) c.in_err-advance.field-0.0 =
+          subst (λ (n : ℕ). IsWantOf n (slots_both (both c.args.left.now c.args.right.now h0 s0)) c.in_err-advance.field-0.0) was.blocks
+          (subst (λ (o : Option ℕ). IsWantOf c.down.left.page_blocks o c.in_err-advance.field-0.0) sums (c.in_err-advance.ensures.hands.alone (was.stands.client_same ∙ none))) in
+          handed_err _ c.from_residual.result c.in_err-advance.field-0.0 c.from_residual.ensures want;
+      want = λ same.
+          let h0 = g.St.Store.holds c.args.store.now in
+          let s0 = g.St.Store.signs c.args.store.now in
+          let h = g.St.Store.holds c.down.store in
+          let s = g.St.Store.signs c.down.store in
+          let hm = g.St.Store.holds c.reserve_top.new.store in
+          let sm = g.St.Store.signs c.reserve_top.new.store in
+          let beside : IsBeside c.args.c.now.tracker (g.E.Emit.client c.down.emit) h = down_beside (c.down.emit ≡ c.args.emit.now) c.args.c.now c.args.shape.now _ _ _ _ _ _ _ _ (both c.args.left.now c.args.right.now h0 s0) (both c.down.left c.down.right h s) c.down.invariant.gone c.requires.may.emits.emitter in
+          let still : (taken : List (List Value)) → g.E.Emit.took c.down.emit h taken → g.E.Emit.took c.down.emit hm taken =
+          λ taken. g.met.E.Emit.asks_own c.down.emit h hm taken (same_beside c.args.c.now.tracker (g.E.Emit.client c.down.emit) h hm s sm beside.apart c.reserve_top.ensures.leaves) in
+          let mid : HasGoneDown (c.down.emit ≡ c.args.emit.now) c.args.c.now c.args.shape.now (g.E.Emit.admits c.args.emit.now) (g.E.Emit.admits c.down.emit) (g.E.Emit.client c.args.emit.now) (g.E.Emit.client c.down.emit) (g.E.Emit.faults c.args.emit.now) (g.E.Emit.faults c.down.emit) (g.E.Emit.creates c.args.emit.now) (g.E.Emit.creates c.down.emit) (g.E.Emit.took c.args.emit.now h0) (g.E.Emit.took c.down.emit hm) (both c.args.left.now c.args.right.now h0 s0) (both c.down.left c.down.right hm sm) =
+          down_reserved (c.down.emit ≡ c.args.emit.now) c.args.c.now c.args.shape.now _ _ _ _ _ _ _ (g.E.Emit.took c.down.emit h) (both c.args.left.now c.args.right.now h0 s0) (both c.down.left c.down.right h s) c.down.invariant.gone (g.E.Emit.took c.down.emit hm) hm sm c.requires.may.emits.emitter c.reserve_top.ensures.leaves still
+          c.reserve_top.ensures.between c.reserve_top.ensures.op c.reserve_top.ensures.first c.reserve_top.ensures.shows c.reserve_top.ensures.made in
+          let still_slots : g.E.Emit.slots c.down.emit hm ≡ g.E.Emit.slots c.down.emit h = g.met.E.Emit.slots_own c.down.emit h hm (same_beside c.args.c.now.tracker (g.E.Emit.client c.down.emit) h hm s sm beside.apart c.reserve_top.ensures.leaves) in
+          let reserved : KeepSlots (g.E.Emit.client c.args.emit.now) (slots_both (both c.args.left.now c.args.right.now h0 s0)) (slots_both (both c.down.left c.down.right hm sm)) (g.E.Emit.slots c.args.emit.now h0) (g.E.Emit.slots c.down.emit hm) =
+          keep_then _ _ _ _ _ _ _ c.down.invariant.slots (keep_own (g.E.Emit.client c.args.emit.now) _ _ _ _ c.reserve_top.ensures.slots still_slots) in
+          handed_err _ c.from_residual.result c.in_err-advance.field-0.0 c.from_residual.ensures
+          (subst (λ (o : Option ℕ). IsWantOf c.args.left.now.page_blocks o c.in_err-advance.field-0.0) reserved.sum (subst (λ (n : ℕ). IsWantOf n (with_more (g.E.Emit.slots c.down.emit hm) (slots_both (both c.down.left c.down.right hm sm))) c.in_err-advance.field-0.0) mid.blocks (c.in_err-advance.ensures.hands.want (same ∙ sym mid.blocks))));
+      enough = (let some : 0 < length_of c.args.left.now.page_blocks h0 = some_len c.args.left.now.page_blocks h0.block_len c.requires.may.op.sized (let least = c.block_len-len.ensures.least in let value = c.block_len-len.ensures.value in omega (arith, least, value)) in
+          handed_err _ c.from_residual.result c.in_err-advance.field-0.0 c.from_residual.ensures
+          (λ lefts rights shows.
+          let first = mid.rows lefts rights shows in
+          advances_some c.args.shape.now (g.E.Emit.took c.args.emit.now h0) (g.E.Emit.took c.down.emit hm) (Crowds (g.E.Emit.slots_for c.args.emit.now) (slots_by (both c.args.left.now c.args.right.now h0 s0) lefts rights) (with_more (g.E.Emit.slots c.args.emit.now h0) (slots_both (both c.args.left.now c.args.right.now h0 s0))) c.in_err-advance.field-0.0) lefts rights (both c.args.left.now c.args.right.now h0 s0) (both c.down.left c.down.right hm sm) first
+          (some_more_of (g.E.Emit.took c.down.emit hm) (pairs_down c.args.shape.now (length c.down.left.streams) first.lefts_now first.rights_now) (g.E.Emit.slots_for c.args.emit.now) (g.E.Emit.slots_for c.down.emit) (slots_by (both c.down.left c.down.right hm sm) first.lefts_now first.rights_now) (slots_by (both c.args.left.now c.args.right.now h0 s0) lefts rights) _ _ c.in_err-advance.field-0.0 c.down.invariant.most
+          (by_fewer (both c.args.left.now c.args.right.now h0 s0) (both c.down.left c.down.right hm sm) lefts rights first.lefts_now first.rights_now mid.blocks mid.leaves.block_len some first.lighter) reserved.sum (c.in_err-advance.ensures.hands.enough first.lefts_now first.rights_now first.shows))));
+      most = λ rows. c.advance.ensures.hands.most rows ∙ c.down.invariant.most rows;
+      cause = handed_err _ c.from_residual.result c.in_err-advance.field-0.0 c.from_residual.ensures came;
+    }
 
-pub returns-clause-slots : goal.returns-clause-slots
-returns-clause-slots g c = c.down.invariant.slots
+pub returns-clause-hands : goal.returns-clause-hands
+returns-clause-hands g c =
+    record {
+      err = search rules;
+      op = c.down.invariant.gone.op;
+      leaves = c.down.invariant.gone.leaves;
+      emitter = c.down.invariant.gone.stands;
+      slots = c.down.invariant.slots;
+      alone = search rules;
+      want = search rules;
+      enough = search rules;
+      most = search rules;
+      cause = search rules;
+    }
 
 pub returns-clause-ok : goal.returns-clause-ok
 returns-clause-ok g c =
@@ -216,84 +186,29 @@ returns-clause-ok g c =
 pub returns-clause-first : goal.returns-clause-first
 returns-clause-first g c = c.down.invariant.gone.first
 
-pub returns-clause-op : goal.returns-clause-op
-returns-clause-op g c = c.down.invariant.gone.op
-
-pub returns-clause-leaves : goal.returns-clause-leaves
-returns-clause-leaves g c = c.down.invariant.gone.leaves
-
 pub returns-clause-closed : goal.returns-clause-closed
 returns-clause-closed g c = c.down.invariant.gone.between
 
-pub returns-clause-emitter : goal.returns-clause-emitter
-returns-clause-emitter g c = c.down.invariant.gone.stands
-
 pub returns-in_err-advance-clause-made : goal.returns-in_err-advance-clause-made
-returns-in_err-advance-clause-made g c = λ lefts rights shows.
+returns-in_err-advance-clause-made g c =
+    λ lefts rights shows.
     let h0 = g.St.Store.holds c.args.store.now in
     let s0 = g.St.Store.signs c.args.store.now in
     let h = g.St.Store.holds c.down.store in
     let s = g.St.Store.signs c.down.store in
     let hm = g.St.Store.holds c.reserve_top.new.store in
     let sm = g.St.Store.signs c.reserve_top.new.store in
-    let beside : IsBeside c.args.c.now.tracker (g.E.Emit.client c.down.emit) h = down_beside (c.down.emit ≡ c.args.emit.now) c.args.c.now c.args.shape.now _ _ _ _ _ _ _ _ (both c.args.left.now c.args.right.now h0 s0) (both c.down.left c.down.right h s) c.down.invariant.gone c.requires.emitter in
+    let beside : IsBeside c.args.c.now.tracker (g.E.Emit.client c.down.emit) h = down_beside (c.down.emit ≡ c.args.emit.now) c.args.c.now c.args.shape.now _ _ _ _ _ _ _ _ (both c.args.left.now c.args.right.now h0 s0) (both c.down.left c.down.right h s) c.down.invariant.gone c.requires.may.emits.emitter in
     let still : (taken : List (List Value)) → g.E.Emit.took c.down.emit h taken → g.E.Emit.took c.down.emit hm taken =
     λ taken. g.met.E.Emit.asks_own c.down.emit h hm taken (same_beside c.args.c.now.tracker (g.E.Emit.client c.down.emit) h hm s sm beside.apart c.reserve_top.ensures.leaves) in
     let mid : HasGoneDown (c.down.emit ≡ c.args.emit.now) c.args.c.now c.args.shape.now (g.E.Emit.admits c.args.emit.now) (g.E.Emit.admits c.down.emit) (g.E.Emit.client c.args.emit.now) (g.E.Emit.client c.down.emit) (g.E.Emit.faults c.args.emit.now) (g.E.Emit.faults c.down.emit) (g.E.Emit.creates c.args.emit.now) (g.E.Emit.creates c.down.emit) (g.E.Emit.took c.args.emit.now h0) (g.E.Emit.took c.down.emit hm) (both c.args.left.now c.args.right.now h0 s0) (both c.down.left c.down.right hm sm) =
-    down_reserved (c.down.emit ≡ c.args.emit.now) c.args.c.now c.args.shape.now _ _ _ _ _ _ _ (g.E.Emit.took c.down.emit h) (both c.args.left.now c.args.right.now h0 s0) (both c.down.left c.down.right h s) c.down.invariant.gone (g.E.Emit.took c.down.emit hm) hm sm c.requires.emitter c.reserve_top.ensures.leaves still
+    down_reserved (c.down.emit ≡ c.args.emit.now) c.args.c.now c.args.shape.now _ _ _ _ _ _ _ (g.E.Emit.took c.down.emit h) (both c.args.left.now c.args.right.now h0 s0) (both c.down.left c.down.right h s) c.down.invariant.gone (g.E.Emit.took c.down.emit hm) hm sm c.requires.may.emits.emitter c.reserve_top.ensures.leaves still
     c.reserve_top.ensures.between c.reserve_top.ensures.op c.reserve_top.ensures.first c.reserve_top.ensures.shows c.reserve_top.ensures.made in
     let first = mid.rows lefts rights shows in
     advances_made (g.E.Emit.creates c.advance.new.emit) c.args.shape.now (g.E.Emit.took c.args.emit.now h0) (g.E.Emit.took c.down.emit hm) lefts rights (both c.args.left.now c.args.right.now h0 s0) (both c.down.left c.down.right hm sm) (g.St.Store.signs c.advance.new.store) first
     (c.advance.ensures.made first.lefts_now first.rights_now first.shows)
 
 pub returns-clause-made : goal.returns-clause-made
-returns-clause-made g c = λ lefts rights shows.
+returns-clause-made g c =
+    λ lefts rights shows.
     advances_few c.args.shape.now (g.E.Emit.took c.args.emit.now (g.St.Store.holds c.args.store.now)) (g.E.Emit.took c.down.emit (g.St.Store.holds c.down.store)) lefts rights (both c.args.left.now c.args.right.now (g.St.Store.holds c.args.store.now) (g.St.Store.signs c.args.store.now)) (both c.down.left c.down.right (g.St.Store.holds c.down.store) (g.St.Store.signs c.down.store)) (c.down.invariant.gone.rows lefts rights shows)
-
-pub returns-in_err-advance-clause-want : goal.returns-in_err-advance-clause-want
-returns-in_err-advance-clause-want g c = λ same.
-    let h0 = g.St.Store.holds c.args.store.now in
-    let s0 = g.St.Store.signs c.args.store.now in
-    let h = g.St.Store.holds c.down.store in
-    let s = g.St.Store.signs c.down.store in
-    let hm = g.St.Store.holds c.reserve_top.new.store in
-    let sm = g.St.Store.signs c.reserve_top.new.store in
-    let beside : IsBeside c.args.c.now.tracker (g.E.Emit.client c.down.emit) h = down_beside (c.down.emit ≡ c.args.emit.now) c.args.c.now c.args.shape.now _ _ _ _ _ _ _ _ (both c.args.left.now c.args.right.now h0 s0) (both c.down.left c.down.right h s) c.down.invariant.gone c.requires.emitter in
-    let still : (taken : List (List Value)) → g.E.Emit.took c.down.emit h taken → g.E.Emit.took c.down.emit hm taken =
-    λ taken. g.met.E.Emit.asks_own c.down.emit h hm taken (same_beside c.args.c.now.tracker (g.E.Emit.client c.down.emit) h hm s sm beside.apart c.reserve_top.ensures.leaves) in
-    let mid : HasGoneDown (c.down.emit ≡ c.args.emit.now) c.args.c.now c.args.shape.now (g.E.Emit.admits c.args.emit.now) (g.E.Emit.admits c.down.emit) (g.E.Emit.client c.args.emit.now) (g.E.Emit.client c.down.emit) (g.E.Emit.faults c.args.emit.now) (g.E.Emit.faults c.down.emit) (g.E.Emit.creates c.args.emit.now) (g.E.Emit.creates c.down.emit) (g.E.Emit.took c.args.emit.now h0) (g.E.Emit.took c.down.emit hm) (both c.args.left.now c.args.right.now h0 s0) (both c.down.left c.down.right hm sm) =
-    down_reserved (c.down.emit ≡ c.args.emit.now) c.args.c.now c.args.shape.now _ _ _ _ _ _ _ (g.E.Emit.took c.down.emit h) (both c.args.left.now c.args.right.now h0 s0) (both c.down.left c.down.right h s) c.down.invariant.gone (g.E.Emit.took c.down.emit hm) hm sm c.requires.emitter c.reserve_top.ensures.leaves still
-    c.reserve_top.ensures.between c.reserve_top.ensures.op c.reserve_top.ensures.first c.reserve_top.ensures.shows c.reserve_top.ensures.made in
-    let still_slots : g.E.Emit.slots c.down.emit hm ≡ g.E.Emit.slots c.down.emit h = g.met.E.Emit.slots_own c.down.emit h hm (same_beside c.args.c.now.tracker (g.E.Emit.client c.down.emit) h hm s sm beside.apart c.reserve_top.ensures.leaves) in
-    let reserved : KeepSlots (g.E.Emit.client c.args.emit.now) (slots_both (both c.args.left.now c.args.right.now h0 s0)) (slots_both (both c.down.left c.down.right hm sm)) (g.E.Emit.slots c.args.emit.now h0) (g.E.Emit.slots c.down.emit hm) =
-    keep_then _ _ _ _ _ _ _ c.down.invariant.slots (keep_own (g.E.Emit.client c.args.emit.now) _ _ _ _ c.reserve_top.ensures.slots still_slots) in
-    handed_err _ c.from_residual.result c.in_err-advance.field-0.0 c.from_residual.ensures
-    (subst (λ (o : Option ℕ). IsWantOf c.args.left.now.page_blocks o c.in_err-advance.field-0.0) reserved.sum (subst (λ (n : ℕ). IsWantOf n (with_more (g.E.Emit.slots c.down.emit hm) (slots_both (both c.down.left c.down.right hm sm))) c.in_err-advance.field-0.0) mid.blocks (c.in_err-advance.ensures.want (same ∙ sym mid.blocks))))
-
-pub returns-in_err-advance-clause-enough : goal.returns-in_err-advance-clause-enough
-returns-in_err-advance-clause-enough g c =
-    let h0 = g.St.Store.holds c.args.store.now in
-    let s0 = g.St.Store.signs c.args.store.now in
-    let h = g.St.Store.holds c.down.store in
-    let s = g.St.Store.signs c.down.store in
-    let hm = g.St.Store.holds c.reserve_top.new.store in
-    let sm = g.St.Store.signs c.reserve_top.new.store in
-    let beside : IsBeside c.args.c.now.tracker (g.E.Emit.client c.down.emit) h = down_beside (c.down.emit ≡ c.args.emit.now) c.args.c.now c.args.shape.now _ _ _ _ _ _ _ _ (both c.args.left.now c.args.right.now h0 s0) (both c.down.left c.down.right h s) c.down.invariant.gone c.requires.emitter in
-    let still : (taken : List (List Value)) → g.E.Emit.took c.down.emit h taken → g.E.Emit.took c.down.emit hm taken =
-    λ taken. g.met.E.Emit.asks_own c.down.emit h hm taken (same_beside c.args.c.now.tracker (g.E.Emit.client c.down.emit) h hm s sm beside.apart c.reserve_top.ensures.leaves) in
-    let mid : HasGoneDown (c.down.emit ≡ c.args.emit.now) c.args.c.now c.args.shape.now (g.E.Emit.admits c.args.emit.now) (g.E.Emit.admits c.down.emit) (g.E.Emit.client c.args.emit.now) (g.E.Emit.client c.down.emit) (g.E.Emit.faults c.args.emit.now) (g.E.Emit.faults c.down.emit) (g.E.Emit.creates c.args.emit.now) (g.E.Emit.creates c.down.emit) (g.E.Emit.took c.args.emit.now h0) (g.E.Emit.took c.down.emit hm) (both c.args.left.now c.args.right.now h0 s0) (both c.down.left c.down.right hm sm) =
-    down_reserved (c.down.emit ≡ c.args.emit.now) c.args.c.now c.args.shape.now _ _ _ _ _ _ _ (g.E.Emit.took c.down.emit h) (both c.args.left.now c.args.right.now h0 s0) (both c.down.left c.down.right h s) c.down.invariant.gone (g.E.Emit.took c.down.emit hm) hm sm c.requires.emitter c.reserve_top.ensures.leaves still
-    c.reserve_top.ensures.between c.reserve_top.ensures.op c.reserve_top.ensures.first c.reserve_top.ensures.shows c.reserve_top.ensures.made in
-    let still_slots : g.E.Emit.slots c.down.emit hm ≡ g.E.Emit.slots c.down.emit h = g.met.E.Emit.slots_own c.down.emit h hm (same_beside c.args.c.now.tracker (g.E.Emit.client c.down.emit) h hm s sm beside.apart c.reserve_top.ensures.leaves) in
-    let reserved : KeepSlots (g.E.Emit.client c.args.emit.now) (slots_both (both c.args.left.now c.args.right.now h0 s0)) (slots_both (both c.down.left c.down.right hm sm)) (g.E.Emit.slots c.args.emit.now h0) (g.E.Emit.slots c.down.emit hm) =
-    keep_then _ _ _ _ _ _ _ c.down.invariant.slots (keep_own (g.E.Emit.client c.args.emit.now) _ _ _ _ c.reserve_top.ensures.slots still_slots) in
-    let some : 0 < length_of c.args.left.now.page_blocks h0 = some_len c.args.left.now.page_blocks h0.block_len c.requires.op.sized (let least = c.block_len-len.ensures.least in let value = c.block_len-len.ensures.value in omega (arith, least, value)) in
-    handed_err _ c.from_residual.result c.in_err-advance.field-0.0 c.from_residual.ensures
-    (λ lefts rights shows.
-    let first = mid.rows lefts rights shows in
-    advances_some c.args.shape.now (g.E.Emit.took c.args.emit.now h0) (g.E.Emit.took c.down.emit hm) (Crowds (g.E.Emit.slots_for c.args.emit.now) (slots_by (both c.args.left.now c.args.right.now h0 s0) lefts rights) (with_more (g.E.Emit.slots c.args.emit.now h0) (slots_both (both c.args.left.now c.args.right.now h0 s0))) c.in_err-advance.field-0.0) lefts rights (both c.args.left.now c.args.right.now h0 s0) (both c.down.left c.down.right hm sm) first
-    (some_more_of (g.E.Emit.took c.down.emit hm) (pairs_down c.args.shape.now (length c.down.left.streams) first.lefts_now first.rights_now) (g.E.Emit.slots_for c.args.emit.now) (g.E.Emit.slots_for c.down.emit) (slots_by (both c.down.left c.down.right hm sm) first.lefts_now first.rights_now) (slots_by (both c.args.left.now c.args.right.now h0 s0) lefts rights) _ _ c.in_err-advance.field-0.0 c.down.invariant.most
-    (by_fewer (both c.args.left.now c.args.right.now h0 s0) (both c.down.left c.down.right hm sm) lefts rights first.lefts_now first.rights_now mid.blocks mid.leaves.block_len some first.lighter) reserved.sum (c.in_err-advance.ensures.enough first.lefts_now first.rights_now first.shows)))
-
-pub returns-in_err-advance-clause-most : goal.returns-in_err-advance-clause-most
-returns-in_err-advance-clause-most g c = λ rows. c.advance.ensures.most rows ∙ c.down.invariant.most rows
