@@ -1,5 +1,5 @@
 -- What it tells of the parts of a document that nothing is wrong with them.
-use Rattle.std.proofs.Common.{◌≡◌, ◌≤◌, ◌<◌, ◌+◌, ℕ, ℤ, zero, suc, Bool, true, false, List, [], ◌∷◌, Option, Some, None, IsSome, All, length, get_or, map, pos, negsuc, subst, refl, arith}
+use Rattle.std.proofs.Common.{◌≡◌, ◌≤◌, ◌<◌, ◌+◌, ◌∙◌, ◌++◌, ap, ℕ, ℤ, zero, suc, Bool, true, false, List, [], ◌∷◌, Option, Some, None, IsSome, All, length, get_or, map, option_map, pos, negsuc, subst, refl, arith}
 use Rattle.std.specs.Prelude.{◌&&◌, nat_le, unwrap_or}
 use Rattle.std.specs.Option.{option_or}
 use Rattle.std.proofs.lemmas.Bool.{leb-true}
@@ -7,8 +7,9 @@ use Rattle.std.specs.List.{AllByRecursion}
 use Rattle.toml.specs.Data.{Data, Members, no_members, get_member, as_integer, as_table}
 use Rattle.query_plan.specs.declared.error.PlanErr.{PlanErr}
 use Rattle.query_plan.specs.declared.limit.Limit.{Limit}
+use Rattle.query_plan.specs.declared.limit.Limit.TheVariants.{Within}
 use Rattle.query_plan.specs.Words.{fits, keeps}
-use Rattle.query_plan.specs.Values.{as_list, list_at, number_at, table_of, whole}
+use Rattle.query_plan.specs.Values.{as_list, list_at, number_at, number_of, table_of, whole}
 use Rattle.query_plan.specs.Faults.{Check, Row, first_from, found_fault, key_fault, key_in, list_of, member_in, number, of_part, row_fault, rows_fault, table_fault, table_with, unless_kept, unknown_fault}
 
 -- ---- faults one after the other
@@ -87,6 +88,13 @@ number_kept limit key path entries e =
     let found = needed_reads (number limit) key path entries e in
     rw found.there (part_kept limit found.path (as_integer found.value) found.clear)
 
+-- a number that may be missing, and is one then
+pub one_or_kept : (must : Bool) (high : ℕ) (path : List ℕ) (found : Option Data) → 1 ≤ high → found_fault must (number (Within 1 high)) path found ≡ None
+    → (1 ≤ unwrap_or (option_map number_of found) 1) × (unwrap_or (option_map number_of found) 1 ≤ high)
+unfolding number
+one_or_kept must high path None some e = (omega arith, some)
+one_or_kept must high path (Some value) some e = within 1 high (number_of value) (part_kept (Within 1 high) path (as_integer value) e)
+
 -- ---- lists
 
 -- a list of these members was read under a key: its length keeps the limits, and nothing is wrong with a member
@@ -141,6 +149,16 @@ pub table_clear : (rows : List Row) (more : List ℕ → Members → Option Plan
     → (table_fault rows path (table_of value) ≡ None) × (more path (table_of value) ≡ None)
 unfolding table_with
 table_clear rows more path value e = table_part rows more path (as_table value) e
+
+or_more : {A : Type 0} (a b c : Option A) → option_or a (option_or b c) ≡ option_or (option_or a b) c
+or_more None b c = refl
+or_more (Some x) b c = refl
+
+-- the first fault of rows is that of the first of them, or else that of the others
+pub rows_split : (some more : List Row) (path : List ℕ) (entries : Members) → rows_fault (some ++ more) path entries ≡ option_or (rows_fault some path entries) (rows_fault more path entries)
+rows_split [] more path entries = refl
+rows_split (row ∷ rows) more path entries =
+    ap (option_or (row_fault row path entries)) (rows_split rows more path entries) ∙ or_more (row_fault row path entries) (rows_fault rows path entries) (rows_fault more path entries)
 
 each_row : (rows : List Row) (path : List ℕ) (entries : Members) → rows_fault rows path entries ≡ None → AllByRecursion (λ (row : Row). row_fault row path entries ≡ None) rows
 each_row [] path entries e = tt

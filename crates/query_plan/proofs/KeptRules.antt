@@ -23,21 +23,26 @@ use Rattle.query_plan.specs.declared.plan.Plan.{Plan}
 use Rattle.query_plan.specs.declared.plan.Query.{Query}
 use Rattle.query_plan.specs.Columns.{row_columns, right_columns}
 use Rattle.query_plan.specs.Drafts.{column_in, query_in, side_in, pair_in, filter_in, agg_in}
-use Rattle.query_plan.specs.Faults.{first_from, found_fault, key_fault, key_in, member_in, table, list_of, table_fault, text}
+use Rattle.query_plan.specs.Faults.{first_from, found_fault, key_fault, key_in, member_in, number, table, list_of, table_fault, text}
 use Rattle.query_plan.specs.Keys.{aggregate, any, column, filter, query, query_rows, side, side_rows, top_rows}
 use Rattle.query_plan.specs.Names.{agg_fault, agg_column_fault, filter_fault, filters_fault, group_fault, grouped_fault, int_fault, names_fault, named_fault, on_fault, on_right, pairs_fault, repeats_fault, side_filters, side_repeats, unless_same}
-use Rattle.query_plan.specs.PlanOf.{plan_in, quota_fault}
-use Rattle.query_plan.specs.Presences.{lacks}
+use Rattle.query_plan.specs.PlanOf.{plan_in, quota_fault, trace_in}
+use Rattle.query_plan.specs.Presences.{has, lacks}
 use Rattle.query_plan.specs.Resolved.{agg_on, group_on, pair_on, pred_on, query_of, side_of}
 use Rattle.query_plan.specs.Rules.{HasKind, IsOverInts, IsPair, IsPowerWithin, IsWithin, KeepsQuery, KeepsRules, KeepsSide, columns_of_side, columns_over}
-use Rattle.query_plan.specs.Values.{list_at, number_at, table_of, text_of}
+use Rattle.query_plan.specs.Values.{list_at, number_at, number_of, table_of, text_of, under}
+use Rattle.query_plan.specs.Sizes.{slots_of}
 use Rattle.query_plan.specs.Words.{column_as, column_of, fits}
-use Rattle.query_plan.proofs.Faultless.{Reads, and_left, and_right, clear_at, list_reads, needed_reads, none_first, none_then, number_kept, rows_clear, table_clear, within}
+use Rattle.query_plan.proofs.Faultless.{Reads, ReadsList, and_left, and_right, clear_at, list_reads, needed_reads, none_first, none_then, number_kept, one_or_kept, rows_clear, table_clear, within}
 use Rattle.query_plan.proofs.Items.{length_view}
 use Rattle.query_plan.proofs.NamesFound.{groups_inside, groups_once, has_kind, known, names_once, same_kinds}
-use Rattle.query_plan.proofs.OnlyGrouped.{no_items, only_grouped}
+use Rattle.query_plan.proofs.OnlyGrouped.{fragments_alone, no_items, only_grouped}
 
 -- ---- columns, filters, pairs, aggregates
+
+if_some_map : {A B : Type 0} (found : Option A) (P : B → Type 0) (make : A → B) → ((x : A) → P (make x)) → IfSome (option_map make found) P
+if_some_map None P make holds = tt
+if_some_map (Some x) P make holds = holds x
 
 plain_if : (test : Bool) (column found : Column) → column.kind ≢ kind.Wide → cond test (Some column) None ≡ Some found → found.kind ≢ kind.Wide
 plain_if true first found plain e = let same : first ≡ found = cc e in subst (λ (c : Column). c.kind ≢ kind.Wide) same plain
@@ -161,6 +166,19 @@ groups_some path entries None is e none =
     omega (arith, made, some)
 groups_some path entries (Some value) is e none = cc none
 
+-- without a key there is no right side, and a group that is there has a column
+no_right : (found : Option Data) → not (is_some found) ≡ true → IsNone (option_map side_of (option_map (λ value. side_in (table_of value)) found))
+no_right None e = refl
+no_right (Some value) e = cc e
+
+groups_there : (entries : Members) (found : Option Data) → get_member (codes "group") entries ≡ found → ReadsList text_of 1 8 (text any) (codes "group") entries → has (codes "group") entries ≡ true
+    → 1 ≤ length (list_at (codes "group") entries text_of)
+groups_there entries None is reads there = let there_so : false ≡ true = rw is at there in cc there_so
+groups_there entries (Some value) is reads there =
+    let made : length (list_at (codes "group") entries text_of) ≡ length reads.items = ap length reads.are ∙ length_view text_of reads.items in
+    let some : 1 ≤ length reads.items = reads.long (rw is refl) in
+    omega (arith, made, some)
+
 names_clear : (path : List ℕ) (draft : Draft) → names_fault path draft ≡ None
     → (repeats_fault path draft ≡ None) × (pairs_fault path draft ≡ None) × (grouped_fault path (row_columns draft.left draft.right) draft ≡ None) × (filters_fault path draft ≡ None)
 unfolding names_fault
@@ -226,6 +244,7 @@ query_keeps path value e =
     let paired = length_view (pair_on draft.left.columns (right_columns draft.right)) draft.on in
     let size = number_kept (Power 1 256) (codes "page_blocks") path entries rows.0 in
     let page_blocks : ℕ = number_at (codes "page_blocks") entries in
+    let alone = fragments_alone path entries (get_member (codes "fragments") entries) refl both.0 in
     record {
       page_blocks = (within 1 256 page_blocks (and_left (nat_le 1 page_blocks && nat_le page_blocks 256) (is_power_of_two page_blocks) size), and_right (nat_le 1 page_blocks && nat_le page_blocks 256) (is_power_of_two page_blocks) size);
       left = left_keeps entries (key_in path (codes "left")) left sides.0 sides.1;
@@ -238,9 +257,18 @@ query_keeps path value e =
       few = omega (arith, few, computed, aggs.short);
       aggs = rw (← columns) grouped.2;
       none = λ none. ap (map (agg_on (row_columns draft.left draft.right))) (only_grouped text_of (λ v. agg_in (table_of v)) (text any) path entries both.0 group (no_items (group_on (row_columns draft.left draft.right)) draft.group none));
+      fragments = one_or_kept false 8 (key_in path (codes "fragments")) (get_member (codes "fragments") entries) (omega arith) rows.1.1.1.1.1.1.1.1.1.0;
+      alone = λ more. (no_right (get_member (codes "right") entries) (alone more).1, rw counted (groups_there entries (get_member (codes "group") entries) refl group (alone more).0));
     }
 
 -- ---- a plan
+
+trace_kept : (path : List ℕ) (entries : Members) → key_fault (has (codes "trace") entries) (codes "trace_entries") (number (Within 1 1048576)) path entries ≡ None
+    → IfSome (trace_in entries) (λ it. IsWithin 1 1048576 it.entries)
+unfolding key_fault
+trace_kept path entries e =
+    let kept = one_or_kept (has (codes "trace") entries) 1048576 (key_in path (codes "trace_entries")) (get_member (codes "trace_entries") entries) (omega arith) e in
+    if_some_map (get_member (codes "trace") entries) (λ it. IsWithin 1 1048576 it.entries) (λ value. record { output = text_of value; entries = under (codes "trace_entries") entries number_of 1 }) (λ value. kept)
 
 blocks_within : (block_len n : ℕ) → fits (Blocks 1 1048576 block_len) n ≡ true → IsWithin 1 1048576 n × (n * block_len ≤ 2147483648)
 blocks_within block_len n e = (
@@ -261,8 +289,8 @@ unfolding plan_in
 table_keeps slots entries e quotas =
     let queries : List Query = (plan_in entries).queries in
     let rows = rows_clear top_rows [] entries e in
-    let list = list_reads (λ value. query_of (query_in (table_of value))) 1 16 query true (codes "query") [] entries rows.1.1.1.0 in
-    let there = needed_reads (list_of 1 16 query) (codes "query") [] entries rows.1.1.1.0 in
+    let list = list_reads (λ value. query_of (query_in (table_of value))) 1 16 query true (codes "query") [] entries rows.1.1.1.1.1.0 in
+    let there = needed_reads (list_of 1 16 query) (codes "query") [] entries rows.1.1.1.1.1.0 in
     let some : 1 ≤ length list.items = list.long (rw there.there refl) in
     let made : length queries ≡ length list.items = ap length list.are ∙ length_view (λ value. query_of (query_in (table_of value))) list.items in
     let blocks = blocks_within (number_at (codes "block_len") entries) (number_at (codes "blocks") entries) (number_kept (Blocks 1 1048576 (number_at (codes "block_len") entries)) (codes "blocks") [] entries rows.1.0) in
@@ -272,11 +300,12 @@ table_keeps slots entries e quotas =
       blocks = blocks.0;
       memory = blocks.1;
       writers = (within 0 8 (number_at (codes "writers") entries) writers).1;
+      trace = trace_kept [] entries rows.1.1.1.1.0;
       some = (omega (arith, made, some), omega (arith, made, list.short));
       queries = All-same KeepsQuery queries (map (λ value. query_of (query_in (table_of value))) list.items) list.are (All-map KeepsQuery (λ value. query_of (query_in (table_of value))) list.items (λ j d below.
           let it = list.clear j d below in
           query_keeps it.0 (get_or list.items j d) it.1));
-      quotas = quotas_fit slots (sum_by (λ (query : Query). query.quota) queries) (err.QuotaSum (codes "query")) (nat_le (sum_by (λ (query : Query). query.quota) queries) slots) refl quotas;
+      quotas = quotas_fit slots (sum_by slots_of queries) (err.QuotaSum (codes "query")) (nat_le (sum_by slots_of queries) slots) refl quotas;
     }
 
 -- the plan of a table with which nothing is wrong, whose quotas fit

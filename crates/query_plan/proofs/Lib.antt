@@ -1,5 +1,6 @@
 mod Documents
 mod Faultless
+mod InParts
 mod Items
 mod KeptRules
 mod LeastKey

@@ -1,19 +1,18 @@
--- Aggregates stand only where there are groups.
-use Rattle.std.proofs.Common.{◌≡◌, ◌≤◌, ◌∙◌, ℕ, Bool, true, false, List, [], ◌∷◌, Option, Some, None, length, map, filter, codes, nat_cmp, Ordering, Less, Equal, Greater, cond, refl, ap, subst, sym, arith}
-use Rattle.std.specs.Prelude.{◌||◌, not}
+-- Aggregates stand only where there are groups, and fragments only there and where nothing is joined.
+use Rattle.std.proofs.Common.{◌≡◌, ◌≤◌, ◌∙◌, ℕ, Bool, true, false, List, [], ◌∷◌, Option, Some, None, length, map, filter, codes, nat_cmp, Ordering, Less, Equal, Greater, refl, ap, subst, sym, arith}
+use Rattle.std.specs.Prelude.{◌||◌, ◌&&◌, not, unwrap_or}
 use Rattle.std.specs.Ordering.{match_ordering}
 use Rattle.std.specs.Option.{option_map}
 use Rattle.std.specs.Cmp.Lexicographic.{slice_cmp}
 use Rattle.std.proofs.lemmas.Map.Lookups.{exact_bytes}
 use Rattle.toml.specs.Data.{Data, Members, no_members, member, get_member}
-use Rattle.query_plan.specs.declared.draft.Draft.{Draft}
 use Rattle.query_plan.specs.declared.error.PlanErr.{PlanErr}
 use Rattle.query_plan.specs.declared.error.PlanErr.TheVariants as err
-use Rattle.query_plan.specs.Faults.{is_allowed, key_in, least_key, list_of, rows_fault, table_fault, unknown_fault}
+use Rattle.query_plan.specs.Faults.{is_allowed, key_in, least_key, rows_fault, table_fault, unknown_fault}
 use Rattle.query_plan.specs.Keys.{query_rows}
 use Rattle.query_plan.specs.Presences.{has, lacks}
-use Rattle.query_plan.specs.Values.{keys_in, list_at}
-use Rattle.query_plan.proofs.Faultless.{ReadsList, none_first}
+use Rattle.query_plan.specs.Values.{keys_in, list_at, number_of}
+use Rattle.query_plan.proofs.Faultless.{ReadsList, and_left, and_right, none_first}
 use Rattle.query_plan.proofs.Items.{length_view}
 
 none_least : (keys : List (List ℕ)) (named : List ℕ → PlanErr) → option_map named (least_key keys) ≡ None → keys ≡ []
@@ -65,3 +64,16 @@ only_grouped read other check path entries e reads none =
 pub no_items : {A B : Type 0} (see : A → B) (items : List A) → map see items ≡ [] → items ≡ []
 no_items see [] e = refl
 no_items see (x ∷ items) e = cc e
+
+or_none : (a : Bool) → (a || false) ≡ true → a ≡ true
+or_none true e = refl
+or_none false e = e
+
+pub fragments_alone : (path : List ℕ) (entries : Members) (found : Option Data) → get_member (codes "fragments") entries ≡ found → table_fault query_rows path entries ≡ None
+    → 2 ≤ unwrap_or (option_map number_of found) 1 → (has (codes "group") entries ≡ true) × (lacks (codes "right") entries ≡ true)
+fragments_alone path entries None is e more = absurd (omega (arith, more))
+fragments_alone path entries (Some value) is e more =
+    let known = none_unknown path entries (none_first (unknown_fault query_rows path entries) (rows_fault query_rows path entries) e) in
+    let allowed : ((has (codes "group") entries && lacks (codes "right") entries) || false) ≡ true = allowed_there (is_allowed query_rows entries) (codes "fragments") entries value known is in
+    let both = or_none (has (codes "group") entries && lacks (codes "right") entries) allowed in
+    (and_left (has (codes "group") entries) (lacks (codes "right") entries) both, and_right (has (codes "group") entries) (lacks (codes "right") entries) both)

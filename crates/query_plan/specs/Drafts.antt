@@ -13,7 +13,7 @@ use Rattle.query_plan.specs.declared.draft.FilterDraft.{FilterDraft}
 use Rattle.query_plan.specs.declared.draft.SideDraft.{SideDraft}
 use Rattle.query_plan.specs.declared.draft.Draft.{Draft}
 use Rattle.query_plan.specs.Words.{cmp_of, agg_of, agg_over, column_of}
-use Rattle.query_plan.specs.Values.{under, number_at, text_at, list_at, text_of, list_of, table_of, scalar_of}
+use Rattle.query_plan.specs.Values.{under, number_of, number_at, text_at, list_at, text_of, list_of, table_of, scalar_of}
 
 -- a column
 abbrev pub column_in : Data → Column
@@ -55,7 +55,7 @@ side_in entries = record {
   filter = list_at (codes "filter") entries (λ value. filter_in (table_of value));
 }
 
--- a query; an optional list that is not there is empty
+-- a query; an optional list that is not there is empty, and fragments that are not there are one
 unfoldable pub query_in : Members → Draft
 query_in entries = record {
   page_blocks = number_at (codes "page_blocks") entries;
@@ -67,4 +67,5 @@ query_in entries = record {
   on = list_at (codes "on") entries pair_in;
   group = list_at (codes "group") entries text_of;
   aggs = list_at (codes "agg") entries (λ value. agg_in (table_of value));
+  fragments = under (codes "fragments") entries number_of 1;
 }

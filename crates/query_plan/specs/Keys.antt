@@ -1,6 +1,6 @@
 -- The table of keys: where each stands, when, of which kind it is, and its limit. Each table of the
 -- document is read in the order of its rows here.
-use Rattle.std.specs.Prelude.{codes, ℕ, Bool, true, not, ◌==◌, List, [], ◌∷◌, length, is_some, option_and_then}
+use Rattle.std.specs.Prelude.{codes, ℕ, Bool, true, not, ◌==◌, List, [], ◌∷◌, ◌++◌, length, is_some, option_and_then}
 use Rattle.toml.specs.Data.{Members, as_str}
 use Rattle.query_plan.specs.declared.limit.Limit.TheVariants.{Within, Power, Blocks}
 use Rattle.query_plan.specs.declared.known.Where.{Where}
@@ -8,7 +8,7 @@ use Rattle.query_plan.specs.declared.known.Where.TheVariants.{Top, Query, Side, 
 use Rattle.query_plan.specs.Words.{cmp_of, agg_of, column_of}
 use Rattle.query_plan.specs.Values.{as_scalar, number_at}
 use Rattle.query_plan.specs.Faults.{Check, Row, Presence, readable, number, text, list_of, table, table_with}
-use Rattle.query_plan.specs.Presences.{needed, optional, exactly_with, only_with, needed_without, exactly_where, takes_column}
+use Rattle.query_plan.specs.Presences.{needed, optional, exactly_with, only_with, only_with_but, needed_without, exactly_where, takes_column}
 use Rattle.query_plan.specs.Drafts.{query_in}
 use Rattle.query_plan.specs.Names.{names_fault}
 
@@ -69,18 +69,31 @@ side_rows =
 unfoldable pub side : Check
 side = table side_rows
 
-abbrev pub query_rows : List Row
-query_rows =
+-- a query: its numbers, its files, and what is made of their rows
+abbrev pub number_rows : List Row
+number_rows =
     row (codes "page_blocks") needed (number (Power 1 256))
     ∷ row (codes "limit") needed (number (Within 0 9223372036854775807))
     ∷ row (codes "quota") needed (number (Within 0 1048576))
-    ∷ row (codes "output") needed (text not_empty)
+    ∷ []
+
+abbrev pub file_rows : List Row
+file_rows =
+    row (codes "output") needed (text not_empty)
     ∷ row (codes "left") needed side
     ∷ row (codes "right") optional side
-    ∷ row (codes "on") (exactly_with (codes "right")) (list_of 1 8 (list_of 2 2 (text any)))
+    ∷ []
+
+abbrev pub shape_rows : List Row
+shape_rows =
+    row (codes "on") (exactly_with (codes "right")) (list_of 1 8 (list_of 2 2 (text any)))
     ∷ row (codes "group") (needed_without (codes "right")) (list_of 1 8 (text any))
     ∷ row (codes "agg") (only_with (codes "group")) (list_of 0 16 aggregate)
+    ∷ row (codes "fragments") (only_with_but (codes "group") (codes "right")) (number (Within 1 8))
     ∷ []
+
+abbrev pub query_rows : List Row
+query_rows = number_rows ++ (file_rows ++ shape_rows)
 
 -- a query's names are looked at once its keys are read
 unfoldable pub query : Check
@@ -90,13 +103,23 @@ query = table_with query_rows (λ path entries. names_fault path (query_in entri
 abbrev pub blocks : Members → Check
 blocks entries = number (Blocks 1 1048576 (number_at (codes "block_len") entries))
 
+-- a trace: where it goes, and how many entries it has at most
+abbrev pub trace_rows : List Row
+trace_rows =
+    row (codes "trace") optional (text not_empty)
+    ∷ row (codes "trace_entries") (exactly_with (codes "trace")) (number (Within 1 1048576))
+    ∷ []
+
+-- its queries
+abbrev pub queries_row : List Row
+queries_row = row (codes "query") needed (list_of 1 16 query) ∷ []
+
 abbrev pub top_rows : List Row
 top_rows =
     row (codes "block_len") needed (number (Power 64 65536))
     ∷ record { key = codes "blocks"; presence = needed; check = blocks }
     ∷ row (codes "writers") needed (number (Within 0 8))
-    ∷ row (codes "query") needed (list_of 1 16 query)
-    ∷ []
+    ∷ (trace_rows ++ queries_row)
 
 -- the tables of a document
 abbrev pub rows_of : Where → List Row

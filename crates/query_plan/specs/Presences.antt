@@ -1,5 +1,5 @@
 -- When a key stands in a table.
-use Rattle.std.specs.Prelude.{codes, ℕ, Bool, true, false, not, List, is_some, bytes_eq}
+use Rattle.std.specs.Prelude.{codes, ℕ, Bool, true, false, not, ◌&&◌, List, is_some, bytes_eq}
 use Rattle.toml.specs.Data.{Data, Members, get_member}
 use Rattle.query_plan.specs.Values.{under, text_of}
 use Rattle.query_plan.specs.Faults.{Presence}
@@ -17,12 +17,15 @@ needed = record { may = λ _. true; must = λ _. true }
 abbrev pub optional : Presence
 optional = record { may = λ _. true; must = λ _. false }
 
--- with another key, and then always; or only with it; or always unless the other is there
+-- with another key, and then always; or only with it; or only with one and without the other; or always unless the other is there
 abbrev pub exactly_with : List ℕ → Presence
 exactly_with key = record { may = has key; must = has key }
 
 abbrev pub only_with : List ℕ → Presence
 only_with key = record { may = has key; must = λ _. false }
+
+abbrev pub only_with_but : List ℕ → List ℕ → Presence
+only_with_but key other = record { may = λ entries. has key entries && lacks other entries; must = λ _. false }
 
 abbrev pub needed_without : List ℕ → Presence
 needed_without key = record { may = λ _. true; must = lacks key }

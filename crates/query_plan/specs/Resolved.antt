@@ -50,4 +50,5 @@ query_of draft =
       on = map (pair_on draft.left.columns (right_columns draft.right)) draft.on;
       group = map (group_on columns) draft.group;
       aggs = map (agg_on columns) draft.aggs;
+      fragments = draft.fragments;
     }

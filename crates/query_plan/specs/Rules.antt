@@ -14,6 +14,7 @@ use Rattle.query_plan.specs.declared.plan.Plan.{Plan}
 use Rattle.query_plan.specs.declared.plan.Query.{Query}
 use Rattle.query_plan.specs.declared.plan.SidePlan.{SidePlan}
 use Rattle.query_plan.specs.Columns.{behind}
+use Rattle.query_plan.specs.Sizes.{slots_of}
 
 -- ---- the row that is grouped
 
@@ -73,7 +74,8 @@ pub record KeepsSide (side : SidePlan) : Type 0 where
   pub few : length side.preds ≤ 16
   pub preds : All (λ (pred : Pred). HasKind side.columns pred.column (kind_of pred.value)) side.preds
 
--- a query: its pages, its sides, the pairs of a join, and the groups of its row; aggregates only where it groups
+-- a query: its pages, its sides, the pairs of a join, and the groups of its row; aggregates only where it groups, and
+-- several fragments only where it groups and doesn't join
 pub record KeepsQuery (query : Query) : Type 0 where
   pub page_blocks : IsPowerWithin 1 256 query.page_blocks
   pub left : KeepsSide query.left
@@ -86,13 +88,17 @@ pub record KeepsQuery (query : Query) : Type 0 where
   pub few : length query.aggs ≤ 16
   pub aggs : All (IsOverInts (row_columns_of query)) query.aggs
   pub none : query.group ≡ [] → query.aggs ≡ []
+  pub fragments : IsWithin 1 8 query.fragments
+  pub alone : 2 ≤ query.fragments → IsNone query.right × (1 ≤ length query.group)
 
--- a plan over so many scratch slots: its blocks, their bytes together, its writers, its queries and their quotas
+-- a plan over so many scratch slots: its blocks, their bytes together, its writers, its trace, its queries and the quotas
+-- of all their sessions
 pub record KeepsRules (slots : ℕ) (plan : Plan) : Type 0 where
   pub block_len : IsPowerWithin 64 65536 plan.block_len
   pub blocks : IsWithin 1 1048576 plan.blocks
   pub memory : plan.blocks * plan.block_len ≤ 2147483648
   pub writers : plan.writers ≤ 8
+  pub trace : IfSome plan.trace (λ it. IsWithin 1 1048576 it.entries)
   pub some : IsWithin 1 16 (length plan.queries)
   pub queries : All KeepsQuery plan.queries
-  pub quotas : sum_by (λ query. query.quota) plan.queries ≤ slots
+  pub quotas : sum_by slots_of plan.queries ≤ slots

@@ -17,6 +17,7 @@ pub(crate) struct Draft {
     pub on: Listed<(Bytes, Bytes)>,
     pub group: Listed<Bytes>,
     pub aggs: Listed<AggDraft>,
+    pub fragments: u32,
 }
 
 /// One input, with its filter.
@@ -45,7 +46,7 @@ pub(crate) enum AggDraft {
 }
 
 /// The name of an aggregate.
-#[derive(Clone, Copy, PartialEq, Eq)]
+#[derive(Clone, Copy)]
 pub(crate) enum AggWord {
     Count,
     Sum,

@@ -25,7 +25,8 @@ pub enum PlanErr {
     /// A column of another kind than its use asks for.
     #[error("a column of the wrong kind")]
     KindClash { key: Bytes },
-    /// A number outside its range, a list of a wrong length, an empty text, an unknown word.
+    /// A number outside its range, a list of a wrong length, an empty text, an unknown word. With the key `plan`: the
+    /// document has more than 1048576 bytes.
     #[error("a value outside its limit")]
     Limit { key: Bytes },
     /// A column that is named a second time.

@@ -12,7 +12,7 @@ use crate::paths;
 use crate::section::Section;
 
 /// The tables of a document.
-#[derive(Clone, Copy, Debug, PartialEq, Eq)]
+#[derive(Clone, Copy)]
 pub(crate) enum Where {
     Top,
     Query,
@@ -52,7 +52,11 @@ impl Section<'_> {
     fn allows_at_top(&self, key: &str) -> bool
         ensures { result ≡ is_allowed top_rows (table_view self.now.table.now) key.now }
     {
-        matches!(key, "block_len" | "blocks" | "writers" | "query")
+        match key {
+            "block_len" | "blocks" | "writers" | "trace" | "query" => true,
+            "trace_entries" => self.has("trace"),
+            _ => false,
+        }
     }
 
     fn allows_in_query(&self, key: &str) -> bool
@@ -62,6 +66,7 @@ impl Section<'_> {
             "page_blocks" | "limit" | "quota" | "output" | "left" | "right" | "group" => true,
             "on" => self.has("right"),
             "agg" => self.has("group"),
+            "fragments" => self.has("group") && !self.has("right"),
             _ => false,
         }
     }

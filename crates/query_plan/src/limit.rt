@@ -15,7 +15,7 @@ use toml::Value;
 const POOL_BYTES: u64 = 2147483648;
 
 /// A range of numbers, both ends in it, and what else is asked.
-#[derive(Clone, Copy, Debug, PartialEq, Eq)]
+#[derive(Clone, Copy)]
 pub(crate) enum Limit {
     /// From the first to the second.
     Within(u64, u64),

@@ -1,14 +1,15 @@
-// What the queries of a plan share: files, and slots.
+// What the queries of a plan and its trace share: files, and slots.
 
 ghost use Rattle.std.specs.Prelude.{◌≡◌, ◌≤◌, length};
 ghost use Rattle.std.specs.List.{list_any};
 ghost use Rattle.query_plan.specs.Faults.{first_from};
-ghost use Rattle.query_plan.specs.PlanOf.{output_fault, quota_fault, writes, reads};
+ghost use Rattle.query_plan.specs.PlanOf.{output_fault, trace_fault, quota_fault, writes, reads};
 ghost use Rattle.query_plan.specs.Told.{Tells, Clears};
 
 use crate::error::PlanErr;
 use crate::paths::{key_in, member_in};
-use crate::plan::Query;
+use crate::plan::{Query, TracePlan};
+use crate::sizes::slots_of;
 use row_codec::Bytes;
 use std::alloc::Global;
 
@@ -24,6 +25,26 @@ pub(crate) fn distinct_outputs(alloc: Global, queries: &[Query]) -> Result<(), P
             let key = key_in(alloc, at.as_slice(), b"output")?;
             return Err(PlanErr::SameOutput { key });
         }
+    }
+    Ok(())
+}
+
+/// Refuses a trace whose output is one of a query, or a file of any query.
+pub(crate) fn distinct_trace(
+    alloc: Global,
+    queries: &[Query],
+    trace: &Option<TracePlan>,
+) -> Result<(), PlanErr>
+    ensures tells { Tells result (trace_fault queries.now trace.now) }
+    ensures clears { Clears result (trace_fault queries.now trace.now) }
+{
+    let Some(trace) = trace else {
+        return Ok(());
+    };
+    let name = trace.output.as_str();
+    if is_written(queries, name) || is_read(queries, name) {
+        let key = Bytes::of(alloc, b"trace")?;
+        return Err(PlanErr::SameOutput { key });
     }
     Ok(())
 }
@@ -52,17 +73,17 @@ fn reads(query: &Query, name: &str) -> bool
     }
 }
 
-/// Refuses quotas that are together more than the slots.
+/// Refuses quotas of all sessions that are together more than the slots.
 pub(crate) fn fitting_quotas(alloc: Global, queries: &[Query], slots: u32) -> Result<(), PlanErr>
     requires few { length queries.now ≤ 16 }
     ensures tells { Tells result (quota_fault slots queries.now) }
     ensures clears { Clears result (quota_fault slots queries.now) }
 {
-    let mut total = 0u64;
+    let mut total = 0u128;
     for query in queries {
-        total += u64::from(query.quota);
+        total += u128::from(slots_of(query));
     }
-    if total > u64::from(slots) {
+    if total > u128::from(slots) {
         let key = Bytes::of(alloc, b"query")?;
         return Err(PlanErr::QuotaSum { key });
     }

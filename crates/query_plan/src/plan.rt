@@ -14,8 +14,19 @@ pub struct Plan {
     pub blocks: u32,
     /// Writers that run beside the queries, at most 8.
     pub writers: u32,
+    /// There exactly where the run is to be recorded.
+    pub trace: Option<TracePlan>,
     /// From 1 to 16, in the order of the document.
     pub queries: Listed<Query>,
+}
+
+/// The record of a run: its first events, as text.
+#[derive(Debug, Drop)]
+pub struct TracePlan {
+    /// Where the text goes.
+    pub output: FileName,
+    /// The most events that are recorded, from 1 to 1048576.
+    pub entries: u32,
 }
 
 /// One query: it groups, joins, or joins and groups what it joined.
@@ -23,9 +34,9 @@ pub struct Plan {
 pub struct Query {
     /// Blocks of a page, a power of two from 1 to 256.
     pub page_blocks: u32,
-    /// The most bytes that the query may reserve.
+    /// The most bytes that each session of the query may reserve.
     pub limit: u64,
-    /// Scratch slots that are set aside for the query.
+    /// Scratch slots that are set aside for each session of the query.
     pub quota: u32,
     /// Where the answer goes.
     pub output: FileName,
@@ -38,6 +49,9 @@ pub struct Query {
     pub group: Listed<usize>,
     /// What is computed over each group.
     pub aggs: Listed<Agg>,
+    /// How many threads feed the groups beside the one that reads, from 1 to 8; with 1 the reading thread does all.
+    /// More than 1 only where the query groups and doesn't join.
+    pub fragments: u32,
 }
 
 /// One input of a query.

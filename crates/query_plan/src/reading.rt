@@ -5,9 +5,9 @@ ghost use Rattle.toml.specs.View.{table_view};
 ghost use Rattle.query_plan.specs.Drafts.{query_in};
 ghost use Rattle.query_plan.specs.Resolved.{query_of};
 ghost use Rattle.query_plan.specs.Values.{table_of};
-ghost use Rattle.query_plan.specs.Faults.{table_fault};
-ghost use Rattle.query_plan.specs.Keys.{query, top_rows};
-ghost use Rattle.query_plan.specs.PlanOf.{plan_in, plan_of, document_of};
+ghost use Rattle.query_plan.specs.Faults.{rows_fault, table_fault};
+ghost use Rattle.query_plan.specs.Keys.{query, top_rows, trace_rows};
+ghost use Rattle.query_plan.specs.PlanOf.{plan_in, plan_of, document_of, trace_in};
 ghost use Rattle.query_plan.specs.Rules.{KeepsRules};
 ghost use Rattle.query_plan.specs.Told.{Tells, Clears};
 
@@ -15,11 +15,12 @@ use crate::error::PlanErr;
 use crate::known::Where;
 use crate::limit::Limit;
 use crate::lists::ListOf;
-use crate::outputs::{distinct_outputs, fitting_quotas};
-use crate::plan::{Plan, Query};
+use crate::outputs::{distinct_outputs, distinct_trace, fitting_quotas};
+use crate::plan::{Plan, Query, TracePlan};
 use crate::queries::read_keys;
 use crate::rule::Rule;
 use crate::section::Section;
+use crate::texts::NameText;
 use crate::whole::resolve_query;
 use row_codec::Bytes;
 use std::alloc::Global;
@@ -35,7 +36,7 @@ const MOST_BYTES: usize = 1048576;
 /// The first thing that is wrong with the document, in this order: its length; that it is TOML in
 /// UTF-8; each table, first with its least unknown key and then key by key, a value whole before
 /// the next key, where a query's columns are looked up once its keys are read; an output that is
-/// used elsewhere; the sum of the quotas. `Memory`: there was no memory for the plan, or for the
+/// used elsewhere, the one of the trace last; the sum of the quotas. `Memory`: there was no memory for the plan, or for the
 /// error's key. When memory is wanting is left open.
 pub fn read_plan(alloc: Global, bytes: &[u8], slots: u32) -> Result<Plan, PlanErr>
     ensures plan { IfOk result (λ plan. plan_of bytes.now slots ≡ Ok plan) }
@@ -54,6 +55,7 @@ pub fn read_plan(alloc: Global, bytes: &[u8], slots: u32) -> Result<Plan, PlanEr
     };
     let plan = read_top(&section)?;
     distinct_outputs(alloc, plan.queries.as_slice())?;
+    distinct_trace(alloc, plan.queries.as_slice(), &plan.trace)?;
     fitting_quotas(alloc, plan.queries.as_slice(), slots)?;
     Ok(plan)
 }
@@ -96,6 +98,21 @@ const QUERIES: ListOf<QueryTable> = ListOf {
     member: QueryTable,
 };
 
+// The two keys of a trace.
+fn read_trace(section: &Section) -> Result<Option<TracePlan>, PlanErr>
+    ensures tells { Tells result (rows_fault trace_rows section.now.path.now (table_view section.now.table.now)) }
+    ensures clears { Clears result (rows_fault trace_rows section.now.path.now (table_view section.now.table.now)) }
+    ensures made { IfOk result (λ trace. trace ≡ trace_in (table_view section.now.table.now)) }
+{
+    let output = section.find(false, "trace", &NameText)?;
+    let recorded = section.has("trace");
+    let entries = section.find(recorded, "trace_entries", &Limit::Within(1, 1048576))?;
+    Ok(output.map(|output| TracePlan {
+        output,
+        entries: entries.unwrap_or(1) as u32,
+    }))
+}
+
 #[tactic(auto, unfolding(crate::specs::PlanOf::plan_in))]
 fn read_top(section: &Section) -> Result<Plan, PlanErr>
     ensures tells { Tells result (table_fault top_rows section.now.path.now (table_view section.now.table.now)) }
@@ -107,11 +124,13 @@ fn read_top(section: &Section) -> Result<Plan, PlanErr>
     let block_len = section.needed("block_len", &Limit::Power(64, 65536))?;
     let blocks = section.needed("blocks", &Limit::Blocks(1, 1048576, block_len))?;
     let writers = section.needed("writers", &Limit::Within(0, 8))?;
+    let trace = read_trace(section)?;
     let queries = section.needed("query", &QUERIES)?;
     Ok(Plan {
         block_len: block_len as u32,
         blocks: blocks as u32,
         writers: writers as u32,
+        trace,
         queries,
     })
 }

@@ -36,6 +36,7 @@ pub(crate) fn resolve_query(alloc: Global, path: &[u8], draft: Draft) -> Result<
         output,
         left,
         right,
+        fragments,
         ..
     } = draft;
     let left = resolve_side(alloc, path, b"left", left)?;
@@ -53,6 +54,7 @@ pub(crate) fn resolve_query(alloc: Global, path: &[u8], draft: Draft) -> Result<
         on,
         group,
         aggs,
+        fragments,
     })
 }
 

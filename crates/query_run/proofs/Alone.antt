@@ -9,7 +9,7 @@ use Rattle.query_run.specs.Both.{told_in}
 use Rattle.query_run.specs.Causes.{side_of}
 use Rattle.query_run.specs.Plans.{IsGrouping, IsRunnable}
 use Rattle.query_run.specs.Refused.{SaysOfInputs, SaysOfSide, Source}
-use Rattle.query_run.specs.declared.outcome.QueryErr.{QueryErr}
+use Rattle.query_plan.specs.declared.outcome.QueryErr.{QueryErr}
 
 pub not_joined : (plan : Query) → plan.right ≡ None → joins plan ≡ true → ⊥
 not_joined plan alone joins = let none : is_some plan.right ≡ false = rw alone refl in true≢false (sym joins ∙ none)

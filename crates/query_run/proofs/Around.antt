@@ -32,7 +32,7 @@ use Rattle.query_run.specs.Plans.{IsGrouping, shape_of}
 use Rattle.query_run.specs.Stopped.{IsLeft, IsWantBelow, MayStop, StoppedBy, StoppedOver, StoppedQuery, amounts_of}
 use Rattle.query_run.specs.Through.{need}
 use Rattle.query_run.specs.Trail.{HoldsPartials, KeptAndRead, KeptGroups}
-use Rattle.query_run.specs.declared.outcome.QueryErr.{QueryErr}
+use Rattle.query_plan.specs.declared.outcome.QueryErr.{QueryErr}
 use Rattle.query_run.proofs.Going.{of_pool_both}
 use Rattle.query_run.proofs.KeptFirst.{coming}
 

@@ -41,7 +41,7 @@ use Rattle.query_run.specs.Through.{need, pairs_in, rows_through, weight_through
 use Rattle.query_run.specs.Writing.{HoldsFor}
 use Rattle.query_run.specs.declared.feeder.Feeder.{Feeder}
 use Rattle.query_run.specs.declared.feeding.Fed.{Fed}
-use Rattle.query_run.specs.declared.outcome.QueryErr.{QueryErr}
+use Rattle.query_plan.specs.declared.outcome.QueryErr.{QueryErr}
 use Rattle.query_run.proofs.JoinWants.{many_both, weigh_both}
 use Rattle.query_run.proofs.Orders.{same_many}
 use Rattle.query_run.proofs.Sides.{both_are}

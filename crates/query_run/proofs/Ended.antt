@@ -22,9 +22,9 @@ use Rattle.query_run.specs.Ending.{IsEndedBy, WentThrough}
 use Rattle.query_run.specs.Parts.{FrontOf, HasSent}
 use Rattle.query_run.specs.Plans.{grouping_of, shape_of}
 use Rattle.query_run.specs.Writing.{Begun, HasTaken, HasTakenGroups, HasTakenSome, text_behind, written}
-use Rattle.query_run.specs.declared.outcome.QueryErr.{QueryErr}
-use Rattle.query_run.specs.declared.outcome.QueryErr.TheVariants.{SinkFault}
-use Rattle.query_run.specs.declared.outcome.Ran.{Ran}
+use Rattle.query_plan.specs.declared.outcome.QueryErr.{QueryErr}
+use Rattle.query_plan.specs.declared.outcome.QueryErr.TheVariants.{SinkFault}
+use Rattle.query_plan.specs.declared.outcome.Ran.{Ran}
 use Rattle.query_run.proofs.Sending.{appended, appends_front, begun, front_left, front_none, front_on, sent_all}
 
 -- ---- before the first row

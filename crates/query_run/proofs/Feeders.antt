@@ -45,7 +45,7 @@ use Rattle.query_run.specs.FedRows.{AreFed, IsFed}
 use Rattle.query_run.specs.Feeder.{Feeds, HasEnded, HasStopped, Took, TookOf, own_slots, pages_made, slots_for_rows, slots_in}
 use Rattle.query_run.specs.Inside.{IsOfStore}
 use Rattle.query_run.specs.Writing.{HoldsFor}
-use Rattle.query_run.specs.declared.outcome.QueryErr.{QueryErr}
+use Rattle.query_plan.specs.declared.outcome.QueryErr.{QueryErr}
 use Rattle.query_run.specs.declared.feeder.Feeder.{Feeder}
 use Rattle.query_run.proofs.EndedFirst.{some_page}
 use Rattle.query_run.proofs.Going.{feeds_still}

@@ -12,8 +12,8 @@ use Rattle.group_op.specs.Operator.{IsFeeding, IsOperator, IsSame, Operator}
 use Rattle.query_run.specs.Causes.{OfPool}
 use Rattle.query_run.specs.Inside.{GoesOn}
 use Rattle.query_run.specs.Stopped.{StoppedBy, StoppedOver}
-use Rattle.query_run.specs.declared.outcome.QueryErr.{QueryErr}
-use Rattle.query_run.specs.declared.outcome.QueryErr.TheVariants as query
+use Rattle.query_plan.specs.declared.outcome.QueryErr.{QueryErr}
+use Rattle.query_plan.specs.declared.outcome.QueryErr.TheVariants as query
 
 pub of_pool_so : (P Q : PoolErr → Type 0) → ((e : PoolErr) → P e → Q e) → (e : QueryErr) → OfPool P e → OfPool Q e
 of_pool_so P Q so (query.Pool e) holds = so e holds

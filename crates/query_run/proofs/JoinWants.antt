@@ -34,7 +34,7 @@ use Rattle.query_run.specs.Taking.{JoinGoes, LeftFeeds, LeftWants, RightWants, j
 use Rattle.query_run.specs.Through.{need, rows_through, weight_through}
 use Rattle.query_run.specs.Writing.{Begun, HasTaken, written}
 use Rattle.query_run.specs.declared.feeding.Fed.{Fed}
-use Rattle.query_run.specs.declared.outcome.QueryErr.{QueryErr}
+use Rattle.query_plan.specs.declared.outcome.QueryErr.{QueryErr}
 use Rattle.query_run.proofs.Around.{no_more_slots}
 use Rattle.query_run.proofs.Fronts.{first_few}
 use Rattle.query_run.proofs.Made.{want_before}

@@ -15,8 +15,8 @@ use Rattle.query_run.specs.Answer.{LineNumbers, answer_text, header_of, lines_of
 use Rattle.query_run.specs.Joined.{HasTakenPairs, HasTakenSomePairs, WrotePairs, WroteSomePairs}
 use Rattle.query_run.specs.Parts.{FrontOf}
 use Rattle.query_run.specs.Writing.{Begun, HasTaken, text_behind, written}
-use Rattle.query_run.specs.declared.outcome.QueryErr.{QueryErr}
-use Rattle.query_run.specs.declared.outcome.Ran.{Ran}
+use Rattle.query_plan.specs.declared.outcome.QueryErr.{QueryErr}
+use Rattle.query_plan.specs.declared.outcome.Ran.{Ran}
 use Rattle.query_run.proofs.Ended.{more_lines, sent_front, sent_whole, taken_front, wider}
 use Rattle.query_run.proofs.Sending.{appends_front}
 

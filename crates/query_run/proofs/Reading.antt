@@ -26,9 +26,9 @@ use Rattle.query_run.specs.declared.feeding.Fed.{Fed}
 use Rattle.query_plan.specs.declared.plan.Query.{Query}
 use Rattle.query_plan.specs.declared.plan.Side.{Side}
 use Rattle.query_plan.specs.declared.plan.SidePlan.{SidePlan}
-use Rattle.query_run.specs.declared.outcome.QueryErr.{QueryErr}
-use Rattle.query_run.specs.declared.outcome.QueryErr.TheVariants as query
-use Rattle.query_run.specs.declared.outcome.QueryErr.TheVariants.{TooLarge}
+use Rattle.query_plan.specs.declared.outcome.QueryErr.{QueryErr}
+use Rattle.query_plan.specs.declared.outcome.QueryErr.TheVariants as query
+use Rattle.query_plan.specs.declared.outcome.QueryErr.TheVariants.{TooLarge}
 
 -- the rows so far, and what is still to come, are the input
 abbrev pub IsSoFar : SidePlan → Option (List ℕ) → List (List Value) → Option Typed → Type 0

@@ -16,8 +16,8 @@ use Rattle.query_run.specs.Input.{IsAccepted}
 use Rattle.query_run.specs.Refused.{SaysOfInputs, SaysOfRight, SaysOfSide, Source}
 use Rattle.query_run.specs.Stopped.{IsWantBelow, MayStop}
 use Rattle.query_run.specs.Through.{need}
-use Rattle.query_run.specs.declared.outcome.QueryErr.{QueryErr}
-use Rattle.query_run.specs.declared.outcome.QueryErr.TheVariants as query
+use Rattle.query_plan.specs.declared.outcome.QueryErr.{QueryErr}
+use Rattle.query_plan.specs.declared.outcome.QueryErr.TheVariants as query
 
 -- an error that speaks of no input says nothing that isn't so
 pub says_nothing : (plan : Query) (side : Side) (asked : SidePlan) (page : ℕ) (input : Source) (why : QueryErr) → side_of why ≡ None → SaysOfSide plan side asked page input why

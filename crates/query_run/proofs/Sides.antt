@@ -25,7 +25,7 @@ use Rattle.query_run.specs.Joined.{HasFedBoth, KeptBoth, WrotePairs, WroteSomePa
 use Rattle.query_run.specs.Plans.{grouping_of, join_shape_of}
 use Rattle.query_run.specs.Trail.{HoldsRows, KeptSides}
 use Rattle.query_run.specs.declared.feeding.Fed.{Fed}
-use Rattle.query_run.specs.declared.outcome.Ran.{Ran}
+use Rattle.query_plan.specs.declared.outcome.Ran.{Ran}
 
 -- ---- what was read
 

@@ -19,8 +19,8 @@ use Rattle.outside.specs.Sinks.{StopsAt}
 use Rattle.outside.proofs.Stopping.{stops_later}
 use Rattle.query_run.specs.Parts.{FrontOf, HasSent, StopsWriting}
 use Rattle.query_run.specs.Writing.{Begun, HasTaken, text_behind, written}
-use Rattle.query_run.specs.declared.outcome.QueryErr.{QueryErr}
-use Rattle.query_run.specs.declared.outcome.QueryErr.TheVariants.{SinkFault}
+use Rattle.query_plan.specs.declared.outcome.QueryErr.{QueryErr}
+use Rattle.query_plan.specs.declared.outcome.QueryErr.TheVariants.{SinkFault}
 use Rattle.query_run.proofs.Sending.{front_on}
 
 -- the text of one row more

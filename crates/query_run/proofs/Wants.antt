@@ -30,7 +30,7 @@ use Rattle.query_run.specs.Plans.{shape_of}
 use Rattle.query_run.specs.Taking.{GroupGoes, GroupWants}
 use Rattle.query_run.specs.Through.{need, rows_through, weight_through}
 use Rattle.query_run.specs.Writing.{Begun, HasTaken, written}
-use Rattle.query_run.specs.declared.outcome.QueryErr.{QueryErr}
+use Rattle.query_plan.specs.declared.outcome.QueryErr.{QueryErr}
 use Rattle.query_run.proofs.Made.{slots_same}
 use Rattle.query_run.proofs.Weighing.{weighs_more}
 

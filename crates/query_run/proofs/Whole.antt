@@ -20,7 +20,7 @@ use Rattle.query_run.specs.Input.{IsAccepted, left_rows, passing}
 use Rattle.query_run.specs.Inside.{GoesOn}
 use Rattle.query_run.specs.Writing.{HoldsFor}
 use Rattle.query_run.specs.declared.feeding.Fed.{Fed}
-use Rattle.query_run.specs.declared.outcome.Ran.{Ran}
+use Rattle.query_plan.specs.declared.outcome.Ran.{Ran}
 
 -- the rows that were read are the input's, which is accepted, where its bytes are told
 abbrev pub AreRead : Query → ℕ → Option (List ℕ) → List (List Value) → Type 0

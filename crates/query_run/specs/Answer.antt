@@ -21,7 +21,7 @@ use Rattle.query_plan.specs.declared.plan.Query.{Query}
 use Rattle.query_run.specs.Both.{AreAccepted, Told, answered, right_passing, right_rows}
 use Rattle.query_run.specs.Input.{left_rows, passing}
 use Rattle.query_run.specs.Plans.{grouping_of, name_at, row_columns}
-use Rattle.query_run.specs.declared.outcome.Ran.{Ran}
+use Rattle.query_plan.specs.declared.outcome.Ran.{Ran}
 
 -- the name of an aggregate in the first line: `count`, or what is computed and of which column
 abbrev pub of_column : List ℕ → List Column → ℕ → List ℕ

@@ -7,8 +7,8 @@ use Rattle.csv_edge.specs.declared.refusal.InputErr.TheVariants as input
 use Rattle.reservation_tree.specs.declared.errors.PoolErr.{PoolErr}
 use Rattle.reservation_tree.specs.declared.errors.PoolErr.TheVariants.{Memory}
 use Rattle.query_plan.specs.declared.plan.Side.{Side}
-use Rattle.query_run.specs.declared.outcome.QueryErr.{QueryErr}
-use Rattle.query_run.specs.declared.outcome.QueryErr.TheVariants as query
+use Rattle.query_plan.specs.declared.outcome.QueryErr.{QueryErr}
+use Rattle.query_plan.specs.declared.outcome.QueryErr.TheVariants as query
 
 abbrev pub cause_of_input : Side → InputErr → QueryErr
 cause_of_input side input.Fault = query.SourceFault side

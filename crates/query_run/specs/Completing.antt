@@ -10,8 +10,8 @@ use Rattle.query_run.specs.Both.{AreAccepted, Told, both_told}
 use Rattle.query_run.specs.Refused.{SaysOfInputs, Source}
 use Rattle.query_run.specs.Stopped.{CountsSink, MayStop}
 use Rattle.query_run.specs.Through.{need}
-use Rattle.query_run.specs.declared.outcome.QueryErr.{QueryErr}
-use Rattle.query_run.specs.declared.outcome.QueryErr.TheVariants.{Pool, SinkFault}
+use Rattle.query_plan.specs.declared.outcome.QueryErr.{QueryErr}
+use Rattle.query_plan.specs.declared.outcome.QueryErr.TheVariants.{Pool, SinkFault}
 
 -- a source had no fault over a call
 abbrev pub IsQuiet : Source → Type 0

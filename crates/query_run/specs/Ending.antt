@@ -3,8 +3,8 @@ use Rattle.std.specs.Prelude.{◌≡◌, Option, Some, None, Result, Ok, Err, �
 use Rattle.reservation_tree.specs.declared.errors.PoolErr.TheVariants.{Memory}
 use Rattle.store_api.specs.declared.op_err.OpErr.{OpErr}
 use Rattle.store_api.specs.declared.op_err.OpErr.TheVariants as op
-use Rattle.query_run.specs.declared.outcome.QueryErr.{QueryErr}
-use Rattle.query_run.specs.declared.outcome.QueryErr.TheVariants as query
+use Rattle.query_plan.specs.declared.outcome.QueryErr.{QueryErr}
+use Rattle.query_plan.specs.declared.outcome.QueryErr.TheVariants as query
 
 -- what an error of a grouping is to its query
 abbrev pub cause_of_op : OpErr → QueryErr

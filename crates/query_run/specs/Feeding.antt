@@ -12,8 +12,8 @@ use Rattle.reservation_tree.specs.declared.errors.PoolErr.{PoolErr}
 use Rattle.query_run.specs.FedRows.{AreFed}
 use Rattle.query_run.specs.Plans.{kinds_of_columns}
 use Rattle.query_run.specs.Input.{IsAcceptedIn, passing_in, rows_read, weight_of}
-use Rattle.query_run.specs.declared.outcome.QueryErr.{QueryErr}
-use Rattle.query_run.specs.declared.outcome.QueryErr.TheVariants.{Pool, RowTooLong}
+use Rattle.query_plan.specs.declared.outcome.QueryErr.{QueryErr}
+use Rattle.query_plan.specs.declared.outcome.QueryErr.TheVariants.{Pool, RowTooLong}
 use Rattle.query_run.specs.declared.feeding.Fed.{Fed}
 
 -- a row that an operator takes: of its kinds, and with so many bytes more no longer than a page

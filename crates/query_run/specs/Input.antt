@@ -12,8 +12,8 @@ use Rattle.query_plan.specs.declared.plan.Side.{Side}
 use Rattle.query_plan.specs.declared.plan.Side.TheVariants.{Left}
 use Rattle.query_plan.specs.declared.plan.SidePlan.{SidePlan}
 use Rattle.query_run.specs.Causes.{cause_of_input}
-use Rattle.query_run.specs.declared.outcome.QueryErr.{QueryErr}
-use Rattle.query_run.specs.declared.outcome.QueryErr.TheVariants.{RowTooLong, TooLarge}
+use Rattle.query_plan.specs.declared.outcome.QueryErr.{QueryErr}
+use Rattle.query_plan.specs.declared.outcome.QueryErr.TheVariants.{RowTooLong, TooLarge}
 
 -- the most records of an input, the header among them
 abbrev pub most_records : ℕ

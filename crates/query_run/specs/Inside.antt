@@ -12,8 +12,8 @@ use Rattle.group_op.specs.Operator.{IsFeeding, IsOperator, Operator, bytes_for}
 use Rattle.join_op.specs.Operator.{bytes_of}
 use Rattle.query_plan.specs.declared.plan.Query.{Query}
 use Rattle.query_run.specs.Plans.{shape_of}
-use Rattle.query_run.specs.declared.outcome.QueryErr.{QueryErr}
-use Rattle.query_run.specs.declared.outcome.QueryErr.TheVariants.{Pool}
+use Rattle.query_plan.specs.declared.outcome.QueryErr.{QueryErr}
+use Rattle.query_plan.specs.declared.outcome.QueryErr.TheVariants.{Pool}
 use Rattle.reservation_tree.specs.declared.errors.PoolErr.{PoolErr}
 
 -- a client came that may use all of its reservation, which was room, and may reserve up to a limit; it has nothing, and

@@ -2,8 +2,8 @@
 use Rattle.std.specs.Prelude.{◌≡◌, ◌⊎◌, ◌++◌, ℕ, List, Option}
 use Rattle.std.specs.Io.KnownBytes.{Appends}
 use Rattle.reservation_tree.specs.declared.errors.PoolErr.TheVariants.{Memory}
-use Rattle.query_run.specs.declared.outcome.QueryErr.{QueryErr}
-use Rattle.query_run.specs.declared.outcome.QueryErr.TheVariants.{Pool, SinkFault}
+use Rattle.query_plan.specs.declared.outcome.QueryErr.{QueryErr}
+use Rattle.query_plan.specs.declared.outcome.QueryErr.TheVariants.{Pool, SinkFault}
 
 -- so much of a text was appended since a start that these bytes of it are left
 pub record HasSent (start now : Option (List ℕ)) (left text : List ℕ) : Type 0 where

@@ -9,7 +9,7 @@ use Rattle.query_plan.specs.declared.plan.SidePlan.{SidePlan}
 use Rattle.query_run.specs.Causes.{IsOfBytes, IsSourceFault, NamesInt, side_of}
 use Rattle.query_run.specs.Input.{IsAccepted, IsRefusalIn}
 use Rattle.query_run.specs.Plans.{kinds_of_columns}
-use Rattle.query_run.specs.declared.outcome.QueryErr.{QueryErr}
+use Rattle.query_plan.specs.declared.outcome.QueryErr.{QueryErr}
 
 -- an input over a call: its bytes and those that are left, where they are told, and its faults before and after
 pub record Source : Type 0 where

@@ -13,7 +13,7 @@ use Rattle.query_run.specs.Both.{Told}
 use Rattle.query_run.specs.Causes.{OfPool}
 use Rattle.query_run.specs.Through.{need, rows_through}
 use Rattle.query_run.specs.Trail.{ReservesFirst}
-use Rattle.query_run.specs.declared.outcome.QueryErr.{QueryErr}
+use Rattle.query_plan.specs.declared.outcome.QueryErr.{QueryErr}
 
 -- a store over which a plan may run: no client is live, and there is room for the least reservation
 pub record HasRoomFor (plan : Query) (h : Holdings) : Type 0 where

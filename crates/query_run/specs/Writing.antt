@@ -17,8 +17,8 @@ use Rattle.store_api.specs.declared.shapes.Shape.{Shape}
 use Rattle.query_run.specs.Answer.{group_rows, lines_of}
 use Rattle.query_run.specs.FedRows.{AreFed}
 use Rattle.query_run.specs.Parts.{FrontOf, HasSent, StopsWriting}
-use Rattle.query_run.specs.declared.outcome.QueryErr.{QueryErr}
-use Rattle.query_run.specs.declared.outcome.QueryErr.TheVariants.{SinkFault}
+use Rattle.query_plan.specs.declared.outcome.QueryErr.{QueryErr}
+use Rattle.query_plan.specs.declared.outcome.QueryErr.TheVariants.{SinkFault}
 
 -- a sink before a text: its bytes, where they are told, and its faults; what waits to be written before the first row, and
 -- the columns of numbers that are summed

@@ -8,10 +8,10 @@ ghost use Rattle.row_codec.specs.declared.values.Value.{Value};
 ghost use Rattle.row_codec.specs.declared.values.Agg.TheVariants.{Sum};
 ghost use Rattle.query_run.specs.Writing.{Begun, HasTaken, written};
 
-use crate::outcome::QueryErr;
 use crate::parts::Part;
 use group_rows::take_row;
 use outside::Sink;
+use query_plan::QueryErr;
 use reservation_tree::PoolErr;
 use row_codec::{Agg, Value};
 use std::alloc::Global;

@@ -26,11 +26,10 @@ ghost use Rattle.query_run.specs.Taking.{join_slots};
 
 use crate::feeding::AGGREGATE;
 use crate::grouping::of_op;
-use crate::outcome::QueryErr;
 use group_op::{GroupOp, law_asks_own};
 use join_op::JoinOp;
 use partition_stack::law_scratch;
-use query_plan::Query;
+use query_plan::{Query, QueryErr};
 use reservation_tree::PoolErr;
 use row_codec::{Value, encoded_len};
 use std::alloc::Global;

@@ -7,18 +7,17 @@ ghost use Rattle.row_codec.specs.Row.{kinds_of};
 ghost use Rattle.scan_filter.specs.Passes.{passes as passes_all};
 ghost use Rattle.store_api.specs.Holdings.{Holdings};
 ghost use Rattle.store_api.specs.Signs.{Signs};
-ghost use Rattle.query_run.specs.Causes.{OfPool};
+ghost use Rattle.query_run.specs.Causes.{OfPool, cause_of_input};
 ghost use Rattle.query_run.specs.Feeding.{AreFirstOf, HasFed, OfTaken, RefusesRow};
 ghost use Rattle.query_run.specs.Input.{weight_of};
 ghost use Rattle.query_run.specs.Plans.{IsSide, kinds_of_columns};
 ghost use Rattle.query_run.specs.Refused.{SaysOfSide, source as source_over};
 ghost use Rattle.query_run.specs.Taking.{TakesStill};
 
-use crate::outcome::QueryErr;
 use crate::takes::Takes;
-use csv_edge::Rows;
+use csv_edge::{InputErr, Rows};
 use outside::Source;
-use query_plan::{Query, Side, SidePlan};
+use query_plan::{Query, QueryErr, Side, SidePlan};
 use reservation_tree::PoolErr;
 use row_codec::{Value, encoded_len};
 use scan_filter::passes;
@@ -35,7 +34,7 @@ const MOST_BYTES: u64 = 1099511627776;
 pub(crate) const AGGREGATE: u64 = 16;
 
 // How many rows were read, and how many of them passed the filter.
-#[derive(Clone, Copy, Debug, PartialEq, Eq)]
+#[derive(Clone, Copy)]
 pub(crate) struct Fed {
     pub(crate) read: u64,
     pub(crate) kept: u64,
@@ -79,14 +78,14 @@ pub(crate) fn feed_side<St: Store, T: Takes<St>, S: Source>(
     let mut rows = Rows::of(source);
     let columns = asked.columns.as_slice();
     if let Err(e) = rows.start(alloc, columns, MOST_RECORDS, MOST_BYTES) {
-        return Err(QueryErr::of_input(side, e));
+        return Err(cause_of(side, e));
     }
     let mut fed = Fed { read: 0, kept: 0 };
     loop {
         match rows.next_into(&mut row) {
             Ok(true) => (),
             Ok(false) => return Ok(fed),
-            Err(e) => return Err(QueryErr::of_input(side, e)),
+            Err(e) => return Err(cause_of(side, e)),
         }
         fed.read += 1;
         if feed_row(alloc, store, op, plan, side, asked, page, fed.read, &row)? {
@@ -157,4 +156,22 @@ fn weight(plan: &Query, row: &[Value]) -> u64
         1
     };
     once.saturating_mul(operators)
+}
+
+// What the refusal of an input is to the query that reads it.
+fn cause_of(side: Side, e: InputErr) -> QueryErr
+    ensures { result ≡ cause_of_input side e }
+{
+    match e {
+        InputErr::Fault => QueryErr::SourceFault { side },
+        InputErr::Header => QueryErr::BadHeader { side },
+        InputErr::Csv { number } => QueryErr::BadCsv { side, number },
+        InputErr::Field { number, column } => QueryErr::BadField {
+            side,
+            number,
+            column,
+        },
+        InputErr::TooLarge => QueryErr::TooLarge { side },
+        InputErr::Memory => QueryErr::Pool(PoolErr::Memory),
+    }
 }

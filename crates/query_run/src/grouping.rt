@@ -28,18 +28,17 @@ ghost use Rattle.query_run.specs.Writing.{HasTaken, HasTakenGroups, HasTakenSome
 
 use crate::answering::{AnswerLines, Start, Taker};
 use crate::header::header_row;
-use crate::outcome::{QueryErr, Ran, Totals};
 use crate::parts::Part;
 use group_op::GroupOp;
 use outside::Sink;
-use query_plan::Query;
+use query_plan::{Query, QueryErr, Ran, Totals};
 use row_codec::{Agg, Memory};
 use std::alloc::Global;
 use std::marker::{Brand, PhantomData};
 use store_api::{OpErr, Store};
 
 // How many rows were read of each side, and how many passed the filters.
-#[derive(Clone, Copy, Debug, PartialEq, Eq)]
+#[derive(Clone, Copy)]
 pub(crate) struct Read {
     pub(crate) left: u64,
     pub(crate) right: u64,

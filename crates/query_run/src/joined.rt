@@ -24,19 +24,18 @@ ghost use Rattle.query_run.specs.Trail.{KeptRows};
 use crate::client::own_client;
 use crate::feeding::{Fed, feed_side};
 use crate::grouped::kinds_of;
-use crate::outcome::{QueryErr, Ran};
 use crate::pairs::write_pairs;
 use crate::takes::{Lefts, Rights};
 use join_op::{JoinOp, law_starts};
 use outside::{Sink, Source};
-use query_plan::{Query, Side, SidePlan, least};
+use query_plan::{Query, QueryErr, Ran, Side, SidePlan, least};
 use reservation_tree::PoolErr;
 use row_codec::Memory;
 use std::alloc::Global;
 use store_api::{Client, JoinShape, Listed, Store};
 
 // What was read of both sides, and fed.
-#[derive(Clone, Copy, Debug, PartialEq, Eq)]
+#[derive(Clone, Copy)]
 pub(crate) struct BothFed {
     pub(crate) left: Fed,
     pub(crate) right: Fed,

@@ -16,13 +16,11 @@ mod grouping;
 mod header;
 mod joined;
 mod laws;
-mod outcome;
 mod pairs;
 mod parts;
 mod run;
 mod takes;
 
 pub use laws::{law_completes, law_spill};
-pub use outcome::{QueryErr, Ran, Totals};
-pub use query_plan::Side;
+pub use query_plan::{QueryErr, Ran, Side, Totals};
 pub use run::run_query;

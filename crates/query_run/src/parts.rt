@@ -8,9 +8,9 @@ ghost use Rattle.row_codec.specs.declared.values.Value.{Value};
 ghost use Rattle.csv_edge.specs.Lines.{line_of};
 ghost use Rattle.query_run.specs.Parts.{FrontOf, HasSent, StopsWriting};
 
-use crate::outcome::QueryErr;
 use csv_edge::{Lines, write_whole};
 use outside::{Failed, Sink};
+use query_plan::QueryErr;
 use row_codec::{Memory, Value};
 use std::alloc::Global;
 use std::mem;

@@ -15,9 +15,8 @@ ghost use Rattle.query_run.specs.Trail.{KeptRows};
 use crate::both::run_both;
 use crate::grouped::run_grouped;
 use crate::joined::run_joined;
-use crate::outcome::{QueryErr, Ran};
 use outside::{Sink, Source};
-use query_plan::Query;
+use query_plan::{Query, QueryErr, Ran};
 use std::alloc::Global;
 use store_api::Store;
 
@@ -39,10 +38,15 @@ use store_api::Store;
 ///
 /// # Errors
 ///
-/// Those of the inputs, each with its place; `SinkFault`; and `Pool`, where the store answered so in this call or
-/// there was no memory: a growth of a client that is refused is no error, and there are few clients. Whatever the query
-/// does, `ScratchFull` names the blocks of a page and what is left of the slots that were free at the start; it comes only
-/// where these were too few for the pages that the query needs.
+/// Those of the inputs, each with its place: nothing was written then. `SinkFault`: a write failed. `Pool`, where the store
+/// answered so in this call or there was no memory. It is never `NoReservation` or `TooManyTrackers`: a growth of a client
+/// that is refused is no error, and there are few clients. Whatever the query does, `ScratchFull` names the blocks of a page
+/// and what is left of the slots that were free at the start; it comes only where these were too few for the pages that the
+/// query needs.
+///
+/// After `SinkFault` the sink has a front of the answer, and nothing behind the first failed write. After `Pool` it is as it
+/// was, or all inputs were read to their ends and it has a front of the answer. Which bytes these are is said where the store
+/// tells what a pin shows.
 pub fn run_query<St: Store, S: Source, K: Sink>(
     alloc: Global,
     store: &mut St,

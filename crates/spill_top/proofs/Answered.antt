@@ -15,7 +15,7 @@ use Rattle.query_run.specs.Answer.{WroteAnswer, WroteFront}
 use Rattle.query_run.specs.Both.{HoldsInput, Told, both_told, faults_in, told_in}
 use Rattle.query_run.specs.Causes.{OfPool, side_of}
 use Rattle.query_run.specs.Input.{IsAccepted, IsRefusal, IsRefusalIn}
-use Rattle.query_run.specs.declared.outcome.QueryErr.{QueryErr}
+use Rattle.query_plan.specs.declared.outcome.QueryErr.{QueryErr}
 use Rattle.spill_top.specs.declared.ending.Ending.{Ending}
 use Rattle.spill_top.specs.declared.ending.Ending.TheVariants.{Lines, Stopped}
 use Rattle.spill_top.specs.Pooled.{HaveFailed, IsSharedStop, all_tell}

@@ -16,9 +16,9 @@ use Rattle.query_run.specs.Refused.{SaysOfInputs, source}
 use Rattle.query_run.specs.Stopped.{RanOver}
 use Rattle.spill_top.specs.Unmarked.{MayStopUnmarked}
 use Rattle.query_run.specs.Trail.{KeptRows}
-use Rattle.query_run.specs.declared.outcome.QueryErr.{QueryErr}
-use Rattle.query_run.specs.declared.outcome.QueryErr.TheVariants as cause
-use Rattle.query_run.specs.declared.outcome.Ran.{Ran}
+use Rattle.query_plan.specs.declared.outcome.QueryErr.{QueryErr}
+use Rattle.query_plan.specs.declared.outcome.QueryErr.TheVariants as cause
+use Rattle.query_plan.specs.declared.outcome.Ran.{Ran}
 use Rattle.spill_top.specs.declared.ending.Ending.{Ending}
 use Rattle.spill_top.specs.declared.ending.Ending.TheVariants.{Lines, Stopped}
 use Rattle.spill_top.specs.declared.job.Job.{Job}

@@ -9,7 +9,7 @@ use Rattle.std.proofs.lemmas.Slice.Eq.{bytes_eq-Decides}
 use Rattle.toml.specs.Data.{Members}
 use Rattle.query_plan.specs.Faults.{first_from, table_fault}
 use Rattle.query_plan.specs.Keys.{top_rows}
-use Rattle.query_plan.specs.PlanOf.{document_of, output_fault, plan_fault, plan_in, plan_of, plan_of_table, plan_or, quota_fault, writes}
+use Rattle.query_plan.specs.PlanOf.{document_of, output_fault, plan_fault, plan_in, plan_of, plan_of_table, plan_or, quota_fault, trace_fault, writes}
 use Rattle.query_plan.specs.declared.error.PlanErr.{PlanErr}
 use Rattle.query_plan.specs.declared.error.PlanErr.TheVariants.{Limit}
 use Rattle.query_plan.specs.declared.plan.Plan.{Plan}
@@ -75,8 +75,9 @@ of-plan : (slots : ℕ) (entries : Members) (fault : Option PlanErr) (plan : Pla
 of-plan slots entries (Some fault) plan is made = cc
 of-plan slots entries None plan is made =
     let queries = (plan_in entries).queries in
-    let rest = none-then (table_fault top_rows [] entries) (option_or (first_from (output_fault queries) 0 queries) (quota_fault slots queries)) is in
-    let clear = none-first (first_from (output_fault queries) 0 queries) (quota_fault slots queries) rest in
+    let behind = option_or (trace_fault queries (plan_in entries).trace) (quota_fault slots queries) in
+    let rest = none-then (table_fault top_rows [] entries) (option_or (first_from (output_fault queries) 0 queries) behind) is in
+    let clear = none-first (first_from (output_fault queries) 0 queries) behind rest in
     let same : plan_in entries ≡ plan = cc in
     subst (λ (p : Plan). AreApart p.queries) same (apart-of queries clear)
 

@@ -9,8 +9,8 @@ use Rattle.query_run.specs.Both.{Told}
 use Rattle.query_run.specs.Through.{need, rows_through}
 use Rattle.query_run.specs.Causes.{IsOfBytes, IsSourceFault, OfPool}
 use Rattle.query_run.specs.Input.{IsRefusal}
-use Rattle.query_run.specs.declared.outcome.QueryErr.{QueryErr}
-use Rattle.query_run.specs.declared.outcome.QueryErr.TheVariants as query
+use Rattle.query_plan.specs.declared.outcome.QueryErr.{QueryErr}
+use Rattle.query_plan.specs.declared.outcome.QueryErr.TheVariants as query
 use Rattle.spill_top.specs.declared.report.Refusal.{Refusal}
 use Rattle.spill_top.specs.declared.report.Refusal.TheVariants.{InputFault, Header, Csv, Large, Row, Scratch, Names, Write, Read}
 use Rattle.spill_top.specs.Counting.{counting}

@@ -9,8 +9,8 @@ use Rattle.reservation_tree.specs.declared.errors.PoolErr.TheVariants as pool
 use Rattle.scan_filter.specs.Passes.{passes}
 use Rattle.query_run.specs.Input.{left_rows, passing}
 use Rattle.query_run.specs.Through.{need, rows_through}
-use Rattle.query_run.specs.declared.outcome.QueryErr.{QueryErr}
-use Rattle.query_run.specs.declared.outcome.QueryErr.TheVariants as query
+use Rattle.query_plan.specs.declared.outcome.QueryErr.{QueryErr}
+use Rattle.query_plan.specs.declared.outcome.QueryErr.TheVariants as query
 use Rattle.spill_top.specs.declared.ending.Ending.{Ending}
 use Rattle.spill_top.specs.declared.ending.Ending.TheVariants.{Lines, Reservation, Stopped}
 use Rattle.spill_top.specs.declared.words.Check.{Check}

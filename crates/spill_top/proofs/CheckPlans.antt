@@ -19,9 +19,9 @@ use Rattle.query_run.specs.Causes.{OfPool}
 use Rattle.query_run.specs.Input.{IsRefusal}
 use Rattle.query_run.specs.Plans.{IsAbout, IsRunnable, IsSide}
 use Rattle.query_run.specs.Refused.{SaysOfInputs, Source, source}
-use Rattle.query_run.specs.declared.outcome.QueryErr.{QueryErr}
-use Rattle.query_run.specs.declared.outcome.QueryErr.TheVariants as query
-use Rattle.query_run.specs.declared.outcome.Ran.{Ran}
+use Rattle.query_plan.specs.declared.outcome.QueryErr.{QueryErr}
+use Rattle.query_plan.specs.declared.outcome.QueryErr.TheVariants as query
+use Rattle.query_plan.specs.declared.outcome.Ran.{Ran}
 use Rattle.spill_top.specs.CheckPlan.{IsInRange, checking, checking_conf, refused_of, table_if, table_of}
 use Rattle.spill_top.specs.Checking.{IsCheckStop}
 use Rattle.spill_top.specs.Headline.{page_bytes}

@@ -9,7 +9,7 @@ use Rattle.pool_model.specs.State.{Opening}
 use Rattle.pool_model.specs.declared.entry.Entry.{Entry}
 use Rattle.pin_core.specs.Setup.{IsOpeningOf}
 use Rattle.pin_core.specs.declared.conf.PoolConf.{PoolConf}
-use Rattle.pin_core.specs.Tallies.{all_failures, tally_of, written_blocks}
+use Rattle.pin_core.specs.Tallies.{all_failures, all_stale, tally_of, written_blocks}
 use Rattle.pin_core.specs.declared.tally.Tally.{Tally}
 use Rattle.pool.specs.declared.item.Item.{Item}
 use Rattle.pool.specs.Items.{history, own_in}
@@ -24,8 +24,8 @@ use Rattle.query_run.specs.Both.{both_told}
 use Rattle.query_run.specs.Causes.{OfPool}
 use Rattle.query_run.specs.Plans.{IsRunnable}
 use Rattle.query_run.specs.Spilling.{KeptIsLaid}
-use Rattle.query_run.specs.declared.outcome.QueryErr.{QueryErr}
-use Rattle.query_run.specs.declared.outcome.Ran.{Ran}
+use Rattle.query_plan.specs.declared.outcome.QueryErr.{QueryErr}
+use Rattle.query_plan.specs.declared.outcome.Ran.{Ran}
 use Rattle.spill_top.specs.Pooled.{ComeBack, HaveFailed, IsPoolStop, MaySpendNames, all_tell, memory_of}
 use Rattle.spill_top.specs.Seated.{RanIfSeated, SatAlone}
 use Rattle.spill_top.specs.Sides.{if_told}
@@ -41,7 +41,7 @@ module _ {D : Type 0} (slot : Ghosts D) (o : Opening) (told : Bool) (first : Tal
 
   -- all slots are there again
   pub slots_back : ComeBack first (tally_of slot slots)
-  slots_back = less (all_failures whole) (written_blocks whole) first (tally_of slot slots) closed.counted
+  slots_back = less (all_failures whole) (written_blocks whole) (all_stale whole) first (tally_of slot slots) closed.counted
 
   module _ (limit quota least : ℕ) (sat : SatAlone o told limit quota least pass) where
     -- the pool's history has the session's entries
@@ -65,7 +65,7 @@ module _ {D : Type 0} (slot : Ghosts D) (o : Opening) (told : Bool) (first : Tal
           (made_alone slot o told first pass slots closed plan.limit quota (least_of plan o.block_len) sat law)
           (λ is. alone.over.made (tells is)) in
           IfErr-weaker result _ _
-          (λ e may. pool_stop plan (page_len plan o.block_len) quota (both_told lefts rights) (held_by o told sat.first) (signs_by o sat.first) (signs_by o sat.last) (all_failures whole) (written_blocks whole) first (tally_of slot slots) e closed.counted
+          (λ e may. pool_stop plan (page_len plan o.block_len) quota (both_told lefts rights) (held_by o told sat.first) (signs_by o sat.first) (signs_by o sat.last) (all_failures whole) (written_blocks whole) (all_stale whole) first (tally_of slot slots) e closed.counted
           (failures_told o sat.last.number (history sat.last.spot.knows.seen) (history (behind slot o told first pass slots closed plan.limit quota (least_of plan o.block_len) sat)) whole (whole_on slot o told first pass slots closed plan.limit quota (least_of plan o.block_len) sat))
           sat.begun.free_slots (ap (page_len plan) sat.begun.block_len) tells names may) alone.stop
     ]

@@ -14,7 +14,7 @@ use Rattle.query_plan.specs.declared.plan.Query.{Query}
 use Rattle.query_run.specs.Causes.{IsOfBytes}
 use Rattle.query_run.specs.Input.{IsRefusal}
 use Rattle.query_run.specs.Plans.{IsAbout, IsRunnable, IsSide}
-use Rattle.query_run.specs.declared.outcome.QueryErr.{QueryErr}
+use Rattle.query_plan.specs.declared.outcome.QueryErr.{QueryErr}
 use Rattle.spill_top.specs.Counting.{counting, counting_conf}
 use Rattle.spill_top.specs.Headline.{page_bytes}
 use Rattle.spill_top.specs.Pooled.{HasMemoryFor}

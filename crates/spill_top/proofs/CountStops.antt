@@ -18,8 +18,8 @@ use Rattle.query_plan.specs.declared.plan.Query.{Query}
 use Rattle.query_run.specs.Both.{Told, both_told}
 use Rattle.query_run.specs.Causes.{OfPool, side_of}
 use Rattle.query_run.specs.Through.{need}
-use Rattle.query_run.specs.declared.outcome.QueryErr.{QueryErr}
-use Rattle.query_run.specs.declared.outcome.QueryErr.TheVariants as query
+use Rattle.query_plan.specs.declared.outcome.QueryErr.{QueryErr}
+use Rattle.query_plan.specs.declared.outcome.QueryErr.TheVariants as query
 use Rattle.spill_top.specs.Counting.{counting, counting_conf}
 use Rattle.spill_top.specs.Headline.{IsCause, StoresCount, page_bytes, told_with}
 use Rattle.spill_top.specs.OneInput.{WroteAnswerOver, WroteFrontOver}

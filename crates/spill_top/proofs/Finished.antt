@@ -10,7 +10,7 @@ use Rattle.query_plan.specs.declared.plan.Side.{Side}
 use Rattle.query_run.specs.Answer.{IsAnswer, WroteFront}
 use Rattle.query_run.specs.Both.{Told}
 use Rattle.query_run.specs.Causes.{side_of}
-use Rattle.query_run.specs.declared.outcome.QueryErr.TheVariants.{SinkFault}
+use Rattle.query_plan.specs.declared.outcome.QueryErr.TheVariants.{SinkFault}
 use Rattle.spill_top.specs.declared.ending.Ending.{Ending}
 use Rattle.spill_top.specs.declared.ending.Ending.TheVariants.{Lines, Reservation, Stopped}
 use Rattle.spill_top.specs.Endings.{is_answer}

@@ -64,10 +64,10 @@ stops-as start at now block_len all query h old new same is = record {
 
 -- slots of which nothing is known
 abbrev pub unknown : Tally
-unknown = record { faults = 0; stuck = 1; stores = 0; uncounted = 1; silent = 1; slots = 0 }
+unknown = record { faults = 0; stuck = 1; stores = 0; uncounted = 1; strays = 0; unstrayed = 1; silent = 1; slots = 0 }
 
-unknown-counts : (failures blocks : ℕ) → Counted failures blocks unknown unknown
-unknown-counts failures blocks = record { never_fall = omega arith; failed = λ is. absurd (omega (arith, is)); stays = omega arith; stores = λ is. absurd (omega (arith, is)); short = omega arith; silent = refl; slots = refl }
+unknown-counts : (failures blocks stale : ℕ) → Counted failures blocks stale unknown unknown
+unknown-counts failures blocks stale = record { never_fall = omega arith; failed = λ is. absurd (omega (arith, is)); stays = omega arith; stores = λ is. absurd (omega (arith, is)); short = omega arith; strays = λ is. absurd (omega (arith, is)); loose = omega arith; silent = refl; slots = refl }
 
 module _ {S K St : Type 0} (remaining : S → Option (List ℕ)) (reads : S → ℕ) (contents : K → Option (List ℕ)) (writes : K → ℕ) (o : Opening) (told : Bool) (see : St → Sitting) where
   abbrev works : List (Job S K St) → List Work
@@ -115,8 +115,8 @@ module _ {S K St : Type 0} (remaining : S → Option (List ℕ)) (reads : S → 
     told = λ is. absurd (false≢true is);
     block_len_is = begun.block_len;
     stop = λ both why may.
-        shared_stop query (page_len query o.block_len) query.quota both (SomeSpends queries (with_slots unknown start)) (held_by o told stay.first) (signs_by o stay.first) (signs_by o stay.last) (signs_by o stay.last).failures 0 unknown unknown
-        (unknown-counts (signs_by o stay.last).failures 0) (omega arith) begun.free_slots (ap (page_len query) begun.block_len) (λ is. absurd (false≢true is)) (λ spent. (place, query, at_query, tt)) why may;
+        shared_stop query (page_len query o.block_len) query.quota both (SomeSpends queries (with_slots unknown start)) (held_by o told stay.first) (signs_by o stay.first) (signs_by o stay.last) (signs_by o stay.last).failures 0 0 unknown unknown
+        (unknown-counts (signs_by o stay.last).failures 0 0) (omega arith) begun.free_slots (ap (page_len query) begun.block_len) (λ is. absurd (false≢true is)) (λ spent. (place, query, at_query, tt)) why may;
   }
 
   -- how those are refused that were answered

@@ -7,7 +7,7 @@ use Rattle.query_run.specs.Causes.{IsOfBytes, IsSourceFault, NamesInt}
 use Rattle.query_run.specs.Input.{IsRefusal}
 use Rattle.query_run.specs.Plans.{kinds_of_columns}
 use Rattle.query_run.specs.Refused.{SaysOfInputs, Source, source}
-use Rattle.query_run.specs.declared.outcome.QueryErr.{QueryErr}
+use Rattle.query_plan.specs.declared.outcome.QueryErr.{QueryErr}
 use Rattle.query_run.proofs.Alone.{says_alone}
 
 -- it doesn't join, so no source stands there

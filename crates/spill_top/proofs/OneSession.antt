@@ -34,8 +34,8 @@ use Rattle.query_run.specs.Both.{both_told}
 use Rattle.query_run.specs.Stopped.{IsLeft, RanOver}
 use Rattle.spill_top.specs.Unmarked.{MayStopUnmarked}
 use Rattle.query_run.specs.Trail.{KeptRows}
-use Rattle.query_run.specs.declared.outcome.QueryErr.{QueryErr}
-use Rattle.query_run.specs.declared.outcome.Ran.{Ran}
+use Rattle.query_plan.specs.declared.outcome.QueryErr.{QueryErr}
+use Rattle.query_plan.specs.declared.outcome.Ran.{Ran}
 use Rattle.spill_top.specs.Beside.{Waits}
 use Rattle.spill_top.specs.Seated.{RanAlone, SatAlone}
 use Rattle.spill_top.proofs.Arrived.{all_more}

@@ -1,5 +1,6 @@
 -- What a pool answers to the asks of a plan's queries.
-use Rattle.std.proofs.Common.{◌≡◌, ◌∙◌, ◌≤◌, ℕ, Bool, List, [], ◌∷◌, Option, Result, All, length, map, refl, sym, ap, subst, arith}
+use Rattle.std.proofs.Common.{◌≡◌, ◌∙◌, ◌≤◌, ◌+◌, ◌*◌, ℕ, Bool, true, false, List, [], ◌∷◌, Option, Result, All, length, map, refl, sym, ap, subst, arith}
+use Rattle.std.specs.Prelude.{nat_le, if◌then◌else◌}
 use Rattle.std.specs.List.{AllByRecursion, sum_by}
 use Rattle.std.specs.Option.{option_map}
 use Rattle.std.proofs.lemmas.List.{length-map}
@@ -17,6 +18,7 @@ use Rattle.pool.specs.Remaining as remaining
 use Rattle.pool.specs.Seating.{state_in}
 use Rattle.pool.specs.Sitting.{Sitting}
 use Rattle.query_plan.specs.declared.plan.Query.{Query}
+use Rattle.query_plan.specs.Sizes.{slots_of}
 use Rattle.spill_top.specs.Jobs.{Work, begun, work_of}
 use Rattle.spill_top.specs.Reserving.{refusals}
 use Rattle.spill_top.specs.Together.{ask_of, ending_of, job_with}
@@ -39,6 +41,20 @@ quotas_are block_len (query ∷ queries) =
     let split = sum_by-cons (λ (q : Query). q.quota) query queries in
     let rest = quotas_are block_len queries in
     omega (arith, split, rest)
+
+-- the quotas of one session each are no more than those of all sessions
+once : (test : Bool) (fragments quota : ℕ) → quota ≤ quota * (if test then 1 else fragments + 1)
+once true fragments quota = omega arith
+once false fragments quota = omega arith
+
+pub quotas_once : (queries : List Query) → sum_by (λ query. query.quota) queries ≤ sum_by slots_of queries
+quotas_once [] = omega arith
+quotas_once (query ∷ queries) =
+    let one = sum_by-cons (λ (q : Query). q.quota) query queries in
+    let all = sum_by-cons slots_of query queries in
+    let here : query.quota ≤ slots_of query = once (nat_le query.fragments 1) query.fragments query.quota in
+    let rest = quotas_once queries in
+    omega (arith, one, all, here, rest)
 
 module _ {V St : Type 0} (items : V → List St) (see : St → Sitting) (o : Opening) (told : Bool) (before mid : Spot Item) (queries : List Query) (asks : List Ask) (asks_are : asks ≡ map (ask_of o.block_len) queries) (few : length queries ≤ 16)
     (answers : List (Result V PoolErr)) (admits : Admits o told asks before mid (map (seen_in items see) answers)) (fresh : map refusal_in (map (seen_in items see) answers) ≡ remaining.refusals asks (all_left o)) where

@@ -29,7 +29,7 @@ pub opening_so : (conf : PoolConf) (count : ℕ) (o : Opening) → IsOpeningOf c
 opening_so conf count o is = record { blocks = is.blocks; block_len = is.block_len; first_name = is.first_name; marked = is.marked; slots = refl }
 
 module _ {D : Type 0} (slot : Ghosts D) (o : Opening) (told : Bool) (first : Tally) (pass : Spot Item) (slots : List D) (closed : ClosesWith slot o told first pass slots) (count : ℕ) (plan : Plan) (rules : KeepsRules count plan)
-    (many : ℕ) (opening : IsOpeningOf (record { blocks = plan.blocks; block_len = plan.block_len; first_name = 0; profile = 1 }) many o) (before : Tally) (tell : told ≡ all_tell before) (same : first ≡ before)
+    (many : ℕ) (opening : IsOpeningOf (record { blocks = plan.blocks; block_len = plan.block_len; first_name = 0; profile = 1; trace = 0 }) many o) (before : Tally) (tell : told ≡ all_tell before) (same : first ≡ before)
     (files : List ℕ → Option (List ℕ)) (reads : List ℕ → ℕ) (written : List ℕ → Option Written) (created : List ℕ → Bool) (writes : List ℕ → ℕ)
     (files_now : List ℕ → Option (List ℕ)) (reads_now : List ℕ → ℕ) (written_now : List ℕ → Option Written) (created_now : List ℕ → Bool) (writes_now : List ℕ → ℕ)
     {V : Type 0} (items : V → List Ending) where

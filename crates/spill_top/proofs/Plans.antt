@@ -34,7 +34,7 @@ pub fits_memory : (slots : ℕ) (plan : Plan) → KeepsRules slots plan → plan
 fits_memory slots plan keeps = let most = keeps.memory in let up : 2 ^ 32 ≡ 4294967296 = refl in omega (arith, most, up)
 
 -- a pool opens with them
-pub opens_with : (slots : ℕ) (plan : Plan) → KeepsRules slots plan → OpensWith (record { blocks = plan.blocks; block_len = plan.block_len; first_name = 0; profile = 1 })
+pub opens_with : (slots : ℕ) (plan : Plan) → KeepsRules slots plan → OpensWith (record { blocks = plan.blocks; block_len = plan.block_len; first_name = 0; profile = 1; trace = 0 })
 unfolding bytes_of
 opens_with slots plan keeps = record { block_len = block_len_of plan.block_len keeps.block_len; some = keeps.blocks.0; blocks = keeps.blocks.1; memory = keeps.memory; profile = inl refl }
 

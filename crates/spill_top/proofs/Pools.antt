@@ -24,15 +24,15 @@ use Rattle.query_run.specs.Causes.{OfPool}
 use Rattle.query_run.specs.Stopped.{IsWant, IsWantBelow, MakesFew}
 use Rattle.spill_top.specs.Unmarked.{MayStopUnmarked, StoppedUnmarked}
 use Rattle.query_run.specs.Through.{need, rows_through}
-use Rattle.query_run.specs.declared.outcome.QueryErr.{QueryErr}
-use Rattle.query_run.specs.declared.outcome.QueryErr.TheVariants as query
+use Rattle.query_plan.specs.declared.outcome.QueryErr.{QueryErr}
+use Rattle.query_plan.specs.declared.outcome.QueryErr.TheVariants as query
 use Rattle.spill_top.specs.Pooled.{ComeBack, HaveFailed, IsPoolStop, MaySpendNames, all_tell}
 use Rattle.spill_top.specs.Sides.{if_told}
 
 -- slots with the same sums
 pub same_slots : {D : Type 0} (slot : Ghosts D) (before now : List D) → ((measure : D → ℕ) → sum_by measure now ≡ sum_by measure before) → ComeBack (tally_of slot before) (tally_of slot now)
 same_slots slot before now same =
-    subst (Counted 0 0 (tally_of slot before)) (tally_same slot (λ measure. sum_by measure before) (λ measure. sum_by measure now) (λ measure. sym (same measure))) (uncounted_yet (tally_of slot before))
+    subst (Counted 0 0 0 (tally_of slot before)) (tally_same slot (λ measure. sum_by measure before) (λ measure. sum_by measure now) (λ measure. sym (same measure))) (uncounted_yet (tally_of slot before))
 
 ones : {D : Type 0} (xs : List D) → sum_by (λ d. 1) xs ≡ length xs
 ones [] = refl
@@ -50,20 +50,22 @@ pub as_many : {D : Type 0} (slot : Ghosts D) (before now : List D) → ComeBack 
 as_many slot before now back = sym (ones now) ∙ back.slots ∙ ones before
 
 -- what was counted beside failures and stores
-pub less : (failures blocks : ℕ) (before now : Tally) → Counted failures blocks before now → ComeBack before now
-less failures blocks before now counted = record {
+pub less : (failures blocks stale : ℕ) (before now : Tally) → Counted failures blocks stale before now → ComeBack before now
+less failures blocks stale before now counted = record {
   never_fall = counted.never_fall;
   failed = λ free. let more = counted.failed free in omega (arith, more);
   stays = counted.stays;
   stores = λ all. let more = counted.stores all in omega (arith, more);
   short = counted.short;
+  strays = λ all. let more = counted.strays all in omega (arith, more);
+  loose = counted.loose;
   silent = counted.silent;
   slots = counted.slots;
 }
 
 -- a failure that the pool shows is one of its slots
-pub failed : (old new : Signs) (failures blocks : ℕ) (before now : Tally) → Counted failures blocks before now → new.failures ≤ failures → old.failures < new.failures → HaveFailed before now
-failed old new failures blocks before now counted told rose = λ free.
+pub failed : (old new : Signs) (failures blocks stale : ℕ) (before now : Tally) → Counted failures blocks stale before now → new.failures ≤ failures → old.failures < new.failures → HaveFailed before now
+failed old new failures blocks stale before now counted told rose = λ free.
     let more = counted.failed free in
     omega (arith, rose, told, more)
 
@@ -105,31 +107,31 @@ lacks-slots plan page quota told start blocks free is paged enough =
     subst (λ (n : ℕ). IfSome told (λ both. quota < need plan n both * plan.page_blocks)) paged
     (subst (λ (o : Option ℕ). IfSome told (λ both. IfSome o (λ n. n < need plan (page_len plan start.block_len) both * plan.page_blocks))) is enough)
 
-stop : (plan : Query) (page quota : ℕ) (told : Option Told) (tell : Bool) (start : Holdings) (old new : Signs) (failures blocks : ℕ) (before now : Tally) (e : PoolErr) → Counted failures blocks before now → new.failures ≤ failures
+stop : (plan : Query) (page quota : ℕ) (told : Option Told) (tell : Bool) (start : Holdings) (old new : Signs) (failures blocks stale : ℕ) (before now : Tally) (e : PoolErr) → Counted failures blocks stale before now → new.failures ≤ failures
     → start.free_slots ≡ Some quota → page_len plan start.block_len ≡ page → (tell ≡ true → start.told ≡ true) → (new.spent ≡ true → MaySpendNames plan (if_told tell told))
     → StoppedUnmarked plan told start old new e → IsPoolStop plan page (if_told tell told) quota (HaveFailed before now) e
-stop plan page quota told tell start old new failures blocks before now (pool.NoReservation tracker wanted room) counted fails free paged tells names stopped = absurd stopped.by_store.answered
-stop plan page quota told tell start old new failures blocks before now (pool.ScratchFull lacks left) counted fails free paged tells names stopped = (
+stop plan page quota told tell start old new failures blocks stale before now (pool.NoReservation tracker wanted room) counted fails free paged tells names stopped = absurd stopped.by_store.answered
+stop plan page quota told tell start old new failures blocks stale before now (pool.ScratchFull lacks left) counted fails free paged tells names stopped = (
   subst (λ (o : Option ℕ). IsWant plan.page_blocks o (pool.ScratchFull lacks left)) free stopped.by_store.want,
   if-tells tell told _ (λ does. lacks-slots plan page quota told start lacks left free paged (stopped.by_store.enough (tells does))),
 )
-stop plan page quota told tell start old new failures blocks before now (pool.WriteFault entry) counted fails free paged tells names stopped = let answered = stopped.by_store.answered in failed old new failures blocks before now counted fails answered.rose
-stop plan page quota told tell start old new failures blocks before now (pool.ReadFault entry) counted fails free paged tells names stopped = let answered = stopped.by_store.answered in failed old new failures blocks before now counted fails answered.rose
-stop plan page quota told tell start old new failures blocks before now (pool.TooManyTrackers count) counted fails free paged tells names stopped = absurd stopped.by_store.answered
-stop plan page quota told tell start old new failures blocks before now pool.NamesSpent counted fails free paged tells names stopped = names stopped.by_store.answered
-stop plan page quota told tell start old new failures blocks before now pool.Memory counted fails free paged tells names stopped = tt
-stop plan page quota told tell start old new failures blocks before now (pool.Stale wanted found) counted fails free paged tells names stopped = absurd stopped.unmarked
+stop plan page quota told tell start old new failures blocks stale before now (pool.WriteFault entry) counted fails free paged tells names stopped = let answered = stopped.by_store.answered in failed old new failures blocks stale before now counted fails answered.rose
+stop plan page quota told tell start old new failures blocks stale before now (pool.ReadFault entry) counted fails free paged tells names stopped = let answered = stopped.by_store.answered in failed old new failures blocks stale before now counted fails answered.rose
+stop plan page quota told tell start old new failures blocks stale before now (pool.TooManyTrackers count) counted fails free paged tells names stopped = absurd stopped.by_store.answered
+stop plan page quota told tell start old new failures blocks stale before now pool.NamesSpent counted fails free paged tells names stopped = names stopped.by_store.answered
+stop plan page quota told tell start old new failures blocks stale before now pool.Memory counted fails free paged tells names stopped = tt
+stop plan page quota told tell start old new failures blocks stale before now (pool.Stale wanted found) counted fails free paged tells names stopped = absurd stopped.unmarked
 
 -- what the pool stopped the query with, as its slots tell it
-pub pool_stop : (plan : Query) (page quota : ℕ) (told : Option Told) (start : Holdings) (old new : Signs) (failures blocks : ℕ) (before now : Tally) (e : QueryErr) → Counted failures blocks before now → new.failures ≤ failures
+pub pool_stop : (plan : Query) (page quota : ℕ) (told : Option Told) (start : Holdings) (old new : Signs) (failures blocks stale : ℕ) (before now : Tally) (e : QueryErr) → Counted failures blocks stale before now → new.failures ≤ failures
     → start.free_slots ≡ Some quota → page_len plan start.block_len ≡ page → (all_tell before ≡ true → start.told ≡ true) → (new.spent ≡ true → MaySpendNames plan (if_told (all_tell before) told))
     → MayStopUnmarked plan told start old new e → OfPool (IsPoolStop plan page (if_told (all_tell before) told) quota (HaveFailed before now)) e
-pool_stop plan page quota told start old new failures blocks before now (query.SourceFault side) counted fails free paged tells names may = tt
-pool_stop plan page quota told start old new failures blocks before now (query.BadHeader side) counted fails free paged tells names may = tt
-pool_stop plan page quota told start old new failures blocks before now (query.BadCsv side number) counted fails free paged tells names may = tt
-pool_stop plan page quota told start old new failures blocks before now (query.BadField side number column) counted fails free paged tells names may = tt
-pool_stop plan page quota told start old new failures blocks before now (query.TooLarge side) counted fails free paged tells names may = tt
-pool_stop plan page quota told start old new failures blocks before now (query.RowTooLong side number bytes) counted fails free paged tells names may = tt
-pool_stop plan page quota told start old new failures blocks before now query.SinkFault counted fails free paged tells names may = tt
-pool_stop plan page quota told start old new failures blocks before now (query.Pool why) counted fails free paged tells names may =
-    stop plan page quota told (all_tell before) start old new failures blocks before now why counted fails free paged tells names may
+pool_stop plan page quota told start old new failures blocks stale before now (query.SourceFault side) counted fails free paged tells names may = tt
+pool_stop plan page quota told start old new failures blocks stale before now (query.BadHeader side) counted fails free paged tells names may = tt
+pool_stop plan page quota told start old new failures blocks stale before now (query.BadCsv side number) counted fails free paged tells names may = tt
+pool_stop plan page quota told start old new failures blocks stale before now (query.BadField side number column) counted fails free paged tells names may = tt
+pool_stop plan page quota told start old new failures blocks stale before now (query.TooLarge side) counted fails free paged tells names may = tt
+pool_stop plan page quota told start old new failures blocks stale before now (query.RowTooLong side number bytes) counted fails free paged tells names may = tt
+pool_stop plan page quota told start old new failures blocks stale before now query.SinkFault counted fails free paged tells names may = tt
+pool_stop plan page quota told start old new failures blocks stale before now (query.Pool why) counted fails free paged tells names may =
+    stop plan page quota told (all_tell before) start old new failures blocks stale before now why counted fails free paged tells names may

@@ -9,7 +9,7 @@ use Rattle.pool_model.specs.Legal.{IsLegal}
 use Rattle.pool_model.specs.State.{Opening}
 use Rattle.pool_model.specs.declared.entry.Entry.{Entry}
 use Rattle.pool_model.proofs.Fronts.{legal_fronts}
-use Rattle.pin_core.specs.Tallies.{Counted, all_failures, tally_of, written_blocks}
+use Rattle.pin_core.specs.Tallies.{Counted, all_failures, all_stale, tally_of, written_blocks}
 use Rattle.pin_core.specs.declared.tally.Tally.{Tally}
 use Rattle.pool.specs.declared.item.Item.{Item}
 use Rattle.pool.specs.Items.{history}
@@ -59,8 +59,8 @@ module _ {D : Type 0} (slot : Ghosts D) (o : Opening) (told : Bool) (first : Tal
   whole_on : whole ≡ history pass.knows.seen ++ history closed.grew.behind
   whole_on = ap history closed.grew.grew ∙ history_more pass.knows.seen closed.grew.behind
 
-  counted : Counted (all_failures whole) (written_blocks whole) start.slots last
-  counted = subst (λ (t : Tally). Counted (all_failures whole) (written_blocks whole) t last) (sym same) closed.counted
+  counted : Counted (all_failures whole) (written_blocks whole) (all_stale whole) start.slots last
+  counted = subst (λ (t : Tally). Counted (all_failures whole) (written_blocks whole) (all_stale whole) t last) (sym same) closed.counted
 
   -- ---- how the queries ended
 
@@ -93,11 +93,11 @@ module _ {D : Type 0} (slot : Ghosts D) (o : Opening) (told : Bool) (first : Tal
           told = λ is. stayed.begun.told ∙ tells ∙ is;
           block_len_is = stayed.begun.block_len;
           stop = λ both why may. shared_stop query (page_len query o.block_len) query.quota both (SomeSpends queries start) (held_by o told stay.first) (signs_by o stay.first) (signs_by o stay.last)
-              (all_failures whole) (written_blocks whole) start.slots last counted fails stayed.begun.free_slots (ap (page_len query) stayed.begun.block_len) (λ is. stayed.begun.told ∙ tells ∙ is) (spends place query stay at_query at) why may;
+              (all_failures whole) (written_blocks whole) (all_stale whole) start.slots last counted fails stayed.begun.free_slots (ap (page_len query) stayed.begun.block_len) (λ is. stayed.begun.told ∙ tells ∙ is) (spends place query stay at_query at) why may;
         }
 
     pub have_ended : HaveEnded start (with_slots last now) o.block_len refused queries ends
-    have_ended = ran.ended last (less (all_failures whole) (written_blocks whole) start.slots last counted) stops_as
+    have_ended = ran.ended last (less (all_failures whole) (written_blocks whole) (all_stale whole) start.slots last counted) stops_as
 
   -- ---- what they owe
 
@@ -117,6 +117,6 @@ module _ {D : Type 0} (slot : Ghosts D) (o : Opening) (told : Bool) (first : Tal
 
     pub have_stored : HaveStored o.block_len (all_owed (o.blocks * o.block_len) start.files queries ends) first last
     have_stored =
-        stored_together o.block_len (all_owed (o.blocks * o.block_len) start.files queries ends) (all_failures whole) whole (numbers_of ran.stays) first last parts ran.all.apart
+        stored_together o.block_len (all_owed (o.blocks * o.block_len) start.files queries ends) (all_failures whole) (all_stale whole) whole (numbers_of ran.stays) first last parts ran.all.apart
         (subst (λ (memory : ℕ). all_owed memory start.files queries ends ≤ sum_by (λ m. written_for m whole) (numbers_of ran.stays) * o.block_len) (memory_is o.block_len o.blocks)
         (all_stored (bytes_of o.block_len o.blocks) o.block_len start.files (λ m. written_for m whole) queries ends ran.stays each_stored)) closed.counted

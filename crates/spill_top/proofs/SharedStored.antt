@@ -124,9 +124,9 @@ module _ (memory block_len : ℕ) (files : List ℕ → Option (List ℕ)) (writ
       omega (arith, first, rest, both, split)
 
 -- blocks of all sessions are among those that the slots stored
-pub stored_together : (block_len bytes failures : ℕ) (whole : List Entry) (ms : List ℕ) (before now : Tally) → PartsFit → IsDistinct eqb ms → bytes ≤ sum_by (λ m. written_for m whole) ms * block_len
-    → Counted failures (written_blocks whole) before now → HaveStored block_len bytes before now
-stored_together block_len bytes failures whole ms before now law apart fits counted = λ all.
+pub stored_together : (block_len bytes failures stale : ℕ) (whole : List Entry) (ms : List ℕ) (before now : Tally) → PartsFit → IsDistinct eqb ms → bytes ≤ sum_by (λ m. written_for m whole) ms * block_len
+    → Counted failures (written_blocks whole) stale before now → HaveStored block_len bytes before now
+stored_together block_len bytes failures stale whole ms before now law apart fits counted = λ all.
     let parts : sum_by (λ m. written_for m whole) ms ≤ written_blocks whole = law whole ms apart in
     let stores = counted.stores all in
     let blocks : (before.stores + sum_by (λ m. written_for m whole) ms) * block_len ≤ now.stores * block_len = mul-le-mul_right block_len (omega (arith, stores, parts)) in

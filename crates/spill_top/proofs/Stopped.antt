@@ -11,9 +11,9 @@ use Rattle.query_run.specs.Both.{Told}
 use Rattle.query_run.specs.Causes.{IsOfBytes, IsSourceFault, side_of}
 use Rattle.query_run.specs.Input.{IsAccepted, IsRefusalIn}
 use Rattle.query_run.specs.Refused.{SaysOfInputs, SaysOfRight, Source}
-use Rattle.query_run.specs.declared.outcome.QueryErr.{QueryErr}
-use Rattle.query_run.specs.declared.outcome.QueryErr.TheVariants as query
-use Rattle.query_run.specs.declared.outcome.Ran.{Ran}
+use Rattle.query_plan.specs.declared.outcome.QueryErr.{QueryErr}
+use Rattle.query_plan.specs.declared.outcome.QueryErr.TheVariants as query
+use Rattle.query_plan.specs.declared.outcome.Ran.{Ran}
 use Rattle.spill_top.specs.Jobs.{LeavesPart}
 use Rattle.spill_top.specs.Running.{HasLines, IsRefusedOn}
 use Rattle.spill_top.specs.Sides.{RoseOn, if_told, on_sides}

@@ -12,7 +12,7 @@ use Rattle.pool_model.specs.Legal.{IsLegal}
 use Rattle.pool_model.specs.LookingBack.{made_by}
 use Rattle.pool_model.specs.State.{Opening}
 use Rattle.pin_core.specs.Entering.{increase_entry, session_entry}
-use Rattle.pin_core.specs.Tallies.{Counted, all_failures, written_blocks}
+use Rattle.pin_core.specs.Tallies.{Counted, all_failures, all_stale, written_blocks}
 use Rattle.pin_core.specs.declared.tally.Tally.{Tally}
 use Rattle.pool.specs.Items.{history}
 use Rattle.pool.specs.Seating.{beginning_items}
@@ -78,7 +78,7 @@ module _ (o : Opening) (whole : List Entry) (m query limit quota least : ℕ) (l
       let long : bytes ≤ bytes_left (events_of it.front) = subst (λ (events : List Event). bytes ≤ bytes_left events) (sym it.first) lays.long in
       omega (arith, fits, long)
 
-  stored_so : (plan : Query) (told : Option Told) (own went : List Entry) (before now : Tally) → limit ≡ plan.limit → LaidIsStored → PartsFit → made_by whole m ≡ own ++ went → Counted (all_failures whole) (written_blocks whole) before now
+  stored_so : (plan : Query) (told : Option Told) (own went : List Entry) (before now : Tally) → limit ≡ plan.limit → LaidIsStored → PartsFit → made_by whole m ≡ own ++ went → Counted (all_failures whole) (written_blocks whole) (all_stale whole) before now
       → LaysSpill plan told (Some (history (beginning_items m query limit quota least))) (Some own) → HaveStored o.block_len (owed plan (bytes_of o.block_len o.blocks) told) before now
   stored_so plan None own went before now is law parts made counted lays = λ all.
       beyond before.stores now.stores (written_blocks whole) o.block_len 0 0 (counted.stores all) (omega arith)
@@ -99,7 +99,7 @@ laid_over plan page lefts rights o k m first last law runs kept = law plan page 
 
 -- what a query must keep beyond its memory was stored in its pool's slots
 pub have_stored : (plan : Query) (page : ℕ) (lefts rights : Option (List ℕ)) (o : Opening) (k m query quota least : ℕ) (first last went whole : List Entry) (before now : Tally) → KeptIsLaid → LaidIsStored → PartsFit → IsRunnable plan → IsLegal o whole
-    → made_by first k ≡ history (beginning_items m query plan.limit quota least) → made_by whole m ≡ made_by last m ++ went → Counted (all_failures whole) (written_blocks whole) before now
+    → made_by first k ≡ history (beginning_items m query plan.limit quota least) → made_by whole m ≡ made_by last m ++ went → Counted (all_failures whole) (written_blocks whole) (all_stale whole) before now
     → KeptRows plan page lefts rights (signs_in o k first).trail (signs_in o m last).trail → HaveStored o.block_len (owed plan (bytes_of o.block_len o.blocks) (both_told lefts rights)) before now
 have_stored plan page lefts rights o k m query quota least first last went whole before now spills law parts runs legal came own counted kept =
     stored_so o whole m query plan.limit quota least legal plan (both_told lefts rights) (made_by last m) went before now refl law parts own counted

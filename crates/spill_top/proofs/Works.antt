@@ -13,8 +13,8 @@ use Rattle.query_plan.specs.declared.plan.Query.{Query}
 use Rattle.query_plan.specs.declared.plan.Side.{Side}
 use Rattle.query_run.specs.Both.{Told}
 use Rattle.query_run.specs.Causes.{OfPool}
-use Rattle.query_run.specs.declared.outcome.QueryErr.{QueryErr}
-use Rattle.query_run.specs.declared.outcome.QueryErr.TheVariants as query
+use Rattle.query_plan.specs.declared.outcome.QueryErr.{QueryErr}
+use Rattle.query_plan.specs.declared.outcome.QueryErr.TheVariants as query
 use Rattle.spill_top.specs.declared.ending.Ending.{Ending}
 use Rattle.spill_top.specs.declared.ending.Ending.TheVariants.{Lines, Reservation, Stopped}
 use Rattle.spill_top.specs.Pooled.{ComeBack, HaveFailed, IsSharedStop}
@@ -37,7 +37,7 @@ went_on a b c first then = record {
   reads = λ name. let one = first.reads name in let two = then.reads name in omega (arith, one, two);
   created = λ name is. then.created name (first.created name is);
   writes = λ name. let one = first.writes name in let two = then.writes name in omega (arith, one, two);
-  slots = counted_more 0 0 0 0 a.slots b.slots c.slots first.slots then.slots;
+  slots = counted_more 0 0 0 0 0 0 a.slots b.slots c.slots first.slots then.slots;
 }
 
 -- a slot that had failed still has

@@ -38,11 +38,12 @@ checking check = record {
   on = [];
   group = 0 ∷ [];
   aggs = Count ∷ Sum 1 ∷ [];
+  fragments = 1;
 }
 
 -- with what its pool opens: a page is a block
 abbrev pub checking_conf : Check → PoolConf
-checking_conf check = record { blocks = check.blocks; block_len = 8192; first_name = 0; profile = 1 }
+checking_conf check = record { blocks = check.blocks; block_len = 8192; first_name = 0; profile = 1; trace = 0 }
 
 -- the bytes that it reads: the table
 abbrev pub table_of : Check → Told

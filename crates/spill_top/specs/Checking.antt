@@ -9,9 +9,9 @@ use Rattle.pin_core.specs.declared.tally.Tally.{Tally}
 use Rattle.spill_top.specs.Pooled.{memory_of}
 use Rattle.query_run.specs.Answer.{Numbers}
 use Rattle.query_run.specs.Through.{need}
-use Rattle.query_run.specs.declared.outcome.QueryErr.{QueryErr}
-use Rattle.query_run.specs.declared.outcome.QueryErr.TheVariants.{SinkFault, Pool}
-use Rattle.query_run.specs.declared.outcome.Ran.{Ran}
+use Rattle.query_plan.specs.declared.outcome.QueryErr.{QueryErr}
+use Rattle.query_plan.specs.declared.outcome.QueryErr.TheVariants.{SinkFault, Pool}
+use Rattle.query_plan.specs.declared.outcome.Ran.{Ran}
 use Rattle.run_report.specs.Report.{outcome_text}
 use Rattle.run_report.specs.declared.outcome.Outcome.{Outcome}
 use Rattle.run_report.specs.declared.outcome.Outcome.TheVariants.{Summary}

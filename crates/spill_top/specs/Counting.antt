@@ -19,8 +19,9 @@ counting command = record {
   on = [];
   group = 0 ∷ [];
   aggs = Count ∷ [];
+  fragments = 1;
 }
 
 -- with what its pool opens: a page is a block, and all memory is as much as it may reserve
 abbrev pub counting_conf : PoolConf
-counting_conf = record { blocks = 1024; block_len = 8192; first_name = 0; profile = 1 }
+counting_conf = record { blocks = 1024; block_len = 8192; first_name = 0; profile = 1; trace = 0 }

@@ -7,8 +7,8 @@ use Rattle.query_plan.specs.declared.plan.Query.{Query}
 use Rattle.query_plan.specs.declared.plan.Side.{Side}
 use Rattle.query_plan.specs.declared.plan.Side.TheVariants.{Left, Right}
 use Rattle.query_plan.specs.Rules.{columns_of_side}
-use Rattle.query_run.specs.declared.outcome.QueryErr.{QueryErr}
-use Rattle.query_run.specs.declared.outcome.QueryErr.TheVariants as query
+use Rattle.query_plan.specs.declared.outcome.QueryErr.{QueryErr}
+use Rattle.query_plan.specs.declared.outcome.QueryErr.TheVariants as query
 use Rattle.run_report.specs.declared.cause.Cause.{Cause}
 use Rattle.run_report.specs.declared.cause.Cause.TheVariants as cause
 use Rattle.run_report.specs.declared.outcome.Outcome.{Outcome}

@@ -8,7 +8,7 @@ use Rattle.spill_top.specs.Pooled.{memory_of}
 use Rattle.query_run.specs.Both.{Told, both_told}
 use Rattle.query_run.specs.Input.{IsAccepted, IsRefusal, most_bytes, refusal_of}
 use Rattle.query_run.specs.Through.{need, rows_through}
-use Rattle.query_run.specs.declared.outcome.QueryErr.{QueryErr}
+use Rattle.query_plan.specs.declared.outcome.QueryErr.{QueryErr}
 use Rattle.spill_top.specs.declared.report.Refusal.{Refusal}
 use Rattle.spill_top.specs.declared.report.Refusal.TheVariants.{InputFault, Header, Csv, Large, Row, Scratch, Names, Write, Read}
 use Rattle.spill_top.specs.Counting.{counting, counting_conf}

@@ -30,7 +30,7 @@ all_tell slots = slots.silent == 0
 
 -- all slots are there again, of which as many tell what they hold, and no count of theirs fell
 abbrev pub ComeBack : Tally → Tally → Type 0
-ComeBack before now = Counted 0 0 before now
+ComeBack before now = Counted 0 0 0 before now
 
 -- the faults of the slots rose, or a count of them stands at its last value
 abbrev pub HaveFailed : Tally → Tally → Type 0

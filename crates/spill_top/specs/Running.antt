@@ -12,9 +12,9 @@ use Rattle.query_run.specs.Answer.{IsAnswer}
 use Rattle.query_run.specs.Both.{AreAccepted, Told}
 use Rattle.query_run.specs.Causes.{IsOfBytes, OfPool, side_of}
 use Rattle.query_run.specs.Input.{IsAccepted, IsRefusal, IsRefusalIn}
-use Rattle.query_run.specs.declared.outcome.QueryErr.{QueryErr}
+use Rattle.query_plan.specs.declared.outcome.QueryErr.{QueryErr}
 use Rattle.query_run.specs.Through.{need}
-use Rattle.query_run.specs.declared.outcome.QueryErr.TheVariants.{Pool, SinkFault, SourceFault}
+use Rattle.query_plan.specs.declared.outcome.QueryErr.TheVariants.{Pool, SinkFault, SourceFault}
 use Rattle.reservation_tree.specs.declared.errors.PoolErr.TheVariants.{Memory}
 use Rattle.spill_top.specs.declared.ending.Ending.{Ending}
 use Rattle.spill_top.specs.declared.ending.Ending.TheVariants.{Lines, Reservation, Stopped}

@@ -26,9 +26,9 @@ use Rattle.query_run.specs.Refused.{SaysOfInputs, source}
 use Rattle.query_run.specs.Stopped.{CountsSink, RanOver}
 use Rattle.spill_top.specs.Unmarked.{MayStopUnmarked}
 use Rattle.query_run.specs.Trail.{KeptRows}
-use Rattle.query_run.specs.declared.outcome.Ran.{Ran}
-use Rattle.query_run.specs.declared.outcome.QueryErr.{QueryErr}
-use Rattle.query_run.specs.declared.outcome.QueryErr.TheVariants.{Pool, SinkFault}
+use Rattle.query_plan.specs.declared.outcome.Ran.{Ran}
+use Rattle.query_plan.specs.declared.outcome.QueryErr.{QueryErr}
+use Rattle.query_plan.specs.declared.outcome.QueryErr.TheVariants.{Pool, SinkFault}
 
 -- a session came alone into a pool that opened so, with what it asked for, and ended: what it was first and last, and what the
 -- pass saw when it had ended. It is the one session of what it saw, and its number is the pass's again; where sessions come by no

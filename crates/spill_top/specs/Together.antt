@@ -31,8 +31,8 @@ use Rattle.query_run.specs.Stopped.{HasRoomFor, MakesFew, RanOver}
 use Rattle.spill_top.specs.Unmarked.{MayStopUnmarked}
 use Rattle.query_run.specs.Through.{rows_through}
 use Rattle.query_run.specs.Trail.{KeptRows}
-use Rattle.query_run.specs.declared.outcome.QueryErr.{QueryErr}
-use Rattle.query_run.specs.declared.outcome.QueryErr.TheVariants as query
+use Rattle.query_plan.specs.declared.outcome.QueryErr.{QueryErr}
+use Rattle.query_plan.specs.declared.outcome.QueryErr.TheVariants as query
 use Rattle.spill_top.specs.declared.ending.Ending.{Ending}
 use Rattle.spill_top.specs.declared.ending.Ending.TheVariants.{Lines, Reservation, Stopped}
 use Rattle.spill_top.specs.declared.job.Job.{Job}

@@ -22,6 +22,7 @@ pub(crate) fn checking_pool(check: Check) -> PoolConf
         block_len: BLOCK_LEN,
         first_name: 0,
         profile: 1,
+        trace: 0,
     }
 }
 
@@ -47,6 +48,7 @@ pub(crate) fn checking_plan(alloc: Global, check: Check) -> Result<Query, AllocE
         on: Listed::empty(alloc),
         group: Listed::from_vec(group),
         aggs: Listed::from_vec(aggs),
+        fragments: 1,
     })
 }
 

@@ -9,7 +9,7 @@ use row_codec::Memory;
 use std::alloc::Global;
 
 // A count, a run of a plan, or a check of the program.
-#[derive(Clone, Copy, Debug, PartialEq, Eq)]
+#[derive(Clone, Copy)]
 pub(crate) enum Task<'a> {
     Count { file: &'a str, column: &'a str },
     Run { plan: &'a str },

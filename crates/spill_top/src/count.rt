@@ -25,7 +25,7 @@ use std::thread::Threads;
 use std::time::Clock;
 
 // Why there is no whole answer in the report.
-#[derive(Clone, Copy, Debug, PartialEq, Eq)]
+#[derive(Clone, Copy)]
 pub(crate) enum Stop {
     // The report failed, and nothing more is written to it.
     Report,

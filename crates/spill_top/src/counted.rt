@@ -5,7 +5,7 @@ ghost use Rattle.outside.specs.Counts.{NoneFell, Rose};
 ghost use Rattle.outside.specs.Names.{AllStay};
 ghost use Rattle.outside.specs.Faults.{FailsAt, NoneFailed, faults_of};
 ghost use Rattle.pin_core.specs.Tallies.{tally_of};
-ghost use Rattle.query_run.specs.declared.outcome.QueryErr.{QueryErr};
+ghost use Rattle.query_plan.specs.declared.outcome.QueryErr.{QueryErr};
 ghost use Rattle.spill_top.specs.Headline.{AcceptsInput, Answers, AnswersInPart, HasTooMany, IsPoolStatus, IsStatus, IsStatusOf, LacksMemory, Refuses, RefusesBytes, StoresCount};
 ghost use Rattle.spill_top.specs.Pooled.{ComeBack, HaveFailed, all_tell};
 

@@ -12,7 +12,7 @@ use run_report::{Cause, Outcome};
 use std::alloc::Global;
 
 // Numbers of a reservation are in bytes.
-#[derive(Clone, Copy, Debug, PartialEq, Eq)]
+#[derive(Clone, Copy)]
 pub(crate) enum Ending {
     // With an answer of so many lines.
     Lines(u64),

@@ -20,6 +20,7 @@ pub(crate) fn counting_pool() -> PoolConf
         block_len: 8192,
         first_name: 0,
         profile: 1,
+        trace: 0,
     }
 }
 
@@ -50,5 +51,6 @@ pub(crate) fn counting_plan(alloc: Global, file: &str, column: &str) -> Result<Q
         on: Listed::empty(alloc),
         group: Listed::from_vec(group),
         aggs: Listed::from_vec(aggs),
+        fragments: 1,
     })
 }

@@ -16,7 +16,7 @@ const MOST_BYTES: usize = 1048576;
 const READ_LEN: usize = 4096;
 
 // Why the bytes of a plan are not there.
-#[derive(Clone, Copy, Debug, PartialEq, Eq)]
+#[derive(Clone, Copy)]
 pub(crate) enum Unread {
     Fault,
     Memory,

@@ -85,7 +85,7 @@ fn run_shared<
     requires rules { KeepsRules (vec_len slots.old) plan.now }
     requires few { vec_len slots.old ≤ 1048576 }
     requires apart { AreApart plan.now.queries }
-    requires opens { OpensAs D.Slot (record { blocks = plan.now.blocks; block_len = plan.now.block_len; first_name = 0; profile = 1 }) slots.old.items T.opening T.told T.first }
+    requires opens { OpensAs D.Slot (record { blocks = plan.now.blocks; block_len = plan.now.block_len; first_name = 0; profile = 1; trace = 0 }) slots.old.items T.opening T.told T.first }
     requires told { T.told ≡ all_tell (tally_of D.Slot slots.old.items) }
     requires first { T.first ≡ tally_of D.Slot slots.old.items }
     ensures len { IfOk result (λ ends. vec_len ends ≡ length plan.now.queries) }
@@ -101,6 +101,7 @@ fn run_shared<
         block_len: plan.block_len,
         first_name: 0,
         profile: 1,
+        trace: 0,
     };
     let taken = mem::replace(slots, Vec::new(alloc));
     let (pool, mut pass) = match Pool::<D, T>::open(alloc, &conf, taken) {
@@ -142,7 +143,7 @@ fn run_together<
 ) -> Result<Vec<Ending>, Memory>
     requires rules { KeepsRules T.opening.slots plan.now }
     requires apart { AreApart plan.now.queries }
-    requires opening { IsOpeningOf (record { blocks = plan.now.blocks; block_len = plan.now.block_len; first_name = 0; profile = 1 }) T.opening.slots T.opening }
+    requires opening { IsOpeningOf (record { blocks = plan.now.blocks; block_len = plan.now.block_len; first_name = 0; profile = 1; trace = 0 }) T.opening.slots T.opening }
     requires named { N.table ≡ Some pool.now }
     requires table { pass.old.table ≡ pool.now }
     requires fresh { (pass.old.knows.seen ≡ []) × (pass.old.knows.rights ≡ all_rights) × (writers_out pass.old ≡ 0) }

@@ -18,7 +18,7 @@ use std::alloc::Global;
 
 // Why a count has no answer: its input is at fault, or its pool refused. Records are numbered from 0, the header; a weight is
 // in bytes, need and free are numbers of slots, and an entry is one of the pool's history.
-#[derive(Clone, Copy, Debug, PartialEq, Eq)]
+#[derive(Clone, Copy)]
 pub(crate) enum Refusal {
     InputFault,
     Header,

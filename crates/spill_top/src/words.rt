@@ -15,7 +15,7 @@ use row_codec::Memory;
 use std::alloc::Global;
 
 // What the words ask for.
-#[derive(Clone, Copy, Debug, PartialEq, Eq)]
+#[derive(Clone, Copy)]
 pub(crate) enum Command<'a> {
     Count { file: &'a str, column: &'a str },
     Run { plan: &'a str },
@@ -24,7 +24,7 @@ pub(crate) enum Command<'a> {
 
 // A check of the program over rows that are generated: the number of the first one, how many there are, in how many
 // groups, and the blocks of the pool.
-#[derive(Clone, Copy, Debug, PartialEq, Eq)]
+#[derive(Clone, Copy)]
 pub(crate) struct Check {
     pub(crate) start: u32,
     pub(crate) rows: u32,

@@ -31,7 +31,7 @@ returns-in-Err-clause-input g c =
     let refused : IsOfRecord c.in-Err.e → IfSome told (λ bytes. rows_of columns bytes ≡ refused_here c.in-Err.e) = search rules in
     let large : c.in-Err.e ≡ input.TooLarge → IfSome told (λ bytes. (rows_of columns bytes ≡ refused_here input.TooLarge) ⊎ (most_bytes < length bytes)) = search rules in
     let names : NamesInt c.in-Err.e (kinds_of_columns columns) = search rules in
-    let why = c.of_input.ensures in
+    let why = c.cause_of.ensures in
     record {
       alone = rw why (side_of_input c.args.side c.in-Err.e);
       refused = rw why (refusal_of_header c.args.plan.now c.args.side c.args.asked.now c.args.page told c.in-Err.e refused large);
@@ -40,10 +40,10 @@ returns-in-Err-clause-input g c =
     }
 
 pub returns-in-Err-clause-pool : goal.returns-in-Err-clause-pool
-returns-in-Err-clause-pool g c = rw c.of_input.ensures (stops_input _ (c.requires.memory _) c.args.side c.in-Err.e)
+returns-in-Err-clause-pool g c = rw c.cause_of.ensures (stops_input _ (c.requires.memory _) c.args.side c.in-Err.e)
 
 pub returns-in-Err-next_into-clause-pool : goal.returns-in-Err-next_into-clause-pool
-returns-in-Err-next_into-clause-pool g c = rw c.of_input-in-Err-next_into.ensures (stops_input _ (c.requires.memory _) c.args.side c.in-Err-next_into.e)
+returns-in-Err-next_into-clause-pool g c = rw c.cause_of-in-Err-next_into.ensures (stops_input _ (c.requires.memory _) c.args.side c.in-Err-next_into.e)
 
 pub loop-rows-init : goal.loop-rows-init
 loop-rows-init g c =
@@ -86,7 +86,7 @@ returns-in-Err-next_into-clause-input g c =
     let refused : IsOfRecord e → Becomes (λ t. t) (rest_of g.S.Source.remaining c.loop-rows.rows) (Some (refused_here e)) = search rules in
     let large : e ≡ input.TooLarge → Becomes (λ t. t) (rest_of g.S.Source.remaining c.loop-rows.rows) (Some (refused_here input.TooLarge)) ⊎ PassesLimit (bytes_allowed c.loop-rows.rows) (g.S.Source.remaining c.loop-rows.rows.src.now) = search rules in
     let names : NamesInt e (kinds_in c.loop-rows.rows) = search rules in
-    let why = c.of_input-in-Err-next_into.ensures in
+    let why = c.cause_of-in-Err-next_into.ensures in
     record {
       alone = rw why (side_of_input c.args.side e);
       refused = rw why (refusal_of_input c.args.plan.now c.args.side c.args.asked.now c.args.page _ _ _ before.rows _ e before.light before.so_far before.counts refused large);
@@ -214,7 +214,7 @@ pub returns-in-Err-clause-enough : goal.returns-in-Err-clause-enough
 returns-in-Err-clause-enough g c =
     let asked = c.args.asked.now in
     let told = g.S.Source.remaining c.args.source.now in
-    rw c.of_input.ensures (stops_input (λ (why : PoolErr). OfTaken asked told (λ rows. g.T.Takes.wants c.args.op.now rows (g.St.Store.holds c.args.store.now) (g.St.Store.signs c.args.store.now) why)) (none_taken asked told _ c.requires.none) c.args.side c.in-Err.e)
+    rw c.cause_of.ensures (stops_input (λ (why : PoolErr). OfTaken asked told (λ rows. g.T.Takes.wants c.args.op.now rows (g.St.Store.holds c.args.store.now) (g.St.Store.signs c.args.store.now) why)) (none_taken asked told _ c.requires.none) c.args.side c.in-Err.e)
 
 pub returns-in-Err-clause-few : goal.returns-in-Err-clause-few
 returns-in-Err-clause-few g c = none_taken c.args.asked.now (g.S.Source.remaining c.args.source.now) _ c.requires.makes
@@ -228,7 +228,7 @@ pub returns-in-Err-next_into-clause-enough : goal.returns-in-Err-next_into-claus
 returns-in-Err-next_into-clause-enough g c =
     let asked = c.args.asked.now in
     let told = g.S.Source.remaining c.args.source.now in
-    rw c.of_input-in-Err-next_into.ensures (stops_input (λ (why : PoolErr). OfTaken asked told (λ rows. g.T.Takes.wants c.args.op.now rows (g.St.Store.holds c.args.store.now) (g.St.Store.signs c.args.store.now) why)) (none_taken asked told _ c.requires.none) c.args.side c.in-Err-next_into.e)
+    rw c.cause_of-in-Err-next_into.ensures (stops_input (λ (why : PoolErr). OfTaken asked told (λ rows. g.T.Takes.wants c.args.op.now rows (g.St.Store.holds c.args.store.now) (g.St.Store.signs c.args.store.now) why)) (none_taken asked told _ c.requires.none) c.args.side c.in-Err-next_into.e)
 
 pub returns-in-Err-next_into-clause-few : goal.returns-in-Err-next_into-clause-few
 returns-in-Err-next_into-clause-few g c =

@@ -12,8 +12,8 @@ use Rattle.query_run.specs.Both.{both_told}
 use Rattle.query_run.specs.Causes.{IsSourceFault, NamesInt, OfPool, side_of}
 use Rattle.query_run.specs.Plans.{IsRunnable, kinds_of_columns}
 use Rattle.query_run.specs.Refused.{SaysOfSide, source}
-use Rattle.query_run.specs.declared.outcome.QueryErr.{QueryErr}
-use Rattle.query_run.specs.declared.outcome.QueryErr.TheVariants.{SinkFault}
+use Rattle.query_plan.specs.declared.outcome.QueryErr.{QueryErr}
+use Rattle.query_plan.specs.declared.outcome.QueryErr.TheVariants.{SinkFault}
 use Rattle.spill_top.specs.Counting.{counting}
 use Rattle.spill_top.specs.Headline.{Answers, AnswersInPart, IsCause, told_with}
 use Rattle.spill_top.specs.OneInput.{WroteAnswerOver, WroteFrontOver}

@@ -18,7 +18,7 @@ run_together-ends-requires-clause-rules g c κs within = subst (λ (n : ℕ). Ke
 
 pub run_together-ends-requires-clause-opening : goal.run_together-ends-requires-clause-opening
 run_together-ends-requires-clause-opening g c κs within =
-    opening_so (record { blocks = c.args.plan.now.blocks; block_len = c.args.plan.now.block_len; first_name = 0; profile = 1 }) _ g.T.OpenedAs.opening c.requires.opens.numbers
+    opening_so (record { blocks = c.args.plan.now.blocks; block_len = c.args.plan.now.block_len; first_name = 0; profile = 1; trace = 0 }) _ g.T.OpenedAs.opening c.requires.opens.numbers
 
 pub returns-in-Err-clause-went : goal.returns-in-Err-clause-went
 returns-in-Err-clause-went g c =

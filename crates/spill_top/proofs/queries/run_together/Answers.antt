@@ -22,7 +22,7 @@ use Rattle.spill_top.proofs.Coming.{all_one, seen_in}
 use Rattle.spill_top.proofs.Gathered.{ended_works, gathered, refused_kept, refused_of, unknown, works_unknown}
 use Rattle.spill_top.proofs.Loops.{went_slots}
 use Rattle.spill_top.proofs.OneSession.{none_live}
-use Rattle.spill_top.proofs.Opened.{asks_so, len_so, one_each, quotas_are, shapes_so}
+use Rattle.spill_top.proofs.Opened.{asks_so, len_so, one_each, quotas_are, quotas_once, shapes_so}
 use Rattle.spill_top.proofs.Phases.{all_begun, all_closed, all_have_ended, as_many, made_of, sided_of, went_through, works_begin}
 use Rattle.spill_top.proofs.Ready.{all_can}
 use Rattle.spill_top.proofs.Runs.{are_seated, have_run}
@@ -44,7 +44,8 @@ sessions-requires-clause-spare g c =
     let quotas : quotas_of c.as_slice.result.now ≡ sum_by (λ query. query.quota) c.args.plan.now.queries = ap quotas_of asks_are ∙ quotas_are g.T.OpenedAs.opening.block_len c.args.plan.now.queries in
     let none : taken_in c.begin_writers-writers.new.pass.knows.seen ≡ 0 = ap taken_in (c.begin_writers-writers.ensures.begin.seen ∙ c.requires.fresh.0) ∙ none_taken in
     let most = c.requires.rules.quotas in
-    omega (arith, quotas, none, most)
+    let once = quotas_once c.args.plan.now.queries in
+    omega (arith, quotas, none, most, once)
 
 pub seat_all-jobs-requires-clause-each : goal.seat_all-jobs-requires-clause-each
 seat_all-jobs-requires-clause-each g c κs within =

@@ -44,7 +44,7 @@ loop-place-preserved g c =
       len = c.loop-place.invariant.len;
       going = going_call (work_of g.S.Source.remaining g.S.Source.faults g.O.Snk.Sink.contents g.O.Snk.Sink.faults) IsRead IsDone c.loop-place.place _ c.loop-place.jobs.items c.index_mut.result.now c.finish.new.job at c.finish.ensures.refused c.finish.ensures.step c.loop-place.invariant.going;
       made = made_call g.S.Source.remaining g.S.Source.faults g.O.Snk.Sink.contents g.O.Snk.Sink.faults (g.O.Outputs.is_created c.loop-place.outputs) (g.O.Outputs.is_created c.finish.new.outputs) c.args.queries.now c.loop-place.jobs.items c.loop-place.place c.finish.new.job
-          ((c.finish.ensures.went (λ name. None) (λ name. 0) (record { faults = 0; stuck = 0; stores = 0; uncounted = 0; silent = 0; slots = 0 })).went.created) c.finish.ensures.step.3 c.loop-place.invariant.made;
+          ((c.finish.ensures.went (λ name. None) (λ name. 0) (record { faults = 0; stuck = 0; stores = 0; uncounted = 0; strays = 0; unstrayed = 0; silent = 0; slots = 0 })).went.created) c.finish.ensures.step.3 c.loop-place.invariant.made;
       answers = unanswered_call (work_of g.S.Source.remaining g.S.Source.faults g.O.Snk.Sink.contents g.O.Snk.Sink.faults) _ c.loop-place.jobs.items c.loop-place.place c.index_mut.result.now c.finish.new.job at c.finish.ensures.ended c.loop-place.invariant.answers;
       sessions = same_set (λ job. job.session) c.loop-place.jobs.items c.loop-place.place c.index_mut.result.now c.finish.new.job at c.finish.ensures.session ∙ c.loop-place.invariant.sessions;
       works = λ files reads slots. kept_call (work_of g.S.Source.remaining g.S.Source.faults g.O.Snk.Sink.contents g.O.Snk.Sink.faults) (seen files reads (g.O.Outputs.written c.args.outputs.now) (g.O.Outputs.is_created c.args.outputs.now) (g.O.Outputs.faults_at c.args.outputs.now) slots) (seen files reads (g.O.Outputs.written c.loop-place.outputs) (g.O.Outputs.is_created c.loop-place.outputs) (g.O.Outputs.faults_at c.loop-place.outputs) slots) (seen files reads (g.O.Outputs.written c.finish.new.outputs) (g.O.Outputs.is_created c.finish.new.outputs) (g.O.Outputs.faults_at c.finish.new.outputs) slots) c.args.queries.now _ c.loop-place.jobs.items c.loop-place.place c.index-queries-place.result c.index_mut.result.now c.finish.new.job at_query at

@@ -7,7 +7,7 @@ use Rattle.spill_top.specs.Pooled.{memory_of}
 use Rattle.query_plan.specs.declared.plan.Query.{Query}
 use Rattle.query_run.specs.Causes.{side_of}
 use Rattle.query_run.specs.Plans.{IsRunnable}
-use Rattle.query_run.specs.declared.outcome.QueryErr.{QueryErr}
+use Rattle.query_plan.specs.declared.outcome.QueryErr.{QueryErr}
 use Rattle.table_gen.specs.Table.{table_bytes}
 use Rattle.spill_top.specs.CheckPlan.{checking, checking_conf}
 use Rattle.spill_top.specs.Checking.{IsCheckStop}

@@ -5,7 +5,7 @@ use Rattle.csv_edge.specs.Lines.{line_of}
 use Rattle.group_rows.specs.Aggregates.{own_number}
 use Rattle.group_rows.specs.Partials.{combined_numbers}
 use Rattle.query_run.specs.Parts.{FrontOf, HasSent, StopsWriting}
-use Rattle.query_run.specs.declared.outcome.QueryErr.TheVariants.{SinkFault}
+use Rattle.query_plan.specs.declared.outcome.QueryErr.TheVariants.{SinkFault}
 use Rattle.query_run.proofs.Taking.{took_row, took_stop, written_over}
 use Rattle.query_run.proofs.answering.AnswerLines.take.Goals as goal
 

@@ -23,32 +23,32 @@ pub feed_left-requires-clause-first : goal.feed_left-requires-clause-first
 feed_left-requires-clause-first g c = c.requires.stands.first
 
 pub returns-in-Ok-clause-ok : goal.returns-in-Ok-clause-ok
-returns-in-Ok-clause-ok g c = λ first rows h s fed. left_feeds_then first.op _ _ rows (c.args.row.now ∷ []) h _ _ s _ _ fed (λ start lefts keeps. c.in-Ok.ensures.keeps start lefts [] keeps)
+returns-in-Ok-clause-ok g c = λ first rows h s fed. left_feeds_then first.op _ _ rows (c.args.row.now ∷ []) h _ _ s _ _ fed (λ start lefts keeps. c.in-Ok.ensures.takes.keeps start lefts [] keeps)
 
 pub returns-in-Ok-clause-stands : goal.returns-in-Ok-clause-stands
-returns-in-Ok-clause-stands g c = record { stands = record { is = c.feed_left.ensures.op; feeding = c.feed_left.ensures.feeding }; first = no_right c.args.self.now.op c.feed_left.new.self c.requires.stands.first c.feed_left.ensures.right }
+returns-in-Ok-clause-stands g c = record { stands = record { is = c.feed_left.ensures.takes.op; feeding = c.feed_left.ensures.takes.feeding }; first = no_right c.args.self.now.op c.feed_left.new.self c.requires.stands.first c.feed_left.ensures.right }
 
 pub returns-in-Ok-clause-goes : goal.returns-in-Ok-clause-goes
 returns-in-Ok-clause-goes g c = λ first h s before.
-    let goes : JoinGoes c.args.self.now.op c.feed_left.new.self (g.St.Store.holds c.args.store.now) (g.St.Store.holds c.feed_left.new.store) (g.St.Store.signs c.args.store.now) (g.St.Store.signs c.feed_left.new.store) = record { leaves = c.feed_left.ensures.leaves; slots = c.feed_left.ensures.slots; same = c.feed_left.ensures.same } in
+    let goes : JoinGoes c.args.self.now.op c.feed_left.new.self (g.St.Store.holds c.args.store.now) (g.St.Store.holds c.feed_left.new.store) (g.St.Store.signs c.args.store.now) (g.St.Store.signs c.feed_left.new.store) = record { leaves = c.feed_left.ensures.takes.leaves; slots = c.feed_left.ensures.takes.slots; same = c.feed_left.ensures.takes.same } in
     join_goes_then first.op _ _ h _ _ s _ _ before goes
 
 pub returns-in-Ok-clause-still : goal.returns-in-Ok-clause-still
 returns-in-Ok-clause-still g c =
-    let goes : JoinGoes c.args.self.now.op c.feed_left.new.self (g.St.Store.holds c.args.store.now) (g.St.Store.holds c.feed_left.new.store) (g.St.Store.signs c.args.store.now) (g.St.Store.signs c.feed_left.new.store) = record { leaves = c.feed_left.ensures.leaves; slots = c.feed_left.ensures.slots; same = c.feed_left.ensures.same } in
+    let goes : JoinGoes c.args.self.now.op c.feed_left.new.self (g.St.Store.holds c.args.store.now) (g.St.Store.holds c.feed_left.new.store) (g.St.Store.signs c.args.store.now) (g.St.Store.signs c.feed_left.new.store) = record { leaves = c.feed_left.ensures.takes.leaves; slots = c.feed_left.ensures.takes.slots; same = c.feed_left.ensures.takes.same } in
     left_still _ _ _ _ _ _ goes
 
 pub returns-in-Err-Pool-clause-stands : goal.returns-in-Err-Pool-clause-stands
-returns-in-Err-Pool-clause-stands g c = record { stands = record { is = c.feed_left.ensures.op; feeding = c.feed_left.ensures.feeding }; first = no_right c.args.self.now.op c.feed_left.new.self c.requires.stands.first c.feed_left.ensures.right }
+returns-in-Err-Pool-clause-stands g c = record { stands = record { is = c.feed_left.ensures.takes.op; feeding = c.feed_left.ensures.takes.feeding }; first = no_right c.args.self.now.op c.feed_left.new.self c.requires.stands.first c.feed_left.ensures.right }
 
 pub returns-in-Err-Pool-clause-goes : goal.returns-in-Err-Pool-clause-goes
 returns-in-Err-Pool-clause-goes g c = λ first h s before.
-    let goes : JoinGoes c.args.self.now.op c.feed_left.new.self (g.St.Store.holds c.args.store.now) (g.St.Store.holds c.feed_left.new.store) (g.St.Store.signs c.args.store.now) (g.St.Store.signs c.feed_left.new.store) = record { leaves = c.feed_left.ensures.leaves; slots = c.feed_left.ensures.slots; same = c.feed_left.ensures.same } in
+    let goes : JoinGoes c.args.self.now.op c.feed_left.new.self (g.St.Store.holds c.args.store.now) (g.St.Store.holds c.feed_left.new.store) (g.St.Store.signs c.args.store.now) (g.St.Store.signs c.feed_left.new.store) = record { leaves = c.feed_left.ensures.takes.leaves; slots = c.feed_left.ensures.takes.slots; same = c.feed_left.ensures.takes.same } in
     join_goes_then first.op _ _ h _ _ s _ _ before goes
 
 pub returns-in-Err-Pool-clause-still : goal.returns-in-Err-Pool-clause-still
 returns-in-Err-Pool-clause-still g c =
-    let goes : JoinGoes c.args.self.now.op c.feed_left.new.self (g.St.Store.holds c.args.store.now) (g.St.Store.holds c.feed_left.new.store) (g.St.Store.signs c.args.store.now) (g.St.Store.signs c.feed_left.new.store) = record { leaves = c.feed_left.ensures.leaves; slots = c.feed_left.ensures.slots; same = c.feed_left.ensures.same } in
+    let goes : JoinGoes c.args.self.now.op c.feed_left.new.self (g.St.Store.holds c.args.store.now) (g.St.Store.holds c.feed_left.new.store) (g.St.Store.signs c.args.store.now) (g.St.Store.signs c.feed_left.new.store) = record { leaves = c.feed_left.ensures.takes.leaves; slots = c.feed_left.ensures.takes.slots; same = c.feed_left.ensures.takes.same } in
     left_still _ _ _ _ _ _ goes
 
 pub returns-in-Err-Pool-clause-cause : goal.returns-in-Err-Pool-clause-cause
@@ -59,10 +59,10 @@ returns-in-Err-Pool-clause-cause g c = λ first h s before.
     join_stops first.op c.args.self.now.op h _ s _ _ c.in-Err-Pool.e before (pool_stops _ _ (g.St.Store.holds c.feed_left.new.store) _ _ _ c.in-Err-Pool.e is came want)
 
 pub returns-in-Ok-clause-few : goal.returns-in-Ok-clause-few
-returns-in-Ok-clause-few g c = λ first rows h s fed made. join_makes_then rows c.args.row.now s (g.St.Store.signs c.args.store.now) (g.St.Store.signs c.feed_left.new.store) made c.feed_left.ensures.few
+returns-in-Ok-clause-few g c = λ first rows h s fed made. join_makes_then rows c.args.row.now s (g.St.Store.signs c.args.store.now) (g.St.Store.signs c.feed_left.new.store) made c.feed_left.ensures.takes.few
 
 pub returns-in-Err-Pool-clause-few : goal.returns-in-Err-Pool-clause-few
-returns-in-Err-Pool-clause-few g c = λ first rows h s fed made. join_makes_then rows c.args.row.now s (g.St.Store.signs c.args.store.now) (g.St.Store.signs c.feed_left.new.store) made c.feed_left.ensures.few
+returns-in-Err-Pool-clause-few g c = λ first rows h s fed made. join_makes_then rows c.args.row.now s (g.St.Store.signs c.args.store.now) (g.St.Store.signs c.feed_left.new.store) made c.feed_left.ensures.takes.few
 
 pub returns-in-Err-Pool-clause-enough : goal.returns-in-Err-Pool-clause-enough
 returns-in-Err-Pool-clause-enough g c = λ first rows h s fed goes.

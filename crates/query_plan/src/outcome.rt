@@ -1,10 +1,8 @@
 // What a query that ran has to tell.
 
 ghost use Rattle.std.specs.Prelude.{◌≡◌};
-ghost use Rattle.query_run.specs.Causes.{cause_of_input};
 
-use csv_edge::InputErr;
-use query_plan::Side;
+use crate::plan::Side;
 use reservation_tree::PoolErr;
 use row_codec::Memory;
 use std::alloc::{AllocError, AllocFailed, Global};
@@ -26,13 +24,14 @@ impl Model for Totals {
 }
 
 impl Totals {
-    // These sums.
-    pub(crate) fn of(items: Vec<i128>) -> Totals
+    /// These sums.
+    pub fn of(items: Vec<i128>) -> Totals
         ensures { result ≡ items.items }
     {
         Totals { items }
     }
 
+    /// The sums, in the order of the aggregates.
     pub fn as_slice(&self) -> &[i128]
         ensures { result.now ≡ self.now }
     {
@@ -102,28 +101,8 @@ pub enum QueryErr {
     Pool(PoolErr),
 }
 
-impl QueryErr {
-    // What the refusal of an input is to the query that reads it.
-    pub(crate) fn of_input(side: Side, e: InputErr) -> QueryErr
-        ensures { result ≡ cause_of_input side e }
-    {
-        match e {
-            InputErr::Fault => QueryErr::SourceFault { side },
-            InputErr::Header => QueryErr::BadHeader { side },
-            InputErr::Csv { number } => QueryErr::BadCsv { side, number },
-            InputErr::Field { number, column } => QueryErr::BadField {
-                side,
-                number,
-                column,
-            },
-            InputErr::TooLarge => QueryErr::TooLarge { side },
-            InputErr::Memory => QueryErr::Pool(PoolErr::Memory),
-        }
-    }
-}
-
 impl From<PoolErr> for QueryErr {
-    ghost use Rattle.query_run.specs.declared.outcome.QueryErr.TheVariants as err;
+    ghost use Rattle.query_plan.specs.declared.outcome.QueryErr.TheVariants as err;
     ghost use Rattle.std.specs.Prelude.{◌≡◌};
 
     ghost from_gives = { λ cause e. e ≡ err.Pool cause };
@@ -134,7 +113,7 @@ impl From<PoolErr> for QueryErr {
 }
 
 impl From<Memory> for QueryErr {
-    ghost use Rattle.query_run.specs.declared.outcome.QueryErr.TheVariants as err;
+    ghost use Rattle.query_plan.specs.declared.outcome.QueryErr.TheVariants as err;
     ghost use Rattle.reservation_tree.specs.declared.errors.PoolErr.TheVariants.{Memory};
     ghost use Rattle.std.specs.Prelude.{◌≡◌};
 
@@ -146,7 +125,7 @@ impl From<Memory> for QueryErr {
 }
 
 impl From<AllocError> for QueryErr {
-    ghost use Rattle.query_run.specs.declared.outcome.QueryErr.TheVariants as err;
+    ghost use Rattle.query_plan.specs.declared.outcome.QueryErr.TheVariants as err;
     ghost use Rattle.reservation_tree.specs.declared.errors.PoolErr.TheVariants.{Memory};
     ghost use Rattle.std.specs.Prelude.{◌≡◌};
 
@@ -158,7 +137,7 @@ impl From<AllocError> for QueryErr {
 }
 
 impl<T: Drop> From<AllocFailed<T>> for QueryErr {
-    ghost use Rattle.query_run.specs.declared.outcome.QueryErr.TheVariants as err;
+    ghost use Rattle.query_plan.specs.declared.outcome.QueryErr.TheVariants as err;
     ghost use Rattle.reservation_tree.specs.declared.errors.PoolErr.TheVariants.{Memory};
     ghost use Rattle.std.specs.Prelude.{◌≡◌};
 
