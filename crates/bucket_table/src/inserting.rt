@@ -10,6 +10,9 @@ impl BucketTable {
     /// Adds a row in front of the chain of this hash, and gives the number of its node. The first four bytes of the row
     /// count those behind them, as they do in every encoded row. This takes no memory.
     ///
+    /// A caller hands it `spread(hash)`, and the same to `find_first` and `find_row`: by the hashes themselves, the rows of a
+    /// partition would stand on few of the chains.
+    ///
     /// # Errors
     ///
     /// `Full`: fewer than four bytes more than the row are left of the node area.

@@ -10,7 +10,7 @@ use row_codec::{Bytes, Column, Kind, Memory};
 use std::alloc::Global;
 
 /// A declared column, and the place of its field in each record.
-#[derive(Clone, Copy, Debug, PartialEq, Eq)]
+#[derive(Clone, Copy)]
 pub(crate) struct Placed {
     pub(crate) place: usize,
     pub(crate) kind: Kind,

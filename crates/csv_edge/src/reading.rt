@@ -45,6 +45,12 @@ impl<'a, S: Source> RowsOver<'a, S, Option<Box<Open>>> {
     /// What the rows before were is forgotten. An input that passes a limit is refused when that
     /// shows: of one with too many bytes, the rows before the refusal are some of those before the
     /// limit.
+    ///
+    /// # Errors
+    ///
+    /// `Header`: there is no record, or the name of a column doesn't stand in the header exactly once. `TooLarge`: no
+    /// record is allowed, or the input has more bytes than are allowed. `Fault`: the source failed, and its count of
+    /// faults rose. `Memory`. After an error no row comes.
     pub fn start(
         &mut self,
         alloc: Global,
@@ -77,6 +83,13 @@ impl<'a, S: Source> RowsOver<'a, S, Option<Box<Open>>> {
     /// the end. The memory of the list and of its texts is used again.
     ///
     /// Behind `false` and behind an error the list has any values.
+    ///
+    /// # Errors
+    ///
+    /// Of the next record, looked at in this order: `Csv`, it has another number of fields than the header; `TooLarge`,
+    /// it is one more than are allowed; `Field`, a field spells no value of its column's kind, the first such column.
+    /// Besides `TooLarge`: the input has more bytes than are allowed; `Fault`: the source failed, and its count of faults
+    /// rose; `Memory`. No row comes behind an error: each later call answers `false`, until the rows are started again.
     pub fn next_into(&mut self, row: &mut Vec<Value>) -> Result<bool, InputErr>
         ensures row { IfOk result (λ found. found ≡ true → Becomes (row_then row.new.items) (rest_of S.remaining self.old) (rest_of S.remaining self.new)) }
         ensures goes_on { IfOk result (λ found. found ≡ true → GoesOn row.new.items self.old self.new) }
@@ -118,6 +131,10 @@ impl<'a, S: Source> RowsOver<'a, S, Option<Box<Open>>> {
     }
 
     /// The next row, or `None` at the end of the input, and behind a refusal or the end.
+    ///
+    /// # Errors
+    ///
+    /// Those of [`RowsOver::next_into`]. Behind an error each later call answers `None`.
     pub fn next(&mut self) -> Result<Option<Vec<Value>>, InputErr>
         ensures row { IfOk result (λ next. IfSome next (λ row. Becomes (row_then row.items) (rest_of S.remaining self.old) (rest_of S.remaining self.new))) }
         ensures goes_on { IfOk result (λ next. IfSome next (λ row. GoesOn row.items self.old self.new)) }

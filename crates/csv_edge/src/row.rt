@@ -11,7 +11,7 @@ use row_codec::{Bytes, Kind, Memory, Value};
 use std::alloc::Global;
 
 /// The first declared column in which a record has no value.
-#[derive(Clone, Copy, Debug, PartialEq, Eq)]
+#[derive(Clone, Copy)]
 pub(crate) struct NoValue {
     pub(crate) column: u32,
 }

@@ -7,7 +7,7 @@ ghost use Rattle.csv_edge.specs.Cutting.{FrontIs, HasNone, after_bytes};
 use memchr::memchr;
 
 /// Where a scan of an input's bytes stands.
-#[derive(Clone, Copy, Debug, PartialEq, Eq)]
+#[derive(Clone, Copy)]
 pub(crate) enum Scan {
     /// At the start of a field.
     Start,
@@ -56,7 +56,7 @@ impl Scan {
 }
 
 /// How much of some bytes belongs to a piece.
-#[derive(Clone, Copy, Debug, PartialEq, Eq)]
+#[derive(Clone, Copy)]
 pub(crate) enum Front {
     /// So many bytes: a cut stands behind them.
     Cut(usize),

@@ -8,7 +8,12 @@ ghost use Rattle.csv_edge.specs.Written.{AppendsFront};
 
 use outside::{Failed, Sink};
 
-/// Appends the whole piece. After [`Failed`] a front of it stands in the sink, and nothing behind the first failed write.
+/// Appends the whole piece, in one write or in several.
+///
+/// # Errors
+///
+/// [`Failed`]: a write failed, and the sink's count of faults rose. A front of the piece stands in the sink then, and nothing
+/// behind the first failed write.
 pub fn write_whole<K: Sink>(sink: &mut K, piece: &[u8]) -> Result<(), Failed>
     ensures ok { OnOk result (Appends (K.contents sink.old) (K.contents sink.new) piece.now) }
     ensures err { OnErr result (AppendsFront (K.contents sink.old) (K.contents sink.new) piece.now) }

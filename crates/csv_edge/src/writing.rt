@@ -11,6 +11,10 @@ use std::alloc::Global;
 use std::marker::Model;
 
 /// The line of a row, quoted where `csv` quotes, with a newline at its end.
+///
+/// # Errors
+///
+/// `Memory`: there was none for the line.
 pub fn row_text(alloc: Global, row: &[Value]) -> Result<Vec<u8>, Memory>
     ensures { IfOk result (λ text. text.items ≡ line_of row.now) }
 {
@@ -54,6 +58,11 @@ impl Lines {
     }
 
     /// Adds the line of this row. Rows may be of any length.
+    ///
+    /// # Errors
+    ///
+    /// `Memory`: there was none for the line. A part of it may stand in the text, which must not be used: each later
+    /// call answers `Memory` too.
     pub fn push(&mut self, row: &[Value]) -> Result<(), Memory>
         ensures ok { OnOk result (self.new ≡ self.old ++ line_of row.now) }
     {
@@ -67,6 +76,10 @@ impl Lines {
     }
 
     /// The text of all lines.
+    ///
+    /// # Errors
+    ///
+    /// `Memory`: there was none for a line, in this call or in an earlier one. There is no text then.
     pub fn finish(self) -> Result<Vec<u8>, Memory>
         ensures { IfOk result (λ text. text.items ≡ self) }
     {

@@ -12,6 +12,11 @@ use crate::tree::Tree;
 impl Tree {
     /// Raises the reservation by `bytes`. Each ancestor grows by what its unused bytes don't cover of the
     /// growth below it.
+    ///
+    /// # Errors
+    ///
+    /// `NoReservation`: a limit would be passed. It names the lowest such tracker on the way to the root, the bytes by
+    /// which that tracker would have had to grow, and its room: its limit less its reservation. Nothing changed.
     pub fn increase(&mut self, t: TrackerId, bytes: u64) -> Result<(), PoolErr>
         requires { IsLive self.old.trackers t }
         ensures ok { OnOk result (self.new ≡ with_trackers (grow (charge_of self.old) bytes t self.old.trackers) self.old) }
@@ -105,6 +110,10 @@ impl Tree {
     }
 
     /// Raises the reservation until `bytes` are unused, where so many aren't.
+    ///
+    /// # Errors
+    ///
+    /// `NoReservation`: as for [`Tree::increase`] by the bytes that are lacking. Nothing changed.
     pub fn increase_to_fit(&mut self, t: TrackerId, bytes: u64) -> Result<(), PoolErr>
         requires { IsLive self.old.trackers t }
         ensures ok { OnOk result (self.new ≡ with_trackers (grow (charge_of self.old) (lacking (charge_of self.old) bytes t self.old.trackers) t self.old.trackers) self.old) }
@@ -153,6 +162,11 @@ impl Tree {
     ///
     /// Those from `src` up to below the nearest common ancestor fall, and those from `dst` up to below it
     /// rise. Where both are one tracker nothing changes.
+    ///
+    /// # Errors
+    ///
+    /// `NoReservation`: the limit of a tracker that would rise would be passed. It names the lowest such tracker, `bytes`
+    /// as what was wanted, and its room. Nothing changed.
     pub fn transfer(&mut self, src: TrackerId, dst: TrackerId, bytes: u64) -> Result<(), PoolErr>
         requires live { IsLive self.old.trackers src }
         requires dst_live { IsLive self.old.trackers dst }

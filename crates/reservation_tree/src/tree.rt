@@ -76,6 +76,10 @@ impl Tree {
     }
 
     /// A new tracker under `parent`, with this limit and the reservation 0. Its number is below `MAX_TRACKERS`.
+    ///
+    /// # Errors
+    ///
+    /// `TooManyTrackers`, with 4096: `MAX_TRACKERS` trackers are live, the root among them. Nothing changed.
     pub fn add_child(&mut self, parent: TrackerId, limit: u64) -> Result<TrackerId, PoolErr>
         requires { IsLive self.old.trackers parent }
         ensures ok { IfOk result (λ t. self.new ≡ with_new t parent limit self.old) }

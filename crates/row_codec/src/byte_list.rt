@@ -37,6 +37,10 @@ impl Eq for Bytes {
 
 impl Bytes {
     /// A copy of these bytes.
+    ///
+    /// # Errors
+    ///
+    /// `Memory`: there was none for the copy.
     pub fn of(alloc: Global, bytes: &[u8]) -> Result<Bytes, Memory>
         ensures copy { IfOk result (λ text. text ≡ bytes.now) }
     {
@@ -45,6 +49,10 @@ impl Bytes {
     }
 
     /// Holds these bytes in place of its own. Its memory is used again.
+    ///
+    /// # Errors
+    ///
+    /// `Memory`: there was none for the bytes. What the text holds then is left open.
     #[inline]
     pub fn refill(&mut self, bytes: &[u8]) -> Result<(), Memory>
         ensures copy { OnOk result (self.new ≡ bytes.now) }

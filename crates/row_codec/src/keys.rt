@@ -16,6 +16,10 @@ const INT: u8 = 1;
 const TEXT: u8 = 2;
 
 /// Writes the key of a row in these columns behind what is there.
+///
+/// # Errors
+///
+/// `Memory`: there was none for the key's bytes. `out` has what it had.
 #[tactic(auto, unfolding(crate::specs::RowBytes::key_bytes, crate::specs::RowBytes::row_bytes))]
 pub fn key_bytes(row: &[Value], cols: &[usize], out: &mut Vec<u8>) -> Result<(), Memory>
     requires inside { All (λ column. column < length row.now) cols.now }

@@ -32,6 +32,10 @@ impl Model for PathKey {
 
 impl PathKey {
     /// A key of a copy of these bytes.
+    ///
+    /// # Errors
+    ///
+    /// `Memory`: there was none for the copy.
     pub fn of(alloc: Global, bytes: &[u8]) -> Result<PathKey, Memory>
         ensures copy { IfOk result (λ key. key ≡ bytes.now) }
     {
@@ -59,6 +63,10 @@ impl PathKey {
     }
 
     /// Takes other bytes, in the memory that is there where they fit.
+    ///
+    /// # Errors
+    ///
+    /// `Memory`: there was none for the bytes. The key stays as it was.
     pub fn set(&mut self, bytes: &[u8]) -> Result<(), Memory>
         ensures ok { OnOk result (self.new ≡ bytes.now) }
         ensures err { OnErr result (self.new ≡ self.old) }
@@ -72,6 +80,10 @@ impl PathKey {
     }
 
     /// The same key again, with no second hash.
+    ///
+    /// # Errors
+    ///
+    /// `Memory`: there was none for the copy.
     pub fn copy(&self, alloc: Global) -> Result<PathKey, Memory>
         ensures copy { IfOk result (λ key. key ≡ self.now) }
     {

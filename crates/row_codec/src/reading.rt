@@ -11,6 +11,14 @@ use crate::values::{Kind, Value};
 use std::alloc::Global;
 
 /// The row of these kinds at the front of the bytes, and how many of them it takes.
+///
+/// `None` comes exactly where the bytes begin with no row of these kinds: there is no kind; fewer than four bytes stand
+/// there; fewer stand behind them than these four say; or those are not a field of each kind, in this order, and nothing
+/// else. What follows the row is not looked at.
+///
+/// # Errors
+///
+/// `Memory`: there was none for the row or for a text in it.
 #[tactic(auto, using(crate::proofs::ReadBack::none_begins), unfolding(crate::specs::RowReading::row_at))]
 pub fn decode_row(
     alloc: Global,

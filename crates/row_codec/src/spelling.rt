@@ -17,6 +17,10 @@ pub fn encoded_len(row: &[Value]) -> u64
 }
 
 /// Writes a row behind what is there.
+///
+/// # Errors
+///
+/// `Memory`: there was none for the row's bytes. `out` has what it had.
 #[tactic(auto, unfolding(crate::specs::RowBytes::row_bytes))]
 pub fn encode_row(row: &[Value], out: &mut Vec<u8>) -> Result<(), Memory>
     requires short { length (row_bytes row.now) < 2 ^ 32 }

@@ -44,6 +44,10 @@ impl<E> Model for Solo<E> {
 
 impl<E> Solo<E> {
     /// The empty trail.
+    ///
+    /// # Errors
+    ///
+    /// `Memory`: there was none for the table of one word that stands behind the trail.
     pub fn open(alloc: Global) -> Result<Solo<E>, Memory>
         ensures { IfOk result (λ trail. trail ≡ []) }
     {

@@ -24,7 +24,11 @@ pub struct MeetGate {
 
 impl MeetGate {
     /// A gate at which no one has been: it holds `held`, an actor and a point, until `until` has passed, each for at most
-    /// so many turns. It takes no memory.
+    /// so many turns.
+    ///
+    /// # Errors
+    ///
+    /// `Memory` is left open, since no clause speaks of it; the call takes none.
     pub fn new(held: (u32, Point), until: (u32, Point), turns: u64) -> Result<MeetGate, Memory> {
         Ok(MeetGate {
             held,

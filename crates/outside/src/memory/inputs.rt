@@ -75,6 +75,10 @@ pub struct MemInputs {
 
 impl MemInputs {
     /// Inputs with no name.
+    ///
+    /// # Errors
+    ///
+    /// `Memory` is left open by the contract; the call takes none.
     pub fn new(alloc: Global) -> Result<MemInputs, Memory>
         ensures empty { IfOk result (λ inputs. (name : List ℕ) → file_at inputs name ≡ None) }
         ensures faults { IfOk result (λ inputs. (name : List ℕ) → faults_of_input inputs name ≡ 0) }
@@ -91,6 +95,11 @@ impl MemInputs {
     /// Puts a copy of `bytes` under `name`, in the place of what stood there. A source of them gives
     /// at most `chunk` bytes a read, and its reads that stand in `fails` are faults. The faults of
     /// the name stay.
+    ///
+    /// # Errors
+    ///
+    /// `Memory`: there was none for the copy, the list of the reads that fail, or the name. What stood under each name
+    /// stays.
     pub fn put(
         &mut self,
         name: &str,

@@ -90,6 +90,10 @@ pub struct MemOutputs {
 
 impl MemOutputs {
     /// Outputs of which none was created.
+    ///
+    /// # Errors
+    ///
+    /// `Memory` is left open by the contract; the call takes none.
     pub fn new(alloc: Global) -> Result<MemOutputs, Memory>
         ensures empty { IfOk result (λ outputs. (name : List ℕ) → output_at outputs name ≡ None) }
         ensures faults { IfOk result (λ outputs. (name : List ℕ) → faults_of_output outputs name ≡ 0) }
@@ -107,6 +111,10 @@ impl MemOutputs {
 
     /// Sets the writes that fail of each sink that is created under `name` from now on, by their
     /// numbers, counted from 0 for each sink.
+    ///
+    /// # Errors
+    ///
+    /// `Memory`: there was none for the list or the name. Which calls fail stays as it was, for each name.
     pub fn fail(&mut self, name: &str, fails: &[u64]) -> Result<(), Memory>
         ensures ok { OnOk result (Changes name.now (record (failing_at self.old name.now) { fails = fails.now }) (failing_at self.old) (failing_at self.new)) }
         ensures err { OnErr result (AllStay (failing_at self.old) (failing_at self.new)) }
@@ -121,6 +129,10 @@ impl MemOutputs {
     }
 
     /// Sets whether every `create`, and whether every `done`, of `name` fails from now on.
+    ///
+    /// # Errors
+    ///
+    /// `Memory`: there was none for a list or the name. Which calls fail stays as it was, for each name.
     pub fn refuse(&mut self, name: &str, create: bool, done: bool) -> Result<(), Memory>
         ensures ok { OnOk result (Changes name.now (record (failing_at self.old name.now) { create = create; done = done }) (failing_at self.old) (failing_at self.new)) }
         ensures err { OnErr result (AllStay (failing_at self.old) (failing_at self.new)) }

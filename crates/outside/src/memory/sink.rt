@@ -42,6 +42,10 @@ impl Model for MemSink {
 impl MemSink {
     /// An empty sink, of which a write takes at most `chunk` bytes. The writes whose numbers,
     /// counted from 0, stand in `fails` are faults.
+    ///
+    /// # Errors
+    ///
+    /// `Memory`: there was none for the list of the writes that fail.
     pub fn new(alloc: Global, chunk: usize, fails: &[u64]) -> Result<MemSink, Memory>
         requires { 0 < chunk }
         ensures { IfOk result (λ s. s ≡ fresh_sink chunk fails.now) }

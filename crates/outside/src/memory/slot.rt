@@ -41,6 +41,10 @@ impl Model for MemSlot {
 impl MemSlot {
     /// An empty slot. The stores and loads whose numbers, counted together from 0, stand in `fails`
     /// are faults.
+    ///
+    /// # Errors
+    ///
+    /// `Memory`: there was none for the list of the calls that fail.
     pub fn new(alloc: Global, fails: &[u64]) -> Result<MemSlot, Memory>
         ensures { IfOk result (λ s. s ≡ fresh_slot fails.now []) }
     {
@@ -49,6 +53,10 @@ impl MemSlot {
 
     /// The same, but that the load with a number in `lies` gives the block beside it, where that is as
     /// long as the load, in the place of what the slot holds.
+    ///
+    /// # Errors
+    ///
+    /// `Memory`: there was none for the list of the calls that fail or for the copies of the blocks.
     pub fn lying(alloc: Global, fails: &[u64], lies: &[(u64, Vec<u8>)]) -> Result<MemSlot, Memory>
         ensures { IfOk result (λ s. s ≡ fresh_slot fails.now (map (λ lie. (lie.0, lie.1.items)) lies.now)) }
     {

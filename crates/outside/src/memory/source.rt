@@ -35,6 +35,10 @@ impl Model for MemSource {
 impl MemSource {
     /// A source of a copy of `bytes`, of which a read gives at most `chunk`. The reads whose
     /// numbers, counted from 0, stand in `fails` are faults.
+    ///
+    /// # Errors
+    ///
+    /// `Memory`: there was none for the copy or for the list of the reads that fail.
     pub fn over(
         alloc: Global,
         bytes: &[u8],
