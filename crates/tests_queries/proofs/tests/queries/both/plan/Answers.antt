@@ -48,7 +48,7 @@ returns-clause-runnable c =
     let group : c.from_vec-2.result ≡ 3 ∷ [] = search rules in
     let aggs : c.from_vec-3.result ≡ Count ∷ Sum 0 ∷ [] = search rules in
     let groups-it : not (length c.from_vec-2.result == 0) ≡ true = rw group refl in
-    let plan : Query = record { page_blocks = 1; limit = 8192; quota = 700; output = c.from_string.result; left = c.in_ok-side.field-0; right = Some c.in_ok-side-2.field-0; on = c.from_vec.result; group = c.from_vec-2.result; aggs = c.from_vec-3.result } in
+    let plan : Query = record { page_blocks = 1; limit = 8192; quota = 700; output = c.from_string.result; left = c.in_ok-side.field-0; right = Some c.in_ok-side-2.field-0; on = c.from_vec.result; group = c.from_vec-2.result; aggs = c.from_vec-3.result; fragments = 1 } in
     let kinds : kinds_of_columns (row_columns plan) ≡ both = joined_kinds plan c.in_ok-side-2.field-0 refl ∙ ap₂ (λ (ls rs : List Kind). ls ++ rs) c.in_ok-side.ensures.kinds c.in_ok-side-2.ensures.kinds in
     record {
       paged = refl;
