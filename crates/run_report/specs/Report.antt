@@ -6,6 +6,7 @@ use Rattle.query_plan.specs.declared.plan.Side.{Side}
 use Rattle.query_plan.specs.declared.plan.Side.TheVariants.{Left, Right}
 use Rattle.query_plan.specs.declared.error.PlanErr.{PlanErr}
 use Rattle.query_plan.specs.declared.error.PlanErr.TheVariants as err
+use Rattle.reservation_tree.specs.declared.mark.Mark.{Mark}
 use Rattle.run_report.specs.declared.cause.Cause.{Cause}
 use Rattle.run_report.specs.declared.cause.Cause.TheVariants as cause
 use Rattle.run_report.specs.declared.outcome.Outcome.{Outcome}
@@ -43,6 +44,10 @@ plan_words (err.SameOutput key) = codes "plan" ∷ codes "SameOutput" ∷ key �
 plan_words (err.QuotaSum key) = codes "plan" ∷ codes "QuotaSum" ∷ key ∷ []
 plan_words err.Memory = codes "memory" ∷ []
 
+-- which block it is: its page's name, the version, and its number in the page
+abbrev pub mark_words : Mark → List (List ℕ)
+mark_words mark = decimal mark.name ∷ decimal mark.version ∷ decimal mark.block ∷ []
+
 -- why something was refused
 abbrev pub cause_words : Cause → List (List ℕ)
 cause_words cause.Words = codes "words" ∷ []
@@ -59,6 +64,7 @@ cause_words (cause.Scratch need free) = codes "scratch" ∷ decimal need ∷ dec
 cause_words cause.Names = codes "names" ∷ []
 cause_words (cause.Write entry) = codes "write" ∷ decimal entry ∷ []
 cause_words (cause.Read entry) = codes "read" ∷ decimal entry ∷ []
+cause_words (cause.Stale wanted found) = codes "stale" ∷ (mark_words wanted ++ mark_words found)
 cause_words cause.Output = codes "output" ∷ []
 cause_words cause.Memory = codes "memory" ∷ []
 

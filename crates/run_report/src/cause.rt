@@ -1,6 +1,7 @@
 //! Why something was refused.
 
 use query_plan::{PlanErr, Side};
+use reservation_tree::Mark;
 use row_codec::Bytes;
 
 /// What came before a refusal. `side` tells which input of a query it was, `number` which record
@@ -65,6 +66,11 @@ pub enum Cause {
     /// A page could not be read; `entry` is where the history has that failure, from 0.
     Read {
         entry: u64,
+    },
+    /// A block came back that is not the one that was last stored there: its mark is `found`, and that one's is `wanted`.
+    Stale {
+        wanted: Mark,
+        found: Mark,
     },
     /// The answer could not be written.
     Output,

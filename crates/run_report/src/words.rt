@@ -1,11 +1,12 @@
 // The words of a cause, written into a line.
 
 ghost use Rattle.std.specs.Prelude.{◌≡◌, ◌++◌, ◌∷◌, [], codes, decimal, OnOk};
-ghost use Rattle.run_report.specs.Report.{cause_words, plan_words, side_word, spaced, tracker_word};
+ghost use Rattle.run_report.specs.Report.{cause_words, mark_words, plan_words, side_word, spaced, tracker_word};
 
 use crate::cause::Cause;
 use crate::line::Line;
 use query_plan::{PlanErr, Side};
+use reservation_tree::Mark;
 use row_codec::{Bytes, Memory};
 
 fn word_of_side(side: Side) -> &'static [u8]
@@ -74,6 +75,15 @@ fn write_two(line: &mut Line, what: &[u8], first: u64, second: u64) -> Result<()
     line.number(second)
 }
 
+// Which block it is.
+fn write_mark(line: &mut Line, mark: Mark) -> Result<(), Memory>
+    ensures { OnOk result (line.new ≡ line.old ++ spaced (mark_words mark)) }
+{
+    line.number(mark.name)?;
+    line.number(mark.version)?;
+    line.number(mark.block)
+}
+
 /// Adds the words of a cause, each with a space before it.
 pub fn write_cause(line: &mut Line, cause: &Cause) -> Result<(), Memory>
     ensures { OnOk result (line.new ≡ line.old ++ spaced (cause_words cause.now)) }
@@ -108,6 +118,11 @@ pub fn write_cause(line: &mut Line, cause: &Cause) -> Result<(), Memory>
         Cause::Names => line.word(b"names"),
         Cause::Write { entry } => line.counted(b"write", *entry),
         Cause::Read { entry } => line.counted(b"read", *entry),
+        Cause::Stale { wanted, found } => {
+            line.word(b"stale")?;
+            write_mark(line, *wanted)?;
+            write_mark(line, *found)
+        }
         Cause::Output => line.word(b"output"),
         Cause::Memory => line.word(b"memory"),
     }

@@ -1,4 +1,5 @@
 use query_plan::{PlanErr, Side};
+use reservation_tree::Mark;
 use row_codec::Bytes;
 use run_report::{Cause, Memory, Outcome, outcome_line};
 use std::alloc::Global;
@@ -117,6 +118,22 @@ fn each_cause_has_its_words(rt: HostRuntime) -> Result<(), Fail> {
         (7, Cause::Names, "7 names\n"),
         (8, Cause::Write { entry: 0 }, "8 write 0\n"),
         (8, Cause::Read { entry: 25 }, "8 read 25\n"),
+        (
+            11,
+            Cause::Stale {
+                wanted: Mark {
+                    name: 3,
+                    version: 7,
+                    block: 1,
+                },
+                found: Mark {
+                    name: u64::MAX,
+                    version: 0,
+                    block: u32::MAX,
+                },
+            },
+            "11 stale 3 7 1 18446744073709551615 0 4294967295\n",
+        ),
         (9, Cause::Output, "9 output\n"),
         (10, Cause::Memory, "10 memory\n"),
     ];
