@@ -28,7 +28,7 @@ use Rattle.session_calls.specs.Outgoing.{opening_tally, tally_whole}
 use Rattle.pool.specs.declared.item.Item.{Item}
 use Rattle.pool.specs.Items.{door, history, needs_of}
 use Rattle.pool.specs.Seats.{Quotas, live_in, quotas_in}
-use Rattle.pool.specs.Opening.{ClosesTraced, ClosesWith}
+use Rattle.pool.specs.Opening.{ClosesTraced, ClosesWith, HasNumbers}
 use Rattle.pool.specs.Standing.{StandsAs}
 use Rattle.pool.proofs.Beside.{quotas_beside}
 use Rattle.pool.proofs.Summed.{none_out, ones, whole_home}
@@ -84,16 +84,17 @@ module _ {D : Type 0} (slot : Ghosts D) (o : Opening) (told : Bool) (first : Tal
     }
 
     -- and the trace is that of a legal history, cut
-    pub closed_traced : (slots : List D) → ((measure : D → ℕ) → sum_by measure slots ≡ slots_home measure v) → (trace : Trace) → IsTraceOf sight.trail trace → LegalHistoriesHaveTraces → TraceFronts
+    pub closed_traced : (slots : List D) → ((measure : D → ℕ) → sum_by measure slots ≡ slots_home measure v) → (trace : Trace) → HasNumbers o trace → IsTraceOf sight.trail trace → LegalHistoriesHaveTraces → TraceFronts
         → ClosesTraced slot o told first pass slots trace
     unfolding closed_with
-    closed_traced slots home trace is legal fronts =
+    closed_traced slots home trace numbers is legal fronts =
         let same : history log ≡ sight.trail = sym (ap (λ (z : Sight). z.trail) stood.sight_is) in
         let all = skeletons (history log) in
         let its : IsTraceOf (history log) trace = subst (λ (h : List Entry). IsTraceOf h trace) (sym same) is in
         let count = length trace.entries.items in
         record {
           closes = closed_with slots home;
+          opening = numbers;
           entries = its;
           legal = subst (IsLegalTrace o) (sym its.first)
               (fronts o (take count all) (drop count all) (subst (IsLegalTrace o) (sym (take-append-drop count all)) (legal o (history log) (legal_here slot o told first log sight v stood))));

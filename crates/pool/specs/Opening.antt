@@ -17,6 +17,12 @@ use Rattle.pool.specs.declared.item.Item.{Item}
 use Rattle.pool.specs.Items.{history, needs_of}
 use Rattle.pool.specs.Standing.{IsMarked}
 
+-- the trace has the numbers with which the pool opened
+pub record HasNumbers (o : Opening) (trace : Trace) : Type 0 where
+  pub blocks : trace.blocks ≡ o.blocks
+  pub block_len : trace.block_len ≡ o.block_len
+  pub first_name : trace.first_name ≡ o.first_name
+
 module _ {D : Type 0} (slot : Ghosts D) where
   -- this is with what a pool opens that has these numbers and slots; each slot tells what it holds, where that is said;
   -- and so they count
@@ -36,8 +42,9 @@ module _ {D : Type 0} (slot : Ghosts D) where
     pub tell : told ≡ true → sum_by (silence slot) slots ≡ 0
     pub counted : Counted (all_failures (history items)) (written_blocks (history items)) (all_stale (history items)) first (tally_of slot slots)
 
-  -- and with this trace, which is legal: it has the first entries of the history, and tells whether there were more
+  -- and with this trace, which is legal: it has the pool's numbers and the first entries of the history, and tells whether there were more
   pub record ClosesTraced (o : Opening) (told : Bool) (first : Tally) (pass : Spot Item) (slots : List D) (trace : Trace) : Type 0 where
     pub closes : ClosesWith o told first pass slots
+    pub opening : HasNumbers o trace
     pub entries : IsTraceOf (history closes.items) trace
     pub legal : IsLegalTrace o trace.entries.items

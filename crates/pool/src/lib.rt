@@ -49,5 +49,6 @@ pub use place::Place;
 pub use pool::Pool;
 pub use seat::{SessionSeat, Sitting};
 pub use session::{GatedSession, Session};
+pub use session_calls::Trace;
 pub use shared::Shared;
 pub use writer::{WriterSeat, WriterTurn};

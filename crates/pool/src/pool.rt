@@ -37,7 +37,9 @@ use turn_table::{Solo, Turns};
 /// Contracts see which turn lock it is. It can't be let go: it ends by `close`.
 pub struct Pool<D: Slot, T: OpenedAs = Brand> {
     pub(crate) turns: Turns<Shared<D, T>>,
+    pub(crate) blocks: u32,
     pub(crate) block_len: u32,
+    pub(crate) first_name: u64,
 }
 
 impl<D: Slot, T: OpenedAs> Model for Pool<D, T> {
@@ -49,7 +51,7 @@ impl<D: Slot, T: OpenedAs> Model for Pool<D, T> {
 
     ghost view = { λ p. p.turns };
 
-    ghost invariant = { λ p. IsBlockLen p.block_len × (p.block_len ≡ T.opening.block_len) };
+    ghost invariant = { λ p. IsBlockLen p.block_len × (p.block_len ≡ T.opening.block_len) × (p.blocks ≡ T.opening.blocks) × (p.first_name ≡ T.opening.first_name) };
 }
 
 impl<D: Slot + Drop, T: OpenedAs> Pool<D, T> {
@@ -97,8 +99,13 @@ impl<D: Slot + Drop, T: OpenedAs> Pool<D, T> {
         };
         match Turns::with(alloc, shared) {
             Ok((turns, seat)) => {
-                let block_len = conf.block_len;
-                Ok((Pool { turns, block_len }, Pass { seat, spare }))
+                let pool = Pool {
+                    turns,
+                    blocks: conf.blocks,
+                    block_len: conf.block_len,
+                    first_name: conf.first_name,
+                };
+                Ok((pool, Pass { seat, spare }))
             }
             Err((shared, _)) => Err((shared.state.close(), Memory)),
         }
@@ -202,14 +209,16 @@ impl<D: Slot + Drop, T: OpenedAs> Pool<D, T> {
     {
         let Pool {
             turns,
+            blocks: _,
             block_len: _,
+            first_name: _,
         } = self;
         let Pass { seat, spare: _ } = pass;
         turns.close(seat).state.close()
     }
 
     /// The same, with the first entries of the pool's history, as many as it was opened to keep, and whether there were
-    /// more. How many it was opened to keep, contracts don't tell.
+    /// more; and with the numbers with which it opened. How many entries it was opened to keep, contracts don't tell.
     pub fn close_traced(self, pass: Pass<D, T>) -> (Vec<D>, Trace)
         requires table { pass.table ≡ self }
         requires none { live_in pass.knows.seen ≡ 0 }
@@ -218,7 +227,9 @@ impl<D: Slot + Drop, T: OpenedAs> Pool<D, T> {
     {
         let Pool {
             turns,
-            block_len: _,
+            blocks,
+            block_len,
+            first_name,
         } = self;
         let Pass { seat, spare: _ } = pass;
         let Shared {
@@ -230,6 +241,6 @@ impl<D: Slot + Drop, T: OpenedAs> Pool<D, T> {
             first: _,
         } = turns.close(seat);
         law_traces();
-        (state.close(), trail.into_trace())
+        (state.close(), trail.into_trace(blocks, block_len, first_name))
     }
 }

@@ -83,9 +83,10 @@ impl Log {
         self.history.tick::<N>();
     }
 
-    /// What was kept.
-    pub fn into_trace(self) -> Trace
-        ensures { IsTraceOf self result }
+    /// What was kept, of a pool that opened with these numbers.
+    pub fn into_trace(self, blocks: u32, block_len: u32, first_name: u64) -> Trace
+        ensures kept { IsTraceOf self result }
+        ensures opening { (result.blocks ≡ blocks) × (result.block_len ≡ block_len) × (result.first_name ≡ first_name) }
     {
         let Log {
             history: _,
@@ -94,6 +95,9 @@ impl Log {
             more,
         } = self;
         Trace {
+            blocks,
+            block_len,
+            first_name,
             entries: kept,
             more,
         }

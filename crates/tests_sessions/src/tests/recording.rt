@@ -8,9 +8,8 @@ use crate::tests::writers::Writing;
 use crate::tests::{eight_blocks, eight_slots};
 use outside::Slot;
 use pin_core::PoolConf;
-use pool::{OpenedAs, Pool};
+use pool::{OpenedAs, Pool, Trace};
 use reservation_tree::Memory;
-use session_calls::Trace;
 use std::alloc::Global;
 use std::marker::Brand;
 use std::process::Abort;
@@ -102,7 +101,7 @@ fn recorded<D: Slot + Drop + Send, R: Threads + Wait + Abort + Sync>(
     requires slots { vec_len slots ≤ 1048576 }
 {
     let trace = recorded_as::<Brand, D, R>(rt, alloc, conf, slots, scene);
-    let Ok(text) = text_of(alloc, conf, &trace) else {
+    let Ok(text) = text_of(alloc, &trace) else {
         panic!(rt; "no memory for a text");
     };
     let checked = Checked {
@@ -136,11 +135,11 @@ fn recorded_as<T: OpenedAs + Send, D: Slot + Drop + Send, R: Threads + Wait + Ab
 }
 
 // The lines of a trace.
-fn text_of(alloc: Global, conf: &PoolConf, trace: &Trace) -> Result<Vec<u8>, Memory> {
+fn text_of(alloc: Global, trace: &Trace) -> Result<Vec<u8>, Memory> {
     let opened = Opened {
-        blocks: conf.blocks,
-        block_len: conf.block_len,
-        first_name: conf.first_name,
+        blocks: trace.blocks,
+        block_len: trace.block_len,
+        first_name: trace.first_name,
     };
     let mut text = opening_line(alloc, &opened)?;
     for entry in trace.entries.as_slice() {
