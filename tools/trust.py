@@ -153,11 +153,12 @@ def listing():
     for d in seen:
         crates[d.file.split("/")[1]].append(d)
         files[d.file].append((d.first, d.last, d.name))
+    out += table("crate: definitions, lines", "file", "definitions, with their lines")
     for crate in sorted(crates, key=lambda crate: (-count(crates[crate])[1], crate)):
-        number, lines = count(crates[crate])
-        out += ["", f"### {crate}: definitions {number}, lines {lines}"] + table("file", "definitions, with their lines")
+        head = "**{}**: {}, {}".format(crate, *count(crates[crate]))
         for file in sorted(file for file in files if file.split("/")[1] == crate):
-            out.append(f"| {file.split('/', 2)[2]} | {', '.join(f'`{name}` {a}-{b}' for a, b, name in sorted(files[file]))} |")
+            out.append(f"| {head} | {file.split('/', 2)[2]} | {', '.join(f'`{name}` {a}-{b}' for a, b, name in sorted(files[file]))} |")
+            head = ""
     found = sorted((*type_lines(module), module.split(".")[-1]) for module in types)
     out += ["", f"### Types of code that they name: {len(found)}, lines {sum(lines for _, lines, _ in found)}"] + table("file", "types")
     for file in sorted({file for file, _, _ in found}):

@@ -19,8 +19,8 @@ with-requires-clause-stands g c = (
 pub with-requires-clause-rights : goal.with-requires-clause-rights
 with-requires-clause-rights g c = once
 
-pub invariant_of-result-in-Ok-with : goal.invariant_of-result-in-Ok-with
-invariant_of-result-in-Ok-with g c =
+pub invariant_of-result : goal.invariant_of-result
+invariant_of-result g c =
     is_pass g.T.OpenedAs.opening.slots c.len-spare.result c.in-Ok-with.seat c.in-Ok-with.ensures.ok.1
     (c.len-spare.ensures ∙ c.args.slots.ok.0 ∙ sym c.requires.opens.numbers.slots)
 
