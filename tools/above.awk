@@ -1,9 +1,10 @@
-# Reads the table of docs/CHECKING.md, a row `| `NAME` | PROOF | TESTS | EDITS |` for each crate, and then crates.txt.
+# Reads the table of docs/CHECKING.md, in whose rows each crate has four cells, `NAME` | PROOF | TESTS | EDITS, and then crates.txt.
 
 FNR == NR {
-    if (split($0, cell, "|") > 5 && match(cell[2], /`[a-z_]+`/)) {
-        crate = substr(cell[2], RSTART + 1, RLENGTH - 2)
-        minutes[crate] = cell[3] + cell[4] + cell[5]
+    cells = split($0, cell, "|")
+    for (at = 2; at + 3 < cells; at += 4) if (match(cell[at], /`[a-z_]+`/)) {
+        crate = substr(cell[at], RSTART + 1, RLENGTH - 2)
+        minutes[crate] = cell[at + 1] + cell[at + 2] + cell[at + 3]
     }
     next
 }

@@ -160,9 +160,12 @@ def listing():
             out.append(f"| {head} | {file.split('/', 2)[2]} | {', '.join(f'`{name}` {a}-{b}' for a, b, name in sorted(files[file]))} |")
             head = ""
     found = sorted((*type_lines(module), module.split(".")[-1]) for module in types)
-    out += ["", f"### Types of code that they name: {len(found)}, lines {sum(lines for _, lines, _ in found)}"] + table("file", "types")
-    for file in sorted({file for file, _, _ in found}):
-        out.append(f"| {file} | {', '.join(f'`{name}`' for other, _, name in found if other == file)} |")
+    out += ["", f"### Types of code that they name: {len(found)}, lines {sum(lines for _, lines, _ in found)}"] + table("crate", "types, by file")
+    code = collections.defaultdict(lambda: collections.defaultdict(list))
+    for file, _, name in found:
+        code[file.split("/")[1]][file.split("/", 2)[2]].append(f"`{name}`")
+    for crate, files in code.items():
+        out.append(f"| {crate} | {'; '.join(f'{file}: ' + ', '.join(names) for file, names in files.items())} |")
     for module, name in others:
         kit[module.split(".")[1]].append(name)
     out += ["", "### Names of the kit's libraries that they use"] + table("library", "names")
