@@ -241,6 +241,7 @@ impl<D: Slot + Drop, T: OpenedAs> Pool<D, T> {
             first: _,
         } = turns.close(seat);
         law_traces();
-        (state.close(), trail.into_trace(blocks, block_len, first_name))
+        let trace = trail.into_trace(blocks, block_len, first_name);
+        (state.close(), trace)
     }
 }
