@@ -180,10 +180,12 @@ fn tell<F: Files + AllocGlobal>(
             "{front}the input is too large: all numbers of pages were used up: split the input"
         ),
         ("8", "write") => eprintln!(rt;
-            "{front}a page could not be written to the scratch file: see the reason above"
+            "{front}a page could not be written to the scratch file (event {} of the pool, from 0): see the reason above",
+            Shown(line.numbers)
         ),
         ("8", _) => eprintln!(rt;
-            "{front}a page could not be read from the scratch file: see the reason above"
+            "{front}a page could not be read from the scratch file (event {} of the pool, from 0): see the reason above",
+            Shown(line.numbers)
         ),
         ("9", _) => tell_unwritten(rt, front, ran, line.query),
         ("10", _) => eprintln!(rt; "{front}{OUT_OF_MEMORY}"),

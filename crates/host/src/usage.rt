@@ -14,7 +14,7 @@ usage: spill count FILE COLUMN
 count FILE COLUMN   how often each value of a column occurs in a CSV file
     spill count orders.csv city
     spill count /dev/stdin city < orders.csv
-run PLAN            the queries of a plan's file, one after the other, each into a file of its own
+run PLAN            the queries of a plan's file, beside each other, each into a file of its own
     spill run examples/cities.toml
 selfcheck START ROWS GROUPS BLOCKS
                     groups a table that it makes, of so many ROWS in so many GROUPS, in a memory of BLOCKS of

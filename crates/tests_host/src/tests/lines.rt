@@ -192,7 +192,7 @@ fn a_line_of_a_count_names_its_file_and_record(rt: HostRuntime) -> Result<(), Fa
         (
             8,
             "8 read 3\n",
-            "spill: a page could not be read from the scratch file: see the reason above\n",
+            "spill: a page could not be read from the scratch file (event 3 of the pool, from 0): see the reason above\n",
         ),
     ];
     for (status, report, told) in rows {
