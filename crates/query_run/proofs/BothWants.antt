@@ -27,22 +27,23 @@ use Rattle.join_op.specs.Pairs.{pairs_of}
 use Rattle.query_plan.specs.Sizes.{groups, page_len}
 use Rattle.query_plan.specs.declared.plan.Query.{Query}
 use Rattle.query_plan.specs.declared.plan.SidePlan.{SidePlan}
-use Rattle.query_run.specs.Both.{Told, both_told, passing_of_both}
+use Rattle.query_run.specs.Both.{Told, both_told}
 use Rattle.query_run.specs.Causes.{OfPool}
 use Rattle.query_run.specs.Ending.{cause_of_handed}
 use Rattle.query_run.specs.Feeder.{TookOf, slots_for_rows, slots_in}
 use Rattle.query_run.specs.FeederLaws.{pages_own, slots_same}
-use Rattle.query_run.specs.Input.{passing, passing_in, weight_of}
+use Rattle.query_run.specs.Input.{passing}
 use Rattle.query_run.specs.Inside.{IsOfStore, slots_of_both}
 use Rattle.query_run.specs.Joined.{HasFedBoth}
 use Rattle.query_run.specs.Plans.{join_shape_of, shape_of}
 use Rattle.query_run.specs.Stopped.{StoppedOver}
-use Rattle.query_run.specs.Through.{need, pairs_in, rows_through, weight_through}
+use Rattle.query_run.specs.Through.{count_taken, lefts_taken, need, pairs_taken, rights_taken, weight_taken}
 use Rattle.query_run.specs.Writing.{HoldsFor}
 use Rattle.query_run.specs.declared.feeder.Feeder.{Feeder}
 use Rattle.query_run.specs.declared.feeding.Fed.{Fed}
 use Rattle.query_plan.specs.declared.outcome.QueryErr.{QueryErr}
-use Rattle.query_run.proofs.JoinWants.{many_both, weigh_both}
+use Rattle.query_run.proofs.Accepted.{pairs_whole, told_of}
+use Rattle.query_run.proofs.JoinWants.{both_taken_are, weigh_both}
 use Rattle.query_run.proofs.Orders.{same_many}
 use Rattle.query_run.proofs.Sides.{both_are}
 use Rattle.query_run.proofs.Wants.{div_more, want_more}
@@ -128,23 +129,31 @@ module _ (plan : Query) (page : ℕ) (lefts rights pairs : List (List Value)) wh
       subst (λ (n : ℕ). n ≤ slots_of_both plan page lefts rights pairs) (sym here) (alone_fits (length lefts + length rights) (length pairs) (2 * (join.bytes_of lefts + join.bytes_of rights) / page) (2 * group.bytes_for (shape_of plan) pairs / page) plan.page_blocks) in
       want_more (group.slots_for 544 op h has.fed) (slots_of_both plan page lefts rights pairs) total e most (subst (λ (o : Option ℕ). IsWantBelow (group.slots_for 544 op h has.fed) o e) slots below)
 
--- ---- by the rows that pass
+-- ---- by the rows that are taken
 
--- the slots that a query needs that groups the pairs of these rows
-abbrev pub slots_told : Query → SidePlan → ℕ → Told → ℕ
-slots_told plan asked page both =
-    slots_of_both plan page (passing plan both.left) (passing_in asked both.right) (pairs_of (join_shape_of plan asked) (passing plan both.left) (passing_in asked both.right))
+-- the slots that a query needs that groups pairs
+abbrev pub slots_told : Query → ℕ → Told → ℕ
+slots_told plan page both = slots_of_both plan page (lefts_taken plan page both) (rights_taken plan page both) (pairs_taken plan page both)
 
-pub grouped_below : (plan : Query) (asked : SidePlan) (page : ℕ) (lefts rights : Option (List ℕ)) (left_fed right_fed : Fed) (keeps : List (List Value) → List (List Value) → Type 0) (has : HasFedBoth plan asked page lefts rights left_fed right_fed keeps)
-    → (shape : JoinShape) (now total : Option ℕ) (e : PoolErr) → shape ≡ join_shape_of plan asked → now ≡ total → IsWantBelow (slots_of_both plan page has.lefts has.rights (pairs_of shape has.lefts has.rights)) now e
-    → IfSome (both_told lefts rights) (λ both. IsWantBelow (slots_told plan asked page both) total e)
-grouped_below plan asked page None rights left_fed right_fed keeps has shape now total e is same below = tt
-grouped_below plan asked page (Some l) None left_fed right_fed keeps has shape now total e is same below = tt
-grouped_below plan asked page (Some l) (Some r) left_fed right_fed keeps has shape now total e is same below =
+pub grouped_below : (plan : Query) (asked : SidePlan) (page : ℕ) (lefts rights : Option (List ℕ)) (left_fed right_fed : Fed)
+    → (keeps : List (List Value) → List (List Value) → Type 0) → plan.right ≡ Some asked → groups plan ≡ true
+    → (has : HasFedBoth plan asked page lefts rights left_fed right_fed keeps) (shape : JoinShape) (now total : Option ℕ) (e : PoolErr)
+    → shape ≡ join_shape_of plan asked → now ≡ total
+    → IsWantBelow (slots_of_both plan page has.lefts has.rights (pairs_of shape has.lefts has.rights)) now e
+    → IfSome (both_told lefts rights) (λ both. IsWantBelow (slots_told plan page both) total e)
+grouped_below plan asked page None rights left_fed right_fed keeps planned grouped has shape now total e is same below = tt
+grouped_below plan asked page (Some l) None left_fed right_fed keeps planned grouped has shape now total e is same below = tt
+grouped_below plan asked page (Some l) (Some r) left_fed right_fed keeps planned grouped has shape now total e is same below =
     let are = both_are plan asked page l r left_fed right_fed keeps has in
-    subst (λ (ls : List (List Value)). IsWantBelow (slots_of_both plan page ls (passing_in asked r) (pairs_of (join_shape_of plan asked) ls (passing_in asked r))) total e) are.0
-    (subst (λ (rs : List (List Value)). IsWantBelow (slots_of_both plan page has.lefts rs (pairs_of (join_shape_of plan asked) has.lefts rs)) total e) are.1
-    (subst (λ (s : JoinShape). IsWantBelow (slots_of_both plan page has.lefts has.rights (pairs_of s has.lefts has.rights)) total e) is
+    let taken = both_taken_are plan asked page l r left_fed right_fed keeps planned has in
+    let pairs : pairs_of shape has.lefts has.rights ≡ pairs_taken plan page (told_of l r) =
+    ap (λ (s : JoinShape). pairs_of s has.lefts has.rights) is ∙ ap (λ (ls : List (List Value)). pairs_of (join_shape_of plan asked) ls has.rights) are.0
+    ∙ ap (λ (rs : List (List Value)). pairs_of (join_shape_of plan asked) (passing plan l) rs) are.1
+    ∙ sym (pairs_whole plan page l r has.lefts_fed.are.0 asked planned has.rights_fed.are.0 grouped) in
+    subst (λ (ls : List (List Value)). IsWantBelow (slots_of_both plan page ls (rights_taken plan page (told_of l r))
+    (pairs_taken plan page (told_of l r))) total e) taken.0
+    (subst (λ (rs : List (List Value)). IsWantBelow (slots_of_both plan page has.lefts rs (pairs_taken plan page (told_of l r))) total e) taken.1
+    (subst (λ (ps : List (List Value)). IsWantBelow (slots_of_both plan page has.lefts has.rights ps) total e) pairs
     (subst (λ (o : Option ℕ). IsWantBelow (slots_of_both plan page has.lefts has.rights (pairs_of shape has.lefts has.rights)) o e) same below)))
 
 div_both : (a b k : ℕ) → 0 < k → a / k + b / k ≤ (a + b) / k
@@ -155,31 +164,30 @@ div_both a b k some =
     le-div (a / k + b / k) (a + b) k some (omega (arith, one, two, sum))
 
 -- they are no more than it needs
-need_both : (plan : Query) (asked : SidePlan) (page : ℕ) (l r : List ℕ) → plan.right ≡ Some asked → groups plan ≡ true → 0 < page → slots_told plan asked page (record { left = l; right = r }) ≤ need plan page (record { left = l; right = r }) * plan.page_blocks
-need_both plan asked page l r planned grouped long =
-    let told : Told = record { left = l; right = r } in
-    let lefts = passing plan l in
-    let rights = passing_in asked r in
-    let pairs = pairs_of (join_shape_of plan asked) lefts rights in
-    let are : pairs_in plan told ≡ pairs = rw (grouped, planned) refl in
-    let many = many_both plan asked l r planned in
-    let weigh = weigh_both plan asked l r planned in
-    let count : length (pairs_in plan told) ≡ length pairs = ap length are in
-    let heavy : sum_by (λ row. length (row_bytes row) + 16 * length plan.aggs) (pairs_in plan told) ≡ group.bytes_for (shape_of plan) pairs = ap (group.bytes_for (shape_of plan)) are in
+need_both : (plan : Query) (page : ℕ) (told : Told) → 0 < page → slots_told plan page told ≤ need plan page told * plan.page_blocks
+need_both plan page told long =
+    let lefts = lefts_taken plan page told in
+    let rights = rights_taken plan page told in
+    let pairs = pairs_taken plan page told in
+    let many = length-append lefts rights in
+    let weigh = weigh_both plan lefts rights in
+    let heavy : sum_by (λ row. length (row_bytes row) + 16 * length plan.aggs) pairs ≡ group.bytes_for (shape_of plan) pairs = refl in
     let bytes = 2 * (join.bytes_of lefts + join.bytes_of rights) in
     let others = 2 * group.bytes_for (shape_of plan) pairs in
     let sum = div_both bytes others page long in
-    let wide = div_more (bytes + others) (2 * weight_through plan told + page - 1) page long (omega (arith, weigh, heavy, long)) in
-    let through : length lefts + length rights + length pairs + 2 ≤ rows_through plan told + 16 = omega (arith, many, count) in
+    let wide = div_more (bytes + others) (2 * weight_taken plan page told + page - 1) page long (omega (arith, weigh, heavy, long)) in
+    let taken : length lefts + length rights + length pairs + 2 ≤ count_taken plan page told + 16 = omega (arith, many) in
     mul-le-mul_right plan.page_blocks
-    (let few : min (length lefts + length rights + length pairs + 2) (bytes / page + others / page + 600) ≤ need plan page told = omega (arith, sum, wide, through) in few)
+    (let few : min (length lefts + length rights + length pairs + 2) (bytes / page + others / page + 600) ≤ need plan page told = omega
+    (arith, sum, wide, taken) in few)
 
-pub both_wants : (plan : Query) (asked : SidePlan) (lefts rights : Option (List ℕ)) (h0 : Holdings) (now : Option ℕ) (page : ℕ) (e : PoolErr) → plan.right ≡ Some asked → groups plan ≡ true → page ≡ page_len plan h0.block_len → 0 < page → now ≡ h0.free_slots
-    → IfSome (both_told lefts rights) (λ both. IsWantBelow (slots_told plan asked page both) now e) → IfSome (both_told lefts rights) (λ both. IsWantBelow (need plan (page_len plan h0.block_len) both * plan.page_blocks) h0.free_slots e)
-both_wants plan asked None rights h0 now page e planned grouped is long total wants = tt
-both_wants plan asked (Some l) None h0 now page e planned grouped is long total wants = tt
-both_wants plan asked (Some l) (Some r) h0 now page e planned grouped is long total wants =
-    let both : Told = record { left = l; right = r } in
-    subst (λ (n : ℕ). IsWantBelow (need plan n both * plan.page_blocks) h0.free_slots e) is
-    (want_more (slots_told plan asked page both) (need plan page both * plan.page_blocks) h0.free_slots e (need_both plan asked page l r planned grouped long)
-    (subst (λ (o : Option ℕ). IsWantBelow (slots_told plan asked page both) o e) total wants))
+pub both_wants : (plan : Query) (lefts rights : Option (List ℕ)) (h0 : Holdings) (now : Option ℕ) (page : ℕ) (e : PoolErr) → page ≡ page_len plan h0.block_len
+    → 0 < page → now ≡ h0.free_slots
+    → IfSome (both_told lefts rights) (λ both. IsWantBelow (slots_told plan page both) now e)
+    → IfSome (both_told lefts rights) (λ both. IsWantBelow (need plan (page_len plan h0.block_len) both * plan.page_blocks) h0.free_slots e)
+both_wants plan None rights h0 now page e is long total wants = tt
+both_wants plan (Some l) None h0 now page e is long total wants = tt
+both_wants plan (Some l) (Some r) h0 now page e is long total wants =
+    subst (λ (n : ℕ). IsWantBelow (need plan n (told_of l r) * plan.page_blocks) h0.free_slots e) is
+    (want_more (slots_told plan page (told_of l r)) (need plan page (told_of l r) * plan.page_blocks) h0.free_slots e (need_both plan page (told_of l r) long)
+    (subst (λ (o : Option ℕ). IsWantBelow (slots_told plan page (told_of l r)) o e) total wants))

@@ -28,7 +28,7 @@ use Rattle.query_run.specs.Plans.{join_shape_of}
 use Rattle.query_run.specs.Taking.{GroupMakes}
 use Rattle.query_run.specs.Through.{pairs_in, rows_through}
 use Rattle.query_run.specs.declared.feeding.Fed.{Fed}
-use Rattle.query_run.proofs.Fronts.{first_few}
+use Rattle.query_run.proofs.Fronts.{first_few, first_passing}
 use Rattle.query_run.proofs.KeptFirst.{coming}
 use Rattle.query_run.proofs.Made.{entered_so, entered_then, names_sum}
 use Rattle.query_run.proofs.Orders.{same_many}
@@ -125,10 +125,11 @@ passing-through : (plan : Query) (told : Told) → length (passing plan told.lef
 passing-through plan told = let sum = length-append (passing plan told.left) (right_passing plan.right told.right) in omega (arith, sum)
 
 -- rows of an input that doesn't join
-pub alone_taken : (plan : Query) (told : Option (List ℕ)) (s0 s1 : Signs) → OfTaken plan.left told (λ rows. MakesFew (length rows) s0 s1) → IfSome (both_told told (Some [])) (λ both. MakesFew (16 * rows_through plan both) s0 s1)
-alone_taken plan None s0 s1 taken = tt
-alone_taken plan (Some bytes) s0 s1 taken =
-    let fewer = first_few taken.rows (passing plan bytes) taken.first in
+pub alone_taken : (plan : Query) (page : ℕ) (told : Option (List ℕ)) (s0 s1 : Signs) → OfTaken plan plan.left page told (λ rows. MakesFew (length rows) s0 s1)
+    → IfSome (both_told told (Some [])) (λ both. MakesFew (16 * rows_through plan both) s0 s1)
+alone_taken plan page None s0 s1 taken = tt
+alone_taken plan page (Some bytes) s0 s1 taken =
+    let fewer = first_few taken.rows (passing plan bytes) (first_passing plan plan.left page bytes taken.rows taken.first) in
     let most = passing-through plan (record { left = bytes; right = [] }) in
     few_less (length taken.rows) (16 * rows_through plan (record { left = bytes; right = [] })) s0 s1 (omega (arith, fewer, most)) taken.so
 
@@ -144,21 +145,23 @@ module _ (plan : Query) (right : SidePlan) (planned : plan.right ≡ Some right)
   both-many l r = rw planned (length-append (passing plan l) (passing_in right r))
 
   -- rows of the left input alone, and of both
-  pub left_taken : (lefts rights : Option (List ℕ)) (s0 s1 : Signs) → OfTaken plan.left lefts (λ rows. MakesFew (length rows) s0 s1) → IfSome (both_told lefts rights) (λ both. MakesFew (length (passing_of_both plan both)) s0 s1)
-  left_taken None rights s0 s1 taken = tt
-  left_taken (Some l) None s0 s1 taken = tt
-  left_taken (Some l) (Some r) s0 s1 taken =
-      let fewer = first_few taken.rows (passing plan l) taken.first in
+  pub left_taken : (page : ℕ) (lefts rights : Option (List ℕ)) (s0 s1 : Signs) → OfTaken plan plan.left page lefts (λ rows. MakesFew (length rows) s0 s1)
+      → IfSome (both_told lefts rights) (λ both. MakesFew (length (passing_of_both plan both)) s0 s1)
+  left_taken page None rights s0 s1 taken = tt
+  left_taken page (Some l) None s0 s1 taken = tt
+  left_taken page (Some l) (Some r) s0 s1 taken =
+      let fewer = first_few taken.rows (passing plan l) (first_passing plan plan.left page l taken.rows taken.first) in
       let sum = both-many l r in
       few_less (length taken.rows) (length (passing_of_both plan (record { left = l; right = r }))) s0 s1 (omega (arith, fewer, sum)) taken.so
 
-  pub both_taken : (lefts rights : Option (List ℕ)) (s0 s1 s2 : Signs) → OfTaken plan.left lefts (λ rows. MakesFew (length rows) s0 s1) → OfTaken right rights (λ rows. MakesFew (length rows) s1 s2)
+  pub both_taken : (page : ℕ) (lefts rights : Option (List ℕ)) (s0 s1 s2 : Signs) → OfTaken plan plan.left page lefts (λ rows. MakesFew (length rows) s0 s1)
+      → OfTaken plan right page rights (λ rows. MakesFew (length rows) s1 s2)
       → IfSome (both_told lefts rights) (λ both. MakesFew (length (passing_of_both plan both)) s0 s2)
-  both_taken None rights s0 s1 s2 first next = tt
-  both_taken (Some l) None s0 s1 s2 first next = tt
-  both_taken (Some l) (Some r) s0 s1 s2 first next =
-      let one = first_few first.rows (passing plan l) first.first in
-      let two = first_few next.rows (passing_in right r) next.first in
+  both_taken page None rights s0 s1 s2 first next = tt
+  both_taken page (Some l) None s0 s1 s2 first next = tt
+  both_taken page (Some l) (Some r) s0 s1 s2 first next =
+      let one = first_few first.rows (passing plan l) (first_passing plan plan.left page l first.rows first.first) in
+      let two = first_few next.rows (passing_in right r) (first_passing plan right page r next.rows next.first) in
       let sum = both-many l r in
       few_both (length first.rows) (length next.rows) (length (passing_of_both plan (record { left = l; right = r }))) s0 s1 s2 (omega (arith, one, two, sum)) first.so next.so
 

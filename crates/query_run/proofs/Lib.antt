@@ -1,3 +1,4 @@
+mod Accepted
 pub mod Alone
 mod Around
 mod BothWants
@@ -17,6 +18,7 @@ pub mod Names
 mod Orders
 mod Pairing
 mod Reading
+mod Refusing
 mod Results
 mod Says
 mod Sending

@@ -20,17 +20,19 @@ use Rattle.partition_stack.specs.Stack.{over}
 use Rattle.group_op.specs.Operator.{Keeps, Operator, bytes_for, page_of, slots_for}
 use Rattle.query_plan.specs.Sizes.{page_len}
 use Rattle.query_plan.specs.declared.plan.Query.{Query}
+use Rattle.query_plan.specs.declared.plan.Side.TheVariants.{Left}
 use Rattle.outside.specs.Faults.{Faults}
-use Rattle.query_run.specs.Both.{Told, both_told, right_passing}
+use Rattle.query_run.specs.Both.{Told, both_told}
 use Rattle.query_run.specs.Causes.{OfPool}
 use Rattle.query_run.specs.Ending.{IsEndedBy}
 use Rattle.query_run.specs.Feeding.{OfTaken}
 use Rattle.query_run.specs.Input.{IsAccepted, passing, weight_of}
 use Rattle.query_run.specs.Plans.{shape_of}
 use Rattle.query_run.specs.Taking.{GroupGoes, GroupWants}
-use Rattle.query_run.specs.Through.{need, rows_through, weight_through}
+use Rattle.query_run.specs.Through.{count_taken, lefts_taken, need, rights_taken, taken_in, weight_taken}
 use Rattle.query_run.specs.Writing.{Begun, HasTaken, written}
 use Rattle.query_plan.specs.declared.outcome.QueryErr.{QueryErr}
+use Rattle.query_run.proofs.Accepted.{all_taken}
 use Rattle.query_run.proofs.Made.{slots_same}
 use Rattle.query_run.proofs.Weighing.{weighs_more}
 
@@ -72,20 +74,26 @@ slots_more op h some all rest long are =
     mul-le-mul_right op.parts.page_blocks (let e : min (length some) (2 * bytes_for op.shape some / page_of op h + 16) + 1 ≤ min (length all) (2 * bytes_for op.shape all / page_of op h + 544) + 1 = omega (arith, most) in e)
 
 -- while rows are fed
-pub front_wants : (plan : Query) (told : Option (List ℕ)) (op : Operator) (h : Holdings) (s : Signs) (start : Option (List Entry)) (e : PoolErr) → 0 < page_of op h → Keeps start [] op h s → OfTaken plan.left told (λ rows. GroupWants op rows h s e)
-    → IfSome told (λ bytes. IsWantBelow (slots_for 544 op h (passing plan bytes)) (slots_in (over op.parts h s)) e)
-front_wants plan None op h s start e long keeps taken = tt
-front_wants plan (Some bytes) op h s start e long keeps taken =
-    want_more (slots_for 16 op h taken.rows) (slots_for 544 op h (passing plan bytes)) (slots_in (over op.parts h s)) e (slots_more op h taken.rows (passing plan bytes) taken.first.0 long taken.first.1) (taken.so start [] keeps)
+pub front_wants : (plan : Query) (page : ℕ) (told : Option (List ℕ)) (op : Operator) (h : Holdings) (s : Signs) (start : Option (List Entry)) (e : PoolErr)
+    → 0 < page_of op h → Keeps start [] op h s
+    → OfTaken plan plan.left page told (λ rows. GroupWants op rows h s e)
+    → IfSome told (λ bytes. IsWantBelow (slots_for 544 op h (taken_in plan plan.left page bytes)) (slots_in (over op.parts h s)) e)
+front_wants plan page None op h s start e long keeps taken = tt
+front_wants plan page (Some bytes) op h s start e long keeps taken =
+    let all = taken_in plan plan.left page bytes in
+    want_more (slots_for 16 op h taken.rows) (slots_for 544 op h all) (slots_in (over op.parts h s)) e
+    (slots_more op h taken.rows all taken.first.0 long taken.first.1) (taken.so start [] keeps)
 
 -- while groups are handed on
 pub whole_wants : (plan : Query) (page : ℕ) (told : Option (List ℕ)) (fed : List (List Value)) (a b : Operator) (h0 h1 : Holdings) (s0 s1 : Signs) (e : PoolErr) → GroupGoes a b h0 h1 s0 s1
     → IfSome told (λ bytes. IsAccepted plan page bytes × (fed ≡ passing plan bytes)) → IsWantBelow (slots_for 544 b h1 fed) (slots_in (over b.parts h1 s1)) e
-    → IfSome told (λ bytes. IsWantBelow (slots_for 544 a h0 (passing plan bytes)) (slots_in (over a.parts h0 s0)) e)
+    → IfSome told (λ bytes. IsWantBelow (slots_for 544 a h0 (taken_in plan plan.left page bytes)) (slots_in (over a.parts h0 s0)) e)
 whole_wants plan page None fed a b h0 h1 s0 s1 e goes are below = tt
 whole_wants plan page (Some bytes) fed a b h0 h1 s0 s1 e goes are below =
-    let all = passing plan bytes in
-    let same : IsWantBelow (slots_for 544 b h1 all) (slots_in (over b.parts h1 s1)) e = subst (λ (rows : List (List Value)). IsWantBelow (slots_for 544 b h1 rows) (slots_in (over b.parts h1 s1)) e) are.1 below in
+    let all = taken_in plan plan.left page bytes in
+    let is : fed ≡ all = are.1 ∙ sym (all_taken plan Left plan.left page bytes are.0) in
+    let same : IsWantBelow (slots_for 544 b h1 all) (slots_in (over b.parts h1 s1)) e =
+    subst (λ (rows : List (List Value)). IsWantBelow (slots_for 544 b h1 rows) (slots_in (over b.parts h1 s1)) e) is below in
     let most : IsWantBelow (slots_for 544 a h0 all) (slots_in (over b.parts h1 s1)) e = subst (λ (n : ℕ). IsWantBelow n (slots_in (over b.parts h1 s1)) e) (slots_same a b h0 h1 s0 s1 544 all goes) same in
     subst (λ (n : Option ℕ). IsWantBelow (slots_for 544 a h0 all) n e) goes.went.slots most
 
@@ -112,28 +120,35 @@ pub long_page : (plan : Query) (block_len : ℕ) → IsBlockCount plan.page_bloc
 long_page plan block_len paged some = mul-pos (some-blocks plan.page_blocks paged) some
 
 -- what a query needs is enough
-need_more : (plan : Query) (len : ℕ) (told : Told) → 0 < len → min (length (passing plan told.left)) (2 * bytes_for (shape_of plan) (passing plan told.left) / len + 544) + 1 ≤ need plan len told
-need_more plan len told long =
-    let rows = passing plan told.left in
-    let others = right_passing plan.right told.right in
+need_more : (plan : Query) (page : ℕ) (told : Told) → 0 < page
+    → min (length (lefts_taken plan page told)) (2 * bytes_for (shape_of plan) (lefts_taken plan page told) / page + 544) + 1 ≤ need plan page told
+need_more plan page told long =
+    let rows = lefts_taken plan page told in
+    let others = rights_taken plan page told in
     let many = length-append rows others in
     let own = sum_more (λ row. length (row_bytes row) + 16 * length plan.aggs) (weight_of plan) rows (weighs_more plan) in
     let both = sum_by-append (weight_of plan) rows others in
-    let weigh : bytes_for (shape_of plan) rows ≤ weight_through plan told = omega (arith, own, both) in
-    let pages = div_more (2 * bytes_for (shape_of plan) rows) (2 * weight_through plan told + len - 1) len long (omega (arith, weigh, long)) in
-    let count : length rows + 1 ≤ rows_through plan told + 16 = omega (arith, many) in
+    let weigh : bytes_for (shape_of plan) rows ≤ weight_taken plan page told = omega (arith, own, both) in
+    let pages = div_more (2 * bytes_for (shape_of plan) rows) (2 * weight_taken plan page told + page - 1) page long (omega (arith, weigh, long)) in
+    let count : length rows + 1 ≤ count_taken plan page told + 16 = omega (arith, many) in
     omega (arith, pages, count)
 
 -- so it is of its grouping
-pub all_wants : (plan : Query) (told : Option (List ℕ)) (op : Operator) (h0 h1 : Holdings) (s1 : Signs) (e : PoolErr) → op.shape ≡ shape_of plan → op.parts.page_blocks ≡ plan.page_blocks → h1.block_len ≡ h0.block_len → 0 < page_len plan h0.block_len
-    → slots_in (over op.parts h1 s1) ≡ h0.free_slots → IfSome told (λ bytes. IsWantBelow (slots_for 544 op h1 (passing plan bytes)) (slots_in (over op.parts h1 s1)) e)
+pub all_wants : (plan : Query) (page : ℕ) (told : Option (List ℕ)) (op : Operator) (h0 h1 : Holdings) (s1 : Signs) (e : PoolErr) → op.shape ≡ shape_of plan
+    → op.parts.page_blocks ≡ plan.page_blocks → h1.block_len ≡ h0.block_len
+    → page ≡ page_len plan h0.block_len → 0 < page_len plan h0.block_len → slots_in (over op.parts h1 s1) ≡ h0.free_slots
+    → IfSome told (λ bytes. IsWantBelow (slots_for 544 op h1 (taken_in plan plan.left page bytes)) (slots_in (over op.parts h1 s1)) e)
     → IfSome (both_told told (Some [])) (λ both. IsWantBelow (need plan (page_len plan h0.block_len) both * plan.page_blocks) h0.free_slots e)
-all_wants plan None op h0 h1 s1 e shape blocks len long total wants = tt
-all_wants plan (Some bytes) op h0 h1 s1 e shape blocks len long total wants =
+all_wants plan page None op h0 h1 s1 e shape blocks len is long total wants = tt
+all_wants plan page (Some bytes) op h0 h1 s1 e shape blocks len is long total wants =
     let both : Told = record { left = bytes; right = [] } in
-    let page = page_len plan h0.block_len in
-    let rows = passing plan bytes in
-    let here : slots_for 544 op h1 rows ≡ (min (length rows) (2 * bytes_for (shape_of plan) rows / page + 544) + 1) * plan.page_blocks = rw (shape, blocks, len) refl in
-    let most : slots_for 544 op h1 rows ≤ need plan page both * plan.page_blocks =
-    subst (λ (n : ℕ). n ≤ need plan page both * plan.page_blocks) (sym here) (mul-le-mul_right plan.page_blocks (need_more plan page both long)) in
-    want_more (slots_for 544 op h1 rows) (need plan page both * plan.page_blocks) h0.free_slots e most (subst (λ (n : Option ℕ). IsWantBelow (slots_for 544 op h1 rows) n e) total wants)
+    let page_is = page_len plan h0.block_len in
+    let rows = taken_in plan plan.left page_is bytes in
+    let same : IsWantBelow (slots_for 544 op h1 rows) (slots_in (over op.parts h1 s1)) e =
+    subst (λ (n : ℕ). IsWantBelow (slots_for 544 op h1 (taken_in plan plan.left n bytes)) (slots_in (over op.parts h1 s1)) e) is wants in
+    let here : slots_for 544 op h1 rows ≡ (min (length rows) (2 * bytes_for (shape_of plan) rows / page_is + 544) + 1) * plan.page_blocks =
+    rw (shape, blocks, len) refl in
+    let most : slots_for 544 op h1 rows ≤ need plan page_is both * plan.page_blocks =
+    subst (λ (n : ℕ). n ≤ need plan page_is both * plan.page_blocks) (sym here) (mul-le-mul_right plan.page_blocks (need_more plan page_is both long)) in
+    want_more (slots_for 544 op h1 rows) (need plan page_is both * plan.page_blocks) h0.free_slots e most
+    (subst (λ (n : Option ℕ). IsWantBelow (slots_for 544 op h1 rows) n e) total same)

@@ -1,5 +1,5 @@
 -- A row that is weighed, filtered and fed.
-use Rattle.std.proofs.Common.{◌≡◌, ◌∙◌, ◌≤◌, ◌<◌, ◌+◌, ◌-◌, ◌*◌, ◌^◌, min, [], ◌∷◌, ℕ, zero, suc, List, All, Bool, true, false, ◌&&◌, if◌then◌else◌, length, slice_get, sym, ap, arith}
+use Rattle.std.proofs.Common.{◌≡◌, ◌∙◌, ◌≤◌, ◌<◌, ◌+◌, ◌-◌, ◌*◌, ◌^◌, min, [], ◌∷◌, ℕ, zero, suc, List, All, Bool, true, false, ◌&&◌, if◌then◌else◌, length, nat_le, slice_get, sym, ap, arith, rules}
 use Rattle.std.specs.Prelude.{IsSomeAnd, get_or}
 use Rattle.row_codec.specs.declared.values.Column.{Column}
 use Rattle.row_codec.specs.declared.values.Kind.{Kind}
@@ -53,6 +53,9 @@ counted_weight plan row encoded once counted many times is same coded sum produc
 -- a row whose weight, as it is counted, is no more than a page has bytes is light
 pub counted_light : (plan : Query) (row : List Value) (counted page : ℕ) → counted ≡ min (weight_of plan row) (2 ^ 64 - 1) → counted ≤ page → page < 2 ^ 32 → weight_of plan row ≤ page
 counted_light plan row counted page is fits short = omega (arith, is, fits, short)
+
+pub is_light : (plan : Query) (row : List Value) (page : ℕ) → weight_of plan row ≤ page → nat_le (weight_of plan row) page ≡ true
+is_light plan row page light = search (rules, light)
 
 -- a light row of the side's kinds may be taken
 pub may_be_taken : (plan : Query) (kinds own : List Kind) (extra page page_is : ℕ) (row : List Value) → own ≡ kinds → extra ≤ 16 * length plan.aggs → page ≡ page_is

@@ -1,12 +1,16 @@
--- A query in whose way nothing stands.
-use Rattle.std.specs.Prelude.{◌≡◌, ◌*◌, ◌≤◌, ℕ, false, true, Option, Some, IfSome}
+-- A query in whose way nothing stands, but what its inputs are refused for.
+use Rattle.std.specs.Prelude.{◌≡◌, ◌*◌, ◌≤◌, ◌⊎◌, ℕ, List, false, length, true, Option, None, Some, IfSome}
+use Rattle.std.specs.Option.{option_or}
 use Rattle.reservation_tree.specs.declared.errors.PoolErr.TheVariants.{Memory}
 use Rattle.outside.specs.Counts.{Rose}
 use Rattle.store_api.specs.Holdings.{Holdings}
 use Rattle.store_api.specs.Signs.{Signs}
 use Rattle.query_plan.specs.declared.plan.Query.{Query}
+use Rattle.query_plan.specs.declared.plan.Side.TheVariants.{Right}
+use Rattle.query_plan.specs.declared.plan.SidePlan.{SidePlan}
 use Rattle.query_plan.specs.Sizes.{page_len}
 use Rattle.query_run.specs.Both.{AreAccepted, Told, both_told}
+use Rattle.query_run.specs.Input.{most_bytes, refusal_in, refusal_of}
 use Rattle.query_run.specs.Refused.{SaysOfInputs, Source}
 use Rattle.query_run.specs.Stopped.{CountsSink, MayStop}
 use Rattle.query_run.specs.Through.{need}
@@ -26,16 +30,35 @@ pub record StoreSuffices (plan : Query) (both : Told) (start : Holdings) (old ne
   pub stale : new.stale ≡ old.stale
   pub names : new.spent ≡ false
 
--- nothing stands in the way of an answer: the bytes of the inputs are told, and accepted to their ends, the store suffices for them, and neither
--- a source nor the sink had a fault
-pub record IsClear (plan : Query) (lefts rights : Source) (start : Holdings) (old new : Signs) (writes writes_now : ℕ) : Type 0 where
-  pub both : Told
+-- the bytes of the inputs are told, the store suffices for them, and neither a source nor the sink had a fault
+pub record IsUnhindered (plan : Query) (both : Told) (lefts rights : Source) (start : Holdings) (old new : Signs) (writes writes_now : ℕ) : Type 0 where
   pub told_is : both_told lefts.told rights.told ≡ Some both
-  pub accepted : AreAccepted plan (page_len plan start.block_len) both
   pub store : StoreSuffices plan both start old new
   pub lefts_quiet : IsQuiet lefts
   pub rights_quiet : IsQuiet rights
   pub sink_quiet : Rose writes writes_now → ⊥
+
+-- nothing stands in the way of an answer: the inputs are accepted to their ends too
+pub record IsClear (plan : Query) (lefts rights : Source) (start : Holdings) (old new : Signs) (writes writes_now : ℕ) : Type 0 where
+  pub both : Told
+  pub accepted : AreAccepted plan (page_len plan start.block_len) both
+  pub unhindered : IsUnhindered plan both lefts rights start old new writes writes_now
+
+-- the first refusal of the inputs in the order of reading: the left one's, or else where the query joins the right one's
+abbrev pub right_refusal : Option SidePlan → Query → ℕ → List ℕ → Option QueryErr
+right_refusal None plan page bytes = None
+right_refusal (Some right) plan page bytes = refusal_in plan Right right page bytes
+
+abbrev pub first_refusal_of : Query → ℕ → Told → Option QueryErr
+first_refusal_of plan page both = option_or (refusal_of plan page both.left) (right_refusal plan.right plan page both.right)
+
+-- the inputs are refused for this first, and nothing stands in the way before that place; neither has too many bytes
+pub record IsRefusedFirst (plan : Query) (lefts rights : Source) (start : Holdings) (old new : Signs) (writes writes_now : ℕ) (why : QueryErr) : Type 0 where
+  pub both : Told
+  pub refusal : first_refusal_of plan (page_len plan start.block_len) both ≡ Some why
+  pub left_fits : length both.left ≤ most_bytes
+  pub right_fits : length both.right ≤ most_bytes
+  pub unhindered : IsUnhindered plan both lefts rights start old new writes writes_now
 
 -- what the query says of its inputs, of the pool, and of the sink, where it ended so
 pub record HasSaid (plan : Query) (lefts rights : Source) (start : Holdings) (old new : Signs) (writes writes_now : ℕ) (why : QueryErr) : Type 0 where
@@ -43,7 +66,13 @@ pub record HasSaid (plan : Query) (lefts rights : Source) (start : Holdings) (ol
   pub pool : MayStop plan (both_told lefts.told rights.told) start old new why
   pub sink : CountsSink (why ≡ SinkFault) writes writes_now
 
--- then only memory can have been wanting
+-- where nothing stands in the way, only memory can have been wanting
 abbrev pub Completes : Type 0
 Completes = (plan : Query) (lefts rights : Source) (start : Holdings) (old new : Signs) (writes writes_now : ℕ) (why : QueryErr)
     → IsClear plan lefts rights start old new writes writes_now → HasSaid plan lefts rights start old new writes writes_now why → why ≡ Pool Memory
+
+-- and where an input is refused, the query says the first refusal, or memory was wanting
+abbrev pub Refuses : Type 0
+Refuses = (plan : Query) (lefts rights : Source) (start : Holdings) (old new : Signs) (writes writes_now : ℕ) (why said : QueryErr)
+    → IsRefusedFirst plan lefts rights start old new writes writes_now why → HasSaid plan lefts rights start old new writes writes_now said
+    → (said ≡ why) ⊎ (said ≡ Pool Memory)

@@ -11,7 +11,8 @@ use Rattle.query_plan.specs.declared.plan.SidePlan.{SidePlan}
 use Rattle.reservation_tree.specs.declared.errors.PoolErr.{PoolErr}
 use Rattle.query_run.specs.FedRows.{AreFed}
 use Rattle.query_run.specs.Plans.{kinds_of_columns}
-use Rattle.query_run.specs.Input.{IsAcceptedIn, passing_in, rows_read, weight_of}
+use Rattle.query_run.specs.Through.{taken_in}
+use Rattle.query_run.specs.Input.{IsAcceptedIn, rows_read, weight_of}
 use Rattle.query_plan.specs.declared.outcome.QueryErr.{QueryErr}
 use Rattle.query_plan.specs.declared.outcome.QueryErr.TheVariants.{Pool, RowTooLong}
 use Rattle.query_run.specs.declared.feeding.Fed.{Fed}
@@ -35,10 +36,10 @@ pub record HasFed (plan : Query) (side : Side) (asked : SidePlan) (page : ℕ) (
 abbrev pub AreFirstOf : List (List Value) → List (List Value) → Type 0
 AreFirstOf rows all = (rest : List (List Value)) × (all ≡ rows ++ rest)
 
--- this holds of rows that were taken: the first ones of those that pass, where the bytes of the input are told
-pub record OfTaken (asked : SidePlan) (told : Option (List ℕ)) (holds : List (List Value) → Type 0) : Type 0 where
+-- this holds of rows that were taken: the first ones of those that pass up to the place where the input is refused, where its bytes are told
+pub record OfTaken (plan : Query) (asked : SidePlan) (page : ℕ) (told : Option (List ℕ)) (holds : List (List Value) → Type 0) : Type 0 where
   pub rows : List (List Value)
-  pub first : IfSome told (λ bytes. AreFirstOf rows (passing_in asked bytes))
+  pub first : IfSome told (λ bytes. AreFirstOf rows (taken_in plan asked page bytes))
   pub so : holds rows
 
 -- a row of this number is refused: it weighs too much, or the store answered so

@@ -1,5 +1,5 @@
 -- What an input is to a query: its rows, or the first place where it is refused. Lengths are in bytes.
-use Rattle.std.specs.Prelude.{◌≡◌, ◌<◌, ◌≤◌, ◌⊎◌, ◌+◌, ◌-◌, ◌*◌, ◌^◌, ℕ, List, [], ◌∷◌, Option, Some, None, length, filter, min, nat_le, if◌then◌else◌}
+use Rattle.std.specs.Prelude.{◌≡◌, ◌<◌, ◌≤◌, ◌⊎◌, ◌&&◌, ◌+◌, ◌-◌, ◌*◌, ◌^◌, ℕ, Bool, List, [], ◌∷◌, Option, Some, None, is_none, length, filter, min, nat_le, if◌then◌else◌}
 use Rattle.std.specs.Option.{option_map, option_or}
 use Rattle.row_codec.specs.declared.values.Column.{Column}
 use Rattle.row_codec.specs.declared.values.Value.{Value}
@@ -54,6 +54,10 @@ IsRefusalIn plan side asked page bytes why = (refusal_in plan side asked page by
 pub record IsAcceptedIn (plan : Query) (side : Side) (asked : SidePlan) (page : ℕ) (bytes : List ℕ) : Type 0 where
   pub whole : refusal_in plan side asked page bytes ≡ None
   pub fits : length bytes ≤ most_bytes
+
+-- whether it is
+abbrev pub accepts : Query → Side → SidePlan → ℕ → List ℕ → Bool
+accepts plan side asked page bytes = is_none (refusal_in plan side asked page bytes) && nat_le (length bytes) most_bytes
 
 -- the rows of an input, and those of them that pass its filter
 abbrev pub rows_read : SidePlan → List ℕ → List (List Value)

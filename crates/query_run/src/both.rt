@@ -22,14 +22,13 @@ ghost use Rattle.query_run.specs.Answer.{LineNumbers, Numbers, WroteAnswer, Wrot
 ghost use Rattle.query_run.specs.Both.{both_told};
 ghost use Rattle.query_run.specs.Causes.{OfPool, side_of};
 ghost use Rattle.query_run.specs.Feeder.{HasStopped};
-ghost use Rattle.query_run.specs.Input.{passing, passing_in};
 ghost use Rattle.query_run.specs.Inside.{HasEndedFirst, IsFedFor, IsOfStore, slots_of_both};
 ghost use Rattle.query_run.specs.Joined.{HoldsRowsWhile};
 ghost use Rattle.query_run.specs.Plans.{HasGroups, IsRunnable, grouping_of, join_shape_of, shape_of};
 ghost use Rattle.query_run.specs.Refused.{SaysOfInputs, source};
 ghost use Rattle.query_run.specs.Stopped.{CountsSink, HasRoomFor, MayStop, RanOver, StoppedOver};
 ghost use Rattle.query_run.specs.Taking.{LeftStands, join_slots};
-ghost use Rattle.query_run.specs.Through.{rows_through};
+ghost use Rattle.query_run.specs.Through.{lefts_taken, pairs_taken, rights_taken, rows_through};
 ghost use Rattle.query_run.specs.Trail.{HoldsRows, KeptRows, KeptSides};
 ghost use Rattle.query_run.specs.Writing.{HoldsFor};
 
@@ -172,7 +171,7 @@ fn answer<St: Store, S: Source, K: Sink>(
     ensures numbers { IfOk result.0 (λ ran. IfSome (both_told (S.remaining left.old) (S.remaining right.old)) (Numbers plan.now page (St.holds store.old).told ran)) }
     ensures input { IfErr result.0 (SaysOfInputs plan.now page (source (S.remaining left.old) (S.remaining left.new) (S.faults left.old) (S.faults left.new)) (source (S.remaining right.old) (S.remaining right.new) (S.faults right.old) (S.faults right.new))) }
     ensures pool { IfErr result.0 (StoppedOver plan.now.page_blocks (join_slots join (St.holds store.old) (St.signs store.old)) (St.signs store.old) (St.signs store.new)) }
-    ensures enough { IfErr result.0 (OfPool (λ e. (St.holds store.old).told ≡ true → IfSome (both_told (S.remaining left.old) (S.remaining right.old)) (λ both. IsWantBelow (slots_of_both plan.now page (passing plan.now both.left) (passing_in asked.now both.right) (pairs_of (join_shape_of plan.now asked.now) (passing plan.now both.left) (passing_in asked.now both.right))) (join_slots join (St.holds store.old) (St.signs store.old)) e))) }
+    ensures enough { IfErr result.0 (OfPool (λ e. (St.holds store.old).told ≡ true → IfSome (both_told (S.remaining left.old) (S.remaining right.old)) (λ both. IsWantBelow (slots_of_both plan.now page (lefts_taken plan.now page both) (rights_taken plan.now page both) (pairs_taken plan.now page both)) (join_slots join (St.holds store.old) (St.signs store.old)) e))) }
     ensures free { (St.holds store.new).free_slots ≡ join_slots join (St.holds store.old) (St.signs store.old) }
     ensures made { (St.holds store.old).told ≡ true → IfSome (both_told (S.remaining left.old) (S.remaining right.old)) (λ both. MakesFew (16 * rows_through plan.now both) (St.signs store.old) (St.signs store.new)) }
     ensures untouched { IfErr result.0 (λ e. IsSome (side_of e) → sink.new ≡ sink.old) }

@@ -13,6 +13,7 @@ ghost use Rattle.query_run.specs.Input.{weight_of};
 ghost use Rattle.query_run.specs.Plans.{IsSide, kinds_of_columns};
 ghost use Rattle.query_run.specs.Refused.{SaysOfSide, source as source_over};
 ghost use Rattle.query_run.specs.Taking.{TakesStill};
+ghost use Rattle.query_run.specs.Through.{taken_of};
 
 use crate::takes::Takes;
 use csv_edge::{InputErr, Rows};
@@ -68,8 +69,8 @@ pub(crate) fn feed_side<St: Store, T: Takes<St>, S: Source>(
     ensures input { IfErr result (SaysOfSide plan.now side asked.now page (source_over (S.remaining source.old) (S.remaining source.new) (S.faults source.old) (S.faults source.new))) }
     ensures cause { IfErr result (λ e. e ≢ QueryErr.SinkFault) }
     ensures pool { IfErr result (OfPool (T.stops op.old (St.holds store.old) (St.signs store.old) (St.signs store.new))) }
-    ensures enough { IfErr result (OfPool (λ e. OfTaken asked.now (S.remaining source.old) (λ rows. T.wants op.old rows (St.holds store.old) (St.signs store.old) e))) }
-    ensures few { OfTaken asked.now (S.remaining source.old) (λ rows. T.makes op.old op.new rows (St.holds store.old) (St.signs store.old) (St.signs store.new)) }
+    ensures enough { IfErr result (OfPool (λ e. OfTaken plan.now asked.now page (S.remaining source.old) (λ rows. T.wants op.old rows (St.holds store.old) (St.signs store.old) e))) }
+    ensures few { OfTaken plan.now asked.now page (S.remaining source.old) (λ rows. T.makes op.old op.new rows (St.holds store.old) (St.signs store.old) (St.signs store.new)) }
     ensures stands { T.stands op.new (St.holds store.new) (St.signs store.new) }
     ensures goes { T.goes op.old op.new (St.holds store.old) (St.holds store.new) (St.signs store.old) (St.signs store.new) }
     ensures source_kept { S.faults source.old ≤ S.faults source.new }
@@ -118,10 +119,10 @@ fn feed_row<St: Store, T: Takes<St>>(
     ensures light { OnOk result (weight_of plan.now row.now ≤ page) }
     ensures feeds { IfOk result (λ passed. (passed ≡ passes_all asked.now.preds row.now) × ((first : T) (rows : List (List Value)) (h : Holdings) (s : Signs) → T.feeds first op.old rows h (St.holds store.old) s (St.signs store.old) → T.feeds first op.new (rows ++ filter (passes_all asked.now.preds) (row.now ∷ [])) h (St.holds store.new) s (St.signs store.new))) }
     ensures few { OnOk result ((first : T) (rows : List (List Value)) (h : Holdings) (s : Signs) → T.feeds first op.old rows h (St.holds store.old) s (St.signs store.old) → T.makes first op.old rows h s (St.signs store.old) → T.makes first op.new (rows ++ filter (passes_all asked.now.preds) (row.now ∷ [])) h s (St.signs store.new)) }
-    ensures few_then { OnErr result ((first : T) (rows : List (List Value)) (h : Holdings) (s : Signs) → T.feeds first op.old rows h (St.holds store.old) s (St.signs store.old) → T.makes first op.old rows h s (St.signs store.old) → (some : List (List Value)) × AreFirstOf some (filter (passes_all asked.now.preds) (row.now ∷ [])) × T.makes first op.new (rows ++ some) h s (St.signs store.new)) }
+    ensures few_then { OnErr result ((first : T) (rows : List (List Value)) (h : Holdings) (s : Signs) → T.feeds first op.old rows h (St.holds store.old) s (St.signs store.old) → T.makes first op.old rows h s (St.signs store.old) → (some : List (List Value)) × AreFirstOf some (taken_of plan.now asked.now page (row.now ∷ [])) × T.makes first op.new (rows ++ some) h s (St.signs store.new)) }
     ensures refused { IfErr result (RefusesRow plan.now side page number row.now) }
     ensures pool { IfErr result (λ e. (first : T) (h : Holdings) (s : Signs) → T.goes first op.old h (St.holds store.old) s (St.signs store.old) → OfPool (T.stops first h s (St.signs store.new)) e) }
-    ensures enough { IfErr result (λ e. (first : T) (rows : List (List Value)) (h : Holdings) (s : Signs) → T.feeds first op.old rows h (St.holds store.old) s (St.signs store.old) → T.goes first op.old h (St.holds store.old) s (St.signs store.old) → OfPool (λ why. (some : List (List Value)) × AreFirstOf some (filter (passes_all asked.now.preds) (row.now ∷ [])) × T.wants first (rows ++ some) h s why) e) }
+    ensures enough { IfErr result (λ e. (first : T) (rows : List (List Value)) (h : Holdings) (s : Signs) → T.feeds first op.old rows h (St.holds store.old) s (St.signs store.old) → T.goes first op.old h (St.holds store.old) s (St.signs store.old) → OfPool (λ why. (some : List (List Value)) × AreFirstOf some (taken_of plan.now asked.now page (row.now ∷ [])) × T.wants first (rows ++ some) h s why) e) }
     ensures stands { T.stands op.new (St.holds store.new) (St.signs store.new) }
     ensures goes { (first : T) (h : Holdings) (s : Signs) → T.goes first op.old h (St.holds store.old) s (St.signs store.old) → T.goes first op.new h (St.holds store.new) s (St.signs store.new) }
     ensures still { TakesStill (T.kinds op.old) (T.kinds op.new) (T.extra op.old) (T.extra op.new) (T.page op.old (St.holds store.old)) (T.page op.new (St.holds store.new)) }

@@ -12,12 +12,11 @@ ghost use Rattle.query_plan.specs.Sizes.{page_len};
 ghost use Rattle.query_run.specs.Answer.{Numbers, WroteAnswer, WroteFront};
 ghost use Rattle.query_run.specs.Both.{both_told};
 ghost use Rattle.query_run.specs.Causes.{OfPool, side_of};
-ghost use Rattle.query_run.specs.Input.{passing};
 ghost use Rattle.query_run.specs.Inside.{GoesOn};
 ghost use Rattle.query_run.specs.Plans.{HasGroups, IsGrouping, kinds_of_columns, row_columns, shape_of};
 ghost use Rattle.query_run.specs.Refused.{SaysOfSide, source};
 ghost use Rattle.query_run.specs.Stopped.{CountsSink, HasRoomFor, MayStop, RanOver, StoppedOver};
-ghost use Rattle.query_run.specs.Through.{rows_through};
+ghost use Rattle.query_run.specs.Through.{rows_through, taken_in};
 ghost use Rattle.query_run.specs.Trail.{KeptAndRead, KeptGroups};
 
 use crate::client::own_client;
@@ -153,7 +152,7 @@ fn answer<St: Store, S: Source, K: Sink>(
     ensures numbers { IfOk result (λ ran. IfSome (both_told (S.remaining left.old) (Some [])) (Numbers plan.now page (St.holds store.old).told ran)) }
     ensures input { IfErr result (SaysOfSide plan.now Side.Left plan.now.left page (source (S.remaining left.old) (S.remaining left.new) (S.faults left.old) (S.faults left.new))) }
     ensures pool { IfErr result (StoppedOver op.old.parts.page_blocks (slots_in (over op.old.parts (St.holds store.old) (St.signs store.old))) (St.signs store.old) (St.signs store.new)) }
-    ensures enough { IfErr result (OfPool (λ e. (St.holds store.old).told ≡ true → IfSome (S.remaining left.old) (λ bytes. IsWantBelow (slots_for 544 op.old (St.holds store.old) (passing plan.now bytes)) (slots_in (over op.old.parts (St.holds store.old) (St.signs store.old))) e))) }
+    ensures enough { IfErr result (OfPool (λ e. (St.holds store.old).told ≡ true → IfSome (S.remaining left.old) (λ bytes. IsWantBelow (slots_for 544 op.old (St.holds store.old) (taken_in plan.now plan.now.left page bytes)) (slots_in (over op.old.parts (St.holds store.old) (St.signs store.old))) e))) }
     ensures made { (St.holds store.old).told ≡ true → IfSome (both_told (S.remaining left.old) (Some [])) (λ both. MakesFew (16 * rows_through plan.now both) (St.signs store.old) (St.signs store.new)) }
     ensures front { (St.holds store.old).told ≡ true → IsErrOf result QueryErr.SinkFault → WroteFront plan.now page (both_told (S.remaining left.old) (Some [])) (K.contents sink.old) (K.contents sink.new) }
     ensures untouched { IfErr result (λ e. IsSome (side_of e) → sink.new ≡ sink.old) }

@@ -12,13 +12,12 @@ ghost use Rattle.query_plan.specs.Sizes.{groups, joins, page_len};
 ghost use Rattle.query_run.specs.Answer.{Numbers, WroteAnswer, WroteFront};
 ghost use Rattle.query_run.specs.Both.{both_told, passing_of_both};
 ghost use Rattle.query_run.specs.Causes.{OfPool, side_of};
-ghost use Rattle.query_run.specs.Input.{passing, passing_in};
 ghost use Rattle.query_run.specs.Joined.{HasFedBoth, KeptBoth};
 ghost use Rattle.query_run.specs.Plans.{IsRunnable, join_shape_of};
 ghost use Rattle.query_run.specs.Refused.{SaysOfInputs, source};
 ghost use Rattle.query_run.specs.Stopped.{CountsSink, HasRoomFor, MayStop, RanOver, StoppedOver};
 ghost use Rattle.query_run.specs.Taking.{JoinGoes, JoinStands, LeftStands, join_slots};
-ghost use Rattle.query_run.specs.Through.{rows_through};
+ghost use Rattle.query_run.specs.Through.{lefts_taken, rights_taken, rows_through};
 ghost use Rattle.query_run.specs.Trail.{KeptRows};
 
 use crate::client::own_client;
@@ -147,7 +146,7 @@ fn answer<St: Store, S: Source, K: Sink>(
     ensures numbers { IfOk result.0 (λ ran. IfSome (both_told (S.remaining left.old) (S.remaining right.old)) (Numbers plan.now page (St.holds store.old).told ran)) }
     ensures input { IfErr result.0 (SaysOfInputs plan.now page (source (S.remaining left.old) (S.remaining left.new) (S.faults left.old) (S.faults left.new)) (source (S.remaining right.old) (S.remaining right.new) (S.faults right.old) (S.faults right.new))) }
     ensures pool { IfErr result.0 (StoppedOver op.left.page_blocks (join_slots op (St.holds store.old) (St.signs store.old)) (St.signs store.old) (St.signs store.new)) }
-    ensures enough { IfErr result.0 (OfPool (λ e. (St.holds store.old).told ≡ true → IfSome (both_told (S.remaining left.old) (S.remaining right.old)) (λ both. IsWantBelow (slots_for op (St.holds store.old) (passing plan.now both.left) (passing_in asked.now both.right)) (join_slots op (St.holds store.old) (St.signs store.old)) e))) }
+    ensures enough { IfErr result.0 (OfPool (λ e. (St.holds store.old).told ≡ true → IfSome (both_told (S.remaining left.old) (S.remaining right.old)) (λ both. IsWantBelow (slots_for op (St.holds store.old) (lefts_taken plan.now page both) (rights_taken plan.now page both)) (join_slots op (St.holds store.old) (St.signs store.old)) e))) }
     ensures made { (St.holds store.old).told ≡ true → IfSome (both_told (S.remaining left.old) (S.remaining right.old)) (λ both. MakesFew (16 * rows_through plan.now both) (St.signs store.old) (St.signs store.new)) }
     ensures untouched { IfErr result.0 (λ e. IsSome (side_of e) → sink.new ≡ sink.old) }
     ensures stopped { IfErr result.0 (λ _. (sink.new ≡ sink.old) ⊎ (IsAtEnd (S.remaining left.new) × IsAtEnd (S.remaining right.new) × ((St.holds store.old).told ≡ true → WroteFront plan.now page (both_told (S.remaining left.old) (S.remaining right.old)) (K.contents sink.old) (K.contents sink.new)))) }
@@ -193,7 +192,7 @@ pub(crate) fn feed_both<St: Store, S: Source>(
     ensures input { IfErr result.0 (SaysOfInputs plan.now page (source (S.remaining left.old) (S.remaining left.new) (S.faults left.old) (S.faults left.new)) (source (S.remaining right.old) (S.remaining right.new) (S.faults right.old) (S.faults right.new))) }
     ensures cause { IfErr result.0 (λ e. e ≢ QueryErr.SinkFault) }
     ensures pool { IfErr result.0 (StoppedOver op.left.page_blocks (join_slots op (St.holds store.old) (St.signs store.old)) (St.signs store.old) (St.signs store.new)) }
-    ensures enough { IfErr result.0 (OfPool (λ e. IfSome (both_told (S.remaining left.old) (S.remaining right.old)) (λ both. IsWantBelow (slots_for op (St.holds store.old) (passing plan.now both.left) (passing_in asked.now both.right)) (join_slots op (St.holds store.old) (St.signs store.old)) e))) }
+    ensures enough { IfErr result.0 (OfPool (λ e. IfSome (both_told (S.remaining left.old) (S.remaining right.old)) (λ both. IsWantBelow (slots_for op (St.holds store.old) (lefts_taken plan.now page both) (rights_taken plan.now page both)) (join_slots op (St.holds store.old) (St.signs store.old)) e))) }
     ensures made { IfSome (both_told (S.remaining left.old) (S.remaining right.old)) (λ both. MakesFew (length (passing_of_both plan.now both)) (St.signs store.old) (St.signs store.new)) }
     ensures stands { JoinStands result.1 (St.holds store.new) (St.signs store.new) }
     ensures goes { JoinGoes op result.1 (St.holds store.old) (St.holds store.new) (St.signs store.old) (St.signs store.new) }

@@ -21,6 +21,6 @@ mod parts;
 mod run;
 mod takes;
 
-pub use laws::{law_completes, law_spill};
+pub use laws::{law_completes, law_refuses, law_spill};
 pub use query_plan::{QueryErr, Ran, Side, Totals};
 pub use run::run_query;

@@ -42,7 +42,7 @@ use store_api::Store;
 /// answered so in this call or there was no memory. It is never `NoReservation` or `TooManyTrackers`: a growth of a client
 /// that is refused is no error, and there are few clients. Whatever the query does, `ScratchFull` names the blocks of a page
 /// and what is left of the slots that were free at the start; it comes only where these were too few for the pages that the
-/// query needs.
+/// query needs, which are those of the rows that pass and stand before the first refusal.
 ///
 /// After `SinkFault` the sink has a front of the answer, and nothing behind the first failed write. After `Pool` it is as it
 /// was, or all inputs were read to their ends and it has a front of the answer. Which bytes these are is said where the store

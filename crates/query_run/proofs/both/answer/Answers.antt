@@ -19,10 +19,10 @@ use Rattle.join_op.specs.Operator.{slots_for}
 use Rattle.join_op.specs.Pairs.{pairs_of}
 use Rattle.query_run.specs.Answer.{LineNumbers, answer_text, group_rows}
 use Rattle.query_run.specs.Both.{both_told}
-use Rattle.query_run.specs.Input.{passing, passing_in}
 use Rattle.query_run.specs.Inside.{HasEndedFirst}
-use Rattle.query_run.specs.Plans.{grouping_of, join_shape_of}
+use Rattle.query_run.specs.Plans.{grouping_of}
 use Rattle.query_run.specs.Taking.{join_slots}
+use Rattle.query_run.specs.Through.{lefts_taken, pairs_taken, rights_taken}
 use Rattle.query_run.specs.Trail.{HoldsRows}
 use Rattle.query_run.proofs.BothWants.{fed_fewer, grouped_below, slots_told}
 use Rattle.query_run.proofs.EndedFirst.{ended_behind, ended_first, may_start_still, own_after, own_left, some_page, stopped_still}
@@ -47,14 +47,15 @@ returns-in-Err-clause-pool g c =
 pub returns-in-Err-clause-enough : goal.returns-in-Err-clause-enough
 returns-in-Err-clause-enough g c =
     let plan = c.args.plan.now in
-    let asked = c.args.asked.now in
     let page = c.args.page in
     let join = c.args.join in
     let h = g.St.Store.holds c.args.store.now in
     let total = join_slots join h (g.St.Store.signs c.args.store.now) in
-    of_pool_so _ _ (λ why below tells. told_so (λ both. IsWantBelow (slots_for join h (passing plan both.left) (passing_in asked both.right)) total why) (λ both. IsWantBelow (slots_told plan asked page both) total why)
-    (λ both want. want_more (slots_for join h (passing plan both.left) (passing_in asked both.right)) (slots_told plan asked page both) total why
-    (fed_fewer plan page (passing plan both.left) (passing_in asked both.right) (pairs_of (join_shape_of plan asked) (passing plan both.left) (passing_in asked both.right)) join h c.requires.started.1 c.requires.page.0) want)
+    of_pool_so _ _ (λ why below tells. told_so (λ both. IsWantBelow (slots_for join h (lefts_taken plan page both) (rights_taken plan page both)) total why)
+    (λ both. IsWantBelow (slots_told plan page both) total why)
+    (λ both want. want_more (slots_for join h (lefts_taken plan page both) (rights_taken plan page both)) (slots_told plan page both) total why
+    (fed_fewer plan page (lefts_taken plan page both) (rights_taken plan page both)
+    (pairs_taken plan page both) join h c.requires.started.1 c.requires.page.0) want)
     (both_told (g.S.Source.remaining c.args.left.now) (g.S.Source.remaining c.args.right.now)) below)
     c.in-Err.e (of_bad _ c.feed_both-fed.result.0 c.in-Err.e c.in-Err.is c.feed_both-fed.ensures.enough)
 
@@ -126,7 +127,7 @@ pub returns-clause-enough : goal.returns-clause-enough
 returns-clause-enough g c =
     let has = of_ok _ c.feed_both-fed.result.0 c.in-Ok.fed c.in-Ok.is c.feed_both-fed.ensures.ok in
     let goes = c.feed_both-fed.ensures.goes in
-    if_err c.write_both.result.0 (λ e enough. of_pool_so _ _ (λ why below told. grouped_below c.args.plan.now c.args.asked.now c.args.page _ _ _ _ _ has c.feed_both-fed.result.1.shape _ _ why (goes.same.shape ∙ c.requires.started.0) goes.slots (below _ _ _ has.kept (goes.leaves.others.told ∙ told))) e enough) c.write_both.ensures.enough
+    if_err c.write_both.result.0 (λ e enough. of_pool_so _ _ (λ why below told. grouped_below c.args.plan.now c.args.asked.now c.args.page _ _ _ _ _ c.requires.right c.requires.groups has c.feed_both-fed.result.1.shape _ _ why (goes.same.shape ∙ c.requires.started.0) goes.slots (below _ _ _ has.kept (goes.leaves.others.told ∙ told))) e enough) c.write_both.ensures.enough
 
 pub returns-clause-free : goal.returns-clause-free
 returns-clause-free g c = c.write_both.ensures.free ∙ c.feed_both-fed.ensures.goes.slots

@@ -99,7 +99,6 @@ answer-result-requires-clause-keeps g c =
 
 pub returns-clause-pool : goal.returns-clause-pool
 returns-clause-pool g c =
-    let planned : c.args.plan.now.right ≡ Some c.in-Some.asked = search rules in
     let one = c.own_client-first in
     let two = c.own_client-second in
     let plan = c.args.plan.now in
@@ -116,9 +115,11 @@ returns-clause-pool g c =
     let long : 0 < page = subst (λ (n : ℕ). 0 < n) (sym len) (long_page plan h0.block_len c.requires.plan.paged (search rules)) in
     let slots : join_slots join h2 s2 ≡ h0.free_slots = ap (λ (o : Operator). join_slots o h2 s2) c.in-Ok.ensures.ok ∙ none_joined one.result plan.page_blocks (join_shape_of plan asked) h2 s2 ∙ two.ensures.own.free_slots ∙ one.ensures.own.free_slots in
     let tells = two.ensures.own.told ∙ one.ensures.own.told in
-    let wants : PoolErr → Type 0 = λ why. h2.told ≡ true → IfSome (both_told lefts rights) (λ both. IsWantBelow (slots_told plan asked page both) (join_slots join h2 s2) why) in
+    let wants : PoolErr → Type 0 =
+    λ why. h2.told ≡ true → IfSome (both_told lefts rights) (λ both. IsWantBelow (slots_told plan page both) (join_slots join h2 s2) why) in
     if_err c.answer-result.result.0 (λ e both. stopped_around plan (both_told lefts rights) plan.page_blocks (join_slots join h2 s2) h0 _ _ _ _ e refl slots grows c.end_client-2.ensures.grows both.0
-    (of_pool_so wants (WantsEnough plan (both_told lefts rights) h0) (λ why below told. both_wants plan asked lefts rights h0 (join_slots join h2 s2) page why planned c.requires.groups len long slots (below (tells ∙ told))) e both.1))
+    (of_pool_so wants (WantsEnough plan (both_told lefts rights) h0)
+    (λ why below told. both_wants plan lefts rights h0 (join_slots join h2 s2) page why len long slots (below (tells ∙ told))) e both.1))
     (both_err (StoppedOver plan.page_blocks (join_slots join h2 s2) s2 (g.St.Store.signs c.answer-result.new.store)) (OfPool wants) c.answer-result.result.0 c.answer-result.ensures.pool c.answer-result.ensures.enough)
 
 pub returns-clause-stopped : goal.returns-clause-stopped

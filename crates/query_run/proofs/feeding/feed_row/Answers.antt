@@ -1,7 +1,7 @@
 use Rattle.std.proofs.Common.{◌≡◌, ◌∷◌, [], List, false, true, append-nil, refl, rules, subst, sym}
 use Rattle.row_codec.specs.declared.values.Value.{Value}
 use Rattle.scan_filter.specs.Passes.{passes}
-use Rattle.query_run.proofs.Weighing.{counted_light, fits_rows, may_be_taken}
+use Rattle.query_run.proofs.Weighing.{counted_light, fits_rows, is_light, may_be_taken}
 use Rattle.query_run.proofs.feeding.feed_row.Goals as goal
 
 pub passes-requires : goal.passes-requires
@@ -43,12 +43,16 @@ returns-in-Ok-clause-few g c =
 pub returns-in-Err-clause-few_then : goal.returns-in-Err-clause-few_then
 returns-in-Err-clause-few_then g c =
     let passed : passes c.args.asked.now.preds c.args.row.now ≡ true = search rules in
-    λ first rows h s fed made. (c.args.row.now ∷ [], ([], rw passed refl), c.take.ensures.few first rows h s fed made)
+    let is = is_light c.args.plan.now c.args.row.now c.args.page
+    (counted_light c.args.plan.now c.args.row.now c.weight-bytes.result c.args.page c.weight-bytes.ensures c.if-bytes-page.false c.requires.short) in
+    λ first rows h s fed made. (c.args.row.now ∷ [], ([], rw (is, passed) refl), c.take.ensures.few first rows h s fed made)
 
 pub returns-in-Err-clause-enough : goal.returns-in-Err-clause-enough
 returns-in-Err-clause-enough g c =
     let passed : passes c.args.asked.now.preds c.args.row.now ≡ true = search rules in
-    λ first rows h s fed goes. (c.args.row.now ∷ [], ([], rw passed refl), c.in-Err.ensures.enough first rows h s fed goes)
+    let is = is_light c.args.plan.now c.args.row.now c.args.page
+    (counted_light c.args.plan.now c.args.row.now c.weight-bytes.result c.args.page c.weight-bytes.ensures c.if-bytes-page.false c.requires.short) in
+    λ first rows h s fed goes. (c.args.row.now ∷ [], ([], rw (is, passed) refl), c.in-Err.ensures.enough first rows h s fed goes)
 
 pub returns-then-bytes-page-clause-few_then : goal.returns-then-bytes-page-clause-few_then
 returns-then-bytes-page-clause-few_then g c = λ first rows h s fed made. ([], (_, refl), subst (λ (all : List (List Value)). g.T.Takes.makes first c.args.op.now all h s (g.St.Store.signs c.args.store.now)) (sym (append-nil rows)) made)

@@ -9,6 +9,7 @@ use Rattle.csv_edge.specs.declared.refusal.InputErr.TheVariants as input
 use Rattle.row_codec.specs.declared.values.Value.{Value}
 use Rattle.row_codec.specs.Row.{kinds_of}
 use Rattle.reservation_tree.specs.declared.errors.PoolErr.{PoolErr}
+use Rattle.reservation_tree.specs.declared.errors.PoolErr.TheVariants.{Memory}
 use Rattle.scan_filter.specs.Passes.{passes}
 use Rattle.csv_edge.proofs.Steps.{row-handed}
 use Rattle.query_run.specs.Causes.{OfPool}
@@ -17,6 +18,7 @@ use Rattle.query_run.specs.Feeding.{AreFirstOf, OfTaken, RefusesRow}
 use Rattle.query_run.specs.Input.{most_bytes, rows_of, weight_of}
 use Rattle.query_run.specs.Plans.{kinds_of_columns}
 use Rattle.query_run.specs.Refused.{SaysOfSide, source}
+use Rattle.query_run.specs.Through.{taken_of}
 use Rattle.query_run.proofs.Fronts.{next_taken, none_taken, so_far_taken}
 use Rattle.query_run.proofs.Going.{of_pool_so}
 use Rattle.query_run.proofs.Taken.{still_then}
@@ -212,46 +214,64 @@ loop-rows-preserved g c =
 
 pub returns-in-Err-clause-enough : goal.returns-in-Err-clause-enough
 returns-in-Err-clause-enough g c =
+    let plan = c.args.plan.now in
     let asked = c.args.asked.now in
+    let page = c.args.page in
     let told = g.S.Source.remaining c.args.source.now in
-    rw c.cause_of.ensures (stops_input (λ (why : PoolErr). OfTaken asked told (λ rows. g.T.Takes.wants c.args.op.now rows (g.St.Store.holds c.args.store.now) (g.St.Store.signs c.args.store.now) why)) (none_taken asked told _ c.requires.none) c.args.side c.in-Err.e)
+    let h = g.St.Store.holds c.args.store.now in
+    let s = g.St.Store.signs c.args.store.now in
+    let none = none_taken plan asked page told (λ rows. g.T.Takes.wants c.args.op.now rows h s Memory) c.requires.none in
+    rw c.cause_of.ensures (stops_input (λ (why : PoolErr). OfTaken plan asked page told
+    (λ rows. g.T.Takes.wants c.args.op.now rows h s why)) none c.args.side c.in-Err.e)
 
 pub returns-in-Err-clause-few : goal.returns-in-Err-clause-few
-returns-in-Err-clause-few g c = none_taken c.args.asked.now (g.S.Source.remaining c.args.source.now) _ c.requires.makes
+returns-in-Err-clause-few g c = none_taken c.args.plan.now c.args.asked.now c.args.page (g.S.Source.remaining c.args.source.now) _ c.requires.makes
 
 pub returns-in-Ok-false-clause-few : goal.returns-in-Ok-false-clause-few
 returns-in-Ok-false-clause-few g c =
     let before = c.loop-rows.invariant.0 in
-    so_far_taken c.args.asked.now (g.S.Source.remaining c.args.source.now) before.rows _ _ before.so_far before.came.1
+    so_far_taken c.args.plan.now c.args.asked.now c.args.page (g.S.Source.remaining c.args.source.now) before.rows _ _ before.light before.so_far before.came.1
 
 pub returns-in-Err-next_into-clause-enough : goal.returns-in-Err-next_into-clause-enough
 returns-in-Err-next_into-clause-enough g c =
+    let plan = c.args.plan.now in
     let asked = c.args.asked.now in
+    let page = c.args.page in
     let told = g.S.Source.remaining c.args.source.now in
-    rw c.cause_of-in-Err-next_into.ensures (stops_input (λ (why : PoolErr). OfTaken asked told (λ rows. g.T.Takes.wants c.args.op.now rows (g.St.Store.holds c.args.store.now) (g.St.Store.signs c.args.store.now) why)) (none_taken asked told _ c.requires.none) c.args.side c.in-Err-next_into.e)
+    let h = g.St.Store.holds c.args.store.now in
+    let s = g.St.Store.signs c.args.store.now in
+    let none = none_taken plan asked page told (λ rows. g.T.Takes.wants c.args.op.now rows h s Memory) c.requires.none in
+    rw c.cause_of-in-Err-next_into.ensures
+    (stops_input (λ (why : PoolErr). OfTaken plan asked page told (λ rows. g.T.Takes.wants c.args.op.now rows h s why)) none c.args.side c.in-Err-next_into.e)
 
 pub returns-in-Err-next_into-clause-few : goal.returns-in-Err-next_into-clause-few
 returns-in-Err-next_into-clause-few g c =
     let before = c.loop-rows.invariant.0 in
-    so_far_taken c.args.asked.now (g.S.Source.remaining c.args.source.now) before.rows _ _ before.so_far before.came.1
+    so_far_taken c.args.plan.now c.args.asked.now c.args.page (g.S.Source.remaining c.args.source.now) before.rows _ _ before.light before.so_far before.came.1
 
 pub returns-in_err-feed_row-clause-few : goal.returns-in_err-feed_row-clause-few
 returns-in_err-feed_row-clause-few g c =
     let before = c.loop-rows.invariant.0 in
-    let test = passes c.args.asked.now.preds in
+    let plan = c.args.plan.now in
+    let asked = c.args.asked.now in
+    let page = c.args.page in
     let told = g.S.Source.remaining c.args.source.now in
     let row = c.next_into.new.row.items in
     let row-is : c.deref.result.now ≡ row = search rules in
     let next : Becomes (row_then row) (rest_of g.S.Source.remaining c.loop-rows.rows) (rest_of g.S.Source.remaining c.next_into.new.self) = search rules in
-    let some = c.in_err-feed_row.ensures.few_then c.args.op.now (filter test before.rows) _ _ before.came.0 before.came.1 in
-    let part : AreFirstOf some.0 (filter test (row ∷ [])) = subst (λ (r : List Value). AreFirstOf some.0 (filter test (r ∷ []))) row-is some.1 in
-    next_taken c.args.asked.now told before.rows (row ∷ []) some.0 _ _ (row-handed before.rows row (option_map (rows_of c.args.asked.now.columns) told) _ _ before.so_far next) part some.2
+    let some = c.in_err-feed_row.ensures.few_then c.args.op.now (filter (passes asked.preds) before.rows) _ _ before.came.0 before.came.1 in
+    let part : AreFirstOf some.0 (taken_of plan asked page (row ∷ [])) =
+    subst (λ (r : List Value). AreFirstOf some.0 (taken_of plan asked page (r ∷ []))) row-is some.1 in
+    next_taken plan asked page told before.rows some.0 row _ _ before.light
+    (row-handed before.rows row (option_map (rows_of asked.columns) told) _ _ before.so_far next) part some.2
 
 pub returns-in_err-feed_row-clause-enough : goal.returns-in_err-feed_row-clause-enough
 returns-in_err-feed_row-clause-enough g c =
     let e = c.in_err-feed_row.field-0.0 in
     let before = c.loop-rows.invariant.0 in
+    let plan = c.args.plan.now in
     let asked = c.args.asked.now in
+    let page = c.args.page in
     let test = passes asked.preds in
     let told = g.S.Source.remaining c.args.source.now in
     let row = c.next_into.new.row.items in
@@ -259,8 +279,11 @@ returns-in_err-feed_row-clause-enough g c =
     let next : Becomes (row_then row) (rest_of g.S.Source.remaining c.loop-rows.rows) (rest_of g.S.Source.remaining c.next_into.new.self) = search rules in
     let handed = row-handed before.rows row (option_map (rows_of asked.columns) told) _ _ before.so_far next in
     let wants : List (List Value) → PoolErr → Type 0 = λ rows why. g.T.Takes.wants c.args.op.now rows (g.St.Store.holds c.args.store.now) (g.St.Store.signs c.args.store.now) why in
-    let all : OfPool (λ why. OfTaken asked told (λ rows. wants rows why)) e =
-    of_pool_so (λ why. (some : List (List Value)) × AreFirstOf some (filter test (c.deref.result.now ∷ [])) × wants (filter test before.rows ++ some) why) (λ why. OfTaken asked told (λ rows. wants rows why))
-    (λ why some. next_taken asked told before.rows (row ∷ []) some.0 _ _ handed (subst (λ (r : List Value). AreFirstOf some.0 (filter test (r ∷ []))) row-is some.1) some.2) e
+    let all : OfPool (λ why. OfTaken plan asked page told (λ rows. wants rows why)) e =
+    of_pool_so (λ why. (some : List (List Value)) × AreFirstOf some (taken_of plan asked page (c.deref.result.now ∷ [])) × wants
+    (filter test before.rows ++ some) why)
+    (λ why. OfTaken plan asked page told (λ rows. wants rows why))
+    (λ why some. next_taken plan asked page told before.rows some.0 row _ _ before.light handed
+    (subst (λ (r : List Value). AreFirstOf some.0 (taken_of plan asked page (r ∷ []))) row-is some.1) some.2) e
     (c.in_err-feed_row.ensures.enough c.args.op.now (filter test before.rows) _ _ before.came.0 c.loop-rows.invariant.2) in
     search (rules, all)

@@ -1,10 +1,10 @@
-use Rattle.std.proofs.Common.{◌≡◌, ◌<◌, [], ◌∙◌, ℕ, IfSome, true, ap, inr, length, sym, subst, arith, rules}
+use Rattle.std.proofs.Common.{◌≡◌, ◌<◌, List, [], ◌∙◌, ℕ, IfSome, true, ap, inr, length, sym, subst, arith, rules}
 use Rattle.tuple_stream.specs.Families.{slots_in}
 use Rattle.partition_stack.specs.Slots.{IsWantBelow}
 use Rattle.group_op.specs.Operator.{slots_for}
+use Rattle.row_codec.specs.declared.values.Value.{Value}
 use Rattle.query_run.specs.Causes.{OfPool}
 use Rattle.query_run.specs.Feeding.{OfTaken}
-use Rattle.query_run.specs.Input.{passing}
 use Rattle.partition_stack.specs.Making.{MakesFew}
 use Rattle.tuple_stream.specs.Trails.{EnteredEvents}
 use Rattle.partition_stack.specs.Stack.{over}
@@ -12,6 +12,7 @@ use Rattle.group_op.specs.Laid.{HoldsGroups}
 use Rattle.store_api.specs.declared.shapes.Shape.{Shape}
 use Rattle.query_run.specs.Plans.{shape_of}
 use Rattle.query_run.specs.Taking.{GroupMakes, GroupWants}
+use Rattle.query_run.specs.Through.{taken_in}
 use Rattle.query_run.proofs.Fronts.{taken_so}
 use Rattle.query_run.proofs.Going.{feeds_still, goes_then, of_pool_so, stopped_later}
 use Rattle.query_run.proofs.Made.{group_makes_none}
@@ -107,7 +108,9 @@ returns-in_err-fed-clause-made g c = λ told.
     let s0 = g.St.Store.signs c.args.store.now in
     let s1 = g.St.Store.signs c.feed_side.new.store in
     let h = g.St.Store.holds c.args.store.now in
-    alone_taken c.args.plan.now (g.S.Source.remaining c.args.left.now) s0 s1 (taken_so _ _ (λ rows. GroupMakes c.args.op.now c.feed_side.new.op rows h s0 s1) (λ rows. MakesFew (length rows) s0 s1)
+    alone_taken c.args.plan.now c.args.page (g.S.Source.remaining c.args.left.now) s0 s1
+    (taken_so c.args.plan.now c.args.plan.now.left c.args.page _ (λ rows. GroupMakes c.args.op.now c.feed_side.new.op rows h s0 s1)
+    (λ rows. MakesFew (length rows) s0 s1)
     (λ rows makes. fed_makes c.args.op.now c.feed_side.new.op rows h s0.trail s0 s1 c.requires.keeps makes) c.feed_side.ensures.few)
 
 pub returns-clause-made : goal.returns-clause-made
@@ -129,15 +132,18 @@ pub returns-in_err-fed-clause-enough : goal.returns-in_err-fed-clause-enough
 returns-in_err-fed-clause-enough g c =
     let e = c.in_err-fed.field-0.0 in
     let plan = c.args.plan.now in
+    let page = c.args.page in
     let op = c.args.op.now in
     let h = g.St.Store.holds c.args.store.now in
     let s = g.St.Store.signs c.args.store.now in
     let told = g.S.Source.remaining c.args.left.now in
     let total = slots_in (over op.parts h s) in
     let long = subst (λ (n : ℕ). 0 < n) c.requires.page c.requires.long in
-    let all : OfPool (λ why. h.told ≡ true → IfSome told (λ bytes. IsWantBelow (slots_for 544 op h (passing plan bytes)) total why)) e =
-    of_pool_so (λ why. OfTaken plan.left told (λ rows. GroupWants op rows h s why)) (λ why. h.told ≡ true → IfSome told (λ bytes. IsWantBelow (slots_for 544 op h (passing plan bytes)) total why))
-    (λ why taken tells. front_wants plan told op h s s.trail why long c.requires.keeps taken) e c.in_err-fed.ensures.enough in
+    let rows : List ℕ → List (List Value) = λ bytes. taken_in plan plan.left page bytes in
+    let all : OfPool (λ why. h.told ≡ true → IfSome told (λ bytes. IsWantBelow (slots_for 544 op h (rows bytes)) total why)) e =
+    of_pool_so (λ why. OfTaken plan plan.left page told (λ rows. GroupWants op rows h s why))
+    (λ why. h.told ≡ true → IfSome told (λ bytes. IsWantBelow (slots_for 544 op h (rows bytes)) total why))
+    (λ why taken tells. front_wants plan page told op h s s.trail why long c.requires.keeps taken) e c.in_err-fed.ensures.enough in
     search (rules, all)
 
 pub returns-clause-enough : goal.returns-clause-enough
@@ -154,5 +160,6 @@ returns-clause-enough g c =
     let s0 = g.St.Store.signs c.args.store.now in
     let s1 = g.St.Store.signs c.feed_side.new.store in
     let told = g.S.Source.remaining c.args.left.now in
-    if_err c.write_groups.result (λ e enough. of_pool_so _ (λ why. h0.told ≡ true → IfSome told (λ bytes. IsWantBelow (slots_for 544 a h0 (passing plan bytes)) (slots_in (over a.parts h0 s0)) why))
+    if_err c.write_groups.result (λ e enough. of_pool_so _ (λ why. h0.told ≡ true → IfSome told
+    (λ bytes. IsWantBelow (slots_for 544 a h0 (taken_in plan plan.left c.args.page bytes)) (slots_in (over a.parts h0 s0)) why))
     (λ why below tells. whole_wants plan c.args.page told fed a b h0 h1 s0 s1 why goes (passing_are plan c.args.page _ has.rows has.are) (below fed keeps.holds (goes.went.leaves.others.told ∙ tells))) e enough) c.write_groups.ensures.enough

@@ -12,9 +12,9 @@ use Rattle.store_api.specs.Tokens.{ClientToken}
 use Rattle.query_run.specs.Answer.{WroteFront}
 use Rattle.query_run.specs.Both.{both_told}
 use Rattle.query_run.specs.Causes.{OfPool}
-use Rattle.query_run.specs.Input.{passing}
 use Rattle.query_run.specs.Plans.{shape_of}
 use Rattle.query_run.specs.Stopped.{IsLeft, StoppedOver}
+use Rattle.query_run.specs.Through.{taken_in}
 use Rattle.query_run.proofs.Around.{WantsEnough, ends_first, kept_whole, left_around, left_behind, one_amount, slots_first, starts_here, stopped_around}
 use Rattle.query_run.proofs.Counted.{coming_makes, ending_makes, names_none, none_through, through_around}
 use Rattle.query_run.proofs.Going.{of_pool_so}
@@ -49,7 +49,8 @@ returns-clause-pool g c =
     let told = g.S.Source.remaining c.args.left.now in
     let own = c.own_client-c.ensures.own in
     let shape : c.in-Ok.op.shape ≡ shape_of plan = ap (λ (op : Operator). op.shape) start in
-    let len : c.from.result * c.from-2.result ≡ page_len plan h0.block_len = search rules in
+    let page = c.from.result * c.from-2.result in
+    let len : page ≡ page_len plan h0.block_len = search rules in
     let long : 0 < page_len plan h0.block_len = long_page plan h0.block_len c.requires.plan.paged (search rules) in
     let h1 = g.St.Store.holds c.own_client-c.new.store in
     let s0 = g.St.Store.signs c.args.store.now in
@@ -58,9 +59,11 @@ returns-clause-pool g c =
     let s4 = g.St.Store.signs c.end_client-2.new.self in
     let op = c.in-Ok.op in
     let total = slots_in (over op.parts h1 s1) in
-    let wants : PoolErr → Type 0 = λ why. h1.told ≡ true → IfSome told (λ bytes. IsWantBelow (slots_for 544 op h1 (passing plan bytes)) total why) in
+    let wants : PoolErr → Type 0 =
+    λ why. h1.told ≡ true → IfSome told (λ bytes. IsWantBelow (slots_for 544 op h1 (taken_in plan plan.left page bytes)) total why) in
     if_err c.answer-result.result (λ e both. stopped_around plan (both_told told (Some [])) op.parts.page_blocks total h0 s0 s1 s2 s4 e blocks slots c.own_client-c.ensures.grows later both.0
-    (of_pool_so wants (WantsEnough plan (both_told told (Some [])) h0) (λ why below tells. all_wants plan told op h0 h1 s1 why shape blocks own.block_len long slots (below (own.told ∙ tells))) e both.1))
+    (of_pool_so wants (WantsEnough plan (both_told told (Some [])) h0)
+    (λ why below tells. all_wants plan page told op h0 h1 s1 why shape blocks own.block_len len long slots (below (own.told ∙ tells))) e both.1))
     (both_err (StoppedOver op.parts.page_blocks total s1 s2) (OfPool wants) c.answer-result.result c.answer-result.ensures.pool c.answer-result.ensures.enough)
 
 pub returns-clause-stopped : goal.returns-clause-stopped

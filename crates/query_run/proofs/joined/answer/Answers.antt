@@ -61,7 +61,8 @@ pub returns-clause-enough : goal.returns-clause-enough
 returns-clause-enough g c =
     let has = of_ok _ c.feed_both-fed.result.0 c.in-Ok.fed c.in-Ok.is c.feed_both-fed.ensures.ok in
     let goes = c.feed_both-fed.ensures.goes in
-    if_err c.write_pairs-result.result (λ e enough. of_pool_so _ _ (λ why wants told. pairs_below c.args.plan.now c.args.asked.now c.args.page _ _ _ _ _ has c.args.op c.feed_both-fed.result.1 _ _ _ _ why goes (wants _ _ _ has.kept (goes.leaves.others.told ∙ told))) e enough) c.write_pairs-result.ensures.enough
+    if_err c.write_pairs-result.result (λ e enough. of_pool_so _ _
+    (λ why wants told. pairs_below c.args.plan.now c.args.asked.now c.args.page _ _ _ _ _ c.requires.right has c.args.op c.feed_both-fed.result.1 _ _ _ _ why goes (wants _ _ _ has.kept (goes.leaves.others.told ∙ told))) e enough) c.write_pairs-result.ensures.enough
 
 pub returns-clause-slots : goal.returns-clause-slots
 returns-clause-slots g c = c.write_pairs-result.ensures.slots ∙ c.feed_both-fed.ensures.goes.slots

@@ -76,16 +76,19 @@ feed_side-fed-requires-2-clause-makes g c = join_makes_none (g.St.Store.signs c.
 
 pub returns-in-Err-clause-made : goal.returns-in-Err-clause-made
 returns-in-Err-clause-made g c =
-    left_taken c.args.plan.now c.args.asked.now c.requires.right (g.S.Source.remaining c.args.left.now) (g.S.Source.remaining c.args.right.now) (g.St.Store.signs c.args.store.now) (g.St.Store.signs c.feed_side-fed.new.store) c.feed_side-fed.ensures.few
+    left_taken c.args.plan.now c.args.asked.now c.requires.right c.args.page (g.S.Source.remaining c.args.left.now) (g.S.Source.remaining c.args.right.now)
+    (g.St.Store.signs c.args.store.now) (g.St.Store.signs c.feed_side-fed.new.store) c.feed_side-fed.ensures.few
 
 pub returns-in-Ok-fed-clause-made : goal.returns-in-Ok-fed-clause-made
 returns-in-Ok-fed-clause-made g c =
-    both_taken c.args.plan.now c.args.asked.now c.requires.right (g.S.Source.remaining c.args.left.now) (g.S.Source.remaining c.args.right.now) (g.St.Store.signs c.args.store.now) (g.St.Store.signs c.feed_side-fed.new.store) (g.St.Store.signs c.feed_side-fed-2.new.store)
+    both_taken c.args.plan.now c.args.asked.now c.requires.right c.args.page (g.S.Source.remaining c.args.left.now) (g.S.Source.remaining c.args.right.now)
+    (g.St.Store.signs c.args.store.now) (g.St.Store.signs c.feed_side-fed.new.store) (g.St.Store.signs c.feed_side-fed-2.new.store)
     c.feed_side-fed.ensures.few c.feed_side-fed-2.ensures.few
 
 pub returns-in-Err-fed-clause-made : goal.returns-in-Err-fed-clause-made
 returns-in-Err-fed-clause-made g c =
-    both_taken c.args.plan.now c.args.asked.now c.requires.right (g.S.Source.remaining c.args.left.now) (g.S.Source.remaining c.args.right.now) (g.St.Store.signs c.args.store.now) (g.St.Store.signs c.feed_side-fed.new.store) (g.St.Store.signs c.feed_side-fed-2.new.store)
+    both_taken c.args.plan.now c.args.asked.now c.requires.right c.args.page (g.S.Source.remaining c.args.left.now) (g.S.Source.remaining c.args.right.now)
+    (g.St.Store.signs c.args.store.now) (g.St.Store.signs c.feed_side-fed.new.store) (g.St.Store.signs c.feed_side-fed-2.new.store)
     c.feed_side-fed.ensures.few c.feed_side-fed-2.ensures.few
 
 pub feed_side-fed-requires-clause-none : goal.feed_side-fed-requires-clause-none
@@ -97,12 +100,13 @@ feed_side-fed-requires-2-clause-none g c = λ start lefts rights keeps. tt
 pub returns-in-Err-clause-enough : goal.returns-in-Err-clause-enough
 returns-in-Err-clause-enough g c =
     let long = subst (λ (n : ℕ). 0 < n) c.requires.page c.requires.long in
-    of_pool_so _ _ (λ why taken. left_below c.args.plan.now c.args.asked.now (g.S.Source.remaining c.args.left.now) (g.S.Source.remaining c.args.right.now) c.args.op (g.St.Store.holds c.args.store.now) (g.St.Store.signs c.args.store.now) _ why long c.requires.keeps taken) c.in-Err.e (of_bad _ c.feed_side-fed.result c.in-Err.e c.in-Err.is c.feed_side-fed.ensures.enough)
+    of_pool_so _ _ (λ why taken. left_below c.args.plan.now c.args.page (g.S.Source.remaining c.args.left.now) (g.S.Source.remaining c.args.right.now) c.args.op
+    (g.St.Store.holds c.args.store.now) (g.St.Store.signs c.args.store.now) _ why long c.requires.keeps taken) c.in-Err.e (of_bad _ c.feed_side-fed.result c.in-Err.e c.in-Err.is c.feed_side-fed.ensures.enough)
 
 pub returns-in-Err-fed-clause-enough : goal.returns-in-Err-fed-clause-enough
 returns-in-Err-fed-clause-enough g c =
     let long = subst (λ (n : ℕ). 0 < n) c.requires.page c.requires.long in
     let has = of_ok _ c.feed_side-fed.result c.in-Ok.fed c.in-Ok.is c.feed_side-fed.ensures.ok in
     of_pool_so _ _ (λ why taken. right_below c.args.plan.now c.args.asked.now c.args.page (g.S.Source.remaining c.args.left.now) (g.S.Source.remaining c.args.right.now) _ c.args.op c.feed_side-fed.new.op.op (g.St.Store.holds c.args.store.now) (g.St.Store.holds c.feed_side-fed.new.store)
-    (g.St.Store.signs c.args.store.now) (g.St.Store.signs c.feed_side-fed.new.store) _ why long c.requires.keeps c.feed_side-fed.ensures.goes has taken)
+    (g.St.Store.signs c.args.store.now) (g.St.Store.signs c.feed_side-fed.new.store) _ why c.requires.right long c.requires.keeps c.feed_side-fed.ensures.goes has taken)
     c.in-Err-fed.e (of_bad _ c.feed_side-fed-2.result c.in-Err-fed.e c.in-Err-fed.is c.feed_side-fed-2.ensures.enough)

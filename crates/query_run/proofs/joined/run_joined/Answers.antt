@@ -13,10 +13,10 @@ use Rattle.query_plan.specs.Sizes.{least_of, page_len}
 use Rattle.query_run.specs.Both.{both_told}
 use Rattle.query_run.specs.Answer.{WroteFront}
 use Rattle.query_run.specs.Causes.{OfPool}
-use Rattle.query_run.specs.Input.{passing, passing_in}
 use Rattle.query_run.specs.Plans.{join_shape_of}
 use Rattle.query_run.specs.Stopped.{IsLeft, StoppedOver}
 use Rattle.query_run.specs.Taking.{join_slots}
+use Rattle.query_run.specs.Through.{lefts_taken, rights_taken}
 use Rattle.query_run.proofs.Around.{WantsEnough, left_around, left_behind, stopped_around}
 use Rattle.query_run.proofs.Counted.{coming_makes, ending_makes, none_through, through_around}
 use Rattle.query_run.proofs.Joining.{both_end_first, joins_here, kept_joined, one_join}
@@ -66,7 +66,6 @@ returns-in-Err-clause-store g c =
 
 pub returns-clause-pool : goal.returns-clause-pool
 returns-clause-pool g c =
-    let planned : c.args.plan.now.right ≡ Some c.in-Some.asked = search rules in
     let start = c.in-Ok.ensures.ok in
     let plan = c.args.plan.now in
     let asked = c.in-Some.asked in
@@ -82,11 +81,16 @@ returns-clause-pool g c =
     let s4 = g.St.Store.signs c.end_client-2.new.self in
     let blocks : op.left.page_blocks ≡ plan.page_blocks = ap (λ (o : Operator). o.left.page_blocks) start in
     let slots : join_slots op h1 s1 ≡ h0.free_slots = ap (λ (o : Operator). join_slots o h1 s1) start ∙ none_joined c.own_client-c.result plan.page_blocks (join_shape_of plan asked) h1 s1 ∙ own.free_slots in
+    let page = c.from.result * c.from-2.result in
+    let len : page ≡ page_len plan h0.block_len = search rules in
     let long : 0 < page_len plan h0.block_len = long_page plan h0.block_len c.requires.plan.paged (search rules) in
     let later = grows_trans _ _ _ c.end-c.ensures.leaves.grows c.end_client-2.ensures.grows in
-    let wants : PoolErr → Type 0 = λ why. h1.told ≡ true → IfSome (both_told lefts rights) (λ both. IsWantBelow (slots_for op h1 (passing plan both.left) (passing_in asked both.right)) (join_slots op h1 s1) why) in
+    let wants : PoolErr → Type 0 =
+    λ why. h1.told ≡ true → IfSome (both_told lefts rights) (λ both. IsWantBelow (slots_for op h1 (lefts_taken plan page both) (rights_taken plan page both))
+    (join_slots op h1 s1) why) in
     if_err c.answer-result.result.0 (λ e both. stopped_around plan (both_told lefts rights) op.left.page_blocks (join_slots op h1 s1) h0 s0 s1 s2 s4 e blocks slots c.own_client-c.ensures.grows later both.0
-    (of_pool_so wants (WantsEnough plan (both_told lefts rights) h0) (λ why below tells. join_wants plan asked lefts rights op h0 h1 s1 why planned blocks own.block_len long slots (below (own.told ∙ tells))) e both.1))
+    (of_pool_so wants (WantsEnough plan (both_told lefts rights) h0)
+    (λ why below tells. join_wants plan page lefts rights op h0 h1 s1 why blocks own.block_len len long slots (below (own.told ∙ tells))) e both.1))
     (both_err (StoppedOver op.left.page_blocks (join_slots op h1 s1) s1 s2) (OfPool wants) c.answer-result.result.0 c.answer-result.ensures.pool c.answer-result.ensures.enough)
 
 pub returns-clause-front : goal.returns-clause-front
