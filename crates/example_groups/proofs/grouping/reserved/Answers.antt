@@ -1,6 +1,6 @@
 use Rattle.std.proofs.Common.{◌∙◌}
-use Rattle.bench_example_groups.proofs.Clients.{may_start}
-use Rattle.bench_example_groups.proofs.grouping.reserved.Goals as goal
+use Rattle.example_groups.proofs.Clients.{may_start}
+use Rattle.example_groups.proofs.grouping.reserved.Goals as goal
 
 pub started-requires-clause-start : goal.started-requires-clause-start
 started-requires-clause-start g c =

@@ -1,6 +1,6 @@
 use Rattle.std.proofs.Common.{◌≡◌}
 use Rattle.group_op.specs.Operator.{IsOperator, IsSame}
-use Rattle.bench_example_groups.proofs.grouping.fed_and_finished.Given as goal
+use Rattle.example_groups.proofs.grouping.fed_and_finished.Given as goal
 
 abbrev pub invariant-loop-number : goal.invariant-loop-number
 invariant-loop-number g l = record {

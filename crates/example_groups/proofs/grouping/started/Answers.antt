@@ -1,7 +1,7 @@
 use Rattle.std.proofs.Common.{IsSome, refl, sym, subst}
 use Rattle.store_api.specs.Tokens.{ClientToken}
 use Rattle.group_op.specs.Operator.{IsOperator, Operator}
-use Rattle.bench_example_groups.proofs.grouping.started.Goals as goal
+use Rattle.example_groups.proofs.grouping.started.Goals as goal
 
 pub fed_and_finished-having-requires-clause-op : goal.fed_and_finished-having-requires-clause-op
 fed_and_finished-having-requires-clause-op g c =

@@ -3,8 +3,8 @@ use Rattle.row_codec.specs.declared.values.Agg.{Agg}
 use Rattle.row_codec.specs.declared.values.Kind.{Kind}
 use Rattle.row_codec.specs.declared.values.Kind.TheVariants.{Int, Text}
 use Rattle.store_api.specs.Shapes.{IsShape}
-use Rattle.bench_example_groups.proofs.Shapes.{summed_by_text}
-use Rattle.bench_example_groups.proofs.sales.shape.Goals as goal
+use Rattle.example_groups.proofs.Shapes.{summed_by_text}
+use Rattle.example_groups.proofs.sales.shape.Goals as goal
 
 pub returns : goal.returns
 returns c =

@@ -1,5 +1,5 @@
 use Rattle.std.proofs.Common.{Some}
-use Rattle.bench_example_groups.proofs.in_pool_as.Given as goal
+use Rattle.example_groups.proofs.in_pool_as.Given as goal
 
 abbrev pub ghosts-in_session : goal.ghosts-in_session
 ghosts-in_session g a = record { table = Some a.pool.now }

@@ -1,9 +1,6 @@
 //! The rows, and their shape.
 
-ghost use Rattle.std.specs.Prelude.{◌≡◌, ◌≤◌, ◌∷◌, [], length, IfOk};
-ghost use Rattle.row_codec.specs.Row.{kinds_of};
-ghost use Rattle.row_codec.specs.RowBytes.{row_bytes};
-ghost use Rattle.row_codec.specs.declared.values.Kind.TheVariants.{Int, Text};
+ghost use Rattle.std.specs.Prelude.{IfOk};
 ghost use Rattle.store_api.specs.Shapes.{IsShape};
 
 use reservation_tree::PoolErr;
