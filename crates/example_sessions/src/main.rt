@@ -66,7 +66,7 @@ fn slots_in_memory(alloc: Global) -> Result<Vec<MemSlot>, AllocError>
     ensures { IfOk result (λ slots. vec_len slots ≡ 40) }
 {
     let mut slots = Vec::new(alloc);
-    for _i in 0..40u32 {
+    for _i in 0..2 * QUOTA {
         slots.push(MemSlot::new(alloc, &[]).map_err(|_| AllocError)?)?;
     }
     Ok(slots)

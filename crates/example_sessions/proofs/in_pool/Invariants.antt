@@ -1,6 +1,6 @@
 use Rattle.std.proofs.Common.{◌==◌, length, false}
 use Rattle.pin_core.specs.Tallies.{tally_of}
-use Rattle.bench_example_sessions.proofs.in_pool.Given as goal
+use Rattle.example_sessions.proofs.in_pool.Given as goal
 
 -- what the pool opens with: its numbers, that nothing is known of what slots hold, and what they counted
 abbrev pub ghosts-in_pool_as : goal.ghosts-in_pool_as

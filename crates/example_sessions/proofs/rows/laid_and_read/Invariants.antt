@@ -1,7 +1,7 @@
 use Rattle.store_api.specs.Conditions.{IsLiveClient}
 use Rattle.tuple_stream.specs.Streams.{IsShaped, HasPageRoom}
 use Rattle.tuple_stream.specs.Touches.{Touches}
-use Rattle.bench_example_sessions.proofs.rows.laid_and_read.Given as goal
+use Rattle.example_sessions.proofs.rows.laid_and_read.Given as goal
 
 -- the stream stays one of the client, with room for a page, and nothing else changed
 abbrev pub invariant-loop-at : goal.invariant-loop-at

@@ -2,7 +2,7 @@ use Rattle.std.proofs.Common.{ap}
 use Rattle.tuple_stream.specs.Streamed.{Streamed}
 use Rattle.tuple_stream.proofs.Chains.{touches_trans}
 use Rattle.tuple_stream.proofs.Empty.{nothing_left}
-use Rattle.bench_example_sessions.proofs.rows.through_pages.Goals as goal
+use Rattle.example_sessions.proofs.rows.through_pages.Goals as goal
 
 -- the stream began without pages and has none left, so only its client's account changed
 pub returns-clause-rest : goal.returns-clause-rest

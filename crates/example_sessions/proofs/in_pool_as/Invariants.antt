@@ -1,5 +1,5 @@
 use Rattle.std.proofs.Common.{Some}
-use Rattle.bench_example_sessions.proofs.in_pool_as.Given as goal
+use Rattle.example_sessions.proofs.in_pool_as.Given as goal
 
 abbrev pub ghosts-with_sessions : goal.ghosts-with_sessions
 ghosts-with_sessions g a = record { table = Some a.pool.now }
