@@ -6,7 +6,7 @@
 #![tactic(auto)]
 
 ghost use Rattle.std.specs.Prelude.{◌≡◌, ◌≤◌, IfOk, vec_len};
-ghost use Rattle.pin_core.specs.Setup.{OpensWith};
+ghost use Rattle.pin_core.specs.calls.Setup.{OpensWith};
 ghost use Rattle.store_api.specs.Alike.{AlikeButClients};
 ghost use Rattle.store_api.specs.Conditions.{IsLiveClient};
 ghost use Rattle.store_api.specs.Holdings.{unused_of};

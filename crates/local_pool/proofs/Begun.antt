@@ -11,8 +11,8 @@ use Rattle.reservation_tree.specs.Change.{new_root, root_alone, or_else}
 use Rattle.reservation_tree.specs.Answer.{IsFrom}
 use Rattle.reservation_tree.proofs.Outline.{limit_is, reservation_is}
 use Rattle.reservation_tree.proofs.Maps.{same_or_other, get_same}
-use Rattle.pin_core.specs.Sessions.{IsFull}
-use Rattle.pin_core.specs.Opening.{root_growth, least_refusal, LacksLeast as LacksLeastHere, opening_entries, reopening_entries}
+use Rattle.pin_core.specs.calls.Sessions.{IsFull}
+use Rattle.pin_core.specs.calls.Opening.{root_growth, least_refusal, LacksLeast as LacksLeastHere, opening_entries, reopening_entries}
 use Rattle.pool_model.specs.declared.event.Event.TheVariants.{AddTracker, Increase, CloseTracker}
 use Rattle.pool_model.specs.declared.entry.Entry.{Entry}
 use Rattle.pool_model.specs.Bytes.{bytes_of}
@@ -31,7 +31,7 @@ use Rattle.own_entries.proofs.Alone.{legal_alone_sits}
 use Rattle.pin_core.specs.declared.conf.PoolConf.{PoolConf}
 use Rattle.pin_core.specs.declared.parts.Parts.{Parts}
 use Rattle.pin_core.specs.StateOf.{state_of}
-use Rattle.pin_core.specs.Setup.{IsOpeningOf}
+use Rattle.pin_core.specs.calls.Setup.{IsOpeningOf}
 use Rattle.pin_core.specs.Standing.{StandsFor, slots_home}
 use Rattle.std.specs.List.{sum_by}
 use Rattle.session_calls.specs.declared.hand.Hand.{Hand}

@@ -20,9 +20,9 @@ use Rattle.own_entries.proofs.Lives.{legal_lives_as_told}
 use Rattle.own_entries.proofs.Alone.{legal_alone_sits}
 use Rattle.pin_core.specs.declared.parts.Parts.{Parts}
 use Rattle.pin_core.specs.StateOf.{state_of}
-use Rattle.pin_core.specs.Sessions.{query_of}
+use Rattle.pin_core.specs.calls.Sessions.{query_of}
 use Rattle.pin_core.specs.Standing.{StandsFor, Enters}
-use Rattle.pin_core.specs.Opening.{ending_entries}
+use Rattle.pin_core.specs.calls.Opening.{ending_entries}
 use Rattle.session_calls.specs.declared.hand.Hand.{Hand}
 use Rattle.local_pool.specs.Counting.{AtOpening}
 use Rattle.local_pool.specs.Told.{opening_of, outset_of, held_of}

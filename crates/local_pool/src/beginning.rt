@@ -2,9 +2,9 @@
 ghost use Rattle.std.specs.Prelude.{◌≡◌, ◌≤◌, ◌∷◌, ℕ, [], IsErr, IfOk, IfErr, IfSome, vec_len};
 ghost use Rattle.std.specs.List.{sum_by};
 ghost use Rattle.pool_model.specs.State.{Opening};
-ghost use Rattle.pin_core.specs.Setup.{IsOpeningOf, OpensWith};
+ghost use Rattle.pin_core.specs.calls.Setup.{IsOpeningOf, OpensWith};
 ghost use Rattle.pin_core.specs.Standing.{StandsFor, slots_home};
-ghost use Rattle.pin_core.specs.Opening.{spare_of};
+ghost use Rattle.pin_core.specs.calls.Opening.{spare_of};
 ghost use Rattle.store_api.specs.Entries.{by};
 ghost use Rattle.session_calls.specs.declared.count.Count.TheVariants as count;
 ghost use Rattle.local_pool.specs.Told.{held_of, signs_of};

@@ -2,7 +2,7 @@
 ghost use Rattle.std.specs.Prelude.{◌≡◌, ◌≤◌, ℕ, IsErr, IfOk, IfErr, IfSome, OnOk, vec_len};
 ghost use Rattle.std.specs.List.{sum_by};
 ghost use Rattle.block_arena.specs.Blocks.{IsBlockLen};
-ghost use Rattle.pin_core.specs.Setup.{OpensWith};
+ghost use Rattle.pin_core.specs.calls.Setup.{OpensWith};
 ghost use Rattle.pin_core.specs.Standing.{slots_home};
 ghost use Rattle.own_entries.specs.ClientLaws.{IsWholeIdle};
 ghost use Rattle.store_api.specs.Holdings.{page_len, page_of, unused_of};

@@ -14,10 +14,10 @@ use Rattle.pin_core.specs.declared.parts.Parts.{Parts}
 use Rattle.pin_core.specs.StateOf.{state_of}
 use Rattle.pin_core.specs.Invariant.{IsKept}
 use Rattle.pin_core.specs.Lawful.{Lawful}
-use Rattle.pin_core.specs.Rearranging.{joined}
-use Rattle.pin_core.specs.Seating.{CanJoin, query_in}
-use Rattle.pin_core.specs.Sessions.{IsSeat, query_of, client_count}
-use Rattle.pin_core.specs.Entering.{client_entry}
+use Rattle.pin_core.specs.parts.Rearranging.{joined}
+use Rattle.pin_core.specs.parts.Seating.{CanJoin, query_in}
+use Rattle.pin_core.specs.calls.Sessions.{IsSeat, query_of, client_count}
+use Rattle.pin_core.specs.calls.Entering.{client_entry}
 use Rattle.pin_core.proofs.Entered.{Done}
 use Rattle.pin_core.proofs.Bare.{query_is, count_is}
 use Rattle.pin_core.proofs.JoinedClients.{joined_done}

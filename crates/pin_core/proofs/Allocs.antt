@@ -12,9 +12,9 @@ use Rattle.pin_core.specs.StateOf.{buffers_in, state_of}
 use Rattle.pin_core.specs.Invariant.{IsKept}
 use Rattle.pin_core.specs.Lawful.{Lawful}
 use Rattle.pin_core.specs.Standing.{Enters}
-use Rattle.pin_core.specs.Evictions.{evictions, names_gone, with_room}
-use Rattle.pin_core.specs.Lending.{charged_more}
-use Rattle.pin_core.specs.Coming.{CanHold, ReadyLend, lent, zeros, alloc_entry, alloc_entries}
+use Rattle.pin_core.specs.calls.Evictions.{evictions, names_gone, with_room}
+use Rattle.pin_core.specs.calls.Lending.{charged_more}
+use Rattle.pin_core.specs.calls.Coming.{CanHold, ReadyLend, lent, zeros, alloc_entry, alloc_entries}
 use Rattle.pin_core.proofs.Amounts.{rose}
 use Rattle.pin_core.proofs.Crowds.{buffer_room}
 use Rattle.pin_core.proofs.Holding.{less, holder_low, holder_live, holder_unused, holder_takes, gone, gone_done, len_still, book_still, holds_still}

@@ -16,7 +16,7 @@ use Rattle.pool_model.proofs.PageSums.{pages_put, bytes_put}
 use Rattle.pool_model.proofs.Weights.{mine, not_mine}
 use Rattle.pin_core.specs.declared.kept.Kept.{Kept}
 use Rattle.pin_core.specs.declared.parts.Parts.{Parts}
-use Rattle.pin_core.specs.Keeping.{has_slots}
+use Rattle.pin_core.specs.parts.Keeping.{has_slots}
 use Rattle.pin_core.specs.StateOf.{page_of, pages_in, place_in, buffers_in, state_of}
 use Rattle.pin_core.specs.Invariant.{IsQuota, AreCounted, slots_in}
 use Rattle.pin_core.proofs.Moving.{Moves, moved_pages, page_there}

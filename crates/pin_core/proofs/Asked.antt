@@ -15,9 +15,9 @@ use Rattle.pin_core.specs.declared.parts.Parts.{Parts}
 use Rattle.pin_core.specs.StateOf.{pages_in, state_of}
 use Rattle.pin_core.specs.Invariant.{IsKept, hangs_under}
 use Rattle.pin_core.specs.Lawful.{Lawful}
-use Rattle.pin_core.specs.Rearranging.{asked}
-use Rattle.pin_core.specs.Sessions.{IsSeat}
-use Rattle.pin_core.specs.Entering.{ask_entry}
+use Rattle.pin_core.specs.parts.Rearranging.{asked}
+use Rattle.pin_core.specs.calls.Sessions.{IsSeat}
+use Rattle.pin_core.specs.calls.Entering.{ask_entry}
 use Rattle.pin_core.proofs.Entered.{Done}
 use Rattle.pin_core.proofs.Rearranged.{rearranged_done}
 use Rattle.pin_core.proofs.SeatedClients.{HasSeat, has_seat, some_seat, page_opened}

@@ -16,16 +16,16 @@ use Rattle.pool_model.specs.State.{Page, Place, Flying, Loading, page_at}
 use Rattle.pin_core.specs.declared.kept.Kept.{Kept}
 use Rattle.pin_core.specs.declared.kept.Kept.TheVariants as kept
 use Rattle.pin_core.specs.declared.parts.Parts.{Parts}
-use Rattle.pin_core.specs.Keeping.{has_slots, row_in}
+use Rattle.pin_core.specs.parts.Keeping.{has_slots, row_in}
 use Rattle.pin_core.specs.declared.jobs.WriteJob.{WriteJob}
 use Rattle.pin_core.specs.declared.jobs.ReadJob.{ReadJob}
 use Rattle.pin_core.specs.StateOf.{place_in, state_of}
 use Rattle.pin_core.specs.Invariant.{IsKept, IsKeptOf, list_at, is_clean_spot, is_home}
 use Rattle.pin_core.specs.Lawful.{Lawful}
-use Rattle.pin_core.specs.Changes.{entry_at}
+use Rattle.pin_core.specs.parts.Changes.{entry_at}
 use Rattle.pin_core.specs.Marking.{under_of}
-use Rattle.pin_core.specs.Jobs.{IsWriteJob, IsReadJob}
-use Rattle.pin_core.specs.Ends.{ComesBack}
+use Rattle.pin_core.specs.calls.Jobs.{IsWriteJob, IsReadJob}
+use Rattle.pin_core.specs.parts.Ends.{ComesBack}
 use Rattle.pin_core.proofs.Found.{Found, found_page}
 use Rattle.pin_core.proofs.Noting.{page_seat}
 

@@ -27,7 +27,7 @@ use Rattle.pin_core.specs.declared.parts.Parts.{Parts}
 use Rattle.pin_core.specs.StateOf.{page_of, state_of}
 use Rattle.pin_core.specs.Invariant.{IsKept, list_at, hangs_under}
 use Rattle.pin_core.specs.Lawful.{Lawful}
-use Rattle.pin_core.specs.Sessions.{IsIdle, query_of, is_under, client_count}
+use Rattle.pin_core.specs.calls.Sessions.{IsIdle, query_of, is_under, client_count}
 use Rattle.pin_core.proofs.Listed.{listed_total, head_stands}
 use Rattle.pin_core.proofs.Moved.{page_known}
 use Rattle.pin_core.proofs.SeatedClients.{Hung, hangs_so}

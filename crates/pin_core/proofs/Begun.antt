@@ -21,11 +21,11 @@ use Rattle.pin_core.specs.declared.parts.Parts.{Parts}
 use Rattle.pin_core.specs.StateOf.{pages_in, state_of}
 use Rattle.pin_core.specs.Invariant.{IsKept}
 use Rattle.pin_core.specs.Lawful.{Lawful}
-use Rattle.pin_core.specs.Rearranging.{seated, grown, unseated}
-use Rattle.pin_core.specs.Seating.{CanSeat, CanUnseat}
-use Rattle.pin_core.specs.Sessions.{IsFull, query_of}
-use Rattle.pin_core.specs.Entering.{session_entry, increase_entry, close_entry}
-use Rattle.pin_core.specs.Opening.{ClosedAgain, LacksLeast, least_refusal, opening_entries, reopening_entries, spare_of}
+use Rattle.pin_core.specs.parts.Rearranging.{seated, grown, unseated}
+use Rattle.pin_core.specs.parts.Seating.{CanSeat, CanUnseat}
+use Rattle.pin_core.specs.calls.Sessions.{IsFull, query_of}
+use Rattle.pin_core.specs.calls.Entering.{session_entry, increase_entry, close_entry}
+use Rattle.pin_core.specs.calls.Opening.{ClosedAgain, LacksLeast, least_refusal, opening_entries, reopening_entries, spare_of}
 use Rattle.pin_core.proofs.Adding.{few_trackers}
 use Rattle.pin_core.proofs.Came.{none_open, seated_done}
 use Rattle.pin_core.proofs.Closing.{can_unseat}

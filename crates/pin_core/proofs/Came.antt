@@ -26,7 +26,7 @@ use Rattle.pin_core.specs.declared.parts.Parts.{Parts}
 use Rattle.pin_core.specs.StateOf.{pages_in, state_of}
 use Rattle.pin_core.specs.Invariant.{IsKept, IsQuota, hangs_under, is_live_client}
 use Rattle.pin_core.specs.Lawful.{Lawful}
-use Rattle.pin_core.specs.Rearranging.{seated}
+use Rattle.pin_core.specs.parts.Rearranging.{seated}
 use Rattle.pin_core.proofs.Entered.{Done}
 use Rattle.pin_core.proofs.Places.{page_owned}
 use Rattle.pin_core.proofs.Rearranged.{rearranged_done}

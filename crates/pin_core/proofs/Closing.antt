@@ -22,11 +22,11 @@ use Rattle.pin_core.specs.declared.parts.Parts.{Parts}
 use Rattle.pin_core.specs.StateOf.{pages_in, state_of}
 use Rattle.pin_core.specs.Invariant.{IsKept, IsQuota}
 use Rattle.pin_core.specs.Lawful.{Lawful}
-use Rattle.pin_core.specs.Rearranging.{shrunk, unseated}
-use Rattle.pin_core.specs.Seating.{CanUnseat}
-use Rattle.pin_core.specs.Sessions.{IsSeat, query_of, quota_in}
-use Rattle.pin_core.specs.Entering.{decrease_entry, close_entry}
-use Rattle.pin_core.specs.Opening.{ending_entries, spare_of}
+use Rattle.pin_core.specs.parts.Rearranging.{shrunk, unseated}
+use Rattle.pin_core.specs.parts.Seating.{CanUnseat}
+use Rattle.pin_core.specs.calls.Sessions.{IsSeat, query_of, quota_in}
+use Rattle.pin_core.specs.calls.Entering.{decrease_entry, close_entry}
+use Rattle.pin_core.specs.calls.Opening.{ending_entries, spare_of}
 use Rattle.pin_core.proofs.Adding.{Sits, sits}
 use Rattle.pin_core.proofs.Bare.{query_is}
 use Rattle.pin_core.proofs.Ended.{not_client, no_members, none_lent, unseated_done}

@@ -26,7 +26,7 @@ use Rattle.pin_core.specs.declared.parts.Parts.{Parts}
 use Rattle.pin_core.specs.StateOf.{key_of, page_of, pages_in, dirty_in}
 use Rattle.pin_core.specs.Invariant.{IsPlaced, AllPlaced, NoneStray, IsKept, slots_in}
 use Rattle.pin_core.specs.Lawful.{Lawful}
-use Rattle.pin_core.specs.Coming.{created}
+use Rattle.pin_core.specs.calls.Coming.{created}
 use Rattle.pin_core.proofs.Beside.{names_beside}
 use Rattle.pin_core.proofs.Found.{key_found}
 use Rattle.pin_core.proofs.Mapped.{get_mapped, mapped_put, mapped_alike}

@@ -11,7 +11,7 @@ use Rattle.outside.specs.declared.slot.Slot.{Ghosts}
 use Rattle.outside.specs.declared.stream.Failed.{Failed}
 use Rattle.scratch_dev.specs.Rows.{Ended, MarkedEnded, IsStored, Walked, FailedAt, stores_in, uncounted_in, stores_at, uncounted, CountsStores}
 use Rattle.scratch_dev.specs.declared.marked.LoadErr.TheVariants as loading
-use Rattle.pin_core.specs.Runs.{stuck, CountsFaults, IsLoadedAs, load_end}
+use Rattle.pin_core.specs.calls.Runs.{stuck, CountsFaults, IsLoadedAs, load_end}
 use Rattle.pin_core.proofs.Rowed.{at_slot, stays}
 
 -- one slot counts so many stores more, where it counts them still

@@ -10,8 +10,8 @@ use Rattle.pin_core.specs.StateOf.{state_of}
 use Rattle.pin_core.specs.Invariant.{IsKept}
 use Rattle.pin_core.specs.Lawful.{Lawful}
 use Rattle.pin_core.specs.Standing.{Enters}
-use Rattle.pin_core.specs.Evictions.{evictions, names_gone, with_room}
-use Rattle.pin_core.specs.Coming.{CanHold, ReadyCreate, created, zeros, create_entry, create_entries}
+use Rattle.pin_core.specs.calls.Evictions.{evictions, names_gone, with_room}
+use Rattle.pin_core.specs.calls.Coming.{CanHold, ReadyCreate, created, zeros, create_entry, create_entries}
 use Rattle.pin_core.proofs.Comes.{IsFreeKey}
 use Rattle.pin_core.proofs.Creates.{create_ready, create_kept, create_enters}
 use Rattle.pin_core.proofs.Holding.{gone, gone_done, len_still, next_still, holds_still}

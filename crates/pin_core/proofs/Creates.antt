@@ -23,13 +23,13 @@ use Rattle.pool_model.proofs.Seats.{some_is}
 use Rattle.store_api.specs.Tokens.{ClientToken}
 use Rattle.pin_core.specs.declared.kept.Kept.{Kept}
 use Rattle.pin_core.specs.declared.parts.Parts.{Parts}
-use Rattle.pin_core.specs.Keeping.{row_in}
+use Rattle.pin_core.specs.parts.Keeping.{row_in}
 use Rattle.pin_core.specs.StateOf.{page_of, pages_in, state_of}
 use Rattle.pin_core.specs.Invariant.{HasHistory, AreCounted, IsQuota, IsKept, slots_in}
 use Rattle.pin_core.specs.Lawful.{Lawful}
 use Rattle.pin_core.specs.Standing.{Holds, Enters, slots_home}
 use Rattle.pin_core.specs.Marking.{form_of}
-use Rattle.pin_core.specs.Coming.{CanHold, ReadyCreate, created, create_entry}
+use Rattle.pin_core.specs.calls.Coming.{CanHold, ReadyCreate, created, create_entry}
 use Rattle.pin_core.proofs.Amounts.{rose}
 use Rattle.pin_core.proofs.Comes.{IsFreeKey, page_made, entry_made, pages_come, bytes_come, slots_come, all_slots_come, no_page_yet, come_placed, come_stray, come_clean, come_dirty, come_pages}
 use Rattle.pin_core.proofs.Crowds.{page_room}

@@ -16,7 +16,7 @@ use Rattle.pool_model.specs.Sums.{is_in_memory, once, bytes_in, buffer_bytes}
 use Rattle.pin_core.specs.declared.kept.Kept.{Kept}
 use Rattle.pin_core.specs.declared.kept.Kept.TheVariants as kept
 use Rattle.pin_core.specs.declared.parts.Parts.{Parts}
-use Rattle.pin_core.specs.Keeping.{has_slots}
+use Rattle.pin_core.specs.parts.Keeping.{has_slots}
 use Rattle.pin_core.specs.StateOf.{page_of, pages_in, place_in, buffers_in}
 use Rattle.pin_core.specs.Invariant.{IsPlaced, IsKept, IsKeptOf, slots_in}
 use Rattle.pin_core.specs.Lawful.{Lawful}

@@ -14,11 +14,11 @@ use Rattle.pin_core.specs.StateOf.{place_in, state_of}
 use Rattle.pin_core.specs.Invariant.{IsKept}
 use Rattle.pin_core.specs.Lawful.{Lawful}
 use Rattle.pin_core.specs.Standing.{Enters}
-use Rattle.pin_core.specs.Needs.{id_in}
-use Rattle.pin_core.specs.Changes.{entry_at}
-use Rattle.pin_core.specs.Ending.{IsPinnedWith, IsUnpinned, destroy_entry, is_flying}
-use Rattle.pin_core.specs.Leavings.{IsGiven}
-use Rattle.pin_core.specs.Ended.{CanDestroy, ReadyDestroy, destroyed}
+use Rattle.pin_core.specs.calls.Needs.{id_in}
+use Rattle.pin_core.specs.parts.Changes.{entry_at}
+use Rattle.pin_core.specs.calls.Ending.{IsPinnedWith, IsUnpinned, destroy_entry, is_flying}
+use Rattle.pin_core.specs.parts.Leavings.{IsGiven}
+use Rattle.pin_core.specs.parts.Ended.{CanDestroy, ReadyDestroy, destroyed}
 use Rattle.pin_core.proofs.Found.{Found, found_page}
 use Rattle.pin_core.proofs.Destroys.{destroy_kept, destroy_enters, destroy_ready}
 

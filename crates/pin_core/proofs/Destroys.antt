@@ -27,9 +27,9 @@ use Rattle.pin_core.specs.StateOf.{page_of, pages_in, place_in, state_of}
 use Rattle.pin_core.specs.Invariant.{IsPlaced, IsQuota, IsKept, is_home, is_clean_spot, IsSized}
 use Rattle.pin_core.specs.Lawful.{Lawful}
 use Rattle.pin_core.specs.Standing.{Enters}
-use Rattle.pin_core.specs.Leavings.{blocks_in, held_in}
-use Rattle.pin_core.specs.Ended.{CanDestroy, ReadyDestroy, destroyed}
-use Rattle.pin_core.specs.Pins.{pins_in}
+use Rattle.pin_core.specs.parts.Leavings.{blocks_in, held_in}
+use Rattle.pin_core.specs.parts.Ended.{CanDestroy, ReadyDestroy, destroyed}
+use Rattle.pin_core.specs.calls.Pins.{pins_in}
 use Rattle.pin_core.proofs.Amounts.{fell, charge_covers}
 use Rattle.pin_core.proofs.Effects.{same_state, destroy_effect}
 use Rattle.pin_core.proofs.Gone.{Releases, Ends, ended_kept, ended_stands, ended_slots}

@@ -31,7 +31,7 @@ use Rattle.pin_core.specs.declared.parts.Parts.{Parts}
 use Rattle.pin_core.specs.StateOf.{pages_in, dirty_in, state_of}
 use Rattle.pin_core.specs.Invariant.{IsKept, IsQuota, hangs_under, is_live_client}
 use Rattle.pin_core.specs.Lawful.{Lawful}
-use Rattle.pin_core.specs.Rearranging.{unseated}
+use Rattle.pin_core.specs.parts.Rearranging.{unseated}
 use Rattle.pin_core.proofs.Entered.{Done}
 use Rattle.pin_core.proofs.Effects.{same_state}
 use Rattle.pin_core.proofs.Places.{page_owned}

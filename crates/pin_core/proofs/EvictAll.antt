@@ -19,7 +19,7 @@ use Rattle.pin_core.specs.StateOf.{state_of}
 use Rattle.pin_core.specs.Lawful.{Lawful}
 use Rattle.pin_core.specs.Invariant.{IsKept}
 use Rattle.pin_core.specs.Standing.{StandsFor, slots_home}
-use Rattle.pin_core.specs.Evictions.{evict_one, evict_all, evictions}
+use Rattle.pin_core.specs.calls.Evictions.{evict_one, evict_all, evictions}
 use Rattle.pin_core.proofs.Cleaned.{IsCleanAt, clean_page}
 use Rattle.pin_core.proofs.Evicts.{evict_kept, evict_ran, evict_stands, evict_slots, evict_held}
 use Rattle.pin_core.proofs.Listed.{distinct_tail, head_stands}

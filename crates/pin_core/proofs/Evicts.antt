@@ -35,7 +35,7 @@ use Rattle.pin_core.specs.Lawful.{Lawful}
 use Rattle.pin_core.specs.Invariant.{list_at, IsKeptOf, IsPlaced, IsKept}
 use Rattle.pin_core.specs.Standing.{StandsFor, Holds, KeptHolds, slots_home}
 use Rattle.pin_core.specs.Marking.{form_of, under_of}
-use Rattle.pin_core.specs.Evictions.{evict_one}
+use Rattle.pin_core.specs.calls.Evictions.{evict_one}
 use Rattle.pin_core.proofs.Mapped.{put_again}
 use Rattle.pin_core.proofs.Moving.{Moves, moved_pages}
 use Rattle.pin_core.proofs.Moved.{Tells, page_known, quiet_quotas, told_kept, told_stands, told_slots}

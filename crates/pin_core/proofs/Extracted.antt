@@ -11,11 +11,11 @@ use Rattle.pin_core.specs.StateOf.{buffers_in, state_of}
 use Rattle.pin_core.specs.Invariant.{IsKept}
 use Rattle.pin_core.specs.Lawful.{Lawful}
 use Rattle.pin_core.specs.Standing.{Enters}
-use Rattle.pin_core.specs.Needs.{IsLastPin, id_in}
-use Rattle.pin_core.specs.Changes.{entry_at}
-use Rattle.pin_core.specs.Unpinning.{CanUnpin}
-use Rattle.pin_core.specs.Ending.{extract_entry}
-use Rattle.pin_core.specs.Ended.{ReadyExtract, extracted}
+use Rattle.pin_core.specs.calls.Needs.{IsLastPin, id_in}
+use Rattle.pin_core.specs.parts.Changes.{entry_at}
+use Rattle.pin_core.specs.calls.Unpinning.{CanUnpin}
+use Rattle.pin_core.specs.calls.Ending.{extract_entry}
+use Rattle.pin_core.specs.parts.Ended.{ReadyExtract, extracted}
 use Rattle.pin_core.proofs.Found.{Found, found_page}
 use Rattle.pin_core.proofs.Lends.{not_lent}
 use Rattle.pin_core.proofs.Unpinned.{can_unpin}

@@ -27,8 +27,8 @@ use Rattle.pin_core.specs.StateOf.{page_of, pages_in, place_in, buffers_in, stat
 use Rattle.pin_core.specs.Invariant.{IsPlaced, IsQuota, IsKept, is_home, list_at, is_clean_spot}
 use Rattle.pin_core.specs.Lawful.{Lawful}
 use Rattle.pin_core.specs.Standing.{Enters}
-use Rattle.pin_core.specs.Unpinning.{CanUnpin}
-use Rattle.pin_core.specs.Ended.{ReadyExtract, extracted}
+use Rattle.pin_core.specs.calls.Unpinning.{CanUnpin}
+use Rattle.pin_core.specs.parts.Ended.{ReadyExtract, extracted}
 use Rattle.pin_core.proofs.Crowds.{buffer_room, own_blocks}
 use Rattle.pin_core.proofs.Effects.{same_state, extract_effect}
 use Rattle.pin_core.proofs.Gone.{Ends, ended_kept, ended_stands, ended_slots}

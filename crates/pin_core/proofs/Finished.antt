@@ -8,11 +8,11 @@ use Rattle.pin_core.specs.declared.jobs.WriteJob.{WriteJob}
 use Rattle.pin_core.specs.StateOf.{state_of}
 use Rattle.pin_core.specs.Invariant.{IsKept}
 use Rattle.pin_core.specs.Lawful.{Lawful}
-use Rattle.pin_core.specs.Changes.{entry_at}
-use Rattle.pin_core.specs.Jobs.{IsWriteJob}
+use Rattle.pin_core.specs.parts.Changes.{entry_at}
+use Rattle.pin_core.specs.calls.Jobs.{IsWriteJob}
 use Rattle.pin_core.specs.Standing.{AreHeld}
-use Rattle.pin_core.specs.Ends.{ComesBack, write_ended}
-use Rattle.pin_core.specs.Returning.{EntersWhere, IsWritten, write_ends, write_entry}
+use Rattle.pin_core.specs.parts.Ends.{ComesBack, write_ended}
+use Rattle.pin_core.specs.calls.Returning.{EntersWhere, IsWritten, write_ends, write_entry}
 use Rattle.pin_core.proofs.Back.{write_back, write_client, write_under}
 use Rattle.pin_core.proofs.Unwritten.{unwritten_kept, unwritten_state, unwritten_stands, unwritten_slots}
 use Rattle.pin_core.proofs.Writes.{written_kept, written_state, written_stands, written_slots}

@@ -9,8 +9,8 @@ use Rattle.store_api.specs.Tokens.{PageToken}
 use Rattle.pin_core.specs.declared.kept.Kept.{Kept}
 use Rattle.pin_core.specs.declared.parts.Parts.{Parts}
 use Rattle.pin_core.specs.StateOf.{key_of, page_of, state_of}
-use Rattle.pin_core.specs.Changes.{no_entry, entry_at}
-use Rattle.pin_core.specs.Needs.{IsPage}
+use Rattle.pin_core.specs.parts.Changes.{no_entry, entry_at}
+use Rattle.pin_core.specs.calls.Needs.{IsPage}
 use Rattle.pin_core.proofs.Keys.{key_is}
 use Rattle.pin_core.proofs.Mapped.{get_mapped}
 

@@ -24,7 +24,7 @@ use Rattle.pin_core.specs.declared.parts.Parts.{Parts}
 use Rattle.pin_core.specs.StateOf.{dirty_in, state_of}
 use Rattle.pin_core.specs.Lawful.{Lawful}
 use Rattle.pin_core.specs.Invariant.{list_at, is_clean_spot, IsHeld, IsMem, IsPlaced, IsKept}
-use Rattle.pin_core.specs.Pinning.{ReadyDirty, ReadyClean, pinned_dirty, pinned_clean}
+use Rattle.pin_core.specs.parts.Pinning.{ReadyDirty, ReadyClean, pinned_dirty, pinned_clean}
 use Rattle.pin_core.proofs.Mapped.{put_again}
 use Rattle.pin_core.proofs.Queued.{dirty_changed, dirty_same, dirty_open, names_without}
 use Rattle.pin_core.proofs.OnLists.{on_list_live, clean_key_live, one_key, not_clean}

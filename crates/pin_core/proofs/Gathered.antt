@@ -11,7 +11,7 @@ use Rattle.scratch_dev.specs.declared.marked.LoadErr.TheVariants as loading
 use Rattle.pool_model.specs.ScratchRows.{IsFault}
 use Rattle.pin_core.specs.declared.jobs.Stale.{Stale}
 use Rattle.pin_core.specs.Standing.{AreHeld}
-use Rattle.pin_core.specs.Runs.{AllTell, AllGiveHeld, IfFoundOther, IsLoadedAs, load_end}
+use Rattle.pin_core.specs.calls.Runs.{AllTell, AllGiveHeld, IfFoundOther, IsLoadedAs, load_end}
 use Rattle.pin_core.proofs.Shown.{some_of}
 use Rattle.pin_core.proofs.Rowed.{none_stale}
 

@@ -15,7 +15,7 @@ use Rattle.pin_core.specs.declared.parts.Parts.{Parts}
 use Rattle.pin_core.specs.StateOf.{page_of, state_of}
 use Rattle.pin_core.specs.Lawful.{Lawful}
 use Rattle.pin_core.specs.Invariant.{IsKept}
-use Rattle.pin_core.specs.Evictions.{MakesRoom, blocks_in, keys_gone, names_gone, with_room}
+use Rattle.pin_core.specs.calls.Evictions.{MakesRoom, blocks_in, keys_gone, names_gone, with_room}
 use Rattle.pin_core.proofs.Moved.{page_known}
 use Rattle.pin_core.proofs.Cleaned.{IsCleanAt, clean_page}
 use Rattle.pin_core.proofs.EvictAll.{all_free}

@@ -20,7 +20,7 @@ use Rattle.pool_model.specs.HistoryLaws.{made}
 use Rattle.pool_model.proofs.PageSums.{pages_gone, bytes_gone}
 use Rattle.pin_core.specs.declared.kept.Kept.{Kept}
 use Rattle.pin_core.specs.declared.parts.Parts.{Parts}
-use Rattle.pin_core.specs.Keeping.{has_slots, row_in}
+use Rattle.pin_core.specs.parts.Keeping.{has_slots, row_in}
 use Rattle.pin_core.specs.StateOf.{page_of, pages_in, place_in, buffers_in, state_of}
 use Rattle.pin_core.specs.Invariant.{HasHistory, IsQuota, IsSized, AreSeated, AreLent, IsKept, slots_in}
 use Rattle.pin_core.specs.Standing.{Holds, StandsFor, slots_home}

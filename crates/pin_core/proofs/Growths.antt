@@ -9,8 +9,8 @@ use Rattle.pin_core.specs.declared.parts.Parts.{Parts}
 use Rattle.pin_core.specs.StateOf.{state_of}
 use Rattle.pin_core.specs.Invariant.{IsKept}
 use Rattle.pin_core.specs.Lawful.{Lawful}
-use Rattle.pin_core.specs.Rearranging.{grown, grown_to_fit, shrunk, transferred}
-use Rattle.pin_core.specs.Entering.{increase_entry, fit_entry, decrease_entry, move_entry, growth_refusal, fit_refusal}
+use Rattle.pin_core.specs.parts.Rearranging.{grown, grown_to_fit, shrunk, transferred}
+use Rattle.pin_core.specs.calls.Entering.{increase_entry, fit_entry, decrease_entry, move_entry, growth_refusal, fit_refusal}
 use Rattle.pin_core.proofs.Entered.{Done, Answered, answered}
 use Rattle.pin_core.proofs.Rearranged.{charges_are}
 use Rattle.pin_core.proofs.SeatedClients.{has_seat}

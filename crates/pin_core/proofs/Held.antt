@@ -23,7 +23,7 @@ use Rattle.pool_model.specs.Sums.{times_charged, times_held, once, page_bytes, p
 use Rattle.pool_model.specs.Orders.{is_dirty}
 use Rattle.pool_model.proofs.Weights.{only_none, only_when, only_not, one_time}
 use Rattle.pin_core.specs.declared.kept.Kept.{Kept}
-use Rattle.pin_core.specs.Ending.{is_flying}
+use Rattle.pin_core.specs.calls.Ending.{is_flying}
 use Rattle.pin_core.specs.declared.parts.Parts.{Parts}
 use Rattle.pin_core.specs.StateOf.{page_of, pages_in, place_in, state_of}
 use Rattle.pin_core.specs.Invariant.{list_at, IsPlaced, IsKept}

@@ -22,9 +22,9 @@ use Rattle.pin_core.specs.declared.parts.Parts.{Parts}
 use Rattle.pin_core.specs.StateOf.{state_of}
 use Rattle.pin_core.specs.Invariant.{IsKept}
 use Rattle.pin_core.specs.Lawful.{Lawful}
-use Rattle.pin_core.specs.Evictions.{MakesRoom, evictions, keys_gone, names_gone, with_room}
+use Rattle.pin_core.specs.calls.Evictions.{MakesRoom, evictions, keys_gone, names_gone, with_room}
 use Rattle.pin_core.proofs.Goes.{makes_room}
-use Rattle.pin_core.specs.Coming.{CanHold}
+use Rattle.pin_core.specs.calls.Coming.{CanHold}
 use Rattle.pin_core.proofs.Charged.{room_unused}
 use Rattle.pin_core.proofs.CleanRoom.{finds_blocks, free_bytes_are}
 use Rattle.pin_core.proofs.EvictAll.{Evicted, all_rest, all_free, all_pages, room_kept}

@@ -10,7 +10,7 @@ use Rattle.pin_core.specs.declared.kept.Kept.{Kept}
 use Rattle.pin_core.specs.declared.kept.Kept.TheVariants as kept
 use Rattle.pin_core.specs.StateOf.{place_in}
 use Rattle.pin_core.specs.Invariant.{is_home, is_pinned_spot, IsHeld, IsKeptOf}
-use Rattle.pin_core.specs.Flights.{is_held_mem}
+use Rattle.pin_core.specs.parts.Flights.{is_held_mem}
 
 pub held_mem : (len blocks : ℕ) (m : Mem) → IsHeld len blocks m → is_held_mem m ≡ true
 held_mem len blocks (mem.Held buf) is = refl

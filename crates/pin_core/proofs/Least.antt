@@ -15,7 +15,7 @@ use Rattle.pin_core.specs.declared.parts.Parts.{Parts}
 use Rattle.pin_core.specs.StateOf.{state_of}
 use Rattle.pin_core.specs.Invariant.{IsKept}
 use Rattle.pin_core.specs.Lawful.{Lawful}
-use Rattle.pin_core.specs.Opening.{LacksLeast, least_refusal, root_growth}
+use Rattle.pin_core.specs.calls.Opening.{LacksLeast, least_refusal, root_growth}
 use Rattle.pin_core.proofs.Queries.{charge_came, fresh_charge, root_deep}
 
 past : (m n : ℕ) (r : Refusal) → IsSome (if leb m n then None else Some r) ↔ (n < m)

@@ -10,7 +10,7 @@ use Rattle.pool_model.specs.State.{pins_of, Flying, Loading}
 use Rattle.pool_model.specs.Sums.{times_charged, is_in_memory, once}
 use Rattle.pin_core.specs.StateOf.{place_in}
 use Rattle.pin_core.specs.Invariant.{IsMem, is_home}
-use Rattle.pin_core.specs.Leavings.{IsGiven, IfHeld, TakesBack, held_in, blocks_in}
+use Rattle.pin_core.specs.parts.Leavings.{IsGiven, IfHeld, TakesBack, held_in, blocks_in}
 
 pub given_home : (len blocks : ℕ) (at : Spot) (buf : Option Buffer) → IsGiven len blocks at buf → is_home at ≡ true
 given_home len blocks (spot.Pinned count) buf is = refl

@@ -21,10 +21,10 @@ use Rattle.pin_core.specs.declared.parts.Parts.{Parts}
 use Rattle.pin_core.specs.StateOf.{state_of}
 use Rattle.pin_core.specs.Invariant.{IsKept}
 use Rattle.pin_core.specs.Lawful.{Lawful}
-use Rattle.pin_core.specs.Rearranging.{transferred, parted}
-use Rattle.pin_core.specs.Seating.{CanPart}
-use Rattle.pin_core.specs.Sessions.{IsIdle, query_of}
-use Rattle.pin_core.specs.Entering.{move_entry, close_entry}
+use Rattle.pin_core.specs.parts.Rearranging.{transferred, parted}
+use Rattle.pin_core.specs.parts.Seating.{CanPart}
+use Rattle.pin_core.specs.calls.Sessions.{IsIdle, query_of}
+use Rattle.pin_core.specs.calls.Entering.{move_entry, close_entry}
 use Rattle.pin_core.proofs.Entered.{Done, done_then}
 use Rattle.pin_core.proofs.SeatedClients.{hangs_is, HasSeat, has_seat, sound_now}
 use Rattle.pin_core.proofs.Queries.{root_deep, query_at, client_is, client_deep, session_here}

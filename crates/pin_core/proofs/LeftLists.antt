@@ -12,7 +12,7 @@ use Rattle.client_lists.proofs.Nodes.{list-without_node, list-without_node_other
 use Rattle.clean_evict.specs.Cleans.{Cleans}
 use Rattle.pool_model.proofs.Seats.{some_is}
 use Rattle.pin_core.specs.Invariant.{list_at, is_clean_spot, is_home}
-use Rattle.pin_core.specs.Leavings.{is_listed, lists_left, clean_left}
+use Rattle.pin_core.specs.parts.Leavings.{is_listed, lists_left, clean_left}
 
 module _ (t : Clients) (whole : IsWhole t) (client key : ℕ) where
   pub left_gone : (at : Spot) → is_home at ≡ true → list_with key t.pages.lists ≡ list_at client at → list_with key (lists_left at key t).pages.lists ≡ None

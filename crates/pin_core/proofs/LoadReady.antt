@@ -8,9 +8,9 @@ use Rattle.pin_core.specs.declared.jobs.ReadJob.{ReadJob}
 use Rattle.pin_core.specs.declared.parts.Parts.{Parts}
 use Rattle.pin_core.specs.Lawful.{Lawful}
 use Rattle.pin_core.specs.Invariant.{IsKept}
-use Rattle.pin_core.specs.Changes.{entry_at}
-use Rattle.pin_core.specs.Evictions.{with_room}
-use Rattle.pin_core.specs.Loads.{CanLoad, ReadyLoad, loaded, loaded_over, read_job}
+use Rattle.pin_core.specs.parts.Changes.{entry_at}
+use Rattle.pin_core.specs.calls.Evictions.{with_room}
+use Rattle.pin_core.specs.parts.Loads.{CanLoad, ReadyLoad, loaded, loaded_over, read_job}
 use Rattle.pin_core.proofs.LoadedOver.{entry_still, len_kept, ready_still}
 
 module _ {D : Type 0} (v : Parts D) (is_kept : IsKept v) (laws : Lawful v) (id : PageId) (can : CanLoad v id (entry_at v id.name))

@@ -19,11 +19,11 @@ use Rattle.pool_model.proofs.Weights.{only_none, one_time}
 use Rattle.pin_core.specs.declared.kept.Kept.{Kept}
 use Rattle.pin_core.specs.declared.kept.Kept.TheVariants as kept
 use Rattle.pin_core.specs.declared.parts.Parts.{Parts}
-use Rattle.pin_core.specs.Keeping.{has_slots, row_in}
+use Rattle.pin_core.specs.parts.Keeping.{has_slots, row_in}
 use Rattle.pin_core.specs.StateOf.{page_of, pages_in, place_in, state_of}
 use Rattle.pin_core.specs.Lawful.{Lawful}
 use Rattle.pin_core.specs.Invariant.{list_at, is_clean_spot, IsKeptOf, IsMem, IsPlaced, IsKept}
-use Rattle.pin_core.specs.Loads.{CanLoad, ReadyLoad, loading, loaded}
+use Rattle.pin_core.specs.parts.Loads.{CanLoad, ReadyLoad, loading, loaded}
 use Rattle.pin_core.proofs.Moving.{Moves, moved_pages}
 use Rattle.pin_core.proofs.Moved.{Tells, page_known, quiet_quotas, told_kept, told_stands, told_slots}
 use Rattle.pin_core.proofs.Queued.{dirty_same}

@@ -20,13 +20,13 @@ use Rattle.pin_core.specs.declared.kept.Kept.{Kept}
 use Rattle.pin_core.specs.declared.kept.Kept.TheVariants as kept
 use Rattle.pin_core.specs.declared.parts.Parts.{Parts}
 use Rattle.pin_core.specs.Lawful.{Lawful}
-use Rattle.pin_core.specs.Keeping.{row_in}
+use Rattle.pin_core.specs.parts.Keeping.{row_in}
 use Rattle.pin_core.specs.Invariant.{IsKept, IsPlaced, IsKeptOf, is_clean_spot}
 use Rattle.pin_core.specs.Standing.{StandsFor, Holds, KeptHolds, AreHeld}
 use Rattle.pin_core.specs.Marking.{form_of, under_of}
-use Rattle.pin_core.specs.Changes.{no_entry, entry_at}
-use Rattle.pin_core.specs.Evictions.{evictions, keys_gone, names_gone, with_room}
-use Rattle.pin_core.specs.Loads.{CanLoad, ReadyLoad, loaded, loaded_over, load_entries}
+use Rattle.pin_core.specs.parts.Changes.{no_entry, entry_at}
+use Rattle.pin_core.specs.calls.Evictions.{evictions, keys_gone, names_gone, with_room}
+use Rattle.pin_core.specs.parts.Loads.{CanLoad, ReadyLoad, loaded, loaded_over, load_entries}
 use Rattle.pin_core.proofs.Queued.{name_is}
 use Rattle.pin_core.proofs.OnLists.{clean_key_live}
 use Rattle.pin_core.proofs.EvictAll.{Evicted, all_pages, all_free, room_kept}

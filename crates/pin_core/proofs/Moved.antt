@@ -18,7 +18,7 @@ use Rattle.pool_model.specs.Effects.{after}
 use Rattle.pool_model.specs.LookingBack.{left_in, content_of}
 use Rattle.pin_core.specs.declared.kept.Kept.{Kept}
 use Rattle.pin_core.specs.declared.parts.Parts.{Parts}
-use Rattle.pin_core.specs.Keeping.{has_slots, row_in}
+use Rattle.pin_core.specs.parts.Keeping.{has_slots, row_in}
 use Rattle.pin_core.specs.StateOf.{page_of, pages_in, state_of}
 use Rattle.pin_core.specs.Invariant.{HasHistory, IsPlaced, IsQuota, IsSized, AreSeated, IsKept}
 use Rattle.pin_core.specs.Standing.{Holds, StandsFor, slots_home}

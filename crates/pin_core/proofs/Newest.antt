@@ -20,8 +20,8 @@ use Rattle.pin_core.specs.declared.kept.Kept.{Kept}
 use Rattle.pin_core.specs.declared.parts.Parts.{Parts}
 use Rattle.pin_core.specs.Invariant.{IsKept, IsPlaced, IsKeptOf, IsMem, IsHeld, list_at}
 use Rattle.pin_core.specs.Lawful.{Lawful}
-use Rattle.pin_core.specs.Changes.{entry_at, no_entry}
-use Rattle.pin_core.specs.Flights.{id_with, is_held_mem, flying, flown}
+use Rattle.pin_core.specs.parts.Changes.{entry_at, no_entry}
+use Rattle.pin_core.specs.parts.Flights.{id_with, is_held_mem, flying, flown}
 use Rattle.pin_core.proofs.Queued.{name_is}
 use Rattle.pin_core.proofs.OnLists.{on_list_live}
 use Rattle.pin_core.proofs.Held.{number_is}

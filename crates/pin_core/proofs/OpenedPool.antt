@@ -17,7 +17,7 @@ use Rattle.pin_core.specs.declared.conf.PoolConf.{PoolConf}
 use Rattle.pin_core.specs.declared.parts.Parts.{Parts}
 use Rattle.pin_core.specs.Invariant.{IsKept}
 use Rattle.pin_core.specs.Standing.{StandsFor, slots_home}
-use Rattle.pin_core.specs.Setup.{OpensWith, IsOpeningOf}
+use Rattle.pin_core.specs.calls.Setup.{OpensWith, IsOpeningOf}
 use Rattle.pin_core.proofs.Opens.{start, opens_kept, opens_standing, opens_slots, opens_spare}
 
 short_block : (n : ℕ) → IsBlockLen n → (0 < n) × (n ≤ 65536)

@@ -33,7 +33,7 @@ use Rattle.pool_model.specs.State.{Opening, opened, Pages, Buffers, Session}
 use Rattle.pool_model.specs.Sums.{pages_for, buffers_for, bytes_in, buffer_bytes, times_charged, is_in_memory, once}
 use Rattle.pin_core.specs.declared.kept.Kept.{Kept}
 use Rattle.pin_core.specs.declared.parts.Parts.{Parts}
-use Rattle.pin_core.specs.Keeping.{row_in}
+use Rattle.pin_core.specs.parts.Keeping.{row_in}
 use Rattle.pin_core.specs.StateOf.{page_of, pages_in, buffers_in, dirty_in, state_of}
 use Rattle.pin_core.specs.Invariant.{IsQuota, IsKept, is_live_client, slots_in}
 use Rattle.pin_core.specs.Standing.{StandsFor, slots_home}

@@ -31,8 +31,8 @@ use Rattle.pin_core.specs.declared.parts.Parts.{Parts}
 use Rattle.pin_core.specs.StateOf.{page_of, pages_in, dirty_in, state_of}
 use Rattle.pin_core.specs.Invariant.{IsKept, hangs_under, is_live_client}
 use Rattle.pin_core.specs.Lawful.{Lawful}
-use Rattle.pin_core.specs.Sessions.{IsIdle}
-use Rattle.pin_core.specs.Rearranging.{parted}
+use Rattle.pin_core.specs.calls.Sessions.{IsIdle}
+use Rattle.pin_core.specs.parts.Rearranging.{parted}
 use Rattle.pin_core.proofs.Entered.{Done}
 use Rattle.pin_core.proofs.Effects.{same_state}
 use Rattle.pin_core.proofs.Queued.{get_dirty}

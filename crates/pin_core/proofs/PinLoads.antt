@@ -19,16 +19,16 @@ use Rattle.pin_core.specs.declared.jobs.ReadJob.{ReadJob}
 use Rattle.pin_core.specs.declared.parts.Parts.{Parts}
 use Rattle.pin_core.specs.StateOf.{page_of, pages_in, key_in, state_of}
 use Rattle.pin_core.specs.Lawful.{Lawful}
-use Rattle.pin_core.specs.Keeping.{row_in}
+use Rattle.pin_core.specs.parts.Keeping.{row_in}
 use Rattle.pin_core.specs.Invariant.{IsKept, IsKeptOf, IsPlaced}
-use Rattle.pin_core.specs.Needs.{id_in}
-use Rattle.pin_core.specs.Changes.{entry_at}
-use Rattle.pin_core.specs.Jobs.{IsReadJob}
-use Rattle.pin_core.specs.Evictions.{MakesRoom, keys_gone, names_gone, with_room}
-use Rattle.pin_core.specs.Loads.{CanLoad, loading, loaded_over, load_entries, read_job}
+use Rattle.pin_core.specs.calls.Needs.{id_in}
+use Rattle.pin_core.specs.parts.Changes.{entry_at}
+use Rattle.pin_core.specs.calls.Jobs.{IsReadJob}
+use Rattle.pin_core.specs.calls.Evictions.{MakesRoom, keys_gone, names_gone, with_room}
+use Rattle.pin_core.specs.parts.Loads.{CanLoad, loading, loaded_over, load_entries, read_job}
 use Rattle.pin_core.specs.Marking.{under_of}
-use Rattle.pin_core.specs.PinTurns.{IsLoad}
-use Rattle.pin_core.specs.PinSteps.{IsLoaded}
+use Rattle.pin_core.specs.calls.PinTurns.{IsLoad}
+use Rattle.pin_core.specs.parts.PinSteps.{IsLoaded}
 use Rattle.pin_core.proofs.Found.{key_found}
 use Rattle.pin_core.proofs.Moved.{page_known}
 use Rattle.pin_core.proofs.EvictAll.{all_pages, all_free, all_marked}

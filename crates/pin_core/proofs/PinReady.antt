@@ -13,10 +13,10 @@ use Rattle.pin_core.specs.declared.room.RoomTurn.TheVariants as turn
 use Rattle.pin_core.specs.StateOf.{state_of}
 use Rattle.pin_core.specs.Lawful.{Lawful}
 use Rattle.pin_core.specs.Invariant.{IsKept}
-use Rattle.pin_core.specs.Changes.{entry_at}
-use Rattle.pin_core.specs.Turns.{IsKnown, TurnIs}
-use Rattle.pin_core.specs.Pinning.{ReadyDirty, ReadyClean}
-use Rattle.pin_core.specs.PinSteps.{CanPinAt, PinIs, bytes_at}
+use Rattle.pin_core.specs.parts.Changes.{entry_at}
+use Rattle.pin_core.specs.calls.Turns.{IsKnown, TurnIs}
+use Rattle.pin_core.specs.parts.Pinning.{ReadyDirty, ReadyClean}
+use Rattle.pin_core.specs.parts.PinSteps.{CanPinAt, PinIs, bytes_at}
 use Rattle.pin_core.proofs.Charged.{owner}
 use Rattle.pin_core.proofs.Turned.{known}
 use Rattle.pin_core.proofs.FromMemory.{dirty_ready, clean_ready}

@@ -21,15 +21,15 @@ use Rattle.pin_core.specs.StateOf.{page_of, place_in, state_of}
 use Rattle.pin_core.specs.Lawful.{Lawful}
 use Rattle.pin_core.specs.Invariant.{IsKept, IsHeld}
 use Rattle.pin_core.specs.Standing.{Enters}
-use Rattle.pin_core.specs.Needs.{id_in}
-use Rattle.pin_core.specs.Changes.{entry_at}
-use Rattle.pin_core.specs.Evictions.{names_gone}
-use Rattle.pin_core.specs.Flights.{buffer_in}
-use Rattle.pin_core.specs.Pins.{HasRoomFor}
-use Rattle.pin_core.specs.Pinning.{pinned_dirty, pinned_clean}
-use Rattle.pin_core.specs.Turns.{LacksRoom, IsStarted, IsWriting, TurnIs}
-use Rattle.pin_core.specs.PinTurns.{CanPin, CanPinHere, LacksRoomFor, IsContent, PinAnswer, pin_entries, pin_gone, pin_slots}
-use Rattle.pin_core.specs.PinSteps.{CanPinAt, IsAway, IsPinnedDirty, IsPinnedClean, IsLoaded, PinIs, bytes_at, told_gone}
+use Rattle.pin_core.specs.calls.Needs.{id_in}
+use Rattle.pin_core.specs.parts.Changes.{entry_at}
+use Rattle.pin_core.specs.calls.Evictions.{names_gone}
+use Rattle.pin_core.specs.parts.Flights.{buffer_in}
+use Rattle.pin_core.specs.calls.Pins.{HasRoomFor}
+use Rattle.pin_core.specs.parts.Pinning.{pinned_dirty, pinned_clean}
+use Rattle.pin_core.specs.calls.Turns.{LacksRoom, IsStarted, IsWriting, TurnIs}
+use Rattle.pin_core.specs.calls.PinTurns.{CanPin, CanPinHere, LacksRoomFor, IsContent, PinAnswer, pin_entries, pin_gone, pin_slots}
+use Rattle.pin_core.specs.parts.PinSteps.{CanPinAt, IsAway, IsPinnedDirty, IsPinnedClean, IsLoaded, PinIs, bytes_at, told_gone}
 use Rattle.pin_core.proofs.Found.{Found, found_page}
 use Rattle.pin_core.proofs.Entered.{Done}
 use Rattle.pin_core.proofs.InMemory.{IsHere}

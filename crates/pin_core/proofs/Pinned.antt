@@ -29,8 +29,8 @@ use Rattle.pin_core.specs.Lawful.{Lawful}
 use Rattle.pin_core.specs.Invariant.{IsHeld, IsKeptOf, IsPlaced, IsKept}
 use Rattle.pin_core.specs.Standing.{StandsFor, Holds}
 use Rattle.pin_core.specs.Marking.{form_of, under_of}
-use Rattle.pin_core.specs.Flights.{buffer_in}
-use Rattle.pin_core.specs.Pinning.{ReadyHere, with_client, pinned_here}
+use Rattle.pin_core.specs.parts.Flights.{buffer_in}
+use Rattle.pin_core.specs.parts.Pinning.{ReadyHere, with_client, pinned_here}
 use Rattle.pin_core.proofs.Moving.{Moves, moved_pages}
 use Rattle.pin_core.proofs.Moved.{Tells, page_known, quiet_quotas, told_kept, told_stands, told_slots}
 use Rattle.pin_core.proofs.Amounts.{rose}

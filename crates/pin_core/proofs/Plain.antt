@@ -5,8 +5,8 @@ use Rattle.pin_core.specs.declared.room.RoomTurn.TheVariants as turn
 use Rattle.pin_core.specs.StateOf.{state_of}
 use Rattle.pool_model.specs.State.{page_at}
 use Rattle.pool_model.specs.declared.event.Event.TheVariants.{PinLoad}
-use Rattle.pin_core.specs.Evictions.{evictions, names_gone}
-use Rattle.pin_core.specs.Coming.{alloc_entry, create_entry}
+use Rattle.pin_core.specs.calls.Evictions.{evictions, names_gone}
+use Rattle.pin_core.specs.calls.Coming.{alloc_entry, create_entry}
 use Rattle.pin_core.specs.Plain.{ArePlain, PinsArePlain, RoomsArePlain, StartsArePlain, CreatesArePlain, AllocsArePlain}
 use Rattle.pin_core.proofs.Tallied.{plain_append}
 

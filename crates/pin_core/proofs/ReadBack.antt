@@ -20,12 +20,12 @@ use Rattle.pool_model.specs.Sums.{times_charged, is_in_memory, once}
 use Rattle.pool_model.specs.Effects.{after}
 use Rattle.pin_core.specs.declared.kept.Kept.{Kept}
 use Rattle.pin_core.specs.declared.parts.Parts.{Parts}
-use Rattle.pin_core.specs.Keeping.{has_slots}
+use Rattle.pin_core.specs.parts.Keeping.{has_slots}
 use Rattle.pin_core.specs.StateOf.{page_of, pages_in, place_in, state_of}
 use Rattle.pin_core.specs.Invariant.{list_at, is_clean_spot, IsPlaced, IsKept}
 use Rattle.pin_core.specs.Lawful.{Lawful}
 use Rattle.pin_core.specs.Standing.{StandsFor, slots_home}
-use Rattle.pin_core.specs.Ends.{ComesBack, back_pinned, read}
+use Rattle.pin_core.specs.parts.Ends.{ComesBack, back_pinned, read}
 use Rattle.pin_core.proofs.Back.{slots_had, none_home}
 use Rattle.pin_core.proofs.Moving.{Moves, moved_pages}
 use Rattle.pin_core.proofs.Moved.{Tells, page_known, quiet_quotas, told_kept, told_stands, told_slots}

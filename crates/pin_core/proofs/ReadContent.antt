@@ -21,8 +21,8 @@ use Rattle.pin_core.specs.StateOf.{state_of}
 use Rattle.pin_core.specs.Invariant.{IsKept}
 use Rattle.pin_core.specs.Standing.{StandsFor}
 use Rattle.pin_core.specs.Lawful.{Lawful}
-use Rattle.pin_core.specs.Changes.{entry_at}
-use Rattle.pin_core.specs.Jobs.{IsReadJob}
+use Rattle.pin_core.specs.parts.Changes.{entry_at}
+use Rattle.pin_core.specs.calls.Jobs.{IsReadJob}
 use Rattle.pin_core.proofs.Back.{read_back}
 use Rattle.pin_core.proofs.Shown.{bytes_same}
 

@@ -8,15 +8,15 @@ use Rattle.pool_model.specs.LookingBack.{content_of}
 use Rattle.pin_core.specs.declared.jobs.ReadJob.{ReadJob}
 use Rattle.pin_core.specs.declared.jobs.Stale.{Stale}
 use Rattle.pin_core.specs.Marking.{under_of}
-use Rattle.pin_core.specs.Runs.{IsFoundOther, IfFoundOther}
+use Rattle.pin_core.specs.calls.Runs.{IsFoundOther, IfFoundOther}
 use Rattle.pin_core.specs.Standing.{AreHeld}
 use Rattle.pin_core.specs.StateOf.{state_of}
 use Rattle.pin_core.specs.Invariant.{IsKept}
 use Rattle.pin_core.specs.Lawful.{Lawful}
-use Rattle.pin_core.specs.Changes.{entry_at}
-use Rattle.pin_core.specs.Jobs.{IsReadJob}
-use Rattle.pin_core.specs.Ends.{ComesBack, read_ended}
-use Rattle.pin_core.specs.Returning.{EntersWhere, IsRead, read_ends, read_entry}
+use Rattle.pin_core.specs.parts.Changes.{entry_at}
+use Rattle.pin_core.specs.calls.Jobs.{IsReadJob}
+use Rattle.pin_core.specs.parts.Ends.{ComesBack, read_ended}
+use Rattle.pin_core.specs.calls.Returning.{EntersWhere, IsRead, read_ends, read_entry}
 use Rattle.pin_core.proofs.Back.{read_back, read_client, read_session, read_under}
 use Rattle.pin_core.proofs.ReadBack.{read_kept, read_state, read_stands, read_slots}
 use Rattle.pin_core.proofs.Outdated.{outdated_kept, outdated_state, outdated_stands, outdated_slots}

@@ -18,7 +18,7 @@ use Rattle.pin_core.specs.declared.parts.Parts.{Parts}
 use Rattle.pin_core.specs.StateOf.{page_of, pages_in, place_in, state_of}
 use Rattle.pin_core.specs.Invariant.{IsKept}
 use Rattle.pin_core.specs.Lawful.{Lawful}
-use Rattle.pin_core.specs.Ends.{ComesBack}
+use Rattle.pin_core.specs.parts.Ends.{ComesBack}
 use Rattle.pin_core.proofs.Moved.{page_known}
 use Rattle.pin_core.proofs.Places.{page_owned}
 use Rattle.pin_core.proofs.Listed.{bytes_plus, bytes_le}

@@ -17,13 +17,13 @@ use Rattle.pool_model.proofs.Seats.{some_is}
 use Rattle.store_api.specs.Tokens.{PageToken}
 use Rattle.pin_core.specs.declared.kept.Kept.{Kept}
 use Rattle.pin_core.specs.declared.parts.Parts.{Parts}
-use Rattle.pin_core.specs.Changes.{entry_at}
-use Rattle.pin_core.specs.Keeping.{row_in}
+use Rattle.pin_core.specs.parts.Changes.{entry_at}
+use Rattle.pin_core.specs.parts.Keeping.{row_in}
 use Rattle.pin_core.specs.StateOf.{page_of, pages_in, state_of}
 use Rattle.pin_core.specs.Invariant.{IsKept}
 use Rattle.pin_core.specs.Lawful.{Lawful}
-use Rattle.pin_core.specs.Needs.{IsPage, id_in}
-use Rattle.pin_core.specs.Sessions.{IsSeat, query_of}
+use Rattle.pin_core.specs.calls.Needs.{IsPage, id_in}
+use Rattle.pin_core.specs.calls.Sessions.{IsSeat, query_of}
 use Rattle.pin_core.specs.Standing.{slots_home}
 use Rattle.pin_core.proofs.Adding.{Sits, sits}
 use Rattle.pin_core.proofs.Came.{none_open}

@@ -21,7 +21,7 @@ use Rattle.pin_core.specs.StateOf.{page_of, pages_in, state_of}
 use Rattle.pin_core.specs.Invariant.{HasHistory, IsQuota, AreSeated, IsKept}
 use Rattle.pin_core.specs.Standing.{StandsFor, Holds}
 use Rattle.pin_core.specs.Marking.{form_of}
-use Rattle.pin_core.specs.Rearranging.{rearranged}
+use Rattle.pin_core.specs.parts.Rearranging.{rearranged}
 use Rattle.pin_core.proofs.Entered.{Done}
 use Rattle.pin_core.proofs.Histories.{GrewBy, grew, history_grows, content_grows}
 use Rattle.pin_core.proofs.Stands.{was_made}

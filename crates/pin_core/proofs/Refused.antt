@@ -11,9 +11,9 @@ use Rattle.pin_core.specs.StateOf.{page_of, state_of}
 use Rattle.pin_core.specs.Invariant.{IsKept}
 use Rattle.pin_core.specs.Standing.{StandsFor, Holds}
 use Rattle.pin_core.specs.Marking.{form_of}
-use Rattle.pin_core.specs.Changes.{counted}
-use Rattle.pin_core.specs.Refusing.{MayEnter, refusal_of}
-use Rattle.pin_core.specs.Returning.{EntersWhere}
+use Rattle.pin_core.specs.parts.Changes.{counted}
+use Rattle.pin_core.specs.calls.Refusing.{MayEnter, refusal_of}
+use Rattle.pin_core.specs.calls.Returning.{EntersWhere}
 use Rattle.pin_core.proofs.Histories.{GrewBy, grew, content_grows}
 use Rattle.pin_core.proofs.Stands.{was_made}
 

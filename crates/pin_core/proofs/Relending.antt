@@ -20,7 +20,7 @@ use Rattle.pin_core.specs.declared.parts.Parts.{Parts}
 use Rattle.pin_core.specs.StateOf.{buffers_in, state_of}
 use Rattle.pin_core.specs.Invariant.{IsKept}
 use Rattle.pin_core.specs.Standing.{Enters}
-use Rattle.pin_core.specs.Lending.{IsLoan, CanMoveTo, ReadyFree, ReadyMove, freed, lent_to, free_entry, move_entry, charged_more, charged_less}
+use Rattle.pin_core.specs.calls.Lending.{IsLoan, CanMoveTo, ReadyFree, ReadyMove, freed, lent_to, free_entry, move_entry, charged_more, charged_less}
 use Rattle.pin_core.proofs.Amounts.{fell, rose}
 use Rattle.pin_core.proofs.Charged.{room_unused}
 use Rattle.pin_core.proofs.Known.{known_now}

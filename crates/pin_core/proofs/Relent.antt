@@ -7,7 +7,7 @@ use Rattle.pin_core.specs.declared.parts.Parts.{Parts}
 use Rattle.pin_core.specs.StateOf.{state_of}
 use Rattle.pin_core.specs.Invariant.{IsKept}
 use Rattle.pin_core.specs.Standing.{Enters}
-use Rattle.pin_core.specs.Lending.{IsLoan, CanMoveTo, ReadyFree, ReadyMove, freed, lent_to, free_entry, move_entry}
+use Rattle.pin_core.specs.calls.Lending.{IsLoan, CanMoveTo, ReadyFree, ReadyMove, freed, lent_to, free_entry, move_entry}
 use Rattle.pin_core.proofs.Relending.{free_ready, free_kept, free_enters, move_ready, move_kept, move_enters}
 
 module _ {D : Type 0} where

@@ -16,9 +16,9 @@ use Rattle.pin_core.specs.declared.parts.Parts.{Parts}
 use Rattle.pin_core.specs.StateOf.{page_of, place_in, state_of}
 use Rattle.pin_core.specs.Lawful.{Lawful}
 use Rattle.pin_core.specs.Invariant.{IsPlaced, IsKept}
-use Rattle.pin_core.specs.Needs.{id_in}
-use Rattle.pin_core.specs.Changes.{entry_at}
-use Rattle.pin_core.specs.Pins.{IsPinned, HasRoomFor, CanRepin, ReadyAgain, ReadyOnce, pins_in, pinned_again, unpinned_once}
+use Rattle.pin_core.specs.calls.Needs.{id_in}
+use Rattle.pin_core.specs.parts.Changes.{entry_at}
+use Rattle.pin_core.specs.calls.Pins.{IsPinned, HasRoomFor, CanRepin, ReadyAgain, ReadyOnce, pins_in, pinned_again, unpinned_once}
 use Rattle.pin_core.proofs.Found.{Found, found_page}
 use Rattle.pin_core.proofs.Charged.{own_live, own_is, room_unused, few_pins}
 use Rattle.pin_core.proofs.Entered.{Done}

@@ -24,7 +24,7 @@ use Rattle.pin_core.specs.Lawful.{Lawful}
 use Rattle.pin_core.specs.Invariant.{list_at, is_clean_spot, IsMem, IsKeptOf, IsPlaced, IsKept}
 use Rattle.pin_core.specs.Standing.{MemHolds, KeptHolds}
 use Rattle.pin_core.specs.Marking.{under_of}
-use Rattle.pin_core.specs.Pins.{CanRepin, pins_in, with_pins, repinned, pinned_again, unpinned_once}
+use Rattle.pin_core.specs.calls.Pins.{CanRepin, pins_in, with_pins, repinned, pinned_again, unpinned_once}
 use Rattle.pin_core.proofs.Moving.{Moves, moved_pages}
 use Rattle.pin_core.proofs.Moved.{Tells, page_known, quiet_quotas, told_kept, told_stands, told_slots}
 use Rattle.pin_core.proofs.Queued.{dirty_same}

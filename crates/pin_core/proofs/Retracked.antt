@@ -19,7 +19,7 @@ use Rattle.pin_core.specs.declared.parts.Parts.{Parts}
 use Rattle.pin_core.specs.StateOf.{state_of}
 use Rattle.pin_core.specs.Invariant.{IsKept, AreSeated}
 use Rattle.pin_core.specs.Lawful.{Lawful}
-use Rattle.pin_core.specs.Rearranging.{retracked, grown, grown_to_fit, shrunk, transferred}
+use Rattle.pin_core.specs.parts.Rearranging.{retracked, grown, grown_to_fit, shrunk, transferred}
 use Rattle.pin_core.proofs.Entered.{Done}
 use Rattle.pin_core.proofs.Outlines.{hangs_same, client_same, count_same}
 use Rattle.pin_core.proofs.Rearranged.{rearranged_done, charges_are}

@@ -17,10 +17,10 @@ use Rattle.pool_model.proofs.Weights.{only_none, mine, not_mine}
 use Rattle.pin_core.specs.declared.kept.Kept.{Kept}
 use Rattle.pin_core.specs.declared.kept.Kept.TheVariants as kept
 use Rattle.pin_core.specs.declared.parts.Parts.{Parts}
-use Rattle.pin_core.specs.Keeping.{has_slots, row_in}
+use Rattle.pin_core.specs.parts.Keeping.{has_slots, row_in}
 use Rattle.pin_core.specs.StateOf.{page_of, pages_in, state_of}
 use Rattle.pin_core.specs.Invariant.{IsQuota, IsKept, IsKeptOf, is_home}
-use Rattle.pin_core.specs.Leavings.{slots_back}
+use Rattle.pin_core.specs.parts.Leavings.{slots_back}
 use Rattle.pin_core.proofs.Gone.{slots_gone}
 use Rattle.pin_core.proofs.Moved.{page_known}
 use Rattle.pin_core.proofs.Places.{HasQuota, has_quota}

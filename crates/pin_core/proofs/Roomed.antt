@@ -13,7 +13,7 @@ use Rattle.pin_core.specs.declared.kept.Kept.{Kept}
 use Rattle.pin_core.specs.declared.parts.Parts.{Parts}
 use Rattle.pin_core.specs.Lawful.{Lawful}
 use Rattle.pin_core.specs.Invariant.{IsKept}
-use Rattle.pin_core.specs.Evictions.{keys_gone, with_room}
+use Rattle.pin_core.specs.calls.Evictions.{keys_gone, with_room}
 use Rattle.pin_core.proofs.Cleaned.{IsCleanAt, clean_page}
 use Rattle.pin_core.proofs.EvictAll.{Evicted, all_evicted, all_is}
 use Rattle.pin_core.proofs.CleanRoom.{entries_small}

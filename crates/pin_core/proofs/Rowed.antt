@@ -14,7 +14,7 @@ use Rattle.reservation_tree.proofs.Marks.{length-mark, take-mark, marks_differ}
 use Rattle.reservation_tree.proofs.Maps.{same_or_other}
 use Rattle.pin_core.specs.Standing.{AreHeld}
 use Rattle.pin_core.specs.Marking.{front_of}
-use Rattle.pin_core.specs.Runs.{AllTell, AllGiveHeld, IsLoadedAs, GaveBytes, is_sure}
+use Rattle.pin_core.specs.calls.Runs.{AllTell, AllGiveHeld, IsLoadedAs, GaveBytes, is_sure}
 use Rattle.pin_core.proofs.Sure.{sure_same}
 use Rattle.pin_core.proofs.Shown.{row_shown, tells_shown, block_length, some_of, gives_held}
 

@@ -10,7 +10,7 @@ use Rattle.session_table.proofs.Found.{get_sessions}
 use Rattle.pool_model.specs.State.{Session}
 use Rattle.pin_core.specs.declared.parts.Parts.{Parts}
 use Rattle.pin_core.specs.StateOf.{state_of}
-use Rattle.pin_core.specs.Turns.{failure_of}
+use Rattle.pin_core.specs.calls.Turns.{failure_of}
 
 -- a session of the state has its seat
 pub record HasSeat (seats : Seats) (s : ℕ) (y : Session) : Type 0 where

@@ -24,11 +24,11 @@ use Rattle.pin_core.specs.StateOf.{page_of, pages_in, state_of}
 use Rattle.pin_core.specs.Invariant.{IsKept}
 use Rattle.pin_core.specs.Lawful.{Lawful}
 use Rattle.pin_core.specs.Standing.{StandsFor, Enters}
-use Rattle.pin_core.specs.Changes.{entry_at}
-use Rattle.pin_core.specs.Jobs.{IsWriteJob}
-use Rattle.pin_core.specs.Flights.{id_with, flying, flown, job_of}
+use Rattle.pin_core.specs.parts.Changes.{entry_at}
+use Rattle.pin_core.specs.calls.Jobs.{IsWriteJob}
+use Rattle.pin_core.specs.parts.Flights.{id_with, flying, flown, job_of}
 use Rattle.pin_core.specs.Marking.{under_of}
-use Rattle.pin_core.specs.Turns.{IsStarted, StartIs, Starts, start_entries, start_entry, start_slots}
+use Rattle.pin_core.specs.calls.Turns.{IsStarted, StartIs, Starts, start_entries, start_entry, start_slots}
 use Rattle.pin_core.proofs.Found.{key_found}
 use Rattle.pin_core.proofs.Known.{known_now}
 use Rattle.pin_core.proofs.Moved.{page_known}

@@ -24,12 +24,12 @@ use Rattle.pool_model.specs.Parts.{without}
 use Rattle.pin_core.specs.declared.kept.Kept.{Kept}
 use Rattle.pin_core.specs.declared.kept.Kept.TheVariants as kept
 use Rattle.pin_core.specs.declared.parts.Parts.{Parts}
-use Rattle.pin_core.specs.Keeping.{has_slots, row_in}
+use Rattle.pin_core.specs.parts.Keeping.{has_slots, row_in}
 use Rattle.pin_core.specs.StateOf.{page_of, pages_in, place_in, state_of}
 use Rattle.pin_core.specs.Invariant.{list_at, is_clean_spot, IsKeptOf, IsPlaced, IsKept}
 use Rattle.pin_core.specs.Lawful.{Lawful}
 use Rattle.pin_core.specs.Standing.{StandsFor, Enters}
-use Rattle.pin_core.specs.Flights.{flying, flown}
+use Rattle.pin_core.specs.parts.Flights.{flying, flown}
 use Rattle.pin_core.proofs.Moving.{Moves, moved_pages}
 use Rattle.pin_core.proofs.Moved.{Tells, page_known, quiet_quotas, told_kept, told_stands, told_slots}
 use Rattle.pin_core.proofs.OnLists.{on_list_live, one_key, not_clean}

@@ -8,8 +8,8 @@ use Rattle.outside.specs.declared.slot.Slot.{Ghosts}
 use Rattle.scratch_dev.specs.Rows.{Ended, MarkedEnded, GaveOther, IsStored, Walked, mark_of}
 use Rattle.scratch_dev.specs.declared.marked.LoadErr.TheVariants as loading
 use Rattle.pin_core.specs.Standing.{AreHeld}
-use Rattle.pin_core.specs.Runs.{CountsStrays, IsLoadedAs, load_end, strays_at, strays_in, unstrayed, unstrayed_in}
-use Rattle.pin_core.specs.Returning.{stale_loads}
+use Rattle.pin_core.specs.calls.Runs.{CountsStrays, IsLoadedAs, load_end, strays_at, strays_in, unstrayed, unstrayed_in}
+use Rattle.pin_core.specs.calls.Returning.{stale_loads}
 use Rattle.pin_core.proofs.Counting.{Counts, risen, unfallen}
 use Rattle.pin_core.proofs.Rowed.{at_slot, keeps_same, other_given, stays, Stays}
 use Rattle.pin_core.proofs.Shown.{block_length, some_of}

@@ -16,8 +16,8 @@ use Rattle.pin_core.specs.declared.jobs.WriteJob.{WriteJob}
 use Rattle.pin_core.specs.declared.tally.Tally.{Tally}
 use Rattle.pin_core.specs.StateOf.{state_of}
 use Rattle.pin_core.specs.Standing.{StandsFor, slots_home}
-use Rattle.pin_core.specs.Jobs.{IsWriteJob}
-use Rattle.pin_core.specs.Returning.{write_ends, read_ends, write_entry, read_entry, stale_loads}
+use Rattle.pin_core.specs.calls.Jobs.{IsWriteJob}
+use Rattle.pin_core.specs.calls.Returning.{write_ends, read_ends, write_entry, read_entry, stale_loads}
 use Rattle.pin_core.specs.Tallies.{Counted, SumsWithJobs, all_failures, all_stale, blocks_of, stored_by, written_blocks, tally_by, tally_of, tally_with}
 use Rattle.pin_core.specs.SumLaws.{IsRest, WasRun, SumsBegin, SumsStay, SumsStayRefused, SumsGrowWritten, SumsGrowRead, SumsEnd}
 use Rattle.pin_core.proofs.Tallied.{uncounted_yet, counted_more, counted_as, tally_same, same_stores, same_silence, came_back, failures_append, stale_append, plain_failures, plain_stale, plain_stores}

@@ -4,7 +4,7 @@ use Rattle.std.specs.List.{slice_index_or}
 use Rattle.std.proofs.lemmas.Bool.{false≢true}
 use Rattle.outside.specs.Slots.{Strays, KeepsStrays, GivesHeld}
 use Rattle.outside.specs.declared.slot.Slot.{Ghosts}
-use Rattle.pin_core.specs.Runs.{AllTell, AllGiveHeld, gives_back, is_empty, is_sure}
+use Rattle.pin_core.specs.calls.Runs.{AllTell, AllGiveHeld, gives_back, is_empty, is_sure}
 
 -- a call on a slot leaves it as sure as it was
 pub sure_same : (before_tells now_tells : Bool) (before now : Option Strays) → now_tells ≡ before_tells → KeepsStrays before now → (now_tells && gives_back now) ≡ (before_tells && gives_back before)

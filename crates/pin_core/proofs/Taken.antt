@@ -7,10 +7,10 @@ use Rattle.page_table.specs.declared.entry.Mem.{Mem}
 use Rattle.page_table.specs.declared.entry.Mem.TheVariants as mem
 use Rattle.pin_core.specs.declared.kept.Kept.{Kept}
 use Rattle.pin_core.specs.declared.kept.Kept.TheVariants as kept
-use Rattle.pin_core.specs.Keeping.{row_in}
+use Rattle.pin_core.specs.parts.Keeping.{row_in}
 use Rattle.pin_core.specs.Invariant.{IsHeld, IsKeptOf}
 use Rattle.pin_core.specs.Standing.{MemHolds}
-use Rattle.pin_core.specs.Flights.{buffer_in}
+use Rattle.pin_core.specs.parts.Flights.{buffer_in}
 
 pub taken_buffer : (len blocks : ℕ) (m : Mem) → IsHeld len blocks m → IsBufferOf blocks len (buffer_in m)
 taken_buffer len blocks (mem.Held buf) is = is

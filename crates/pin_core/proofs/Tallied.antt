@@ -11,7 +11,7 @@ use Rattle.pool_model.specs.declared.entry.Entry.{Entry as Event}
 use Rattle.pool_model.specs.Failures.{fails}
 use Rattle.store_api.specs.Signs.{is_stale_load}
 use Rattle.pin_core.specs.declared.tally.Tally.{Tally}
-use Rattle.pin_core.specs.Runs.{CountsFaults, CountsStrays, is_sure}
+use Rattle.pin_core.specs.calls.Runs.{CountsFaults, CountsStrays, is_sure}
 use Rattle.pin_core.specs.Tallies.{Counted, all_failures, all_stale, stored_by, silence, tally_by}
 use Rattle.pin_core.specs.Plain.{ArePlain, is_plain}
 

@@ -21,8 +21,8 @@ use Rattle.pin_core.specs.StateOf.{page_of, state_of}
 use Rattle.pin_core.specs.Invariant.{IsKept}
 use Rattle.pin_core.specs.Lawful.{Lawful}
 use Rattle.pin_core.specs.Standing.{Enters}
-use Rattle.pin_core.specs.Turns.{LacksRoom, IsWriting, RoomAnswer, IsKnown, Lacks, TurnIs, room_entries, room_slots}
-use Rattle.pin_core.specs.Ending.{is_flying}
+use Rattle.pin_core.specs.calls.Turns.{LacksRoom, IsWriting, RoomAnswer, IsKnown, Lacks, TurnIs, room_entries, room_slots}
+use Rattle.pin_core.specs.calls.Ending.{is_flying}
 use Rattle.pin_core.proofs.Lends.{session_low}
 use Rattle.pin_core.proofs.Held.{IsOnIt, on_it, held_is, flying_fit}
 use Rattle.pin_core.proofs.Known.{known_now}

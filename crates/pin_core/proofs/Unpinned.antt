@@ -27,16 +27,16 @@ use Rattle.store_api.specs.Tokens.{PageToken}
 use Rattle.pin_core.specs.declared.kept.Kept.{Kept}
 use Rattle.pin_core.specs.declared.kept.Kept.TheVariants as kept
 use Rattle.pin_core.specs.declared.parts.Parts.{Parts}
-use Rattle.pin_core.specs.Keeping.{need_of, has_slots}
+use Rattle.pin_core.specs.parts.Keeping.{need_of, has_slots}
 use Rattle.pin_core.specs.StateOf.{page_of, place_in, state_of}
 use Rattle.pin_core.specs.Invariant.{HasHistory, IsKept, IsKeptOf, IsPlaced, list_at}
 use Rattle.pin_core.specs.Lawful.{Lawful}
 use Rattle.pin_core.specs.Standing.{Holds, StandsFor, Enters}
 use Rattle.pin_core.specs.Marking.{form_of}
-use Rattle.pin_core.specs.Needs.{IsLastPin, id_in}
+use Rattle.pin_core.specs.calls.Needs.{IsLastPin, id_in}
 use Rattle.pin_core.proofs.Found.{Found, found_page}
-use Rattle.pin_core.specs.Changes.{entry_at, counted}
-use Rattle.pin_core.specs.Unpinning.{LacksSlots, CanUnpin, ReadyUnpin, unpinned, unpin_entry}
+use Rattle.pin_core.specs.parts.Changes.{entry_at, counted}
+use Rattle.pin_core.specs.calls.Unpinning.{LacksSlots, CanUnpin, ReadyUnpin, unpinned, unpin_entry}
 use Rattle.pin_core.proofs.Moved.{page_known}
 use Rattle.pin_core.proofs.Histories.{GrewBy, grew, history_grows, content_grows}
 use Rattle.pin_core.proofs.Amounts.{free_is}

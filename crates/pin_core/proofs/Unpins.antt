@@ -30,12 +30,12 @@ use Rattle.pool_model.proofs.Weights.{only_none, one_time, mine, not_mine}
 use Rattle.pin_core.specs.declared.kept.Kept.{Kept}
 use Rattle.pin_core.specs.declared.kept.Kept.TheVariants as kept
 use Rattle.pin_core.specs.declared.parts.Parts.{Parts}
-use Rattle.pin_core.specs.Keeping.{need_of, kept_then, slots_then, has_slots, row_in}
+use Rattle.pin_core.specs.parts.Keeping.{need_of, kept_then, slots_then, has_slots, row_in}
 use Rattle.pin_core.specs.StateOf.{page_of, pages_in, place_in, state_of}
 use Rattle.pin_core.specs.Invariant.{IsSized, list_at, is_clean_spot, IsKeptOf, IsPlaced, IsQuota, IsKept}
 use Rattle.pin_core.specs.Standing.{KeptHolds, StandsFor, slots_home}
 use Rattle.pin_core.specs.Marking.{under_of}
-use Rattle.pin_core.specs.Unpinning.{CanUnpin, left_dirty, unpinned}
+use Rattle.pin_core.specs.calls.Unpinning.{CanUnpin, left_dirty, unpinned}
 use Rattle.pin_core.proofs.Histories.{content_unpinned}
 use Rattle.pin_core.proofs.Moved.{Tells, told_kept, told_slots}
 use Rattle.pin_core.proofs.Moving.{Moves, moved_pages, page_there}

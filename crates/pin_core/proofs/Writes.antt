@@ -24,13 +24,13 @@ use Rattle.pool_model.specs.LookingBack.{content_of}
 use Rattle.pool_model.specs.HistoryLaws.{made}
 use Rattle.pin_core.specs.declared.kept.Kept.{Kept}
 use Rattle.pin_core.specs.declared.parts.Parts.{Parts}
-use Rattle.pin_core.specs.Keeping.{has_slots}
+use Rattle.pin_core.specs.parts.Keeping.{has_slots}
 use Rattle.pin_core.specs.StateOf.{page_of, pages_in, place_in, state_of}
 use Rattle.pin_core.specs.Invariant.{list_at, IsPlaced, IsKept}
 use Rattle.pin_core.specs.Lawful.{Lawful}
 use Rattle.pin_core.specs.Standing.{StandsFor, AreHeld, slots_home}
 use Rattle.pin_core.specs.Marking.{under_of}
-use Rattle.pin_core.specs.Ends.{ComesBack, back_clean, written}
+use Rattle.pin_core.specs.parts.Ends.{ComesBack, back_clean, written}
 use Rattle.pin_core.proofs.Back.{slots_had, none_home}
 use Rattle.pin_core.proofs.Histories.{content_grows}
 use Rattle.pin_core.proofs.Moving.{Moves, moved_pages}

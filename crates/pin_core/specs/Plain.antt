@@ -10,9 +10,9 @@ use Rattle.pin_core.specs.declared.jobs.WriteJob.{WriteJob}
 use Rattle.pin_core.specs.declared.parts.Parts.{Parts}
 use Rattle.pin_core.specs.declared.pin.PinTurn.{PinTurn}
 use Rattle.pin_core.specs.declared.room.RoomTurn.{RoomTurn}
-use Rattle.pin_core.specs.Coming.{alloc_entries, create_entries}
-use Rattle.pin_core.specs.PinTurns.{pin_entries}
-use Rattle.pin_core.specs.Turns.{room_entries, start_entries}
+use Rattle.pin_core.specs.calls.Coming.{alloc_entries, create_entries}
+use Rattle.pin_core.specs.calls.PinTurns.{pin_entries}
+use Rattle.pin_core.specs.calls.Turns.{room_entries, start_entries}
 
 -- no failure, no write that ended well, and no load that gave another mark
 abbrev pub is_plain : What → Bool

@@ -14,7 +14,7 @@ use Rattle.session_table.specs.Sessions.{sessions_in}
 use Rattle.pool_model.specs.State.{Place, Pinned, Dirty, Flying, Loading, Clean, Evicted, Page, Pages, Buffers, State}
 use Rattle.pin_core.specs.declared.kept.Kept.{Kept}
 use Rattle.pin_core.specs.declared.parts.Parts.{Parts}
-use Rattle.pin_core.specs.Keeping.{has_slots}
+use Rattle.pin_core.specs.parts.Keeping.{has_slots}
 
 -- the same keys, each with what `f` gives of the key and its value
 unfoldable pub mapped : {X Y : Type 0} → (ℕ → X → Y) → FinMap nat_cmp X → FinMap nat_cmp Y

@@ -12,9 +12,9 @@ use Rattle.pin_core.specs.declared.parts.Parts.{Parts}
 use Rattle.pin_core.specs.declared.tally.Tally.{Tally}
 use Rattle.pin_core.specs.StateOf.{state_of}
 use Rattle.pin_core.specs.Standing.{StandsFor, Enters, slots_home}
-use Rattle.pin_core.specs.Runs.{CountsFaults, CountsStrays, is_sure}
-use Rattle.pin_core.specs.Jobs.{IsWriteJob}
-use Rattle.pin_core.specs.Returning.{EntersWhere, IsRead, IsWritten, write_entry, read_entry, stale_loads}
+use Rattle.pin_core.specs.calls.Runs.{CountsFaults, CountsStrays, is_sure}
+use Rattle.pin_core.specs.calls.Jobs.{IsWriteJob}
+use Rattle.pin_core.specs.calls.Returning.{EntersWhere, IsRead, IsWritten, write_entry, read_entry, stale_loads}
 use Rattle.pin_core.specs.Tallies.{Counted, SumsWithJobs, all_failures, all_stale, written_blocks, tally_of}
 use Rattle.pin_core.specs.Plain.{ArePlain, is_plain}
 

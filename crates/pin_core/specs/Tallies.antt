@@ -13,7 +13,7 @@ use Rattle.store_api.specs.Signs.{is_stale_load}
 use Rattle.pin_core.specs.declared.parts.Parts.{Parts}
 use Rattle.pin_core.specs.declared.tally.Tally.{Tally}
 use Rattle.pin_core.specs.Standing.{StandsFor, slots_home}
-use Rattle.pin_core.specs.Runs.{stuck, strays_at, unstrayed, is_sure}
+use Rattle.pin_core.specs.calls.Runs.{stuck, strays_at, unstrayed, is_sure}
 
 -- how many writes and reads failed
 abbrev pub all_failures : List Event → ℕ

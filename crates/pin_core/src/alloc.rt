@@ -2,7 +2,7 @@
 ghost use Rattle.std.specs.Prelude.{◌≡◌, ◌≤◌, ◌-◌, [], None};
 ghost use Rattle.std.specs.FinMap.{get};
 ghost use Rattle.pin_core.specs.StateOf.{state_of};
-ghost use Rattle.pin_core.specs.Coming.{ReadyLend, alloc_entries, lent, zeros};
+ghost use Rattle.pin_core.specs.calls.Coming.{ReadyLend, alloc_entries, lent, zeros};
 
 use crate::evicted::EvictedPages;
 use crate::lengths;
@@ -16,8 +16,8 @@ use store_api::{Client, Loan};
 impl<D: Slot + Drop> PoolState<D> {
     ghost use Rattle.pin_core.specs.Standing.{Enters};
     ghost use Rattle.pool_model.specs.Sums.{length_of};
-    ghost use Rattle.pin_core.specs.Coming.{CanHold};
-    ghost use Rattle.pin_core.specs.Evictions.{MakesRoom, names_gone};
+    ghost use Rattle.pin_core.specs.calls.Coming.{CanHold};
+    ghost use Rattle.pin_core.specs.calls.Evictions.{MakesRoom, names_gone};
 
     /// A loan for a client that has room for it, with as many blocks as the shell has room for. Its bytes are
     /// zero. While too few blocks are free, the page that has been clean longest goes out of memory.

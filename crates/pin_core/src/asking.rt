@@ -1,7 +1,7 @@
 //! A session begins a call.
 ghost use Rattle.std.specs.Prelude.{◌≡◌, ◌∷◌, [], IsSome};
 ghost use Rattle.session_table.specs.Seats.{seat_of};
-ghost use Rattle.pin_core.specs.Rearranging.{asked};
+ghost use Rattle.pin_core.specs.parts.Rearranging.{asked};
 
 use crate::lengths;
 use crate::parts::Parts;
@@ -11,8 +11,8 @@ use outside::Slot;
 impl<D: Slot + Drop> PoolState<D> {
     ghost use Rattle.pin_core.specs.StateOf.{state_of};
     ghost use Rattle.pin_core.specs.Standing.{Enters};
-    ghost use Rattle.pin_core.specs.Sessions.{IsSeat};
-    ghost use Rattle.pin_core.specs.Entering.{ask_entry};
+    ghost use Rattle.pin_core.specs.calls.Sessions.{IsSeat};
+    ghost use Rattle.pin_core.specs.calls.Entering.{ask_entry};
 
     /// Begins a call of a session, and gives the number of its entry. The failures that were noted of the
     /// session's clients are forgotten.

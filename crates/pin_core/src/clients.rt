@@ -5,8 +5,8 @@ ghost use Rattle.reservation_tree.specs.Change.{move_refusal};
 ghost use Rattle.reservation_tree.specs.Tracker.{IsLive, unused};
 ghost use Rattle.reservation_tree.specs.Tree.{charge_of as charge_in};
 ghost use Rattle.session_table.specs.Seats.{members_of};
-ghost use Rattle.pin_core.specs.Rearranging.{joined, parted, transferred};
-ghost use Rattle.pin_core.specs.Seating.{CanJoin, CanPart, query_in};
+ghost use Rattle.pin_core.specs.parts.Rearranging.{joined, parted, transferred};
+ghost use Rattle.pin_core.specs.parts.Seating.{CanJoin, CanPart, query_in};
 
 use crate::lengths;
 use crate::parts::Parts;
@@ -20,9 +20,9 @@ impl<D: Slot + Drop> PoolState<D> {
     ghost use Rattle.pool_model.specs.Owning.{IsClientOf};
     ghost use Rattle.pin_core.specs.StateOf.{state_of};
     ghost use Rattle.pin_core.specs.Standing.{Enters};
-    ghost use Rattle.pin_core.specs.Sessions.{IsIdle, IsSeat, client_count, query_of};
-    ghost use Rattle.pin_core.specs.Entering.{client_entry};
-    ghost use Rattle.pin_core.specs.Opening.{leaving_entries};
+    ghost use Rattle.pin_core.specs.calls.Sessions.{IsIdle, IsSeat, client_count, query_of};
+    ghost use Rattle.pin_core.specs.calls.Entering.{client_entry};
+    ghost use Rattle.pin_core.specs.calls.Opening.{leaving_entries};
 
     /// A new client of a session, with this limit in bytes and the reservation 0. Its number may have been that
     /// of a client that ended.

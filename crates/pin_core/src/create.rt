@@ -2,8 +2,8 @@
 ghost use Rattle.std.specs.Prelude.{◌≡◌, ◌↔◌, ◌<◌, [], None, IsErr, IfOk, IfErr, OnErr};
 ghost use Rattle.std.specs.FinMap.{get};
 ghost use Rattle.pin_core.specs.StateOf.{state_of};
-ghost use Rattle.pin_core.specs.Needs.{id_in};
-ghost use Rattle.pin_core.specs.Coming.{ReadyCreate, create_entries, created, zeros};
+ghost use Rattle.pin_core.specs.calls.Needs.{id_in};
+ghost use Rattle.pin_core.specs.calls.Coming.{ReadyCreate, create_entries, created, zeros};
 
 use crate::alloc::zeroed;
 use crate::evicted::EvictedPages;
@@ -23,8 +23,8 @@ impl<D: Slot + Drop> PoolState<D> {
     ghost use Rattle.pin_core.specs.Standing.{Enters};
     ghost use Rattle.std.specs.Prelude.{OnOk};
     ghost use Rattle.pool_model.specs.Sums.{length_of};
-    ghost use Rattle.pin_core.specs.Coming.{CanHold};
-    ghost use Rattle.pin_core.specs.Evictions.{MakesRoom, names_gone};
+    ghost use Rattle.pin_core.specs.calls.Coming.{CanHold};
+    ghost use Rattle.pin_core.specs.calls.Evictions.{MakesRoom, names_gone};
 
     /// A new page for a client that has room for it, pinned, with as many blocks as the shell has room for.
     /// Its bytes are zero. While too few blocks are free, the page that has been clean longest goes out of

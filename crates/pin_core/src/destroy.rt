@@ -3,9 +3,9 @@ ghost use Rattle.std.specs.Prelude.{◌≡◌, ◌↔◌, ◌∷◌, [], IsErr, 
 ghost use Rattle.std.specs.FinMap.{get};
 ghost use Rattle.pool_model.specs.State.{page_at};
 ghost use Rattle.pin_core.specs.StateOf.{state_of, place_in};
-ghost use Rattle.pin_core.specs.Changes.{entry_at};
-ghost use Rattle.pin_core.specs.Ending.{destroy_entry, is_flying};
-ghost use Rattle.pin_core.specs.Ended.{CanDestroy, ReadyDestroy, destroyed};
+ghost use Rattle.pin_core.specs.parts.Changes.{entry_at};
+ghost use Rattle.pin_core.specs.calls.Ending.{destroy_entry, is_flying};
+ghost use Rattle.pin_core.specs.parts.Ended.{CanDestroy, ReadyDestroy, destroyed};
 
 use crate::parts::Parts;
 use crate::pool::{PoolState, id_of};
@@ -18,7 +18,7 @@ use store_api::Page;
 
 impl<D: Slot + Drop> PoolState<D> {
     ghost use Rattle.pin_core.specs.Standing.{Enters};
-    ghost use Rattle.pin_core.specs.Ending.{IsPinnedWith, IsUnpinned};
+    ghost use Rattle.pin_core.specs.calls.Ending.{IsPinnedWith, IsUnpinned};
 
     /// Ends a pinned page, whose buffer is this one. The charge of all its pins returns, and its blocks and
     /// slots are free.

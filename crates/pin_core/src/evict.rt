@@ -3,7 +3,7 @@ ghost use Rattle.std.specs.Prelude.{◌≡◌, ◌≤◌, ◌+◌};
 ghost use Rattle.clean_evict.specs.Eviction.{blocks_of};
 ghost use Rattle.pin_core.specs.Invariant.{IsKept};
 ghost use Rattle.pin_core.specs.Lawful.{Lawful};
-ghost use Rattle.pin_core.specs.Evictions.{names_gone, with_room};
+ghost use Rattle.pin_core.specs.calls.Evictions.{names_gone, with_room};
 
 use crate::evicted::EvictedPages;
 use crate::lengths;

@@ -3,10 +3,10 @@ ghost use Rattle.std.specs.Prelude.{◌≡◌, ◌∷◌, [], None};
 ghost use Rattle.std.specs.FinMap.{get};
 ghost use Rattle.pool_model.specs.State.{page_at};
 ghost use Rattle.pin_core.specs.StateOf.{state_of};
-ghost use Rattle.pin_core.specs.Changes.{entry_at};
-ghost use Rattle.pin_core.specs.Unpinning.{CanUnpin};
-ghost use Rattle.pin_core.specs.Ending.{extract_entry};
-ghost use Rattle.pin_core.specs.Ended.{ReadyExtract, extracted};
+ghost use Rattle.pin_core.specs.parts.Changes.{entry_at};
+ghost use Rattle.pin_core.specs.calls.Unpinning.{CanUnpin};
+ghost use Rattle.pin_core.specs.calls.Ending.{extract_entry};
+ghost use Rattle.pin_core.specs.parts.Ended.{ReadyExtract, extracted};
 
 use crate::parts::Parts;
 use crate::pool::{PoolState, id_of};
@@ -19,7 +19,7 @@ use store_api::{Loan, Page};
 
 impl<D: Slot + Drop> PoolState<D> {
     ghost use Rattle.pin_core.specs.Standing.{Enters};
-    ghost use Rattle.pin_core.specs.Needs.{IsLastPin};
+    ghost use Rattle.pin_core.specs.calls.Needs.{IsLastPin};
 
     /// Ends a page that has one pin, and makes its buffer a loan of its client. The charge stays, and the
     /// page's slots are free. Which number the loan gets is open, but that no live buffer has it.

@@ -3,9 +3,9 @@ ghost use Rattle.std.specs.Prelude.{◌≡◌};
 ghost use Rattle.page_table.specs.declared.entry.Place.TheVariants as spot;
 ghost use Rattle.pin_core.specs.Invariant.{IsKept};
 ghost use Rattle.pin_core.specs.Lawful.{Lawful};
-ghost use Rattle.pin_core.specs.Changes.{entry_at};
-ghost use Rattle.pin_core.specs.Ends.{ComesBack, write_ended};
-ghost use Rattle.pin_core.specs.Returning.{wrote};
+ghost use Rattle.pin_core.specs.parts.Changes.{entry_at};
+ghost use Rattle.pin_core.specs.parts.Ends.{ComesBack, write_ended};
+ghost use Rattle.pin_core.specs.calls.Returning.{wrote};
 
 use crate::jobs::{WriteJob, put_at};
 use crate::lengths;
@@ -28,8 +28,8 @@ impl<D: Slot + Drop> PoolState<D> {
     ghost use Rattle.std.specs.Prelude.{ℕ};
     ghost use Rattle.pool_model.specs.ScratchRows.{IsFault};
     ghost use Rattle.pin_core.specs.StateOf.{state_of};
-    ghost use Rattle.pin_core.specs.Jobs.{IsWriteJob};
-    ghost use Rattle.pin_core.specs.Returning.{EntersWhere, IsWritten, write_entry};
+    ghost use Rattle.pin_core.specs.calls.Jobs.{IsWriteJob};
+    ghost use Rattle.pin_core.specs.calls.Returning.{EntersWhere, IsWritten, write_entry};
 
     /// Ends a write: the page is clean, or dirty again where a store failed. A failure is noted for the
     /// client's next call that lacks room.

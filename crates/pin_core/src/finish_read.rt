@@ -3,9 +3,9 @@ ghost use Rattle.std.specs.Prelude.{◌≡◌, ◌↔◌, true, IsErr, IfOk, IfE
 ghost use Rattle.page_table.specs.declared.entry.Place.TheVariants as spot;
 ghost use Rattle.pin_core.specs.Invariant.{IsKept};
 ghost use Rattle.pin_core.specs.Lawful.{Lawful};
-ghost use Rattle.pin_core.specs.Changes.{entry_at};
-ghost use Rattle.pin_core.specs.Ends.{ComesBack, outdated, read_ended};
-ghost use Rattle.pin_core.specs.Returning.{ended_badly, read_refusal};
+ghost use Rattle.pin_core.specs.parts.Changes.{entry_at};
+ghost use Rattle.pin_core.specs.parts.Ends.{ComesBack, outdated, read_ended};
+ghost use Rattle.pin_core.specs.calls.Returning.{ended_badly, read_refusal};
 
 use crate::jobs::{ReadJob, Stale, put_at};
 use crate::lengths;
@@ -28,9 +28,9 @@ impl<D: Slot + Drop> PoolState<D> {
     ghost use Rattle.pin_core.specs.Marking.{front_of};
     ghost use Rattle.pin_core.specs.Standing.{StandsFor};
     ghost use Rattle.pin_core.specs.StateOf.{state_of};
-    ghost use Rattle.pin_core.specs.Jobs.{IsReadJob};
-    ghost use Rattle.pin_core.specs.Runs.{IfFoundOther};
-    ghost use Rattle.pin_core.specs.Returning.{EntersWhere, IsRead, read_entry};
+    ghost use Rattle.pin_core.specs.calls.Jobs.{IsReadJob};
+    ghost use Rattle.pin_core.specs.calls.Runs.{IfFoundOther};
+    ghost use Rattle.pin_core.specs.calls.Returning.{EntersWhere, IsRead, read_entry};
 
     /// Ends a read: the page is pinned once, and its buffer comes back.
     ///

@@ -4,7 +4,7 @@ ghost use Rattle.reservation_tree.specs.Answer.{IsFrom};
 ghost use Rattle.reservation_tree.specs.Change.{grow_refusal, lacking, move_refusal};
 ghost use Rattle.reservation_tree.specs.Tracker.{IsLive, unused};
 ghost use Rattle.reservation_tree.specs.Tree.{charge_of as charge_in};
-ghost use Rattle.pin_core.specs.Rearranging.{grown, grown_to_fit, shrunk, transferred};
+ghost use Rattle.pin_core.specs.parts.Rearranging.{grown, grown_to_fit, shrunk, transferred};
 
 use crate::lengths;
 use crate::parts::Parts;
@@ -18,7 +18,7 @@ impl<D: Slot + Drop> PoolState<D> {
     ghost use Rattle.pool_model.specs.Sums.{HasRoom};
     ghost use Rattle.pin_core.specs.StateOf.{state_of};
     ghost use Rattle.pin_core.specs.Standing.{Enters};
-    ghost use Rattle.pin_core.specs.Entering.{decrease_entry, fit_entry, fit_refusal, growth_refusal, increase_entry, move_entry, unused_of};
+    ghost use Rattle.pin_core.specs.calls.Entering.{decrease_entry, fit_entry, fit_refusal, growth_refusal, increase_entry, move_entry, unused_of};
 
     /// Raises a client's reservation by so many bytes. Each ancestor grows by what its unused bytes don't cover.
     ///

@@ -1,9 +1,9 @@
 //! A page that is in memory is pinned.
 ghost use Rattle.std.specs.Prelude.{◌≡◌, true};
 ghost use Rattle.page_table.specs.Pages.{IsLive, with_entry};
-ghost use Rattle.pin_core.specs.Changes.{entry_in, entry_at};
-ghost use Rattle.pin_core.specs.Flights.{buffer_in, is_held_mem};
-ghost use Rattle.pin_core.specs.Pinning.{ReadyDirty, ReadyClean, with_client, pinned_dirty, pinned_clean};
+ghost use Rattle.pin_core.specs.parts.Changes.{entry_in, entry_at};
+ghost use Rattle.pin_core.specs.parts.Flights.{buffer_in, is_held_mem};
+ghost use Rattle.pin_core.specs.parts.Pinning.{ReadyDirty, ReadyClean, with_client, pinned_dirty, pinned_clean};
 
 use crate::kept::Kept;
 use crate::lengths;

@@ -2,11 +2,11 @@
 ghost use Rattle.std.specs.Prelude.{◌≡◌, true};
 ghost use Rattle.page_table.specs.declared.entry.Place.TheVariants as spot;
 ghost use Rattle.page_table.specs.Pages.{IsLive, with_entry};
-ghost use Rattle.pin_core.specs.Changes.{entry_in};
+ghost use Rattle.pin_core.specs.parts.Changes.{entry_in};
 ghost use Rattle.pin_core.specs.Invariant.{IsKeptOf};
-ghost use Rattle.pin_core.specs.Keeping.{row_in};
+ghost use Rattle.pin_core.specs.parts.Keeping.{row_in};
 ghost use Rattle.pin_core.specs.Marking.{under_of};
-ghost use Rattle.pin_core.specs.Flights.{buffer_in, flying, is_held_mem, job_of, put_back};
+ghost use Rattle.pin_core.specs.parts.Flights.{buffer_in, flying, is_held_mem, job_of, put_back};
 
 use crate::kept::Kept;
 use block_arena::Buf;

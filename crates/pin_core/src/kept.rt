@@ -1,7 +1,7 @@
 //! What a page keeps of scratch.
 ghost use Rattle.std.specs.Prelude.{◌≡◌, ◌↔◌, ◌<◌, IsSome, IsErr, OnOk, OnErr, IfErr, length};
 ghost use Rattle.scratch_dev.specs.Pool.{free_of, quota_of};
-ghost use Rattle.pin_core.specs.Keeping.{kept_then, slots_then, need_of};
+ghost use Rattle.pin_core.specs.parts.Keeping.{kept_then, slots_then, need_of};
 
 use reservation_tree::PoolErr;
 use scratch_dev::{SlotPool, SlotRow, SlotShell};

@@ -7,9 +7,9 @@ ghost use Rattle.clean_evict.specs.Eviction.{with_freed};
 ghost use Rattle.scratch_dev.specs.Pool.{quota_of, lent_of};
 ghost use Rattle.pool_model.specs.State.{pins_of};
 ghost use Rattle.pool_model.specs.Bytes.{bytes_of};
-ghost use Rattle.pin_core.specs.Keeping.{row_in};
+ghost use Rattle.pin_core.specs.parts.Keeping.{row_in};
 ghost use Rattle.pin_core.specs.StateOf.{place_in};
-ghost use Rattle.pin_core.specs.Leavings.{is_listed, lists_left, clean_left, IfHeld, TakesBack, held_in, blocks_in, slots_back};
+ghost use Rattle.pin_core.specs.parts.Leavings.{is_listed, lists_left, clean_left, IfHeld, TakesBack, held_in, blocks_in, slots_back};
 
 use crate::kept::Kept;
 use crate::lengths;

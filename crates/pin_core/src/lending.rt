@@ -1,7 +1,7 @@
 //! Loans end, and change hands.
 ghost use Rattle.std.specs.Prelude.{◌≡◌, ◌≢◌, ◌∷◌, []};
 ghost use Rattle.pin_core.specs.StateOf.{state_of};
-ghost use Rattle.pin_core.specs.Lending.{ReadyFree, ReadyMove, freed, lent_to, free_entry, move_entry};
+ghost use Rattle.pin_core.specs.calls.Lending.{ReadyFree, ReadyMove, freed, lent_to, free_entry, move_entry};
 
 use crate::lengths;
 use crate::parts::Parts;
@@ -14,7 +14,7 @@ impl<D: Slot + Drop> PoolState<D> {
     ghost use Rattle.std.specs.Prelude.{ℕ};
     ghost use Rattle.pool_model.specs.Owning.{IsClientOf};
     ghost use Rattle.pin_core.specs.Standing.{Enters};
-    ghost use Rattle.pin_core.specs.Lending.{IsLoan, CanMoveTo};
+    ghost use Rattle.pin_core.specs.calls.Lending.{IsLoan, CanMoveTo};
 
     /// Ends a loan. Its charge returns, and its blocks are free.
     pub fn free(&mut self, loan: Loan)

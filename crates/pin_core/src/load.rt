@@ -6,10 +6,10 @@ ghost use Rattle.page_table.specs.declared.entry.Mem.TheVariants as mem;
 ghost use Rattle.page_table.specs.declared.entry.Place.TheVariants as spot;
 ghost use Rattle.pin_core.specs.Invariant.{IsKept, IsKeptOf};
 ghost use Rattle.pin_core.specs.Lawful.{Lawful};
-ghost use Rattle.pin_core.specs.Keeping.{row_in};
-ghost use Rattle.pin_core.specs.Changes.{entry_in, entry_at};
-ghost use Rattle.pin_core.specs.Evictions.{names_gone, with_room};
-ghost use Rattle.pin_core.specs.Loads.{CanLoad, ReadyLoad, loading, loaded, loaded_over, read_job};
+ghost use Rattle.pin_core.specs.parts.Keeping.{row_in};
+ghost use Rattle.pin_core.specs.parts.Changes.{entry_in, entry_at};
+ghost use Rattle.pin_core.specs.calls.Evictions.{names_gone, with_room};
+ghost use Rattle.pin_core.specs.parts.Loads.{CanLoad, ReadyLoad, loading, loaded, loaded_over, read_job};
 
 use crate::evicted::EvictedPages;
 use crate::jobs::{ReadJob, under};

@@ -1,7 +1,7 @@
 //! What is read of a live page.
 ghost use Rattle.std.specs.Prelude.{◌≡◌};
 ghost use Rattle.page_table.specs.Pages.{IsLive};
-ghost use Rattle.pin_core.specs.Changes.{entry_in};
+ghost use Rattle.pin_core.specs.parts.Changes.{entry_in};
 
 use crate::kept::Kept;
 use page_table::{PageId, PageTable, Place};

@@ -4,8 +4,8 @@ ghost use Rattle.pool_model.specs.Sums.{HasRoom};
 ghost use Rattle.pin_core.specs.StateOf.{state_of};
 ghost use Rattle.pin_core.specs.Invariant.{IsKept};
 ghost use Rattle.pin_core.specs.Lawful.{Lawful};
-ghost use Rattle.pin_core.specs.Changes.{entry_at};
-ghost use Rattle.pin_core.specs.PinSteps.{CanPinAt, IsAway, PinIs, bytes_at, told_gone};
+ghost use Rattle.pin_core.specs.parts.Changes.{entry_at};
+ghost use Rattle.pin_core.specs.parts.PinSteps.{CanPinAt, IsAway, PinIs, bytes_at, told_gone};
 
 use crate::evicted::EvictedPages;
 use crate::jobs::{ReadJob, WriteJob};
@@ -37,7 +37,7 @@ pub enum PinTurn<D> {
 impl<D: Slot + Drop> PoolState<D> {
     ghost use Rattle.std.specs.Prelude.{[]};
     ghost use Rattle.pin_core.specs.Standing.{Enters};
-    ghost use Rattle.pin_core.specs.PinTurns.{CanPin, PinAnswer, pin_entries, pin_gone, pin_slots};
+    ghost use Rattle.pin_core.specs.calls.PinTurns.{CanPin, PinAnswer, pin_entries, pin_gone, pin_slots};
 
     /// The answer that applies to a call of the session `s` that pins this page of it: a dirty page is
     /// pinned, and a clean or an evicted one where its client has room for its length. Where it lacks

@@ -1,6 +1,6 @@
 //! The value of a pool.
 ghost use Rattle.std.specs.Prelude.{◌≡◌};
-ghost use Rattle.pin_core.specs.Needs.{id_in};
+ghost use Rattle.pin_core.specs.calls.Needs.{id_in};
 
 use crate::parts::Parts;
 use page_table::PageId;

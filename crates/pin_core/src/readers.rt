@@ -1,7 +1,7 @@
 //! What a pool tells of trackers, pages and slots. No reader makes an entry.
 ghost use Rattle.std.specs.Prelude.{◌≡◌, Some};
 ghost use Rattle.std.specs.FinMap.{get};
-ghost use Rattle.pin_core.specs.Changes.{entry_at};
+ghost use Rattle.pin_core.specs.parts.Changes.{entry_at};
 
 use crate::lengths;
 use crate::parts::Parts;
@@ -16,10 +16,10 @@ impl<D: Slot + Drop> PoolState<D> {
     ghost use Rattle.pool_model.specs.State.{page_at};
     ghost use Rattle.pool_model.specs.Sums.{length_of};
     ghost use Rattle.pin_core.specs.StateOf.{state_of};
-    ghost use Rattle.pin_core.specs.Needs.{IsPage};
-    ghost use Rattle.pin_core.specs.Sessions.{IsSeat, query_of};
-    ghost use Rattle.pin_core.specs.Entering.{unused_of};
-    ghost use Rattle.pin_core.specs.Opening.{spare_of};
+    ghost use Rattle.pin_core.specs.calls.Needs.{IsPage};
+    ghost use Rattle.pin_core.specs.calls.Sessions.{IsSeat, query_of};
+    ghost use Rattle.pin_core.specs.calls.Entering.{unused_of};
+    ghost use Rattle.pin_core.specs.calls.Opening.{spare_of};
 
     /// The query tracker of a session.
     pub fn tracker(&self, s: u32) -> TrackerId

@@ -8,8 +8,8 @@ impl<D: Slot + Drop> PoolState<D> {
     ghost use Rattle.std.specs.Prelude.{[]};
     ghost use Rattle.pool_model.specs.MayFollow.{MayFollow};
     ghost use Rattle.pin_core.specs.StateOf.{state_of};
-    ghost use Rattle.pin_core.specs.Refusing.{MayEnter, refusal_of};
-    ghost use Rattle.pin_core.specs.Returning.{EntersWhere};
+    ghost use Rattle.pin_core.specs.calls.Refusing.{MayEnter, refusal_of};
+    ghost use Rattle.pin_core.specs.calls.Returning.{EntersWhere};
 
     /// Enters that this call of the session `s` was refused for the failure with this number. It changes
     /// nothing but the number of entries.

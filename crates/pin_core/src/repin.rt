@@ -2,8 +2,8 @@
 ghost use Rattle.std.specs.Prelude.{◌≡◌, ◌<◌, ◌+◌, ◌-◌, ◌∷◌, []};
 ghost use Rattle.page_table.specs.Pages.{IsLive, with_entry};
 ghost use Rattle.page_table.specs.declared.entry.Place.TheVariants as spot;
-ghost use Rattle.pin_core.specs.Changes.{entry_in, entry_at};
-ghost use Rattle.pin_core.specs.Pins.{CanRepin, ReadyAgain, ReadyOnce, pins_in, with_pins, pinned_again, unpinned_once};
+ghost use Rattle.pin_core.specs.parts.Changes.{entry_in, entry_at};
+ghost use Rattle.pin_core.specs.calls.Pins.{CanRepin, ReadyAgain, ReadyOnce, pins_in, with_pins, pinned_again, unpinned_once};
 
 use crate::kept::Kept;
 use crate::lengths;
@@ -20,7 +20,7 @@ impl<D: Slot + Drop> PoolState<D> {
     ghost use Rattle.pool_model.specs.declared.event.Event.TheVariants as event;
     ghost use Rattle.pin_core.specs.StateOf.{state_of};
     ghost use Rattle.pin_core.specs.Standing.{Enters};
-    ghost use Rattle.pin_core.specs.Pins.{IsPinned, HasPinToSpare, HasRoomFor};
+    ghost use Rattle.pin_core.specs.calls.Pins.{IsPinned, HasPinToSpare, HasRoomFor};
 
     /// Pins a pinned page once more. Its client is charged its length for this pin too; no block is taken.
     pub fn pin_again_now(&mut self, p: &Page)

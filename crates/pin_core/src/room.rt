@@ -4,7 +4,7 @@ ghost use Rattle.pool_model.specs.Sums.{HasRoom, IsClient};
 ghost use Rattle.pin_core.specs.StateOf.{state_of};
 ghost use Rattle.pin_core.specs.Invariant.{IsKept};
 ghost use Rattle.pin_core.specs.Lawful.{Lawful};
-ghost use Rattle.pin_core.specs.Turns.{IsKnown, TurnIs, amount_of};
+ghost use Rattle.pin_core.specs.calls.Turns.{IsKnown, TurnIs, amount_of};
 
 use crate::jobs::WriteJob;
 use crate::parts::Parts;
@@ -54,7 +54,7 @@ impl<D: Slot + Drop> PoolState<D> {
     ghost use Rattle.pool_model.specs.Sums.{charge_of};
     ghost use Rattle.pool_model.specs.Owning.{IsClientOf};
     ghost use Rattle.pin_core.specs.Standing.{Enters};
-    ghost use Rattle.pin_core.specs.Turns.{RoomAnswer, room_entries, room_slots};
+    ghost use Rattle.pin_core.specs.calls.Turns.{RoomAnswer, room_entries, room_slots};
 
     /// The first of the answers that applies to a call of the session `s` that wants this of its client:
     /// there is room; a page of the client failed since the session's last call began; the client's newest

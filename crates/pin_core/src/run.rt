@@ -7,8 +7,8 @@ ghost use Rattle.pool_model.specs.ScratchRows.{IsFault};
 ghost use Rattle.scratch_dev.specs.Rows.{IsStored, Walked, RoseIfFailed, faults_of, CountsStores};
 ghost use Rattle.pin_core.specs.Marking.{front_of};
 ghost use Rattle.pin_core.specs.Standing.{AreHeld};
-ghost use Rattle.pin_core.specs.Returning.{stale_loads};
-ghost use Rattle.pin_core.specs.Runs.{AllTell, AllGiveHeld, CountsFaults, CountsStrays, GaveBytes, IfFoundOther, IsFit, IsLoadedAs, after_loads, after_stores, load_end, is_sure};
+ghost use Rattle.pin_core.specs.calls.Returning.{stale_loads};
+ghost use Rattle.pin_core.specs.calls.Runs.{AllTell, AllGiveHeld, CountsFaults, CountsStrays, GaveBytes, IfFoundOther, IsFit, IsLoadedAs, after_loads, after_stores, load_end, is_sure};
 
 use crate::jobs::{ReadJob, Stale, WriteJob};
 use block_arena::Buf;

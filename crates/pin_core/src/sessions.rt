@@ -1,8 +1,8 @@
 //! Sessions begin and end.
 ghost use Rattle.std.specs.Prelude.{◌≡◌, ◌≤◌, ◌<◌, [], None, Some, IfOk, OnOk, OnErr, IfErr, IsErr};
 ghost use Rattle.std.specs.FinMap.{get};
-ghost use Rattle.pin_core.specs.Rearranging.{seated, unseated};
-ghost use Rattle.pin_core.specs.Seating.{CanSeat, CanUnseat};
+ghost use Rattle.pin_core.specs.parts.Rearranging.{seated, unseated};
+ghost use Rattle.pin_core.specs.parts.Seating.{CanSeat, CanUnseat};
 
 use crate::lengths;
 use crate::parts::Parts;
@@ -16,8 +16,8 @@ impl<D: Slot + Drop> PoolState<D> {
     ghost use Rattle.reservation_tree.specs.Tracker.{HasNoChild};
     ghost use Rattle.pin_core.specs.StateOf.{state_of};
     ghost use Rattle.pin_core.specs.Standing.{Enters};
-    ghost use Rattle.pin_core.specs.Sessions.{IsFull, IsSeat, query_of, quota_in};
-    ghost use Rattle.pin_core.specs.Opening.{ClosedAgain, LacksLeast, ending_entries, opening_entries, spare_of};
+    ghost use Rattle.pin_core.specs.calls.Sessions.{IsFull, IsSeat, query_of, quota_in};
+    ghost use Rattle.pin_core.specs.calls.Opening.{ClosedAgain, LacksLeast, ending_entries, opening_entries, spare_of};
 
     /// A new session, with a quota of so many slots. Its query tracker may reserve up to `limit` bytes, and has
     /// `least` bytes reserved. Its number had no session; which one it is is left open.

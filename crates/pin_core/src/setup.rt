@@ -7,7 +7,7 @@ ghost use Rattle.page_table.specs.Pages.{opened as table_opened};
 ghost use Rattle.pool_model.specs.Bytes.{bytes_of};
 ghost use Rattle.reservation_tree.specs.Tree.{opened as tree_opened};
 ghost use Rattle.session_table.specs.Seats.{vacant};
-ghost use Rattle.pin_core.specs.Setup.{OpensWith};
+ghost use Rattle.pin_core.specs.calls.Setup.{OpensWith};
 
 use crate::conf::PoolConf;
 use crate::kept::Kept;
@@ -44,8 +44,8 @@ impl<D: Slot + Drop> PoolState<D> {
     ghost use Rattle.pool_model.specs.State.{Opening};
     ghost use Rattle.pin_core.specs.StateOf.{state_of};
     ghost use Rattle.pin_core.specs.Standing.{StandsFor, slots_home};
-    ghost use Rattle.pin_core.specs.Setup.{IsOpeningOf};
-    ghost use Rattle.pin_core.specs.Opening.{spare_of};
+    ghost use Rattle.pin_core.specs.calls.Setup.{IsOpeningOf};
+    ghost use Rattle.pin_core.specs.calls.Opening.{spare_of};
 
     /// A pool with these numbers and slots, without sessions. Takes all the memory that it will ever use, but for
     /// what its callers bring.

@@ -3,10 +3,10 @@ ghost use Rattle.std.specs.Prelude.{◌≡◌, Some};
 ghost use Rattle.client_lists.specs.Clients.{newest};
 ghost use Rattle.pin_core.specs.Invariant.{IsKept};
 ghost use Rattle.pin_core.specs.Lawful.{Lawful};
-ghost use Rattle.pin_core.specs.Changes.{entry_at};
-ghost use Rattle.pin_core.specs.Flights.{flown, id_with, job_of};
+ghost use Rattle.pin_core.specs.parts.Changes.{entry_at};
+ghost use Rattle.pin_core.specs.parts.Flights.{flown, id_with, job_of};
 ghost use Rattle.pin_core.specs.Marking.{under_of};
-ghost use Rattle.pin_core.specs.Turns.{StartIs};
+ghost use Rattle.pin_core.specs.calls.Turns.{StartIs};
 
 use crate::jobs::{WriteJob, fly_at, under};
 use crate::lengths;
@@ -21,7 +21,7 @@ impl<D: Slot + Drop> PoolState<D> {
     ghost use Rattle.pool_model.specs.State.{dirty_of};
     ghost use Rattle.pin_core.specs.StateOf.{state_of};
     ghost use Rattle.pin_core.specs.Standing.{Enters};
-    ghost use Rattle.pin_core.specs.Turns.{IsStarted, start_entries, start_slots};
+    ghost use Rattle.pin_core.specs.calls.Turns.{IsStarted, start_entries, start_slots};
 
     /// Starts to write the newest dirty page of some client. Which one of several is free.
     ///

@@ -1,9 +1,9 @@
 //! A pinned page is left with its bytes.
 ghost use Rattle.std.specs.Prelude.{◌≡◌, ◌↔◌, ◌<◌, ◌∷◌, [], IsErr, OnOk, OnErr, IfErr};
 ghost use Rattle.scratch_dev.specs.Pool.{free_of};
-ghost use Rattle.pin_core.specs.Keeping.{need_of};
-ghost use Rattle.pin_core.specs.Changes.{entry_at, counted};
-ghost use Rattle.pin_core.specs.Unpinning.{CanUnpin, ReadyUnpin, LacksSlots, unpinned, unpin_entry};
+ghost use Rattle.pin_core.specs.parts.Keeping.{need_of};
+ghost use Rattle.pin_core.specs.parts.Changes.{entry_at, counted};
+ghost use Rattle.pin_core.specs.calls.Unpinning.{CanUnpin, ReadyUnpin, LacksSlots, unpinned, unpin_entry};
 
 use crate::kept::take_slots;
 use crate::lengths;
@@ -21,7 +21,7 @@ impl<D: Slot + Drop> PoolState<D> {
     ghost use Rattle.pool_model.specs.Sums.{free_slots};
     ghost use Rattle.pin_core.specs.StateOf.{state_of};
     ghost use Rattle.pin_core.specs.Standing.{Enters};
-    ghost use Rattle.pin_core.specs.Needs.{IsLastPin};
+    ghost use Rattle.pin_core.specs.calls.Needs.{IsLastPin};
 
     /// Leaves a page that has one pin: it becomes dirty with the bytes of this buffer.
     ///

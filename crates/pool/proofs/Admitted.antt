@@ -14,8 +14,8 @@ use Rattle.pool_model.specs.State.{Opening, Session, State}
 use Rattle.pool_model.specs.Legal.{IsLegal, run, state_after}
 use Rattle.pin_core.specs.declared.parts.Parts.{Parts}
 use Rattle.pin_core.specs.StateOf.{state_of}
-use Rattle.pin_core.specs.Sessions.{query_of}
-use Rattle.pin_core.specs.Opening.{opening_entries, spare_of}
+use Rattle.pin_core.specs.calls.Sessions.{query_of}
+use Rattle.pin_core.specs.calls.Opening.{opening_entries, spare_of}
 use Rattle.pin_core.specs.declared.tally.Tally.{Tally}
 use Rattle.session_calls.specs.Having.{Sight}
 use Rattle.pool.specs.declared.ask.Ask.{Ask}

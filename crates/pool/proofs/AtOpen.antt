@@ -10,10 +10,10 @@ use Rattle.pool_model.specs.State.{Opening, Session, State}
 use Rattle.pin_core.specs.declared.conf.PoolConf.{PoolConf}
 use Rattle.pin_core.specs.declared.parts.Parts.{Parts}
 use Rattle.pin_core.specs.declared.tally.Tally.{Tally}
-use Rattle.pin_core.specs.Setup.{IsOpeningOf}
+use Rattle.pin_core.specs.calls.Setup.{IsOpeningOf}
 use Rattle.pin_core.specs.StateOf.{state_of}
 use Rattle.pin_core.specs.Standing.{StandsFor, slots_home}
-use Rattle.pin_core.specs.Opening.{spare_of}
+use Rattle.pin_core.specs.calls.Opening.{spare_of}
 use Rattle.pin_core.specs.Tallies.{Counted, silence, tally_of}
 use Rattle.pin_core.proofs.Tallied.{tally_same, uncounted_yet}
 use Rattle.session_calls.specs.declared.count.Count.{Count}

@@ -12,7 +12,7 @@ use Rattle.own_entries.specs.Busy.{busy_from}
 use Rattle.own_entries.specs.ClientLaws.{IsWholeIdle}
 use Rattle.own_entries.specs.FitLaws.{FitsHeld}
 use Rattle.own_entries.specs.OwnHoldings.{holdings_of}
-use Rattle.pin_core.specs.Entering.{session_entry, increase_entry}
+use Rattle.pin_core.specs.calls.Entering.{session_entry, increase_entry}
 use Rattle.session_calls.specs.Ready.{IsResting}
 use Rattle.session_calls.specs.Told.{held_in}
 use Rattle.pool.specs.declared.item.Item.{Item}

@@ -13,7 +13,7 @@ use Rattle.pool_model.specs.Legal.{IsLegal}
 use Rattle.pin_core.specs.declared.parts.Parts.{Parts}
 use Rattle.pin_core.specs.declared.tally.Tally.{Tally}
 use Rattle.pin_core.specs.StateOf.{state_of}
-use Rattle.pin_core.specs.Opening.{spare_of}
+use Rattle.pin_core.specs.calls.Opening.{spare_of}
 use Rattle.turn_table.specs.declared.view.Role.TheVariants.{First}
 use Rattle.turn_table.specs.declared.view.View.{View}
 use Rattle.turn_table.specs.Lists.{times, without}

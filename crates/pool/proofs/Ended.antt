@@ -18,7 +18,7 @@ use Rattle.own_entries.proofs.Lives.{legal_lives_as_told}
 use Rattle.pin_core.specs.declared.parts.Parts.{Parts}
 use Rattle.pin_core.specs.declared.tally.Tally.{Tally}
 use Rattle.pin_core.specs.StateOf.{state_of}
-use Rattle.pin_core.specs.Sessions.{IsSeat, query_of}
+use Rattle.pin_core.specs.calls.Sessions.{IsSeat, query_of}
 use Rattle.turn_table.specs.declared.view.Role.TheVariants.{First}
 use Rattle.turn_table.specs.declared.view.View.{View}
 use Rattle.turn_table.specs.Lists.{same, times}

@@ -17,8 +17,8 @@ use Rattle.own_entries.proofs.Facts.{high, not_root}
 use Rattle.own_entries.proofs.RootTight.{legal_root_is_tight}
 use Rattle.own_entries.proofs.Setting.{limit_stays, reservation_here, reservation_there}
 use Rattle.reservation_tree.proofs.Ways.{query_grows}
-use Rattle.pin_core.specs.Entering.{session_entry, increase_entry}
-use Rattle.pin_core.specs.Opening.{opening_entries}
+use Rattle.pin_core.specs.calls.Entering.{session_entry, increase_entry}
+use Rattle.pin_core.specs.calls.Opening.{opening_entries}
 use Rattle.pool.specs.declared.ask.Ask.{Ask}
 use Rattle.pool.specs.Remaining.{left_in, less, vacancies}
 use Rattle.pool.proofs.Vacant.{one_fewer}

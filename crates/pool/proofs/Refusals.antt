@@ -7,9 +7,9 @@ use Rattle.reservation_tree.specs.declared.errors.PoolErr.TheVariants.{NoReserva
 use Rattle.pool_model.specs.State.{State}
 use Rattle.pin_core.specs.declared.parts.Parts.{Parts}
 use Rattle.pin_core.specs.StateOf.{state_of}
-use Rattle.pin_core.specs.Sessions.{IsFull}
-use Rattle.pin_core.specs.Entering.{unused_of}
-use Rattle.pin_core.specs.Opening.{root_growth}
+use Rattle.pin_core.specs.calls.Sessions.{IsFull}
+use Rattle.pin_core.specs.calls.Entering.{unused_of}
+use Rattle.pin_core.specs.calls.Opening.{root_growth}
 use Rattle.pin_core.proofs.Begun.{full_now, not_full}
 use Rattle.pool.specs.Seating.{IsSessionRefusal, MustTurnAway}
 

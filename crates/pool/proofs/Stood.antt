@@ -16,9 +16,9 @@ use Rattle.pool_model.specs.Sound.{IsQuery, IsSound}
 use Rattle.pool_model.proofs.Kept.{legal_sound}
 use Rattle.pin_core.specs.declared.parts.Parts.{Parts}
 use Rattle.pin_core.specs.StateOf.{state_of}
-use Rattle.pin_core.specs.Sessions.{IsSeat, query_of, quota_in}
+use Rattle.pin_core.specs.calls.Sessions.{IsSeat, query_of, quota_in}
 use Rattle.pin_core.specs.Standing.{StandsFor, Enters}
-use Rattle.pin_core.specs.Opening.{ending_entries, opening_entries, spare_of}
+use Rattle.pin_core.specs.calls.Opening.{ending_entries, opening_entries, spare_of}
 use Rattle.pin_core.specs.declared.tally.Tally.{Tally}
 use Rattle.pin_core.specs.Tallies.{silence}
 use Rattle.turn_table.specs.declared.view.View.{View}

@@ -6,8 +6,8 @@ use Rattle.pool_model.specs.declared.event.Event.{Event}
 use Rattle.pool_model.specs.declared.event.Event.TheVariants.{AddTracker, CloseTracker, Decrease, Increase}
 use Rattle.pool_model.specs.declared.entry.Entry.{Entry}
 use Rattle.pool_model.specs.State.{State}
-use Rattle.pin_core.specs.Opening.{ending_entries, opening_entries}
-use Rattle.pin_core.specs.Sessions.{query_of}
+use Rattle.pin_core.specs.calls.Opening.{ending_entries, opening_entries}
+use Rattle.pin_core.specs.calls.Sessions.{query_of}
 
 -- one after the other
 two : (trail first later : List Entry) (a b : Entry) → first ≡ trail ++ a ∷ [] → later ≡ first ++ b ∷ [] → later ≡ trail ++ a ∷ b ∷ []

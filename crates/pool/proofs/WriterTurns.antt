@@ -13,7 +13,7 @@ use Rattle.store_api.specs.Entries.{by}
 use Rattle.pin_core.specs.declared.jobs.WriteJob.{WriteJob}
 use Rattle.pin_core.specs.declared.tally.Tally.{Tally}
 use Rattle.pin_core.specs.StateOf.{state_of}
-use Rattle.pin_core.specs.Returning.{write_ends}
+use Rattle.pin_core.specs.calls.Returning.{write_ends}
 use Rattle.pin_core.specs.Tallies.{tally_of}
 use Rattle.turn_table.specs.declared.view.View.{View}
 use Rattle.turn_table.specs.Steps.{grown}

@@ -10,8 +10,8 @@ use Rattle.pool_model.specs.declared.entry.Entry.{Entry}
 use Rattle.pool_model.specs.State.{Opening}
 use Rattle.pin_core.specs.declared.parts.Parts.{Parts}
 use Rattle.pin_core.specs.StateOf.{state_of}
-use Rattle.pin_core.specs.Sessions.{query_of}
-use Rattle.pin_core.specs.Opening.{opening_entries, spare_of}
+use Rattle.pin_core.specs.calls.Sessions.{query_of}
+use Rattle.pin_core.specs.calls.Opening.{opening_entries, spare_of}
 use Rattle.pin_core.specs.Standing.{Enters}
 use Rattle.pool.specs.declared.ask.Ask.{Ask}
 use Rattle.pool.specs.declared.item.Item.{Item}

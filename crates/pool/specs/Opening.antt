@@ -6,7 +6,7 @@ use Rattle.pool_model.specs.State.{Opening}
 use Rattle.pool_model.specs.Legal.{IsLegal}
 use Rattle.pool_model.specs.Traces.{IsLegalTrace}
 use Rattle.pin_core.specs.declared.conf.PoolConf.{PoolConf}
-use Rattle.pin_core.specs.Setup.{IsOpeningOf}
+use Rattle.pin_core.specs.calls.Setup.{IsOpeningOf}
 use Rattle.pin_core.specs.declared.tally.Tally.{Tally}
 use Rattle.pin_core.specs.Tallies.{Counted, all_failures, all_stale, silence, tally_of, written_blocks}
 use Rattle.turn_table.specs.Knowledge.{GrewBeside}

@@ -7,9 +7,9 @@ use Rattle.reservation_tree.specs.declared.errors.PoolErr.TheVariants.{Memory, N
 use Rattle.pool_model.specs.State.{Opening, State}
 use Rattle.pool_model.specs.Legal.{state_after}
 use Rattle.store_api.specs.Holdings.{Holdings, Shared}
-use Rattle.pin_core.specs.Sessions.{IsFull, query_of}
-use Rattle.pin_core.specs.Entering.{session_entry, increase_entry, decrease_entry, close_entry}
-use Rattle.pin_core.specs.Opening.{LacksLeast, root_growth}
+use Rattle.pin_core.specs.calls.Sessions.{IsFull, query_of}
+use Rattle.pin_core.specs.calls.Entering.{session_entry, increase_entry, decrease_entry, close_entry}
+use Rattle.pin_core.specs.calls.Opening.{LacksLeast, root_growth}
 use Rattle.turn_table.specs.Knowledge.{GrewBeside}
 use Rattle.turn_table.specs.Face.{Spot}
 use Rattle.pool.specs.declared.item.Item.{Item}

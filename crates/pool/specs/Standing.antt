@@ -5,7 +5,7 @@ use Rattle.outside.specs.declared.slot.Slot.{Ghosts}
 use Rattle.pool_model.specs.State.{Opening}
 use Rattle.pin_core.specs.declared.parts.Parts.{Parts}
 use Rattle.pin_core.specs.StateOf.{state_of}
-use Rattle.pin_core.specs.Opening.{spare_of}
+use Rattle.pin_core.specs.calls.Opening.{spare_of}
 use Rattle.pin_core.specs.declared.tally.Tally.{Tally}
 use Rattle.session_calls.specs.Having.{Sight}
 use Rattle.session_calls.specs.Moving.{quota_at}

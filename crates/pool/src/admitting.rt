@@ -1,8 +1,8 @@
 //! Sessions come together, each as its ask wants it, in one turn of the pass.
 ghost use Rattle.std.specs.Prelude.{◌≡◌, ◌≤◌, ◌<◌, ◌++◌, [], ◌∷◌, None, List, length, map, vec_capacity};
 ghost use Rattle.pin_core.specs.StateOf.{state_of};
-ghost use Rattle.pin_core.specs.Sessions.{query_of};
-ghost use Rattle.pin_core.specs.Opening.{opening_entries, spare_of};
+ghost use Rattle.pin_core.specs.calls.Sessions.{query_of};
+ghost use Rattle.pin_core.specs.calls.Opening.{opening_entries, spare_of};
 ghost use Rattle.turn_table.specs.Knowledge.{HasTurn, NeedsOnly};
 ghost use Rattle.turn_table.specs.Steps.{grown};
 ghost use Rattle.pool.specs.Items.{is_stopped, needs_of};

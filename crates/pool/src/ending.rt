@@ -2,7 +2,7 @@
 ghost use Rattle.std.specs.Prelude.{◌≡◌, ◌<◌, ◌+◌};
 ghost use Rattle.reservation_tree.specs.Tracker.{HasNoChild};
 ghost use Rattle.pin_core.specs.StateOf.{state_of};
-ghost use Rattle.pin_core.specs.Sessions.{IsSeat, query_of};
+ghost use Rattle.pin_core.specs.calls.Sessions.{IsSeat, query_of};
 ghost use Rattle.turn_table.specs.Lists.{times};
 ghost use Rattle.turn_table.specs.Knowledge.{HasTurn};
 ghost use Rattle.turn_table.specs.Steps.{grown};

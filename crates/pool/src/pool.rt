@@ -2,7 +2,7 @@
 ghost use Rattle.std.specs.Prelude.{◌≡◌, ◌≤◌, ◌+◌, ℕ, [], None, IfErr, IfOk, OnErr, map, vec_len};
 ghost use Rattle.std.specs.List.{All, sum_by};
 ghost use Rattle.std.specs.Option.{ForSome};
-ghost use Rattle.pin_core.specs.Setup.{OpensWith};
+ghost use Rattle.pin_core.specs.calls.Setup.{OpensWith};
 ghost use Rattle.pool.specs.Items.{all_rights};
 ghost use Rattle.pool.specs.Opening.{ClosesTraced, ClosesWith, OpensAs};
 ghost use Rattle.pool.specs.Passing.{writers_out};

@@ -7,7 +7,7 @@ ghost use Rattle.store_api.specs.Holdings.{account_of, page_of};
 ghost use Rattle.store_api.specs.Changes.{query_growth, shortfall};
 ghost use Rattle.store_api.specs.Conditions.{Fits, IsIdle, IsLiveClient, IsLoan, IsPage};
 ghost use Rattle.store_api.specs.Refusals.{IsScratchFull, IsSharedRefusal, LacksSlots, reserve_refusal};
-ghost use Rattle.pin_core.specs.Entering.{fit_refusal, growth_refusal};
+ghost use Rattle.pin_core.specs.calls.Entering.{fit_refusal, growth_refusal};
 ghost use Rattle.session_calls.specs.Coming.{IsFresh};
 ghost use Rattle.pool.specs.Seating.{state_in};
 ghost use Rattle.pool.specs.Sitting.{Did, DidThese, held_by};

@@ -2,7 +2,7 @@
 ghost use Rattle.std.specs.Prelude.{◌≡◌, ◌≤◌, ◌<◌, ◌+◌, ◌++◌, [], None, Ok, IfOk, IfErr, OnOk};
 ghost use Rattle.block_arena.specs.Blocks.{IsBlockLen};
 ghost use Rattle.pin_core.specs.StateOf.{state_of};
-ghost use Rattle.pin_core.specs.Sessions.{query_of};
+ghost use Rattle.pin_core.specs.calls.Sessions.{query_of};
 ghost use Rattle.turn_table.specs.Lists.{times};
 ghost use Rattle.turn_table.specs.Knowledge.{HasTurn};
 ghost use Rattle.turn_table.specs.Steps.{grown};

@@ -10,7 +10,7 @@ ghost use Rattle.store_api.specs.Conditions.{IsLiveClient, IsPage, ShowsLeft};
 ghost use Rattle.store_api.specs.Entries.{IsPin, Made, MadeThese};
 ghost use Rattle.store_api.specs.Refusals.{IsSharedRefusal, IsUntouched, WasRefused, reserve_refusal};
 ghost use Rattle.store_api.specs.Signs.{Grows};
-ghost use Rattle.pin_core.specs.Entering.{fit_refusal, growth_refusal};
+ghost use Rattle.pin_core.specs.calls.Entering.{fit_refusal, growth_refusal};
 ghost use Rattle.own_entries.specs.ClientLaws.{IsWholeIdle};
 ghost use Rattle.session_calls.specs.Showing.{ShowsStored};
 ghost use Rattle.session_calls.specs.Throughout.{FitsThroughout};

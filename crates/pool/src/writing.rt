@@ -1,7 +1,7 @@
 //! What writers do at a pool: they take dirty pages out, one at a time, and bring them back.
 ghost use Rattle.std.specs.Prelude.{◌≡◌, ◌<◌};
 ghost use Rattle.pool_model.specs.Makers.{IsWriter};
-ghost use Rattle.pin_core.specs.Returning.{wrote};
+ghost use Rattle.pin_core.specs.calls.Returning.{wrote};
 ghost use Rattle.turn_table.specs.Lists.{times};
 ghost use Rattle.turn_table.specs.Knowledge.{HasTurn};
 ghost use Rattle.session_calls.specs.Flying.{IsBack};

@@ -16,14 +16,14 @@ use Rattle.pin_core.specs.declared.kept.Kept.{Kept}
 use Rattle.pin_core.specs.declared.jobs.WriteJob.{WriteJob}
 use Rattle.pin_core.specs.declared.jobs.ReadJob.{ReadJob}
 use Rattle.pin_core.specs.declared.parts.Parts.{Parts}
-use Rattle.pin_core.specs.Ending.{IsPinnedWith, IsUnpinned}
+use Rattle.pin_core.specs.calls.Ending.{IsPinnedWith, IsUnpinned}
 use Rattle.pin_core.specs.Invariant.{IsKept}
-use Rattle.pin_core.specs.Jobs.{IsReadJob, IsWriteJob}
+use Rattle.pin_core.specs.calls.Jobs.{IsReadJob, IsWriteJob}
 use Rattle.pin_core.specs.Marking.{under_of}
 use Rattle.pin_core.specs.Lawful.{Lawful}
-use Rattle.pin_core.specs.Needs.{IsLastPin, IsPage, id_in}
-use Rattle.pin_core.specs.Pins.{HasPinToSpare, IsPinned}
-use Rattle.pin_core.specs.Runs.{IsFit}
+use Rattle.pin_core.specs.calls.Needs.{IsLastPin, IsPage, id_in}
+use Rattle.pin_core.specs.calls.Pins.{HasPinToSpare, IsPinned}
+use Rattle.pin_core.specs.calls.Runs.{IsFit}
 use Rattle.pin_core.specs.StateOf.{key_of, page_of, place_in, state_of}
 use Rattle.pin_core.proofs.Found.{key_found}
 use Rattle.pin_core.proofs.Moved.{page_known}

@@ -15,7 +15,7 @@ use Rattle.pool_model.specs.Owning.{IsClientOf}
 use Rattle.pool_model.specs.State.{State}
 use Rattle.pool_model.specs.Sums.{HasRoom, charge_of, length_of}
 use Rattle.store_api.specs.Tokens.{ClientToken}
-use Rattle.pin_core.specs.Coming.{CanHold}
+use Rattle.pin_core.specs.calls.Coming.{CanHold}
 use Rattle.pin_core.specs.declared.parts.Parts.{Parts}
 use Rattle.pin_core.specs.Invariant.{IsKept}
 use Rattle.pin_core.specs.StateOf.{state_of}

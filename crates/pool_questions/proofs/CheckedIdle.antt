@@ -26,8 +26,8 @@ use Rattle.pin_core.specs.declared.kept.Kept.{Kept}
 use Rattle.pin_core.specs.declared.parts.Parts.{Parts}
 use Rattle.pin_core.specs.Invariant.{IsKept, hangs_under}
 use Rattle.pin_core.specs.Lawful.{Lawful}
-use Rattle.pin_core.specs.Lending.{CanMoveTo, IsLoan}
-use Rattle.pin_core.specs.Sessions.{IsIdle, query_of}
+use Rattle.pin_core.specs.calls.Lending.{CanMoveTo, IsLoan}
+use Rattle.pin_core.specs.calls.Sessions.{IsIdle, query_of}
 use Rattle.pin_core.specs.StateOf.{buffers_in, page_of, pages_in, state_of}
 use Rattle.pin_core.proofs.Known.{HasEntry, has_entry}
 use Rattle.pin_core.proofs.Mapped.{get_mapped}

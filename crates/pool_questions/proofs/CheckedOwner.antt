@@ -18,9 +18,9 @@ use Rattle.store_api.specs.Conditions.{IsIdle, IsLoan, IsPage}
 use Rattle.own_entries.specs.LiveParts.{Tells, is_parent, is_under, left_at, live_account, live_page, live_loan, charge_in, count_under}
 use Rattle.own_entries.proofs.Behind.{IsTold, IsLent, told_page, told_loan}
 use Rattle.pin_core.specs.StateOf.{state_of}
-use Rattle.pin_core.specs.Lending.{IsLoan as IsLoanOf}
-use Rattle.pin_core.specs.Sessions.{IsIdle as IsIdleIn}
-use Rattle.pin_core.specs.Sessions.{query_of}
+use Rattle.pin_core.specs.calls.Lending.{IsLoan as IsLoanOf}
+use Rattle.pin_core.specs.calls.Sessions.{IsIdle as IsIdleIn}
+use Rattle.pin_core.specs.calls.Sessions.{query_of}
 use Rattle.session_calls.specs.declared.hand.Hand.{Hand}
 use Rattle.local_pool.specs.Told.{held_of}
 use Rattle.local_pool.specs.Agreeing.{AgreesWith}

@@ -5,7 +5,7 @@ ghost use Rattle.page_table.specs.declared.entry.Entry.{Entry as Page};
 ghost use Rattle.reservation_tree.specs.Tracker.{HasNoChild, IsLive};
 ghost use Rattle.session_table.specs.Seats.{seat_of};
 ghost use Rattle.pin_core.specs.declared.kept.Kept.{Kept as Slots};
-ghost use Rattle.pin_core.specs.Sessions.{IsIdle, query_of};
+ghost use Rattle.pin_core.specs.calls.Sessions.{IsIdle, query_of};
 ghost use Rattle.pin_core.specs.StateOf.{state_of};
 
 use crate::clients::{is_client_of, is_seat};

@@ -1,9 +1,9 @@
 //! What calls need of jobs.
 ghost use Rattle.std.specs.Prelude.{◌≡◌, ◌<◌, ◌⊎◌, IsTrue, length};
 ghost use Rattle.pool_model.specs.Makers.{IsSession, IsWriter};
-ghost use Rattle.pin_core.specs.Jobs.{IsReadJob, IsWriteJob};
+ghost use Rattle.pin_core.specs.calls.Jobs.{IsReadJob, IsWriteJob};
 ghost use Rattle.pin_core.specs.Marking.{under_of};
-ghost use Rattle.pin_core.specs.Runs.{IfFoundOther, IsFit};
+ghost use Rattle.pin_core.specs.calls.Runs.{IfFoundOther, IsFit};
 ghost use Rattle.pin_core.specs.StateOf.{state_of};
 
 use crate::pages::{entry_at, fits};

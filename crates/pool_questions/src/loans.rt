@@ -3,7 +3,7 @@ ghost use Rattle.std.specs.Prelude.{◌≡◌, Some, IsTrue};
 ghost use Rattle.std.specs.FinMap.{get};
 ghost use Rattle.block_arena.specs.Memory.{IsBufferOf};
 ghost use Rattle.pool_model.specs.Owning.{IsClientOf};
-ghost use Rattle.pin_core.specs.Lending.{CanMoveTo, IsLoan};
+ghost use Rattle.pin_core.specs.calls.Lending.{CanMoveTo, IsLoan};
 ghost use Rattle.pin_core.specs.StateOf.{state_of};
 
 use crate::clients::{can_hold, is_client_of};

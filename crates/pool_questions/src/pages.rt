@@ -4,11 +4,11 @@ ghost use Rattle.std.specs.FinMap.{get};
 ghost use Rattle.block_arena.specs.Memory.{IsBufferOf};
 ghost use Rattle.pool_model.specs.State.{Loading, Pinned, page_at};
 ghost use Rattle.pin_core.specs.StateOf.{key_of, page_of, place_in, state_of};
-ghost use Rattle.pin_core.specs.Needs.{IsLastPin, IsPage, id_in};
-ghost use Rattle.pin_core.specs.Pins.{HasPinToSpare, HasRoomFor, IsPinned};
+ghost use Rattle.pin_core.specs.calls.Needs.{IsLastPin, IsPage, id_in};
+ghost use Rattle.pin_core.specs.calls.Pins.{HasPinToSpare, HasRoomFor, IsPinned};
 ghost use Rattle.pool_model.specs.Sums.{length_of};
-ghost use Rattle.pin_core.specs.PinTurns.{CanPin};
-ghost use Rattle.pin_core.specs.Ending.{IsPinnedWith, IsUnpinned};
+ghost use Rattle.pin_core.specs.calls.PinTurns.{CanPin};
+ghost use Rattle.pin_core.specs.calls.Ending.{IsPinnedWith, IsUnpinned};
 
 use crate::clients::{can_hold, has_unused};
 use block_arena::Buf;

@@ -3,8 +3,8 @@ ghost use Rattle.std.specs.Prelude.{◌≡◌, ◌≤◌, IsTrue};
 ghost use Rattle.reservation_tree.specs.Tracker.{IsLive, unused};
 ghost use Rattle.pool_model.specs.Owning.{IsClientOf};
 ghost use Rattle.pool_model.specs.Sums.{HasRoom, charge_of};
-ghost use Rattle.pin_core.specs.Coming.{CanHold};
-ghost use Rattle.pin_core.specs.Sessions.{IsIdle};
+ghost use Rattle.pin_core.specs.calls.Coming.{CanHold};
+ghost use Rattle.pin_core.specs.calls.Sessions.{IsIdle};
 ghost use Rattle.pin_core.specs.StateOf.{state_of};
 
 use crate::clients::{can_hold, has_unused, is_client_of};

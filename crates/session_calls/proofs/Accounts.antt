@@ -29,10 +29,10 @@ use Rattle.own_entries.specs.OwnHoldings.{Outset, after_events}
 use Rattle.own_entries.proofs.AloneRefused.{legal_refuses_alone}
 use Rattle.own_entries.proofs.Calls.{calls_tell}
 use Rattle.pin_core.specs.StateOf.{state_of}
-use Rattle.pin_core.specs.Sessions.{query_of, client_count, IsIdle as HasNothing}
+use Rattle.pin_core.specs.calls.Sessions.{query_of, client_count, IsIdle as HasNothing}
 use Rattle.pin_core.specs.Standing.{Enters}
-use Rattle.pin_core.specs.Entering.{growth_refusal, fit_refusal, client_entry}
-use Rattle.pin_core.specs.Opening.{leaving_entries}
+use Rattle.pin_core.specs.calls.Entering.{growth_refusal, fit_refusal, client_entry}
+use Rattle.pin_core.specs.calls.Opening.{leaving_entries}
 use Rattle.session_calls.specs.Moving.{rests}
 use Rattle.session_calls.proofs.Clients.{query_is, fewer, client_here, client_lives, reservation_here, leaving_is, has_nothing}
 use Rattle.session_calls.proofs.Refusals.{all_refused, fit_is, none_else, refused_told, shared_told}

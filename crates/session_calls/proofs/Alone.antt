@@ -23,7 +23,7 @@ use Rattle.own_entries.specs.AboveLaws.{AllBy}
 use Rattle.own_entries.specs.Busy.{is_busy, busy_in, busy_from}
 use Rattle.own_entries.proofs.BusyTold.{legal_busy_pages_are_told}
 use Rattle.pin_core.specs.StateOf.{state_of}
-use Rattle.pin_core.specs.Turns.{IsWriting}
+use Rattle.pin_core.specs.calls.Turns.{IsWriting}
 use Rattle.session_calls.specs.declared.hand.Hand.{Hand}
 use Rattle.session_calls.specs.Moving.{is_moving}
 use Rattle.session_calls.specs.Ready.{IsReady}

@@ -24,8 +24,8 @@ use Rattle.store_api.specs.Entries.{by, IsEvict}
 use Rattle.own_entries.specs.OwnHoldings.{Outset, after_events}
 use Rattle.pin_core.specs.StateOf.{state_of}
 use Rattle.pin_core.specs.Standing.{Enters}
-use Rattle.pin_core.specs.Evictions.{MakesRoom, blocks_in, evictions, names_gone}
-use Rattle.pin_core.specs.Coming.{zeros}
+use Rattle.pin_core.specs.calls.Evictions.{MakesRoom, blocks_in, evictions, names_gone}
+use Rattle.pin_core.specs.calls.Coming.{zeros}
 use Rattle.session_calls.specs.Coming.{Evicts}
 use Rattle.session_calls.specs.Moving.{rests}
 use Rattle.session_calls.specs.Needing.{IsNeeded, EntersNeeded}

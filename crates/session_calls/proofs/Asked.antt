@@ -22,9 +22,9 @@ use Rattle.own_entries.proofs.Calls.{asked_hold}
 use Rattle.pin_core.specs.StateOf.{state_of}
 use Rattle.pin_core.specs.Standing.{StandsFor, slots_home}
 use Rattle.pin_core.specs.Tallies.{silence}
-use Rattle.pin_core.specs.Returning.{EntersWhere}
-use Rattle.pin_core.specs.Refusing.{refusal_of}
-use Rattle.pin_core.specs.Turns.{LacksRoom}
+use Rattle.pin_core.specs.calls.Returning.{EntersWhere}
+use Rattle.pin_core.specs.calls.Refusing.{refusal_of}
+use Rattle.pin_core.specs.calls.Turns.{LacksRoom}
 use Rattle.session_calls.specs.Coming.{Evicts}
 use Rattle.session_calls.specs.Wanting.{IsRoomCall, Wants}
 use Rattle.session_calls.specs.Writing.{IsWrite}

@@ -16,9 +16,9 @@ use Rattle.own_entries.proofs.ByItself.{room_is}
 use Rattle.own_entries.proofs.Facts.{own_under}
 use Rattle.own_entries.proofs.Idle.{no_page, no_buffer, none_under}
 use Rattle.own_entries.proofs.Views.{account_is}
-use Rattle.pin_core.specs.Sessions.{IsSeat, query_of, client_count, IsIdle as HasNothing}
-use Rattle.pin_core.specs.Entering.{unused_of, move_entry, close_entry}
-use Rattle.pin_core.specs.Opening.{leaving_entries}
+use Rattle.pin_core.specs.calls.Sessions.{IsSeat, query_of, client_count, IsIdle as HasNothing}
+use Rattle.pin_core.specs.calls.Entering.{unused_of, move_entry, close_entry}
+use Rattle.pin_core.specs.calls.Opening.{leaving_entries}
 use Rattle.session_calls.proofs.Known.{KnownTo}
 
 module _ {left : ℕ → List ℕ} {s : State} {m : ℕ} {h : Holdings} (k : KnownTo left s m h) where

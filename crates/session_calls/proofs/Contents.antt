@@ -17,7 +17,7 @@ use Rattle.own_entries.proofs.Views.{len_is}
 use Rattle.pin_core.specs.declared.parts.Parts.{Parts}
 use Rattle.pin_core.specs.StateOf.{state_of}
 use Rattle.pin_core.specs.Standing.{StandsFor}
-use Rattle.pin_core.specs.PinTurns.{IsContent as HasContent}
+use Rattle.pin_core.specs.calls.PinTurns.{IsContent as HasContent}
 use Rattle.session_calls.proofs.Known.{KnownTo, left_of}
 use Rattle.session_calls.proofs.Pages.{is_there, fits_here, left_here, not_pinned}
 

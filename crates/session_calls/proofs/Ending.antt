@@ -17,7 +17,7 @@ use Rattle.own_entries.specs.AboveLaws.{AllBy}
 use Rattle.pin_core.specs.declared.parts.Parts.{Parts}
 use Rattle.pin_core.specs.StateOf.{state_of}
 use Rattle.pin_core.specs.Standing.{Enters}
-use Rattle.pin_core.specs.Ending.{IsPinnedWith, IsUnpinned, destroy_entry, is_flying}
+use Rattle.pin_core.specs.calls.Ending.{IsPinnedWith, IsUnpinned, destroy_entry, is_flying}
 use Rattle.session_calls.proofs.Freed.{given_live}
 use Rattle.session_calls.proofs.Pages.{is_there, pinned_with, rests_there}
 use Rattle.session_calls.specs.declared.hand.Hand.{Hand}

@@ -10,7 +10,7 @@ use Rattle.pool_model.specs.LookingBack.{maker_of, Made}
 use Rattle.pool_model.specs.Failures.{is_own, is_for_own, failures_in, fails, failed_page, asks_in}
 use Rattle.pool_model.specs.Legal.{state_after, IsLegal}
 use Rattle.pool_model.proofs.Rising.{kept_failures_rose, failures_grow}
-use Rattle.pin_core.specs.Turns.{failure_of}
+use Rattle.pin_core.specs.calls.Turns.{failure_of}
 use Rattle.store_api.specs.Holdings.{Holdings}
 use Rattle.session_calls.proofs.Known.{KnownTo}
 

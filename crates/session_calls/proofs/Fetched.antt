@@ -32,10 +32,10 @@ use Rattle.pin_core.specs.StateOf.{state_of}
 use Rattle.session_calls.specs.Showing.{ShowsStored}
 use Rattle.pin_core.specs.Standing.{StandsFor, Enters, AreHeld}
 use Rattle.pin_core.specs.Tallies.{silence, tally_of}
-use Rattle.pin_core.specs.Evictions.{blocks_in, evictions, names_gone}
-use Rattle.pin_core.specs.Loads.{load_entries}
-use Rattle.pin_core.specs.PinTurns.{IsLoad}
-use Rattle.pin_core.specs.Refusing.{refusal_of}
+use Rattle.pin_core.specs.calls.Evictions.{blocks_in, evictions, names_gone}
+use Rattle.pin_core.specs.parts.Loads.{load_entries}
+use Rattle.pin_core.specs.calls.PinTurns.{IsLoad}
+use Rattle.pin_core.specs.calls.Refusing.{refusal_of}
 use Rattle.session_calls.specs.Coming.{Evicts}
 use Rattle.session_calls.specs.Pinning.{BadPin, CanBePinned, HasAsked, IsBadLoad, IsPinned}
 use Rattle.session_calls.proofs.Contents.{content_told, content_whole}

@@ -14,7 +14,7 @@ use Rattle.pool_model.specs.LookingBack.{left_in, content_from}
 use Rattle.store_api.specs.Holdings.{Holdings}
 use Rattle.store_api.specs.Entries.{by, IsEvict}
 use Rattle.own_entries.specs.OwnHoldings.{after_events}
-use Rattle.pin_core.specs.Evictions.{evictions}
+use Rattle.pin_core.specs.calls.Evictions.{evictions}
 use Rattle.session_calls.specs.Coming.{Evicts}
 use Rattle.session_calls.proofs.Resting.{AllRest}
 

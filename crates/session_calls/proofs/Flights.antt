@@ -12,7 +12,7 @@ use Rattle.pool_model.proofs.Fronts.{state_runs_on}
 use Rattle.pool_model.proofs.Pages.{page_is}
 use Rattle.pool_model.proofs.Resting.{legal_contents_are_told}
 use Rattle.pin_core.specs.declared.jobs.WriteJob.{WriteJob}
-use Rattle.pin_core.specs.Jobs.{IsWriteJob}
+use Rattle.pin_core.specs.calls.Jobs.{IsWriteJob}
 use Rattle.pin_core.specs.Marking.{under_of}
 use Rattle.session_calls.proofs.Sized.{run_len, run_marked}
 use Rattle.session_calls.specs.declared.count.Count.{Count}

@@ -11,7 +11,7 @@ use Rattle.store_api.specs.Tokens.{LoanToken}
 use Rattle.store_api.specs.Holdings.{Holdings, length_of}
 use Rattle.store_api.specs.Conditions.{IsBlockCount, IsZeroed}
 use Rattle.own_entries.proofs.ByOthers.{none_there}
-use Rattle.pin_core.specs.Coming.{CanHold, zeros}
+use Rattle.pin_core.specs.calls.Coming.{CanHold, zeros}
 use Rattle.session_calls.specs.Coming.{IsFreshLoan}
 use Rattle.session_calls.proofs.Known.{KnownTo}
 use Rattle.session_calls.proofs.Pages.{len_here}

@@ -16,8 +16,8 @@ use Rattle.store_api.specs.Refusals.{client_room, move_refusal}
 use Rattle.own_entries.specs.OwnHoldings.{Outset, after_events, has_client, moved_between}
 use Rattle.pin_core.specs.StateOf.{state_of}
 use Rattle.pin_core.specs.Standing.{Enters}
-use Rattle.pin_core.specs.Entering.{unused_of, move_entry}
-use Rattle.pin_core.specs.Lending.{CanMoveTo, move_entry as lend_entry}
+use Rattle.pin_core.specs.calls.Entering.{unused_of, move_entry}
+use Rattle.pin_core.specs.calls.Lending.{CanMoveTo, move_entry as lend_entry}
 use Rattle.session_calls.specs.Moving.{rests}
 use Rattle.session_calls.proofs.Clients.{client_here, unused_here, within_limit, room_is_here}
 use Rattle.session_calls.proofs.Refusals.{move_granted, move_fits, move_passes}

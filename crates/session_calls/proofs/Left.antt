@@ -19,8 +19,8 @@ use Rattle.own_entries.specs.OwnHoldings.{Outset, after_events}
 use Rattle.own_entries.proofs.Calls.{calls_tell}
 use Rattle.pin_core.specs.StateOf.{state_of}
 use Rattle.pin_core.specs.Standing.{Enters}
-use Rattle.pin_core.specs.Lending.{free_entry}
-use Rattle.pin_core.specs.Unpinning.{LacksSlots as PoolLacks}
+use Rattle.pin_core.specs.calls.Lending.{free_entry}
+use Rattle.pin_core.specs.calls.Unpinning.{LacksSlots as PoolLacks}
 use Rattle.session_calls.proofs.Pages.{is_there, lacks_there, full_there}
 use Rattle.session_calls.proofs.Loans.{loan_client}
 use Rattle.session_calls.proofs.Freed.{taken_live, given_live}

@@ -31,9 +31,9 @@ use Rattle.pin_core.specs.declared.jobs.Stale.{Stale}
 use Rattle.pin_core.specs.Marking.{front_of, under_of}
 use Rattle.pin_core.specs.StateOf.{state_of}
 use Rattle.pin_core.specs.Standing.{AreHeld, StandsFor, slots_home}
-use Rattle.pin_core.specs.Runs.{AllGiveHeld, AllTell, CountsFaults, CountsStrays, IfFoundOther, after_loads, is_sure}
-use Rattle.pin_core.specs.Jobs.{IsReadJob}
-use Rattle.pin_core.specs.Returning.{EntersWhere, ended_badly, read_ends, read_entry, read_refusal, stale_loads, IsRead as HoldsContent}
+use Rattle.pin_core.specs.calls.Runs.{AllGiveHeld, AllTell, CountsFaults, CountsStrays, IfFoundOther, after_loads, is_sure}
+use Rattle.pin_core.specs.calls.Jobs.{IsReadJob}
+use Rattle.pin_core.specs.calls.Returning.{EntersWhere, ended_badly, read_ends, read_entry, read_refusal, stale_loads, IsRead as HoldsContent}
 use Rattle.pin_core.specs.Tallies.{Counted, all_failures, all_stale, silence, tally_by}
 use Rattle.pin_core.proofs.Tallied.{came_back, same_silence, same_stores}
 use Rattle.session_calls.proofs.Silent.{none_silent, none_strayed}

@@ -9,7 +9,7 @@ use Rattle.pool_model.specs.Effects.{after}
 use Rattle.pool_model.specs.Legal.{state_after, IsLegal}
 use Rattle.pool_model.specs.MayFollow.{MayFollow}
 use Rattle.pool_model.proofs.Fronts.{legal_fronts, legal_grows_so, state_runs_on}
-use Rattle.pin_core.specs.Evictions.{evictions}
+use Rattle.pin_core.specs.calls.Evictions.{evictions}
 use Rattle.session_calls.specs.Moving.{rests, slots_out}
 use Rattle.session_calls.proofs.Fetching.{put_alike}
 use Rattle.session_calls.proofs.Out.{out_run, out_loading}

@@ -8,7 +8,7 @@ use Rattle.store_api.specs.Tokens.{LoanToken}
 use Rattle.store_api.specs.Holdings.{Holdings, LiveLoan, or_else, loan_of, loan_len, no_loan}
 use Rattle.store_api.specs.Conditions.{IsLoan}
 use Rattle.own_entries.proofs.Behind.{IsLent}
-use Rattle.pin_core.specs.Lending.{IsLoan as IsPoolLoan, CanMoveTo}
+use Rattle.pin_core.specs.calls.Lending.{IsLoan as IsPoolLoan, CanMoveTo}
 use Rattle.session_calls.proofs.Known.{KnownTo}
 use Rattle.session_calls.proofs.Pages.{len_here}
 

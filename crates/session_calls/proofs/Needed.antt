@@ -16,7 +16,7 @@ use Rattle.pool_model.specs.Effects.{after}
 use Rattle.pool_model.specs.Legal.{run}
 use Rattle.store_api.specs.Entries.{by}
 use Rattle.pin_core.specs.StateOf.{state_of}
-use Rattle.pin_core.specs.Evictions.{blocks_in}
+use Rattle.pin_core.specs.calls.Evictions.{blocks_in}
 use Rattle.pin_core.proofs.Listed.{bytes_plus}
 use Rattle.session_calls.specs.declared.hand.Hand.{Hand}
 use Rattle.session_calls.specs.Acting.{Goes}

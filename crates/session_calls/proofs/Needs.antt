@@ -15,7 +15,7 @@ use Rattle.pool_model.proofs.Fronts.{state_runs_on}
 use Rattle.store_api.specs.Entries.{by}
 use Rattle.pin_core.specs.StateOf.{state_of}
 use Rattle.pin_core.specs.Standing.{StandsFor}
-use Rattle.pin_core.specs.Turns.{start_entry}
+use Rattle.pin_core.specs.calls.Turns.{start_entry}
 use Rattle.session_calls.specs.Writing.{IsEnd}
 use Rattle.session_calls.specs.declared.hand.Hand.{Hand}
 use Rattle.session_calls.specs.Acting.{ActsThese}

@@ -21,12 +21,12 @@ use Rattle.own_entries.specs.LiveParts.{left_at, live_page}
 use Rattle.own_entries.proofs.Behind.{IsTold, pinned_once}
 use Rattle.own_entries.proofs.ByItself.{is_client}
 use Rattle.own_entries.proofs.Views.{len_is}
-use Rattle.pin_core.specs.Needs.{IsLastPin, IsPage as IsPoolPage}
-use Rattle.pin_core.specs.Ending.{IsPinnedWith, IsUnpinned, is_flying}
-use Rattle.pin_core.specs.Pins.{IsPinned, HasPinToSpare, HasRoomFor}
-use Rattle.pin_core.specs.PinTurns.{CanPin, LacksRoomFor}
-use Rattle.pin_core.specs.Turns.{LacksRoom}
-use Rattle.pin_core.specs.Unpinning.{LacksSlots as PoolLacks}
+use Rattle.pin_core.specs.calls.Needs.{IsLastPin, IsPage as IsPoolPage}
+use Rattle.pin_core.specs.calls.Ending.{IsPinnedWith, IsUnpinned, is_flying}
+use Rattle.pin_core.specs.calls.Pins.{IsPinned, HasPinToSpare, HasRoomFor}
+use Rattle.pin_core.specs.calls.PinTurns.{CanPin, LacksRoomFor}
+use Rattle.pin_core.specs.calls.Turns.{LacksRoom}
+use Rattle.pin_core.specs.calls.Unpinning.{LacksSlots as PoolLacks}
 use Rattle.session_calls.specs.Leaving.{CanEnd}
 use Rattle.session_calls.proofs.Known.{KnownTo}
 

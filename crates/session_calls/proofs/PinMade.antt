@@ -26,7 +26,7 @@ use Rattle.own_entries.specs.CallLaws.{CanBeCharged}
 use Rattle.own_entries.specs.OwnHoldings.{Outset}
 use Rattle.own_entries.proofs.Calls.{calls_tell}
 use Rattle.pin_core.specs.StateOf.{state_of}
-use Rattle.pin_core.specs.Turns.{LacksRoom}
+use Rattle.pin_core.specs.calls.Turns.{LacksRoom}
 use Rattle.session_calls.specs.Coming.{Evicts}
 use Rattle.session_calls.specs.Pinning.{CanBePinned, IsBadLoad, IsPinned}
 use Rattle.session_calls.specs.Showing.{ShowsStored}

@@ -17,8 +17,8 @@ use Rattle.pin_core.specs.declared.parts.Parts.{Parts}
 use Rattle.pin_core.specs.declared.jobs.WriteJob.{WriteJob}
 use Rattle.pin_core.specs.StateOf.{state_of}
 use Rattle.pin_core.specs.Standing.{Enters}
-use Rattle.pin_core.specs.PinTurns.{CanPin, LacksRoomFor, IsContent as HasContent}
-use Rattle.pin_core.specs.Turns.{LacksRoom, IsStarted, IsWriting}
+use Rattle.pin_core.specs.calls.PinTurns.{CanPin, LacksRoomFor, IsContent as HasContent}
+use Rattle.pin_core.specs.calls.Turns.{LacksRoom, IsStarted, IsWriting}
 use Rattle.session_calls.specs.Pinning.{CanBePinned, IsPinned}
 use Rattle.session_calls.specs.Moving.{is_moving}
 use Rattle.session_calls.specs.Needing.{EntersNeeded}

@@ -13,7 +13,7 @@ use Rattle.pool_model.proofs.Seats.{some_is}
 use Rattle.store_api.specs.Holdings.{Above, Shared, Holdings}
 use Rattle.store_api.specs.Changes.{query_growth, shortfall}
 use Rattle.store_api.specs.Refusals.{client_room, unless_fits, reserve_refusal, move_refusal, IsSharedRefusal}
-use Rattle.pin_core.specs.Entering.{growth_refusal, fit_refusal}
+use Rattle.pin_core.specs.calls.Entering.{growth_refusal, fit_refusal}
 use Rattle.session_calls.proofs.Known.{KnownTo}
 
 -- an error of the pool is the store's

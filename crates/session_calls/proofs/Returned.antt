@@ -18,7 +18,7 @@ use Rattle.pool_model.proofs.OwnEntries.{made_more}
 use Rattle.store_api.specs.Entries.{by}
 use Rattle.pin_core.specs.StateOf.{state_of}
 use Rattle.pin_core.specs.Standing.{StandsFor, slots_home}
-use Rattle.pin_core.specs.Returning.{EntersWhere}
+use Rattle.pin_core.specs.calls.Returning.{EntersWhere}
 use Rattle.pin_core.specs.Tallies.{Counted, all_failures, all_stale, silence, stored_by, tally_by, tally_of}
 use Rattle.session_calls.proofs.Sized.{run_len, run_marked}
 use Rattle.session_calls.proofs.Lists.{by_own, none_own}

@@ -14,10 +14,10 @@ use Rattle.pool_model.specs.MayFollow.{MayFollow}
 use Rattle.pool_model.proofs.Seats.{some_is}
 use Rattle.store_api.specs.Holdings.{LivePage, LiveLoan, or_else, no_loan, page_len, loan_len, IsPageOf as HoldsPage, no_page as no_live_page, Holdings}
 use Rattle.own_entries.proofs.Behind.{IsTold, IsLent}
-use Rattle.pin_core.specs.Refusing.{refusal_of}
-use Rattle.pin_core.specs.PinTurns.{IsStored}
+use Rattle.pin_core.specs.calls.Refusing.{refusal_of}
+use Rattle.pin_core.specs.calls.PinTurns.{IsStored}
 use Rattle.session_calls.specs.Wanting.{Wants, IsStoredFor}
-use Rattle.pin_core.specs.Turns.{LacksRoom}
+use Rattle.pin_core.specs.calls.Turns.{LacksRoom}
 use Rattle.session_calls.proofs.Known.{KnownTo}
 use Rattle.session_calls.proofs.Pages.{len_here}
 

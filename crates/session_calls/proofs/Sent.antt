@@ -17,9 +17,9 @@ use Rattle.pool_model.proofs.Resting.{legal_contents_are_told}
 use Rattle.pin_core.specs.declared.jobs.WriteJob.{WriteJob}
 use Rattle.pin_core.specs.StateOf.{state_of}
 use Rattle.pin_core.specs.Standing.{StandsFor, Enters}
-use Rattle.pin_core.specs.Jobs.{IsWriteJob}
+use Rattle.pin_core.specs.calls.Jobs.{IsWriteJob}
 use Rattle.pin_core.specs.Tallies.{silence, tally_of}
-use Rattle.pin_core.specs.Turns.{IsStarted, start_entry}
+use Rattle.pin_core.specs.calls.Turns.{IsStarted, start_entry}
 use Rattle.session_calls.specs.declared.hand.Hand.{Hand}
 use Rattle.session_calls.specs.declared.count.Count.{Count}
 use Rattle.session_calls.specs.declared.count.Count.TheVariants.{Out}

@@ -4,7 +4,7 @@ use Rattle.std.proofs.lemmas.List.Sums.{sum_by-cons}
 use Rattle.std.specs.List.{sum_by, slice_index_or}
 use Rattle.outside.specs.Slots.{KeepsStrays}
 use Rattle.outside.specs.declared.slot.Slot.{Ghosts}
-use Rattle.pin_core.specs.Runs.{AllTell, AllGiveHeld, is_sure}
+use Rattle.pin_core.specs.calls.Runs.{AllTell, AllGiveHeld, is_sure}
 use Rattle.pin_core.specs.Tallies.{silence}
 use Rattle.pin_core.proofs.Sure.{sure_tells, sure_gives}
 

@@ -18,10 +18,10 @@ use Rattle.pool_model.proofs.Failures.{PagesOwned, legal_pages_are_owned}
 use Rattle.pin_core.specs.declared.kept.Kept.{Kept}
 use Rattle.pin_core.specs.declared.kept.Kept.TheVariants as kept
 use Rattle.pin_core.specs.declared.parts.Parts.{Parts}
-use Rattle.pin_core.specs.Keeping.{has_slots, row_in}
+use Rattle.pin_core.specs.parts.Keeping.{has_slots, row_in}
 use Rattle.pin_core.specs.StateOf.{page_of, place_in, state_of}
 use Rattle.pin_core.specs.Standing.{slots_home}
-use Rattle.pin_core.specs.Opening.{spare_of}
+use Rattle.pin_core.specs.calls.Opening.{spare_of}
 use Rattle.pin_core.specs.Invariant.{IsKept, IsKeptOf, IsQuota, slots_in}
 use Rattle.pin_core.specs.Lawful.{Lawful}
 use Rattle.pin_core.proofs.Places.{index_in}

@@ -17,7 +17,7 @@ use Rattle.pin_core.specs.declared.jobs.WriteJob.{WriteJob}
 use Rattle.pin_core.specs.StateOf.{state_of}
 use Rattle.pin_core.specs.Standing.{Enters}
 use Rattle.pin_core.specs.Tallies.{tally_of}
-use Rattle.pin_core.specs.Turns.{IsStarted, failure_of, start_entry}
+use Rattle.pin_core.specs.calls.Turns.{IsStarted, failure_of, start_entry}
 use Rattle.session_calls.specs.Writing.{IsEnd, IsWrite, writes_left}
 use Rattle.session_calls.proofs.Pages.{owner_is, page_held}
 use Rattle.session_calls.proofs.Waiting.{IsDirtyOf, out, written_left, unwritten_left}

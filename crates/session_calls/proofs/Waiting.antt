@@ -14,7 +14,7 @@ use Rattle.pool_model.specs.Effects.{after}
 use Rattle.pool_model.proofs.Queues.{stands_new}
 use Rattle.pool_model.proofs.Lined.{legal_keeps_queues}
 use Rattle.pool_model.proofs.Keeping.{first_kept}
-use Rattle.pin_core.specs.Turns.{failure_of}
+use Rattle.pin_core.specs.calls.Turns.{failure_of}
 use Rattle.session_calls.specs.Writing.{writes_left}
 
 dirty_place : (at : Place) → is_dirty at ≡ true → at ≡ Dirty

@@ -6,7 +6,7 @@ use Rattle.scratch_dev.specs.Rows.{stores_at, uncounted}
 use Rattle.pin_core.specs.declared.parts.Parts.{Parts}
 use Rattle.pin_core.specs.declared.tally.Tally.{Tally}
 use Rattle.pin_core.specs.StateOf.{state_of}
-use Rattle.pin_core.specs.Runs.{strays_at, stuck, unstrayed}
+use Rattle.pin_core.specs.calls.Runs.{strays_at, stuck, unstrayed}
 use Rattle.pin_core.specs.Standing.{slots_home}
 use Rattle.pin_core.specs.Tallies.{silence, Counted, tally_of}
 use Rattle.session_calls.specs.declared.count.Count.{Count}

@@ -21,9 +21,9 @@ use Rattle.pin_core.specs.declared.jobs.WriteJob.{WriteJob}
 use Rattle.pin_core.specs.declared.tally.Tally.{Tally}
 use Rattle.pin_core.specs.StateOf.{state_of}
 use Rattle.pin_core.specs.Standing.{AreHeld, slots_home}
-use Rattle.pin_core.specs.Runs.{CountsFaults, CountsStrays, after_stores}
-use Rattle.pin_core.specs.Jobs.{IsWriteJob}
-use Rattle.pin_core.specs.Returning.{EntersWhere, IsWritten, write_ends, write_entry}
+use Rattle.pin_core.specs.calls.Runs.{CountsFaults, CountsStrays, after_stores}
+use Rattle.pin_core.specs.calls.Jobs.{IsWriteJob}
+use Rattle.pin_core.specs.calls.Returning.{EntersWhere, IsWritten, write_ends, write_entry}
 use Rattle.pin_core.specs.Tallies.{Counted, all_failures, all_stale, blocks_of, silence, stored_by, tally_by}
 use Rattle.pin_core.proofs.Tallied.{came_back, same_silence}
 use Rattle.session_calls.specs.Writing.{IsEnd, stored_with}

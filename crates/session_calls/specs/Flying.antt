@@ -13,9 +13,9 @@ use Rattle.store_api.specs.Entries.{by}
 use Rattle.pin_core.specs.declared.jobs.WriteJob.{WriteJob}
 use Rattle.pin_core.specs.StateOf.{state_of}
 use Rattle.pin_core.specs.Standing.{AreHeld}
-use Rattle.pin_core.specs.Runs.{is_sure, CountsFaults, CountsStrays, after_stores}
-use Rattle.pin_core.specs.Jobs.{IsWriteJob}
-use Rattle.pin_core.specs.Returning.{write_ends}
+use Rattle.pin_core.specs.calls.Runs.{is_sure, CountsFaults, CountsStrays, after_stores}
+use Rattle.pin_core.specs.calls.Jobs.{IsWriteJob}
+use Rattle.pin_core.specs.calls.Returning.{write_ends}
 use Rattle.pin_core.specs.Tallies.{silence, tally_of}
 use Rattle.session_calls.specs.declared.hand.Hand.{Hand}
 use Rattle.session_calls.specs.declared.count.Count.TheVariants.{Out}

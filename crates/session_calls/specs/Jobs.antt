@@ -20,8 +20,8 @@ use Rattle.pin_core.specs.Marking.{front_of}
 use Rattle.pin_core.specs.StateOf.{state_of}
 use Rattle.pin_core.specs.Standing.{AreHeld}
 use Rattle.pin_core.specs.Tallies.{silence, tally_of}
-use Rattle.pin_core.specs.Jobs.{IsReadJob, IsWriteJob}
-use Rattle.pin_core.specs.Returning.{read_ends}
+use Rattle.pin_core.specs.calls.Jobs.{IsReadJob, IsWriteJob}
+use Rattle.pin_core.specs.calls.Returning.{read_ends}
 use Rattle.session_calls.specs.Outgoing.{no_tally, tally_or}
 use Rattle.session_calls.specs.Writing.{IsEnd}
 use Rattle.session_calls.specs.declared.hand.Hand.{Hand}

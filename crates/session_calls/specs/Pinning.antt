@@ -10,8 +10,8 @@ use Rattle.pool_model.specs.Failures.{is_for_own, failures_in}
 use Rattle.pool_model.specs.MayFollow.{MayFollow}
 use Rattle.pool_model.specs.State.{Opening}
 use Rattle.pin_core.specs.StateOf.{state_of}
-use Rattle.pin_core.specs.Refusing.{refusal_of}
-use Rattle.pin_core.specs.PinTurns.{LacksRoomFor}
+use Rattle.pin_core.specs.calls.Refusing.{refusal_of}
+use Rattle.pin_core.specs.calls.PinTurns.{LacksRoomFor}
 use Rattle.store_api.specs.Tokens.{PageToken}
 use Rattle.store_api.specs.Holdings.{Holdings, page_of, page_len, unused_of}
 use Rattle.store_api.specs.Conditions.{IsPage, ShowsLeft}

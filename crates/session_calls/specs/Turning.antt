@@ -5,7 +5,7 @@ use Rattle.pool_model.specs.declared.call.Call.{Call}
 use Rattle.pool_model.specs.State.{Opening}
 use Rattle.pool_model.specs.Sums.{HasRoom}
 use Rattle.pin_core.specs.StateOf.{state_of}
-use Rattle.pin_core.specs.Turns.{LacksRoom, IsWriting}
+use Rattle.pin_core.specs.calls.Turns.{LacksRoom, IsWriting}
 use Rattle.store_api.specs.Signs.{Grows}
 use Rattle.store_api.specs.Refusals.{WasRefused}
 use Rattle.store_api.specs.Entries.{IsRefusal}

@@ -8,7 +8,7 @@ use Rattle.pool_model.specs.declared.entry.Entry.{Entry}
 use Rattle.pool_model.specs.LookingBack.{is_ask}
 use Rattle.pool_model.specs.State.{State, page_at}
 use Rattle.store_api.specs.Holdings.{Holdings, IsPageOf, length_of, page_len, loan_len}
-use Rattle.pin_core.specs.PinTurns.{IsStored}
+use Rattle.pin_core.specs.calls.PinTurns.{IsStored}
 
 -- its client, and how many bytes
 abbrev pub Wants : ℕ → ℕ → Holdings → Call → Type 0

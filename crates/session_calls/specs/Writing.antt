@@ -4,7 +4,7 @@ use Rattle.pool_model.specs.declared.event.Event.{Event}
 use Rattle.pool_model.specs.declared.event.Event.TheVariants.{StartWrite, WriteOk, WriteFailed}
 use Rattle.pool_model.specs.State.{State, dirty_of}
 use Rattle.store_api.specs.Holdings.{Holdings, IsPageOf}
-use Rattle.pin_core.specs.Turns.{failure_of}
+use Rattle.pin_core.specs.calls.Turns.{failure_of}
 
 -- a write of this page ended, well or not
 abbrev pub IsEnd : ℕ → Event → Type 0

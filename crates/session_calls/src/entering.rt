@@ -1,6 +1,6 @@
 //! A history grows.
 ghost use Rattle.std.specs.Prelude.{◌≡◌, ◌++◌, ◌∷◌, []};
-ghost use Rattle.pin_core.specs.Evictions.{evictions};
+ghost use Rattle.pin_core.specs.calls.Evictions.{evictions};
 
 use crate::log::Log;
 use pin_core::EvictedPages;

@@ -3,7 +3,7 @@ ghost use Rattle.std.specs.Prelude.{◌≡◌, ◌++◌, [], ◌∷◌, ℕ, Non
 ghost use Rattle.pool_model.specs.Makers.{IsWriter};
 ghost use Rattle.pool_model.specs.State.{dirty_of};
 ghost use Rattle.pin_core.specs.StateOf.{state_of};
-ghost use Rattle.pin_core.specs.Returning.{wrote};
+ghost use Rattle.pin_core.specs.calls.Returning.{wrote};
 ghost use Rattle.session_calls.specs.Ready.{StandsWhole};
 ghost use Rattle.session_calls.specs.Having.{sight_of};
 ghost use Rattle.session_calls.specs.Flying.{IsBack, Returns, Sends, end_of};

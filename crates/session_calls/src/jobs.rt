@@ -2,7 +2,7 @@
 ghost use Rattle.std.specs.Prelude.{◌≡◌, ◌++◌, ◌∷◌, [], ℕ, true, IfErr, IfOk};
 ghost use Rattle.scratch_dev.specs.Rows.{faults_of};
 ghost use Rattle.pool_model.specs.Traces.{bare_of};
-ghost use Rattle.pin_core.specs.Returning.{read_ends, write_ends, write_entry};
+ghost use Rattle.pin_core.specs.calls.Returning.{read_ends, write_ends, write_entry};
 ghost use Rattle.session_calls.specs.Having.{MayGive};
 ghost use Rattle.session_calls.specs.Jobs.{CanRead, CanWrite, IsRead, IsUnread, Wrote, ended_load};
 

@@ -2,7 +2,7 @@
 ghost use Rattle.std.specs.Prelude.{◌≡◌, ◌∷◌, ◌++◌, [], true, IfErr, IfOk, OnOk};
 ghost use Rattle.pool_model.specs.declared.call.Call.TheVariants as call;
 ghost use Rattle.pool_model.specs.declared.event.Event.TheVariants as event;
-ghost use Rattle.pin_core.specs.Evictions.{evictions};
+ghost use Rattle.pin_core.specs.calls.Evictions.{evictions};
 ghost use Rattle.store_api.specs.Holdings.{page_len, page_of};
 ghost use Rattle.store_api.specs.Conditions.{IsHeld, IsPage, ShowsLeft};
 ghost use Rattle.store_api.specs.Entries.{IsPin};

@@ -3,7 +3,7 @@ ghost use Rattle.std.specs.Prelude.{◌≡◌, ◌↔◌, ◌≤◌, [], ◌∷�
 ghost use Rattle.reservation_tree.specs.declared.errors.PoolErr.TheVariants as refusal;
 ghost use Rattle.reservation_tree.specs.Answer.{IsFrom};
 ghost use Rattle.pool_model.specs.declared.event.Event.TheVariants as event;
-ghost use Rattle.pin_core.specs.Entering.{fit_refusal, growth_refusal};
+ghost use Rattle.pin_core.specs.calls.Entering.{fit_refusal, growth_refusal};
 ghost use Rattle.pin_core.specs.StateOf.{state_of};
 ghost use Rattle.store_api.specs.Holdings.{account_of};
 ghost use Rattle.store_api.specs.Changes.{query_growth, shortfall};

@@ -1,7 +1,7 @@
 //! One turn of a call that wants room of a client.
 ghost use Rattle.std.specs.Prelude.{◌≡◌, ◌≤◌, ◌++◌, ◌∷◌, [], true};
 ghost use Rattle.pool_model.specs.declared.event.Event.TheVariants as event;
-ghost use Rattle.pin_core.specs.Turns.{amount_of};
+ghost use Rattle.pin_core.specs.calls.Turns.{amount_of};
 ghost use Rattle.store_api.specs.Holdings.{unused_of};
 ghost use Rattle.store_api.specs.Conditions.{IsLiveClient};
 ghost use Rattle.session_calls.specs.Acting.{held_by};

@@ -11,7 +11,7 @@ use Rattle.reservation_tree.proofs.Maps.{get_other}
 use Rattle.pool_model.specs.LookingBack.{is_by, name_in, names_in}
 use Rattle.pool_model.specs.State.{Opening}
 use Rattle.pool_model.specs.declared.entry.Entry.{Entry}
-use Rattle.pin_core.specs.Entering.{increase_entry, session_entry}
+use Rattle.pin_core.specs.calls.Entering.{increase_entry, session_entry}
 use Rattle.turn_table.specs.Face.{Spot}
 use Rattle.turn_table.specs.Lists.{needed}
 use Rattle.session_calls.specs.Having.{AllBeside}

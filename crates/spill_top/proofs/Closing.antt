@@ -7,7 +7,7 @@ use Rattle.pool_model.specs.LookingBack.{made_by}
 use Rattle.pool_model.specs.Bytes.{bytes_of}
 use Rattle.pool_model.specs.State.{Opening}
 use Rattle.pool_model.specs.declared.entry.Entry.{Entry}
-use Rattle.pin_core.specs.Setup.{IsOpeningOf}
+use Rattle.pin_core.specs.calls.Setup.{IsOpeningOf}
 use Rattle.pin_core.specs.declared.conf.PoolConf.{PoolConf}
 use Rattle.pin_core.specs.Tallies.{all_failures, all_stale, tally_of, written_blocks}
 use Rattle.pin_core.specs.declared.tally.Tally.{Tally}

@@ -9,8 +9,8 @@ use Rattle.pool_model.specs.declared.entry.Entry.{Entry}
 use Rattle.pool_model.specs.LookingBack.{made_by, opens}
 use Rattle.pool_model.proofs.OwnEntries.{made_more}
 use Rattle.reservation_tree.specs.Tracker.{reservation_of}
-use Rattle.pin_core.specs.Entering.{close_entry, decrease_entry}
-use Rattle.pin_core.specs.Sessions.{query_of}
+use Rattle.pin_core.specs.calls.Entering.{close_entry, decrease_entry}
+use Rattle.pin_core.specs.calls.Sessions.{query_of}
 use Rattle.own_entries.proofs.Outsets.{outsets_stay}
 use Rattle.turn_table.specs.Face.{Spot}
 use Rattle.turn_table.specs.Lists.{needed, same, times}

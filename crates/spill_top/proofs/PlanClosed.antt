@@ -3,7 +3,7 @@ use Rattle.std.proofs.Common.{◌≡◌, ◌∙◌, ◌*◌, ℕ, Bool, List, Op
 use Rattle.outside.specs.Names.{Written}
 use Rattle.outside.specs.declared.slot.Slot.{Ghosts}
 use Rattle.pool_model.specs.State.{Opening}
-use Rattle.pin_core.specs.Setup.{IsOpeningOf}
+use Rattle.pin_core.specs.calls.Setup.{IsOpeningOf}
 use Rattle.pin_core.specs.declared.conf.PoolConf.{PoolConf}
 use Rattle.pin_core.specs.Tallies.{tally_of}
 use Rattle.pin_core.specs.declared.tally.Tally.{Tally}

@@ -3,7 +3,7 @@ use Rattle.std.proofs.Common.{◌≡◌, ◌∙◌, ◌<◌, ◌≤◌, ◌*◌,
 use Rattle.std.specs.Prelude.{nat_le, if◌then◌else◌}
 use Rattle.std.proofs.lemmas.Bool.Decides.{leb_tells}
 use Rattle.pool_model.specs.Bytes.{bytes_of}
-use Rattle.pin_core.specs.Setup.{OpensWith}
+use Rattle.pin_core.specs.calls.Setup.{OpensWith}
 use Rattle.query_plan.specs.PlanOf.{document_of, plan_of, plan_of_table}
 use Rattle.query_plan.specs.Rules.{KeepsRules}
 use Rattle.query_plan.specs.declared.error.PlanErr.{PlanErr}

@@ -11,7 +11,7 @@ use Rattle.pool_model.specs.declared.event.Event.{Event}
 use Rattle.pool_model.specs.Legal.{IsLegal}
 use Rattle.pool_model.specs.LookingBack.{made_by}
 use Rattle.pool_model.specs.State.{Opening}
-use Rattle.pin_core.specs.Entering.{increase_entry, session_entry}
+use Rattle.pin_core.specs.calls.Entering.{increase_entry, session_entry}
 use Rattle.pin_core.specs.Tallies.{Counted, all_failures, all_stale, written_blocks}
 use Rattle.pin_core.specs.declared.tally.Tally.{Tally}
 use Rattle.pool.specs.Items.{history}

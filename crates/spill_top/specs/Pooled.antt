@@ -3,7 +3,7 @@ use Rattle.std.specs.Prelude.{◌≡◌, ◌*◌, ◌^◌, ◌==◌, ◌<◌, �
 use Rattle.pool_model.specs.Bytes.{bytes_of}
 use Rattle.reservation_tree.specs.declared.errors.PoolErr.{PoolErr}
 use Rattle.reservation_tree.specs.declared.errors.PoolErr.TheVariants.{ScratchFull, WriteFault, ReadFault, NamesSpent, Memory}
-use Rattle.pin_core.specs.Setup.{OpensWith}
+use Rattle.pin_core.specs.calls.Setup.{OpensWith}
 use Rattle.pin_core.specs.Tallies.{Counted}
 use Rattle.pin_core.specs.declared.conf.PoolConf.{PoolConf}
 use Rattle.pin_core.specs.declared.tally.Tally.{Tally}

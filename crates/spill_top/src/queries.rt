@@ -1,7 +1,7 @@
 // A plan's queries over one pool, which gives back the slots that it takes.
 
 ghost use Rattle.std.specs.Prelude.{◌≡◌, ◌*◌, ◌≤◌, [], IfOk, OnErr, Some, length, vec_len};
-ghost use Rattle.pin_core.specs.Setup.{IsOpeningOf};
+ghost use Rattle.pin_core.specs.calls.Setup.{IsOpeningOf};
 ghost use Rattle.pin_core.specs.Tallies.{tally_of};
 ghost use Rattle.pin_core.specs.declared.tally.Tally.{Tally};
 ghost use Rattle.pool.specs.Items.{all_rights};

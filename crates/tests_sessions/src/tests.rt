@@ -1,6 +1,6 @@
 //! Worked rows of sessions that come and go, and of a writer beside them.
 ghost use Rattle.std.specs.Prelude.{◌≤◌, vec_len};
-ghost use Rattle.pin_core.specs.Setup.{OpensWith};
+ghost use Rattle.pin_core.specs.calls.Setup.{OpensWith};
 
 mod asks;
 mod held;

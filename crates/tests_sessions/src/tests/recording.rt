@@ -1,6 +1,6 @@
 // What a pool records of the sessions and the writer that use it, as the text of a trace.
 ghost use Rattle.std.specs.Prelude.{◌≤◌, vec_len};
-ghost use Rattle.pin_core.specs.Setup.{OpensWith};
+ghost use Rattle.pin_core.specs.calls.Setup.{OpensWith};
 ghost use Rattle.pool.specs.Opening.{OpensAs};
 
 use crate::tests::seats::{Scene, play_scene};

@@ -2,7 +2,7 @@
 // and closes a pool of its own, and ends the sessions that came.
 ghost use Rattle.std.specs.Prelude.{◌≡◌, ◌≤◌, Some, length, vec_len};
 ghost use Rattle.std.specs.Option.{ForSome};
-ghost use Rattle.pin_core.specs.Setup.{OpensWith};
+ghost use Rattle.pin_core.specs.calls.Setup.{OpensWith};
 ghost use Rattle.pool.specs.Items.{all_rights};
 ghost use Rattle.pool.specs.Opening.{OpensAs};
 ghost use Rattle.pool.specs.Seating.{Begins};

@@ -5,9 +5,9 @@ use Rattle.pool_model.specs.declared.event.Event.TheVariants.{AddTracker, Increa
 use Rattle.pool_model.specs.State.{Opening, State}
 use Rattle.store_api.specs.Entries.{by}
 use Rattle.pin_core.specs.StateOf.{state_of}
-use Rattle.pin_core.specs.Sessions.{query_of}
+use Rattle.pin_core.specs.calls.Sessions.{query_of}
 use Rattle.pin_core.specs.Standing.{StandsFor, slots_home}
-use Rattle.pin_core.specs.Opening.{spare_of}
+use Rattle.pin_core.specs.calls.Opening.{spare_of}
 use Rattle.session_calls.specs.declared.hand.Hand.{Hand}
 use Rattle.pin_core.specs.Tallies.{tally_in}
 use Rattle.pin_core.specs.declared.tally.Tally.{Tally}

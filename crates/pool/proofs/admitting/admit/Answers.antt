@@ -2,8 +2,8 @@ use Rattle.std.proofs.Common.{◌≡◌, ◌<◌, ◌+◌, ℕ, [], None, Result
 use Rattle.std.specs.FinMap.{get}
 use Rattle.reservation_tree.specs.declared.errors.PoolErr.{PoolErr}
 use Rattle.pin_core.specs.StateOf.{state_of}
-use Rattle.pin_core.specs.Sessions.{query_of}
-use Rattle.pin_core.specs.Opening.{opening_entries, spare_of}
+use Rattle.pin_core.specs.calls.Sessions.{query_of}
+use Rattle.pin_core.specs.calls.Opening.{opening_entries, spare_of}
 use Rattle.pin_core.specs.Standing.{Enters}
 use Rattle.pool.proofs.Came.{not_refused}
 use Rattle.pool.proofs.Trailed.{begun_trail}

@@ -1,6 +1,6 @@
 use Rattle.std.proofs.Common.{◌≡◌, ℕ, suc, ◌+◌, ◌-◌, ◌*◌, ◌≤◌, List, [], length, None, refl, sym, ap, ◌∙◌, subst, arith}
 use Rattle.pin_core.specs.StateOf.{state_of}
-use Rattle.pin_core.specs.Opening.{spare_of}
+use Rattle.pin_core.specs.calls.Opening.{spare_of}
 use Rattle.pool.specs.declared.ask.Ask.{Ask}
 use Rattle.pool.specs.declared.left.Left.{Left}
 use Rattle.pool.specs.Remaining.{first_refusal, left_in, less}

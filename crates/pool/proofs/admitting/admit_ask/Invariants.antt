@@ -1,6 +1,6 @@
 use Rattle.std.proofs.Common.{◌≡◌, ◌-◌, ◌*◌, ◌≤◌, List, None, vec_capacity, vec_len}
 use Rattle.pin_core.specs.StateOf.{state_of}
-use Rattle.pin_core.specs.Opening.{spare_of}
+use Rattle.pin_core.specs.calls.Opening.{spare_of}
 use Rattle.pool.specs.declared.item.Item.{Item}
 use Rattle.pool.specs.Standing.{StandsAs}
 use Rattle.pool.specs.Admitting.{HasItems}

@@ -1,6 +1,6 @@
 use Rattle.std.proofs.Common.{◌≡◌, ◌+◌, ◌++◌, List, refl, sym, ◌∙◌, subst}
 use Rattle.reservation_tree.specs.Tracker.{IsLive}
-use Rattle.pin_core.specs.Opening.{ending_entries, spare_of}
+use Rattle.pin_core.specs.calls.Opening.{ending_entries, spare_of}
 use Rattle.pin_core.specs.StateOf.{state_of}
 use Rattle.pool.specs.declared.item.Item.{Item}
 use Rattle.pool.specs.Seats.{taken_in}

@@ -1,6 +1,6 @@
 use Rattle.std.proofs.Common.{◌++◌, List, refl, sym, subst}
 use Rattle.pin_core.specs.StateOf.{state_of}
-use Rattle.pin_core.specs.Sessions.{query_of}
+use Rattle.pin_core.specs.calls.Sessions.{query_of}
 use Rattle.pool.specs.declared.item.Item.{Item}
 use Rattle.pool.specs.Seating.{beginning_items}
 use Rattle.pool.specs.Standing.{StandsAs}

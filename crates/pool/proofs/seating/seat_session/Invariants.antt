@@ -1,5 +1,5 @@
 use Rattle.pin_core.specs.StateOf.{state_of}
-use Rattle.pin_core.specs.Sessions.{query_of}
+use Rattle.pin_core.specs.calls.Sessions.{query_of}
 use Rattle.pool.specs.Seating.{beginning_items}
 use Rattle.pool.proofs.seating.seat_session.Given as goal
 

@@ -1,6 +1,6 @@
 use Rattle.std.proofs.Common.{ℕ, subst}
 use Rattle.reservation_tree.specs.Tracker.{HasNoChild}
-use Rattle.pin_core.specs.Sessions.{query_of}
+use Rattle.pin_core.specs.calls.Sessions.{query_of}
 use Rattle.pin_core.specs.StateOf.{state_of}
 use Rattle.pin_core.specs.declared.parts.Parts.{Parts}
 use Rattle.pool_questions.proofs.CheckedOwner.{none_held}

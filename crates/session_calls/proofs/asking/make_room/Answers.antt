@@ -1,6 +1,6 @@
 use Rattle.std.proofs.Common.{ℕ, ◌≤◌, [], IsSome, sym, subst}
 use Rattle.pin_core.specs.StateOf.{state_of}
-use Rattle.pin_core.specs.Turns.{amount_of}
+use Rattle.pin_core.specs.calls.Turns.{amount_of}
 use Rattle.pool_model.specs.declared.event.Event.TheVariants.{Ask, Refused}
 use Rattle.store_api.specs.Holdings.{Holdings, unused_of}
 use Rattle.store_api.specs.Entries.{IsAsked}

@@ -1,7 +1,7 @@
 use Rattle.std.proofs.Common.{[], if◌then◌else◌}
 use Rattle.store_api.specs.Entries.{IsAsked}
 use Rattle.pin_core.specs.StateOf.{state_of}
-use Rattle.pin_core.specs.Turns.{amount_of}
+use Rattle.pin_core.specs.calls.Turns.{amount_of}
 use Rattle.session_calls.specs.Writing.{writes_left}
 use Rattle.session_calls.specs.Acting.{held_by}
 use Rattle.session_calls.specs.Having.{IsAtWork}

@@ -2,7 +2,7 @@ use Rattle.std.proofs.Common.{ℕ, [], refl, ap, ◌∙◌, subst}
 use Rattle.pool_model.specs.declared.event.Event.TheVariants.{Alloc}
 use Rattle.store_api.specs.Tokens.{ClientToken}
 use Rattle.pin_core.specs.Standing.{Enters}
-use Rattle.pin_core.specs.Coming.{alloc_entries}
+use Rattle.pin_core.specs.calls.Coming.{alloc_entries}
 use Rattle.session_calls.specs.declared.hand.Hand.{Hand}
 use Rattle.session_calls.proofs.Arriving.{goes_evicting}
 use Rattle.session_calls.proofs.coming.bring_loan.Goals as goal

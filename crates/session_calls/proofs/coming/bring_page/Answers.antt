@@ -2,8 +2,8 @@ use Rattle.std.proofs.Common.{ℕ, [], refl, ap, ◌∙◌, subst}
 use Rattle.pool_model.specs.declared.event.Event.TheVariants.{Create}
 use Rattle.store_api.specs.Tokens.{ClientToken}
 use Rattle.pin_core.specs.Standing.{Enters}
-use Rattle.pin_core.specs.Needs.{id_in}
-use Rattle.pin_core.specs.Coming.{create_entries}
+use Rattle.pin_core.specs.calls.Needs.{id_in}
+use Rattle.pin_core.specs.calls.Coming.{create_entries}
 use Rattle.session_calls.specs.declared.hand.Hand.{Hand}
 use Rattle.session_calls.proofs.Arriving.{goes_evicting}
 use Rattle.session_calls.proofs.coming.bring_page.Goals as goal

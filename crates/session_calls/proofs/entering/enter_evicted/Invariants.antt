@@ -1,5 +1,5 @@
 use Rattle.std.specs.Prelude.{◌≡◌, ◌++◌, take}
-use Rattle.pin_core.specs.Evictions.{evictions}
+use Rattle.pin_core.specs.calls.Evictions.{evictions}
 use Rattle.session_calls.proofs.entering.enter_evicted.Given as goal
 
 abbrev pub invariant-loop-page : goal.invariant-loop-page

@@ -1,6 +1,6 @@
 use Rattle.std.specs.Prelude.{◌∷◌, []}
 use Rattle.scratch_dev.specs.Rows.{faults_of}
-use Rattle.pin_core.specs.Returning.{write_entry}
+use Rattle.pin_core.specs.calls.Returning.{write_entry}
 use Rattle.session_calls.proofs.jobs.write_named.Given as goal
 
 abbrev pub ghosts-enter_write : goal.ghosts-enter_write

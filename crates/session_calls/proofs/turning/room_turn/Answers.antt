@@ -1,5 +1,5 @@
 use Rattle.std.proofs.Common.{◌≤◌, refl, sym, ap, subst}
-use Rattle.pin_core.specs.Turns.{amount_of}
+use Rattle.pin_core.specs.calls.Turns.{amount_of}
 use Rattle.pin_core.specs.declared.parts.Parts.{Parts}
 use Rattle.session_calls.specs.declared.hand.Hand.{Hand}
 use Rattle.session_calls.specs.Having.{IsAtWork}

@@ -1,6 +1,6 @@
 use Rattle.std.proofs.Common.{◌≡◌, ℕ, List, [], ◌∷◌, ◌++◌, sym, ap, ◌∙◌, subst}
 use Rattle.std.specs.List.{sum_by}
-use Rattle.pin_core.specs.Setup.{IsOpeningOf}
+use Rattle.pin_core.specs.calls.Setup.{IsOpeningOf}
 use Rattle.pin_core.specs.Standing.{slots_home}
 use Rattle.pin_core.specs.Tallies.{tally_in, tally_of}
 use Rattle.pin_core.specs.declared.tally.Tally.{Tally}

@@ -3,8 +3,8 @@ use Rattle.std.specs.List.{slice_range}
 use Rattle.block_arena.specs.Memory.{Buffer, block_of}
 use Rattle.scratch_dev.specs.Rows.{Walked}
 use Rattle.pin_core.specs.declared.jobs.Stale.{Stale}
-use Rattle.pin_core.specs.Returning.{stale_loads}
-use Rattle.pin_core.specs.Runs.{CountsStrays, IsLoadedAs}
+use Rattle.pin_core.specs.calls.Returning.{stale_loads}
+use Rattle.pin_core.specs.calls.Runs.{CountsStrays, IsLoadedAs}
 use Rattle.pin_core.proofs.Counting.{loads_failed}
 use Rattle.pin_core.proofs.Gathered.{well_is, fault_is, found_is, fresh_is}
 use Rattle.pin_core.proofs.Rowed.{all_gave, stays, loaded_stores, loaded_tells, still_held, load_shows}

@@ -1,6 +1,6 @@
 use Rattle.std.proofs.Common.{◌≤◌, ◌+◌, ℕ, sym, subst}
 use Rattle.clean_evict.specs.Eviction.{blocks_of}
-use Rattle.pin_core.specs.Changes.{entry_at}
+use Rattle.pin_core.specs.parts.Changes.{entry_at}
 use Rattle.pin_core.proofs.LoadedOver.{load_covered, load_few}
 use Rattle.pin_core.proofs.LoadReady.{fill_ready, fill_parts, fill_job, fill_buffer}
 use Rattle.pin_core.proofs.parts.Parts.load.Goals as goal

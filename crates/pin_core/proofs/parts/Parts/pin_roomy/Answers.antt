@@ -1,5 +1,5 @@
 use Rattle.std.proofs.Common.{sym, ◌∙◌}
-use Rattle.pin_core.specs.Changes.{entry_at}
+use Rattle.pin_core.specs.parts.Changes.{entry_at}
 use Rattle.pin_core.proofs.PinReady.{ready_clean}
 use Rattle.pin_core.proofs.parts.Parts.pin_roomy.Goals as goal
 

@@ -1,5 +1,5 @@
 use Rattle.std.proofs.Common.{sym, subst}
-use Rattle.pin_core.specs.Changes.{entry_at}
+use Rattle.pin_core.specs.parts.Changes.{entry_at}
 use Rattle.pin_core.specs.Invariant.{IsKept}
 use Rattle.pin_core.proofs.PinReady.{turn_known, ready_is, turn_over}
 use Rattle.pin_core.proofs.parts.Parts.pin_stored.Goals as goal

@@ -3,8 +3,8 @@ use Rattle.page_table.specs.declared.page_id.PageId.{PageId}
 use Rattle.page_table.specs.declared.entry.Place.TheVariants as spot
 use Rattle.reservation_tree.proofs.Maps.{is_there}
 use Rattle.pin_core.specs.Invariant.{IsKeptOf}
-use Rattle.pin_core.specs.Changes.{entry_at}
-use Rattle.pin_core.specs.Flights.{is_held_mem}
+use Rattle.pin_core.specs.parts.Changes.{entry_at}
+use Rattle.pin_core.specs.parts.Flights.{is_held_mem}
 use Rattle.pin_core.proofs.Newest.{newest_page, newest_held, id_found, start_done}
 use Rattle.pin_core.proofs.parts.Parts.start.Goals as goal
 

@@ -2,8 +2,8 @@ use Rattle.std.proofs.Common.{rules, ℕ, [], ◌∷◌, sym, ap, subst}
 use Rattle.pool_model.specs.Owning.{IsClientOf}
 use Rattle.pin_core.specs.StateOf.{state_of}
 use Rattle.pin_core.specs.Standing.{Enters}
-use Rattle.pin_core.specs.Sessions.{query_of}
-use Rattle.pin_core.specs.Entering.{client_entry}
+use Rattle.pin_core.specs.calls.Sessions.{query_of}
+use Rattle.pin_core.specs.calls.Entering.{client_entry}
 use Rattle.pin_core.proofs.Adding.{can_join, full_when, added}
 use Rattle.pin_core.proofs.pool.PoolState.add_client.Goals as goal
 

@@ -1,9 +1,9 @@
 use Rattle.std.proofs.Common.{[], ap, sym, ◌∙◌, subst}
 use Rattle.std.proofs.lemmas.Bool.{false≢true}
 use Rattle.page_table.specs.declared.page_id.PageId.{PageId}
-use Rattle.pin_core.specs.Needs.{id_in}
+use Rattle.pin_core.specs.calls.Needs.{id_in}
 use Rattle.pin_core.specs.Standing.{Enters}
-use Rattle.pin_core.specs.Coming.{create_entries}
+use Rattle.pin_core.specs.calls.Coming.{create_entries}
 use Rattle.pin_core.proofs.Holding.{holder_covered, gone_needed}
 use Rattle.pin_core.proofs.Created.{create_is, token_made}
 use Rattle.pin_core.proofs.pool.PoolState.create_now.Goals as goal

@@ -3,7 +3,7 @@ use Rattle.pool_model.specs.State.{State}
 use Rattle.store_api.specs.Changes.{query_growth}
 use Rattle.store_api.specs.Conditions.{IsLiveClient}
 use Rattle.store_api.specs.Refusals.{IsSharedRefusal, reserve_refusal}
-use Rattle.pin_core.specs.Entering.{growth_refusal}
+use Rattle.pin_core.specs.calls.Entering.{growth_refusal}
 use Rattle.pool.proofs.Doings.{as_held, as_was, may_stay, did_these, refused_as_seen, sits_on}
 use Rattle.pool.proofs.Results.{on_ok_so, on_err_so}
 use Rattle.pool.proofs.Stays.{acts_none, acts_either, stays_reserved}

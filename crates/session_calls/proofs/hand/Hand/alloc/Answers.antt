@@ -1,7 +1,7 @@
 use Rattle.std.proofs.Common.{ℕ, [], ◌∷◌, refl, sym, subst}
 use Rattle.pool_model.specs.declared.event.Event.TheVariants.{Alloc}
 use Rattle.pin_core.specs.StateOf.{state_of}
-use Rattle.pin_core.specs.Coming.{CanHold}
+use Rattle.pin_core.specs.calls.Coming.{CanHold}
 use Rattle.session_calls.specs.Coming.{Evicts, IsFreshLoan}
 use Rattle.session_calls.proofs.Fresh.{can_hold, fresh_loan}
 use Rattle.session_calls.specs.Acting.{Acts, held_by}

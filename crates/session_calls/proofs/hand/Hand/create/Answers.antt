@@ -1,7 +1,7 @@
 use Rattle.std.proofs.Common.{ℕ, [], ◌∷◌, IfOk, sym, subst}
 use Rattle.pool_model.specs.declared.event.Event.TheVariants.{Create}
 use Rattle.pin_core.specs.StateOf.{state_of}
-use Rattle.pin_core.specs.Coming.{CanHold}
+use Rattle.pin_core.specs.calls.Coming.{CanHold}
 use Rattle.session_calls.specs.Coming.{Evicts}
 use Rattle.session_calls.proofs.Fresh.{can_hold}
 use Rattle.store_api.specs.Holdings.{length_of}

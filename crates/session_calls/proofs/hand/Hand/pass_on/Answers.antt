@@ -2,7 +2,7 @@ use Rattle.std.proofs.Common.{rules, IsOk, [], ◌∷◌, refl}
 use Rattle.reservation_tree.specs.Change.{move_refusal}
 use Rattle.pin_core.specs.StateOf.{state_of}
 use Rattle.pin_core.specs.Standing.{Enters}
-use Rattle.pin_core.specs.Entering.{move_entry}
+use Rattle.pin_core.specs.calls.Entering.{move_entry}
 use Rattle.session_calls.proofs.Refusals.{of_ok, unrefused_ok}
 use Rattle.session_calls.specs.declared.hand.Hand.{Hand}
 use Rattle.session_calls.proofs.Accounts.{token_client}

@@ -3,7 +3,7 @@ use Rattle.std.proofs.lemmas.Bool.{false≢true}
 use Rattle.reservation_tree.specs.Answer.{IsFrom}
 use Rattle.reservation_tree.specs.declared.errors.PoolErr.{PoolErr}
 use Rattle.pin_core.specs.StateOf.{state_of}
-use Rattle.pin_core.specs.Entering.{fit_refusal}
+use Rattle.pin_core.specs.calls.Entering.{fit_refusal}
 use Rattle.session_calls.specs.declared.hand.Hand.{Hand}
 use Rattle.session_calls.proofs.Accounts.{token_client, grew_to_fit, fit_refused, fit_shared}
 use Rattle.session_calls.proofs.hand.Hand.reserve_to_fit.Goals as goal

@@ -1,7 +1,7 @@
 use Rattle.std.proofs.Common.{sym, ap, ◌∙◌, subst}
 use Rattle.reservation_tree.specs.Tracker.{IsLive}
 use Rattle.pin_core.specs.StateOf.{state_of}
-use Rattle.pin_core.specs.Entering.{unused_of}
+use Rattle.pin_core.specs.calls.Entering.{unused_of}
 use Rattle.session_calls.proofs.Clients.{seat_lives, query_lives, room_here}
 use Rattle.session_calls.proofs.Knowing.{knows}
 use Rattle.session_calls.proofs.hand.Hand.room.Goals as goal

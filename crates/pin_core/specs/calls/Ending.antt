@@ -5,8 +5,8 @@ use Rattle.pool_model.specs.declared.entry.Entry.{Entry as Event}
 use Rattle.pool_model.specs.declared.event.Event.TheVariants as event
 use Rattle.pool_model.specs.State.{Place, Pinned, Flying, Loading, State, page_at}
 use Rattle.store_api.specs.Tokens.{PageToken}
-use Rattle.pin_core.specs.Needs.{IsPage}
-use Rattle.pin_core.specs.Pins.{IsPinned}
+use Rattle.pin_core.specs.calls.Needs.{IsPage}
+use Rattle.pin_core.specs.calls.Pins.{IsPinned}
 
 -- the page is pinned, however often, and this is its buffer
 pub record IsPinnedWith (s : State) (p : PageToken) (buf : Buffer) : Type 0 where

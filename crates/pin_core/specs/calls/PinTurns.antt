@@ -16,12 +16,12 @@ use Rattle.pin_core.specs.declared.pin.PinTurn.{PinTurn}
 use Rattle.pin_core.specs.declared.pin.PinTurn.TheVariants.{Here, Load, Refused, Write, Wait}
 use Rattle.pin_core.specs.StateOf.{state_of}
 use Rattle.pin_core.specs.Standing.{StandsFor, AreHeld}
-use Rattle.pin_core.specs.Needs.{IsPage, id_in}
-use Rattle.pin_core.specs.Jobs.{IsReadJob}
-use Rattle.pin_core.specs.Pins.{HasRoomFor}
-use Rattle.pin_core.specs.Evictions.{MakesRoom, names_gone}
-use Rattle.pin_core.specs.Loads.{load_entries}
-use Rattle.pin_core.specs.Turns.{LacksRoom, IsWriting, IsStarted, start_entry}
+use Rattle.pin_core.specs.calls.Needs.{IsPage, id_in}
+use Rattle.pin_core.specs.calls.Jobs.{IsReadJob}
+use Rattle.pin_core.specs.calls.Pins.{HasRoomFor}
+use Rattle.pin_core.specs.calls.Evictions.{MakesRoom, names_gone}
+use Rattle.pin_core.specs.parts.Loads.{load_entries}
+use Rattle.pin_core.specs.calls.Turns.{LacksRoom, IsWriting, IsStarted, start_entry}
 
 -- a live page of the session that is neither pinned nor loading, and whose length its client has unused
 pub record CanPin (s : State) (session : ℕ) (p : PageToken) : Type 0 where

@@ -16,7 +16,7 @@ use Rattle.store_api.specs.Tokens.{PageToken}
 use Rattle.pin_core.specs.declared.kept.Kept.{Kept}
 use Rattle.pin_core.specs.declared.parts.Parts.{Parts}
 use Rattle.pin_core.specs.StateOf.{place_in}
-use Rattle.pin_core.specs.Needs.{IsPage}
+use Rattle.pin_core.specs.calls.Needs.{IsPage}
 
 -- the page is live and pinned, however often
 pub record IsPinned (s : State) (p : PageToken) : Type 0 where

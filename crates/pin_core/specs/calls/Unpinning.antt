@@ -19,7 +19,7 @@ use Rattle.pool_model.specs.State.{State, shown, page_at}
 use Rattle.pool_model.specs.Sums.{free_slots}
 use Rattle.pin_core.specs.declared.kept.Kept.{Kept}
 use Rattle.pin_core.specs.declared.parts.Parts.{Parts}
-use Rattle.pin_core.specs.Keeping.{kept_then, slots_then}
+use Rattle.pin_core.specs.parts.Keeping.{kept_then, slots_then}
 
 -- the page has no slots, and fewer of its session's are free than it needs
 pub record LacksSlots (s : State) (p : ℕ) : Type 0 where

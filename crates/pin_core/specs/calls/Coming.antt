@@ -19,8 +19,8 @@ use Rattle.store_api.specs.Tokens.{ClientToken}
 use Rattle.pin_core.specs.declared.kept.Kept.TheVariants as kept
 use Rattle.pin_core.specs.declared.parts.Parts.{Parts}
 use Rattle.pin_core.specs.Invariant.{NoneStray}
-use Rattle.pin_core.specs.Evictions.{evictions, names_gone}
-use Rattle.pin_core.specs.Lending.{charged_more}
+use Rattle.pin_core.specs.calls.Evictions.{evictions, names_gone}
+use Rattle.pin_core.specs.calls.Lending.{charged_more}
 
 -- the client is live, and can hold so many blocks more, 1 to 256
 pub record CanHold (s : State) (c : ClientToken) (blocks : ℕ) : Type 0 where

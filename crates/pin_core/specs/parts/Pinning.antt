@@ -16,7 +16,7 @@ use Rattle.pool_model.specs.Bytes.{bytes_of}
 use Rattle.pool_model.specs.State.{shown}
 use Rattle.pin_core.specs.declared.kept.Kept.{Kept}
 use Rattle.pin_core.specs.declared.parts.Parts.{Parts}
-use Rattle.pin_core.specs.Flights.{is_held_mem}
+use Rattle.pin_core.specs.parts.Flights.{is_held_mem}
 
 module _ {D : Type 0} where
   -- what the parts need of each other, so that a page that holds its buffer is pinned

@@ -17,11 +17,11 @@ use Rattle.pin_core.specs.declared.pin.PinTurn.{PinTurn}
 use Rattle.pin_core.specs.declared.pin.PinTurn.TheVariants.{Here, Load, Refused, Write, Wait}
 use Rattle.pin_core.specs.declared.room.RoomTurn.TheVariants as turn
 use Rattle.pin_core.specs.StateOf.{state_of}
-use Rattle.pin_core.specs.Flights.{buffer_in}
-use Rattle.pin_core.specs.Evictions.{names_gone, with_room}
-use Rattle.pin_core.specs.Pinning.{pinned_dirty, pinned_clean}
-use Rattle.pin_core.specs.Loads.{loaded_over, read_job}
-use Rattle.pin_core.specs.Turns.{TurnIs}
+use Rattle.pin_core.specs.parts.Flights.{buffer_in}
+use Rattle.pin_core.specs.calls.Evictions.{names_gone, with_room}
+use Rattle.pin_core.specs.parts.Pinning.{pinned_dirty, pinned_clean}
+use Rattle.pin_core.specs.parts.Loads.{loaded_over, read_job}
+use Rattle.pin_core.specs.calls.Turns.{TurnIs}
 
 -- the page's bytes are on scratch, in memory too or not
 abbrev pub IsAway : Spot → Type 0

@@ -11,8 +11,8 @@ use Rattle.pool_model.specs.State.{State}
 use Rattle.pin_core.specs.declared.parts.Parts.{Parts}
 use Rattle.pin_core.specs.StateOf.{state_of}
 use Rattle.pin_core.specs.Standing.{Enters}
-use Rattle.pin_core.specs.Sessions.{query_of}
-use Rattle.pin_core.specs.Entering.{session_entry, increase_entry, decrease_entry, move_entry, close_entry, unused_of}
+use Rattle.pin_core.specs.calls.Sessions.{query_of}
+use Rattle.pin_core.specs.calls.Entering.{session_entry, increase_entry, decrease_entry, move_entry, close_entry, unused_of}
 
 -- the slots in no quota
 abbrev pub spare_of : {D : Type 0} → Parts D → ℕ

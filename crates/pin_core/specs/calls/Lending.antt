@@ -14,7 +14,7 @@ use Rattle.pool_model.specs.State.{State, shown}
 use Rattle.pool_model.specs.Sums.{HasRoom, length_of}
 use Rattle.store_api.specs.Tokens.{ClientToken, LoanToken}
 use Rattle.pin_core.specs.declared.parts.Parts.{Parts}
-use Rattle.pin_core.specs.Leavings.{TakesBack}
+use Rattle.pin_core.specs.parts.Leavings.{TakesBack}
 
 -- the loan's buffer is live, it is charged to the loan's client, and has as many blocks as the loan
 pub record IsLoan (s : State) (loan : LoanToken) : Type 0 where

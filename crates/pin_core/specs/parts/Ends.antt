@@ -18,7 +18,7 @@ use Rattle.pool_model.specs.State.{shown}
 use Rattle.pin_core.specs.declared.kept.Kept.{Kept}
 use Rattle.pin_core.specs.declared.parts.Parts.{Parts}
 use Rattle.pin_core.specs.declared.jobs.Stale.{Stale}
-use Rattle.pin_core.specs.Flights.{put_back}
+use Rattle.pin_core.specs.parts.Flights.{put_back}
 
 module _ {D : Type 0} where
   -- the page is in this place, and these are its buffer and its slots

@@ -17,9 +17,9 @@ use Rattle.pool_model.specs.Bytes.{bytes_of}
 use Rattle.pool_model.specs.State.{shown}
 use Rattle.pin_core.specs.declared.kept.Kept.{Kept}
 use Rattle.pin_core.specs.declared.parts.Parts.{Parts}
-use Rattle.pin_core.specs.Keeping.{row_in}
-use Rattle.pin_core.specs.Pins.{pins_in}
-use Rattle.pin_core.specs.Leavings.{TakesBack, IfHeld, IsGiven, is_listed, lists_left, clean_left, held_in, blocks_in, slots_back}
+use Rattle.pin_core.specs.parts.Keeping.{row_in}
+use Rattle.pin_core.specs.calls.Pins.{pins_in}
+use Rattle.pin_core.specs.parts.Leavings.{TakesBack, IfHeld, IsGiven, is_listed, lists_left, clean_left, held_in, blocks_in, slots_back}
 
 module _ {D : Type 0} where
   -- the page is live and in no job, and this is its buffer where it is pinned

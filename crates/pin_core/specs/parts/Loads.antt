@@ -22,10 +22,10 @@ use Rattle.pin_core.specs.declared.kept.Kept.TheVariants as kept
 use Rattle.pin_core.specs.declared.jobs.ReadJob.{ReadJob}
 use Rattle.pin_core.specs.declared.parts.Parts.{Parts}
 use Rattle.pin_core.specs.StateOf.{state_of}
-use Rattle.pin_core.specs.Keeping.{row_in}
+use Rattle.pin_core.specs.parts.Keeping.{row_in}
 use Rattle.pin_core.specs.Marking.{under_of}
 use Rattle.pin_core.specs.Invariant.{IsKeptOf}
-use Rattle.pin_core.specs.Evictions.{evictions, names_gone, with_room}
+use Rattle.pin_core.specs.calls.Evictions.{evictions, names_gone, with_room}
 
 module _ {D : Type 0} where
   -- the page is live and evicted, and its client has room for it

@@ -19,9 +19,9 @@ use Rattle.pin_core.specs.declared.room.Want.{Want}
 use Rattle.pin_core.specs.declared.room.Want.TheVariants.{Hold, Shrink}
 use Rattle.pin_core.specs.StateOf.{state_of}
 use Rattle.pin_core.specs.Standing.{StandsFor}
-use Rattle.pin_core.specs.Changes.{entry_at}
-use Rattle.pin_core.specs.Jobs.{IsWriteJob}
-use Rattle.pin_core.specs.Flights.{id_with, job_of, flown}
+use Rattle.pin_core.specs.parts.Changes.{entry_at}
+use Rattle.pin_core.specs.calls.Jobs.{IsWriteJob}
+use Rattle.pin_core.specs.parts.Flights.{id_with, job_of, flown}
 use Rattle.pin_core.specs.Marking.{under_of}
 
 -- the bytes that are wanted
