@@ -1,0 +1,65 @@
+-- What was dealt, from what each half did.
+use Rattle.std.proofs.Common.{◌≡◌, ◌≤◌, ◌<◌, ◌+◌, ◌-◌, ℕ, All, IsOk, List, [], ◌∷◌, ◌++◌, Result, OnOk, Ok, Err, length, map, slice_index_or, sum_by, sym, refl, ap, ◌∙◌, subst, arith, rules}
+use Rattle.std.proofs.lemmas.List.{get_or-map, length-map}
+use Rattle.std.proofs.lemmas.List.Sums.{sum_by-append, sum_by-cons}
+use Rattle.crossbeam_queue.specs.Passes.{IsPassOf, IsSamePass, Pass, view}
+use Rattle.fragments.specs.declared.place.Place.{Place}
+use Rattle.fragments.specs.declared.rule.Tally.{Tally}
+use Rattle.fragments.specs.Balance.{IsEven, tally}
+use Rattle.fragments.specs.Dealing.{IsDealt}
+use Rattle.fragments.specs.Fragments.{DidAt}
+use Rattle.fragments.specs.Places.{weight_at}
+use Rattle.fragments.specs.Running.{GoesOn, ReadsOn, TakesOn}
+use Rattle.lanes.specs.Lanes.{DidAll}
+
+sum_map : {X Y : Type 0} (f : Y → ℕ) (g : X → Y) (xs : List X) → sum_by f (map g xs) ≡ sum_by (λ x. f (g x)) xs
+sum_map f g [] = refl
+sum_map f g (x ∷ xs) = let rest = sum_map f g xs in omega (arith, sum_by-cons f (g x) (map g xs), sum_by-cons (λ y. f (g y)) x xs)
+
+on_ok : {E : Type 0} {P : Type 0} (r : Result (Unit {0}) E) → IsOk r → OnOk r P → P
+on_ok (Ok u) is p = p
+on_ok (Err e) is p = absurd (search rules)
+
+abbrev taken_at : {T E : Type 0} → Place T E → List T
+taken_at p = (view p.pass).taken
+
+module _ {T E : Type 0} where
+  -- a fact about an element of a list is one of the element of the list's image
+  one_of : (P : List T → Type 0) (places : List (Place T E)) (k : ℕ) (f : Place T E → List T) → k < length places
+      → ((d : Place T E) → P (f (slice_index_or places k d))) → P (slice_index_or (map f places) k [])
+  one_of P [] k f below each = absurd (omega arith)
+  one_of P (p ∷ places) k f below each = subst P (sym (get_or-map f (p ∷ places) k p [] below)) (each p)
+
+module _ {T F C S E : Type 0} (took : F → C → F → C → List T → Type 0) (went : F → C → F → C → Type 0) (stops : F → C → C → E → Type 0)
+    (gave ended : S → S → List T → Type 0) where
+  -- `v` at the beginning, `w` behind the reading, `u` with what the fragments took, `z` with what was left
+  pub dealt : (v w u z : Tally T) (parts : ℕ) (giver giver' : S) (op op1 op2 : F) (beside beside1 beside2 : C) (places places' : List (Place T E)) (ops ops' : List F) (besides besides' : List C)
+      → v ≡ tally parts [] [] → gave giver giver [] → took op beside op beside []
+      → ReadsOn gave ended giver giver' v.put w.put → GoesOn took op beside op1 beside1 v w
+      → DidAll (DidAt took went stops) places ops besides places' ops' besides' → length places ≡ length ops → All (λ p. IsOk p.outcome) places'
+      → u.put ≡ w.put → ((h : T → ℕ) → sum_by h u.taken ≡ sum_by h w.taken + sum_by (weight_at h) places')
+      → z.put ≡ u.put → IsEven z → TakesOn took op1 beside1 op2 beside2 u.taken z.taken
+      → IsDealt took ended giver op beside ops besides giver' op2 beside2 ops' besides'
+  dealt v w u z parts giver giver' op op1 op2 beside beside1 beside2 places places' ops ops' besides besides' new none_given none_took read fed did len fine put1 weight put2 even rest =
+      let more = rest.more in
+      let sizes : length places' ≡ length ops = did.places_len ∙ len in
+      record {
+        all = w.put;
+        given = read giver (subst (gave giver giver) (sym (ap (λ (y : Tally T). y.put) new)) none_given);
+        own = w.taken ++ more;
+        own_took = rest.fed op beside w.taken (fed op beside (subst (took op beside op beside) (sym (ap (λ (y : Tally T). y.taken) new)) none_took));
+        lists = map taken_at places';
+        len = length-map places' taken_at ∙ sizes;
+        ops_len = did.ops_len ∙ len;
+        each = λ k f c below.
+            one_of (took (slice_index_or ops k f) (slice_index_or besides k c) (slice_index_or ops' k f) (slice_index_or besides' k c)) places' k taken_at (omega arith) (λ (d : Place T E).
+            let here = did.each k d f c (omega arith) in
+            on_ok (slice_index_or places' k d).outcome (fine k d (omega arith)) here.run.fed);
+        even = λ h.
+            let e1 : sum_by h w.put ≡ sum_by h z.put = ap (sum_by h) (sym (put2 ∙ put1)) in
+            let e2 = even h in
+            let e3 : sum_by h z.taken ≡ sum_by h (u.taken ++ more) = ap (sum_by h) rest.added in
+            let e4 = weight h in
+            let e5 : sum_by (sum_by h) (map taken_at places') ≡ sum_by (weight_at h) places' = sum_map (sum_by h) taken_at places' in
+            omega (arith, sum_by-append h u.taken more, sum_by-append h w.taken more);
+      }

@@ -1,0 +1,5 @@
+pub mod Bags
+pub mod Balancing
+pub mod Dealt
+pub mod Gathering
+pub mod Taking

@@ -1,0 +1,2 @@
+pub mod InBatches
+pub mod Shared

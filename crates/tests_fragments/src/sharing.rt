@@ -1,0 +1,90 @@
+//! Numbers that several threads take into lists.
+ghost use Rattle.std.specs.Prelude.{◌≡◌, ◌+◌, ◌++◌, ◌≤◌, [], ⊤, ℕ, All, List, OnOk, length, sum_by};
+
+use fragments::{Failure, Feeder, Giver, deal};
+use outside::Gate;
+use std::alloc::{AllocError, Global};
+use std::marker::Brand;
+use std::sync::Wait;
+use std::thread::Threads;
+
+/// Numbers that were taken.
+#[derive(Drop)]
+pub struct Kept {
+    pub items: Vec<u32>,
+}
+
+impl Feeder<u32, (), AllocError> for Kept {
+    ghost ready = { λ f c. ⊤ };
+
+    ghost admits = { λ f c x. ⊤ };
+
+    ghost took = { λ f c g d items. g.items.items ≡ f.items.items ++ items };
+
+    ghost went = { λ f c g d. ⊤ };
+
+    ghost stops = { λ f c d e. ⊤ };
+
+    fn take(&mut self, _beside: &mut (), item: u32) -> Result<(), AllocError> {
+        self.items.push(item)?;
+        Ok(())
+    }
+}
+
+/// Numbers that are to be given.
+pub struct Numbers<'a> {
+    rest: &'a [u32],
+}
+
+impl<'a> Giver<u32, ()> for Numbers<'a> {
+    ghost ready = { λ s. ⊤ };
+
+    ghost gave = { λ a b items. a.rest.now ≡ items ++ b.rest.now };
+
+    ghost ended = { λ a b items. a.rest.now ≡ items };
+
+    ghost went = { λ a b. ⊤ };
+
+    ghost stops = { λ a b q. ⊤ };
+
+    ghost gives = { λ s x. ⊤ };
+
+    fn next(&mut self) -> Result<Option<u32>, ()> {
+        let Some((first, rest)) = self.rest.split_first() else {
+            return Ok(None);
+        };
+        self.rest = rest;
+        Ok(Some(*first))
+    }
+}
+
+/// Shares numbers among a thread and others: each stands in the lists together as often as in `all`.
+pub fn share<R: Threads + Wait + Sync, G: Gate>(
+    rt: &R,
+    alloc: Global,
+    gate: &G,
+    all: &[u32],
+    own: &mut Kept,
+    others: &mut [Kept],
+    besides: &mut [()],
+) -> Result<(), Failure<(), AllocError>>
+    requires len { length besides.old ≡ length others.old }
+    requires few { length others.old ≤ 8 }
+    requires none { (own.old.items.items ≡ []) × All (λ kept. kept.items.items ≡ []) others.old }
+    ensures { OnOk result ((h : ℕ → ℕ) → sum_by h all.now ≡ sum_by h own.new.items.items + sum_by (λ kept. sum_by h kept.items.items) others.new) }
+{
+    let mut numbers = Numbers { rest: all };
+    let mut nothing = ();
+    let dealt = deal::<u32, Brand, (), AllocError, Kept, (), Numbers, R, G>(
+        rt,
+        alloc,
+        gate,
+        &mut numbers,
+        own,
+        &mut nothing,
+        others,
+        besides,
+    );
+    let Numbers { rest: _ } = numbers;
+    dealt
+}

@@ -1,0 +1,130 @@
+ghost use Rattle.std.specs.Prelude.{◌≡◌, [], All, IfOk, vec_len};
+
+use super::*;
+use outside::{MeetGate, OpenGate, Point};
+use std::alloc::{AllocError, Global};
+use std::test::Fail;
+
+fn empty(alloc: Global) -> Kept
+    ensures { result.items.items ≡ [] }
+{
+    Kept {
+        items: Vec::new(alloc),
+    }
+}
+
+fn three(alloc: Global) -> Result<Vec<Kept>, AllocError>
+    ensures empty { IfOk result (λ v. All (λ kept. kept.items.items ≡ []) v.items) }
+    ensures len { IfOk result (λ v. vec_len v ≡ 3) }
+{
+    let mut all = Vec::new(alloc);
+    all.reserve(3)?;
+    all.push_reserved(empty(alloc));
+    all.push_reserved(empty(alloc));
+    all.push_reserved(empty(alloc));
+    Ok(all)
+}
+
+#[test]
+fn numbers_are_shared_among_threads(rt: HostRuntime) -> Result<(), Fail> {
+    let alloc = rt.alloc();
+    let mut all = Vec::new(alloc);
+    for number in 0..20000u32 {
+        all.push(number)?;
+    }
+    let mut own = empty(alloc);
+    let mut others = three(alloc)?;
+    let mut besides = Vec::from_elem(alloc, (), 3)?;
+    let shared = share(
+        &rt,
+        alloc,
+        &OpenGate,
+        all.as_slice(),
+        &mut own,
+        others.as_mut_slice(),
+        besides.as_mut_slice(),
+    );
+    assert!(rt; shared.is_ok());
+    let mut count = own.items.len();
+    let mut sum = own
+        .items
+        .iter()
+        .fold(0u64, |sum, x| sum.wrapping_add(u64::from(*x)));
+    for other in others.as_slice() {
+        count = count.wrapping_add(other.items.len());
+        sum = other
+            .items
+            .iter()
+            .fold(sum, |sum, x| sum.wrapping_add(u64::from(*x)));
+    }
+    assert_eq!(rt; count, 20000);
+    assert_eq!(rt; sum, 199990000);
+    Ok(())
+}
+
+#[test]
+fn numbers_are_shared_in_batches(rt: HostRuntime) -> Result<(), Fail> {
+    let alloc = rt.alloc();
+    let mut all = Vec::new(alloc);
+    for number in 0..20000u32 {
+        all.push(number)?;
+    }
+    let mut own = empty(alloc);
+    let mut others = three(alloc)?;
+    let mut besides = Vec::from_elem(alloc, (), 3)?;
+    let shared = share_batches(
+        &rt,
+        alloc,
+        &OpenGate,
+        all.as_slice(),
+        &mut own,
+        others.as_mut_slice(),
+        besides.as_mut_slice(),
+    );
+    assert!(rt; shared.is_ok());
+    let mut count = own.items.len();
+    let mut sum = own
+        .items
+        .iter()
+        .fold(0u64, |sum, x| sum.wrapping_add(u64::from(*x)));
+    for other in others.as_slice() {
+        count = count.wrapping_add(other.items.len());
+        sum = other
+            .items
+            .iter()
+            .fold(sum, |sum, x| sum.wrapping_add(u64::from(*x)));
+    }
+    assert_eq!(rt; count, 20000);
+    assert_eq!(rt; sum, 199990000);
+    Ok(())
+}
+
+// The first two fragments wait for each other when they have taken their first numbers, so that both of them have to work.
+#[test]
+fn two_fragments_meet_at_a_gate(rt: HostRuntime) -> Result<(), Fail> {
+    let alloc = rt.alloc();
+    let mut all = Vec::new(alloc);
+    for number in 0..200u32 {
+        all.push(number)?;
+    }
+    let mut own = empty(alloc);
+    let mut others = three(alloc)?;
+    let mut besides = Vec::from_elem(alloc, (), 3)?;
+    let held = (2000, Point::FragmentTook);
+    let until = (2001, Point::FragmentTook);
+    let gate = MeetGate::new(held, until, 10_000_000)?;
+    let shared = share(
+        &rt,
+        alloc,
+        &gate,
+        all.as_slice(),
+        &mut own,
+        others.as_mut_slice(),
+        besides.as_mut_slice(),
+    );
+    assert_eq!(rt;
+        (shared.is_ok(), gate.came(), gate.missed()),
+        (true, true, false)
+    );
+    Ok(())
+}
