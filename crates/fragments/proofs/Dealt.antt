@@ -1,8 +1,8 @@
 -- What was dealt, from what each half did.
-use Rattle.std.proofs.Common.{◌≡◌, ◌≤◌, ◌<◌, ◌+◌, ◌-◌, ℕ, All, IsOk, List, [], ◌∷◌, ◌++◌, Result, OnOk, Ok, Err, length, map, slice_index_or, sum_by, sym, refl, ap, ◌∙◌, subst, arith, rules}
+use Rattle.std.proofs.Common.{◌≡◌, ◌<◌, ◌+◌, ℕ, All, IsOk, List, [], ◌∷◌, ◌++◌, Result, OnOk, Ok, Err, length, map, slice_index_or, sum_by, sym, refl, ap, ◌∙◌, subst, arith, rules}
 use Rattle.std.proofs.lemmas.List.{get_or-map, length-map}
 use Rattle.std.proofs.lemmas.List.Sums.{sum_by-append, sum_by-cons}
-use Rattle.crossbeam_queue.specs.Passes.{IsPassOf, IsSamePass, Pass, view}
+use Rattle.crossbeam_queue.specs.Passes.{view}
 use Rattle.fragments.specs.declared.place.Place.{Place}
 use Rattle.fragments.specs.declared.rule.Tally.{Tally}
 use Rattle.fragments.specs.Balance.{IsEven, tally}
@@ -16,7 +16,7 @@ sum_map : {X Y : Type 0} (f : Y → ℕ) (g : X → Y) (xs : List X) → sum_by 
 sum_map f g [] = refl
 sum_map f g (x ∷ xs) = let rest = sum_map f g xs in omega (arith, sum_by-cons f (g x) (map g xs), sum_by-cons (λ y. f (g y)) x xs)
 
-on_ok : {E : Type 0} {P : Type 0} (r : Result (Unit {0}) E) → IsOk r → OnOk r P → P
+pub on_ok : {E : Type 0} {P : Type 0} (r : Result (Unit {0}) E) → IsOk r → OnOk r P → P
 on_ok (Ok u) is p = p
 on_ok (Err e) is p = absurd (search rules)
 

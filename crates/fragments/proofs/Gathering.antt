@@ -1,5 +1,5 @@
 -- Places that are taken from the last one.
-use Rattle.std.proofs.Common.{◌≡◌, ◌≤◌, ◌<◌, ◌+◌, ◌-◌, ℕ, zero, suc, All, Err, IsOk, IsNone, List, [], ◌∷◌, ◌++◌, Option, Some, None, IfSome, ⊎_elim, Result, drop, length, length-append, slice_index_or, sum_by, take, sym, refl, ap, ◌∙◌, subst, arith, append-nil}
+use Rattle.std.proofs.Common.{◌≡◌, ◌≤◌, ◌<◌, ◌+◌, ℕ, zero, suc, All, Err, IsOk, List, [], ◌∷◌, ◌++◌, Option, Some, None, IfSome, ⊎_elim, drop, length, length-append, slice_index_or, sum_by, take, sym, refl, ap, ◌∙◌, subst, arith, append-nil}
 use Rattle.std.proofs.lemmas.Bool.{cases_lt}
 use Rattle.std.proofs.lemmas.List.{drop_all, get_or-take, length-take, take_all}
 use Rattle.std.proofs.lemmas.List.Elements.{All-push}

@@ -3,3 +3,4 @@ pub mod Balancing
 pub mod Dealt
 pub mod Gathering
 pub mod Taking
+pub mod Stopping

@@ -1,5 +1,5 @@
 -- A feeder takes one item more.
-use Rattle.std.proofs.Common.{◌≡◌, List, [], ◌∷◌, ◌++◌, append-nil, append_assoc, sym, ap, subst, ◌∙◌}
+use Rattle.std.proofs.Common.{List, [], ◌∷◌, ◌++◌, append-nil, append_assoc, sym, ap, subst, ◌∙◌}
 use Rattle.fragments.specs.Running.{TakesOn}
 
 module _ {T F C : Type 0} (took : F → C → F → C → List T → Type 0) where

@@ -1,6 +1,6 @@
 -- What was put into a queue, what was taken out of it, and what stands in it. `views` has what each pass did; lists run from
 -- the first item to the last.
-use Rattle.std.specs.Prelude.{◌≡◌, ℕ, ◌+◌, ◌<◌, List, [], ◌∷◌, ◌++◌, All, sum_by}
+use Rattle.std.specs.Prelude.{◌≡◌, ℕ, ◌+◌, List, [], ◌∷◌, ◌++◌, All, sum_by}
 use mathlib.Core.Option.{some}
 use lib.ListN.{get_elem?}
 use Rattle.fragments.specs.declared.rule.Tally.{Tally}

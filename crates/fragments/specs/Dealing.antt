@@ -1,12 +1,11 @@
 -- What a reading half did, and what was dealt to all feeders. Lists run from the first item to the last.
-use Rattle.std.specs.Prelude.{◌≡◌, ℕ, ◌+◌, ◌<◌, ◌-◌, List, [], Result, OnOk, IfErr, length, slice_index_or, sum_by}
+use Rattle.std.specs.Prelude.{◌≡◌, ℕ, ◌+◌, ◌<◌, List, [], Result, OnOk, IfErr, length, slice_index_or, sum_by}
 use Rattle.crossbeam_queue.specs.Passes.{IsPassOf, IsSamePass, Pass, view}
 use Rattle.crossbeam_queue.specs.declared.array_queue.Doing.{Doing}
 use Rattle.crossbeam_queue.specs.declared.array_queue.Slotted.{Slotted}
 use Rattle.std.specs.Prelude.{Option}
 use Rattle.fragments.specs.declared.rule.Tally.{Tally}
 use Rattle.fragments.specs.declared.reading.Stop.{Stop}
-use Rattle.fragments.specs.Balance.{tally}
 use Rattle.fragments.specs.Running.{EndsAt, Goes, GoesOn, MayRun, ReadsOn, StopsAt, StopsSo}
 
 module _ {T F C S Q A : Type 0} where

@@ -1,4 +1,5 @@
 pub mod Balance
+pub mod Causes
 pub mod Dealing
 pub mod Fragments
 pub mod Places

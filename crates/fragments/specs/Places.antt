@@ -1,5 +1,5 @@
 -- Places of fragments before and behind their work.
-use Rattle.std.specs.Prelude.{◌≡◌, ℕ, ◌<◌, ◌≤◌, List, [], Result, Err, IsOk, Option, length, slice_index_or, sum_by}
+use Rattle.std.specs.Prelude.{◌≡◌, ℕ, ◌<◌, ◌≤◌, List, [], Err, IsOk, Option, length, slice_index_or, sum_by}
 use Rattle.crossbeam_queue.specs.Passes.{IsPassOf, view}
 use Rattle.crossbeam_queue.specs.declared.array_queue.Doing.{Doing}
 use Rattle.crossbeam_queue.specs.declared.array_queue.Slotted.{Slotted}

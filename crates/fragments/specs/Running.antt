@@ -1,5 +1,5 @@
 -- What one thread did with a queue and its feeder. `w` is what its pass knows; lists run from the first item to the last.
-use Rattle.std.specs.Prelude.{◌≡◌, ℕ, List, [], ◌++◌, Result, OnOk, IfErr}
+use Rattle.std.specs.Prelude.{◌≡◌, List, [], ◌++◌, Result, OnOk, IfErr}
 use Rattle.fragments.specs.declared.rule.Tally.{Tally}
 use Rattle.fragments.specs.declared.reading.Stop.{Stop}
 use Rattle.fragments.specs.declared.reading.Stop.TheVariants.{Reading, Feeding}
@@ -9,6 +9,13 @@ module _ {T F C : Type 0} where
   pub record MayRun (admits : T → Type 0) (ready : F → C → Type 0) (takes : F → C → T → Type 0) (op : F) (beside : C) : Type 0 where
     pub ready_is : ready op beside
     pub takes_all : (x : T) → admits x → takes op beside x
+
+  -- a feeder may begin: it may be given what the queue admits, and has taken nothing since it is what it is
+  pub record MayBegin (admits : T → Type 0) (ready : F → C → Type 0) (takes : F → C → T → Type 0) (took : F → C → F → C → List T → Type 0)
+      (went : F → C → F → C → Type 0) (op : F) (beside : C) : Type 0 where
+    pub may : MayRun admits ready takes op beside
+    pub none : took op beside op beside []
+    pub here : went op beside op beside
 
   -- since it was the first one it has taken these
   pub record IsOn (took : F → C → F → C → List T → Type 0) (went : F → C → F → C → Type 0) (op : F) (beside : C) (op' : F) (beside' : C) (items : List T) : Type 0 where

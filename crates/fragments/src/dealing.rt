@@ -1,7 +1,8 @@
 //! Items go from one giver to several feeders.
-ghost use Rattle.std.specs.Prelude.{◌≡◌, ◌≤◌, ℕ, ◌<◌, [], OnOk, length, slice_index_or};
+ghost use Rattle.std.specs.Prelude.{IfErr, OnOk};
 ghost use Rattle.fragments.specs.Dealing.{IsDealt};
-ghost use Rattle.fragments.specs.Running.{MayRun};
+ghost use Rattle.fragments.specs.Running.{MayBegin};
+ghost use Rattle.fragments.specs.Causes.{IsCause, MayBeginAll, MayGive};
 
 use crate::at_gate::AtGate;
 use crate::feeding::{Feeder, Giver};
@@ -57,14 +58,15 @@ pub fn deal<
     ops: &mut [F],
     besides: &mut [C],
 ) -> Result<(), Failure<Q, E>>
-    requires giver { S.ready giver.old }
-    requires gives { (x : T) → S.gives giver.old x → J.admits x }
-    requires new { S.gave giver.old giver.old [] }
-    requires own { MayRun J.admits F.ready F.admits op.old beside.old × F.took op.old beside.old op.old beside.old [] × F.went op.old beside.old op.old beside.old }
-    requires others { (k : ℕ) (f : F) (c : C) → k < length ops.old → MayRun J.admits F.ready F.admits (slice_index_or ops.old k f) (slice_index_or besides.old k c) × F.took (slice_index_or ops.old k f) (slice_index_or besides.old k c) (slice_index_or ops.old k f) (slice_index_or besides.old k c) [] × F.went (slice_index_or ops.old k f) (slice_index_or besides.old k c) (slice_index_or ops.old k f) (slice_index_or besides.old k c) }
-    requires len { length besides.old ≡ length ops.old }
-    requires few { length ops.old ≤ 8 }
+    requires giver { MayGive J.admits S.ready S.gives S.gave S.went giver.old }
+    requires own { MayBegin J.admits F.ready F.admits F.took F.went op.old beside.old }
+    requires others { MayBeginAll J.admits F.ready F.admits F.took F.went ops.old besides.old }
+
+    // Each item went to one of the feeders, as often as it was given.
     ensures ok { OnOk result (IsDealt F.took S.ended giver.old op.old beside.old ops.old besides.old giver.new op.new beside.new ops.new besides.new) }
+
+    // The reading's refusal comes first, then the own feeder's, then that of the other with the least number.
+    ensures cause { IfErr result (IsCause F.took F.stops S.stops giver.old op.old beside.old ops.old besides.old giver.new beside.new ops.new besides.new) }
 {
     let Ok((queue, mut pass)) = open::<T, J>(alloc, ROOM) else {
         return Err(Failure::Memory);

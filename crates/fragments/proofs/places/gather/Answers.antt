@@ -1,8 +1,6 @@
-use Rattle.std.proofs.Common.{◌≡◌, ◌+◌, ◌++◌, ◌∙◌, ℕ, All, IsNone, IsOk, [], ap, append-nil, arith, length, refl, rules, subst, sum_by, sym}
-use Rattle.std.proofs.lemmas.List.{take_all}
+use Rattle.std.proofs.Common.{◌≡◌, ◌+◌, ◌++◌, ◌∙◌, IsOk, [], ap, append-nil, arith, rules, subst, sum_by, sym}
 use Rattle.std.proofs.lemmas.List.Sums.{sum_by-append}
 use Rattle.crossbeam_queue.specs.Passes.{view}
-use Rattle.fragments.specs.Balance.{tally}
 use Rattle.fragments.specs.Places.{HasDone, weight_at}
 use Rattle.fragments.proofs.Gathering.{all_front, all_last, all_both, front_less, refused_last, still_first, sum_last}
 use Rattle.fragments.proofs.places.gather.Goals as goal

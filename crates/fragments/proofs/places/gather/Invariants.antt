@@ -1,4 +1,4 @@
-use Rattle.std.proofs.Common.{◌≡◌, ◌+◌, ◌<◌, ◌≤◌, ℕ, All, IfSome, IsNone, IsOk, length, slice_index_or, sum_by, take, vec_len}
+use Rattle.std.proofs.Common.{◌≡◌, ◌+◌, ◌<◌, All, IfSome, IsNone, IsOk, length, sum_by, take, vec_len}
 use Rattle.crossbeam_queue.specs.Passes.{IsPassOf, IsSamePass, view}
 use Rattle.fragments.specs.Places.{HasDone, IsFirstFrom, weight_at}
 use Rattle.fragments.proofs.places.gather.Given as goal

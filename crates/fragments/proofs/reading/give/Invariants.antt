@@ -1,4 +1,4 @@
-use Rattle.std.proofs.Common.{◌≡◌, ◌<◌, []}
+use Rattle.std.proofs.Common.{◌≡◌}
 use Rattle.crossbeam_queue.specs.Passes.{IsPassOf, IsSamePass, view}
 use Rattle.fragments.specs.Running.{GoesOn, Goes, MayRun}
 use Rattle.fragments.proofs.reading.give.Given as goal

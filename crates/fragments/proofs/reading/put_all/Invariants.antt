@@ -1,4 +1,4 @@
-use Rattle.std.proofs.Common.{◌≡◌, ◌<◌, []}
+use Rattle.std.proofs.Common.{◌≡◌, ◌<◌}
 use Rattle.crossbeam_queue.specs.Passes.{IsPassOf, IsSamePass, view}
 use Rattle.fragments.specs.Running.{EndsAt, GivesOn, Goes, GoesOn, MayRun}
 use Rattle.fragments.proofs.reading.put_all.Given as goal

@@ -1,4 +1,4 @@
-use Rattle.std.proofs.Common.{◌≡◌, ◌<◌, []}
+use Rattle.std.proofs.Common.{◌≡◌}
 use Rattle.crossbeam_queue.specs.Passes.{IsPassOf, IsSamePass, view}
 use Rattle.fragments.specs.Running.{Goes, MayRun, TakesOn}
 use Rattle.fragments.proofs.reading.take_rest.Given as goal
