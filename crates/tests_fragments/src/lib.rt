@@ -5,7 +5,7 @@ mod batches;
 mod sharing;
 
 pub use batches::{Batch, share_batches};
-pub use sharing::{Kept, share};
+pub use sharing::{Kept, share, share_at};
 
 #[cfg(test)]
 mod tests;

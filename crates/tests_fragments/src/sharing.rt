@@ -2,11 +2,15 @@
 ghost use Rattle.std.specs.Prelude.{◌≡◌, ◌+◌, ◌++◌, ◌≤◌, [], ⊤, ℕ, All, List, OnOk, length, sum_by};
 
 use fragments::{Failure, Feeder, Giver, deal};
-use outside::Gate;
+use outside::{Gate, MeetGate};
 use std::alloc::{AllocError, Global};
 use std::marker::Brand;
 use std::sync::Wait;
+use std::thread;
 use std::thread::Threads;
+
+// For how many turns a giver waits.
+const TURNS: u64 = 10_000_000;
 
 /// Numbers that were taken.
 #[derive(Drop)]
@@ -86,5 +90,68 @@ pub fn share<R: Threads + Wait + Sync, G: Gate>(
         besides,
     );
     let Numbers { rest: _ } = numbers;
+    dealt
+}
+
+// Numbers after which the giver waits until the gate's first actor has come, so that the queue isn't emptied by one thread.
+struct Patient<'a> {
+    rest: &'a [u32],
+    gate: &'a MeetGate,
+}
+
+impl<'a> Giver<u32, ()> for Patient<'a> {
+    ghost ready = { λ s. ⊤ };
+
+    ghost gave = { λ a b items. a.rest.now ≡ items ++ b.rest.now };
+
+    ghost ended = { λ a b items. a.rest.now ≡ items };
+
+    ghost went = { λ a b. ⊤ };
+
+    ghost stops = { λ a b q. ⊤ };
+
+    ghost gives = { λ s x. ⊤ };
+
+    fn next(&mut self) -> Result<Option<u32>, ()> {
+        let Some((first, rest)) = self.rest.split_first() else {
+            for _turn in 0..TURNS {
+                if self.gate.came() {
+                    break;
+                }
+                thread::yield_now();
+            }
+            return Ok(None);
+        };
+        self.rest = rest;
+        Ok(Some(*first))
+    }
+}
+
+/// Shares a few numbers, fewer than the queue has room for, with fragments that may meet at the gate.
+pub fn share_at<R: Threads + Wait + Sync>(
+    rt: &R,
+    alloc: Global,
+    gate: &MeetGate,
+    all: &[u32],
+    own: &mut Kept,
+    others: &mut [Kept],
+    besides: &mut [()],
+) -> Result<(), Failure<(), AllocError>>
+    requires len { length besides.old ≡ length others.old }
+    requires few { length others.old ≤ 8 }
+{
+    let mut numbers = Patient { rest: all, gate };
+    let mut nothing = ();
+    let dealt = deal::<u32, Brand, (), AllocError, Kept, (), Patient, R, MeetGate>(
+        rt,
+        alloc,
+        gate,
+        &mut numbers,
+        own,
+        &mut nothing,
+        others,
+        besides,
+    );
+    let Patient { rest: _, gate: _ } = numbers;
     dealt
 }

@@ -99,21 +99,21 @@ fn numbers_are_shared_in_batches(rt: HostRuntime) -> Result<(), Fail> {
     Ok(())
 }
 
-// The first two fragments wait for each other when they have taken their first numbers, so that both of them have to work.
+// Ten numbers stand in the queue until the first fragment takes one, and waits for the second to take one too.
 #[test]
 fn two_fragments_meet_at_a_gate(rt: HostRuntime) -> Result<(), Fail> {
     let alloc = rt.alloc();
     let mut all = Vec::new(alloc);
-    for number in 0..200u32 {
+    for number in 0..10u32 {
         all.push(number)?;
     }
     let mut own = empty(alloc);
-    let mut others = three(alloc)?;
-    let mut besides = Vec::from_elem(alloc, (), 3)?;
+    let mut others = two(alloc)?;
+    let mut besides = Vec::from_elem(alloc, (), 2)?;
     let held = (2000, Point::FragmentTook);
     let until = (2001, Point::FragmentTook);
     let gate = MeetGate::new(held, until, 10_000_000)?;
-    let shared = share(
+    let shared = share_at(
         &rt,
         alloc,
         &gate,
@@ -127,4 +127,14 @@ fn two_fragments_meet_at_a_gate(rt: HostRuntime) -> Result<(), Fail> {
         (true, true, false)
     );
     Ok(())
+}
+
+fn two(alloc: Global) -> Result<Vec<Kept>, AllocError>
+    ensures len { IfOk result (λ v. vec_len v ≡ 2) }
+{
+    let mut all = Vec::new(alloc);
+    all.reserve(2)?;
+    all.push_reserved(empty(alloc));
+    all.push_reserved(empty(alloc));
+    Ok(all)
 }
