@@ -6,7 +6,8 @@ use Rattle.fragments.specs.Running.{MayBegin}
 
 module _ {T S : Type 0} where
   -- a giver may begin: it gives what the queue admits, and has given nothing since it is what it is
-  pub record MayGive (admits : T → Type 0) (ready : S → Type 0) (gives : S → T → Type 0) (gave : S → S → List T → Type 0) (went : S → S → Type 0) (giver : S) : Type 0 where
+  pub record MayGive (admits : T → Type 0) (ready : S → Type 0) (gives : S → T → Type 0) (gave : S → S → List T → Type 0) (went : S → S → Type 0)
+      (giver : S) : Type 0 where
     pub ready_is : ready giver
     pub admitted : (x : T) → gives giver x → admits x
     pub none : gave giver giver []
@@ -39,4 +40,5 @@ module _ {T F C S Q E : Type 0} (took : F → C → F → C → List T → Type 
   abbrev pub IsCause : S → F → C → List F → List C → S → C → List F → List C → Failure Q E → Type 0
   IsCause giver op beside ops besides giver' beside' ops' besides' Memory = ⊤
   IsCause giver op beside ops besides giver' beside' ops' besides' (Reading q) = why giver giver' q
-  IsCause giver op beside ops besides giver' beside' ops' besides' (Feeding e) = stops op beside beside' e ⊎ IsFirstStopped took stops ops besides ops' besides' e
+  IsCause giver op beside ops besides giver' beside' ops' besides' (Feeding e) =
+      stops op beside beside' e ⊎ IsFirstStopped took stops ops besides ops' besides' e

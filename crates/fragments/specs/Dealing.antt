@@ -22,7 +22,8 @@ module _ {T F C S E Q : Type 0} (admits : T → Type 0) (ready : F → C → Typ
     (took : F → C → F → C → List T → Type 0) (went : F → C → F → C → Type 0) (stops : F → C → C → E → Type 0)
     (gave ended : S → S → List T → Type 0) (left : S → S → Type 0) (why : S → S → Q → Type 0) where
   -- the reading half has put all that was given, and its feeder took what its pass took; or something stopped it
-  pub record DidRead (pass : Pass T (Tally T)) (giver : S) (op : F) (beside : C) (pass' : Pass T (Tally T)) (giver' : S) (op' : F) (beside' : C) (outcome : Result (Unit {0}) (Stop Q E)) : Type 0 where
+  pub record DidRead (pass : Pass T (Tally T)) (giver : S) (op : F) (beside : C) (pass' : Pass T (Tally T))
+      (giver' : S) (op' : F) (beside' : C) (outcome : Result (Unit {0}) (Stop Q E)) : Type 0 where
     pub same : IsSamePass pass pass'
     pub parts : (view pass').parts ≡ (view pass).parts
     pub read : OnOk outcome (ReadsOn gave ended giver giver' (view pass).put (view pass').put)
@@ -34,7 +35,8 @@ module _ {T F C S E Q : Type 0} (admits : T → Type 0) (ready : F → C → Typ
 
 module _ {T F C S : Type 0} (took : F → C → F → C → List T → Type 0) (ended : S → S → List T → Type 0) where
   -- all that was given went to the one feeder and to the others, each item as often as it was given
-  pub record IsDealt (giver : S) (op : F) (beside : C) (ops : List F) (besides : List C) (giver' : S) (op' : F) (beside' : C) (ops' : List F) (besides' : List C) : Type 0 where
+  pub record IsDealt (giver : S) (op : F) (beside : C) (ops : List F) (besides : List C)
+      (giver' : S) (op' : F) (beside' : C) (ops' : List F) (besides' : List C) : Type 0 where
     pub all : List T
     pub given : ended giver giver' all
     pub own : List T

@@ -18,7 +18,8 @@ module _ {T F C : Type 0} where
     pub here : went op beside op beside
 
   -- since it was the first one it has taken these
-  pub record IsOn (took : F → C → F → C → List T → Type 0) (went : F → C → F → C → Type 0) (op : F) (beside : C) (op' : F) (beside' : C) (items : List T) : Type 0 where
+  pub record IsOn (took : F → C → F → C → List T → Type 0) (went : F → C → F → C → Type 0)
+      (op : F) (beside : C) (op' : F) (beside' : C) (items : List T) : Type 0 where
     pub fed : took op beside op' beside' items
     pub left : went op beside op' beside'
 

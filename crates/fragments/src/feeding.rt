@@ -22,7 +22,8 @@ pub trait Feeder<T, C, E> {
     fn take(&mut self, beside: &mut C, item: T) -> Result<(), E>
         requires ready { ready self.old beside.old }
         requires item { admits self.old beside.old item }
-        ensures ok { OnOk result ((first : Self) (c : C) (items : List T) → took first c self.old beside.old items → took first c self.new beside.new (items ++ item ∷ [])) }
+        ensures ok { OnOk result ((first : Self) (c : C) (items : List T) → took first c self.old beside.old items
+            → took first c self.new beside.new (items ++ item ∷ [])) }
         ensures ready { ready self.new beside.new }
         ensures admits { (x : T) → admits self.old beside.old x → admits self.new beside.new x }
         ensures went { (first : Self) (c : C) → went first c self.old beside.old → went first c self.new beside.new }
@@ -52,7 +53,8 @@ pub trait Giver<T, Q> {
     /// The next item.
     fn next(&mut self) -> Result<Option<T>, Q>
         requires ready { ready self.old }
-        ensures some { IfOk result (λ o. MatchOption o ((first : Self) (items : List T) → gave first self.old items → ended first self.new items) (λ x. (first : Self) (items : List T) → gave first self.old items → gave first self.new (items ++ x ∷ []))) }
+        ensures some { IfOk result (λ o. MatchOption o ((first : Self) (items : List T) → gave first self.old items → ended first self.new items)
+            (λ x. (first : Self) (items : List T) → gave first self.old items → gave first self.new (items ++ x ∷ []))) }
         ensures gives { IfOk result (λ o. IfSome o (λ x. gives self.old x)) }
         ensures still { (x : T) → gives self.new x → gives self.old x }
         ensures ready { ready self.new }

@@ -73,7 +73,8 @@ pub(crate) fn absorb<T, J: Admits<T>>(
     requires pass { IsPassOf queue.now pass.old × IsPassOf queue.now other }
     requires part { 0 < (view pass.old).parts }
     ensures pass { IsSamePass pass.old pass.new }
-    ensures both { view pass.new ≡ tally ((view pass.old).parts + (view other).parts) ((view pass.old).put ++ (view other).put) ((view pass.old).taken ++ (view other).taken) }
+    ensures both { view pass.new ≡ tally ((view pass.old).parts + (view other).parts)
+        ((view pass.old).put ++ (view other).put) ((view pass.old).taken ++ (view other).taken) }
 {
     queue.absorb::<Cut>(pass, other)
 }

@@ -103,7 +103,8 @@ pub(crate) fn read_all<T: Drop, J: Admits<T>, C, E, F: Feeder<T, C, E>, Q, S: Gi
     requires giver { S.ready giver.old }
     requires gives { (x : T) → S.gives giver.old x → J.admits x }
     requires may { MayRun J.admits F.ready F.admits op.old beside.old }
-    ensures { DidRead J.admits F.ready F.admits F.took F.went F.stops S.gave S.ended S.went S.stops pass.old giver.old op.old beside.old pass.new giver.new op.new beside.new result }
+    ensures { DidRead J.admits F.ready F.admits F.took F.went F.stops S.gave S.ended S.went S.stops pass.old giver.old op.old beside.old
+        pass.new giver.new op.new beside.new result }
 {
     let done = put_all(rt, queue, pass, giver, op, beside);
     ended.store(true, Ordering::SeqCst);
