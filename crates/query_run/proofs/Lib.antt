@@ -20,6 +20,7 @@ mod Pairing
 mod Reading
 mod Refusing
 mod Results
+pub mod Runs
 mod Says
 mod Sending
 mod Sides

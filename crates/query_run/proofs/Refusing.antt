@@ -5,7 +5,6 @@ use Rattle.std.specs.Option.{option_or}
 use Rattle.reservation_tree.specs.declared.errors.PoolErr.{PoolErr}
 use Rattle.reservation_tree.specs.declared.errors.PoolErr.TheVariants as pool
 use Rattle.store_api.specs.Holdings.{Holdings}
-use Rattle.store_api.specs.Signs.{Signs}
 use Rattle.query_plan.specs.declared.plan.Query.{Query}
 use Rattle.query_plan.specs.declared.plan.Side.{Side}
 use Rattle.query_plan.specs.declared.plan.Side.TheVariants.{Left, Right}
@@ -13,7 +12,7 @@ use Rattle.query_plan.specs.declared.plan.SidePlan.{SidePlan}
 use Rattle.query_plan.specs.Sizes.{page_len}
 use Rattle.query_run.specs.Both.{Told, both_told}
 use Rattle.query_run.specs.Causes.{IsOfBytes, side_of}
-use Rattle.query_run.specs.Completing.{HasSaid, IsRefusedFirst, IsUnhindered, Refuses, right_refusal}
+use Rattle.query_run.specs.Completing.{Course, HasSaid, IsRefusedFirst, IsUnhindered, Refuses, right_refusal}
 use Rattle.query_run.specs.Input.{IsAccepted, IsRefusalIn, most_bytes, refusal_in, refusal_of}
 use Rattle.query_run.specs.Refused.{SaysOfRight, SaysOfSide, Source}
 use Rattle.query_run.specs.Stopped.{IsRest, IsWantBelow, MayStop, StoppedQuery}
@@ -45,8 +44,17 @@ not-large : (plan : Query) (side : Side) (asked : SidePlan) (page : ℕ) (bytes 
 not-large plan side asked page bytes said fits (inl is) = is
 not-large plan side asked page bytes said fits (inr large) = let more = large.1 in absurd (omega (arith, more, fits))
 
-module _ (plan : Query) (lefts rights : Source) (start : Holdings) (old new : Signs) (writes writes_now : ℕ) where
-  module _ (both : Told) (clear : IsUnhindered plan both lefts rights start old new writes writes_now) where
+module _ (plan : Query) (course : Course) where
+  abbrev lefts : Source
+  lefts = course.lefts
+
+  abbrev rights : Source
+  rights = course.rights
+
+  abbrev start : Holdings
+  start = course.start
+
+  module _ (both : Told) (clear : IsUnhindered plan both course) where
     -- slots were not wanting
     abbrev most : Told → ℕ
     most told = need plan (page_len plan start.block_len) told * plan.page_blocks
@@ -63,7 +71,7 @@ module _ (plan : Query) (lefts rights : Source) (start : Holdings) (old new : Si
         subst (λ (o : Option Told). IfSome o (λ told. IsWantBelow (most told) start.free_slots (pool.ScratchFull blocks free))) clear.told_is lacks in
         enough-of start.free_slots blocks free rest here clear.store.enough
 
-    pub only_memory : (e : PoolErr) → StoppedQuery plan (both_told lefts.told rights.told) start old new e → e ≡ pool.Memory
+    pub only_memory : (e : PoolErr) → StoppedQuery plan (both_told lefts.told rights.told) start course.old course.new e → e ≡ pool.Memory
     only_memory (pool.NoReservation tracker wanted room) stop = absurd stop.answered
     only_memory (pool.ScratchFull blocks free) stop = absurd (enough-slots blocks free stop.want.1 (stop.enough clear.store.tells))
     only_memory (pool.WriteFault entry) stop = let none = clear.store.failures in let more = stop.answered.rose in absurd (omega (arith, none, more))
@@ -73,12 +81,12 @@ module _ (plan : Query) (lefts rights : Source) (start : Holdings) (old new : Si
     only_memory pool.Memory stop = refl
     only_memory (pool.Stale wanted found) stop = let none = clear.store.stale in let more = stop.answered.rose in absurd (omega (arith, none, more))
 
-  module _ (why said : QueryErr) (first : IsRefusedFirst plan lefts rights start old new writes writes_now why)
-      (says : HasSaid plan lefts rights start old new writes writes_now said) where
+  module _ (why said : QueryErr) (first : IsRefusedFirst plan course why)
+      (says : HasSaid plan course said) where
     abbrev page : ℕ
     page = page_len plan start.block_len
 
-    abbrev clear : IsUnhindered plan first.both lefts rights start old new writes writes_now
+    abbrev clear : IsUnhindered plan first.both course
     clear = first.unhindered
 
     found-in : (side : Side) (asked : SidePlan) (input : Source) (bytes : List ℕ) → input.told ≡ Some bytes → length bytes ≤ most_bytes
@@ -127,11 +135,11 @@ module _ (plan : Query) (lefts rights : Source) (start : Holdings) (old new : Si
     said-so query.SinkFault is = absurd (clear.sink_quiet (says.sink.fault is))
     said-so (query.Pool e) is =
         inr (is ∙ ap (λ (e : PoolErr). query.Pool e) (only_memory first.both clear e
-        (subst (MayStop plan (both_told lefts.told rights.told) start old new) is says.pool)))
+        (subst (MayStop plan (both_told lefts.told rights.told) start course.old course.new) is says.pool)))
 
     pub refused_first : (said ≡ why) ⊎ (said ≡ query.Pool pool.Memory)
     refused_first = said-so said refl
 
 pub refuses : Refuses
-refuses plan lefts rights start old new writes writes_now why said first says =
-    refused_first plan lefts rights start old new writes writes_now why said first says
+refuses plan course why said first says =
+    refused_first plan course why said first says

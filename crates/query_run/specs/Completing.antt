@@ -17,6 +17,16 @@ use Rattle.query_run.specs.Through.{need}
 use Rattle.query_plan.specs.declared.outcome.QueryErr.{QueryErr}
 use Rattle.query_plan.specs.declared.outcome.QueryErr.TheVariants.{Pool, SinkFault}
 
+-- a query over a call: its inputs, its store at the start, what this showed before and after, and the faults that its sink counted
+pub record Course : Type 0 where
+  pub lefts : Source
+  pub rights : Source
+  pub start : Holdings
+  pub old : Signs
+  pub new : Signs
+  pub writes : ℕ
+  pub writes_now : ℕ
+
 -- a source had no fault over a call
 abbrev pub IsQuiet : Source → Type 0
 IsQuiet input = Rose input.faults input.faults_now → ⊥
@@ -31,18 +41,18 @@ pub record StoreSuffices (plan : Query) (both : Told) (start : Holdings) (old ne
   pub names : new.spent ≡ false
 
 -- the bytes of the inputs are told, the store suffices for them, and neither a source nor the sink had a fault
-pub record IsUnhindered (plan : Query) (both : Told) (lefts rights : Source) (start : Holdings) (old new : Signs) (writes writes_now : ℕ) : Type 0 where
-  pub told_is : both_told lefts.told rights.told ≡ Some both
-  pub store : StoreSuffices plan both start old new
-  pub lefts_quiet : IsQuiet lefts
-  pub rights_quiet : IsQuiet rights
-  pub sink_quiet : Rose writes writes_now → ⊥
+pub record IsUnhindered (plan : Query) (both : Told) (course : Course) : Type 0 where
+  pub told_is : both_told course.lefts.told course.rights.told ≡ Some both
+  pub store : StoreSuffices plan both course.start course.old course.new
+  pub lefts_quiet : IsQuiet course.lefts
+  pub rights_quiet : IsQuiet course.rights
+  pub sink_quiet : Rose course.writes course.writes_now → ⊥
 
 -- nothing stands in the way of an answer: the inputs are accepted to their ends too
-pub record IsClear (plan : Query) (lefts rights : Source) (start : Holdings) (old new : Signs) (writes writes_now : ℕ) : Type 0 where
+pub record IsClear (plan : Query) (course : Course) : Type 0 where
   pub both : Told
-  pub accepted : AreAccepted plan (page_len plan start.block_len) both
-  pub unhindered : IsUnhindered plan both lefts rights start old new writes writes_now
+  pub accepted : AreAccepted plan (page_len plan course.start.block_len) both
+  pub unhindered : IsUnhindered plan both course
 
 -- the first refusal of the inputs in the order of reading: the left one's, or else where the query joins the right one's
 abbrev pub right_refusal : Option SidePlan → Query → ℕ → List ℕ → Option QueryErr
@@ -53,26 +63,26 @@ abbrev pub first_refusal_of : Query → ℕ → Told → Option QueryErr
 first_refusal_of plan page both = option_or (refusal_of plan page both.left) (right_refusal plan.right plan page both.right)
 
 -- the inputs are refused for this first, and nothing stands in the way before that place; neither has too many bytes
-pub record IsRefusedFirst (plan : Query) (lefts rights : Source) (start : Holdings) (old new : Signs) (writes writes_now : ℕ) (why : QueryErr) : Type 0 where
+pub record IsRefusedFirst (plan : Query) (course : Course) (why : QueryErr) : Type 0 where
   pub both : Told
-  pub refusal : first_refusal_of plan (page_len plan start.block_len) both ≡ Some why
+  pub refusal : first_refusal_of plan (page_len plan course.start.block_len) both ≡ Some why
   pub left_fits : length both.left ≤ most_bytes
   pub right_fits : length both.right ≤ most_bytes
-  pub unhindered : IsUnhindered plan both lefts rights start old new writes writes_now
+  pub unhindered : IsUnhindered plan both course
 
 -- what the query says of its inputs, of the pool, and of the sink, where it ended so
-pub record HasSaid (plan : Query) (lefts rights : Source) (start : Holdings) (old new : Signs) (writes writes_now : ℕ) (why : QueryErr) : Type 0 where
-  pub inputs : SaysOfInputs plan (page_len plan start.block_len) lefts rights why
-  pub pool : MayStop plan (both_told lefts.told rights.told) start old new why
-  pub sink : CountsSink (why ≡ SinkFault) writes writes_now
+pub record HasSaid (plan : Query) (course : Course) (why : QueryErr) : Type 0 where
+  pub inputs : SaysOfInputs plan (page_len plan course.start.block_len) course.lefts course.rights why
+  pub pool : MayStop plan (both_told course.lefts.told course.rights.told) course.start course.old course.new why
+  pub sink : CountsSink (why ≡ SinkFault) course.writes course.writes_now
 
 -- where nothing stands in the way, only memory can have been wanting
 abbrev pub Completes : Type 0
-Completes = (plan : Query) (lefts rights : Source) (start : Holdings) (old new : Signs) (writes writes_now : ℕ) (why : QueryErr)
-    → IsClear plan lefts rights start old new writes writes_now → HasSaid plan lefts rights start old new writes writes_now why → why ≡ Pool Memory
+Completes = (plan : Query) (course : Course) (why : QueryErr)
+    → IsClear plan course → HasSaid plan course why → why ≡ Pool Memory
 
 -- and where an input is refused, the query says the first refusal, or memory was wanting
 abbrev pub Refuses : Type 0
-Refuses = (plan : Query) (lefts rights : Source) (start : Holdings) (old new : Signs) (writes writes_now : ℕ) (why said : QueryErr)
-    → IsRefusedFirst plan lefts rights start old new writes writes_now why → HasSaid plan lefts rights start old new writes writes_now said
+Refuses = (plan : Query) (course : Course) (why said : QueryErr)
+    → IsRefusedFirst plan course why → HasSaid plan course said
     → (said ≡ why) ⊎ (said ≡ Pool Memory)

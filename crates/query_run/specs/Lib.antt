@@ -19,3 +19,4 @@ pub mod Feeder
 pub mod FeederLaws
 pub mod Spilling
 pub mod Completing
+pub mod Run

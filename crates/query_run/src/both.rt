@@ -1,7 +1,7 @@
 // A query that joins the rows of its two inputs, and groups their pairs.
 
-ghost use Rattle.std.specs.Prelude.{◌≡◌, ◌≢◌, ◌+◌, ◌*◌, ◌++◌, ◌≤◌, ◌<◌, ◌^◌, ◌⊎◌, [], List, Option, IfErr, IfOk, IfSome, IsErrOf, IsSome, None, OnErr, OnOk, Some, length, true};
-ghost use Rattle.std.specs.Io.KnownBytes.{Appends, IsAtEnd};
+ghost use Rattle.std.specs.Prelude.{◌≡◌, ◌≢◌, ◌+◌, ◌*◌, ◌++◌, ◌<◌, ◌^◌, [], List, Option, IfErr, IfOk, IfSome, IsErrOf, None, OnErr, OnOk, Some, length, true};
+ghost use Rattle.std.specs.Io.KnownBytes.{Appends};
 ghost use Rattle.outside.specs.Sinks.{StopsAt};
 ghost use Rattle.pool_model.specs.declared.entry.Entry.{Entry};
 ghost use Rattle.row_codec.specs.declared.values.Value.{Value};
@@ -17,19 +17,19 @@ ghost use Rattle.group_op.specs.Making.{pages_on};
 ghost use Rattle.group_op.specs.Operator as group;
 ghost use Rattle.join_op.specs.Operator.{IsFeeding, IsOperator, Keeps};
 ghost use Rattle.join_op.specs.Pairs.{pairs_of};
-ghost use Rattle.query_plan.specs.Sizes.{groups, joins, page_len};
-ghost use Rattle.query_run.specs.Answer.{LineNumbers, Numbers, WroteAnswer, WroteFront, answer_text, group_rows};
+ghost use Rattle.query_plan.specs.Sizes.{groups, joins};
+ghost use Rattle.query_run.specs.Answer.{LineNumbers, answer_text, group_rows};
 ghost use Rattle.query_run.specs.Both.{both_told};
 ghost use Rattle.query_run.specs.Causes.{OfPool, side_of};
 ghost use Rattle.query_run.specs.Feeder.{HasStopped};
 ghost use Rattle.query_run.specs.Inside.{HasEndedFirst, IsFedFor, IsOfStore, slots_of_both};
 ghost use Rattle.query_run.specs.Joined.{HoldsRowsWhile};
 ghost use Rattle.query_run.specs.Plans.{HasGroups, IsRunnable, grouping_of, join_shape_of, shape_of};
-ghost use Rattle.query_run.specs.Refused.{SaysOfInputs, source};
-ghost use Rattle.query_run.specs.Stopped.{CountsSink, HasRoomFor, MayStop, RanOver, StoppedOver};
+ghost use Rattle.query_run.specs.Run.{RanQuery, ReadAndWrote, world};
+ghost use Rattle.query_run.specs.Stopped.{CountsSink, HasRoomFor, StoppedOver};
 ghost use Rattle.query_run.specs.Taking.{LeftStands, join_slots};
 ghost use Rattle.query_run.specs.Through.{lefts_taken, pairs_taken, rights_taken, rows_through};
-ghost use Rattle.query_run.specs.Trail.{HoldsRows, KeptRows, KeptSides};
+ghost use Rattle.query_run.specs.Trail.{HoldsRows, KeptSides};
 ghost use Rattle.query_run.specs.Writing.{HoldsFor};
 
 use crate::client::own_client;
@@ -166,22 +166,13 @@ fn answer<St: Store, S: Source, K: Sink>(
     requires apart { second.tracker ≢ join.client.tracker }
     requires page { (page ≡ length_of plan.now.page_blocks (St.holds store.old)) × (page < 2 ^ 32) }
     requires long { 0 < (St.holds store.old).block_len }
-    ensures answer { (St.holds store.old).told ≡ true → OnOk result.0 (WroteAnswer plan.now page (both_told (S.remaining left.old) (S.remaining right.old)) (K.contents sink.old) (K.contents sink.new)) }
-    ensures read { OnOk result.0 (IsAtEnd (S.remaining left.new) × IsAtEnd (S.remaining right.new)) }
-    ensures numbers { IfOk result.0 (λ ran. IfSome (both_told (S.remaining left.old) (S.remaining right.old)) (Numbers plan.now page (St.holds store.old).told ran)) }
-    ensures input { IfErr result.0 (SaysOfInputs plan.now page (source (S.remaining left.old) (S.remaining left.new) (S.faults left.old) (S.faults left.new)) (source (S.remaining right.old) (S.remaining right.new) (S.faults right.old) (S.faults right.new))) }
+    ensures outside { ReadAndWrote S.Source K.Sink plan.now page (St.holds store.old).told (world left.old (Some right.old) sink.old) (world left.new (Some right.new) sink.new) result.0 }
     ensures pool { IfErr result.0 (StoppedOver plan.now.page_blocks (join_slots join (St.holds store.old) (St.signs store.old)) (St.signs store.old) (St.signs store.new)) }
     ensures enough { IfErr result.0 (OfPool (λ e. (St.holds store.old).told ≡ true → IfSome (both_told (S.remaining left.old) (S.remaining right.old)) (λ both. IsWantBelow (slots_of_both plan.now page (lefts_taken plan.now page both) (rights_taken plan.now page both) (pairs_taken plan.now page both)) (join_slots join (St.holds store.old) (St.signs store.old)) e))) }
     ensures free { (St.holds store.new).free_slots ≡ join_slots join (St.holds store.old) (St.signs store.old) }
     ensures made { (St.holds store.old).told ≡ true → IfSome (both_told (S.remaining left.old) (S.remaining right.old)) (λ both. MakesFew (16 * rows_through plan.now both) (St.signs store.old) (St.signs store.new)) }
-    ensures untouched { IfErr result.0 (λ e. IsSome (side_of e) → sink.new ≡ sink.old) }
-    ensures stopped { IfErr result.0 (λ _. (sink.new ≡ sink.old) ⊎ (IsAtEnd (S.remaining left.new) × IsAtEnd (S.remaining right.new) × ((St.holds store.old).told ≡ true → WroteFront plan.now page (both_told (S.remaining left.old) (S.remaining right.old)) (K.contents sink.old) (K.contents sink.new)))) }
-    ensures front { (St.holds store.old).told ≡ true → IsErrOf result.0 QueryErr.SinkFault → WroteFront plan.now page (both_told (S.remaining left.old) (S.remaining right.old)) (K.contents sink.old) (K.contents sink.new) }
-    ensures sink { CountsSink (IsErrOf result.0 QueryErr.SinkFault) (K.faults sink.old) (K.faults sink.new) }
-    ensures stops { StopsAt (IsErrOf result.0 QueryErr.SinkFault) (K.at_failure sink.old) (K.at_failure sink.new) (K.contents sink.new) }
     ensures kept { OnOk result.0 (KeptSides plan.now asked.now page (S.remaining left.old) (S.remaining right.old) (St.signs store.old).trail (St.signs store.new).trail) }
     ensures clients { HasStopped second result.1 (St.holds store.new) × HasEndedFirst join.client.tracker second.tracker (St.holds store.old) (St.holds store.new) (St.signs store.old) (St.signs store.new) }
-    ensures sources_kept { (S.faults left.old ≤ S.faults left.new) × (S.faults right.old ≤ S.faults right.new) }
 {
     let (fed, join) = feed_both(alloc, store, join, plan, asked, page, left, right);
     let fed = match fed {
@@ -213,19 +204,7 @@ pub(crate) fn run_both<St: Store, S: Source, K: Sink>(
     requires joins { joins plan.now ≡ true }
     requires groups { groups plan.now ≡ true }
     requires store { HasRoomFor plan.now (St.holds store.old) }
-    ensures answer { (St.holds store.old).told ≡ true → OnOk result (WroteAnswer plan.now (page_len plan.now (St.holds store.old).block_len) (both_told (S.remaining left.old) (S.remaining right.old)) (K.contents sink.old) (K.contents sink.new)) }
-    ensures read { OnOk result (IsAtEnd (S.remaining left.new) × IsAtEnd (S.remaining right.new)) }
-    ensures numbers { IfOk result (λ ran. IfSome (both_told (S.remaining left.old) (S.remaining right.old)) (Numbers plan.now (page_len plan.now (St.holds store.old).block_len) (St.holds store.old).told ran)) }
-    ensures input { IfErr result (SaysOfInputs plan.now (page_len plan.now (St.holds store.old).block_len) (source (S.remaining left.old) (S.remaining left.new) (S.faults left.old) (S.faults left.new)) (source (S.remaining right.old) (S.remaining right.new) (S.faults right.old) (S.faults right.new))) }
-    ensures pool { IfErr result (MayStop plan.now (both_told (S.remaining left.old) (S.remaining right.old)) (St.holds store.old) (St.signs store.old) (St.signs store.new)) }
-    ensures front { (St.holds store.old).told ≡ true → IsErrOf result QueryErr.SinkFault → WroteFront plan.now (page_len plan.now (St.holds store.old).block_len) (both_told (S.remaining left.old) (S.remaining right.old)) (K.contents sink.old) (K.contents sink.new) }
-    ensures untouched { IfErr result (λ e. IsSome (side_of e) → sink.new ≡ sink.old) }
-    ensures stopped { IfErr result (λ _. (sink.new ≡ sink.old) ⊎ (IsAtEnd (S.remaining left.new) × IsAtEnd (S.remaining right.new) × ((St.holds store.old).told ≡ true → WroteFront plan.now (page_len plan.now (St.holds store.old).block_len) (both_told (S.remaining left.old) (S.remaining right.old)) (K.contents sink.old) (K.contents sink.new)))) }
-    ensures sink { CountsSink (IsErrOf result QueryErr.SinkFault) (K.faults sink.old) (K.faults sink.new) }
-    ensures stops { StopsAt (IsErrOf result QueryErr.SinkFault) (K.at_failure sink.old) (K.at_failure sink.new) (K.contents sink.new) }
-    ensures kept { OnOk result (KeptRows plan.now (page_len plan.now (St.holds store.old).block_len) (S.remaining left.old) (S.remaining right.old) (St.signs store.old).trail (St.signs store.new).trail) }
-    ensures store { RanOver plan.now (both_told (S.remaining left.old) (S.remaining right.old)) (St.holds store.old) (St.holds store.new) (St.signs store.old) (St.signs store.new) }
-    ensures sources_kept { (S.faults left.old ≤ S.faults left.new) × (S.faults right.old ≤ S.faults right.new) }
+    ensures { RanQuery S.Source K.Sink St.Store plan.now (world left.old (Some right.old) sink.old) (world left.new (Some right.new) sink.new) store.old store.new result }
 {
     let Some(asked) = &plan.right else {
         unreachable!();

@@ -1,23 +1,19 @@
 // A query that groups the rows of its left input, and has no other one.
 
-ghost use Rattle.std.specs.Prelude.{◌≡◌, ◌*◌, ◌++◌, ◌≤◌, ◌<◌, ◌^◌, ◌⊎◌, [], Some, IfErr, IfOk, IfSome, IsErrOf, IsSome, OnOk, true};
-ghost use Rattle.std.specs.Io.KnownBytes.{IsAtEnd};
-ghost use Rattle.outside.specs.Sinks.{StopsAt};
+ghost use Rattle.std.specs.Prelude.{◌≡◌, ◌*◌, ◌++◌, ◌<◌, ◌^◌, [], Some, IfErr, IfOk, IfSome, OnOk, true};
 ghost use Rattle.tuple_stream.specs.Families.{slots_in};
 ghost use Rattle.partition_stack.specs.Making.{MakesFew};
 ghost use Rattle.partition_stack.specs.Slots.{IsWantBelow};
 ghost use Rattle.partition_stack.specs.Stack.{over};
 ghost use Rattle.group_op.specs.Operator.{IsFeeding, IsOperator, Keeps, page_of, slots_for, started};
-ghost use Rattle.query_plan.specs.Sizes.{page_len};
-ghost use Rattle.query_run.specs.Answer.{Numbers, WroteAnswer, WroteFront};
 ghost use Rattle.query_run.specs.Both.{both_told};
-ghost use Rattle.query_run.specs.Causes.{OfPool, side_of};
+ghost use Rattle.query_run.specs.Causes.{OfPool};
 ghost use Rattle.query_run.specs.Inside.{GoesOn};
 ghost use Rattle.query_run.specs.Plans.{HasGroups, IsGrouping, kinds_of_columns, row_columns, shape_of};
-ghost use Rattle.query_run.specs.Refused.{SaysOfSide, source};
-ghost use Rattle.query_run.specs.Stopped.{CountsSink, HasRoomFor, MayStop, RanOver, StoppedOver};
+ghost use Rattle.query_run.specs.Run.{RanQuery, ReadAndWrote, world};
+ghost use Rattle.query_run.specs.Stopped.{HasRoomFor, StoppedOver};
 ghost use Rattle.query_run.specs.Through.{rows_through, taken_in};
-ghost use Rattle.query_run.specs.Trail.{KeptAndRead, KeptGroups};
+ghost use Rattle.query_run.specs.Trail.{KeptAndRead};
 
 use crate::client::own_client;
 use crate::feeding::feed_side;
@@ -40,19 +36,7 @@ pub(crate) fn run_grouped<St: Store, S: Source, K: Sink>(
 ) -> Result<Ran, QueryErr>
     requires plan { IsGrouping plan.now }
     requires store { HasRoomFor plan.now (St.holds store.old) }
-    ensures answer { (St.holds store.old).told ≡ true → OnOk result (WroteAnswer plan.now (page_len plan.now (St.holds store.old).block_len) (both_told (S.remaining left.old) (Some [])) (K.contents sink.old) (K.contents sink.new)) }
-    ensures read { OnOk result (IsAtEnd (S.remaining left.new)) }
-    ensures numbers { IfOk result (λ ran. IfSome (both_told (S.remaining left.old) (Some [])) (Numbers plan.now (page_len plan.now (St.holds store.old).block_len) (St.holds store.old).told ran)) }
-    ensures input { IfErr result (SaysOfSide plan.now Side.Left plan.now.left (page_len plan.now (St.holds store.old).block_len) (source (S.remaining left.old) (S.remaining left.new) (S.faults left.old) (S.faults left.new))) }
-    ensures pool { IfErr result (MayStop plan.now (both_told (S.remaining left.old) (Some [])) (St.holds store.old) (St.signs store.old) (St.signs store.new)) }
-    ensures front { (St.holds store.old).told ≡ true → IsErrOf result QueryErr.SinkFault → WroteFront plan.now (page_len plan.now (St.holds store.old).block_len) (both_told (S.remaining left.old) (Some [])) (K.contents sink.old) (K.contents sink.new) }
-    ensures untouched { IfErr result (λ e. IsSome (side_of e) → sink.new ≡ sink.old) }
-    ensures stopped { IfErr result (λ _. (sink.new ≡ sink.old) ⊎ (IsAtEnd (S.remaining left.new) × ((St.holds store.old).told ≡ true → WroteFront plan.now (page_len plan.now (St.holds store.old).block_len) (both_told (S.remaining left.old) (Some [])) (K.contents sink.old) (K.contents sink.new)))) }
-    ensures sink { CountsSink (IsErrOf result QueryErr.SinkFault) (K.faults sink.old) (K.faults sink.new) }
-    ensures stops { StopsAt (IsErrOf result QueryErr.SinkFault) (K.at_failure sink.old) (K.at_failure sink.new) (K.contents sink.new) }
-    ensures kept { OnOk result (KeptGroups plan.now (page_len plan.now (St.holds store.old).block_len) (S.remaining left.old) (St.signs store.old).trail (St.signs store.new).trail) }
-    ensures store { RanOver plan.now (both_told (S.remaining left.old) (Some [])) (St.holds store.old) (St.holds store.new) (St.signs store.old) (St.signs store.new) }
-    ensures source_kept { S.faults left.old ≤ S.faults left.new }
+    ensures { RanQuery S.Source K.Sink St.Store plan.now (world left.old None sink.old) (world left.new None sink.new) store.old store.new result }
 {
     let block_len = store.block_len();
     let page = u64::from(plan.page_blocks) * u64::from(block_len);
@@ -147,21 +131,12 @@ fn answer<St: Store, S: Source, K: Sink>(
     requires page { page ≡ page_of op.old (St.holds store.old) }
     requires short { page < 2 ^ 32 }
     requires long { 0 < page }
-    ensures answer { (St.holds store.old).told ≡ true → OnOk result (WroteAnswer plan.now page (both_told (S.remaining left.old) (Some [])) (K.contents sink.old) (K.contents sink.new)) }
-    ensures read { OnOk result (IsAtEnd (S.remaining left.new)) }
-    ensures numbers { IfOk result (λ ran. IfSome (both_told (S.remaining left.old) (Some [])) (Numbers plan.now page (St.holds store.old).told ran)) }
-    ensures input { IfErr result (SaysOfSide plan.now Side.Left plan.now.left page (source (S.remaining left.old) (S.remaining left.new) (S.faults left.old) (S.faults left.new))) }
+    ensures outside { ReadAndWrote S.Source K.Sink plan.now page (St.holds store.old).told (world left.old None sink.old) (world left.new None sink.new) result }
     ensures pool { IfErr result (StoppedOver op.old.parts.page_blocks (slots_in (over op.old.parts (St.holds store.old) (St.signs store.old))) (St.signs store.old) (St.signs store.new)) }
     ensures enough { IfErr result (OfPool (λ e. (St.holds store.old).told ≡ true → IfSome (S.remaining left.old) (λ bytes. IsWantBelow (slots_for 544 op.old (St.holds store.old) (taken_in plan.now plan.now.left page bytes)) (slots_in (over op.old.parts (St.holds store.old) (St.signs store.old))) e))) }
     ensures made { (St.holds store.old).told ≡ true → IfSome (both_told (S.remaining left.old) (Some [])) (λ both. MakesFew (16 * rows_through plan.now both) (St.signs store.old) (St.signs store.new)) }
-    ensures front { (St.holds store.old).told ≡ true → IsErrOf result QueryErr.SinkFault → WroteFront plan.now page (both_told (S.remaining left.old) (Some [])) (K.contents sink.old) (K.contents sink.new) }
-    ensures untouched { IfErr result (λ e. IsSome (side_of e) → sink.new ≡ sink.old) }
-    ensures stopped { IfErr result (λ _. (sink.new ≡ sink.old) ⊎ (IsAtEnd (S.remaining left.new) × ((St.holds store.old).told ≡ true → WroteFront plan.now page (both_told (S.remaining left.old) (Some [])) (K.contents sink.old) (K.contents sink.new)))) }
-    ensures sink { CountsSink (IsErrOf result QueryErr.SinkFault) (K.faults sink.old) (K.faults sink.new) }
-    ensures stops { StopsAt (IsErrOf result QueryErr.SinkFault) (K.at_failure sink.old) (K.at_failure sink.new) (K.contents sink.new) }
     ensures kept { OnOk result (KeptAndRead plan.now page (S.remaining left.old) (over op.new.parts (St.holds store.new) (St.signs store.new)) (St.signs store.old).trail (St.signs store.new).trail) }
     ensures went { GoesOn op.old op.new (St.holds store.old) (St.holds store.new) (St.signs store.old) (St.signs store.new) }
-    ensures source_kept { S.faults left.old ≤ S.faults left.new }
 {
     law_few();
     let fed = feed_side(alloc, store, op, plan, Side::Left, &plan.left, page, left)?;

@@ -1,16 +1,10 @@
 // A query, from the bytes of its inputs to those of its answer.
 
-ghost use Rattle.std.specs.Prelude.{◌≡◌, ◌≤◌, ◌⊎◌, IfErr, IfOk, IfSome, IsErrOf, IsSome, OnOk, is_some, true};
-ghost use Rattle.std.specs.Io.KnownBytes.{IsAtEnd};
-ghost use Rattle.outside.specs.Sinks.{StopsAt};
-ghost use Rattle.query_plan.specs.Sizes.{joins, page_len};
-ghost use Rattle.query_run.specs.Answer.{Numbers, WroteAnswer, WroteFront};
-ghost use Rattle.query_run.specs.Both.{HoldsInput, both_told, faults_in, told_in};
-ghost use Rattle.query_run.specs.Causes.{side_of};
+ghost use Rattle.std.specs.Prelude.{◌≡◌, is_some};
+ghost use Rattle.query_plan.specs.Sizes.{joins};
 ghost use Rattle.query_run.specs.Plans.{IsRunnable};
-ghost use Rattle.query_run.specs.Refused.{SaysOfInputs, source};
-ghost use Rattle.query_run.specs.Stopped.{CountsSink, HasRoomFor, MayStop, RanOver};
-ghost use Rattle.query_run.specs.Trail.{KeptRows};
+ghost use Rattle.query_run.specs.Run.{RanQuery, world};
+ghost use Rattle.query_run.specs.Stopped.{HasRoomFor};
 
 use crate::both::run_both;
 use crate::grouped::run_grouped;
@@ -58,21 +52,7 @@ pub fn run_query<St: Store, S: Source, K: Sink>(
     requires plan { IsRunnable plan.now }
     requires store { HasRoomFor plan.now (St.holds store.old) }
     requires right { is_some right.old ≡ joins plan.now }
-    ensures answer { (St.holds store.old).told ≡ true → OnOk result (WroteAnswer plan.now (page_len plan.now (St.holds store.old).block_len) (both_told (S.remaining left.old) (told_in S.remaining right.old)) (K.contents sink.old) (K.contents sink.new)) }
-    ensures read { OnOk result (IsAtEnd (S.remaining left.new) × IsAtEnd (told_in S.remaining right.new)) }
-    ensures numbers { IfOk result (λ ran. IfSome (both_told (S.remaining left.old) (told_in S.remaining right.old)) (Numbers plan.now (page_len plan.now (St.holds store.old).block_len) (St.holds store.old).told ran)) }
-
-    ensures input { IfErr result (SaysOfInputs plan.now (page_len plan.now (St.holds store.old).block_len) (source (S.remaining left.old) (S.remaining left.new) (S.faults left.old) (S.faults left.new)) (source (told_in S.remaining right.old) (told_in S.remaining right.new) (faults_in S.faults right.old) (faults_in S.faults right.new))) }
-    ensures pool { IfErr result (MayStop plan.now (both_told (S.remaining left.old) (told_in S.remaining right.old)) (St.holds store.old) (St.signs store.old) (St.signs store.new)) }
-    ensures front { (St.holds store.old).told ≡ true → IsErrOf result QueryErr.SinkFault → WroteFront plan.now (page_len plan.now (St.holds store.old).block_len) (both_told (S.remaining left.old) (told_in S.remaining right.old)) (K.contents sink.old) (K.contents sink.new) }
-    ensures untouched { IfErr result (λ e. IsSome (side_of e) → sink.new ≡ sink.old) }
-    ensures stopped { IfErr result (λ _. (sink.new ≡ sink.old) ⊎ (IsAtEnd (S.remaining left.new) × IsAtEnd (told_in S.remaining right.new) × ((St.holds store.old).told ≡ true → WroteFront plan.now (page_len plan.now (St.holds store.old).block_len) (both_told (S.remaining left.old) (told_in S.remaining right.old)) (K.contents sink.old) (K.contents sink.new)))) }
-    ensures sink { CountsSink (IsErrOf result QueryErr.SinkFault) (K.faults sink.old) (K.faults sink.new) }
-    ensures stops { StopsAt (IsErrOf result QueryErr.SinkFault) (K.at_failure sink.old) (K.at_failure sink.new) (K.contents sink.new) }
-
-    ensures kept { OnOk result (KeptRows plan.now (page_len plan.now (St.holds store.old).block_len) (S.remaining left.old) (told_in S.remaining right.old) (St.signs store.old).trail (St.signs store.new).trail) }
-    ensures store { RanOver plan.now (both_told (S.remaining left.old) (told_in S.remaining right.old)) (St.holds store.old) (St.holds store.new) (St.signs store.old) (St.signs store.new) }
-    ensures sources { (S.faults left.old ≤ S.faults left.new) × HoldsInput S.faults right.old right.new }
+    ensures { RanQuery S.Source K.Sink St.Store plan.now (world left.old right.old sink.old) (world left.new right.new sink.new) store.old store.new result }
 {
     let source = match right {
         Some(source) => source,

@@ -1,4 +1,4 @@
-use Rattle.std.proofs.Common.{◌≡◌, ◌≢◌, ◌∙◌, ◌<◌, ◌+◌, ◌*◌, ◌++◌, ◌^◌, ℕ, List, Some, IsSome, inr, length, ap, refl, sym, subst, arith}
+use Rattle.std.proofs.Common.{◌≡◌, ◌≢◌, ◌∙◌, ◌<◌, ◌+◌, ◌*◌, ◌++◌, ◌^◌, ℕ, List, Some, IsSome, inr, length, ap, refl, sym, subst, arith, None, Err, rules}
 use Rattle.std.specs.Io.KnownBytes.{Appends}
 use Rattle.csv_edge.specs.Written.{AppendsFront}
 use Rattle.store_api.proofs.Answered.{answered_after}
@@ -14,7 +14,7 @@ use Rattle.partition_stack.specs.Making.{MakesFew}
 use Rattle.partition_stack.specs.Slots.{IsWant, IsWantBelow}
 use Rattle.partition_stack.proofs.Left.{leaves_both}
 use Rattle.partition_stack.proofs.Making.{few_both}
-use Rattle.partition_stack.proofs.Results.{if_err, if_ok, on_ok}
+use Rattle.partition_stack.proofs.Results.{if_err, if_ok, on_err, on_ok}
 use Rattle.join_op.specs.Operator.{slots_for}
 use Rattle.join_op.specs.Pairs.{pairs_of}
 use Rattle.query_run.specs.Answer.{LineNumbers, answer_text, group_rows}
@@ -32,7 +32,34 @@ use Rattle.query_run.proofs.Results.{at_err, both_ok, of_bad, of_done, of_err, o
 use Rattle.query_run.proofs.Sides.{both_held, few_kept, groups_answer, groups_front, joined_numbers}
 use Rattle.query_run.proofs.Counted.{both_fed, ending_makes, grouped_whole, told_so}
 use Rattle.query_run.proofs.Wants.{want_more}
+use Rattle.query_run.proofs.Runs.{unread, wrote}
 use Rattle.query_run.proofs.both.answer.Goals as goal
+
+pub returns-clause-outside : goal.returns-clause-outside
+returns-clause-outside g c =
+    let plan = c.args.plan.now in
+    let asked = c.args.asked.now in
+    let fed = c.feed_both-fed in
+    let has = of_ok _ fed.result.0 c.in-Ok.fed c.in-Ok.is fed.ensures.ok in
+    let shape = fed.ensures.goes.same.shape ∙ c.requires.started.0 in
+    let tells = fed.ensures.goes.leaves.others.told in
+    let result = c.write_both.result.0 in
+    let text = g.K.Sink.contents in
+    wrote g.S.Source g.K.Sink plan c.args.page _ _ _ result (of_done fed.result.0 c.in-Ok.fed c.in-Ok.is fed.ensures.read)
+    (λ told. on_ok result (λ ok. groups_answer plan asked c.args.page c.requires.right c.requires.groups _ _ _ _ _ _ _ has
+    (subst (λ (s : JoinShape). Appends (text c.args.sink.now) (text c.write_both.new.sink) (answer_text plan (group_rows (grouping_of plan) (pairs_of s has.lefts has.rights)))) shape (ok _ _ _ has.kept (tells ∙ told)))) c.write_both.ensures.ok)
+    (if_ok result (λ ran both. joined_numbers plan asked c.args.page c.requires.right _ _ _ _ _ _ ran has both.0.0 both.0.1 both.0.2
+    (λ told. subst (λ (s : JoinShape). LineNumbers plan (pairs_of s has.lefts has.rights) ran) shape (both.1 _ _ _ has.kept (tells ∙ told))))
+    (both_ok _ _ result c.write_both.ensures.read c.write_both.ensures.lines))
+    c.write_both.ensures.cause
+    (λ told. on_err result (λ err. groups_front plan asked c.args.page c.requires.right c.requires.groups _ _ _ _ _ _ _ has
+    (subst (λ (s : JoinShape). AppendsFront (text c.args.sink.now) (text c.write_both.new.sink) (answer_text plan (group_rows (grouping_of plan) (pairs_of s has.lefts has.rights)))) shape (err _ _ _ has.kept (tells ∙ told)))) c.write_both.ensures.err)
+    c.write_both.ensures.sink c.write_both.ensures.stops fed.ensures.sources_kept
+
+pub returns-in-Err-clause-outside : goal.returns-in-Err-clause-outside
+returns-in-Err-clause-outside g c =
+    let fed = c.feed_both-fed in
+    unread g.S.Source g.K.Sink c.args.plan.now c.args.page _ _ _ c.in-Err.e (of_bad _ fed.result.0 c.in-Err.e c.in-Err.is fed.ensures.input) (of_bad _ fed.result.0 c.in-Err.e c.in-Err.is fed.ensures.cause) refl fed.ensures.sources_kept
 
 pub feed_both-fed-requires-clause-long : goal.feed_both-fed-requires-clause-long
 feed_both-fed-requires-clause-long g c =
@@ -98,23 +125,6 @@ write_both-requires-clause-kinds g c =
     let shape = c.feed_both-fed.ensures.goes.same.shape ∙ c.requires.started.0 in
     joined_kinds c.args.plan.now c.args.asked.now c.requires.right ∙ sym (ap (λ (s : JoinShape). s.left ++ s.right) shape)
 
-pub returns-clause-answer : goal.returns-clause-answer
-returns-clause-answer g c = λ told.
-    let has = of_ok _ c.feed_both-fed.result.0 c.in-Ok.fed c.in-Ok.is c.feed_both-fed.ensures.ok in
-    let goes = c.feed_both-fed.ensures.goes in
-    let shape = goes.same.shape ∙ c.requires.started.0 in
-    on_ok c.write_both.result.0 (λ ok. groups_answer c.args.plan.now c.args.asked.now c.args.page c.requires.right c.requires.groups _ _ _ _ _ _ _ has
-    (subst (λ (s : JoinShape). Appends (g.K.Sink.contents c.args.sink.now) (g.K.Sink.contents c.write_both.new.sink) (answer_text c.args.plan.now (group_rows (grouping_of c.args.plan.now) (pairs_of s has.lefts has.rights)))) shape (ok _ _ _ has.kept (goes.leaves.others.told ∙ told)))) c.write_both.ensures.ok
-
-pub returns-clause-numbers : goal.returns-clause-numbers
-returns-clause-numbers g c =
-    let has = of_ok _ c.feed_both-fed.result.0 c.in-Ok.fed c.in-Ok.is c.feed_both-fed.ensures.ok in
-    let goes = c.feed_both-fed.ensures.goes in
-    let shape = goes.same.shape ∙ c.requires.started.0 in
-    if_ok c.write_both.result.0 (λ ran both. joined_numbers c.args.plan.now c.args.asked.now c.args.page c.requires.right _ _ _ _ _ _ ran has both.0.0 both.0.1 both.0.2
-    (λ told. subst (λ (s : JoinShape). LineNumbers c.args.plan.now (pairs_of s has.lefts has.rights) ran) shape (both.1 _ _ _ has.kept (goes.leaves.others.told ∙ told))))
-    (both_ok _ _ c.write_both.result.0 c.write_both.ensures.read c.write_both.ensures.lines)
-
 pub write_both-requires-clause-blocks : goal.write_both-requires-clause-blocks
 write_both-requires-clause-blocks g c = c.feed_both-fed.ensures.goes.same.left_blocks ∙ c.requires.started.1
 
@@ -131,27 +141,6 @@ returns-clause-enough g c =
 
 pub returns-clause-free : goal.returns-clause-free
 returns-clause-free g c = c.write_both.ensures.free ∙ c.feed_both-fed.ensures.goes.slots
-
-pub returns-clause-front : goal.returns-clause-front
-returns-clause-front g c = λ told failed.
-    let has = of_ok _ c.feed_both-fed.result.0 c.in-Ok.fed c.in-Ok.is c.feed_both-fed.ensures.ok in
-    let goes = c.feed_both-fed.ensures.goes in
-    let shape = goes.same.shape ∙ c.requires.started.0 in
-    groups_front c.args.plan.now c.args.asked.now c.args.page c.requires.right c.requires.groups _ _ _ _ _ _ _ has
-    (subst (λ (s : JoinShape). AppendsFront (g.K.Sink.contents c.args.sink.now) (g.K.Sink.contents c.write_both.new.sink) (answer_text c.args.plan.now (group_rows (grouping_of c.args.plan.now) (pairs_of s has.lefts has.rights)))) shape (at_err c.write_both.result.0 _ failed c.write_both.ensures.err _ _ _ has.kept (goes.leaves.others.told ∙ told)))
-
-pub returns-clause-stopped : goal.returns-clause-stopped
-returns-clause-stopped g c =
-    let has = of_ok _ c.feed_both-fed.result.0 c.in-Ok.fed c.in-Ok.is c.feed_both-fed.ensures.ok in
-    let goes = c.feed_both-fed.ensures.goes in
-    let shape = goes.same.shape ∙ c.requires.started.0 in
-    let read = of_done c.feed_both-fed.result.0 c.in-Ok.fed c.in-Ok.is c.feed_both-fed.ensures.read in
-    of_err c.write_both.result.0 (λ err e. inr (
-      read.0,
-      read.1,
-      λ told. groups_front c.args.plan.now c.args.asked.now c.args.page c.requires.right c.requires.groups _ _ _ _ _ _ _ has
-          (subst (λ (s : JoinShape). AppendsFront (g.K.Sink.contents c.args.sink.now) (g.K.Sink.contents c.write_both.new.sink) (answer_text c.args.plan.now (group_rows (grouping_of c.args.plan.now) (pairs_of s has.lefts has.rights)))) shape (err _ _ _ has.kept (goes.leaves.others.told ∙ told))),
-    )) c.write_both.ensures.err
 
 pub returns-clause-kept : goal.returns-clause-kept
 returns-clause-kept g c =

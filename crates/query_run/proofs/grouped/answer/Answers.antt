@@ -1,4 +1,4 @@
-use Rattle.std.proofs.Common.{◌≡◌, ◌<◌, List, [], ◌∙◌, ℕ, IfSome, true, ap, inr, length, sym, subst, arith, rules}
+use Rattle.std.proofs.Common.{◌≡◌, ◌<◌, List, [], ◌∙◌, ℕ, IfSome, true, ap, inr, length, sym, subst, arith, rules, refl, None, Err}
 use Rattle.tuple_stream.specs.Families.{slots_in}
 use Rattle.partition_stack.specs.Slots.{IsWantBelow}
 use Rattle.group_op.specs.Operator.{slots_for}
@@ -16,51 +16,47 @@ use Rattle.query_run.specs.Through.{taken_in}
 use Rattle.query_run.proofs.Fronts.{taken_so}
 use Rattle.query_run.proofs.Going.{feeds_still, goes_then, of_pool_so, stopped_later}
 use Rattle.query_run.proofs.Made.{group_makes_none}
-use Rattle.partition_stack.proofs.Results.{if_err, if_ok, on_ok}
+use Rattle.partition_stack.proofs.Results.{if_err, if_ok, on_err, on_ok}
 use Rattle.query_run.proofs.Results.{at_err, both_ok, of_err}
 use Rattle.query_run.proofs.Whole.{all_numbers, fed_as, grouped, groups_alone, holds_for, left_kinds, part_answer, passing_are, passing_of, same_page, whole_answer}
 use Rattle.query_run.proofs.Taken.{group_feeds_none, group_goes_none}
 use Rattle.query_run.proofs.Wants.{front_wants, whole_wants}
 use Rattle.query_run.proofs.Counted.{alone_taken, alone_whole, fed_makes, whole_makes}
+use Rattle.query_run.specs.Run.{ReadAndWrote, world}
+use Rattle.query_run.proofs.Alone.{says_left}
+use Rattle.query_run.proofs.Runs.{unread, wrote}
 use Rattle.query_run.proofs.grouped.answer.Goals as goal
 
-pub returns-clause-answer : goal.returns-clause-answer
-returns-clause-answer g c = λ told.
+pub returns-clause-outside : goal.returns-clause-outside
+returns-clause-outside g c =
+    let plan = c.args.plan.now in
     let has = c.in_ok-fed.ensures.ok in
     let keeps = has.came _ [] c.requires.keeps in
-    let tells = c.feed_side.ensures.goes.went.leaves.others.told ∙ told in
-    let formed = fed_as c.args.plan.now c.feed_side.new.op.shape _ c.requires.plan.alone (c.feed_side.ensures.goes.same.shape ∙ c.requires.shape) has.formed in
-    on_ok c.write_groups.result (λ ok. whole_answer c.args.plan.now c.args.page c.requires.plan.alone (grouped c.args.plan.now (groups_alone c.args.plan.now c.requires.plan)) _ _ _ has.rows has.are (ok _ (holds_for _ _ _ _ _ keeps formed) tells)) c.write_groups.ensures.ok
+    let tells = c.feed_side.ensures.goes.went.leaves.others.told in
+    let formed = fed_as plan c.feed_side.new.op.shape _ c.requires.plan.alone (c.feed_side.ensures.goes.same.shape ∙ c.requires.shape) has.formed in
+    let held = holds_for _ _ _ _ _ keeps formed in
+    let groups = grouped plan (groups_alone plan c.requires.plan) in
+    wrote g.S.Source g.K.Sink plan c.args.page _ _ _ c.write_groups.result (c.in_ok-fed.ensures.read, refl)
+    (λ told. on_ok c.write_groups.result (λ ok. whole_answer plan c.args.page c.requires.plan.alone groups _ _ _ has.rows has.are (ok _ held (tells ∙ told))) c.write_groups.ensures.ok)
+    (if_ok c.write_groups.result (λ ran both. all_numbers plan c.args.page c.requires.plan.alone groups _ _ has.rows c.in_ok-fed.fed ran has.are has.read has.kept both.0.0 both.0.1 both.0.2 (λ told. both.1 _ held (tells ∙ told)))
+    (both_ok _ _ c.write_groups.result c.write_groups.ensures.read c.write_groups.ensures.lines))
+    c.write_groups.ensures.cause
+    (λ told. on_err c.write_groups.result (λ err. part_answer plan c.args.page c.requires.plan.alone groups _ _ _ has.rows has.are (err _ held (tells ∙ told))) c.write_groups.ensures.err)
+    c.write_groups.ensures.sink c.write_groups.ensures.stops (c.feed_side.ensures.source_kept, refl)
 
-pub returns-clause-numbers : goal.returns-clause-numbers
-returns-clause-numbers g c =
-    let has = c.in_ok-fed.ensures.ok in
-    let keeps = has.came _ [] c.requires.keeps in
-    let formed = fed_as c.args.plan.now c.feed_side.new.op.shape _ c.requires.plan.alone (c.feed_side.ensures.goes.same.shape ∙ c.requires.shape) has.formed in
-    if_ok c.write_groups.result (λ ran both.
-    all_numbers c.args.plan.now c.args.page c.requires.plan.alone (grouped c.args.plan.now (groups_alone c.args.plan.now c.requires.plan)) _ _ has.rows c.in_ok-fed.fed ran has.are has.read has.kept both.0.0 both.0.1 both.0.2
-    (λ told. both.1 _ (holds_for _ _ _ _ _ keeps formed) (c.feed_side.ensures.goes.went.leaves.others.told ∙ told))) (both_ok _ _ c.write_groups.result c.write_groups.ensures.read c.write_groups.ensures.lines)
+pub returns-in_err-fed-clause-outside : goal.returns-in_err-fed-clause-outside
+returns-in_err-fed-clause-outside g c =
+    let e = c.in_err-fed.field-0.0 in
+    let plan = c.args.plan.now in
+    let tells = (g.St.Store.holds c.args.store.now).told in
+    let stopped : ReadAndWrote g.S.Source g.K.Sink plan c.args.page tells (world c.args.left.now None c.args.sink.now) (world c.feed_side.new.source None c.args.sink.now) (Err e) =
+    unread g.S.Source g.K.Sink plan c.args.page tells _ _ e (says_left plan c.args.page _ _ e c.in_err-fed.ensures.input) c.in_err-fed.ensures.cause refl (c.feed_side.ensures.source_kept, refl) in
+    search (rules, stopped)
 
 pub returns-clause-pool : goal.returns-clause-pool
 returns-clause-pool g c =
     let went = c.feed_side.ensures.goes.went in
     if_err c.write_groups.result (λ e came. stopped_later _ _ _ _ _ _ _ e c.feed_side.ensures.goes.same.blocks went.slots went.leaves.grows came) c.write_groups.ensures.pool
-
-pub returns-clause-front : goal.returns-clause-front
-returns-clause-front g c = λ told failed.
-    let has = c.in_ok-fed.ensures.ok in
-    let keeps = has.came _ [] c.requires.keeps in
-    let tells = c.feed_side.ensures.goes.went.leaves.others.told ∙ told in
-    let formed = fed_as c.args.plan.now c.feed_side.new.op.shape _ c.requires.plan.alone (c.feed_side.ensures.goes.same.shape ∙ c.requires.shape) has.formed in
-    part_answer c.args.plan.now c.args.page c.requires.plan.alone (grouped c.args.plan.now (groups_alone c.args.plan.now c.requires.plan)) _ _ _ has.rows has.are (at_err c.write_groups.result _ failed c.write_groups.ensures.err _ (holds_for _ _ _ _ _ keeps formed) tells)
-
-pub returns-clause-stopped : goal.returns-clause-stopped
-returns-clause-stopped g c =
-    let has = c.in_ok-fed.ensures.ok in
-    let keeps = has.came _ [] c.requires.keeps in
-    let read = c.in_ok-fed.ensures.read in
-    let formed = fed_as c.args.plan.now c.feed_side.new.op.shape _ c.requires.plan.alone (c.feed_side.ensures.goes.same.shape ∙ c.requires.shape) has.formed in
-    of_err c.write_groups.result (λ err e. inr (read, λ told. part_answer c.args.plan.now c.args.page c.requires.plan.alone (grouped c.args.plan.now (groups_alone c.args.plan.now c.requires.plan)) _ _ _ has.rows has.are (err _ (holds_for _ _ _ _ _ keeps formed) (c.feed_side.ensures.goes.went.leaves.others.told ∙ told)))) c.write_groups.ensures.err
 
 pub returns-clause-kept : goal.returns-clause-kept
 returns-clause-kept g c =

@@ -1,4 +1,4 @@
-use Rattle.std.proofs.Common.{rules, [], Some, ◌≡◌, ◌∙◌, ◌*◌, ◌<◌, IfSome, true, inl, inr, ap, arith, subst}
+use Rattle.std.proofs.Common.{rules, [], Some, ◌≡◌, ◌∙◌, ◌*◌, ◌<◌, IfSome, true, inl, inr, ap, arith, subst, Option, sym}
 use Rattle.store_api.proofs.Growing.{grows_trans}
 use Rattle.tuple_stream.specs.Families.{slots_in}
 use Rattle.partition_stack.specs.Stack.{over}
@@ -15,17 +15,124 @@ use Rattle.query_run.specs.Causes.{OfPool}
 use Rattle.query_run.specs.Plans.{shape_of}
 use Rattle.query_run.specs.Stopped.{IsLeft, StoppedOver}
 use Rattle.query_run.specs.Through.{taken_in}
+use Rattle.query_run.specs.Trail.{KeptWith}
+use Rattle.query_plan.specs.declared.plan.SidePlan.{SidePlan}
 use Rattle.query_run.proofs.Around.{WantsEnough, ends_first, kept_whole, left_around, left_behind, one_amount, slots_first, starts_here, stopped_around}
 use Rattle.query_run.proofs.Counted.{coming_makes, ending_makes, names_none, none_through, through_around}
 use Rattle.query_run.proofs.Going.{of_pool_so}
 use Rattle.query_run.proofs.KeptFirst.{reserves_first}
 use Rattle.query_run.proofs.Results.{both_err}
+use Rattle.query_run.proofs.Runs.{nothing_read, read_and_wrote_at}
 use Rattle.query_run.proofs.Says.{memory_stops}
 use Rattle.query_run.proofs.Wants.{all_wants, long_page}
 use Rattle.query_run.proofs.Whole.{groups_alone}
 use Rattle.partition_stack.proofs.Making.{few_both}
 use Rattle.partition_stack.proofs.Results.{if_err, on_ok}
 use Rattle.query_run.proofs.grouped.run_grouped.Goals as goal
+
+pub returns : goal.returns
+returns g c =
+    let len : c.from.result * c.from-2.result ≡ page_len c.args.plan.now (g.St.Store.holds c.args.store.now).block_len = search rules in
+    record {
+      outside = read_and_wrote_at g.S.Source g.K.Sink c.args.plan.now _ _ _ _ _ _ c.answer-result.result len c.own_client-c.ensures.own.told c.answer-result.ensures.outside;
+      pool =
+          let start = c.in-Ok.ensures.ok in
+          let blocks : c.in-Ok.op.parts.page_blocks ≡ c.args.plan.now.page_blocks = ap (λ (op : Operator). op.parts.page_blocks) start in
+          let slots : slots_in (over c.in-Ok.op.parts (g.St.Store.holds c.own_client-c.new.store) (g.St.Store.signs c.own_client-c.new.store)) ≡ (g.St.Store.holds c.args.store.now).free_slots =
+          ap (λ (op : Operator). slots_in (over op.parts (g.St.Store.holds c.own_client-c.new.store) (g.St.Store.signs c.own_client-c.new.store))) start ∙ slots_first c.args.plan.now.page_blocks (g.St.Store.holds c.own_client-c.new.store) (g.St.Store.signs c.own_client-c.new.store) ∙ c.own_client-c.ensures.own.free_slots in
+          let later = grows_trans _ _ _ c.end-c.ensures.leaves.grows c.end_client-2.ensures.grows in
+          let plan = c.args.plan.now in
+          let h0 = g.St.Store.holds c.args.store.now in
+          let told = g.S.Source.remaining c.args.left.now in
+          let own = c.own_client-c.ensures.own in
+          let shape : c.in-Ok.op.shape ≡ shape_of plan = ap (λ (op : Operator). op.shape) start in
+          let page = c.from.result * c.from-2.result in
+          let len : page ≡ page_len plan h0.block_len = search rules in
+          let long : 0 < page_len plan h0.block_len = long_page plan h0.block_len c.requires.plan.paged (search rules) in
+          let h1 = g.St.Store.holds c.own_client-c.new.store in
+          let s0 = g.St.Store.signs c.args.store.now in
+          let s1 = g.St.Store.signs c.own_client-c.new.store in
+          let s2 = g.St.Store.signs c.answer-result.new.store in
+          let s4 = g.St.Store.signs c.end_client-2.new.self in
+          let op = c.in-Ok.op in
+          let total = slots_in (over op.parts h1 s1) in
+          let wants : PoolErr → Type 0 =
+          λ why. h1.told ≡ true → IfSome told (λ bytes. IsWantBelow (slots_for 544 op h1 (taken_in plan plan.left page bytes)) total why) in
+          if_err c.answer-result.result (λ e both. stopped_around plan (both_told told (Some [])) op.parts.page_blocks total h0 s0 s1 s2 s4 e blocks slots c.own_client-c.ensures.grows later both.0
+          (of_pool_so wants (WantsEnough plan (both_told told (Some [])) h0)
+          (λ why below tells. all_wants plan page told op h0 h1 s1 why shape blocks own.block_len len long slots (below (own.told ∙ tells))) e both.1))
+          (both_err (StoppedOver op.parts.page_blocks total s1 s2) (OfPool wants) c.answer-result.result c.answer-result.ensures.pool c.answer-result.ensures.enough);
+      kept =
+          let len : c.from.result * c.from-2.result ≡ page_len c.args.plan.now (g.St.Store.holds c.args.store.now).block_len = search rules in
+          let old = g.St.Store.holds c.args.store.now in
+          let s0 = g.St.Store.signs c.args.store.now in
+          let s1 = g.St.Store.signs c.own_client-c.new.store in
+          let s2 = g.St.Store.signs c.answer-result.new.store in
+          let h3 = g.St.Store.holds c.end-c.new.store in
+          let s3 = g.St.Store.signs c.end-c.new.store in
+          let s4 = g.St.Store.signs c.end_client-2.new.self in
+          let f = over c.answer-result.new.op.parts (g.St.Store.holds c.answer-result.new.store) s2 in
+          let t = c.end-c.result.tracker in
+          let ends = ends_first f s2 s3 c.end-c.ensures.leaves.grows c.end-c.ensures.first in
+          on_ok c.answer-result.result (λ kept. subst (λ (o : Option SidePlan). KeptWith o c.args.plan.now (page_len c.args.plan.now old.block_len) (g.S.Source.remaining c.args.left.now) (Some []) s0.trail s4.trail) (sym c.requires.plan.alone)
+          (kept_whole c.args.plan.now (c.from.result * c.from-2.result) (page_len c.args.plan.now old.block_len) (g.S.Source.remaining c.args.left.now) f
+          old.session c.own_client-c.result.tracker old.query c.max.result c.least-bytes.result h3.session t h3.query (account_of t h3).reservation s0 s1 s2 s3 s4
+          c.own_client-c.ensures.entries kept ends c.end_client-2.ensures.entries len)) c.answer-result.ensures.kept;
+      store =
+          let was = g.St.Store.holds c.args.store.now in
+          let own = c.own_client-c.ensures.own in
+          let start = c.in-Ok.ensures.ok in
+          let went = c.answer-result.ensures.went in
+          let first : c.in-Ok.op.client ≡ c.own_client-c.result = ap (λ (op : Operator). op.client) start in
+          let client : c.answer-result.new.op.client ≡ c.own_client-c.result = went.client ∙ first in
+          let slots : slots_in (over c.in-Ok.op.parts (g.St.Store.holds c.own_client-c.new.store) (g.St.Store.signs c.own_client-c.new.store)) ≡ (g.St.Store.holds c.own_client-c.new.store).free_slots =
+          ap (λ (op : Operator). slots_in (over op.parts (g.St.Store.holds c.own_client-c.new.store) (g.St.Store.signs c.own_client-c.new.store))) start ∙ slots_first c.args.plan.now.page_blocks (g.St.Store.holds c.own_client-c.new.store) (g.St.Store.signs c.own_client-c.new.store) in
+          let free : (g.St.Store.holds c.end-c.new.store).free_slots ≡ (g.St.Store.holds c.own_client-c.new.store).free_slots = c.end-c.ensures.slots ∙ went.slots ∙ slots in
+          let later = grows_trans _ _ _ c.end-c.ensures.leaves.grows c.end_client-2.ensures.grows in
+          let grows = grows_trans _ _ _ went.leaves.grows later in
+          let left : IsLeft was (after_end_client c.own_client-c.result.tracker (g.St.Store.holds c.end-c.new.store)) =
+          left_around c.own_client-c.result c.max.result c.least-bytes.result was (g.St.Store.holds c.own_client-c.new.store) (g.St.Store.holds c.answer-result.new.store) (g.St.Store.holds c.end-c.new.store) (g.St.Store.signs c.own_client-c.new.store) (g.St.Store.signs c.answer-result.new.store) (g.St.Store.signs c.end-c.new.store) own c.requires.store.idle (rw first at (went.leaves)) (rw client at (c.end-c.ensures.leaves)) in
+          let ended : g.St.Store.holds c.end_client-2.new.self ≡ after_end_client c.own_client-c.result.tracker (g.St.Store.holds c.end-c.new.store) =
+          c.end_client-2.ensures.value ∙ ap (λ (t : ClientToken). after_end_client t.tracker (g.St.Store.holds c.end-c.new.store)) (c.end-c.ensures.client ∙ client) in
+          record {
+            reserves = rw (one_amount c.args.plan.now was.block_len c.requires.plan.alone) (reserves_first was.session c.own_client-c.result.tracker was.query c.max.result c.least-bytes.result (least_of c.args.plan.now was.block_len) (g.St.Store.signs c.args.store.now) (g.St.Store.signs c.own_client-c.new.store) (g.St.Store.signs c.end_client-2.new.self) c.own_client-c.ensures.entries grows (search rules) (search rules));
+            left = rw ended left;
+            free = rw ended (free ∙ own.free_slots);
+            grows = grows_trans _ _ _ c.own_client-c.ensures.grows grows;
+            made = λ tells.
+                let s0 = g.St.Store.signs c.args.store.now in
+                let s1 = g.St.Store.signs c.own_client-c.new.store in
+                let s2 = g.St.Store.signs c.answer-result.new.store in
+                let s3 = g.St.Store.signs c.end-c.new.store in
+                let s4 = g.St.Store.signs c.end_client-2.new.self in
+                through_around c.args.plan.now (both_told (g.S.Source.remaining c.args.left.now) (Some [])) s0 s1 s2 s4 (coming_makes _ _ _ _ _ s0 s1 c.own_client-c.ensures.entries) (c.answer-result.ensures.made (own.told ∙ tells))
+                (few_both 0 0 0 s2 s3 s4 (omega arith) (names_none s2 s3 c.end-c.ensures.entries) (ending_makes _ _ _ _ s3 s4 c.end_client-2.ensures.entries));
+          };
+    }
+
+pub returns-in-Err : goal.returns-in-Err
+returns-in-Err g c =
+    record {
+      outside = nothing_read g.S.Source g.K.Sink c.args.plan.now _ _ _;
+      pool = memory_stops c.args.plan.now (both_told (g.S.Source.remaining c.args.left.now) (Some [])) (g.St.Store.holds c.args.store.now) _ _;
+      kept = tt;
+      store =
+          let was = g.St.Store.holds c.args.store.now in
+          let own = c.own_client-c.ensures.own in
+          let ended : g.St.Store.holds c.end_client.new.self ≡ after_end_client c.own_client-c.result.tracker (g.St.Store.holds c.own_client-c.new.store) =
+          c.end_client.ensures.value ∙ ap (λ (t : ClientToken). after_end_client t.tracker (g.St.Store.holds c.own_client-c.new.store)) c.in-Err.ensures.err in
+          record {
+            reserves = rw (one_amount c.args.plan.now was.block_len c.requires.plan.alone) (reserves_first was.session c.own_client-c.result.tracker was.query c.max.result c.least-bytes.result (least_of c.args.plan.now was.block_len) (g.St.Store.signs c.args.store.now) (g.St.Store.signs c.own_client-c.new.store) (g.St.Store.signs c.end_client.new.self) c.own_client-c.ensures.entries c.end_client.ensures.grows (search rules) (search rules));
+            left = rw ended (left_behind c.own_client-c.result _ _ was _ c.requires.store.idle own);
+            free = rw ended own.free_slots;
+            grows = grows_trans _ _ _ c.own_client-c.ensures.grows c.end_client.ensures.grows;
+            made = λ tells.
+                let s0 = g.St.Store.signs c.args.store.now in
+                let s1 = g.St.Store.signs c.own_client-c.new.store in
+                let s2 = g.St.Store.signs c.end_client.new.self in
+                none_through c.args.plan.now (both_told (g.S.Source.remaining c.args.left.now) (Some [])) s0 s2 (few_both 0 0 0 s0 s1 s2 (omega arith) (coming_makes _ _ _ _ _ s0 s1 c.own_client-c.ensures.entries) (ending_makes _ _ _ _ s1 s2 c.end_client.ensures.entries));
+          };
+    }
 
 pub answer-result-requires-clause-op : goal.answer-result-requires-clause-op
 answer-result-requires-clause-op g c =
@@ -37,116 +144,8 @@ answer-result-requires-clause-keeps g c =
     let has = starts_here c.args.plan.now c.own_client-c.result _ _ (g.St.Store.holds c.args.store.now) (g.St.Store.holds c.own_client-c.new.store) (g.St.Store.signs c.own_client-c.new.store) c.law_starts.ensures.law c.requires.plan c.own_client-c.ensures.own (search rules) in
     rw c.in-Ok.ensures.ok has.keeps
 
-pub returns-clause-pool : goal.returns-clause-pool
-returns-clause-pool g c =
-    let start = c.in-Ok.ensures.ok in
-    let blocks : c.in-Ok.op.parts.page_blocks ≡ c.args.plan.now.page_blocks = ap (λ (op : Operator). op.parts.page_blocks) start in
-    let slots : slots_in (over c.in-Ok.op.parts (g.St.Store.holds c.own_client-c.new.store) (g.St.Store.signs c.own_client-c.new.store)) ≡ (g.St.Store.holds c.args.store.now).free_slots =
-    ap (λ (op : Operator). slots_in (over op.parts (g.St.Store.holds c.own_client-c.new.store) (g.St.Store.signs c.own_client-c.new.store))) start ∙ slots_first c.args.plan.now.page_blocks (g.St.Store.holds c.own_client-c.new.store) (g.St.Store.signs c.own_client-c.new.store) ∙ c.own_client-c.ensures.own.free_slots in
-    let later = grows_trans _ _ _ c.end-c.ensures.leaves.grows c.end_client-2.ensures.grows in
-    let plan = c.args.plan.now in
-    let h0 = g.St.Store.holds c.args.store.now in
-    let told = g.S.Source.remaining c.args.left.now in
-    let own = c.own_client-c.ensures.own in
-    let shape : c.in-Ok.op.shape ≡ shape_of plan = ap (λ (op : Operator). op.shape) start in
-    let page = c.from.result * c.from-2.result in
-    let len : page ≡ page_len plan h0.block_len = search rules in
-    let long : 0 < page_len plan h0.block_len = long_page plan h0.block_len c.requires.plan.paged (search rules) in
-    let h1 = g.St.Store.holds c.own_client-c.new.store in
-    let s0 = g.St.Store.signs c.args.store.now in
-    let s1 = g.St.Store.signs c.own_client-c.new.store in
-    let s2 = g.St.Store.signs c.answer-result.new.store in
-    let s4 = g.St.Store.signs c.end_client-2.new.self in
-    let op = c.in-Ok.op in
-    let total = slots_in (over op.parts h1 s1) in
-    let wants : PoolErr → Type 0 =
-    λ why. h1.told ≡ true → IfSome told (λ bytes. IsWantBelow (slots_for 544 op h1 (taken_in plan plan.left page bytes)) total why) in
-    if_err c.answer-result.result (λ e both. stopped_around plan (both_told told (Some [])) op.parts.page_blocks total h0 s0 s1 s2 s4 e blocks slots c.own_client-c.ensures.grows later both.0
-    (of_pool_so wants (WantsEnough plan (both_told told (Some [])) h0)
-    (λ why below tells. all_wants plan page told op h0 h1 s1 why shape blocks own.block_len len long slots (below (own.told ∙ tells))) e both.1))
-    (both_err (StoppedOver op.parts.page_blocks total s1 s2) (OfPool wants) c.answer-result.result c.answer-result.ensures.pool c.answer-result.ensures.enough)
-
-pub returns-clause-stopped : goal.returns-clause-stopped
-returns-clause-stopped g c =
-    let len : c.from.result * c.from-2.result ≡ page_len c.args.plan.now (g.St.Store.holds c.args.store.now).block_len = search rules in
-    let own = c.own_client-c.ensures.own in
-    if_err c.answer-result.result (λ e either. elim either [
-      | inl same ↦ inl same
-      | inr both ↦ inr (both.0, λ told. subst (λ n. WroteFront c.args.plan.now n (both_told (g.S.Source.remaining c.args.left.now) (Some [])) (g.K.Sink.contents c.args.sink.now) (g.K.Sink.contents c.answer-result.new.sink)) len (both.1 (own.told ∙ told)))
-    ]) c.answer-result.ensures.stopped
-
-pub returns-clause-kept : goal.returns-clause-kept
-returns-clause-kept g c =
-    let len : c.from.result * c.from-2.result ≡ page_len c.args.plan.now (g.St.Store.holds c.args.store.now).block_len = search rules in
-    let old = g.St.Store.holds c.args.store.now in
-    let s0 = g.St.Store.signs c.args.store.now in
-    let s1 = g.St.Store.signs c.own_client-c.new.store in
-    let s2 = g.St.Store.signs c.answer-result.new.store in
-    let h3 = g.St.Store.holds c.end-c.new.store in
-    let s3 = g.St.Store.signs c.end-c.new.store in
-    let s4 = g.St.Store.signs c.end_client-2.new.self in
-    let f = over c.answer-result.new.op.parts (g.St.Store.holds c.answer-result.new.store) s2 in
-    let t = c.end-c.result.tracker in
-    let ends = ends_first f s2 s3 c.end-c.ensures.leaves.grows c.end-c.ensures.first in
-    on_ok c.answer-result.result (λ kept. kept_whole c.args.plan.now (c.from.result * c.from-2.result) (page_len c.args.plan.now old.block_len) (g.S.Source.remaining c.args.left.now) f
-    old.session c.own_client-c.result.tracker old.query c.max.result c.least-bytes.result h3.session t h3.query (account_of t h3).reservation s0 s1 s2 s3 s4
-    c.own_client-c.ensures.entries kept ends c.end_client-2.ensures.entries len) c.answer-result.ensures.kept
-
-pub returns-clause-store : goal.returns-clause-store
-returns-clause-store g c =
-    let was = g.St.Store.holds c.args.store.now in
-    let own = c.own_client-c.ensures.own in
-    let start = c.in-Ok.ensures.ok in
-    let went = c.answer-result.ensures.went in
-    let first : c.in-Ok.op.client ≡ c.own_client-c.result = ap (λ (op : Operator). op.client) start in
-    let client : c.answer-result.new.op.client ≡ c.own_client-c.result = went.client ∙ first in
-    let slots : slots_in (over c.in-Ok.op.parts (g.St.Store.holds c.own_client-c.new.store) (g.St.Store.signs c.own_client-c.new.store)) ≡ (g.St.Store.holds c.own_client-c.new.store).free_slots =
-    ap (λ (op : Operator). slots_in (over op.parts (g.St.Store.holds c.own_client-c.new.store) (g.St.Store.signs c.own_client-c.new.store))) start ∙ slots_first c.args.plan.now.page_blocks (g.St.Store.holds c.own_client-c.new.store) (g.St.Store.signs c.own_client-c.new.store) in
-    let free : (g.St.Store.holds c.end-c.new.store).free_slots ≡ (g.St.Store.holds c.own_client-c.new.store).free_slots = c.end-c.ensures.slots ∙ went.slots ∙ slots in
-    let later = grows_trans _ _ _ c.end-c.ensures.leaves.grows c.end_client-2.ensures.grows in
-    let grows = grows_trans _ _ _ went.leaves.grows later in
-    let left : IsLeft was (after_end_client c.own_client-c.result.tracker (g.St.Store.holds c.end-c.new.store)) =
-    left_around c.own_client-c.result c.max.result c.least-bytes.result was (g.St.Store.holds c.own_client-c.new.store) (g.St.Store.holds c.answer-result.new.store) (g.St.Store.holds c.end-c.new.store) (g.St.Store.signs c.own_client-c.new.store) (g.St.Store.signs c.answer-result.new.store) (g.St.Store.signs c.end-c.new.store) own c.requires.store.idle (rw first at (went.leaves)) (rw client at (c.end-c.ensures.leaves)) in
-    let ended : g.St.Store.holds c.end_client-2.new.self ≡ after_end_client c.own_client-c.result.tracker (g.St.Store.holds c.end-c.new.store) =
-    c.end_client-2.ensures.value ∙ ap (λ (t : ClientToken). after_end_client t.tracker (g.St.Store.holds c.end-c.new.store)) (c.end-c.ensures.client ∙ client) in
-    record {
-      reserves = rw (one_amount c.args.plan.now was.block_len c.requires.plan.alone) (reserves_first was.session c.own_client-c.result.tracker was.query c.max.result c.least-bytes.result (least_of c.args.plan.now was.block_len) (g.St.Store.signs c.args.store.now) (g.St.Store.signs c.own_client-c.new.store) (g.St.Store.signs c.end_client-2.new.self) c.own_client-c.ensures.entries grows (search rules) (search rules));
-      left = rw ended left;
-      free = rw ended (free ∙ own.free_slots);
-      grows = grows_trans _ _ _ c.own_client-c.ensures.grows grows;
-      made = λ tells.
-          let s0 = g.St.Store.signs c.args.store.now in
-          let s1 = g.St.Store.signs c.own_client-c.new.store in
-          let s2 = g.St.Store.signs c.answer-result.new.store in
-          let s3 = g.St.Store.signs c.end-c.new.store in
-          let s4 = g.St.Store.signs c.end_client-2.new.self in
-          through_around c.args.plan.now (both_told (g.S.Source.remaining c.args.left.now) (Some [])) s0 s1 s2 s4 (coming_makes _ _ _ _ _ s0 s1 c.own_client-c.ensures.entries) (c.answer-result.ensures.made (own.told ∙ tells))
-          (few_both 0 0 0 s2 s3 s4 (omega arith) (names_none s2 s3 c.end-c.ensures.entries) (ending_makes _ _ _ _ s3 s4 c.end_client-2.ensures.entries));
-    }
-
-pub returns-in-Err-clause-store : goal.returns-in-Err-clause-store
-returns-in-Err-clause-store g c =
-    let was = g.St.Store.holds c.args.store.now in
-    let own = c.own_client-c.ensures.own in
-    let ended : g.St.Store.holds c.end_client.new.self ≡ after_end_client c.own_client-c.result.tracker (g.St.Store.holds c.own_client-c.new.store) =
-    c.end_client.ensures.value ∙ ap (λ (t : ClientToken). after_end_client t.tracker (g.St.Store.holds c.own_client-c.new.store)) c.in-Err.ensures.err in
-    record {
-      reserves = rw (one_amount c.args.plan.now was.block_len c.requires.plan.alone) (reserves_first was.session c.own_client-c.result.tracker was.query c.max.result c.least-bytes.result (least_of c.args.plan.now was.block_len) (g.St.Store.signs c.args.store.now) (g.St.Store.signs c.own_client-c.new.store) (g.St.Store.signs c.end_client.new.self) c.own_client-c.ensures.entries c.end_client.ensures.grows (search rules) (search rules));
-      left = rw ended (left_behind c.own_client-c.result _ _ was _ c.requires.store.idle own);
-      free = rw ended own.free_slots;
-      grows = grows_trans _ _ _ c.own_client-c.ensures.grows c.end_client.ensures.grows;
-      made = λ tells.
-          let s0 = g.St.Store.signs c.args.store.now in
-          let s1 = g.St.Store.signs c.own_client-c.new.store in
-          let s2 = g.St.Store.signs c.end_client.new.self in
-          none_through c.args.plan.now (both_told (g.S.Source.remaining c.args.left.now) (Some [])) s0 s2 (few_both 0 0 0 s0 s1 s2 (omega arith) (coming_makes _ _ _ _ _ s0 s1 c.own_client-c.ensures.entries) (ending_makes _ _ _ _ s1 s2 c.end_client.ensures.entries));
-    }
-
 pub start_grouping-requires : goal.start_grouping-requires
 start_grouping-requires g c = groups_alone c.args.plan.now c.requires.plan
-
-pub returns-in-Err-clause-pool : goal.returns-in-Err-clause-pool
-returns-in-Err-clause-pool g c = memory_stops c.args.plan.now (both_told (g.S.Source.remaining c.args.left.now) (Some [])) (g.St.Store.holds c.args.store.now) _ _
 
 pub answer-result-requires-clause-long : goal.answer-result-requires-clause-long
 answer-result-requires-clause-long g c =

@@ -1,8 +1,8 @@
-use Rattle.std.proofs.Common.{◌≡◌, ◌∙◌, ◌<◌, ◌+◌, ◌^◌, List, inr, sym, subst, arith}
+use Rattle.std.proofs.Common.{◌≡◌, ◌∙◌, ◌<◌, ◌+◌, ◌^◌, List, inr, sym, subst, arith, refl, None, Err, rules}
 use Rattle.std.specs.Prelude.{⊤}
 use Rattle.partition_stack.proofs.Left.{leaves_both}
 use Rattle.partition_stack.proofs.Making.{few_none}
-use Rattle.partition_stack.proofs.Results.{if_err, if_ok, on_ok}
+use Rattle.partition_stack.proofs.Results.{if_err, if_ok, on_err, on_ok}
 use Rattle.partition_stack.specs.Leaving.{LeavesOthers}
 use Rattle.partition_stack.specs.Stack.{over}
 use Rattle.store_api.specs.declared.shapes.JoinShape.{JoinShape}
@@ -18,7 +18,34 @@ use Rattle.query_run.proofs.Says.{says_neither}
 use Rattle.query_run.proofs.Sides.{both_kept, few_kept, joined_answer, joined_front, joined_numbers}
 use Rattle.query_run.proofs.Taken.{join_stops}
 use Rattle.query_run.proofs.Counted.{both_fed, joined_whole}
+use Rattle.query_run.proofs.Runs.{unread, wrote}
 use Rattle.query_run.proofs.joined.answer.Goals as goal
+
+pub returns-clause-outside : goal.returns-clause-outside
+returns-clause-outside g c =
+    let plan = c.args.plan.now in
+    let asked = c.args.asked.now in
+    let fed = c.feed_both-fed in
+    let has = of_ok _ fed.result.0 c.in-Ok.fed c.in-Ok.is fed.ensures.ok in
+    let shape = fed.ensures.goes.same.shape ∙ c.requires.shape in
+    let tells = fed.ensures.goes.leaves.others.told in
+    let result = c.write_pairs-result.result in
+    let text = g.K.Sink.contents in
+    wrote g.S.Source g.K.Sink plan c.args.page _ _ _ result (of_done fed.result.0 c.in-Ok.fed c.in-Ok.is fed.ensures.read)
+    (λ told. on_ok result (λ ok. joined_answer plan asked c.args.page c.requires.right c.requires.groups _ _ _ _ _ _ _ has
+    (subst (λ (s : JoinShape). WrotePairs plan (pairs_of s has.lefts has.rights) (text c.args.sink.now) (text c.write_pairs-result.new.sink)) shape (ok _ _ _ has.kept (tells ∙ told)))) c.write_pairs-result.ensures.ok)
+    (if_ok result (λ ran both. joined_numbers plan asked c.args.page c.requires.right _ _ _ _ _ _ ran has both.0.0 both.0.1 both.0.2
+    (λ told. subst (λ (s : JoinShape). LineNumbers plan (pairs_of s has.lefts has.rights) ran) shape (both.1 _ _ _ has.kept (tells ∙ told))))
+    (both_ok _ _ result c.write_pairs-result.ensures.read c.write_pairs-result.ensures.lines))
+    c.write_pairs-result.ensures.cause
+    (λ told. on_err result (λ err. joined_front plan asked c.args.page c.requires.right c.requires.groups _ _ _ _ _ _ _ has
+    (subst (λ (s : JoinShape). WroteSomePairs plan (pairs_of s has.lefts has.rights) (text c.args.sink.now) (text c.write_pairs-result.new.sink)) shape (err _ _ _ has.kept (tells ∙ told)))) c.write_pairs-result.ensures.err)
+    c.write_pairs-result.ensures.sink c.write_pairs-result.ensures.stops fed.ensures.sources_kept
+
+pub returns-in-Err-clause-outside : goal.returns-in-Err-clause-outside
+returns-in-Err-clause-outside g c =
+    let fed = c.feed_both-fed in
+    unread g.S.Source g.K.Sink c.args.plan.now c.args.page _ _ _ c.in-Err.e (of_bad _ fed.result.0 c.in-Err.e c.in-Err.is fed.ensures.input) (of_bad _ fed.result.0 c.in-Err.e c.in-Err.is fed.ensures.cause) refl fed.ensures.sources_kept
 
 pub write_pairs-result-requires-clause-few : goal.write_pairs-result-requires-clause-few
 write_pairs-result-requires-clause-few g c =
@@ -29,26 +56,6 @@ write_pairs-result-requires-clause-few g c =
 
 pub write_pairs-result-requires-clause-aggs : goal.write_pairs-result-requires-clause-aggs
 write_pairs-result-requires-clause-aggs g c = c.requires.plan.none c.requires.groups
-
-pub returns-clause-answer : goal.returns-clause-answer
-returns-clause-answer g c = λ told.
-    let has = of_ok _ c.feed_both-fed.result.0 c.in-Ok.fed c.in-Ok.is c.feed_both-fed.ensures.ok in
-    let goes = c.feed_both-fed.ensures.goes in
-    let shape = goes.same.shape ∙ c.requires.shape in
-    on_ok c.write_pairs-result.result (λ ok. joined_answer c.args.plan.now c.args.asked.now c.args.page c.requires.right c.requires.groups _ _ _ _ _ _ _ has
-    (subst (λ (s : JoinShape). WrotePairs c.args.plan.now (pairs_of s has.lefts has.rights) (g.K.Sink.contents c.args.sink.now) (g.K.Sink.contents c.write_pairs-result.new.sink)) shape (ok _ _ _ has.kept (goes.leaves.others.told ∙ told)))) c.write_pairs-result.ensures.ok
-
-pub returns-clause-numbers : goal.returns-clause-numbers
-returns-clause-numbers g c =
-    let has = of_ok _ c.feed_both-fed.result.0 c.in-Ok.fed c.in-Ok.is c.feed_both-fed.ensures.ok in
-    let goes = c.feed_both-fed.ensures.goes in
-    let shape = goes.same.shape ∙ c.requires.shape in
-    if_ok c.write_pairs-result.result (λ ran both. joined_numbers c.args.plan.now c.args.asked.now c.args.page c.requires.right _ _ _ _ _ _ ran has both.0.0 both.0.1 both.0.2
-    (λ told. subst (λ (s : JoinShape). LineNumbers c.args.plan.now (pairs_of s has.lefts has.rights) ran) shape (both.1 _ _ _ has.kept (goes.leaves.others.told ∙ told))))
-    (both_ok _ _ c.write_pairs-result.result c.write_pairs-result.ensures.read c.write_pairs-result.ensures.lines)
-
-pub returns-clause-input : goal.returns-clause-input
-returns-clause-input g c = if_err c.write_pairs-result.result (λ e none. says_neither c.args.plan.now c.args.page _ _ e none) c.write_pairs-result.ensures.cause
 
 pub returns-clause-pool : goal.returns-clause-pool
 returns-clause-pool g c = if_err c.write_pairs-result.result (λ e stopped. of_pool_so _ _ (λ why by. join_stops _ _ _ _ _ _ _ why c.feed_both-fed.ensures.goes by) e stopped) c.write_pairs-result.ensures.pool
@@ -66,21 +73,6 @@ returns-clause-enough g c =
 
 pub returns-clause-slots : goal.returns-clause-slots
 returns-clause-slots g c = c.write_pairs-result.ensures.slots ∙ c.feed_both-fed.ensures.goes.slots
-
-pub returns-clause-front : goal.returns-clause-front
-returns-clause-front g c = λ told failed.
-    let has = of_ok _ c.feed_both-fed.result.0 c.in-Ok.fed c.in-Ok.is c.feed_both-fed.ensures.ok in
-    let goes = c.feed_both-fed.ensures.goes in
-    let shape = goes.same.shape ∙ c.requires.shape in
-    joined_front c.args.plan.now c.args.asked.now c.args.page c.requires.right c.requires.groups _ _ _ _ _ _ _ has (subst (λ (s : JoinShape). WroteSomePairs c.args.plan.now (pairs_of s has.lefts has.rights) (g.K.Sink.contents c.args.sink.now) (g.K.Sink.contents c.write_pairs-result.new.sink)) shape (at_err c.write_pairs-result.result _ failed c.write_pairs-result.ensures.err _ _ _ has.kept (goes.leaves.others.told ∙ told)))
-
-pub returns-clause-stopped : goal.returns-clause-stopped
-returns-clause-stopped g c =
-    let has = of_ok _ c.feed_both-fed.result.0 c.in-Ok.fed c.in-Ok.is c.feed_both-fed.ensures.ok in
-    let goes = c.feed_both-fed.ensures.goes in
-    let shape = goes.same.shape ∙ c.requires.shape in
-    let read = of_done c.feed_both-fed.result.0 c.in-Ok.fed c.in-Ok.is c.feed_both-fed.ensures.read in
-    of_err c.write_pairs-result.result (λ err e. inr (read.0, read.1, λ told. joined_front c.args.plan.now c.args.asked.now c.args.page c.requires.right c.requires.groups _ _ _ _ _ _ _ has (subst (λ (s : JoinShape). WroteSomePairs c.args.plan.now (pairs_of s has.lefts has.rights) (g.K.Sink.contents c.args.sink.now) (g.K.Sink.contents c.write_pairs-result.new.sink)) shape (err _ _ _ has.kept (goes.leaves.others.told ∙ told))))) c.write_pairs-result.ensures.err
 
 pub returns-clause-kept : goal.returns-clause-kept
 returns-clause-kept g c =
