@@ -1,5 +1,5 @@
 -- What stands of a query that ran over its session.
-use Rattle.std.proofs.Common.{◌≡◌, ◌⊎◌, ℕ, true, List, Option, Some, None, IfSome, IsSome, get_or, refl, sym, subst, ap, ◌∙◌}
+use Rattle.std.proofs.Common.{◌≡◌, ◌⊎◌, ℕ, true, List, Option, Some, None, IfErr, IfSome, IsSome, Result, Ok, Err, get_or, refl, sym, subst, ap, ◌∙◌}
 use Rattle.std.proofs.lemmas.Bool.{false≢true}
 use Rattle.std.specs.List.{slice_get}
 use Rattle.std.proofs.lemmas.Option.{get_or_from_slice_get}
@@ -13,8 +13,8 @@ use Rattle.query_run.specs.Answer.{Numbers, WroteAnswer, WroteFront}
 use Rattle.query_run.specs.Both.{HoldsInput, Told, both_told, faults_in, told_in}
 use Rattle.query_run.specs.Causes.{OfPool, side_of}
 use Rattle.query_run.specs.Refused.{SaysOfInputs, source}
-use Rattle.query_run.specs.Stopped.{RanOver}
-use Rattle.spill_top.specs.Unmarked.{MayStopUnmarked}
+use Rattle.query_run.specs.Stopped.{MayStop, RanOver}
+use Rattle.spill_top.specs.Unmarked.{IsUnmarked, MayStopUnmarked}
 use Rattle.query_run.specs.Trail.{KeptRows}
 use Rattle.query_plan.specs.declared.outcome.QueryErr.{QueryErr}
 use Rattle.query_plan.specs.declared.outcome.QueryErr.TheVariants as cause
@@ -42,6 +42,22 @@ goes_on job left sink session lefts sinks on sits =
     ∙ ap (λ k. record { refused = job.refused; left = Some left; right = job.right; sink = k; ended = job.ended; session = job.session }) sinks
     ∙ ap (λ e. record { refused = job.refused; left = Some left; right = job.right; sink = Some sink; ended = e; session = job.session }) on
     ∙ ap (λ s. record { refused = job.refused; left = Some left; right = job.right; sink = Some sink; ended = None; session = s }) sits
+
+-- what stopped a query is an answer that needs no marks
+pub stops_unmarked : (plan : Query) (told : Option Told) (start : Holdings) (old new : Signs) (why : QueryErr) → MayStop plan told start old new why → OfPool IsUnmarked why → MayStopUnmarked plan told start old new why
+stops_unmarked plan told start old new (cause.Pool e) may unmarked = record { by_store = may; unmarked = unmarked }
+stops_unmarked plan told start old new (cause.SourceFault side) may unmarked = tt
+stops_unmarked plan told start old new (cause.BadHeader side) may unmarked = tt
+stops_unmarked plan told start old new (cause.BadCsv side number) may unmarked = tt
+stops_unmarked plan told start old new (cause.BadField side number column) may unmarked = tt
+stops_unmarked plan told start old new (cause.TooLarge side) may unmarked = tt
+stops_unmarked plan told start old new (cause.RowTooLong side number bytes) may unmarked = tt
+stops_unmarked plan told start old new cause.SinkFault may unmarked = tt
+
+pub all_unmarked : (plan : Query) (told : Option Told) (start : Holdings) (old new : Signs) (result : Result Ran QueryErr) → IfErr result (MayStop plan told start old new) → IfErr result (OfPool IsUnmarked)
+    → IfErr result (MayStopUnmarked plan told start old new)
+all_unmarked plan told start old new (Ok ran) may unmarked = tt
+all_unmarked plan told start old new (Err why) may unmarked = stops_unmarked plan told start old new why may unmarked
 
 -- what a call left at a place is there
 pub at_place : {J : Type 0} (Became : J → J → Type 0) (before after : List J) (place : ℕ) (old new was now : J) → slice_get before place ≡ Some old → slice_get after place ≡ Some new
@@ -105,7 +121,7 @@ module _ {S K St : Type 0} (remaining : S → Option (List ℕ)) (reads : S → 
   -- it stopped
   pub with_stop : (why : QueryErr) → SaysOfInputs query page (source (remaining left) (remaining left_now) (reads left) (reads left_now)) (source (told_in remaining right) (told_in remaining right_now) (faults_in reads right) (faults_in reads right_now)) why
       → MayStopUnmarked query given (holds session) (signs session) (signs later) why → (why ≡ cause.SinkFault → Rose (writes sink) (writes sink_now)) → (IsSome (side_of why) → sink_now ≡ sink)
-      → (sink_now ≡ sink) ⊎ (IsAtEnd (remaining left_now) × IsAtEnd (told_in remaining right_now) × ((holds session).told ≡ true → WroteFront query page given (contents sink) (contents sink_now)))
+      → (sink_now ≡ sink) ⊎ ((IsAtEnd (remaining left_now) × IsAtEnd (told_in remaining right_now)) × ((holds session).told ≡ true → WroteFront query page given (contents sink) (contents sink_now)))
       → IsAnswered remaining reads contents writes holds signs query before (after (Stopped why))
   with_stop why says may fault untouched stopped = record {
     refused = refl;

@@ -141,15 +141,15 @@ check_stop_of check tell quota slots_failed write_failed plan page both told res
     (subst (λ (n : ℕ). OfPool (IsPoolStop (checking check) n (if_told tell both) quota slots_failed) why) paged
     (subst (λ (q : Query). OfPool (IsPoolStop q page (if_told tell both) quota slots_failed) why) planned stop))) failed
 
-pub part_of : {K : Type 0} (contents : K → Option (List ℕ)) (old new : K) (tell : Bool) (check : Check) (plan : Query) (page : ℕ) (told : Option Told) (A B : Type 0) (side : Option Side) → plan ≡ checking check → page ≡ page_bytes
-    → told ≡ Some (table_of check) → (IsSome side → new ≡ old) → (new ≡ old) ⊎ (A × B × (tell ≡ true → WroteFront plan page told (contents old) (contents new)))
+pub part_of : {K : Type 0} (contents : K → Option (List ℕ)) (old new : K) (tell : Bool) (check : Check) (plan : Query) (page : ℕ) (told : Option Told) (A : Type 0) (side : Option Side) → plan ≡ checking check → page ≡ page_bytes
+    → told ≡ Some (table_of check) → (IsSome side → new ≡ old) → (new ≡ old) ⊎ (A × (tell ≡ true → WroteFront plan page told (contents old) (contents new)))
     → LeavesPart (checking check) page_bytes (table_if tell check) (contents old) (contents new) side
-part_of contents old new tell check plan page told A B side planned paged is same (inl kept) = part_left tell check (contents old) (contents new) side (λ some. ap contents (same some)) (inl (ap contents kept))
-part_of contents old new tell check plan page told A B side planned paged is same (inr stopped) =
+part_of contents old new tell check plan page told A side planned paged is same (inl kept) = part_left tell check (contents old) (contents new) side (λ some. ap contents (same some)) (inl (ap contents kept))
+part_of contents old new tell check plan page told A side planned paged is same (inr stopped) =
     part_left tell check (contents old) (contents new) side (λ some. ap contents (same some)) (inr (λ tells.
     subst (λ (o : Option Told). WroteFront (checking check) page_bytes o (contents old) (contents new)) is
     (subst (λ (n : ℕ). WroteFront (checking check) n told (contents old) (contents new)) paged
-    (subst (λ (q : Query). WroteFront q page told (contents old) (contents new)) planned (stopped.2 tells)))))
+    (subst (λ (q : Query). WroteFront q page told (contents old) (contents new)) planned (stopped.1 tells)))))
 
 -- its pages over its pool
 pub check_page : (check : Check) (plan : Query) (conf : PoolConf) → plan ≡ checking check → conf ≡ checking_conf check → page_len plan conf.block_len ≡ page_bytes

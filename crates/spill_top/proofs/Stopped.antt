@@ -75,11 +75,11 @@ front-told plan page true told before now front = front refl
 front-told plan page false told before now front = tt
 
 -- it left its sink as it was where an input was at fault, and else as it was or with a front
-pub part_left : {K A B : Type 0} (contents : K → Option (List ℕ)) (plan : Query) (page : ℕ) (tell : Bool) (told : Option Told) (before now : K) (side : Option Side) → (IsSome side → now ≡ before)
-    → (now ≡ before) ⊎ (A × B × (tell ≡ true → WroteFront plan page told (contents before) (contents now))) → LeavesPart plan page (if_told tell told) (contents before) (contents now) side
+pub part_left : {K A : Type 0} (contents : K → Option (List ℕ)) (plan : Query) (page : ℕ) (tell : Bool) (told : Option Told) (before now : K) (side : Option Side) → (IsSome side → now ≡ before)
+    → (now ≡ before) ⊎ (A × (tell ≡ true → WroteFront plan page told (contents before) (contents now))) → LeavesPart plan page (if_told tell told) (contents before) (contents now) side
 part_left contents plan page tell told before now (Some side) untouched stopped = ap contents (untouched refl)
 part_left contents plan page tell told before now None untouched (inl same) = inl (ap contents same)
-part_left contents plan page tell told before now None untouched (inr part) = inr (front-told plan page tell told (contents before) (contents now) part.2)
+part_left contents plan page tell told before now None untouched (inr part) = inr (front-told plan page tell told (contents before) (contents now) part.1)
 
 -- the lines of an answer over what is told
 pub lines_of : (plan : Query) (page : ℕ) (tell : Bool) (told : Option Told) (ran : Ran) → IfSome told (Numbers plan page tell ran) → IfSome (if_told tell told) (HasLines plan page ran.lines)

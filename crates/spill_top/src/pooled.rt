@@ -1,8 +1,6 @@
 // A query over a session of a pool of its own, which gives back the slots that it takes.
 
-ghost use Rattle.std.specs.Prelude.{◌≡◌, ◌≤◌, ◌⊎◌, [], IfErr, IfOk, IfSome, IsErrOf, IsSome, OnOk, Some, is_some, map, true, vec_len};
-ghost use Rattle.std.specs.Io.KnownBytes.{IsAtEnd};
-ghost use Rattle.outside.specs.Sinks.{StopsAt};
+ghost use Rattle.std.specs.Prelude.{◌≡◌, ◌≤◌, [], IfErr, OnOk, Some, is_some, map, vec_len};
 ghost use Rattle.pin_core.specs.Tallies.{tally_of};
 ghost use Rattle.pool_model.specs.Bytes.{bytes_of};
 ghost use Rattle.pool.specs.Items.{all_rights};
@@ -11,14 +9,14 @@ ghost use Rattle.pool.specs.Passing.{writers_out};
 ghost use Rattle.pool.specs.Seats.{live_in};
 ghost use Rattle.pool.specs.Writers.{Stops};
 ghost use Rattle.query_plan.specs.Sizes.{joins, least_of, page_len};
-ghost use Rattle.query_run.specs.Answer.{Numbers, WroteAnswer, WroteFront};
-ghost use Rattle.query_run.specs.Both.{HoldsInput, both_told, faults_in, told_in};
-ghost use Rattle.query_run.specs.Causes.{OfPool, side_of};
+ghost use Rattle.query_run.specs.Both.{both_told, told_in};
+ghost use Rattle.query_run.specs.Causes.{OfPool};
 ghost use Rattle.query_run.specs.Plans.{IsRunnable};
-ghost use Rattle.query_run.specs.Refused.{SaysOfInputs, source};
-ghost use Rattle.query_run.specs.Stopped.{CountsSink, HasRoomFor};
+ghost use Rattle.query_run.specs.Run.{ReadAndWrote, world};
+ghost use Rattle.query_run.specs.Stopped.{HasRoomFor};
 ghost use Rattle.spill_top.specs.Pooled.{ComeBack, HasMemoryFor, HaveFailed, IsPoolStop, all_tell, memory_of};
-ghost use Rattle.spill_top.specs.Seated.{RanIfSeated, RanQuery};
+ghost use Rattle.spill_top.specs.Seated.{RanIfSeated};
+ghost use Rattle.spill_top.specs.Unmarked.{RanUnmarked};
 ghost use Rattle.spill_top.specs.Sides.{if_told};
 ghost use Rattle.spill_top.specs.Storing.{HaveStored, owed};
 
@@ -65,19 +63,9 @@ pub(crate) fn run_pooled<
     requires writers { writers ≤ 8 }
     requires quota { quota ≤ vec_len slots.old }
     requires right { is_some right.old ≡ joins query.now }
-    ensures answer { all_tell (tally_of D.Slot slots.old.items) ≡ true → OnOk result (WroteAnswer query.now (page_len query.now conf.now.block_len) (both_told (S.remaining left.old) (told_in S.remaining right.old)) (K.contents sink.old) (K.contents sink.new)) }
-    ensures read { OnOk result (IsAtEnd (S.remaining left.new) × IsAtEnd (told_in S.remaining right.new)) }
-    ensures numbers { IfOk result (λ ran. IfSome (both_told (S.remaining left.old) (told_in S.remaining right.old)) (Numbers query.now (page_len query.now conf.now.block_len) (all_tell (tally_of D.Slot slots.old.items)) ran)) }
-
-    ensures input { IfErr result (SaysOfInputs query.now (page_len query.now conf.now.block_len) (source (S.remaining left.old) (S.remaining left.new) (S.faults left.old) (S.faults left.new)) (source (told_in S.remaining right.old) (told_in S.remaining right.new) (faults_in S.faults right.old) (faults_in S.faults right.new))) }
+    ensures outside { ReadAndWrote S.Source K.Sink query.now (page_len query.now conf.now.block_len) (all_tell (tally_of D.Slot slots.old.items))
+        (world left.old right.old sink.old) (world left.new right.new sink.new) result }
     ensures pool { IfErr result (OfPool (IsPoolStop query.now (page_len query.now conf.now.block_len) (if_told (all_tell (tally_of D.Slot slots.old.items)) (both_told (S.remaining left.old) (told_in S.remaining right.old))) quota (HaveFailed (tally_of D.Slot slots.old.items) (tally_of D.Slot slots.new.items)))) }
-    ensures front { all_tell (tally_of D.Slot slots.old.items) ≡ true → IsErrOf result QueryErr.SinkFault → WroteFront query.now (page_len query.now conf.now.block_len) (both_told (S.remaining left.old) (told_in S.remaining right.old)) (K.contents sink.old) (K.contents sink.new) }
-    ensures untouched { IfErr result (λ e. IsSome (side_of e) → sink.new ≡ sink.old) }
-    ensures stopped { IfErr result (λ _. (sink.new ≡ sink.old) ⊎ (IsAtEnd (S.remaining left.new) × IsAtEnd (told_in S.remaining right.new) × (all_tell (tally_of D.Slot slots.old.items) ≡ true → WroteFront query.now (page_len query.now conf.now.block_len) (both_told (S.remaining left.old) (told_in S.remaining right.old)) (K.contents sink.old) (K.contents sink.new)))) }
-
-    ensures sink { CountsSink (IsErrOf result QueryErr.SinkFault) (K.faults sink.old) (K.faults sink.new) }
-    ensures stops { StopsAt (IsErrOf result QueryErr.SinkFault) (K.at_failure sink.old) (K.at_failure sink.new) (K.contents sink.new) }
-    ensures sources { (S.faults left.old ≤ S.faults left.new) × HoldsInput S.faults right.old right.new }
     ensures slots { ComeBack (tally_of D.Slot slots.old.items) (tally_of D.Slot slots.new.items) }
     ensures stored { OnOk result (HaveStored conf.now.block_len (owed query.now (memory_of conf.now) (both_told (S.remaining left.old) (told_in S.remaining right.old))) (tally_of D.Slot slots.old.items) (tally_of D.Slot slots.new.items)) }
     ensures len { vec_len slots.new ≡ vec_len slots.old }
@@ -115,17 +103,9 @@ fn run_counted<
     requires opens { OpensAs D.Slot conf.now slots.old.items T.opening T.told T.first }
     requires told { T.told ≡ all_tell (tally_of D.Slot slots.old.items) }
     requires first { T.first ≡ tally_of D.Slot slots.old.items }
-    ensures answer { all_tell (tally_of D.Slot slots.old.items) ≡ true → OnOk result (WroteAnswer query.now (page_len query.now conf.now.block_len) (both_told (S.remaining left.old) (told_in S.remaining right.old)) (K.contents sink.old) (K.contents sink.new)) }
-    ensures read { OnOk result (IsAtEnd (S.remaining left.new) × IsAtEnd (told_in S.remaining right.new)) }
-    ensures numbers { IfOk result (λ ran. IfSome (both_told (S.remaining left.old) (told_in S.remaining right.old)) (Numbers query.now (page_len query.now conf.now.block_len) (all_tell (tally_of D.Slot slots.old.items)) ran)) }
-    ensures input { IfErr result (SaysOfInputs query.now (page_len query.now conf.now.block_len) (source (S.remaining left.old) (S.remaining left.new) (S.faults left.old) (S.faults left.new)) (source (told_in S.remaining right.old) (told_in S.remaining right.new) (faults_in S.faults right.old) (faults_in S.faults right.new))) }
+    ensures outside { ReadAndWrote S.Source K.Sink query.now (page_len query.now conf.now.block_len) (all_tell (tally_of D.Slot slots.old.items))
+        (world left.old right.old sink.old) (world left.new right.new sink.new) result }
     ensures pool { IfErr result (OfPool (IsPoolStop query.now (page_len query.now conf.now.block_len) (if_told (all_tell (tally_of D.Slot slots.old.items)) (both_told (S.remaining left.old) (told_in S.remaining right.old))) quota (HaveFailed (tally_of D.Slot slots.old.items) (tally_of D.Slot slots.new.items)))) }
-    ensures front { all_tell (tally_of D.Slot slots.old.items) ≡ true → IsErrOf result QueryErr.SinkFault → WroteFront query.now (page_len query.now conf.now.block_len) (both_told (S.remaining left.old) (told_in S.remaining right.old)) (K.contents sink.old) (K.contents sink.new) }
-    ensures untouched { IfErr result (λ e. IsSome (side_of e) → sink.new ≡ sink.old) }
-    ensures stopped { IfErr result (λ _. (sink.new ≡ sink.old) ⊎ (IsAtEnd (S.remaining left.new) × IsAtEnd (told_in S.remaining right.new) × (all_tell (tally_of D.Slot slots.old.items) ≡ true → WroteFront query.now (page_len query.now conf.now.block_len) (both_told (S.remaining left.old) (told_in S.remaining right.old)) (K.contents sink.old) (K.contents sink.new)))) }
-    ensures sink { CountsSink (IsErrOf result QueryErr.SinkFault) (K.faults sink.old) (K.faults sink.new) }
-    ensures stops { StopsAt (IsErrOf result QueryErr.SinkFault) (K.at_failure sink.old) (K.at_failure sink.new) (K.contents sink.new) }
-    ensures sources { (S.faults left.old ≤ S.faults left.new) × HoldsInput S.faults right.old right.new }
     ensures slots { ComeBack (tally_of D.Slot slots.old.items) (tally_of D.Slot slots.new.items) }
     ensures stored { OnOk result (HaveStored conf.now.block_len (owed query.now (memory_of conf.now) (both_told (S.remaining left.old) (told_in S.remaining right.old))) (tally_of D.Slot slots.old.items) (tally_of D.Slot slots.new.items)) }
     ensures len { vec_len slots.new ≡ vec_len slots.old }
@@ -191,16 +171,8 @@ fn run_seated<
     ensures table { pass.new.table ≡ pool.now }
     ensures gone { (live_in pass.new.knows.seen ≡ 0) × (writers_out pass.new ≡ 0) }
     ensures ran { RanIfSeated T.opening T.told query.now quota pass.new (S.remaining left.old) (told_in S.remaining right.old) result }
-    ensures answer { T.told ≡ true → OnOk result (WroteAnswer query.now (page_len query.now block_len) (both_told (S.remaining left.old) (told_in S.remaining right.old)) (K.contents sink.old) (K.contents sink.new)) }
-    ensures read { OnOk result (IsAtEnd (S.remaining left.new) × IsAtEnd (told_in S.remaining right.new)) }
-    ensures numbers { IfOk result (λ ran. IfSome (both_told (S.remaining left.old) (told_in S.remaining right.old)) (Numbers query.now (page_len query.now block_len) T.told ran)) }
-    ensures input { IfErr result (SaysOfInputs query.now (page_len query.now block_len) (source (S.remaining left.old) (S.remaining left.new) (S.faults left.old) (S.faults left.new)) (source (told_in S.remaining right.old) (told_in S.remaining right.new) (faults_in S.faults right.old) (faults_in S.faults right.new))) }
-    ensures front { T.told ≡ true → IsErrOf result QueryErr.SinkFault → WroteFront query.now (page_len query.now block_len) (both_told (S.remaining left.old) (told_in S.remaining right.old)) (K.contents sink.old) (K.contents sink.new) }
-    ensures untouched { IfErr result (λ e. IsSome (side_of e) → sink.new ≡ sink.old) }
-    ensures stopped { IfErr result (λ _. (sink.new ≡ sink.old) ⊎ (IsAtEnd (S.remaining left.new) × IsAtEnd (told_in S.remaining right.new) × (T.told ≡ true → WroteFront query.now (page_len query.now block_len) (both_told (S.remaining left.old) (told_in S.remaining right.old)) (K.contents sink.old) (K.contents sink.new)))) }
-    ensures sink { CountsSink (IsErrOf result QueryErr.SinkFault) (K.faults sink.old) (K.faults sink.new) }
-    ensures stops { StopsAt (IsErrOf result QueryErr.SinkFault) (K.at_failure sink.old) (K.at_failure sink.new) (K.contents sink.new) }
-    ensures sources { (S.faults left.old ≤ S.faults left.new) × HoldsInput S.faults right.old right.new }
+    ensures outside { ReadAndWrote S.Source K.Sink query.now (page_len query.now block_len) T.told
+        (world left.old right.old sink.old) (world left.new right.new sink.new) result }
 {
     let wanted = least(query, block_len);
     let Ok(room) = Vec::with_capacity(alloc, writers as usize) else {
@@ -262,13 +234,14 @@ fn run_beside<
     requires store { HasRoomFor query.now (St.holds store.old) }
     requires right { is_some right.old ≡ joins query.now }
     requires table { pass.old.table ≡ pool.now }
-    ensures ran { RanQuery S.remaining S.faults K.contents K.at_failure K.faults St.holds St.signs query.now left.old left.new right.old right.new sink.old sink.new store.old store.new result }
+    ensures ran { RanUnmarked S.Source K.Sink St.Store query.now (world left.old right.old sink.old) (world left.new right.new sink.new) store.old store.new result }
     ensures stops { Stops pass.old pass.new }
     ensures at { map (λ w. w.seat.spot.table) writers.new ≡ map (λ w. w.seat.spot.table) writers.old }
 {
     let mut work = || -> Result<Ran, QueryErr>
         requires { IsRunnable query.now × HasRoomFor query.now (St.holds store.now) × (is_some right.now ≡ joins query.now) }
-        ensures { RanQuery S.remaining S.faults K.contents K.at_failure K.faults St.holds St.signs query.entry.now left.entry.now left.exit.now right.entry.now right.exit.now sink.entry.now sink.exit.now store.entry.now store.exit.now result }
+        ensures { RanUnmarked S.Source K.Sink St.Store query.entry.now (world left.entry.now right.entry.now sink.entry.now)
+            (world left.exit.now right.exit.now sink.exit.now) store.entry.now store.exit.now result }
     { run_unmarked(alloc, store, query, left, right, sink) };
     beside_writers(rt, pool, pass, writers, &OpenGate, &mut work)
 }

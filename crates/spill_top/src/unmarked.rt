@@ -4,7 +4,8 @@ ghost use Rattle.std.specs.Prelude.{◌≡◌, is_some};
 ghost use Rattle.query_run.specs.Plans.{IsRunnable};
 ghost use Rattle.query_plan.specs.Sizes.{joins};
 ghost use Rattle.query_run.specs.Stopped.{HasRoomFor};
-ghost use Rattle.spill_top.specs.Seated.{RanQuery};
+ghost use Rattle.query_run.specs.Run.{world};
+ghost use Rattle.spill_top.specs.Unmarked.{RanUnmarked};
 
 use outside::{Sink, Source};
 use query_plan::Query;
@@ -26,7 +27,7 @@ pub(crate) fn run_unmarked<St: Store, S: Source, K: Sink>(
     requires plan { IsRunnable plan.now }
     requires store { HasRoomFor plan.now (St.holds store.old) }
     requires right { is_some right.old ≡ joins plan.now }
-    ensures { RanQuery S.remaining S.faults K.contents K.at_failure K.faults St.holds St.signs plan.now left.old left.new right.old right.new sink.old sink.new store.old store.new result }
+    ensures { RanUnmarked S.Source K.Sink St.Store plan.now (world left.old right.old sink.old) (world left.new right.new sink.new) store.old store.new result }
 {
     match run_query(alloc, store, plan, left, right, sink) {
         Err(QueryErr::Pool(PoolErr::Stale { .. })) => Err(QueryErr::Pool(PoolErr::Memory)),

@@ -1,4 +1,4 @@
-use Rattle.std.proofs.Common.{◌≡◌, ◌∙◌, ℕ, List, IfErr, OnOk, inl, inr, length, ap, subst, sym, rules}
+use Rattle.std.proofs.Common.{◌≡◌, ◌∙◌, ℕ, List, IfErr, OnOk, inl, inr, length, ap, subst, sym, rules, refl}
 use Rattle.std.proofs.lemmas.Result.{IfErr-weaker}
 use Rattle.pin_core.specs.Tallies.{tally_of}
 use Rattle.pin_core.specs.declared.tally.Tally.{Tally}
@@ -8,6 +8,7 @@ use Rattle.query_run.specs.Causes.{OfPool}
 use Rattle.spill_top.specs.Pooled.{ComeBack, HaveFailed, IsPoolStop, all_tell, memory_of}
 use Rattle.spill_top.specs.Sides.{if_told}
 use Rattle.spill_top.specs.Storing.{HaveStored, owed}
+use Rattle.query_run.proofs.Runs.{nothing_read, read_and_wrote_at}
 use Rattle.spill_top.proofs.Closing.{have_kept, slots_back, stopped_by}
 use Rattle.spill_top.proofs.Pools.{as_many, same_slots}
 use Rattle.spill_top.proofs.pooled.run_counted.Goals as goal
@@ -51,9 +52,8 @@ returns-clause-stored g c =
     (have_kept g.D.Slot g.T.OpenedAs.opening g.T.OpenedAs.told g.T.OpenedAs.first c.run_seated-ran.new.pass c.close.result.items c.close.ensures c.args.query.now c.args.quota (g.S.Source.remaining c.args.left.now) (told_in g.S.Source.remaining c.args.right.now)
     c.run_seated-ran.result c.run_seated-ran.ensures.ran c.args.conf.now _ c.requires.opens.numbers c.law_spill.ensures.law c.law_shares.ensures.stored c.law_shares.ensures.parts c.requires.query)
 
-pub returns-clause-stopped : goal.returns-clause-stopped
-returns-clause-stopped g c =
-    IfErr-weaker c.run_seated-ran.result _ _ (λ e either. elim either [
-      | inl same ↦ inl same
-      | inr both ↦ inr (both.0, both.1, λ tell. both.2 (c.requires.told ∙ tell))
-    ]) c.run_seated-ran.ensures.stopped
+pub returns-clause-outside : goal.returns-clause-outside
+returns-clause-outside g c = read_and_wrote_at g.S.Source g.K.Sink c.args.query.now _ _ _ _ _ _ c.run_seated-ran.result refl c.requires.told c.run_seated-ran.ensures.outside
+
+pub returns-in-Err-clause-outside : goal.returns-in-Err-clause-outside
+returns-in-Err-clause-outside g c = nothing_read g.S.Source g.K.Sink c.args.query.now _ _ _

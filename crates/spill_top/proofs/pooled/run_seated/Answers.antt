@@ -7,6 +7,7 @@ use Rattle.pool.proofs.AtOpen.{none_taken}
 use Rattle.query_plan.specs.Sizes.{least_of}
 use Rattle.query_run.specs.Both.{told_in}
 use Rattle.spill_top.specs.Beside.{Waits}
+use Rattle.spill_top.proofs.Answering.{all_unmarked}
 use Rattle.spill_top.proofs.Asks.{may_come}
 use Rattle.spill_top.proofs.OneSession.{none_left, none_live, ran_alone, same_number}
 use Rattle.spill_top.proofs.Waiting.{live_waits, stops_waits, waits_then}
@@ -60,7 +61,7 @@ returns-clause-gone g c =
     (stops_waits c.session.new.pass c.run_beside-ran.new.pass c.law_pass-2.ensures.1 c.run_beside-ran.ensures.stops) c.end_writers-2.ensures.waits in (
       none_left g.T.OpenedAs.opening g.T.OpenedAs.told c.args.query.now.limit c.args.quota c.least-wanted.result g.T.OpenedAs.opening.slots c.begin_writers-writers.new.pass c.session.new.pass c.end_writers-2.new.pass c.end.new.pass c.in-Ok-session.session.seat c.run_beside-ran.new.store.seat
           c.law_pass.ensures c.law_pass-3.ensures c.law_pass-4.ensures (c.begin_writers-writers.ensures.begin.seen ∙ c.requires.fresh.0) c.in-Ok-session.ensures.ok waits c.law_sits.ensures
-          (same_number g.T.OpenedAs.opening g.T.OpenedAs.told c.in-Ok-session.session.seat c.run_beside-ran.new.store.seat c.run_beside-ran.ensures.ran.store.left) c.end.ensures,
+          (same_number g.T.OpenedAs.opening g.T.OpenedAs.told c.in-Ok-session.session.seat c.run_beside-ran.new.store.seat c.run_beside-ran.ensures.ran.ran.store.left) c.end.ensures,
       c.end.ensures.writers ∙ c.end_writers-2.ensures.none,
     )
 
@@ -72,4 +73,4 @@ returns-clause-ran g c =
     inr (ran_alone g.T.OpenedAs.opening g.T.OpenedAs.told c.args.query.now c.args.quota c.least-wanted.result g.T.OpenedAs.opening.slots c.begin_writers-writers.new.pass c.session.new.pass c.end_writers-2.new.pass c.end.new.pass c.in-Ok-session.session.seat c.run_beside-ran.new.store.seat
     c.law_pass.ensures c.law_pass-3.ensures c.law_pass-4.ensures (c.begin_writers-writers.ensures.begin.seen ∙ c.requires.fresh.0) least c.in-Ok-session.ensures.ok waits c.law_sits.ensures c.end.ensures
     (g.S.Source.remaining c.args.left.now) (told_in g.S.Source.remaining c.args.right.now) c.run_beside-ran.result
-    c.run_beside-ran.ensures.ran.store c.run_beside-ran.ensures.ran.pool c.run_beside-ran.ensures.ran.kept)
+    c.run_beside-ran.ensures.ran.ran.store (all_unmarked c.args.query.now _ _ _ _ c.run_beside-ran.result c.run_beside-ran.ensures.ran.ran.pool c.run_beside-ran.ensures.ran.unmarked) c.run_beside-ran.ensures.ran.ran.kept)

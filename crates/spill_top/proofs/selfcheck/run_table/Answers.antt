@@ -40,12 +40,12 @@ returns-clause-stop g c =
     let quota : c.len-quota.result ≡ vec_len c.args.slots.now = search rules in
     subst (λ (n : ℕ). IfErr c.run_pooled.result (IsCheckStop c.args.check (all_tell (tally_of g.D.Slot c.args.slots.now.items)) n (HaveFailed (tally_of g.D.Slot c.args.slots.now.items) (tally_of g.D.Slot c.run_pooled.new.slots.items)) (Rose (g.K.Sink.faults c.args.sink.now) (g.K.Sink.faults c.run_pooled.new.sink)))) quota
     (if_err_both c.run_pooled.result _ _ _ (λ e is says stop. check_stop_of c.args.check (all_tell (tally_of g.D.Slot c.args.slots.now.items)) _ _ _ c.args.plan.now _ (Some (record { left = c.new-table.result; right = [] })) (Some c.new-table.result) _ _ e c.requires.plan (check_page c.args.check c.args.plan.now c.checking_pool-pool.result c.requires.plan c.checking_pool-pool.ensures)
-    (ap (λ (bytes : List ℕ). Some bytes) table) (ap (λ (bytes : List ℕ). Some (record { left = bytes; right = [] })) table) c.requires.range says stop (λ sink. c.run_pooled.ensures.sink.fault (is ∙ ap (λ (why : QueryErr). Err why) sink)))
-    c.run_pooled.ensures.input c.run_pooled.ensures.pool)
+    (ap (λ (bytes : List ℕ). Some bytes) table) (ap (λ (bytes : List ℕ). Some (record { left = bytes; right = [] })) table) c.requires.range says stop (λ sink. c.run_pooled.ensures.outside.sink.fault (is ∙ ap (λ (why : QueryErr). Err why) sink)))
+    c.run_pooled.ensures.outside.input c.run_pooled.ensures.pool)
 
 pub returns-clause-part : goal.returns-clause-part
 returns-clause-part g c =
     let table : c.new-table.result ≡ table_bytes c.args.check.start c.args.check.rows c.args.check.groups = search rules in
-    if_err_both c.run_pooled.result _ _ _ (λ e is same either. part_of g.K.Sink.contents _ _ (all_tell (tally_of g.D.Slot c.args.slots.now.items)) c.args.check c.args.plan.now _ (Some (record { left = c.new-table.result; right = [] })) _ _ (side_of e) c.requires.plan
+    if_err_both c.run_pooled.result _ _ _ (λ e is same either. part_of g.K.Sink.contents _ _ (all_tell (tally_of g.D.Slot c.args.slots.now.items)) c.args.check c.args.plan.now _ (Some (record { left = c.new-table.result; right = [] })) _ (side_of e) c.requires.plan
     (check_page c.args.check c.args.plan.now c.checking_pool-pool.result c.requires.plan c.checking_pool-pool.ensures) (ap (λ (bytes : List ℕ). Some (record { left = bytes; right = [] })) table) same either)
-    c.run_pooled.ensures.untouched c.run_pooled.ensures.stopped
+    c.run_pooled.ensures.outside.untouched c.run_pooled.ensures.outside.stopped

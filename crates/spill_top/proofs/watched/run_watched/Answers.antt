@@ -11,7 +11,7 @@ pub run_pooled-ran-requires-clause-right : goal.run_pooled-ran-requires-clause-r
 run_pooled-ran-requires-clause-right g c κs within = not_joins c.args.plan.now c.requires.alone
 
 pub returns-clause-says : goal.returns-clause-says
-returns-clause-says g c = IfErr-weaker c.run_pooled-ran.result _ _ (λ e says. says_alone c.args.plan.now _ _ _ e c.requires.alone says) c.run_pooled-ran.ensures.input
+returns-clause-says g c = IfErr-weaker c.run_pooled-ran.result _ _ (λ e says. says_alone c.args.plan.now _ _ _ e c.requires.alone says) c.run_pooled-ran.ensures.outside.input
 
 pub returns-clause-kept : goal.returns-clause-kept
 returns-clause-kept g c = λ unwritten.
