@@ -15,8 +15,8 @@ use Rattle.spill_top.specs.declared.ending.Ending.{Ending}
 use Rattle.spill_top.specs.declared.ending.Ending.TheVariants.{Lines, Reservation, Stopped}
 use Rattle.spill_top.specs.Endings.{is_answer}
 use Rattle.spill_top.specs.Pooled.{HaveFailed}
-use Rattle.spill_top.specs.Running.{HasOutput, Holds, HoldsPart, IsPart, Seen, SomeSpends, Went, told_over}
-use Rattle.spill_top.specs.Jobs.{HasFailed, HasFailedOn, IsWork, LeavesPart, Opened, SinkHolds}
+use Rattle.spill_top.specs.Running.{HasOutput, Holds, HoldsPart, IsPart, Seen, Went, told_over}
+use Rattle.spill_top.specs.Jobs.{HasFailed, HasFailedOn, IsWork, LeavesPart, Opened, SinkHolds, met_so_far}
 use Rattle.spill_top.specs.Sides.{bytes_on, faults_on, on_sides}
 use Rattle.spill_top.proofs.Sides.{ended_stand, faults_kept}
 use Rattle.spill_top.proofs.Works.{failed_later, rose_since, slots_later, so_far_later, went_on, taken}
@@ -86,12 +86,11 @@ pub finished_so : (start old now : Seen) (block_len : ℕ) (all : List Query) (q
     → IsWork start now block_len all query (record { refused = refused; left = left; right = right; output = None; ended = Some ending })
 finished_so start old now block_len all query refused left right sink ending went takes has is = record {
   went = went_on start old now is.went went;
-  ending = so_far_later query (page_len query block_len) (bytes_on query start.files) (told_over query start)
-      (HasFailedOn (faults_on query start.reads) (faults_on query old.reads) (on_sides left right)) (HasFailed (start.writes query.output) (old.writes query.output) (Some sink)) (HaveFailed start.slots old.slots)
-      (HasFailedOn (faults_on query start.reads) (faults_on query now.reads) (on_sides left right)) (HasFailed (start.writes query.output) (now.writes query.output) None) (HaveFailed start.slots now.slots) (SomeSpends all start) refused (Some ending)
+  ending = so_far_later query (met_so_far start old block_len all query (record { refused = refused; left = left; right = right; output = Some sink; ended = Some ending }))
+      (HasFailedOn (faults_on query start.reads) (faults_on query now.reads) (on_sides left right)) (HasFailed (start.writes query.output) (now.writes query.output) None) (HaveFailed start.slots now.slots)
       (λ side. failed_later (faults_on query start.reads side) (faults_on query old.reads side) (faults_on query now.reads side) (on_sides left right side) (faults_kept query old.reads now.reads went.reads side))
       (taken (start.writes query.output) (old.writes query.output) (now.writes query.output) (Some sink) (is.went.writes query.output) (went.writes query.output) takes)
-      (slots_later start.slots old.slots now.slots went.slots) is.ending;
+      (slots_later start.slots old.slots now.slots went.slots) (Some ending) is.ending;
   inputs = is.inputs;
   sides = record { only = is.sides.only; both = λ on some. absurd cc };
   output = inr has;

@@ -7,11 +7,10 @@ use Rattle.std.proofs.lemmas.List.Sums.{sum_by-cons}
 use Rattle.std.proofs.lemmas.Option.{none-some, same_Some}
 use Rattle.query_plan.specs.Sizes.{least_of}
 use Rattle.query_plan.specs.declared.plan.Query.{Query}
-use Rattle.query_plan.specs.declared.plan.Side.{Side}
-use Rattle.query_run.specs.Both.{Told}
 use Rattle.spill_top.specs.declared.ending.Ending.{Ending}
 use Rattle.spill_top.specs.declared.ending.Ending.TheVariants.{Reservation}
-use Rattle.spill_top.specs.Jobs.{IsSoFar, Work}
+use Rattle.spill_top.specs.Jobs.{IsSoFar, Work, met_so_far}
+use Rattle.spill_top.specs.Running.{Met}
 use Rattle.spill_top.specs.Reserving.{refusal, refusals, room_behind}
 use Rattle.spill_top.specs.Running.{Seen}
 use Rattle.spill_top.specs.Steps.{AreWorks}
@@ -81,10 +80,9 @@ quota_within (first ∷ queries) slots (suc place) query sum at =
     quota_within queries slots place query (omega (arith, split, sum)) at
 
 -- a query that goes on was not refused
-pub goes_unrefused : (plan : Query) (page : ℕ) (bytes : Side → Option (List ℕ)) (told : Option Told) (R : Side → Type 0) (W F N : Type 0) (refused ended : Option Ending) → ended ≡ None
-    → IsSoFar plan page bytes told R W F N refused ended → refused ≡ None
-goes_unrefused plan page bytes told R W F N refused None on is = is
-goes_unrefused plan page bytes told R W F N refused (Some ending) on is = cc
+pub goes_unrefused : (plan : Query) (met : Met) (ended : Option Ending) → ended ≡ None → IsSoFar plan met ended → met.refused ≡ None
+goes_unrefused plan met None on is = is
+goes_unrefused plan met (Some ending) on is = cc
 
 -- so nothing stands against its place among the refusals
 pub unrefused_at : (start now : Seen) (block_len room : ℕ) (queries : List Query) (works : List Work) (place : ℕ) (query : Query) (w : Work) → AreWorks start now block_len queries works
@@ -93,5 +91,5 @@ pub unrefused_at : (start now : Seen) (block_len room : ℕ) (queries : List Que
 unrefused_at start now block_len room queries works place query w are same at_query at on =
     let refused : slice_get (refusals block_len room queries) place ≡ Some w.refused =
     subst (λ (list : List (Option Ending)). slice_get list place ≡ Some w.refused) same (map_get (λ (x : Work). x.refused) works place w at) in
-    let none : w.refused ≡ None = goes_unrefused query _ _ _ _ _ _ _ w.refused w.ended on ((are place query w at_query at).ending) in
+    let none : w.refused ≡ None = goes_unrefused query (met_so_far start now block_len queries query w) w.ended on ((are place query w at_query at).ending) in
     subst (λ (r : Option Ending). slice_get (refusals block_len room queries) place ≡ Some r) none refused

@@ -26,7 +26,7 @@ use Rattle.query_run.specs.Trail.{KeptRows}
 use Rattle.spill_top.specs.declared.ending.Ending.{Ending}
 use Rattle.spill_top.specs.declared.job.Job.{Job}
 use Rattle.spill_top.specs.Endings.{is_answer}
-use Rattle.spill_top.specs.Jobs.{InputStands, IsWork, Work, work_of}
+use Rattle.spill_top.specs.Jobs.{InputStands, IsWork, Work, work_of, met_so_far}
 use Rattle.spill_top.specs.Running.{Seen}
 use Rattle.spill_top.specs.Sides.{bytes_on, told_of}
 use Rattle.spill_top.specs.Steps.{IsOpen, has_answer}
@@ -74,7 +74,7 @@ module _ {S K St : Type 0} (remaining : S → Option (List ℕ)) (reads : S → 
     rules = rules;
     is_open = opens;
     sides = is.sides;
-    store = λ on. roomy query job.session (seated (goes_unrefused query _ _ _ _ _ _ _ job.refused job.ended on is.ending)) come;
+    store = λ on. roomy query job.session (seated (goes_unrefused query (met_so_far start at o.block_len all query (work job)) job.ended on is.ending)) come;
   }
 
   -- ---- its session before and afterwards

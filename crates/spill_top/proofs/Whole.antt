@@ -5,8 +5,7 @@ use Rattle.std.specs.Option.{option_flatten}
 use Rattle.std.specs.Prelude.{nat_le, if◌then◌else◌, ⊤}
 use Rattle.std.proofs.lemmas.Option.{none-some, same_Some}
 use Rattle.outside.specs.Counts.{Rose}
-use Rattle.query_run.specs.Both.{Told}
-use Rattle.query_plan.specs.Sizes.{least_of, page_len}
+use Rattle.query_plan.specs.Sizes.{least_of}
 use Rattle.query_plan.specs.declared.plan.Query.{Query}
 use Rattle.query_plan.specs.declared.plan.Side.{Side}
 use Rattle.query_plan.specs.declared.plan.Side.TheVariants.{Left, Right}
@@ -14,8 +13,8 @@ use Rattle.spill_top.specs.declared.ending.Ending.{Ending}
 use Rattle.spill_top.specs.declared.ending.Ending.TheVariants.{Lines, Reservation, Stopped}
 use Rattle.spill_top.specs.Reserving.{refusal, refusals, room_behind}
 use Rattle.spill_top.specs.Pooled.{HaveFailed, all_tell}
-use Rattle.spill_top.specs.Running.{HasEnded, HaveEnded, IsEnding, Seen, SomeSpends, told_over}
-use Rattle.spill_top.specs.Jobs.{HasFailed, HasFailedOn, HasNone, IsSoFar, IsWork, Opened, Work, begun}
+use Rattle.spill_top.specs.Running.{HasEnded, HaveEnded, IsEnding, Met, Seen, met_by}
+use Rattle.spill_top.specs.Jobs.{HasFailed, HasFailedOn, HasNone, IsSoFar, IsWork, Opened, Work, begun, met_so_far}
 use Rattle.spill_top.specs.Sides.{RoseOn, bytes_on, faults_on, on_sides}
 use Rattle.spill_top.specs.Steps.{AreAll, AreWorks, IsBegun, IsDone}
 use Rattle.spill_top.proofs.Loops.{went_nowhere}
@@ -43,11 +42,11 @@ reserved_at block_len room (query ∷ queries) zero refused at =
 reserved_at block_len room (query ∷ queries) (suc place) refused at =
     reserved_at block_len (room_behind (refusal query.limit (least_of query block_len) room) (least_of query block_len) room) queries place refused at
 
-first-so-far : (plan : Query) (page : ℕ) (bytes : Side → Option (List ℕ)) (told : Option Told) (R : Side → Type 0) (W F N : Type 0) (refused : Option Ending) → IsReserved refused → IsSoFar plan page bytes told R W F N refused refused
-first-so-far plan page bytes told R W F N None is = refl
-first-so-far plan page bytes told R W F N (Some (Reservation root wanted room)) is = refl
-first-so-far plan page bytes told R W F N (Some (Lines lines)) is = absurd is
-first-so-far plan page bytes told R W F N (Some (Stopped why)) is = absurd is
+first-so-far : (plan : Query) (met : Met) (refused : Option Ending) → met.refused ≡ refused → IsReserved refused → IsSoFar plan met refused
+first-so-far plan met None same is = same
+first-so-far plan met (Some (Reservation root wanted room)) same is = same
+first-so-far plan met (Some (Lines lines)) same is = absurd is
+first-so-far plan met (Some (Stopped why)) same is = absurd is
 
 has-none : (refused : Option Ending) → IsReserved refused → HasNone refused
 has-none None is = tt
@@ -58,7 +57,7 @@ has-none (Some (Stopped why)) is = absurd is
 first-is : (start : Seen) (block_len : ℕ) (all : List Query) (query : Query) (refused : Option Ending) → IsReserved refused → IsWork start start block_len all query (begun refused)
 first-is start block_len all query refused is = record {
   went = went_nowhere start;
-  ending = first-so-far query (page_len query block_len) (bytes_on query start.files) (told_over query start) (HasFailedOn (faults_on query start.reads) (faults_on query start.reads) (on_sides None None)) _ _ _ refused is;
+  ending = first-so-far query (met_so_far start start block_len all query (begun refused)) refused refl is;
   inputs = none_stand (bytes_on query start.files) refused;
   sides = no_sides query refused refused None;
   output = inl (has-none refused is, refl);
@@ -109,16 +108,13 @@ none-more before now Right failed = no-more (before Right) (now Right) failed
 ended-work : (start now : Seen) (block_len : ℕ) (all : List Query) (query : Query) (refused : Option Ending) (ending : Ending)
     → IsWork start now block_len all query (record { refused = refused; left = None; right = None; output = None; ended = Some ending }) → HasEnded start now block_len all refused query ending
 ended-work start now block_len all query refused ending is =
-    let so : IsEnding query (page_len query block_len) (bytes_on query start.files) (told_over query start) (RoseOn (faults_on query start.reads) (faults_on query now.reads)) (Rose (start.writes query.output) (now.writes query.output))
-    (HaveFailed start.slots now.slots) (SomeSpends all start) refused ending =
-    ending_later query (page_len query block_len) (bytes_on query start.files) (told_over query start)
-    (HasFailedOn (faults_on query start.reads) (faults_on query now.reads) (on_sides None None)) (HasFailed (start.writes query.output) (now.writes query.output) None) (HaveFailed start.slots now.slots)
-    (RoseOn (faults_on query start.reads) (faults_on query now.reads)) (Rose (start.writes query.output) (now.writes query.output)) (HaveFailed start.slots now.slots) (SomeSpends all start) refused ending
-    (none-more (faults_on query start.reads) (faults_on query now.reads)) (no-more (start.writes query.output) (now.writes query.output)) (λ failed. failed) is.ending in
+    let was = met_so_far start now block_len all query (record { refused = refused; left = None; right = None; output = None; ended = Some ending }) in
+    let so : IsEnding query (met_by start now block_len all refused query) ending =
+    ending_later query was (RoseOn (faults_on query start.reads) (faults_on query now.reads)) (Rose (start.writes query.output) (now.writes query.output)) (HaveFailed start.slots now.slots)
+    (none-more (faults_on query start.reads) (faults_on query now.reads)) (no-more (start.writes query.output) (now.writes query.output)) (λ failed. failed) ending is.ending in
     record {
       so = so;
-      completes = λ clear. complete query (page_len query block_len) (all_tell start.slots) (bytes_on query start.files) (RoseOn (faults_on query start.reads) (faults_on query now.reads)) (Rose (start.writes query.output) (now.writes query.output))
-          (HaveFailed start.slots now.slots) (SomeSpends all start) refused clear ending so;
+      completes = λ clear. complete query (met_by start now block_len all refused query) (all_tell start.slots) refl clear ending so;
       output = is.output;
     }
 

@@ -18,9 +18,9 @@ use Rattle.query_plan.specs.declared.outcome.QueryErr.TheVariants as query
 use Rattle.spill_top.specs.declared.ending.Ending.{Ending}
 use Rattle.spill_top.specs.declared.ending.Ending.TheVariants.{Lines, Reservation, Stopped}
 use Rattle.spill_top.specs.Pooled.{ComeBack, HaveFailed, IsSharedStop}
-use Rattle.spill_top.specs.Running.{HasOutput, IsEnding, IsStopped, Seen, SomeSpends, Went, told_over}
-use Rattle.spill_top.specs.Jobs.{HasFailed, HasFailedOn, IsSoFar, IsWork, Opened, OutputStands, SinkHolds, Work, faults_of, inputs_of}
-use Rattle.spill_top.specs.Sides.{bytes_on, faults_on}
+use Rattle.spill_top.specs.Running.{HasOutput, IsEnding, IsStopped, Met, Seen, Went, told_over}
+use Rattle.spill_top.specs.Jobs.{HasFailed, HasFailedOn, IsSoFar, IsWork, Opened, OutputStands, SinkHolds, Work, faults_of, inputs_of, met_so_far}
+use Rattle.spill_top.specs.Sides.{faults_on}
 use Rattle.spill_top.specs.Steps.{AreWorks}
 use Rattle.spill_top.proofs.Places.{set_get}
 use Rattle.spill_top.proofs.Sides.{faults_kept}
@@ -80,23 +80,27 @@ pool_later plan page given told F F' N (query.RowTooLong side number bytes) tell
 pool_later plan page given told F F' N query.SinkFault tells slots is = is
 pool_later plan page given told F F' N (query.Pool why) tells slots is = stop-later plan page given told F F' N why tells slots is
 
-module _ (plan : Query) (page : ℕ) (bytes : Side → Option (List ℕ)) (told : Option Told) (R : Side → Type 0) (W F : Type 0) (R' : Side → Type 0) (W' F' N : Type 0) where
-  stopped-later : (why : QueryErr) → ((side : Side) → R side → R' side) → (W → W') → (F → F') → IsStopped plan page bytes told R W F N why → IsStopped plan page bytes told R' W' F' N why
-  stopped-later why reads writes slots is = record {
+-- what a query meets with other failures
+abbrev pub failed_so : (Side → Type 0) → Type 0 → Type 0 → Met → Met
+failed_so R W F met = record met { read_failed = R; write_failed = W; slots_failed = F }
+
+module _ (plan : Query) (met : Met) (R : Side → Type 0) (W F : Type 0) (reads : (side : Side) → met.read_failed side → R side) (writes : met.write_failed → W) (slots : met.slots_failed → F) where
+  stopped-later : (why : QueryErr) → IsStopped plan met why → IsStopped plan (failed_so R W F met) why
+  stopped-later why is = record {
     refused = is.refused;
     source_fault = λ side fault. reads side (is.source_fault side fault);
     sink_fault = λ fault. writes (is.sink_fault fault);
-    pool = pool_later plan page told told F F' N why (λ A so. so) slots is.pool;
+    pool = pool_later plan met.page met.told met.told met.slots_failed F met.names why (λ A so. so) slots is.pool;
   }
 
-  pub ending_later : (refused : Option Ending) (ending : Ending) → ((side : Side) → R side → R' side) → (W → W') → (F → F') → IsEnding plan page bytes told R W F N refused ending → IsEnding plan page bytes told R' W' F' N refused ending
-  ending_later refused (Lines lines) reads writes slots is = is
-  ending_later refused (Reservation root wanted room) reads writes slots is = is
-  ending_later refused (Stopped why) reads writes slots is = (is.0, stopped-later why reads writes slots is.1)
+  pub ending_later : (ending : Ending) → IsEnding plan met ending → IsEnding plan (failed_so R W F met) ending
+  ending_later (Lines lines) is = is
+  ending_later (Reservation root wanted room) is = is
+  ending_later (Stopped why) is = (is.0, stopped-later why is.1)
 
-  pub so_far_later : (refused ended : Option Ending) → ((side : Side) → R side → R' side) → (W → W') → (F → F') → IsSoFar plan page bytes told R W F N refused ended → IsSoFar plan page bytes told R' W' F' N refused ended
-  so_far_later refused None reads writes slots is = is
-  so_far_later refused (Some ending) reads writes slots is = ending_later refused ending reads writes slots is
+  pub so_far_later : (ended : Option Ending) → IsSoFar plan met ended → IsSoFar plan (failed_so R W F met) ended
+  so_far_later None is = is
+  so_far_later (Some ending) is = ending_later ending is
 
 sink-later : (plan : Query) (page : ℕ) (told : Option Told) (before old now : Option Written) (sink : Opened) (ended : Option Ending) → now ≡ old
     → IfSome before (λ _. (old ≡ Some fresh) × SinkHolds plan page told sink.told ended) → IfSome before (λ _. (now ≡ Some fresh) × SinkHolds plan page told sink.told ended)
@@ -115,12 +119,11 @@ pub work_later : (start old now : Seen) (block_len : ℕ) (all : List Query) (qu
     → IsWork start old block_len all query w → IsWork start now block_len all query w
 work_later start old now block_len all query w went same is = record {
   went = went_on start old now is.went went;
-  ending = so_far_later query (page_len query block_len) (bytes_on query start.files) (told_over query start)
-      (HasFailedOn (faults_on query start.reads) (faults_on query old.reads) (inputs_of w)) (HasFailed (start.writes query.output) (old.writes query.output) w.output) (HaveFailed start.slots old.slots)
-      (HasFailedOn (faults_on query start.reads) (faults_on query now.reads) (inputs_of w)) (HasFailed (start.writes query.output) (now.writes query.output) w.output) (HaveFailed start.slots now.slots) (SomeSpends all start) w.refused w.ended
+  ending = so_far_later query (met_so_far start old block_len all query w)
+      (HasFailedOn (faults_on query start.reads) (faults_on query now.reads) (inputs_of w)) (HasFailed (start.writes query.output) (now.writes query.output) w.output) (HaveFailed start.slots now.slots)
       (λ side. failed_later (faults_on query start.reads side) (faults_on query old.reads side) (faults_on query now.reads side) (inputs_of w side) (faults_kept query old.reads now.reads went.reads side))
       (failed_later (start.writes query.output) (old.writes query.output) (now.writes query.output) w.output (went.writes query.output))
-      (slots_later start.slots old.slots now.slots went.slots) is.ending;
+      (slots_later start.slots old.slots now.slots went.slots) w.ended is.ending;
   inputs = is.inputs;
   sides = is.sides;
   output = output-later query (page_len query block_len) (told_over query start) (start.written query.output) (old.written query.output) (now.written query.output)

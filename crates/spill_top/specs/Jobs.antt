@@ -13,8 +13,7 @@ use Rattle.query_run.specs.Causes.{side_of}
 use Rattle.spill_top.specs.declared.ending.Ending.{Ending}
 use Rattle.spill_top.specs.declared.ending.Ending.TheVariants.{Lines, Reservation, Stopped}
 use Rattle.spill_top.specs.declared.job.Job.{Job}
-use Rattle.spill_top.specs.Pooled.{HaveFailed}
-use Rattle.spill_top.specs.Running.{HasNoOutput, HasOutput, IsEnding, Seen, SomeSpends, Went, told_over}
+use Rattle.spill_top.specs.Running.{HasNoOutput, HasOutput, IsEnding, Met, Seen, Went, met_with, told_over}
 use Rattle.spill_top.specs.Sides.{bytes_on, faults_on, on_sides}
 
 -- a source or a sink that is open: the bytes that it still gives or that it holds, where they are told, and its faults
@@ -66,9 +65,9 @@ abbrev pub HasFailedOn : (Side → ℕ) → (Side → ℕ) → (Side → Option 
 HasFailedOn before now inputs side = HasFailed (before side) (now side) (inputs side)
 
 -- a query that was not refused goes on
-abbrev pub IsSoFar : Query → ℕ → (Side → Option (List ℕ)) → Option Told → (Side → Type 0) → Type 0 → Type 0 → Type 0 → Option Ending → Option Ending → Type 0
-IsSoFar plan page bytes told read_failed write_failed slots_failed names refused None = refused ≡ None
-IsSoFar plan page bytes told read_failed write_failed slots_failed names refused (Some ending) = IsEnding plan page bytes told read_failed write_failed slots_failed names refused ending
+abbrev pub IsSoFar : Query → Met → Option Ending → Type 0
+IsSoFar plan met None = met.refused ≡ None
+IsSoFar plan met (Some ending) = IsEnding plan met ending
 
 -- a call of a query that stopped left nothing in its sink where an input was at fault, and else at most a front of the answer
 abbrev pub LeavesPart : Query → ℕ → Option Told → Option (List ℕ) → Option (List ℕ) → Option Side → Type 0
@@ -105,11 +104,16 @@ pub record HasSides (query : Query) (w : Work) : Type 0 where
   pub only : IsSome w.right → joins query ≡ true
   pub both : w.ended ≡ None → IsSome w.left → is_some w.right ≡ joins query
 
+-- what it met so far, with what is open
+abbrev pub met_so_far : Seen → Seen → ℕ → List Query → Query → Work → Met
+met_so_far start now block_len all query w =
+    met_with (HasFailedOn (faults_on query start.reads) (faults_on query now.reads) (inputs_of w)) (HasFailed (start.writes query.output) (now.writes query.output) w.output)
+    start now block_len all w.refused query
+
 -- what stands of one of these queries between two of the calls for it, with blocks of so many bytes
 pub record IsWork (start now : Seen) (block_len : ℕ) (all : List Query) (query : Query) (w : Work) : Type 0 where
   pub went : Went start now
-  pub ending : IsSoFar query (page_len query block_len) (bytes_on query start.files) (told_over query start) (HasFailedOn (faults_on query start.reads) (faults_on query now.reads) (inputs_of w))
-      (HasFailed (start.writes query.output) (now.writes query.output) w.output) (HaveFailed start.slots now.slots) (SomeSpends all start) w.refused w.ended
+  pub ending : IsSoFar query (met_so_far start now block_len all query w) w.ended
   pub inputs : (side : Side) → InputStands (bytes_on query start.files side) (inputs_of w side) w.ended
   pub sides : HasSides query w
   pub output : OutputStands query (page_len query block_len) (told_over query start) (start.written query.output) (now.written query.output) (now.created query.output) w.output w.ended

@@ -61,13 +61,44 @@ IsRefusedOn plan page bytes why Right =
 abbrev pub SomeSpends : List Query → Seen → Type 0
 SomeSpends all start = (place : ℕ) × (query : Query) × (slice_get all place ≡ Some query) × MaySpendNames query (told_over query start)
 
+-- what a query meets: how long its pages are; the bytes of each input, where they are told, and those that an answer is over; whether
+-- reading an input, writing its output or a slot failed, and the names of pages may be spent; and how its least reservation was
+-- refused, if it was
+pub record Met : Type 1 where
+  pub page : ℕ
+  pub bytes : Side → Option (List ℕ)
+  pub told : Option Told
+  pub read_failed : Side → Type 0
+  pub write_failed : Type 0
+  pub slots_failed : Type 0
+  pub names : Type 0
+  pub refused : Option Ending
+
+-- the same of one of these queries since a time, where reading and writing failed so
+abbrev pub met_with : (Side → Type 0) → Type 0 → Seen → Seen → ℕ → List Query → Option Ending → Query → Met
+met_with read_failed write_failed start now block_len all refused query = record {
+  page = page_len query block_len;
+  bytes = bytes_on query start.files;
+  told = told_over query start;
+  read_failed = read_failed;
+  write_failed = write_failed;
+  slots_failed = HaveFailed start.slots now.slots;
+  names = SomeSpends all start;
+  refused = refused;
+}
+
+-- and where a fault of them was counted if one failed
+abbrev pub met_by : Seen → Seen → ℕ → List Query → Option Ending → Query → Met
+met_by start now block_len all refused query =
+    met_with (RoseOn (faults_on query start.reads) (faults_on query now.reads)) (Rose (start.writes query.output) (now.writes query.output)) start now block_len all refused query
+
 -- why a query stopped over a pool that it shares: the bytes of the input that the cause names are refused for this; reading that input, or writing, has
 -- failed; or the pool stopped it, whose pages may take as many slots as its quota
-pub record IsStopped (plan : Query) (page : ℕ) (bytes : Side → Option (List ℕ)) (told : Option Told) (read_failed : Side → Type 0) (write_failed slots_failed names : Type 0) (why : QueryErr) : Type 0 where
-  pub refused : IsOfBytes why → IsSomeAnd (side_of why) (IsRefusedOn plan page bytes why)
-  pub source_fault : (side : Side) → why ≡ SourceFault side → read_failed side
-  pub sink_fault : why ≡ SinkFault → write_failed
-  pub pool : OfPool (IsSharedStop plan page told plan.quota slots_failed names) why
+pub record IsStopped (plan : Query) (met : Met) (why : QueryErr) : Type 0 where
+  pub refused : IsOfBytes why → IsSomeAnd (side_of why) (IsRefusedOn plan met.page met.bytes why)
+  pub source_fault : (side : Side) → why ≡ SourceFault side → met.read_failed side
+  pub sink_fault : why ≡ SinkFault → met.write_failed
+  pub pool : OfPool (IsSharedStop plan met.page met.told plan.quota met.slots_failed met.names) why
 
 -- an answer over these bytes has so many lines behind its first one
 pub record HasLines (plan : Query) (page lines : ℕ) (told : Told) : Type 0 where
@@ -76,10 +107,10 @@ pub record HasLines (plan : Query) (page lines : ℕ) (told : Told) : Type 0 whe
   pub many : lines ≡ length answer.out
 
 -- how a query ended is so, where an answer is over the bytes that are told: its least reservation was refused for exactly this, if it was
-abbrev pub IsEnding : Query → ℕ → (Side → Option (List ℕ)) → Option Told → (Side → Type 0) → Type 0 → Type 0 → Type 0 → Option Ending → Ending → Type 0
-IsEnding plan page bytes told read_failed write_failed slots_failed names refused (Lines lines) = (refused ≡ None) × IfSome told (HasLines plan page lines)
-IsEnding plan page bytes told read_failed write_failed slots_failed names refused (Reservation root wanted room) = refused ≡ Some (Reservation root wanted room)
-IsEnding plan page bytes told read_failed write_failed slots_failed names refused (Stopped why) = (refused ≡ None) × IsStopped plan page bytes told read_failed write_failed slots_failed names why
+abbrev pub IsEnding : Query → Met → Ending → Type 0
+IsEnding plan met (Lines lines) = (met.refused ≡ None) × IfSome met.told (HasLines plan met.page lines)
+IsEnding plan met (Reservation root wanted room) = met.refused ≡ Some (Reservation root wanted room)
+IsEnding plan met (Stopped why) = (met.refused ≡ None) × IsStopped plan met why
 
 -- an answer over these bytes, or a front of it, or nothing
 abbrev pub IsPart : Query → ℕ → Told → List ℕ → Type 0
@@ -109,16 +140,16 @@ HasNoOutput (Stopped why) = why ≡ SinkFault
 
 -- nothing stands in the way of an answer: the least reservation was not refused; the bytes of the inputs are told, and accepted; the
 -- quota has the slots of the pages that the query needs; no query spends all names of pages; no fault was counted
-pub record IsClear (plan : Query) (page : ℕ) (told : Option Told) (read_failed : Side → Type 0) (write_failed slots_failed names : Type 0) (refused : Option Ending) : Type 0 where
-  pub reserved : refused ≡ None
+pub record IsClear (plan : Query) (met : Met) : Type 0 where
+  pub reserved : met.refused ≡ None
   pub both : Told
-  pub told_is : told ≡ Some both
-  pub accepted : AreAccepted plan page both
-  pub enough : need plan page both * plan.page_blocks ≤ plan.quota
-  pub few : names → ⊥
-  pub read : (side : Side) → read_failed side → ⊥
-  pub written : write_failed → ⊥
-  pub stored : slots_failed → ⊥
+  pub told_is : met.told ≡ Some both
+  pub accepted : AreAccepted plan met.page both
+  pub enough : need plan met.page both * plan.page_blocks ≤ plan.quota
+  pub few : met.names → ⊥
+  pub read : (side : Side) → met.read_failed side → ⊥
+  pub written : met.write_failed → ⊥
+  pub stored : met.slots_failed → ⊥
 
 -- the query ended with an answer, or for want of memory
 abbrev pub IsComplete : Ending → Type 0
@@ -128,10 +159,8 @@ IsComplete (Stopped why) = why ≡ Pool Memory
 
 -- what became of one of these queries, and of its output
 pub record HasEnded (start now : Seen) (block_len : ℕ) (all : List Query) (refused : Option Ending) (query : Query) (ending : Ending) : Type 0 where
-  pub so : IsEnding query (page_len query block_len) (bytes_on query start.files) (told_over query start)
-      (RoseOn (faults_on query start.reads) (faults_on query now.reads)) (Rose (start.writes query.output) (now.writes query.output)) (HaveFailed start.slots now.slots) (SomeSpends all start) refused ending
-  pub completes : IsClear query (page_len query block_len) (told_over query start)
-      (RoseOn (faults_on query start.reads) (faults_on query now.reads)) (Rose (start.writes query.output) (now.writes query.output)) (HaveFailed start.slots now.slots) (SomeSpends all start) refused → IsComplete ending
+  pub so : IsEnding query (met_by start now block_len all refused query) ending
+  pub completes : IsClear query (met_by start now block_len all refused query) → IsComplete ending
   pub output : (HasNoOutput ending × (now.written query.output ≡ start.written query.output))
       ⊎ HasOutput query (page_len query block_len) (told_over query start) (start.written query.output) (now.written query.output) ending
 

@@ -1,16 +1,14 @@
 // A count's query, whose report is watched for whether anything was written to it.
 
-ghost use Rattle.std.specs.Prelude.{◌≡◌, ◌≤◌, ◌⊎◌, ℕ, [], List, None, Option, Some, IfErr, IsErrOf, IsSome, OnOk, false, true, vec_len};
+ghost use Rattle.std.specs.Prelude.{◌≡◌, ◌≤◌, ◌⊎◌, ℕ, [], List, None, Option, Some, IfErr, IsSome, OnOk, false, true, vec_len};
 ghost use Rattle.std.specs.Io.KnownBytes.{Keeps};
-ghost use Rattle.outside.specs.Sinks.{StopsAt};
 ghost use Rattle.spill_top.specs.Pooled.{memory_of};
 ghost use Rattle.pin_core.specs.Tallies.{tally_of};
 ghost use Rattle.query_plan.specs.Sizes.{page_len};
 ghost use Rattle.query_run.specs.Causes.{OfPool, side_of};
 ghost use Rattle.query_run.specs.Plans.{IsRunnable};
-ghost use Rattle.query_run.specs.Refused.{SaysOfSide, source};
-ghost use Rattle.query_run.specs.Stopped.{CountsSink};
-ghost use Rattle.spill_top.specs.OneInput.{WroteAnswerOver, WroteFrontOver};
+ghost use Rattle.query_run.specs.Run.{ReadAndWrote, world};
+ghost use Rattle.spill_top.specs.OneInput.{WroteFrontOver};
 ghost use Rattle.spill_top.specs.Pooled.{ComeBack, HasMemoryFor, HaveFailed, IsPoolStop, all_tell};
 ghost use Rattle.spill_top.specs.Sides.{if_told};
 ghost use Rattle.query_run.specs.Both.{both_told};
@@ -21,7 +19,7 @@ use crate::job::let_go;
 use crate::pooled::run_pooled;
 use outside::{Failed, Sink, Slot, Source};
 use pin_core::PoolConf;
-use query_plan::{Query, Side};
+use query_plan::Query;
 use query_run::{QueryErr, Ran};
 use std::alloc::Global;
 use std::marker::{Brand, PhantomData};
@@ -101,18 +99,13 @@ pub(crate) fn run_watched<
     requires name { watched.sink.ghost_name ≡ B.name }
     requires before { R.contents watched.sink.now ≡ B.before }
     requires unwritten { watched.written ≡ false }
-    ensures answer { all_tell (tally_of D.Slot slots.old.items) ≡ true → OnOk result.0 (WroteAnswerOver plan.now (page_len plan.now conf.now.block_len) (S.remaining left.old) (R.contents watched.entry.sink.now) (R.contents result.1.sink.now)) }
-    ensures says { IfErr result.0 (SaysOfSide plan.now Side.Left plan.now.left (page_len plan.now conf.now.block_len) (source (S.remaining left.old) (S.remaining left.new) (S.faults left.old) (S.faults left.new))) }
+    ensures outside { ReadAndWrote S.Source R.Sink plan.now (page_len plan.now conf.now.block_len) (all_tell (tally_of D.Slot slots.old.items))
+        (world left.old None watched.entry.sink.now) (world left.new None result.1.sink.now) result.0 }
     ensures pool { IfErr result.0 (OfPool (IsPoolStop plan.now (page_len plan.now conf.now.block_len) (if_told (all_tell (tally_of D.Slot slots.old.items)) (both_told (S.remaining left.old) (Some []))) (vec_len slots.old) (HaveFailed (tally_of D.Slot slots.old.items) (tally_of D.Slot slots.new.items)))) }
-    ensures front { all_tell (tally_of D.Slot slots.old.items) ≡ true → IsErrOf result.0 QueryErr.SinkFault → WroteFrontOver plan.now (page_len plan.now conf.now.block_len) (S.remaining left.old) (R.contents watched.entry.sink.now) (R.contents result.1.sink.now) }
     ensures untouched { IfErr result.0 (λ e. IsSome (side_of e) → result.1.written ≡ false) }
     ensures stopped { IfErr result.0 (λ _. (result.1.written ≡ false) ⊎ (all_tell (tally_of D.Slot slots.old.items) ≡ true → WroteFrontOver plan.now (page_len plan.now conf.now.block_len) (S.remaining left.old) (R.contents watched.entry.sink.now) (R.contents result.1.sink.now))) }
-
     ensures kept { result.1.written ≡ false → Keeps (R.contents watched.entry.sink.now) (R.contents result.1.sink.now) }
     ensures longer { result.1.written ≡ true → Lengthens (R.contents watched.entry.sink.now) (R.contents result.1.sink.now) }
-    ensures sink { CountsSink (IsErrOf result.0 QueryErr.SinkFault) (R.faults watched.entry.sink.now) (R.faults result.1.sink.now) }
-    ensures stops { StopsAt (IsErrOf result.0 QueryErr.SinkFault) (R.at_failure watched.entry.sink.now) (R.at_failure result.1.sink.now) (R.contents result.1.sink.now) }
-    ensures source_kept { S.faults left.old ≤ S.faults left.new }
     ensures slots { ComeBack (tally_of D.Slot slots.old.items) (tally_of D.Slot slots.new.items) }
     ensures stored { OnOk result.0 (HaveStored conf.now.block_len (owed plan.now (memory_of conf.now) (both_told (S.remaining left.old) (Some []))) (tally_of D.Slot slots.old.items) (tally_of D.Slot slots.new.items)) }
     ensures name { result.1.sink.ghost_name ≡ watched.entry.sink.ghost_name }

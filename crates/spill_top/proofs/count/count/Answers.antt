@@ -27,6 +27,7 @@ use Rattle.spill_top.specs.declared.report.Refusal.{Refusal}
 use Rattle.spill_top.proofs.Causes.{cause_is}
 use Rattle.spill_top.proofs.CountPlan.{pool_fits, refused_so, runs}
 use Rattle.spill_top.proofs.CountStops.{answer_so, answers_so, front_of, front_so, less_so, memory_alone, no_fault, pool_alone, pool_causes, stays_so, stop_is, stored_so}
+use Rattle.query_run.proofs.Alone.{says_alone}
 use Rattle.spill_top.proofs.count.count.Goals as goal
 
 pub run_watched-ran-requires-clause-plan : goal.run_watched-ran-requires-clause-plan
@@ -41,7 +42,8 @@ run_watched-ran-requires-clause-memory g c κs within =
 
 pub of-requires-clause-text : goal.of-requires-clause-text
 of-requires-clause-text g c =
-    let says : SaysOfSide c.in-Ok.plan Left c.in-Ok.plan.left (page_len c.in-Ok.plan c.counting_pool-pool.result.block_len) (source (g.I.Src.Source.remaining c.in-Ok-open.left) (g.I.Src.Source.remaining c.run_watched-ran.new.left) (g.I.Src.Source.faults c.in-Ok-open.left) (g.I.Src.Source.faults c.run_watched-ran.new.left)) c.in-Err.e = search rules in
+    let says : SaysOfSide c.in-Ok.plan Left c.in-Ok.plan.left (page_len c.in-Ok.plan c.counting_pool-pool.result.block_len) (source (g.I.Src.Source.remaining c.in-Ok-open.left) (g.I.Src.Source.remaining c.run_watched-ran.new.left) (g.I.Src.Source.faults c.in-Ok-open.left) (g.I.Src.Source.faults c.run_watched-ran.new.left)) c.in-Err.e =
+    says_alone c.in-Ok.plan _ _ _ c.in-Err.e (ap (λ (plan : Query). plan.right) c.in-Ok.ensures) (rw c.in-Err.is at c.run_watched-ran.ensures.outside.input) in
     subst (λ (plan : Query). NamesInt (kinds_of_columns plan.left.columns) c.in-Err.e) c.in-Ok.ensures says.field
 
 pub of-requires-clause-pool : goal.of-requires-clause-pool
@@ -51,7 +53,7 @@ of-requires-clause-pool g c =
 
 pub returns-in_default-ran-clause-answer : goal.returns-in_default-ran-clause-answer
 returns-in_default-ran-clause-answer g c = λ tell.
-    let wrote : WroteAnswerOver c.in-Ok.plan (page_len c.in-Ok.plan c.counting_pool-pool.result.block_len) (g.I.Src.Source.remaining c.in-Ok-open.left) (g.R.Sink.contents c.args.report.now) (g.R.Sink.contents c.run_watched-ran.result.1.sink.now) = search (rules, c.run_watched-ran.ensures.answer tell) in
+    let wrote : WroteAnswerOver c.in-Ok.plan (page_len c.in-Ok.plan c.counting_pool-pool.result.block_len) (g.I.Src.Source.remaining c.in-Ok-open.left) (g.R.Sink.contents c.args.report.now) (g.R.Sink.contents c.run_watched-ran.result.1.sink.now) = search (rules, c.run_watched-ran.ensures.outside.answer tell) in
     let here : Answers (g.I.Inputs.bytes_at c.args.inputs.now) (g.R.Sink.contents c.args.report.now) (g.R.Sink.contents c.run_watched-ran.result.1.sink.now) (record { file = c.args.file.now; column = c.args.column.now }) =
     answer_so (record { file = c.args.file.now; column = c.args.column.now }) c.in-Ok.plan c.counting_pool-pool.result.block_len _ _ _ _ c.in-Ok.ensures (ap (λ (conf : PoolConf). conf.block_len) c.counting_pool-pool.ensures) c.in-Ok-open.ensures.gives wrote in
     search (rules, here)
@@ -75,9 +77,10 @@ returns-clause-stop g c =
     let new = g.R.Sink.contents c.run_watched-ran.result.1.sink.now in
     let result = c.run_watched-ran.result.0 in
     let written = c.run_watched-ran.result.1.written in
-    let counts = c.run_watched-ran.ensures.sink in
-    let broken = fails_or_not _ _ _ c.run_watched-ran.ensures.stops in
-    let says : SaysOfSide c.in-Ok.plan Left c.in-Ok.plan.left (page_len c.in-Ok.plan c.counting_pool-pool.result.block_len) (source (g.I.Src.Source.remaining c.in-Ok-open.left) (g.I.Src.Source.remaining c.run_watched-ran.new.left) (g.I.Src.Source.faults c.in-Ok-open.left) (g.I.Src.Source.faults c.run_watched-ran.new.left)) c.in-Err.e = search rules in
+    let counts = c.run_watched-ran.ensures.outside.sink in
+    let broken = fails_or_not _ _ _ c.run_watched-ran.ensures.outside.stops in
+    let says : SaysOfSide c.in-Ok.plan Left c.in-Ok.plan.left (page_len c.in-Ok.plan c.counting_pool-pool.result.block_len) (source (g.I.Src.Source.remaining c.in-Ok-open.left) (g.I.Src.Source.remaining c.run_watched-ran.new.left) (g.I.Src.Source.faults c.in-Ok-open.left) (g.I.Src.Source.faults c.run_watched-ran.new.left)) c.in-Err.e =
+    says_alone c.in-Ok.plan _ _ _ c.in-Err.e (ap (λ (plan : Query). plan.right) c.in-Ok.ensures) (rw c.in-Err.is at c.run_watched-ran.ensures.outside.input) in
     let stop : OfPool (IsPoolStop c.in-Ok.plan (page_len c.in-Ok.plan c.counting_pool-pool.result.block_len) (told_with slots (g.I.Src.Source.remaining c.in-Ok-open.left)) (vec_len c.args.slots.now) (HaveFailed slots slots_now)) c.in-Err.e = search rules in
     let untouched : IsSome (side_of c.in-Err.e) → written ≡ false = search rules in
     let either : (written ≡ false) ⊎ (all_tell slots ≡ true → WroteFrontOver c.in-Ok.plan (page_len c.in-Ok.plan c.counting_pool-pool.result.block_len) (g.I.Src.Source.remaining c.in-Ok-open.left) old new) = search rules in
@@ -91,7 +94,7 @@ returns-clause-stop g c =
     let here : IsStop (g.I.Inputs.bytes_at c.args.inputs.now) faults faults_now slots slots_now old new (faults_of g.R.Sink c.args.report.now) (faults_of g.R.Sink c.run_watched-ran.result.1.sink.now) command c.of.result =
     stop_is (IsStop (g.I.Inputs.bytes_at c.args.inputs.now) faults faults_now slots slots_now old new (faults_of g.R.Sink c.args.report.now) (faults_of g.R.Sink c.run_watched-ran.result.1.sink.now) command) c.of.result
     (λ is. let failed : result ≡ Err SinkFault = c.in-Err.is ∙ ap (λ (e : QueryErr). Err e) (c.of.ensures.report is) in
-    ((counts.fault failed, ends_there _ _ _ c.run_watched-ran.ensures.stops), λ tell. part (λ t. c.run_watched-ran.ensures.front t failed) tell))
+    ((counts.fault failed, ends_there _ _ _ c.run_watched-ran.ensures.outside.stops), λ tell. part (λ t. c.run_watched-ran.ensures.outside.front t failed) tell))
     (λ is. absurd (c.of.ensures.apart is))
     (λ is. let memory = c.of.ensures.short is in (
       less_so written old new (all_tell slots ≡ true) (AnswersInPart (g.I.Inputs.bytes_at c.args.inputs.now) old new command) c.run_watched-ran.ensures.kept (λ front. part front) either,

@@ -1,7 +1,6 @@
-use Rattle.std.proofs.Common.{ℕ, List, Option, subst, sym}
+use Rattle.std.proofs.Common.{ℕ, List, Option, subst, sym, ap, inl, inr, refl}
 use Rattle.std.specs.Io.KnownBytes.{Keeps}
 use Rattle.std.proofs.lemmas.Result.{IfErr-weaker}
-use Rattle.query_run.proofs.Alone.{says_alone}
 use Rattle.spill_top.specs.Report.{Lengthens}
 use Rattle.spill_top.proofs.OneInput.{not_joins}
 use Rattle.spill_top.proofs.Watching.{longer_lengthens, still_keeps}
@@ -10,8 +9,26 @@ use Rattle.spill_top.proofs.watched.run_watched.Goals as goal
 pub run_pooled-ran-requires-clause-right : goal.run_pooled-ran-requires-clause-right
 run_pooled-ran-requires-clause-right g c κs within = not_joins c.args.plan.now c.requires.alone
 
-pub returns-clause-says : goal.returns-clause-says
-returns-clause-says g c = IfErr-weaker c.run_pooled-ran.result _ _ (λ e says. says_alone c.args.plan.now _ _ _ e c.requires.alone says) c.run_pooled-ran.ensures.outside.input
+pub returns-clause-outside : goal.returns-clause-outside
+returns-clause-outside g c =
+    let result = c.run_pooled-ran.result in
+    let ran = c.run_pooled-ran.ensures.outside in
+    let alone = ran.sources.1 in
+    record {
+      answer = ran.answer;
+      read = rw alone at ran.read;
+      numbers = ran.numbers;
+      input = rw alone at ran.input;
+      untouched = IfErr-weaker result _ _ (λ e same is. ap (λ tied. tied.watched.sink.now) (same is)) ran.untouched;
+      front = ran.front;
+      stopped = IfErr-weaker result _ _ (λ e either. elim either [
+        | inl same ↦ inl (ap (λ tied. tied.watched.sink.now) same)
+        | inr all ↦ inr (rw alone at all.0, all.1)
+      ]) ran.stopped;
+      sink = ran.sink;
+      stops = ran.stops;
+      sources = (ran.sources.0, refl);
+    }
 
 pub returns-clause-kept : goal.returns-clause-kept
 returns-clause-kept g c = λ unwritten.
