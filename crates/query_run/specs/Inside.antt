@@ -1,15 +1,17 @@
 -- The clients of a query, and its grouping. About inner calls; no public clause cites this. Lengths are in bytes.
-use Rattle.std.specs.Prelude.{◌≡◌, ◌≢◌, ◌+◌, ◌-◌, ◌*◌, ◌/◌, ◌≤◌, ℕ, List, length, min, None, Some}
+use Rattle.std.specs.Prelude.{◌≡◌, ◌≢◌, ◌+◌, ◌-◌, ◌*◌, ◌/◌, ◌≤◌, ℕ, List, Option, length, min, None, Some, true}
 use Rattle.row_codec.specs.declared.values.Value.{Value}
 use Rattle.store_api.specs.Conditions.{IsIdle}
 use Rattle.store_api.specs.Holdings.{Holdings, account_of}
 use Rattle.store_api.specs.Signs.{Grows, Signs, WasAnswered}
 use Rattle.store_api.specs.Tokens.{ClientToken}
+use Rattle.store_api.specs.declared.store.Store.{Ghosts as StoreGhosts}
+use Rattle.pool_model.specs.declared.entry.Entry.{Entry}
 use Rattle.tuple_stream.specs.Families.{slots_in}
 use Rattle.partition_stack.specs.Leaving.{LeavesOthers}
 use Rattle.partition_stack.specs.Stack.{over}
-use Rattle.group_op.specs.Operator.{IsFeeding, IsOperator, Operator, bytes_for}
-use Rattle.join_op.specs.Operator.{bytes_of}
+use Rattle.group_op.specs.Operator.{Holds, IsFeeding, IsOperator, Operator, bytes_for}
+use Rattle.join_op.specs.Operator.{Keeps as KeepsSides, Operator as Join, bytes_of}
 use Rattle.query_plan.specs.declared.plan.Query.{Query}
 use Rattle.query_run.specs.Plans.{shape_of}
 use Rattle.query_plan.specs.declared.outcome.QueryErr.{QueryErr}
@@ -80,3 +82,17 @@ pub record IsOfStore (e : QueryErr) (old new : Signs) : Type 0 where
   pub why : PoolErr
   pub is : e ≡ Pool why
   pub answered : WasAnswered why old new
+
+-- what holds of all rows that an operator keeps, whatever they are; in the others, where its store tells what a pin shows
+module _ {St : Type 0} (store : StoreGhosts St) where
+  -- of those of both sides, which a join keeps
+  abbrev pub OfSides : Join → St → (Option (List Entry) → List (List Value) → List (List Value) → Type 0) → Type 0
+  OfSides op s P = (start : Option (List Entry)) → (lefts rights : List (List Value)) → KeepsSides start lefts rights op (store.holds s) (store.signs s) → P start lefts rights
+
+  abbrev pub OfSidesTold : Join → St → (List (List Value) → List (List Value) → Type 0) → Type 0
+  OfSidesTold op s P =
+      (start : Option (List Entry)) → (lefts rights : List (List Value)) → KeepsSides start lefts rights op (store.holds s) (store.signs s) → (store.holds s).told ≡ true → P lefts rights
+
+  -- of those that were fed to a grouping
+  abbrev pub OfFedTold : Operator → St → (List (List Value) → Type 0) → Type 0
+  OfFedTold op s P = (fed : List (List Value)) → Holds fed op (store.holds s) (store.signs s) → (store.holds s).told ≡ true → P fed

@@ -2,6 +2,7 @@
 use Rattle.std.specs.Prelude.{◌≡◌, ◌≢◌, ℕ, List, Option, Some, IfSome, IsSomeAnd}
 use Rattle.std.specs.Io.KnownBytes.{IsAtEnd}
 use Rattle.outside.specs.Counts.{Rose}
+use Rattle.outside.specs.declared.stream.Source.{Ghosts}
 use Rattle.query_plan.specs.declared.plan.Query.{Query}
 use Rattle.query_plan.specs.declared.plan.Side.{Side}
 use Rattle.query_plan.specs.declared.plan.Side.TheVariants.{Left, Right}
@@ -20,6 +21,10 @@ pub record Source : Type 0 where
 
 abbrev pub source : Option (List ℕ) → Option (List ℕ) → ℕ → ℕ → Source
 source told rest faults faults_now = record { told = told; rest = rest; faults = faults; faults_now = faults_now }
+
+-- a source over a call
+abbrev pub input_over : {S : Type 0} → Ghosts S → S → S → Source
+input_over ghosts before after = source (ghosts.remaining before) (ghosts.remaining after) (ghosts.faults before) (ghosts.faults after)
 
 -- what an error says of a side is so: it speaks of no other one, the bytes, where they are told, are refused for this, a bad
 -- field is one of a column of ints, and a fault of the source was counted

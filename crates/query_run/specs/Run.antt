@@ -14,7 +14,7 @@ use Rattle.query_plan.specs.declared.plan.Query.{Query}
 use Rattle.query_run.specs.Answer.{Numbers, WroteAnswer, WroteFront}
 use Rattle.query_run.specs.Both.{HoldsInput, Told, both_told, faults_in, told_in}
 use Rattle.query_run.specs.Causes.{side_of}
-use Rattle.query_run.specs.Refused.{SaysOfInputs, Source}
+use Rattle.query_run.specs.Refused.{SaysOfInputs, Source, input_over}
 use Rattle.query_run.specs.Stopped.{CountsSink, MayStop, RanOver}
 use Rattle.query_run.specs.Trail.{KeptRows}
 
@@ -44,12 +44,7 @@ module _ {S K : Type 0} (source : SourceGhosts S) where
 
   -- each input over a call
   abbrev pub left_over : World S K → World S K → Source
-  left_over before after = record {
-    told = left_told before;
-    rest = left_told after;
-    faults = source.faults before.left;
-    faults_now = source.faults after.left;
-  }
+  left_over before after = input_over source before.left after.left
 
   abbrev pub right_over : World S K → World S K → Source
   right_over before after = record {

@@ -1,7 +1,8 @@
 -- An emitter that writes the lines of rows behind a text that waits.
-use Rattle.std.specs.Prelude.{◌≡◌, ◌≢◌, ℕ, List, ◌++◌, Option, Some, None, length, map, ℤ}
+use Rattle.std.specs.Prelude.{◌≡◌, ◌≢◌, ℕ, List, ◌++◌, Option, Some, None, length, map, true, ℤ}
 use Rattle.outside.specs.Counts.{Rose}
-use Rattle.outside.specs.Faults.{Faults}
+use Rattle.outside.specs.Faults.{Faults, faults_of}
+use Rattle.outside.specs.declared.stream.Sink.{Ghosts}
 use Rattle.outside.specs.Sinks.{StopsAt}
 use Rattle.row_codec.specs.declared.values.Agg.TheVariants.{Sum}
 use Rattle.row_codec.specs.declared.values.Value.{Value}
@@ -14,8 +15,10 @@ use Rattle.group_op.specs.Stored.{grouping_of}
 use Rattle.store_api.specs.Holdings.{Holdings}
 use Rattle.store_api.specs.Signs.{Signs}
 use Rattle.store_api.specs.declared.shapes.Shape.{Shape}
+use Rattle.store_api.specs.declared.store.Store.{Ghosts as StoreGhosts}
 use Rattle.query_run.specs.Answer.{group_rows, lines_of}
 use Rattle.query_run.specs.FedRows.{AreFed}
+use Rattle.query_run.specs.declared.answering.AnswerLines.{AnswerLines}
 use Rattle.query_run.specs.Parts.{FrontOf, HasSent, StopsWriting}
 use Rattle.query_plan.specs.declared.outcome.QueryErr.{QueryErr}
 use Rattle.query_plan.specs.declared.outcome.QueryErr.TheVariants.{SinkFault}
@@ -40,6 +43,11 @@ pub record Written : Type 0 where
 abbrev pub written : Option (List ℕ) → Faults → Option QueryErr → List ℕ → ℕ → List ℤ → Written
 written contents faults stopped waits count totals =
     record { contents = contents; faults = faults; stopped = stopped; waits = waits; count = count; totals = totals }
+
+-- the same of lines of an answer
+module _ {K : Type 0} (target : Ghosts K) where
+  abbrev pub lines_now : AnswerLines K → Written
+  lines_now lines = written (target.contents lines.sink.now) (faults_of target lines.sink.now) lines.stopped lines.part.lines lines.rows lines.totals.items
 
 -- the lines of some rows behind what waited
 abbrev pub text_behind : List ℕ → List (List Value) → List ℕ
@@ -79,3 +87,8 @@ pub record HoldsFor (rows : List (List Value)) (op : Operator) (h : Holdings) (s
   pub same : groups_by path_order (grouping_of op.shape) fed ≡ groups_by path_order (grouping_of op.shape) rows
   pub values : AreValues rows
   pub formed : AreFed op.shape.kinds rows
+
+-- what holds of all rows of the groups that a grouping holds, where its store tells what a pin shows
+module _ {St : Type 0} (store : StoreGhosts St) where
+  abbrev pub OfRowsTold : Operator → St → (List (List Value) → Type 0) → Type 0
+  OfRowsTold op s P = (rows : List (List Value)) → HoldsFor rows op (store.holds s) (store.signs s) → (store.holds s).told ≡ true → P rows

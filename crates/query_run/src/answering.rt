@@ -3,10 +3,9 @@
 ghost use Rattle.std.specs.Prelude.{◌≡◌, ◌≤◌, ℕ, List, ◌∷◌, ◌++◌, [], Option, Some, None, ⊤, refl, length, map, ◌⊎◌, IfErr, IsErrOf, OnErr, OnOk};
 ghost use Rattle.std.proofs.Common.{zero-le};
 ghost use Rattle.outside.specs.Counts.{Rose};
-ghost use Rattle.outside.specs.Faults.{faults_of};
 ghost use Rattle.row_codec.specs.declared.values.Value.{Value};
 ghost use Rattle.row_codec.specs.declared.values.Agg.TheVariants.{Sum};
-ghost use Rattle.query_run.specs.Writing.{Begun, HasTaken, written};
+ghost use Rattle.query_run.specs.Writing.{Begun, HasTaken, lines_now, written};
 
 use crate::parts::Part;
 use group_rows::take_row;
@@ -37,8 +36,8 @@ impl<'a, K: Sink> AnswerLines<'a, K> {
     // Takes a row: its line, and its numbers. Behind an error nothing more is taken.
     fn take(&mut self, row: &[Value]) -> Result<(), OpErr>
         requires { length self.old.totals.items ≡ length self.old.sums.items }
-        ensures ok { OnOk result ((before : Begun) (rows : List (List Value)) → self.old.sums.items ≡ map Sum before.columns → HasTaken before rows (written (K.contents self.old.sink.now) (faults_of K.Sink self.old.sink.now) self.old.stopped self.old.part.lines self.old.rows self.old.totals.items) → HasTaken before (rows ++ row.now ∷ []) (written (K.contents self.new.sink.now) (faults_of K.Sink self.new.sink.now) self.new.stopped self.new.part.lines self.new.rows self.new.totals.items)) }
-        ensures err { OnErr result ((before : Begun) (rows : List (List Value)) → HasTaken before rows (written (K.contents self.old.sink.now) (faults_of K.Sink self.old.sink.now) self.old.stopped self.old.part.lines self.old.rows self.old.totals.items) → HasTaken before rows (written (K.contents self.new.sink.now) (faults_of K.Sink self.new.sink.now) self.new.stopped self.new.part.lines self.new.rows self.new.totals.items)) }
+        ensures ok { OnOk result ((before : Begun) (rows : List (List Value)) → self.old.sums.items ≡ map Sum before.columns → HasTaken before rows (lines_now K.Sink self.old) → HasTaken before (rows ++ row.now ∷ []) (lines_now K.Sink self.new)) }
+        ensures err { OnErr result ((before : Begun) (rows : List (List Value)) → HasTaken before rows (lines_now K.Sink self.old) → HasTaken before rows (lines_now K.Sink self.new)) }
         ensures fault { IsErrOf result OpErr.Sink → Rose (K.faults self.old.sink.now) (K.faults self.new.sink.now) }
         ensures pool { IfErr result (λ e. (e ≡ OpErr.Sink) ⊎ (e ≡ OpErr.Pool PoolErr.Memory)) }
         ensures never_falls { K.faults self.old.sink.now ≤ K.faults self.new.sink.now }
@@ -96,7 +95,7 @@ pub(crate) struct Taker<'a, K, B: Start> {
 }
 
 impl<'a, St: Store, K: Sink, B: Start> Emit<St> for Taker<'a, K, B> {
-    ghost took = { λ e h rows. (e.lines.sink.ghost_name ≡ B.name) × (e.lines.sums.items ≡ map Sum B.before.columns) × HasTaken B.before rows (written (K.contents e.lines.sink.now) (faults_of K.Sink e.lines.sink.now) e.lines.stopped e.lines.part.lines e.lines.rows e.lines.totals.items) };
+    ghost took = { λ e h rows. (e.lines.sink.ghost_name ≡ B.name) × (e.lines.sums.items ≡ map Sum B.before.columns) × HasTaken B.before rows (lines_now K.Sink e.lines) };
 
     ghost admits = { λ e row. ⊤ };
 

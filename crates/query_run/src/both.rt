@@ -1,10 +1,8 @@
 // A query that joins the rows of its two inputs, and groups their pairs.
 
-ghost use Rattle.std.specs.Prelude.{◌≡◌, ◌≢◌, ◌+◌, ◌*◌, ◌++◌, ◌<◌, ◌^◌, [], List, Option, IfErr, IfOk, IfSome, IsErrOf, None, OnErr, OnOk, Some, length, true};
+ghost use Rattle.std.specs.Prelude.{◌≡◌, ◌≢◌, ◌+◌, ◌*◌, ◌++◌, ◌<◌, ◌^◌, [], IfErr, IfOk, IfSome, IsErrOf, None, OnErr, OnOk, Some, length, true};
 ghost use Rattle.std.specs.Io.KnownBytes.{Appends};
 ghost use Rattle.outside.specs.Sinks.{StopsAt};
-ghost use Rattle.pool_model.specs.declared.entry.Entry.{Entry};
-ghost use Rattle.row_codec.specs.declared.values.Value.{Value};
 ghost use Rattle.csv_edge.specs.Written.{AppendsFront};
 ghost use Rattle.store_api.specs.Holdings.{length_of};
 ghost use Rattle.tuple_stream.specs.Families.{slots_in};
@@ -22,7 +20,7 @@ ghost use Rattle.query_run.specs.Answer.{LineNumbers, answer_text, group_rows};
 ghost use Rattle.query_run.specs.Both.{both_told};
 ghost use Rattle.query_run.specs.Causes.{OfPool, side_of};
 ghost use Rattle.query_run.specs.Feeder.{HasStopped};
-ghost use Rattle.query_run.specs.Inside.{HasEndedFirst, IsFedFor, IsOfStore, slots_of_both};
+ghost use Rattle.query_run.specs.Inside.{HasEndedFirst, IsFedFor, IsOfStore, OfSides, OfSidesTold, slots_of_both};
 ghost use Rattle.query_run.specs.Joined.{HoldsRowsWhile};
 ghost use Rattle.query_run.specs.Plans.{HasGroups, IsRunnable, grouping_of, join_shape_of, shape_of};
 ghost use Rattle.query_run.specs.Run.{RanQuery, ReadAndWrote, world};
@@ -66,14 +64,14 @@ fn join_into<B: Whose, St: Store>(
     requires long { 0 < (St.holds store.old).block_len }
     requires blocks { join.left.page_blocks ≡ plan.now.page_blocks }
     ensures ok { IfOk result (λ op. IsFedFor second plan.now op (St.holds store.new) (St.signs store.new)) }
-    ensures holds { IfOk result (λ op. (start : Option (List Entry)) → (lefts rights : List (List Value)) → Keeps start lefts rights join (St.holds store.old) (St.signs store.old) → (St.holds store.old).told ≡ true → HoldsFor (pairs_of join.shape lefts rights) op (St.holds store.new) (St.signs store.new)) }
-    ensures kept { IfOk result (λ op. (start : Option (List Entry)) → (lefts rights : List (List Value)) → Keeps start lefts rights join (St.holds store.old) (St.signs store.old) → EnteredEvents (HoldsRowsWhile (op ≡ group.started second plan.now.page_blocks (shape_of plan.now)) join.shape lefts rights) start (St.signs store.new).trail) }
-    ensures made { IfOk result (λ op. (start : Option (List Entry)) → (lefts rights : List (List Value)) → Keeps start lefts rights join (St.holds store.old) (St.signs store.old) → (St.holds store.old).told ≡ true → MakesBeside (15 * (length lefts + length rights)) 0 (pages_on op) (St.signs store.old) (St.signs store.new)) }
-    ensures few { OnErr result ((start : Option (List Entry)) → (lefts rights : List (List Value)) → Keeps start lefts rights join (St.holds store.old) (St.signs store.old) → (St.holds store.old).told ≡ true → MakesFew (15 * (length lefts + length rights) + length (pairs_of join.shape lefts rights)) (St.signs store.old) (St.signs store.new)) }
+    ensures holds { IfOk result (λ op. OfSidesTold St.Store join store.old (λ lefts rights. HoldsFor (pairs_of join.shape lefts rights) op (St.holds store.new) (St.signs store.new))) }
+    ensures kept { IfOk result (λ op. OfSides St.Store join store.old (λ start lefts rights. EnteredEvents (HoldsRowsWhile (op ≡ group.started second plan.now.page_blocks (shape_of plan.now)) join.shape lefts rights) start (St.signs store.new).trail)) }
+    ensures made { IfOk result (λ op. OfSidesTold St.Store join store.old (λ lefts rights. MakesBeside (15 * (length lefts + length rights)) 0 (pages_on op) (St.signs store.old) (St.signs store.new))) }
+    ensures few { OnErr result (OfSidesTold St.Store join store.old (λ lefts rights. MakesFew (15 * (length lefts + length rights) + length (pairs_of join.shape lefts rights)) (St.signs store.old) (St.signs store.new))) }
     ensures err { IfErr result (λ e. HasStopped second e.1 (St.holds store.new)) }
     ensures cause { IfErr result (λ e. IsOfStore e.0 (St.signs store.old) (St.signs store.new)) }
     ensures want { IfErr result (λ e. OfPool (IsWant plan.now.page_blocks (join_slots join (St.holds store.old) (St.signs store.old))) e.0) }
-    ensures enough { IfErr result (λ e. OfPool (λ e. (start : Option (List Entry)) → (lefts rights : List (List Value)) → Keeps start lefts rights join (St.holds store.old) (St.signs store.old) → (St.holds store.old).told ≡ true → IsWantBelow (slots_of_both plan.now page lefts rights (pairs_of join.shape lefts rights)) (join_slots join (St.holds store.old) (St.signs store.old)) e) e.0) }
+    ensures enough { IfErr result (λ e. OfPool (λ e. OfSidesTold St.Store join store.old (λ lefts rights. IsWantBelow (slots_of_both plan.now page lefts rights (pairs_of join.shape lefts rights)) (join_slots join (St.holds store.old) (St.signs store.old)) e)) e.0) }
     ensures slots { IfOk result (λ op. slots_in (over op.parts (St.holds store.new) (St.signs store.new)) ≡ join_slots join (St.holds store.old) (St.signs store.old)) }
     ensures free { OnErr result ((St.holds store.new).free_slots ≡ join_slots join (St.holds store.old) (St.signs store.old)) }
     ensures gone { HasEndedFirst join.client.tracker second.tracker (St.holds store.old) (St.holds store.new) (St.signs store.old) (St.signs store.new) }
@@ -117,15 +115,15 @@ fn write_both<St: Store, K: Sink>(
     requires page { (page ≡ length_of plan.now.page_blocks (St.holds store.old)) × (page < 2 ^ 32) }
     requires long { 0 < (St.holds store.old).block_len }
     requires blocks { join.left.page_blocks ≡ plan.now.page_blocks }
-    ensures ok { OnOk result.0 ((start : Option (List Entry)) → (lefts rights : List (List Value)) → Keeps start lefts rights join (St.holds store.old) (St.signs store.old) → (St.holds store.old).told ≡ true → Appends (K.contents sink.old) (K.contents sink.new) (answer_text plan.now (group_rows (grouping_of plan.now) (pairs_of join.shape lefts rights)))) }
-    ensures err { OnErr result.0 ((start : Option (List Entry)) → (lefts rights : List (List Value)) → Keeps start lefts rights join (St.holds store.old) (St.signs store.old) → (St.holds store.old).told ≡ true → AppendsFront (K.contents sink.old) (K.contents sink.new) (answer_text plan.now (group_rows (grouping_of plan.now) (pairs_of join.shape lefts rights)))) }
+    ensures ok { OnOk result.0 (OfSidesTold St.Store join store.old (λ lefts rights. Appends (K.contents sink.old) (K.contents sink.new) (answer_text plan.now (group_rows (grouping_of plan.now) (pairs_of join.shape lefts rights))))) }
+    ensures err { OnErr result.0 (OfSidesTold St.Store join store.old (λ lefts rights. AppendsFront (K.contents sink.old) (K.contents sink.new) (answer_text plan.now (group_rows (grouping_of plan.now) (pairs_of join.shape lefts rights))))) }
     ensures read { IfOk result.0 (λ ran. (ran.left ≡ read.left) × (ran.right ≡ read.right) × (ran.kept ≡ read.kept)) }
-    ensures lines { IfOk result.0 (λ ran. (start : Option (List Entry)) → (lefts rights : List (List Value)) → Keeps start lefts rights join (St.holds store.old) (St.signs store.old) → (St.holds store.old).told ≡ true → LineNumbers plan.now (pairs_of join.shape lefts rights) ran) }
-    ensures kept { OnOk result.0 ((start : Option (List Entry)) → (lefts rights : List (List Value)) → Keeps start lefts rights join (St.holds store.old) (St.signs store.old) → EnteredEvents (HoldsRows join.shape lefts rights) start (St.signs store.new).trail) }
-    ensures made { (start : Option (List Entry)) → (lefts rights : List (List Value)) → Keeps start lefts rights join (St.holds store.old) (St.signs store.old) → (St.holds store.old).told ≡ true → MakesFew (15 * (length lefts + length rights) + 16 * length (pairs_of join.shape lefts rights)) (St.signs store.old) (St.signs store.new) }
+    ensures lines { IfOk result.0 (λ ran. OfSidesTold St.Store join store.old (λ lefts rights. LineNumbers plan.now (pairs_of join.shape lefts rights) ran)) }
+    ensures kept { OnOk result.0 (OfSides St.Store join store.old (λ start lefts rights. EnteredEvents (HoldsRows join.shape lefts rights) start (St.signs store.new).trail)) }
+    ensures made { OfSidesTold St.Store join store.old (λ lefts rights. MakesFew (15 * (length lefts + length rights) + 16 * length (pairs_of join.shape lefts rights)) (St.signs store.old) (St.signs store.new)) }
     ensures cause { IfErr result.0 (λ e. side_of e ≡ None) }
     ensures pool { IfErr result.0 (StoppedOver plan.now.page_blocks (join_slots join (St.holds store.old) (St.signs store.old)) (St.signs store.old) (St.signs store.new)) }
-    ensures enough { IfErr result.0 (OfPool (λ e. (start : Option (List Entry)) → (lefts rights : List (List Value)) → Keeps start lefts rights join (St.holds store.old) (St.signs store.old) → (St.holds store.old).told ≡ true → IsWantBelow (slots_of_both plan.now page lefts rights (pairs_of join.shape lefts rights)) (join_slots join (St.holds store.old) (St.signs store.old)) e)) }
+    ensures enough { IfErr result.0 (OfPool (λ e. OfSidesTold St.Store join store.old (λ lefts rights. IsWantBelow (slots_of_both plan.now page lefts rights (pairs_of join.shape lefts rights)) (join_slots join (St.holds store.old) (St.signs store.old)) e))) }
     ensures free { (St.holds store.new).free_slots ≡ join_slots join (St.holds store.old) (St.signs store.old) }
     ensures sink { CountsSink (IsErrOf result.0 QueryErr.SinkFault) (K.faults sink.old) (K.faults sink.new) }
     ensures stops { StopsAt (IsErrOf result.0 QueryErr.SinkFault) (K.at_failure sink.old) (K.at_failure sink.new) (K.contents sink.new) }

@@ -11,7 +11,7 @@ ghost use Rattle.query_run.specs.Causes.{OfPool, cause_of_input};
 ghost use Rattle.query_run.specs.Feeding.{AreFirstOf, HasFed, OfTaken, RefusesRow};
 ghost use Rattle.query_run.specs.Input.{weight_of};
 ghost use Rattle.query_run.specs.Plans.{IsSide, kinds_of_columns};
-ghost use Rattle.query_run.specs.Refused.{SaysOfSide, source as source_over};
+ghost use Rattle.query_run.specs.Refused.{SaysOfSide, input_over};
 ghost use Rattle.query_run.specs.Taking.{TakesStill};
 ghost use Rattle.query_run.specs.Through.{taken_of};
 
@@ -66,7 +66,7 @@ pub(crate) fn feed_side<St: Store, T: Takes<St>, S: Source>(
     requires short { page < 2 ^ 32 }
     ensures ok { IfOk result (λ fed. HasFed plan.now side asked.now page (S.remaining source.old) fed (λ rows. T.feeds op.old op.new rows (St.holds store.old) (St.holds store.new) (St.signs store.old) (St.signs store.new))) }
     ensures read { OnOk result (IsAtEnd (S.remaining source.new)) }
-    ensures input { IfErr result (SaysOfSide plan.now side asked.now page (source_over (S.remaining source.old) (S.remaining source.new) (S.faults source.old) (S.faults source.new))) }
+    ensures input { IfErr result (SaysOfSide plan.now side asked.now page (input_over S.Source source.old source.new)) }
     ensures cause { IfErr result (λ e. e ≢ QueryErr.SinkFault) }
     ensures pool { IfErr result (OfPool (T.stops op.old (St.holds store.old) (St.signs store.old) (St.signs store.new))) }
     ensures enough { IfErr result (OfPool (λ e. OfTaken plan.now asked.now page (S.remaining source.old) (λ rows. T.wants op.old rows (St.holds store.old) (St.signs store.old) e))) }

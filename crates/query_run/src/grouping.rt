@@ -1,10 +1,9 @@
 // The groups of what was fed become the lines of an answer.
 
-ghost use Rattle.std.specs.Prelude.{◌≡◌, ◌+◌, ◌*◌, ◌≤◌, [], List, Option, None, Some, true, map, length, pos, replicate, IfErr, IfOk, IsErrOf, OnErr, OnOk};
+ghost use Rattle.std.specs.Prelude.{◌≡◌, ◌+◌, ◌*◌, ◌≤◌, [], List, Option, None, Some, map, length, pos, replicate, IfErr, IfOk, IsErrOf, OnErr, OnOk};
 ghost use Rattle.std.specs.List.{range_with_len};
 ghost use Rattle.std.specs.Io.KnownBytes.{Appends};
 ghost use Rattle.outside.specs.Sinks.{StopsAt};
-ghost use Rattle.outside.specs.Faults.{faults_of};
 ghost use Rattle.pool_model.specs.declared.entry.Entry.{Entry};
 ghost use Rattle.row_codec.specs.declared.values.Agg.TheVariants.{Sum};
 ghost use Rattle.row_codec.specs.declared.values.Value.{Value};
@@ -15,16 +14,16 @@ ghost use Rattle.partition_stack.specs.Slots.{IsWantBelow};
 ghost use Rattle.partition_stack.specs.Stack.{over};
 ghost use Rattle.group_op.specs.Causes.{CameBeside, IsWantBelowOf};
 ghost use Rattle.group_op.specs.Laid.{HoldsGroups};
-ghost use Rattle.group_op.specs.Operator.{Holds, IsFeeding, IsOperator, Keeps, entries_in, page_of, slots_for};
+ghost use Rattle.group_op.specs.Operator.{IsFeeding, IsOperator, Keeps, entries_in, page_of, slots_for};
 ghost use Rattle.csv_edge.specs.Lines.{line_of};
 ghost use Rattle.csv_edge.specs.Written.{AppendsFront};
 ghost use Rattle.query_run.specs.Answer.{LineNumbers, answer_text, group_rows, header_of};
 ghost use Rattle.query_run.specs.Causes.{OfPool, side_of};
 ghost use Rattle.query_run.specs.Ending.{IsEndedBy, WentThrough, cause_of_op};
-ghost use Rattle.query_run.specs.Inside.{HandedOn};
+ghost use Rattle.query_run.specs.Inside.{HandedOn, OfFedTold};
 ghost use Rattle.query_run.specs.Plans.{HasGroups, grouping_of, shape_of};
 ghost use Rattle.query_run.specs.Stopped.{CountsSink, StoppedOver};
-ghost use Rattle.query_run.specs.Writing.{HasTaken, HasTakenGroups, HasTakenSome, HoldsFor, written};
+ghost use Rattle.query_run.specs.Writing.{HasTaken, HasTakenGroups, HasTakenSome, OfRowsTold, lines_now};
 
 use crate::answering::{AnswerLines, Start, Taker};
 use crate::header::header_row;
@@ -58,15 +57,15 @@ pub(crate) fn write_groups<St: Store, K: Sink>(
     requires op { IsOperator op.old (St.holds store.old) (St.signs store.old) }
     requires shape { op.old.shape ≡ shape_of plan.now }
     requires feeding { IsFeeding op.old }
-    ensures ok { OnOk result ((rows : List (List Value)) → HoldsFor rows op.old (St.holds store.old) (St.signs store.old) → (St.holds store.old).told ≡ true → Appends (K.contents sink.old) (K.contents sink.new) (answer_text plan.now (group_rows (grouping_of plan.now) rows))) }
-    ensures err { OnErr result ((rows : List (List Value)) → HoldsFor rows op.old (St.holds store.old) (St.signs store.old) → (St.holds store.old).told ≡ true → AppendsFront (K.contents sink.old) (K.contents sink.new) (answer_text plan.now (group_rows (grouping_of plan.now) rows))) }
+    ensures ok { OnOk result (OfRowsTold St.Store op.old store.old (λ rows. Appends (K.contents sink.old) (K.contents sink.new) (answer_text plan.now (group_rows (grouping_of plan.now) rows)))) }
+    ensures err { OnErr result (OfRowsTold St.Store op.old store.old (λ rows. AppendsFront (K.contents sink.old) (K.contents sink.new) (answer_text plan.now (group_rows (grouping_of plan.now) rows)))) }
     ensures read { IfOk result (λ ran. (ran.left ≡ read.left) × (ran.right ≡ read.right) × (ran.kept ≡ read.kept)) }
-    ensures lines { IfOk result (λ ran. (rows : List (List Value)) → HoldsFor rows op.old (St.holds store.old) (St.signs store.old) → (St.holds store.old).told ≡ true → LineNumbers plan.now rows ran) }
+    ensures lines { IfOk result (λ ran. OfRowsTold St.Store op.old store.old (λ rows. LineNumbers plan.now rows ran)) }
     ensures kept { OnOk result ((start : Option (List Entry)) (rows : List (List Value)) → Keeps start rows op.old (St.holds store.old) (St.signs store.old) → EnteredEvents (HoldsGroups (shape_of plan.now) (page_of op.old (St.holds store.old)) rows (over op.new.parts (St.holds store.new) (St.signs store.new))) start (St.signs store.new).trail) }
-    ensures made { (fed : List (List Value)) → Holds fed op.old (St.holds store.old) (St.signs store.old) → (St.holds store.old).told ≡ true → MakesFew (15 * length fed + length (entries_in op.old.table)) (St.signs store.old) (St.signs store.new) }
+    ensures made { OfFedTold St.Store op.old store.old (λ fed. MakesFew (15 * length fed + length (entries_in op.old.table)) (St.signs store.old) (St.signs store.new)) }
     ensures cause { IfErr result (λ e. side_of e ≡ None) }
     ensures pool { IfErr result (StoppedOver op.old.parts.page_blocks (slots_in (over op.old.parts (St.holds store.old) (St.signs store.old))) (St.signs store.old) (St.signs store.new)) }
-    ensures enough { IfErr result (OfPool (λ e. (fed : List (List Value)) → Holds fed op.old (St.holds store.old) (St.signs store.old) → (St.holds store.old).told ≡ true → IsWantBelow (slots_for 544 op.old (St.holds store.old) fed) (slots_in (over op.old.parts (St.holds store.old) (St.signs store.old))) e)) }
+    ensures enough { IfErr result (OfPool (λ e. OfFedTold St.Store op.old store.old (λ fed. IsWantBelow (slots_for 544 op.old (St.holds store.old) fed) (slots_in (over op.old.parts (St.holds store.old) (St.signs store.old))) e))) }
     ensures sink { CountsSink (IsErrOf result QueryErr.SinkFault) (K.faults sink.old) (K.faults sink.new) }
     ensures stops { StopsAt (IsErrOf result QueryErr.SinkFault) (K.at_failure sink.old) (K.at_failure sink.new) (K.contents sink.new) }
     ensures went { HandedOn op.old op.new (St.holds store.old) (St.holds store.new) (St.signs store.old) (St.signs store.new) }
@@ -173,13 +172,13 @@ fn drive<'a, B: Start, St: Store, K: Sink>(
     requires feeding { IsFeeding op.old }
     requires name { lines.sink.ghost_name ≡ B.name }
     requires sums { lines.sums.items ≡ map Sum B.before.columns }
-    requires none { HasTaken B.before [] (written (K.contents lines.sink.now) (faults_of K.Sink lines.sink.now) lines.stopped lines.part.lines lines.rows lines.totals.items) }
-    ensures ok { OnOk result.0 ((rows : List (List Value)) → HoldsFor rows op.old (St.holds store.old) (St.signs store.old) → (St.holds store.old).told ≡ true → HasTakenGroups op.old.shape rows B.before (written (K.contents result.1.sink.now) (faults_of K.Sink result.1.sink.now) result.1.stopped result.1.part.lines result.1.rows result.1.totals.items)) }
-    ensures err { OnErr result.0 ((rows : List (List Value)) → HoldsFor rows op.old (St.holds store.old) (St.signs store.old) → (St.holds store.old).told ≡ true → HasTakenSome op.old.shape rows B.before (written (K.contents result.1.sink.now) (faults_of K.Sink result.1.sink.now) result.1.stopped result.1.part.lines result.1.rows result.1.totals.items)) }
-    ensures any { (rows : List (List Value)) × HasTaken B.before rows (written (K.contents result.1.sink.now) (faults_of K.Sink result.1.sink.now) result.1.stopped result.1.part.lines result.1.rows result.1.totals.items) }
+    requires none { HasTaken B.before [] (lines_now K.Sink lines) }
+    ensures ok { OnOk result.0 (OfRowsTold St.Store op.old store.old (λ rows. HasTakenGroups op.old.shape rows B.before (lines_now K.Sink result.1))) }
+    ensures err { OnErr result.0 (OfRowsTold St.Store op.old store.old (λ rows. HasTakenSome op.old.shape rows B.before (lines_now K.Sink result.1))) }
+    ensures any { (rows : List (List Value)) × HasTaken B.before rows (lines_now K.Sink result.1) }
     ensures kept { OnOk result.0 ((start : Option (List Entry)) (rows : List (List Value)) → Keeps start rows op.old (St.holds store.old) (St.signs store.old) → EnteredEvents (HoldsGroups op.old.shape (page_of op.old (St.holds store.old)) rows (over op.new.parts (St.holds store.new) (St.signs store.new))) start (St.signs store.new).trail) }
-    ensures made { (fed : List (List Value)) → Holds fed op.old (St.holds store.old) (St.signs store.old) → (St.holds store.old).told ≡ true → MakesFew (15 * length fed + length (entries_in op.old.table)) (St.signs store.old) (St.signs store.new) }
-    ensures enough { IfErr result.0 (λ e. (fed : List (List Value)) → Holds fed op.old (St.holds store.old) (St.signs store.old) → (St.holds store.old).told ≡ true → IsWantBelowOf (slots_for 544 op.old (St.holds store.old) fed) (slots_in (over op.old.parts (St.holds store.old) (St.signs store.old))) e) }
+    ensures made { OfFedTold St.Store op.old store.old (λ fed. MakesFew (15 * length fed + length (entries_in op.old.table)) (St.signs store.old) (St.signs store.new)) }
+    ensures enough { IfErr result.0 (λ e. OfFedTold St.Store op.old store.old (λ fed. IsWantBelowOf (slots_for 544 op.old (St.holds store.old) fed) (slots_in (over op.old.parts (St.holds store.old) (St.signs store.old))) e)) }
     ensures went { HandedOn op.old op.new (St.holds store.old) (St.holds store.new) (St.signs store.old) (St.signs store.new) }
     ensures cause { IfErr result.0 (CameBeside op.old.parts.page_blocks (slots_in (over op.old.parts (St.holds store.old) (St.signs store.old))) None (K.faults lines.entry.sink.now) (K.faults result.1.sink.now) (St.signs store.old) (St.signs store.new)) }
     ensures never_falls { K.faults lines.entry.sink.now ≤ K.faults result.1.sink.now }

@@ -12,7 +12,7 @@ ghost use Rattle.query_run.specs.Both.{both_told, passing_of_both};
 ghost use Rattle.query_run.specs.Causes.{OfPool};
 ghost use Rattle.query_run.specs.Joined.{HasFedBoth, KeptBoth};
 ghost use Rattle.query_run.specs.Plans.{IsRunnable, join_shape_of};
-ghost use Rattle.query_run.specs.Refused.{SaysOfInputs, source};
+ghost use Rattle.query_run.specs.Refused.{SaysOfInputs, input_over};
 ghost use Rattle.query_run.specs.Run.{RanQuery, ReadAndWrote, world};
 ghost use Rattle.query_run.specs.Stopped.{HasRoomFor, StoppedOver};
 ghost use Rattle.query_run.specs.Taking.{JoinGoes, JoinStands, LeftStands, join_slots};
@@ -166,7 +166,7 @@ pub(crate) fn feed_both<St: Store, S: Source>(
     requires long { 0 < page }
     ensures ok { IfOk result.0 (λ fed. HasFedBoth plan.now asked.now page (S.remaining left.old) (S.remaining right.old) fed.left fed.right (λ lefts rights. Keeps (St.signs store.old).trail lefts rights result.1 (St.holds store.new) (St.signs store.new))) }
     ensures read { OnOk result.0 (IsAtEnd (S.remaining left.new) × IsAtEnd (S.remaining right.new)) }
-    ensures input { IfErr result.0 (SaysOfInputs plan.now page (source (S.remaining left.old) (S.remaining left.new) (S.faults left.old) (S.faults left.new)) (source (S.remaining right.old) (S.remaining right.new) (S.faults right.old) (S.faults right.new))) }
+    ensures input { IfErr result.0 (SaysOfInputs plan.now page (input_over S.Source left.old left.new) (input_over S.Source right.old right.new)) }
     ensures cause { IfErr result.0 (λ e. e ≢ QueryErr.SinkFault) }
     ensures pool { IfErr result.0 (StoppedOver op.left.page_blocks (join_slots op (St.holds store.old) (St.signs store.old)) (St.signs store.old) (St.signs store.new)) }
     ensures enough { IfErr result.0 (OfPool (λ e. IfSome (both_told (S.remaining left.old) (S.remaining right.old)) (λ both. IsWantBelow (slots_for op (St.holds store.old) (lefts_taken plan.now page both) (rights_taken plan.now page both)) (join_slots op (St.holds store.old) (St.signs store.old)) e))) }

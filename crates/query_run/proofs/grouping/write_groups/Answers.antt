@@ -12,6 +12,7 @@ use Rattle.query_run.specs.Ending.{IsEndedBy}
 use Rattle.store_api.specs.declared.shapes.Shape.{Shape}
 use Rattle.partition_stack.proofs.Results.{any_err, on_err, on_ok}
 use Rattle.query_run.specs.Answer.{answer_text, group_rows}
+use Rattle.query_run.specs.Inside.{OfFedTold}
 use Rattle.query_run.specs.Plans.{grouping_of}
 use Rattle.outside.proofs.Stopping.{stops_later}
 use Rattle.query_run.proofs.Ended.{all_handed, ended_stops, none_failed, not_stopped, numbers_are, some_anyhow, stopped_front, stops_as, took_none, unsent_front, untouched, whole_answer}
@@ -67,7 +68,7 @@ returns-in_err-went_through-clause-enough g c =
     let s = g.St.Store.signs c.args.store.now in
     let total = slots_in (over op.parts h s) in
     let ended : IsEndedBy c.drive-handed.result.1.stopped c.drive-handed.result.0 e = search rules in
-    let all : OfPool (λ why. (fed : List (List Value)) → Holds fed op h s → h.told ≡ true → IsWantBelow (slots_for 544 op h fed) total why) e =
+    let all : OfPool (λ why. OfFedTold g.St.Store op c.args.store.now (λ fed. IsWantBelow (slots_for 544 op h fed) total why)) e =
     ended_wants (λ fed. Holds fed op h s) (h.told ≡ true) (slots_for 544 op h) total _ _ _ _ c.drive-handed.result.1.stopped _ _ _ c.drive-handed.result.0 e c.drive-handed.ensures.enough c.drive-handed.ensures.any.1 ended in
     search (rules, all)
 

@@ -12,6 +12,7 @@ use Rattle.csv_edge.specs.Lines.{line_of}
 use Rattle.query_run.specs.Answer.{answer_text, header_of}
 use Rattle.query_run.specs.Causes.{OfPool}
 use Rattle.query_run.specs.Ending.{IsEndedBy}
+use Rattle.query_run.specs.Inside.{OfSidesTold}
 use Rattle.query_run.specs.Taking.{join_slots}
 use Rattle.outside.proofs.Stopping.{stops_later}
 use Rattle.query_run.proofs.Ended.{all_handed, ended_stops, none_failed, not_stopped, stops_as, took_none, untouched}
@@ -77,7 +78,7 @@ returns-in_err-went_through-clause-enough g c =
     let s = g.St.Store.signs c.args.store.now in
     let total = join_slots op h s in
     let ended : IsEndedBy c.drive_pairs-handed.result.1.stopped c.drive_pairs-handed.result.0 e = search rules in
-    let all : OfPool (λ why. (start : Option (List Entry)) (lefts rights : List (List Value)) → Keeps start lefts rights op h s → h.told ≡ true → IsWantBelow (slots_for op h lefts rights) total why) e =
+    let all : OfPool (λ why. OfSidesTold g.St.Store op c.args.store.now (λ lefts rights. IsWantBelow (slots_for op h lefts rights) total why)) e =
     ended_pairs (λ start lefts rights. Keeps start lefts rights op h s) (h.told ≡ true) (slots_for op h) total _ _ _ _ c.drive_pairs-handed.result.1.stopped _ _ _ c.drive_pairs-handed.result.0 e c.drive_pairs-handed.ensures.enough c.drive_pairs-handed.ensures.any.1 ended in
     search (rules, all)
 
