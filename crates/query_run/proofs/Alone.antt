@@ -1,5 +1,5 @@
 -- A query without a right input.
-use Rattle.std.proofs.Common.{◌≡◌, ◌∙◌, ◌⊎◌, ℕ, List, [], Option, Some, None, IfSome, false, true, is_some, inl, inr, refl, sym, true≢false}
+use Rattle.std.proofs.Common.{◌≡◌, ◌∙◌, ℕ, List, [], Option, Some, None, IfSome, false, true, is_some, inl, inr, refl, sym, true≢false}
 use Rattle.query_plan.specs.Sizes.{groups, joins}
 use Rattle.query_plan.specs.declared.plan.Query.{Query}
 use Rattle.query_plan.specs.declared.plan.Side.{Side}

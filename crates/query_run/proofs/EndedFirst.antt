@@ -1,5 +1,5 @@
 -- The first client of a query ends, while the second one has its grouping.
-use Rattle.std.proofs.Common.{◌≡◌, ◌≢◌, ◌∙◌, ◌+◌, ◌-◌, ◌*◌, ◌<◌, ◌≤◌, ℕ, zero, suc, Option, Some, None, IsSome, refl, ap, sym, subst, arith, ne_eqb}
+use Rattle.std.proofs.Common.{◌≡◌, ◌≢◌, ◌∙◌, ◌-◌, ◌*◌, ◌<◌, ◌≤◌, ℕ, zero, suc, Option, Some, None, IsSome, refl, ap, sym, subst, arith, ne_eqb}
 use Rattle.std.proofs.lemmas.Bool.{false≢true}
 use Rattle.store_api.proofs.Growing.{grows_trans}
 use Rattle.store_api.specs.Changes.{after_end_client}

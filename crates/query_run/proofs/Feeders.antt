@@ -1,6 +1,6 @@
 -- One row goes to a grouping of an emitter.
-use Rattle.std.proofs.Common.{◌≡◌, ◌≢◌, ◌∙◌, ◌+◌, ◌-◌, ◌*◌, ◌^◌, ◌<◌, ◌≤◌, ◌==◌, ℕ, zero, suc, List, [], ◌∷◌, ◌++◌, All, length, true, Option, Some, None, Result, Ok, Err, IfErr, option_map, if◌then◌else◌, refl, ap, sym, subst, arith, append_assoc, eq-eqb}
-use Rattle.std.specs.Prelude.{IfSome, slice_get}
+use Rattle.std.proofs.Common.{◌≡◌, ◌∙◌, ◌+◌, ◌*◌, ◌^◌, ◌<◌, ◌≤◌, ◌==◌, ℕ, suc, List, [], ◌∷◌, ◌++◌, All, length, true, Option, Some, None, Result, Ok, Err, IfErr, option_map, refl, ap, sym, subst, arith, append_assoc, eq-eqb}
+use Rattle.std.specs.Prelude.{slice_get}
 use Rattle.std.specs.List.{concat, sum_by}
 use Rattle.std.proofs.lemmas.List.{length-append}
 use Rattle.std.proofs.lemmas.List.Elements.{All-head, All-nil, All-push, All-tail}

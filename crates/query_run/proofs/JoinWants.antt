@@ -1,5 +1,5 @@
 -- Want of slots of a join, by the rows that were fed.
-use Rattle.std.proofs.Common.{◌≡◌, ◌∙◌, ◌+◌, ◌-◌, ◌*◌, ◌/◌, ◌<◌, ◌≤◌, ◌++◌, ℕ, List, [], Option, Some, None, IfSome, Result, Ok, Err, IfErr, inl, inr, ℤ, filter, length, replicate, refl, ap, sym, subst, arith, mul-le-mul_right}
+use Rattle.std.proofs.Common.{◌≡◌, ◌∙◌, ◌+◌, ◌-◌, ◌*◌, ◌<◌, ◌≤◌, ◌++◌, ℕ, List, [], Option, Some, None, IfSome, Result, Ok, Err, IfErr, inl, inr, ℤ, filter, length, replicate, refl, ap, sym, subst, arith, mul-le-mul_right}
 use Rattle.std.specs.List.{sum_by}
 use Rattle.std.proofs.lemmas.List.{length-append}
 use Rattle.std.proofs.lemmas.List.Sums.{sum_by-append}

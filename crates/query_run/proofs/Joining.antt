@@ -7,7 +7,7 @@ use Rattle.pool_model.specs.declared.event.Event.{Event}
 use Rattle.pool_model.specs.declared.event.Event.TheVariants.{AddTracker, Increase}
 use Rattle.row_codec.specs.declared.values.Value.{Value}
 use Rattle.store_api.specs.Entries.{MadeThese}
-use Rattle.store_api.specs.Holdings.{Account, Holdings, account_of}
+use Rattle.store_api.specs.Holdings.{Account, Holdings}
 use Rattle.store_api.specs.Signs.{Grows, Signs}
 use Rattle.store_api.specs.Tokens.{ClientToken}
 use Rattle.store_api.specs.declared.shapes.JoinShape.{JoinShape}

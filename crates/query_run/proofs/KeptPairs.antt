@@ -1,7 +1,6 @@
 -- What a query that joins and groups keeps on pages before it reads it again.
-use Rattle.std.proofs.Common.{◌≡◌, ◌∙◌, ◌⊎◌, inl, inr, ℕ, List, [], ◌∷◌, ◌++◌, Option, None, Some, IfSome, refl, ap, sym, subst, append_assoc}
+use Rattle.std.proofs.Common.{◌≡◌, ◌∙◌, inl, inr, ℕ, List, ◌++◌, Option, None, Some, IfSome, ap, sym, subst, append_assoc}
 use Rattle.pool_model.specs.declared.entry.Entry.{Entry}
-use Rattle.pool_model.specs.declared.event.Event.{Event}
 use Rattle.row_codec.specs.declared.values.Value.{Value}
 use Rattle.store_api.proofs.Growing.{grows_trans}
 use Rattle.store_api.specs.Entries.{MadeThese}
@@ -11,7 +10,7 @@ use Rattle.store_api.specs.declared.shapes.Shape.{Shape}
 use Rattle.store_api.specs.Signs.{Grows, Signs}
 use Rattle.store_api.specs.declared.shapes.JoinShape.{JoinShape}
 use Rattle.tuple_stream.specs.Families.{AllClosed, Family}
-use Rattle.tuple_stream.specs.Trails.{EnteredEvents, HasPin, PinsFirst}
+use Rattle.tuple_stream.specs.Trails.{EnteredEvents, PinsFirst}
 use Rattle.tuple_stream.proofs.PinsFirst.{both_pin_first, has_pin_front, pins_first_join}
 use Rattle.tuple_stream.proofs.Sinces.{since_joined, since_so, since_these}
 use Rattle.tuple_stream.specs.Streamed.{Streamed}

@@ -1,5 +1,5 @@
 -- The lines of pairs, from what waits before the first one to what is sent last.
-use Rattle.std.proofs.Common.{◌≡◌, ◌∙◌, ℕ, ℤ, List, [], ◌++◌, Option, Some, None, Result, Ok, Err, OnErr, OnOk, false, length, map, sym, ap, subst, refl, append-nil}
+use Rattle.std.proofs.Common.{◌≡◌, ◌∙◌, ℕ, ℤ, List, [], ◌++◌, Option, None, Result, Ok, Err, OnErr, OnOk, false, map, sym, ap, subst, refl, append-nil}
 use Rattle.std.specs.Io.KnownBytes.{Appends}
 use Rattle.row_codec.specs.declared.values.Agg.TheVariants.{Sum}
 use Rattle.row_codec.specs.declared.values.Value.{Value}
@@ -14,7 +14,7 @@ use Rattle.outside.specs.Faults.{Faults}
 use Rattle.query_run.specs.Answer.{LineNumbers, answer_text, header_of, lines_of}
 use Rattle.query_run.specs.Joined.{HasTakenPairs, HasTakenSomePairs, WrotePairs, WroteSomePairs}
 use Rattle.query_run.specs.Parts.{FrontOf}
-use Rattle.query_run.specs.Writing.{Begun, HasTaken, text_behind, written}
+use Rattle.query_run.specs.Writing.{Begun, text_behind, written}
 use Rattle.query_plan.specs.declared.outcome.QueryErr.{QueryErr}
 use Rattle.query_plan.specs.declared.outcome.Ran.{Ran}
 use Rattle.query_run.proofs.Ended.{more_lines, sent_front, sent_whole, taken_front, wider}

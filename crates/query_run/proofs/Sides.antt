@@ -1,5 +1,5 @@
 -- What was read of both inputs, fed and written, as one answer.
-use Rattle.std.proofs.Common.{◌≡◌, ◌∙◌, ◌+◌, ◌<◌, ◌≤◌, ◌^◌, ℕ, Bool, false, true, not, List, Option, Some, None, IfSome, filter, length, ap, sym, subst, refl, arith}
+use Rattle.std.proofs.Common.{◌≡◌, ◌∙◌, ◌+◌, ◌<◌, ◌^◌, ℕ, Bool, false, true, not, List, Option, Some, None, IfSome, filter, length, ap, sym, subst, refl, arith}
 use Rattle.std.specs.Prelude.{⊤}
 use Rattle.std.specs.Io.KnownBytes.{Appends}
 use Rattle.std.proofs.lemmas.List.{length-append}
@@ -17,8 +17,8 @@ use Rattle.query_plan.specs.declared.plan.Query.{Query}
 use Rattle.query_plan.specs.declared.plan.Side.{Side}
 use Rattle.query_plan.specs.declared.plan.Side.TheVariants.{Left, Right}
 use Rattle.query_plan.specs.declared.plan.SidePlan.{SidePlan}
-use Rattle.query_run.specs.Answer.{AreLines, IsAnswer, LineNumbers, Numbers, WroteAnswer, WroteFront, answer_text, group_rows}
-use Rattle.query_run.specs.Both.{answered, both_told, passing_of_both, right_passing, right_rows}
+use Rattle.query_run.specs.Answer.{IsAnswer, LineNumbers, Numbers, WroteAnswer, WroteFront, answer_text, group_rows}
+use Rattle.query_run.specs.Both.{answered, both_told, passing_of_both, right_passing}
 use Rattle.query_run.specs.Feeding.{HasFed}
 use Rattle.query_run.specs.Input.{IsAccepted, IsAcceptedIn, passing, passing_in}
 use Rattle.query_run.specs.Joined.{HasFedBoth, KeptBoth, WrotePairs, WroteSomePairs}

@@ -1,13 +1,12 @@
 -- What takes rows, call after call.
 use Rattle.std.proofs.Common.{◌≡◌, ◌∙◌, ◌*◌, ◌++◌, ℕ, List, [], Option, length, sym, ap, refl, subst, arith, append_assoc, append-nil}
-use Rattle.pool_model.specs.declared.entry.Entry.{Entry}
 use Rattle.reservation_tree.specs.declared.errors.PoolErr.{PoolErr}
 use Rattle.row_codec.specs.declared.values.Kind.{Kind}
 use Rattle.row_codec.specs.declared.values.Value.{Value}
 use Rattle.store_api.proofs.Answered.{answered_before}
 use Rattle.store_api.proofs.Growing.{grows_refl}
 use Rattle.store_api.proofs.Untouched.{others_stay}
-use Rattle.store_api.specs.Holdings.{Holdings, length_of}
+use Rattle.store_api.specs.Holdings.{Holdings}
 use Rattle.store_api.specs.Signs.{Signs}
 use Rattle.store_api.specs.declared.shapes.JoinShape.{JoinShape}
 use Rattle.store_api.specs.declared.shapes.Shape.{Shape}

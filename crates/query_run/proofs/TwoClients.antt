@@ -1,5 +1,5 @@
 -- Two clients of a query come, and end.
-use Rattle.std.proofs.Common.{◌≡◌, ◌≢◌, ◌∙◌, ◌+◌, ◌-◌, ◌*◌, ◌/◌, ◌≤◌, ℕ, [], ◌∷◌, true, Option, Some, None, ap, refl, subst, sym, arith}
+use Rattle.std.proofs.Common.{◌≡◌, ◌≢◌, ◌∙◌, ◌*◌, ◌/◌, ℕ, [], ◌∷◌, true, Option, Some, None, ap, refl, sym, arith}
 use Rattle.store_api.specs.Changes.{after_end_client}
 use Rattle.store_api.specs.Emitters.{SameOwn}
 use Rattle.store_api.specs.Holdings.{Account, Holdings, account_of, length_of, no_account, or_else}

@@ -1,12 +1,12 @@
 -- An emitter that feeds its rows to a grouping asks nothing of its store but what is its client's. Laws of emitters cite this.
 use Rattle.std.specs.Prelude.{◌≡◌, ◌↔◌, ℕ, suc, ◌+◌, ◌*◌, ◌≤◌, ◌==◌, Bool, true, false, List, [], ◌∷◌, length, slice_get, sum_by, if◌then◌else◌, Option, Some, None, refl}
-use Rattle.std.proofs.Common.{◌∙◌, ◌⊎◌, inl, inr, ap, sym, subst, arith, zero-le, eqb-true}
+use Rattle.std.proofs.Common.{◌∙◌, inl, inr, ap, sym, subst, arith, zero-le, eqb-true}
 use Rattle.std.proofs.lemmas.Bool.{cases_Bool}
 use Rattle.std.proofs.lemmas.List.Sums.{sum_by-cons}
 use Rattle.std.proofs.Math.Nat.{mul-le-mul_right}
 use Rattle.row_codec.specs.declared.values.Value.{Value}
-use Rattle.store_api.specs.Emitters.{SameFor, SameOwn}
-use Rattle.store_api.specs.Holdings.{Account, Holdings, LivePage, no_page, or_else, length_of, page_of}
+use Rattle.store_api.specs.Emitters.{SameOwn}
+use Rattle.store_api.specs.Holdings.{Holdings, LivePage, no_page, or_else, page_of}
 use Rattle.store_api.specs.OwnLaws.{still_idle}
 use Rattle.store_api.specs.Tokens.{ClientToken, PageToken}
 use Rattle.store_api.specs.declared.shapes.Shape.{Shape}

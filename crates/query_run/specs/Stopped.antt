@@ -1,5 +1,5 @@
 -- What a query leaves of its store, and what the store may have stopped it with.
-use Rattle.std.specs.Prelude.{◌≡◌, ◌*◌, ℕ, ◌≤◌, ◌⊎◌, Bool, false, true, List, Option, None, Some, IfSome, replicate, ⊤}
+use Rattle.std.specs.Prelude.{◌≡◌, ◌*◌, ℕ, ◌≤◌, ◌⊎◌, true, List, Option, IfSome, replicate}
 use Rattle.reservation_tree.specs.declared.errors.PoolErr.{PoolErr}
 use Rattle.outside.specs.Counts.{Rose}
 use Rattle.store_api.specs.Holdings.{Holdings}

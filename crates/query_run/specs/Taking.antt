@@ -1,5 +1,5 @@
 -- What takes the rows of an input: a grouping, or one side of a join. `a` is before calls and `b` behind them.
-use Rattle.std.specs.Prelude.{◌≡◌, ◌+◌, ◌*◌, ◌≤◌, ℕ, List, [], ◌++◌, Option, length}
+use Rattle.std.specs.Prelude.{◌≡◌, ◌+◌, ◌≤◌, ℕ, List, [], ◌++◌, Option, length}
 use Rattle.pool_model.specs.LookingBack.{names_in}
 use Rattle.pool_model.specs.declared.entry.Entry.{Entry}
 use Rattle.reservation_tree.specs.declared.errors.PoolErr.{PoolErr}

@@ -1,4 +1,4 @@
-use Rattle.std.proofs.Common.{◌≡◌, ◌≢◌, ◌∙◌, ◌<◌, ◌+◌, ◌*◌, ◌++◌, ◌^◌, ℕ, List, Some, IsSome, inr, length, ap, refl, sym, subst, arith, None, Err, rules}
+use Rattle.std.proofs.Common.{◌≡◌, ◌∙◌, ◌<◌, ◌+◌, ◌*◌, ◌++◌, ℕ, Some, length, ap, refl, sym, subst, arith}
 use Rattle.std.specs.Io.KnownBytes.{Appends}
 use Rattle.csv_edge.specs.Written.{AppendsFront}
 use Rattle.store_api.proofs.Answered.{answered_after}
@@ -28,7 +28,7 @@ use Rattle.query_run.proofs.BothWants.{fed_fewer, grouped_below, slots_told}
 use Rattle.query_run.proofs.EndedFirst.{ended_behind, ended_first, may_start_still, own_after, own_left, some_page, stopped_still}
 use Rattle.query_run.proofs.Going.{of_pool_so, stopped_later}
 use Rattle.query_run.proofs.Names.{joined_kinds}
-use Rattle.query_run.proofs.Results.{at_err, both_ok, of_bad, of_done, of_err, of_ok}
+use Rattle.query_run.proofs.Results.{both_ok, of_bad, of_done, of_ok}
 use Rattle.query_run.proofs.Sides.{both_held, few_kept, groups_answer, groups_front, joined_numbers}
 use Rattle.query_run.proofs.Counted.{both_fed, ending_makes, grouped_whole, told_so}
 use Rattle.query_run.proofs.Wants.{want_more}

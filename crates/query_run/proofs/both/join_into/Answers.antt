@@ -1,4 +1,4 @@
-use Rattle.std.proofs.Common.{◌≡◌, ◌≢◌, ◌∙◌, ◌+◌, ◌*◌, ◌<◌, ◌≤◌, ℕ, [], List, Option, Some, IsSome, IfErr, true, length, ap, refl, subst, sym, arith}
+use Rattle.std.proofs.Common.{◌≡◌, ◌≢◌, ◌∙◌, ◌+◌, ◌*◌, ◌<◌, ◌≤◌, ℕ, List, Option, Some, IsSome, IfErr, true, length, ap, refl, subst, sym, arith}
 use Rattle.pool_model.specs.declared.entry.Entry.{Entry}
 use Rattle.row_codec.specs.declared.values.Value.{Value}
 use Rattle.store_api.proofs.Growing.{grows_trans}
@@ -13,10 +13,10 @@ use Rattle.partition_stack.proofs.Emitters.{beside_then, left_beside}
 use Rattle.partition_stack.proofs.Making.{few_both}
 use Rattle.partition_stack.proofs.Results.{any_err, if_err, if_ok, on_err}
 use Rattle.group_op.proofs.Wants.{below_more_of}
-use Rattle.group_op.specs.Operator.{Operator, started}
+use Rattle.group_op.specs.Operator.{Operator}
 use Rattle.join_op.specs.Operator.{Keeps, slots_for}
 use Rattle.join_op.specs.Pairs.{pairs_of}
-use Rattle.query_run.specs.Feeder.{Took, pages_made, slots_for_rows}
+use Rattle.query_run.specs.Feeder.{pages_made, slots_for_rows}
 use Rattle.query_run.specs.FeederLaws.{took_same}
 use Rattle.query_run.specs.Inside.{HasEndedFirst, slots_of_both}
 use Rattle.query_run.specs.Plans.{shape_of}

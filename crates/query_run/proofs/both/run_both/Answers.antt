@@ -1,7 +1,7 @@
-use Rattle.std.proofs.Common.{◌≡◌, ◌∙◌, ◌+◌, ◌*◌, ◌/◌, ◌≤◌, ◌<◌, ℕ, IfSome, Some, true, [], ◌∷◌, inl, inr, ap, arith, refl, rules, subst, sym}
-use Rattle.store_api.proofs.Growing.{grows_refl, grows_trans}
+use Rattle.std.proofs.Common.{◌≡◌, ◌∙◌, ◌*◌, ◌/◌, ◌≤◌, ◌<◌, ℕ, IfSome, Some, true, [], ◌∷◌, ap, arith, refl, rules, subst, sym}
+use Rattle.store_api.proofs.Growing.{grows_trans}
 use Rattle.store_api.specs.Changes.{after_end_client}
-use Rattle.store_api.specs.Holdings.{Holdings, account_of}
+use Rattle.store_api.specs.Holdings.{account_of}
 use Rattle.store_api.specs.Tokens.{ClientToken}
 use Rattle.reservation_tree.specs.declared.errors.PoolErr.{PoolErr}
 use Rattle.partition_stack.specs.Slots.{IsWantBelow}
@@ -10,7 +10,6 @@ use Rattle.partition_stack.proofs.Results.{if_err, on_ok}
 use Rattle.join_op.proofs.Besides.{beside_none}
 use Rattle.join_op.specs.Operator.{Operator}
 use Rattle.query_plan.specs.Sizes.{least_of, page_len}
-use Rattle.query_run.specs.Answer.{WroteFront}
 use Rattle.query_run.specs.Both.{both_told}
 use Rattle.query_run.specs.Causes.{OfPool}
 use Rattle.query_run.specs.Inside.{HasEndedFirst}
@@ -20,15 +19,15 @@ use Rattle.query_run.specs.Taking.{join_slots}
 use Rattle.query_run.proofs.Around.{WantsEnough, stopped_around}
 use Rattle.query_run.proofs.BothWants.{both_wants, slots_told}
 use Rattle.query_run.proofs.Counted.{coming_makes, ending_makes, none_through, through_around}
-use Rattle.query_run.proofs.EndedFirst.{ended_first, own_after, stopped_still}
+use Rattle.query_run.proofs.EndedFirst.{ended_first}
 use Rattle.query_run.proofs.Going.{of_pool_so}
 use Rattle.query_run.proofs.JoinWants.{none_joined}
 use Rattle.query_run.proofs.KeptFirst.{reserves_first, reserves_more}
 use Rattle.query_run.proofs.KeptPairs.{kept_two}
 use Rattle.query_run.proofs.Results.{both_err}
 use Rattle.query_run.proofs.Runs.{nothing_read, read_and_wrote_at}
-use Rattle.query_run.proofs.Says.{memory_stops, says_neither}
-use Rattle.query_run.proofs.TwoClients.{first_still, left_both, second_may, share_is, two_apart, two_shares}
+use Rattle.query_run.proofs.Says.{memory_stops}
+use Rattle.query_run.proofs.TwoClients.{first_still, left_both, share_is, two_apart, two_shares}
 use Rattle.query_run.proofs.Wants.{long_page}
 use Rattle.query_run.proofs.both.run_both.Goals as goal
 

@@ -1,4 +1,4 @@
-use Rattle.std.proofs.Common.{◌≡◌, ◌∙◌, ◌+◌, ◌*◌, ℕ, List, length, ap, refl, subst, sym, true, arith}
+use Rattle.std.proofs.Common.{◌≡◌, ◌∙◌, ◌+◌, ◌*◌, ℕ, length, ap, subst, sym, arith}
 use Rattle.partition_stack.proofs.Making.{few_both, few_less}
 use Rattle.join_op.specs.Pairs.{pairs_of}
 use Rattle.store_api.proofs.Answered.{answered_after}

@@ -1,4 +1,4 @@
-use Rattle.std.proofs.Common.{◌≡◌, ◌<◌, List, [], ◌∙◌, ℕ, IfSome, true, ap, inr, length, sym, subst, arith, rules, refl, None, Err}
+use Rattle.std.proofs.Common.{◌≡◌, ◌<◌, List, [], ◌∙◌, ℕ, IfSome, true, ap, length, sym, subst, arith, rules, refl, None, Err}
 use Rattle.tuple_stream.specs.Families.{slots_in}
 use Rattle.partition_stack.specs.Slots.{IsWantBelow}
 use Rattle.group_op.specs.Operator.{slots_for}
@@ -17,7 +17,7 @@ use Rattle.query_run.proofs.Fronts.{taken_so}
 use Rattle.query_run.proofs.Going.{feeds_still, goes_then, of_pool_so, stopped_later}
 use Rattle.query_run.proofs.Made.{group_makes_none}
 use Rattle.partition_stack.proofs.Results.{if_err, if_ok, on_err, on_ok}
-use Rattle.query_run.proofs.Results.{at_err, both_ok, of_err}
+use Rattle.query_run.proofs.Results.{both_ok}
 use Rattle.query_run.proofs.Whole.{all_numbers, fed_as, grouped, groups_alone, holds_for, left_kinds, part_answer, passing_are, passing_of, same_page, whole_answer}
 use Rattle.query_run.proofs.Taken.{group_feeds_none, group_goes_none}
 use Rattle.query_run.proofs.Wants.{front_wants, whole_wants}

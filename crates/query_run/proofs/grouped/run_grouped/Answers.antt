@@ -1,4 +1,4 @@
-use Rattle.std.proofs.Common.{rules, [], Some, ◌≡◌, ◌∙◌, ◌*◌, ◌<◌, IfSome, true, inl, inr, ap, arith, subst, Option, sym}
+use Rattle.std.proofs.Common.{rules, [], Some, ◌≡◌, ◌∙◌, ◌*◌, ◌<◌, IfSome, true, ap, arith, subst, Option, sym}
 use Rattle.store_api.proofs.Growing.{grows_trans}
 use Rattle.tuple_stream.specs.Families.{slots_in}
 use Rattle.partition_stack.specs.Stack.{over}
@@ -9,7 +9,6 @@ use Rattle.query_plan.specs.Sizes.{least_of, page_len}
 use Rattle.store_api.specs.Changes.{after_end_client}
 use Rattle.store_api.specs.Holdings.{account_of}
 use Rattle.store_api.specs.Tokens.{ClientToken}
-use Rattle.query_run.specs.Answer.{WroteFront}
 use Rattle.query_run.specs.Both.{both_told}
 use Rattle.query_run.specs.Causes.{OfPool}
 use Rattle.query_run.specs.Plans.{shape_of}

@@ -1,7 +1,6 @@
-use Rattle.std.proofs.Common.{◌≡◌, Err, inl, ◌∙◌, ◌+◌, ◌*◌, List, true, length, pos, replicate, ap, sym, refl, arith, rules}
+use Rattle.std.proofs.Common.{◌≡◌, Err, inl, ◌∙◌, ◌+◌, ◌*◌, true, length, pos, replicate, ap, sym, refl, arith, rules}
 use Rattle.outside.specs.Sinks.{StopsAt}
 use Rattle.query_plan.specs.declared.outcome.QueryErr.TheVariants.{SinkFault}
-use Rattle.row_codec.specs.declared.values.Value.{Value}
 use Rattle.tuple_stream.specs.Families.{slots_in}
 use Rattle.partition_stack.specs.Slots.{IsWantBelow}
 use Rattle.partition_stack.specs.Stack.{over}

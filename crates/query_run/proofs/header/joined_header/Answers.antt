@@ -1,6 +1,5 @@
-use Rattle.std.proofs.Common.{◌≡◌, ◌++◌, ◌∙◌, List, codes, map, take, ap, rules}
+use Rattle.std.proofs.Common.{◌≡◌, ◌++◌, ◌∙◌, codes, map, take, ap, rules}
 use Rattle.std.proofs.lemmas.List.{take_all}
-use Rattle.row_codec.specs.declared.values.Column.{Column}
 use Rattle.query_plan.specs.Columns.{behind}
 use Rattle.query_run.proofs.Names.{joined_names, name_of}
 use Rattle.query_run.proofs.header.joined_header.Goals as goal

@@ -1,9 +1,8 @@
-use Rattle.std.proofs.Common.{◌≡◌, ◌∙◌, ◌<◌, ◌+◌, ◌^◌, List, inr, sym, subst, arith, refl, None, Err, rules}
+use Rattle.std.proofs.Common.{◌∙◌, subst, arith, refl}
 use Rattle.std.specs.Prelude.{⊤}
 use Rattle.partition_stack.proofs.Left.{leaves_both}
 use Rattle.partition_stack.proofs.Making.{few_none}
 use Rattle.partition_stack.proofs.Results.{if_err, if_ok, on_err, on_ok}
-use Rattle.partition_stack.specs.Leaving.{LeavesOthers}
 use Rattle.partition_stack.specs.Stack.{over}
 use Rattle.store_api.specs.declared.shapes.JoinShape.{JoinShape}
 use Rattle.tuple_stream.specs.Trails.{EnteredEvents}
@@ -13,8 +12,7 @@ use Rattle.query_run.specs.Answer.{LineNumbers}
 use Rattle.query_run.specs.Joined.{WrotePairs, WroteSomePairs}
 use Rattle.query_run.proofs.Going.{of_pool_so}
 use Rattle.query_run.proofs.JoinWants.{pairs_below}
-use Rattle.query_run.proofs.Results.{at_err, both_ok, of_bad, of_done, of_err, of_ok}
-use Rattle.query_run.proofs.Says.{says_neither}
+use Rattle.query_run.proofs.Results.{both_ok, of_bad, of_done, of_ok}
 use Rattle.query_run.proofs.Sides.{both_kept, few_kept, joined_answer, joined_front, joined_numbers}
 use Rattle.query_run.proofs.Taken.{join_stops}
 use Rattle.query_run.proofs.Counted.{both_fed, joined_whole}

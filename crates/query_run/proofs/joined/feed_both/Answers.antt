@@ -1,7 +1,5 @@
-use Rattle.std.proofs.Common.{◌≡◌, ◌∙◌, ◌≤◌, ◌<◌, ℕ, [], ap, sym, subst, refl, arith, rules}
-use Rattle.partition_stack.specs.Leaving.{LeavesOthers}
+use Rattle.std.proofs.Common.{◌∙◌, ◌<◌, ℕ, [], ap, sym, subst}
 use Rattle.store_api.specs.declared.shapes.JoinShape.{JoinShape}
-use Rattle.query_run.specs.Plans.{IsSide}
 use Rattle.query_run.proofs.Going.{of_pool_so}
 use Rattle.query_run.proofs.JoinWants.{left_below, right_below}
 use Rattle.query_run.proofs.Made.{join_makes_none}

@@ -1,4 +1,4 @@
-use Rattle.std.proofs.Common.{rules, Some, ◌≡◌, ◌∙◌, ◌*◌, ◌<◌, IfSome, true, inl, inr, ap, arith, refl, subst}
+use Rattle.std.proofs.Common.{rules, Some, ◌≡◌, ◌∙◌, ◌*◌, ◌<◌, IfSome, true, ap, arith, refl}
 use Rattle.store_api.proofs.Growing.{grows_trans}
 use Rattle.store_api.specs.Changes.{after_end_client}
 use Rattle.store_api.specs.Holdings.{account_of}
@@ -11,7 +11,6 @@ use Rattle.join_op.specs.Operator.{Operator, slots_for}
 use Rattle.reservation_tree.specs.declared.errors.PoolErr.{PoolErr}
 use Rattle.query_plan.specs.Sizes.{least_of, page_len}
 use Rattle.query_run.specs.Both.{both_told}
-use Rattle.query_run.specs.Answer.{WroteFront}
 use Rattle.query_run.specs.Causes.{OfPool}
 use Rattle.query_run.specs.Plans.{join_shape_of}
 use Rattle.query_run.specs.Stopped.{IsLeft, StoppedOver}
@@ -25,7 +24,7 @@ use Rattle.query_run.proofs.JoinWants.{join_wants, none_joined}
 use Rattle.query_run.proofs.KeptFirst.{reserves_first}
 use Rattle.query_run.proofs.Results.{both_err}
 use Rattle.query_run.proofs.Runs.{nothing_read, read_and_wrote_at}
-use Rattle.query_run.proofs.Says.{memory_stops, says_neither}
+use Rattle.query_run.proofs.Says.{memory_stops}
 use Rattle.query_run.proofs.Wants.{long_page}
 use Rattle.query_run.proofs.joined.run_joined.Goals as goal
 

@@ -1,8 +1,6 @@
-use Rattle.std.proofs.Common.{◌≡◌, Err, ◌∙◌, inl, ◌+◌, ◌*◌, List, Option, true, length, refl, arith, rules}
+use Rattle.std.proofs.Common.{◌≡◌, Err, ◌∙◌, inl, ◌+◌, ◌*◌, true, length, refl, arith, rules}
 use Rattle.outside.specs.Sinks.{StopsAt}
 use Rattle.query_plan.specs.declared.outcome.QueryErr.TheVariants.{SinkFault}
-use Rattle.pool_model.specs.declared.entry.Entry.{Entry}
-use Rattle.row_codec.specs.declared.values.Value.{Value}
 use Rattle.partition_stack.specs.Slots.{IsWantBelow}
 use Rattle.partition_stack.proofs.Making.{few_less, few_none}
 use Rattle.partition_stack.proofs.Results.{any_err, on_err, on_ok}

@@ -1,4 +1,4 @@
-use Rattle.std.proofs.Common.{◌≡◌, ◌∙◌, ◌+◌, ◌++◌, ◌<◌, [], ◌∷◌, List, Option, None, Some, inl, refl, subst, sym, arith, rules}
+use Rattle.std.proofs.Common.{◌≡◌, ◌∙◌, ◌+◌, ◌++◌, [], ◌∷◌, List, Option, Some, inl, refl, subst, sym, arith, rules}
 use Rattle.partition_stack.specs.Leaving.{CameOfStore}
 use Rattle.store_api.specs.Tokens.{ClientToken}
 use Rattle.row_codec.specs.declared.values.Value.{Value}
@@ -7,7 +7,7 @@ use Rattle.tuple_stream.specs.Families.{slots_in as all_slots_in}
 use Rattle.partition_stack.specs.Slots.{IsWantBelowOf, IsWantOf}
 use Rattle.partition_stack.specs.Stack.{over}
 use Rattle.group_op.specs.Operator.{Holds, Operator, slots_for}
-use Rattle.query_run.specs.Feeder.{HasEnded, TookOf, slots_in}
+use Rattle.query_run.specs.Feeder.{TookOf, slots_in}
 use Rattle.query_run.proofs.Feeders.{came_so, feeds_here, grew_by, grew_ended, grew_with, grew_without, it_feeds, leaves_ended, none_with, others_fed, row_wants, slots_ended, slots_fed, took_ended, took_one}
 use Rattle.query_run.proofs.feeder.FeederOfEmit.row.Goals as goal
 
