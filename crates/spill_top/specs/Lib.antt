@@ -23,3 +23,4 @@ pub mod Ran
 pub mod PlanFile
 pub mod CheckPlan
 pub mod Checking
+pub mod OwnPool

@@ -1,6 +1,6 @@
 // A query over a session of a pool of its own, which gives back the slots that it takes.
 
-ghost use Rattle.std.specs.Prelude.{◌≡◌, ◌≤◌, [], IfErr, OnOk, Some, is_some, map, vec_len};
+ghost use Rattle.std.specs.Prelude.{◌≡◌, ◌≤◌, [], Some, is_some, map, vec_len};
 ghost use Rattle.pin_core.specs.Tallies.{tally_of};
 ghost use Rattle.pool_model.specs.Bytes.{bytes_of};
 ghost use Rattle.pool.specs.Items.{all_rights};
@@ -9,16 +9,14 @@ ghost use Rattle.pool.specs.Passing.{writers_out};
 ghost use Rattle.pool.specs.Seats.{live_in};
 ghost use Rattle.pool.specs.Writers.{Stops};
 ghost use Rattle.query_plan.specs.Sizes.{joins, least_of, page_len};
-ghost use Rattle.query_run.specs.Both.{both_told, told_in};
-ghost use Rattle.query_run.specs.Causes.{OfPool};
+ghost use Rattle.query_run.specs.Both.{told_in};
 ghost use Rattle.query_run.specs.Plans.{IsRunnable};
 ghost use Rattle.query_run.specs.Run.{ReadAndWrote, world};
 ghost use Rattle.query_run.specs.Stopped.{HasRoomFor};
-ghost use Rattle.spill_top.specs.Pooled.{ComeBack, HasMemoryFor, HaveFailed, IsPoolStop, all_tell, memory_of};
+ghost use Rattle.spill_top.specs.Pooled.{HasMemoryFor, all_tell};
 ghost use Rattle.spill_top.specs.Seated.{RanIfSeated};
 ghost use Rattle.spill_top.specs.Unmarked.{RanUnmarked};
-ghost use Rattle.spill_top.specs.Sides.{if_told};
-ghost use Rattle.spill_top.specs.Storing.{HaveStored, owed};
+ghost use Rattle.spill_top.specs.OwnPool.{RanPooled};
 
 use crate::unmarked::run_unmarked;
 use crate::writers::{begin_writers, beside_writers, end_writers};
@@ -38,6 +36,15 @@ use std::time::Clock;
 use store_api::Store;
 use write_behind::Writer;
 
+// A query that has a pool of its own: the numbers of the pool, how many writers it has, and how many slots its pages may take.
+#[derive(Clone, Copy)]
+pub(crate) struct PoolRun<'a> {
+    pub(crate) query: &'a Query,
+    pub(crate) conf: PoolConf,
+    pub(crate) writers: u32,
+    pub(crate) quota: u32,
+}
+
 // Runs a query over a pool with these numbers, whose pages may take so many of the slots. All slots are there again
 // afterwards, whatever the answer. An answer is promised where all of them tell what they hold.
 pub(crate) fn run_pooled<
@@ -48,31 +55,23 @@ pub(crate) fn run_pooled<
 >(
     rt: &W,
     alloc: Global,
-    query: &Query,
-    conf: &PoolConf,
-    writers: u32,
-    quota: u32,
+    run: &PoolRun<'_>,
     slots: &mut Vec<D>,
     left: &mut S,
     right: &mut Option<S>,
     sink: &mut K,
 ) -> Result<Ran, QueryErr>
-    requires query { IsRunnable query.now }
-    requires memory { HasMemoryFor query.now conf.now }
+    requires query { IsRunnable run.now.query.now }
+    requires memory { HasMemoryFor run.now.query.now run.now.conf }
     requires few { vec_len slots.old ≤ 1048576 }
-    requires writers { writers ≤ 8 }
-    requires quota { quota ≤ vec_len slots.old }
-    requires right { is_some right.old ≡ joins query.now }
-    ensures outside { ReadAndWrote S.Source K.Sink query.now (page_len query.now conf.now.block_len) (all_tell (tally_of D.Slot slots.old.items))
+    requires writers { run.now.writers ≤ 8 }
+    requires quota { run.now.quota ≤ vec_len slots.old }
+    requires right { is_some right.old ≡ joins run.now.query.now }
+    ensures ran { RanPooled S.Source K.Sink run.now.query.now run.now.conf run.now.quota (tally_of D.Slot slots.old.items) (tally_of D.Slot slots.new.items)
         (world left.old right.old sink.old) (world left.new right.new sink.new) result }
-    ensures pool { IfErr result (OfPool (IsPoolStop query.now (page_len query.now conf.now.block_len) (if_told (all_tell (tally_of D.Slot slots.old.items)) (both_told (S.remaining left.old) (told_in S.remaining right.old))) quota (HaveFailed (tally_of D.Slot slots.old.items) (tally_of D.Slot slots.new.items)))) }
-    ensures slots { ComeBack (tally_of D.Slot slots.old.items) (tally_of D.Slot slots.new.items) }
-    ensures stored { OnOk result (HaveStored conf.now.block_len (owed query.now (memory_of conf.now) (both_told (S.remaining left.old) (told_in S.remaining right.old))) (tally_of D.Slot slots.old.items) (tally_of D.Slot slots.new.items)) }
     ensures len { vec_len slots.new ≡ vec_len slots.old }
 {
-    run_counted::<S, K, D, W, Brand>(
-        rt, alloc, query, conf, writers, quota, slots, left, right, sink,
-    )
+    run_counted::<S, K, D, W, Brand>(rt, alloc, run, slots, left, right, sink)
 }
 
 // The same, where `T` names with what the pool opens, for contracts alone.
@@ -85,33 +84,27 @@ fn run_counted<
 >(
     rt: &W,
     alloc: Global,
-    query: &Query,
-    conf: &PoolConf,
-    writers: u32,
-    quota: u32,
+    run: &PoolRun<'_>,
     slots: &mut Vec<D>,
     left: &mut S,
     right: &mut Option<S>,
     sink: &mut K,
 ) -> Result<Ran, QueryErr>
-    requires query { IsRunnable query.now }
-    requires memory { HasMemoryFor query.now conf.now }
+    requires query { IsRunnable run.now.query.now }
+    requires memory { HasMemoryFor run.now.query.now run.now.conf }
     requires few { vec_len slots.old ≤ 1048576 }
-    requires writers { writers ≤ 8 }
-    requires quota { quota ≤ vec_len slots.old }
-    requires right { is_some right.old ≡ joins query.now }
-    requires opens { OpensAs D.Slot conf.now slots.old.items T.opening T.told T.first }
+    requires writers { run.now.writers ≤ 8 }
+    requires quota { run.now.quota ≤ vec_len slots.old }
+    requires right { is_some right.old ≡ joins run.now.query.now }
+    requires opens { OpensAs D.Slot run.now.conf slots.old.items T.opening T.told T.first }
     requires told { T.told ≡ all_tell (tally_of D.Slot slots.old.items) }
     requires first { T.first ≡ tally_of D.Slot slots.old.items }
-    ensures outside { ReadAndWrote S.Source K.Sink query.now (page_len query.now conf.now.block_len) (all_tell (tally_of D.Slot slots.old.items))
+    ensures ran { RanPooled S.Source K.Sink run.now.query.now run.now.conf run.now.quota (tally_of D.Slot slots.old.items) (tally_of D.Slot slots.new.items)
         (world left.old right.old sink.old) (world left.new right.new sink.new) result }
-    ensures pool { IfErr result (OfPool (IsPoolStop query.now (page_len query.now conf.now.block_len) (if_told (all_tell (tally_of D.Slot slots.old.items)) (both_told (S.remaining left.old) (told_in S.remaining right.old))) quota (HaveFailed (tally_of D.Slot slots.old.items) (tally_of D.Slot slots.new.items)))) }
-    ensures slots { ComeBack (tally_of D.Slot slots.old.items) (tally_of D.Slot slots.new.items) }
-    ensures stored { OnOk result (HaveStored conf.now.block_len (owed query.now (memory_of conf.now) (both_told (S.remaining left.old) (told_in S.remaining right.old))) (tally_of D.Slot slots.old.items) (tally_of D.Slot slots.new.items)) }
     ensures len { vec_len slots.new ≡ vec_len slots.old }
 {
     let taken = mem::replace(slots, Vec::new(alloc));
-    let (pool, mut pass) = match Pool::<D, T>::open(alloc, conf, taken) {
+    let (pool, mut pass) = match Pool::<D, T>::open(alloc, &run.conf, taken) {
         Ok(opened) => opened,
         Err((back, _)) => {
             *slots = back;
@@ -119,17 +112,7 @@ fn run_counted<
         }
     };
     let ran = run_seated::<S, K, D, W, T, Brand>(
-        rt,
-        alloc,
-        &pool,
-        &mut pass,
-        query,
-        conf.block_len,
-        writers,
-        quota,
-        left,
-        right,
-        sink,
+        rt, alloc, &pool, &mut pass, run, left, right, sink,
     );
     *slots = pool.close(pass);
     law_spill();
@@ -151,36 +134,40 @@ fn run_seated<
     alloc: Global,
     pool: &'a Pool<D, T>,
     pass: &mut Pass<D, T>,
-    query: &Query,
-    block_len: u32,
-    writers: u32,
-    quota: u32,
+    run: &PoolRun<'_>,
     left: &mut S,
     right: &mut Option<S>,
     sink: &mut K,
 ) -> Result<Ran, QueryErr>
-    requires query { IsRunnable query.now }
+    requires query { IsRunnable run.now.query.now }
     requires named { N.table ≡ Some pool.now }
     requires table { pass.old.table ≡ pool.now }
     requires fresh { (pass.old.knows.seen ≡ []) × (pass.old.knows.rights ≡ all_rights) × (writers_out pass.old ≡ 0) }
-    requires memory { (block_len ≡ T.opening.block_len) × (least_of query.now block_len ≤ bytes_of T.opening.block_len T.opening.blocks) × (least_of query.now block_len ≤ query.now.limit) }
-    requires block { block_len ≤ 65536 }
-    requires writers { writers ≤ 8 }
-    requires quota { quota ≤ T.opening.slots }
-    requires right { is_some right.old ≡ joins query.now }
+    requires memory { (run.now.conf.block_len ≡ T.opening.block_len) × (least_of run.now.query.now run.now.conf.block_len ≤ bytes_of T.opening.block_len T.opening.blocks) × (least_of run.now.query.now run.now.conf.block_len ≤ run.now.query.now.limit) }
+    requires block { run.now.conf.block_len ≤ 65536 }
+    requires writers { run.now.writers ≤ 8 }
+    requires quota { run.now.quota ≤ T.opening.slots }
+    requires right { is_some right.old ≡ joins run.now.query.now }
     ensures table { pass.new.table ≡ pool.now }
     ensures gone { (live_in pass.new.knows.seen ≡ 0) × (writers_out pass.new ≡ 0) }
-    ensures ran { RanIfSeated T.opening T.told query.now quota pass.new (S.remaining left.old) (told_in S.remaining right.old) result }
-    ensures outside { ReadAndWrote S.Source K.Sink query.now (page_len query.now block_len) T.told
+    ensures ran { RanIfSeated T.opening T.told run.now.query.now run.now.quota pass.new (S.remaining left.old) (told_in S.remaining right.old) result }
+    ensures outside { ReadAndWrote S.Source K.Sink run.now.query.now (page_len run.now.query.now run.now.conf.block_len) T.told
         (world left.old right.old sink.old) (world left.new right.new sink.new) result }
 {
-    let wanted = least(query, block_len);
-    let Ok(room) = Vec::with_capacity(alloc, writers as usize) else {
+    let wanted = least(run.query, run.conf.block_len);
+    let Ok(room) = Vec::with_capacity(alloc, run.writers as usize) else {
         return Err(QueryErr::Pool(PoolErr::Memory));
     };
-    let mut writers = begin_writers(rt, pool, pass, writers, room);
+    let mut writers = begin_writers(rt, pool, pass, run.writers, room);
     pass.law_pass();
-    let mut session = match pool.session::<W, N>(alloc, rt, pass, query.limit, quota, wanted) {
+    let mut session = match pool.session::<W, N>(
+        alloc,
+        rt,
+        pass,
+        run.query.limit,
+        run.quota,
+        wanted,
+    ) {
         Ok(session) => session,
         Err(PoolErr::Memory) => {
             end_writers(writers, pass);
@@ -192,7 +179,7 @@ fn run_seated<
     let ran = run_beside(
         rt,
         alloc,
-        query,
+        run.query,
         &mut session,
         left,
         right,
@@ -234,7 +221,8 @@ fn run_beside<
     requires store { HasRoomFor query.now (St.holds store.old) }
     requires right { is_some right.old ≡ joins query.now }
     requires table { pass.old.table ≡ pool.now }
-    ensures ran { RanUnmarked S.Source K.Sink St.Store query.now (world left.old right.old sink.old) (world left.new right.new sink.new) store.old store.new result }
+    ensures ran { RanUnmarked S.Source K.Sink St.Store query.now (world left.old right.old sink.old)
+        (world left.new right.new sink.new) store.old store.new result }
     ensures stops { Stops pass.old pass.new }
     ensures at { map (λ w. w.seat.spot.table) writers.new ≡ map (λ w. w.seat.spot.table) writers.old }
 {

@@ -21,7 +21,7 @@ ghost use Rattle.spill_top.specs.Storing.{HaveStored, owed};
 
 use crate::check_plan::{BLOCK_LEN, checking_plan, checking_pool};
 use crate::ending::Ending;
-use crate::pooled::run_pooled;
+use crate::pooled::{PoolRun, run_pooled};
 use crate::report::{refuse_memory, tell};
 use crate::words::Check;
 use csv_edge::write_whole;
@@ -123,9 +123,13 @@ fn run_table<W: Wait + Threads + Clock + Sync, K: Sink, D: Slot + Drop + Send>(
     let start = u64::from(check.start);
     let mut table = TableSource::new(start, u64::from(check.rows), u64::from(check.groups));
     let mut right = None;
-    run_pooled(
-        rt, alloc, plan, &pool, 0, quota, slots, &mut table, &mut right, sink,
-    )
+    let run = PoolRun {
+        query: plan,
+        conf: pool,
+        writers: 0,
+        quota,
+    };
+    run_pooled(rt, alloc, &run, slots, &mut table, &mut right, sink)
 }
 
 // Tells the numbers of an answer, and answers the status.

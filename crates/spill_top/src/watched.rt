@@ -16,7 +16,7 @@ ghost use Rattle.spill_top.specs.Report.{Lengthens, LongerTold, StillTold};
 ghost use Rattle.spill_top.specs.Storing.{HaveStored, owed};
 
 use crate::job::let_go;
-use crate::pooled::run_pooled;
+use crate::pooled::{PoolRun, run_pooled};
 use outside::{Failed, Sink, Slot, Source};
 use pin_core::PoolConf;
 use query_plan::Query;
@@ -116,9 +116,13 @@ pub(crate) fn run_watched<
         watched,
         of: PhantomData,
     };
-    let ran = run_pooled(
-        rt, alloc, plan, conf, WRITERS, quota, slots, left, &mut right, &mut tied,
-    );
+    let run = PoolRun {
+        query: plan,
+        conf: *conf,
+        writers: WRITERS,
+        quota,
+    };
+    let ran = run_pooled(rt, alloc, &run, slots, left, &mut right, &mut tied);
     let_go(right);
     let Tied { watched, of: _ } = tied;
     (ran, watched)

@@ -13,10 +13,15 @@ use Rattle.spill_top.proofs.Closing.{have_kept, slots_back, stopped_by}
 use Rattle.spill_top.proofs.Pools.{as_many, same_slots}
 use Rattle.spill_top.proofs.pooled.run_counted.Goals as goal
 
-pub returns-in-Err-clause-slots : goal.returns-in-Err-clause-slots
-returns-in-Err-clause-slots g c =
-    let taken : c.replace-taken.result.items ≡ c.args.slots.now.items = search rules in
-    subst (λ (ds : List g.row.D.Denot). ComeBack (tally_of g.D.Slot ds) (tally_of g.D.Slot c.in-Err.back.items)) taken (same_slots g.D.Slot c.replace-taken.result.items c.in-Err.back.items c.in-Err.ensures.back)
+pub returns-in-Err-clause-ran : goal.returns-in-Err-clause-ran
+returns-in-Err-clause-ran g c = record {
+  outside = nothing_read g.S.Source g.K.Sink c.args.run.now.query.now _ _ _;
+  pool = tt;
+  back =
+      let taken : c.replace-taken.result.items ≡ c.args.slots.now.items = search rules in
+      subst (λ (ds : List g.row.D.Denot). ComeBack (tally_of g.D.Slot ds) (tally_of g.D.Slot c.in-Err.back.items)) taken (same_slots g.D.Slot c.replace-taken.result.items c.in-Err.back.items c.in-Err.ensures.back);
+  stored = tt;
+}
 
 pub returns-in-Err-clause-len : goal.returns-in-Err-clause-len
 returns-in-Err-clause-len g c =
@@ -24,10 +29,25 @@ returns-in-Err-clause-len g c =
     let all : length c.in-Err.back.items ≡ length c.replace-taken.result.items = as_many g.D.Slot c.replace-taken.result.items c.in-Err.back.items (same_slots g.D.Slot c.replace-taken.result.items c.in-Err.back.items c.in-Err.ensures.back) in
     search (rules, all, taken)
 
-pub returns-clause-slots : goal.returns-clause-slots
-returns-clause-slots g c =
-    subst (λ (t : Tally). ComeBack t (tally_of g.D.Slot c.close.result.items)) c.requires.first
-    (slots_back g.D.Slot g.T.OpenedAs.opening g.T.OpenedAs.told g.T.OpenedAs.first c.run_seated-ran.new.pass c.close.result.items c.close.ensures)
+pub returns-clause-ran : goal.returns-clause-ran
+returns-clause-ran g c = record {
+  outside = read_and_wrote_at g.S.Source g.K.Sink c.args.run.now.query.now _ _ _ _ _ _ c.run_seated-ran.result refl c.requires.told c.run_seated-ran.ensures.outside;
+  pool =
+      let told = both_told (g.S.Source.remaining c.args.left.now) (told_in g.S.Source.remaining c.args.right.now) in
+      let tally = tally_of g.D.Slot c.close.result.items in
+      subst (λ (n : ℕ). IfErr c.run_seated-ran.result (OfPool (IsPoolStop c.args.run.now.query.now (page_len c.args.run.now.query.now n) (if_told (all_tell (tally_of g.D.Slot c.args.slots.now.items)) told) c.args.run.now.quota (HaveFailed (tally_of g.D.Slot c.args.slots.now.items) tally)))) c.requires.opens.numbers.block_len
+      (subst (λ (t : Tally). IfErr c.run_seated-ran.result (OfPool (IsPoolStop c.args.run.now.query.now (page_len c.args.run.now.query.now g.T.OpenedAs.opening.block_len) (if_told (all_tell t) told) c.args.run.now.quota (HaveFailed t tally)))) c.requires.first
+      (stopped_by g.D.Slot g.T.OpenedAs.opening g.T.OpenedAs.told g.T.OpenedAs.first c.run_seated-ran.new.pass c.close.result.items c.close.ensures c.args.run.now.query.now c.args.run.now.quota (g.S.Source.remaining c.args.left.now) (told_in g.S.Source.remaining c.args.right.now)
+      c.run_seated-ran.result c.run_seated-ran.ensures.ran c.law_shares.ensures.names (c.requires.told ∙ ap all_tell (sym c.requires.first)) (c.requires.opens.numbers.first_name ∙ c.requires.memory.first)));
+  back =
+      subst (λ (t : Tally). ComeBack t (tally_of g.D.Slot c.close.result.items)) c.requires.first
+      (slots_back g.D.Slot g.T.OpenedAs.opening g.T.OpenedAs.told g.T.OpenedAs.first c.run_seated-ran.new.pass c.close.result.items c.close.ensures);
+  stored =
+      let told = both_told (g.S.Source.remaining c.args.left.now) (told_in g.S.Source.remaining c.args.right.now) in
+      subst (λ (t : Tally). OnOk c.run_seated-ran.result (HaveStored c.args.run.now.conf.block_len (owed c.args.run.now.query.now (memory_of c.args.run.now.conf) told) t (tally_of g.D.Slot c.close.result.items))) c.requires.first
+      (have_kept g.D.Slot g.T.OpenedAs.opening g.T.OpenedAs.told g.T.OpenedAs.first c.run_seated-ran.new.pass c.close.result.items c.close.ensures c.args.run.now.query.now c.args.run.now.quota (g.S.Source.remaining c.args.left.now) (told_in g.S.Source.remaining c.args.right.now)
+      c.run_seated-ran.result c.run_seated-ran.ensures.ran c.args.run.now.conf _ c.requires.opens.numbers c.law_spill.ensures.law c.law_shares.ensures.stored c.law_shares.ensures.parts c.requires.query);
+}
 
 pub returns-clause-len : goal.returns-clause-len
 returns-clause-len g c =
@@ -35,25 +55,3 @@ returns-clause-len g c =
     (subst (λ (t : Tally). ComeBack t (tally_of g.D.Slot c.close.result.items)) c.requires.first
     (slots_back g.D.Slot g.T.OpenedAs.opening g.T.OpenedAs.told g.T.OpenedAs.first c.run_seated-ran.new.pass c.close.result.items c.close.ensures)) in
     search (rules, all)
-
-pub returns-clause-pool : goal.returns-clause-pool
-returns-clause-pool g c =
-    let told = both_told (g.S.Source.remaining c.args.left.now) (told_in g.S.Source.remaining c.args.right.now) in
-    let tally = tally_of g.D.Slot c.close.result.items in
-    subst (λ (n : ℕ). IfErr c.run_seated-ran.result (OfPool (IsPoolStop c.args.query.now (page_len c.args.query.now n) (if_told (all_tell (tally_of g.D.Slot c.args.slots.now.items)) told) c.args.quota (HaveFailed (tally_of g.D.Slot c.args.slots.now.items) tally)))) c.requires.opens.numbers.block_len
-    (subst (λ (t : Tally). IfErr c.run_seated-ran.result (OfPool (IsPoolStop c.args.query.now (page_len c.args.query.now g.T.OpenedAs.opening.block_len) (if_told (all_tell t) told) c.args.quota (HaveFailed t tally)))) c.requires.first
-    (stopped_by g.D.Slot g.T.OpenedAs.opening g.T.OpenedAs.told g.T.OpenedAs.first c.run_seated-ran.new.pass c.close.result.items c.close.ensures c.args.query.now c.args.quota (g.S.Source.remaining c.args.left.now) (told_in g.S.Source.remaining c.args.right.now)
-    c.run_seated-ran.result c.run_seated-ran.ensures.ran c.law_shares.ensures.names (c.requires.told ∙ ap all_tell (sym c.requires.first)) (c.requires.opens.numbers.first_name ∙ c.requires.memory.first)))
-
-pub returns-clause-stored : goal.returns-clause-stored
-returns-clause-stored g c =
-    let told = both_told (g.S.Source.remaining c.args.left.now) (told_in g.S.Source.remaining c.args.right.now) in
-    subst (λ (t : Tally). OnOk c.run_seated-ran.result (HaveStored c.args.conf.now.block_len (owed c.args.query.now (memory_of c.args.conf.now) told) t (tally_of g.D.Slot c.close.result.items))) c.requires.first
-    (have_kept g.D.Slot g.T.OpenedAs.opening g.T.OpenedAs.told g.T.OpenedAs.first c.run_seated-ran.new.pass c.close.result.items c.close.ensures c.args.query.now c.args.quota (g.S.Source.remaining c.args.left.now) (told_in g.S.Source.remaining c.args.right.now)
-    c.run_seated-ran.result c.run_seated-ran.ensures.ran c.args.conf.now _ c.requires.opens.numbers c.law_spill.ensures.law c.law_shares.ensures.stored c.law_shares.ensures.parts c.requires.query)
-
-pub returns-clause-outside : goal.returns-clause-outside
-returns-clause-outside g c = read_and_wrote_at g.S.Source g.K.Sink c.args.query.now _ _ _ _ _ _ c.run_seated-ran.result refl c.requires.told c.run_seated-ran.ensures.outside
-
-pub returns-in-Err-clause-outside : goal.returns-in-Err-clause-outside
-returns-in-Err-clause-outside g c = nothing_read g.S.Source g.K.Sink c.args.query.now _ _ _

@@ -12,7 +12,7 @@ run_pooled-ran-requires-clause-right g c κs within = not_joins c.args.plan.now 
 pub returns-clause-outside : goal.returns-clause-outside
 returns-clause-outside g c =
     let result = c.run_pooled-ran.result in
-    let ran = c.run_pooled-ran.ensures.outside in
+    let ran = c.run_pooled-ran.ensures.ran.outside in
     let alone = ran.sources.1 in
     record {
       answer = ran.answer;
