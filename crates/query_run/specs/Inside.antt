@@ -87,11 +87,14 @@ pub record IsOfStore (e : QueryErr) (old new : Signs) : Type 0 where
 module _ {St : Type 0} (store : StoreGhosts St) where
   -- of those of both sides, which a join keeps
   abbrev pub OfSides : Join → St → (Option (List Entry) → List (List Value) → List (List Value) → Type 0) → Type 0
-  OfSides op s P = (start : Option (List Entry)) → (lefts rights : List (List Value)) → KeepsSides start lefts rights op (store.holds s) (store.signs s) → P start lefts rights
+  OfSides op s P =
+      (start : Option (List Entry)) → (lefts rights : List (List Value)) → KeepsSides start lefts rights op (store.holds s) (store.signs s)
+      → P start lefts rights
 
   abbrev pub OfSidesTold : Join → St → (List (List Value) → List (List Value) → Type 0) → Type 0
   OfSidesTold op s P =
-      (start : Option (List Entry)) → (lefts rights : List (List Value)) → KeepsSides start lefts rights op (store.holds s) (store.signs s) → (store.holds s).told ≡ true → P lefts rights
+      (start : Option (List Entry)) → (lefts rights : List (List Value)) → KeepsSides start lefts rights op (store.holds s) (store.signs s)
+      → (store.holds s).told ≡ true → P lefts rights
 
   -- of those that were fed to a grouping
   abbrev pub OfFedTold : Operator → St → (List (List Value) → Type 0) → Type 0

@@ -64,14 +64,19 @@ fn join_into<B: Whose, St: Store>(
     requires long { 0 < (St.holds store.old).block_len }
     requires blocks { join.left.page_blocks ≡ plan.now.page_blocks }
     ensures ok { IfOk result (λ op. IsFedFor second plan.now op (St.holds store.new) (St.signs store.new)) }
-    ensures holds { IfOk result (λ op. OfSidesTold St.Store join store.old (λ lefts rights. HoldsFor (pairs_of join.shape lefts rights) op (St.holds store.new) (St.signs store.new))) }
-    ensures kept { IfOk result (λ op. OfSides St.Store join store.old (λ start lefts rights. EnteredEvents (HoldsRowsWhile (op ≡ group.started second plan.now.page_blocks (shape_of plan.now)) join.shape lefts rights) start (St.signs store.new).trail)) }
-    ensures made { IfOk result (λ op. OfSidesTold St.Store join store.old (λ lefts rights. MakesBeside (15 * (length lefts + length rights)) 0 (pages_on op) (St.signs store.old) (St.signs store.new))) }
-    ensures few { OnErr result (OfSidesTold St.Store join store.old (λ lefts rights. MakesFew (15 * (length lefts + length rights) + length (pairs_of join.shape lefts rights)) (St.signs store.old) (St.signs store.new))) }
+    ensures holds { IfOk result (λ op. OfSidesTold St.Store join store.old
+        (λ lefts rights. HoldsFor (pairs_of join.shape lefts rights) op (St.holds store.new) (St.signs store.new))) }
+    ensures kept { IfOk result (λ op. OfSides St.Store join store.old
+        (λ start lefts rights. EnteredEvents (HoldsRowsWhile (op ≡ group.started second plan.now.page_blocks (shape_of plan.now)) join.shape lefts rights) start (St.signs store.new).trail)) }
+    ensures made { IfOk result (λ op. OfSidesTold St.Store join store.old
+        (λ lefts rights. MakesBeside (15 * (length lefts + length rights)) 0 (pages_on op) (St.signs store.old) (St.signs store.new))) }
+    ensures few { OnErr result (OfSidesTold St.Store join store.old
+        (λ lefts rights. MakesFew (15 * (length lefts + length rights) + length (pairs_of join.shape lefts rights)) (St.signs store.old) (St.signs store.new))) }
     ensures err { IfErr result (λ e. HasStopped second e.1 (St.holds store.new)) }
     ensures cause { IfErr result (λ e. IsOfStore e.0 (St.signs store.old) (St.signs store.new)) }
     ensures want { IfErr result (λ e. OfPool (IsWant plan.now.page_blocks (join_slots join (St.holds store.old) (St.signs store.old))) e.0) }
-    ensures enough { IfErr result (λ e. OfPool (λ e. OfSidesTold St.Store join store.old (λ lefts rights. IsWantBelow (slots_of_both plan.now page lefts rights (pairs_of join.shape lefts rights)) (join_slots join (St.holds store.old) (St.signs store.old)) e)) e.0) }
+    ensures enough { IfErr result (λ e. OfPool (λ e. OfSidesTold St.Store join store.old
+        (λ lefts rights. IsWantBelow (slots_of_both plan.now page lefts rights (pairs_of join.shape lefts rights)) (join_slots join (St.holds store.old) (St.signs store.old)) e)) e.0) }
     ensures slots { IfOk result (λ op. slots_in (over op.parts (St.holds store.new) (St.signs store.new)) ≡ join_slots join (St.holds store.old) (St.signs store.old)) }
     ensures free { OnErr result ((St.holds store.new).free_slots ≡ join_slots join (St.holds store.old) (St.signs store.old)) }
     ensures gone { HasEndedFirst join.client.tracker second.tracker (St.holds store.old) (St.holds store.new) (St.signs store.old) (St.signs store.new) }
@@ -115,15 +120,20 @@ fn write_both<St: Store, K: Sink>(
     requires page { (page ≡ length_of plan.now.page_blocks (St.holds store.old)) × (page < 2 ^ 32) }
     requires long { 0 < (St.holds store.old).block_len }
     requires blocks { join.left.page_blocks ≡ plan.now.page_blocks }
-    ensures ok { OnOk result.0 (OfSidesTold St.Store join store.old (λ lefts rights. Appends (K.contents sink.old) (K.contents sink.new) (answer_text plan.now (group_rows (grouping_of plan.now) (pairs_of join.shape lefts rights))))) }
-    ensures err { OnErr result.0 (OfSidesTold St.Store join store.old (λ lefts rights. AppendsFront (K.contents sink.old) (K.contents sink.new) (answer_text plan.now (group_rows (grouping_of plan.now) (pairs_of join.shape lefts rights))))) }
+    ensures ok { OnOk result.0 (OfSidesTold St.Store join store.old
+        (λ lefts rights. Appends (K.contents sink.old) (K.contents sink.new) (answer_text plan.now (group_rows (grouping_of plan.now) (pairs_of join.shape lefts rights))))) }
+    ensures err { OnErr result.0 (OfSidesTold St.Store join store.old
+        (λ lefts rights. AppendsFront (K.contents sink.old) (K.contents sink.new) (answer_text plan.now (group_rows (grouping_of plan.now) (pairs_of join.shape lefts rights))))) }
     ensures read { IfOk result.0 (λ ran. (ran.left ≡ read.left) × (ran.right ≡ read.right) × (ran.kept ≡ read.kept)) }
     ensures lines { IfOk result.0 (λ ran. OfSidesTold St.Store join store.old (λ lefts rights. LineNumbers plan.now (pairs_of join.shape lefts rights) ran)) }
-    ensures kept { OnOk result.0 (OfSides St.Store join store.old (λ start lefts rights. EnteredEvents (HoldsRows join.shape lefts rights) start (St.signs store.new).trail)) }
-    ensures made { OfSidesTold St.Store join store.old (λ lefts rights. MakesFew (15 * (length lefts + length rights) + 16 * length (pairs_of join.shape lefts rights)) (St.signs store.old) (St.signs store.new)) }
+    ensures kept { OnOk result.0 (OfSides St.Store join store.old
+        (λ start lefts rights. EnteredEvents (HoldsRows join.shape lefts rights) start (St.signs store.new).trail)) }
+    ensures made { OfSidesTold St.Store join store.old
+        (λ lefts rights. MakesFew (15 * (length lefts + length rights) + 16 * length (pairs_of join.shape lefts rights)) (St.signs store.old) (St.signs store.new)) }
     ensures cause { IfErr result.0 (λ e. side_of e ≡ None) }
     ensures pool { IfErr result.0 (StoppedOver plan.now.page_blocks (join_slots join (St.holds store.old) (St.signs store.old)) (St.signs store.old) (St.signs store.new)) }
-    ensures enough { IfErr result.0 (OfPool (λ e. OfSidesTold St.Store join store.old (λ lefts rights. IsWantBelow (slots_of_both plan.now page lefts rights (pairs_of join.shape lefts rights)) (join_slots join (St.holds store.old) (St.signs store.old)) e))) }
+    ensures enough { IfErr result.0 (OfPool (λ e. OfSidesTold St.Store join store.old
+        (λ lefts rights. IsWantBelow (slots_of_both plan.now page lefts rights (pairs_of join.shape lefts rights)) (join_slots join (St.holds store.old) (St.signs store.old)) e))) }
     ensures free { (St.holds store.new).free_slots ≡ join_slots join (St.holds store.old) (St.signs store.old) }
     ensures sink { CountsSink (IsErrOf result.0 QueryErr.SinkFault) (K.faults sink.old) (K.faults sink.new) }
     ensures stops { StopsAt (IsErrOf result.0 QueryErr.SinkFault) (K.at_failure sink.old) (K.at_failure sink.new) (K.contents sink.new) }
@@ -164,7 +174,8 @@ fn answer<St: Store, S: Source, K: Sink>(
     requires apart { second.tracker ≢ join.client.tracker }
     requires page { (page ≡ length_of plan.now.page_blocks (St.holds store.old)) × (page < 2 ^ 32) }
     requires long { 0 < (St.holds store.old).block_len }
-    ensures outside { ReadAndWrote S.Source K.Sink plan.now page (St.holds store.old).told (world left.old (Some right.old) sink.old) (world left.new (Some right.new) sink.new) result.0 }
+    ensures outside { ReadAndWrote S.Source K.Sink plan.now page (St.holds store.old).told
+        (world left.old (Some right.old) sink.old) (world left.new (Some right.new) sink.new) result.0 }
     ensures pool { IfErr result.0 (StoppedOver plan.now.page_blocks (join_slots join (St.holds store.old) (St.signs store.old)) (St.signs store.old) (St.signs store.new)) }
     ensures enough { IfErr result.0 (OfPool (λ e. (St.holds store.old).told ≡ true → IfSome (both_told (S.remaining left.old) (S.remaining right.old)) (λ both. IsWantBelow (slots_of_both plan.now page (lefts_taken plan.now page both) (rights_taken plan.now page both) (pairs_taken plan.now page both)) (join_slots join (St.holds store.old) (St.signs store.old)) e))) }
     ensures free { (St.holds store.new).free_slots ≡ join_slots join (St.holds store.old) (St.signs store.old) }
@@ -202,7 +213,8 @@ pub(crate) fn run_both<St: Store, S: Source, K: Sink>(
     requires joins { joins plan.now ≡ true }
     requires groups { groups plan.now ≡ true }
     requires store { HasRoomFor plan.now (St.holds store.old) }
-    ensures { RanQuery S.Source K.Sink St.Store plan.now (world left.old (Some right.old) sink.old) (world left.new (Some right.new) sink.new) store.old store.new result }
+    ensures { RanQuery S.Source K.Sink St.Store plan.now (world left.old (Some right.old) sink.old)
+        (world left.new (Some right.new) sink.new) store.old store.new result }
 {
     let Some(asked) = &plan.right else {
         unreachable!();

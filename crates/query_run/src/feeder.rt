@@ -188,18 +188,23 @@ pub(crate) fn hand_pairs<B: Whose, St: Store>(
     requires none { Took B.client B.shape B.blocks feeder (St.holds store.old) [] }
     requires blocks { B.blocks ≡ op.old.left.page_blocks }
     requires long { 0 < feeder.page }
-    ensures ok { OnOk result.0 (OfSidesTold St.Store op.old store.old (λ lefts rights. TookPairs (pairs_of op.old.shape lefts rights) (Took B.client B.shape B.blocks result.1 (St.holds store.new)))) }
+    ensures ok { OnOk result.0 (OfSidesTold St.Store op.old store.old
+        (λ lefts rights. TookPairs (pairs_of op.old.shape lefts rights) (Took B.client B.shape B.blocks result.1 (St.holds store.new)))) }
     ensures any { (rows : List (List Value)) × Took B.client B.shape B.blocks result.1 (St.holds store.new) rows }
-    ensures few { OfSidesTold St.Store op.old store.old (λ lefts rights. (rows : List (List Value)) × Took B.client B.shape B.blocks result.1 (St.holds store.new) rows × (length rows ≤ length (pairs_of op.old.shape lefts rights))) }
-    ensures made { OfSidesTold St.Store op.old store.old (λ lefts rights. MakesBeside (15 * (length lefts + length rights)) 0 (pages_made result.1.op result.1.taken) (St.signs store.old) (St.signs store.new)) }
-    ensures kept { OnOk result.0 (OfSides St.Store op.old store.old (λ start lefts rights. EnteredEvents (HoldsSides op.old.shape lefts rights (over op.new.left (St.holds store.new) (St.signs store.new)) (over op.new.right (St.holds store.new) (St.signs store.new)) (result.1 ≡ feeder)) start (St.signs store.new).trail)) }
+    ensures few { OfSidesTold St.Store op.old store.old
+        (λ lefts rights. (rows : List (List Value)) × Took B.client B.shape B.blocks result.1 (St.holds store.new) rows × (length rows ≤ length (pairs_of op.old.shape lefts rights))) }
+    ensures made { OfSidesTold St.Store op.old store.old
+        (λ lefts rights. MakesBeside (15 * (length lefts + length rights)) 0 (pages_made result.1.op result.1.taken) (St.signs store.old) (St.signs store.new)) }
+    ensures kept { OnOk result.0 (OfSides St.Store op.old store.old
+        (λ start lefts rights. EnteredEvents (HoldsSides op.old.shape lefts rights (over op.new.left (St.holds store.new) (St.signs store.new)) (over op.new.right (St.holds store.new) (St.signs store.new)) (result.1 ≡ feeder)) start (St.signs store.new).trail)) }
     ensures op { join.IsOperator op.new (St.holds store.new) (St.signs store.new) }
     ensures client { op.new.client ≡ op.old.client }
     ensures leaves { LeavesBeside op.old.client.tracker (Some B.client.tracker) (St.holds store.old) (St.holds store.new) (St.signs store.old) (St.signs store.new) }
     ensures cause { IfErr result.0 (CameOf 0 0 (St.signs store.old) (St.signs store.new)) }
     ensures slots { with_more (slots_in result.1.op B.client.tracker (St.holds store.new)) (join_slots op.new (St.holds store.new) (St.signs store.new)) ≡ join_slots op.old (St.holds store.old) (St.signs store.old) }
     ensures want { IfErr result.0 (IsWantOf B.blocks (join_slots op.old (St.holds store.old) (St.signs store.old))) }
-    ensures enough { IfErr result.0 (λ e. OfSidesTold St.Store op.old store.old (λ lefts rights. IsWantBelowOf (join.slots_for op.old (St.holds store.old) lefts rights + slots_for_rows B.shape B.blocks feeder.page (pairs_of op.old.shape lefts rights)) (join_slots op.old (St.holds store.old) (St.signs store.old)) e)) }
+    ensures enough { IfErr result.0 (λ e. OfSidesTold St.Store op.old store.old
+        (λ lefts rights. IsWantBelowOf (join.slots_for op.old (St.holds store.old) lefts rights + slots_for_rows B.shape B.blocks feeder.page (pairs_of op.old.shape lefts rights)) (join_slots op.old (St.holds store.old) (St.signs store.old)) e)) }
 {
     let mut taker = FeederOf::<B> {
         feeder,

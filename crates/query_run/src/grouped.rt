@@ -131,7 +131,8 @@ fn answer<St: Store, S: Source, K: Sink>(
     requires page { page ≡ page_of op.old (St.holds store.old) }
     requires short { page < 2 ^ 32 }
     requires long { 0 < page }
-    ensures outside { ReadAndWrote S.Source K.Sink plan.now page (St.holds store.old).told (world left.old None sink.old) (world left.new None sink.new) result }
+    ensures outside { ReadAndWrote S.Source K.Sink plan.now page (St.holds store.old).told
+        (world left.old None sink.old) (world left.new None sink.new) result }
     ensures pool { IfErr result (StoppedOver op.old.parts.page_blocks (slots_in (over op.old.parts (St.holds store.old) (St.signs store.old))) (St.signs store.old) (St.signs store.new)) }
     ensures enough { IfErr result (OfPool (λ e. (St.holds store.old).told ≡ true → IfSome (S.remaining left.old) (λ bytes. IsWantBelow (slots_for 544 op.old (St.holds store.old) (taken_in plan.now plan.now.left page bytes)) (slots_in (over op.old.parts (St.holds store.old) (St.signs store.old))) e))) }
     ensures made { (St.holds store.old).told ≡ true → IfSome (both_told (S.remaining left.old) (Some [])) (λ both. MakesFew (16 * rows_through plan.now both) (St.signs store.old) (St.signs store.new)) }

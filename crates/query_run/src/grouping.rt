@@ -57,15 +57,19 @@ pub(crate) fn write_groups<St: Store, K: Sink>(
     requires op { IsOperator op.old (St.holds store.old) (St.signs store.old) }
     requires shape { op.old.shape ≡ shape_of plan.now }
     requires feeding { IsFeeding op.old }
-    ensures ok { OnOk result (OfRowsTold St.Store op.old store.old (λ rows. Appends (K.contents sink.old) (K.contents sink.new) (answer_text plan.now (group_rows (grouping_of plan.now) rows)))) }
-    ensures err { OnErr result (OfRowsTold St.Store op.old store.old (λ rows. AppendsFront (K.contents sink.old) (K.contents sink.new) (answer_text plan.now (group_rows (grouping_of plan.now) rows)))) }
+    ensures ok { OnOk result (OfRowsTold St.Store op.old store.old
+        (λ rows. Appends (K.contents sink.old) (K.contents sink.new) (answer_text plan.now (group_rows (grouping_of plan.now) rows)))) }
+    ensures err { OnErr result (OfRowsTold St.Store op.old store.old
+        (λ rows. AppendsFront (K.contents sink.old) (K.contents sink.new) (answer_text plan.now (group_rows (grouping_of plan.now) rows)))) }
     ensures read { IfOk result (λ ran. (ran.left ≡ read.left) × (ran.right ≡ read.right) × (ran.kept ≡ read.kept)) }
     ensures lines { IfOk result (λ ran. OfRowsTold St.Store op.old store.old (λ rows. LineNumbers plan.now rows ran)) }
     ensures kept { OnOk result ((start : Option (List Entry)) (rows : List (List Value)) → Keeps start rows op.old (St.holds store.old) (St.signs store.old) → EnteredEvents (HoldsGroups (shape_of plan.now) (page_of op.old (St.holds store.old)) rows (over op.new.parts (St.holds store.new) (St.signs store.new))) start (St.signs store.new).trail) }
-    ensures made { OfFedTold St.Store op.old store.old (λ fed. MakesFew (15 * length fed + length (entries_in op.old.table)) (St.signs store.old) (St.signs store.new)) }
+    ensures made { OfFedTold St.Store op.old store.old
+        (λ fed. MakesFew (15 * length fed + length (entries_in op.old.table)) (St.signs store.old) (St.signs store.new)) }
     ensures cause { IfErr result (λ e. side_of e ≡ None) }
     ensures pool { IfErr result (StoppedOver op.old.parts.page_blocks (slots_in (over op.old.parts (St.holds store.old) (St.signs store.old))) (St.signs store.old) (St.signs store.new)) }
-    ensures enough { IfErr result (OfPool (λ e. OfFedTold St.Store op.old store.old (λ fed. IsWantBelow (slots_for 544 op.old (St.holds store.old) fed) (slots_in (over op.old.parts (St.holds store.old) (St.signs store.old))) e))) }
+    ensures enough { IfErr result (OfPool (λ e. OfFedTold St.Store op.old store.old
+        (λ fed. IsWantBelow (slots_for 544 op.old (St.holds store.old) fed) (slots_in (over op.old.parts (St.holds store.old) (St.signs store.old))) e))) }
     ensures sink { CountsSink (IsErrOf result QueryErr.SinkFault) (K.faults sink.old) (K.faults sink.new) }
     ensures stops { StopsAt (IsErrOf result QueryErr.SinkFault) (K.at_failure sink.old) (K.at_failure sink.new) (K.contents sink.new) }
     ensures went { HandedOn op.old op.new (St.holds store.old) (St.holds store.new) (St.signs store.old) (St.signs store.new) }
@@ -177,8 +181,10 @@ fn drive<'a, B: Start, St: Store, K: Sink>(
     ensures err { OnErr result.0 (OfRowsTold St.Store op.old store.old (λ rows. HasTakenSome op.old.shape rows B.before (lines_now K.Sink result.1))) }
     ensures any { (rows : List (List Value)) × HasTaken B.before rows (lines_now K.Sink result.1) }
     ensures kept { OnOk result.0 ((start : Option (List Entry)) (rows : List (List Value)) → Keeps start rows op.old (St.holds store.old) (St.signs store.old) → EnteredEvents (HoldsGroups op.old.shape (page_of op.old (St.holds store.old)) rows (over op.new.parts (St.holds store.new) (St.signs store.new))) start (St.signs store.new).trail) }
-    ensures made { OfFedTold St.Store op.old store.old (λ fed. MakesFew (15 * length fed + length (entries_in op.old.table)) (St.signs store.old) (St.signs store.new)) }
-    ensures enough { IfErr result.0 (λ e. OfFedTold St.Store op.old store.old (λ fed. IsWantBelowOf (slots_for 544 op.old (St.holds store.old) fed) (slots_in (over op.old.parts (St.holds store.old) (St.signs store.old))) e)) }
+    ensures made { OfFedTold St.Store op.old store.old
+        (λ fed. MakesFew (15 * length fed + length (entries_in op.old.table)) (St.signs store.old) (St.signs store.new)) }
+    ensures enough { IfErr result.0 (λ e. OfFedTold St.Store op.old store.old
+        (λ fed. IsWantBelowOf (slots_for 544 op.old (St.holds store.old) fed) (slots_in (over op.old.parts (St.holds store.old) (St.signs store.old))) e)) }
     ensures went { HandedOn op.old op.new (St.holds store.old) (St.holds store.new) (St.signs store.old) (St.signs store.new) }
     ensures cause { IfErr result.0 (CameBeside op.old.parts.page_blocks (slots_in (over op.old.parts (St.holds store.old) (St.signs store.old))) None (K.faults lines.entry.sink.now) (K.faults result.1.sink.now) (St.signs store.old) (St.signs store.new)) }
     ensures never_falls { K.faults lines.entry.sink.now ≤ K.faults result.1.sink.now }

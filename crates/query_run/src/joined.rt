@@ -51,7 +51,8 @@ pub(crate) fn run_joined<St: Store, S: Source, K: Sink>(
     requires joins { joins plan.now ≡ true }
     requires groups { groups plan.now ≡ false }
     requires store { HasRoomFor plan.now (St.holds store.old) }
-    ensures { RanQuery S.Source K.Sink St.Store plan.now (world left.old (Some right.old) sink.old) (world left.new (Some right.new) sink.new) store.old store.new result }
+    ensures { RanQuery S.Source K.Sink St.Store plan.now (world left.old (Some right.old) sink.old)
+        (world left.new (Some right.new) sink.new) store.old store.new result }
 {
     let Some(asked) = &plan.right else {
         unreachable!();
@@ -127,7 +128,8 @@ fn answer<St: Store, S: Source, K: Sink>(
     requires page { page ≡ page_of op (St.holds store.old) }
     requires short { page < 2 ^ 32 }
     requires long { 0 < page }
-    ensures outside { ReadAndWrote S.Source K.Sink plan.now page (St.holds store.old).told (world left.old (Some right.old) sink.old) (world left.new (Some right.new) sink.new) result.0 }
+    ensures outside { ReadAndWrote S.Source K.Sink plan.now page (St.holds store.old).told
+        (world left.old (Some right.old) sink.old) (world left.new (Some right.new) sink.new) result.0 }
     ensures pool { IfErr result.0 (StoppedOver op.left.page_blocks (join_slots op (St.holds store.old) (St.signs store.old)) (St.signs store.old) (St.signs store.new)) }
     ensures enough { IfErr result.0 (OfPool (λ e. (St.holds store.old).told ≡ true → IfSome (both_told (S.remaining left.old) (S.remaining right.old)) (λ both. IsWantBelow (slots_for op (St.holds store.old) (lefts_taken plan.now page both) (rights_taken plan.now page both)) (join_slots op (St.holds store.old) (St.signs store.old)) e))) }
     ensures made { (St.holds store.old).told ≡ true → IfSome (both_told (S.remaining left.old) (S.remaining right.old)) (λ both. MakesFew (16 * rows_through plan.now both) (St.signs store.old) (St.signs store.new)) }

@@ -50,15 +50,20 @@ pub(crate) fn write_pairs<St: Store, K: Sink>(
     requires few { fed.left.kept + fed.right.kept < 2 ^ 64 }
     requires op { IsOperator op.old (St.holds store.old) (St.signs store.old) }
     requires feeding { IsFeeding op.old }
-    ensures ok { OnOk result (OfSidesTold St.Store op.old store.old (λ lefts rights. WrotePairs plan.now (pairs_of op.old.shape lefts rights) (K.contents sink.old) (K.contents sink.new))) }
-    ensures err { OnErr result (OfSidesTold St.Store op.old store.old (λ lefts rights. WroteSomePairs plan.now (pairs_of op.old.shape lefts rights) (K.contents sink.old) (K.contents sink.new))) }
+    ensures ok { OnOk result (OfSidesTold St.Store op.old store.old
+        (λ lefts rights. WrotePairs plan.now (pairs_of op.old.shape lefts rights) (K.contents sink.old) (K.contents sink.new))) }
+    ensures err { OnErr result (OfSidesTold St.Store op.old store.old
+        (λ lefts rights. WroteSomePairs plan.now (pairs_of op.old.shape lefts rights) (K.contents sink.old) (K.contents sink.new))) }
     ensures read { IfOk result (λ ran. (ran.left ≡ fed.left.read) × (ran.right ≡ fed.right.read) × (ran.kept ≡ fed.left.kept + fed.right.kept)) }
     ensures lines { IfOk result (λ ran. OfSidesTold St.Store op.old store.old (λ lefts rights. LineNumbers plan.now (pairs_of op.old.shape lefts rights) ran)) }
-    ensures kept { OnOk result (OfSides St.Store op.old store.old (λ start lefts rights. EnteredEvents (HoldsSides op.old.shape lefts rights (over op.new.left (St.holds store.new) (St.signs store.new)) (over op.new.right (St.holds store.new) (St.signs store.new)) ⊤) start (St.signs store.new).trail)) }
-    ensures made { OfSidesTold St.Store op.old store.old (λ lefts rights. MakesFew (15 * (length lefts + length rights)) (St.signs store.old) (St.signs store.new)) }
+    ensures kept { OnOk result (OfSides St.Store op.old store.old
+        (λ start lefts rights. EnteredEvents (HoldsSides op.old.shape lefts rights (over op.new.left (St.holds store.new) (St.signs store.new)) (over op.new.right (St.holds store.new) (St.signs store.new)) ⊤) start (St.signs store.new).trail)) }
+    ensures made { OfSidesTold St.Store op.old store.old
+        (λ lefts rights. MakesFew (15 * (length lefts + length rights)) (St.signs store.old) (St.signs store.new)) }
     ensures cause { IfErr result (λ e. side_of e ≡ None) }
     ensures pool { IfErr result (StoppedOver op.old.left.page_blocks (join_slots op.old (St.holds store.old) (St.signs store.old)) (St.signs store.old) (St.signs store.new)) }
-    ensures enough { IfErr result (OfPool (λ e. OfSidesTold St.Store op.old store.old (λ lefts rights. IsWantBelow (slots_for op.old (St.holds store.old) lefts rights) (join_slots op.old (St.holds store.old) (St.signs store.old)) e))) }
+    ensures enough { IfErr result (OfPool (λ e. OfSidesTold St.Store op.old store.old
+        (λ lefts rights. IsWantBelow (slots_for op.old (St.holds store.old) lefts rights) (join_slots op.old (St.holds store.old) (St.signs store.old)) e))) }
     ensures sink { CountsSink (IsErrOf result QueryErr.SinkFault) (K.faults sink.old) (K.faults sink.new) }
     ensures stops { StopsAt (IsErrOf result QueryErr.SinkFault) (K.at_failure sink.old) (K.at_failure sink.new) (K.contents sink.new) }
     ensures op { IsOperator op.new (St.holds store.new) (St.signs store.new) }
@@ -110,16 +115,21 @@ fn drive_pairs<'a, B: Start, St: Store, K: Sink>(
     requires name { lines.sink.ghost_name ≡ B.name }
     requires sums { lines.sums.items ≡ map Sum B.before.columns }
     requires none { HasTaken B.before [] (lines_now K.Sink lines) }
-    ensures ok { OnOk result.0 (OfSidesTold St.Store op.old store.old (λ lefts rights. HasTakenPairs (pairs_of op.old.shape lefts rights) B.before (lines_now K.Sink result.1))) }
-    ensures err { OnErr result.0 (OfSidesTold St.Store op.old store.old (λ lefts rights. HasTakenSomePairs (pairs_of op.old.shape lefts rights) B.before (lines_now K.Sink result.1))) }
+    ensures ok { OnOk result.0 (OfSidesTold St.Store op.old store.old
+        (λ lefts rights. HasTakenPairs (pairs_of op.old.shape lefts rights) B.before (lines_now K.Sink result.1))) }
+    ensures err { OnErr result.0 (OfSidesTold St.Store op.old store.old
+        (λ lefts rights. HasTakenSomePairs (pairs_of op.old.shape lefts rights) B.before (lines_now K.Sink result.1))) }
     ensures any { (rows : List (List Value)) × HasTaken B.before rows (lines_now K.Sink result.1) }
-    ensures kept { OnOk result.0 (OfSides St.Store op.old store.old (λ start lefts rights. EnteredEvents (HoldsSides op.old.shape lefts rights (over op.new.left (St.holds store.new) (St.signs store.new)) (over op.new.right (St.holds store.new) (St.signs store.new)) ⊤) start (St.signs store.new).trail)) }
+    ensures kept { OnOk result.0 (OfSides St.Store op.old store.old
+        (λ start lefts rights. EnteredEvents (HoldsSides op.old.shape lefts rights (over op.new.left (St.holds store.new) (St.signs store.new)) (over op.new.right (St.holds store.new) (St.signs store.new)) ⊤) start (St.signs store.new).trail)) }
     ensures op { IsOperator op.new (St.holds store.new) (St.signs store.new) }
     ensures client { op.new.client ≡ op.old.client }
     ensures leaves { LeavesOthers op.old.client.tracker (St.holds store.old) (St.holds store.new) (St.signs store.old) (St.signs store.new) }
     ensures slots { join_slots op.new (St.holds store.new) (St.signs store.new) ≡ join_slots op.old (St.holds store.old) (St.signs store.old) }
-    ensures made { OfSidesTold St.Store op.old store.old (λ lefts rights. MakesFew (15 * (length lefts + length rights)) (St.signs store.old) (St.signs store.new)) }
-    ensures enough { IfErr result.0 (λ e. OfSidesTold St.Store op.old store.old (λ lefts rights. IsWantBelowOf (slots_for op.old (St.holds store.old) lefts rights) (join_slots op.old (St.holds store.old) (St.signs store.old)) e)) }
+    ensures made { OfSidesTold St.Store op.old store.old
+        (λ lefts rights. MakesFew (15 * (length lefts + length rights)) (St.signs store.old) (St.signs store.new)) }
+    ensures enough { IfErr result.0 (λ e. OfSidesTold St.Store op.old store.old
+        (λ lefts rights. IsWantBelowOf (slots_for op.old (St.holds store.old) lefts rights) (join_slots op.old (St.holds store.old) (St.signs store.old)) e)) }
     ensures cause { IfErr result.0 (CameBeside op.old.left.page_blocks (join_slots op.old (St.holds store.old) (St.signs store.old)) None (K.faults lines.entry.sink.now) (K.faults result.1.sink.now) (St.signs store.old) (St.signs store.new)) }
     ensures never_falls { K.faults lines.entry.sink.now ≤ K.faults result.1.sink.now }
     ensures name { result.1.sink.ghost_name ≡ lines.entry.sink.ghost_name }

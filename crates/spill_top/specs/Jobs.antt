@@ -107,8 +107,8 @@ pub record HasSides (query : Query) (w : Work) : Type 0 where
 -- what it met so far, with what is open
 abbrev pub met_so_far : Seen → Seen → ℕ → List Query → Query → Work → Met
 met_so_far start now block_len all query w =
-    met_with (HasFailedOn (faults_on query start.reads) (faults_on query now.reads) (inputs_of w)) (HasFailed (start.writes query.output) (now.writes query.output) w.output)
-    start now block_len all w.refused query
+    met_with (HasFailedOn (faults_on query start.reads) (faults_on query now.reads) (inputs_of w))
+    (HasFailed (start.writes query.output) (now.writes query.output) w.output) start now block_len all w.refused query
 
 -- what stands of one of these queries between two of the calls for it, with blocks of so many bytes
 pub record IsWork (start now : Seen) (block_len : ℕ) (all : List Query) (query : Query) (w : Work) : Type 0 where

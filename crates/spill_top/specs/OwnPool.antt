@@ -18,8 +18,10 @@ use Rattle.spill_top.specs.Storing.{HaveStored, owed}
 module _ {S K : Type 0} (source : SourceGhosts S) (target : SinkGhosts K) where
   -- an answer is promised where all slots tell what they hold; its pages could take `quota` of them, all are there again, and where
   -- it has its answer, what it must keep beyond its memory was stored
-  pub record RanPooled (query : Query) (conf : PoolConf) (quota : ℕ) (slots slots_now : Tally) (before after : World S K) (result : Result Ran QueryErr) : Type 0 where
+  pub record RanPooled (query : Query) (conf : PoolConf) (quota : ℕ) (slots slots_now : Tally) (before after : World S K)
+      (result : Result Ran QueryErr) : Type 0 where
     pub outside : ReadAndWrote source target query (page_len query conf.block_len) (all_tell slots) before after result
-    pub pool : IfErr result (OfPool (IsPoolStop query (page_len query conf.block_len) (if_told (all_tell slots) (inputs source before)) quota (HaveFailed slots slots_now)))
+    pub pool : IfErr result (OfPool (IsPoolStop query (page_len query conf.block_len) (if_told (all_tell slots) (inputs source before)) quota
+        (HaveFailed slots slots_now)))
     pub back : ComeBack slots slots_now
     pub stored : OnOk result (HaveStored conf.block_len (owed query (memory_of conf) (inputs source before)) slots slots_now)

@@ -90,7 +90,8 @@ met_with read_failed write_failed start now block_len all refused query = record
 -- and where a fault of them was counted if one failed
 abbrev pub met_by : Seen → Seen → ℕ → List Query → Option Ending → Query → Met
 met_by start now block_len all refused query =
-    met_with (RoseOn (faults_on query start.reads) (faults_on query now.reads)) (Rose (start.writes query.output) (now.writes query.output)) start now block_len all refused query
+    met_with (RoseOn (faults_on query start.reads) (faults_on query now.reads)) (Rose (start.writes query.output) (now.writes query.output))
+    start now block_len all refused query
 
 -- why a query stopped over a pool that it shares: the bytes of the input that the cause names are refused for this; reading that input, or writing, has
 -- failed; or the pool stopped it, whose pages may take as many slots as its quota

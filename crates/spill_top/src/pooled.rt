@@ -143,7 +143,8 @@ fn run_seated<
     requires named { N.table ≡ Some pool.now }
     requires table { pass.old.table ≡ pool.now }
     requires fresh { (pass.old.knows.seen ≡ []) × (pass.old.knows.rights ≡ all_rights) × (writers_out pass.old ≡ 0) }
-    requires memory { (run.now.conf.block_len ≡ T.opening.block_len) × (least_of run.now.query.now run.now.conf.block_len ≤ bytes_of T.opening.block_len T.opening.blocks) × (least_of run.now.query.now run.now.conf.block_len ≤ run.now.query.now.limit) }
+    requires memory { (run.now.conf.block_len ≡ T.opening.block_len)
+        × (least_of run.now.query.now run.now.conf.block_len ≤ bytes_of T.opening.block_len T.opening.blocks) × (least_of run.now.query.now run.now.conf.block_len ≤ run.now.query.now.limit) }
     requires block { run.now.conf.block_len ≤ 65536 }
     requires writers { run.now.writers ≤ 8 }
     requires quota { run.now.quota ≤ T.opening.slots }
