@@ -1,5 +1,5 @@
 -- Want of slots, by the rows that were fed.
-use Rattle.std.proofs.Common.{◌≡◌, ◌∙◌, ◌+◌, ◌-◌, ◌*◌, ◌/◌, ◌<◌, ◌≤◌, ◌++◌, ◌∷◌, ℕ, zero, suc, List, [], Option, Some, None, IfSome, Result, Ok, Err, IfErr, inl, inr, ℤ, length, min, refl, ap, sym, subst, arith, le_trans, mul-le-mul_right, mul-pos, div-mul-le_self}
+use Rattle.std.proofs.Common.{◌≡◌, ◌∙◌, ◌+◌, ◌-◌, ◌*◌, ◌/◌, ◌^◌, rules, ◌<◌, ◌≤◌, ◌++◌, ◌∷◌, ℕ, zero, suc, List, [], Option, Some, None, IfSome, Result, Ok, Err, IfErr, inl, inr, ℤ, length, min, refl, ap, sym, subst, arith, le_trans, mul-le-mul_right, mul-pos, div-mul-le_self}
 use Rattle.std.specs.List.{sum_by}
 use Rattle.std.proofs.lemmas.List.{length-append}
 use Rattle.std.proofs.lemmas.List.Sums.{sum_by-append, sum_by-cons}
@@ -118,6 +118,9 @@ some-blocks (suc n) is = omega arith
 
 pub long_page : (plan : Query) (block_len : ℕ) → IsBlockCount plan.page_blocks → 0 < block_len → 0 < page_len plan block_len
 long_page plan block_len paged some = mul-pos (some-blocks plan.page_blocks paged) some
+
+pub short_page : (blocks block_len : ℕ) → IsBlockCount blocks → block_len ≤ 65536 → blocks * block_len < 2 ^ 32
+short_page blocks block_len paged most = search (rules, arith)
 
 -- what a query needs is enough
 need_more : (plan : Query) (page : ℕ) (told : Told) → 0 < page

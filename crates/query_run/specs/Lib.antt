@@ -20,3 +20,4 @@ pub mod FeederLaws
 pub mod Spilling
 pub mod Completing
 pub mod Run
+pub mod Beginning

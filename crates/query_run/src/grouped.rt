@@ -1,11 +1,12 @@
 // A query that groups the rows of its left input, and has no other one.
 
-ghost use Rattle.std.specs.Prelude.{◌≡◌, ◌*◌, ◌++◌, ◌<◌, ◌^◌, [], Some, IfErr, IfOk, IfSome, OnOk, true};
+ghost use Rattle.std.specs.Prelude.{◌≡◌, ◌*◌, ◌++◌, ◌<◌, [], Some, IfErr, IfOk, IfSome, OnOk, true};
 ghost use Rattle.tuple_stream.specs.Families.{slots_in};
 ghost use Rattle.partition_stack.specs.Making.{MakesFew};
 ghost use Rattle.partition_stack.specs.Slots.{IsWantBelow};
 ghost use Rattle.partition_stack.specs.Stack.{over};
-ghost use Rattle.group_op.specs.Operator.{IsFeeding, IsOperator, Keeps, page_of, slots_for, started};
+ghost use Rattle.group_op.specs.Operator.{slots_for, started};
+ghost use Rattle.query_run.specs.Beginning.{BeginsGroups};
 ghost use Rattle.query_run.specs.Both.{both_told};
 ghost use Rattle.query_run.specs.Causes.{OfPool};
 ghost use Rattle.query_run.specs.Inside.{GoesOn};
@@ -124,13 +125,7 @@ fn answer<St: Store, S: Source, K: Sink>(
     sink: &mut K,
 ) -> Result<Ran, QueryErr>
     requires plan { IsGrouping plan.now }
-    requires op { IsOperator op.old (St.holds store.old) (St.signs store.old) }
-    requires shape { op.old.shape ≡ shape_of plan.now }
-    requires feeding { IsFeeding op.old }
-    requires keeps { Keeps (St.signs store.old).trail [] op.old (St.holds store.old) (St.signs store.old) }
-    requires page { page ≡ page_of op.old (St.holds store.old) }
-    requires short { page < 2 ^ 32 }
-    requires long { 0 < page }
+    requires begins { BeginsGroups plan.now page op.old (St.holds store.old) (St.signs store.old) }
     ensures outside { ReadAndWrote S.Source K.Sink plan.now page (St.holds store.old).told
         (world left.old None sink.old) (world left.new None sink.new) result }
     ensures pool { IfErr result (StoppedOver op.old.parts.page_blocks (slots_in (over op.old.parts (St.holds store.old) (St.signs store.old))) (St.signs store.old) (St.signs store.new)) }

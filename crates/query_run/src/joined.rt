@@ -8,6 +8,7 @@ ghost use Rattle.partition_stack.specs.Slots.{IsWantBelow};
 ghost use Rattle.partition_stack.specs.Stack.{over};
 ghost use Rattle.join_op.specs.Operator.{IsOperator, Keeps, page_of, slots_for, started};
 ghost use Rattle.query_plan.specs.Sizes.{groups, joins};
+ghost use Rattle.query_run.specs.Beginning.{BeginsJoin};
 ghost use Rattle.query_run.specs.Both.{both_told, passing_of_both};
 ghost use Rattle.query_run.specs.Causes.{OfPool};
 ghost use Rattle.query_run.specs.Joined.{HasFedBoth, KeptBoth};
@@ -122,12 +123,7 @@ fn answer<St: Store, S: Source, K: Sink>(
     requires plan { IsRunnable plan.now }
     requires right { plan.now.right ≡ Some asked.now }
     requires groups { groups plan.now ≡ false }
-    requires stands { LeftStands op (St.holds store.old) (St.signs store.old) }
-    requires shape { op.shape ≡ join_shape_of plan.now asked.now }
-    requires keeps { Keeps (St.signs store.old).trail [] [] op (St.holds store.old) (St.signs store.old) }
-    requires page { page ≡ page_of op (St.holds store.old) }
-    requires short { page < 2 ^ 32 }
-    requires long { 0 < page }
+    requires begins { BeginsJoin plan.now asked.now page op (St.holds store.old) (St.signs store.old) }
     ensures outside { ReadAndWrote S.Source K.Sink plan.now page (St.holds store.old).told
         (world left.old (Some right.old) sink.old) (world left.new (Some right.new) sink.new) result.0 }
     ensures pool { IfErr result.0 (StoppedOver op.left.page_blocks (join_slots op (St.holds store.old) (St.signs store.old)) (St.signs store.old) (St.signs store.new)) }

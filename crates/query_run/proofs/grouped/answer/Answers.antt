@@ -31,9 +31,9 @@ pub returns-clause-outside : goal.returns-clause-outside
 returns-clause-outside g c =
     let plan = c.args.plan.now in
     let has = c.in_ok-fed.ensures.ok in
-    let keeps = has.came _ [] c.requires.keeps in
+    let keeps = has.came _ [] c.requires.begins.keeps in
     let tells = c.feed_side.ensures.goes.went.leaves.others.told in
-    let formed = fed_as plan c.feed_side.new.op.shape _ c.requires.plan.alone (c.feed_side.ensures.goes.same.shape ∙ c.requires.shape) has.formed in
+    let formed = fed_as plan c.feed_side.new.op.shape _ c.requires.plan.alone (c.feed_side.ensures.goes.same.shape ∙ c.requires.begins.shape_is) has.formed in
     let held = holds_for _ _ _ _ _ keeps formed in
     let groups = grouped plan (groups_alone plan c.requires.plan) in
     wrote g.S.Source g.K.Sink plan c.args.page _ _ _ c.write_groups.result (c.in_ok-fed.ensures.read, refl)
@@ -61,8 +61,8 @@ returns-clause-pool g c =
 pub returns-clause-kept : goal.returns-clause-kept
 returns-clause-kept g c =
     let has = c.in_ok-fed.ensures.ok in
-    let keeps = has.came _ [] c.requires.keeps in
-    let len = same_page c.args.op.now c.feed_side.new.op _ _ _ _ c.feed_side.ensures.goes.same c.feed_side.ensures.goes.went ∙ sym c.requires.page in
+    let keeps = has.came _ [] c.requires.begins.keeps in
+    let len = same_page c.args.op.now c.feed_side.new.op _ _ _ _ c.feed_side.ensures.goes.same c.feed_side.ensures.goes.went ∙ sym c.requires.begins.page_is in
     on_ok c.write_groups.result (λ kept. record {
       rows = passing_of c.args.plan.now has.rows;
       read = passing_are c.args.plan.now c.args.page _ has.rows has.are;
@@ -73,19 +73,19 @@ pub returns-clause-went : goal.returns-clause-went
 returns-clause-went g c = goes_then c.args.op.now c.feed_side.new.op c.write_groups.new.op _ _ _ _ _ _ c.feed_side.ensures.goes.went c.write_groups.ensures.went.went
 
 pub feed_side-requires-clause-kinds : goal.feed_side-requires-clause-kinds
-feed_side-requires-clause-kinds g c = ap (λ (s : Shape). s.kinds) c.requires.shape ∙ sym (left_kinds c.args.plan.now c.requires.plan.alone)
+feed_side-requires-clause-kinds g c = ap (λ (s : Shape). s.kinds) c.requires.begins.shape_is ∙ sym (left_kinds c.args.plan.now c.requires.plan.alone)
 
 pub feed_side-requires-clause-extra : goal.feed_side-requires-clause-extra
-feed_side-requires-clause-extra g c = rw c.requires.shape (omega arith)
+feed_side-requires-clause-extra g c = rw c.requires.begins.shape_is (omega arith)
 
 pub feed_side-requires-clause-stands : goal.feed_side-requires-clause-stands
-feed_side-requires-clause-stands g c = record { is = c.requires.op; feeding = c.requires.feeding }
+feed_side-requires-clause-stands g c = record { is = c.requires.begins.is; feeding = c.requires.begins.feeding }
 
 pub feed_side-requires-clause-feeds : goal.feed_side-requires-clause-feeds
 feed_side-requires-clause-feeds g c = group_feeds_none _ _ _
 
 pub feed_side-requires-clause-goes : goal.feed_side-requires-clause-goes
-feed_side-requires-clause-goes g c = group_goes_none _ _ _ (record { is = c.requires.op; feeding = c.requires.feeding })
+feed_side-requires-clause-goes g c = group_goes_none _ _ _ (record { is = c.requires.begins.is; feeding = c.requires.begins.feeding })
 
 pub feed_side-requires-clause-memory : goal.feed_side-requires-clause-memory
 feed_side-requires-clause-memory g c = λ after. record { answered = tt; want = tt }
@@ -94,7 +94,7 @@ pub write_groups-requires-clause-plan : goal.write_groups-requires-clause-plan
 write_groups-requires-clause-plan g c = groups_alone c.args.plan.now c.requires.plan
 
 pub feed_side-requires-clause-makes : goal.feed_side-requires-clause-makes
-feed_side-requires-clause-makes g c = group_makes_none c.args.op.now (g.St.Store.holds c.args.store.now) (g.St.Store.signs c.args.store.now) c.law_few.ensures.pages c.requires.feeding
+feed_side-requires-clause-makes g c = group_makes_none c.args.op.now (g.St.Store.holds c.args.store.now) (g.St.Store.signs c.args.store.now) c.law_few.ensures.pages c.requires.begins.feeding
 
 pub feed_side-requires-clause-none : goal.feed_side-requires-clause-none
 feed_side-requires-clause-none g c = λ start fed keeps. tt
@@ -107,12 +107,12 @@ returns-in_err-fed-clause-made g c = λ told.
     alone_taken c.args.plan.now c.args.page (g.S.Source.remaining c.args.left.now) s0 s1
     (taken_so c.args.plan.now c.args.plan.now.left c.args.page _ (λ rows. GroupMakes c.args.op.now c.feed_side.new.op rows h s0 s1)
     (λ rows. MakesFew (length rows) s0 s1)
-    (λ rows makes. fed_makes c.args.op.now c.feed_side.new.op rows h s0.trail s0 s1 c.requires.keeps makes) c.feed_side.ensures.few)
+    (λ rows makes. fed_makes c.args.op.now c.feed_side.new.op rows h s0.trail s0 s1 c.requires.begins.keeps makes) c.feed_side.ensures.few)
 
 pub returns-clause-made : goal.returns-clause-made
 returns-clause-made g c = λ told.
     let has = c.in_ok-fed.ensures.ok in
-    let keeps = has.came _ [] c.requires.keeps in
+    let keeps = has.came _ [] c.requires.begins.keeps in
     let goes = c.feed_side.ensures.goes in
     let taken = c.feed_side.ensures.few in
     let fed = passing_of c.args.plan.now has.rows in
@@ -122,7 +122,7 @@ returns-clause-made g c = λ told.
     let s2 = g.St.Store.signs c.write_groups.new.store in
     let later = c.write_groups.ensures.made fed keeps.holds (goes.went.leaves.others.told ∙ told) in
     alone_whole c.args.plan.now c.args.page (g.S.Source.remaining c.args.left.now) fed s0 s2 (passing_are c.args.plan.now c.args.page _ has.rows has.are)
-    (whole_makes c.args.op.now c.feed_side.new.op taken.rows fed (g.St.Store.holds c.args.store.now) h1 s0 s1 s2 c.law_few.ensures.pages (feeds_still c.args.op.now c.feed_side.new.op c.requires.feeding goes.same) keeps.holds taken.so later)
+    (whole_makes c.args.op.now c.feed_side.new.op taken.rows fed (g.St.Store.holds c.args.store.now) h1 s0 s1 s2 c.law_few.ensures.pages (feeds_still c.args.op.now c.feed_side.new.op c.requires.begins.feeding goes.same) keeps.holds taken.so later)
 
 pub returns-in_err-fed-clause-enough : goal.returns-in_err-fed-clause-enough
 returns-in_err-fed-clause-enough g c =
@@ -134,19 +134,19 @@ returns-in_err-fed-clause-enough g c =
     let s = g.St.Store.signs c.args.store.now in
     let told = g.S.Source.remaining c.args.left.now in
     let total = slots_in (over op.parts h s) in
-    let long = subst (λ (n : ℕ). 0 < n) c.requires.page c.requires.long in
+    let long = subst (λ (n : ℕ). 0 < n) c.requires.begins.page_is c.requires.begins.long in
     let rows : List ℕ → List (List Value) = λ bytes. taken_in plan plan.left page bytes in
     let all : OfPool (λ why. h.told ≡ true → IfSome told (λ bytes. IsWantBelow (slots_for 544 op h (rows bytes)) total why)) e =
     of_pool_so (λ why. OfTaken plan plan.left page told (λ rows. GroupWants op rows h s why))
     (λ why. h.told ≡ true → IfSome told (λ bytes. IsWantBelow (slots_for 544 op h (rows bytes)) total why))
-    (λ why taken tells. front_wants plan page told op h s s.trail why long c.requires.keeps taken) e c.in_err-fed.ensures.enough in
+    (λ why taken tells. front_wants plan page told op h s s.trail why long c.requires.begins.keeps taken) e c.in_err-fed.ensures.enough in
     search (rules, all)
 
 pub returns-clause-enough : goal.returns-clause-enough
 returns-clause-enough g c =
     let has = c.in_ok-fed.ensures.ok in
     let plan = c.args.plan.now in
-    let keeps = has.came _ [] c.requires.keeps in
+    let keeps = has.came _ [] c.requires.begins.keeps in
     let goes = c.feed_side.ensures.goes in
     let fed = passing_of plan has.rows in
     let a = c.args.op.now in

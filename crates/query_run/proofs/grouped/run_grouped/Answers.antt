@@ -133,21 +133,20 @@ returns-in-Err g c =
           };
     }
 
-pub answer-result-requires-clause-op : goal.answer-result-requires-clause-op
-answer-result-requires-clause-op g c =
+pub answer-result-requires-clause-begins : goal.answer-result-requires-clause-begins
+answer-result-requires-clause-begins g c =
     let has = starts_here c.args.plan.now c.own_client-c.result _ _ (g.St.Store.holds c.args.store.now) (g.St.Store.holds c.own_client-c.new.store) (g.St.Store.signs c.own_client-c.new.store) c.law_starts.ensures.law c.requires.plan c.own_client-c.ensures.own (search rules) in
-    rw c.in-Ok.ensures.ok has.op
-
-pub answer-result-requires-clause-keeps : goal.answer-result-requires-clause-keeps
-answer-result-requires-clause-keeps g c =
-    let has = starts_here c.args.plan.now c.own_client-c.result _ _ (g.St.Store.holds c.args.store.now) (g.St.Store.holds c.own_client-c.new.store) (g.St.Store.signs c.own_client-c.new.store) c.law_starts.ensures.law c.requires.plan c.own_client-c.ensures.own (search rules) in
-    rw c.in-Ok.ensures.ok has.keeps
+    let len : c.from.result * c.from-2.result ≡ page_len c.args.plan.now (g.St.Store.holds c.args.store.now).block_len = search rules in
+    let more = long_page c.args.plan.now (g.St.Store.holds c.args.store.now).block_len c.requires.plan.paged (search rules) in
+    record {
+      is = rw c.in-Ok.ensures.ok has.op;
+      feeding = rw c.in-Ok.ensures.ok has.feeding;
+      shape_is = ap (λ (op : Operator). op.shape) c.in-Ok.ensures.ok;
+      keeps = rw c.in-Ok.ensures.ok has.keeps;
+      page_is = search rules;
+      short = search (rules, arith);
+      long = omega (arith, len, more);
+    }
 
 pub start_grouping-requires : goal.start_grouping-requires
 start_grouping-requires g c = groups_alone c.args.plan.now c.requires.plan
-
-pub answer-result-requires-clause-long : goal.answer-result-requires-clause-long
-answer-result-requires-clause-long g c =
-    let len : c.from.result * c.from-2.result ≡ page_len c.args.plan.now (g.St.Store.holds c.args.store.now).block_len = search rules in
-    let long = long_page c.args.plan.now (g.St.Store.holds c.args.store.now).block_len c.requires.plan.paged (search rules) in
-    omega (arith, len, long)

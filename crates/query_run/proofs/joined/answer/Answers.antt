@@ -25,7 +25,7 @@ returns-clause-outside g c =
     let asked = c.args.asked.now in
     let fed = c.feed_both-fed in
     let has = of_ok _ fed.result.0 c.in-Ok.fed c.in-Ok.is fed.ensures.ok in
-    let shape = fed.ensures.goes.same.shape ∙ c.requires.shape in
+    let shape = fed.ensures.goes.same.shape ∙ c.requires.begins.shape_is in
     let tells = fed.ensures.goes.leaves.others.told in
     let result = c.write_pairs-result.result in
     let text = g.K.Sink.contents in
@@ -76,7 +76,7 @@ pub returns-clause-kept : goal.returns-clause-kept
 returns-clause-kept g c =
     let has = of_ok _ c.feed_both-fed.result.0 c.in-Ok.fed c.in-Ok.is c.feed_both-fed.ensures.ok in
     let goes = c.feed_both-fed.ensures.goes in
-    let shape = goes.same.shape ∙ c.requires.shape in
+    let shape = goes.same.shape ∙ c.requires.begins.shape_is in
     let f = over c.write_pairs-result.new.op.left (g.St.Store.holds c.write_pairs-result.new.store) (g.St.Store.signs c.write_pairs-result.new.store) in
     let k = over c.write_pairs-result.new.op.right (g.St.Store.holds c.write_pairs-result.new.store) (g.St.Store.signs c.write_pairs-result.new.store) in
     on_ok c.write_pairs-result.result (λ kept. both_kept c.args.plan.now c.args.asked.now c.args.page _ _ _ _ _ f k _ _ has

@@ -25,7 +25,7 @@ use Rattle.query_run.proofs.KeptFirst.{reserves_first}
 use Rattle.query_run.proofs.Results.{both_err}
 use Rattle.query_run.proofs.Runs.{nothing_read, read_and_wrote_at}
 use Rattle.query_run.proofs.Says.{memory_stops}
-use Rattle.query_run.proofs.Wants.{long_page}
+use Rattle.query_run.proofs.Wants.{long_page, short_page}
 use Rattle.query_run.proofs.joined.run_joined.Goals as goal
 
 pub returns : goal.returns
@@ -133,20 +133,17 @@ returns-in-Err g c =
           };
     }
 
-pub answer-result-requires-clause-stands : goal.answer-result-requires-clause-stands
-answer-result-requires-clause-stands g c =
+pub answer-result-requires-clause-begins : goal.answer-result-requires-clause-begins
+answer-result-requires-clause-begins g c =
     let planned : c.args.plan.now.right ≡ Some c.in-Some.asked = search rules in
     let has = joins_here c.args.plan.now c.in-Some.asked c.own_client-c.result _ _ (g.St.Store.holds c.args.store.now) (g.St.Store.holds c.own_client-c.new.store) (g.St.Store.signs c.own_client-c.new.store) c.law_starts.ensures.law c.requires.plan planned c.requires.groups c.own_client-c.ensures.own (search rules) in
-    rw c.in-Ok.ensures.ok (record { stands = record { is = has.op; feeding = has.feeding }; first = refl })
-
-pub answer-result-requires-clause-keeps : goal.answer-result-requires-clause-keeps
-answer-result-requires-clause-keeps g c =
-    let planned : c.args.plan.now.right ≡ Some c.in-Some.asked = search rules in
-    let has = joins_here c.args.plan.now c.in-Some.asked c.own_client-c.result _ _ (g.St.Store.holds c.args.store.now) (g.St.Store.holds c.own_client-c.new.store) (g.St.Store.signs c.own_client-c.new.store) c.law_starts.ensures.law c.requires.plan planned c.requires.groups c.own_client-c.ensures.own (search rules) in
-    rw c.in-Ok.ensures.ok has.keeps
-
-pub answer-result-requires-clause-long : goal.answer-result-requires-clause-long
-answer-result-requires-clause-long g c =
     let len : c.from.result * c.from-2.result ≡ page_len c.args.plan.now (g.St.Store.holds c.args.store.now).block_len = search rules in
-    let long = long_page c.args.plan.now (g.St.Store.holds c.args.store.now).block_len c.requires.plan.paged (search rules) in
-    omega (arith, len, long)
+    let more = long_page c.args.plan.now (g.St.Store.holds c.args.store.now).block_len c.requires.plan.paged (search rules) in
+    record {
+      stands = rw c.in-Ok.ensures.ok (record { stands = record { is = has.op; feeding = has.feeding }; first = refl });
+      shape_is = ap (λ (op : Operator). op.shape) c.in-Ok.ensures.ok;
+      keeps = rw c.in-Ok.ensures.ok has.keeps;
+      page_is = search rules;
+      short = short_page c.from.result c.from-2.result (search rules) (search rules);
+      long = omega (arith, len, more);
+    }
