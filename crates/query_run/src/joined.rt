@@ -1,12 +1,12 @@
 // A query that joins the rows of its two inputs.
 
-ghost use Rattle.std.specs.Prelude.{◌≡◌, ◌≢◌, ◌*◌, ◌≤◌, ◌<◌, ◌^◌, [], Some, IfErr, IfOk, IfSome, OnOk, false, length, true};
+ghost use Rattle.std.specs.Prelude.{◌≡◌, ◌≢◌, ◌*◌, ◌≤◌, ◌<◌, [], Some, IfErr, IfOk, IfSome, OnOk, false, length, true};
 ghost use Rattle.std.specs.Io.KnownBytes.{IsAtEnd};
 ghost use Rattle.partition_stack.specs.Leaving.{LeavesOthers};
 ghost use Rattle.partition_stack.specs.Making.{MakesFew};
 ghost use Rattle.partition_stack.specs.Slots.{IsWantBelow};
 ghost use Rattle.partition_stack.specs.Stack.{over};
-ghost use Rattle.join_op.specs.Operator.{IsOperator, Keeps, page_of, slots_for, started};
+ghost use Rattle.join_op.specs.Operator.{IsOperator, Keeps, slots_for, started};
 ghost use Rattle.query_plan.specs.Sizes.{groups, joins};
 ghost use Rattle.query_run.specs.Beginning.{BeginsJoin};
 ghost use Rattle.query_run.specs.Both.{both_told, passing_of_both};
@@ -16,7 +16,7 @@ ghost use Rattle.query_run.specs.Plans.{IsRunnable, join_shape_of};
 ghost use Rattle.query_run.specs.Refused.{SaysOfInputs, input_over};
 ghost use Rattle.query_run.specs.Run.{RanQuery, ReadAndWrote, world};
 ghost use Rattle.query_run.specs.Stopped.{HasRoomFor, StoppedOver};
-ghost use Rattle.query_run.specs.Taking.{JoinGoes, JoinStands, LeftStands, join_slots};
+ghost use Rattle.query_run.specs.Taking.{JoinGoes, JoinStands, join_slots};
 ghost use Rattle.query_run.specs.Through.{lefts_taken, rights_taken, rows_through};
 
 use crate::client::own_client;
@@ -156,12 +156,7 @@ pub(crate) fn feed_both<St: Store, S: Source>(
 ) -> (Result<BothFed, QueryErr>, JoinOp)
     requires plan { IsRunnable plan.now }
     requires right { plan.now.right ≡ Some asked.now }
-    requires stands { LeftStands op (St.holds store.old) (St.signs store.old) }
-    requires shape { op.shape ≡ join_shape_of plan.now asked.now }
-    requires keeps { Keeps (St.signs store.old).trail [] [] op (St.holds store.old) (St.signs store.old) }
-    requires page { page ≡ page_of op (St.holds store.old) }
-    requires short { page < 2 ^ 32 }
-    requires long { 0 < page }
+    requires begins { BeginsJoin plan.now asked.now page op (St.holds store.old) (St.signs store.old) }
     ensures ok { IfOk result.0 (λ fed. HasFedBoth plan.now asked.now page (S.remaining left.old) (S.remaining right.old) fed.left fed.right (λ lefts rights. Keeps (St.signs store.old).trail lefts rights result.1 (St.holds store.new) (St.signs store.new))) }
     ensures read { OnOk result.0 (IsAtEnd (S.remaining left.new) × IsAtEnd (S.remaining right.new)) }
     ensures input { IfErr result.0 (SaysOfInputs plan.now page (input_over S.Source left.old left.new) (input_over S.Source right.old right.new)) }

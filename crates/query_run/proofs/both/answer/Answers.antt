@@ -1,4 +1,4 @@
-use Rattle.std.proofs.Common.{◌≡◌, ◌∙◌, ◌<◌, ◌+◌, ◌*◌, ◌++◌, ℕ, Some, length, ap, refl, sym, subst, arith}
+use Rattle.std.proofs.Common.{◌≡◌, ◌∙◌, ◌<◌, ◌+◌, ◌*◌, ◌++◌, ℕ, Some, length, ap, refl, sym, subst, arith, rules}
 use Rattle.std.specs.Io.KnownBytes.{Appends}
 use Rattle.csv_edge.specs.Written.{AppendsFront}
 use Rattle.store_api.proofs.Answered.{answered_after}
@@ -61,9 +61,15 @@ returns-in-Err-clause-outside g c =
     let fed = c.feed_both-fed in
     unread g.S.Source g.K.Sink c.args.plan.now c.args.page _ _ _ c.in-Err.e (of_bad _ fed.result.0 c.in-Err.e c.in-Err.is fed.ensures.input) (of_bad _ fed.result.0 c.in-Err.e c.in-Err.is fed.ensures.cause) refl fed.ensures.sources_kept
 
-pub feed_both-fed-requires-clause-long : goal.feed_both-fed-requires-clause-long
-feed_both-fed-requires-clause-long g c =
-    subst (λ (n : ℕ). 0 < n) (sym c.requires.page.0) (some_page c.args.plan.now.page_blocks (g.St.Store.holds c.args.store.now) c.requires.plan.paged c.requires.long)
+pub feed_both-fed-requires-clause-begins : goal.feed_both-fed-requires-clause-begins
+feed_both-fed-requires-clause-begins g c = record {
+  stands = c.requires.stands;
+  shape_is = c.requires.started.0;
+  keeps = c.requires.keeps;
+  page_is = search rules;
+  short = c.requires.page.1;
+  long = subst (λ (n : ℕ). 0 < n) (sym c.requires.page.0) (some_page c.args.plan.now.page_blocks (g.St.Store.holds c.args.store.now) c.requires.plan.paged c.requires.long);
+}
 
 pub returns-in-Err-clause-pool : goal.returns-in-Err-clause-pool
 returns-in-Err-clause-pool g c =

@@ -12,7 +12,7 @@ use Rattle.query_run.proofs.Counted.{both_taken, left_taken}
 use Rattle.query_run.proofs.joined.feed_both.Goals as goal
 
 pub feed_side-fed-requires-clause-kinds : goal.feed_side-fed-requires-clause-kinds
-feed_side-fed-requires-clause-kinds g c = ap (λ (s : JoinShape). s.left) c.requires.shape
+feed_side-fed-requires-clause-kinds g c = ap (λ (s : JoinShape). s.left) c.requires.begins.shape_is
 
 pub returns-in-Err-clause-input : goal.returns-in-Err-clause-input
 returns-in-Err-clause-input g c = says_left c.args.plan.now c.args.page _ _ c.in-Err.e (of_bad _ c.feed_side-fed.result c.in-Err.e c.in-Err.is c.feed_side-fed.ensures.input)
@@ -21,15 +21,15 @@ pub feed_side-fed-requires-2-clause-asked : goal.feed_side-fed-requires-2-clause
 feed_side-fed-requires-2-clause-asked g c = let side = c.requires.plan.right in rw c.requires.right at side
 
 pub feed_side-fed-requires-2-clause-kinds : goal.feed_side-fed-requires-2-clause-kinds
-feed_side-fed-requires-2-clause-kinds g c = ap (λ (s : JoinShape). s.right) (c.feed_side-fed.ensures.goes.same.shape ∙ c.requires.shape)
+feed_side-fed-requires-2-clause-kinds g c = ap (λ (s : JoinShape). s.right) (c.feed_side-fed.ensures.goes.same.shape ∙ c.requires.begins.shape_is)
 
 pub feed_side-fed-requires-2-clause-page : goal.feed_side-fed-requires-2-clause-page
-feed_side-fed-requires-2-clause-page g c = c.requires.page ∙ sym (left_still _ _ _ _ _ _ c.feed_side-fed.ensures.goes).page_same
+feed_side-fed-requires-2-clause-page g c = c.requires.begins.page_is ∙ sym (left_still _ _ _ _ _ _ c.feed_side-fed.ensures.goes).page_same
 
 pub returns-in-Ok-fed-clause-ok : goal.returns-in-Ok-fed-clause-ok
 returns-in-Ok-fed-clause-ok g c =
     fed_both c.args.plan.now c.args.asked.now c.args.page _ _ _ _ _ _ _ (of_ok _ c.feed_side-fed.result c.in-Ok.fed c.in-Ok.is c.feed_side-fed.ensures.ok) (of_ok _ c.feed_side-fed-2.result c.in-Ok-fed.fed c.in-Ok-fed.is c.feed_side-fed-2.ensures.ok)
-    (λ lefts rights first second. second _ lefts [] (first _ [] c.requires.keeps))
+    (λ lefts rights first second. second _ lefts [] (first _ [] c.requires.begins.keeps))
 
 pub returns-in-Ok-fed-clause-goes : goal.returns-in-Ok-fed-clause-goes
 returns-in-Ok-fed-clause-goes g c = join_goes_then _ _ _ _ _ _ _ _ _ c.feed_side-fed.ensures.goes c.feed_side-fed-2.ensures.goes
@@ -49,7 +49,7 @@ pub feed_side-fed-requires-clause-feeds : goal.feed_side-fed-requires-clause-fee
 feed_side-fed-requires-clause-feeds g c = left_feeds_none _ _ _
 
 pub feed_side-fed-requires-clause-goes : goal.feed_side-fed-requires-clause-goes
-feed_side-fed-requires-clause-goes g c = join_goes_none _ _ _ c.requires.stands.stands
+feed_side-fed-requires-clause-goes g c = join_goes_none _ _ _ c.requires.begins.stands.stands
 
 pub feed_side-fed-requires-2-clause-feeds : goal.feed_side-fed-requires-2-clause-feeds
 feed_side-fed-requires-2-clause-feeds g c = right_feeds_none _ _ _
@@ -97,14 +97,14 @@ feed_side-fed-requires-2-clause-none g c = λ start lefts rights keeps. tt
 
 pub returns-in-Err-clause-enough : goal.returns-in-Err-clause-enough
 returns-in-Err-clause-enough g c =
-    let long = subst (λ (n : ℕ). 0 < n) c.requires.page c.requires.long in
+    let long = subst (λ (n : ℕ). 0 < n) c.requires.begins.page_is c.requires.begins.long in
     of_pool_so _ _ (λ why taken. left_below c.args.plan.now c.args.page (g.S.Source.remaining c.args.left.now) (g.S.Source.remaining c.args.right.now) c.args.op
-    (g.St.Store.holds c.args.store.now) (g.St.Store.signs c.args.store.now) _ why long c.requires.keeps taken) c.in-Err.e (of_bad _ c.feed_side-fed.result c.in-Err.e c.in-Err.is c.feed_side-fed.ensures.enough)
+    (g.St.Store.holds c.args.store.now) (g.St.Store.signs c.args.store.now) _ why long c.requires.begins.keeps taken) c.in-Err.e (of_bad _ c.feed_side-fed.result c.in-Err.e c.in-Err.is c.feed_side-fed.ensures.enough)
 
 pub returns-in-Err-fed-clause-enough : goal.returns-in-Err-fed-clause-enough
 returns-in-Err-fed-clause-enough g c =
-    let long = subst (λ (n : ℕ). 0 < n) c.requires.page c.requires.long in
+    let long = subst (λ (n : ℕ). 0 < n) c.requires.begins.page_is c.requires.begins.long in
     let has = of_ok _ c.feed_side-fed.result c.in-Ok.fed c.in-Ok.is c.feed_side-fed.ensures.ok in
     of_pool_so _ _ (λ why taken. right_below c.args.plan.now c.args.asked.now c.args.page (g.S.Source.remaining c.args.left.now) (g.S.Source.remaining c.args.right.now) _ c.args.op c.feed_side-fed.new.op.op (g.St.Store.holds c.args.store.now) (g.St.Store.holds c.feed_side-fed.new.store)
-    (g.St.Store.signs c.args.store.now) (g.St.Store.signs c.feed_side-fed.new.store) _ why c.requires.right long c.requires.keeps c.feed_side-fed.ensures.goes has taken)
+    (g.St.Store.signs c.args.store.now) (g.St.Store.signs c.feed_side-fed.new.store) _ why c.requires.right long c.requires.begins.keeps c.feed_side-fed.ensures.goes has taken)
     c.in-Err-fed.e (of_bad _ c.feed_side-fed-2.result c.in-Err-fed.e c.in-Err-fed.is c.feed_side-fed-2.ensures.enough)
