@@ -77,7 +77,7 @@ range_more a zero = ap (λ (m : ℕ). m ∷ []) (omega arith)
 range_more a (suc n) = ap (λ (ns : List ℕ). a ∷ ns) (range_more (a + 1) n ∙ ap (λ (m : ℕ). range_with_len (a + 1) n ++ m ∷ []) (omega arith))
 
 module _ {X : Type 0} where
-  filter_twice : (p q r : X → Bool) → ((x : X) → (q x && p x) ≡ r x) → (xs : List X) → filter p (filter q xs) ≡ filter r xs
+  pub filter_twice : (p q r : X → Bool) → ((x : X) → (q x && p x) ≡ r x) → (xs : List X) → filter p (filter q xs) ≡ filter r xs
   filter_twice p q r both [] = refl
   filter_twice p q r both (x ∷ xs) = at (q x) (p x) (r x) (both x) (filter_twice p q r both xs) refl refl where
     at : (b c d : Bool) → (b && c) ≡ d → filter p (filter q xs) ≡ filter r xs → q x ≡ b → p x ≡ c → filter p (cond b (x ∷ filter q xs) (filter q xs)) ≡ cond d (x ∷ filter r xs) (filter r xs)

@@ -2,6 +2,7 @@
 ghost use Rattle.std.specs.Cmp.Lexicographic.{slice_cmp};
 ghost use Rattle.std.specs.Ordering.{nat_cmp};
 ghost use Rattle.row_codec.specs.Order.{path_order};
+ghost use Rattle.group_rows.specs.Apart.{RowsInAnyOrder, StandTogether, StandsForItsRows};
 ghost use Rattle.group_rows.specs.Bounds.{ExtremesAreTrue, SumsAreTrue};
 ghost use Rattle.group_rows.specs.Combining.{
   AreNoMore,
@@ -55,6 +56,13 @@ pub fn law_tables()
 /// An operator's table and streams stand for the rows that it was fed, after each of its steps.
 pub fn law_stands()
     ensures law { StandThroughout }
+{}
+
+/// Rows may be grouped apart, in any order, and the groups of some may be taken in as partial rows beside others.
+pub fn law_apart()
+    ensures together { StandTogether }
+    ensures group { StandsForItsRows }
+    ensures order { RowsInAnyOrder }
 {}
 
 /// What combining keeps: entries in order, distinct keys, and the sum of any weights of keys.
