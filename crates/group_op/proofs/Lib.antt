@@ -62,3 +62,4 @@ pub mod HeldPages
 pub mod Laying
 pub mod Weighing
 mod Sharing
+pub mod Taken

@@ -185,13 +185,13 @@ module _ (pages : PagesAreFew) (want : WantComesLate) (c : ClientToken) (shape :
       works.held.owns.shaped shown.shows (counts_once 16 (over q h2 s2) (stand.whole (opened.deals.whole holds.whole)) (let sixteen = feeding.sixteen in let same = works.many in omega (arith, sixteen, same)))
       (omega (arith, few, many, both, less)) (omega (arith, light, heavy, sum, lighter)) (works.leaves.others.block_len ∙ len) refl full some
 
--- with one row more there may be as many
-pub fed_below : (op : Operator) (h : Holdings) (fed : List (List Value)) (row : List Value) (total : Option ℕ) (e : PoolErr) → 0 < page_of op h → IsWantBelow (slots_for 16 op h fed) total e → IsWantBelow (slots_for 16 op h (fed ++ row ∷ [])) total e
-fed_below op h fed row total e some want =
-    let long = length-append fed (row ∷ []) in
-    let heavy : bytes_for op.shape (fed ++ row ∷ []) ≡ bytes_for op.shape fed + bytes_for op.shape (row ∷ []) = sum_by-append (λ (r : List Value). length (row_bytes r) + 16 * length op.shape.aggs) fed (row ∷ []) in
-    below_more (slots_for 16 op h fed) (slots_for 16 op h (fed ++ row ∷ [])) total e
-    (one_more_page (page_of op h) 16 (length fed) (bytes_for op.shape fed) (length (fed ++ row ∷ [])) (bytes_for op.shape (fed ++ row ∷ [])) op.parts.page_blocks some (omega (arith, long)) (omega (arith, heavy))) want
+-- with more rows there may be as many
+pub fed_below : (op : Operator) (h : Holdings) (fed more : List (List Value)) (total : Option ℕ) (e : PoolErr) → 0 < page_of op h → IsWantBelow (slots_for 16 op h fed) total e → IsWantBelow (slots_for 16 op h (fed ++ more)) total e
+fed_below op h fed more total e some want =
+    let long = length-append fed more in
+    let heavy : bytes_for op.shape (fed ++ more) ≡ bytes_for op.shape fed + bytes_for op.shape more = sum_by-append (λ (r : List Value). length (row_bytes r) + 16 * length op.shape.aggs) fed more in
+    below_more (slots_for 16 op h fed) (slots_for 16 op h (fed ++ more)) total e
+    (one_more_page (page_of op h) 16 (length fed) (bytes_for op.shape fed) (length (fed ++ more)) (bytes_for op.shape (fed ++ more)) op.parts.page_blocks some (omega (arith, long)) (omega (arith, heavy))) want
 
 -- ---- a stream that is read beside others
 

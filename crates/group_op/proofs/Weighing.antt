@@ -15,14 +15,14 @@ use Rattle.std.proofs.lemmas.List.Sums.{fold-append, sum_by-cons}
 use Rattle.std.proofs.lemmas.Map.Keys.{IsDistinct-cons}
 use Rattle.row_codec.specs.declared.values.Value.{Value}
 use Rattle.row_codec.specs.Order.{path_order}
-use Rattle.row_codec.specs.Row.{IsValue, kind_of}
+use Rattle.row_codec.specs.Row.{kind_of}
 use Rattle.row_codec.specs.RowBytes.{key_bytes, key_part}
 use Rattle.store_api.specs.declared.shapes.Shape.{Shape}
 use Rattle.store_api.specs.Shapes.{IsShape}
 use Rattle.bucket_table.specs.Tables.{Node, Table, used_by}
 use Rattle.group_rows.specs.Combining.{AreValues}
 use Rattle.group_rows.specs.Keyed.{IsExactOrder, KeyOrder, keys_in}
-use Rattle.group_rows.specs.Partials.{Grouping, Partial, combine, combined_by, group_in, key_of, partial_of}
+use Rattle.group_rows.specs.Partials.{Grouping, Partial, combine, combined_by, group_in, key_of}
 use Rattle.group_rows.specs.Standing.{StandFor}
 use Rattle.group_rows.specs.Tables.{HaveDistinctKeys}
 use Rattle.group_rows.proofs.Each.{keys_each}
@@ -147,28 +147,28 @@ rows_differ shape row (r ∷ rows) apart = (
 )
 
 -- where the rows of a table are longer than two pages, so are those of all keys that were fed
-entries_long : (shape : Shape) (len : ℕ) (fed : List (List Value)) (row : List Value) (entries streams : List (List ℕ)) → IsShape shape → All (IsPartialRow shape) entries → HaveDistinctKeys (partials_at shape entries)
-    → StandFor path_order (grouping_of shape) fed (partials_at shape entries ++ partials_at shape streams) → AreLong len entries → 2 * len < keys_len shape (fed ++ row ∷ [])
-entries_long shape len fed row entries streams is formed distinct stand long =
+entries_long : (shape : Shape) (len : ℕ) (fed more : List (List Value)) (entries streams : List (List ℕ)) → IsShape shape → All (IsPartialRow shape) entries → HaveDistinctKeys (partials_at shape entries)
+    → StandFor path_order (grouping_of shape) fed (partials_at shape entries ++ partials_at shape streams) → AreLong len entries → 2 * len < keys_len shape (fed ++ more)
+entries_long shape len fed more entries streams is formed distinct stand long =
     let keys = ap (sum_by (weight_of shape)) (keys_stand_for path_order path_is_order (grouping_of shape) fed (partials_at shape entries ++ partials_at shape streams) stand) in
     let most = distinct_more (weight_of shape) path_order path_is_order (grouping_of shape) (partials_at shape entries) (partials_at shape streams) distinct in
     let weigh = rows_weigh shape entries is formed in
-    let more = keys_more (weight_of shape) path_order (key_bytes shape.keys) fed (row ∷ []) in
-    omega (arith, keys, most, weigh, long, more)
+    let longer = keys_more (weight_of shape) path_order (key_bytes shape.keys) fed more in
+    omega (arith, keys, most, weigh, long, longer)
 
 -- where rows went to the partitions, the keys of all rows fed weigh more than two pages
-pub fed_long : (shape : Shape) (len : ℕ) (fed : List (List Value)) (row : List Value) (bytes : List ℕ) (entries streams : List (List ℕ)) → IsShape shape → IsPartialRow shape bytes → All (IsPartialRow shape) entries
-    → AreValues fed → All IsValue row → partial_at shape bytes ≡ partial_of (grouping_of shape) row → HaveDistinctKeys (partials_at shape entries)
-    → StandFor path_order (grouping_of shape) fed (partials_at shape entries ++ partials_at shape streams) → IsTooLong shape len bytes entries → 2 * len < keys_len shape (fed ++ row ∷ [])
-fed_long shape len fed row bytes entries streams is formed all_formed values good says distinct stand full =
+pub fed_long : (shape : Shape) (len : ℕ) (fed more : List (List Value)) (bytes : List ℕ) (entries streams : List (List ℕ)) → IsShape shape → IsPartialRow shape bytes → All (IsPartialRow shape) entries
+    → AreValues fed → AreValues more → StandFor path_order (grouping_of shape) more (partial_at shape bytes ∷ []) → HaveDistinctKeys (partials_at shape entries)
+    → StandFor path_order (grouping_of shape) fed (partials_at shape entries ++ partials_at shape streams) → IsTooLong shape len bytes entries → 2 * len < keys_len shape (fed ++ more)
+fed_long shape len fed more bytes entries streams is formed all_formed values good one distinct stand full =
     elim full [
-      | inl long ↦ entries_long shape len fed row entries streams is all_formed distinct stand long
+      | inl long ↦ entries_long shape len fed more entries streams is all_formed distinct stand long
       | inr whole ↦
-          let stands : StandFor path_order (grouping_of shape) (fed ++ row ∷ []) (partials_at shape (bytes ∷ entries) ++ partials_at shape streams) =
-          fed_stands shape fed row bytes entries (bytes ∷ entries) [] streams streams values good says
+          let stands : StandFor path_order (grouping_of shape) (fed ++ more) (partials_at shape (bytes ∷ entries) ++ partials_at shape streams) =
+          fed_stands shape fed more bytes entries (bytes ∷ entries) [] streams streams values good one
           (subst (λ (rs : List (List ℕ)). SameGroups (grouping_of shape) (partials_at shape (bytes ∷ entries)) (partials_at shape rs)) (sym (append-nil (bytes ∷ entries))) (same_refl (grouping_of shape) (partials_at shape (bytes ∷ entries))))
           (subst (IsPermutation streams) (sym (append-nil streams)) (IsPermutation-refl streams)) stand in
-          let keys = ap (sum_by (weight_of shape)) (keys_stand_for path_order path_is_order (grouping_of shape) (fed ++ row ∷ []) (partials_at shape (bytes ∷ entries) ++ partials_at shape streams) stands) in
+          let keys = ap (sum_by (weight_of shape)) (keys_stand_for path_order path_is_order (grouping_of shape) (fed ++ more) (partials_at shape (bytes ∷ entries) ++ partials_at shape streams) stands) in
           let apart : HaveDistinctKeys (partials_at shape (bytes ∷ entries)) = IsDistinct-cons bytes_eq (key_at shape bytes) (map key_of (partials_at shape entries)) (rows_differ shape bytes entries whole.1) distinct in
           let most = distinct_more (weight_of shape) path_order path_is_order (grouping_of shape) (partials_at shape (bytes ∷ entries)) (partials_at shape streams) apart in
           let weigh = rows_weigh shape (bytes ∷ entries) is (All-cons (IsPartialRow shape) bytes entries formed all_formed) in

@@ -1,21 +1,39 @@
--- One row is fed to a grouping. Lengths are in bytes.
-use Rattle.std.specs.Prelude.{◌≡◌, ℕ, ◌+◌, ◌*◌, ◌≤◌, List, [], All, length, Option}
+-- A row is fed to a grouping: one of values, or a partial row. Lengths are in bytes.
+use Rattle.std.specs.Prelude.{◌≡◌, ℕ, ◌≤◌, List, [], ◌∷◌, length, Option}
 use Rattle.row_codec.specs.declared.values.Value.{Value}
-use Rattle.row_codec.specs.Row.{IsValue}
+use Rattle.row_codec.specs.Order.{path_order}
+use Rattle.row_codec.specs.Row.{kinds_of}
 use Rattle.row_codec.specs.RowBytes.{row_bytes}
 use Rattle.store_api.specs.declared.shapes.Shape.{Shape}
+use Rattle.store_api.specs.Holdings.{Holdings}
 use Rattle.bucket_table.specs.Tables.{Table}
-use Rattle.group_rows.specs.Partials.{partial_of}
+use Rattle.group_rows.specs.Combining.{AreValues}
+use Rattle.group_rows.specs.Partials.{Partial}
+use Rattle.group_rows.specs.Rows.{partial_in}
+use Rattle.group_rows.specs.Standing.{StandFor}
 use Rattle.group_op.specs.Held.{AreEntries, State, page_len, rows_of, streams_of}
-use Rattle.group_op.specs.Operator.{entries_in}
+use Rattle.group_op.specs.Operator.{Operator, bytes_for, entries_in, page_of}
 use Rattle.group_op.specs.Putting.{Deals}
-use Rattle.group_op.specs.Stored.{IsPartialRow, grouping_of, partial_at}
+use Rattle.group_op.specs.Stored.{IsPartialRow, grouping_of, partial_at, partial_kinds}
 
--- the bytes say what a row of values says by itself, and are no more than its own and sixteen for each aggregate
-pub record Spells (shape : Shape) (bytes : List ℕ) (row : List Value) : Type 0 where
-  pub values : All IsValue row
-  pub says : partial_at shape bytes ≡ partial_of (grouping_of shape) row
-  pub light : length bytes ≤ length (row_bytes row) + 16 * length shape.aggs
+-- a partial row of so many bytes stands for these rows, whose own partial rows may have as many bytes together
+pub record StandsFor (shape : Shape) (rows : List (List Value)) (p : Partial) (bytes : ℕ) : Type 0 where
+  pub values : AreValues rows
+  pub stands : StandFor path_order (grouping_of shape) rows (p ∷ [])
+  pub light : bytes ≤ bytes_for shape rows
+
+-- the partial row that these bytes spell stands for these rows
+abbrev pub Spells : Shape → List ℕ → List (List Value) → Type 0
+Spells shape bytes rows = StandsFor shape rows (partial_at shape bytes) (length bytes)
+
+-- so does a partial row as a row of values
+abbrev pub IsPartOf : Shape → List Value → List (List Value) → Type 0
+IsPartOf shape row rows = StandsFor shape rows (partial_in (grouping_of shape) row) (length (row_bytes row))
+
+-- a partial row that may be fed: of the kinds of the shape's partial rows, with room in a page
+pub record MayBeTaken (op : Operator) (h : Holdings) (row : List Value) : Type 0 where
+  pub kinds : kinds_of row ≡ partial_kinds op.shape
+  pub short : length (row_bytes row) ≤ page_of op h
 
 -- bytes are a partial row that fits in so many
 pub record IsSpelled (shape : Shape) (len : ℕ) (bytes : List ℕ) : Type 0 where

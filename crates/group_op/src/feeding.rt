@@ -76,8 +76,8 @@ impl GroupOp {
     }
 }
 
-// Puts the partial row of the row that is fed into the table, which comes with the first row.
-fn feed_row<St: Store>(
+// Puts the partial row that is fed into the table, which comes with the first row.
+pub(crate) fn feed_row<St: Store>(
     alloc: Global,
     store: &mut St,
     c: &Client,
@@ -90,8 +90,8 @@ fn feed_row<St: Store>(
     requires op { IsOperator (operator c.now shape.now parts.old table.old) (St.holds store.old) (St.signs store.old) }
     requires feeding { IsFeeding (operator c.now shape.now parts.old table.old) }
     requires row { IsSpelled shape.now (length_of parts.old.page_blocks (St.holds store.old)) fed.now.row.items }
-    ensures keeps { OnOk result ((start : Option (List Entry)) → (rows : List (List Value)) → (row : List Value) → Spells shape.now fed.now.row.items row → Keeps start rows (operator c.now shape.now parts.old table.old) (St.holds store.old) (St.signs store.old) → Keeps start (rows ++ row ∷ []) (operator c.now shape.now parts.new table.new) (St.holds store.new) (St.signs store.new)) }
-    ensures holds { OnOk result ((rows : List (List Value)) → (row : List Value) → Spells shape.now fed.now.row.items row → Holds rows (operator c.now shape.now parts.old table.old) (St.holds store.old) (St.signs store.old) → Holds (rows ++ row ∷ []) (operator c.now shape.now parts.new table.new) (St.holds store.new) (St.signs store.new)) }
+    ensures keeps { OnOk result ((start : Option (List Entry)) → (rows more : List (List Value)) → Spells shape.now fed.now.row.items more → Keeps start rows (operator c.now shape.now parts.old table.old) (St.holds store.old) (St.signs store.old) → Keeps start (rows ++ more) (operator c.now shape.now parts.new table.new) (St.holds store.new) (St.signs store.new)) }
+    ensures holds { OnOk result ((rows more : List (List Value)) → Spells shape.now fed.now.row.items more → Holds rows (operator c.now shape.now parts.old table.old) (St.holds store.old) (St.signs store.old) → Holds (rows ++ more) (operator c.now shape.now parts.new table.new) (St.holds store.new) (St.signs store.new)) }
     ensures makes { Makes (operator c.now shape.now parts.old table.old) (operator c.now shape.now parts.new table.new) (St.holds store.old) (St.signs store.old) (St.signs store.new) }
     ensures op { IsOperator (operator c.now shape.now parts.new table.new) (St.holds store.new) (St.signs store.new) }
     ensures same { IsSame (operator c.now shape.now parts.old table.old) (operator c.now shape.now parts.new table.new) }

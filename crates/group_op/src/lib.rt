@@ -24,6 +24,7 @@ mod lowest;
 mod operator;
 mod ordering;
 mod own_row;
+mod partial;
 mod putting;
 mod reading;
 mod reduction;

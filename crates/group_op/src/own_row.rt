@@ -1,5 +1,5 @@
 //! A row that is fed, as its own partial row.
-ghost use Rattle.std.specs.Prelude.{◌≡◌, ◌+◌, ◌*◌, ◌<◌, ◌≤◌, ◌^◌, All, length, OnOk};
+ghost use Rattle.std.specs.Prelude.{◌≡◌, ◌+◌, ◌*◌, ◌<◌, ◌≤◌, ◌^◌, ◌∷◌, [], All, length, OnOk};
 ghost use Rattle.row_codec.specs.Row.{IsValue, kinds_of};
 ghost use Rattle.row_codec.specs.RowBytes.{row_bytes};
 ghost use Rattle.store_api.specs.Shapes.{IsShape};
@@ -15,7 +15,7 @@ pub(crate) fn spell(row: &[Value], shape: &Shape, out: &mut Vec<u8>) -> Result<(
     requires shape { IsShape shape.now }
     requires kinds { kinds_of row.now ≡ shape.now.kinds }
     requires short { length (row_bytes row.now) + 16 * length shape.now.aggs < 2 ^ 32 }
-    ensures spells { OnOk result (Spells shape.now out.new.items row.now) }
+    ensures spells { OnOk result (Spells shape.now out.new.items (row.now ∷ [])) }
     ensures formed { OnOk result (IsPartialRow shape.now out.new.items) }
     ensures short { OnOk result (length out.new.items ≤ length (row_bytes row.now) + 16 * length shape.now.aggs) }
 {

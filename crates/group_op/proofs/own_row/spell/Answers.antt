@@ -2,6 +2,7 @@ use Rattle.std.proofs.Common.{length, ap, arith}
 use Rattle.partition_stack.proofs.Results.{on_ok}
 use Rattle.group_op.proofs.Advancing.{ok_both}
 use Rattle.group_op.proofs.OwnBytes.{own_long}
+use Rattle.group_op.proofs.Taken.{spells_own}
 use Rattle.group_op.proofs.own_row.spell.Goals as goal
 
 pub returns-clause-short : goal.returns-clause-short
@@ -12,5 +13,5 @@ returns-clause-short c =
 pub returns-clause-spells : goal.returns-clause-spells
 returns-clause-spells c =
     let few = own_long c.args.shape.now c.args.row.now c.requires.shape in
-    ok_both c.spell_own.result (λ row says. let same = ap length row in record { values = c.law_values.ensures; says = says; light = omega (arith, few, same) })
+    ok_both c.spell_own.result (λ row says. let same = ap length row in spells_own c.args.shape.now c.args.row.now _ c.law_values.ensures says (omega (arith, few, same)))
     c.spell_own.ensures.row c.spell_own.ensures.says

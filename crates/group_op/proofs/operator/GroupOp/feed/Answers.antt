@@ -46,7 +46,7 @@ returns-clause-keeps g c =
       | in-Ok w ↦
           rw w.result-is
           (λ start fed keeps.
-          w.in-Ok.ensures.keeps start fed c.args.row.now spells
+          w.in-Ok.ensures.keeps start fed (c.args.row.now ∷ []) spells
           (subst (λ (o : Operator). Keeps start fed o (g.St.Store.holds c.args.store.now) (g.St.Store.signs c.args.store.now)) (sym c.self.view_is) keeps))
       | in-Err w ↦ rw w.result-is tt
     ]
@@ -74,5 +74,5 @@ returns-clause-enough g c =
     subst (λ (o : Operator). IfErr c.match-feed_row.result (λ e. (fed : List (List Value)) → Holds fed o h s → IsWantBelowOf (slots_for 16 o h (fed ++ c.args.row.now ∷ [])) (slots_in (over o.parts h s)) e)) c.self.view_is
     (elim c.match-feed_row.branch [
       | in-Ok w ↦ rw w.result-is tt
-      | in-Err w ↦ rw w.result-is (λ fed holds. fed_below inside h fed c.args.row.now (slots_in (over p h s)) w.in-Err.e some (w.in-Err.ensures.enough fed holds some))
+      | in-Err w ↦ rw w.result-is (λ fed holds. fed_below inside h fed (c.args.row.now ∷ []) (slots_in (over p h s)) w.in-Err.e some (w.in-Err.ensures.enough fed holds some))
     ])
