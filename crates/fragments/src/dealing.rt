@@ -37,7 +37,9 @@ pub enum Failure<Q, E> {
 ///
 /// # Errors
 ///
-/// What stopped the reading comes before what stopped a feeder, and of these the first one's.
+/// `Memory`: there was too little for the queue and the places of the fragments. `Reading`: the giver was stopped so. `Feeding`: the
+/// caller's feeder was stopped so or, of the others that were, the one with the least number. Where several were stopped the giver is
+/// told first, then the caller's feeder; no clause says so.
 pub fn deal<
     T: Drop + Send,
     J: Admits<T> + Sync,
@@ -65,7 +67,7 @@ pub fn deal<
     // Each item went to one of the feeders, as often as it was given.
     ensures ok { OnOk result (IsDealt F.took S.ended giver.old op.old beside.old ops.old besides.old giver.new op.new beside.new ops.new besides.new) }
 
-    // The reading's refusal comes first, then the own feeder's, then that of the other with the least number.
+    // Any other answer is that of the giver, of the own feeder, or of the first of the others that were stopped.
     ensures cause { IfErr result (IsCause F.took F.stops S.stops giver.old op.old beside.old ops.old besides.old giver.new beside.new ops.new besides.new) }
 {
     let Ok((queue, mut pass)) = open::<T, J>(alloc, ROOM) else {
