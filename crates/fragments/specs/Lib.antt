@@ -3,4 +3,5 @@ pub mod Causes
 pub mod Dealing
 pub mod Fragments
 pub mod Places
+pub mod Rows
 pub mod Running

@@ -12,6 +12,7 @@ mod beside;
 mod dealing;
 mod feeding;
 mod fragment;
+mod laws;
 mod moves;
 mod place;
 mod places;
@@ -20,6 +21,7 @@ mod rule;
 
 pub use dealing::{Failure, deal};
 pub use feeding::{Feeder, Giver};
+pub use laws::law_rows;
 pub use place::Place;
 pub use reading::Stop;
 pub use rule::{Admits, Cut, Fair, Puts, Queue, Takes, Tally};
