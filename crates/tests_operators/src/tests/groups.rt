@@ -95,7 +95,7 @@ fn text(alloc: Global, number: u32) -> Result<Value, OpErr> {
     Ok(Value::Text(bytes))
 }
 
-fn push(row: &mut Vec<Value>, value: Value) -> Result<(), OpErr> {
+pub(super) fn push(row: &mut Vec<Value>, value: Value) -> Result<(), OpErr> {
     if row.push(value).is_err() {
         return Err(MEMORY);
     }
@@ -127,7 +127,7 @@ fn kind_of(value: &Value) -> Kind
     }
 }
 
-fn has_kinds(row: &[Value], kinds: &[Kind]) -> bool
+pub(super) fn has_kinds(row: &[Value], kinds: &[Kind]) -> bool
     ensures { result ≡ true → kinds_of row.now ≡ kinds.now }
 {
     if row.len() != kinds.len() {
@@ -142,7 +142,7 @@ fn has_kinds(row: &[Value], kinds: &[Kind]) -> bool
 }
 
 // Feeds a row that fits the shape and a page.
-fn feed_one<St: Store>(
+pub(super) fn feed_one<St: Store>(
     alloc: Global,
     store: &mut St,
     op: &mut GroupOp,
@@ -331,7 +331,7 @@ fn one_text(alloc: Global) -> Result<Shape, OpErr>
 }
 
 // All that can be computed over a number, for two texts.
-fn all_four(alloc: Global) -> Result<Shape, OpErr>
+pub(super) fn all_four(alloc: Global) -> Result<Shape, OpErr>
     ensures { IfOk result (λ shape. IsShape shape) }
 {
     let Ok(kinds) = Vec::from_slice(alloc, &[Kind::Text, Kind::Text, Kind::Int]) else {
