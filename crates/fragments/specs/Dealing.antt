@@ -34,16 +34,13 @@ module _ {T F C S E Q : Type 0} (admits : T → Type 0) (ready : F → C → Typ
     pub cause : IfErr outcome (StopsAt left why giver giver' (StopsSo went stops op beside beside'))
 
 module _ {T F C S : Type 0} (took : F → C → F → C → List T → Type 0) (ended : S → S → List T → Type 0) where
-  -- all that was given went to the one feeder and to the others, each item as often as it was given
-  pub record IsDealt (giver : S) (op : F) (beside : C) (ops : List F) (besides : List C)
-      (giver' : S) (op' : F) (beside' : C) (ops' : List F) (besides' : List C) : Type 0 where
+  -- all that was given went to the feeders, each item as often as it was given
+  pub record IsDealt (giver : S) (ops : List F) (besides : List C) (giver' : S) (ops' : List F) (besides' : List C) : Type 0 where
     pub all : List T
     pub given : ended giver giver' all
-    pub own : List T
-    pub own_took : took op beside op' beside' own
     pub lists : List (List T)
     pub len : length lists ≡ length ops
     pub ops_len : length ops' ≡ length ops
     pub each : (k : ℕ) (f : F) (c : C) → k < length ops
         → took (slice_index_or ops k f) (slice_index_or besides k c) (slice_index_or ops' k f) (slice_index_or besides' k c) (slice_index_or lists k [])
-    pub even : (h : T → ℕ) → sum_by h all ≡ sum_by h own + sum_by (sum_by h) lists
+    pub even : (h : T → ℕ) → sum_by h all ≡ sum_by (sum_by h) lists

@@ -39,17 +39,16 @@ same_lists (x ∷ xs) (l ∷ ls) len each =
     ∙ ap₂ (λ a b. a ++ b) (each 0 x (omega arith)) (same_lists xs ls (omega arith) (λ k d below. each (suc k) d (omega arith)))
     ∙ sym (flat_map-cons (flat_map rows_of) l ls)
 
-pub shared_batches : {S E : Type 0} (ended : S → S → List Batch → Type 0) (giver giver' : S) (own own' : Kept) (others others' : List Kept) (besides besides' : List (Unit {0})) (all : List ℕ)
-    → ((items : List Batch) → ended giver giver' items → EndedRows all items) → own.items.items ≡ [] → All (λ (k : Kept). k.items.items ≡ []) others
-    → (r : Result (Unit {0}) E) → OnOk r (IsDealt (λ f c g d items. TookRows f g items) ended giver own tt others besides giver' own' tt others' besides')
-    → OnOk r (IsPermutation all (own'.items.items ++ flat_map (λ (k : Kept). k.items.items) others'))
-shared_batches ended giver giver' own own' others others' besides besides' all given none nones (Ok u) d =
+pub shared_batches : {S E : Type 0} (ended : S → S → List Batch → Type 0) (giver giver' : S) (kept kept' : List Kept) (besides besides' : List (Unit {0})) (all : List ℕ)
+    → ((items : List Batch) → ended giver giver' items → EndedRows all items) → All (λ (k : Kept). k.items.items ≡ []) kept
+    → (r : Result (Unit {0}) E) → OnOk r (IsDealt (λ f c g d items. TookRows f g items) ended giver kept besides giver' kept' besides')
+    → OnOk r (IsPermutation all (flat_map (λ (k : Kept). k.items.items) kept'))
+shared_batches ended giver giver' kept kept' besides besides' all given nones (Ok u) d =
     let whole = (given d.all d.given).all in
-    let mine : own'.items.items ≡ flat_map rows_of d.own = d.own_took.behind ∙ ap (λ l. l ++ flat_map rows_of d.own) none in
-    let theirs = same_lists others' d.lists (d.len ∙ sym d.ops_len) (λ k x below.
-    let below' : k < length others = (let l = d.ops_len in omega arith) in
+    let theirs = same_lists kept' d.lists (d.len ∙ sym d.ops_len) (λ k x below.
+    let below' : k < length kept = (let l = d.ops_len in omega arith) in
     (d.each k x tt below').behind ∙ ap (λ l. l ++ flat_map rows_of (slice_index_or d.lists k [])) (nones k x below')) in
-    let moved = rows_permuted eqb (λ x y is. eqb-true x y is) (λ x. eq-eqb x x refl) rows_of d.all d.own d.lists d.even in
-    subst (λ l. IsPermutation l (own'.items.items ++ flat_map (λ (k : Kept). k.items.items) others')) (sym whole)
-    (subst (λ l. IsPermutation (flat_map rows_of d.all) l) (ap₂ (λ a b. a ++ b) (sym mine) (sym theirs)) moved)
-shared_batches ended giver giver' own own' others others' besides besides' all given none nones (Err e) d = tt
+    let moved = rows_permuted eqb (λ x y is. eqb-true x y is) (λ x. eq-eqb x x refl) rows_of d.all [] d.lists (λ h. let e = d.even h in omega arith) in
+    subst (λ l. IsPermutation l (flat_map (λ (k : Kept). k.items.items) kept')) (sym whole)
+    (subst (λ l. IsPermutation (flat_map rows_of d.all) l) (sym theirs) moved)
+shared_batches ended giver giver' kept kept' besides besides' all given nones (Err e) d = tt

@@ -18,16 +18,15 @@ same_weight h (x ∷ xs) (l ∷ ls) len each =
 abbrev TookKept : Kept → Unit {0} → Kept → Unit {0} → List ℕ → Type 0
 TookKept f c g d items = g.items.items ≡ f.items.items ++ items
 
-pub shared : {S E : Type 0} (ended : S → S → List ℕ → Type 0) (giver giver' : S) (own own' : Kept) (others others' : List Kept) (besides besides' : List (Unit {0})) (all : List ℕ)
-    → ((items : List ℕ) → ended giver giver' items → all ≡ items) → own.items.items ≡ [] → All (λ (k : Kept). k.items.items ≡ []) others
-    → (r : Result (Unit {0}) E) → OnOk r (IsDealt TookKept ended giver own tt others besides giver' own' tt others' besides')
-    → OnOk r ((h : ℕ → ℕ) → sum_by h all ≡ sum_by h own'.items.items + sum_by (λ (k : Kept). sum_by h k.items.items) others')
-shared ended giver giver' own own' others others' besides besides' all given none nones (Ok u) d = λ h.
+pub shared : {S E : Type 0} (ended : S → S → List ℕ → Type 0) (giver giver' : S) (kept kept' : List Kept) (besides besides' : List (Unit {0})) (all : List ℕ)
+    → ((items : List ℕ) → ended giver giver' items → all ≡ items) → All (λ (k : Kept). k.items.items ≡ []) kept
+    → (r : Result (Unit {0}) E) → OnOk r (IsDealt TookKept ended giver kept besides giver' kept' besides')
+    → OnOk r ((h : ℕ → ℕ) → sum_by h all ≡ sum_by (λ (k : Kept). sum_by h k.items.items) kept')
+shared ended giver giver' kept kept' besides besides' all given nones (Ok u) d = λ h.
     let e1 : sum_by h all ≡ sum_by h d.all = ap (sum_by h) (given d.all d.given) in
     let e2 = d.even h in
-    let e3 : sum_by h own'.items.items ≡ sum_by h d.own = ap (sum_by h) (d.own_took ∙ ap (λ l. l ++ d.own) none) in
-    let e4 = same_weight h others' d.lists (d.len ∙ sym d.ops_len) (λ k x below.
-    let below' : k < length others = (let l = d.ops_len in omega arith) in
+    let e4 = same_weight h kept' d.lists (d.len ∙ sym d.ops_len) (λ k x below.
+    let below' : k < length kept = (let l = d.ops_len in omega arith) in
     d.each k x tt below' ∙ ap (λ l. l ++ slice_index_or d.lists k []) (nones k x below')) in
     omega arith
-shared ended giver giver' own own' others others' besides besides' all given none nones (Err e) d = tt
+shared ended giver giver' kept kept' besides besides' all given nones (Err e) d = tt

@@ -1,5 +1,5 @@
 //! Numbers that several threads take into lists, sixty-four at a time.
-ghost use Rattle.std.specs.Prelude.{◌≡◌, ◌++◌, ◌≤◌, [], All, OnOk, length};
+ghost use Rattle.std.specs.Prelude.{◌≡◌, ◌≤◌, [], All, OnOk, length};
 ghost use Rattle.std.specs.List.{flat_map};
 ghost use Rattle.std.specs.List.Sorted.{IsPermutation};
 
@@ -75,31 +75,27 @@ impl<'a> Giver<Batch, AllocError> for Batches<'a> {
     }
 }
 
-/// Shares numbers among a thread and others, in batches: all their lists together are a permutation of `all`.
+/// Shares numbers among lists, in batches: all lists together are a permutation of `all`.
 pub fn share_batches<R: Threads + Wait + Sync, G: Gate>(
     rt: &R,
     alloc: Global,
     gate: &G,
     all: &[u32],
-    own: &mut Kept,
-    others: &mut [Kept],
+    kept: &mut [Kept],
     besides: &mut [()],
 ) -> Result<(), Failure<AllocError, AllocError>>
-    requires len { length besides.old ≡ length others.old }
-    requires few { length others.old ≤ 8 }
-    requires none { (own.old.items.items ≡ []) × All (λ kept. kept.items.items ≡ []) others.old }
-    ensures { OnOk result (IsPermutation all.now (own.new.items.items ++ flat_map (λ kept. kept.items.items) others.new)) }
+    requires len { length besides.old ≡ length kept.old }
+    requires few { (1 ≤ length kept.old) × (length kept.old ≤ 9) }
+    requires none { All (λ k. k.items.items ≡ []) kept.old }
+    ensures { OnOk result (IsPermutation all.now (flat_map (λ k. k.items.items) kept.new)) }
 {
     let mut batches = Batches { alloc, rest: all };
-    let mut nothing = ();
     let dealt = deal::<Batch, Brand, (), AllocError, Kept, AllocError, Batches, R, G>(
         rt,
         alloc,
         gate,
         &mut batches,
-        own,
-        &mut nothing,
-        others,
+        kept,
         besides,
     );
     let Batches { alloc: _, rest: _ } = batches;

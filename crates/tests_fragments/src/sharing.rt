@@ -1,5 +1,5 @@
 //! Numbers that several threads take into lists.
-ghost use Rattle.std.specs.Prelude.{◌≡◌, ◌+◌, ◌++◌, ◌≤◌, [], ⊤, ℕ, All, List, OnOk, length, sum_by};
+ghost use Rattle.std.specs.Prelude.{◌≡◌, ◌++◌, ◌≤◌, [], ⊤, ℕ, All, List, OnOk, length, sum_by};
 
 use fragments::{Failure, Feeder, Giver, deal};
 use outside::{Gate, MeetGate};
@@ -62,31 +62,27 @@ impl<'a> Giver<u32, ()> for Numbers<'a> {
     }
 }
 
-/// Shares numbers among a thread and others: each stands in the lists together as often as in `all`.
+/// Shares numbers among lists, the first of which is the caller's: each stands in the lists together as often as in `all`.
 pub fn share<R: Threads + Wait + Sync, G: Gate>(
     rt: &R,
     alloc: Global,
     gate: &G,
     all: &[u32],
-    own: &mut Kept,
-    others: &mut [Kept],
+    kept: &mut [Kept],
     besides: &mut [()],
 ) -> Result<(), Failure<(), AllocError>>
-    requires len { length besides.old ≡ length others.old }
-    requires few { length others.old ≤ 8 }
-    requires none { (own.old.items.items ≡ []) × All (λ kept. kept.items.items ≡ []) others.old }
-    ensures { OnOk result ((h : ℕ → ℕ) → sum_by h all.now ≡ sum_by h own.new.items.items + sum_by (λ kept. sum_by h kept.items.items) others.new) }
+    requires len { length besides.old ≡ length kept.old }
+    requires few { (1 ≤ length kept.old) × (length kept.old ≤ 9) }
+    requires none { All (λ k. k.items.items ≡ []) kept.old }
+    ensures { OnOk result ((h : ℕ → ℕ) → sum_by h all.now ≡ sum_by (λ k. sum_by h k.items.items) kept.new) }
 {
     let mut numbers = Numbers { rest: all };
-    let mut nothing = ();
     let dealt = deal::<u32, Brand, (), AllocError, Kept, (), Numbers, R, G>(
         rt,
         alloc,
         gate,
         &mut numbers,
-        own,
-        &mut nothing,
-        others,
+        kept,
         besides,
     );
     let Numbers { rest: _ } = numbers;
@@ -133,23 +129,19 @@ pub fn share_at<R: Threads + Wait + Sync>(
     alloc: Global,
     gate: &MeetGate,
     all: &[u32],
-    own: &mut Kept,
-    others: &mut [Kept],
+    kept: &mut [Kept],
     besides: &mut [()],
 ) -> Result<(), Failure<(), AllocError>>
-    requires len { length besides.old ≡ length others.old }
-    requires few { length others.old ≤ 8 }
+    requires len { length besides.old ≡ length kept.old }
+    requires few { (1 ≤ length kept.old) × (length kept.old ≤ 9) }
 {
     let mut numbers = Patient { rest: all, gate };
-    let mut nothing = ();
     let dealt = deal::<u32, Brand, (), AllocError, Kept, (), Patient, R, MeetGate>(
         rt,
         alloc,
         gate,
         &mut numbers,
-        own,
-        &mut nothing,
-        others,
+        kept,
         besides,
     );
     let Patient { rest: _, gate: _ } = numbers;

@@ -13,12 +13,13 @@ fn empty(alloc: Global) -> Kept
     }
 }
 
-fn three(alloc: Global) -> Result<Vec<Kept>, AllocError>
+fn four(alloc: Global) -> Result<Vec<Kept>, AllocError>
     ensures empty { IfOk result (λ v. All (λ kept. kept.items.items ≡ []) v.items) }
-    ensures len { IfOk result (λ v. vec_len v ≡ 3) }
+    ensures len { IfOk result (λ v. vec_len v ≡ 4) }
 {
     let mut all = Vec::new(alloc);
-    all.reserve(3)?;
+    all.reserve(4)?;
+    all.push_reserved(empty(alloc));
     all.push_reserved(empty(alloc));
     all.push_reserved(empty(alloc));
     all.push_reserved(empty(alloc));
@@ -32,25 +33,20 @@ fn numbers_are_shared_among_threads(rt: HostRuntime) -> Result<(), Fail> {
     for number in 0..20000u32 {
         all.push(number)?;
     }
-    let mut own = empty(alloc);
-    let mut others = three(alloc)?;
-    let mut besides = Vec::from_elem(alloc, (), 3)?;
+    let mut kept = four(alloc)?;
+    let mut besides = Vec::from_elem(alloc, (), 4)?;
     let shared = share(
         &rt,
         alloc,
         &OpenGate,
         all.as_slice(),
-        &mut own,
-        others.as_mut_slice(),
+        kept.as_mut_slice(),
         besides.as_mut_slice(),
     );
     assert!(rt; shared.is_ok());
-    let mut count = own.items.len();
-    let mut sum = own
-        .items
-        .iter()
-        .fold(0u64, |sum, x| sum.wrapping_add(u64::from(*x)));
-    for other in others.as_slice() {
+    let mut count = 0usize;
+    let mut sum = 0u64;
+    for other in kept.as_slice() {
         count = count.wrapping_add(other.items.len());
         sum = other
             .items
@@ -69,25 +65,20 @@ fn numbers_are_shared_in_batches(rt: HostRuntime) -> Result<(), Fail> {
     for number in 0..20000u32 {
         all.push(number)?;
     }
-    let mut own = empty(alloc);
-    let mut others = three(alloc)?;
-    let mut besides = Vec::from_elem(alloc, (), 3)?;
+    let mut kept = four(alloc)?;
+    let mut besides = Vec::from_elem(alloc, (), 4)?;
     let shared = share_batches(
         &rt,
         alloc,
         &OpenGate,
         all.as_slice(),
-        &mut own,
-        others.as_mut_slice(),
+        kept.as_mut_slice(),
         besides.as_mut_slice(),
     );
     assert!(rt; shared.is_ok());
-    let mut count = own.items.len();
-    let mut sum = own
-        .items
-        .iter()
-        .fold(0u64, |sum, x| sum.wrapping_add(u64::from(*x)));
-    for other in others.as_slice() {
+    let mut count = 0usize;
+    let mut sum = 0u64;
+    for other in kept.as_slice() {
         count = count.wrapping_add(other.items.len());
         sum = other
             .items
@@ -107,9 +98,8 @@ fn two_fragments_meet_at_a_gate(rt: HostRuntime) -> Result<(), Fail> {
     for number in 0..10u32 {
         all.push(number)?;
     }
-    let mut own = empty(alloc);
-    let mut others = two(alloc)?;
-    let mut besides = Vec::from_elem(alloc, (), 2)?;
+    let mut kept = three(alloc)?;
+    let mut besides = Vec::from_elem(alloc, (), 3)?;
     let held = (2000, Point::FragmentTook);
     let until = (2001, Point::FragmentTook);
     let gate = MeetGate::new(held, until, 10_000_000)?;
@@ -118,8 +108,7 @@ fn two_fragments_meet_at_a_gate(rt: HostRuntime) -> Result<(), Fail> {
         alloc,
         &gate,
         all.as_slice(),
-        &mut own,
-        others.as_mut_slice(),
+        kept.as_mut_slice(),
         besides.as_mut_slice(),
     );
     assert_eq!(rt;
@@ -129,11 +118,12 @@ fn two_fragments_meet_at_a_gate(rt: HostRuntime) -> Result<(), Fail> {
     Ok(())
 }
 
-fn two(alloc: Global) -> Result<Vec<Kept>, AllocError>
-    ensures len { IfOk result (λ v. vec_len v ≡ 2) }
+fn three(alloc: Global) -> Result<Vec<Kept>, AllocError>
+    ensures len { IfOk result (λ v. vec_len v ≡ 3) }
 {
     let mut all = Vec::new(alloc);
-    all.reserve(2)?;
+    all.reserve(3)?;
+    all.push_reserved(empty(alloc));
     all.push_reserved(empty(alloc));
     all.push_reserved(empty(alloc));
     Ok(all)
