@@ -5,6 +5,7 @@ mod joins;
 mod plans;
 mod pools;
 mod runs;
+mod worked;
 
 use outside::{MemInputs, MemOutputs, MemSink};
 use runs::{call, check, slots};

@@ -11,9 +11,10 @@ use std::time::Clock;
 // The answer of ten rows from 3 on in five groups, in the order of their paths.
 const ANSWER: &[u8] = b"k,count,sum(v)\n4,2,11\n2,2,9\n3,2,5\n0,2,7\n1,2,13\n";
 
-// What stands behind a check with 64 slots whose output fails at these writes.
-fn checked<R: Abort + AllocGlobal + Wait + Threads + Clock + Sync>(
+// What stands behind a check with so many slots whose output fails at these writes.
+pub(crate) fn checked<R: Abort + AllocGlobal + Wait + Threads + Clock + Sync>(
     rt: &R,
+    count: u32,
     words: &[&str],
     writes: &[u64],
 ) -> Result<Ended, Fail> {
@@ -21,7 +22,7 @@ fn checked<R: Abort + AllocGlobal + Wait + Threads + Clock + Sync>(
     outputs.fail("selfcheck.csv", writes)?;
     let report = MemSink::new(rt.alloc(), 7, &[])?;
     let mut inputs = MemInputs::new(rt.alloc())?;
-    let mut slots = slots(rt.alloc(), 64)?;
+    let mut slots = slots(rt.alloc(), count)?;
     call(rt, words, &mut inputs, outputs, report, &mut slots)
 }
 
@@ -55,7 +56,7 @@ fn a_check_tells_the_numbers_of_its_answer(rt: HostRuntime) -> Result<(), Fail> 
         ("10", "20", &[0], 9, b"9 output\n", Some(b"")),
     ];
     for (count, blocks, writes, status, report, output) in rows {
-        let ended = checked(&rt, &["selfcheck", "3", count, "5", blocks], writes)?;
+        let ended = checked(&rt, 64, &["selfcheck", "3", count, "5", blocks], writes)?;
         check(&rt, &ended, status, report);
         check_output(&rt, &ended, "selfcheck.csv", output, status == 0);
     }
