@@ -5,6 +5,7 @@ ghost use Rattle.local_pool.specs.Told.{held_of};
 mod chunks;
 mod groups;
 mod joins;
+mod partial_pages;
 mod partials;
 mod scans;
 

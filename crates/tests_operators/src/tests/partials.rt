@@ -18,11 +18,11 @@ use std::alloc::Global;
 use std::test::Fail;
 use store_api::{Client, Emit, MemStore, OpErr, Shape, Store};
 
-// Two texts of a byte each, and a number.
-type Row = ([u8; 2], i64);
+/// Two texts of a byte each, and a number.
+pub(super) type Row = ([u8; 2], i64);
 
-// The two texts of a group, and its count, its sum, its least and its greatest number.
-type Group = ([u8; 2], [i128; 4]);
+/// The two texts of a group, and its count, its sum, its least and its greatest number.
+pub(super) type Group = ([u8; 2], [i128; 4]);
 
 // What a grouping is fed: rows, and then partial rows.
 #[derive(Clone, Copy, Drop)]
@@ -322,8 +322,8 @@ fn in_memory(alloc: Global, pages: u32, shape: &Shape, fed: Fed) -> Result<Vec<G
     groups
 }
 
-// The groups of these rows, by one grouping.
-fn of_rows(alloc: Global, shape: &Shape, rows: &[Row]) -> Result<Vec<Group>, OpErr>
+/// The groups of these rows, by one grouping.
+pub(super) fn of_rows(alloc: Global, shape: &Shape, rows: &[Row]) -> Result<Vec<Group>, OpErr>
     requires { IsShape shape.now }
 {
     let fed = Fed {
@@ -333,8 +333,8 @@ fn of_rows(alloc: Global, shape: &Shape, rows: &[Row]) -> Result<Vec<Group>, OpE
     in_memory(alloc, 1000, shape, fed)
 }
 
-// The same by a grouping in so many pages, that is fed the partial rows of a grouping of each half.
-fn of_halves(
+/// The same by a grouping in so many pages, that is fed the partial rows of a grouping of each half.
+pub(super) fn of_halves(
     alloc: Global,
     pages: u32,
     shape: &Shape,
@@ -388,36 +388,5 @@ fn partial_rows_of_two_halves_are_combined(rt: HostRuntime) -> Result<(), Fail> 
     }
     let answer = of_rows(rt.alloc(), &shape, &rows)?;
     assert_eq!(rt; answer.as_slice(), groups.as_slice());
-    Ok(())
-}
-
-// Two rows of each of a hundred keys, the second ones behind all first ones: a key's number, and 150 less.
-fn two_of_each(alloc: Global) -> Result<Vec<Row>, OpErr> {
-    let mut rows = Vec::new(alloc);
-    for less in [0, 150] {
-        for key in 0..100 {
-            if rows.push(([key, b'k'], i64::from(key) - less)).is_err() {
-                return Err(MEMORY);
-            }
-        }
-    }
-    Ok(rows)
-}
-
-#[test]
-fn partial_rows_come_back_from_partitions(rt: HostRuntime) -> Result<(), Fail> {
-    let shape = all_four(rt.alloc())?;
-    let rows = two_of_each(rt.alloc())?;
-    let halves = rows.split_at(rows.len() / 2);
-    // A hundred partial rows take more than 60 pages, so that most of them go to partitions.
-    let answer = of_halves(rt.alloc(), 20, &shape, halves)?;
-    assert_eq!(rt; answer.len(), 100);
-    for (texts, numbers) in &answer {
-        let number = i128::from(texts[0]);
-        let worked = [2, 2 * number - 150, number - 150, number];
-        assert_eq!(rt; *numbers, worked, "key {number}");
-    }
-    let whole = of_rows(rt.alloc(), &shape, &rows)?;
-    assert_eq!(rt; answer.as_slice(), whole.as_slice());
     Ok(())
 }
