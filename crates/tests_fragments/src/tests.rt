@@ -26,13 +26,33 @@ fn four(alloc: Global) -> Result<Vec<Kept>, AllocError>
     Ok(all)
 }
 
+// So many numbers, from 0 on.
+fn numbers(alloc: Global, count: u32) -> Result<Vec<u32>, AllocError> {
+    let mut all = Vec::new(alloc);
+    for number in 0..count {
+        all.push(number)?;
+    }
+    Ok(all)
+}
+
+// How many numbers the lists have together, and their sum.
+fn tally(kept: &[Kept]) -> (usize, u64) {
+    let mut count = 0usize;
+    let mut sum = 0u64;
+    for other in kept {
+        count = count.wrapping_add(other.items.len());
+        sum = other
+            .items
+            .iter()
+            .fold(sum, |sum, x| sum.wrapping_add(u64::from(*x)));
+    }
+    (count, sum)
+}
+
 #[test]
 fn numbers_are_shared_among_threads(rt: HostRuntime) -> Result<(), Fail> {
     let alloc = rt.alloc();
-    let mut all = Vec::new(alloc);
-    for number in 0..20000u32 {
-        all.push(number)?;
-    }
+    let all = numbers(alloc, 20000)?;
     let mut kept = four(alloc)?;
     let mut besides = Vec::from_elem(alloc, (), 4)?;
     let shared = share(
@@ -43,28 +63,14 @@ fn numbers_are_shared_among_threads(rt: HostRuntime) -> Result<(), Fail> {
         kept.as_mut_slice(),
         besides.as_mut_slice(),
     );
-    assert!(rt; shared.is_ok());
-    let mut count = 0usize;
-    let mut sum = 0u64;
-    for other in kept.as_slice() {
-        count = count.wrapping_add(other.items.len());
-        sum = other
-            .items
-            .iter()
-            .fold(sum, |sum, x| sum.wrapping_add(u64::from(*x)));
-    }
-    assert_eq!(rt; count, 20000);
-    assert_eq!(rt; sum, 199990000);
+    assert_eq!(rt; (shared.is_ok(), tally(&kept)), (true, (20000, 199990000)));
     Ok(())
 }
 
 #[test]
 fn numbers_are_shared_in_batches(rt: HostRuntime) -> Result<(), Fail> {
     let alloc = rt.alloc();
-    let mut all = Vec::new(alloc);
-    for number in 0..20000u32 {
-        all.push(number)?;
-    }
+    let all = numbers(alloc, 20000)?;
     let mut kept = four(alloc)?;
     let mut besides = Vec::from_elem(alloc, (), 4)?;
     let shared = share_batches(
@@ -75,18 +81,7 @@ fn numbers_are_shared_in_batches(rt: HostRuntime) -> Result<(), Fail> {
         kept.as_mut_slice(),
         besides.as_mut_slice(),
     );
-    assert!(rt; shared.is_ok());
-    let mut count = 0usize;
-    let mut sum = 0u64;
-    for other in kept.as_slice() {
-        count = count.wrapping_add(other.items.len());
-        sum = other
-            .items
-            .iter()
-            .fold(sum, |sum, x| sum.wrapping_add(u64::from(*x)));
-    }
-    assert_eq!(rt; count, 20000);
-    assert_eq!(rt; sum, 199990000);
+    assert_eq!(rt; (shared.is_ok(), tally(&kept)), (true, (20000, 199990000)));
     Ok(())
 }
 
@@ -94,10 +89,7 @@ fn numbers_are_shared_in_batches(rt: HostRuntime) -> Result<(), Fail> {
 #[test]
 fn two_fragments_meet_at_a_gate(rt: HostRuntime) -> Result<(), Fail> {
     let alloc = rt.alloc();
-    let mut all = Vec::new(alloc);
-    for number in 0..10u32 {
-        all.push(number)?;
-    }
+    let all = numbers(alloc, 10)?;
     let mut kept = three(alloc)?;
     let mut besides = Vec::from_elem(alloc, (), 3)?;
     let held = (2000, Point::FragmentTook);
@@ -115,6 +107,7 @@ fn two_fragments_meet_at_a_gate(rt: HostRuntime) -> Result<(), Fail> {
         (shared.is_ok(), gate.came(), gate.missed()),
         (true, true, false)
     );
+    assert_eq!(rt; tally(&kept), (10, 45));
     Ok(())
 }
 
