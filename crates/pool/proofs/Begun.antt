@@ -1,8 +1,8 @@
 -- What a session holds that has just begun.
 use Rattle.std.proofs.Common.{◌≡◌, ℕ, ◌+◌, ◌<◌, ◌≤◌, List, [], ◌∷◌, ◌++◌, length, Bool, true, false, IsSome, is_some, option_map, refl, sym, ap, ◌∙◌, arith}
 use Rattle.std.proofs.lemmas.List.{append_assoc}
-use Rattle.client_accounts.specs.declared.account.ClientAccount.{ClientAccount}
-use Rattle.client_accounts.specs.Unused.{unused_in}
+use Rattle.pool.specs.declared.account.ClientAccount.{ClientAccount}
+use Rattle.pool.specs.Unused.{unused_in}
 use Rattle.pool_model.specs.declared.entry.Entry.{Entry}
 use Rattle.pool_model.specs.State.{Opening}
 use Rattle.pool_model.specs.LookingBack.{made_by}

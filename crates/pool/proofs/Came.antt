@@ -4,7 +4,7 @@ use Rattle.std.proofs.lemmas.Bool.{cases_lt}
 use Rattle.std.proofs.lemmas.List.{append-nil}
 use Rattle.std.specs.FinMap.{get, len}
 use Rattle.block_arena.specs.Blocks.{IsBlockLen}
-use Rattle.client_accounts.specs.declared.account.ClientAccount.{ClientAccount}
+use Rattle.pool.specs.declared.account.ClientAccount.{ClientAccount}
 use Rattle.outside.specs.declared.slot.Slot.{Ghosts}
 use Rattle.reservation_tree.specs.Total.{total}
 use Rattle.reservation_tree.specs.declared.errors.PoolErr.{PoolErr}

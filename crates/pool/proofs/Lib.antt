@@ -11,14 +11,17 @@ pub mod Begun
 pub mod Beside
 pub mod Calling
 pub mod Came
+pub mod Changes
 pub mod Charged
 pub mod Declined
 pub mod Doings
 pub mod Ended
 pub mod Entered
+pub mod Found
 pub mod Fresh
 pub mod Given
 pub mod Growth
+pub mod Kept
 pub mod Lent
 pub mod Listed
 pub mod Locked
@@ -28,6 +31,7 @@ pub mod NoStop
 pub mod Out
 pub mod Parted
 pub mod Passes
+pub mod Places
 pub mod Reading
 pub mod Refusals
 pub mod Results
@@ -38,9 +42,9 @@ pub mod Since
 pub mod Staying
 pub mod Stays
 pub mod Stood
+pub mod Storing
+pub mod Summed
 pub mod Trailed
 pub mod Unstopped
 pub mod Vacant
-pub mod Storing
-pub mod Summed
 pub mod WriterTurns

@@ -1,7 +1,7 @@
 -- What a session's readers tell, by its seat and its ledger.
 use Rattle.std.proofs.Common.{◌≡◌, ℕ, Bool, Option, Some, None, IsSome, is_some, option_map, unwrap_or, sym, ap, ◌∙◌, subst}
 use Rattle.std.proofs.lemmas.Bool.{false≢true}
-use Rattle.client_accounts.specs.Unused.{unused_in}
+use Rattle.pool.specs.Unused.{unused_in}
 use Rattle.pool_model.specs.State.{Opening}
 use Rattle.pool_model.specs.LookingBack.{made_by}
 use Rattle.store_api.specs.Holdings.{Account, Holdings, or_else, no_account, unused_of}

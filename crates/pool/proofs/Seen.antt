@@ -2,9 +2,9 @@
 use Rattle.std.proofs.Common.{◌≡◌, ℕ, ◌+◌, ◌==◌, ◌≢◌, ◌<◌, ◌≤◌, List, length, slice_index, if◌then◌else◌, Bool, true, false, Option, Some, None, IsSome, is_some, option_map, refl, sym, ap, ◌∙◌, subst, arith, inl, inr, eq-eqb, ne_eqb}
 use Rattle.std.proofs.lemmas.Bool.{cases_Bool, cases_eq, cases_lt, false≢true}
 use Rattle.std.proofs.lemmas.List.{length-map}
-use Rattle.client_accounts.specs.declared.account.ClientAccount.{ClientAccount}
-use Rattle.client_accounts.specs.Unused.{tracker_at, trackers_of, unused_in}
-use Rattle.client_accounts.proofs.Places.{tracker_has_place}
+use Rattle.pool.specs.declared.account.ClientAccount.{ClientAccount}
+use Rattle.pool.specs.Unused.{tracker_at, trackers_of, unused_in}
+use Rattle.pool.proofs.Places.{tracker_has_place}
 use Rattle.store_api.specs.Holdings.{Account, Holdings, or_else, no_account, unused_of}
 use Rattle.pool.specs.Ledgers.{HasClients}
 

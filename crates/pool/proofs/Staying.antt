@@ -2,8 +2,8 @@
 use Rattle.std.proofs.Common.{◌≡◌, ℕ, ◌+◌, ◌==◌, List, [], Bool, true, false, if◌then◌else◌, Option, Some, None, IsSome, is_some, length, option_map, refl, sym, ap, ◌∙◌, subst, arith, inl, inr, eq-eqb, ne_eqb}
 use Rattle.std.proofs.lemmas.Bool.{cases_eq}
 use Rattle.std.specs.FinMap.{get}
-use Rattle.client_accounts.specs.declared.account.ClientAccount.{ClientAccount}
-use Rattle.client_accounts.specs.Unused.{unused_in}
+use Rattle.pool.specs.declared.account.ClientAccount.{ClientAccount}
+use Rattle.pool.specs.Unused.{unused_in}
 use Rattle.reservation_tree.proofs.Maps.{found}
 use Rattle.pool_model.specs.declared.entry.Entry.{Entry}
 use Rattle.pool_model.specs.State.{Opening, Session, State}

@@ -1,7 +1,7 @@
 -- What a session's ledger tells.
 use Rattle.std.specs.Prelude.{◌≡◌, ℕ, ◌+◌, ◌==◌, List, true, if◌then◌else◌, is_some, length, option_map}
-use Rattle.client_accounts.specs.declared.account.ClientAccount.{ClientAccount}
-use Rattle.client_accounts.specs.Unused.{unused_in}
+use Rattle.pool.specs.declared.account.ClientAccount.{ClientAccount}
+use Rattle.pool.specs.Unused.{unused_in}
 use Rattle.store_api.specs.Holdings.{Holdings}
 use Rattle.pool.specs.declared.ledger.Ledger.{Ledger}
 

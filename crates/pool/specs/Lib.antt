@@ -4,6 +4,7 @@ pub mod Standing
 pub mod Taking
 pub mod Passing
 pub mod Sitting
+pub mod Unused
 pub mod Ledgers
 pub mod Keeping
 pub mod Turning

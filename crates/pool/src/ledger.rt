@@ -1,11 +1,11 @@
 //! What a session may still take and charge, as it last saw it, so that readers wait for nobody.
 ghost use Rattle.std.specs.Prelude.{◌≡◌, ◌<◌, None, IfOk, OnOk, OnErr, length};
-ghost use Rattle.client_accounts.specs.Unused.{unused_in};
+ghost use Rattle.pool.specs.Unused.{unused_in};
 ghost use Rattle.session_calls.specs.Ready.{IsReady};
 ghost use Rattle.session_calls.specs.Acting.{held_by};
 ghost use Rattle.pool.specs.Ledgers.{HasClients, HasOneMore, TellsHeld};
 
-use client_accounts::ClientAccounts;
+use crate::accounts::ClientAccounts;
 use outside::Slot;
 use reservation_tree::PoolErr;
 use session_calls::{Hand, Origin};

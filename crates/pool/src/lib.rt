@@ -9,6 +9,8 @@
 //! spare slots, are all slots; no slot is lost; and the slots count what the history tells (`specs/Standing.antt`).
 #![tactic(auto)]
 
+mod account;
+mod accounts;
 mod admitting;
 mod ask;
 mod at_gate;
@@ -37,6 +39,8 @@ mod turning;
 mod writer;
 mod writing;
 
+pub use account::ClientAccount;
+pub use accounts::{ClientAccounts, MOST};
 pub use ask::Ask;
 pub use at_gate::{AtGate, Points};
 pub use item::Item;

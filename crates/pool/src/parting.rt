@@ -11,6 +11,7 @@ ghost use Rattle.pool.specs.Admitting.{numbered};
 ghost use Rattle.pool.specs.Rooms.{IsRoom};
 ghost use Rattle.pool.specs.Parting.{AreComing, AreSeats, CanHand, IsComing, IsSeatOf, SeatsOf, handed_out};
 
+use crate::accounts::ClientAccounts;
 use crate::ask::Ask;
 use crate::at_gate::AtGate;
 use crate::ledger::Ledger;
@@ -21,7 +22,6 @@ use crate::rooms::{Room, close_room};
 use crate::seat::SessionSeat;
 use crate::session::Session;
 use crate::shared::Shared;
-use client_accounts::ClientAccounts;
 use outside::Slot;
 use reservation_tree::PoolErr;
 use std::marker::PhantomData;

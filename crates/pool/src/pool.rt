@@ -11,6 +11,7 @@ ghost use Rattle.pool.specs.Seating.{Begins, TurnsAway};
 ghost use Rattle.pool.specs.Remaining.{all_left, quotas_of, refusal_of, refusals};
 ghost use Rattle.pool.specs.Asking.{Admits, answer_of, refusal_in};
 
+use crate::accounts::ClientAccounts;
 use crate::ask::Ask;
 use crate::at_gate::AtGate;
 use crate::named::{At, Named};
@@ -21,7 +22,6 @@ use crate::seating::seat_session;
 use crate::session::Session;
 use crate::shared::Shared;
 use crate::together::seat_sessions;
-use client_accounts::ClientAccounts;
 use outside::Slot;
 use pin_core::{EvictedPages, PoolConf, PoolState};
 use pool_model::law_traces;

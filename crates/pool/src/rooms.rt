@@ -4,8 +4,8 @@ ghost use Rattle.std.specs.List.{All};
 ghost use Rattle.pool.specs.Admitting.{AreFew, HasRoomFor};
 ghost use Rattle.pool.specs.Rooms.{IsEmptyRoom, IsRoom};
 
+use crate::accounts::ClientAccounts;
 use crate::ask::Ask;
-use client_accounts::ClientAccounts;
 use reservation_tree::Memory;
 use session_table::MAX_SESSIONS;
 use std::alloc::Global;

@@ -12,6 +12,7 @@ ghost use Rattle.pool.specs.Standing.{StandsAs};
 ghost use Rattle.pool.specs.Seating.{Begins, IsSessionRefusal, MustTurnAway, TurnsAway, beginning_items};
 ghost use Rattle.pool.specs.Remaining.{all_left, refusal_of};
 
+use crate::accounts::ClientAccounts;
 use crate::admitting::admit;
 use crate::item::Item;
 use crate::ledger::Ledger;
@@ -20,7 +21,6 @@ use crate::pass::Pass;
 use crate::place::Place;
 use crate::seat::SessionSeat;
 use crate::shared::Shared;
-use client_accounts::ClientAccounts;
 use outside::Slot;
 use pin_core::PoolState;
 use reservation_tree::{Memory, PoolErr, TrackerId};

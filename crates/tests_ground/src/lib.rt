@@ -1,4 +1,4 @@
-//! The crates of the pool's ground, each alone: blocks, buffers, lists, accounts, sessions and pages against worked rows and
+//! The crates of the pool's ground, each alone: blocks, buffers, lists, sessions and pages against worked rows and
 //! plain lists.
 #![tactic(auto)]
 

@@ -1,4 +1,3 @@
-mod accounts;
 mod arena;
 mod books;
 mod cleans;

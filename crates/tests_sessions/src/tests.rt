@@ -2,6 +2,7 @@
 ghost use Rattle.std.specs.Prelude.{◌≤◌, vec_len};
 ghost use Rattle.pin_core.specs.calls.Setup.{OpensWith};
 
+mod accounts;
 mod asks;
 mod held;
 mod owners;

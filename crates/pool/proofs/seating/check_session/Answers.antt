@@ -1,5 +1,5 @@
 use Rattle.std.proofs.Common.{rules, ◌≡◌, not, List, Result, Err, IfErr, refl, sym, ap, ◌∙◌, subst, inl}
-use Rattle.client_accounts.specs.declared.account.ClientAccount.{ClientAccount}
+use Rattle.pool.specs.declared.account.ClientAccount.{ClientAccount}
 use Rattle.reservation_tree.specs.declared.errors.PoolErr.{PoolErr}
 use Rattle.reservation_tree.specs.declared.errors.PoolErr.TheVariants.{Memory}
 use Rattle.pin_core.specs.StateOf.{state_of}

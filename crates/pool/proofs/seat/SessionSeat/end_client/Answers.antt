@@ -1,6 +1,6 @@
 use Rattle.std.proofs.Common.{◌≡◌, ℕ, [], ◌∷◌, None, IsSome, refl, sym, ◌∙◌, subst}
 use Rattle.pool_model.specs.declared.event.Event.TheVariants.{CloseTracker, MoveReservation}
-use Rattle.client_accounts.specs.Unused.{unused_in}
+use Rattle.pool.specs.Unused.{unused_in}
 use Rattle.store_api.specs.Holdings.{account_of}
 use Rattle.store_api.specs.Conditions.{IsIdle, IsLiveClient}
 use Rattle.session_calls.specs.Acting.{ActsThese}

@@ -1,9 +1,9 @@
 -- One account more, where there was room.
 use Rattle.std.proofs.Common.{◌≡◌, ◌<◌, None, length, sym, subst}
-use Rattle.client_accounts.specs.Unused.{AreProper, unused_in}
-use Rattle.client_accounts.proofs.Changes.{unused_added}
-use Rattle.client_accounts.proofs.Kept.{proper_added}
-use Rattle.client_accounts.proofs.accounts.ClientAccounts.add.Goals as goal
+use Rattle.pool.specs.Unused.{AreProper, unused_in}
+use Rattle.pool.proofs.Changes.{unused_added}
+use Rattle.pool.proofs.Kept.{proper_added}
+use Rattle.pool.proofs.accounts.ClientAccounts.add.Goals as goal
 
 pub invariant_of-self : goal.invariant_of-self
 invariant_of-self c =

@@ -2,9 +2,9 @@
 use Rattle.std.proofs.Common.{◌≡◌, ℕ, ◌<◌, eqb, List, length, get_or, find, Option, None, Some, IsSome, is_some, option_map, refl, ap, sym, ◌∙◌, subst}
 use Rattle.std.proofs.lemmas.Bool.{false≢true}
 use Rattle.std.proofs.lemmas.List.{get_or-map}
-use Rattle.client_accounts.specs.declared.account.ClientAccount.{ClientAccount}
-use Rattle.client_accounts.specs.Unused.{tracker_at, unused_in}
-use Rattle.client_accounts.proofs.Places.{place_has_account}
+use Rattle.pool.specs.declared.account.ClientAccount.{ClientAccount}
+use Rattle.pool.specs.Unused.{tracker_at, unused_in}
+use Rattle.pool.proofs.Places.{place_has_account}
 
 module _ (accounts : List ClientAccount) (place : ℕ) (a : ClientAccount) (within : place < length accounts) (read : a ≡ get_or accounts place a) where
   pub tracker_read : a.tracker ≡ tracker_at accounts place

@@ -4,9 +4,9 @@ use Rattle.std.specs.Cmp.{nat_eq_equiv}
 use Rattle.std.specs.List.{IsDistinct, AllByRecursion}
 use Rattle.std.proofs.lemmas.Bool.{cases_Bool, eqb-true, false≢true}
 use Rattle.std.proofs.lemmas.Map.Keys.{IsDistinct-head, IsDistinct-tail}
-use Rattle.client_accounts.specs.declared.account.ClientAccount.{ClientAccount}
-use Rattle.client_accounts.specs.Unused.{trackers_of, tracker_at, unused_in, with_unused}
-use Rattle.client_accounts.proofs.Places.{place_has_account}
+use Rattle.pool.specs.declared.account.ClientAccount.{ClientAccount}
+use Rattle.pool.specs.Unused.{trackers_of, tracker_at, unused_in, with_unused}
+use Rattle.pool.proofs.Places.{place_has_account}
 
 not_both : (o : Option ℕ) → o ≡ None → IsSome o → ⊥
 not_both o none there = false≢true (sym (ap (λ (p : Option ℕ). is_some p) none) ∙ there)

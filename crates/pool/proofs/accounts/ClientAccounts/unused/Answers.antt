@@ -2,10 +2,10 @@
 use Rattle.std.proofs.Common.{◌≡◌, eqb, find, option_map, IsSome, rules, tests}
 use Rattle.std.proofs.lemmas.Iterator.{YieldsList-from_slice}
 use Rattle.std.proofs.lemmas.Iterator.Search.{find_from_yields_List}
-use Rattle.client_accounts.specs.declared.account.ClientAccount.{ClientAccount}
-use Rattle.client_accounts.specs.Unused.{unused_in}
-use Rattle.client_accounts.proofs.Found.{some_found, unused_found}
-use Rattle.client_accounts.proofs.accounts.ClientAccounts.unused.Goals as goal
+use Rattle.pool.specs.declared.account.ClientAccount.{ClientAccount}
+use Rattle.pool.specs.Unused.{unused_in}
+use Rattle.pool.proofs.Found.{some_found, unused_found}
+use Rattle.pool.proofs.accounts.ClientAccounts.unused.Goals as goal
 
 pub unwrap-account-requires : goal.unwrap-account-requires
 unwrap-account-requires c =

@@ -1,8 +1,8 @@
 //! Accounts against worked rows.
 ghost use Rattle.std.specs.Prelude.{◌≡◌, is_some};
-ghost use Rattle.client_accounts.specs.Unused.{unused_in};
+ghost use Rattle.pool.specs.Unused.{unused_in};
 
-use client_accounts::{ClientAccounts, MOST};
+use pool::{ClientAccounts, MOST};
 use reservation_tree::TrackerId;
 use std::process::Abort;
 use std::test::Fail;

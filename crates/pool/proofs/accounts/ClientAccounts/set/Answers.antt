@@ -1,9 +1,9 @@
 -- The account at a place keeps its tracker.
 use Rattle.std.proofs.Common.{◌<◌, length}
-use Rattle.client_accounts.proofs.Found.{tracker_read}
-use Rattle.client_accounts.proofs.Changes.{unused_written, trackers_written}
-use Rattle.client_accounts.proofs.Kept.{proper_written}
-use Rattle.client_accounts.proofs.accounts.ClientAccounts.set.Goals as goal
+use Rattle.pool.proofs.Found.{tracker_read}
+use Rattle.pool.proofs.Changes.{unused_written, trackers_written}
+use Rattle.pool.proofs.Kept.{proper_written}
+use Rattle.pool.proofs.accounts.ClientAccounts.set.Goals as goal
 
 pub invariant_of-self : goal.invariant_of-self
 invariant_of-self c =

@@ -2,8 +2,8 @@
 -- whoever goes over all places meets each tracker that has an account.
 use Rattle.std.proofs.Common.{◌≡◌, ℕ, zero, suc, ◌<◌, eqb, List, [], ◌∷◌, length, IsSome, refl, inl, inr, arith}
 use Rattle.std.proofs.lemmas.Bool.{cases_Bool, eqb-true, eq-eqb, false≢true}
-use Rattle.client_accounts.specs.declared.account.ClientAccount.{ClientAccount}
-use Rattle.client_accounts.specs.Unused.{tracker_at, unused_in}
+use Rattle.pool.specs.declared.account.ClientAccount.{ClientAccount}
+use Rattle.pool.specs.Unused.{tracker_at, unused_in}
 
 pub tracker_has_place : (accounts : List ClientAccount) (t : ℕ) → IsSome (unused_in accounts t) → (place : ℕ) × (place < length accounts) × (tracker_at accounts place ≡ t)
 tracker_has_place [] t there = absurd (false≢true there)

@@ -1,7 +1,7 @@
 -- The account at a place is that of its tracker.
 use Rattle.std.proofs.Common.{◌<◌, length}
-use Rattle.client_accounts.proofs.Found.{there_read}
-use Rattle.client_accounts.proofs.accounts.ClientAccounts.tracker.Goals as goal
+use Rattle.pool.proofs.Found.{there_read}
+use Rattle.pool.proofs.accounts.ClientAccounts.tracker.Goals as goal
 
 pub returns-clause-there : goal.returns-clause-there
 returns-clause-there c =

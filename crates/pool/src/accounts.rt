@@ -1,6 +1,10 @@
-//! The accounts of a session's clients.
+//! What the clients of a session may still charge, as the session last saw it, so that readers needn't wait for the value of
+//! the pool.
+//!
+//! The order of the accounts says nothing. It stands while none comes or leaves, so that a caller can go over them by their
+//! places.
 ghost use Rattle.std.specs.Prelude.{◌≡◌, ◌+◌, ◌==◌, ◌<◌, ◌≤◌, ℕ, [], None, Some, IfOk, IsSome, if◌then◌else◌, length};
-ghost use Rattle.client_accounts.specs.Unused.{tracker_at, trackers_of, unused_in, with_unused};
+ghost use Rattle.pool.specs.Unused.{tracker_at, trackers_of, unused_in, with_unused};
 
 use crate::account::ClientAccount;
 use reservation_tree::{Memory, TrackerId};
@@ -18,8 +22,8 @@ pub struct ClientAccounts {
 
 impl Model for ClientAccounts {
     ghost use Rattle.std.specs.Prelude.{List, ◌≤◌, vec_capacity};
-    ghost use Rattle.client_accounts.specs.declared.account.ClientAccount.{ClientAccount};
-    ghost use Rattle.client_accounts.specs.Unused.{AreProper};
+    ghost use Rattle.pool.specs.declared.account.ClientAccount.{ClientAccount};
+    ghost use Rattle.pool.specs.Unused.{AreProper};
 
     ghost Value = { List ClientAccount };
 

@@ -1,7 +1,7 @@
 -- What clients may still charge, by a list of accounts. The list runs by the places of the accounts.
 use Rattle.std.specs.Prelude.{ℕ, ◌==◌, ◌≤◌, List, Option, eqb, find, length, map, option_map, slice_index, slice_set}
 use Rattle.std.specs.List.{IsDistinct}
-use Rattle.client_accounts.specs.declared.account.ClientAccount.{ClientAccount}
+use Rattle.pool.specs.declared.account.ClientAccount.{ClientAccount}
 
 -- the trackers of the accounts, in their order
 abbrev pub trackers_of : List ClientAccount → List ℕ

@@ -1,10 +1,10 @@
 -- No place is left out.
 use Rattle.std.proofs.Common.{◌≡◌, ◌≢◌, ℕ, ◌+◌, ◌<◌, false, eqb, List, length, is_some, ap, sym, ◌∙◌, inl, inr, arith}
 use Rattle.std.proofs.lemmas.Bool.{cases_Bool, cases_lt, eq-eqb, false≢true}
-use Rattle.client_accounts.specs.declared.account.ClientAccount.{ClientAccount}
-use Rattle.client_accounts.specs.Unused.{tracker_at, unused_in}
-use Rattle.client_accounts.proofs.Places.{tracker_has_place}
-use Rattle.tests_ground.proofs.tests.accounts.has.Goals as goal
+use Rattle.pool.specs.declared.account.ClientAccount.{ClientAccount}
+use Rattle.pool.specs.Unused.{tracker_at, unused_in}
+use Rattle.pool.proofs.Places.{tracker_has_place}
+use Rattle.tests_sessions.proofs.tests.accounts.has.Goals as goal
 
 module _ (accounts : List ClientAccount) (t : ℕ) where
   nowhere : ((p : ℕ) → p < length accounts → tracker_at accounts p ≢ t) → is_some (unused_in accounts t) ≡ false

@@ -5,9 +5,9 @@ use Rattle.std.specs.List.{IsDistinct, AllByRecursion, list_any}
 use Rattle.std.proofs.lemmas.Bool.{cases_Bool}
 use Rattle.std.proofs.lemmas.List.{map-append, length-append, length-map}
 use Rattle.std.proofs.lemmas.Map.Keys.{IsDistinct-push}
-use Rattle.client_accounts.specs.declared.account.ClientAccount.{ClientAccount}
-use Rattle.client_accounts.specs.Unused.{AreProper, trackers_of, unused_in, with_unused}
-use Rattle.client_accounts.proofs.Changes.{unlike_first, none_later, none_after_first, trackers_written, without, unused_removed, length_removed}
+use Rattle.pool.specs.declared.account.ClientAccount.{ClientAccount}
+use Rattle.pool.specs.Unused.{AreProper, trackers_of, unused_in, with_unused}
+use Rattle.pool.proofs.Changes.{unlike_first, none_later, none_after_first, trackers_written, without, unused_removed, length_removed}
 
 pub proper_empty : AreProper []
 unfolding IsDistinct

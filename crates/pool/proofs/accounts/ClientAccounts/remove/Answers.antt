@@ -1,11 +1,11 @@
 -- What `retain` leaves.
 use Rattle.std.proofs.Common.{◌≡◌, IsSome, eqb, not, sym, subst, rules, tests}
 use Rattle.std.proofs.lemmas.Fn.{filter_same}
-use Rattle.client_accounts.specs.declared.account.ClientAccount.{ClientAccount}
-use Rattle.client_accounts.specs.Unused.{AreProper, unused_in}
-use Rattle.client_accounts.proofs.Changes.{without, unused_removed, length_removed}
-use Rattle.client_accounts.proofs.Kept.{proper_removed}
-use Rattle.client_accounts.proofs.accounts.ClientAccounts.remove.Goals as goal
+use Rattle.pool.specs.declared.account.ClientAccount.{ClientAccount}
+use Rattle.pool.specs.Unused.{AreProper, unused_in}
+use Rattle.pool.proofs.Changes.{without, unused_removed, length_removed}
+use Rattle.pool.proofs.Kept.{proper_removed}
+use Rattle.pool.proofs.accounts.ClientAccounts.remove.Goals as goal
 
 left : (c : goal.After-retain) → c.retain.new.self.items ≡ without c.args.tracker c.self.inside.accounts.items
 left c = filter_same _ (λ (a : ClientAccount). not (eqb a.tracker c.args.tracker)) _ (λ x b f' k. search (rules, tests)) _ _ c.retain.ensures.filtered
