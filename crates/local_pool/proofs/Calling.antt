@@ -1,5 +1,5 @@
 -- What one owner's pool keeps over a call of its session that may write pages first.
-use Rattle.std.proofs.Common.{◌≡◌, ℕ, List, Option, Some, None, Result, Ok, Err, IfOk, IfErr, IfNone, IfSome, sym, subst}
+use Rattle.std.proofs.Common.{◌≡◌, ℕ, List, Option, Some, None, Result, Ok, Err, IfOk, IfErr, IfNone, IfSome, refl, sym, ◌∙◌, subst}
 use Rattle.outside.specs.declared.slot.Slot.{Ghosts}
 use Rattle.reservation_tree.specs.declared.errors.PoolErr.{PoolErr}
 use Rattle.pool_model.specs.declared.call.Call.{Call}
@@ -9,10 +9,12 @@ use Rattle.store_api.specs.Tokens.{LoanToken}
 use Rattle.own_entries.specs.OwnHoldings.{Outset}
 use Rattle.own_entries.specs.AboveLaws.{AllBy}
 use Rattle.session_calls.specs.declared.hand.Hand.{Hand}
+use Rattle.session_calls.specs.Calls.{in_hand}
 use Rattle.session_calls.specs.Having.{IsAtWork}
 use Rattle.session_calls.specs.Jobs.{DoesIn}
 use Rattle.session_calls.specs.Turning.{Refuses as IsRefused}
 use Rattle.session_calls.proofs.Alone.{all_front, all_worked}
+use Rattle.session_calls.proofs.Carried.{Carries}
 use Rattle.local_pool.specs.declared.sole.Shelf.{Shelf}
 use Rattle.local_pool.specs.Told.{outset_of, opening_of}
 use Rattle.local_pool.specs.Counting.{AtOpening}
@@ -20,8 +22,9 @@ use Rattle.local_pool.specs.Making.{Makes}
 use Rattle.local_pool.specs.Refusing.{Refuses}
 use Rattle.local_pool.specs.Standing.{Stands}
 use Rattle.local_pool.specs.Shelving.{FitsShelf, sees}
-use Rattle.local_pool.proofs.Keeping.{fits_on, stands_on, makes_on, refuses_on}
-use Rattle.local_pool.proofs.Stepping.{Keeps}
+use Rattle.local_pool.specs.Viewing.{owned}
+use Rattle.local_pool.proofs.Keeping.{opening_same, fits_on, stands_on, makes_on, refuses_on}
+use Rattle.local_pool.proofs.Stepping.{Keeps, fresh_at, held_at}
 
 module _ {D : Type 0} (slot : Ghosts D) {first : Option AtOpening} (own now : Hand D) (view : own ≡ now) (is : Stands slot first own) (new : Hand D) (shelf : Shelf D)
     (turns : AllBy new.session shelf.seen) (at_work : IsAtWork slot (opening_of slot own) (outset_of slot own.state) (sees shelf) new) where
@@ -57,29 +60,26 @@ module _ {D : Type 0} (slot : Ghosts D) {first : Option AtOpening} (own now : Ha
     ends_keeps P (Ok x) did refused = call_keeps did
     ends_keeps P (Err e) did refused = call_keeps refused.did
 
-    pub ends_refuses : {A : Type 0} (r : Result A PoolErr) → IfErr r (IsRefused o u t what own new) → IfErr r (Refuses slot t what now new)
-    ends_refuses (Ok x) refused = tt
-    ends_refuses (Err e) refused = call_refuses e refused
-
     -- where another refusal comes first, nothing changed
     pub moved_keeps : {A : Type 0} (P : A → List Event → Type 0) (first_of : Option PoolErr) (r : Result A PoolErr) → IfOk r (λ x. DoesIn (P x) own new) → IfSome first_of (λ e. (r ≡ Err e) × (new ≡ own))
         → IfNone first_of (IfErr r (IsRefused o u t what own new)) → Keeps slot first shelf new
     moved_keeps P (Some e) r did same refused = (subst (Stands slot first) (sym same.1) is, fits_now)
     moved_keeps P None r did same refused = ends_keeps P r did refused
 
-    pub moved_refuses : {A : Type 0} (first_of : Option PoolErr) (r : Result A PoolErr) → IfNone first_of (IfErr r (IsRefused o u t what own new)) → IfNone first_of (IfErr r (Refuses slot t what now new))
-    moved_refuses (Some e) r refused = tt
-    moved_refuses None r refused = ends_refuses r refused
-
     -- and where the loan comes back with the error
     pub handed_keeps : {A : Type 0} (P : A → List Event → Type 0) (r : Result A (LoanToken × PoolErr)) → IfOk r (λ x. DoesIn (P x) own new) → IfErr r (λ e. IsRefused o u t what own new e.1) → Keeps slot first shelf new
     handed_keeps P (Ok x) did refused = call_keeps did
     handed_keeps P (Err e) did refused = call_keeps refused.did
 
-    pub handed_refuses : {A : Type 0} (r : Result A (LoanToken × PoolErr)) → IfErr r (λ e. IsRefused o u t what own new e.1) → IfErr r (λ e. Refuses slot t what now new e.1)
-    handed_refuses (Ok x) refused = tt
-    handed_refuses (Err e) refused = call_refuses e.1 refused
-
-  pub ends_makes : {A E : Type 0} (P : A → List Event → Type 0) (r : Result A E) → IfOk r (λ x. DoesIn (P x) own new) → IfOk r (λ x. Makes slot (P x) now new)
-  ends_makes P (Ok x) did = call_makes did
-  ends_makes P (Err e) did = tt
+  -- what the session did in the call is what the owner sees
+  pub call_viewed : Carries (in_hand o u own new) (owned slot now new)
+  call_viewed = record {
+    holds = held_at slot own now view is;
+    fresh = fresh_at slot own now view is;
+    opening = sym (opening_same slot own is new at_work.ready);
+    history = refl;
+    state = refl;
+    did = λ P did. call_makes did;
+    same = λ same. same ∙ view;
+    refused = call_refuses;
+  }

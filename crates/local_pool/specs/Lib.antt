@@ -4,6 +4,7 @@ pub mod History
 pub mod Agreeing
 pub mod Making
 pub mod Refusing
+pub mod Viewing
 pub mod Standing
 pub mod Shelving
 pub mod Beginning

@@ -1,10 +1,12 @@
 //! Pages are left with their bytes, and pages and loans end.
-ghost use Rattle.std.specs.Prelude.{◌≡◌, ◌↔◌, [], ◌∷◌, None, IsErr, IfErr, OnOk};
+ghost use Rattle.std.specs.Prelude.{◌≡◌, [], ◌∷◌, IfErr};
 ghost use Rattle.pool_model.specs.declared.event.Event.TheVariants as event;
 ghost use Rattle.store_api.specs.Holdings.{page_of};
 ghost use Rattle.store_api.specs.Conditions.{Fits, IsHeld, IsLoan, IsPage};
-ghost use Rattle.store_api.specs.Refusals.{LacksSlots, StaysPinned};
+ghost use Rattle.store_api.specs.Refusals.{StaysPinned};
 ghost use Rattle.store_api.specs.Signs.{Grows};
+ghost use Rattle.session_calls.specs.Calls.{Extracts, Unpins};
+ghost use Rattle.local_pool.specs.Viewing.{owned};
 ghost use Rattle.local_pool.specs.Told.{held_of, signs_of};
 ghost use Rattle.local_pool.specs.Making.{Makes};
 
@@ -24,8 +26,7 @@ impl<D: Slot + Drop, T: OpenedWith> Alone<D, T> {
         requires page { IsPage p.now (held_of D.Slot self.old) }
         requires pinned { (page_of p.now.name (held_of D.Slot self.old)).pins ≡ 1 }
         requires buffer { Fits (page_of p.now.name (held_of D.Slot self.old)).blocks (held_of D.Slot self.old) buf }
-        ensures ok { OnOk result (Makes D.Slot (λ events. events ≡ event.Unpin p.now.name buf.bytes ∷ []) self.old self.new) }
-        ensures refused { IsErr result ↔ LacksSlots (page_of p.now.name (held_of D.Slot self.old)) (held_of D.Slot self.old).free_slots }
+        ensures unpins { Unpins (owned D.Slot self.old self.new) p.now buf result }
         ensures err { IfErr result (StaysPinned p.now.name buf (held_of D.Slot self.old) (held_of D.Slot self.new) (signs_of self.old) (signs_of self.new)) }
         ensures grows { Grows (signs_of self.old) (signs_of self.new) }
     {
@@ -37,10 +38,7 @@ impl<D: Slot + Drop, T: OpenedWith> Alone<D, T> {
         requires page { IsPage p (held_of D.Slot self.old) }
         requires pinned { (page_of p.name (held_of D.Slot self.old)).pins ≡ 1 }
         requires buffer { Fits (page_of p.name (held_of D.Slot self.old)).blocks (held_of D.Slot self.old) buf }
-        ensures made { Makes D.Slot (λ events. events ≡ event.Extract p.name result.number ∷ []) self.old self.new }
-        ensures fresh { (held_of D.Slot self.old).loans result.number ≡ None }
-        ensures client { result.client ≡ p.client }
-        ensures buffer { result.buf ≡ buf }
+        ensures { Extracts (owned D.Slot self.old self.new) p buf result }
     {
         self.hand.extract::<Brand>(p, buf)
     }

@@ -1,14 +1,11 @@
 //! Pages that rest are pinned.
-ghost use Rattle.std.specs.Prelude.{◌≡◌, ◌≤◌, IfOk, IfErr, OnOk};
-ghost use Rattle.pool_model.specs.declared.call.Call.TheVariants as call;
+ghost use Rattle.std.specs.Prelude.{◌≡◌, ◌≤◌};
 ghost use Rattle.store_api.specs.Holdings.{page_of, page_len, unused_of};
-ghost use Rattle.store_api.specs.Conditions.{IsPage, ShowsLeft};
-ghost use Rattle.store_api.specs.Entries.{IsPin};
-ghost use Rattle.local_pool.specs.Told.{held_of, opening_of};
-ghost use Rattle.local_pool.specs.Making.{Makes};
+ghost use Rattle.store_api.specs.Conditions.{IsPage};
+ghost use Rattle.local_pool.specs.Told.{held_of};
+ghost use Rattle.session_calls.specs.Calls.{Pins};
 ghost use Rattle.session_calls.specs.Needing.{EntersNeeded};
-ghost use Rattle.session_calls.specs.Showing.{ShowsStored};
-ghost use Rattle.local_pool.specs.Refusing.{Refuses};
+ghost use Rattle.local_pool.specs.Viewing.{owned};
 
 use crate::owned::Alone;
 use crate::sole::Sole;
@@ -25,12 +22,7 @@ impl<D: Slot + Drop, T: OpenedWith> Alone<D, T> {
         requires page { IsPage p.now (held_of D.Slot self) }
         requires rests { (page_of p.now.name (held_of D.Slot self)).pins ≡ 0 }
         requires unused { page_len p.now.name (held_of D.Slot self) ≤ unused_of p.now.client (held_of D.Slot self) }
-        ensures ok { OnOk result.1 (Makes D.Slot (IsPin p.now.client (held_of D.Slot self) p.now.name) self result.0) }
-        ensures bytes { IfOk result.1 (ShowsLeft (page_of p.now.name (held_of D.Slot self)) (held_of D.Slot self)) }
-        ensures err { IfErr result.1 (Refuses D.Slot p.now.client (call.Pin p.now.name) self result.0) }
-
-        // Where blocks have marks, and each block of the buffer was stored in this pool, the buffer shows what was left.
-        ensures stored { IfOk result.1 (ShowsStored (opening_of D.Slot result.0) result.0.trail p.now.name (page_of p.now.name (held_of D.Slot self))) }
+        ensures pins { Pins (owned D.Slot self result.0) p.now result.1 }
 
         // Pages are written only while room lacks, and clean ones go only while fewer bytes are free.
         ensures needed { EntersNeeded p.now.client (page_len p.now.name (held_of D.Slot self)) self result.0 }

@@ -1,14 +1,13 @@
 //! Pages are pinned once more, or once less, and loans change hands.
-ghost use Rattle.std.specs.Prelude.{◌≡◌, ◌≢◌, ◌≤◌, [], ◌∷◌, IfOk, IfErr, OnOk};
-ghost use Rattle.pool_model.specs.declared.call.Call.TheVariants as call;
+ghost use Rattle.std.specs.Prelude.{◌≡◌, ◌≢◌, ◌≤◌, [], ◌∷◌};
 ghost use Rattle.pool_model.specs.declared.event.Event.TheVariants as event;
 ghost use Rattle.store_api.specs.Holdings.{page_of, page_len, unused_of, loan_len};
 ghost use Rattle.store_api.specs.Conditions.{IsPage, IsLoan, IsLiveClient};
-ghost use Rattle.store_api.specs.Entries.{IsAsked};
 ghost use Rattle.local_pool.specs.Told.{held_of};
 ghost use Rattle.local_pool.specs.Making.{Makes};
+ghost use Rattle.session_calls.specs.Calls.{MovesBuffer, PinsAgain};
 ghost use Rattle.session_calls.specs.Needing.{EntersNeeded};
-ghost use Rattle.local_pool.specs.Refusing.{Refuses};
+ghost use Rattle.local_pool.specs.Viewing.{owned};
 
 use crate::owned::Alone;
 use crate::sole::Sole;
@@ -25,8 +24,7 @@ impl<D: Slot + Drop, T: OpenedWith> Alone<D, T> {
         requires page { IsPage p.now (held_of D.Slot self) }
         requires pinned { 1 ≤ (page_of p.now.name (held_of D.Slot self)).pins }
         requires unused { page_len p.now.name (held_of D.Slot self) ≤ unused_of p.now.client (held_of D.Slot self) }
-        ensures ok { OnOk result.1 (Makes D.Slot (IsAsked p.now.client (held_of D.Slot self) (event.PinAgain p.now.name ∷ [])) self result.0) }
-        ensures err { IfErr result.1 (Refuses D.Slot p.now.client (call.PinAgain p.now.name) self result.0) }
+        ensures pins_again { PinsAgain (owned D.Slot self result.0) p.now result.1 }
 
         // Pages are written only while room lacks, and clean ones go only while fewer bytes are free.
         ensures needed { EntersNeeded p.now.client (page_len p.now.name (held_of D.Slot self)) self result.0 }
@@ -55,10 +53,7 @@ impl<D: Slot + Drop, T: OpenedWith> Alone<D, T> {
         requires to { IsLiveClient what.to.now (held_of D.Slot self) }
         requires apart { what.loan.client ≢ what.to.now.tracker }
         requires unused { loan_len what.loan.number (held_of D.Slot self) ≤ unused_of what.to.now.tracker (held_of D.Slot self) }
-        ensures ok { OnOk result.1 (Makes D.Slot (IsAsked what.entry.to.now.tracker (held_of D.Slot self) (event.MoveBuffer what.entry.loan.number what.entry.to.now.tracker ∷ [])) self result.0) }
-        ensures moved { IfOk result.1 (λ moved. moved ≡ record (what.entry.loan) { client = what.entry.to.now.tracker }) }
-        ensures back { IfErr result.1 (λ e. e.0 ≡ what.entry.loan) }
-        ensures err { IfErr result.1 (λ e. Refuses D.Slot what.entry.to.now.tracker (call.MoveBuffer what.entry.loan.number what.entry.to.now.tracker) self result.0 e.1) }
+        ensures moves { MovesBuffer (owned D.Slot self result.0) what.entry.loan what.entry.to.now.tracker result.1 }
 
         // Pages are written only while room lacks, and clean ones go only while fewer bytes are free.
         ensures needed { EntersNeeded what.entry.to.now.tracker (loan_len what.entry.loan.number (held_of D.Slot self)) self result.0 }

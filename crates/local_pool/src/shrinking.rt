@@ -1,15 +1,11 @@
 //! Reservations fall, and move from one client to another.
-ghost use Rattle.std.specs.Prelude.{◌≡◌, ◌≤◌, [], ◌∷◌, Err, IfErr, IfSome, IfNone, OnOk};
-ghost use Rattle.pool_model.specs.declared.call.Call.TheVariants as call;
-ghost use Rattle.pool_model.specs.declared.event.Event.TheVariants as event;
+ghost use Rattle.std.specs.Prelude.{◌≤◌};
 ghost use Rattle.store_api.specs.Holdings.{unused_of};
 ghost use Rattle.store_api.specs.Conditions.{IsLiveClient};
-ghost use Rattle.store_api.specs.Entries.{IsAsked};
-ghost use Rattle.store_api.specs.Refusals.{move_refusal};
 ghost use Rattle.local_pool.specs.Told.{held_of};
-ghost use Rattle.local_pool.specs.Making.{Makes};
+ghost use Rattle.session_calls.specs.Calls.{GivesBack, MovesReservation};
 ghost use Rattle.session_calls.specs.Needing.{EntersNeeded};
-ghost use Rattle.local_pool.specs.Refusing.{Refuses};
+ghost use Rattle.local_pool.specs.Viewing.{owned};
 
 use crate::owned::Alone;
 use crate::sole::Sole;
@@ -25,8 +21,7 @@ impl<D: Slot + Drop, T: OpenedWith> Alone<D, T> {
     pub fn give_back(self, what: Shrinking<'_>) -> (Alone<D, T>, Result<(), PoolErr>)
         requires client { IsLiveClient what.client.now (held_of D.Slot self) }
         requires unused { what.bytes ≤ unused_of what.client.now.tracker (held_of D.Slot self) }
-        ensures ok { OnOk result.1 (Makes D.Slot (IsAsked what.entry.client.now.tracker (held_of D.Slot self) (event.Decrease what.entry.client.now.tracker what.entry.bytes ∷ [])) self result.0) }
-        ensures err { IfErr result.1 (Refuses D.Slot what.entry.client.now.tracker (call.GiveBack what.entry.client.now.tracker what.entry.bytes) self result.0) }
+        ensures gives_back { GivesBack (owned D.Slot self result.0) what.entry.client.now.tracker what.entry.bytes result.1 }
 
         // Pages are written only while room lacks, and clean ones go only while fewer bytes are free.
         ensures needed { EntersNeeded what.entry.client.now.tracker what.entry.bytes self result.0 }
@@ -48,9 +43,7 @@ impl<D: Slot + Drop, T: OpenedWith> Alone<D, T> {
         requires from { IsLiveClient what.from.now (held_of D.Slot self) }
         requires to { IsLiveClient what.to.now (held_of D.Slot self) }
         requires unused { what.bytes ≤ unused_of what.from.now.tracker (held_of D.Slot self) }
-        ensures ok { OnOk result.1 (Makes D.Slot (IsAsked what.entry.from.now.tracker (held_of D.Slot self) (event.MoveReservation what.entry.from.now.tracker what.entry.to.now.tracker what.entry.bytes ∷ [])) self result.0) }
-        ensures refused { IfSome (move_refusal what.entry.from.now.tracker what.entry.to.now.tracker what.entry.bytes (held_of D.Slot self)) (λ e. (result.1 ≡ Err e) × (result.0 ≡ self)) }
-        ensures err { IfNone (move_refusal what.entry.from.now.tracker what.entry.to.now.tracker what.entry.bytes (held_of D.Slot self)) (IfErr result.1 (Refuses D.Slot what.entry.from.now.tracker (call.MoveReservation what.entry.from.now.tracker what.entry.to.now.tracker what.entry.bytes) self result.0)) }
+        ensures moves { MovesReservation (owned D.Slot self result.0) what.entry.from.now.tracker what.entry.to.now.tracker what.entry.bytes result.1 }
 
         // Pages are written only while room lacks, and clean ones go only while fewer bytes are free.
         ensures needed { EntersNeeded what.entry.from.now.tracker what.entry.bytes self result.0 }

@@ -1,5 +1,5 @@
 -- A call of a session that may take several turns: what it has in hand at first, what it needs to end, and what it did.
-use Rattle.std.proofs.Common.{◌≡◌, ℕ, List, [], ◌∷◌, Bool, Option, Some, Result, IfSome, IfNone, IfErr, refl, sym, ap, ◌∙◌, subst, append-nil}
+use Rattle.std.proofs.Common.{◌≡◌, ℕ, List, [], ◌∷◌, Bool, Some, refl, sym, ap, ◌∙◌, subst, append-nil}
 use Rattle.outside.specs.declared.slot.Slot.{Ghosts}
 use Rattle.atomic_table.specs.Seated.{TableId}
 use Rattle.block_arena.specs.Memory.{Buffer}
@@ -38,8 +38,7 @@ use Rattle.pool.specs.Keeping.{KeepsSeat}
 use Rattle.pool.specs.Turning.{IsInTurn, MayEndTurn, SitsAgain}
 use Rattle.pool.specs.Locking.{TurnsThere}
 use Rattle.pool.proofs.Locked.{gives}
-use Rattle.pool.proofs.Doings.{as_was, has_first}
-use Rattle.pool.proofs.Results.{err_so, none_so, some_so}
+use Rattle.pool.proofs.Doings.{has_first}
 use Rattle.pool.proofs.Staying.{has_still}
 use Rattle.pool.proofs.Declined.{refused_before}
 use Rattle.pool.proofs.Charged.{StaysOn, refused_stays}
@@ -137,16 +136,10 @@ module _ {D : Type 0} {slot : Ghosts D} {o : Opening} {told : Bool} {tally : Tal
             does = subst (λ (s : Sitting). Does s.number (P (held_by o told s)) (history s.spot.knows.seen) (history now.knows.seen)) same whole;
           }
 
-      did_none_then : next ≡ hand → DidThese [] seen it
+      pub did_none_then : next ≡ hand → DidThese [] seen it
       did_none_then none =
           did_then (λ h events. events ≡ [])
           (subst (λ (x : Hand D). DoesIn (λ events. events ≡ []) hand x) (sym none) (record { session = refl; went = []; counts = sym (append-nil hand.counts); does = does_none hand.session hand.trail }))
-
-      -- where it was refused before anything was written
-      pub refused_then : (refusal : Holdings → Option PoolErr) (X : PoolErr → Type 0) → IfSome (refusal (held_in_hand o (shared told) hand)) (λ e. X e × (next ≡ hand)) → IfSome (refusal (held_by o told seen)) (λ e. X e × DidThese [] seen it)
-      refused_then refusal X is =
-          some_so {Q = λ e. X e × DidThese [] seen it} (refusal (held_by o told seen)) (as_was same begun (λ (h : Holdings). IfSome (refusal h) (λ e. X e × (next ≡ hand))) is)
-          (λ e was_so. (was_so.0, did_none_then was_so.1))
 
     pub declined_then : (t : ℕ) (what : Call) (e : PoolErr) → Refuses o (shared told) t what hand next e → WasDeclined o told t what seen it e
     declined_then t what e refuses =
@@ -163,10 +156,3 @@ module _ {D : Type 0} {slot : Ghosts D} {o : Opening} {told : Bool} {tally : Tal
           was = refused_before t (signs_by o was) (signs_in_hand o hand) (signs_by o it) (grew_first begun) (same_trail begun) what (held_by o told was) (held_by o told it) e whole;
           grows = grows_trans (signs_by o was) (signs_in_hand o hand) (signs_by o it) (grew_first begun) (subst (Grows (signs_in_hand o hand)) signs_then refuses.grows);
         })
-
-    -- where it wasn't refused before
-    pub declined_unless : {A : Type 0} (refusal : Holdings → Option PoolErr) (r : Result A PoolErr) (t : ℕ) (what : Call) → IfNone (refusal (held_in_hand o (shared told) hand)) (IfErr r (Refuses o (shared told) t what hand next))
-        → IfNone (refusal (held_by o told seen)) (IfErr r (WasDeclined o told t what seen it))
-    declined_unless refusal r t what is =
-        none_so (refusal (held_by o told seen)) (as_was same begun (λ (h : Holdings). IfNone (refusal h) (IfErr r (Refuses o (shared told) t what hand next))) is)
-        (λ err. err_so r err (declined_then t what))

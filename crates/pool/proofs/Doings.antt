@@ -1,21 +1,17 @@
 -- A session's turn: what it has in hand at first, and what it did when the turn is over.
-use Rattle.std.proofs.Common.{filter, ◌≡◌, ℕ, ◌<◌, ◌≤◌, List, [], ◌∷◌, ◌++◌, Bool, false, is_some, length, Result, Ok, Err, IfOk, IfErr, IsErr, OnOk, OnErr, Option, None, option_map, inl, inr, sym, ap, ◌∙◌, subst, arith}
+use Rattle.std.proofs.Common.{filter, ◌≡◌, ℕ, ◌<◌, ◌≤◌, List, [], ◌∷◌, ◌++◌, Bool, false, is_some, length, Result, Ok, Err, IfOk, IsErr, OnOk, None, option_map, inl, inr, sym, ap, ◌∙◌, subst, arith}
 use Rattle.std.proofs.lemmas.Bool.{cases_lt, false≢true}
 use Rattle.std.proofs.lemmas.List.Elements.{filter-append}
 use Rattle.std.proofs.lemmas.List.{append_assoc, append-nil}
 use Rattle.atomic_table.specs.Seated.{TableId}
 use Rattle.pool.specs.Unused.{unused_in}
 use Rattle.outside.specs.declared.slot.Slot.{Ghosts}
-use Rattle.reservation_tree.specs.declared.errors.PoolErr.{PoolErr}
-use Rattle.reservation_tree.specs.Answer.{IsFrom}
-use Rattle.reservation_tree.specs.Change.{Refusal}
 use Rattle.pool_model.specs.declared.event.Event.{Event}
 use Rattle.pool_model.specs.declared.entry.Entry.{Entry}
-use Rattle.pool_model.specs.State.{Opening, State}
-use Rattle.pool_model.specs.Legal.{IsLegal, state_after}
+use Rattle.pool_model.specs.State.{Opening}
+use Rattle.pool_model.specs.Legal.{IsLegal}
 use Rattle.pool_model.specs.LookingBack.{is_by, made_by}
 use Rattle.pin_core.specs.declared.tally.Tally.{Tally}
-use Rattle.pin_core.specs.StateOf.{state_of}
 use Rattle.store_api.specs.Tokens.{ClientToken}
 use Rattle.store_api.specs.Holdings.{Holdings}
 use Rattle.store_api.specs.Entries.{by}
@@ -30,7 +26,6 @@ use Rattle.turn_table.specs.Steps.{grown}
 use Rattle.turn_table.specs.Face.{Spot}
 use Rattle.turn_table.proofs.Sums.{same_self}
 use Rattle.session_calls.specs.Coming.{IsFresh}
-use Rattle.session_calls.proofs.Lists.{NoneOpens}
 use Rattle.session_calls.specs.declared.hand.Hand.{Hand}
 use Rattle.session_calls.specs.declared.count.Count.{Count}
 use Rattle.session_calls.specs.declared.count.Count.TheVariants as count
@@ -39,12 +34,12 @@ use Rattle.session_calls.specs.Told.{held_in}
 use Rattle.session_calls.specs.Ready.{IsReady, IsResting}
 use Rattle.session_calls.specs.Doing.{Does}
 use Rattle.session_calls.proofs.Lists.{by_own, none_own}
-use Rattle.session_calls.specs.Acting.{Acts, ActsThese, held_by as held_in_hand}
+use Rattle.session_calls.specs.Acting.{Acts, held_by as held_in_hand}
 use Rattle.pool.specs.declared.item.Item.{Item}
 use Rattle.pool.specs.declared.ledger.Ledger.{Ledger}
 use Rattle.pool.specs.Items.{counts_in, history}
 use Rattle.pool.specs.Ledgers.{HasClients, TellsHeld}
-use Rattle.pool.specs.Sitting.{Sitting, Sits, DidThese, held_by, shared}
+use Rattle.pool.specs.Sitting.{Did, Sitting, Sits, held_by, shared}
 use Rattle.pool.specs.Taking.{Takes, made_since}
 use Rattle.pool.specs.Keeping.{KeepsSeat}
 use Rattle.pool.specs.Turning.{IsInTurn, MayEndTurn, SitsAgain}
@@ -177,16 +172,16 @@ module _ {D : Type 0} {slot : Ghosts D} {o : Opening} {told : Bool} {tally : Tal
         may_end acts ready ledger (has_still ledger.accounts (held_in_hand o (shared told) hand) (held_in_hand o (shared told) next) (has_first kept) stay)
 
     module _ {now : Spot Item} {ledger : Ledger} (ended : SitsAgain o told ledger next (record { number = next.session; spot = now })) where
-      pub did_these : {these : List Event} {table : TableId} → ActsThese these hand next → NoneOpens these → now.table ≡ table → seen.spot.table ≡ table → DidThese these seen (record { number = was.number; spot = now })
-      did_these {these} acts none here first = record {
+      pub did_acts : {P : List Event → Type 0} {table : TableId} → Acts P hand next → now.table ≡ table → seen.spot.table ≡ table → Did P seen (record { number = was.number; spot = now })
+      did_acts {P} acts here first = record {
         number = ap (λ (s : Sitting). s.number) same;
         table = here ∙ sym first;
-        does = subst (λ (s : Sitting). Does s.number (λ events. events ≡ these) (history s.spot.knows.seen) (history now.knows.seen)) same (record {
+        does = subst (λ (s : Sitting). Does s.number P (history s.spot.knows.seen) (history now.knows.seen)) same (record {
           events = acts.events;
           is = acts.is;
           own =
               ap (λ (h : List Entry). made_by h was.number) ended.seen
-              ∙ subst (λ (m : ℕ). made_by next.trail m ≡ made_by hand.trail m ++ by m acts.events) begun.session (own_then hand next acts none)
+              ∙ subst (λ (m : ℕ). made_by next.trail m ≡ made_by hand.trail m ++ by m acts.events) begun.session (own_then hand next acts)
               ∙ ap (λ (h : List Entry). h ++ by was.number acts.events) begun.own;
           more = begun.more ++ by hand.session acts.events;
           grew =
@@ -198,13 +193,6 @@ module _ {D : Type 0} {slot : Ghosts D} {o : Opening} {told : Bool} {tally : Tal
               ∙ ap (λ (m : ℕ). filter (is_by was.number) (by m acts.events)) begun.session ∙ by_own was.number acts.events;
         });
       }
-
-      -- what refused a call by what the value had, does by what was seen then
-      pub refused_as_seen : {A : Type 0} (rule : State → Option Refusal) (r : Result A PoolErr) → OnErr r (next ≡ hand) → IfErr r (IsFrom (rule (state_of hand.state))) → IfErr r (IsFrom (rule (state_after o (history now.knows.seen))))
-      refused_as_seen rule (Ok x) same cause = tt
-      refused_as_seen rule (Err e) same cause =
-          subst (λ (s : State). IsFrom (rule s) e)
-          (begun.ready.whole.stands.state ∙ ap (state_after o) (ap (λ (h : Hand D). h.trail) (sym same) ∙ sym ended.seen)) cause
 
       pub sits_on : {P : List Event → Type 0} {block_len : ℕ} {first : Ledger} → Acts P hand next → KeepsSeat o told block_len first was → KeepsSeat o told block_len ledger (record { number = was.number; spot = now })
       sits_on {P} {block_len} acts kept =

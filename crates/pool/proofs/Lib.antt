@@ -36,6 +36,7 @@ pub mod Reading
 pub mod Refusals
 pub mod Results
 pub mod Seated
+pub mod Seeing
 pub mod Seen
 pub mod Sessions
 pub mod Since

@@ -6,36 +6,12 @@ module _ {A E : Type 0} where
   by_result (Ok x) ok err = ok
   by_result (Err e) ok err = err
 
-  pub ok_so : {P Q : A → Type 0} (r : Result A E) → IfOk r P → ((x : A) → P x → Q x) → IfOk r Q
-  ok_so (Ok x) is so = so x is
-  ok_so (Err e) is so = tt
-
-  pub on_ok_so : {P Q : Type 0} (r : Result A E) → OnOk r P → (P → Q) → OnOk r Q
-  on_ok_so (Ok x) is so = so is
-  on_ok_so (Err e) is so = tt
-
-  pub on_err_so : {P Q : Type 0} (r : Result A E) → OnErr r P → (P → Q) → OnErr r Q
-  on_err_so (Ok x) is so = tt
-  on_err_so (Err e) is so = so is
-
-  pub err_so : {P Q : E → Type 0} (r : Result A E) → IfErr r P → ((e : E) → P e → Q e) → IfErr r Q
-  err_so (Ok x) is so = tt
-  err_so (Err e) is so = so e is
-
   pub ok_or_err : {X : Type 0} {P : A → Type 0} {Q : E → Type 0} (r : Result A E) → IfOk r P → IfErr r Q → ((x : A) → P x → X) → ((e : E) → Q e → X) → X
   ok_or_err (Ok x) ok err so other = so x ok
   ok_or_err (Err e) ok err so other = other e err
 
 -- of what refuses a call before anything is written, if something does
 module _ {A : Type 0} where
-  pub some_so : {P Q : A → Type 0} (r : Option A) → IfSome r P → ((x : A) → P x → Q x) → IfSome r Q
-  some_so (Some x) is so = so x is
-  some_so None is so = tt
-
-  pub none_so : {P Q : Type 0} (r : Option A) → IfNone r P → (P → Q) → IfNone r Q
-  none_so (Some x) is so = tt
-  none_so None is so = so is
-
   pub some_or_none : {X Q : Type 0} {P : A → Type 0} (r : Option A) → IfSome r P → IfNone r Q → ((x : A) → P x → X) → (Q → X) → X
   some_or_none (Some x) some none so other = so x some
   some_or_none None some none so other = other none

@@ -23,7 +23,8 @@ use Rattle.session_calls.specs.Acting.{Acts, ActsThese, held_by}
 use Rattle.pool.specs.declared.ledger.Ledger.{Ledger}
 use Rattle.pool.specs.Ledgers.{HasClients, HasOneMore}
 use Rattle.pool.proofs.Entered.{held_then}
-use Rattle.pool.proofs.Results.{by_result, on_ok_so, on_err_so}
+use Rattle.session_calls.proofs.Results.{on_ok_so, on_err_so}
+use Rattle.pool.proofs.Results.{by_result}
 use Rattle.pool.proofs.Staying.{Stay, stay_same, stay_as, stay_reserved, stay_released, has_still, has_more, has_fewer, page_client, loan_client}
 
 module _ {D : Type 0} (hand next : Hand D) where

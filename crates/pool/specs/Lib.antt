@@ -10,6 +10,7 @@ pub mod Keeping
 pub mod Turning
 pub mod Locking
 pub mod Seating
+pub mod Viewing
 pub mod Remaining
 pub mod Asking
 pub mod Admitting

@@ -1,16 +1,11 @@
 //! The calls of a session that take one turn.
-ghost use Rattle.std.specs.Prelude.{◌≡◌, ◌↔◌, ◌≤◌, [], ◌∷◌, None, Err, IsErr, IfOk, IfErr, IfSome, IfNone, OnOk, OnErr};
-ghost use Rattle.reservation_tree.specs.Answer.{IsFrom};
-ghost use Rattle.reservation_tree.specs.declared.errors.PoolErr.TheVariants as refusal;
+ghost use Rattle.std.specs.Prelude.{◌≡◌, ◌≤◌, [], ◌∷◌};
 ghost use Rattle.pool_model.specs.declared.event.Event.TheVariants as event;
-ghost use Rattle.store_api.specs.Holdings.{account_of, page_of};
-ghost use Rattle.store_api.specs.Changes.{query_growth, shortfall};
+ghost use Rattle.store_api.specs.Holdings.{page_of};
 ghost use Rattle.store_api.specs.Conditions.{Fits, IsIdle, IsLiveClient, IsLoan, IsPage};
-ghost use Rattle.store_api.specs.Refusals.{IsScratchFull, IsSharedRefusal, LacksSlots, reserve_refusal};
-ghost use Rattle.pin_core.specs.calls.Entering.{fit_refusal, growth_refusal};
-ghost use Rattle.session_calls.specs.Coming.{IsFresh};
-ghost use Rattle.pool.specs.Seating.{state_in};
-ghost use Rattle.pool.specs.Sitting.{Did, DidThese, held_by};
+ghost use Rattle.session_calls.specs.Calls.{AddsClient, EndsClient, Extracts, Reserves, ReservesToFit, Unpins};
+ghost use Rattle.pool.specs.Viewing.{seated};
+ghost use Rattle.pool.specs.Sitting.{DidThese, held_by};
 
 use crate::opened::{Among, OpenedAs};
 use crate::seat::SessionSeat;
@@ -33,11 +28,7 @@ impl<D: Slot + Drop, T: OpenedAs> SessionSeat<D, T> {
     ) -> Result<Client, PoolErr>
         requires table { self.old.spot.table ≡ turns.now }
         ensures table { self.new.spot.table ≡ turns.now }
-        ensures ok { IfOk result (λ c. DidThese (event.AddTracker c.tracker (held_by T.opening T.told self.old).query limit None ∷ []) self.old self.new) }
-        ensures fresh { IfOk result (λ c. IsFresh c (held_by T.opening T.told self.old)) }
-        ensures refused { IsErr result ↔ (16 ≤ (held_by T.opening T.told self.old).live_clients) }
-        ensures cause { IfErr result (λ e. e ≡ refusal.TooManyTrackers 16) }
-        ensures err { OnErr result (DidThese [] self.old self.new) }
+        ensures adds { AddsClient (seated T.opening T.told self.old self.new) limit result }
     {
         let mut hand = begin_turn(rt, turns, &mut self.spot, self.number);
         let result = hand.add_client::<Among<T>>(limit);
@@ -52,8 +43,7 @@ impl<D: Slot + Drop, T: OpenedAs> SessionSeat<D, T> {
         requires client { IsLiveClient c (held_by T.opening T.told self.old) }
         requires idle { IsIdle c.tracker (held_by T.opening T.told self.old) }
         ensures table { self.new.spot.table ≡ turns.now }
-        ensures did { DidThese (event.MoveReservation c.tracker (held_by T.opening T.told self.old).query (account_of c.tracker (held_by T.opening T.told self.old)).reservation ∷ event.CloseTracker c.tracker ∷ []) self.old self.new }
-        ensures apart { (held_by T.opening T.told self.old).clients (held_by T.opening T.told self.old).query ≡ None }
+        ensures ends { EndsClient (seated T.opening T.told self.old self.new) c.tracker }
     {
         let mut hand = begin_turn(rt, turns, &mut self.spot, self.number);
         self.ledger.accounts.remove(c.tracker());
@@ -72,11 +62,7 @@ impl<D: Slot + Drop, T: OpenedAs> SessionSeat<D, T> {
         requires table { self.old.spot.table ≡ turns.now }
         requires client { IsLiveClient c.now (held_by T.opening T.told self.old) }
         ensures table { self.new.spot.table ≡ turns.now }
-        ensures ok { OnOk result (DidThese (event.Increase c.now.tracker bytes ∷ []) self.old self.new) }
-        ensures refused { IfSome (reserve_refusal c.now.tracker bytes (held_by T.opening T.told self.old)) (λ e. result ≡ Err e) }
-        ensures shared { IfNone (reserve_refusal c.now.tracker bytes (held_by T.opening T.told self.old)) (IfErr result (IsSharedRefusal (query_growth bytes (held_by T.opening T.told self.old)) (held_by T.opening T.told self.old).above)) }
-        ensures cause { IfErr result (IsFrom (growth_refusal (state_in T.opening self.new.spot.knows.seen) c.now.tracker bytes)) }
-        ensures err { OnErr result (DidThese [] self.old self.new) }
+        ensures reserves { Reserves (seated T.opening T.told self.old self.new) c.now.tracker bytes result }
     {
         let mut hand = begin_turn(rt, turns, &mut self.spot, self.number);
         let result = hand.reserve::<Among<T>>(c, bytes);
@@ -95,11 +81,7 @@ impl<D: Slot + Drop, T: OpenedAs> SessionSeat<D, T> {
         requires table { self.old.spot.table ≡ turns.now }
         requires client { IsLiveClient c.now (held_by T.opening T.told self.old) }
         ensures table { self.new.spot.table ≡ turns.now }
-        ensures ok { OnOk result (DidThese (event.IncreaseToFit c.now.tracker bytes ∷ []) self.old self.new) }
-        ensures refused { IfSome (reserve_refusal c.now.tracker (shortfall c.now.tracker bytes (held_by T.opening T.told self.old)) (held_by T.opening T.told self.old)) (λ e. result ≡ Err e) }
-        ensures shared { IfNone (reserve_refusal c.now.tracker (shortfall c.now.tracker bytes (held_by T.opening T.told self.old)) (held_by T.opening T.told self.old)) (IfErr result (IsSharedRefusal (query_growth (shortfall c.now.tracker bytes (held_by T.opening T.told self.old)) (held_by T.opening T.told self.old)) (held_by T.opening T.told self.old).above)) }
-        ensures cause { IfErr result (IsFrom (fit_refusal (state_in T.opening self.new.spot.knows.seen) c.now.tracker bytes)) }
-        ensures err { OnErr result (DidThese [] self.old self.new) }
+        ensures reserves { ReservesToFit (seated T.opening T.told self.old self.new) c.now.tracker bytes result }
     {
         let mut hand = begin_turn(rt, turns, &mut self.spot, self.number);
         let result = hand.reserve_to_fit::<Among<T>>(c, bytes);
@@ -133,11 +115,7 @@ impl<D: Slot + Drop, T: OpenedAs> SessionSeat<D, T> {
         requires pinned { (page_of p.now.name (held_by T.opening T.told self.old)).pins ≡ 1 }
         requires buffer { Fits (page_of p.now.name (held_by T.opening T.told self.old)).blocks (held_by T.opening T.told self.old) buf }
         ensures table { self.new.spot.table ≡ turns.now }
-        ensures ok { OnOk result (DidThese (event.Unpin p.now.name buf.bytes ∷ []) self.old self.new) }
-        ensures refused { IsErr result ↔ LacksSlots (page_of p.now.name (held_by T.opening T.told self.old)) (held_by T.opening T.told self.old).free_slots }
-        ensures err { OnErr result (DidThese (event.UnpinRefused p.now.name ∷ []) self.old self.new) }
-        ensures cause { IfErr result (λ e. IsScratchFull (page_of p.now.name (held_by T.opening T.told self.old)).blocks (held_by T.opening T.told self.old).free_slots e.1) }
-        ensures back { IfErr result (λ e. e.0 ≡ buf) }
+        ensures unpins { Unpins (seated T.opening T.told self.old self.new) p.now buf result }
     {
         let mut hand = begin_turn(rt, turns, &mut self.spot, self.number);
         let result = hand.unpin::<Among<T>>(p, buf);
@@ -158,10 +136,7 @@ impl<D: Slot + Drop, T: OpenedAs> SessionSeat<D, T> {
         requires pinned { (page_of p.name (held_by T.opening T.told self.old)).pins ≡ 1 }
         requires buffer { Fits (page_of p.name (held_by T.opening T.told self.old)).blocks (held_by T.opening T.told self.old) buf }
         ensures table { self.new.spot.table ≡ turns.now }
-        ensures did { DidThese (event.Extract p.name result.number ∷ []) self.old self.new }
-        ensures fresh { (held_by T.opening T.told self.old).loans result.number ≡ None }
-        ensures client { result.client ≡ p.client }
-        ensures buffer { result.buf ≡ buf }
+        ensures extracts { Extracts (seated T.opening T.told self.old self.new) p buf result }
     {
         let mut hand = begin_turn(rt, turns, &mut self.spot, self.number);
         let loan = hand.extract::<Among<T>>(p, buf);

@@ -1,20 +1,12 @@
 //! The calls of a session that need room of a client, and those that may have to wait for a page.
-ghost use Rattle.std.specs.Prelude.{◌≡◌, ◌≢◌, ◌≤◌, [], ◌∷◌, Err, IfErr, IfNone, IfOk, IfSome, OnOk};
-ghost use Rattle.reservation_tree.specs.declared.errors.PoolErr.TheVariants as refusal;
-ghost use Rattle.pool_model.specs.declared.call.Call.TheVariants as call;
+ghost use Rattle.std.specs.Prelude.{◌≡◌, ◌≢◌, ◌≤◌, [], ◌∷◌};
 ghost use Rattle.pool_model.specs.declared.event.Event.TheVariants as event;
-ghost use Rattle.pool_model.specs.Sums.{HasRoom};
 ghost use Rattle.store_api.specs.Holdings.{loan_len, length_of, page_len, page_of, unused_of};
-ghost use Rattle.store_api.specs.Conditions.{IsBlockCount, IsHeld, IsLiveClient, IsLoan, IsPage, ShowsLeft};
-ghost use Rattle.store_api.specs.Entries.{IsAsked, IsPin, IsTaken};
-ghost use Rattle.store_api.specs.Refusals.{move_refusal};
-ghost use Rattle.session_calls.specs.Coming.{IsFreshLoan};
+ghost use Rattle.store_api.specs.Conditions.{IsBlockCount, IsHeld, IsLiveClient, IsLoan, IsPage};
+ghost use Rattle.session_calls.specs.Calls.{Allocs, Creates, GivesBack, MovesBuffer, MovesReservation, Pins, PinsAgain};
 ghost use Rattle.session_calls.specs.Pinning.{CanBePinned};
-ghost use Rattle.session_calls.specs.Coming.{IsFreshPage};
-ghost use Rattle.session_calls.specs.Showing.{ShowsStored};
-ghost use Rattle.pool.specs.Items.{history};
-ghost use Rattle.pool.specs.Seating.{state_in};
-ghost use Rattle.pool.specs.Sitting.{Did, DidThese, WasDeclined, held_by, signs_by};
+ghost use Rattle.pool.specs.Viewing.{seated};
+ghost use Rattle.pool.specs.Sitting.{DidThese, held_by};
 
 use crate::at_gate::Points;
 use crate::lock::Lock;
@@ -44,8 +36,7 @@ impl<D: Slot + Drop, T: OpenedAs> SessionSeat<D, T> {
         requires client { IsLiveClient c.now (held_by T.opening T.told self.old) }
         requires unused { bytes ≤ unused_of c.now.tracker (held_by T.opening T.told self.old) }
         ensures table { self.new.spot.table ≡ turns.now }
-        ensures ok { OnOk result (Did (IsAsked c.now.tracker (held_by T.opening T.told self.old) (event.Decrease c.now.tracker bytes ∷ [])) self.old self.new) }
-        ensures err { IfErr result (WasDeclined T.opening T.told c.now.tracker (call.GiveBack c.now.tracker bytes) self.old self.new) }
+        ensures gives_back { GivesBack (seated T.opening T.told self.old self.new) c.now.tracker bytes result }
     {
         let lock = Lock { rt, turns, at };
         let hand = begin_turn(rt, turns, &mut self.spot, self.number);
@@ -75,9 +66,7 @@ impl<D: Slot + Drop, T: OpenedAs> SessionSeat<D, T> {
         requires to { IsLiveClient to.now (held_by T.opening T.told self.old) }
         requires unused { bytes ≤ unused_of from.now.tracker (held_by T.opening T.told self.old) }
         ensures table { self.new.spot.table ≡ turns.now }
-        ensures ok { OnOk result (Did (IsAsked from.now.tracker (held_by T.opening T.told self.old) (event.MoveReservation from.now.tracker to.now.tracker bytes ∷ [])) self.old self.new) }
-        ensures refused { IfSome (move_refusal from.now.tracker to.now.tracker bytes (held_by T.opening T.told self.old)) (λ e. (result ≡ Err e) × DidThese [] self.old self.new) }
-        ensures err { IfNone (move_refusal from.now.tracker to.now.tracker bytes (held_by T.opening T.told self.old)) (IfErr result (WasDeclined T.opening T.told from.now.tracker (call.MoveReservation from.now.tracker to.now.tracker bytes) self.old self.new)) }
+        ensures moves { MovesReservation (seated T.opening T.told self.old self.new) from.now.tracker to.now.tracker bytes result }
     {
         let lock = Lock { rt, turns, at };
         let hand = begin_turn(rt, turns, &mut self.spot, self.number);
@@ -110,12 +99,7 @@ impl<D: Slot + Drop, T: OpenedAs> SessionSeat<D, T> {
         requires bytes { bytes ≡ length_of blocks (held_by T.opening T.told self.old) }
         requires unused { bytes ≤ unused_of c.now.tracker (held_by T.opening T.told self.old) }
         ensures table { self.new.spot.table ≡ turns.now }
-        ensures ok { IfOk result (λ made. Did (IsTaken c.now.tracker (held_by T.opening T.told self.old) (event.Create made.0.name c.now.tracker blocks made.0.key ∷ [])) self.old self.new) }
-        ensures page { IfOk result (λ made. IsFreshPage c.now.tracker blocks made (held_by T.opening T.told self.old) (signs_by T.opening self.old)) }
-        ensures err { IfErr result (WasDeclined T.opening T.told c.now.tracker (call.Create c.now.tracker blocks) self.old self.new) }
-
-        // Names are looked at once there is room.
-        ensures spent { result ≡ Err refusal.NamesSpent → HasRoom (state_in T.opening self.new.spot.knows.seen) c.now.tracker bytes }
+        ensures creates { Creates (seated T.opening T.told self.old self.new) c.now.tracker blocks bytes result }
     {
         let lock = Lock { rt, turns, at };
         let hand = begin_turn(rt, turns, &mut self.spot, self.number);
@@ -149,9 +133,7 @@ impl<D: Slot + Drop, T: OpenedAs> SessionSeat<D, T> {
         requires bytes { bytes ≡ length_of blocks (held_by T.opening T.told self.old) }
         requires unused { bytes ≤ unused_of c.now.tracker (held_by T.opening T.told self.old) }
         ensures table { self.new.spot.table ≡ turns.now }
-        ensures ok { IfOk result (λ loan. Did (IsTaken c.now.tracker (held_by T.opening T.told self.old) (event.Alloc loan.number c.now.tracker blocks ∷ [])) self.old self.new) }
-        ensures loan { IfOk result (λ loan. IsFreshLoan c.now.tracker blocks loan (held_by T.opening T.told self.old)) }
-        ensures err { IfErr result (WasDeclined T.opening T.told c.now.tracker (call.Alloc c.now.tracker blocks) self.old self.new) }
+        ensures allocs { Allocs (seated T.opening T.told self.old self.new) c.now.tracker blocks result }
     {
         let lock = Lock { rt, turns, at };
         let hand = begin_turn(rt, turns, &mut self.spot, self.number);
@@ -179,10 +161,7 @@ impl<D: Slot + Drop, T: OpenedAs> SessionSeat<D, T> {
         requires table { self.old.spot.table ≡ turns.now }
         requires can { CanBePinned p.now (held_by T.opening T.told self.old) }
         ensures table { self.new.spot.table ≡ turns.now }
-        ensures ok { OnOk result (Did (IsPin p.now.client (held_by T.opening T.told self.old) p.now.name) self.old self.new) }
-        ensures bytes { IfOk result (ShowsLeft (page_of p.now.name (held_by T.opening T.told self.old)) (held_by T.opening T.told self.old)) }
-        ensures stored { IfOk result (ShowsStored T.opening (history self.new.spot.knows.seen) p.now.name (page_of p.now.name (held_by T.opening T.told self.old))) }
-        ensures err { IfErr result (WasDeclined T.opening T.told p.now.client (call.Pin p.now.name) self.old self.new) }
+        ensures pins { Pins (seated T.opening T.told self.old self.new) p.now result }
     {
         let lock = Lock { rt, turns, at };
         let hand = begin_turn(rt, turns, &mut self.spot, self.number);
@@ -209,8 +188,7 @@ impl<D: Slot + Drop, T: OpenedAs> SessionSeat<D, T> {
         requires pinned { 1 ≤ (page_of p.now.name (held_by T.opening T.told self.old)).pins }
         requires unused { page_len p.now.name (held_by T.opening T.told self.old) ≤ unused_of p.now.client (held_by T.opening T.told self.old) }
         ensures table { self.new.spot.table ≡ turns.now }
-        ensures ok { OnOk result (Did (IsAsked p.now.client (held_by T.opening T.told self.old) (event.PinAgain p.now.name ∷ [])) self.old self.new) }
-        ensures err { IfErr result (WasDeclined T.opening T.told p.now.client (call.PinAgain p.now.name) self.old self.new) }
+        ensures pins_again { PinsAgain (seated T.opening T.told self.old self.new) p.now result }
     {
         let lock = Lock { rt, turns, at };
         let hand = begin_turn(rt, turns, &mut self.spot, self.number);
@@ -266,10 +244,7 @@ impl<D: Slot + Drop, T: OpenedAs> SessionSeat<D, T> {
         requires apart { loan.client ≢ to.now.tracker }
         requires unused { loan_len loan.number (held_by T.opening T.told self.old) ≤ unused_of to.now.tracker (held_by T.opening T.told self.old) }
         ensures table { self.new.spot.table ≡ turns.now }
-        ensures ok { OnOk result (Did (IsAsked to.now.tracker (held_by T.opening T.told self.old) (event.MoveBuffer loan.number to.now.tracker ∷ [])) self.old self.new) }
-        ensures moved { IfOk result (λ moved. moved ≡ record loan { client = to.now.tracker }) }
-        ensures back { IfErr result (λ e. e.0 ≡ loan) }
-        ensures err { IfErr result (λ e. WasDeclined T.opening T.told to.now.tracker (call.MoveBuffer loan.number to.now.tracker) self.old self.new e.1) }
+        ensures moves { MovesBuffer (seated T.opening T.told self.old self.new) loan to.now.tracker result }
     {
         let lock = Lock { rt, turns, at };
         let hand = begin_turn(rt, turns, &mut self.spot, self.number);

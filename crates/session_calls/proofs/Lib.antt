@@ -67,3 +67,4 @@ pub mod Fetched
 pub mod PinMade
 pub mod Ending
 pub mod Throughout
+pub mod Carried

@@ -1,5 +1,5 @@
 -- A legal history fits the pool at each entry.
-use Rattle.std.proofs.Common.{List, ◌++◌, subst}
+use Rattle.std.proofs.Common.{List, subst}
 use Rattle.pool_model.specs.declared.entry.Entry.{Entry}
 use Rattle.pool_model.specs.State.{Opening}
 use Rattle.pool_model.specs.Legal.{IsLegal}

@@ -15,5 +15,6 @@ pub mod Flying
 pub mod Needing
 pub mod Turning
 pub mod Pinning
+pub mod Calls
 pub mod Throughout
 pub mod Showing

@@ -1,21 +1,11 @@
 //! The calls that need room of a client, whole.
-ghost use Rattle.std.specs.Prelude.{◌≡◌, ◌≢◌, ◌≤◌, [], ◌∷◌, Err, IfErr, IfNone, IfOk, IfSome, OnOk};
-ghost use Rattle.reservation_tree.specs.declared.errors.PoolErr.TheVariants as refusal;
-ghost use Rattle.pool_model.specs.declared.call.Call.TheVariants as call;
-ghost use Rattle.pool_model.specs.declared.event.Event.TheVariants as event;
-ghost use Rattle.pool_model.specs.Sums.{HasRoom};
-ghost use Rattle.pin_core.specs.StateOf.{state_of};
+ghost use Rattle.std.specs.Prelude.{◌≡◌, ◌≢◌, ◌≤◌};
 ghost use Rattle.store_api.specs.Holdings.{loan_len, length_of, page_len, page_of, unused_of};
 ghost use Rattle.store_api.specs.Conditions.{IsBlockCount, IsLiveClient, IsLoan, IsPage};
-ghost use Rattle.store_api.specs.Entries.{IsAsked, IsTaken};
-ghost use Rattle.store_api.specs.Refusals.{move_refusal};
-ghost use Rattle.session_calls.specs.Coming.{IsFreshLoan};
-ghost use Rattle.session_calls.specs.Acting.{held_by, signs_by};
-ghost use Rattle.session_calls.specs.Coming.{IsFreshPage};
+ghost use Rattle.session_calls.specs.Acting.{held_by};
 ghost use Rattle.session_calls.specs.Needing.{EntersNeeded};
+ghost use Rattle.session_calls.specs.Calls.{Allocs, Creates, GivesBack, MovesBuffer, MovesReservation, PinsAgain, in_hand};
 ghost use Rattle.session_calls.specs.Having.{IsAtWork};
-ghost use Rattle.session_calls.specs.Jobs.{DoesIn};
-ghost use Rattle.session_calls.specs.Turning.{Refuses};
 
 use crate::access::Access;
 use crate::asking::make_room;
@@ -44,8 +34,7 @@ pub fn give_back<O: Origin, A: Access<D>, D: Slot + Drop>(
     requires unused { bytes ≤ unused_of c.now.tracker (held_by O.opening O.outset hand) }
     ensures turns { A.turns O.opening O.outset access.now place.new result.0.session }
     ensures at_work { IsAtWork D.Slot O.opening O.outset (A.seen place.new) result.0 }
-    ensures ok { OnOk result.1 (DoesIn (IsAsked c.now.tracker (held_by O.opening O.outset hand) (event.Decrease c.now.tracker bytes ∷ [])) hand result.0) }
-    ensures err { IfErr result.1 (Refuses O.opening O.outset c.now.tracker (call.GiveBack c.now.tracker bytes) hand result.0) }
+    ensures gives_back { GivesBack (in_hand O.opening O.outset hand result.0) c.now.tracker bytes result.1 }
     ensures needed { EntersNeeded c.now.tracker bytes hand result.0 }
 {
     let client = c.tracker();
@@ -74,9 +63,7 @@ pub fn move_reservation<O: Origin, A: Access<D>, D: Slot + Drop>(
     requires unused { bytes ≤ unused_of from.now.tracker (held_by O.opening O.outset hand) }
     ensures turns { A.turns O.opening O.outset access.now place.new result.0.session }
     ensures at_work { IsAtWork D.Slot O.opening O.outset (A.seen place.new) result.0 }
-    ensures ok { OnOk result.1 (DoesIn (IsAsked from.now.tracker (held_by O.opening O.outset hand) (event.MoveReservation from.now.tracker to.now.tracker bytes ∷ [])) hand result.0) }
-    ensures refused { IfSome (move_refusal from.now.tracker to.now.tracker bytes (held_by O.opening O.outset hand)) (λ e. (result.1 ≡ Err e) × (result.0 ≡ hand)) }
-    ensures err { IfNone (move_refusal from.now.tracker to.now.tracker bytes (held_by O.opening O.outset hand)) (IfErr result.1 (Refuses O.opening O.outset from.now.tracker (call.MoveReservation from.now.tracker to.now.tracker bytes) hand result.0)) }
+    ensures moves { MovesReservation (in_hand O.opening O.outset hand result.0) from.now.tracker to.now.tracker bytes result.1 }
     ensures needed { EntersNeeded from.now.tracker bytes hand result.0 }
 {
     if let Err(e) = hand.may_move::<O>(from, to, bytes) {
@@ -113,12 +100,7 @@ pub fn create<O: Origin, A: Access<D>, D: Slot + Drop>(
     requires bytes { (bytes ≡ length_of blocks (held_by O.opening O.outset hand)) × (bytes ≤ unused_of c.now.tracker (held_by O.opening O.outset hand)) }
     ensures turns { A.turns O.opening O.outset access.now place.new result.0.session }
     ensures at_work { IsAtWork D.Slot O.opening O.outset (A.seen place.new) result.0 }
-    ensures ok { IfOk result.1 (λ made. DoesIn (IsTaken c.now.tracker (held_by O.opening O.outset hand) (event.Create made.0.name c.now.tracker blocks made.0.key ∷ [])) hand result.0) }
-    ensures page { IfOk result.1 (λ made. IsFreshPage c.now.tracker blocks made (held_by O.opening O.outset hand) (signs_by O.opening hand)) }
-    ensures err { IfErr result.1 (Refuses O.opening O.outset c.now.tracker (call.Create c.now.tracker blocks) hand result.0) }
-
-    // Names are looked at once there is room.
-    ensures spent { result.1 ≡ Err refusal.NamesSpent → HasRoom (state_of result.0.state) c.now.tracker bytes }
+    ensures creates { Creates (in_hand O.opening O.outset hand result.0) c.now.tracker blocks bytes result.1 }
     ensures needed { EntersNeeded c.now.tracker bytes hand result.0 }
 {
     let Ok(shell) = Shell::with(alloc, blocks) else {
@@ -155,9 +137,7 @@ pub fn alloc<O: Origin, A: Access<D>, D: Slot + Drop>(
     requires bytes { (bytes ≡ length_of blocks (held_by O.opening O.outset hand)) × (bytes ≤ unused_of c.now.tracker (held_by O.opening O.outset hand)) }
     ensures turns { A.turns O.opening O.outset access.now place.new result.0.session }
     ensures at_work { IsAtWork D.Slot O.opening O.outset (A.seen place.new) result.0 }
-    ensures ok { IfOk result.1 (λ loan. DoesIn (IsTaken c.now.tracker (held_by O.opening O.outset hand) (event.Alloc loan.number c.now.tracker blocks ∷ [])) hand result.0) }
-    ensures loan { IfOk result.1 (λ loan. IsFreshLoan c.now.tracker blocks loan (held_by O.opening O.outset hand)) }
-    ensures err { IfErr result.1 (Refuses O.opening O.outset c.now.tracker (call.Alloc c.now.tracker blocks) hand result.0) }
+    ensures allocs { Allocs (in_hand O.opening O.outset hand result.0) c.now.tracker blocks result.1 }
     ensures needed { EntersNeeded c.now.tracker bytes hand result.0 }
 {
     let Ok(shell) = Shell::with(alloc, blocks) else {
@@ -188,8 +168,7 @@ pub fn pin_again<O: Origin, A: Access<D>, D: Slot + Drop>(
     requires unused { page_len p.now.name (held_by O.opening O.outset hand) ≤ unused_of p.now.client (held_by O.opening O.outset hand) }
     ensures turns { A.turns O.opening O.outset access.now place.new result.0.session }
     ensures at_work { IsAtWork D.Slot O.opening O.outset (A.seen place.new) result.0 }
-    ensures ok { OnOk result.1 (DoesIn (IsAsked p.now.client (held_by O.opening O.outset hand) (event.PinAgain p.now.name ∷ [])) hand result.0) }
-    ensures err { IfErr result.1 (Refuses O.opening O.outset p.now.client (call.PinAgain p.now.name) hand result.0) }
+    ensures pins_again { PinsAgain (in_hand O.opening O.outset hand result.0) p.now result.1 }
     ensures needed { EntersNeeded p.now.client (page_len p.now.name (held_by O.opening O.outset hand)) hand result.0 }
 {
     let want = Want::Hold(hand.page_len::<O>(p));
@@ -219,10 +198,7 @@ pub fn move_buffer<O: Origin, A: Access<D>, D: Slot + Drop>(
     requires unused { loan_len loan.number (held_by O.opening O.outset hand) ≤ unused_of to.now.tracker (held_by O.opening O.outset hand) }
     ensures turns { A.turns O.opening O.outset access.now place.new result.0.session }
     ensures at_work { IsAtWork D.Slot O.opening O.outset (A.seen place.new) result.0 }
-    ensures ok { OnOk result.1 (DoesIn (IsAsked to.now.tracker (held_by O.opening O.outset hand) (event.MoveBuffer loan.number to.now.tracker ∷ [])) hand result.0) }
-    ensures moved { IfOk result.1 (λ moved. moved ≡ record loan { client = to.now.tracker }) }
-    ensures back { IfErr result.1 (λ e. e.0 ≡ loan) }
-    ensures err { IfErr result.1 (λ e. Refuses O.opening O.outset to.now.tracker (call.MoveBuffer loan.number to.now.tracker) hand result.0 e.1) }
+    ensures moves { MovesBuffer (in_hand O.opening O.outset hand result.0) loan to.now.tracker result.1 }
     ensures needed { EntersNeeded to.now.tracker (loan_len loan.number (held_by O.opening O.outset hand)) hand result.0 }
 {
     let want = Want::Hold(loan.buf().len() as u64);

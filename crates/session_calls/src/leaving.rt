@@ -1,5 +1,5 @@
 //! Pages are left with their bytes, and pages and loans end.
-ghost use Rattle.std.specs.Prelude.{◌≡◌, ◌↔◌, [], ◌∷◌, None, IsErr, IfErr, OnOk, OnErr};
+ghost use Rattle.std.specs.Prelude.{◌≡◌, ◌↔◌, [], ◌∷◌, IsErr, IfErr, OnOk, OnErr};
 ghost use Rattle.reservation_tree.specs.declared.errors.PoolErr.TheVariants as refusal;
 ghost use Rattle.pool_model.specs.declared.event.Event.TheVariants as event;
 ghost use Rattle.pool_model.specs.State.{page_at};
@@ -9,7 +9,7 @@ ghost use Rattle.pin_core.specs.calls.Needs.{IsLastPin};
 ghost use Rattle.pin_core.specs.calls.Unpinning.{LacksSlots as PoolLacks};
 ghost use Rattle.store_api.specs.Holdings.{page_of};
 ghost use Rattle.store_api.specs.Conditions.{Fits, IsLoan, IsPage};
-ghost use Rattle.store_api.specs.Refusals.{LacksSlots, IsScratchFull};
+ghost use Rattle.session_calls.specs.Calls.{Extracts, Unpins, in_turn};
 ghost use Rattle.session_calls.specs.Ready.{IsReady};
 ghost use Rattle.session_calls.specs.Acting.{ActsThese, Goes, held_by};
 
@@ -35,11 +35,7 @@ impl<D: Slot + Drop> Hand<D> {
         requires page { IsPage p.now (held_by O.opening O.outset self.old) }
         requires pinned { (page_of p.now.name (held_by O.opening O.outset self.old)).pins ≡ 1 }
         requires buffer { Fits (page_of p.now.name (held_by O.opening O.outset self.old)).blocks (held_by O.opening O.outset self.old) buf }
-        ensures ok { OnOk result (ActsThese (event.Unpin p.now.name buf.bytes ∷ []) self.old self.new) }
-        ensures refused { IsErr result ↔ LacksSlots (page_of p.now.name (held_by O.opening O.outset self.old)) (held_by O.opening O.outset self.old).free_slots }
-        ensures err { OnErr result (ActsThese (event.UnpinRefused p.now.name ∷ []) self.old self.new) }
-        ensures cause { IfErr result (λ e. IsScratchFull (page_of p.now.name (held_by O.opening O.outset self.old)).blocks (held_by O.opening O.outset self.old).free_slots e.1) }
-        ensures back { IfErr result (λ e. e.0 ≡ buf) }
+        ensures unpins { Unpins (in_turn O.opening O.outset self.old self.new) p.now buf result }
         ensures ready { IsReady D.Slot O.opening O.outset self.new }
     {
         leave::<Brand, D>(self, p, buf)
@@ -51,10 +47,7 @@ impl<D: Slot + Drop> Hand<D> {
         requires page { IsPage p (held_by O.opening O.outset self.old) }
         requires pinned { (page_of p.name (held_by O.opening O.outset self.old)).pins ≡ 1 }
         requires buffer { Fits (page_of p.name (held_by O.opening O.outset self.old)).blocks (held_by O.opening O.outset self.old) buf }
-        ensures acts { ActsThese (event.Extract p.name result.number ∷ []) self.old self.new }
-        ensures fresh { (held_by O.opening O.outset self.old).loans result.number ≡ None }
-        ensures client { result.client ≡ p.client }
-        ensures buffer { result.buf ≡ buf }
+        ensures extracts { Extracts (in_turn O.opening O.outset self.old self.new) p buf result }
         ensures ready { IsReady D.Slot O.opening O.outset self.new }
     {
         let page = p.name();

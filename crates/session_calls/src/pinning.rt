@@ -1,19 +1,16 @@
 //! Pages that rest are pinned, or end.
-ghost use Rattle.std.specs.Prelude.{◌≡◌, ◌∷◌, ◌++◌, [], true, IfErr, IfOk, OnOk};
-ghost use Rattle.pool_model.specs.declared.call.Call.TheVariants as call;
+ghost use Rattle.std.specs.Prelude.{◌≡◌, ◌∷◌, ◌++◌, [], true};
 ghost use Rattle.pool_model.specs.declared.event.Event.TheVariants as event;
 ghost use Rattle.pin_core.specs.calls.Evictions.{evictions};
 ghost use Rattle.store_api.specs.Holdings.{page_len, page_of};
-ghost use Rattle.store_api.specs.Conditions.{IsHeld, IsPage, ShowsLeft};
-ghost use Rattle.store_api.specs.Entries.{IsPin};
+ghost use Rattle.store_api.specs.Conditions.{IsHeld, IsPage};
 ghost use Rattle.session_calls.specs.Pinning.{CanBePinned};
 ghost use Rattle.session_calls.specs.Acting.{held_by};
+ghost use Rattle.session_calls.specs.Calls.{Pins, in_hand};
 ghost use Rattle.session_calls.specs.Having.{IsAtWork};
 ghost use Rattle.session_calls.specs.Jobs.{DoesIn};
 ghost use Rattle.session_calls.specs.Needing.{EntersNeeded};
 ghost use Rattle.session_calls.specs.Pinning.{GoesFurther, HasAsked, PinIs};
-ghost use Rattle.session_calls.specs.Showing.{ShowsStored};
-ghost use Rattle.session_calls.specs.Turning.{Refuses};
 
 use crate::access::Access;
 use crate::count::{count_read, count_write};
@@ -54,10 +51,7 @@ pub fn pin<O: Origin, A: Access<D>, D: Slot + Drop>(
     requires can { CanBePinned p.now (held_by O.opening O.outset hand) }
     ensures turns { A.turns O.opening O.outset access.now place.new result.0.session }
     ensures at_work { IsAtWork D.Slot O.opening O.outset (A.seen place.new) result.0 }
-    ensures ok { OnOk result.1 (DoesIn (IsPin p.now.client (held_by O.opening O.outset hand) p.now.name) hand result.0) }
-    ensures bytes { IfOk result.1 (ShowsLeft (page_of p.now.name (held_by O.opening O.outset hand)) (held_by O.opening O.outset hand)) }
-    ensures stored { IfOk result.1 (ShowsStored O.opening result.0.trail p.now.name (page_of p.now.name (held_by O.opening O.outset hand))) }
-    ensures err { IfErr result.1 (Refuses O.opening O.outset p.now.client (call.Pin p.now.name) hand result.0) }
+    ensures pins { Pins (in_hand O.opening O.outset hand result.0) p.now result.1 }
     ensures needed { EntersNeeded p.now.client (page_len p.now.name (held_by O.opening O.outset hand)) hand result.0 }
 {
     let call = Call::Pin { page: p.name() };

@@ -1,17 +1,8 @@
 //! Clients come and go, and reservations grow.
-ghost use Rattle.std.specs.Prelude.{◌≡◌, ◌↔◌, ◌≤◌, [], ◌∷◌, None, Err, IsErr, IfOk, IfErr, IfSome, IfNone, OnOk, OnErr};
-ghost use Rattle.reservation_tree.specs.declared.errors.PoolErr.TheVariants as refusal;
-ghost use Rattle.reservation_tree.specs.Answer.{IsFrom};
-ghost use Rattle.pool_model.specs.declared.event.Event.TheVariants as event;
-ghost use Rattle.pin_core.specs.calls.Entering.{fit_refusal, growth_refusal};
-ghost use Rattle.pin_core.specs.StateOf.{state_of};
-ghost use Rattle.store_api.specs.Holdings.{account_of};
-ghost use Rattle.store_api.specs.Changes.{query_growth, shortfall};
 ghost use Rattle.store_api.specs.Conditions.{IsLiveClient, IsIdle};
-ghost use Rattle.store_api.specs.Refusals.{reserve_refusal, IsSharedRefusal};
 ghost use Rattle.session_calls.specs.Ready.{IsReady};
-ghost use Rattle.session_calls.specs.Acting.{ActsThese, TellsAbove, held_by};
-ghost use Rattle.session_calls.specs.Coming.{IsFresh};
+ghost use Rattle.session_calls.specs.Acting.{TellsAbove, held_by};
+ghost use Rattle.session_calls.specs.Calls.{AddsClient, EndsClient, Reserves, ReservesToFit, in_turn};
 
 use crate::entering::enter;
 use crate::hand::Hand;
@@ -29,11 +20,7 @@ impl<D: Slot + Drop> Hand<D> {
     /// `TooManyTrackers`: sixteen clients of the session are live.
     pub fn add_client<O: Origin>(&mut self, limit: u64) -> Result<Client, PoolErr>
         requires ready { IsReady D.Slot O.opening O.outset self.old }
-        ensures ok { IfOk result (λ c. ActsThese (event.AddTracker c.tracker (held_by O.opening O.outset self.old).query limit None ∷ []) self.old self.new) }
-        ensures fresh { IfOk result (λ c. IsFresh c (held_by O.opening O.outset self.old)) }
-        ensures refused { IsErr result ↔ (16 ≤ (held_by O.opening O.outset self.old).live_clients) }
-        ensures cause { IfErr result (λ e. e ≡ refusal.TooManyTrackers 16) }
-        ensures err { OnErr result (self.new ≡ self.old) }
+        ensures adds { AddsClient (in_turn O.opening O.outset self.old self.new) limit result }
         ensures ready { IsReady D.Slot O.opening O.outset self.new }
     {
         let query = self.state.tracker(self.session);
@@ -53,8 +40,7 @@ impl<D: Slot + Drop> Hand<D> {
         requires ready { IsReady D.Slot O.opening O.outset self.old }
         requires client { IsLiveClient c (held_by O.opening O.outset self.old) }
         requires idle { IsIdle c.tracker (held_by O.opening O.outset self.old) }
-        ensures acts { ActsThese (event.MoveReservation c.tracker (held_by O.opening O.outset self.old).query (account_of c.tracker (held_by O.opening O.outset self.old)).reservation ∷ event.CloseTracker c.tracker ∷ []) self.old self.new }
-        ensures apart { (held_by O.opening O.outset self.old).clients (held_by O.opening O.outset self.old).query ≡ None }
+        ensures ends { EndsClient (in_turn O.opening O.outset self.old self.new) c.tracker }
         ensures ready { IsReady D.Slot O.opening O.outset self.new }
     {
         let session = self.session;
@@ -80,11 +66,7 @@ impl<D: Slot + Drop> Hand<D> {
         requires ready { IsReady D.Slot O.opening O.outset self.old }
         requires above { TellsAbove O.opening O.outset self.old }
         requires client { IsLiveClient c.now (held_by O.opening O.outset self.old) }
-        ensures ok { OnOk result (ActsThese (event.Increase c.now.tracker bytes ∷ []) self.old self.new) }
-        ensures refused { IfSome (reserve_refusal c.now.tracker bytes (held_by O.opening O.outset self.old)) (λ e. result ≡ Err e) }
-        ensures shared { IfNone (reserve_refusal c.now.tracker bytes (held_by O.opening O.outset self.old)) (IfErr result (IsSharedRefusal (query_growth bytes (held_by O.opening O.outset self.old)) (held_by O.opening O.outset self.old).above)) }
-        ensures cause { IfErr result (IsFrom (growth_refusal (state_of self.old.state) c.now.tracker bytes)) }
-        ensures err { OnErr result (self.new ≡ self.old) }
+        ensures reserves { Reserves (in_turn O.opening O.outset self.old self.new) c.now.tracker bytes result }
         ensures ready { IsReady D.Slot O.opening O.outset self.new }
     {
         let session = self.session;
@@ -106,11 +88,7 @@ impl<D: Slot + Drop> Hand<D> {
         requires ready { IsReady D.Slot O.opening O.outset self.old }
         requires above { TellsAbove O.opening O.outset self.old }
         requires client { IsLiveClient c.now (held_by O.opening O.outset self.old) }
-        ensures ok { OnOk result (ActsThese (event.IncreaseToFit c.now.tracker bytes ∷ []) self.old self.new) }
-        ensures refused { IfSome (reserve_refusal c.now.tracker (shortfall c.now.tracker bytes (held_by O.opening O.outset self.old)) (held_by O.opening O.outset self.old)) (λ e. result ≡ Err e) }
-        ensures shared { IfNone (reserve_refusal c.now.tracker (shortfall c.now.tracker bytes (held_by O.opening O.outset self.old)) (held_by O.opening O.outset self.old)) (IfErr result (IsSharedRefusal (query_growth (shortfall c.now.tracker bytes (held_by O.opening O.outset self.old)) (held_by O.opening O.outset self.old)) (held_by O.opening O.outset self.old).above)) }
-        ensures cause { IfErr result (IsFrom (fit_refusal (state_of self.old.state) c.now.tracker bytes)) }
-        ensures err { OnErr result (self.new ≡ self.old) }
+        ensures reserves { ReservesToFit (in_turn O.opening O.outset self.old self.new) c.now.tracker bytes result }
         ensures ready { IsReady D.Slot O.opening O.outset self.new }
     {
         let session = self.session;

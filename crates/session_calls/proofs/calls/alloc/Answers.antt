@@ -23,15 +23,16 @@ pub returns-clause-at_work : goal.returns-clause-at_work
 returns-clause-at_work g c =
     works_with g.D.Slot g.O.Origin.opening g.O.Origin.outset (g.A.Access.seen c.make_room-hand.new.place) c.make_room-hand.result.0 c.alloc-loan.new.self c.make_room-hand.ensures.at_work c.alloc-loan.ensures.acts c.alloc-loan.ensures.ready
 
-pub returns-clause-ok : goal.returns-clause-ok
-returns-clause-ok g c =
-    taken_then g.O.Origin.opening g.O.Origin.outset c.args.c.now.tracker c.args.hand c.make_room-hand.result.0 (granted g.O.Origin.opening g.O.Origin.outset c.args.c.now.tracker c.args.hand c.make_room-hand.result.0 c.make_room-hand.result.1 _ c.in_default-result.is c.make_room-hand.ensures.ok) (Alloc c.alloc-loan.result.number c.args.c.now.tracker c.args.blocks ∷ []) c.alloc-loan.new.self
-    (subst (λ (n : ℕ). Acts (Evicts (Alloc c.alloc-loan.result.number c.args.c.now.tracker n ∷ [])) c.make_room-hand.result.0 c.alloc-loan.new.self) c.in-Ok.ensures c.alloc-loan.ensures.acts) (refl, tt)
-
-pub returns-clause-loan : goal.returns-clause-loan
-returns-clause-loan g c =
-    subst (λ (n : ℕ). IsFreshLoan c.args.c.now.tracker n c.alloc-loan.result (held_by g.O.Origin.opening g.O.Origin.outset c.args.hand)) c.in-Ok.ensures
-    (subst (IsFreshLoan c.args.c.now.tracker c.in-Ok.shell c.alloc-loan.result) (granted_held g.O.Origin.opening g.O.Origin.outset c.args.c.now.tracker c.args.hand c.make_room-hand.result.0 c.make_room-hand.result.1 _ c.in_default-result.is c.make_room-hand.ensures.ok) c.alloc-loan.ensures.loan)
+pub returns-clause-allocs : goal.returns-clause-allocs
+returns-clause-allocs g c = record {
+  ok =
+      taken_then g.O.Origin.opening g.O.Origin.outset c.args.c.now.tracker c.args.hand c.make_room-hand.result.0 (granted g.O.Origin.opening g.O.Origin.outset c.args.c.now.tracker c.args.hand c.make_room-hand.result.0 c.make_room-hand.result.1 _ c.in_default-result.is c.make_room-hand.ensures.ok) (Alloc c.alloc-loan.result.number c.args.c.now.tracker c.args.blocks ∷ []) c.alloc-loan.new.self
+      (subst (λ (n : ℕ). Acts (Evicts (Alloc c.alloc-loan.result.number c.args.c.now.tracker n ∷ [])) c.make_room-hand.result.0 c.alloc-loan.new.self) c.in-Ok.ensures c.alloc-loan.ensures.acts) (refl, tt);
+  loan =
+      subst (λ (n : ℕ). IsFreshLoan c.args.c.now.tracker n c.alloc-loan.result (held_by g.O.Origin.opening g.O.Origin.outset c.args.hand)) c.in-Ok.ensures
+      (subst (IsFreshLoan c.args.c.now.tracker c.in-Ok.shell c.alloc-loan.result) (granted_held g.O.Origin.opening g.O.Origin.outset c.args.c.now.tracker c.args.hand c.make_room-hand.result.0 c.make_room-hand.result.1 _ c.in_default-result.is c.make_room-hand.ensures.ok) c.alloc-loan.ensures.loan);
+  err = tt;
+}
 
 pub returns-clause-needed : goal.returns-clause-needed
 returns-clause-needed g c =

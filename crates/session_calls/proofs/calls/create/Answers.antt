@@ -26,19 +26,20 @@ returns-clause-at_work g c =
     works_created g.O.Origin.opening g.O.Origin.outset c.args.c.now.tracker c.in-Ok.shell c.args.hand c.make_room-hand.result.0 (granted g.O.Origin.opening g.O.Origin.outset c.args.c.now.tracker c.args.hand c.make_room-hand.result.0 c.make_room-hand.result.1 _ c.in_default-result.is c.make_room-hand.ensures.ok) c.create-made.new.self g.D.Slot (g.A.Access.seen c.make_room-hand.new.place) c.create-made.result
     c.make_room-hand.ensures.at_work c.create-made.ensures.ok c.create-made.ensures.err c.create-made.ensures.ready
 
-pub returns-clause-ok : goal.returns-clause-ok
-returns-clause-ok g c =
-    taken_created g.O.Origin.opening g.O.Origin.outset c.args.c.now.tracker c.args.blocks c.args.hand c.make_room-hand.result.0 (granted g.O.Origin.opening g.O.Origin.outset c.args.c.now.tracker c.args.hand c.make_room-hand.result.0 c.make_room-hand.result.1 _ c.in_default-result.is c.make_room-hand.ensures.ok) c.create-made.new.self c.create-made.result
-    (subst (λ (n : ℕ). IfOk c.create-made.result (λ made. Acts (Evicts (Create made.0.name c.args.c.now.tracker n made.0.key ∷ [])) c.make_room-hand.result.0 c.create-made.new.self)) c.in-Ok.ensures c.create-made.ensures.ok)
-
-pub returns-clause-page : goal.returns-clause-page
-returns-clause-page g c =
-    fresh_taken g.O.Origin.opening g.O.Origin.outset c.args.c.now.tracker c.args.blocks c.args.hand c.make_room-hand.result.0 (granted g.O.Origin.opening g.O.Origin.outset c.args.c.now.tracker c.args.hand c.make_room-hand.result.0 c.make_room-hand.result.1 _ c.in_default-result.is c.make_room-hand.ensures.ok) c.create-made.result
-    (subst (λ (n : ℕ). IfOk c.create-made.result (λ made. IsFreshPage c.args.c.now.tracker n made (held_by g.O.Origin.opening g.O.Origin.outset c.make_room-hand.result.0) (signs_by g.O.Origin.opening c.make_room-hand.result.0))) c.in-Ok.ensures c.create-made.ensures.page)
-
-pub returns-clause-err : goal.returns-clause-err
-returns-clause-err g c =
-    refused_created g.O.Origin.opening g.O.Origin.outset c.args.c.now.tracker c.args.blocks c.args.hand c.make_room-hand.result.0 (granted g.O.Origin.opening g.O.Origin.outset c.args.c.now.tracker c.args.hand c.make_room-hand.result.0 c.make_room-hand.result.1 _ c.in_default-result.is c.make_room-hand.ensures.ok) c.create-made.new.self c.create-made.result c.create-made.ensures.cause c.create-made.ensures.err
+pub returns-clause-creates : goal.returns-clause-creates
+returns-clause-creates g c = record {
+  ok =
+      taken_created g.O.Origin.opening g.O.Origin.outset c.args.c.now.tracker c.args.blocks c.args.hand c.make_room-hand.result.0 (granted g.O.Origin.opening g.O.Origin.outset c.args.c.now.tracker c.args.hand c.make_room-hand.result.0 c.make_room-hand.result.1 _ c.in_default-result.is c.make_room-hand.ensures.ok) c.create-made.new.self c.create-made.result
+      (subst (λ (n : ℕ). IfOk c.create-made.result (λ made. Acts (Evicts (Create made.0.name c.args.c.now.tracker n made.0.key ∷ [])) c.make_room-hand.result.0 c.create-made.new.self)) c.in-Ok.ensures c.create-made.ensures.ok);
+  page =
+      fresh_taken g.O.Origin.opening g.O.Origin.outset c.args.c.now.tracker c.args.blocks c.args.hand c.make_room-hand.result.0 (granted g.O.Origin.opening g.O.Origin.outset c.args.c.now.tracker c.args.hand c.make_room-hand.result.0 c.make_room-hand.result.1 _ c.in_default-result.is c.make_room-hand.ensures.ok) c.create-made.result
+      (subst (λ (n : ℕ). IfOk c.create-made.result (λ made. IsFreshPage c.args.c.now.tracker n made (held_by g.O.Origin.opening g.O.Origin.outset c.make_room-hand.result.0) (signs_by g.O.Origin.opening c.make_room-hand.result.0))) c.in-Ok.ensures c.create-made.ensures.page);
+  err =
+      refused_created g.O.Origin.opening g.O.Origin.outset c.args.c.now.tracker c.args.blocks c.args.hand c.make_room-hand.result.0 (granted g.O.Origin.opening g.O.Origin.outset c.args.c.now.tracker c.args.hand c.make_room-hand.result.0 c.make_room-hand.result.1 _ c.in_default-result.is c.make_room-hand.ensures.ok) c.create-made.new.self c.create-made.result c.create-made.ensures.cause c.create-made.ensures.err;
+  spent = λ is.
+      in_err_same _ (λ (hand : Hand g.row.D.Denot). HasRoom (state_of hand.state) c.args.c.now.tracker c.args.bytes) c.make_room-hand.result.0 c.create-made.new.self c.create-made.result NamesSpent is c.create-made.ensures.err
+      (in_ok (HasRoom (state_of c.make_room-hand.result.0.state) c.args.c.now.tracker c.args.bytes) c.make_room-hand.result.1 _ c.in_default-result.is c.make_room-hand.ensures.room);
+}
 
 pub returns-clause-needed : goal.returns-clause-needed
 returns-clause-needed g c =
@@ -46,8 +47,3 @@ returns-clause-needed g c =
     c.make_room-hand.ensures.needed
     (needs_as c.args.c.now.tracker _ c.args.c.now.tracker c.args.bytes c.make_room-hand.result.0 c.create-made.new.self refl
     (sym (length_now g.O.Origin.opening g.O.Origin.outset c.args.c.now.tracker c.args.hand c.make_room-hand.result.0 c.make_room-hand.result.1 _ c.in_default-result.is c.make_room-hand.ensures.ok c.args.bytes c.args.blocks c.in-Ok.shell c.requires.bytes.0 c.in-Ok.ensures)) c.create-made.ensures.needed)
-
-pub returns-clause-spent : goal.returns-clause-spent
-returns-clause-spent g c = λ is.
-    in_err_same _ (λ (hand : Hand g.row.D.Denot). HasRoom (state_of hand.state) c.args.c.now.tracker c.args.bytes) c.make_room-hand.result.0 c.create-made.new.self c.create-made.result NamesSpent is c.create-made.ensures.err
-    (in_ok (HasRoom (state_of c.make_room-hand.result.0.state) c.args.c.now.tracker c.args.bytes) c.make_room-hand.result.1 _ c.in_default-result.is c.make_room-hand.ensures.room)

@@ -18,9 +18,12 @@ pub returns-clause-at_work : goal.returns-clause-at_work
 returns-clause-at_work g c =
     works_with g.D.Slot g.O.Origin.opening g.O.Origin.outset (g.A.Access.seen c.make_room-hand.new.place) c.make_room-hand.result.0 c.give_up.new.self c.make_room-hand.ensures.at_work c.give_up.ensures.acts c.give_up.ensures.ready
 
-pub returns-clause-ok : goal.returns-clause-ok
-returns-clause-ok g c =
-    asked_then g.O.Origin.opening g.O.Origin.outset c.args.c.now.tracker c.args.hand c.make_room-hand.result.0 (granted g.O.Origin.opening g.O.Origin.outset c.args.c.now.tracker c.args.hand c.make_room-hand.result.0 c.make_room-hand.result.1 _ c.in_default.is c.make_room-hand.ensures.ok) (Decrease c.args.c.now.tracker c.args.bytes ∷ []) c.give_up.new.self c.give_up.ensures.acts (refl, tt)
+pub returns-clause-gives_back : goal.returns-clause-gives_back
+returns-clause-gives_back g c = record {
+  ok =
+      asked_then g.O.Origin.opening g.O.Origin.outset c.args.c.now.tracker c.args.hand c.make_room-hand.result.0 (granted g.O.Origin.opening g.O.Origin.outset c.args.c.now.tracker c.args.hand c.make_room-hand.result.0 c.make_room-hand.result.1 _ c.in_default.is c.make_room-hand.ensures.ok) (Decrease c.args.c.now.tracker c.args.bytes ∷ []) c.give_up.new.self c.give_up.ensures.acts (refl, tt);
+  err = tt;
+}
 
 pub returns-clause-needed : goal.returns-clause-needed
 returns-clause-needed g c =

@@ -1,4 +1,4 @@
-use Rattle.std.proofs.Common.{ℕ, [], ◌∷◌, IsSome, refl, sym, ap, ◌∙◌, subst}
+use Rattle.std.proofs.Common.{rules, ℕ, [], ◌∷◌, IsSome, refl, sym, ap, ◌∙◌, subst}
 use Rattle.pool_model.specs.declared.event.Event.TheVariants.{MoveBuffer}
 use Rattle.pool_model.specs.Sums.{HasRoom}
 use Rattle.store_api.specs.Holdings.{Holdings, loan_len}
@@ -29,9 +29,14 @@ pub returns-clause-at_work : goal.returns-clause-at_work
 returns-clause-at_work g c =
     works_with g.D.Slot g.O.Origin.opening g.O.Origin.outset (g.A.Access.seen c.make_room-hand.new.place) c.make_room-hand.result.0 c.move_buffer-moved.new.self c.make_room-hand.ensures.at_work c.move_buffer-moved.ensures.acts c.move_buffer-moved.ensures.ready
 
-pub returns-clause-ok : goal.returns-clause-ok
-returns-clause-ok g c =
-    asked_then g.O.Origin.opening g.O.Origin.outset c.args.to.now.tracker c.args.hand c.make_room-hand.result.0 (granted g.O.Origin.opening g.O.Origin.outset c.args.to.now.tracker c.args.hand c.make_room-hand.result.0 c.make_room-hand.result.1 _ c.in_default.is c.make_room-hand.ensures.ok) (MoveBuffer c.args.loan.number c.args.to.now.tracker ∷ []) c.move_buffer-moved.new.self c.move_buffer-moved.ensures.acts (refl, tt)
+pub returns-clause-moves : goal.returns-clause-moves
+returns-clause-moves g c = record {
+  ok =
+      asked_then g.O.Origin.opening g.O.Origin.outset c.args.to.now.tracker c.args.hand c.make_room-hand.result.0 (granted g.O.Origin.opening g.O.Origin.outset c.args.to.now.tracker c.args.hand c.make_room-hand.result.0 c.make_room-hand.result.1 _ c.in_default.is c.make_room-hand.ensures.ok) (MoveBuffer c.args.loan.number c.args.to.now.tracker ∷ []) c.move_buffer-moved.new.self c.move_buffer-moved.ensures.acts (refl, tt);
+  moved = search rules;
+  back = tt;
+  err = tt;
+}
 
 pub returns-clause-needed : goal.returns-clause-needed
 returns-clause-needed g c =

@@ -1,4 +1,4 @@
-use Rattle.std.proofs.Common.{◌≡◌, ◌≤◌, [], ◌∷◌, None, IsSome, IfSome, Ok, Err, refl, sym, subst}
+use Rattle.std.proofs.Common.{rules, ◌≡◌, ◌≤◌, [], ◌∷◌, None, IsSome, IfSome, Ok, Err, refl, sym, subst}
 use Rattle.pool_model.specs.declared.event.Event.TheVariants.{MoveReservation}
 use Rattle.store_api.specs.Holdings.{Holdings, unused_of}
 use Rattle.store_api.specs.Refusals.{move_refusal}
@@ -31,9 +31,13 @@ pub returns-clause-at_work : goal.returns-clause-at_work
 returns-clause-at_work g c =
     works_with g.D.Slot g.O.Origin.opening g.O.Origin.outset (g.A.Access.seen c.make_room-hand.new.place) c.make_room-hand.result.0 c.pass_on.new.self c.make_room-hand.ensures.at_work c.pass_on.ensures.acts c.pass_on.ensures.ready
 
-pub returns-clause-ok : goal.returns-clause-ok
-returns-clause-ok g c =
-    asked_then g.O.Origin.opening g.O.Origin.outset c.args.from.now.tracker c.args.hand c.make_room-hand.result.0 (granted g.O.Origin.opening g.O.Origin.outset c.args.from.now.tracker c.args.hand c.make_room-hand.result.0 c.make_room-hand.result.1 _ c.in_default-result.is c.make_room-hand.ensures.ok) (MoveReservation c.args.from.now.tracker c.args.to.now.tracker c.args.bytes ∷ []) c.pass_on.new.self c.pass_on.ensures.acts (refl, tt)
+pub returns-clause-moves : goal.returns-clause-moves
+returns-clause-moves g c = record {
+  ok =
+      asked_then g.O.Origin.opening g.O.Origin.outset c.args.from.now.tracker c.args.hand c.make_room-hand.result.0 (granted g.O.Origin.opening g.O.Origin.outset c.args.from.now.tracker c.args.hand c.make_room-hand.result.0 c.make_room-hand.result.1 _ c.in_default-result.is c.make_room-hand.ensures.ok) (MoveReservation c.args.from.now.tracker c.args.to.now.tracker c.args.bytes ∷ []) c.pass_on.new.self c.pass_on.ensures.acts (refl, tt);
+  refused = search rules;
+  err = search rules;
+}
 
 pub returns-clause-needed : goal.returns-clause-needed
 returns-clause-needed g c =

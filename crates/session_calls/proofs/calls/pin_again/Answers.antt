@@ -32,11 +32,14 @@ pub returns-clause-at_work : goal.returns-clause-at_work
 returns-clause-at_work g c =
     works_with g.D.Slot g.O.Origin.opening g.O.Origin.outset (g.A.Access.seen c.make_room-hand.new.place) c.make_room-hand.result.0 c.pin_again.new.self c.make_room-hand.ensures.at_work c.pin_again.ensures.acts c.pin_again.ensures.ready
 
-pub returns-clause-ok : goal.returns-clause-ok
-returns-clause-ok g c =
-    asked_then g.O.Origin.opening g.O.Origin.outset c.args.p.now.client c.args.hand c.make_room-hand.result.0
-    (subst (λ (k : ℕ). DoesIn (IsAsked k (held_by g.O.Origin.opening g.O.Origin.outset c.args.hand) []) c.args.hand c.make_room-hand.result.0) (ap (λ (k : ClientToken). k.tracker) c.of-c.ensures ∙ c.client.ensures) (granted g.O.Origin.opening g.O.Origin.outset c.of-c.result.tracker c.args.hand c.make_room-hand.result.0 c.make_room-hand.result.1 _ c.in_default.is c.make_room-hand.ensures.ok))
-    (PinAgain c.args.p.now.name ∷ []) c.pin_again.new.self c.pin_again.ensures.acts (refl, tt)
+pub returns-clause-pins_again : goal.returns-clause-pins_again
+returns-clause-pins_again g c = record {
+  ok =
+      asked_then g.O.Origin.opening g.O.Origin.outset c.args.p.now.client c.args.hand c.make_room-hand.result.0
+      (subst (λ (k : ℕ). DoesIn (IsAsked k (held_by g.O.Origin.opening g.O.Origin.outset c.args.hand) []) c.args.hand c.make_room-hand.result.0) (ap (λ (k : ClientToken). k.tracker) c.of-c.ensures ∙ c.client.ensures) (granted g.O.Origin.opening g.O.Origin.outset c.of-c.result.tracker c.args.hand c.make_room-hand.result.0 c.make_room-hand.result.1 _ c.in_default.is c.make_room-hand.ensures.ok))
+      (PinAgain c.args.p.now.name ∷ []) c.pin_again.new.self c.pin_again.ensures.acts (refl, tt);
+  err = tt;
+}
 
 pub returns-clause-needed : goal.returns-clause-needed
 returns-clause-needed g c =

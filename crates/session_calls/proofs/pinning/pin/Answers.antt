@@ -25,14 +25,13 @@ pin_step-now-requires-clause-can g c = can_now g.D.Slot g.O.Origin.opening g.O.O
 pub pin_step-now-requires-clause-asked : goal.pin_step-now-requires-clause-asked
 pin_step-now-requires-clause-asked g c = asked_now g.D.Slot g.O.Origin.opening g.O.Origin.outset c.args.p.now c.args.hand c.loop-buf.hand c.loop-buf.invariant.2 c.loop-buf.invariant.1.ready c.requires.can
 
-pub returns-in-Pinned-clause-ok : goal.returns-in-Pinned-clause-ok
-returns-in-Pinned-clause-ok g c = asked_pin g.D.Slot g.O.Origin.opening g.O.Origin.outset c.args.p.now c.args.hand c.loop-buf.hand c.loop-buf.invariant.2 c.loop-buf.invariant.1.ready c.requires.can c.pin_step-now.result.0 c.pin_step-now.result.1 c.pin_step-now.ensures.step c.in-Pinned.buf c.in-Pinned.is
-
-pub returns-in-Pinned-clause-bytes : goal.returns-in-Pinned-clause-bytes
-returns-in-Pinned-clause-bytes g c = shows_pin g.D.Slot g.O.Origin.opening g.O.Origin.outset c.args.p.now c.args.hand c.loop-buf.hand c.loop-buf.invariant.2 c.loop-buf.invariant.1.ready c.requires.can c.pin_step-now.result.0 c.pin_step-now.result.1 c.pin_step-now.ensures.step c.in-Pinned.buf c.in-Pinned.is
-
-pub returns-in-Pinned-clause-stored : goal.returns-in-Pinned-clause-stored
-returns-in-Pinned-clause-stored g c = stored_pin g.D.Slot g.O.Origin.opening g.O.Origin.outset c.args.p.now c.args.hand c.loop-buf.hand c.loop-buf.invariant.2 c.loop-buf.invariant.1.ready c.requires.can c.pin_step-now.result.0 c.pin_step-now.result.1 c.pin_step-now.ensures.step c.in-Pinned.buf c.in-Pinned.is
+pub returns-in-Pinned-clause-pins : goal.returns-in-Pinned-clause-pins
+returns-in-Pinned-clause-pins g c = record {
+  ok = asked_pin g.D.Slot g.O.Origin.opening g.O.Origin.outset c.args.p.now c.args.hand c.loop-buf.hand c.loop-buf.invariant.2 c.loop-buf.invariant.1.ready c.requires.can c.pin_step-now.result.0 c.pin_step-now.result.1 c.pin_step-now.ensures.step c.in-Pinned.buf c.in-Pinned.is;
+  bytes = shows_pin g.D.Slot g.O.Origin.opening g.O.Origin.outset c.args.p.now c.args.hand c.loop-buf.hand c.loop-buf.invariant.2 c.loop-buf.invariant.1.ready c.requires.can c.pin_step-now.result.0 c.pin_step-now.result.1 c.pin_step-now.ensures.step c.in-Pinned.buf c.in-Pinned.is;
+  stored = stored_pin g.D.Slot g.O.Origin.opening g.O.Origin.outset c.args.p.now c.args.hand c.loop-buf.hand c.loop-buf.invariant.2 c.loop-buf.invariant.1.ready c.requires.can c.pin_step-now.result.0 c.pin_step-now.result.1 c.pin_step-now.ensures.step c.in-Pinned.buf c.in-Pinned.is;
+  err = tt;
+}
 
 pub refuse-requires-clause-may : goal.refuse-requires-clause-may
 refuse-requires-clause-may g c = may_refuse_lacking g.D.Slot g.O.Origin.opening g.O.Origin.outset c.args.p.now c.args.hand c.loop-buf.hand c.loop-buf.invariant.2 c.loop-buf.invariant.1.ready c.requires.can c.pin_step-now.result.0 c.pin_step-now.result.1 c.pin_step-now.ensures.step c.in-Refused.entry c.in-Refused.is c.name.result c.name.ensures
@@ -41,17 +40,27 @@ pub returns-in-Refused-clause-at_work : goal.returns-in-Refused-clause-at_work
 returns-in-Refused-clause-at_work g c =
     works_with g.D.Slot g.O.Origin.opening g.O.Origin.outset (g.A.Access.seen c.pin_step-now.new.place) c.pin_step-now.result.0 c.refuse.new.self c.pin_step-now.ensures.at_work c.refuse.ensures.acts c.refuse.ensures.ready
 
-pub returns-in-Refused-clause-err : goal.returns-in-Refused-clause-err
-returns-in-Refused-clause-err g c =
-    was_lacking g.D.Slot g.O.Origin.opening g.O.Origin.outset c.args.p.now c.args.hand c.loop-buf.hand c.loop-buf.invariant.2 c.loop-buf.invariant.1.ready c.requires.can c.pin_step-now.result.0 c.pin_step-now.result.1 c.pin_step-now.ensures.step c.in-Refused.entry c.in-Refused.is c.name.result c.name.ensures c.refuse.new.self c.refuse.ensures.acts
+pub returns-in-Refused-clause-pins : goal.returns-in-Refused-clause-pins
+returns-in-Refused-clause-pins g c = record {
+  ok = tt;
+  bytes = tt;
+  stored = tt;
+  err =
+      was_lacking g.D.Slot g.O.Origin.opening g.O.Origin.outset c.args.p.now c.args.hand c.loop-buf.hand c.loop-buf.invariant.2 c.loop-buf.invariant.1.ready c.requires.can c.pin_step-now.result.0 c.pin_step-now.result.1 c.pin_step-now.ensures.step c.in-Refused.entry c.in-Refused.is c.name.result c.name.ensures c.refuse.new.self c.refuse.ensures.acts;
+}
 
 pub returns-in-Unread-clause-at_work : goal.returns-in-Unread-clause-at_work
 returns-in-Unread-clause-at_work g c =
     works_with g.D.Slot g.O.Origin.opening g.O.Origin.outset (g.A.Access.seen c.pin_step-now.new.place) c.pin_step-now.result.0 c.refuse-in-Unread.new.self c.pin_step-now.ensures.at_work c.refuse-in-Unread.ensures.acts c.refuse-in-Unread.ensures.ready
 
-pub returns-in-Unread-clause-err : goal.returns-in-Unread-clause-err
-returns-in-Unread-clause-err g c =
-    was_unread g.D.Slot g.O.Origin.opening g.O.Origin.outset c.args.p.now c.args.hand c.loop-buf.hand c.loop-buf.invariant.2 c.loop-buf.invariant.1.ready c.requires.can c.pin_step-now.result.0 c.pin_step-now.result.1 c.pin_step-now.ensures.step c.in-Unread.unread c.in-Unread.is c.name.result c.name.ensures c.refuse-in-Unread.new.self c.refuse-in-Unread.ensures.acts
+pub returns-in-Unread-clause-pins : goal.returns-in-Unread-clause-pins
+returns-in-Unread-clause-pins g c = record {
+  ok = tt;
+  bytes = tt;
+  stored = tt;
+  err =
+      was_unread g.D.Slot g.O.Origin.opening g.O.Origin.outset c.args.p.now c.args.hand c.loop-buf.hand c.loop-buf.invariant.2 c.loop-buf.invariant.1.ready c.requires.can c.pin_step-now.result.0 c.pin_step-now.result.1 c.pin_step-now.ensures.step c.in-Unread.unread c.in-Unread.is c.name.result c.name.ensures c.refuse-in-Unread.new.self c.refuse-in-Unread.ensures.acts;
+}
 
 pub loop-buf-preserved : goal.loop-buf-preserved
 loop-buf-preserved g c = (

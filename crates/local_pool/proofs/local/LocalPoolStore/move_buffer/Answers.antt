@@ -12,16 +12,16 @@ returns-then-eq-clause-succeeds g c = λ _. (refl, (untouched g.D.Slot c.args.se
 pub invariant_of-self-clause-len : goal.invariant_of-self-clause-len
 invariant_of-self-clause-len g c =
     c.args.self.now.len
-    ∙ sym (lasts_handed g.D.Slot c.args.self.now.alone c.replace_with-result.new.dest _ c.args.to.now.tracker _ c.replace_with-result.result c.replace_with-result.ensures.0 c.replace_with-result.ensures.1.1.1.0).len
+    ∙ sym (lasts_handed g.D.Slot c.args.self.now.alone c.replace_with-result.new.dest _ c.args.to.now.tracker _ c.replace_with-result.result c.replace_with-result.ensures.0.ok c.replace_with-result.ensures.0.err).len
 
 pub returns-clause-ok : goal.returns-clause-ok
 returns-clause-ok g c =
-    on_ok_so c.replace_with-result.result c.replace_with-result.ensures.0 (λ made.
+    on_ok_so c.replace_with-result.result c.replace_with-result.ensures.0.ok (λ made.
     makes_held g.D.Slot c.args.self.now.alone c.replace_with-result.new.dest made
     ∙ (calls_tell c.args.to.now.tracker (held_of g.D.Slot c.args.self.now.alone)).move_buffer c.args.loan.number c.args.to.now.tracker made.events made.is)
 
 pub returns-clause-grows : goal.returns-clause-grows
-returns-clause-grows g c = (lasts_handed g.D.Slot c.args.self.now.alone c.replace_with-result.new.dest _ c.args.to.now.tracker _ c.replace_with-result.result c.replace_with-result.ensures.0 c.replace_with-result.ensures.1.1.1.0).grows
+returns-clause-grows g c = (lasts_handed g.D.Slot c.args.self.now.alone c.replace_with-result.new.dest _ c.args.to.now.tracker _ c.replace_with-result.result c.replace_with-result.ensures.0.ok c.replace_with-result.ensures.0.err).grows
 
 pub returns-clause-entries : goal.returns-clause-entries
-returns-clause-entries g c = λ _. on_ok_so c.replace_with-result.result c.replace_with-result.ensures.0 (λ made. makes_made g.D.Slot c.args.self.now.alone c.replace_with-result.new.dest made)
+returns-clause-entries g c = λ _. on_ok_so c.replace_with-result.result c.replace_with-result.ensures.0.ok (λ made. makes_made g.D.Slot c.args.self.now.alone c.replace_with-result.new.dest made)

@@ -7,13 +7,13 @@ use Rattle.local_pool.proofs.Lasting.{lasts_or_refused}
 use Rattle.local_pool.proofs.local.LocalPoolStore.pin.Goals as goal
 
 pub invariant_of-self-clause-len : goal.invariant_of-self-clause-len
-invariant_of-self-clause-len g c = c.args.self.now.len ∙ sym (lasts_or_refused g.D.Slot c.args.self.now.alone c.replace_with-result.new.dest _ c.args.p.now.client _ c.replace_with-result.result c.replace_with-result.ensures.0 c.replace_with-result.ensures.1.1.0).len
+invariant_of-self-clause-len g c = c.args.self.now.len ∙ sym (lasts_or_refused g.D.Slot c.args.self.now.alone c.replace_with-result.new.dest _ c.args.p.now.client _ c.replace_with-result.result c.replace_with-result.ensures.0.ok c.replace_with-result.ensures.0.err).len
 
 pub returns-clause-ok : goal.returns-clause-ok
-returns-clause-ok g c = on_ok_so c.replace_with-result.result c.replace_with-result.ensures.0 (λ made. makes_held g.D.Slot c.args.self.now.alone c.replace_with-result.new.dest made ∙ (calls_tell c.args.p.now.client (held_of g.D.Slot c.args.self.now.alone)).pin c.args.p.now.name made.events made.is)
+returns-clause-ok g c = on_ok_so c.replace_with-result.result c.replace_with-result.ensures.0.ok (λ made. makes_held g.D.Slot c.args.self.now.alone c.replace_with-result.new.dest made ∙ (calls_tell c.args.p.now.client (held_of g.D.Slot c.args.self.now.alone)).pin c.args.p.now.name made.events made.is)
 
 pub returns-clause-grows : goal.returns-clause-grows
-returns-clause-grows g c = (lasts_or_refused g.D.Slot c.args.self.now.alone c.replace_with-result.new.dest _ c.args.p.now.client _ c.replace_with-result.result c.replace_with-result.ensures.0 c.replace_with-result.ensures.1.1.0).grows
+returns-clause-grows g c = (lasts_or_refused g.D.Slot c.args.self.now.alone c.replace_with-result.new.dest _ c.args.p.now.client _ c.replace_with-result.result c.replace_with-result.ensures.0.ok c.replace_with-result.ensures.0.err).grows
 
 pub returns-clause-entries : goal.returns-clause-entries
-returns-clause-entries g c = on_ok_so c.replace_with-result.result c.replace_with-result.ensures.0 (λ made. makes_made g.D.Slot c.args.self.now.alone c.replace_with-result.new.dest made)
+returns-clause-entries g c = on_ok_so c.replace_with-result.result c.replace_with-result.ensures.0.ok (λ made. makes_made g.D.Slot c.args.self.now.alone c.replace_with-result.new.dest made)

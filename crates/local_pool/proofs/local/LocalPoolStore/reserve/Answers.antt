@@ -8,19 +8,19 @@ use Rattle.local_pool.proofs.Lasting.{lasts_or_same, held_by, untouched}
 use Rattle.local_pool.proofs.local.LocalPoolStore.reserve.Goals as goal
 
 pub invariant_of-self-clause-len : goal.invariant_of-self-clause-len
-invariant_of-self-clause-len g c = c.args.self.now.len ∙ sym (lasts_or_same g.D.Slot c.args.self.now.alone c.reserve-result.new.self _ c.reserve-result.result c.reserve-result.ensures.ok c.reserve-result.ensures.err).len
+invariant_of-self-clause-len g c = c.args.self.now.len ∙ sym (lasts_or_same g.D.Slot c.args.self.now.alone c.reserve-result.new.self _ c.reserve-result.result c.reserve-result.ensures.reserves.ok c.reserve-result.ensures.reserves.err).len
 
 pub returns-clause-ok : goal.returns-clause-ok
-returns-clause-ok g c = on_ok_so c.reserve-result.result c.reserve-result.ensures.ok (λ made. held_by g.D.Slot (Increase c.args.c.now.tracker c.args.bytes ∷ []) c.args.self.now.alone c.reserve-result.new.self made ∙ (calls_tell 0 (held_of g.D.Slot c.args.self.now.alone)).reserve c.args.c.now.tracker c.args.bytes c.requires)
+returns-clause-ok g c = on_ok_so c.reserve-result.result c.reserve-result.ensures.reserves.ok (λ made. held_by g.D.Slot (Increase c.args.c.now.tracker c.args.bytes ∷ []) c.args.self.now.alone c.reserve-result.new.self made ∙ (calls_tell 0 (held_of g.D.Slot c.args.self.now.alone)).reserve c.args.c.now.tracker c.args.bytes c.requires)
 
 pub returns-clause-shared : goal.returns-clause-shared
 returns-clause-shared g c = none_fails _ _ c.reserve-result.result c.reserve-result.ensures.granted
 
 pub returns-clause-err : goal.returns-clause-err
-returns-clause-err g c = on_err_so c.reserve-result.result c.reserve-result.ensures.err (λ same. untouched g.D.Slot c.args.self.now.alone c.reserve-result.new.self same)
+returns-clause-err g c = on_err_so c.reserve-result.result c.reserve-result.ensures.reserves.err (λ same. untouched g.D.Slot c.args.self.now.alone c.reserve-result.new.self same)
 
 pub returns-clause-grows : goal.returns-clause-grows
-returns-clause-grows g c = (lasts_or_same g.D.Slot c.args.self.now.alone c.reserve-result.new.self _ c.reserve-result.result c.reserve-result.ensures.ok c.reserve-result.ensures.err).grows
+returns-clause-grows g c = (lasts_or_same g.D.Slot c.args.self.now.alone c.reserve-result.new.self _ c.reserve-result.result c.reserve-result.ensures.reserves.ok c.reserve-result.ensures.reserves.err).grows
 
 pub returns-clause-entries : goal.returns-clause-entries
-returns-clause-entries g c = on_ok_so c.reserve-result.result c.reserve-result.ensures.ok (λ made. makes_made g.D.Slot c.args.self.now.alone c.reserve-result.new.self made)
+returns-clause-entries g c = on_ok_so c.reserve-result.result c.reserve-result.ensures.reserves.ok (λ made. makes_made g.D.Slot c.args.self.now.alone c.reserve-result.new.self made)

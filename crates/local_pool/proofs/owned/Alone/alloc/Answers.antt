@@ -1,15 +1,14 @@
-use Rattle.std.proofs.Common.{◌≡◌, ◌≤◌, [], ◌∷◌, IfOk, sym, subst}
+use Rattle.std.proofs.Common.{◌≡◌, ◌≤◌, [], ◌∷◌, sym, subst}
 use Rattle.pool_model.specs.declared.call.Call.TheVariants as call
 use Rattle.pool_model.specs.declared.event.Event.TheVariants as event
 use Rattle.store_api.specs.Holdings.{Holdings, length_of, unused_of}
 use Rattle.store_api.specs.Conditions.{IsLiveClient}
 use Rattle.store_api.specs.Entries.{IsTaken}
-use Rattle.session_calls.specs.Coming.{IsFreshLoan}
 use Rattle.session_calls.specs.Acting.{held_by}
 use Rattle.local_pool.specs.Told.{opening_of, outset_of}
-use Rattle.local_pool.specs.Making.{Makes}
 use Rattle.local_pool.proofs.Stepping.{held_at}
-use Rattle.local_pool.proofs.Calling.{ends_keeps, ends_makes, ends_refuses}
+use Rattle.session_calls.proofs.Carried.{allocs_on}
+use Rattle.local_pool.proofs.Calling.{call_viewed, ends_keeps}
 use Rattle.local_pool.proofs.owned.Alone.alloc.Goals as goal
 
 pub alloc-hand-requires-clause-client : goal.alloc-hand-requires-clause-client
@@ -22,18 +21,7 @@ pub invariant_of-result : goal.invariant_of-result
 invariant_of-result g c =
     ends_keeps g.D.Slot c.self.inside.hand c.args.self c.self.view_is c.self.invariant.0 c.alloc-hand.result.0 c.alloc-hand.new.place c.alloc-hand.ensures.turns c.alloc-hand.ensures.at_work
     c.args.what.client.now.tracker (call.Alloc c.args.what.client.now.tracker c.args.what.blocks)
-    (λ x. IsTaken c.args.what.client.now.tracker (held_by (opening_of g.D.Slot c.self.inside.hand) (outset_of g.D.Slot c.self.inside.hand.state) c.self.inside.hand) (event.Alloc x.number c.args.what.client.now.tracker c.args.what.blocks ∷ [])) c.alloc-hand.result.1 c.alloc-hand.ensures.ok c.alloc-hand.ensures.err
+    (λ x. IsTaken c.args.what.client.now.tracker (held_by (opening_of g.D.Slot c.self.inside.hand) (outset_of g.D.Slot c.self.inside.hand.state) c.self.inside.hand) (event.Alloc x.number c.args.what.client.now.tracker c.args.what.blocks ∷ [])) c.alloc-hand.result.1 c.alloc-hand.ensures.allocs.ok c.alloc-hand.ensures.allocs.err
 
-pub returns-clause-ok : goal.returns-clause-ok
-returns-clause-ok g c =
-    subst (λ (h : Holdings). IfOk c.alloc-hand.result.1 (λ x. Makes g.D.Slot (IsTaken c.args.what.client.now.tracker h (event.Alloc x.number c.args.what.client.now.tracker c.args.what.blocks ∷ [])) c.args.self c.alloc-hand.result.0)) (held_at g.D.Slot c.self.inside.hand c.args.self c.self.view_is c.self.invariant.0)
-    (ends_makes g.D.Slot c.self.inside.hand c.args.self c.self.view_is c.self.invariant.0 c.alloc-hand.result.0 c.alloc-hand.new.place c.alloc-hand.ensures.turns c.alloc-hand.ensures.at_work
-    (λ x. IsTaken c.args.what.client.now.tracker (held_by (opening_of g.D.Slot c.self.inside.hand) (outset_of g.D.Slot c.self.inside.hand.state) c.self.inside.hand) (event.Alloc x.number c.args.what.client.now.tracker c.args.what.blocks ∷ [])) c.alloc-hand.result.1 c.alloc-hand.ensures.ok)
-
-pub returns-clause-loan : goal.returns-clause-loan
-returns-clause-loan g c = subst (λ (h : Holdings). IfOk c.alloc-hand.result.1 (λ loan. IsFreshLoan c.args.what.client.now.tracker c.args.what.blocks loan h)) (held_at g.D.Slot c.self.inside.hand c.args.self c.self.view_is c.self.invariant.0) c.alloc-hand.ensures.loan
-
-pub returns-clause-err : goal.returns-clause-err
-returns-clause-err g c =
-    ends_refuses g.D.Slot c.self.inside.hand c.args.self c.self.view_is c.self.invariant.0 c.alloc-hand.result.0 c.alloc-hand.new.place c.alloc-hand.ensures.turns c.alloc-hand.ensures.at_work
-    c.args.what.client.now.tracker (call.Alloc c.args.what.client.now.tracker c.args.what.blocks) c.alloc-hand.result.1 c.alloc-hand.ensures.err
+pub returns-clause-allocs : goal.returns-clause-allocs
+returns-clause-allocs g c = allocs_on (call_viewed g.D.Slot c.self.inside.hand c.args.self c.self.view_is c.self.invariant.0 c.alloc-hand.result.0 c.alloc-hand.new.place c.alloc-hand.ensures.turns c.alloc-hand.ensures.at_work) c.args.what.client.now.tracker c.args.what.blocks c.alloc-hand.result.1 c.alloc-hand.ensures.allocs

@@ -1,5 +1,4 @@
-use Rattle.std.proofs.Common.{◌≤◌, [], ◌∷◌, refl, sym, subst}
-use Rattle.pool_model.specs.declared.event.Event.TheVariants.{UnpinOnce}
+use Rattle.std.proofs.Common.{◌≤◌, sym, subst}
 use Rattle.store_api.specs.Holdings.{Holdings, page_of}
 use Rattle.store_api.specs.Conditions.{IsPage}
 use Rattle.local_pool.proofs.Stepping.{held_at, step_keeps, step_makes}
@@ -14,10 +13,8 @@ unpin_once-requires-clause-pinned g c =
 
 pub invariant_of-self : goal.invariant_of-self
 invariant_of-self g c =
-    step_keeps g.D.Slot c.self.inside.shelf c.self.inside.hand c.args.self.now c.self.view_is c.self.invariant c.unpin_once.new.self c.unpin_once.ensures.ready
-    (UnpinOnce c.args.p.now.name ∷ []) c.unpin_once.ensures.acts (refl, tt)
+    step_keeps g.D.Slot c.self.inside.shelf c.self.inside.hand c.args.self.now c.self.view_is c.self.invariant c.unpin_once.new.self c.unpin_once.ensures.ready c.unpin_once.ensures.acts
 
 pub returns : goal.returns
 returns g c =
-    step_makes g.D.Slot c.self.inside.shelf c.self.inside.hand c.args.self.now c.self.view_is c.self.invariant c.unpin_once.new.self c.unpin_once.ensures.ready
-    (UnpinOnce c.args.p.now.name ∷ []) c.unpin_once.ensures.acts (refl, tt)
+    step_makes g.D.Slot c.self.inside.shelf c.self.inside.hand c.args.self.now c.self.view_is c.self.invariant c.unpin_once.new.self c.unpin_once.ensures.ready c.unpin_once.ensures.acts

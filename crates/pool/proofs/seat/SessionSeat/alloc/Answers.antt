@@ -1,14 +1,11 @@
-use Rattle.std.proofs.Common.{◌≡◌, ◌≤◌, [], ◌∷◌}
-use Rattle.pool_model.specs.declared.call.Call.TheVariants as call
-use Rattle.pool_model.specs.declared.event.Event.TheVariants.{Alloc}
+use Rattle.std.proofs.Common.{◌≡◌, ◌≤◌}
 use Rattle.store_api.specs.Holdings.{Holdings, length_of, unused_of}
 use Rattle.store_api.specs.Conditions.{IsLiveClient}
-use Rattle.store_api.specs.Entries.{IsTaken}
-use Rattle.session_calls.specs.Coming.{IsFreshLoan}
-use Rattle.pool.proofs.Doings.{as_held, as_was}
-use Rattle.pool.proofs.Results.{err_so, ok_so}
+use Rattle.pool.proofs.Doings.{as_held}
 use Rattle.pool.proofs.Charged.{alloc_stays}
-use Rattle.pool.proofs.Calling.{declined_then, did_then, may_end_call, sits_then, turns_first, works_first}
+use Rattle.pool.proofs.Calling.{may_end_call, sits_then, turns_first, works_first}
+use Rattle.session_calls.proofs.Carried.{allocs_on}
+use Rattle.pool.proofs.Seeing.{call_seen}
 use Rattle.pool.proofs.seat.SessionSeat.alloc.Goals as goal
 
 pub alloc-hand-requires-clause-turns : goal.alloc-hand-requires-clause-turns
@@ -29,25 +26,14 @@ alloc-hand-requires-clause-bytes g c = (
 pub end_turn-requires-clause-may : goal.end_turn-requires-clause-may
 end_turn-requires-clause-may g c =
     may_end_call c.begin_turn-hand.ensures.begins
-    (alloc_stays c.args.c.now.tracker (as_held c.self.view_is c.begin_turn-hand.ensures.begins (IsLiveClient c.args.c.now) c.requires.client) c.args.blocks c.alloc-hand.result.1 c.alloc-hand.ensures.ok c.alloc-hand.ensures.err)
+    (alloc_stays c.args.c.now.tracker (as_held c.self.view_is c.begin_turn-hand.ensures.begins (IsLiveClient c.args.c.now) c.requires.client) c.args.blocks c.alloc-hand.result.1 c.alloc-hand.ensures.allocs.ok c.alloc-hand.ensures.allocs.err)
     c.args.turns.now c.alloc-hand.new.place c.alloc-hand.ensures.turns c.alloc-hand.ensures.at_work c.self.invariant
 
 pub invariant_of-self : goal.invariant_of-self
 invariant_of-self g c =
     sits_then c.begin_turn-hand.ensures.begins
-    (alloc_stays c.args.c.now.tracker (as_held c.self.view_is c.begin_turn-hand.ensures.begins (IsLiveClient c.args.c.now) c.requires.client) c.args.blocks c.alloc-hand.result.1 c.alloc-hand.ensures.ok c.alloc-hand.ensures.err)
+    (alloc_stays c.args.c.now.tracker (as_held c.self.view_is c.begin_turn-hand.ensures.begins (IsLiveClient c.args.c.now) c.requires.client) c.args.blocks c.alloc-hand.result.1 c.alloc-hand.ensures.allocs.ok c.alloc-hand.ensures.allocs.err)
     c.end_turn.ensures.ends c.self.invariant
 
-pub returns-clause-ok : goal.returns-clause-ok
-returns-clause-ok g c =
-    ok_so c.alloc-hand.result.1 c.alloc-hand.ensures.ok
-    (λ loan. did_then c.self.view_is c.begin_turn-hand.ensures.begins c.end_turn.ensures.ends c.end_turn.ensures.table c.requires.table (λ h. IsTaken c.args.c.now.tracker h (Alloc loan.number c.args.c.now.tracker c.args.blocks ∷ [])))
-
-pub returns-clause-loan : goal.returns-clause-loan
-returns-clause-loan g c =
-    ok_so c.alloc-hand.result.1 c.alloc-hand.ensures.loan (λ loan. as_was c.self.view_is c.begin_turn-hand.ensures.begins (IsFreshLoan c.args.c.now.tracker c.args.blocks loan))
-
-pub returns-clause-err : goal.returns-clause-err
-returns-clause-err g c =
-    err_so c.alloc-hand.result.1 c.alloc-hand.ensures.err
-    (declined_then c.self.view_is c.begin_turn-hand.ensures.begins c.end_turn.ensures.ends c.args.c.now.tracker (call.Alloc c.args.c.now.tracker c.args.blocks))
+pub returns-clause-allocs : goal.returns-clause-allocs
+returns-clause-allocs g c = allocs_on (call_seen c.self.view_is c.begin_turn-hand.ensures.begins c.alloc-hand.ensures.at_work.ready c.end_turn.ensures.ends c.end_turn.ensures.table c.requires.table) c.args.c.now.tracker c.args.blocks c.alloc-hand.result.1 c.alloc-hand.ensures.allocs

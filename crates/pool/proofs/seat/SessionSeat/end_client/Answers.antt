@@ -1,11 +1,10 @@
-use Rattle.std.proofs.Common.{◌≡◌, ℕ, [], ◌∷◌, None, IsSome, refl, sym, ◌∙◌, subst}
-use Rattle.pool_model.specs.declared.event.Event.TheVariants.{CloseTracker, MoveReservation}
+use Rattle.std.proofs.Common.{ℕ, IsSome, sym, ◌∙◌, subst}
 use Rattle.pool.specs.Unused.{unused_in}
-use Rattle.store_api.specs.Holdings.{account_of}
 use Rattle.store_api.specs.Conditions.{IsIdle, IsLiveClient}
-use Rattle.session_calls.specs.Acting.{ActsThese}
-use Rattle.pool.proofs.Doings.{as_held, as_was, has_first, may_end, did_these, sits_on}
+use Rattle.pool.proofs.Doings.{as_held, has_first, may_end, sits_on}
 use Rattle.pool.proofs.Stays.{has_gone}
+use Rattle.session_calls.proofs.Carried.{ends_client_on}
+use Rattle.pool.proofs.Seeing.{turn_seen}
 use Rattle.pool.proofs.seat.SessionSeat.end_client.Goals as goal
 
 pub remove-requires : goal.remove-requires
@@ -21,19 +20,13 @@ end_client-requires-clause-idle g c = as_held c.self.view_is c.begin_turn-hand.e
 
 pub end_turn-requires-clause-may : goal.end_turn-requires-clause-may
 end_turn-requires-clause-may g c =
-    may_end c.self.view_is c.begin_turn-hand.ensures.begins c.end_client.new.self c.end_client.ensures.acts c.end_client.ensures.ready (record { room = c.self.inside.ledger.room; accounts = c.remove.new.self })
+    may_end c.self.view_is c.begin_turn-hand.ensures.begins c.end_client.new.self c.end_client.ensures.ends.did c.end_client.ensures.ready (record { room = c.self.inside.ledger.room; accounts = c.remove.new.self })
     (has_gone c.begin_turn-hand.result c.end_client.new.self c.begin_turn-hand.ensures.begins.ready c.self.inside.ledger.accounts c.remove.new.self c.args.c.tracker c.tracker.result c.tracker.ensures
-    (has_first c.self.view_is c.begin_turn-hand.ensures.begins c.self.invariant) (as_held c.self.view_is c.begin_turn-hand.ensures.begins (λ h. IsLiveClient c.args.c h) c.requires.client) c.end_client.ensures.apart c.end_client.ensures.acts
+    (has_first c.self.view_is c.begin_turn-hand.ensures.begins c.self.invariant) (as_held c.self.view_is c.begin_turn-hand.ensures.begins (λ h. IsLiveClient c.args.c h) c.requires.client) c.end_client.ensures.ends.apart c.end_client.ensures.ends.did
     c.remove.ensures.unused c.remove.ensures.count)
 
 pub invariant_of-self : goal.invariant_of-self
-invariant_of-self g c = sits_on c.self.view_is c.begin_turn-hand.ensures.begins c.end_client.new.self c.end_turn.ensures.ends c.end_client.ensures.acts c.self.invariant
+invariant_of-self g c = sits_on c.self.view_is c.begin_turn-hand.ensures.begins c.end_client.new.self c.end_turn.ensures.ends c.end_client.ensures.ends.did c.self.invariant
 
-pub returns-clause-did : goal.returns-clause-did
-returns-clause-did g c =
-    did_these c.self.view_is c.begin_turn-hand.ensures.begins c.end_client.new.self c.end_turn.ensures.ends
-    (as_was c.self.view_is c.begin_turn-hand.ensures.begins (λ h. ActsThese (MoveReservation c.args.c.tracker h.query (account_of c.args.c.tracker h).reservation ∷ CloseTracker c.args.c.tracker ∷ []) c.begin_turn-hand.result c.end_client.new.self) c.end_client.ensures.acts)
-    (refl, (refl, tt)) c.end_turn.ensures.table c.requires.table
-
-pub returns-clause-apart : goal.returns-clause-apart
-returns-clause-apart g c = as_was c.self.view_is c.begin_turn-hand.ensures.begins (λ h. h.clients h.query ≡ None) c.end_client.ensures.apart
+pub returns-clause-ends : goal.returns-clause-ends
+returns-clause-ends g c = ends_client_on (turn_seen c.self.view_is c.begin_turn-hand.ensures.begins c.end_client.ensures.ready c.end_turn.ensures.ends c.end_turn.ensures.table c.requires.table) c.args.c.tracker c.end_client.ensures.ends

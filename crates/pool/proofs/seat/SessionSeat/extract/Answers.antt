@@ -1,8 +1,10 @@
-use Rattle.std.proofs.Common.{◌≡◌, None, refl}
+use Rattle.std.proofs.Common.{◌≡◌}
 use Rattle.store_api.specs.Holdings.{page_of}
 use Rattle.store_api.specs.Conditions.{Fits, IsPage}
-use Rattle.pool.proofs.Doings.{as_held, as_was, may_stay, did_these, sits_on}
+use Rattle.pool.proofs.Doings.{as_held, may_stay, sits_on}
 use Rattle.pool.proofs.Stays.{stays_extracted}
+use Rattle.session_calls.proofs.Carried.{extracts_on}
+use Rattle.pool.proofs.Seeing.{turn_seen}
 use Rattle.pool.proofs.seat.SessionSeat.extract.Goals as goal
 
 pub extract-loan-requires-clause-page : goal.extract-loan-requires-clause-page
@@ -16,15 +18,12 @@ extract-loan-requires-clause-buffer g c = as_held c.self.view_is c.begin_turn-ha
 
 pub end_turn-requires-clause-may : goal.end_turn-requires-clause-may
 end_turn-requires-clause-may g c =
-    may_stay c.self.view_is c.begin_turn-hand.ensures.begins c.extract-loan.new.self c.extract-loan.ensures.acts c.extract-loan.ensures.ready
-    (stays_extracted c.begin_turn-hand.result c.extract-loan.new.self c.begin_turn-hand.ensures.begins.ready c.args.p.name c.extract-loan.result.number c.extract-loan.ensures.acts)
+    may_stay c.self.view_is c.begin_turn-hand.ensures.begins c.extract-loan.new.self c.extract-loan.ensures.extracts.did c.extract-loan.ensures.ready
+    (stays_extracted c.begin_turn-hand.result c.extract-loan.new.self c.begin_turn-hand.ensures.begins.ready c.args.p.name c.extract-loan.result.number c.extract-loan.ensures.extracts.did)
     c.self.invariant
 
 pub invariant_of-self : goal.invariant_of-self
-invariant_of-self g c = sits_on c.self.view_is c.begin_turn-hand.ensures.begins c.extract-loan.new.self c.end_turn.ensures.ends c.extract-loan.ensures.acts c.self.invariant
+invariant_of-self g c = sits_on c.self.view_is c.begin_turn-hand.ensures.begins c.extract-loan.new.self c.end_turn.ensures.ends c.extract-loan.ensures.extracts.did c.self.invariant
 
-pub returns-clause-did : goal.returns-clause-did
-returns-clause-did g c = did_these c.self.view_is c.begin_turn-hand.ensures.begins c.extract-loan.new.self c.end_turn.ensures.ends c.extract-loan.ensures.acts (refl, tt) c.end_turn.ensures.table c.requires.table
-
-pub returns-clause-fresh : goal.returns-clause-fresh
-returns-clause-fresh g c = as_was c.self.view_is c.begin_turn-hand.ensures.begins (λ h. h.loans c.extract-loan.result.number ≡ None) c.extract-loan.ensures.fresh
+pub returns-clause-extracts : goal.returns-clause-extracts
+returns-clause-extracts g c = extracts_on (turn_seen c.self.view_is c.begin_turn-hand.ensures.begins c.extract-loan.ensures.ready c.end_turn.ensures.ends c.end_turn.ensures.table c.requires.table) c.args.p c.args.buf c.extract-loan.result c.extract-loan.ensures.extracts

@@ -1,6 +1,5 @@
-use Rattle.std.proofs.Common.{refl}
 use Rattle.store_api.specs.Conditions.{IsLoan}
-use Rattle.pool.proofs.Doings.{as_held, may_stay, did_these, sits_on}
+use Rattle.pool.proofs.Doings.{as_held, may_stay, did_acts, sits_on}
 use Rattle.pool.proofs.Stays.{stays_freed}
 use Rattle.pool.proofs.seat.SessionSeat.free.Goals as goal
 
@@ -17,4 +16,4 @@ pub invariant_of-self : goal.invariant_of-self
 invariant_of-self g c = sits_on c.self.view_is c.begin_turn-hand.ensures.begins c.free.new.self c.end_turn.ensures.ends c.free.ensures.acts c.self.invariant
 
 pub returns-clause-did : goal.returns-clause-did
-returns-clause-did g c = did_these c.self.view_is c.begin_turn-hand.ensures.begins c.free.new.self c.end_turn.ensures.ends c.free.ensures.acts (refl, tt) c.end_turn.ensures.table c.requires.table
+returns-clause-did g c = did_acts c.self.view_is c.begin_turn-hand.ensures.begins c.free.new.self c.end_turn.ensures.ends c.free.ensures.acts c.end_turn.ensures.table c.requires.table

@@ -1,13 +1,11 @@
-use Rattle.std.proofs.Common.{◌≤◌, [], ◌∷◌}
-use Rattle.pool_model.specs.declared.call.Call.TheVariants as call
-use Rattle.pool_model.specs.declared.event.Event.TheVariants.{Decrease}
+use Rattle.std.proofs.Common.{◌≤◌}
 use Rattle.store_api.specs.Holdings.{Holdings, unused_of}
 use Rattle.store_api.specs.Conditions.{IsLiveClient}
-use Rattle.store_api.specs.Entries.{IsAsked}
 use Rattle.pool.proofs.Doings.{as_held}
-use Rattle.pool.proofs.Results.{err_so, ok_so}
 use Rattle.pool.proofs.Charged.{give_back_stays}
-use Rattle.pool.proofs.Calling.{declined_then, did_then, may_end_call, sits_then, turns_first, works_first}
+use Rattle.pool.proofs.Calling.{may_end_call, sits_then, turns_first, works_first}
+use Rattle.session_calls.proofs.Carried.{gives_back_on}
+use Rattle.pool.proofs.Seeing.{call_seen}
 use Rattle.pool.proofs.seat.SessionSeat.give_back.Goals as goal
 
 pub give_back-hand-requires-clause-turns : goal.give_back-hand-requires-clause-turns
@@ -25,21 +23,14 @@ give_back-hand-requires-clause-unused g c = as_held c.self.view_is c.begin_turn-
 pub end_turn-requires-clause-may : goal.end_turn-requires-clause-may
 end_turn-requires-clause-may g c =
     may_end_call c.begin_turn-hand.ensures.begins
-    (give_back_stays c.args.c.now.tracker (as_held c.self.view_is c.begin_turn-hand.ensures.begins (IsLiveClient c.args.c.now) c.requires.client) c.args.bytes c.give_back-hand.result.1 c.give_back-hand.ensures.ok c.give_back-hand.ensures.err)
+    (give_back_stays c.args.c.now.tracker (as_held c.self.view_is c.begin_turn-hand.ensures.begins (IsLiveClient c.args.c.now) c.requires.client) c.args.bytes c.give_back-hand.result.1 c.give_back-hand.ensures.gives_back.ok c.give_back-hand.ensures.gives_back.err)
     c.args.turns.now c.give_back-hand.new.place c.give_back-hand.ensures.turns c.give_back-hand.ensures.at_work c.self.invariant
 
 pub invariant_of-self : goal.invariant_of-self
 invariant_of-self g c =
     sits_then c.begin_turn-hand.ensures.begins
-    (give_back_stays c.args.c.now.tracker (as_held c.self.view_is c.begin_turn-hand.ensures.begins (IsLiveClient c.args.c.now) c.requires.client) c.args.bytes c.give_back-hand.result.1 c.give_back-hand.ensures.ok c.give_back-hand.ensures.err)
+    (give_back_stays c.args.c.now.tracker (as_held c.self.view_is c.begin_turn-hand.ensures.begins (IsLiveClient c.args.c.now) c.requires.client) c.args.bytes c.give_back-hand.result.1 c.give_back-hand.ensures.gives_back.ok c.give_back-hand.ensures.gives_back.err)
     c.end_turn.ensures.ends c.self.invariant
 
-pub returns-clause-ok : goal.returns-clause-ok
-returns-clause-ok g c =
-    ok_so c.give_back-hand.result.1 c.give_back-hand.ensures.ok
-    (λ x. did_then c.self.view_is c.begin_turn-hand.ensures.begins c.end_turn.ensures.ends c.end_turn.ensures.table c.requires.table (λ h. IsAsked c.args.c.now.tracker h (Decrease c.args.c.now.tracker c.args.bytes ∷ [])))
-
-pub returns-clause-err : goal.returns-clause-err
-returns-clause-err g c =
-    err_so c.give_back-hand.result.1 c.give_back-hand.ensures.err
-    (declined_then c.self.view_is c.begin_turn-hand.ensures.begins c.end_turn.ensures.ends c.args.c.now.tracker (call.GiveBack c.args.c.now.tracker c.args.bytes))
+pub returns-clause-gives_back : goal.returns-clause-gives_back
+returns-clause-gives_back g c = gives_back_on (call_seen c.self.view_is c.begin_turn-hand.ensures.begins c.give_back-hand.ensures.at_work.ready c.end_turn.ensures.ends c.end_turn.ensures.table c.requires.table) c.args.c.now.tracker c.args.bytes c.give_back-hand.result.1 c.give_back-hand.ensures.gives_back

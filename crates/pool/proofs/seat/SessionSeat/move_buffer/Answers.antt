@@ -1,13 +1,11 @@
-use Rattle.std.proofs.Common.{◌≤◌, [], ◌∷◌}
-use Rattle.pool_model.specs.declared.call.Call.TheVariants as call
-use Rattle.pool_model.specs.declared.event.Event.TheVariants.{MoveBuffer}
+use Rattle.std.proofs.Common.{◌≤◌}
 use Rattle.store_api.specs.Holdings.{Holdings, loan_len, unused_of}
 use Rattle.store_api.specs.Conditions.{IsLiveClient, IsLoan}
-use Rattle.store_api.specs.Entries.{IsAsked}
 use Rattle.pool.proofs.Doings.{as_held}
-use Rattle.pool.proofs.Results.{err_so, ok_so}
 use Rattle.pool.proofs.Charged.{move_buffer_stays}
-use Rattle.pool.proofs.Calling.{declined_then, did_then, may_end_call, sits_then, turns_first, works_first}
+use Rattle.pool.proofs.Calling.{may_end_call, sits_then, turns_first, works_first}
+use Rattle.session_calls.proofs.Carried.{moves_buffer_on}
+use Rattle.pool.proofs.Seeing.{call_seen}
 use Rattle.pool.proofs.seat.SessionSeat.move_buffer.Goals as goal
 
 pub move_buffer-hand-requires-clause-turns : goal.move_buffer-hand-requires-clause-turns
@@ -28,20 +26,14 @@ move_buffer-hand-requires-clause-unused g c = as_held c.self.view_is c.begin_tur
 pub end_turn-requires-clause-may : goal.end_turn-requires-clause-may
 end_turn-requires-clause-may g c =
     may_end_call c.begin_turn-hand.ensures.begins
-    (move_buffer_stays c.args.to.now.tracker (as_held c.self.view_is c.begin_turn-hand.ensures.begins (IsLiveClient c.args.to.now) c.requires.to) c.begin_turn-hand.ensures.begins.ready c.args.loan (as_held c.self.view_is c.begin_turn-hand.ensures.begins (IsLoan c.args.loan) c.requires.loan) c.move_buffer-hand.result.1 c.move_buffer-hand.ensures.ok c.move_buffer-hand.ensures.err)
+    (move_buffer_stays c.args.to.now.tracker (as_held c.self.view_is c.begin_turn-hand.ensures.begins (IsLiveClient c.args.to.now) c.requires.to) c.begin_turn-hand.ensures.begins.ready c.args.loan (as_held c.self.view_is c.begin_turn-hand.ensures.begins (IsLoan c.args.loan) c.requires.loan) c.move_buffer-hand.result.1 c.move_buffer-hand.ensures.moves.ok c.move_buffer-hand.ensures.moves.err)
     c.args.turns.now c.move_buffer-hand.new.place c.move_buffer-hand.ensures.turns c.move_buffer-hand.ensures.at_work c.self.invariant
 
 pub invariant_of-self : goal.invariant_of-self
 invariant_of-self g c =
     sits_then c.begin_turn-hand.ensures.begins
-    (move_buffer_stays c.args.to.now.tracker (as_held c.self.view_is c.begin_turn-hand.ensures.begins (IsLiveClient c.args.to.now) c.requires.to) c.begin_turn-hand.ensures.begins.ready c.args.loan (as_held c.self.view_is c.begin_turn-hand.ensures.begins (IsLoan c.args.loan) c.requires.loan) c.move_buffer-hand.result.1 c.move_buffer-hand.ensures.ok c.move_buffer-hand.ensures.err)
+    (move_buffer_stays c.args.to.now.tracker (as_held c.self.view_is c.begin_turn-hand.ensures.begins (IsLiveClient c.args.to.now) c.requires.to) c.begin_turn-hand.ensures.begins.ready c.args.loan (as_held c.self.view_is c.begin_turn-hand.ensures.begins (IsLoan c.args.loan) c.requires.loan) c.move_buffer-hand.result.1 c.move_buffer-hand.ensures.moves.ok c.move_buffer-hand.ensures.moves.err)
     c.end_turn.ensures.ends c.self.invariant
 
-pub returns-clause-ok : goal.returns-clause-ok
-returns-clause-ok g c =
-    ok_so c.move_buffer-hand.result.1 c.move_buffer-hand.ensures.ok
-    (λ x. did_then c.self.view_is c.begin_turn-hand.ensures.begins c.end_turn.ensures.ends c.end_turn.ensures.table c.requires.table (λ h. IsAsked c.args.to.now.tracker h (MoveBuffer c.args.loan.number c.args.to.now.tracker ∷ [])))
-
-pub returns-clause-err : goal.returns-clause-err
-returns-clause-err g c =
-    err_so c.move_buffer-hand.result.1 c.move_buffer-hand.ensures.err (λ e. declined_then c.self.view_is c.begin_turn-hand.ensures.begins c.end_turn.ensures.ends c.args.to.now.tracker (call.MoveBuffer c.args.loan.number c.args.to.now.tracker) e.1)
+pub returns-clause-moves : goal.returns-clause-moves
+returns-clause-moves g c = moves_buffer_on (call_seen c.self.view_is c.begin_turn-hand.ensures.begins c.move_buffer-hand.ensures.at_work.ready c.end_turn.ensures.ends c.end_turn.ensures.table c.requires.table) c.args.loan c.args.to.now.tracker c.move_buffer-hand.result.1 c.move_buffer-hand.ensures.moves

@@ -1,14 +1,11 @@
-use Rattle.std.proofs.Common.{◌≡◌, ◌≤◌, [], ◌∷◌, Err}
-use Rattle.pool_model.specs.declared.call.Call.TheVariants as call
-use Rattle.pool_model.specs.declared.event.Event.TheVariants.{MoveReservation}
+use Rattle.std.proofs.Common.{◌≤◌}
 use Rattle.store_api.specs.Holdings.{Holdings, unused_of}
 use Rattle.store_api.specs.Conditions.{IsLiveClient}
-use Rattle.store_api.specs.Entries.{IsAsked}
-use Rattle.store_api.specs.Refusals.{move_refusal}
 use Rattle.pool.proofs.Doings.{as_held}
-use Rattle.pool.proofs.Results.{ok_so}
 use Rattle.pool.proofs.Charged.{move_stays}
-use Rattle.pool.proofs.Calling.{declined_unless, did_then, may_end_call, refused_then, sits_then, turns_first, works_first}
+use Rattle.pool.proofs.Calling.{may_end_call, sits_then, turns_first, works_first}
+use Rattle.session_calls.proofs.Carried.{moves_reservation_on}
+use Rattle.pool.proofs.Seeing.{call_seen}
 use Rattle.pool.proofs.seat.SessionSeat.move_reservation.Goals as goal
 
 pub move_reservation-hand-requires-clause-turns : goal.move_reservation-hand-requires-clause-turns
@@ -30,27 +27,15 @@ pub end_turn-requires-clause-may : goal.end_turn-requires-clause-may
 end_turn-requires-clause-may g c =
     may_end_call c.begin_turn-hand.ensures.begins
     (move_stays c.args.from.now.tracker (as_held c.self.view_is c.begin_turn-hand.ensures.begins (IsLiveClient c.args.from.now) c.requires.from) c.args.to.now.tracker c.args.bytes (as_held c.self.view_is c.begin_turn-hand.ensures.begins (IsLiveClient c.args.to.now) c.requires.to)
-    c.move_reservation-hand.result.1 c.move_reservation-hand.ensures.ok c.move_reservation-hand.ensures.refused c.move_reservation-hand.ensures.err)
+    c.move_reservation-hand.result.1 c.move_reservation-hand.ensures.moves.ok c.move_reservation-hand.ensures.moves.refused c.move_reservation-hand.ensures.moves.err)
     c.args.turns.now c.move_reservation-hand.new.place c.move_reservation-hand.ensures.turns c.move_reservation-hand.ensures.at_work c.self.invariant
 
 pub invariant_of-self : goal.invariant_of-self
 invariant_of-self g c =
     sits_then c.begin_turn-hand.ensures.begins
     (move_stays c.args.from.now.tracker (as_held c.self.view_is c.begin_turn-hand.ensures.begins (IsLiveClient c.args.from.now) c.requires.from) c.args.to.now.tracker c.args.bytes (as_held c.self.view_is c.begin_turn-hand.ensures.begins (IsLiveClient c.args.to.now) c.requires.to)
-    c.move_reservation-hand.result.1 c.move_reservation-hand.ensures.ok c.move_reservation-hand.ensures.refused c.move_reservation-hand.ensures.err)
+    c.move_reservation-hand.result.1 c.move_reservation-hand.ensures.moves.ok c.move_reservation-hand.ensures.moves.refused c.move_reservation-hand.ensures.moves.err)
     c.end_turn.ensures.ends c.self.invariant
 
-pub returns-clause-ok : goal.returns-clause-ok
-returns-clause-ok g c =
-    ok_so c.move_reservation-hand.result.1 c.move_reservation-hand.ensures.ok
-    (λ x. did_then c.self.view_is c.begin_turn-hand.ensures.begins c.end_turn.ensures.ends c.end_turn.ensures.table c.requires.table (λ h. IsAsked c.args.from.now.tracker h (MoveReservation c.args.from.now.tracker c.args.to.now.tracker c.args.bytes ∷ [])))
-
-pub returns-clause-refused : goal.returns-clause-refused
-returns-clause-refused g c =
-    refused_then c.self.view_is c.begin_turn-hand.ensures.begins c.end_turn.ensures.ends c.end_turn.ensures.table c.requires.table (move_refusal c.args.from.now.tracker c.args.to.now.tracker c.args.bytes)
-    (λ e. c.move_reservation-hand.result.1 ≡ Err e) c.move_reservation-hand.ensures.refused
-
-pub returns-clause-err : goal.returns-clause-err
-returns-clause-err g c =
-    declined_unless c.self.view_is c.begin_turn-hand.ensures.begins c.end_turn.ensures.ends (move_refusal c.args.from.now.tracker c.args.to.now.tracker c.args.bytes)
-    c.move_reservation-hand.result.1 c.args.from.now.tracker (call.MoveReservation c.args.from.now.tracker c.args.to.now.tracker c.args.bytes) c.move_reservation-hand.ensures.err
+pub returns-clause-moves : goal.returns-clause-moves
+returns-clause-moves g c = moves_reservation_on (call_seen c.self.view_is c.begin_turn-hand.ensures.begins c.move_reservation-hand.ensures.at_work.ready c.end_turn.ensures.ends c.end_turn.ensures.table c.requires.table) c.args.from.now.tracker c.args.to.now.tracker c.args.bytes c.move_reservation-hand.result.1 c.move_reservation-hand.ensures.moves

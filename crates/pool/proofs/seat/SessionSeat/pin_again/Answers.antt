@@ -1,13 +1,11 @@
-use Rattle.std.proofs.Common.{◌≤◌, [], ◌∷◌}
-use Rattle.pool_model.specs.declared.call.Call.TheVariants as call
-use Rattle.pool_model.specs.declared.event.Event.TheVariants.{PinAgain}
+use Rattle.std.proofs.Common.{◌≤◌}
 use Rattle.store_api.specs.Holdings.{Holdings, page_len, page_of, unused_of}
 use Rattle.store_api.specs.Conditions.{IsPage}
-use Rattle.store_api.specs.Entries.{IsAsked}
 use Rattle.pool.proofs.Doings.{as_held}
-use Rattle.pool.proofs.Results.{err_so, ok_so}
 use Rattle.pool.proofs.Charged.{pin_again_stays}
-use Rattle.pool.proofs.Calling.{declined_then, did_then, may_end_call, sits_then, turns_first, works_first}
+use Rattle.pool.proofs.Calling.{may_end_call, sits_then, turns_first, works_first}
+use Rattle.session_calls.proofs.Carried.{pins_again_on}
+use Rattle.pool.proofs.Seeing.{call_seen}
 use Rattle.pool.proofs.seat.SessionSeat.pin_again.Goals as goal
 
 pub pin_again-hand-requires-clause-turns : goal.pin_again-hand-requires-clause-turns
@@ -28,21 +26,14 @@ pin_again-hand-requires-clause-unused g c = as_held c.self.view_is c.begin_turn-
 pub end_turn-requires-clause-may : goal.end_turn-requires-clause-may
 end_turn-requires-clause-may g c =
     may_end_call c.begin_turn-hand.ensures.begins
-    (pin_again_stays c.begin_turn-hand.ensures.begins.ready c.args.p.now (as_held c.self.view_is c.begin_turn-hand.ensures.begins (IsPage c.args.p.now) c.requires.page) c.pin_again-hand.result.1 c.pin_again-hand.ensures.ok c.pin_again-hand.ensures.err)
+    (pin_again_stays c.begin_turn-hand.ensures.begins.ready c.args.p.now (as_held c.self.view_is c.begin_turn-hand.ensures.begins (IsPage c.args.p.now) c.requires.page) c.pin_again-hand.result.1 c.pin_again-hand.ensures.pins_again.ok c.pin_again-hand.ensures.pins_again.err)
     c.args.turns.now c.pin_again-hand.new.place c.pin_again-hand.ensures.turns c.pin_again-hand.ensures.at_work c.self.invariant
 
 pub invariant_of-self : goal.invariant_of-self
 invariant_of-self g c =
     sits_then c.begin_turn-hand.ensures.begins
-    (pin_again_stays c.begin_turn-hand.ensures.begins.ready c.args.p.now (as_held c.self.view_is c.begin_turn-hand.ensures.begins (IsPage c.args.p.now) c.requires.page) c.pin_again-hand.result.1 c.pin_again-hand.ensures.ok c.pin_again-hand.ensures.err)
+    (pin_again_stays c.begin_turn-hand.ensures.begins.ready c.args.p.now (as_held c.self.view_is c.begin_turn-hand.ensures.begins (IsPage c.args.p.now) c.requires.page) c.pin_again-hand.result.1 c.pin_again-hand.ensures.pins_again.ok c.pin_again-hand.ensures.pins_again.err)
     c.end_turn.ensures.ends c.self.invariant
 
-pub returns-clause-ok : goal.returns-clause-ok
-returns-clause-ok g c =
-    ok_so c.pin_again-hand.result.1 c.pin_again-hand.ensures.ok
-    (λ x. did_then c.self.view_is c.begin_turn-hand.ensures.begins c.end_turn.ensures.ends c.end_turn.ensures.table c.requires.table (λ h. IsAsked c.args.p.now.client h (PinAgain c.args.p.now.name ∷ [])))
-
-pub returns-clause-err : goal.returns-clause-err
-returns-clause-err g c =
-    err_so c.pin_again-hand.result.1 c.pin_again-hand.ensures.err
-    (declined_then c.self.view_is c.begin_turn-hand.ensures.begins c.end_turn.ensures.ends c.args.p.now.client (call.PinAgain c.args.p.now.name))
+pub returns-clause-pins_again : goal.returns-clause-pins_again
+returns-clause-pins_again g c = pins_again_on (call_seen c.self.view_is c.begin_turn-hand.ensures.begins c.pin_again-hand.ensures.at_work.ready c.end_turn.ensures.ends c.end_turn.ensures.table c.requires.table) c.args.p.now c.pin_again-hand.result.1 c.pin_again-hand.ensures.pins_again

@@ -1,7 +1,7 @@
-use Rattle.std.proofs.Common.{◌≤◌, refl}
+use Rattle.std.proofs.Common.{◌≤◌}
 use Rattle.store_api.specs.Holdings.{page_of}
 use Rattle.store_api.specs.Conditions.{IsPage}
-use Rattle.pool.proofs.Doings.{as_held, may_stay, did_these, sits_on}
+use Rattle.pool.proofs.Doings.{as_held, may_stay, did_acts, sits_on}
 use Rattle.pool.proofs.Stays.{stays_unpinned_once}
 use Rattle.pool.proofs.seat.SessionSeat.unpin_once.Goals as goal
 
@@ -23,4 +23,4 @@ pub invariant_of-self : goal.invariant_of-self
 invariant_of-self g c = sits_on c.self.view_is c.begin_turn-hand.ensures.begins c.unpin_once.new.self c.end_turn.ensures.ends c.unpin_once.ensures.acts c.self.invariant
 
 pub returns-clause-did : goal.returns-clause-did
-returns-clause-did g c = did_these c.self.view_is c.begin_turn-hand.ensures.begins c.unpin_once.new.self c.end_turn.ensures.ends c.unpin_once.ensures.acts (refl, tt) c.end_turn.ensures.table c.requires.table
+returns-clause-did g c = did_acts c.self.view_is c.begin_turn-hand.ensures.begins c.unpin_once.new.self c.end_turn.ensures.ends c.unpin_once.ensures.acts c.end_turn.ensures.table c.requires.table

@@ -1,4 +1,4 @@
-use Rattle.std.proofs.Common.{◌≤◌, refl, sym, ◌∙◌}
+use Rattle.std.proofs.Common.{rules, ◌≤◌, refl, sym, ◌∙◌}
 use Rattle.std.proofs.lemmas.Bool.{false≢true}
 use Rattle.own_entries.specs.ClientLaws.{IsNewNumber}
 use Rattle.session_calls.proofs.Clients.{seat_lives, all_come, not_all}
@@ -15,27 +15,33 @@ tracker-query-requires g c = seat_lives (knows g.D.Slot g.O.Origin.opening g.O.O
 pub add_client-requires : goal.add_client-requires
 add_client-requires g c = record { live = seat_lives (knows g.D.Slot g.O.Origin.opening g.O.Origin.outset c.args.self.now c.requires.ready) }
 
-pub returns-in_err-c-clause-refused : goal.returns-in_err-c-clause-refused
-returns-in_err-c-clause-refused g c =
-    let full : 16 ≤ (held_by g.O.Origin.opening g.O.Origin.outset c.args.self.now).live_clients = all_come (knows g.D.Slot g.O.Origin.opening g.O.Origin.outset c.args.self.now c.requires.ready) (c.in_err-c.ensures.refused.0 refl) in
-    ((λ _. full), (λ _. c.from_residual.ensures.0))
+pub returns-in_err-c-clause-adds : goal.returns-in_err-c-clause-adds
+returns-in_err-c-clause-adds g c = record {
+  ok = search rules;
+  fresh = search rules;
+  refused =
+      let full : 16 ≤ (held_by g.O.Origin.opening g.O.Origin.outset c.args.self.now).live_clients = all_come (knows g.D.Slot g.O.Origin.opening g.O.Origin.outset c.args.self.now c.requires.ready) (c.in_err-c.ensures.refused.0 refl) in
+      ((λ _. full), (λ _. c.from_residual.ensures.0));
+  cause = search rules;
+  err = search rules;
+}
 
-pub returns-clause-ok : goal.returns-clause-ok
-returns-clause-ok g c =
-    let new : Hand g.row.D.Denot = record { state = c.add_client.new.self; trail = c.enter.new.trail; counts = c.args.self.now.counts; session = c.args.self.now.session; gone = c.args.self.now.gone } in
-    (came g.D.Slot g.O.Origin.opening g.O.Origin.outset c.args.self.now c.requires.ready c.in_ok-c.c.tracker c.tracker.result c.tracker-query.result c.args.limit new c.tracker.ensures c.tracker-query.ensures
-    (λ full. false≢true (c.in_ok-c.ensures.refused.1 full)) c.in_ok-c.ensures.ok c.enter.ensures refl refl).1
-
-pub returns-clause-fresh : goal.returns-clause-fresh
-returns-clause-fresh g c =
-    let it : IsNewNumber c.in_ok-c.c.tracker (held_by g.O.Origin.opening g.O.Origin.outset c.args.self.now) = (knows g.D.Slot g.O.Origin.opening g.O.Origin.outset c.args.self.now c.requires.ready).fresh.trackers c.in_ok-c.c.tracker c.in_ok-c.ensures.fresh in
-    record { fresh = it.fresh; under = it.apart; idle = it.idle; session = c.in_ok-c.ensures.client.0 ∙ sym (whose g.O.Origin.opening g.O.Origin.outset c.args.self.now.session c.args.self.now.trail) }
-
-pub returns-clause-refused : goal.returns-clause-refused
-returns-clause-refused g c = (
-  (λ never. absurd (false≢true never)),
-  (λ full. c.in_ok-c.ensures.refused.1 (not_all (knows g.D.Slot g.O.Origin.opening g.O.Origin.outset c.args.self.now c.requires.ready) c.requires.ready.rests.few full)),
-)
+pub returns-clause-adds : goal.returns-clause-adds
+returns-clause-adds g c = record {
+  ok =
+      let new : Hand g.row.D.Denot = record { state = c.add_client.new.self; trail = c.enter.new.trail; counts = c.args.self.now.counts; session = c.args.self.now.session; gone = c.args.self.now.gone } in
+      (came g.D.Slot g.O.Origin.opening g.O.Origin.outset c.args.self.now c.requires.ready c.in_ok-c.c.tracker c.tracker.result c.tracker-query.result c.args.limit new c.tracker.ensures c.tracker-query.ensures
+      (λ full. false≢true (c.in_ok-c.ensures.refused.1 full)) c.in_ok-c.ensures.ok c.enter.ensures refl refl).1;
+  fresh =
+      let it : IsNewNumber c.in_ok-c.c.tracker (held_by g.O.Origin.opening g.O.Origin.outset c.args.self.now) = (knows g.D.Slot g.O.Origin.opening g.O.Origin.outset c.args.self.now c.requires.ready).fresh.trackers c.in_ok-c.c.tracker c.in_ok-c.ensures.fresh in
+      record { fresh = it.fresh; under = it.apart; idle = it.idle; session = c.in_ok-c.ensures.client.0 ∙ sym (whose g.O.Origin.opening g.O.Origin.outset c.args.self.now.session c.args.self.now.trail) };
+  refused = (
+    (λ never. absurd (false≢true never)),
+    (λ full. c.in_ok-c.ensures.refused.1 (not_all (knows g.D.Slot g.O.Origin.opening g.O.Origin.outset c.args.self.now c.requires.ready) c.requires.ready.rests.few full)),
+  );
+  cause = tt;
+  err = tt;
+}
 
 pub returns-clause-ready : goal.returns-clause-ready
 returns-clause-ready g c =

@@ -17,14 +17,14 @@ end_client-requires-clause-client g c = token_client g.D.Slot g.O.Origin.opening
 pub end_client-requires-clause-idle : goal.end_client-requires-clause-idle
 end_client-requires-clause-idle g c = token_idle g.D.Slot g.O.Origin.opening g.O.Origin.outset c.args.self.now c.requires.ready c.of.result c.into_tracker-tracker.result c.args.c.tracker c.of.ensures c.into_tracker-tracker.ensures c.requires.client c.requires.idle
 
-pub returns-clause-acts : goal.returns-clause-acts
-returns-clause-acts g c =
-    let new : Hand g.row.D.Denot = record { state = c.end_client.new.self; trail = c.enter-2.new.trail; counts = c.args.self.now.counts; session = c.args.self.now.session; gone = c.args.self.now.gone } in
-    (left g.D.Slot g.O.Origin.opening g.O.Origin.outset c.args.self.now c.requires.ready c.of.result c.into_tracker-tracker.result c.args.c.tracker c.of.ensures c.into_tracker-tracker.ensures c.requires.client c.requires.idle
-    c.tracker-query.result c.reservation-bytes.result new c.enter.new.trail c.tracker-query.ensures c.reservation-bytes.ensures c.end_client.ensures.enters c.enter.ensures c.enter-2.ensures refl refl).1
-
-pub returns-clause-apart : goal.returns-clause-apart
-returns-clause-apart g c = (knows g.D.Slot g.O.Origin.opening g.O.Origin.outset c.args.self.now c.requires.ready).fits.apart
+pub returns-clause-ends : goal.returns-clause-ends
+returns-clause-ends g c = record {
+  did =
+      let new : Hand g.row.D.Denot = record { state = c.end_client.new.self; trail = c.enter-2.new.trail; counts = c.args.self.now.counts; session = c.args.self.now.session; gone = c.args.self.now.gone } in
+      (left g.D.Slot g.O.Origin.opening g.O.Origin.outset c.args.self.now c.requires.ready c.of.result c.into_tracker-tracker.result c.args.c.tracker c.of.ensures c.into_tracker-tracker.ensures c.requires.client c.requires.idle
+      c.tracker-query.result c.reservation-bytes.result new c.enter.new.trail c.tracker-query.ensures c.reservation-bytes.ensures c.end_client.ensures.enters c.enter.ensures c.enter-2.ensures refl refl).1;
+  apart = (knows g.D.Slot g.O.Origin.opening g.O.Origin.outset c.args.self.now c.requires.ready).fits.apart;
+}
 
 pub returns-clause-ready : goal.returns-clause-ready
 returns-clause-ready g c =

@@ -1,4 +1,4 @@
-use Rattle.std.proofs.Common.{refl, ap, ◌∙◌}
+use Rattle.std.proofs.Common.{rules, refl, ap, ◌∙◌}
 use Rattle.store_api.specs.Tokens.{LoanToken}
 use Rattle.session_calls.proofs.Pages.{last_pin, is_there}
 use Rattle.session_calls.specs.declared.hand.Hand.{Hand}
@@ -9,11 +9,13 @@ use Rattle.session_calls.proofs.hand.Hand.extract.Goals as goal
 pub extract-loan-requires : goal.extract-loan-requires
 extract-loan-requires g c = record { last = last_pin (knows g.D.Slot g.O.Origin.opening g.O.Origin.outset c.args.self.now c.requires.ready) c.args.p c.requires.page c.args.buf c.requires.pinned c.requires.buffer }
 
-pub returns-clause-fresh : goal.returns-clause-fresh
-returns-clause-fresh g c = (knows g.D.Slot g.O.Origin.opening g.O.Origin.outset c.args.self.now c.requires.ready).fresh.loans c.extract-loan.result.number c.extract-loan.ensures.fresh
-
-pub returns-clause-client : goal.returns-clause-client
-returns-clause-client g c = ap (λ (l : LoanToken). l.client) c.extract-loan.ensures.loan ∙ (is_there (knows g.D.Slot g.O.Origin.opening g.O.Origin.outset c.args.self.now c.requires.ready) c.args.p c.requires.page).client
+pub returns-clause-extracts : goal.returns-clause-extracts
+returns-clause-extracts g c = record {
+  did = search rules;
+  fresh = (knows g.D.Slot g.O.Origin.opening g.O.Origin.outset c.args.self.now c.requires.ready).fresh.loans c.extract-loan.result.number c.extract-loan.ensures.fresh;
+  client = ap (λ (l : LoanToken). l.client) c.extract-loan.ensures.loan ∙ (is_there (knows g.D.Slot g.O.Origin.opening g.O.Origin.outset c.args.self.now c.requires.ready) c.args.p c.requires.page).client;
+  buffer = search rules;
+}
 
 pub returns-clause-ready : goal.returns-clause-ready
 returns-clause-ready g c =

@@ -1,3 +1,4 @@
+use Rattle.std.proofs.Common.{rules}
 use Rattle.session_calls.proofs.Pages.{last_pin, is_there}
 use Rattle.session_calls.proofs.Knowing.{knows}
 use Rattle.session_calls.proofs.Left.{left_ready, left_refused, left_full}
@@ -9,11 +10,14 @@ leave-requires-clause-last g c = last_pin (knows g.D.Slot g.O.Origin.opening g.O
 pub leave-requires-clause-whose : goal.leave-requires-clause-whose
 leave-requires-clause-whose g c = (is_there (knows g.D.Slot g.O.Origin.opening g.O.Origin.outset c.args.self.now c.requires.ready) c.args.p.now c.requires.page).whose
 
-pub returns-clause-refused : goal.returns-clause-refused
-returns-clause-refused g c = left_refused g.D.Slot g.O.Origin.opening g.O.Origin.outset c.args.self.now c.leave.new.hand c.requires.ready c.args.p.now c.requires.page c.requires.pinned c.leave.result c.leave.ensures.refused
-
-pub returns-clause-cause : goal.returns-clause-cause
-returns-clause-cause g c = left_full g.D.Slot g.O.Origin.opening g.O.Origin.outset c.args.self.now c.leave.new.hand c.requires.ready c.args.p.now c.requires.page c.requires.pinned c.leave.result c.leave.ensures.cause
+pub returns-clause-unpins : goal.returns-clause-unpins
+returns-clause-unpins g c = record {
+  ok = search rules;
+  refused = left_refused g.D.Slot g.O.Origin.opening g.O.Origin.outset c.args.self.now c.leave.new.hand c.requires.ready c.args.p.now c.requires.page c.requires.pinned c.leave.result c.leave.ensures.refused;
+  err = search rules;
+  cause = left_full g.D.Slot g.O.Origin.opening g.O.Origin.outset c.args.self.now c.leave.new.hand c.requires.ready c.args.p.now c.requires.page c.requires.pinned c.leave.result c.leave.ensures.cause;
+  back = search rules;
+}
 
 pub returns-clause-ready : goal.returns-clause-ready
 returns-clause-ready g c =
