@@ -20,7 +20,7 @@ use grouping::grouped;
 use having::Having;
 use outside::{MemSlot, Slot};
 use pin_core::PoolConf;
-use pool::{At, OpenedAs, Pass, Pool};
+use pool::{Opened, Pass, Pool};
 use reservation_tree::PoolErr;
 use sales::shape;
 use std::alloc::{AllocError, Global};
@@ -101,7 +101,7 @@ fn in_pool<D: Slot + Drop, R: Wait>(
 }
 
 // The same, where `T` names with what the pool opens, for contracts alone. The proof of `in_pool` picks it.
-fn in_pool_as<T: OpenedAs, D: Slot + Drop, R: Wait>(
+fn in_pool_as<T: Opened, D: Slot + Drop, R: Wait>(
     rt: &R,
     alloc: Global,
     conf: &PoolConf,
@@ -110,7 +110,7 @@ fn in_pool_as<T: OpenedAs, D: Slot + Drop, R: Wait>(
 ) -> (Result<Having, OpErr>, Vec<D>)
     requires conf { OpensWith conf.now }
     requires slots { vec_len slots ≤ 1048576 }
-    requires opens { OpensAs D.Slot conf.now slots.items T.opening T.told T.first }
+    requires opens { OpensAs D.Slot conf.now slots.items T.opening T.outset.told T.first }
     requires shape { IsShape shape.now }
 {
     match Pool::<D, T>::open(alloc, conf, slots) {
@@ -123,7 +123,7 @@ fn in_pool_as<T: OpenedAs, D: Slot + Drop, R: Wait>(
 }
 
 // A session comes, which has all memory, and ends. `N` names the lock of the pool, for contracts alone.
-fn in_session<'x, N: At, T: OpenedAs, D: Slot + Drop, R: Wait>(
+fn in_session<'x, N: Opened, T: Opened, D: Slot + Drop, R: Wait>(
     rt: &'x R,
     alloc: Global,
     pool: &'x Pool<D, T>,

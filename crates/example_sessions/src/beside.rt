@@ -9,7 +9,7 @@ ghost use Rattle.pool.specs.Writers.{Stops};
 
 use crate::rows::{Seen, rows_through};
 use outside::{OpenGate, Slot};
-use pool::{OpenedAs, Pass, Pool};
+use pool::{Opened, Pass, Pool};
 use std::alloc::Global;
 use std::sync::Wait;
 use std::thread::{Threads, join_mut};
@@ -27,7 +27,7 @@ pub trait StorePages {
         ensures { lock self.new ≡ lock self.old };
 }
 
-impl<'a, D: Slot + Drop, R: Wait + Clock, T: OpenedAs> StorePages for Writer<'a, D, R, T> {
+impl<'a, D: Slot + Drop, R: Wait + Clock, T: Opened> StorePages for Writer<'a, D, R, T> {
     ghost lock = { λ writer. writer.seat.spot.table };
 
     fn store_pages(&mut self) {
@@ -48,7 +48,7 @@ pub trait StopWriters<P> {
         ensures { told pass.old pass.new };
 }
 
-impl<D: Slot + Drop, T: OpenedAs> StopWriters<Pass<D, T>> for Pool<D, T> {
+impl<D: Slot + Drop, T: Opened> StopWriters<Pass<D, T>> for Pool<D, T> {
     ghost owns = { λ pool pass. pass.table ≡ pool };
 
     ghost told = { λ old new. Stops old new };

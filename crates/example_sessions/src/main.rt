@@ -20,7 +20,7 @@ use anyhow::Result;
 use beside::work_beside;
 use outside::{MemSlot, Slot};
 use pin_core::PoolConf;
-use pool::{At, OpenedAs, Pass, Pool};
+use pool::{Opened, Pass, Pool};
 use reservation_tree::PoolErr;
 use rows::Seen;
 use std::alloc::{AllocError, Global};
@@ -97,7 +97,7 @@ fn in_pool<D: Slot + Drop + Send, R: Threads + Wait + Clock + Sync>(
 }
 
 // The same, where `T` names with what the pool opens, for contracts alone. The proof of `in_pool` picks it.
-fn in_pool_as<T: OpenedAs + Send, D: Slot + Drop + Send, R: Threads + Wait + Clock + Sync>(
+fn in_pool_as<T: Opened + Send, D: Slot + Drop + Send, R: Threads + Wait + Clock + Sync>(
     rt: &R,
     alloc: Global,
     conf: &PoolConf,
@@ -105,7 +105,7 @@ fn in_pool_as<T: OpenedAs + Send, D: Slot + Drop + Send, R: Threads + Wait + Clo
 ) -> (Result<(Seen, Seen), StreamErr>, Vec<D>)
     requires conf { OpensWith conf.now }
     requires slots { vec_len slots ≤ 1048576 }
-    requires opens { OpensAs D.Slot conf.now slots.items T.opening T.told T.first }
+    requires opens { OpensAs D.Slot conf.now slots.items T.opening T.outset.told T.first }
 {
     match Pool::<D, T>::open(alloc, conf, slots) {
         Ok((pool, mut pass)) => {
@@ -120,8 +120,8 @@ fn in_pool_as<T: OpenedAs + Send, D: Slot + Drop + Send, R: Threads + Wait + Clo
 // as a `Store` ends at the lock where it began. The proof of `in_pool_as` picks it.
 fn with_sessions<
     'x,
-    N: At + Send,
-    T: OpenedAs + Send,
+    N: Opened + Send,
+    T: Opened + Send,
     D: Slot + Drop + Send,
     R: Threads + Wait + Clock + Sync,
 >(

@@ -1,7 +1,8 @@
 -- What is named of the opening of a pool, and what its trail makes of that: of the sums over its slots, and of the names of pages.
-use Rattle.std.specs.Prelude.{◌≡◌, ◌+◌, ◌≤◌, ℕ, Bool, true, List, Option, Some, None, length, ⊤}
+use Rattle.std.specs.Prelude.{◌≡◌, ◌+◌, ◌≤◌, ℕ, Bool, true, List, Option, Some, None, if◌then◌else◌, length, ⊤}
 use Rattle.pool_model.specs.LookingBack.{names_in}
 use Rattle.pool_model.specs.declared.entry.Entry.{Entry}
+use Rattle.pool_model.specs.State.{Opening}
 use Rattle.pin_core.specs.declared.tally.Tally.{Tally}
 use Rattle.session_calls.specs.declared.count.Count.{Count}
 use Rattle.session_calls.specs.Outgoing.{opening_tally}
@@ -15,6 +16,10 @@ pub record AtOpening : Type 0 where
 
 abbrev pub at_opening : Tally → ℕ → ℕ → AtOpening
 at_opening tally first_name blocks = record { tally = tally; first_name = first_name; blocks = blocks }
+
+-- that, where it is named
+abbrev pub named_at : Bool → Opening → Tally → Option AtOpening
+named_at named o tally = if named then Some (at_opening tally o.first_name o.blocks) else None
 
 -- where it is named, the slots were counted from there on
 abbrev pub CountsFrom : Option AtOpening → List Count → Type 0

@@ -8,24 +8,23 @@ ghost use Rattle.pin_core.specs.calls.Opening.{spare_of};
 ghost use Rattle.store_api.specs.Entries.{by};
 ghost use Rattle.session_calls.specs.declared.count.Count.TheVariants as count;
 ghost use Rattle.local_pool.specs.Told.{held_of, signs_of};
-ghost use Rattle.local_pool.specs.Counting.{SpendsNames, SumsHold, at_opening};
+ghost use Rattle.local_pool.specs.Counting.{SpendsNames, SumsHold, at_opening, named_at};
 ghost use Rattle.local_pool.specs.History.{IsHistory};
 ghost use Rattle.pin_core.specs.Tallies.{tally_in, tally_of};
 ghost use Rattle.local_pool.specs.Beginning.{Begins, IsBegun, IsLeastRefusal, LacksLeast, first_events};
 
 use crate::owned::Alone;
 use crate::sole::Shelf;
-use crate::tally::OpenedWith;
 use outside::Slot;
 use pin_core::{EvictedPages, PoolConf, PoolState};
 use pool_model::Event;
 use reservation_tree::{PoolErr, TrackerId};
-use session_calls::{Count, Hand, Log, count_opening, enter};
+use session_calls::{Count, Hand, Log, Opened, count_opening, enter};
 use std::alloc::Global;
 use std::marker::{Brand, PhantomData};
 use turn_table::Solo;
 
-impl<D: Slot + Drop, T: OpenedWith> Alone<D, T> {
+impl<D: Slot + Drop, T: Opened> Alone<D, T> {
     /// A pool with these numbers and slots, whose owner may reserve up to `limit` bytes and has `least` of them, and
     /// whose pages may take `quota` slots. Takes all the memory that it will ever use, but for pages and loans.
     ///
@@ -43,7 +42,7 @@ impl<D: Slot + Drop, T: OpenedWith> Alone<D, T> {
         requires conf { OpensWith conf.now }
         requires slots { vec_len slots ≤ 1048576 }
         requires quota { quota ≤ vec_len slots }
-        requires opened { IfSome T.opened (λ first. first ≡ at_opening (tally_of D.Slot slots.items) conf.now.first_name conf.now.blocks) }
+        requires opened { IfSome (named_at T.named T.opening T.first) (λ first. first ≡ at_opening (tally_of D.Slot slots.items) conf.now.first_name conf.now.blocks) }
         ensures ok { IfOk result (Begins D.Slot conf.now slots.items limit quota least) }
         ensures refused { LacksLeast conf.now limit least → IsErr result }
         ensures cause { IfErr result (λ e. IsLeastRefusal conf.now limit least e.1) }
@@ -63,9 +62,9 @@ impl<D: Slot + Drop, T: OpenedWith> Alone<D, T> {
     pub fn close(self) -> Vec<D>
         requires { (held_of D.Slot self).live_clients ≡ 0 }
         ensures slots { (measure : D → ℕ) → sum_by measure result.items ≡ slots_home measure self.state }
-        ensures sums { SumsHold T.opened self.trail (tally_of D.Slot result.items) }
-        ensures names { SpendsNames T.opened self.trail (signs_of self).spent }
-        ensures history { IsHistory T.opened (held_of D.Slot self).block_len self.session self.trail }
+        ensures sums { SumsHold (named_at T.named T.opening T.first) self.trail (tally_of D.Slot result.items) }
+        ensures names { SpendsNames (named_at T.named T.opening T.first) self.trail (signs_of self).spent }
+        ensures history { IsHistory (named_at T.named T.opening T.first) (held_of D.Slot self).block_len self.session self.trail }
     {
         let Hand {
             mut state,
@@ -109,7 +108,7 @@ impl<D> Books<D> {
 }
 
 // The owner's session begins.
-fn begin<D: Slot + Drop, T: OpenedWith>(
+fn begin<D: Slot + Drop, T: Opened>(
     mut pool: PoolState<D>,
     books: Books<D>,
     _conf: &PoolConf,
@@ -122,7 +121,7 @@ fn begin<D: Slot + Drop, T: OpenedWith>(
     requires empty { (books.trail ≡ []) × (books.shelf.seen ≡ []) × (books.shelf.counted ≡ []) }
     requires counts { books.counts ≡ count.Opening (tally_in D.Slot pool) ∷ [] }
     requires quota { quota ≤ spare_of pool }
-    requires opens { IfSome T.opened (λ first. first ≡ at_opening (tally_in D.Slot pool) _conf.now.first_name _conf.now.blocks) }
+    requires opens { IfSome (named_at T.named T.opening T.first) (λ first. first ≡ at_opening (tally_in D.Slot pool) _conf.now.first_name _conf.now.blocks) }
     ensures ok { IfOk result (λ own. IsBegun _conf.now limit quota least (held_of D.Slot own)) }
     ensures trail { IfOk result (λ own. own.trail ≡ by own.session (first_events (held_of D.Slot own).query limit quota least)) }
     ensures slots { IfOk result (λ own. (measure : D → ℕ) → slots_home measure own.state ≡ slots_home measure pool) }

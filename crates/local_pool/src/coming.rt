@@ -10,15 +10,15 @@ ghost use Rattle.local_pool.specs.Viewing.{owned};
 use crate::owned::Alone;
 use crate::sole::Sole;
 use crate::taking::Coming;
-use crate::tally::OpenedWith;
 use block_arena::Buf;
 use outside::Slot;
 use reservation_tree::PoolErr;
+use session_calls::Opened;
 use std::alloc::Global;
 use std::marker::Brand;
 use store_api::{Client, Loan, Page};
 
-impl<D: Slot + Drop, T: OpenedWith> Alone<D, T> {
+impl<D: Slot + Drop, T: Opened> Alone<D, T> {
     /// A new page of so many blocks, which have so many bytes, once there is room.
     pub fn create(self, what: Coming<'_>) -> (Alone<D, T>, Result<(Page, Buf), PoolErr>)
         requires client { IsLiveClient what.client.now (held_of D.Slot self) }

@@ -13,14 +13,14 @@ ghost use Rattle.local_pool.specs.Making.{Makes};
 use crate::owned::Alone;
 use crate::sole::Sole;
 use crate::taking::Ending;
-use crate::tally::OpenedWith;
 use block_arena::Buf;
 use outside::Slot;
 use reservation_tree::PoolErr;
+use session_calls::Opened;
 use std::marker::Brand;
 use store_api::{Loan, Page};
 
-impl<D: Slot + Drop, T: OpenedWith> Alone<D, T> {
+impl<D: Slot + Drop, T: Opened> Alone<D, T> {
     /// Leaves these bytes in a page that is pinned once.
     pub fn unpin(&mut self, p: &Page, buf: Buf) -> Result<(), (Buf, PoolErr)>
         requires page { IsPage p.now (held_of D.Slot self.old) }

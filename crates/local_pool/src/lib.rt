@@ -17,11 +17,10 @@ mod pins;
 mod shrinking;
 mod sole;
 mod taking;
-mod tally;
 mod trackers;
 
 pub use local::LocalPool;
 pub use owned::Alone;
+pub use session_calls::Opened;
 pub use sole::Shelf;
 pub use taking::{Coming, Ending, Handing, Passing, Shrinking};
-pub use tally::OpenedWith;

@@ -19,19 +19,19 @@ ghost use Rattle.pin_core.specs.StateOf.{state_of};
 ghost use Rattle.session_calls.specs.Throughout.{FitsThroughout};
 ghost use Rattle.local_pool.specs.Told.{held_of, opening_of, signs_of};
 ghost use Rattle.local_pool.specs.Agreeing.{AgreesWith};
-ghost use Rattle.local_pool.specs.Counting.{SpendsNames, SumsHold, at_opening};
+ghost use Rattle.local_pool.specs.Counting.{SpendsNames, SumsHold, at_opening, named_at};
 ghost use Rattle.local_pool.specs.History.{IsHistory};
 ghost use Rattle.pin_core.specs.Tallies.{tally_of};
 ghost use Rattle.local_pool.specs.Beginning.{Begins, IsLeastRefusal, LacksLeast};
 
 use crate::owned::Alone;
 use crate::taking::{Coming, Ending, Handing, Passing, Shrinking};
-use crate::tally::OpenedWith;
 use block_arena::Buf;
 use core::mem::replace_with;
 use outside::Slot;
 use pin_core::{PoolConf, PoolState};
 use reservation_tree::PoolErr;
+use session_calls::Opened;
 use std::alloc::Global;
 use std::marker::Brand;
 use store_api::{Client, Loan, Page, Store};
@@ -41,7 +41,7 @@ use store_api::{Client, Loan, Page, Store};
 /// What a law of stores says of it whatever was called before stands beside it, since a law can't
 /// use the invariant of [`Alone`]. `T` names what the slots counted when the pool opened.
 #[derive(Drop)]
-pub struct LocalPool<D: Slot, T: OpenedWith = Brand> {
+pub struct LocalPool<D: Slot, T: Opened = Brand> {
     pub(crate) alone: Alone<D, T>,
     pub(crate) block_len: u32,
     ghost len: { block_len ≡ (held_of D.Slot alone).block_len },
@@ -49,7 +49,7 @@ pub struct LocalPool<D: Slot, T: OpenedWith = Brand> {
     ghost whole: { IsWholeIdle (held_of D.Slot alone) },
 }
 
-impl<D: Slot + Drop, T: OpenedWith> LocalPool<D, T> {
+impl<D: Slot + Drop, T: Opened> LocalPool<D, T> {
     /// A pool with these numbers and slots, whose owner may reserve up to `limit` bytes and has `least` of them, and
     /// whose pages may take `quota` slots. Takes all the memory that it will ever use, but for pages and loans. No entry
     /// is kept, whatever `trace` is.
@@ -68,7 +68,7 @@ impl<D: Slot + Drop, T: OpenedWith> LocalPool<D, T> {
         requires conf { OpensWith conf.now }
         requires slots { vec_len slots ≤ 1048576 }
         requires quota { quota ≤ vec_len slots }
-        requires opened { IfSome T.opened (λ first. first ≡ at_opening (tally_of D.Slot slots.items) conf.now.first_name conf.now.blocks) }
+        requires opened { IfSome (named_at T.named T.opening T.first) (λ first. first ≡ at_opening (tally_of D.Slot slots.items) conf.now.first_name conf.now.blocks) }
         ensures ok { IfOk result (λ pool. Begins D.Slot conf.now slots.items limit quota least pool.alone) }
         ensures refused { LacksLeast conf.now limit least → IsErr result }
         ensures cause { IfErr result (λ e. IsLeastRefusal conf.now limit least e.1) }
@@ -120,15 +120,15 @@ impl<D: Slot + Drop, T: OpenedWith> LocalPool<D, T> {
     pub fn close(self) -> Vec<D>
         requires { (held_of D.Slot self.alone).live_clients ≡ 0 }
         ensures slots { (measure : D → ℕ) → sum_by measure result.items ≡ slots_home measure self.alone.state }
-        ensures sums { SumsHold T.opened self.alone.trail (tally_of D.Slot result.items) }
-        ensures names { SpendsNames T.opened self.alone.trail (signs_of self.alone).spent }
-        ensures history { IsHistory T.opened (held_of D.Slot self.alone).block_len self.alone.session self.alone.trail }
+        ensures sums { SumsHold (named_at T.named T.opening T.first) self.alone.trail (tally_of D.Slot result.items) }
+        ensures names { SpendsNames (named_at T.named T.opening T.first) self.alone.trail (signs_of self.alone).spent }
+        ensures history { IsHistory (named_at T.named T.opening T.first) (held_of D.Slot self.alone).block_len self.alone.session self.alone.trail }
     {
         self.alone.close()
     }
 }
 
-impl<D: Slot + Drop, T: OpenedWith> Store for LocalPool<D, T> {
+impl<D: Slot + Drop, T: Opened> Store for LocalPool<D, T> {
     ghost use Rattle.local_pool.specs.Laws.{tells_left};
 
     ghost holds = { λ s. held_of D.Slot s.alone };

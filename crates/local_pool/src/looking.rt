@@ -10,13 +10,13 @@ ghost use Rattle.local_pool.specs.Told.{held_of, opening_of};
 ghost use Rattle.local_pool.specs.Agreeing.{AgreesWith};
 
 use crate::owned::Alone;
-use crate::tally::OpenedWith;
 use outside::Slot;
 use pin_core::PoolState;
+use session_calls::Opened;
 use std::marker::Brand;
 use store_api::Client;
 
-impl<D: Slot + Drop, T: OpenedWith> Alone<D, T> {
+impl<D: Slot + Drop, T: Opened> Alone<D, T> {
     /// How much of the query's reservation no client has.
     pub fn room(&self) -> u64
         ensures value { result ≡ (held_of D.Slot self.now).room }

@@ -9,14 +9,14 @@ ghost use Rattle.local_pool.specs.Viewing.{owned};
 
 use crate::owned::Alone;
 use crate::sole::Sole;
-use crate::tally::OpenedWith;
 use block_arena::Buf;
 use outside::Slot;
 use reservation_tree::PoolErr;
+use session_calls::Opened;
 use std::marker::Brand;
 use store_api::Page;
 
-impl<D: Slot + Drop, T: OpenedWith> Alone<D, T> {
+impl<D: Slot + Drop, T: Opened> Alone<D, T> {
     /// Pins a page that rests: where it is, or once there is room for it, after a load where it isn't in memory.
     pub fn pin(self, p: &Page) -> (Alone<D, T>, Result<Buf, PoolErr>)
         requires page { IsPage p.now (held_of D.Slot self) }

@@ -12,13 +12,13 @@ ghost use Rattle.local_pool.specs.Viewing.{owned};
 use crate::owned::Alone;
 use crate::sole::Sole;
 use crate::taking::Handing;
-use crate::tally::OpenedWith;
 use outside::Slot;
 use reservation_tree::PoolErr;
+use session_calls::Opened;
 use std::marker::Brand;
 use store_api::{Client, Loan, Page};
 
-impl<D: Slot + Drop, T: OpenedWith> Alone<D, T> {
+impl<D: Slot + Drop, T: Opened> Alone<D, T> {
     /// Pins a pinned page once more, once there is room.
     pub fn pin_again(self, p: &Page) -> (Alone<D, T>, Result<(), PoolErr>)
         requires page { IsPage p.now (held_of D.Slot self) }

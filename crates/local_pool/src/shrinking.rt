@@ -10,13 +10,13 @@ ghost use Rattle.local_pool.specs.Viewing.{owned};
 use crate::owned::Alone;
 use crate::sole::Sole;
 use crate::taking::{Passing, Shrinking};
-use crate::tally::OpenedWith;
 use outside::Slot;
 use reservation_tree::PoolErr;
+use session_calls::Opened;
 use std::marker::Brand;
 use store_api::Client;
 
-impl<D: Slot + Drop, T: OpenedWith> Alone<D, T> {
+impl<D: Slot + Drop, T: Opened> Alone<D, T> {
     /// Lowers the client's reservation, once what it holds fits.
     pub fn give_back(self, what: Shrinking<'_>) -> (Alone<D, T>, Result<(), PoolErr>)
         requires client { IsLiveClient what.client.now (held_of D.Slot self) }

@@ -4,7 +4,7 @@ ghost use Rattle.local_pool.specs.Shelving.{counted_since, entered_since};
 
 use outside::{Point, Slot};
 use pool_model::Entry;
-use session_calls::{Access, Count, Hand, Origin};
+use session_calls::{Access, Count, Hand, Opened};
 use std::alloc::Global;
 use std::marker::Brand;
 use turn_table::{Adds, Memory, Solo};
@@ -68,7 +68,7 @@ impl<D: Slot + Drop> Access<D> for Sole {
 
     ghost sole = { sees_its_own };
 
-    fn take<O: Origin>(&self, place: &mut Shelf<D>, session: u32) -> Hand<D>
+    fn take<O: Opened>(&self, place: &mut Shelf<D>, session: u32) -> Hand<D>
         requires { LiesThere D.Slot O.opening O.outset.told place.old session }
         ensures turns { AllBy session place.new.seen }
         ensures taken { Taken D.Slot O.opening O.outset.told session (sees place.old) (sees place.new) result }
@@ -77,7 +77,7 @@ impl<D: Slot + Drop> Access<D> for Sole {
         place.value.take().unwrap()
     }
 
-    fn give<O: Origin>(&self, place: &mut Shelf<D>, hand: Hand<D>)
+    fn give<O: Opened>(&self, place: &mut Shelf<D>, hand: Hand<D>)
         requires turns { AllBy hand.session place.old.seen }
         requires may { MayGive D.Slot O.opening O.outset.told (sees place.old) hand }
         ensures rests { LiesThere D.Slot O.opening O.outset.told place.new hand.session }

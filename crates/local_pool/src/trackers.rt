@@ -8,13 +8,13 @@ ghost use Rattle.local_pool.specs.Viewing.{owned};
 ghost use Rattle.local_pool.specs.Told.{held_of};
 
 use crate::owned::Alone;
-use crate::tally::OpenedWith;
 use outside::Slot;
 use reservation_tree::PoolErr;
+use session_calls::Opened;
 use std::marker::Brand;
 use store_api::Client;
 
-impl<D: Slot + Drop, T: OpenedWith> Alone<D, T> {
+impl<D: Slot + Drop, T: Opened> Alone<D, T> {
     /// A new client with this limit.
     pub fn add_client(&mut self, limit: u64) -> Result<Client, PoolErr>
         ensures { AddsClient (owned D.Slot self.old self.new) limit result }

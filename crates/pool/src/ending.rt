@@ -13,27 +13,26 @@ ghost use Rattle.pool.specs.Sitting.{held_by};
 ghost use Rattle.pool.specs.Seating.{Ends, ending_items};
 
 use crate::item::Item;
-use crate::opened::OpenedAs;
 use crate::pass::Pass;
 use crate::place::Place;
 use crate::seat::SessionSeat;
 use crate::shared::Shared;
 use outside::Slot;
 use pool_model::Event;
-use session_calls::enter;
+use session_calls::{Opened, enter};
 use std::marker::Brand;
 use std::sync::Wait;
 use turn_table::{Adds, TurnSeat, Turns};
 
 // The session's seat is joined to the pass's, which then has both rights that the end needs; and one turn ends it.
-pub(crate) fn unseat_session<D: Slot + Drop, T: OpenedAs, R: Wait>(
+pub(crate) fn unseat_session<D: Slot + Drop, T: Opened, R: Wait>(
     rt: &R,
     turns: &Turns<Shared<D, T>>,
     pass: &mut Pass<D, T>,
     seat: SessionSeat<D, T>,
 )
     requires table { (pass.old.table ≡ turns.now) × (seat.spot.table ≡ turns.now) }
-    requires no_client { (held_by T.opening T.told seat).live_clients ≡ 0 }
+    requires no_client { (held_by T.opening T.outset.told seat).live_clients ≡ 0 }
     ensures { Ends T.opening seat pass.old pass.new }
 {
     let SessionSeat {
@@ -52,7 +51,7 @@ pub(crate) fn unseat_session<D: Slot + Drop, T: OpenedAs, R: Wait>(
 }
 
 // The session ends, and so does the turn, with its last items, which `N` names. It tells how many slots are spare then.
-fn leave_ended<N: Adds<Item>, D: Slot + Drop, T: OpenedAs>(
+fn leave_ended<N: Adds<Item>, D: Slot + Drop, T: Opened>(
     turns: &Turns<Shared<D, T>>,
     seat: &mut TurnSeat<Shared<D, T>>,
     mut shared: Shared<D, T>,
@@ -61,7 +60,7 @@ fn leave_ended<N: Adds<Item>, D: Slot + Drop, T: OpenedAs>(
     requires named { N.entries ≡ ending_items (state_of shared.state) number }
     requires table { seat.old.table ≡ turns.now }
     requires turn { HasTurn seat.old.knows }
-    requires stands { StandsAs D.Slot T.opening T.told T.first seat.old.knows.seen (record { trail = shared.trail; counts = shared.counts }) shared.state }
+    requires stands { StandsAs D.Slot T.opening T.outset.told T.first seat.old.knows.seen (record { trail = shared.trail; counts = shared.counts }) shared.state }
     requires stop { shared.stopped ≡ is_stopped seat.old.knows.seen }
     requires live { IsSeat (state_of shared.state) number }
     requires no_client { HasNoChild (state_of shared.state).trackers (query_of (state_of shared.state) number) }

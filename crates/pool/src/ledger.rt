@@ -8,7 +8,7 @@ ghost use Rattle.pool.specs.Ledgers.{HasClients, HasOneMore, TellsHeld};
 use crate::accounts::ClientAccounts;
 use outside::Slot;
 use reservation_tree::PoolErr;
-use session_calls::{Hand, Origin};
+use session_calls::{Hand, Opened};
 use store_api::Client;
 
 /// What contracts see of the query's room and of the accounts of the session's clients.
@@ -32,7 +32,7 @@ impl Ledger {
     }
 
     // Sees the value that the session has in hand; it has each client, and no other.
-    pub(crate) fn see<O: Origin, D: Slot + Drop>(&mut self, hand: &Hand<D>)
+    pub(crate) fn see<O: Opened, D: Slot + Drop>(&mut self, hand: &Hand<D>)
         requires ready { IsReady D.Slot O.opening O.outset hand.now }
         requires clients { HasClients self.old.accounts (held_by O.opening O.outset hand.now) }
         ensures { TellsHeld self.new (held_by O.opening O.outset hand.now) }

@@ -1,23 +1,22 @@
 //! A session's way to the pool's value: its turn.
 use crate::at_gate::Points;
 use crate::holding::{give_hand, take_hand};
-use crate::opened::OpenedAs;
 use crate::place::Place;
 use crate::shared::Shared;
 use outside::{Point, Slot};
-use session_calls::{Access, Hand, Origin};
+use session_calls::{Access, Hand, Opened};
 use std::sync::Wait;
 use turn_table::Turns;
 
 // The turn lock, the runtime that lets a session wait for its turn, and what it passes in a job.
 #[derive(Clone, Copy)]
-pub(crate) struct Lock<'a, D: Slot, R: Wait, P: Points, T: OpenedAs> {
+pub(crate) struct Lock<'a, D: Slot, R: Wait, P: Points, T: Opened> {
     pub(crate) rt: &'a R,
     pub(crate) turns: &'a Turns<Shared<D, T>>,
     pub(crate) at: &'a P,
 }
 
-impl<'a, D: Slot + Drop, R: Wait, P: Points, T: OpenedAs> Access<D> for Lock<'a, D, R, P, T> {
+impl<'a, D: Slot + Drop, R: Wait, P: Points, T: Opened> Access<D> for Lock<'a, D, R, P, T> {
     ghost use Rattle.std.specs.Prelude.{◌≡◌, false, true};
     ghost use Rattle.session_calls.specs.Having.{MayGive, Taken, sight_of};
     ghost use Rattle.session_calls.specs.declared.hand.Hand.{Hand};
@@ -33,25 +32,25 @@ impl<'a, D: Slot + Drop, R: Wait, P: Points, T: OpenedAs> Access<D> for Lock<'a,
     // Others may have it.
     ghost kept = { λ spot hand. Unit {0} };
 
-    ghost rests = { λ o u lock spot m. RestsThere T.opening T.told o u lock.turns.now spot m };
+    ghost rests = { λ o u lock spot m. RestsThere T.opening T.outset.told o u lock.turns.now spot m };
 
-    ghost turns = { λ o u lock spot m. TurnsThere T.opening T.told o u lock.turns.now spot m };
+    ghost turns = { λ o u lock spot m. TurnsThere T.opening T.outset.told o u lock.turns.now spot m };
 
     ghost sole = { λ o u lock spot m turns never. never_alone never };
 
-    fn take<O: Origin>(&self, place: &mut Place<D, T>, session: u32) -> Hand<D>
-        requires { RestsThere T.opening T.told O.opening O.outset self.now.turns.now place.old session }
-        ensures turns { TurnsThere T.opening T.told O.opening O.outset self.now.turns.now place.new session }
+    fn take<O: Opened>(&self, place: &mut Place<D, T>, session: u32) -> Hand<D>
+        requires { RestsThere T.opening T.outset.told O.opening O.outset self.now.turns.now place.old session }
+        ensures turns { TurnsThere T.opening T.outset.told O.opening O.outset self.now.turns.now place.new session }
         ensures taken { Taken D.Slot O.opening O.outset.told session (sight_in T.first place.old.knows.seen) (sight_in T.first place.new.knows.seen) result }
         ensures kept { false ≡ true → (hand : Hand D) → Unit {0} → result ≡ hand }
     {
         take_hand(self.rt, self.turns, place, session)
     }
 
-    fn give<O: Origin>(&self, place: &mut Place<D, T>, hand: Hand<D>)
-        requires turns { TurnsThere T.opening T.told O.opening O.outset self.now.turns.now place.old hand.session }
+    fn give<O: Opened>(&self, place: &mut Place<D, T>, hand: Hand<D>)
+        requires turns { TurnsThere T.opening T.outset.told O.opening O.outset self.now.turns.now place.old hand.session }
         requires may { MayGive D.Slot O.opening O.outset.told (sight_in T.first place.old.knows.seen) hand }
-        ensures rests { RestsThere T.opening T.told O.opening O.outset self.now.turns.now place.new hand.session }
+        ensures rests { RestsThere T.opening T.outset.told O.opening O.outset self.now.turns.now place.new hand.session }
         ensures seen { sight_in T.first place.new.knows.seen ≡ sight_of hand }
         ensures kept { false ≡ true → Unit {0} }
     {

@@ -15,8 +15,7 @@ use crate::accounts::ClientAccounts;
 use crate::ask::Ask;
 use crate::at_gate::AtGate;
 use crate::ledger::Ledger;
-use crate::named::{At, Named};
-use crate::opened::OpenedAs;
+use crate::named::Named;
 use crate::place::Place;
 use crate::rooms::{Room, close_room};
 use crate::seat::SessionSeat;
@@ -24,12 +23,13 @@ use crate::session::Session;
 use crate::shared::Shared;
 use outside::Slot;
 use reservation_tree::PoolErr;
+use session_calls::Opened;
 use std::marker::PhantomData;
 use std::sync::Wait;
 use turn_table::{TurnSeat, Turns};
 
 // The session of this number gets its seat, and the number's right.
-fn part_one<'a, D: Slot + Drop, R: Wait, T: OpenedAs, N: At>(
+fn part_one<'a, D: Slot + Drop, R: Wait, T: Opened, N: Opened>(
     rt: &'a R,
     turns: &'a Turns<Shared<D, T>>,
     seat: &mut TurnSeat<Shared<D, T>>,
@@ -44,7 +44,7 @@ fn part_one<'a, D: Slot + Drop, R: Wait, T: OpenedAs, N: At>(
     requires table { seat.old.table ≡ turns.now }
     requires first { IsIdle seat.old.knows × IsFirst seat.old.knows }
     requires right { 0 < times number seat.old.knows.rights }
-    requires coming { IsComing T.opening T.told seat.old.knows.seen ask.now number }
+    requires coming { IsComing T.opening T.outset.told seat.old.knows.seen ask.now number }
     ensures table { seat.new.table ≡ turns.now }
     ensures parted { seat.new.knows ≡ parted (Some number) seat.old.knows }
     ensures seat { IsSeatOf turns.now seat.old.knows.seen number result.seat }
@@ -75,7 +75,7 @@ fn part_one<'a, D: Slot + Drop, R: Wait, T: OpenedAs, N: At>(
 }
 
 // Each session of an ask gets its seat.
-fn part_ask<'a, D: Slot + Drop, R: Wait, T: OpenedAs, N: At>(
+fn part_ask<'a, D: Slot + Drop, R: Wait, T: Opened, N: Opened>(
     rt: &'a R,
     turns: &'a Turns<Shared<D, T>>,
     seat: &mut TurnSeat<Shared<D, T>>,
@@ -89,7 +89,7 @@ fn part_ask<'a, D: Slot + Drop, R: Wait, T: OpenedAs, N: At>(
     requires table { seat.old.table ≡ turns.now }
     requires first { IsIdle seat.old.knows × IsFirst seat.old.knows }
     requires hand { CanHand numbers.now seat.old.knows.rights }
-    requires coming { All (IsComing T.opening T.told seat.old.knows.seen ask.now) numbers.now }
+    requires coming { All (IsComing T.opening T.outset.told seat.old.knows.seen ask.now) numbers.now }
     requires room { IsRoom (length numbers.now) room }
     ensures table { seat.new.table ≡ turns.now }
     ensures knows { seat.new.knows ≡ handed_out numbers.now seat.old.knows }
@@ -108,7 +108,7 @@ fn part_ask<'a, D: Slot + Drop, R: Wait, T: OpenedAs, N: At>(
 }
 
 // The sessions of each ask get their seats.
-pub(crate) fn part_all<'a, D: Slot + Drop, R: Wait, T: OpenedAs, N: At>(
+pub(crate) fn part_all<'a, D: Slot + Drop, R: Wait, T: Opened, N: Opened>(
     rt: &'a R,
     turns: &'a Turns<Shared<D, T>>,
     seat: &mut TurnSeat<Shared<D, T>>,
@@ -123,7 +123,7 @@ pub(crate) fn part_all<'a, D: Slot + Drop, R: Wait, T: OpenedAs, N: At>(
     requires table { seat.old.table ≡ turns.now }
     requires first { IsIdle seat.old.knows × IsFirst seat.old.knows }
     requires hand { CanHand (all_numbers (map numbered numbers.now)) seat.old.knows.rights }
-    requires coming { AreComing T.opening T.told seat.old.knows.seen asks.now (map numbered numbers.now) rooms.items }
+    requires coming { AreComing T.opening T.outset.told seat.old.knows.seen asks.now (map numbered numbers.now) rooms.items }
     requires none { answers.items ≡ [] }
     requires room { length asks.now ≤ vec_capacity answers }
     ensures table { seat.new.table ≡ turns.now }

@@ -3,9 +3,9 @@ ghost use Rattle.std.specs.Prelude.{◌≡◌, ◌+◌, ℕ};
 ghost use Rattle.pool.specs.Passing.{IsPass};
 ghost use Rattle.pool.specs.Seats.{taken_in};
 
-use crate::opened::OpenedAs;
 use crate::shared::Shared;
 use outside::Slot;
+use session_calls::Opened;
 use std::marker::{Brand, Model};
 use turn_table::TurnSeat;
 
@@ -13,12 +13,12 @@ use turn_table::TurnSeat;
 ///
 /// Contracts see its seat: the lock that it is a seat of, and what it has seen. It can't be let go: it ends by
 /// `Pool::close`.
-pub struct Pass<D: Slot, T: OpenedAs = Brand> {
+pub struct Pass<D: Slot, T: Opened = Brand> {
     pub(crate) seat: TurnSeat<Shared<D, T>>,
     pub(crate) spare: u32,
 }
 
-impl<D: Slot, T: OpenedAs> Model for Pass<D, T> {
+impl<D: Slot, T: Opened> Model for Pass<D, T> {
     ghost use Rattle.turn_table.specs.Face.{Spot};
     ghost use Rattle.pool.specs.declared.item.Item.{Item};
     ghost use Rattle.pool.specs.Passing.{IsPass};
@@ -30,7 +30,7 @@ impl<D: Slot, T: OpenedAs> Model for Pass<D, T> {
     ghost invariant = { λ s. IsPass T.opening.slots s.spare s.seat };
 }
 
-impl<D: Slot, T: OpenedAs> Pass<D, T> {
+impl<D: Slot, T: Opened> Pass<D, T> {
     /// How many slots are in no quota.
     pub fn spare(&self) -> u32
         ensures { result + taken_in self.now.knows.seen ≡ T.opening.slots }

@@ -14,8 +14,7 @@ ghost use Rattle.pool.specs.Asking.{Admits, answer_of, refusal_in};
 use crate::accounts::ClientAccounts;
 use crate::ask::Ask;
 use crate::at_gate::AtGate;
-use crate::named::{At, Named};
-use crate::opened::OpenedAs;
+use crate::named::Named;
 use crate::pass::Pass;
 use crate::rooms::{close_rooms, most_of, open_rooms, open_slates};
 use crate::seating::seat_session;
@@ -26,7 +25,7 @@ use outside::Slot;
 use pin_core::{EvictedPages, PoolConf, PoolState};
 use pool_model::law_traces;
 use reservation_tree::{Memory, PoolErr};
-use session_calls::{Log, Trace, count_opening};
+use session_calls::{Log, Opened, Trace, count_opening};
 use std::alloc::Global;
 use std::marker::{Brand, Model, PhantomData};
 use std::sync::Wait;
@@ -35,14 +34,14 @@ use turn_table::{Solo, Turns};
 /// A pool that sessions share, one turn after the other. `T` names with what it opened.
 ///
 /// Contracts see which turn lock it is. It can't be let go: it ends by `close`.
-pub struct Pool<D: Slot, T: OpenedAs = Brand> {
+pub struct Pool<D: Slot, T: Opened = Brand> {
     pub(crate) turns: Turns<Shared<D, T>>,
     pub(crate) blocks: u32,
     pub(crate) block_len: u32,
     pub(crate) first_name: u64,
 }
 
-impl<D: Slot, T: OpenedAs> Model for Pool<D, T> {
+impl<D: Slot, T: Opened> Model for Pool<D, T> {
     ghost use Rattle.std.specs.Prelude.{◌≡◌};
     ghost use Rattle.atomic_table.specs.Seated.{TableId};
     ghost use Rattle.block_arena.specs.Blocks.{IsBlockLen};
@@ -54,7 +53,7 @@ impl<D: Slot, T: OpenedAs> Model for Pool<D, T> {
     ghost invariant = { λ p. IsBlockLen p.block_len × (p.block_len ≡ T.opening.block_len) × (p.blocks ≡ T.opening.blocks) × (p.first_name ≡ T.opening.first_name) };
 }
 
-impl<D: Slot + Drop, T: OpenedAs> Pool<D, T> {
+impl<D: Slot + Drop, T: Opened> Pool<D, T> {
     /// A pool with these numbers and slots, without sessions, and its pass. Takes all the memory that it will ever
     /// use, but for what sessions bring.
     ///
@@ -68,7 +67,7 @@ impl<D: Slot + Drop, T: OpenedAs> Pool<D, T> {
     ) -> Result<(Pool<D, T>, Pass<D, T>), (Vec<D>, Memory)>
         requires conf { OpensWith conf.now }
         requires slots { vec_len slots ≤ 1048576 }
-        requires opens { OpensAs D.Slot conf.now slots.items T.opening T.told T.first }
+        requires opens { OpensAs D.Slot conf.now slots.items T.opening T.outset.told T.first }
         ensures table { IfOk result (λ p. p.1.table ≡ p.0) }
         ensures seen { IfOk result (λ p. p.1.knows.seen ≡ []) }
         ensures writers { IfOk result (λ p. (p.1.knows.rights ≡ all_rights) × (writers_out p.1 ≡ 0)) }
@@ -119,7 +118,7 @@ impl<D: Slot + Drop, T: OpenedAs> Pool<D, T> {
     /// `TooManyTrackers`: each of 240 numbers has a session, which is looked at first. `NoReservation`: `least` passes
     /// the limit, or the root would have to grow by more than it may. `Memory`: there was none for the accounts of its
     /// clients, which is looked at last.
-    pub fn session<'a, R: Wait, N: At>(
+    pub fn session<'a, R: Wait, N: Opened>(
         &'a self,
         alloc: Global,
         rt: &'a R,
@@ -131,7 +130,7 @@ impl<D: Slot + Drop, T: OpenedAs> Pool<D, T> {
         requires named { ForSome N.table (λ table. self.now ≡ table) }
         requires table { pass.old.table ≡ self.now }
         requires spare { quota + taken_in pass.old.knows.seen ≤ T.opening.slots }
-        ensures ok { IfOk result (λ s. Begins T.opening T.told limit quota least pass.old pass.new s.seat) }
+        ensures ok { IfOk result (λ s. Begins T.opening T.outset.told limit quota least pass.old pass.new s.seat) }
         ensures err { IfErr result (λ e. TurnsAway T.opening limit least pass.old pass.new e) }
         ensures fresh { live_in pass.old.knows.seen ≡ 0 → refusal_of (record { limit = limit; quota = quota; least = least; count = 1 }) (all_left T.opening) ≡ None → IfErr result (λ e. e ≡ PoolErr.Memory) }
     {
@@ -164,7 +163,7 @@ impl<D: Slot + Drop, T: OpenedAs> Pool<D, T> {
     /// # Errors
     ///
     /// `Memory`: there was not so much for the sessions that are asked for. Then nothing is asked.
-    pub fn sessions<'a, R: Wait, N: At>(
+    pub fn sessions<'a, R: Wait, N: Opened>(
         &'a self,
         alloc: Global,
         rt: &'a R,
@@ -175,7 +174,7 @@ impl<D: Slot + Drop, T: OpenedAs> Pool<D, T> {
         requires table { pass.old.table ≡ self.now }
         requires some { All (λ ask. 1 ≤ ask.count) asks.now }
         requires spare { quotas_of asks.now + taken_in pass.old.knows.seen ≤ T.opening.slots }
-        ensures ok { IfOk result (λ answers. Admits T.opening T.told asks.now pass.old pass.new (map (answer_of (λ v. v.items) (λ s. s.seat)) answers.items)) }
+        ensures ok { IfOk result (λ answers. Admits T.opening T.outset.told asks.now pass.old pass.new (map (answer_of (λ v. v.items) (λ s. s.seat)) answers.items)) }
         ensures fresh { live_in pass.old.knows.seen ≡ 0 → IfOk result (λ answers. map refusal_in (map (answer_of (λ v. v.items) (λ s. s.seat)) answers.items) ≡ refusals asks.now (all_left T.opening)) }
         ensures err { OnErr result (pass.new ≡ pass.old) }
     {
@@ -205,7 +204,7 @@ impl<D: Slot + Drop, T: OpenedAs> Pool<D, T> {
         requires table { pass.table ≡ self }
         requires none { live_in pass.knows.seen ≡ 0 }
         requires no_writer { writers_out pass ≡ 0 }
-        ensures { ClosesWith D.Slot T.opening T.told T.first pass result.items }
+        ensures { ClosesWith D.Slot T.opening T.outset.told T.first pass result.items }
     {
         let Pool {
             turns,
@@ -223,7 +222,7 @@ impl<D: Slot + Drop, T: OpenedAs> Pool<D, T> {
         requires table { pass.table ≡ self }
         requires none { live_in pass.knows.seen ≡ 0 }
         requires no_writer { writers_out pass ≡ 0 }
-        ensures { ClosesTraced D.Slot T.opening T.told T.first pass result.0.items result.1 }
+        ensures { ClosesTraced D.Slot T.opening T.outset.told T.first pass result.0.items result.1 }
     {
         let Pool {
             turns,

@@ -7,18 +7,19 @@ ghost use Rattle.session_calls.specs.Calls.{AddsClient, EndsClient, Extracts, Re
 ghost use Rattle.pool.specs.Viewing.{seated};
 ghost use Rattle.pool.specs.Sitting.{DidThese, held_by};
 
-use crate::opened::{Among, OpenedAs};
+use crate::among::Among;
 use crate::seat::SessionSeat;
 use crate::shared::Shared;
 use crate::turning::{begin_turn, end_turn};
 use block_arena::Buf;
 use outside::Slot;
 use reservation_tree::PoolErr;
+use session_calls::Opened;
 use std::sync::Wait;
 use store_api::{Client, Loan, Page};
 use turn_table::Turns;
 
-impl<D: Slot + Drop, T: OpenedAs> SessionSeat<D, T> {
+impl<D: Slot + Drop, T: Opened> SessionSeat<D, T> {
     // A new client with this limit.
     pub(crate) fn add_client<R: Wait>(
         &mut self,
@@ -28,7 +29,7 @@ impl<D: Slot + Drop, T: OpenedAs> SessionSeat<D, T> {
     ) -> Result<Client, PoolErr>
         requires table { self.old.spot.table ≡ turns.now }
         ensures table { self.new.spot.table ≡ turns.now }
-        ensures adds { AddsClient (seated T.opening T.told self.old self.new) limit result }
+        ensures adds { AddsClient (seated T.opening T.outset.told self.old self.new) limit result }
     {
         let mut hand = begin_turn(rt, turns, &mut self.spot, self.number);
         let result = hand.add_client::<Among<T>>(limit);
@@ -40,10 +41,10 @@ impl<D: Slot + Drop, T: OpenedAs> SessionSeat<D, T> {
     // Ends a client that has no page and no loan.
     pub(crate) fn end_client<R: Wait>(&mut self, rt: &R, turns: &Turns<Shared<D, T>>, c: Client)
         requires table { self.old.spot.table ≡ turns.now }
-        requires client { IsLiveClient c (held_by T.opening T.told self.old) }
-        requires idle { IsIdle c.tracker (held_by T.opening T.told self.old) }
+        requires client { IsLiveClient c (held_by T.opening T.outset.told self.old) }
+        requires idle { IsIdle c.tracker (held_by T.opening T.outset.told self.old) }
         ensures table { self.new.spot.table ≡ turns.now }
-        ensures ends { EndsClient (seated T.opening T.told self.old self.new) c.tracker }
+        ensures ends { EndsClient (seated T.opening T.outset.told self.old self.new) c.tracker }
     {
         let mut hand = begin_turn(rt, turns, &mut self.spot, self.number);
         self.ledger.accounts.remove(c.tracker());
@@ -60,9 +61,9 @@ impl<D: Slot + Drop, T: OpenedAs> SessionSeat<D, T> {
         bytes: u64,
     ) -> Result<(), PoolErr>
         requires table { self.old.spot.table ≡ turns.now }
-        requires client { IsLiveClient c.now (held_by T.opening T.told self.old) }
+        requires client { IsLiveClient c.now (held_by T.opening T.outset.told self.old) }
         ensures table { self.new.spot.table ≡ turns.now }
-        ensures reserves { Reserves (seated T.opening T.told self.old self.new) c.now.tracker bytes result }
+        ensures reserves { Reserves (seated T.opening T.outset.told self.old self.new) c.now.tracker bytes result }
     {
         let mut hand = begin_turn(rt, turns, &mut self.spot, self.number);
         let result = hand.reserve::<Among<T>>(c, bytes);
@@ -79,9 +80,9 @@ impl<D: Slot + Drop, T: OpenedAs> SessionSeat<D, T> {
         bytes: u64,
     ) -> Result<(), PoolErr>
         requires table { self.old.spot.table ≡ turns.now }
-        requires client { IsLiveClient c.now (held_by T.opening T.told self.old) }
+        requires client { IsLiveClient c.now (held_by T.opening T.outset.told self.old) }
         ensures table { self.new.spot.table ≡ turns.now }
-        ensures reserves { ReservesToFit (seated T.opening T.told self.old self.new) c.now.tracker bytes result }
+        ensures reserves { ReservesToFit (seated T.opening T.outset.told self.old self.new) c.now.tracker bytes result }
     {
         let mut hand = begin_turn(rt, turns, &mut self.spot, self.number);
         let result = hand.reserve_to_fit::<Among<T>>(c, bytes);
@@ -92,8 +93,8 @@ impl<D: Slot + Drop, T: OpenedAs> SessionSeat<D, T> {
     // Ends one of several pins of a page.
     pub(crate) fn unpin_once<R: Wait>(&mut self, rt: &R, turns: &Turns<Shared<D, T>>, p: &Page)
         requires table { self.old.spot.table ≡ turns.now }
-        requires page { IsPage p.now (held_by T.opening T.told self.old) }
-        requires pinned { 2 ≤ (page_of p.now.name (held_by T.opening T.told self.old)).pins }
+        requires page { IsPage p.now (held_by T.opening T.outset.told self.old) }
+        requires pinned { 2 ≤ (page_of p.now.name (held_by T.opening T.outset.told self.old)).pins }
         ensures table { self.new.spot.table ≡ turns.now }
         ensures did { DidThese (event.UnpinOnce p.now.name ∷ []) self.old self.new }
     {
@@ -111,11 +112,11 @@ impl<D: Slot + Drop, T: OpenedAs> SessionSeat<D, T> {
         buf: Buf,
     ) -> Result<(), (Buf, PoolErr)>
         requires table { self.old.spot.table ≡ turns.now }
-        requires page { IsPage p.now (held_by T.opening T.told self.old) }
-        requires pinned { (page_of p.now.name (held_by T.opening T.told self.old)).pins ≡ 1 }
-        requires buffer { Fits (page_of p.now.name (held_by T.opening T.told self.old)).blocks (held_by T.opening T.told self.old) buf }
+        requires page { IsPage p.now (held_by T.opening T.outset.told self.old) }
+        requires pinned { (page_of p.now.name (held_by T.opening T.outset.told self.old)).pins ≡ 1 }
+        requires buffer { Fits (page_of p.now.name (held_by T.opening T.outset.told self.old)).blocks (held_by T.opening T.outset.told self.old) buf }
         ensures table { self.new.spot.table ≡ turns.now }
-        ensures unpins { Unpins (seated T.opening T.told self.old self.new) p.now buf result }
+        ensures unpins { Unpins (seated T.opening T.outset.told self.old self.new) p.now buf result }
     {
         let mut hand = begin_turn(rt, turns, &mut self.spot, self.number);
         let result = hand.unpin::<Among<T>>(p, buf);
@@ -132,11 +133,11 @@ impl<D: Slot + Drop, T: OpenedAs> SessionSeat<D, T> {
         buf: Buf,
     ) -> Loan
         requires table { self.old.spot.table ≡ turns.now }
-        requires page { IsPage p (held_by T.opening T.told self.old) }
-        requires pinned { (page_of p.name (held_by T.opening T.told self.old)).pins ≡ 1 }
-        requires buffer { Fits (page_of p.name (held_by T.opening T.told self.old)).blocks (held_by T.opening T.told self.old) buf }
+        requires page { IsPage p (held_by T.opening T.outset.told self.old) }
+        requires pinned { (page_of p.name (held_by T.opening T.outset.told self.old)).pins ≡ 1 }
+        requires buffer { Fits (page_of p.name (held_by T.opening T.outset.told self.old)).blocks (held_by T.opening T.outset.told self.old) buf }
         ensures table { self.new.spot.table ≡ turns.now }
-        ensures extracts { Extracts (seated T.opening T.told self.old self.new) p buf result }
+        ensures extracts { Extracts (seated T.opening T.outset.told self.old self.new) p buf result }
     {
         let mut hand = begin_turn(rt, turns, &mut self.spot, self.number);
         let loan = hand.extract::<Among<T>>(p, buf);
@@ -147,7 +148,7 @@ impl<D: Slot + Drop, T: OpenedAs> SessionSeat<D, T> {
     // Ends a loan.
     pub(crate) fn free<R: Wait>(&mut self, rt: &R, turns: &Turns<Shared<D, T>>, loan: Loan)
         requires table { self.old.spot.table ≡ turns.now }
-        requires loan { IsLoan loan (held_by T.opening T.told self.old) }
+        requires loan { IsLoan loan (held_by T.opening T.outset.told self.old) }
         ensures table { self.new.spot.table ≡ turns.now }
         ensures did { DidThese (event.Free loan.number ∷ []) self.old self.new }
     {

@@ -8,21 +8,22 @@ ghost use Rattle.session_calls.specs.Pinning.{CanBePinned};
 ghost use Rattle.pool.specs.Viewing.{seated};
 ghost use Rattle.pool.specs.Sitting.{DidThese, held_by};
 
+use crate::among::Among;
 use crate::at_gate::Points;
 use crate::lock::Lock;
-use crate::opened::{Among, OpenedAs};
 use crate::seat::SessionSeat;
 use crate::shared::Shared;
 use crate::turning::{begin_turn, end_turn};
 use block_arena::Buf;
 use outside::Slot;
 use reservation_tree::PoolErr;
+use session_calls::Opened;
 use std::alloc::Global;
 use std::sync::Wait;
 use store_api::{Client, Loan, Page};
 use turn_table::Turns;
 
-impl<D: Slot + Drop, T: OpenedAs> SessionSeat<D, T> {
+impl<D: Slot + Drop, T: Opened> SessionSeat<D, T> {
     // Lowers the client's reservation, once what it holds fits.
     pub(crate) fn give_back<R: Wait, P: Points>(
         &mut self,
@@ -33,10 +34,10 @@ impl<D: Slot + Drop, T: OpenedAs> SessionSeat<D, T> {
         bytes: u64,
     ) -> Result<(), PoolErr>
         requires table { self.old.spot.table ≡ turns.now }
-        requires client { IsLiveClient c.now (held_by T.opening T.told self.old) }
-        requires unused { bytes ≤ unused_of c.now.tracker (held_by T.opening T.told self.old) }
+        requires client { IsLiveClient c.now (held_by T.opening T.outset.told self.old) }
+        requires unused { bytes ≤ unused_of c.now.tracker (held_by T.opening T.outset.told self.old) }
         ensures table { self.new.spot.table ≡ turns.now }
-        ensures gives_back { GivesBack (seated T.opening T.told self.old self.new) c.now.tracker bytes result }
+        ensures gives_back { GivesBack (seated T.opening T.outset.told self.old self.new) c.now.tracker bytes result }
     {
         let lock = Lock { rt, turns, at };
         let hand = begin_turn(rt, turns, &mut self.spot, self.number);
@@ -62,11 +63,11 @@ impl<D: Slot + Drop, T: OpenedAs> SessionSeat<D, T> {
         bytes: u64,
     ) -> Result<(), PoolErr>
         requires table { self.old.spot.table ≡ turns.now }
-        requires from { IsLiveClient from.now (held_by T.opening T.told self.old) }
-        requires to { IsLiveClient to.now (held_by T.opening T.told self.old) }
-        requires unused { bytes ≤ unused_of from.now.tracker (held_by T.opening T.told self.old) }
+        requires from { IsLiveClient from.now (held_by T.opening T.outset.told self.old) }
+        requires to { IsLiveClient to.now (held_by T.opening T.outset.told self.old) }
+        requires unused { bytes ≤ unused_of from.now.tracker (held_by T.opening T.outset.told self.old) }
         ensures table { self.new.spot.table ≡ turns.now }
-        ensures moves { MovesReservation (seated T.opening T.told self.old self.new) from.now.tracker to.now.tracker bytes result }
+        ensures moves { MovesReservation (seated T.opening T.outset.told self.old self.new) from.now.tracker to.now.tracker bytes result }
     {
         let lock = Lock { rt, turns, at };
         let hand = begin_turn(rt, turns, &mut self.spot, self.number);
@@ -94,12 +95,12 @@ impl<D: Slot + Drop, T: OpenedAs> SessionSeat<D, T> {
         bytes: u64,
     ) -> Result<(Page, Buf), PoolErr>
         requires table { self.old.spot.table ≡ turns.now }
-        requires client { IsLiveClient c.now (held_by T.opening T.told self.old) }
+        requires client { IsLiveClient c.now (held_by T.opening T.outset.told self.old) }
         requires blocks { IsBlockCount blocks }
-        requires bytes { bytes ≡ length_of blocks (held_by T.opening T.told self.old) }
-        requires unused { bytes ≤ unused_of c.now.tracker (held_by T.opening T.told self.old) }
+        requires bytes { bytes ≡ length_of blocks (held_by T.opening T.outset.told self.old) }
+        requires unused { bytes ≤ unused_of c.now.tracker (held_by T.opening T.outset.told self.old) }
         ensures table { self.new.spot.table ≡ turns.now }
-        ensures creates { Creates (seated T.opening T.told self.old self.new) c.now.tracker blocks bytes result }
+        ensures creates { Creates (seated T.opening T.outset.told self.old self.new) c.now.tracker blocks bytes result }
     {
         let lock = Lock { rt, turns, at };
         let hand = begin_turn(rt, turns, &mut self.spot, self.number);
@@ -128,12 +129,12 @@ impl<D: Slot + Drop, T: OpenedAs> SessionSeat<D, T> {
         bytes: u64,
     ) -> Result<Loan, PoolErr>
         requires table { self.old.spot.table ≡ turns.now }
-        requires client { IsLiveClient c.now (held_by T.opening T.told self.old) }
+        requires client { IsLiveClient c.now (held_by T.opening T.outset.told self.old) }
         requires blocks { IsBlockCount blocks }
-        requires bytes { bytes ≡ length_of blocks (held_by T.opening T.told self.old) }
-        requires unused { bytes ≤ unused_of c.now.tracker (held_by T.opening T.told self.old) }
+        requires bytes { bytes ≡ length_of blocks (held_by T.opening T.outset.told self.old) }
+        requires unused { bytes ≤ unused_of c.now.tracker (held_by T.opening T.outset.told self.old) }
         ensures table { self.new.spot.table ≡ turns.now }
-        ensures allocs { Allocs (seated T.opening T.told self.old self.new) c.now.tracker blocks result }
+        ensures allocs { Allocs (seated T.opening T.outset.told self.old self.new) c.now.tracker blocks result }
     {
         let lock = Lock { rt, turns, at };
         let hand = begin_turn(rt, turns, &mut self.spot, self.number);
@@ -159,9 +160,9 @@ impl<D: Slot + Drop, T: OpenedAs> SessionSeat<D, T> {
         p: &Page,
     ) -> Result<Buf, PoolErr>
         requires table { self.old.spot.table ≡ turns.now }
-        requires can { CanBePinned p.now (held_by T.opening T.told self.old) }
+        requires can { CanBePinned p.now (held_by T.opening T.outset.told self.old) }
         ensures table { self.new.spot.table ≡ turns.now }
-        ensures pins { Pins (seated T.opening T.told self.old self.new) p.now result }
+        ensures pins { Pins (seated T.opening T.outset.told self.old self.new) p.now result }
     {
         let lock = Lock { rt, turns, at };
         let hand = begin_turn(rt, turns, &mut self.spot, self.number);
@@ -184,11 +185,11 @@ impl<D: Slot + Drop, T: OpenedAs> SessionSeat<D, T> {
         p: &Page,
     ) -> Result<(), PoolErr>
         requires table { self.old.spot.table ≡ turns.now }
-        requires page { IsPage p.now (held_by T.opening T.told self.old) }
-        requires pinned { 1 ≤ (page_of p.now.name (held_by T.opening T.told self.old)).pins }
-        requires unused { page_len p.now.name (held_by T.opening T.told self.old) ≤ unused_of p.now.client (held_by T.opening T.told self.old) }
+        requires page { IsPage p.now (held_by T.opening T.outset.told self.old) }
+        requires pinned { 1 ≤ (page_of p.now.name (held_by T.opening T.outset.told self.old)).pins }
+        requires unused { page_len p.now.name (held_by T.opening T.outset.told self.old) ≤ unused_of p.now.client (held_by T.opening T.outset.told self.old) }
         ensures table { self.new.spot.table ≡ turns.now }
-        ensures pins_again { PinsAgain (seated T.opening T.told self.old self.new) p.now result }
+        ensures pins_again { PinsAgain (seated T.opening T.outset.told self.old self.new) p.now result }
     {
         let lock = Lock { rt, turns, at };
         let hand = begin_turn(rt, turns, &mut self.spot, self.number);
@@ -212,8 +213,8 @@ impl<D: Slot + Drop, T: OpenedAs> SessionSeat<D, T> {
         buf: Option<Buf>,
     )
         requires table { self.old.spot.table ≡ turns.now }
-        requires page { IsPage p (held_by T.opening T.told self.old) }
-        requires buffer { IsHeld p (held_by T.opening T.told self.old) buf }
+        requires page { IsPage p (held_by T.opening T.outset.told self.old) }
+        requires buffer { IsHeld p (held_by T.opening T.outset.told self.old) buf }
         ensures table { self.new.spot.table ≡ turns.now }
         ensures did { DidThese (event.Destroy p.name ∷ []) self.old self.new }
     {
@@ -239,12 +240,12 @@ impl<D: Slot + Drop, T: OpenedAs> SessionSeat<D, T> {
         to: &Client,
     ) -> Result<Loan, (Loan, PoolErr)>
         requires table { self.old.spot.table ≡ turns.now }
-        requires loan { IsLoan loan (held_by T.opening T.told self.old) }
-        requires to { IsLiveClient to.now (held_by T.opening T.told self.old) }
+        requires loan { IsLoan loan (held_by T.opening T.outset.told self.old) }
+        requires to { IsLiveClient to.now (held_by T.opening T.outset.told self.old) }
         requires apart { loan.client ≢ to.now.tracker }
-        requires unused { loan_len loan.number (held_by T.opening T.told self.old) ≤ unused_of to.now.tracker (held_by T.opening T.told self.old) }
+        requires unused { loan_len loan.number (held_by T.opening T.outset.told self.old) ≤ unused_of to.now.tracker (held_by T.opening T.outset.told self.old) }
         ensures table { self.new.spot.table ≡ turns.now }
-        ensures moves { MovesBuffer (seated T.opening T.told self.old self.new) loan to.now.tracker result }
+        ensures moves { MovesBuffer (seated T.opening T.outset.told self.old self.new) loan to.now.tracker result }
     {
         let lock = Lock { rt, turns, at };
         let hand = begin_turn(rt, turns, &mut self.spot, self.number);

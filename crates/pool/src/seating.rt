@@ -16,7 +16,6 @@ use crate::accounts::ClientAccounts;
 use crate::admitting::admit;
 use crate::item::Item;
 use crate::ledger::Ledger;
-use crate::opened::OpenedAs;
 use crate::pass::Pass;
 use crate::place::Place;
 use crate::seat::SessionSeat;
@@ -24,13 +23,14 @@ use crate::shared::Shared;
 use outside::Slot;
 use pin_core::PoolState;
 use reservation_tree::{Memory, PoolErr, TrackerId};
+use session_calls::Opened;
 use session_table::MAX_SESSIONS;
 use std::marker::Brand;
 use std::sync::Wait;
 use turn_table::{Adds, TurnSeat, Turns};
 
 // One turn of the pass: it finds what is against the session, or lets it in.
-pub(crate) fn seat_session<D: Slot + Drop, T: OpenedAs, R: Wait>(
+pub(crate) fn seat_session<D: Slot + Drop, T: Opened, R: Wait>(
     rt: &R,
     turns: &Turns<Shared<D, T>>,
     pass: &mut Pass<D, T>,
@@ -45,7 +45,7 @@ pub(crate) fn seat_session<D: Slot + Drop, T: OpenedAs, R: Wait>(
     requires none { IfOk accounts (λ accounts. accounts ≡ []) }
     requires table { pass.old.table ≡ turns.now }
     requires spare { quota + taken_in pass.old.knows.seen ≤ T.opening.slots }
-    ensures ok { IfOk result (λ s. Begins T.opening T.told limit quota least pass.old pass.new s) }
+    ensures ok { IfOk result (λ s. Begins T.opening T.outset.told limit quota least pass.old pass.new s) }
     ensures err { IfErr result (λ e. TurnsAway T.opening limit least pass.old pass.new e) }
     ensures fresh { live_in pass.old.knows.seen ≡ 0 → refusal_of (record { limit = limit; quota = quota; least = least; count = 1 }) (all_left T.opening) ≡ None → IfErr result (λ e. e ≡ PoolErr.Memory) }
 {
@@ -116,7 +116,7 @@ fn check_session<D: Slot + Drop>(
 }
 
 // The turn ends with the session's first items, which `N` names.
-fn leave_begun<N: Adds<Item>, D: Slot + Drop, T: OpenedAs>(
+fn leave_begun<N: Adds<Item>, D: Slot + Drop, T: Opened>(
     turns: &Turns<Shared<D, T>>,
     seat: &mut TurnSeat<Shared<D, T>>,
     shared: Shared<D, T>,
@@ -128,7 +128,7 @@ fn leave_begun<N: Adds<Item>, D: Slot + Drop, T: OpenedAs>(
     requires named { N.entries ≡ beginning_items _number (query_of (state_of shared.state) _number) _limit _quota _least }
     requires table { seat.old.table ≡ turns.now }
     requires turn { HasTurn seat.old.knows }
-    requires stands { StandsAs D.Slot T.opening T.told T.first (seat.old.knows.seen ++ beginning_items _number (query_of (state_of shared.state) _number) _limit _quota _least) (record { trail = shared.trail; counts = shared.counts }) shared.state }
+    requires stands { StandsAs D.Slot T.opening T.outset.told T.first (seat.old.knows.seen ++ beginning_items _number (query_of (state_of shared.state) _number) _limit _quota _least) (record { trail = shared.trail; counts = shared.counts }) shared.state }
     requires stop { shared.stopped ≡ is_stopped seat.old.knows.seen }
     requires rights { (0 < times door seat.old.knows.rights) × (0 < times _number seat.old.knows.rights) }
     ensures table { seat.new.table ≡ turns.now }

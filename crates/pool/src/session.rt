@@ -20,14 +20,14 @@ ghost use Rattle.pool.specs.Seating.{Ends, state_in};
 
 use crate::at_gate::AtGate;
 use crate::ending::unseat_session;
-use crate::named::{At, Named};
-use crate::opened::OpenedAs;
+use crate::named::Named;
 use crate::pass::Pass;
 use crate::seat::SessionSeat;
 use crate::shared::Shared;
 use block_arena::Buf;
 use outside::{Gate, OpenGate, Slot};
 use reservation_tree::PoolErr;
+use session_calls::Opened;
 use std::alloc::Global;
 use std::marker::Brand;
 use std::sync::Wait;
@@ -38,7 +38,7 @@ use turn_table::Turns;
 ///
 /// What a law of stores says of it whatever was called before stands beside it. It can't be let go: it ends by `end`. A
 /// session of its own kind passes the gate that lets all pass.
-pub struct Session<'a, D: Slot, R: Wait, T: OpenedAs = Brand, N: At = Brand, G: Gate = OpenGate> {
+pub struct Session<'a, D: Slot, R: Wait, T: Opened = Brand, N: Opened = Brand, G: Gate = OpenGate> {
     pub(crate) rt: &'a R,
     pub(crate) turns: &'a Turns<Shared<D, T>>,
     pub(crate) at: AtGate<'a, G>,
@@ -46,13 +46,13 @@ pub struct Session<'a, D: Slot, R: Wait, T: OpenedAs = Brand, N: At = Brand, G: 
     pub(crate) named: Named<T, N>,
     ghost table: { seat.spot.table ≡ turns.now },
     ghost there: { ForSome N.table (λ table. turns.now ≡ table) },
-    ghost whole: { IsWholeIdle (held_by T.opening T.told seat) },
+    ghost whole: { IsWholeIdle (held_by T.opening T.outset.told seat) },
 }
 
 /// A session that passes a gate where its pages are stored and loaded.
 pub type GatedSession<'a, D, R, G, T, N> = Session<'a, D, R, T, N, G>;
 
-impl<'a, D: Slot + Drop, R: Wait, T: OpenedAs, N: At> Session<'a, D, R, T, N, OpenGate> {
+impl<'a, D: Slot + Drop, R: Wait, T: Opened, N: Opened> Session<'a, D, R, T, N, OpenGate> {
     /// The same session, which passes this gate as `who`.
     pub fn with_gate<G: Gate>(self, gate: &'a G, who: u32) -> GatedSession<'a, D, R, G, T, N>
         ensures { result.seat ≡ self.entry.seat }
@@ -61,7 +61,7 @@ impl<'a, D: Slot + Drop, R: Wait, T: OpenedAs, N: At> Session<'a, D, R, T, N, Op
     }
 }
 
-impl<'a, D: Slot + Drop, R: Wait, T: OpenedAs, N: At, G: Gate> Session<'a, D, R, T, N, G> {
+impl<'a, D: Slot + Drop, R: Wait, T: Opened, N: Opened, G: Gate> Session<'a, D, R, T, N, G> {
     /// The same session, which passes no gate.
     pub fn into_session(self) -> Session<'a, D, R, T, N>
         ensures { result.seat ≡ self.entry.seat }
@@ -96,7 +96,7 @@ impl<'a, D: Slot + Drop, R: Wait, T: OpenedAs, N: At, G: Gate> Session<'a, D, R,
 
     /// The session sits, has the right of its number alone, and has seen a legal history.
     pub fn law_sits(&self)
-        ensures { Sits T.opening T.told self.now.seat }
+        ensures { Sits T.opening T.outset.told self.now.seat }
     {
         self.seat.law_sits();
     }
@@ -113,7 +113,7 @@ impl<'a, D: Slot + Drop, R: Wait, T: OpenedAs, N: At, G: Gate> Session<'a, D, R,
     /// Ends a session that has no client. Its reservation and its quota are free again, and its number is the pass's.
     pub fn end(self, pass: &mut Pass<D, T>)
         requires table { pass.old.table ≡ self.seat.spot.table }
-        requires no_client { (held_by T.opening T.told self.seat).live_clients ≡ 0 }
+        requires no_client { (held_by T.opening T.outset.told self.seat).live_clients ≡ 0 }
         ensures { Ends T.opening self.entry.seat pass.old pass.new }
     {
         let Session {
@@ -127,15 +127,15 @@ impl<'a, D: Slot + Drop, R: Wait, T: OpenedAs, N: At, G: Gate> Session<'a, D, R,
     }
 }
 
-impl<'a, D: Slot + Drop, R: Wait, T: OpenedAs, N: At, G: Gate> Store
+impl<'a, D: Slot + Drop, R: Wait, T: Opened, N: Opened, G: Gate> Store
     for Session<'a, D, R, T, N, G> {
     ghost use Rattle.pool.specs.Laws.{tells_left};
 
-    ghost holds = { λ s. held_by T.opening T.told s.seat };
+    ghost holds = { λ s. held_by T.opening T.outset.told s.seat };
 
     ghost signs = { λ s. signs_by T.opening s.seat };
 
-    ghost tells_left = { λ st. tells_left T.opening T.told st.seat };
+    ghost tells_left = { λ st. tells_left T.opening T.outset.told st.seat };
 
     ghost idle_unused = { λ st t some idle. st.whole.clients t some idle };
 
@@ -167,17 +167,17 @@ impl<'a, D: Slot + Drop, R: Wait, T: OpenedAs, N: At, G: Gate> Store
     }
 
     fn reserve(&mut self, c: &Client, bytes: u64) -> Result<(), PoolErr>
-        requires { IsLiveClient c.now (held_by T.opening T.told self.old.seat) }
-        ensures ok { OnOk result (held_by T.opening T.told self.new.seat ≡ after_reserve c.now.tracker bytes (held_by T.opening T.told self.old.seat)) }
-        ensures refused { IfSome (reserve_refusal c.now.tracker bytes (held_by T.opening T.told self.old.seat)) (λ e. result ≡ Err e) }
-        ensures shared { IfNone (reserve_refusal c.now.tracker bytes (held_by T.opening T.told self.old.seat)) (IfErr result (IsSharedRefusal (query_growth bytes (held_by T.opening T.told self.old.seat)) (held_by T.opening T.told self.old.seat).above)) }
+        requires { IsLiveClient c.now (held_by T.opening T.outset.told self.old.seat) }
+        ensures ok { OnOk result (held_by T.opening T.outset.told self.new.seat ≡ after_reserve c.now.tracker bytes (held_by T.opening T.outset.told self.old.seat)) }
+        ensures refused { IfSome (reserve_refusal c.now.tracker bytes (held_by T.opening T.outset.told self.old.seat)) (λ e. result ≡ Err e) }
+        ensures shared { IfNone (reserve_refusal c.now.tracker bytes (held_by T.opening T.outset.told self.old.seat)) (IfErr result (IsSharedRefusal (query_growth bytes (held_by T.opening T.outset.told self.old.seat)) (held_by T.opening T.outset.told self.old.seat).above)) }
 
         // A refusal is the one that the rule of growth gives in what the session has seen.
         ensures cause { IfErr result (IsFrom (growth_refusal (state_in T.opening self.new.seat.spot.knows.seen) c.now.tracker bytes)) }
-        ensures err { OnErr result (IsUntouched (held_by T.opening T.told self.old.seat) (held_by T.opening T.told self.new.seat) (signs_by T.opening self.old.seat) (signs_by T.opening self.new.seat)) }
+        ensures err { OnErr result (IsUntouched (held_by T.opening T.outset.told self.old.seat) (held_by T.opening T.outset.told self.new.seat) (signs_by T.opening self.old.seat) (signs_by T.opening self.new.seat)) }
 
         ensures grows { Grows (signs_by T.opening self.old.seat) (signs_by T.opening self.new.seat) }
-        ensures entries { OnOk result (MadeThese (held_by T.opening T.told self.old.seat).session (event.Increase c.now.tracker bytes ∷ []) (signs_by T.opening self.old.seat) (signs_by T.opening self.new.seat)) }
+        ensures entries { OnOk result (MadeThese (held_by T.opening T.outset.told self.old.seat).session (event.Increase c.now.tracker bytes ∷ []) (signs_by T.opening self.old.seat) (signs_by T.opening self.new.seat)) }
     {
         let seat = &mut self.seat;
         let result = seat.reserve(self.rt, self.turns, c, bytes);
@@ -186,17 +186,17 @@ impl<'a, D: Slot + Drop, R: Wait, T: OpenedAs, N: At, G: Gate> Store
     }
 
     fn reserve_to_fit(&mut self, c: &Client, bytes: u64) -> Result<(), PoolErr>
-        requires { IsLiveClient c.now (held_by T.opening T.told self.old.seat) }
-        ensures ok { OnOk result (held_by T.opening T.told self.new.seat ≡ after_reserve c.now.tracker (shortfall c.now.tracker bytes (held_by T.opening T.told self.old.seat)) (held_by T.opening T.told self.old.seat)) }
-        ensures refused { IfSome (reserve_refusal c.now.tracker (shortfall c.now.tracker bytes (held_by T.opening T.told self.old.seat)) (held_by T.opening T.told self.old.seat)) (λ e. result ≡ Err e) }
-        ensures shared { IfNone (reserve_refusal c.now.tracker (shortfall c.now.tracker bytes (held_by T.opening T.told self.old.seat)) (held_by T.opening T.told self.old.seat)) (IfErr result (IsSharedRefusal (query_growth (shortfall c.now.tracker bytes (held_by T.opening T.told self.old.seat)) (held_by T.opening T.told self.old.seat)) (held_by T.opening T.told self.old.seat).above)) }
+        requires { IsLiveClient c.now (held_by T.opening T.outset.told self.old.seat) }
+        ensures ok { OnOk result (held_by T.opening T.outset.told self.new.seat ≡ after_reserve c.now.tracker (shortfall c.now.tracker bytes (held_by T.opening T.outset.told self.old.seat)) (held_by T.opening T.outset.told self.old.seat)) }
+        ensures refused { IfSome (reserve_refusal c.now.tracker (shortfall c.now.tracker bytes (held_by T.opening T.outset.told self.old.seat)) (held_by T.opening T.outset.told self.old.seat)) (λ e. result ≡ Err e) }
+        ensures shared { IfNone (reserve_refusal c.now.tracker (shortfall c.now.tracker bytes (held_by T.opening T.outset.told self.old.seat)) (held_by T.opening T.outset.told self.old.seat)) (IfErr result (IsSharedRefusal (query_growth (shortfall c.now.tracker bytes (held_by T.opening T.outset.told self.old.seat)) (held_by T.opening T.outset.told self.old.seat)) (held_by T.opening T.outset.told self.old.seat).above)) }
 
         // A refusal is the one that the rule of growth gives in what the session has seen.
         ensures cause { IfErr result (IsFrom (fit_refusal (state_in T.opening self.new.seat.spot.knows.seen) c.now.tracker bytes)) }
-        ensures err { OnErr result (IsUntouched (held_by T.opening T.told self.old.seat) (held_by T.opening T.told self.new.seat) (signs_by T.opening self.old.seat) (signs_by T.opening self.new.seat)) }
+        ensures err { OnErr result (IsUntouched (held_by T.opening T.outset.told self.old.seat) (held_by T.opening T.outset.told self.new.seat) (signs_by T.opening self.old.seat) (signs_by T.opening self.new.seat)) }
 
         ensures grows { Grows (signs_by T.opening self.old.seat) (signs_by T.opening self.new.seat) }
-        ensures entries { OnOk result (MadeThese (held_by T.opening T.told self.old.seat).session (event.IncreaseToFit c.now.tracker bytes ∷ []) (signs_by T.opening self.old.seat) (signs_by T.opening self.new.seat)) }
+        ensures entries { OnOk result (MadeThese (held_by T.opening T.outset.told self.old.seat).session (event.IncreaseToFit c.now.tracker bytes ∷ []) (signs_by T.opening self.old.seat) (signs_by T.opening self.new.seat)) }
     {
         let seat = &mut self.seat;
         let result = seat.reserve_to_fit(self.rt, self.turns, c, bytes);
@@ -227,18 +227,18 @@ impl<'a, D: Slot + Drop, R: Wait, T: OpenedAs, N: At, G: Gate> Store
     }
 
     fn pin(&mut self, p: &Page) -> Result<Buf, PoolErr>
-        requires page { IsPage p.now (held_by T.opening T.told self.old.seat) }
-        requires rests { (page_of p.now.name (held_by T.opening T.told self.old.seat)).pins ≡ 0 }
-        requires unused { page_len p.now.name (held_by T.opening T.told self.old.seat) ≤ unused_of p.now.client (held_by T.opening T.told self.old.seat) }
-        ensures ok { OnOk result (held_by T.opening T.told self.new.seat ≡ after_pin p.now.name (held_by T.opening T.told self.old.seat)) }
-        ensures bytes { IfOk result (ShowsLeft (page_of p.now.name (held_by T.opening T.told self.old.seat)) (held_by T.opening T.told self.old.seat)) }
+        requires page { IsPage p.now (held_by T.opening T.outset.told self.old.seat) }
+        requires rests { (page_of p.now.name (held_by T.opening T.outset.told self.old.seat)).pins ≡ 0 }
+        requires unused { page_len p.now.name (held_by T.opening T.outset.told self.old.seat) ≤ unused_of p.now.client (held_by T.opening T.outset.told self.old.seat) }
+        ensures ok { OnOk result (held_by T.opening T.outset.told self.new.seat ≡ after_pin p.now.name (held_by T.opening T.outset.told self.old.seat)) }
+        ensures bytes { IfOk result (ShowsLeft (page_of p.now.name (held_by T.opening T.outset.told self.old.seat)) (held_by T.opening T.outset.told self.old.seat)) }
 
         // Where blocks have marks, and each block of the buffer was stored in this pool, the buffer shows what was left.
-        ensures stored { IfOk result (ShowsStored T.opening (history self.new.seat.spot.knows.seen) p.now.name (page_of p.now.name (held_by T.opening T.told self.old.seat))) }
-        ensures err { IfErr result (WasRefused p.now.client (call.Pin p.now.name) (held_by T.opening T.told self.old.seat) (held_by T.opening T.told self.new.seat) (signs_by T.opening self.old.seat) (signs_by T.opening self.new.seat)) }
+        ensures stored { IfOk result (ShowsStored T.opening (history self.new.seat.spot.knows.seen) p.now.name (page_of p.now.name (held_by T.opening T.outset.told self.old.seat))) }
+        ensures err { IfErr result (WasRefused p.now.client (call.Pin p.now.name) (held_by T.opening T.outset.told self.old.seat) (held_by T.opening T.outset.told self.new.seat) (signs_by T.opening self.old.seat) (signs_by T.opening self.new.seat)) }
 
         ensures grows { Grows (signs_by T.opening self.old.seat) (signs_by T.opening self.new.seat) }
-        ensures entries { OnOk result (Made (held_by T.opening T.told self.old.seat).session (IsPin p.now.client (held_by T.opening T.told self.old.seat) p.now.name) (signs_by T.opening self.old.seat) (signs_by T.opening self.new.seat)) }
+        ensures entries { OnOk result (Made (held_by T.opening T.outset.told self.old.seat).session (IsPin p.now.client (held_by T.opening T.outset.told self.old.seat) p.now.name) (signs_by T.opening self.old.seat) (signs_by T.opening self.new.seat)) }
     {
         let seat = &mut self.seat;
         let result = seat.pin(self.rt, self.turns, &self.at, p);

@@ -9,16 +9,16 @@ ghost use Rattle.pool.specs.Standing.{StandsAs};
 ghost use Rattle.pool.specs.Writers.{Stops};
 
 use crate::item::Item;
-use crate::opened::OpenedAs;
 use crate::pass::Pass;
 use crate::pool::Pool;
 use crate::shared::Shared;
 use outside::Slot;
+use session_calls::Opened;
 use std::marker::Brand;
 use std::sync::Wait;
 use turn_table::{Adds, TurnSeat, Turns};
 
-impl<D: Slot + Drop, T: OpenedAs> Pool<D, T> {
+impl<D: Slot + Drop, T: Opened> Pool<D, T> {
     /// Tells the pool's writers to end: each turn of a writer from now on finds that.
     pub fn stop<R: Wait>(&self, rt: &R, pass: &mut Pass<D, T>)
         requires table { pass.old.table ≡ self.now }
@@ -31,7 +31,7 @@ impl<D: Slot + Drop, T: OpenedAs> Pool<D, T> {
 }
 
 // The turn ends with the mark, which `N` names.
-fn leave_stopped<N: Adds<Item>, D: Slot + Drop, T: OpenedAs>(
+fn leave_stopped<N: Adds<Item>, D: Slot + Drop, T: Opened>(
     turns: &Turns<Shared<D, T>>,
     seat: &mut TurnSeat<Shared<D, T>>,
     shared: Shared<D, T>,
@@ -39,7 +39,7 @@ fn leave_stopped<N: Adds<Item>, D: Slot + Drop, T: OpenedAs>(
     requires named { N.entries ≡ Stop ∷ [] }
     requires table { seat.old.table ≡ turns.now }
     requires turn { HasTurn seat.old.knows }
-    requires stands { StandsAs D.Slot T.opening T.told T.first seat.old.knows.seen (record { trail = shared.trail; counts = shared.counts }) shared.state }
+    requires stands { StandsAs D.Slot T.opening T.outset.told T.first seat.old.knows.seen (record { trail = shared.trail; counts = shared.counts }) shared.state }
     requires stop { shared.stopped ≡ true }
     requires rights { 0 < times door seat.old.knows.rights }
     ensures table { seat.new.table ≡ turns.now }

@@ -11,8 +11,6 @@ ghost use Rattle.pool.specs.Rooms.{AreRooms};
 
 use crate::admitting::{admit_all, leave_admitted};
 use crate::ask::Ask;
-use crate::named::At;
-use crate::opened::OpenedAs;
 use crate::parting::part_all;
 use crate::pass::Pass;
 use crate::rooms::Room;
@@ -20,12 +18,13 @@ use crate::session::Session;
 use crate::shared::Shared;
 use outside::Slot;
 use reservation_tree::PoolErr;
+use session_calls::Opened;
 use std::marker::Brand;
 use std::sync::Wait;
 use turn_table::Turns;
 
 // One turn of the pass: each ask is answered after those before it. Then each session that came gets its seat.
-pub(crate) fn seat_sessions<'a, D: Slot + Drop, R: Wait, T: OpenedAs, N: At>(
+pub(crate) fn seat_sessions<'a, D: Slot + Drop, R: Wait, T: Opened, N: Opened>(
     rt: &'a R,
     turns: &'a Turns<Shared<D, T>>,
     pass: &mut Pass<D, T>,
@@ -45,7 +44,7 @@ pub(crate) fn seat_sessions<'a, D: Slot + Drop, R: Wait, T: OpenedAs, N: At>(
     requires rooms { AreRooms asks.now rooms.items }
     requires none { (numbers.items ≡ []) × (answers.items ≡ []) }
     requires room { (length asks.now ≤ vec_capacity numbers) × (length asks.now ≤ vec_capacity answers) }
-    ensures admits { Admits T.opening T.told asks.now pass.old pass.new (map (answer_of (λ v. v.items) (λ s. s.seat)) result.items) }
+    ensures admits { Admits T.opening T.outset.told asks.now pass.old pass.new (map (answer_of (λ v. v.items) (λ s. s.seat)) result.items) }
     ensures fresh { live_in pass.old.knows.seen ≡ 0 → map refusal_in (map (answer_of (λ v. v.items) (λ s. s.seat)) result.items) ≡ refusals asks.now (all_left T.opening) }
 {
     let mut shared = turns.enter(rt, &mut pass.seat);

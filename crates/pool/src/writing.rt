@@ -10,18 +10,18 @@ ghost use Rattle.pool.specs.Items.{is_stopped, sight_in};
 ghost use Rattle.pool.specs.Passing.{writers_out};
 ghost use Rattle.pool.specs.Writers.{BringsBack, IsFound, Lends, TakesBack, TakesTurn};
 
+use crate::among::Among;
 use crate::holding::{give_hand, take_hand};
-use crate::opened::{Among, OpenedAs};
 use crate::pass::Pass;
 use crate::place::Place;
 use crate::pool::Pool;
 use crate::writer::{WriterSeat, WriterTurn};
 use outside::Slot;
 use pin_core::{WriteJob, Wrote};
-use session_calls::Hand;
+use session_calls::{Hand, Opened};
 use std::sync::Wait;
 
-impl<D: Slot + Drop, T: OpenedAs> Pool<D, T> {
+impl<D: Slot + Drop, T: Opened> Pool<D, T> {
     /// Hands the number `who`, 1000 to 1007, to a new writer. The pass has it: no other writer that hasn't ended does.
     pub fn writer_seat(&self, pass: &mut Pass<D, T>, who: u32) -> WriterSeat<D, T>
         requires table { pass.old.table ≡ self.now }
@@ -56,7 +56,7 @@ impl<D: Slot + Drop, T: OpenedAs> Pool<D, T> {
     /// One turn of a writer: it finds that writers have to end, or nothing to write, or takes a page out.
     pub fn writer_turn<R: Wait>(&self, rt: &R, seat: &mut WriterSeat<D, T>) -> WriterTurn<D>
         requires table { seat.old.spot.table ≡ self.now }
-        ensures { TakesTurn D.Slot T.opening T.told T.first seat.old seat.new result }
+        ensures { TakesTurn D.Slot T.opening T.outset.told T.first seat.old seat.new result }
     {
         let number = seat.number;
         let place = &mut seat.place;
@@ -74,9 +74,9 @@ impl<D: Slot + Drop, T: OpenedAs> Pool<D, T> {
         job: WriteJob<D>,
     ) -> Wrote
         requires table { seat.old.spot.table ≡ self.now }
-        requires back { IsBack D.Slot T.opening T.told seat.old.number (sight_in T.first seat.old.spot.knows.seen) job }
+        requires back { IsBack D.Slot T.opening T.outset.told seat.old.number (sight_in T.first seat.old.spot.knows.seen) job }
         ensures wrote { result ≡ wrote job.failed job.id.name }
-        ensures brings { BringsBack D.Slot T.opening T.told T.first job seat.old seat.new }
+        ensures brings { BringsBack D.Slot T.opening T.outset.told T.first job seat.old seat.new }
     {
         let number = seat.number;
         let place = &mut seat.place;
@@ -88,11 +88,11 @@ impl<D: Slot + Drop, T: OpenedAs> Pool<D, T> {
 }
 
 // What there is to do for a writer that has the value in hand.
-fn find<D: Slot + Drop, T: OpenedAs>(place: &Place<D, T>, hand: &mut Hand<D>) -> WriterTurn<D>
+fn find<D: Slot + Drop, T: Opened>(place: &Place<D, T>, hand: &mut Hand<D>) -> WriterTurn<D>
     requires turn { HasTurn place.now.knows }
     requires writer { IsWriter hand.old.session }
-    requires whole { StandsWhole D.Slot T.opening T.told hand.old.trail hand.old.counts hand.old.state }
-    ensures { IsFound D.Slot T.opening T.told (is_stopped place.now.knows.seen) hand.old hand.new result }
+    requires whole { StandsWhole D.Slot T.opening T.outset.told hand.old.trail hand.old.counts hand.old.state }
+    ensures { IsFound D.Slot T.opening T.outset.told (is_stopped place.now.knows.seen) hand.old hand.new result }
 {
     if place.stopped {
         return WriterTurn::Stopped;

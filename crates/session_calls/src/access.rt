@@ -1,6 +1,6 @@
 //! Who has a pool's value, and when.
 use crate::hand::Hand;
-use crate::origin::Origin;
+use crate::opened::Opened;
 use outside::{Point, Slot};
 
 /// A session's way to the pool's value: it takes it in hand, and gives it back. While it isn't in hand, others may have
@@ -33,14 +33,14 @@ pub trait Access<D: Slot> {
     ghost turns: { Opening → Outset → Self → Self.Place → ℕ → Type 0 };
 
     /// Waits until the value is free, and takes it.
-    fn take<O: Origin>(&self, place: &mut Self::Place, session: u32) -> Hand<D>
+    fn take<O: Opened>(&self, place: &mut Self::Place, session: u32) -> Hand<D>
         requires { rests O.opening O.outset self.now place.old session }
         ensures turns { turns O.opening O.outset self.now place.new session }
         ensures taken { Taken D.Slot O.opening O.outset.told session (seen place.old) (seen place.new) result }
         ensures kept { alone ≡ true → (hand : Hand D) → kept place.old hand → result ≡ hand };
 
     /// Gives it back.
-    fn give<O: Origin>(&self, place: &mut Self::Place, hand: Hand<D>)
+    fn give<O: Opened>(&self, place: &mut Self::Place, hand: Hand<D>)
         requires turns { turns O.opening O.outset self.now place.old hand.session }
         requires may { MayGive D.Slot O.opening O.outset.told (seen place.old) hand }
         ensures rests { rests O.opening O.outset self.now place.new hand.session }

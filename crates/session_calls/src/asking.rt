@@ -21,7 +21,7 @@ ghost use Rattle.session_calls.specs.Turning.{Refuses};
 use crate::access::Access;
 use crate::entering::enter;
 use crate::hand::Hand;
-use crate::origin::Origin;
+use crate::opened::Opened;
 use crate::turning::{Turn, room_turn};
 use outside::Slot;
 use pin_core::Want;
@@ -31,7 +31,7 @@ use store_api::Client;
 
 impl<D: Slot + Drop> Hand<D> {
     /// A call begins.
-    pub fn ask<O: Origin>(&mut self)
+    pub fn ask<O: Opened>(&mut self)
         requires ready { IsReady D.Slot O.opening O.outset self.old }
         ensures acts { ActsThese (event.Ask ∷ []) self.old self.new }
         ensures ready { IsReady D.Slot O.opening O.outset self.new }
@@ -41,7 +41,7 @@ impl<D: Slot + Drop> Hand<D> {
     }
 
     /// The call is refused for the failure with this number.
-    pub fn refuse<O: Origin>(&mut self, call: &Call, entry: u64)
+    pub fn refuse<O: Opened>(&mut self, call: &Call, entry: u64)
         requires ready { IsReady D.Slot O.opening O.outset self.old }
         requires may { MayFollow self.old.trail (state_of self.old.state) (refusal_of self.old.session call.now entry) }
         ensures acts { ActsThese (event.Refused call.now entry ∷ []) self.old self.new }
@@ -59,7 +59,7 @@ impl<D: Slot + Drop> Hand<D> {
 
 // A call begins, and the client's dirty pages are written, one at a time and the newest first, until the client can
 // hold so much more.
-pub(crate) fn make_room<O: Origin, A: Access<D>, D: Slot + Drop>(
+pub(crate) fn make_room<O: Opened, A: Access<D>, D: Slot + Drop>(
     access: &A,
     place: &mut A::Place,
     mut hand: Hand<D>,

@@ -10,7 +10,7 @@ ghost use Rattle.session_calls.specs.Having.{IsAtWork};
 use crate::access::Access;
 use crate::asking::make_room;
 use crate::hand::Hand;
-use crate::origin::Origin;
+use crate::opened::Opened;
 use block_arena::{Buf, Shell};
 use outside::Slot;
 use pin_core::Want;
@@ -21,7 +21,7 @@ use std::alloc::Global;
 use store_api::{Client, Loan, Page};
 
 /// Lowers the client's reservation, once what it holds fits.
-pub fn give_back<O: Origin, A: Access<D>, D: Slot + Drop>(
+pub fn give_back<O: Opened, A: Access<D>, D: Slot + Drop>(
     access: &A,
     place: &mut A::Place,
     hand: Hand<D>,
@@ -49,7 +49,7 @@ pub fn give_back<O: Origin, A: Access<D>, D: Slot + Drop>(
 }
 
 /// Moves unused reservation, once what the first client holds fits.
-pub fn move_reservation<O: Origin, A: Access<D>, D: Slot + Drop>(
+pub fn move_reservation<O: Opened, A: Access<D>, D: Slot + Drop>(
     access: &A,
     place: &mut A::Place,
     hand: Hand<D>,
@@ -84,7 +84,7 @@ pub fn move_reservation<O: Origin, A: Access<D>, D: Slot + Drop>(
 }
 
 /// A new page of so many blocks, which have so many bytes, once there is room.
-pub fn create<O: Origin, A: Access<D>, D: Slot + Drop>(
+pub fn create<O: Opened, A: Access<D>, D: Slot + Drop>(
     alloc: Global,
     access: &A,
     place: &mut A::Place,
@@ -121,7 +121,7 @@ pub fn create<O: Origin, A: Access<D>, D: Slot + Drop>(
 }
 
 /// A new loan of so many blocks, which have so many bytes, once there is room.
-pub fn alloc<O: Origin, A: Access<D>, D: Slot + Drop>(
+pub fn alloc<O: Opened, A: Access<D>, D: Slot + Drop>(
     alloc: Global,
     access: &A,
     place: &mut A::Place,
@@ -155,7 +155,7 @@ pub fn alloc<O: Origin, A: Access<D>, D: Slot + Drop>(
 }
 
 /// Pins a pinned page once more, once there is room. `bytes` is its length.
-pub fn pin_again<O: Origin, A: Access<D>, D: Slot + Drop>(
+pub fn pin_again<O: Opened, A: Access<D>, D: Slot + Drop>(
     access: &A,
     place: &mut A::Place,
     hand: Hand<D>,
@@ -184,7 +184,7 @@ pub fn pin_again<O: Origin, A: Access<D>, D: Slot + Drop>(
 }
 
 /// Charges a loan to another client, once that one has room.
-pub fn move_buffer<O: Origin, A: Access<D>, D: Slot + Drop>(
+pub fn move_buffer<O: Opened, A: Access<D>, D: Slot + Drop>(
     access: &A,
     place: &mut A::Place,
     hand: Hand<D>,

@@ -18,7 +18,7 @@ ghost use Rattle.session_calls.specs.Coming.{IsFreshPage, evicts_for};
 
 use crate::entering::{enter, enter_evicted};
 use crate::hand::Hand;
-use crate::origin::Origin;
+use crate::opened::Opened;
 use block_arena::{Buf, Shell};
 use outside::Slot;
 use pool_model::Event;
@@ -28,7 +28,7 @@ use store_api::{Client, Loan, Page};
 
 impl<D: Slot + Drop> Hand<D> {
     /// There is room for the page, so it comes, unless no name is left. Clean pages make room for its blocks.
-    pub fn create<O: Origin>(
+    pub fn create<O: Opened>(
         &mut self,
         c: &Client,
         shell: Shell,
@@ -50,7 +50,7 @@ impl<D: Slot + Drop> Hand<D> {
     }
 
     /// There is room for the loan, so it comes. Clean pages make room for its blocks.
-    pub fn alloc<O: Origin>(&mut self, c: &Client, shell: Shell) -> Loan
+    pub fn alloc<O: Opened>(&mut self, c: &Client, shell: Shell) -> Loan
         requires ready { IsReady D.Slot O.opening O.outset self.old }
         requires client { IsLiveClient c.now (held_by O.opening O.outset self.old) }
         requires blocks { IsBlockCount shell }

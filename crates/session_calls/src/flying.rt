@@ -12,7 +12,7 @@ use crate::count::{Count, count_write};
 use crate::hand::Hand;
 use crate::jobs::write_ended;
 use crate::log::Log;
-use crate::origin::Origin;
+use crate::opened::Opened;
 use crate::turning::enter_started;
 use outside::Slot;
 use pin_core::{WriteJob, Wrote};
@@ -24,7 +24,7 @@ impl<D: Slot + Drop> Hand<D> {
     /// The newest dirty page of some client goes out to be written. Which one of several is free.
     ///
     /// `None`: no client has a dirty page.
-    pub fn send_page<O: Origin>(&mut self) -> Option<WriteJob<D>>
+    pub fn send_page<O: Opened>(&mut self) -> Option<WriteJob<D>>
         requires writer { IsWriter self.old.session }
         requires whole { StandsWhole D.Slot O.opening O.outset.told self.old.trail self.old.counts self.old.state }
         ensures none { result ≡ None → ((c : ℕ) → dirty_of (state_of self.old.state) c ≡ []) × (self.new ≡ self.old) }
@@ -37,7 +37,7 @@ impl<D: Slot + Drop> Hand<D> {
     }
 
     /// A page that was written comes back: clean, or dirty again where a store failed.
-    pub fn take_page<O: Origin>(&mut self, job: WriteJob<D>) -> Wrote
+    pub fn take_page<O: Opened>(&mut self, job: WriteJob<D>) -> Wrote
         requires whole { StandsWhole D.Slot O.opening O.outset.told self.old.trail self.old.counts self.old.state }
         requires back { IsBack D.Slot O.opening O.outset.told self.old.session (sight_of self.old) job }
         ensures wrote { result ≡ wrote job.failed job.id.name }

@@ -9,7 +9,7 @@ ghost use Rattle.session_calls.specs.Jobs.{CanRead, CanWrite, IsRead, IsUnread, 
 use crate::access::Access;
 use crate::hand::Hand;
 use crate::log::Log;
-use crate::origin::Origin;
+use crate::opened::Opened;
 use block_arena::Buf;
 use outside::{OpenGate, Point, Slot};
 use pin_core::{ReadJob, WriteJob};
@@ -28,7 +28,7 @@ impl Before for Brand {
 }
 
 // A page that flies is stored, and comes back.
-pub(crate) fn write_out<O: Origin, A: Access<D>, D: Slot + Drop>(
+pub(crate) fn write_out<O: Opened, A: Access<D>, D: Slot + Drop>(
     access: &A,
     place: &mut A::Place,
     hand: Hand<D>,
@@ -44,7 +44,7 @@ pub(crate) fn write_out<O: Origin, A: Access<D>, D: Slot + Drop>(
     write_named::<Brand, O, A, D>(access, place, hand, job)
 }
 
-fn write_named<B: Before, O: Origin, A: Access<D>, D: Slot + Drop>(
+fn write_named<B: Before, O: Opened, A: Access<D>, D: Slot + Drop>(
     access: &A,
     place: &mut A::Place,
     hand: Hand<D>,
@@ -96,7 +96,7 @@ pub(crate) struct Unread {
 }
 
 // A page that is loading is read, and comes back: pinned with this buffer, or evicted again.
-pub(crate) fn read_back<O: Origin, A: Access<D>, D: Slot + Drop>(
+pub(crate) fn read_back<O: Opened, A: Access<D>, D: Slot + Drop>(
     access: &A,
     place: &mut A::Place,
     hand: Hand<D>,
@@ -113,7 +113,7 @@ pub(crate) fn read_back<O: Origin, A: Access<D>, D: Slot + Drop>(
     read_named::<Brand, O, A, D>(access, place, hand, job)
 }
 
-fn read_named<B: Before, O: Origin, A: Access<D>, D: Slot + Drop>(
+fn read_named<B: Before, O: Opened, A: Access<D>, D: Slot + Drop>(
     access: &A,
     place: &mut A::Place,
     hand: Hand<D>,

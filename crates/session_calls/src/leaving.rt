@@ -15,7 +15,7 @@ ghost use Rattle.session_calls.specs.Acting.{ActsThese, Goes, held_by};
 
 use crate::entering::enter;
 use crate::hand::Hand;
-use crate::origin::Origin;
+use crate::opened::Opened;
 use block_arena::Buf;
 use outside::Slot;
 use pool_model::{Bare, Entry, Event};
@@ -30,7 +30,7 @@ impl<D: Slot + Drop> Hand<D> {
     /// # Errors
     ///
     /// `ScratchFull`: too few slots of the quota are free. The page stays pinned, and the buffer comes back.
-    pub fn unpin<O: Origin>(&mut self, p: &Page, buf: Buf) -> Result<(), (Buf, PoolErr)>
+    pub fn unpin<O: Opened>(&mut self, p: &Page, buf: Buf) -> Result<(), (Buf, PoolErr)>
         requires ready { IsReady D.Slot O.opening O.outset self.old }
         requires page { IsPage p.now (held_by O.opening O.outset self.old) }
         requires pinned { (page_of p.now.name (held_by O.opening O.outset self.old)).pins ≡ 1 }
@@ -42,7 +42,7 @@ impl<D: Slot + Drop> Hand<D> {
     }
 
     /// Ends a page that is pinned once, and makes its buffer a loan.
-    pub fn extract<O: Origin>(&mut self, p: Page, buf: Buf) -> Loan
+    pub fn extract<O: Opened>(&mut self, p: Page, buf: Buf) -> Loan
         requires ready { IsReady D.Slot O.opening O.outset self.old }
         requires page { IsPage p (held_by O.opening O.outset self.old) }
         requires pinned { (page_of p.name (held_by O.opening O.outset self.old)).pins ≡ 1 }
@@ -62,7 +62,7 @@ impl<D: Slot + Drop> Hand<D> {
     }
 
     /// Ends a loan.
-    pub fn free<O: Origin>(&mut self, loan: Loan)
+    pub fn free<O: Opened>(&mut self, loan: Loan)
         requires ready { IsReady D.Slot O.opening O.outset self.old }
         requires loan { IsLoan loan (held_by O.opening O.outset self.old) }
         ensures acts { ActsThese (event.Free loan.number ∷ []) self.old self.new }

@@ -8,14 +8,14 @@ ghost use Rattle.session_calls.specs.Ready.{IsReady};
 ghost use Rattle.session_calls.specs.Acting.{held_by};
 
 use crate::hand::Hand;
-use crate::origin::Origin;
+use crate::opened::Opened;
 use outside::Slot;
 use reservation_tree::TrackerId;
 use store_api::Page;
 
 impl<D: Slot + Drop> Hand<D> {
     /// How much of the query's reservation no client has, in bytes.
-    pub fn room<O: Origin>(&self) -> u64
+    pub fn room<O: Opened>(&self) -> u64
         requires { IsReady D.Slot O.opening O.outset self.now }
         ensures value { result ≡ (held_by O.opening O.outset self.now).room }
         ensures fits { FitsQuery (held_by O.opening O.outset self.now) }
@@ -24,7 +24,7 @@ impl<D: Slot + Drop> Hand<D> {
     }
 
     /// What the client may still charge, in bytes.
-    pub fn unused<O: Origin>(&self, client: TrackerId) -> u64
+    pub fn unused<O: Opened>(&self, client: TrackerId) -> u64
         requires ready { IsReady D.Slot O.opening O.outset self.now }
         requires client { IsSome ((held_by O.opening O.outset self.now).clients client) }
         ensures value { result ≡ unused_of client (held_by O.opening O.outset self.now) }
@@ -34,7 +34,7 @@ impl<D: Slot + Drop> Hand<D> {
     }
 
     /// The length of a page in bytes.
-    pub fn page_len<O: Origin>(&self, p: &Page) -> u64
+    pub fn page_len<O: Opened>(&self, p: &Page) -> u64
         requires ready { IsReady D.Slot O.opening O.outset self.now }
         requires page { IsPage p.now (held_by O.opening O.outset self.now) }
         ensures len { result ≡ page_len p.now.name (held_by O.opening O.outset self.now) }
@@ -44,7 +44,7 @@ impl<D: Slot + Drop> Hand<D> {
     }
 
     /// Clients and queries that have nothing under them have their whole reservation unused.
-    pub fn law_whole<O: Origin>(&self)
+    pub fn law_whole<O: Opened>(&self)
         requires { IsReady D.Slot O.opening O.outset self.now }
         ensures whole { IsWholeIdle (held_by O.opening O.outset self.now) }
         ensures fits { FitsHeld (held_by O.opening O.outset self.now) }

@@ -18,7 +18,7 @@ use crate::entering::{enter, enter_evicted};
 use crate::hand::Hand;
 use crate::jobs::{Unread, read_back, write_out};
 use crate::log::Log;
-use crate::origin::Origin;
+use crate::opened::Opened;
 use crate::turning::{enter_started, wait};
 use block_arena::Buf;
 use outside::Slot;
@@ -40,7 +40,7 @@ pub(crate) enum PinStep {
 }
 
 /// Pins a page that rests: where it is, or once there is room for it, after a load where it isn't in memory.
-pub fn pin<O: Origin, A: Access<D>, D: Slot + Drop>(
+pub fn pin<O: Opened, A: Access<D>, D: Slot + Drop>(
     access: &A,
     place: &mut A::Place,
     mut hand: Hand<D>,
@@ -77,7 +77,7 @@ pub fn pin<O: Origin, A: Access<D>, D: Slot + Drop>(
 
 // The first that applies: a page in flight is waited for; a dirty page is pinned; where the client has room, a clean one
 // is pinned and an evicted one loaded; a failure refuses the call; the client's newest dirty page is written.
-fn pin_step<O: Origin, A: Access<D>, D: Slot + Drop>(
+fn pin_step<O: Opened, A: Access<D>, D: Slot + Drop>(
     access: &A,
     place: &mut A::Place,
     mut hand: Hand<D>,
@@ -130,7 +130,7 @@ fn enter_begun(trail: &mut Log, session: u32, page: u64, gone: &EvictedPages)
 }
 
 /// Ends a page. One that is in flight is waited for.
-pub fn destroy<O: Origin, A: Access<D>, D: Slot + Drop>(
+pub fn destroy<O: Opened, A: Access<D>, D: Slot + Drop>(
     access: &A,
     place: &mut A::Place,
     mut hand: Hand<D>,
@@ -155,7 +155,7 @@ pub fn destroy<O: Origin, A: Access<D>, D: Slot + Drop>(
 }
 
 // Ends a page that isn't pinned.
-fn destroy_resting<O: Origin, A: Access<D>, D: Slot + Drop>(
+fn destroy_resting<O: Opened, A: Access<D>, D: Slot + Drop>(
     access: &A,
     place: &mut A::Place,
     mut hand: Hand<D>,

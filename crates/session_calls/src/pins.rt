@@ -8,14 +8,14 @@ ghost use Rattle.session_calls.specs.Acting.{ActsThese, held_by};
 
 use crate::entering::enter;
 use crate::hand::Hand;
-use crate::origin::Origin;
+use crate::opened::Opened;
 use outside::Slot;
 use pool_model::Event;
 use store_api::Page;
 
 impl<D: Slot + Drop> Hand<D> {
     /// Ends one of several pins of a page, and returns its charge. The page stays pinned.
-    pub fn unpin_once<O: Origin>(&mut self, p: &Page)
+    pub fn unpin_once<O: Opened>(&mut self, p: &Page)
         requires ready { IsReady D.Slot O.opening O.outset self.old }
         requires page { IsPage p.now (held_by O.opening O.outset self.old) }
         requires pinned { 2 ≤ (page_of p.now.name (held_by O.opening O.outset self.old)).pins }

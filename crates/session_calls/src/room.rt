@@ -11,7 +11,7 @@ ghost use Rattle.session_calls.specs.Acting.{ActsThese, held_by};
 
 use crate::entering::enter;
 use crate::hand::Hand;
-use crate::origin::Origin;
+use crate::opened::Opened;
 use outside::Slot;
 use pool_model::Event;
 use reservation_tree::PoolErr;
@@ -19,7 +19,7 @@ use store_api::{Client, Loan, Page};
 
 impl<D: Slot + Drop> Hand<D> {
     /// The client has room for it, so its reservation falls.
-    pub fn give_up<O: Origin>(&mut self, c: &Client, bytes: u64)
+    pub fn give_up<O: Opened>(&mut self, c: &Client, bytes: u64)
         requires ready { IsReady D.Slot O.opening O.outset self.old }
         requires client { IsLiveClient c.now (held_by O.opening O.outset self.old) }
         requires unused { bytes ≤ unused_of c.now.tracker (held_by O.opening O.outset self.old) }
@@ -36,7 +36,7 @@ impl<D: Slot + Drop> Hand<D> {
     }
 
     /// Whether the other client's limit lets it have so much more.
-    pub fn may_move<O: Origin>(&self, from: &Client, to: &Client, bytes: u64) -> Result<(), PoolErr>
+    pub fn may_move<O: Opened>(&self, from: &Client, to: &Client, bytes: u64) -> Result<(), PoolErr>
         requires ready { IsReady D.Slot O.opening O.outset self.now }
         requires from { IsLiveClient from.now (held_by O.opening O.outset self.now) }
         requires to { IsLiveClient to.now (held_by O.opening O.outset self.now) }
@@ -59,7 +59,7 @@ impl<D: Slot + Drop> Hand<D> {
     }
 
     /// The first client has room for it, and the other's limit allows it, so the reservation moves.
-    pub fn pass_on<O: Origin>(&mut self, from: &Client, to: &Client, bytes: u64)
+    pub fn pass_on<O: Opened>(&mut self, from: &Client, to: &Client, bytes: u64)
         requires ready { IsReady D.Slot O.opening O.outset self.old }
         requires from { IsLiveClient from.now (held_by O.opening O.outset self.old) }
         requires to { IsLiveClient to.now (held_by O.opening O.outset self.old) }
@@ -85,7 +85,7 @@ impl<D: Slot + Drop> Hand<D> {
     }
 
     /// The page's client has room for it once more, so it has one pin more.
-    pub fn pin_again<O: Origin>(&mut self, p: &Page)
+    pub fn pin_again<O: Opened>(&mut self, p: &Page)
         requires ready { IsReady D.Slot O.opening O.outset self.old }
         requires page { IsPage p.now (held_by O.opening O.outset self.old) }
         requires pinned { 1 ≤ (page_of p.now.name (held_by O.opening O.outset self.old)).pins }
@@ -99,7 +99,7 @@ impl<D: Slot + Drop> Hand<D> {
     }
 
     /// The other client has room for the loan, so it is charged for it.
-    pub fn move_buffer<O: Origin>(&mut self, loan: Loan, to: &Client) -> Loan
+    pub fn move_buffer<O: Opened>(&mut self, loan: Loan, to: &Client) -> Loan
         requires ready { IsReady D.Slot O.opening O.outset self.old }
         requires loan { IsLoan loan (held_by O.opening O.outset self.old) }
         requires to { IsLiveClient to.now (held_by O.opening O.outset self.old) }

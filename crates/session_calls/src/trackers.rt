@@ -6,7 +6,7 @@ ghost use Rattle.session_calls.specs.Calls.{AddsClient, EndsClient, Reserves, Re
 
 use crate::entering::enter;
 use crate::hand::Hand;
-use crate::origin::Origin;
+use crate::opened::Opened;
 use outside::Slot;
 use pool_model::Event;
 use reservation_tree::PoolErr;
@@ -18,7 +18,7 @@ impl<D: Slot + Drop> Hand<D> {
     /// # Errors
     ///
     /// `TooManyTrackers`: sixteen clients of the session are live.
-    pub fn add_client<O: Origin>(&mut self, limit: u64) -> Result<Client, PoolErr>
+    pub fn add_client<O: Opened>(&mut self, limit: u64) -> Result<Client, PoolErr>
         requires ready { IsReady D.Slot O.opening O.outset self.old }
         ensures adds { AddsClient (in_turn O.opening O.outset self.old self.new) limit result }
         ensures ready { IsReady D.Slot O.opening O.outset self.new }
@@ -36,7 +36,7 @@ impl<D: Slot + Drop> Hand<D> {
     }
 
     /// Ends a client that has no page and no loan. Its reservation is the query's room.
-    pub fn end_client<O: Origin>(&mut self, c: Client)
+    pub fn end_client<O: Opened>(&mut self, c: Client)
         requires ready { IsReady D.Slot O.opening O.outset self.old }
         requires client { IsLiveClient c (held_by O.opening O.outset self.old) }
         requires idle { IsIdle c.tracker (held_by O.opening O.outset self.old) }
@@ -62,7 +62,7 @@ impl<D: Slot + Drop> Hand<D> {
     /// # Errors
     ///
     /// `NoReservation`: a limit would be passed. It names the lowest such tracker.
-    pub fn reserve<O: Origin>(&mut self, c: &Client, bytes: u64) -> Result<(), PoolErr>
+    pub fn reserve<O: Opened>(&mut self, c: &Client, bytes: u64) -> Result<(), PoolErr>
         requires ready { IsReady D.Slot O.opening O.outset self.old }
         requires above { TellsAbove O.opening O.outset self.old }
         requires client { IsLiveClient c.now (held_by O.opening O.outset self.old) }
@@ -84,7 +84,7 @@ impl<D: Slot + Drop> Hand<D> {
     /// # Errors
     ///
     /// As for `reserve`, of the bytes that are lacking.
-    pub fn reserve_to_fit<O: Origin>(&mut self, c: &Client, bytes: u64) -> Result<(), PoolErr>
+    pub fn reserve_to_fit<O: Opened>(&mut self, c: &Client, bytes: u64) -> Result<(), PoolErr>
         requires ready { IsReady D.Slot O.opening O.outset self.old }
         requires above { TellsAbove O.opening O.outset self.old }
         requires client { IsLiveClient c.now (held_by O.opening O.outset self.old) }

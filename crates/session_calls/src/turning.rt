@@ -16,7 +16,7 @@ use crate::entering::enter;
 use crate::hand::Hand;
 use crate::jobs::write_out;
 use crate::log::Log;
-use crate::origin::Origin;
+use crate::opened::Opened;
 use outside::Slot;
 use pin_core::{RoomTurn, Want, WriteJob};
 use pool_model::Event;
@@ -38,7 +38,7 @@ pub enum Turn {
 
 // The first that applies: there is room; a failure refuses the call; the client's newest dirty page is written; one of
 // its pages that is in flight is waited for.
-pub(crate) fn room_turn<O: Origin, A: Access<D>, D: Slot + Drop>(
+pub(crate) fn room_turn<O: Opened, A: Access<D>, D: Slot + Drop>(
     access: &A,
     place: &mut A::Place,
     mut hand: Hand<D>,
@@ -68,7 +68,7 @@ pub(crate) fn room_turn<O: Origin, A: Access<D>, D: Slot + Drop>(
 }
 
 // The value is given back, and taken again.
-pub(crate) fn wait<O: Origin, A: Access<D>, D: Slot + Drop>(
+pub(crate) fn wait<O: Opened, A: Access<D>, D: Slot + Drop>(
     access: &A,
     place: &mut A::Place,
     hand: Hand<D>,

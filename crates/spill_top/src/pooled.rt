@@ -22,7 +22,7 @@ use crate::unmarked::run_unmarked;
 use crate::writers::{begin_writers, beside_writers, end_writers};
 use outside::{OpenGate, Sink, Slot, Source};
 use pin_core::PoolConf;
-use pool::{At, OpenedAs, Pass, Pool};
+use pool::{Opened, Pass, Pool};
 use query_plan::{Query, least};
 use query_run::{QueryErr, Ran, law_spill};
 use reservation_tree::PoolErr;
@@ -80,7 +80,7 @@ fn run_counted<
     K: Sink,
     D: Slot + Drop + Send,
     W: Wait + Threads + Clock + Sync,
-    T: OpenedAs + Send,
+    T: Opened + Send,
 >(
     rt: &W,
     alloc: Global,
@@ -96,8 +96,8 @@ fn run_counted<
     requires writers { run.now.writers ≤ 8 }
     requires quota { run.now.quota ≤ vec_len slots.old }
     requires right { is_some right.old ≡ joins run.now.query.now }
-    requires opens { OpensAs D.Slot run.now.conf slots.old.items T.opening T.told T.first }
-    requires told { T.told ≡ all_tell (tally_of D.Slot slots.old.items) }
+    requires opens { OpensAs D.Slot run.now.conf slots.old.items T.opening T.outset.told T.first }
+    requires told { T.outset.told ≡ all_tell (tally_of D.Slot slots.old.items) }
     requires first { T.first ≡ tally_of D.Slot slots.old.items }
     ensures ran { RanPooled S.Source K.Sink run.now.query.now run.now.conf run.now.quota (tally_of D.Slot slots.old.items) (tally_of D.Slot slots.new.items)
         (world left.old right.old sink.old) (world left.new right.new sink.new) result }
@@ -127,8 +127,8 @@ fn run_seated<
     K: Sink,
     D: Slot + Drop + Send,
     W: Wait + Threads + Clock + Sync,
-    T: OpenedAs + Send,
-    N: At,
+    T: Opened + Send,
+    N: Opened,
 >(
     rt: &'a W,
     alloc: Global,
@@ -151,8 +151,8 @@ fn run_seated<
     requires right { is_some right.old ≡ joins run.now.query.now }
     ensures table { pass.new.table ≡ pool.now }
     ensures gone { (live_in pass.new.knows.seen ≡ 0) × (writers_out pass.new ≡ 0) }
-    ensures ran { RanIfSeated T.opening T.told run.now.query.now run.now.quota pass.new (S.remaining left.old) (told_in S.remaining right.old) result }
-    ensures outside { ReadAndWrote S.Source K.Sink run.now.query.now (page_len run.now.query.now run.now.conf.block_len) T.told
+    ensures ran { RanIfSeated T.opening T.outset.told run.now.query.now run.now.quota pass.new (S.remaining left.old) (told_in S.remaining right.old) result }
+    ensures outside { ReadAndWrote S.Source K.Sink run.now.query.now (page_len run.now.query.now run.now.conf.block_len) T.outset.told
         (world left.old right.old sink.old) (world left.new right.new sink.new) result }
 {
     let wanted = least(run.query, run.conf.block_len);
@@ -205,7 +205,7 @@ fn run_beside<
     K: Sink,
     St: Store,
     D: Slot + Drop + Send,
-    T: OpenedAs + Send,
+    T: Opened + Send,
 >(
     rt: &W,
     alloc: Global,

@@ -22,7 +22,7 @@ use crate::seats::{asks_of, end_all, seat_all};
 use crate::writers::{begin_writers, end_writers};
 use outside::{Gate, Inputs, Outputs, Slot};
 use pin_core::PoolConf;
-use pool::{At, OpenedAs, Pass, Pool};
+use pool::{Opened, Pass, Pool};
 use query_plan::Plan;
 use query_run::law_spill;
 use row_codec::Memory;
@@ -71,7 +71,7 @@ fn run_shared<
     I: Inputs,
     O: Outputs,
     D: Slot + Drop + Send,
-    T: OpenedAs + Send,
+    T: Opened + Send,
     G: Gate,
 >(
     rt: &W,
@@ -85,8 +85,8 @@ fn run_shared<
     requires rules { KeepsRules (vec_len slots.old) plan.now }
     requires few { vec_len slots.old ≤ 1048576 }
     requires apart { AreApart plan.now.queries }
-    requires opens { OpensAs D.Slot (record { blocks = plan.now.blocks; block_len = plan.now.block_len; first_name = 0; profile = 1; trace = 0 }) slots.old.items T.opening T.told T.first }
-    requires told { T.told ≡ all_tell (tally_of D.Slot slots.old.items) }
+    requires opens { OpensAs D.Slot (record { blocks = plan.now.blocks; block_len = plan.now.block_len; first_name = 0; profile = 1; trace = 0 }) slots.old.items T.opening T.outset.told T.first }
+    requires told { T.outset.told ≡ all_tell (tally_of D.Slot slots.old.items) }
     requires first { T.first ≡ tally_of D.Slot slots.old.items }
     ensures len { IfOk result (λ ends. vec_len ends ≡ length plan.now.queries) }
     ensures ended { IfOk result (λ ends. HaveEnded (seen (I.bytes_at inputs.old) (I.faults_at inputs.old) (O.written outputs.old) (O.is_created outputs.old) (O.faults_at outputs.old) (tally_of D.Slot slots.old.items))
@@ -128,8 +128,8 @@ fn run_together<
     I: Inputs,
     O: Outputs,
     D: Slot + Drop + Send,
-    T: OpenedAs + Send,
-    N: At + Send,
+    T: Opened + Send,
+    N: Opened + Send,
     G: Gate,
 >(
     rt: &'a W,
@@ -150,7 +150,7 @@ fn run_together<
     ensures table { pass.new.table ≡ pool.now }
     ensures gone { (live_in pass.new.knows.seen ≡ 0) × (writers_out pass.new ≡ 0) }
     ensures len { IfOk result (λ ends. vec_len ends ≡ length plan.now.queries) }
-    ensures ran { IfOk result (λ ends. RanTogether T.opening T.told (refusals_of plan.now) (seen (I.bytes_at inputs.old) (I.faults_at inputs.old) (O.written outputs.old) (O.is_created outputs.old) (O.faults_at outputs.old) T.first)
+    ensures ran { IfOk result (λ ends. RanTogether T.opening T.outset.told (refusals_of plan.now) (seen (I.bytes_at inputs.old) (I.faults_at inputs.old) (O.written outputs.old) (O.is_created outputs.old) (O.faults_at outputs.old) T.first)
         (seen (I.bytes_at inputs.new) (I.faults_at inputs.new) (O.written outputs.new) (O.is_created outputs.new) (O.faults_at outputs.new) T.first) plan.now.queries pass.new ends.items) }
     ensures err { OnErr result (outputs.new ≡ outputs.old) }
     ensures went { (last : Tally) → ComeBack T.first last → Went (seen (I.bytes_at inputs.old) (I.faults_at inputs.old) (O.written outputs.old) (O.is_created outputs.old) (O.faults_at outputs.old) T.first)

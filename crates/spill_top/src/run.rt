@@ -15,7 +15,7 @@ use crate::over::answer_at_gate;
 use crate::steps::{close, create, finish, open};
 use crate::writers::each_beside_writers;
 use outside::{Gate, Inputs, Outputs, Sink, Slot, Source};
-use pool::{OpenedAs, Pass, Pool};
+use pool::{Opened, Pass, Pool};
 use query_plan::Query;
 use std::alloc::Global;
 use std::sync::Wait;
@@ -75,7 +75,7 @@ pub(crate) fn answer_beside<
     K: Sink + Send,
     St: Store + Send,
     D: Slot + Drop + Send,
-    T: OpenedAs + Send,
+    T: Opened + Send,
     G: Gate,
 >(
     rt: &R,

@@ -10,7 +10,7 @@ ghost use Rattle.spill_top.specs.Together.{EndAll, EndsOne, IsOneOrRefused, ask_
 use crate::ending::Ending;
 use crate::job::{Job, let_go};
 use outside::{Gate, Slot};
-use pool::{Ask, At, GatedSession, OpenedAs, Pass, Session};
+use pool::{Ask, GatedSession, Opened, Pass, Session};
 use query_plan::{Query, least};
 use reservation_tree::{PoolErr, TrackerId};
 use row_codec::Memory;
@@ -37,7 +37,7 @@ pub(crate) fn asks_of(alloc: Global, queries: &[Query], block_len: u32) -> Resul
 
 // Seats the queries: each has the session that came for it, which passes the gate with the query's number, or has ended
 // since its reservation was refused. There is room for all in `jobs`.
-pub(crate) fn seat_all<'a, S, K, D: Slot + Drop, R: Wait, T: OpenedAs, N: At, G: Gate>(
+pub(crate) fn seat_all<'a, S, K, D: Slot + Drop, R: Wait, T: Opened, N: Opened, G: Gate>(
     mut answers: Vec<Result<Vec<Session<'a, D, R, T, N>>, PoolErr>>,
     mut jobs: Vec<Job<S, K, GatedSession<'a, D, R, G, T, N>>>,
     gate: &'a G,
@@ -59,7 +59,7 @@ pub(crate) fn seat_all<'a, S, K, D: Slot + Drop, R: Wait, T: OpenedAs, N: At, G:
     jobs
 }
 
-fn seat<'a, S, K, D: Slot + Drop, R: Wait, T: OpenedAs, N: At, G: Gate>(
+fn seat<'a, S, K, D: Slot + Drop, R: Wait, T: Opened, N: Opened, G: Gate>(
     answer: Result<Vec<Session<'a, D, R, T, N>>, PoolErr>,
     gate: &'a G,
     who: u32,
@@ -111,14 +111,14 @@ fn refusal(error: &PoolErr) -> Ending
 }
 
 // Ends the sessions of queries of which nothing else is open, the last one first.
-pub(crate) fn end_all<'a, S, K, D: Slot + Drop, R: Wait, T: OpenedAs, N: At, G: Gate>(
+pub(crate) fn end_all<'a, S, K, D: Slot + Drop, R: Wait, T: Opened, N: Opened, G: Gate>(
     mut jobs: Vec<Job<S, K, GatedSession<'a, D, R, G, T, N>>>,
     pass: &mut Pass<D, T>,
 )
     requires closed { AreClosed jobs.items }
     requires named { N.table ≡ Some pass.old.table }
-    requires idle { All (λ job. IfSome job.session (λ s. (held_by T.opening T.told s.seat).live_clients ≡ 0)) jobs.items }
-    ensures ends { EndAll T.opening T.told (map (λ job. option_map (λ s. s.seat) job.session) jobs.entry.items) pass.old pass.new }
+    requires idle { All (λ job. IfSome job.session (λ s. (held_by T.opening T.outset.told s.seat).live_clients ≡ 0)) jobs.items }
+    ensures ends { EndAll T.opening T.outset.told (map (λ job. option_map (λ s. s.seat) job.session) jobs.entry.items) pass.old pass.new }
     ensures table { pass.new.table ≡ pass.old.table }
 {
     while !jobs.is_empty() {
@@ -140,13 +140,13 @@ pub(crate) fn end_all<'a, S, K, D: Slot + Drop, R: Wait, T: OpenedAs, N: At, G: 
     jobs.destroy_empty();
 }
 
-fn end_one<'a, D: Slot + Drop, R: Wait, T: OpenedAs, N: At, G: Gate>(
+fn end_one<'a, D: Slot + Drop, R: Wait, T: Opened, N: Opened, G: Gate>(
     session: GatedSession<'a, D, R, G, T, N>,
     pass: &mut Pass<D, T>,
 )
     requires named { N.table ≡ Some pass.old.table }
-    requires idle { (held_by T.opening T.told session.seat).live_clients ≡ 0 }
-    ensures ends { EndsOne T.opening T.told session.entry.seat pass.old pass.new }
+    requires idle { (held_by T.opening T.outset.told session.seat).live_clients ≡ 0 }
+    ensures ends { EndsOne T.opening T.outset.told session.entry.seat pass.old pass.new }
     ensures table { pass.new.table ≡ pass.old.table }
 {
     session.law_there();

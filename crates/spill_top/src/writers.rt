@@ -8,7 +8,7 @@ ghost use Rattle.pool.specs.Writers.{Stops};
 ghost use Rattle.spill_top.specs.Beside.{Accepts, Begin, Changes, Waits};
 
 use outside::{Gate, Slot};
-use pool::{OpenedAs, Pass, Pool};
+use pool::{Opened, Pass, Pool};
 use std::sync::Wait;
 use std::thread::{Threads, for_each_mut, join_mut};
 use std::time::Clock;
@@ -18,7 +18,7 @@ use write_behind::Writer;
 const FIRST_WRITER: u32 = 1000;
 
 // So many writers begin, for which there is room.
-pub(crate) fn begin_writers<'a, D: Slot + Drop, R: Wait, T: OpenedAs>(
+pub(crate) fn begin_writers<'a, D: Slot + Drop, R: Wait, T: Opened>(
     rt: &'a R,
     pool: &'a Pool<D, T>,
     pass: &mut Pass<D, T>,
@@ -45,7 +45,7 @@ pub(crate) fn begin_writers<'a, D: Slot + Drop, R: Wait, T: OpenedAs>(
 pub(crate) fn beside_writers<
     R: Threads + Wait + Clock + Sync,
     D: Slot + Drop + Send,
-    T: OpenedAs + Send,
+    T: Opened + Send,
     G: Gate,
     A,
     F: FnMut() -> A,
@@ -77,7 +77,7 @@ pub(crate) fn beside_writers<
 pub(crate) fn each_beside_writers<
     R: Threads + Wait + Clock + Sync,
     D: Slot + Drop + Send,
-    T: OpenedAs + Send,
+    T: Opened + Send,
     G: Gate,
     J: Send,
     E: Fn(usize, &mut J) + Sync,
@@ -157,7 +157,7 @@ fn at_each<R: Threads + Sync, X: Send, E: Fn(usize, &mut X) + Sync>(
 }
 
 // The writers end, the last one first.
-pub(crate) fn end_writers<'a, D: Slot + Drop, R: Wait, T: OpenedAs>(
+pub(crate) fn end_writers<'a, D: Slot + Drop, R: Wait, T: Opened>(
     mut writers: Vec<Writer<'a, D, R, T>>,
     pass: &mut Pass<D, T>,
 )

@@ -10,7 +10,7 @@ use crate::rest::Rest;
 use crate::tried::Tried;
 use outside::{Gate, Slot};
 use pin_core::Wrote;
-use pool::{OpenedAs, Pass, Pool, WriterSeat, WriterTurn};
+use pool::{Opened, Pass, Pool, WriterSeat, WriterTurn};
 use std::marker::Brand;
 use std::sync::Wait;
 use std::time::Clock;
@@ -18,14 +18,14 @@ use std::time::Clock;
 /// A writer of a pool. It has the runtime that lets it wait for its turn.
 ///
 /// It can't be let go: it ends by `end`.
-pub struct Writer<'a, D: Slot, R: Wait, T: OpenedAs = Brand> {
+pub struct Writer<'a, D: Slot, R: Wait, T: Opened = Brand> {
     rt: &'a R,
     pool: &'a Pool<D, T>,
     pub(crate) seat: WriterSeat<D, T>,
     ghost table: { seat.spot.table ≡ pool.now },
 }
 
-impl<'a, D: Slot + Drop, R: Wait, T: OpenedAs> Writer<'a, D, R, T> {
+impl<'a, D: Slot + Drop, R: Wait, T: Opened> Writer<'a, D, R, T> {
     /// A writer of this pool, with the number `who`, 1000 to 1007, which no other writer has that hasn't ended.
     pub fn begin(
         rt: &'a R,
@@ -44,7 +44,7 @@ impl<'a, D: Slot + Drop, R: Wait, T: OpenedAs> Writer<'a, D, R, T> {
 
     /// Stores a dirty page, if there is one. It passes the gate before and after the store, while others have turns.
     pub fn one<G: Gate>(&mut self, gate: &G) -> Tried
-        ensures { Tries D.Slot T.opening T.told T.first self.old.seat self.new.seat result }
+        ensures { Tries D.Slot T.opening T.outset.told T.first self.old.seat self.new.seat result }
     {
         match self.pool.writer_turn(self.rt, &mut self.seat) {
             WriterTurn::Stopped => Tried::Closed,
@@ -71,7 +71,7 @@ impl<'a, D: Slot + Drop, R: Wait, T: OpenedAs> Writer<'a, D, R, T> {
     }
 }
 
-impl<'a, D: Slot + Drop, R: Wait + Clock, T: OpenedAs> Writer<'a, D, R, T> {
+impl<'a, D: Slot + Drop, R: Wait + Clock, T: Opened> Writer<'a, D, R, T> {
     /// Stores dirty pages until it finds that writers have to end. Where none is dirty, or a store failed, it rests
     /// before it looks again, each time longer, up to a millisecond.
     pub fn run<G: Gate>(&mut self, gate: &G)

@@ -1,5 +1,6 @@
-use Rattle.std.proofs.Common.{◌==◌, length, false}
+use Rattle.std.proofs.Common.{◌==◌, None, length, false, true}
 use Rattle.pin_core.specs.Tallies.{tally_of}
+use Rattle.pool.specs.Sitting.{shared}
 use Rattle.example_groups.proofs.in_pool.Given as goal
 
 -- what the pool opens with: its numbers, that nothing is known of what slots hold, and what they counted
@@ -14,6 +15,8 @@ ghosts-in_pool_as g a = record {
     faults = 0;
     stores = 0;
   };
-  told = false;
+  outset = shared false;
   first = tally_of g.D.Slot a.slots.items;
+  named = true;
+  table = None;
 }

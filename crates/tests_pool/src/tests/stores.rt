@@ -2,7 +2,7 @@
 ghost use Rattle.std.specs.Prelude.{◌≡◌, ◌≤◌, Some, IfOk, vec_len};
 ghost use Rattle.store_api.specs.Conditions.{IsLiveClient};
 ghost use Rattle.store_api.specs.Alike.{AlikeButClients};
-ghost use Rattle.local_pool.specs.Counting.{at_opening};
+ghost use Rattle.local_pool.specs.Counting.{at_opening, named_at};
 ghost use Rattle.pin_core.specs.Tallies.{Counted, tally_of};
 ghost use Rattle.tuple_stream.specs.PageRows.{IsOneRow};
 ghost use Rattle.tuple_stream.specs.Places.{IsWithin};
@@ -11,7 +11,7 @@ ghost use Rattle.tuple_stream.specs.Touches.{Touches};
 
 use super::owner::{self, Own};
 use super::{shows, steps};
-use local_pool::{LocalPool, OpenedWith};
+use local_pool::{LocalPool, Opened};
 use outside::Slot;
 use page_table::Place;
 use pin_core::PoolConf;
@@ -170,12 +170,9 @@ fn rows_on_pages<St: Store>(store: &mut St, alloc: Global) -> Result<(Vec<u8>, u
 
 // The same over these slots, which come back. `T` names what they counted, for contracts alone.
 #[tactic(auto, unfolding(pool_model::specs::Bytes::bytes_of))]
-fn slots_after<D: Slot + Drop, T: OpenedWith>(
-    alloc: Global,
-    slots: Vec<D>,
-) -> Result<Vec<D>, StreamErr>
+fn slots_after<D: Slot + Drop, T: Opened>(alloc: Global, slots: Vec<D>) -> Result<Vec<D>, StreamErr>
     requires few { vec_len slots ≤ 1024 }
-    requires opened { T.opened ≡ Some (at_opening (tally_of D.Slot slots.items) 0 20) }
+    requires opened { named_at T.named T.opening T.first ≡ Some (at_opening (tally_of D.Slot slots.items) 0 20) }
     ensures { IfOk result (λ back. Counted 0 0 0 (tally_of D.Slot slots.items) (tally_of D.Slot back.items)) }
 {
     let conf = PoolConf {

@@ -8,7 +8,7 @@ ghost use Rattle.pool.specs.Asking.{answer_of};
 ghost use Rattle.tests_sessions.specs.Ending.{AsMany, CanEnd, AllCanEnd, came_by};
 
 use outside::Slot;
-use pool::{Ask, At, OpenedAs, Pass, Pool, Session};
+use pool::{Ask, Opened, Pass, Pool, Session};
 use reservation_tree::PoolErr;
 use std::alloc::Global;
 use std::marker::Brand;
@@ -24,7 +24,7 @@ pub struct Asked {
 }
 
 // Each list has a turn, and the sessions that came end before the next turn.
-pub fn ask_turns<T: OpenedAs, D: Slot + Drop, R: Wait + Abort>(
+pub fn ask_turns<T: Opened, D: Slot + Drop, R: Wait + Abort>(
     rt: &R,
     alloc: Global,
     pool: &Pool<D, T>,
@@ -40,7 +40,7 @@ pub fn ask_turns<T: OpenedAs, D: Slot + Drop, R: Wait + Abort>(
     }
 }
 
-fn ask_together<T: OpenedAs, D: Slot + Drop, R: Wait + Abort>(
+fn ask_together<T: Opened, D: Slot + Drop, R: Wait + Abort>(
     rt: &R,
     alloc: Global,
     pool: &Pool<D, T>,
@@ -84,13 +84,13 @@ fn asks_of<R: Abort>(rt: &R, alloc: Global, spare: u32, asked: &[Asked]) -> Vec<
 }
 
 // The answer is as the row says, and the sessions that came with it end.
-fn end_answered<'a, N: At, T: OpenedAs, D: Slot + Drop, R: Wait + Abort>(
+fn end_answered<'a, N: Opened, T: Opened, D: Slot + Drop, R: Wait + Abort>(
     rt: &R,
     pass: &mut Pass<D, T>,
     row: &Asked,
     answer: Result<Vec<Session<'a, D, R, T, N>>, PoolErr>,
 )
-    requires end { AllCanEnd T.opening T.told pass.old.table (answer_of (λ v. v.items) (λ s. s.seat) answer) }
+    requires end { AllCanEnd T.opening T.outset.told pass.old.table (answer_of (λ v. v.items) (λ s. s.seat) answer) }
     ensures table { pass.new.table ≡ pass.old.table }
     ensures count { live_in pass.new.knows.seen + came_by (answer_of (λ v. v.items) (λ s. s.seat) answer.entry) ≡ live_in pass.old.knows.seen }
     ensures writers { writers_out pass.new ≡ writers_out pass.old }
@@ -106,13 +106,13 @@ fn end_answered<'a, N: At, T: OpenedAs, D: Slot + Drop, R: Wait + Abort>(
 }
 
 // Sessions end that have so many bytes of room.
-fn end_all<'a, N: At, T: OpenedAs, D: Slot + Drop, R: Wait + Abort>(
+fn end_all<'a, N: Opened, T: Opened, D: Slot + Drop, R: Wait + Abort>(
     rt: &R,
     pass: &mut Pass<D, T>,
     room: u64,
     mut sessions: Vec<Session<'a, D, R, T, N>>,
 )
-    requires end { All (λ s. CanEnd T.opening T.told pass.old.table s.seat) sessions.items }
+    requires end { All (λ s. CanEnd T.opening T.outset.told pass.old.table s.seat) sessions.items }
     ensures table { pass.new.table ≡ pass.old.table }
     ensures count { live_in pass.new.knows.seen + vec_len sessions.entry ≡ live_in pass.old.knows.seen }
     ensures writers { writers_out pass.new ≡ writers_out pass.old }

@@ -9,7 +9,7 @@ use crate::tests::owners::Owner;
 use crate::tests::seats::seated;
 use crate::tests::writers::await_held;
 use outside::{Failed, Gate, MeetGate, MemSlot, Point, Slot};
-use pool::{At, OpenedAs, Pass, Pool};
+use pool::{Opened, Pass, Pool};
 use std::alloc::Global;
 use std::process::Abort;
 use std::sync::Wait;
@@ -53,8 +53,8 @@ impl<'a> Slot for HeldSlot<'a> {
 // A session stores its page itself, and loads it, while the other session has turns.
 pub fn store_and_load<
     'x,
-    N: At + Send,
-    T: OpenedAs + Send,
+    N: Opened + Send,
+    T: Opened + Send,
     D: Slot + Drop + Send,
     R: Threads + Wait + Abort + Sync,
 >(rt: &'x R, alloc: Global, pool: &'x Pool<D, T>, pass: &mut Pass<D, T>, gate: &MeetGate)

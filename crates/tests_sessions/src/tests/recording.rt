@@ -8,7 +8,7 @@ use crate::tests::writers::Writing;
 use crate::tests::{eight_blocks, eight_slots};
 use outside::Slot;
 use pin_core::PoolConf;
-use pool::{OpenedAs, Pool, Trace};
+use pool::{Opened, Pool, Trace};
 use reservation_tree::Memory;
 use std::alloc::Global;
 use std::marker::Brand;
@@ -113,7 +113,7 @@ fn recorded<D: Slot + Drop + Send, R: Threads + Wait + Abort + Sync>(
 }
 
 // The same, where `T` names with what the pool opens.
-fn recorded_as<T: OpenedAs + Send, D: Slot + Drop + Send, R: Threads + Wait + Abort + Sync>(
+fn recorded_as<T: Opened + Send, D: Slot + Drop + Send, R: Threads + Wait + Abort + Sync>(
     rt: &R,
     alloc: Global,
     conf: &PoolConf,
@@ -122,7 +122,7 @@ fn recorded_as<T: OpenedAs + Send, D: Slot + Drop + Send, R: Threads + Wait + Ab
 ) -> Trace
     requires conf { OpensWith conf.now }
     requires slots { vec_len slots ≤ 1048576 }
-    requires opens { OpensAs D.Slot conf.now slots.items T.opening T.told T.first }
+    requires opens { OpensAs D.Slot conf.now slots.items T.opening T.outset.told T.first }
 {
     let count = slots.len();
     let Ok((pool, mut pass)) = Pool::<D, T>::open(alloc, conf, slots) else {

@@ -13,7 +13,7 @@ use crate::tests::held::store_and_load;
 use crate::tests::writers::{Writing, write_beside};
 use outside::{MeetGate, Slot};
 use pin_core::PoolConf;
-use pool::{At, OpenedAs, Pass, Pool, Session};
+use pool::{Opened, Pass, Pool, Session};
 use reservation_tree::{PoolErr, TrackerId};
 use std::alloc::Global;
 use std::marker::Brand;
@@ -65,7 +65,7 @@ pub fn played<D: Slot + Drop + Send, R: Threads + Wait + Abort + Sync>(
 }
 
 // The same, where `T` names with what the pool opens.
-fn played_as<T: OpenedAs + Send, D: Slot + Drop + Send, R: Threads + Wait + Abort + Sync>(
+fn played_as<T: Opened + Send, D: Slot + Drop + Send, R: Threads + Wait + Abort + Sync>(
     rt: &R,
     alloc: Global,
     conf: &PoolConf,
@@ -74,7 +74,7 @@ fn played_as<T: OpenedAs + Send, D: Slot + Drop + Send, R: Threads + Wait + Abor
 )
     requires conf { OpensWith conf.now }
     requires slots { vec_len slots ≤ 1048576 }
-    requires opens { OpensAs D.Slot conf.now slots.items T.opening T.told T.first }
+    requires opens { OpensAs D.Slot conf.now slots.items T.opening T.outset.told T.first }
 {
     let count = slots.len();
     let Ok((pool, mut pass)) = Pool::<D, T>::open(alloc, conf, slots) else {
@@ -87,8 +87,8 @@ fn played_as<T: OpenedAs + Send, D: Slot + Drop + Send, R: Threads + Wait + Abor
 // The scene is played in this pool, and all slots are spare again.
 pub fn play_scene<
     'x,
-    N: At + Send,
-    T: OpenedAs + Send,
+    N: Opened + Send,
+    T: Opened + Send,
     D: Slot + Drop + Send,
     R: Threads + Wait + Abort + Sync,
 >(rt: &'x R, alloc: Global, pool: &'x Pool<D, T>, pass: &mut Pass<D, T>, scene: &Scene)
@@ -111,7 +111,7 @@ pub fn play_scene<
     assert_eq!(rt; pass.spare(), count);
 }
 
-fn third_waits<T: OpenedAs, D: Slot + Drop, R: Wait + Abort>(
+fn third_waits<T: Opened, D: Slot + Drop, R: Wait + Abort>(
     rt: &R,
     alloc: Global,
     pool: &Pool<D, T>,
@@ -137,7 +137,7 @@ fn third_waits<T: OpenedAs, D: Slot + Drop, R: Wait + Abort>(
     two.end(pass);
 }
 
-fn two_walk<'x, N: At, T: OpenedAs, D: Slot + Drop, R: Wait + Abort>(
+fn two_walk<'x, N: Opened, T: Opened, D: Slot + Drop, R: Wait + Abort>(
     rt: &'x R,
     alloc: Global,
     pool: &'x Pool<D, T>,
@@ -166,7 +166,7 @@ fn two_walk<'x, N: At, T: OpenedAs, D: Slot + Drop, R: Wait + Abort>(
     two.end(pass);
 }
 
-fn seat_more<T: OpenedAs, D: Slot + Drop, R: Wait + Abort>(
+fn seat_more<T: Opened, D: Slot + Drop, R: Wait + Abort>(
     rt: &R,
     alloc: Global,
     pool: &Pool<D, T>,
@@ -187,7 +187,7 @@ fn seat_more<T: OpenedAs, D: Slot + Drop, R: Wait + Abort>(
     session.end(pass);
 }
 
-fn seat_rows<T: OpenedAs, D: Slot + Drop, R: Wait + Abort>(
+fn seat_rows<T: Opened, D: Slot + Drop, R: Wait + Abort>(
     rt: &R,
     alloc: Global,
     pool: &Pool<D, T>,
@@ -219,7 +219,7 @@ fn seat_rows<T: OpenedAs, D: Slot + Drop, R: Wait + Abort>(
 }
 
 // A session that has so many bytes, and so many slots.
-pub fn seated<'a, N: At, T: OpenedAs, D: Slot + Drop, R: Wait + Abort>(
+pub fn seated<'a, N: Opened, T: Opened, D: Slot + Drop, R: Wait + Abort>(
     rt: &'a R,
     alloc: Global,
     pool: &'a Pool<D, T>,
@@ -229,7 +229,7 @@ pub fn seated<'a, N: At, T: OpenedAs, D: Slot + Drop, R: Wait + Abort>(
 ) -> Session<'a, D, R, T, N>
     requires named { ForSome N.table (λ table. pool.now ≡ table) }
     requires table { pass.old.table ≡ pool.now }
-    ensures begins { Begins T.opening T.told bytes quota bytes pass.old pass.new result.seat }
+    ensures begins { Begins T.opening T.outset.told bytes quota bytes pass.old pass.new result.seat }
 {
     assert!(rt; quota <= pass.spare());
     match pool.session::<R, N>(alloc, rt, pass, bytes, quota, bytes) {
@@ -239,7 +239,7 @@ pub fn seated<'a, N: At, T: OpenedAs, D: Slot + Drop, R: Wait + Abort>(
 }
 
 // Why no session comes that asks for so many bytes and no slot.
-fn turned_away<T: OpenedAs, D: Slot + Drop, R: Wait + Abort>(
+fn turned_away<T: Opened, D: Slot + Drop, R: Wait + Abort>(
     rt: &R,
     alloc: Global,
     pool: &Pool<D, T>,

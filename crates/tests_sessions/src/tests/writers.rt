@@ -12,7 +12,7 @@ ghost use Rattle.tests_sessions.specs.Owning.{IsBare, Rests};
 use crate::tests::owners::Owner;
 use crate::tests::seats::seated;
 use outside::{Gate, MeetGate, OpenGate, Point, Slot};
-use pool::{Ask, At, OpenedAs, Pass, Pool, Session};
+use pool::{Ask, Opened, Pass, Pool, Session};
 use std::alloc::Global;
 use std::process::Abort;
 use std::sync::Wait;
@@ -56,7 +56,7 @@ pub trait Holdable {
         ensures { lock self.new ≡ lock self.old };
 }
 
-impl<'a, D: Slot + Drop, R: Wait, T: OpenedAs> Holdable for Writer<'a, D, R, T> {
+impl<'a, D: Slot + Drop, R: Wait, T: Opened> Holdable for Writer<'a, D, R, T> {
     ghost lock = { λ w. w.seat.spot.table };
 
     fn try_at(&mut self, gate: &MeetGate) -> Tried {
@@ -67,8 +67,8 @@ impl<'a, D: Slot + Drop, R: Wait, T: OpenedAs> Holdable for Writer<'a, D, R, T> 
 // A writer begins, and ends before the sessions do.
 pub fn write_beside<
     'x,
-    N: At + Send,
-    T: OpenedAs + Send,
+    N: Opened + Send,
+    T: Opened + Send,
     D: Slot + Drop + Send,
     R: Threads + Wait + Abort + Sync,
 >(rt: &'x R, alloc: Global, pool: &'x Pool<D, T>, pass: &mut Pass<D, T>, writing: Writing)
@@ -88,7 +88,7 @@ pub fn write_beside<
     }
 }
 
-fn store_two<'x, N: At, T: OpenedAs, D: Slot + Drop, R: Wait + Abort>(
+fn store_two<'x, N: Opened, T: Opened, D: Slot + Drop, R: Wait + Abort>(
     rt: &'x R,
     alloc: Global,
     pool: &'x Pool<D, T>,
@@ -118,7 +118,7 @@ fn store_two<'x, N: At, T: OpenedAs, D: Slot + Drop, R: Wait + Abort>(
 }
 
 // The writer stores these two pages, and then finds no other.
-fn check_stored<T: OpenedAs, D: Slot + Drop, R: Wait + Abort>(
+fn check_stored<T: Opened, D: Slot + Drop, R: Wait + Abort>(
     rt: &R,
     writer: &mut Writer<'_, D, R, T>,
     one: u64,
@@ -137,7 +137,7 @@ fn check_stored<T: OpenedAs, D: Slot + Drop, R: Wait + Abort>(
     assert_eq!(rt; tried(writer), Tried::Nothing);
 }
 
-fn fail_once<'x, N: At, T: OpenedAs, D: Slot + Drop, R: Wait + Abort>(
+fn fail_once<'x, N: Opened, T: Opened, D: Slot + Drop, R: Wait + Abort>(
     rt: &'x R,
     alloc: Global,
     pool: &'x Pool<D, T>,
@@ -161,7 +161,7 @@ fn fail_once<'x, N: At, T: OpenedAs, D: Slot + Drop, R: Wait + Abort>(
     session.end(pass);
 }
 
-fn fail_both<'x, N: At, T: OpenedAs, D: Slot + Drop, R: Wait + Abort>(
+fn fail_both<'x, N: Opened, T: Opened, D: Slot + Drop, R: Wait + Abort>(
     rt: &'x R,
     alloc: Global,
     pool: &'x Pool<D, T>,
@@ -194,8 +194,8 @@ fn fail_both<'x, N: At, T: OpenedAs, D: Slot + Drop, R: Wait + Abort>(
 // Nobody lets the writer pass, so its page is in flight for as long as it looks.
 fn want_flying<
     'x,
-    N: At + Send,
-    T: OpenedAs + Send,
+    N: Opened + Send,
+    T: Opened + Send,
     D: Slot + Drop + Send,
     R: Threads + Wait + Abort + Sync,
 >(rt: &'x R, alloc: Global, pool: &'x Pool<D, T>, pass: &mut Pass<D, T>)
@@ -249,8 +249,8 @@ fn look_beside<W: Holdable + Send, St: Store + Send, R: Threads + Abort + Sync>(
 
 fn hold_store<
     'x,
-    N: At + Send,
-    T: OpenedAs + Send,
+    N: Opened + Send,
+    T: Opened + Send,
     D: Slot + Drop + Send,
     R: Threads + Wait + Abort + Sync,
 >(rt: &'x R, alloc: Global, pool: &'x Pool<D, T>, pass: &mut Pass<D, T>)
@@ -328,7 +328,7 @@ pub fn await_held(gate: &MeetGate) {
     }
 }
 
-fn hold_load<'x, N: At, T: OpenedAs, D: Slot + Drop, R: Wait + Abort>(
+fn hold_load<'x, N: Opened, T: Opened, D: Slot + Drop, R: Wait + Abort>(
     rt: &'x R,
     alloc: Global,
     pool: &'x Pool<D, T>,
@@ -363,14 +363,14 @@ fn hold_load<'x, N: At, T: OpenedAs, D: Slot + Drop, R: Wait + Abort>(
 }
 
 // The page is looked at by a session that passes a gate as 5, and passes none again afterwards.
-fn look_at_gate<'x, N: At, T: OpenedAs, D: Slot + Drop, R: Wait + Abort>(
+fn look_at_gate<'x, N: Opened, T: Opened, D: Slot + Drop, R: Wait + Abort>(
     rt: &R,
     session: Session<'x, D, R, T, N>,
     owner: &Owner,
     gate: &'x MeetGate,
 ) -> Session<'x, D, R, T, N>
-    requires { Rests owner.now.client owner.now.page (held_by T.opening T.told session.seat) }
-    ensures { Rests owner.now.client owner.now.page (held_by T.opening T.told result.seat) }
+    requires { Rests owner.now.client owner.now.page (held_by T.opening T.outset.told session.seat) }
+    ensures { Rests owner.now.client owner.now.page (held_by T.opening T.outset.told result.seat) }
 {
     let mut gated = session.with_gate(gate, 5);
     owner.look(rt, &mut gated);
@@ -378,7 +378,7 @@ fn look_at_gate<'x, N: At, T: OpenedAs, D: Slot + Drop, R: Wait + Abort>(
 }
 
 // The pool's one writer.
-fn begun<'a, T: OpenedAs, D: Slot + Drop, R: Wait>(
+fn begun<'a, T: Opened, D: Slot + Drop, R: Wait>(
     rt: &'a R,
     pool: &'a Pool<D, T>,
     pass: &mut Pass<D, T>,
@@ -393,14 +393,14 @@ fn begun<'a, T: OpenedAs, D: Slot + Drop, R: Wait>(
 }
 
 // What one try of a writer comes to.
-fn tried<T: OpenedAs, D: Slot + Drop, R: Wait>(writer: &mut Writer<'_, D, R, T>) -> Tried
+fn tried<T: Opened, D: Slot + Drop, R: Wait>(writer: &mut Writer<'_, D, R, T>) -> Tried
     ensures { writer.new.seat.spot.table ≡ writer.old.seat.spot.table }
 {
     writer.one(&OpenGate)
 }
 
 // The writer is told to end, finds that whatever is dirty, and ends.
-fn ended<T: OpenedAs, D: Slot + Drop, R: Wait + Abort>(
+fn ended<T: Opened, D: Slot + Drop, R: Wait + Abort>(
     rt: &R,
     pool: &Pool<D, T>,
     pass: &mut Pass<D, T>,
@@ -418,7 +418,7 @@ fn ended<T: OpenedAs, D: Slot + Drop, R: Wait + Abort>(
 }
 
 // Two sessions that come together, and share all slots.
-fn seated_two<'a, N: At, T: OpenedAs, D: Slot + Drop, R: Wait + Abort>(
+fn seated_two<'a, N: Opened, T: Opened, D: Slot + Drop, R: Wait + Abort>(
     rt: &'a R,
     alloc: Global,
     pool: &'a Pool<D, T>,
@@ -429,7 +429,7 @@ fn seated_two<'a, N: At, T: OpenedAs, D: Slot + Drop, R: Wait + Abort>(
     ensures table { pass.new.table ≡ pool.now }
     ensures sessions { live_in pass.new.knows.seen ≡ live_in pass.old.knows.seen + 2 }
     ensures writers { writers_out pass.new ≡ writers_out pass.old }
-    ensures bare { IsBare 0 (held_by T.opening T.told result.0.seat) × IsBare 0 (held_by T.opening T.told result.1.seat) }
+    ensures bare { IsBare 0 (held_by T.opening T.outset.told result.0.seat) × IsBare 0 (held_by T.opening T.outset.told result.1.seat) }
 {
     let ask = Ask {
         limit: 256,

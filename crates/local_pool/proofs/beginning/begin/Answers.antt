@@ -12,6 +12,7 @@ use Rattle.session_calls.specs.declared.hand.Hand.{Hand}
 use Rattle.pin_core.specs.Tallies.{tally_in}
 use Rattle.pin_core.specs.declared.tally.Tally.{Tally}
 use Rattle.session_calls.specs.declared.count.Count.TheVariants as count
+use Rattle.local_pool.specs.Counting.{named_at}
 use Rattle.local_pool.specs.Beginning.{first_events}
 use Rattle.pin_core.proofs.Tallied.{tally_same}
 use Rattle.local_pool.proofs.Shelved.{seen_first}
@@ -72,7 +73,7 @@ invariant_of-result g c =
     tally_same g.D.Slot (λ measure. slots_home measure c.args.pool) (λ measure. slots_home measure own.state) (λ measure. let home = c.in-Ok.ensures.ok.slots measure in omega (arith, home)) in
     let counts : own.counts ≡ count.Opening (tally_in g.D.Slot own.state) ∷ [] = c.requires.counts ∙ ap (λ (t : Tally). count.Opening t ∷ []) same in (
       stands_first g.D.Slot own q c.args.limit c.args.quota c.args.least trail c.args._conf.now o (is_opening c.args._conf.now (spare_of c.args.pool)) stood c.in-Ok.ensures.fresh.0 counts
-          g.T.OpenedWith.opened (counted_alike g.T.OpenedWith.opened (tally_in g.D.Slot c.args.pool) (tally_in g.D.Slot own.state) c.args._conf.now.first_name _ same c.requires.opens),
+          (named_at g.T.Opened.named g.T.Opened.opening g.T.Opened.first) (counted_alike (named_at g.T.Opened.named g.T.Opened.opening g.T.Opened.first) (tally_in g.D.Slot c.args.pool) (tally_in g.D.Slot own.state) c.args._conf.now.first_name _ same c.requires.opens),
       fits_first g.D.Slot own q c.args.limit c.args.quota c.args.least trail c.args._conf.now o (is_opening c.args._conf.now (spare_of c.args.pool)) stood c.in-Ok.ensures.fresh.0 counts
           c.see.new.self (c.see.ensures.seen ∙ seen_first c.args.books.shelf.seen own.trail c.requires.empty.1) (c.see.ensures.counted ∙ seen_first c.args.books.shelf.counted own.counts c.requires.empty.2),
     )

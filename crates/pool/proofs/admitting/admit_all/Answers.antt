@@ -20,7 +20,7 @@ loop-ask-init g c = (
   c.args.answers.ok.0 ∙ ap length c.requires.none,
   c.requires.room,
   c.requires.slates,
-  at_first g.D.Slot g.T.OpenedAs.opening g.T.OpenedAs.told g.T.OpenedAs.first c.args.asks.now (map numbered c.args.answers.items) (record { trail = c.args.shared.now.trail; counts = c.args.shared.now.counts }) c.args.shared.now.state (ap (map numbered) c.requires.none) c.requires.stands c.requires.spare,
+  at_first g.D.Slot g.T.Opened.opening g.T.Opened.outset.told g.T.Opened.first c.args.asks.now (map numbered c.args.answers.items) (record { trail = c.args.shared.now.trail; counts = c.args.shared.now.counts }) c.args.shared.now.state (ap (map numbered) c.requires.none) c.requires.stands c.requires.spare,
   refl,
 )
 
@@ -54,8 +54,8 @@ loop-ask-preserved g c =
     let slates : AreSlates todo c.pop.new.self.items =
     slates_left ask todo c.loop-ask.slates.items c.pop.new.self.items c.pop.result (subst (λ (l : List Ask). AreSlates l c.loop-ask.slates.items) is c.loop-ask.invariant.2) c.pop.ensures.items
     c.unwrap-slate.result c.unwrap-slate.ensures in
-    let was : Between g.D.Slot g.T.OpenedAs.opening g.T.OpenedAs.told g.T.OpenedAs.first asks (ask ∷ todo) (record { trail = c.args.shared.now.trail; counts = c.args.shared.now.counts }) c.args.shared.now.state (map numbered c.loop-ask.answers.items) (record { trail = c.loop-ask.shared.trail; counts = c.loop-ask.shared.counts }) c.loop-ask.shared.state =
-    subst (λ (l : List Ask). Between g.D.Slot g.T.OpenedAs.opening g.T.OpenedAs.told g.T.OpenedAs.first asks l (record { trail = c.args.shared.now.trail; counts = c.args.shared.now.counts }) c.args.shared.now.state (map numbered c.loop-ask.answers.items) (record { trail = c.loop-ask.shared.trail; counts = c.loop-ask.shared.counts }) c.loop-ask.shared.state) is c.loop-ask.invariant.3 in
+    let was : Between g.D.Slot g.T.Opened.opening g.T.Opened.outset.told g.T.Opened.first asks (ask ∷ todo) (record { trail = c.args.shared.now.trail; counts = c.args.shared.now.counts }) c.args.shared.now.state (map numbered c.loop-ask.answers.items) (record { trail = c.loop-ask.shared.trail; counts = c.loop-ask.shared.counts }) c.loop-ask.shared.state =
+    subst (λ (l : List Ask). Between g.D.Slot g.T.Opened.opening g.T.Opened.outset.told g.T.Opened.first asks l (record { trail = c.args.shared.now.trail; counts = c.args.shared.now.counts }) c.args.shared.now.state (map numbered c.loop-ask.answers.items) (record { trail = c.loop-ask.shared.trail; counts = c.loop-ask.shared.counts }) c.loop-ask.shared.state) is c.loop-ask.invariant.3 in
     let answers : map numbered c.push_reserved.new.self.items ≡ map numbered c.loop-ask.answers.items ++ numbered c.match-refusal_of.answer ∷ [] =
     ap (map numbered) c.push_reserved.ensures.items ∙ map-append numbered c.loop-ask.answers.items (c.match-refusal_of.answer ∷ []) in
     let why : c.refusal_of.result ≡ first_refusal ask.count ask (left_in (state_of c.loop-ask.shared.state)) = c.refusal_of.ensures ∙ ap (first_refusal ask.count ask) c.left_of.ensures in
@@ -66,17 +66,17 @@ loop-ask-preserved g c =
       omega (arith, len, len_was),
       omega (arith, cap, cap_was),
       slates,
-      subst (λ (rs : List (Result (List ℕ) PoolErr)). Between g.D.Slot g.T.OpenedAs.opening g.T.OpenedAs.told g.T.OpenedAs.first asks todo (record { trail = c.args.shared.now.trail; counts = c.args.shared.now.counts }) c.args.shared.now.state rs (record { trail = c.match-refusal_of.shared.trail; counts = c.match-refusal_of.shared.counts }) c.match-refusal_of.shared.state) (sym answers)
+      subst (λ (rs : List (Result (List ℕ) PoolErr)). Between g.D.Slot g.T.Opened.opening g.T.Opened.outset.told g.T.Opened.first asks todo (record { trail = c.args.shared.now.trail; counts = c.args.shared.now.counts }) c.args.shared.now.state rs (record { trail = c.match-refusal_of.shared.trail; counts = c.match-refusal_of.shared.counts }) c.match-refusal_of.shared.state) (sym answers)
           (elim c.match-refusal_of.branch [
             | in-Some w ↦
-                subst (λ (s : Shared g.row.D.Denot g.row.T.Denot). Between g.D.Slot g.T.OpenedAs.opening g.T.OpenedAs.told g.T.OpenedAs.first asks todo (record { trail = c.args.shared.now.trail; counts = c.args.shared.now.counts }) c.args.shared.now.state
+                subst (λ (s : Shared g.row.D.Denot g.row.T.Denot). Between g.D.Slot g.T.Opened.opening g.T.Opened.outset.told g.T.Opened.first asks todo (record { trail = c.args.shared.now.trail; counts = c.args.shared.now.counts }) c.args.shared.now.state
                 (map numbered c.loop-ask.answers.items ++ numbered c.match-refusal_of.answer ∷ []) (record { trail = s.trail; counts = s.counts }) s.state) (sym w.shared-is)
-                (past_refused g.D.Slot g.T.OpenedAs.opening g.T.OpenedAs.told g.T.OpenedAs.first asks todo ask (record { trail = c.args.shared.now.trail; counts = c.args.shared.now.counts }) c.args.shared.now.state (map numbered c.loop-ask.answers.items) (record { trail = c.loop-ask.shared.trail; counts = c.loop-ask.shared.counts }) c.loop-ask.shared.state
+                (past_refused g.D.Slot g.T.Opened.opening g.T.Opened.outset.told g.T.Opened.first asks todo ask (record { trail = c.args.shared.now.trail; counts = c.args.shared.now.counts }) c.args.shared.now.state (map numbered c.loop-ask.answers.items) (record { trail = c.loop-ask.shared.trail; counts = c.loop-ask.shared.counts }) c.loop-ask.shared.state
                 was (numbered c.match-refusal_of.answer) w.in-Some.refusal (sym why ∙ w.in-Some.is) (ap numbered w.answer-is))
             | in-None w ↦
-                subst (λ (s : Shared g.row.D.Denot g.row.T.Denot). Between g.D.Slot g.T.OpenedAs.opening g.T.OpenedAs.told g.T.OpenedAs.first asks todo (record { trail = c.args.shared.now.trail; counts = c.args.shared.now.counts }) c.args.shared.now.state
+                subst (λ (s : Shared g.row.D.Denot g.row.T.Denot). Between g.D.Slot g.T.Opened.opening g.T.Opened.outset.told g.T.Opened.first asks todo (record { trail = c.args.shared.now.trail; counts = c.args.shared.now.counts }) c.args.shared.now.state
                 (map numbered c.loop-ask.answers.items ++ numbered c.match-refusal_of.answer ∷ []) (record { trail = s.trail; counts = s.counts }) s.state) (sym w.shared-is)
-                (past_admitted g.D.Slot g.T.OpenedAs.opening g.T.OpenedAs.told g.T.OpenedAs.first asks todo ask (record { trail = c.args.shared.now.trail; counts = c.args.shared.now.counts }) c.args.shared.now.state (map numbered c.loop-ask.answers.items) (record { trail = c.loop-ask.shared.trail; counts = c.loop-ask.shared.counts }) c.loop-ask.shared.state
+                (past_admitted g.D.Slot g.T.Opened.opening g.T.Opened.outset.told g.T.Opened.first asks todo ask (record { trail = c.args.shared.now.trail; counts = c.args.shared.now.counts }) c.args.shared.now.state (map numbered c.loop-ask.answers.items) (record { trail = c.loop-ask.shared.trail; counts = c.loop-ask.shared.counts }) c.loop-ask.shared.state
                 was (numbered c.match-refusal_of.answer) w.admit_ask.result.items (record { trail = w.admit_ask.new.shared.trail; counts = w.admit_ask.new.shared.counts }) w.admit_ask.new.shared.state (sym why ∙ w.in-None.is) w.admit_ask.ensures.admits (ap numbered w.answer-is))
           ]),
       elim c.match-refusal_of.branch [
@@ -88,5 +88,5 @@ loop-ask-preserved g c =
 pub returns-clause-admits : goal.returns-clause-admits
 returns-clause-admits g c = λ before stood.
     let none : drop c.loop-ask.ask-index c.args.asks.now ≡ [] = drop_all c.loop-ask.ask-index c.args.asks.now c.loop-ask-test.false in
-    all_answered g.D.Slot g.T.OpenedAs.opening g.T.OpenedAs.told g.T.OpenedAs.first c.args.asks.now (drop c.loop-ask.ask-index c.args.asks.now) before (map numbered c.loop-ask.answers.items) c.args.shared.now.state (record { trail = c.loop-ask.shared.trail; counts = c.loop-ask.shared.counts }) c.loop-ask.shared.state none
+    all_answered g.D.Slot g.T.Opened.opening g.T.Opened.outset.told g.T.Opened.first c.args.asks.now (drop c.loop-ask.ask-index c.args.asks.now) before (map numbered c.loop-ask.answers.items) c.args.shared.now.state (record { trail = c.loop-ask.shared.trail; counts = c.loop-ask.shared.counts }) c.loop-ask.shared.state none
     (c.loop-ask.invariant.3.answering before stood)

@@ -6,5 +6,5 @@ use Rattle.pool.proofs.admitting.admit_all.Given as goal
 abbrev pub invariant-loop-ask : goal.invariant-loop-ask
 invariant-loop-ask g l =
     (vec_len l.answers ≡ l.ask-index) × (length l.asks ≤ vec_capacity l.answers) × AreSlates (drop l.ask-index l.asks) l.slates.items
-    × Between g.D.Slot g.T.OpenedAs.opening g.T.OpenedAs.told g.T.OpenedAs.first l.asks (drop l.ask-index l.asks) (record { trail = l.initial.shared.trail; counts = l.initial.shared.counts }) l.initial.shared.state (map numbered l.answers.items) (record { trail = l.shared.trail; counts = l.shared.counts }) l.shared.state
+    × Between g.D.Slot g.T.Opened.opening g.T.Opened.outset.told g.T.Opened.first l.asks (drop l.ask-index l.asks) (record { trail = l.initial.shared.trail; counts = l.initial.shared.counts }) l.initial.shared.state (map numbered l.answers.items) (record { trail = l.shared.trail; counts = l.shared.counts }) l.shared.state
     × (l.shared.stopped ≡ l.initial.shared.stopped)

@@ -30,9 +30,9 @@ loop-i-init g c =
       subst (λ (n : ℕ). first_refusal n ask (left_in (state_of c.args.shared.now.state)) ≡ None) (all_to_come ask.count) c.requires.granted,
       subst (λ (n : ℕ). n * ask.quota ≤ spare_of c.args.shared.now.state) (all_to_come ask.count) (omega (arith, spare)),
       λ before stood.
-          subst (λ (n : ℕ). Coming g.D.Slot g.T.OpenedAs.opening g.T.OpenedAs.told g.T.OpenedAs.first ask before c.args.numbers.items n c.args.shared.now.state (record { trail = c.args.shared.now.trail; counts = c.args.shared.now.counts }) c.args.shared.now.state) (all_to_come ask.count)
-          (subst (λ (ms : List ℕ). Coming g.D.Slot g.T.OpenedAs.opening g.T.OpenedAs.told g.T.OpenedAs.first ask before ms ask.count c.args.shared.now.state (record { trail = c.args.shared.now.trail; counts = c.args.shared.now.counts }) c.args.shared.now.state) (sym none)
-          (none_come g.D.Slot g.T.OpenedAs.opening g.T.OpenedAs.told g.T.OpenedAs.first ask before (record { trail = c.args.shared.now.trail; counts = c.args.shared.now.counts }) c.args.shared.now.state stood)),
+          subst (λ (n : ℕ). Coming g.D.Slot g.T.Opened.opening g.T.Opened.outset.told g.T.Opened.first ask before c.args.numbers.items n c.args.shared.now.state (record { trail = c.args.shared.now.trail; counts = c.args.shared.now.counts }) c.args.shared.now.state) (all_to_come ask.count)
+          (subst (λ (ms : List ℕ). Coming g.D.Slot g.T.Opened.opening g.T.Opened.outset.told g.T.Opened.first ask before ms ask.count c.args.shared.now.state (record { trail = c.args.shared.now.trail; counts = c.args.shared.now.counts }) c.args.shared.now.state) (sym none)
+          (none_come g.D.Slot g.T.Opened.opening g.T.Opened.outset.told g.T.Opened.first ask before (record { trail = c.args.shared.now.trail; counts = c.args.shared.now.counts }) c.args.shared.now.state stood)),
       refl,
     )
 
@@ -47,20 +47,20 @@ loop-i-preserved g c =
     let cap = c.push_reserved.ensures.capacity in
     let cap_was = c.loop-i.invariant.1 in
     let more : left_in (state_of c.admit-number.new.shared.state) ≡ less ask (left_in (state_of c.loop-i.shared.state)) =
-    left_more g.D.Slot g.T.OpenedAs.opening g.T.OpenedAs.told g.T.OpenedAs.first ask c.admit-number.result (record { trail = c.loop-i.shared.trail; counts = c.loop-i.shared.counts }) (record { trail = c.admit-number.new.shared.trail; counts = c.admit-number.new.shared.counts }) c.loop-i.shared.state c.admit-number.new.shared.state
+    left_more g.D.Slot g.T.Opened.opening g.T.Opened.outset.told g.T.Opened.first ask c.admit-number.result (record { trail = c.loop-i.shared.trail; counts = c.loop-i.shared.counts }) (record { trail = c.admit-number.new.shared.trail; counts = c.admit-number.new.shared.counts }) c.loop-i.shared.state c.admit-number.new.shared.state
     c.admit-number.ensures.opens c.admit-number.ensures.trail c.admit-number.ensures.counts.0 c.loop-i.invariant.2.items c.loop-i.invariant.2.stands in (
       omega (arith, len, len_was),
       omega (arith, cap, cap_was),
       record {
         items = _;
-        stands = stands_more g.D.Slot g.T.OpenedAs.opening g.T.OpenedAs.told g.T.OpenedAs.first ask c.admit-number.result (record { trail = c.loop-i.shared.trail; counts = c.loop-i.shared.counts }) (record { trail = c.admit-number.new.shared.trail; counts = c.admit-number.new.shared.counts }) c.loop-i.shared.state c.admit-number.new.shared.state
+        stands = stands_more g.D.Slot g.T.Opened.opening g.T.Opened.outset.told g.T.Opened.first ask c.admit-number.result (record { trail = c.loop-i.shared.trail; counts = c.loop-i.shared.counts }) (record { trail = c.admit-number.new.shared.trail; counts = c.admit-number.new.shared.counts }) c.loop-i.shared.state c.admit-number.new.shared.state
             c.admit-number.ensures.opens c.admit-number.ensures.trail c.admit-number.ensures.counts.0 c.loop-i.invariant.2.items c.loop-i.invariant.2.stands;
       },
       subst (λ (l : Left). first_refusal k ask l ≡ None) (sym more) (next_granted (state_of c.loop-i.shared.state) ask n k is c.loop-i.invariant.3).rest,
       next_spare n k ask.quota (spare_of c.loop-i.shared.state) (spare_of c.admit-number.new.shared.state) is c.loop-i.invariant.4 c.admit-number.ensures.opens.spare,
       λ before stood.
-          subst (λ (ms : List ℕ). Coming g.D.Slot g.T.OpenedAs.opening g.T.OpenedAs.told g.T.OpenedAs.first ask before ms k c.args.shared.now.state (record { trail = c.admit-number.new.shared.trail; counts = c.admit-number.new.shared.counts }) c.admit-number.new.shared.state) (sym c.push_reserved.ensures.items)
-          (one_comes g.D.Slot g.T.OpenedAs.opening g.T.OpenedAs.told g.T.OpenedAs.first ask c.admit-number.result (record { trail = c.loop-i.shared.trail; counts = c.loop-i.shared.counts }) (record { trail = c.admit-number.new.shared.trail; counts = c.admit-number.new.shared.counts }) c.loop-i.shared.state c.admit-number.new.shared.state
+          subst (λ (ms : List ℕ). Coming g.D.Slot g.T.Opened.opening g.T.Opened.outset.told g.T.Opened.first ask before ms k c.args.shared.now.state (record { trail = c.admit-number.new.shared.trail; counts = c.admit-number.new.shared.counts }) c.admit-number.new.shared.state) (sym c.push_reserved.ensures.items)
+          (one_comes g.D.Slot g.T.Opened.opening g.T.Opened.outset.told g.T.Opened.first ask c.admit-number.result (record { trail = c.loop-i.shared.trail; counts = c.loop-i.shared.counts }) (record { trail = c.admit-number.new.shared.trail; counts = c.admit-number.new.shared.counts }) c.loop-i.shared.state c.admit-number.new.shared.state
           c.admit-number.ensures.opens c.admit-number.ensures.trail c.admit-number.ensures.counts.0 before c.loop-i.numbers.items n k c.args.shared.now.state is (c.loop-i.invariant.5 before stood)),
       c.admit-number.ensures.counts.1 ∙ c.loop-i.invariant.6,
     )
@@ -70,5 +70,5 @@ returns-clause-admits g c = λ before stood.
     let ask : Ask = c.args.ask.now in
     let none : ask.count - c.loop-i._i ≡ 0 = let done = c.loop-i-test.false in omega (arith, done) in
     let count : c.loop-i._i ≡ ask.count = let done = c.loop-i-test.false in let few = c.loop-i.auto._i-end in omega (arith, done, few) in
-    all_come g.D.Slot g.T.OpenedAs.opening g.T.OpenedAs.told g.T.OpenedAs.first ask before c.loop-i.numbers.items (ask.count - c.loop-i._i) c.args.shared.now.state (record { trail = c.loop-i.shared.trail; counts = c.loop-i.shared.counts }) c.loop-i.shared.state none
+    all_come g.D.Slot g.T.Opened.opening g.T.Opened.outset.told g.T.Opened.first ask before c.loop-i.numbers.items (ask.count - c.loop-i._i) c.args.shared.now.state (record { trail = c.loop-i.shared.trail; counts = c.loop-i.shared.counts }) c.loop-i.shared.state none
     (sym c.loop-i.numbers.ok.0 ∙ c.loop-i.invariant.0 ∙ count) (c.loop-i.invariant.5 before stood)

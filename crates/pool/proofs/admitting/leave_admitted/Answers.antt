@@ -10,7 +10,7 @@ use Rattle.pool.proofs.admitting.leave_admitted.Goals as goal
 
 pub leave-requires-clause-stands : goal.leave-requires-clause-stands
 leave-requires-clause-stands g c = (
-  subst (λ (es : List Item). StandsAs g.D.Slot g.T.OpenedAs.opening g.T.OpenedAs.told g.T.OpenedAs.first (c.args.seat.now.knows.seen ++ es) (record { trail = c.args.shared.trail; counts = c.args.shared.counts }) c.args.shared.state) (sym c.requires.named) c.requires.stands,
+  subst (λ (es : List Item). StandsAs g.D.Slot g.T.Opened.opening g.T.Opened.outset.told g.T.Opened.first (c.args.seat.now.knows.seen ++ es) (record { trail = c.args.shared.trail; counts = c.args.shared.counts }) c.args.shared.state) (sym c.requires.named) c.requires.stands,
   still_told c.args.shared.stopped c.args.seat.now.knows.seen g.N.Adds.entries (items_since c.args.seat.now.knows.seen c.args.shared.trail) c.requires.stop c.requires.named (stop_items (drop (length (history c.args.seat.now.knows.seen)) c.args.shared.trail)),
 )
 

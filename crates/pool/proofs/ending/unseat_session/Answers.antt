@@ -21,7 +21,7 @@ leave_ended-pass-inside-requires-clause-no_client g c =
     let s : Sitting = record { number = c.seat.inside.number; spot = c.seat.inside.spot } in
     let met : Met c.pass.inside.seat s c.enter-shared.new.seat.knows =
     meets c.enter-shared.ensures.kept.0 c.spot.view_is c.join.ensures.joined c.join.ensures.seen c.join.ensures.other c.enter-shared.ensures.kept.1 c.enter-shared.ensures.seen in
-    no_child c.seat.invariant.sits met c.enter-shared.ensures.stands.0 (subst (λ (x : Sitting). (held_by g.T.OpenedAs.opening g.T.OpenedAs.told x).live_clients ≡ 0) (sym c.seat.view_is) c.requires.no_client)
+    no_child c.seat.invariant.sits met c.enter-shared.ensures.stands.0 (subst (λ (x : Sitting). (held_by g.T.Opened.opening g.T.Opened.outset.told x).live_clients ≡ 0) (sym c.seat.view_is) c.requires.no_client)
 
 pub leave_ended-pass-inside-requires-clause-rights : goal.leave_ended-pass-inside-requires-clause-rights
 leave_ended-pass-inside-requires-clause-rights g c =
@@ -44,6 +44,6 @@ returns g c =
     meets c.enter-shared.ensures.kept.0 c.spot.view_is c.join.ensures.joined c.join.ensures.seen c.join.ensures.other c.enter-shared.ensures.kept.1 c.enter-shared.ensures.seen in
     let new : Spot Item = c.leave_ended-pass-inside.new.seat in
     let table : new.table ≡ c.pass.inside.seat.table = c.leave_ended-pass-inside.ensures.table ∙ sym c.requires.table.0 ∙ ap (λ (p : Spot Item). p.table) (sym c.pass.view_is) in
-    subst (λ (p : Spot Item). Ends g.T.OpenedAs.opening c.args.seat p new) c.pass.view_is
-    (subst (λ (x : Sitting). Ends g.T.OpenedAs.opening x c.pass.inside.seat new) c.seat.view_is
+    subst (λ (p : Spot Item). Ends g.T.Opened.opening c.args.seat p new) c.pass.view_is
+    (subst (λ (x : Sitting). Ends g.T.Opened.opening x c.pass.inside.seat new) c.seat.view_is
     (ends c.seat.invariant.sits met c.enter-shared.ensures.stands.0 c.pass.invariant new c.leave_ended-pass-inside.ensures.grown table))

@@ -12,7 +12,7 @@ pub leave_made-requires-clause-turn : goal.leave_made-requires-clause-turn
 leave_made-requires-clause-turn g c = subst (λ (s : Spot Item). HasTurn s.knows) (sym c.place.view_is) c.requires.turn
 
 pub leave_made-requires-clause-gives : goal.leave_made-requires-clause-gives
-leave_made-requires-clause-gives g c = subst (λ (s : Spot Item). Gives g.D.Slot g.T.OpenedAs.opening g.T.OpenedAs.told g.T.OpenedAs.first s c.args.hand) (sym c.place.view_is) c.requires.gives
+leave_made-requires-clause-gives g c = subst (λ (s : Spot Item). Gives g.D.Slot g.T.Opened.opening g.T.Opened.outset.told g.T.Opened.first s c.args.hand) (sym c.place.view_is) c.requires.gives
 
 pub leave_made-requires-clause-stop : goal.leave_made-requires-clause-stop
 leave_made-requires-clause-stop g c = c.place.invariant (subst (λ (s : Spot Item). HasTurn s.knows) (sym c.place.view_is) c.requires.turn)

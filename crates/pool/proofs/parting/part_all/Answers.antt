@@ -35,7 +35,7 @@ unwrap-room-requires g c =
 pub bounds-numbers-i : goal.bounds-numbers-i
 bounds-numbers-i g c =
     let all : length (map numbered c.args.numbers.now) ≡ length c.args.asks.now =
-    coming_count g.T.OpenedAs.opening g.T.OpenedAs.told c.args.seat.now.knows.seen c.requires.coming.most c.args.asks.now (map numbered c.args.numbers.now) c.requires.coming.came in
+    coming_count g.T.Opened.opening g.T.Opened.outset.told c.args.seat.now.knows.seen c.requires.coming.most c.args.asks.now (map numbered c.args.numbers.now) c.requires.coming.came in
     let same : length (map numbered c.args.numbers.now) ≡ length c.args.numbers.now = length-map c.args.numbers.now numbered in
     let more = c.loop-i-test.true in
     omega (arith, all, same, more)
@@ -50,12 +50,12 @@ part_ask-requires g c =
     let i : ℕ = c.loop-i.i in
     let ms : List ℕ = c.deref.result.now in
     let all : length (map numbered c.args.numbers.now) ≡ length c.args.asks.now =
-    coming_count g.T.OpenedAs.opening g.T.OpenedAs.told c.args.seat.now.knows.seen c.requires.coming.most c.args.asks.now (map numbered c.args.numbers.now) c.requires.coming.came in
+    coming_count g.T.Opened.opening g.T.Opened.outset.told c.args.seat.now.knows.seen c.requires.coming.most c.args.asks.now (map numbered c.args.numbers.now) c.requires.coming.came in
     let less : i < length c.args.numbers.now = within (length asks) (length c.args.numbers.now) i (sym (length-map c.args.numbers.now numbered) ∙ all) c.loop-i-test.true in
     let its : map numbered (drop i c.args.numbers.now) ≡ Ok ms ∷ map numbered (drop (i + 1) c.args.numbers.now) =
     at_answer c.args.numbers.now i c.index-numbers-i.result (Ok ms) less c.index-numbers-i.is (ap numbered c.in-Ok.is ∙ ap (λ (ns : List ℕ). Ok ns) (sym c.deref.ensures.value)) in
-    let are : AreComing g.T.OpenedAs.opening g.T.OpenedAs.told c.args.seat.now.knows.seen (get_or asks i no_ask ∷ drop (i + 1) asks) (Ok ms ∷ map numbered (drop (i + 1) c.args.numbers.now)) c.loop-i.rooms.items =
-    coming_at g.T.OpenedAs.opening g.T.OpenedAs.told c.args.seat.now.knows.seen asks no_ask c.loop-i.rooms.items c.args.numbers.now i (Ok ms) c.loop-i-test.true its c.loop-i.invariant.2 in
+    let are : AreComing g.T.Opened.opening g.T.Opened.outset.told c.args.seat.now.knows.seen (get_or asks i no_ask ∷ drop (i + 1) asks) (Ok ms ∷ map numbered (drop (i + 1) c.args.numbers.now)) c.loop-i.rooms.items =
+    coming_at g.T.Opened.opening g.T.Opened.outset.told c.args.seat.now.knows.seen asks no_ask c.loop-i.rooms.items c.args.numbers.now i (Ok ms) c.loop-i-test.true its c.loop-i.invariant.2 in
     let was : PartingAll c.args.turns.now (map numbered c.args.numbers.now) (Ok ms ∷ map numbered (drop (i + 1) c.args.numbers.now)) c.args.seat.now.knows c.loop-i.seat (map (answer_of (λ v. v.items) (λ s. s.seat)) c.loop-i.answers.items) =
     subst (λ (todo : List (Result (List ℕ) PoolErr)). PartingAll c.args.turns.now (map numbered c.args.numbers.now) todo c.args.seat.now.knows c.loop-i.seat (map (answer_of (λ v. v.items) (λ s. s.seat)) c.loop-i.answers.items)) its c.loop-i.invariant.3 in
     record {
@@ -65,10 +65,10 @@ part_ask-requires g c =
       first = was.first;
       hand = (hand_front ms (all_numbers (map numbered (drop (i + 1) c.args.numbers.now))) c.loop-i.seat.knows was.hand).0;
       coming =
-          subst (λ (items : List Item). All (IsComing g.T.OpenedAs.opening g.T.OpenedAs.told items (get_or asks i no_ask)) ms) (sym was.seen)
-          (come_here g.T.OpenedAs.opening g.T.OpenedAs.told c.args.seat.now.knows.seen (get_or asks i no_ask) (drop (i + 1) asks) (map numbered (drop (i + 1) c.args.numbers.now)) c.loop-i.rooms.items c.pop.new.self.items c.pop.result c.unwrap-room.result
+          subst (λ (items : List Item). All (IsComing g.T.Opened.opening g.T.Opened.outset.told items (get_or asks i no_ask)) ms) (sym was.seen)
+          (come_here g.T.Opened.opening g.T.Opened.outset.told c.args.seat.now.knows.seen (get_or asks i no_ask) (drop (i + 1) asks) (map numbered (drop (i + 1) c.args.numbers.now)) c.loop-i.rooms.items c.pop.new.self.items c.pop.result c.unwrap-room.result
           c.pop.ensures.items c.unwrap-room.ensures ms are);
-      room = room_for g.T.OpenedAs.opening g.T.OpenedAs.told c.args.seat.now.knows.seen (get_or asks i no_ask) (drop (i + 1) asks) (map numbered (drop (i + 1) c.args.numbers.now)) c.loop-i.rooms.items c.pop.new.self.items c.pop.result c.unwrap-room.result
+      room = room_for g.T.Opened.opening g.T.Opened.outset.told c.args.seat.now.knows.seen (get_or asks i no_ask) (drop (i + 1) asks) (map numbered (drop (i + 1) c.args.numbers.now)) c.loop-i.rooms.items c.pop.new.self.items c.pop.result c.unwrap-room.result
           c.pop.ensures.items c.unwrap-room.ensures ms are;
     }
 
@@ -77,13 +77,13 @@ close_room-requires g c =
     let asks : List Ask = c.args.asks.now in
     let i : ℕ = c.loop-i.i in
     let all : length (map numbered c.args.numbers.now) ≡ length c.args.asks.now =
-    coming_count g.T.OpenedAs.opening g.T.OpenedAs.told c.args.seat.now.knows.seen c.requires.coming.most c.args.asks.now (map numbered c.args.numbers.now) c.requires.coming.came in
+    coming_count g.T.Opened.opening g.T.Opened.outset.told c.args.seat.now.knows.seen c.requires.coming.most c.args.asks.now (map numbered c.args.numbers.now) c.requires.coming.came in
     let less : i < length c.args.numbers.now = within (length asks) (length c.args.numbers.now) i (sym (length-map c.args.numbers.now numbered) ∙ all) c.loop-i-test.true in
     let its : map numbered (drop i c.args.numbers.now) ≡ numbered c.index-numbers-i.result ∷ map numbered (drop (i + 1) c.args.numbers.now) =
     at_answer c.args.numbers.now i c.index-numbers-i.result (numbered c.index-numbers-i.result) less c.index-numbers-i.is refl in
-    empty_room g.T.OpenedAs.opening g.T.OpenedAs.told c.args.seat.now.knows.seen (get_or asks i no_ask) (drop (i + 1) asks) (map numbered (drop (i + 1) c.args.numbers.now)) c.loop-i.rooms.items c.pop.new.self.items c.pop.result c.unwrap-room.result
+    empty_room g.T.Opened.opening g.T.Opened.outset.told c.args.seat.now.knows.seen (get_or asks i no_ask) (drop (i + 1) asks) (map numbered (drop (i + 1) c.args.numbers.now)) c.loop-i.rooms.items c.pop.new.self.items c.pop.result c.unwrap-room.result
     c.pop.ensures.items c.unwrap-room.ensures (numbered c.index-numbers-i.result)
-    (coming_at g.T.OpenedAs.opening g.T.OpenedAs.told c.args.seat.now.knows.seen asks no_ask c.loop-i.rooms.items c.args.numbers.now i (numbered c.index-numbers-i.result) c.loop-i-test.true its c.loop-i.invariant.2)
+    (coming_at g.T.Opened.opening g.T.Opened.outset.told c.args.seat.now.knows.seen asks no_ask c.loop-i.rooms.items c.args.numbers.now i (numbered c.index-numbers-i.result) c.loop-i-test.true its c.loop-i.invariant.2)
 
 pub loop-i-preserved : goal.loop-i-preserved
 loop-i-preserved g c =
@@ -93,11 +93,11 @@ loop-i-preserved g c =
     let had : Answers = map (answer_of (λ v. v.items) (λ s. s.seat)) c.loop-i.answers.items in
     let x : Result (List ℕ) PoolErr = numbered c.index-numbers-i.result in
     let all : length (map numbered c.args.numbers.now) ≡ length c.args.asks.now =
-    coming_count g.T.OpenedAs.opening g.T.OpenedAs.told c.args.seat.now.knows.seen c.requires.coming.most c.args.asks.now (map numbered c.args.numbers.now) c.requires.coming.came in
+    coming_count g.T.Opened.opening g.T.Opened.outset.told c.args.seat.now.knows.seen c.requires.coming.most c.args.asks.now (map numbered c.args.numbers.now) c.requires.coming.came in
     let less : i < length c.args.numbers.now = within (length asks) (length c.args.numbers.now) i (sym (length-map c.args.numbers.now numbered) ∙ all) c.loop-i-test.true in
     let its : map numbered (drop i c.args.numbers.now) ≡ x ∷ todo = at_answer c.args.numbers.now i c.index-numbers-i.result x less c.index-numbers-i.is refl in
-    let are : AreComing g.T.OpenedAs.opening g.T.OpenedAs.told c.args.seat.now.knows.seen (get_or asks i no_ask ∷ drop (i + 1) asks) (x ∷ todo) c.loop-i.rooms.items =
-    coming_at g.T.OpenedAs.opening g.T.OpenedAs.told c.args.seat.now.knows.seen asks no_ask c.loop-i.rooms.items c.args.numbers.now i x c.loop-i-test.true its c.loop-i.invariant.2 in
+    let are : AreComing g.T.Opened.opening g.T.Opened.outset.told c.args.seat.now.knows.seen (get_or asks i no_ask ∷ drop (i + 1) asks) (x ∷ todo) c.loop-i.rooms.items =
+    coming_at g.T.Opened.opening g.T.Opened.outset.told c.args.seat.now.knows.seen asks no_ask c.loop-i.rooms.items c.args.numbers.now i x c.loop-i-test.true its c.loop-i.invariant.2 in
     let was : PartingAll c.args.turns.now (map numbered c.args.numbers.now) (x ∷ todo) c.args.seat.now.knows c.loop-i.seat had =
     subst (λ (l : List (Result (List ℕ) PoolErr)). PartingAll c.args.turns.now (map numbered c.args.numbers.now) l c.args.seat.now.knows c.loop-i.seat had) its c.loop-i.invariant.3 in
     let len = c.push_reserved.ensures.len in
@@ -106,7 +106,7 @@ loop-i-preserved g c =
     let cap_was = c.loop-i.invariant.1 in (
       omega (arith, len, len_was),
       omega (arith, cap, cap_was),
-      rooms_left g.T.OpenedAs.opening g.T.OpenedAs.told c.args.seat.now.knows.seen (get_or asks i no_ask) (drop (i + 1) asks) todo c.loop-i.rooms.items c.pop.new.self.items c.pop.result c.unwrap-room.result
+      rooms_left g.T.Opened.opening g.T.Opened.outset.told c.args.seat.now.knows.seen (get_or asks i no_ask) (drop (i + 1) asks) todo c.loop-i.rooms.items c.pop.new.self.items c.pop.result c.unwrap-room.result
           c.pop.ensures.items c.unwrap-room.ensures x are,
       subst (λ (ss : Answers). PartingAll c.args.turns.now (map numbered c.args.numbers.now) todo c.args.seat.now.knows c.match-numbers-i.seat ss)
           (sym (ap (map (answer_of (λ v. v.items) (λ s. s.seat))) c.push_reserved.ensures.items ∙ map-append (answer_of (λ v. v.items) (λ s. s.seat)) c.loop-i.answers.items (c.match-numbers-i.answer ∷ [])))
@@ -136,7 +136,7 @@ destroy_empty-requires g c =
 pub returns : goal.returns
 returns g c =
     let all : length (map numbered c.args.numbers.now) ≡ length c.args.asks.now =
-    coming_count g.T.OpenedAs.opening g.T.OpenedAs.told c.args.seat.now.knows.seen c.requires.coming.most c.args.asks.now (map numbered c.args.numbers.now) c.requires.coming.came in
+    coming_count g.T.Opened.opening g.T.Opened.outset.told c.args.seat.now.knows.seen c.requires.coming.most c.args.asks.now (map numbered c.args.numbers.now) c.requires.coming.came in
     let same : length (map numbered c.args.numbers.now) ≡ length c.args.numbers.now = length-map c.args.numbers.now numbered in
     let done = c.loop-i-test.false in
     let none : drop c.loop-i.i c.args.numbers.now ≡ [] = drop_all c.loop-i.i c.args.numbers.now (omega (arith, all, same, done)) in

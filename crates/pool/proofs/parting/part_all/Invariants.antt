@@ -8,5 +8,5 @@ use Rattle.pool.proofs.parting.part_all.Given as goal
 abbrev pub invariant-loop-i : goal.invariant-loop-i
 invariant-loop-i g l =
     (vec_len l.answers ≡ l.i) × (length l.asks ≤ vec_capacity l.answers)
-    × AreComing g.T.OpenedAs.opening g.T.OpenedAs.told l.initial.seat.knows.seen (drop l.i l.asks) (map numbered (drop l.i l.numbers)) l.rooms.items
+    × AreComing g.T.Opened.opening g.T.Opened.outset.told l.initial.seat.knows.seen (drop l.i l.asks) (map numbered (drop l.i l.numbers)) l.rooms.items
     × PartingAll l.turns (map numbered l.numbers) (map numbered (drop l.i l.numbers)) l.initial.seat.knows l.seat (map (answer_of (λ v. v.items) (λ s. s.seat)) l.answers.items)

@@ -41,8 +41,8 @@ part_one-session-requires g c =
       first = was.first;
       right = was.hand.0;
       coming =
-          subst (λ (items : List Item). IsComing g.T.OpenedAs.opening g.T.OpenedAs.told items c.args.ask.now (get_or c.args.numbers.now c.loop-number.number-index 0)) (sym was.seen)
-          (All-get_or (IsComing g.T.OpenedAs.opening g.T.OpenedAs.told c.args.seat.now.knows.seen c.args.ask.now) c.args.numbers.now c.loop-number.number-index 0 c.loop-number-test.true c.requires.coming);
+          subst (λ (items : List Item). IsComing g.T.Opened.opening g.T.Opened.outset.told items c.args.ask.now (get_or c.args.numbers.now c.loop-number.number-index 0)) (sym was.seen)
+          (All-get_or (IsComing g.T.Opened.opening g.T.Opened.outset.told c.args.seat.now.knows.seen c.args.ask.now) c.args.numbers.now c.loop-number.number-index 0 c.loop-number-test.true c.requires.coming);
     }
 
 pub push_reserved-requires : goal.push_reserved-requires

@@ -12,9 +12,9 @@ use Rattle.session_calls.proofs.asking.make_room.Given as goal
 -- the call asked and wrote, as was needed
 abbrev pub invariant-loop-hand : goal.invariant-loop-hand
 invariant-loop-hand g l =
-    g.A.Access.turns g.O.Origin.opening g.O.Origin.outset l.access l.place l.hand.session
-    × IsAtWork g.D.Slot g.O.Origin.opening g.O.Origin.outset (g.A.Access.seen l.place) l.hand
-    × DoesIn (IsAsked l.c.tracker (held_by g.O.Origin.opening g.O.Origin.outset l.fn.hand) []) l.fn.hand l.hand
+    g.A.Access.turns g.O.Opened.opening g.O.Opened.outset l.access l.place l.hand.session
+    × IsAtWork g.D.Slot g.O.Opened.opening g.O.Opened.outset (g.A.Access.seen l.place) l.hand
+    × DoesIn (IsAsked l.c.tracker (held_by g.O.Opened.opening g.O.Opened.outset l.fn.hand) []) l.fn.hand l.hand
     × EntersNeeded l.c.tracker (amount_of l.want) l.fn.hand l.hand
 
 -- alone, each write leaves one less, or is the last; beside others, a turn less is left

@@ -6,8 +6,8 @@ use Rattle.session_calls.proofs.pinning.destroy_resting.Given as goal
 -- the page is the same, and the session only waited
 abbrev pub invariant-loop-hand : goal.invariant-loop-hand
 invariant-loop-hand g l =
-    g.A.Access.turns g.O.Origin.opening g.O.Origin.outset l.access l.place l.hand.session
-    × IsAtWork g.D.Slot g.O.Origin.opening g.O.Origin.outset (g.A.Access.seen l.place) l.hand
+    g.A.Access.turns g.O.Opened.opening g.O.Opened.outset l.access l.place l.hand.session
+    × IsAtWork g.D.Slot g.O.Opened.opening g.O.Opened.outset (g.A.Access.seen l.place) l.hand
     × DoesIn (λ events. events ≡ []) l.fn.hand l.hand
     × (l.p ≡ l.fn.p)
 

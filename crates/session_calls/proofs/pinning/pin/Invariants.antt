@@ -12,10 +12,10 @@ use Rattle.session_calls.proofs.pinning.pin.Given as goal
 -- the call asked and wrote, as was needed
 abbrev pub invariant-loop-buf : goal.invariant-loop-buf
 invariant-loop-buf g l =
-    g.A.Access.turns g.O.Origin.opening g.O.Origin.outset l.access l.place l.hand.session
-    × IsAtWork g.D.Slot g.O.Origin.opening g.O.Origin.outset (g.A.Access.seen l.place) l.hand
-    × DoesIn (IsAsked l.p.client (held_by g.O.Origin.opening g.O.Origin.outset l.fn.hand) []) l.fn.hand l.hand
-    × EntersNeeded l.p.client (page_len l.p.name (held_by g.O.Origin.opening g.O.Origin.outset l.fn.hand)) l.fn.hand l.hand
+    g.A.Access.turns g.O.Opened.opening g.O.Opened.outset l.access l.place l.hand.session
+    × IsAtWork g.D.Slot g.O.Opened.opening g.O.Opened.outset (g.A.Access.seen l.place) l.hand
+    × DoesIn (IsAsked l.p.client (held_by g.O.Opened.opening g.O.Opened.outset l.fn.hand) []) l.fn.hand l.hand
+    × EntersNeeded l.p.client (page_len l.p.name (held_by g.O.Opened.opening g.O.Opened.outset l.fn.hand)) l.fn.hand l.hand
 
 -- where the session is alone each write leaves one less, or is the last
 abbrev pub decreases-loop-buf : goal.decreases-loop-buf

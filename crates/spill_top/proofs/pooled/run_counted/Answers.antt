@@ -36,16 +36,16 @@ returns-clause-ran g c = record {
       let told = both_told (g.S.Source.remaining c.args.left.now) (told_in g.S.Source.remaining c.args.right.now) in
       let tally = tally_of g.D.Slot c.close.result.items in
       subst (λ (n : ℕ). IfErr c.run_seated-ran.result (OfPool (IsPoolStop c.args.run.now.query.now (page_len c.args.run.now.query.now n) (if_told (all_tell (tally_of g.D.Slot c.args.slots.now.items)) told) c.args.run.now.quota (HaveFailed (tally_of g.D.Slot c.args.slots.now.items) tally)))) c.requires.opens.numbers.block_len
-      (subst (λ (t : Tally). IfErr c.run_seated-ran.result (OfPool (IsPoolStop c.args.run.now.query.now (page_len c.args.run.now.query.now g.T.OpenedAs.opening.block_len) (if_told (all_tell t) told) c.args.run.now.quota (HaveFailed t tally)))) c.requires.first
-      (stopped_by g.D.Slot g.T.OpenedAs.opening g.T.OpenedAs.told g.T.OpenedAs.first c.run_seated-ran.new.pass c.close.result.items c.close.ensures c.args.run.now.query.now c.args.run.now.quota (g.S.Source.remaining c.args.left.now) (told_in g.S.Source.remaining c.args.right.now)
+      (subst (λ (t : Tally). IfErr c.run_seated-ran.result (OfPool (IsPoolStop c.args.run.now.query.now (page_len c.args.run.now.query.now g.T.Opened.opening.block_len) (if_told (all_tell t) told) c.args.run.now.quota (HaveFailed t tally)))) c.requires.first
+      (stopped_by g.D.Slot g.T.Opened.opening g.T.Opened.outset.told g.T.Opened.first c.run_seated-ran.new.pass c.close.result.items c.close.ensures c.args.run.now.query.now c.args.run.now.quota (g.S.Source.remaining c.args.left.now) (told_in g.S.Source.remaining c.args.right.now)
       c.run_seated-ran.result c.run_seated-ran.ensures.ran c.law_shares.ensures.names (c.requires.told ∙ ap all_tell (sym c.requires.first)) (c.requires.opens.numbers.first_name ∙ c.requires.memory.first)));
   back =
       subst (λ (t : Tally). ComeBack t (tally_of g.D.Slot c.close.result.items)) c.requires.first
-      (slots_back g.D.Slot g.T.OpenedAs.opening g.T.OpenedAs.told g.T.OpenedAs.first c.run_seated-ran.new.pass c.close.result.items c.close.ensures);
+      (slots_back g.D.Slot g.T.Opened.opening g.T.Opened.outset.told g.T.Opened.first c.run_seated-ran.new.pass c.close.result.items c.close.ensures);
   stored =
       let told = both_told (g.S.Source.remaining c.args.left.now) (told_in g.S.Source.remaining c.args.right.now) in
       subst (λ (t : Tally). OnOk c.run_seated-ran.result (HaveStored c.args.run.now.conf.block_len (owed c.args.run.now.query.now (memory_of c.args.run.now.conf) told) t (tally_of g.D.Slot c.close.result.items))) c.requires.first
-      (have_kept g.D.Slot g.T.OpenedAs.opening g.T.OpenedAs.told g.T.OpenedAs.first c.run_seated-ran.new.pass c.close.result.items c.close.ensures c.args.run.now.query.now c.args.run.now.quota (g.S.Source.remaining c.args.left.now) (told_in g.S.Source.remaining c.args.right.now)
+      (have_kept g.D.Slot g.T.Opened.opening g.T.Opened.outset.told g.T.Opened.first c.run_seated-ran.new.pass c.close.result.items c.close.ensures c.args.run.now.query.now c.args.run.now.quota (g.S.Source.remaining c.args.left.now) (told_in g.S.Source.remaining c.args.right.now)
       c.run_seated-ran.result c.run_seated-ran.ensures.ran c.args.run.now.conf _ c.requires.opens.numbers c.law_spill.ensures.law c.law_shares.ensures.stored c.law_shares.ensures.parts c.requires.query);
 }
 
@@ -53,5 +53,5 @@ pub returns-clause-len : goal.returns-clause-len
 returns-clause-len g c =
     let all : length c.close.result.items ≡ length c.args.slots.now.items = as_many g.D.Slot c.args.slots.now.items c.close.result.items
     (subst (λ (t : Tally). ComeBack t (tally_of g.D.Slot c.close.result.items)) c.requires.first
-    (slots_back g.D.Slot g.T.OpenedAs.opening g.T.OpenedAs.told g.T.OpenedAs.first c.run_seated-ran.new.pass c.close.result.items c.close.ensures)) in
+    (slots_back g.D.Slot g.T.Opened.opening g.T.Opened.outset.told g.T.Opened.first c.run_seated-ran.new.pass c.close.result.items c.close.ensures)) in
     search (rules, all)

@@ -37,7 +37,7 @@ returns-in-Err-Memory-clause-gone g c = (
 pub unreachable-requires : goal.unreachable-requires
 unreachable-requires g c =
     let is = c.in-Err.ensures.fresh (none_live c.begin_writers-writers.new.pass.knows.seen (c.begin_writers-writers.ensures.begin.seen ∙ c.requires.fresh.0))
-    (may_come g.T.OpenedAs.opening c.args.run.now.query.now c.args.run.now.conf.block_len c.args.run.now.quota c.least-wanted.result c.least-wanted.ensures.least c.requires.memory) in
+    (may_come g.T.Opened.opening c.args.run.now.query.now c.args.run.now.conf.block_len c.args.run.now.quota c.least-wanted.result c.least-wanted.ensures.least c.requires.memory) in
     search (rules, is)
 
 pub end_writers-requires-2-clause-at : goal.end_writers-requires-2-clause-at
@@ -59,9 +59,9 @@ pub returns-clause-gone : goal.returns-clause-gone
 returns-clause-gone g c =
     let waits : Waits c.session.new.pass c.end_writers-2.new.pass = waits_then c.session.new.pass c.run_beside-ran.new.pass c.end_writers-2.new.pass
     (stops_waits c.session.new.pass c.run_beside-ran.new.pass c.law_pass-2.ensures.1 c.run_beside-ran.ensures.stops) c.end_writers-2.ensures.waits in (
-      none_left g.T.OpenedAs.opening g.T.OpenedAs.told c.args.run.now.query.now.limit c.args.run.now.quota c.least-wanted.result g.T.OpenedAs.opening.slots c.begin_writers-writers.new.pass c.session.new.pass c.end_writers-2.new.pass c.end.new.pass c.in-Ok-session.session.seat c.run_beside-ran.new.store.seat
+      none_left g.T.Opened.opening g.T.Opened.outset.told c.args.run.now.query.now.limit c.args.run.now.quota c.least-wanted.result g.T.Opened.opening.slots c.begin_writers-writers.new.pass c.session.new.pass c.end_writers-2.new.pass c.end.new.pass c.in-Ok-session.session.seat c.run_beside-ran.new.store.seat
           c.law_pass.ensures c.law_pass-3.ensures c.law_pass-4.ensures (c.begin_writers-writers.ensures.begin.seen ∙ c.requires.fresh.0) c.in-Ok-session.ensures.ok waits c.law_sits.ensures
-          (same_number g.T.OpenedAs.opening g.T.OpenedAs.told c.in-Ok-session.session.seat c.run_beside-ran.new.store.seat c.run_beside-ran.ensures.ran.ran.store.left) c.end.ensures,
+          (same_number g.T.Opened.opening g.T.Opened.outset.told c.in-Ok-session.session.seat c.run_beside-ran.new.store.seat c.run_beside-ran.ensures.ran.ran.store.left) c.end.ensures,
       c.end.ensures.writers ∙ c.end_writers-2.ensures.none,
     )
 
@@ -69,8 +69,8 @@ pub returns-clause-ran : goal.returns-clause-ran
 returns-clause-ran g c =
     let waits : Waits c.session.new.pass c.end_writers-2.new.pass = waits_then c.session.new.pass c.run_beside-ran.new.pass c.end_writers-2.new.pass
     (stops_waits c.session.new.pass c.run_beside-ran.new.pass c.law_pass-2.ensures.1 c.run_beside-ran.ensures.stops) c.end_writers-2.ensures.waits in
-    let least : c.least-wanted.result ≡ least_of c.args.run.now.query.now g.T.OpenedAs.opening.block_len = c.least-wanted.ensures.least ∙ ap (least_of c.args.run.now.query.now) c.requires.memory.0 in
-    inr (ran_alone g.T.OpenedAs.opening g.T.OpenedAs.told c.args.run.now.query.now c.args.run.now.quota c.least-wanted.result g.T.OpenedAs.opening.slots c.begin_writers-writers.new.pass c.session.new.pass c.end_writers-2.new.pass c.end.new.pass c.in-Ok-session.session.seat c.run_beside-ran.new.store.seat
+    let least : c.least-wanted.result ≡ least_of c.args.run.now.query.now g.T.Opened.opening.block_len = c.least-wanted.ensures.least ∙ ap (least_of c.args.run.now.query.now) c.requires.memory.0 in
+    inr (ran_alone g.T.Opened.opening g.T.Opened.outset.told c.args.run.now.query.now c.args.run.now.quota c.least-wanted.result g.T.Opened.opening.slots c.begin_writers-writers.new.pass c.session.new.pass c.end_writers-2.new.pass c.end.new.pass c.in-Ok-session.session.seat c.run_beside-ran.new.store.seat
     c.law_pass.ensures c.law_pass-3.ensures c.law_pass-4.ensures (c.begin_writers-writers.ensures.begin.seen ∙ c.requires.fresh.0) least c.in-Ok-session.ensures.ok waits c.law_sits.ensures c.end.ensures
     (g.S.Source.remaining c.args.left.now) (told_in g.S.Source.remaining c.args.right.now) c.run_beside-ran.result
     c.run_beside-ran.ensures.ran.ran.store (all_unmarked c.args.run.now.query.now _ _ _ _ c.run_beside-ran.result c.run_beside-ran.ensures.ran.ran.pool c.run_beside-ran.ensures.ran.unmarked) c.run_beside-ran.ensures.ran.ran.kept)

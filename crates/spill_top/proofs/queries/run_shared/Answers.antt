@@ -18,7 +18,7 @@ run_together-ends-requires-clause-rules g c κs within = subst (λ (n : ℕ). Ke
 
 pub run_together-ends-requires-clause-opening : goal.run_together-ends-requires-clause-opening
 run_together-ends-requires-clause-opening g c κs within =
-    opening_so (record { blocks = c.args.plan.now.blocks; block_len = c.args.plan.now.block_len; first_name = 0; profile = 1; trace = 0 }) _ g.T.OpenedAs.opening c.requires.opens.numbers
+    opening_so (record { blocks = c.args.plan.now.blocks; block_len = c.args.plan.now.block_len; first_name = 0; profile = 1; trace = 0 }) _ g.T.Opened.opening c.requires.opens.numbers
 
 pub returns-in-Err-clause-went : goal.returns-in-Err-clause-went
 returns-in-Err-clause-went g c =
@@ -34,21 +34,21 @@ returns-in-Err-clause-went g c =
 
 pub returns-clause-ended : goal.returns-clause-ended
 returns-clause-ended g c =
-    ended_so g.D.Slot g.T.OpenedAs.opening g.T.OpenedAs.told g.T.OpenedAs.first c.run_together-ends.new.pass c.close.result.items c.close.ensures (vec_len c.args.slots.now) c.args.plan.now c.requires.rules _ c.requires.opens.numbers _ c.requires.told c.requires.first
+    ended_so g.D.Slot g.T.Opened.opening g.T.Opened.outset.told g.T.Opened.first c.run_together-ends.new.pass c.close.result.items c.close.ensures (vec_len c.args.slots.now) c.args.plan.now c.requires.rules _ c.requires.opens.numbers _ c.requires.told c.requires.first
     (g.I.Inputs.bytes_at c.args.inputs.now) (g.I.Inputs.faults_at c.args.inputs.now) (g.O.Outputs.written c.args.outputs.now) (g.O.Outputs.is_created c.args.outputs.now) (g.O.Outputs.faults_at c.args.outputs.now)
     (g.I.Inputs.bytes_at c.run_together-ends.new.inputs) (g.I.Inputs.faults_at c.run_together-ends.new.inputs) (g.O.Outputs.written c.run_together-ends.new.outputs) (g.O.Outputs.is_created c.run_together-ends.new.outputs) (g.O.Outputs.faults_at c.run_together-ends.new.outputs)
     (λ ends. ends.items) c.run_together-ends.result c.run_together-ends.ensures.ran c.law_shares.ensures.names
 
 pub returns-clause-stored : goal.returns-clause-stored
 returns-clause-stored g c =
-    stored_so g.D.Slot g.T.OpenedAs.opening g.T.OpenedAs.told g.T.OpenedAs.first c.run_together-ends.new.pass c.close.result.items c.close.ensures (vec_len c.args.slots.now) c.args.plan.now c.requires.rules _ c.requires.opens.numbers _ c.requires.told c.requires.first
+    stored_so g.D.Slot g.T.Opened.opening g.T.Opened.outset.told g.T.Opened.first c.run_together-ends.new.pass c.close.result.items c.close.ensures (vec_len c.args.slots.now) c.args.plan.now c.requires.rules _ c.requires.opens.numbers _ c.requires.told c.requires.first
     (g.I.Inputs.bytes_at c.args.inputs.now) (g.I.Inputs.faults_at c.args.inputs.now) (g.O.Outputs.written c.args.outputs.now) (g.O.Outputs.is_created c.args.outputs.now) (g.O.Outputs.faults_at c.args.outputs.now)
     (g.I.Inputs.bytes_at c.run_together-ends.new.inputs) (g.I.Inputs.faults_at c.run_together-ends.new.inputs) (g.O.Outputs.written c.run_together-ends.new.outputs) (g.O.Outputs.is_created c.run_together-ends.new.outputs) (g.O.Outputs.faults_at c.run_together-ends.new.outputs)
     (λ ends. ends.items) c.run_together-ends.result c.run_together-ends.ensures.ran c.law_spill.ensures.law c.law_shares.ensures.stored c.law_shares.ensures.parts
 
 pub returns-clause-went : goal.returns-clause-went
 returns-clause-went g c =
-    let back = slots_back g.D.Slot g.T.OpenedAs.opening g.T.OpenedAs.told g.T.OpenedAs.first c.run_together-ends.new.pass c.close.result.items c.close.ensures in
+    let back = slots_back g.D.Slot g.T.Opened.opening g.T.Opened.outset.told g.T.Opened.first c.run_together-ends.new.pass c.close.result.items c.close.ensures in
     subst
     (λ (t : Tally).
     Went (seen (g.I.Inputs.bytes_at c.args.inputs.now) (g.I.Inputs.faults_at c.args.inputs.now) (g.O.Outputs.written c.args.outputs.now) (g.O.Outputs.is_created c.args.outputs.now) (g.O.Outputs.faults_at c.args.outputs.now) t)

@@ -35,13 +35,13 @@ use Rattle.spill_top.proofs.queries.run_together.Goals as goal
 
 pub sessions-requires-clause-some : goal.sessions-requires-clause-some
 sessions-requires-clause-some g c =
-    let asks_are : c.as_slice.result.now ≡ map (ask_of g.T.OpenedAs.opening.block_len) c.args.plan.now.queries = asks_so c.as_slice.result.now c.in_ok-asks.asks.items c.as_slice-queries.result.now c.args.plan.now.queries c.args.plan.now.block_len g.T.OpenedAs.opening.block_len (search rules) c.in_ok-asks.ensures (search rules) c.requires.opening.block_len in
-    subst (All (λ (ask : Ask). 1 ≤ ask.count)) (sym asks_are) (one_each g.T.OpenedAs.opening.block_len c.args.plan.now.queries)
+    let asks_are : c.as_slice.result.now ≡ map (ask_of g.T.Opened.opening.block_len) c.args.plan.now.queries = asks_so c.as_slice.result.now c.in_ok-asks.asks.items c.as_slice-queries.result.now c.args.plan.now.queries c.args.plan.now.block_len g.T.Opened.opening.block_len (search rules) c.in_ok-asks.ensures (search rules) c.requires.opening.block_len in
+    subst (All (λ (ask : Ask). 1 ≤ ask.count)) (sym asks_are) (one_each g.T.Opened.opening.block_len c.args.plan.now.queries)
 
 pub sessions-requires-clause-spare : goal.sessions-requires-clause-spare
 sessions-requires-clause-spare g c =
-    let asks_are : c.as_slice.result.now ≡ map (ask_of g.T.OpenedAs.opening.block_len) c.args.plan.now.queries = asks_so c.as_slice.result.now c.in_ok-asks.asks.items c.as_slice-queries.result.now c.args.plan.now.queries c.args.plan.now.block_len g.T.OpenedAs.opening.block_len (search rules) c.in_ok-asks.ensures (search rules) c.requires.opening.block_len in
-    let quotas : quotas_of c.as_slice.result.now ≡ sum_by (λ query. query.quota) c.args.plan.now.queries = ap quotas_of asks_are ∙ quotas_are g.T.OpenedAs.opening.block_len c.args.plan.now.queries in
+    let asks_are : c.as_slice.result.now ≡ map (ask_of g.T.Opened.opening.block_len) c.args.plan.now.queries = asks_so c.as_slice.result.now c.in_ok-asks.asks.items c.as_slice-queries.result.now c.args.plan.now.queries c.args.plan.now.block_len g.T.Opened.opening.block_len (search rules) c.in_ok-asks.ensures (search rules) c.requires.opening.block_len in
+    let quotas : quotas_of c.as_slice.result.now ≡ sum_by (λ query. query.quota) c.args.plan.now.queries = ap quotas_of asks_are ∙ quotas_are g.T.Opened.opening.block_len c.args.plan.now.queries in
     let none : taken_in c.begin_writers-writers.new.pass.knows.seen ≡ 0 = ap taken_in (c.begin_writers-writers.ensures.begin.seen ∙ c.requires.fresh.0) ∙ none_taken in
     let most = c.requires.rules.quotas in
     let once = quotas_once c.args.plan.now.queries in
@@ -49,21 +49,21 @@ sessions-requires-clause-spare g c =
 
 pub seat_all-jobs-requires-clause-each : goal.seat_all-jobs-requires-clause-each
 seat_all-jobs-requires-clause-each g c κs within =
-    let asks_are : c.as_slice.result.now ≡ map (ask_of g.T.OpenedAs.opening.block_len) c.args.plan.now.queries = asks_so c.as_slice.result.now c.in_ok-asks.asks.items c.as_slice-queries.result.now c.args.plan.now.queries c.args.plan.now.block_len g.T.OpenedAs.opening.block_len (search rules) c.in_ok-asks.ensures (search rules) c.requires.opening.block_len in
-    all_one (λ v. v.items) (λ s. s.seat) c.in-Ok-sessions.answers.items (shapes_so (λ v. v.items) (λ s. s.seat) g.T.OpenedAs.opening g.T.OpenedAs.told c.begin_writers-writers.new.pass c.sessions.new.pass c.args.plan.now.queries c.as_slice.result.now asks_are c.requires.rules.some.1 c.in-Ok-sessions.answers.items c.in-Ok-sessions.ensures.ok (c.in-Ok-sessions.ensures.fresh (none_live c.begin_writers-writers.new.pass.knows.seen (c.begin_writers-writers.ensures.begin.seen ∙ c.requires.fresh.0))))
+    let asks_are : c.as_slice.result.now ≡ map (ask_of g.T.Opened.opening.block_len) c.args.plan.now.queries = asks_so c.as_slice.result.now c.in_ok-asks.asks.items c.as_slice-queries.result.now c.args.plan.now.queries c.args.plan.now.block_len g.T.Opened.opening.block_len (search rules) c.in_ok-asks.ensures (search rules) c.requires.opening.block_len in
+    all_one (λ v. v.items) (λ s. s.seat) c.in-Ok-sessions.answers.items (shapes_so (λ v. v.items) (λ s. s.seat) g.T.Opened.opening g.T.Opened.outset.told c.begin_writers-writers.new.pass c.sessions.new.pass c.args.plan.now.queries c.as_slice.result.now asks_are c.requires.rules.some.1 c.in-Ok-sessions.answers.items c.in-Ok-sessions.ensures.ok (c.in-Ok-sessions.ensures.fresh (none_live c.begin_writers-writers.new.pass.knows.seen (c.begin_writers-writers.ensures.begin.seen ∙ c.requires.fresh.0))))
 
 pub seat_all-jobs-requires-clause-few : goal.seat_all-jobs-requires-clause-few
 seat_all-jobs-requires-clause-few g c κs within =
-    let asks_are : c.as_slice.result.now ≡ map (ask_of g.T.OpenedAs.opening.block_len) c.args.plan.now.queries = asks_so c.as_slice.result.now c.in_ok-asks.asks.items c.as_slice-queries.result.now c.args.plan.now.queries c.args.plan.now.block_len g.T.OpenedAs.opening.block_len (search rules) c.in_ok-asks.ensures (search rules) c.requires.opening.block_len in
-    let len : length c.in-Ok-sessions.answers.items ≡ length c.args.plan.now.queries = len_so (λ v. v.items) (λ s. s.seat) g.T.OpenedAs.opening g.T.OpenedAs.told c.begin_writers-writers.new.pass c.sessions.new.pass c.args.plan.now.queries c.as_slice.result.now asks_are c.requires.rules.some.1 c.in-Ok-sessions.answers.items c.in-Ok-sessions.ensures.ok (c.in-Ok-sessions.ensures.fresh (none_live c.begin_writers-writers.new.pass.knows.seen (c.begin_writers-writers.ensures.begin.seen ∙ c.requires.fresh.0))) _ _ g.I.Src.Source.remaining g.I.Src.Source.faults g.O.Snk.Sink.contents g.O.Snk.Sink.faults in
+    let asks_are : c.as_slice.result.now ≡ map (ask_of g.T.Opened.opening.block_len) c.args.plan.now.queries = asks_so c.as_slice.result.now c.in_ok-asks.asks.items c.as_slice-queries.result.now c.args.plan.now.queries c.args.plan.now.block_len g.T.Opened.opening.block_len (search rules) c.in_ok-asks.ensures (search rules) c.requires.opening.block_len in
+    let len : length c.in-Ok-sessions.answers.items ≡ length c.args.plan.now.queries = len_so (λ v. v.items) (λ s. s.seat) g.T.Opened.opening g.T.Opened.outset.told c.begin_writers-writers.new.pass c.sessions.new.pass c.args.plan.now.queries c.as_slice.result.now asks_are c.requires.rules.some.1 c.in-Ok-sessions.answers.items c.in-Ok-sessions.ensures.ok (c.in-Ok-sessions.ensures.fresh (none_live c.begin_writers-writers.new.pass.knows.seen (c.begin_writers-writers.ensures.begin.seen ∙ c.requires.fresh.0))) _ _ g.I.Src.Source.remaining g.I.Src.Source.faults g.O.Snk.Sink.contents g.O.Snk.Sink.faults in
     let list : vec_len c.in-Ok-sessions.answers ≡ length c.in-Ok-sessions.answers.items = c.in-Ok-sessions.answers.ok.0 in
     let few = c.requires.rules.some.1 in
     omega (arith, len, list, few)
 
 pub seat_all-jobs-requires-clause-room : goal.seat_all-jobs-requires-clause-room
 seat_all-jobs-requires-clause-room g c κs within =
-    let asks_are : c.as_slice.result.now ≡ map (ask_of g.T.OpenedAs.opening.block_len) c.args.plan.now.queries = asks_so c.as_slice.result.now c.in_ok-asks.asks.items c.as_slice-queries.result.now c.args.plan.now.queries c.args.plan.now.block_len g.T.OpenedAs.opening.block_len (search rules) c.in_ok-asks.ensures (search rules) c.requires.opening.block_len in
-    let len : length c.in-Ok-sessions.answers.items ≡ length c.args.plan.now.queries = len_so (λ v. v.items) (λ s. s.seat) g.T.OpenedAs.opening g.T.OpenedAs.told c.begin_writers-writers.new.pass c.sessions.new.pass c.args.plan.now.queries c.as_slice.result.now asks_are c.requires.rules.some.1 c.in-Ok-sessions.answers.items c.in-Ok-sessions.ensures.ok (c.in-Ok-sessions.ensures.fresh (none_live c.begin_writers-writers.new.pass.knows.seen (c.begin_writers-writers.ensures.begin.seen ∙ c.requires.fresh.0))) _ _ g.I.Src.Source.remaining g.I.Src.Source.faults g.O.Snk.Sink.contents g.O.Snk.Sink.faults in
+    let asks_are : c.as_slice.result.now ≡ map (ask_of g.T.Opened.opening.block_len) c.args.plan.now.queries = asks_so c.as_slice.result.now c.in_ok-asks.asks.items c.as_slice-queries.result.now c.args.plan.now.queries c.args.plan.now.block_len g.T.Opened.opening.block_len (search rules) c.in_ok-asks.ensures (search rules) c.requires.opening.block_len in
+    let len : length c.in-Ok-sessions.answers.items ≡ length c.args.plan.now.queries = len_so (λ v. v.items) (λ s. s.seat) g.T.Opened.opening g.T.Opened.outset.told c.begin_writers-writers.new.pass c.sessions.new.pass c.args.plan.now.queries c.as_slice.result.now asks_are c.requires.rules.some.1 c.in-Ok-sessions.answers.items c.in-Ok-sessions.ensures.ok (c.in-Ok-sessions.ensures.fresh (none_live c.begin_writers-writers.new.pass.knows.seen (c.begin_writers-writers.ensures.begin.seen ∙ c.requires.fresh.0))) _ _ g.I.Src.Source.remaining g.I.Src.Source.faults g.O.Snk.Sink.contents g.O.Snk.Sink.faults in
     let queries_are : length c.as_slice-queries.result.now ≡ length c.args.plan.now.queries = ap length (search rules) in
     let list : vec_len c.in-Ok-sessions.answers ≡ length c.in-Ok-sessions.answers.items = c.in-Ok-sessions.answers.ok.0 in
     let room = c.in_ok-jobs.ensures.capacity in
@@ -71,9 +71,9 @@ seat_all-jobs-requires-clause-room g c κs within =
 
 pub create_all-requires-clause-len : goal.create_all-requires-clause-len
 create_all-requires-clause-len g c κs within =
-    let asks_are = asks_so c.as_slice.result.now c.in_ok-asks.asks.items c.as_slice-queries.result.now c.args.plan.now.queries c.args.plan.now.block_len g.T.OpenedAs.opening.block_len (search rules) c.in_ok-asks.ensures (search rules) c.requires.opening.block_len in
+    let asks_are = asks_so c.as_slice.result.now c.in_ok-asks.asks.items c.as_slice-queries.result.now c.args.plan.now.queries c.args.plan.now.block_len g.T.Opened.opening.block_len (search rules) c.in_ok-asks.ensures (search rules) c.requires.opening.block_len in
     let seated =
-    are_seated (λ v. v.items) (λ s. s.seat) (λ s. s.seat) g.I.Src.Source.remaining g.I.Src.Source.faults g.O.Snk.Sink.contents g.O.Snk.Sink.faults g.T.OpenedAs.opening g.T.OpenedAs.told c.begin_writers-writers.new.pass c.sessions.new.pass c.args.plan.now.queries c.as_slice.result.now asks_are c.requires.rules.some.1
+    are_seated (λ v. v.items) (λ s. s.seat) (λ s. s.seat) g.I.Src.Source.remaining g.I.Src.Source.faults g.O.Snk.Sink.contents g.O.Snk.Sink.faults g.T.Opened.opening g.T.Opened.outset.told c.begin_writers-writers.new.pass c.sessions.new.pass c.args.plan.now.queries c.as_slice.result.now asks_are c.requires.rules.some.1
     c.in-Ok-sessions.answers.items c.in-Ok-sessions.ensures.ok (c.in-Ok-sessions.ensures.fresh (none_live c.begin_writers-writers.new.pass.knows.seen (c.begin_writers-writers.ensures.begin.seen ∙ c.requires.fresh.0))) c.seat_all-jobs.result.items c.seat_all-jobs.ensures in
     let queries_are : c.as_slice-queries.result.now ≡ c.args.plan.now.queries = search rules in
     let same : length c.as_slice-queries.result.now ≡ length c.args.plan.now.queries = ap length queries_are in
@@ -87,17 +87,17 @@ create_all-requires-clause-apart g c κs within =
 
 pub create_all-requires-clause-before : goal.create_all-requires-clause-before
 create_all-requires-clause-before g c κs within =
-    let asks_are = asks_so c.as_slice.result.now c.in_ok-asks.asks.items c.as_slice-queries.result.now c.args.plan.now.queries c.args.plan.now.block_len g.T.OpenedAs.opening.block_len (search rules) c.in_ok-asks.ensures (search rules) c.requires.opening.block_len in
+    let asks_are = asks_so c.as_slice.result.now c.in_ok-asks.asks.items c.as_slice-queries.result.now c.args.plan.now.queries c.args.plan.now.block_len g.T.Opened.opening.block_len (search rules) c.in_ok-asks.ensures (search rules) c.requires.opening.block_len in
     let seated =
-    are_seated (λ v. v.items) (λ s. s.seat) (λ s. s.seat) g.I.Src.Source.remaining g.I.Src.Source.faults g.O.Snk.Sink.contents g.O.Snk.Sink.faults g.T.OpenedAs.opening g.T.OpenedAs.told c.begin_writers-writers.new.pass c.sessions.new.pass c.args.plan.now.queries c.as_slice.result.now asks_are c.requires.rules.some.1
+    are_seated (λ v. v.items) (λ s. s.seat) (λ s. s.seat) g.I.Src.Source.remaining g.I.Src.Source.faults g.O.Snk.Sink.contents g.O.Snk.Sink.faults g.T.Opened.opening g.T.Opened.outset.told c.begin_writers-writers.new.pass c.sessions.new.pass c.args.plan.now.queries c.as_slice.result.now asks_are c.requires.rules.some.1
     c.in-Ok-sessions.answers.items c.in-Ok-sessions.ensures.ok (c.in-Ok-sessions.ensures.fresh (none_live c.begin_writers-writers.new.pass.knows.seen (c.begin_writers-writers.ensures.begin.seen ∙ c.requires.fresh.0))) c.seat_all-jobs.result.items c.seat_all-jobs.ensures in
-    all_begun g.I.Src.Source.remaining g.I.Src.Source.faults g.O.Snk.Sink.contents g.O.Snk.Sink.faults g.T.OpenedAs.opening.block_len (bytes_of g.T.OpenedAs.opening.block_len g.T.OpenedAs.opening.blocks) c.args.plan.now.queries c.seat_all-jobs.result.items seated.begin
+    all_begun g.I.Src.Source.remaining g.I.Src.Source.faults g.O.Snk.Sink.contents g.O.Snk.Sink.faults g.T.Opened.opening.block_len (bytes_of g.T.Opened.opening.block_len g.T.Opened.opening.blocks) c.args.plan.now.queries c.seat_all-jobs.result.items seated.begin
 
 pub open_all-requires-clause-len : goal.open_all-requires-clause-len
 open_all-requires-clause-len g c κs within =
-    let asks_are = asks_so c.as_slice.result.now c.in_ok-asks.asks.items c.as_slice-queries.result.now c.args.plan.now.queries c.args.plan.now.block_len g.T.OpenedAs.opening.block_len (search rules) c.in_ok-asks.ensures (search rules) c.requires.opening.block_len in
+    let asks_are = asks_so c.as_slice.result.now c.in_ok-asks.asks.items c.as_slice-queries.result.now c.args.plan.now.queries c.args.plan.now.block_len g.T.Opened.opening.block_len (search rules) c.in_ok-asks.ensures (search rules) c.requires.opening.block_len in
     let seated =
-    are_seated (λ v. v.items) (λ s. s.seat) (λ s. s.seat) g.I.Src.Source.remaining g.I.Src.Source.faults g.O.Snk.Sink.contents g.O.Snk.Sink.faults g.T.OpenedAs.opening g.T.OpenedAs.told c.begin_writers-writers.new.pass c.sessions.new.pass c.args.plan.now.queries c.as_slice.result.now asks_are c.requires.rules.some.1
+    are_seated (λ v. v.items) (λ s. s.seat) (λ s. s.seat) g.I.Src.Source.remaining g.I.Src.Source.faults g.O.Snk.Sink.contents g.O.Snk.Sink.faults g.T.Opened.opening g.T.Opened.outset.told c.begin_writers-writers.new.pass c.sessions.new.pass c.args.plan.now.queries c.as_slice.result.now asks_are c.requires.rules.some.1
     c.in-Ok-sessions.answers.items c.in-Ok-sessions.ensures.ok (c.in-Ok-sessions.ensures.fresh (none_live c.begin_writers-writers.new.pass.knows.seen (c.begin_writers-writers.ensures.begin.seen ∙ c.requires.fresh.0))) c.seat_all-jobs.result.items c.seat_all-jobs.ensures in
     let queries_are : c.as_slice-queries.result.now ≡ c.args.plan.now.queries = search rules in
     let same : length c.as_slice-queries.result.now ≡ length c.args.plan.now.queries = ap length queries_are in
@@ -111,9 +111,9 @@ answer_beside-requires-clause-few g c κs within =
 
 pub answer_beside-requires-clause-len : goal.answer_beside-requires-clause-len
 answer_beside-requires-clause-len g c κs within =
-    let asks_are = asks_so c.as_slice.result.now c.in_ok-asks.asks.items c.as_slice-queries.result.now c.args.plan.now.queries c.args.plan.now.block_len g.T.OpenedAs.opening.block_len (search rules) c.in_ok-asks.ensures (search rules) c.requires.opening.block_len in
+    let asks_are = asks_so c.as_slice.result.now c.in_ok-asks.asks.items c.as_slice-queries.result.now c.args.plan.now.queries c.args.plan.now.block_len g.T.Opened.opening.block_len (search rules) c.in_ok-asks.ensures (search rules) c.requires.opening.block_len in
     let seated =
-    are_seated (λ v. v.items) (λ s. s.seat) (λ s. s.seat) g.I.Src.Source.remaining g.I.Src.Source.faults g.O.Snk.Sink.contents g.O.Snk.Sink.faults g.T.OpenedAs.opening g.T.OpenedAs.told c.begin_writers-writers.new.pass c.sessions.new.pass c.args.plan.now.queries c.as_slice.result.now asks_are c.requires.rules.some.1
+    are_seated (λ v. v.items) (λ s. s.seat) (λ s. s.seat) g.I.Src.Source.remaining g.I.Src.Source.faults g.O.Snk.Sink.contents g.O.Snk.Sink.faults g.T.Opened.opening g.T.Opened.outset.told c.begin_writers-writers.new.pass c.sessions.new.pass c.args.plan.now.queries c.as_slice.result.now asks_are c.requires.rules.some.1
     c.in-Ok-sessions.answers.items c.in-Ok-sessions.ensures.ok (c.in-Ok-sessions.ensures.fresh (none_live c.begin_writers-writers.new.pass.knows.seen (c.begin_writers-writers.ensures.begin.seen ∙ c.requires.fresh.0))) c.seat_all-jobs.result.items c.seat_all-jobs.ensures in
     let queries_are : c.as_slice-queries.result.now ≡ c.args.plan.now.queries = search rules in
     let same : length c.as_slice-queries.result.now ≡ length c.args.plan.now.queries = ap length queries_are in
@@ -123,21 +123,21 @@ answer_beside-requires-clause-len g c κs within =
 
 pub answer_beside-requires-clause-can : goal.answer_beside-requires-clause-can
 answer_beside-requires-clause-can g c κs within =
-    let asks_are = asks_so c.as_slice.result.now c.in_ok-asks.asks.items c.as_slice-queries.result.now c.args.plan.now.queries c.args.plan.now.block_len g.T.OpenedAs.opening.block_len (search rules) c.in_ok-asks.ensures (search rules) c.requires.opening.block_len in
+    let asks_are = asks_so c.as_slice.result.now c.in_ok-asks.asks.items c.as_slice-queries.result.now c.args.plan.now.queries c.args.plan.now.block_len g.T.Opened.opening.block_len (search rules) c.in_ok-asks.ensures (search rules) c.requires.opening.block_len in
     let seated =
-    are_seated (λ v. v.items) (λ s. s.seat) (λ s. s.seat) g.I.Src.Source.remaining g.I.Src.Source.faults g.O.Snk.Sink.contents g.O.Snk.Sink.faults g.T.OpenedAs.opening g.T.OpenedAs.told c.begin_writers-writers.new.pass c.sessions.new.pass c.args.plan.now.queries c.as_slice.result.now asks_are c.requires.rules.some.1
+    are_seated (λ v. v.items) (λ s. s.seat) (λ s. s.seat) g.I.Src.Source.remaining g.I.Src.Source.faults g.O.Snk.Sink.contents g.O.Snk.Sink.faults g.T.Opened.opening g.T.Opened.outset.told c.begin_writers-writers.new.pass c.sessions.new.pass c.args.plan.now.queries c.as_slice.result.now asks_are c.requires.rules.some.1
     c.in-Ok-sessions.answers.items c.in-Ok-sessions.ensures.ok (c.in-Ok-sessions.ensures.fresh (none_live c.begin_writers-writers.new.pass.knows.seen (c.begin_writers-writers.ensures.begin.seen ∙ c.requires.fresh.0))) c.seat_all-jobs.result.items c.seat_all-jobs.ensures in
     let queries_are : c.as_slice-queries.result.now ≡ c.args.plan.now.queries = search rules in
-    let works : AreWorks (seen (g.I.Inputs.bytes_at c.args.inputs.now) (g.I.Inputs.faults_at c.args.inputs.now) (g.O.Outputs.written c.args.outputs.now) (g.O.Outputs.is_created c.args.outputs.now) (g.O.Outputs.faults_at c.args.outputs.now) g.T.OpenedAs.first) (seen (g.I.Inputs.bytes_at c.args.inputs.now) (g.I.Inputs.faults_at c.args.inputs.now) (g.O.Outputs.written c.args.outputs.now) (g.O.Outputs.is_created c.args.outputs.now) (g.O.Outputs.faults_at c.args.outputs.now) g.T.OpenedAs.first) g.T.OpenedAs.opening.block_len c.args.plan.now.queries (map (work_of g.I.Src.Source.remaining g.I.Src.Source.faults g.O.Snk.Sink.contents g.O.Snk.Sink.faults) c.seat_all-jobs.result.items) = works_begin g.I.Src.Source.remaining g.I.Src.Source.faults g.O.Snk.Sink.contents g.O.Snk.Sink.faults (seen (g.I.Inputs.bytes_at c.args.inputs.now) (g.I.Inputs.faults_at c.args.inputs.now) (g.O.Outputs.written c.args.outputs.now) (g.O.Outputs.is_created c.args.outputs.now) (g.O.Outputs.faults_at c.args.outputs.now) g.T.OpenedAs.first) g.T.OpenedAs.opening.block_len (bytes_of g.T.OpenedAs.opening.block_len g.T.OpenedAs.opening.blocks) c.args.plan.now.queries c.seat_all-jobs.result.items seated.begin in
-    let works2 : AreWorks (seen (g.I.Inputs.bytes_at c.args.inputs.now) (g.I.Inputs.faults_at c.args.inputs.now) (g.O.Outputs.written c.args.outputs.now) (g.O.Outputs.is_created c.args.outputs.now) (g.O.Outputs.faults_at c.args.outputs.now) g.T.OpenedAs.first) (seen (g.I.Inputs.bytes_at c.open_all.new.inputs) (g.I.Inputs.faults_at c.open_all.new.inputs) (g.O.Outputs.written c.create_all.new.outputs) (g.O.Outputs.is_created c.create_all.new.outputs) (g.O.Outputs.faults_at c.create_all.new.outputs) g.T.OpenedAs.first) g.T.OpenedAs.opening.block_len c.args.plan.now.queries (map (work_of g.I.Src.Source.remaining g.I.Src.Source.faults g.O.Snk.Sink.contents g.O.Snk.Sink.faults) c.open_all.new.jobs.items) = (subst (λ (queries : List Query). KeepsWorks (seen (g.I.Inputs.bytes_at c.args.inputs.now) (g.I.Inputs.faults_at c.args.inputs.now) (g.O.Outputs.written c.create_all.new.outputs) (g.O.Outputs.is_created c.create_all.new.outputs) (g.O.Outputs.faults_at c.create_all.new.outputs) g.T.OpenedAs.first) (seen (g.I.Inputs.bytes_at c.open_all.new.inputs) (g.I.Inputs.faults_at c.open_all.new.inputs) (g.O.Outputs.written c.create_all.new.outputs) (g.O.Outputs.is_created c.create_all.new.outputs) (g.O.Outputs.faults_at c.create_all.new.outputs) g.T.OpenedAs.first) queries (map (work_of g.I.Src.Source.remaining g.I.Src.Source.faults g.O.Snk.Sink.contents g.O.Snk.Sink.faults) c.create_all.new.jobs.items) (map (work_of g.I.Src.Source.remaining g.I.Src.Source.faults g.O.Snk.Sink.contents g.O.Snk.Sink.faults) c.open_all.new.jobs.items)) queries_are (c.open_all.ensures.works (g.O.Outputs.written c.create_all.new.outputs) (g.O.Outputs.is_created c.create_all.new.outputs) (g.O.Outputs.faults_at c.create_all.new.outputs) g.T.OpenedAs.first)) (seen (g.I.Inputs.bytes_at c.args.inputs.now) (g.I.Inputs.faults_at c.args.inputs.now) (g.O.Outputs.written c.args.outputs.now) (g.O.Outputs.is_created c.args.outputs.now) (g.O.Outputs.faults_at c.args.outputs.now) g.T.OpenedAs.first) g.T.OpenedAs.opening.block_len ((subst (λ (queries : List Query). KeepsWorks (seen (g.I.Inputs.bytes_at c.args.inputs.now) (g.I.Inputs.faults_at c.args.inputs.now) (g.O.Outputs.written c.args.outputs.now) (g.O.Outputs.is_created c.args.outputs.now) (g.O.Outputs.faults_at c.args.outputs.now) g.T.OpenedAs.first) (seen (g.I.Inputs.bytes_at c.args.inputs.now) (g.I.Inputs.faults_at c.args.inputs.now) (g.O.Outputs.written c.create_all.new.outputs) (g.O.Outputs.is_created c.create_all.new.outputs) (g.O.Outputs.faults_at c.create_all.new.outputs) g.T.OpenedAs.first) queries (map (work_of g.I.Src.Source.remaining g.I.Src.Source.faults g.O.Snk.Sink.contents g.O.Snk.Sink.faults) c.seat_all-jobs.result.items) (map (work_of g.I.Src.Source.remaining g.I.Src.Source.faults g.O.Snk.Sink.contents g.O.Snk.Sink.faults) c.create_all.new.jobs.items)) queries_are (c.create_all.ensures.works (g.I.Inputs.bytes_at c.args.inputs.now) (g.I.Inputs.faults_at c.args.inputs.now) g.T.OpenedAs.first)) (seen (g.I.Inputs.bytes_at c.args.inputs.now) (g.I.Inputs.faults_at c.args.inputs.now) (g.O.Outputs.written c.args.outputs.now) (g.O.Outputs.is_created c.args.outputs.now) (g.O.Outputs.faults_at c.args.outputs.now) g.T.OpenedAs.first) g.T.OpenedAs.opening.block_len works) in
-    subst (λ (queries : List Query). AllCanRun g.I.Src.Source.remaining g.I.Src.Source.faults g.O.Snk.Sink.contents g.O.Snk.Sink.faults (λ s. held_by g.T.OpenedAs.opening g.T.OpenedAs.told s.seat) (λ s. signs_by g.T.OpenedAs.opening s.seat) queries c.as_mut_slice.result.now) (sym queries_are)
-    (subst (AllCanRun g.I.Src.Source.remaining g.I.Src.Source.faults g.O.Snk.Sink.contents g.O.Snk.Sink.faults (λ s. held_by g.T.OpenedAs.opening g.T.OpenedAs.told s.seat) (λ s. signs_by g.T.OpenedAs.opening s.seat) c.args.plan.now.queries) (sym c.as_mut_slice.ensures.value) (all_can (λ s. s.seat) g.I.Src.Source.remaining g.I.Src.Source.faults g.O.Snk.Sink.contents g.O.Snk.Sink.faults g.T.OpenedAs.opening g.T.OpenedAs.told c.sessions.new.pass c.args.plan.now.queries (map (seen_in (λ v. v.items) (λ s. s.seat)) c.in-Ok-sessions.answers.items) seated.shapes seated.admits.sessions c.seat_all-jobs.result.items c.open_all.new.jobs.items seated.first (c.open_all.ensures.refused ∙ c.create_all.ensures.refused) (c.open_all.ensures.sessions ∙ c.create_all.ensures.sessions) (seen (g.I.Inputs.bytes_at c.args.inputs.now) (g.I.Inputs.faults_at c.args.inputs.now) (g.O.Outputs.written c.args.outputs.now) (g.O.Outputs.is_created c.args.outputs.now) (g.O.Outputs.faults_at c.args.outputs.now) g.T.OpenedAs.first) (seen (g.I.Inputs.bytes_at c.open_all.new.inputs) (g.I.Inputs.faults_at c.open_all.new.inputs) (g.O.Outputs.written c.create_all.new.outputs) (g.O.Outputs.is_created c.create_all.new.outputs) (g.O.Outputs.faults_at c.create_all.new.outputs) g.T.OpenedAs.first) c.requires.rules.queries c.open_all.ensures.step works2))
+    let works : AreWorks (seen (g.I.Inputs.bytes_at c.args.inputs.now) (g.I.Inputs.faults_at c.args.inputs.now) (g.O.Outputs.written c.args.outputs.now) (g.O.Outputs.is_created c.args.outputs.now) (g.O.Outputs.faults_at c.args.outputs.now) g.T.Opened.first) (seen (g.I.Inputs.bytes_at c.args.inputs.now) (g.I.Inputs.faults_at c.args.inputs.now) (g.O.Outputs.written c.args.outputs.now) (g.O.Outputs.is_created c.args.outputs.now) (g.O.Outputs.faults_at c.args.outputs.now) g.T.Opened.first) g.T.Opened.opening.block_len c.args.plan.now.queries (map (work_of g.I.Src.Source.remaining g.I.Src.Source.faults g.O.Snk.Sink.contents g.O.Snk.Sink.faults) c.seat_all-jobs.result.items) = works_begin g.I.Src.Source.remaining g.I.Src.Source.faults g.O.Snk.Sink.contents g.O.Snk.Sink.faults (seen (g.I.Inputs.bytes_at c.args.inputs.now) (g.I.Inputs.faults_at c.args.inputs.now) (g.O.Outputs.written c.args.outputs.now) (g.O.Outputs.is_created c.args.outputs.now) (g.O.Outputs.faults_at c.args.outputs.now) g.T.Opened.first) g.T.Opened.opening.block_len (bytes_of g.T.Opened.opening.block_len g.T.Opened.opening.blocks) c.args.plan.now.queries c.seat_all-jobs.result.items seated.begin in
+    let works2 : AreWorks (seen (g.I.Inputs.bytes_at c.args.inputs.now) (g.I.Inputs.faults_at c.args.inputs.now) (g.O.Outputs.written c.args.outputs.now) (g.O.Outputs.is_created c.args.outputs.now) (g.O.Outputs.faults_at c.args.outputs.now) g.T.Opened.first) (seen (g.I.Inputs.bytes_at c.open_all.new.inputs) (g.I.Inputs.faults_at c.open_all.new.inputs) (g.O.Outputs.written c.create_all.new.outputs) (g.O.Outputs.is_created c.create_all.new.outputs) (g.O.Outputs.faults_at c.create_all.new.outputs) g.T.Opened.first) g.T.Opened.opening.block_len c.args.plan.now.queries (map (work_of g.I.Src.Source.remaining g.I.Src.Source.faults g.O.Snk.Sink.contents g.O.Snk.Sink.faults) c.open_all.new.jobs.items) = (subst (λ (queries : List Query). KeepsWorks (seen (g.I.Inputs.bytes_at c.args.inputs.now) (g.I.Inputs.faults_at c.args.inputs.now) (g.O.Outputs.written c.create_all.new.outputs) (g.O.Outputs.is_created c.create_all.new.outputs) (g.O.Outputs.faults_at c.create_all.new.outputs) g.T.Opened.first) (seen (g.I.Inputs.bytes_at c.open_all.new.inputs) (g.I.Inputs.faults_at c.open_all.new.inputs) (g.O.Outputs.written c.create_all.new.outputs) (g.O.Outputs.is_created c.create_all.new.outputs) (g.O.Outputs.faults_at c.create_all.new.outputs) g.T.Opened.first) queries (map (work_of g.I.Src.Source.remaining g.I.Src.Source.faults g.O.Snk.Sink.contents g.O.Snk.Sink.faults) c.create_all.new.jobs.items) (map (work_of g.I.Src.Source.remaining g.I.Src.Source.faults g.O.Snk.Sink.contents g.O.Snk.Sink.faults) c.open_all.new.jobs.items)) queries_are (c.open_all.ensures.works (g.O.Outputs.written c.create_all.new.outputs) (g.O.Outputs.is_created c.create_all.new.outputs) (g.O.Outputs.faults_at c.create_all.new.outputs) g.T.Opened.first)) (seen (g.I.Inputs.bytes_at c.args.inputs.now) (g.I.Inputs.faults_at c.args.inputs.now) (g.O.Outputs.written c.args.outputs.now) (g.O.Outputs.is_created c.args.outputs.now) (g.O.Outputs.faults_at c.args.outputs.now) g.T.Opened.first) g.T.Opened.opening.block_len ((subst (λ (queries : List Query). KeepsWorks (seen (g.I.Inputs.bytes_at c.args.inputs.now) (g.I.Inputs.faults_at c.args.inputs.now) (g.O.Outputs.written c.args.outputs.now) (g.O.Outputs.is_created c.args.outputs.now) (g.O.Outputs.faults_at c.args.outputs.now) g.T.Opened.first) (seen (g.I.Inputs.bytes_at c.args.inputs.now) (g.I.Inputs.faults_at c.args.inputs.now) (g.O.Outputs.written c.create_all.new.outputs) (g.O.Outputs.is_created c.create_all.new.outputs) (g.O.Outputs.faults_at c.create_all.new.outputs) g.T.Opened.first) queries (map (work_of g.I.Src.Source.remaining g.I.Src.Source.faults g.O.Snk.Sink.contents g.O.Snk.Sink.faults) c.seat_all-jobs.result.items) (map (work_of g.I.Src.Source.remaining g.I.Src.Source.faults g.O.Snk.Sink.contents g.O.Snk.Sink.faults) c.create_all.new.jobs.items)) queries_are (c.create_all.ensures.works (g.I.Inputs.bytes_at c.args.inputs.now) (g.I.Inputs.faults_at c.args.inputs.now) g.T.Opened.first)) (seen (g.I.Inputs.bytes_at c.args.inputs.now) (g.I.Inputs.faults_at c.args.inputs.now) (g.O.Outputs.written c.args.outputs.now) (g.O.Outputs.is_created c.args.outputs.now) (g.O.Outputs.faults_at c.args.outputs.now) g.T.Opened.first) g.T.Opened.opening.block_len works) in
+    subst (λ (queries : List Query). AllCanRun g.I.Src.Source.remaining g.I.Src.Source.faults g.O.Snk.Sink.contents g.O.Snk.Sink.faults (λ s. held_by g.T.Opened.opening g.T.Opened.outset.told s.seat) (λ s. signs_by g.T.Opened.opening s.seat) queries c.as_mut_slice.result.now) (sym queries_are)
+    (subst (AllCanRun g.I.Src.Source.remaining g.I.Src.Source.faults g.O.Snk.Sink.contents g.O.Snk.Sink.faults (λ s. held_by g.T.Opened.opening g.T.Opened.outset.told s.seat) (λ s. signs_by g.T.Opened.opening s.seat) c.args.plan.now.queries) (sym c.as_mut_slice.ensures.value) (all_can (λ s. s.seat) g.I.Src.Source.remaining g.I.Src.Source.faults g.O.Snk.Sink.contents g.O.Snk.Sink.faults g.T.Opened.opening g.T.Opened.outset.told c.sessions.new.pass c.args.plan.now.queries (map (seen_in (λ v. v.items) (λ s. s.seat)) c.in-Ok-sessions.answers.items) seated.shapes seated.admits.sessions c.seat_all-jobs.result.items c.open_all.new.jobs.items seated.first (c.open_all.ensures.refused ∙ c.create_all.ensures.refused) (c.open_all.ensures.sessions ∙ c.create_all.ensures.sessions) (seen (g.I.Inputs.bytes_at c.args.inputs.now) (g.I.Inputs.faults_at c.args.inputs.now) (g.O.Outputs.written c.args.outputs.now) (g.O.Outputs.is_created c.args.outputs.now) (g.O.Outputs.faults_at c.args.outputs.now) g.T.Opened.first) (seen (g.I.Inputs.bytes_at c.open_all.new.inputs) (g.I.Inputs.faults_at c.open_all.new.inputs) (g.O.Outputs.written c.create_all.new.outputs) (g.O.Outputs.is_created c.create_all.new.outputs) (g.O.Outputs.faults_at c.create_all.new.outputs) g.T.Opened.first) c.requires.rules.queries c.open_all.ensures.step works2))
 
 pub close_all-requires-clause-len : goal.close_all-requires-clause-len
 close_all-requires-clause-len g c κs within =
-    let asks_are = asks_so c.as_slice.result.now c.in_ok-asks.asks.items c.as_slice-queries.result.now c.args.plan.now.queries c.args.plan.now.block_len g.T.OpenedAs.opening.block_len (search rules) c.in_ok-asks.ensures (search rules) c.requires.opening.block_len in
+    let asks_are = asks_so c.as_slice.result.now c.in_ok-asks.asks.items c.as_slice-queries.result.now c.args.plan.now.queries c.args.plan.now.block_len g.T.Opened.opening.block_len (search rules) c.in_ok-asks.ensures (search rules) c.requires.opening.block_len in
     let seated =
-    are_seated (λ v. v.items) (λ s. s.seat) (λ s. s.seat) g.I.Src.Source.remaining g.I.Src.Source.faults g.O.Snk.Sink.contents g.O.Snk.Sink.faults g.T.OpenedAs.opening g.T.OpenedAs.told c.begin_writers-writers.new.pass c.sessions.new.pass c.args.plan.now.queries c.as_slice.result.now asks_are c.requires.rules.some.1
+    are_seated (λ v. v.items) (λ s. s.seat) (λ s. s.seat) g.I.Src.Source.remaining g.I.Src.Source.faults g.O.Snk.Sink.contents g.O.Snk.Sink.faults g.T.Opened.opening g.T.Opened.outset.told c.begin_writers-writers.new.pass c.sessions.new.pass c.args.plan.now.queries c.as_slice.result.now asks_are c.requires.rules.some.1
     c.in-Ok-sessions.answers.items c.in-Ok-sessions.ensures.ok (c.in-Ok-sessions.ensures.fresh (none_live c.begin_writers-writers.new.pass.knows.seen (c.begin_writers-writers.ensures.begin.seen ∙ c.requires.fresh.0))) c.seat_all-jobs.result.items c.seat_all-jobs.ensures in
     let queries_are : c.as_slice-queries.result.now ≡ c.args.plan.now.queries = search rules in
     let same : length c.as_slice-queries.result.now ≡ length c.args.plan.now.queries = ap length queries_are in
@@ -146,42 +146,42 @@ close_all-requires-clause-len g c κs within =
 
 pub close_all-requires-clause-before : goal.close_all-requires-clause-before
 close_all-requires-clause-before g c κs within =
-    let asks_are = asks_so c.as_slice.result.now c.in_ok-asks.asks.items c.as_slice-queries.result.now c.args.plan.now.queries c.args.plan.now.block_len g.T.OpenedAs.opening.block_len (search rules) c.in_ok-asks.ensures (search rules) c.requires.opening.block_len in
+    let asks_are = asks_so c.as_slice.result.now c.in_ok-asks.asks.items c.as_slice-queries.result.now c.args.plan.now.queries c.args.plan.now.block_len g.T.Opened.opening.block_len (search rules) c.in_ok-asks.ensures (search rules) c.requires.opening.block_len in
     let seated =
-    are_seated (λ v. v.items) (λ s. s.seat) (λ s. s.seat) g.I.Src.Source.remaining g.I.Src.Source.faults g.O.Snk.Sink.contents g.O.Snk.Sink.faults g.T.OpenedAs.opening g.T.OpenedAs.told c.begin_writers-writers.new.pass c.sessions.new.pass c.args.plan.now.queries c.as_slice.result.now asks_are c.requires.rules.some.1
+    are_seated (λ v. v.items) (λ s. s.seat) (λ s. s.seat) g.I.Src.Source.remaining g.I.Src.Source.faults g.O.Snk.Sink.contents g.O.Snk.Sink.faults g.T.Opened.opening g.T.Opened.outset.told c.begin_writers-writers.new.pass c.sessions.new.pass c.args.plan.now.queries c.as_slice.result.now asks_are c.requires.rules.some.1
     c.in-Ok-sessions.answers.items c.in-Ok-sessions.ensures.ok (c.in-Ok-sessions.ensures.fresh (none_live c.begin_writers-writers.new.pass.knows.seen (c.begin_writers-writers.ensures.begin.seen ∙ c.requires.fresh.0))) c.seat_all-jobs.result.items c.seat_all-jobs.ensures in
     let ran =
-    have_run (λ v. v.items) (λ s. s.seat) (λ s. s.seat) g.I.Src.Source.remaining g.I.Src.Source.faults g.O.Snk.Sink.contents g.O.Snk.Sink.faults g.T.OpenedAs.opening g.T.OpenedAs.told c.begin_writers-writers.new.pass c.sessions.new.pass c.args.plan.now.queries
+    have_run (λ v. v.items) (λ s. s.seat) (λ s. s.seat) g.I.Src.Source.remaining g.I.Src.Source.faults g.O.Snk.Sink.contents g.O.Snk.Sink.faults g.T.Opened.opening g.T.Opened.outset.told c.begin_writers-writers.new.pass c.sessions.new.pass c.args.plan.now.queries
     c.in-Ok-sessions.answers.items c.seat_all-jobs.result.items c.open_all.new.jobs.items (with_items c.open_all.new.jobs c.answer_beside.new.jobs).items seated (sym c.open_all.new.jobs.ok.0 ∙ c.open_all.ensures.len ∙ c.create_all.ensures.len ∙ c.seat_all-jobs.result.ok.0)
     (c.open_all.ensures.refused ∙ c.create_all.ensures.refused) (c.open_all.ensures.sessions ∙ c.create_all.ensures.sessions) c.as_slice-queries.result.now c.as_mut_slice.result.now c.answer_beside.new.jobs (search rules) c.as_mut_slice.ensures.value
     (with_items_is c.open_all.new.jobs c.answer_beside.new.jobs (c.answer_beside.ensures.len ∙ ap length c.as_mut_slice.ensures.value ∙ sym c.open_all.new.jobs.ok.0)) c.answer_beside.ensures.len c.answer_beside.ensures.each in
     let len1 : length c.create_all.new.jobs.items ≡ length c.seat_all-jobs.result.items = sym c.create_all.new.jobs.ok.0 ∙ c.create_all.ensures.len ∙ c.seat_all-jobs.result.ok.0 in
     let len2 : length c.open_all.new.jobs.items ≡ length c.create_all.new.jobs.items = sym c.open_all.new.jobs.ok.0 ∙ c.open_all.ensures.len ∙ c.create_all.new.jobs.ok.0 in
-    ended_works g.I.Src.Source.remaining g.I.Src.Source.faults g.O.Snk.Sink.contents g.O.Snk.Sink.faults g.T.OpenedAs.opening g.T.OpenedAs.told (λ s. s.seat) c.args.plan.now.queries c.open_all.new.jobs.items (with_items c.open_all.new.jobs c.answer_beside.new.jobs).items ran.many ran.same ran.answered
+    ended_works g.I.Src.Source.remaining g.I.Src.Source.faults g.O.Snk.Sink.contents g.O.Snk.Sink.faults g.T.Opened.opening g.T.Opened.outset.told (λ s. s.seat) c.args.plan.now.queries c.open_all.new.jobs.items (with_items c.open_all.new.jobs c.answer_beside.new.jobs).items ran.many ran.same ran.answered
 
 pub close_all-requires-clause-sides : goal.close_all-requires-clause-sides
 close_all-requires-clause-sides g c κs within =
-    let asks_are = asks_so c.as_slice.result.now c.in_ok-asks.asks.items c.as_slice-queries.result.now c.args.plan.now.queries c.args.plan.now.block_len g.T.OpenedAs.opening.block_len (search rules) c.in_ok-asks.ensures (search rules) c.requires.opening.block_len in
+    let asks_are = asks_so c.as_slice.result.now c.in_ok-asks.asks.items c.as_slice-queries.result.now c.args.plan.now.queries c.args.plan.now.block_len g.T.Opened.opening.block_len (search rules) c.in_ok-asks.ensures (search rules) c.requires.opening.block_len in
     let seated =
-    are_seated (λ v. v.items) (λ s. s.seat) (λ s. s.seat) g.I.Src.Source.remaining g.I.Src.Source.faults g.O.Snk.Sink.contents g.O.Snk.Sink.faults g.T.OpenedAs.opening g.T.OpenedAs.told c.begin_writers-writers.new.pass c.sessions.new.pass c.args.plan.now.queries c.as_slice.result.now asks_are c.requires.rules.some.1
+    are_seated (λ v. v.items) (λ s. s.seat) (λ s. s.seat) g.I.Src.Source.remaining g.I.Src.Source.faults g.O.Snk.Sink.contents g.O.Snk.Sink.faults g.T.Opened.opening g.T.Opened.outset.told c.begin_writers-writers.new.pass c.sessions.new.pass c.args.plan.now.queries c.as_slice.result.now asks_are c.requires.rules.some.1
     c.in-Ok-sessions.answers.items c.in-Ok-sessions.ensures.ok (c.in-Ok-sessions.ensures.fresh (none_live c.begin_writers-writers.new.pass.knows.seen (c.begin_writers-writers.ensures.begin.seen ∙ c.requires.fresh.0))) c.seat_all-jobs.result.items c.seat_all-jobs.ensures in
     let ran =
-    have_run (λ v. v.items) (λ s. s.seat) (λ s. s.seat) g.I.Src.Source.remaining g.I.Src.Source.faults g.O.Snk.Sink.contents g.O.Snk.Sink.faults g.T.OpenedAs.opening g.T.OpenedAs.told c.begin_writers-writers.new.pass c.sessions.new.pass c.args.plan.now.queries
+    have_run (λ v. v.items) (λ s. s.seat) (λ s. s.seat) g.I.Src.Source.remaining g.I.Src.Source.faults g.O.Snk.Sink.contents g.O.Snk.Sink.faults g.T.Opened.opening g.T.Opened.outset.told c.begin_writers-writers.new.pass c.sessions.new.pass c.args.plan.now.queries
     c.in-Ok-sessions.answers.items c.seat_all-jobs.result.items c.open_all.new.jobs.items (with_items c.open_all.new.jobs c.answer_beside.new.jobs).items seated (sym c.open_all.new.jobs.ok.0 ∙ c.open_all.ensures.len ∙ c.create_all.ensures.len ∙ c.seat_all-jobs.result.ok.0)
     (c.open_all.ensures.refused ∙ c.create_all.ensures.refused) (c.open_all.ensures.sessions ∙ c.create_all.ensures.sessions) c.as_slice-queries.result.now c.as_mut_slice.result.now c.answer_beside.new.jobs (search rules) c.as_mut_slice.ensures.value
     (with_items_is c.open_all.new.jobs c.answer_beside.new.jobs (c.answer_beside.ensures.len ∙ ap length c.as_mut_slice.ensures.value ∙ sym c.open_all.new.jobs.ok.0)) c.answer_beside.ensures.len c.answer_beside.ensures.each in
     let queries_are : c.as_slice-queries.result.now ≡ c.args.plan.now.queries = search rules in
     let len1 : length c.create_all.new.jobs.items ≡ length c.seat_all-jobs.result.items = sym c.create_all.new.jobs.ok.0 ∙ c.create_all.ensures.len ∙ c.seat_all-jobs.result.ok.0 in
     let len2 : length c.open_all.new.jobs.items ≡ length c.create_all.new.jobs.items = sym c.open_all.new.jobs.ok.0 ∙ c.open_all.ensures.len ∙ c.create_all.new.jobs.ok.0 in
-    let works3 : AreWorks (seen (g.I.Inputs.bytes_at c.args.inputs.now) (g.I.Inputs.faults_at c.args.inputs.now) (g.O.Outputs.written c.args.outputs.now) (g.O.Outputs.is_created c.args.outputs.now) (g.O.Outputs.faults_at c.args.outputs.now) unknown) (seen (g.I.Inputs.bytes_at c.open_all.new.inputs) (g.I.Inputs.faults_at c.open_all.new.inputs) (g.O.Outputs.written c.create_all.new.outputs) (g.O.Outputs.is_created c.create_all.new.outputs) (g.O.Outputs.faults_at c.create_all.new.outputs) unknown) g.T.OpenedAs.opening.block_len c.args.plan.now.queries (map (work_of g.I.Src.Source.remaining g.I.Src.Source.faults g.O.Snk.Sink.contents g.O.Snk.Sink.faults) (with_items c.open_all.new.jobs c.answer_beside.new.jobs).items) = works_unknown g.I.Src.Source.remaining g.I.Src.Source.faults g.O.Snk.Sink.contents g.O.Snk.Sink.faults g.T.OpenedAs.opening g.T.OpenedAs.told (λ s. s.seat) (seen (g.I.Inputs.bytes_at c.args.inputs.now) (g.I.Inputs.faults_at c.args.inputs.now) (g.O.Outputs.written c.args.outputs.now) (g.O.Outputs.is_created c.args.outputs.now) (g.O.Outputs.faults_at c.args.outputs.now) g.T.OpenedAs.first) (seen (g.I.Inputs.bytes_at c.args.inputs.now) (g.I.Inputs.faults_at c.args.inputs.now) (g.O.Outputs.written c.create_all.new.outputs) (g.O.Outputs.is_created c.create_all.new.outputs) (g.O.Outputs.faults_at c.create_all.new.outputs) g.T.OpenedAs.first) (seen (g.I.Inputs.bytes_at c.open_all.new.inputs) (g.I.Inputs.faults_at c.open_all.new.inputs) (g.O.Outputs.written c.create_all.new.outputs) (g.O.Outputs.is_created c.create_all.new.outputs) (g.O.Outputs.faults_at c.create_all.new.outputs) g.T.OpenedAs.first) c.args.plan.now.queries (bytes_of g.T.OpenedAs.opening.block_len g.T.OpenedAs.opening.blocks) c.seat_all-jobs.result.items c.create_all.new.jobs.items c.open_all.new.jobs.items (with_items c.open_all.new.jobs c.answer_beside.new.jobs).items seated.begin ran.same ran.alike ran.answered ran.come (subst (λ (queries : List Query). KeepsWorks (seen (g.I.Inputs.bytes_at c.args.inputs.now) (g.I.Inputs.faults_at c.args.inputs.now) (g.O.Outputs.written c.args.outputs.now) (g.O.Outputs.is_created c.args.outputs.now) (g.O.Outputs.faults_at c.args.outputs.now) unknown) (seen (g.I.Inputs.bytes_at c.args.inputs.now) (g.I.Inputs.faults_at c.args.inputs.now) (g.O.Outputs.written c.create_all.new.outputs) (g.O.Outputs.is_created c.create_all.new.outputs) (g.O.Outputs.faults_at c.create_all.new.outputs) unknown) queries (map (work_of g.I.Src.Source.remaining g.I.Src.Source.faults g.O.Snk.Sink.contents g.O.Snk.Sink.faults) c.seat_all-jobs.result.items) (map (work_of g.I.Src.Source.remaining g.I.Src.Source.faults g.O.Snk.Sink.contents g.O.Snk.Sink.faults) c.create_all.new.jobs.items)) queries_are (c.create_all.ensures.works (g.I.Inputs.bytes_at c.args.inputs.now) (g.I.Inputs.faults_at c.args.inputs.now) unknown)) (subst (λ (queries : List Query). KeepsWorks (seen (g.I.Inputs.bytes_at c.args.inputs.now) (g.I.Inputs.faults_at c.args.inputs.now) (g.O.Outputs.written c.create_all.new.outputs) (g.O.Outputs.is_created c.create_all.new.outputs) (g.O.Outputs.faults_at c.create_all.new.outputs) unknown) (seen (g.I.Inputs.bytes_at c.open_all.new.inputs) (g.I.Inputs.faults_at c.open_all.new.inputs) (g.O.Outputs.written c.create_all.new.outputs) (g.O.Outputs.is_created c.create_all.new.outputs) (g.O.Outputs.faults_at c.create_all.new.outputs) unknown) queries (map (work_of g.I.Src.Source.remaining g.I.Src.Source.faults g.O.Snk.Sink.contents g.O.Snk.Sink.faults) c.create_all.new.jobs.items) (map (work_of g.I.Src.Source.remaining g.I.Src.Source.faults g.O.Snk.Sink.contents g.O.Snk.Sink.faults) c.open_all.new.jobs.items)) queries_are (c.open_all.ensures.works (g.O.Outputs.written c.create_all.new.outputs) (g.O.Outputs.is_created c.create_all.new.outputs) (g.O.Outputs.faults_at c.create_all.new.outputs) unknown)) in
+    let works3 : AreWorks (seen (g.I.Inputs.bytes_at c.args.inputs.now) (g.I.Inputs.faults_at c.args.inputs.now) (g.O.Outputs.written c.args.outputs.now) (g.O.Outputs.is_created c.args.outputs.now) (g.O.Outputs.faults_at c.args.outputs.now) unknown) (seen (g.I.Inputs.bytes_at c.open_all.new.inputs) (g.I.Inputs.faults_at c.open_all.new.inputs) (g.O.Outputs.written c.create_all.new.outputs) (g.O.Outputs.is_created c.create_all.new.outputs) (g.O.Outputs.faults_at c.create_all.new.outputs) unknown) g.T.Opened.opening.block_len c.args.plan.now.queries (map (work_of g.I.Src.Source.remaining g.I.Src.Source.faults g.O.Snk.Sink.contents g.O.Snk.Sink.faults) (with_items c.open_all.new.jobs c.answer_beside.new.jobs).items) = works_unknown g.I.Src.Source.remaining g.I.Src.Source.faults g.O.Snk.Sink.contents g.O.Snk.Sink.faults g.T.Opened.opening g.T.Opened.outset.told (λ s. s.seat) (seen (g.I.Inputs.bytes_at c.args.inputs.now) (g.I.Inputs.faults_at c.args.inputs.now) (g.O.Outputs.written c.args.outputs.now) (g.O.Outputs.is_created c.args.outputs.now) (g.O.Outputs.faults_at c.args.outputs.now) g.T.Opened.first) (seen (g.I.Inputs.bytes_at c.args.inputs.now) (g.I.Inputs.faults_at c.args.inputs.now) (g.O.Outputs.written c.create_all.new.outputs) (g.O.Outputs.is_created c.create_all.new.outputs) (g.O.Outputs.faults_at c.create_all.new.outputs) g.T.Opened.first) (seen (g.I.Inputs.bytes_at c.open_all.new.inputs) (g.I.Inputs.faults_at c.open_all.new.inputs) (g.O.Outputs.written c.create_all.new.outputs) (g.O.Outputs.is_created c.create_all.new.outputs) (g.O.Outputs.faults_at c.create_all.new.outputs) g.T.Opened.first) c.args.plan.now.queries (bytes_of g.T.Opened.opening.block_len g.T.Opened.opening.blocks) c.seat_all-jobs.result.items c.create_all.new.jobs.items c.open_all.new.jobs.items (with_items c.open_all.new.jobs c.answer_beside.new.jobs).items seated.begin ran.same ran.alike ran.answered ran.come (subst (λ (queries : List Query). KeepsWorks (seen (g.I.Inputs.bytes_at c.args.inputs.now) (g.I.Inputs.faults_at c.args.inputs.now) (g.O.Outputs.written c.args.outputs.now) (g.O.Outputs.is_created c.args.outputs.now) (g.O.Outputs.faults_at c.args.outputs.now) unknown) (seen (g.I.Inputs.bytes_at c.args.inputs.now) (g.I.Inputs.faults_at c.args.inputs.now) (g.O.Outputs.written c.create_all.new.outputs) (g.O.Outputs.is_created c.create_all.new.outputs) (g.O.Outputs.faults_at c.create_all.new.outputs) unknown) queries (map (work_of g.I.Src.Source.remaining g.I.Src.Source.faults g.O.Snk.Sink.contents g.O.Snk.Sink.faults) c.seat_all-jobs.result.items) (map (work_of g.I.Src.Source.remaining g.I.Src.Source.faults g.O.Snk.Sink.contents g.O.Snk.Sink.faults) c.create_all.new.jobs.items)) queries_are (c.create_all.ensures.works (g.I.Inputs.bytes_at c.args.inputs.now) (g.I.Inputs.faults_at c.args.inputs.now) unknown)) (subst (λ (queries : List Query). KeepsWorks (seen (g.I.Inputs.bytes_at c.args.inputs.now) (g.I.Inputs.faults_at c.args.inputs.now) (g.O.Outputs.written c.create_all.new.outputs) (g.O.Outputs.is_created c.create_all.new.outputs) (g.O.Outputs.faults_at c.create_all.new.outputs) unknown) (seen (g.I.Inputs.bytes_at c.open_all.new.inputs) (g.I.Inputs.faults_at c.open_all.new.inputs) (g.O.Outputs.written c.create_all.new.outputs) (g.O.Outputs.is_created c.create_all.new.outputs) (g.O.Outputs.faults_at c.create_all.new.outputs) unknown) queries (map (work_of g.I.Src.Source.remaining g.I.Src.Source.faults g.O.Snk.Sink.contents g.O.Snk.Sink.faults) c.create_all.new.jobs.items) (map (work_of g.I.Src.Source.remaining g.I.Src.Source.faults g.O.Snk.Sink.contents g.O.Snk.Sink.faults) c.open_all.new.jobs.items)) queries_are (c.open_all.ensures.works (g.O.Outputs.written c.create_all.new.outputs) (g.O.Outputs.is_created c.create_all.new.outputs) (g.O.Outputs.faults_at c.create_all.new.outputs) unknown)) in
     subst (λ (queries : List Query). AreEach HasSides queries (map (work_of g.I.Src.Source.remaining g.I.Src.Source.faults g.O.Snk.Sink.contents g.O.Snk.Sink.faults) (with_items c.open_all.new.jobs c.answer_beside.new.jobs).items)) (sym queries_are)
-    (sided_of (seen (g.I.Inputs.bytes_at c.args.inputs.now) (g.I.Inputs.faults_at c.args.inputs.now) (g.O.Outputs.written c.args.outputs.now) (g.O.Outputs.is_created c.args.outputs.now) (g.O.Outputs.faults_at c.args.outputs.now) unknown) (seen (g.I.Inputs.bytes_at c.open_all.new.inputs) (g.I.Inputs.faults_at c.open_all.new.inputs) (g.O.Outputs.written c.create_all.new.outputs) (g.O.Outputs.is_created c.create_all.new.outputs) (g.O.Outputs.faults_at c.create_all.new.outputs) unknown) g.T.OpenedAs.opening.block_len c.args.plan.now.queries (map (work_of g.I.Src.Source.remaining g.I.Src.Source.faults g.O.Snk.Sink.contents g.O.Snk.Sink.faults) (with_items c.open_all.new.jobs c.answer_beside.new.jobs).items) works3)
+    (sided_of (seen (g.I.Inputs.bytes_at c.args.inputs.now) (g.I.Inputs.faults_at c.args.inputs.now) (g.O.Outputs.written c.args.outputs.now) (g.O.Outputs.is_created c.args.outputs.now) (g.O.Outputs.faults_at c.args.outputs.now) unknown) (seen (g.I.Inputs.bytes_at c.open_all.new.inputs) (g.I.Inputs.faults_at c.open_all.new.inputs) (g.O.Outputs.written c.create_all.new.outputs) (g.O.Outputs.is_created c.create_all.new.outputs) (g.O.Outputs.faults_at c.create_all.new.outputs) unknown) g.T.Opened.opening.block_len c.args.plan.now.queries (map (work_of g.I.Src.Source.remaining g.I.Src.Source.faults g.O.Snk.Sink.contents g.O.Snk.Sink.faults) (with_items c.open_all.new.jobs c.answer_beside.new.jobs).items) works3)
 
 pub finish_all-requires-clause-len : goal.finish_all-requires-clause-len
 finish_all-requires-clause-len g c κs within =
-    let asks_are = asks_so c.as_slice.result.now c.in_ok-asks.asks.items c.as_slice-queries.result.now c.args.plan.now.queries c.args.plan.now.block_len g.T.OpenedAs.opening.block_len (search rules) c.in_ok-asks.ensures (search rules) c.requires.opening.block_len in
+    let asks_are = asks_so c.as_slice.result.now c.in_ok-asks.asks.items c.as_slice-queries.result.now c.args.plan.now.queries c.args.plan.now.block_len g.T.Opened.opening.block_len (search rules) c.in_ok-asks.ensures (search rules) c.requires.opening.block_len in
     let seated =
-    are_seated (λ v. v.items) (λ s. s.seat) (λ s. s.seat) g.I.Src.Source.remaining g.I.Src.Source.faults g.O.Snk.Sink.contents g.O.Snk.Sink.faults g.T.OpenedAs.opening g.T.OpenedAs.told c.begin_writers-writers.new.pass c.sessions.new.pass c.args.plan.now.queries c.as_slice.result.now asks_are c.requires.rules.some.1
+    are_seated (λ v. v.items) (λ s. s.seat) (λ s. s.seat) g.I.Src.Source.remaining g.I.Src.Source.faults g.O.Snk.Sink.contents g.O.Snk.Sink.faults g.T.Opened.opening g.T.Opened.outset.told c.begin_writers-writers.new.pass c.sessions.new.pass c.args.plan.now.queries c.as_slice.result.now asks_are c.requires.rules.some.1
     c.in-Ok-sessions.answers.items c.in-Ok-sessions.ensures.ok (c.in-Ok-sessions.ensures.fresh (none_live c.begin_writers-writers.new.pass.knows.seen (c.begin_writers-writers.ensures.begin.seen ∙ c.requires.fresh.0))) c.seat_all-jobs.result.items c.seat_all-jobs.ensures in
     let queries_are : c.as_slice-queries.result.now ≡ c.args.plan.now.queries = search rules in
     let same : length c.as_slice-queries.result.now ≡ length c.args.plan.now.queries = ap length queries_are in
@@ -196,21 +196,21 @@ finish_all-requires-clause-apart g c κs within =
 
 pub finish_all-requires-clause-created : goal.finish_all-requires-clause-created
 finish_all-requires-clause-created g c κs within =
-    let asks_are = asks_so c.as_slice.result.now c.in_ok-asks.asks.items c.as_slice-queries.result.now c.args.plan.now.queries c.args.plan.now.block_len g.T.OpenedAs.opening.block_len (search rules) c.in_ok-asks.ensures (search rules) c.requires.opening.block_len in
+    let asks_are = asks_so c.as_slice.result.now c.in_ok-asks.asks.items c.as_slice-queries.result.now c.args.plan.now.queries c.args.plan.now.block_len g.T.Opened.opening.block_len (search rules) c.in_ok-asks.ensures (search rules) c.requires.opening.block_len in
     let seated =
-    are_seated (λ v. v.items) (λ s. s.seat) (λ s. s.seat) g.I.Src.Source.remaining g.I.Src.Source.faults g.O.Snk.Sink.contents g.O.Snk.Sink.faults g.T.OpenedAs.opening g.T.OpenedAs.told c.begin_writers-writers.new.pass c.sessions.new.pass c.args.plan.now.queries c.as_slice.result.now asks_are c.requires.rules.some.1
+    are_seated (λ v. v.items) (λ s. s.seat) (λ s. s.seat) g.I.Src.Source.remaining g.I.Src.Source.faults g.O.Snk.Sink.contents g.O.Snk.Sink.faults g.T.Opened.opening g.T.Opened.outset.told c.begin_writers-writers.new.pass c.sessions.new.pass c.args.plan.now.queries c.as_slice.result.now asks_are c.requires.rules.some.1
     c.in-Ok-sessions.answers.items c.in-Ok-sessions.ensures.ok (c.in-Ok-sessions.ensures.fresh (none_live c.begin_writers-writers.new.pass.knows.seen (c.begin_writers-writers.ensures.begin.seen ∙ c.requires.fresh.0))) c.seat_all-jobs.result.items c.seat_all-jobs.ensures in
     let ran =
-    have_run (λ v. v.items) (λ s. s.seat) (λ s. s.seat) g.I.Src.Source.remaining g.I.Src.Source.faults g.O.Snk.Sink.contents g.O.Snk.Sink.faults g.T.OpenedAs.opening g.T.OpenedAs.told c.begin_writers-writers.new.pass c.sessions.new.pass c.args.plan.now.queries
+    have_run (λ v. v.items) (λ s. s.seat) (λ s. s.seat) g.I.Src.Source.remaining g.I.Src.Source.faults g.O.Snk.Sink.contents g.O.Snk.Sink.faults g.T.Opened.opening g.T.Opened.outset.told c.begin_writers-writers.new.pass c.sessions.new.pass c.args.plan.now.queries
     c.in-Ok-sessions.answers.items c.seat_all-jobs.result.items c.open_all.new.jobs.items (with_items c.open_all.new.jobs c.answer_beside.new.jobs).items seated (sym c.open_all.new.jobs.ok.0 ∙ c.open_all.ensures.len ∙ c.create_all.ensures.len ∙ c.seat_all-jobs.result.ok.0)
     (c.open_all.ensures.refused ∙ c.create_all.ensures.refused) (c.open_all.ensures.sessions ∙ c.create_all.ensures.sessions) c.as_slice-queries.result.now c.as_mut_slice.result.now c.answer_beside.new.jobs (search rules) c.as_mut_slice.ensures.value
     (with_items_is c.open_all.new.jobs c.answer_beside.new.jobs (c.answer_beside.ensures.len ∙ ap length c.as_mut_slice.ensures.value ∙ sym c.open_all.new.jobs.ok.0)) c.answer_beside.ensures.len c.answer_beside.ensures.each in
     let queries_are : c.as_slice-queries.result.now ≡ c.args.plan.now.queries = search rules in
     let len1 : length c.create_all.new.jobs.items ≡ length c.seat_all-jobs.result.items = sym c.create_all.new.jobs.ok.0 ∙ c.create_all.ensures.len ∙ c.seat_all-jobs.result.ok.0 in
     let len2 : length c.open_all.new.jobs.items ≡ length c.create_all.new.jobs.items = sym c.open_all.new.jobs.ok.0 ∙ c.open_all.ensures.len ∙ c.create_all.new.jobs.ok.0 in
-    let works3 : AreWorks (seen (g.I.Inputs.bytes_at c.args.inputs.now) (g.I.Inputs.faults_at c.args.inputs.now) (g.O.Outputs.written c.args.outputs.now) (g.O.Outputs.is_created c.args.outputs.now) (g.O.Outputs.faults_at c.args.outputs.now) unknown) (seen (g.I.Inputs.bytes_at c.open_all.new.inputs) (g.I.Inputs.faults_at c.open_all.new.inputs) (g.O.Outputs.written c.create_all.new.outputs) (g.O.Outputs.is_created c.create_all.new.outputs) (g.O.Outputs.faults_at c.create_all.new.outputs) unknown) g.T.OpenedAs.opening.block_len c.args.plan.now.queries (map (work_of g.I.Src.Source.remaining g.I.Src.Source.faults g.O.Snk.Sink.contents g.O.Snk.Sink.faults) (with_items c.open_all.new.jobs c.answer_beside.new.jobs).items) = works_unknown g.I.Src.Source.remaining g.I.Src.Source.faults g.O.Snk.Sink.contents g.O.Snk.Sink.faults g.T.OpenedAs.opening g.T.OpenedAs.told (λ s. s.seat) (seen (g.I.Inputs.bytes_at c.args.inputs.now) (g.I.Inputs.faults_at c.args.inputs.now) (g.O.Outputs.written c.args.outputs.now) (g.O.Outputs.is_created c.args.outputs.now) (g.O.Outputs.faults_at c.args.outputs.now) g.T.OpenedAs.first) (seen (g.I.Inputs.bytes_at c.args.inputs.now) (g.I.Inputs.faults_at c.args.inputs.now) (g.O.Outputs.written c.create_all.new.outputs) (g.O.Outputs.is_created c.create_all.new.outputs) (g.O.Outputs.faults_at c.create_all.new.outputs) g.T.OpenedAs.first) (seen (g.I.Inputs.bytes_at c.open_all.new.inputs) (g.I.Inputs.faults_at c.open_all.new.inputs) (g.O.Outputs.written c.create_all.new.outputs) (g.O.Outputs.is_created c.create_all.new.outputs) (g.O.Outputs.faults_at c.create_all.new.outputs) g.T.OpenedAs.first) c.args.plan.now.queries (bytes_of g.T.OpenedAs.opening.block_len g.T.OpenedAs.opening.blocks) c.seat_all-jobs.result.items c.create_all.new.jobs.items c.open_all.new.jobs.items (with_items c.open_all.new.jobs c.answer_beside.new.jobs).items seated.begin ran.same ran.alike ran.answered ran.come (subst (λ (queries : List Query). KeepsWorks (seen (g.I.Inputs.bytes_at c.args.inputs.now) (g.I.Inputs.faults_at c.args.inputs.now) (g.O.Outputs.written c.args.outputs.now) (g.O.Outputs.is_created c.args.outputs.now) (g.O.Outputs.faults_at c.args.outputs.now) unknown) (seen (g.I.Inputs.bytes_at c.args.inputs.now) (g.I.Inputs.faults_at c.args.inputs.now) (g.O.Outputs.written c.create_all.new.outputs) (g.O.Outputs.is_created c.create_all.new.outputs) (g.O.Outputs.faults_at c.create_all.new.outputs) unknown) queries (map (work_of g.I.Src.Source.remaining g.I.Src.Source.faults g.O.Snk.Sink.contents g.O.Snk.Sink.faults) c.seat_all-jobs.result.items) (map (work_of g.I.Src.Source.remaining g.I.Src.Source.faults g.O.Snk.Sink.contents g.O.Snk.Sink.faults) c.create_all.new.jobs.items)) queries_are (c.create_all.ensures.works (g.I.Inputs.bytes_at c.args.inputs.now) (g.I.Inputs.faults_at c.args.inputs.now) unknown)) (subst (λ (queries : List Query). KeepsWorks (seen (g.I.Inputs.bytes_at c.args.inputs.now) (g.I.Inputs.faults_at c.args.inputs.now) (g.O.Outputs.written c.create_all.new.outputs) (g.O.Outputs.is_created c.create_all.new.outputs) (g.O.Outputs.faults_at c.create_all.new.outputs) unknown) (seen (g.I.Inputs.bytes_at c.open_all.new.inputs) (g.I.Inputs.faults_at c.open_all.new.inputs) (g.O.Outputs.written c.create_all.new.outputs) (g.O.Outputs.is_created c.create_all.new.outputs) (g.O.Outputs.faults_at c.create_all.new.outputs) unknown) queries (map (work_of g.I.Src.Source.remaining g.I.Src.Source.faults g.O.Snk.Sink.contents g.O.Snk.Sink.faults) c.create_all.new.jobs.items) (map (work_of g.I.Src.Source.remaining g.I.Src.Source.faults g.O.Snk.Sink.contents g.O.Snk.Sink.faults) c.open_all.new.jobs.items)) queries_are (c.open_all.ensures.works (g.O.Outputs.written c.create_all.new.outputs) (g.O.Outputs.is_created c.create_all.new.outputs) (g.O.Outputs.faults_at c.create_all.new.outputs) unknown)) in
+    let works3 : AreWorks (seen (g.I.Inputs.bytes_at c.args.inputs.now) (g.I.Inputs.faults_at c.args.inputs.now) (g.O.Outputs.written c.args.outputs.now) (g.O.Outputs.is_created c.args.outputs.now) (g.O.Outputs.faults_at c.args.outputs.now) unknown) (seen (g.I.Inputs.bytes_at c.open_all.new.inputs) (g.I.Inputs.faults_at c.open_all.new.inputs) (g.O.Outputs.written c.create_all.new.outputs) (g.O.Outputs.is_created c.create_all.new.outputs) (g.O.Outputs.faults_at c.create_all.new.outputs) unknown) g.T.Opened.opening.block_len c.args.plan.now.queries (map (work_of g.I.Src.Source.remaining g.I.Src.Source.faults g.O.Snk.Sink.contents g.O.Snk.Sink.faults) (with_items c.open_all.new.jobs c.answer_beside.new.jobs).items) = works_unknown g.I.Src.Source.remaining g.I.Src.Source.faults g.O.Snk.Sink.contents g.O.Snk.Sink.faults g.T.Opened.opening g.T.Opened.outset.told (λ s. s.seat) (seen (g.I.Inputs.bytes_at c.args.inputs.now) (g.I.Inputs.faults_at c.args.inputs.now) (g.O.Outputs.written c.args.outputs.now) (g.O.Outputs.is_created c.args.outputs.now) (g.O.Outputs.faults_at c.args.outputs.now) g.T.Opened.first) (seen (g.I.Inputs.bytes_at c.args.inputs.now) (g.I.Inputs.faults_at c.args.inputs.now) (g.O.Outputs.written c.create_all.new.outputs) (g.O.Outputs.is_created c.create_all.new.outputs) (g.O.Outputs.faults_at c.create_all.new.outputs) g.T.Opened.first) (seen (g.I.Inputs.bytes_at c.open_all.new.inputs) (g.I.Inputs.faults_at c.open_all.new.inputs) (g.O.Outputs.written c.create_all.new.outputs) (g.O.Outputs.is_created c.create_all.new.outputs) (g.O.Outputs.faults_at c.create_all.new.outputs) g.T.Opened.first) c.args.plan.now.queries (bytes_of g.T.Opened.opening.block_len g.T.Opened.opening.blocks) c.seat_all-jobs.result.items c.create_all.new.jobs.items c.open_all.new.jobs.items (with_items c.open_all.new.jobs c.answer_beside.new.jobs).items seated.begin ran.same ran.alike ran.answered ran.come (subst (λ (queries : List Query). KeepsWorks (seen (g.I.Inputs.bytes_at c.args.inputs.now) (g.I.Inputs.faults_at c.args.inputs.now) (g.O.Outputs.written c.args.outputs.now) (g.O.Outputs.is_created c.args.outputs.now) (g.O.Outputs.faults_at c.args.outputs.now) unknown) (seen (g.I.Inputs.bytes_at c.args.inputs.now) (g.I.Inputs.faults_at c.args.inputs.now) (g.O.Outputs.written c.create_all.new.outputs) (g.O.Outputs.is_created c.create_all.new.outputs) (g.O.Outputs.faults_at c.create_all.new.outputs) unknown) queries (map (work_of g.I.Src.Source.remaining g.I.Src.Source.faults g.O.Snk.Sink.contents g.O.Snk.Sink.faults) c.seat_all-jobs.result.items) (map (work_of g.I.Src.Source.remaining g.I.Src.Source.faults g.O.Snk.Sink.contents g.O.Snk.Sink.faults) c.create_all.new.jobs.items)) queries_are (c.create_all.ensures.works (g.I.Inputs.bytes_at c.args.inputs.now) (g.I.Inputs.faults_at c.args.inputs.now) unknown)) (subst (λ (queries : List Query). KeepsWorks (seen (g.I.Inputs.bytes_at c.args.inputs.now) (g.I.Inputs.faults_at c.args.inputs.now) (g.O.Outputs.written c.create_all.new.outputs) (g.O.Outputs.is_created c.create_all.new.outputs) (g.O.Outputs.faults_at c.create_all.new.outputs) unknown) (seen (g.I.Inputs.bytes_at c.open_all.new.inputs) (g.I.Inputs.faults_at c.open_all.new.inputs) (g.O.Outputs.written c.create_all.new.outputs) (g.O.Outputs.is_created c.create_all.new.outputs) (g.O.Outputs.faults_at c.create_all.new.outputs) unknown) queries (map (work_of g.I.Src.Source.remaining g.I.Src.Source.faults g.O.Snk.Sink.contents g.O.Snk.Sink.faults) c.create_all.new.jobs.items) (map (work_of g.I.Src.Source.remaining g.I.Src.Source.faults g.O.Snk.Sink.contents g.O.Snk.Sink.faults) c.open_all.new.jobs.items)) queries_are (c.open_all.ensures.works (g.O.Outputs.written c.create_all.new.outputs) (g.O.Outputs.is_created c.create_all.new.outputs) (g.O.Outputs.faults_at c.create_all.new.outputs) unknown)) in
     subst (λ (queries : List Query). AreMade (g.O.Outputs.is_created c.create_all.new.outputs) queries (map (work_of g.I.Src.Source.remaining g.I.Src.Source.faults g.O.Snk.Sink.contents g.O.Snk.Sink.faults) c.close_all.new.jobs.items)) (sym queries_are)
-    (made_of (seen (g.I.Inputs.bytes_at c.args.inputs.now) (g.I.Inputs.faults_at c.args.inputs.now) (g.O.Outputs.written c.args.outputs.now) (g.O.Outputs.is_created c.args.outputs.now) (g.O.Outputs.faults_at c.args.outputs.now) unknown) (seen (g.I.Inputs.bytes_at c.close_all.new.inputs) (g.I.Inputs.faults_at c.close_all.new.inputs) (g.O.Outputs.written c.create_all.new.outputs) (g.O.Outputs.is_created c.create_all.new.outputs) (g.O.Outputs.faults_at c.create_all.new.outputs) unknown) g.T.OpenedAs.opening.block_len c.args.plan.now.queries (map (work_of g.I.Src.Source.remaining g.I.Src.Source.faults g.O.Snk.Sink.contents g.O.Snk.Sink.faults) c.close_all.new.jobs.items) ((subst (λ (queries : List Query). KeepsWorks (seen (g.I.Inputs.bytes_at c.open_all.new.inputs) (g.I.Inputs.faults_at c.open_all.new.inputs) (g.O.Outputs.written c.create_all.new.outputs) (g.O.Outputs.is_created c.create_all.new.outputs) (g.O.Outputs.faults_at c.create_all.new.outputs) unknown) (seen (g.I.Inputs.bytes_at c.close_all.new.inputs) (g.I.Inputs.faults_at c.close_all.new.inputs) (g.O.Outputs.written c.create_all.new.outputs) (g.O.Outputs.is_created c.create_all.new.outputs) (g.O.Outputs.faults_at c.create_all.new.outputs) unknown) queries (map (work_of g.I.Src.Source.remaining g.I.Src.Source.faults g.O.Snk.Sink.contents g.O.Snk.Sink.faults) (with_items c.open_all.new.jobs c.answer_beside.new.jobs).items) (map (work_of g.I.Src.Source.remaining g.I.Src.Source.faults g.O.Snk.Sink.contents g.O.Snk.Sink.faults) c.close_all.new.jobs.items)) queries_are (c.close_all.ensures.works (g.O.Outputs.written c.create_all.new.outputs) (g.O.Outputs.is_created c.create_all.new.outputs) (g.O.Outputs.faults_at c.create_all.new.outputs) unknown)) (seen (g.I.Inputs.bytes_at c.args.inputs.now) (g.I.Inputs.faults_at c.args.inputs.now) (g.O.Outputs.written c.args.outputs.now) (g.O.Outputs.is_created c.args.outputs.now) (g.O.Outputs.faults_at c.args.outputs.now) unknown) g.T.OpenedAs.opening.block_len works3))
+    (made_of (seen (g.I.Inputs.bytes_at c.args.inputs.now) (g.I.Inputs.faults_at c.args.inputs.now) (g.O.Outputs.written c.args.outputs.now) (g.O.Outputs.is_created c.args.outputs.now) (g.O.Outputs.faults_at c.args.outputs.now) unknown) (seen (g.I.Inputs.bytes_at c.close_all.new.inputs) (g.I.Inputs.faults_at c.close_all.new.inputs) (g.O.Outputs.written c.create_all.new.outputs) (g.O.Outputs.is_created c.create_all.new.outputs) (g.O.Outputs.faults_at c.create_all.new.outputs) unknown) g.T.Opened.opening.block_len c.args.plan.now.queries (map (work_of g.I.Src.Source.remaining g.I.Src.Source.faults g.O.Snk.Sink.contents g.O.Snk.Sink.faults) c.close_all.new.jobs.items) ((subst (λ (queries : List Query). KeepsWorks (seen (g.I.Inputs.bytes_at c.open_all.new.inputs) (g.I.Inputs.faults_at c.open_all.new.inputs) (g.O.Outputs.written c.create_all.new.outputs) (g.O.Outputs.is_created c.create_all.new.outputs) (g.O.Outputs.faults_at c.create_all.new.outputs) unknown) (seen (g.I.Inputs.bytes_at c.close_all.new.inputs) (g.I.Inputs.faults_at c.close_all.new.inputs) (g.O.Outputs.written c.create_all.new.outputs) (g.O.Outputs.is_created c.create_all.new.outputs) (g.O.Outputs.faults_at c.create_all.new.outputs) unknown) queries (map (work_of g.I.Src.Source.remaining g.I.Src.Source.faults g.O.Snk.Sink.contents g.O.Snk.Sink.faults) (with_items c.open_all.new.jobs c.answer_beside.new.jobs).items) (map (work_of g.I.Src.Source.remaining g.I.Src.Source.faults g.O.Snk.Sink.contents g.O.Snk.Sink.faults) c.close_all.new.jobs.items)) queries_are (c.close_all.ensures.works (g.O.Outputs.written c.create_all.new.outputs) (g.O.Outputs.is_created c.create_all.new.outputs) (g.O.Outputs.faults_at c.create_all.new.outputs) unknown)) (seen (g.I.Inputs.bytes_at c.args.inputs.now) (g.I.Inputs.faults_at c.args.inputs.now) (g.O.Outputs.written c.args.outputs.now) (g.O.Outputs.is_created c.args.outputs.now) (g.O.Outputs.faults_at c.args.outputs.now) unknown) g.T.Opened.opening.block_len works3))
 
 pub endings-ends-requires-clause-ended : goal.endings-ends-requires-clause-ended
 endings-ends-requires-clause-ended g c =
@@ -218,9 +218,9 @@ endings-ends-requires-clause-ended g c =
 
 pub endings-ends-requires-clause-room : goal.endings-ends-requires-clause-room
 endings-ends-requires-clause-room g c =
-    let asks_are = asks_so c.as_slice.result.now c.in_ok-asks.asks.items c.as_slice-queries.result.now c.args.plan.now.queries c.args.plan.now.block_len g.T.OpenedAs.opening.block_len (search rules) c.in_ok-asks.ensures (search rules) c.requires.opening.block_len in
+    let asks_are = asks_so c.as_slice.result.now c.in_ok-asks.asks.items c.as_slice-queries.result.now c.args.plan.now.queries c.args.plan.now.block_len g.T.Opened.opening.block_len (search rules) c.in_ok-asks.ensures (search rules) c.requires.opening.block_len in
     let seated =
-    are_seated (λ v. v.items) (λ s. s.seat) (λ s. s.seat) g.I.Src.Source.remaining g.I.Src.Source.faults g.O.Snk.Sink.contents g.O.Snk.Sink.faults g.T.OpenedAs.opening g.T.OpenedAs.told c.begin_writers-writers.new.pass c.sessions.new.pass c.args.plan.now.queries c.as_slice.result.now asks_are c.requires.rules.some.1
+    are_seated (λ v. v.items) (λ s. s.seat) (λ s. s.seat) g.I.Src.Source.remaining g.I.Src.Source.faults g.O.Snk.Sink.contents g.O.Snk.Sink.faults g.T.Opened.opening g.T.Opened.outset.told c.begin_writers-writers.new.pass c.sessions.new.pass c.args.plan.now.queries c.as_slice.result.now asks_are c.requires.rules.some.1
     c.in-Ok-sessions.answers.items c.in-Ok-sessions.ensures.ok (c.in-Ok-sessions.ensures.fresh (none_live c.begin_writers-writers.new.pass.knows.seen (c.begin_writers-writers.ensures.begin.seen ∙ c.requires.fresh.0))) c.seat_all-jobs.result.items c.seat_all-jobs.ensures in
     let queries_are : c.as_slice-queries.result.now ≡ c.args.plan.now.queries = search rules in
     let same : length c.as_slice-queries.result.now ≡ length c.args.plan.now.queries = ap length queries_are in
@@ -239,45 +239,45 @@ end_all-requires-clause-closed g c κs within =
 
 pub end_all-requires-clause-idle : goal.end_all-requires-clause-idle
 end_all-requires-clause-idle g c κs within =
-    let asks_are = asks_so c.as_slice.result.now c.in_ok-asks.asks.items c.as_slice-queries.result.now c.args.plan.now.queries c.args.plan.now.block_len g.T.OpenedAs.opening.block_len (search rules) c.in_ok-asks.ensures (search rules) c.requires.opening.block_len in
+    let asks_are = asks_so c.as_slice.result.now c.in_ok-asks.asks.items c.as_slice-queries.result.now c.args.plan.now.queries c.args.plan.now.block_len g.T.Opened.opening.block_len (search rules) c.in_ok-asks.ensures (search rules) c.requires.opening.block_len in
     let seated =
-    are_seated (λ v. v.items) (λ s. s.seat) (λ s. s.seat) g.I.Src.Source.remaining g.I.Src.Source.faults g.O.Snk.Sink.contents g.O.Snk.Sink.faults g.T.OpenedAs.opening g.T.OpenedAs.told c.begin_writers-writers.new.pass c.sessions.new.pass c.args.plan.now.queries c.as_slice.result.now asks_are c.requires.rules.some.1
+    are_seated (λ v. v.items) (λ s. s.seat) (λ s. s.seat) g.I.Src.Source.remaining g.I.Src.Source.faults g.O.Snk.Sink.contents g.O.Snk.Sink.faults g.T.Opened.opening g.T.Opened.outset.told c.begin_writers-writers.new.pass c.sessions.new.pass c.args.plan.now.queries c.as_slice.result.now asks_are c.requires.rules.some.1
     c.in-Ok-sessions.answers.items c.in-Ok-sessions.ensures.ok (c.in-Ok-sessions.ensures.fresh (none_live c.begin_writers-writers.new.pass.knows.seen (c.begin_writers-writers.ensures.begin.seen ∙ c.requires.fresh.0))) c.seat_all-jobs.result.items c.seat_all-jobs.ensures in
     let ran =
-    have_run (λ v. v.items) (λ s. s.seat) (λ s. s.seat) g.I.Src.Source.remaining g.I.Src.Source.faults g.O.Snk.Sink.contents g.O.Snk.Sink.faults g.T.OpenedAs.opening g.T.OpenedAs.told c.begin_writers-writers.new.pass c.sessions.new.pass c.args.plan.now.queries
+    have_run (λ v. v.items) (λ s. s.seat) (λ s. s.seat) g.I.Src.Source.remaining g.I.Src.Source.faults g.O.Snk.Sink.contents g.O.Snk.Sink.faults g.T.Opened.opening g.T.Opened.outset.told c.begin_writers-writers.new.pass c.sessions.new.pass c.args.plan.now.queries
     c.in-Ok-sessions.answers.items c.seat_all-jobs.result.items c.open_all.new.jobs.items (with_items c.open_all.new.jobs c.answer_beside.new.jobs).items seated (sym c.open_all.new.jobs.ok.0 ∙ c.open_all.ensures.len ∙ c.create_all.ensures.len ∙ c.seat_all-jobs.result.ok.0)
     (c.open_all.ensures.refused ∙ c.create_all.ensures.refused) (c.open_all.ensures.sessions ∙ c.create_all.ensures.sessions) c.as_slice-queries.result.now c.as_mut_slice.result.now c.answer_beside.new.jobs (search rules) c.as_mut_slice.ensures.value
     (with_items_is c.open_all.new.jobs c.answer_beside.new.jobs (c.answer_beside.ensures.len ∙ ap length c.as_mut_slice.ensures.value ∙ sym c.open_all.new.jobs.ok.0)) c.answer_beside.ensures.len c.answer_beside.ensures.each in
     let len1 : length c.create_all.new.jobs.items ≡ length c.seat_all-jobs.result.items = sym c.create_all.new.jobs.ok.0 ∙ c.create_all.ensures.len ∙ c.seat_all-jobs.result.ok.0 in
     let len2 : length c.open_all.new.jobs.items ≡ length c.create_all.new.jobs.items = sym c.open_all.new.jobs.ok.0 ∙ c.open_all.ensures.len ∙ c.create_all.new.jobs.ok.0 in
-    all_idle g.I.Src.Source.remaining g.I.Src.Source.faults g.O.Snk.Sink.contents g.O.Snk.Sink.faults g.T.OpenedAs.opening g.T.OpenedAs.told (λ s. s.seat) c.open_all.new.jobs.items (with_items c.open_all.new.jobs c.answer_beside.new.jobs).items c.finish_all.new.jobs.items ran.alike (c.finish_all.ensures.sessions ∙ c.close_all.ensures.sessions)
+    all_idle g.I.Src.Source.remaining g.I.Src.Source.faults g.O.Snk.Sink.contents g.O.Snk.Sink.faults g.T.Opened.opening g.T.Opened.outset.told (λ s. s.seat) c.open_all.new.jobs.items (with_items c.open_all.new.jobs c.answer_beside.new.jobs).items c.finish_all.new.jobs.items ran.alike (c.finish_all.ensures.sessions ∙ c.close_all.ensures.sessions)
 
 pub returns-clause-gone : goal.returns-clause-gone
 returns-clause-gone g c =
     let waits : Waits c.sessions.new.pass c.end_writers-2.new.pass =
     waits_then c.sessions.new.pass c.answer_beside.new.pass c.end_writers-2.new.pass (stops_waits c.sessions.new.pass c.answer_beside.new.pass c.law_pass-2.ensures.1 c.answer_beside.ensures.stops) c.end_writers-2.ensures.waits in
-    let asks_are = asks_so c.as_slice.result.now c.in_ok-asks.asks.items c.as_slice-queries.result.now c.args.plan.now.queries c.args.plan.now.block_len g.T.OpenedAs.opening.block_len (search rules) c.in_ok-asks.ensures (search rules) c.requires.opening.block_len in
+    let asks_are = asks_so c.as_slice.result.now c.in_ok-asks.asks.items c.as_slice-queries.result.now c.args.plan.now.queries c.args.plan.now.block_len g.T.Opened.opening.block_len (search rules) c.in_ok-asks.ensures (search rules) c.requires.opening.block_len in
     let seated =
-    are_seated (λ v. v.items) (λ s. s.seat) (λ s. s.seat) g.I.Src.Source.remaining g.I.Src.Source.faults g.O.Snk.Sink.contents g.O.Snk.Sink.faults g.T.OpenedAs.opening g.T.OpenedAs.told c.begin_writers-writers.new.pass c.sessions.new.pass c.args.plan.now.queries c.as_slice.result.now asks_are c.requires.rules.some.1
+    are_seated (λ v. v.items) (λ s. s.seat) (λ s. s.seat) g.I.Src.Source.remaining g.I.Src.Source.faults g.O.Snk.Sink.contents g.O.Snk.Sink.faults g.T.Opened.opening g.T.Opened.outset.told c.begin_writers-writers.new.pass c.sessions.new.pass c.args.plan.now.queries c.as_slice.result.now asks_are c.requires.rules.some.1
     c.in-Ok-sessions.answers.items c.in-Ok-sessions.ensures.ok (c.in-Ok-sessions.ensures.fresh (none_live c.begin_writers-writers.new.pass.knows.seen (c.begin_writers-writers.ensures.begin.seen ∙ c.requires.fresh.0))) c.seat_all-jobs.result.items c.seat_all-jobs.ensures in
     let ran =
-    have_run (λ v. v.items) (λ s. s.seat) (λ s. s.seat) g.I.Src.Source.remaining g.I.Src.Source.faults g.O.Snk.Sink.contents g.O.Snk.Sink.faults g.T.OpenedAs.opening g.T.OpenedAs.told c.begin_writers-writers.new.pass c.sessions.new.pass c.args.plan.now.queries
+    have_run (λ v. v.items) (λ s. s.seat) (λ s. s.seat) g.I.Src.Source.remaining g.I.Src.Source.faults g.O.Snk.Sink.contents g.O.Snk.Sink.faults g.T.Opened.opening g.T.Opened.outset.told c.begin_writers-writers.new.pass c.sessions.new.pass c.args.plan.now.queries
     c.in-Ok-sessions.answers.items c.seat_all-jobs.result.items c.open_all.new.jobs.items (with_items c.open_all.new.jobs c.answer_beside.new.jobs).items seated (sym c.open_all.new.jobs.ok.0 ∙ c.open_all.ensures.len ∙ c.create_all.ensures.len ∙ c.seat_all-jobs.result.ok.0)
     (c.open_all.ensures.refused ∙ c.create_all.ensures.refused) (c.open_all.ensures.sessions ∙ c.create_all.ensures.sessions) c.as_slice-queries.result.now c.as_mut_slice.result.now c.answer_beside.new.jobs (search rules) c.as_mut_slice.ensures.value
     (with_items_is c.open_all.new.jobs c.answer_beside.new.jobs (c.answer_beside.ensures.len ∙ ap length c.as_mut_slice.ensures.value ∙ sym c.open_all.new.jobs.ok.0)) c.answer_beside.ensures.len c.answer_beside.ensures.each in
     let len1 : length c.create_all.new.jobs.items ≡ length c.seat_all-jobs.result.items = sym c.create_all.new.jobs.ok.0 ∙ c.create_all.ensures.len ∙ c.seat_all-jobs.result.ok.0 in
     let len2 : length c.open_all.new.jobs.items ≡ length c.create_all.new.jobs.items = sym c.open_all.new.jobs.ok.0 ∙ c.open_all.ensures.len ∙ c.create_all.new.jobs.ok.0 in
-    let ended : EndAll g.T.OpenedAs.opening g.T.OpenedAs.told (lasts_of (stays_of g.I.Src.Source.remaining g.I.Src.Source.faults g.O.Snk.Sink.contents g.O.Snk.Sink.faults g.T.OpenedAs.opening g.T.OpenedAs.told (λ s. s.seat) c.open_all.new.jobs.items (with_items c.open_all.new.jobs c.answer_beside.new.jobs).items)) c.end_writers-2.new.pass c.end_all.new.pass =
-    subst (λ (ss : List (Option Sitting)). EndAll g.T.OpenedAs.opening g.T.OpenedAs.told ss c.end_writers-2.new.pass c.end_all.new.pass) (sym (lasts_are g.I.Src.Source.remaining g.I.Src.Source.faults g.O.Snk.Sink.contents g.O.Snk.Sink.faults g.T.OpenedAs.opening g.T.OpenedAs.told (λ s. s.seat) c.open_all.new.jobs.items (with_items c.open_all.new.jobs c.answer_beside.new.jobs).items ran.alike ∙ sym (seen_same (option_map (λ s. s.seat)) (λ job. job.session) c.finish_all.new.jobs.items (with_items c.open_all.new.jobs c.answer_beside.new.jobs).items (c.finish_all.ensures.sessions ∙ c.close_all.ensures.sessions)))) c.end_all.ensures.ends in (
-      none_left g.T.OpenedAs.opening g.T.OpenedAs.told c.args.plan.now.queries c.begin_writers-writers.new.pass c.sessions.new.pass c.end_writers-2.new.pass c.end_all.new.pass c.law_pass.ensures waits c.law_pass-3.ensures (c.begin_writers-writers.ensures.begin.seen ∙ c.requires.fresh.0) (map (seen_in (λ v. v.items) (λ s. s.seat)) c.in-Ok-sessions.answers.items) seated.admits (stays_of g.I.Src.Source.remaining g.I.Src.Source.faults g.O.Snk.Sink.contents g.O.Snk.Sink.faults g.T.OpenedAs.opening g.T.OpenedAs.told (λ s. s.seat) c.open_all.new.jobs.items (with_items c.open_all.new.jobs c.answer_beside.new.jobs).items) ran.firsts (numbers_kept g.I.Src.Source.remaining g.I.Src.Source.faults g.O.Snk.Sink.contents g.O.Snk.Sink.faults g.T.OpenedAs.opening g.T.OpenedAs.told (λ s. s.seat) c.open_all.new.jobs.items (with_items c.open_all.new.jobs c.answer_beside.new.jobs).items ran.alike) ended,
-      none_out g.T.OpenedAs.opening g.T.OpenedAs.told c.args.plan.now.queries c.begin_writers-writers.new.pass c.sessions.new.pass c.end_writers-2.new.pass c.end_all.new.pass c.law_pass.ensures waits c.law_pass-3.ensures (c.begin_writers-writers.ensures.begin.seen ∙ c.requires.fresh.0) (map (seen_in (λ v. v.items) (λ s. s.seat)) c.in-Ok-sessions.answers.items) seated.admits (stays_of g.I.Src.Source.remaining g.I.Src.Source.faults g.O.Snk.Sink.contents g.O.Snk.Sink.faults g.T.OpenedAs.opening g.T.OpenedAs.told (λ s. s.seat) c.open_all.new.jobs.items (with_items c.open_all.new.jobs c.answer_beside.new.jobs).items) ran.firsts (numbers_kept g.I.Src.Source.remaining g.I.Src.Source.faults g.O.Snk.Sink.contents g.O.Snk.Sink.faults g.T.OpenedAs.opening g.T.OpenedAs.told (λ s. s.seat) c.open_all.new.jobs.items (with_items c.open_all.new.jobs c.answer_beside.new.jobs).items ran.alike) ended c.end_writers-2.ensures.none,
+    let ended : EndAll g.T.Opened.opening g.T.Opened.outset.told (lasts_of (stays_of g.I.Src.Source.remaining g.I.Src.Source.faults g.O.Snk.Sink.contents g.O.Snk.Sink.faults g.T.Opened.opening g.T.Opened.outset.told (λ s. s.seat) c.open_all.new.jobs.items (with_items c.open_all.new.jobs c.answer_beside.new.jobs).items)) c.end_writers-2.new.pass c.end_all.new.pass =
+    subst (λ (ss : List (Option Sitting)). EndAll g.T.Opened.opening g.T.Opened.outset.told ss c.end_writers-2.new.pass c.end_all.new.pass) (sym (lasts_are g.I.Src.Source.remaining g.I.Src.Source.faults g.O.Snk.Sink.contents g.O.Snk.Sink.faults g.T.Opened.opening g.T.Opened.outset.told (λ s. s.seat) c.open_all.new.jobs.items (with_items c.open_all.new.jobs c.answer_beside.new.jobs).items ran.alike ∙ sym (seen_same (option_map (λ s. s.seat)) (λ job. job.session) c.finish_all.new.jobs.items (with_items c.open_all.new.jobs c.answer_beside.new.jobs).items (c.finish_all.ensures.sessions ∙ c.close_all.ensures.sessions)))) c.end_all.ensures.ends in (
+      none_left g.T.Opened.opening g.T.Opened.outset.told c.args.plan.now.queries c.begin_writers-writers.new.pass c.sessions.new.pass c.end_writers-2.new.pass c.end_all.new.pass c.law_pass.ensures waits c.law_pass-3.ensures (c.begin_writers-writers.ensures.begin.seen ∙ c.requires.fresh.0) (map (seen_in (λ v. v.items) (λ s. s.seat)) c.in-Ok-sessions.answers.items) seated.admits (stays_of g.I.Src.Source.remaining g.I.Src.Source.faults g.O.Snk.Sink.contents g.O.Snk.Sink.faults g.T.Opened.opening g.T.Opened.outset.told (λ s. s.seat) c.open_all.new.jobs.items (with_items c.open_all.new.jobs c.answer_beside.new.jobs).items) ran.firsts (numbers_kept g.I.Src.Source.remaining g.I.Src.Source.faults g.O.Snk.Sink.contents g.O.Snk.Sink.faults g.T.Opened.opening g.T.Opened.outset.told (λ s. s.seat) c.open_all.new.jobs.items (with_items c.open_all.new.jobs c.answer_beside.new.jobs).items ran.alike) ended,
+      none_out g.T.Opened.opening g.T.Opened.outset.told c.args.plan.now.queries c.begin_writers-writers.new.pass c.sessions.new.pass c.end_writers-2.new.pass c.end_all.new.pass c.law_pass.ensures waits c.law_pass-3.ensures (c.begin_writers-writers.ensures.begin.seen ∙ c.requires.fresh.0) (map (seen_in (λ v. v.items) (λ s. s.seat)) c.in-Ok-sessions.answers.items) seated.admits (stays_of g.I.Src.Source.remaining g.I.Src.Source.faults g.O.Snk.Sink.contents g.O.Snk.Sink.faults g.T.Opened.opening g.T.Opened.outset.told (λ s. s.seat) c.open_all.new.jobs.items (with_items c.open_all.new.jobs c.answer_beside.new.jobs).items) ran.firsts (numbers_kept g.I.Src.Source.remaining g.I.Src.Source.faults g.O.Snk.Sink.contents g.O.Snk.Sink.faults g.T.Opened.opening g.T.Opened.outset.told (λ s. s.seat) c.open_all.new.jobs.items (with_items c.open_all.new.jobs c.answer_beside.new.jobs).items ran.alike) ended c.end_writers-2.ensures.none,
     )
 
 pub returns-clause-len : goal.returns-clause-len
 returns-clause-len g c =
-    let asks_are = asks_so c.as_slice.result.now c.in_ok-asks.asks.items c.as_slice-queries.result.now c.args.plan.now.queries c.args.plan.now.block_len g.T.OpenedAs.opening.block_len (search rules) c.in_ok-asks.ensures (search rules) c.requires.opening.block_len in
+    let asks_are = asks_so c.as_slice.result.now c.in_ok-asks.asks.items c.as_slice-queries.result.now c.args.plan.now.queries c.args.plan.now.block_len g.T.Opened.opening.block_len (search rules) c.in_ok-asks.ensures (search rules) c.requires.opening.block_len in
     let seated =
-    are_seated (λ v. v.items) (λ s. s.seat) (λ s. s.seat) g.I.Src.Source.remaining g.I.Src.Source.faults g.O.Snk.Sink.contents g.O.Snk.Sink.faults g.T.OpenedAs.opening g.T.OpenedAs.told c.begin_writers-writers.new.pass c.sessions.new.pass c.args.plan.now.queries c.as_slice.result.now asks_are c.requires.rules.some.1
+    are_seated (λ v. v.items) (λ s. s.seat) (λ s. s.seat) g.I.Src.Source.remaining g.I.Src.Source.faults g.O.Snk.Sink.contents g.O.Snk.Sink.faults g.T.Opened.opening g.T.Opened.outset.told c.begin_writers-writers.new.pass c.sessions.new.pass c.args.plan.now.queries c.as_slice.result.now asks_are c.requires.rules.some.1
     c.in-Ok-sessions.answers.items c.in-Ok-sessions.ensures.ok (c.in-Ok-sessions.ensures.fresh (none_live c.begin_writers-writers.new.pass.knows.seen (c.begin_writers-writers.ensures.begin.seen ∙ c.requires.fresh.0))) c.seat_all-jobs.result.items c.seat_all-jobs.ensures in
     let ends_are : map (λ ending. Some ending) c.endings-ends.result.items ≡ map (λ job. job.ended) c.finish_all.new.jobs.items = c.endings-ends.ensures ∙ ap (map (λ job. job.ended)) c.as_slice-2.ensures.value in
     let ends = as_many g.I.Src.Source.remaining g.I.Src.Source.faults g.O.Snk.Sink.contents g.O.Snk.Sink.faults c.finish_all.new.jobs.items c.endings-ends.result.items ends_are in
@@ -294,12 +294,12 @@ pub returns-clause-ran : goal.returns-clause-ran
 returns-clause-ran g c =
     let waits : Waits c.sessions.new.pass c.end_writers-2.new.pass =
     waits_then c.sessions.new.pass c.answer_beside.new.pass c.end_writers-2.new.pass (stops_waits c.sessions.new.pass c.answer_beside.new.pass c.law_pass-2.ensures.1 c.answer_beside.ensures.stops) c.end_writers-2.ensures.waits in
-    let asks_are = asks_so c.as_slice.result.now c.in_ok-asks.asks.items c.as_slice-queries.result.now c.args.plan.now.queries c.args.plan.now.block_len g.T.OpenedAs.opening.block_len (search rules) c.in_ok-asks.ensures (search rules) c.requires.opening.block_len in
+    let asks_are = asks_so c.as_slice.result.now c.in_ok-asks.asks.items c.as_slice-queries.result.now c.args.plan.now.queries c.args.plan.now.block_len g.T.Opened.opening.block_len (search rules) c.in_ok-asks.ensures (search rules) c.requires.opening.block_len in
     let seated =
-    are_seated (λ v. v.items) (λ s. s.seat) (λ s. s.seat) g.I.Src.Source.remaining g.I.Src.Source.faults g.O.Snk.Sink.contents g.O.Snk.Sink.faults g.T.OpenedAs.opening g.T.OpenedAs.told c.begin_writers-writers.new.pass c.sessions.new.pass c.args.plan.now.queries c.as_slice.result.now asks_are c.requires.rules.some.1
+    are_seated (λ v. v.items) (λ s. s.seat) (λ s. s.seat) g.I.Src.Source.remaining g.I.Src.Source.faults g.O.Snk.Sink.contents g.O.Snk.Sink.faults g.T.Opened.opening g.T.Opened.outset.told c.begin_writers-writers.new.pass c.sessions.new.pass c.args.plan.now.queries c.as_slice.result.now asks_are c.requires.rules.some.1
     c.in-Ok-sessions.answers.items c.in-Ok-sessions.ensures.ok (c.in-Ok-sessions.ensures.fresh (none_live c.begin_writers-writers.new.pass.knows.seen (c.begin_writers-writers.ensures.begin.seen ∙ c.requires.fresh.0))) c.seat_all-jobs.result.items c.seat_all-jobs.ensures in
     let ran =
-    have_run (λ v. v.items) (λ s. s.seat) (λ s. s.seat) g.I.Src.Source.remaining g.I.Src.Source.faults g.O.Snk.Sink.contents g.O.Snk.Sink.faults g.T.OpenedAs.opening g.T.OpenedAs.told c.begin_writers-writers.new.pass c.sessions.new.pass c.args.plan.now.queries
+    have_run (λ v. v.items) (λ s. s.seat) (λ s. s.seat) g.I.Src.Source.remaining g.I.Src.Source.faults g.O.Snk.Sink.contents g.O.Snk.Sink.faults g.T.Opened.opening g.T.Opened.outset.told c.begin_writers-writers.new.pass c.sessions.new.pass c.args.plan.now.queries
     c.in-Ok-sessions.answers.items c.seat_all-jobs.result.items c.open_all.new.jobs.items (with_items c.open_all.new.jobs c.answer_beside.new.jobs).items seated (sym c.open_all.new.jobs.ok.0 ∙ c.open_all.ensures.len ∙ c.create_all.ensures.len ∙ c.seat_all-jobs.result.ok.0)
     (c.open_all.ensures.refused ∙ c.create_all.ensures.refused) (c.open_all.ensures.sessions ∙ c.create_all.ensures.sessions) c.as_slice-queries.result.now c.as_mut_slice.result.now c.answer_beside.new.jobs (search rules) c.as_mut_slice.ensures.value
     (with_items_is c.open_all.new.jobs c.answer_beside.new.jobs (c.answer_beside.ensures.len ∙ ap length c.as_mut_slice.ensures.value ∙ sym c.open_all.new.jobs.ok.0)) c.answer_beside.ensures.len c.answer_beside.ensures.each in
@@ -308,21 +308,21 @@ returns-clause-ran g c =
     let len2 : length c.open_all.new.jobs.items ≡ length c.create_all.new.jobs.items = sym c.open_all.new.jobs.ok.0 ∙ c.open_all.ensures.len ∙ c.create_all.new.jobs.ok.0 in
     let len4 : length c.close_all.new.jobs.items ≡ length (with_items c.open_all.new.jobs c.answer_beside.new.jobs).items = sym c.close_all.new.jobs.ok.0 ∙ c.close_all.ensures.len ∙ c.open_all.new.jobs.ok.0 ∙ sym ran.same in
     let len5 : length c.finish_all.new.jobs.items ≡ length c.close_all.new.jobs.items = sym c.finish_all.new.jobs.ok.0 ∙ c.finish_all.ensures.len ∙ c.close_all.new.jobs.ok.0 in
-    let ended : EndAll g.T.OpenedAs.opening g.T.OpenedAs.told (lasts_of (stays_of g.I.Src.Source.remaining g.I.Src.Source.faults g.O.Snk.Sink.contents g.O.Snk.Sink.faults g.T.OpenedAs.opening g.T.OpenedAs.told (λ s. s.seat) c.open_all.new.jobs.items (with_items c.open_all.new.jobs c.answer_beside.new.jobs).items)) c.end_writers-2.new.pass c.end_all.new.pass =
-    subst (λ (ss : List (Option Sitting)). EndAll g.T.OpenedAs.opening g.T.OpenedAs.told ss c.end_writers-2.new.pass c.end_all.new.pass) (sym (lasts_are g.I.Src.Source.remaining g.I.Src.Source.faults g.O.Snk.Sink.contents g.O.Snk.Sink.faults g.T.OpenedAs.opening g.T.OpenedAs.told (λ s. s.seat) c.open_all.new.jobs.items (with_items c.open_all.new.jobs c.answer_beside.new.jobs).items ran.alike ∙ sym (seen_same (option_map (λ s. s.seat)) (λ job. job.session) c.finish_all.new.jobs.items (with_items c.open_all.new.jobs c.answer_beside.new.jobs).items (c.finish_all.ensures.sessions ∙ c.close_all.ensures.sessions)))) c.end_all.ensures.ends in
+    let ended : EndAll g.T.Opened.opening g.T.Opened.outset.told (lasts_of (stays_of g.I.Src.Source.remaining g.I.Src.Source.faults g.O.Snk.Sink.contents g.O.Snk.Sink.faults g.T.Opened.opening g.T.Opened.outset.told (λ s. s.seat) c.open_all.new.jobs.items (with_items c.open_all.new.jobs c.answer_beside.new.jobs).items)) c.end_writers-2.new.pass c.end_all.new.pass =
+    subst (λ (ss : List (Option Sitting)). EndAll g.T.Opened.opening g.T.Opened.outset.told ss c.end_writers-2.new.pass c.end_all.new.pass) (sym (lasts_are g.I.Src.Source.remaining g.I.Src.Source.faults g.O.Snk.Sink.contents g.O.Snk.Sink.faults g.T.Opened.opening g.T.Opened.outset.told (λ s. s.seat) c.open_all.new.jobs.items (with_items c.open_all.new.jobs c.answer_beside.new.jobs).items ran.alike ∙ sym (seen_same (option_map (λ s. s.seat)) (λ job. job.session) c.finish_all.new.jobs.items (with_items c.open_all.new.jobs c.answer_beside.new.jobs).items (c.finish_all.ensures.sessions ∙ c.close_all.ensures.sessions)))) c.end_all.ensures.ends in
     let ends_are : map (λ ending. Some ending) c.endings-ends.result.items ≡ map (λ job. job.ended) c.finish_all.new.jobs.items = c.endings-ends.ensures ∙ ap (map (λ job. job.ended)) c.as_slice-2.ensures.value in
-    let all = gathered g.I.Src.Source.remaining g.I.Src.Source.faults g.O.Snk.Sink.contents g.O.Snk.Sink.faults g.T.OpenedAs.opening g.T.OpenedAs.told (λ s. s.seat) (seen (g.I.Inputs.bytes_at c.args.inputs.now) (g.I.Inputs.faults_at c.args.inputs.now) (g.O.Outputs.written c.args.outputs.now) (g.O.Outputs.is_created c.args.outputs.now) (g.O.Outputs.faults_at c.args.outputs.now) g.T.OpenedAs.first) (seen (g.I.Inputs.bytes_at c.args.inputs.now) (g.I.Inputs.faults_at c.args.inputs.now) (g.O.Outputs.written c.create_all.new.outputs) (g.O.Outputs.is_created c.create_all.new.outputs) (g.O.Outputs.faults_at c.create_all.new.outputs) g.T.OpenedAs.first) (seen (g.I.Inputs.bytes_at c.open_all.new.inputs) (g.I.Inputs.faults_at c.open_all.new.inputs) (g.O.Outputs.written c.create_all.new.outputs) (g.O.Outputs.is_created c.create_all.new.outputs) (g.O.Outputs.faults_at c.create_all.new.outputs) g.T.OpenedAs.first) (seen (g.I.Inputs.bytes_at c.close_all.new.inputs) (g.I.Inputs.faults_at c.close_all.new.inputs) (g.O.Outputs.written c.create_all.new.outputs) (g.O.Outputs.is_created c.create_all.new.outputs) (g.O.Outputs.faults_at c.create_all.new.outputs) g.T.OpenedAs.first) (seen (g.I.Inputs.bytes_at c.close_all.new.inputs) (g.I.Inputs.faults_at c.close_all.new.inputs) (g.O.Outputs.written c.finish_all.new.outputs) (g.O.Outputs.is_created c.finish_all.new.outputs) (g.O.Outputs.faults_at c.finish_all.new.outputs) g.T.OpenedAs.first) c.args.plan.now.queries (bytes_of g.T.OpenedAs.opening.block_len g.T.OpenedAs.opening.blocks) c.seat_all-jobs.result.items c.create_all.new.jobs.items c.open_all.new.jobs.items (with_items c.open_all.new.jobs c.answer_beside.new.jobs).items c.close_all.new.jobs.items c.finish_all.new.jobs.items c.endings-ends.result.items seated.begin seated.many len1 len2 ran.same len4 len5
+    let all = gathered g.I.Src.Source.remaining g.I.Src.Source.faults g.O.Snk.Sink.contents g.O.Snk.Sink.faults g.T.Opened.opening g.T.Opened.outset.told (λ s. s.seat) (seen (g.I.Inputs.bytes_at c.args.inputs.now) (g.I.Inputs.faults_at c.args.inputs.now) (g.O.Outputs.written c.args.outputs.now) (g.O.Outputs.is_created c.args.outputs.now) (g.O.Outputs.faults_at c.args.outputs.now) g.T.Opened.first) (seen (g.I.Inputs.bytes_at c.args.inputs.now) (g.I.Inputs.faults_at c.args.inputs.now) (g.O.Outputs.written c.create_all.new.outputs) (g.O.Outputs.is_created c.create_all.new.outputs) (g.O.Outputs.faults_at c.create_all.new.outputs) g.T.Opened.first) (seen (g.I.Inputs.bytes_at c.open_all.new.inputs) (g.I.Inputs.faults_at c.open_all.new.inputs) (g.O.Outputs.written c.create_all.new.outputs) (g.O.Outputs.is_created c.create_all.new.outputs) (g.O.Outputs.faults_at c.create_all.new.outputs) g.T.Opened.first) (seen (g.I.Inputs.bytes_at c.close_all.new.inputs) (g.I.Inputs.faults_at c.close_all.new.inputs) (g.O.Outputs.written c.create_all.new.outputs) (g.O.Outputs.is_created c.create_all.new.outputs) (g.O.Outputs.faults_at c.create_all.new.outputs) g.T.Opened.first) (seen (g.I.Inputs.bytes_at c.close_all.new.inputs) (g.I.Inputs.faults_at c.close_all.new.inputs) (g.O.Outputs.written c.finish_all.new.outputs) (g.O.Outputs.is_created c.finish_all.new.outputs) (g.O.Outputs.faults_at c.finish_all.new.outputs) g.T.Opened.first) c.args.plan.now.queries (bytes_of g.T.Opened.opening.block_len g.T.Opened.opening.blocks) c.seat_all-jobs.result.items c.create_all.new.jobs.items c.open_all.new.jobs.items (with_items c.open_all.new.jobs c.answer_beside.new.jobs).items c.close_all.new.jobs.items c.finish_all.new.jobs.items c.endings-ends.result.items seated.begin seated.many len1 len2 ran.same len4 len5
     (λ slots. subst (λ (queries : List Query). KeepsWorks (seen (g.I.Inputs.bytes_at c.args.inputs.now) (g.I.Inputs.faults_at c.args.inputs.now) (g.O.Outputs.written c.args.outputs.now) (g.O.Outputs.is_created c.args.outputs.now) (g.O.Outputs.faults_at c.args.outputs.now) slots) (seen (g.I.Inputs.bytes_at c.args.inputs.now) (g.I.Inputs.faults_at c.args.inputs.now) (g.O.Outputs.written c.create_all.new.outputs) (g.O.Outputs.is_created c.create_all.new.outputs) (g.O.Outputs.faults_at c.create_all.new.outputs) slots) queries (map (work_of g.I.Src.Source.remaining g.I.Src.Source.faults g.O.Snk.Sink.contents g.O.Snk.Sink.faults) c.seat_all-jobs.result.items) (map (work_of g.I.Src.Source.remaining g.I.Src.Source.faults g.O.Snk.Sink.contents g.O.Snk.Sink.faults) c.create_all.new.jobs.items)) queries_are (c.create_all.ensures.works (g.I.Inputs.bytes_at c.args.inputs.now) (g.I.Inputs.faults_at c.args.inputs.now) slots)) (λ slots. subst (λ (queries : List Query). KeepsWorks (seen (g.I.Inputs.bytes_at c.args.inputs.now) (g.I.Inputs.faults_at c.args.inputs.now) (g.O.Outputs.written c.create_all.new.outputs) (g.O.Outputs.is_created c.create_all.new.outputs) (g.O.Outputs.faults_at c.create_all.new.outputs) slots) (seen (g.I.Inputs.bytes_at c.open_all.new.inputs) (g.I.Inputs.faults_at c.open_all.new.inputs) (g.O.Outputs.written c.create_all.new.outputs) (g.O.Outputs.is_created c.create_all.new.outputs) (g.O.Outputs.faults_at c.create_all.new.outputs) slots) queries (map (work_of g.I.Src.Source.remaining g.I.Src.Source.faults g.O.Snk.Sink.contents g.O.Snk.Sink.faults) c.create_all.new.jobs.items) (map (work_of g.I.Src.Source.remaining g.I.Src.Source.faults g.O.Snk.Sink.contents g.O.Snk.Sink.faults) c.open_all.new.jobs.items)) queries_are (c.open_all.ensures.works (g.O.Outputs.written c.create_all.new.outputs) (g.O.Outputs.is_created c.create_all.new.outputs) (g.O.Outputs.faults_at c.create_all.new.outputs) slots)) c.open_all.ensures.step ran.answered (λ slots. subst (λ (queries : List Query). KeepsWorks (seen (g.I.Inputs.bytes_at c.open_all.new.inputs) (g.I.Inputs.faults_at c.open_all.new.inputs) (g.O.Outputs.written c.create_all.new.outputs) (g.O.Outputs.is_created c.create_all.new.outputs) (g.O.Outputs.faults_at c.create_all.new.outputs) slots) (seen (g.I.Inputs.bytes_at c.close_all.new.inputs) (g.I.Inputs.faults_at c.close_all.new.inputs) (g.O.Outputs.written c.create_all.new.outputs) (g.O.Outputs.is_created c.create_all.new.outputs) (g.O.Outputs.faults_at c.create_all.new.outputs) slots) queries (map (work_of g.I.Src.Source.remaining g.I.Src.Source.faults g.O.Snk.Sink.contents g.O.Snk.Sink.faults) (with_items c.open_all.new.jobs c.answer_beside.new.jobs).items) (map (work_of g.I.Src.Source.remaining g.I.Src.Source.faults g.O.Snk.Sink.contents g.O.Snk.Sink.faults) c.close_all.new.jobs.items)) queries_are (c.close_all.ensures.works (g.O.Outputs.written c.create_all.new.outputs) (g.O.Outputs.is_created c.create_all.new.outputs) (g.O.Outputs.faults_at c.create_all.new.outputs) slots)) (λ slots. subst (λ (queries : List Query). KeepsWorks (seen (g.I.Inputs.bytes_at c.close_all.new.inputs) (g.I.Inputs.faults_at c.close_all.new.inputs) (g.O.Outputs.written c.create_all.new.outputs) (g.O.Outputs.is_created c.create_all.new.outputs) (g.O.Outputs.faults_at c.create_all.new.outputs) slots) (seen (g.I.Inputs.bytes_at c.close_all.new.inputs) (g.I.Inputs.faults_at c.close_all.new.inputs) (g.O.Outputs.written c.finish_all.new.outputs) (g.O.Outputs.is_created c.finish_all.new.outputs) (g.O.Outputs.faults_at c.finish_all.new.outputs) slots) queries (map (work_of g.I.Src.Source.remaining g.I.Src.Source.faults g.O.Snk.Sink.contents g.O.Snk.Sink.faults) c.close_all.new.jobs.items) (map (work_of g.I.Src.Source.remaining g.I.Src.Source.faults g.O.Snk.Sink.contents g.O.Snk.Sink.faults) c.finish_all.new.jobs.items)) queries_are (c.finish_all.ensures.works (g.I.Inputs.bytes_at c.close_all.new.inputs) (g.I.Inputs.faults_at c.close_all.new.inputs) slots)) c.finish_all.ensures.step
-    c.create_all.ensures.refused c.open_all.ensures.refused (refused_kept g.I.Src.Source.remaining g.I.Src.Source.faults g.O.Snk.Sink.contents g.O.Snk.Sink.faults g.T.OpenedAs.opening g.T.OpenedAs.told (λ s. s.seat) c.args.plan.now.queries c.open_all.new.jobs.items (with_items c.open_all.new.jobs c.answer_beside.new.jobs).items ran.many ran.same ran.answered) c.close_all.ensures.refused c.finish_all.ensures.refused
-    c.create_all.ensures.answers c.open_all.ensures.answers c.close_all.ensures.answers c.finish_all.ensures.answers ran.alike ran.come ends_are c.end_all.new.pass (uncounted_yet g.T.OpenedAs.first) (each_stayed g.T.OpenedAs.opening g.T.OpenedAs.told c.args.plan.now.queries c.begin_writers-writers.new.pass c.sessions.new.pass c.end_writers-2.new.pass c.end_all.new.pass c.law_pass.ensures waits c.law_pass-3.ensures (c.begin_writers-writers.ensures.begin.seen ∙ c.requires.fresh.0) (map (seen_in (λ v. v.items) (λ s. s.seat)) c.in-Ok-sessions.answers.items) seated.admits (stays_of g.I.Src.Source.remaining g.I.Src.Source.faults g.O.Snk.Sink.contents g.O.Snk.Sink.faults g.T.OpenedAs.opening g.T.OpenedAs.told (λ s. s.seat) c.open_all.new.jobs.items (with_items c.open_all.new.jobs c.answer_beside.new.jobs).items) ran.firsts (numbers_kept g.I.Src.Source.remaining g.I.Src.Source.faults g.O.Snk.Sink.contents g.O.Snk.Sink.faults g.T.OpenedAs.opening g.T.OpenedAs.told (λ s. s.seat) c.open_all.new.jobs.items (with_items c.open_all.new.jobs c.answer_beside.new.jobs).items ran.alike) ended) (all_stays g.T.OpenedAs.opening g.T.OpenedAs.told c.args.plan.now.queries c.begin_writers-writers.new.pass c.sessions.new.pass c.end_writers-2.new.pass c.end_all.new.pass c.law_pass.ensures waits c.law_pass-3.ensures (c.begin_writers-writers.ensures.begin.seen ∙ c.requires.fresh.0) (map (seen_in (λ v. v.items) (λ s. s.seat)) c.in-Ok-sessions.answers.items) seated.admits (stays_of g.I.Src.Source.remaining g.I.Src.Source.faults g.O.Snk.Sink.contents g.O.Snk.Sink.faults g.T.OpenedAs.opening g.T.OpenedAs.told (λ s. s.seat) c.open_all.new.jobs.items (with_items c.open_all.new.jobs c.answer_beside.new.jobs).items) ran.firsts (numbers_kept g.I.Src.Source.remaining g.I.Src.Source.faults g.O.Snk.Sink.contents g.O.Snk.Sink.faults g.T.OpenedAs.opening g.T.OpenedAs.told (λ s. s.seat) c.open_all.new.jobs.items (with_items c.open_all.new.jobs c.answer_beside.new.jobs).items ran.alike) ended) in
-    refused_of g.T.OpenedAs.opening c.args.plan.now g.T.OpenedAs.told (seen (g.I.Inputs.bytes_at c.args.inputs.now) (g.I.Inputs.faults_at c.args.inputs.now) (g.O.Outputs.written c.args.outputs.now) (g.O.Outputs.is_created c.args.outputs.now) (g.O.Outputs.faults_at c.args.outputs.now) g.T.OpenedAs.first) (seen (g.I.Inputs.bytes_at c.close_all.new.inputs) (g.I.Inputs.faults_at c.close_all.new.inputs) (g.O.Outputs.written c.finish_all.new.outputs) (g.O.Outputs.is_created c.finish_all.new.outputs) (g.O.Outputs.faults_at c.finish_all.new.outputs) g.T.OpenedAs.first) c.end_all.new.pass c.endings-ends.result.items c.requires.opening.block_len c.requires.opening.blocks all
+    c.create_all.ensures.refused c.open_all.ensures.refused (refused_kept g.I.Src.Source.remaining g.I.Src.Source.faults g.O.Snk.Sink.contents g.O.Snk.Sink.faults g.T.Opened.opening g.T.Opened.outset.told (λ s. s.seat) c.args.plan.now.queries c.open_all.new.jobs.items (with_items c.open_all.new.jobs c.answer_beside.new.jobs).items ran.many ran.same ran.answered) c.close_all.ensures.refused c.finish_all.ensures.refused
+    c.create_all.ensures.answers c.open_all.ensures.answers c.close_all.ensures.answers c.finish_all.ensures.answers ran.alike ran.come ends_are c.end_all.new.pass (uncounted_yet g.T.Opened.first) (each_stayed g.T.Opened.opening g.T.Opened.outset.told c.args.plan.now.queries c.begin_writers-writers.new.pass c.sessions.new.pass c.end_writers-2.new.pass c.end_all.new.pass c.law_pass.ensures waits c.law_pass-3.ensures (c.begin_writers-writers.ensures.begin.seen ∙ c.requires.fresh.0) (map (seen_in (λ v. v.items) (λ s. s.seat)) c.in-Ok-sessions.answers.items) seated.admits (stays_of g.I.Src.Source.remaining g.I.Src.Source.faults g.O.Snk.Sink.contents g.O.Snk.Sink.faults g.T.Opened.opening g.T.Opened.outset.told (λ s. s.seat) c.open_all.new.jobs.items (with_items c.open_all.new.jobs c.answer_beside.new.jobs).items) ran.firsts (numbers_kept g.I.Src.Source.remaining g.I.Src.Source.faults g.O.Snk.Sink.contents g.O.Snk.Sink.faults g.T.Opened.opening g.T.Opened.outset.told (λ s. s.seat) c.open_all.new.jobs.items (with_items c.open_all.new.jobs c.answer_beside.new.jobs).items ran.alike) ended) (all_stays g.T.Opened.opening g.T.Opened.outset.told c.args.plan.now.queries c.begin_writers-writers.new.pass c.sessions.new.pass c.end_writers-2.new.pass c.end_all.new.pass c.law_pass.ensures waits c.law_pass-3.ensures (c.begin_writers-writers.ensures.begin.seen ∙ c.requires.fresh.0) (map (seen_in (λ v. v.items) (λ s. s.seat)) c.in-Ok-sessions.answers.items) seated.admits (stays_of g.I.Src.Source.remaining g.I.Src.Source.faults g.O.Snk.Sink.contents g.O.Snk.Sink.faults g.T.Opened.opening g.T.Opened.outset.told (λ s. s.seat) c.open_all.new.jobs.items (with_items c.open_all.new.jobs c.answer_beside.new.jobs).items) ran.firsts (numbers_kept g.I.Src.Source.remaining g.I.Src.Source.faults g.O.Snk.Sink.contents g.O.Snk.Sink.faults g.T.Opened.opening g.T.Opened.outset.told (λ s. s.seat) c.open_all.new.jobs.items (with_items c.open_all.new.jobs c.answer_beside.new.jobs).items ran.alike) ended) in
+    refused_of g.T.Opened.opening c.args.plan.now g.T.Opened.outset.told (seen (g.I.Inputs.bytes_at c.args.inputs.now) (g.I.Inputs.faults_at c.args.inputs.now) (g.O.Outputs.written c.args.outputs.now) (g.O.Outputs.is_created c.args.outputs.now) (g.O.Outputs.faults_at c.args.outputs.now) g.T.Opened.first) (seen (g.I.Inputs.bytes_at c.close_all.new.inputs) (g.I.Inputs.faults_at c.close_all.new.inputs) (g.O.Outputs.written c.finish_all.new.outputs) (g.O.Outputs.is_created c.finish_all.new.outputs) (g.O.Outputs.faults_at c.finish_all.new.outputs) g.T.Opened.first) c.end_all.new.pass c.endings-ends.result.items c.requires.opening.block_len c.requires.opening.blocks all
 
 pub returns-clause-went : goal.returns-clause-went
 returns-clause-went g c =
     λ last back.
-    went_through (seen (g.I.Inputs.bytes_at c.args.inputs.now) (g.I.Inputs.faults_at c.args.inputs.now) (g.O.Outputs.written c.args.outputs.now) (g.O.Outputs.is_created c.args.outputs.now) (g.O.Outputs.faults_at c.args.outputs.now) g.T.OpenedAs.first) (seen (g.I.Inputs.bytes_at c.args.inputs.now) (g.I.Inputs.faults_at c.args.inputs.now) (g.O.Outputs.written c.create_all.new.outputs) (g.O.Outputs.is_created c.create_all.new.outputs) (g.O.Outputs.faults_at c.create_all.new.outputs) g.T.OpenedAs.first) (seen (g.I.Inputs.bytes_at c.open_all.new.inputs) (g.I.Inputs.faults_at c.open_all.new.inputs) (g.O.Outputs.written c.create_all.new.outputs) (g.O.Outputs.is_created c.create_all.new.outputs) (g.O.Outputs.faults_at c.create_all.new.outputs) g.T.OpenedAs.first) (seen (g.I.Inputs.bytes_at c.open_all.new.inputs) (g.I.Inputs.faults_at c.open_all.new.inputs) (g.O.Outputs.written c.create_all.new.outputs) (g.O.Outputs.is_created c.create_all.new.outputs) (g.O.Outputs.faults_at c.create_all.new.outputs) last) (seen (g.I.Inputs.bytes_at c.close_all.new.inputs) (g.I.Inputs.faults_at c.close_all.new.inputs) (g.O.Outputs.written c.create_all.new.outputs) (g.O.Outputs.is_created c.create_all.new.outputs) (g.O.Outputs.faults_at c.create_all.new.outputs) last) (seen (g.I.Inputs.bytes_at c.close_all.new.inputs) (g.I.Inputs.faults_at c.close_all.new.inputs) (g.O.Outputs.written c.finish_all.new.outputs) (g.O.Outputs.is_created c.finish_all.new.outputs) (g.O.Outputs.faults_at c.finish_all.new.outputs) last)
-    (c.create_all.ensures.went (g.I.Inputs.bytes_at c.args.inputs.now) (g.I.Inputs.faults_at c.args.inputs.now) g.T.OpenedAs.first) (c.open_all.ensures.went (g.O.Outputs.written c.create_all.new.outputs) (g.O.Outputs.is_created c.create_all.new.outputs) (g.O.Outputs.faults_at c.create_all.new.outputs) g.T.OpenedAs.first)
-    (went_slots g.T.OpenedAs.first last (seen (g.I.Inputs.bytes_at c.open_all.new.inputs) (g.I.Inputs.faults_at c.open_all.new.inputs) (g.O.Outputs.written c.create_all.new.outputs) (g.O.Outputs.is_created c.create_all.new.outputs) (g.O.Outputs.faults_at c.create_all.new.outputs) g.T.OpenedAs.first) back)
+    went_through (seen (g.I.Inputs.bytes_at c.args.inputs.now) (g.I.Inputs.faults_at c.args.inputs.now) (g.O.Outputs.written c.args.outputs.now) (g.O.Outputs.is_created c.args.outputs.now) (g.O.Outputs.faults_at c.args.outputs.now) g.T.Opened.first) (seen (g.I.Inputs.bytes_at c.args.inputs.now) (g.I.Inputs.faults_at c.args.inputs.now) (g.O.Outputs.written c.create_all.new.outputs) (g.O.Outputs.is_created c.create_all.new.outputs) (g.O.Outputs.faults_at c.create_all.new.outputs) g.T.Opened.first) (seen (g.I.Inputs.bytes_at c.open_all.new.inputs) (g.I.Inputs.faults_at c.open_all.new.inputs) (g.O.Outputs.written c.create_all.new.outputs) (g.O.Outputs.is_created c.create_all.new.outputs) (g.O.Outputs.faults_at c.create_all.new.outputs) g.T.Opened.first) (seen (g.I.Inputs.bytes_at c.open_all.new.inputs) (g.I.Inputs.faults_at c.open_all.new.inputs) (g.O.Outputs.written c.create_all.new.outputs) (g.O.Outputs.is_created c.create_all.new.outputs) (g.O.Outputs.faults_at c.create_all.new.outputs) last) (seen (g.I.Inputs.bytes_at c.close_all.new.inputs) (g.I.Inputs.faults_at c.close_all.new.inputs) (g.O.Outputs.written c.create_all.new.outputs) (g.O.Outputs.is_created c.create_all.new.outputs) (g.O.Outputs.faults_at c.create_all.new.outputs) last) (seen (g.I.Inputs.bytes_at c.close_all.new.inputs) (g.I.Inputs.faults_at c.close_all.new.inputs) (g.O.Outputs.written c.finish_all.new.outputs) (g.O.Outputs.is_created c.finish_all.new.outputs) (g.O.Outputs.faults_at c.finish_all.new.outputs) last)
+    (c.create_all.ensures.went (g.I.Inputs.bytes_at c.args.inputs.now) (g.I.Inputs.faults_at c.args.inputs.now) g.T.Opened.first) (c.open_all.ensures.went (g.O.Outputs.written c.create_all.new.outputs) (g.O.Outputs.is_created c.create_all.new.outputs) (g.O.Outputs.faults_at c.create_all.new.outputs) g.T.Opened.first)
+    (went_slots g.T.Opened.first last (seen (g.I.Inputs.bytes_at c.open_all.new.inputs) (g.I.Inputs.faults_at c.open_all.new.inputs) (g.O.Outputs.written c.create_all.new.outputs) (g.O.Outputs.is_created c.create_all.new.outputs) (g.O.Outputs.faults_at c.create_all.new.outputs) g.T.Opened.first) back)
     (c.close_all.ensures.went (g.O.Outputs.written c.create_all.new.outputs) (g.O.Outputs.is_created c.create_all.new.outputs) (g.O.Outputs.faults_at c.create_all.new.outputs) last) (c.finish_all.ensures.went (g.I.Inputs.bytes_at c.close_all.new.inputs) (g.I.Inputs.faults_at c.close_all.new.inputs) last)
 
 pub returns-in_err-ends-clause-gone : goal.returns-in_err-ends-clause-gone

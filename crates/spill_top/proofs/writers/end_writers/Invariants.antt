@@ -9,7 +9,7 @@ invariant-loop-writers g l = record {
   waits : Waits l.fn.pass l.pass;
   at : All (λ w. w.seat.spot.table ≡ l.fn.pass.table) l.writers.items;
   out : writers_out l.pass ≡ vec_len l.writers;
-  is : (free : ℕ) × IsPass g.T.OpenedAs.opening.slots free l.pass;
+  is : (free : ℕ) × IsPass g.T.Opened.opening.slots free l.pass;
 }
 
 abbrev pub decreases-loop-writers : goal.decreases-loop-writers

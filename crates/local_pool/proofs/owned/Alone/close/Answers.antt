@@ -3,7 +3,7 @@ use Rattle.std.specs.List.{sum_by}
 use Rattle.pin_core.specs.Standing.{slots_home}
 use Rattle.session_calls.specs.declared.hand.Hand.{Hand}
 use Rattle.local_pool.specs.Told.{held_of, signs_of}
-use Rattle.local_pool.specs.Counting.{SpendsNames, SumsHold}
+use Rattle.local_pool.specs.Counting.{SpendsNames, SumsHold, named_at}
 use Rattle.local_pool.specs.History.{IsHistory}
 use Rattle.pin_core.specs.Tallies.{tally_in, tally_of}
 use Rattle.pin_core.proofs.Tallied.{tally_same}
@@ -34,11 +34,11 @@ returns-clause-slots g c measure =
 
 pub returns-clause-names : goal.returns-clause-names
 returns-clause-names g c =
-    subst (λ (o : Hand g.row.D.Denot). SpendsNames g.T.OpenedWith.opened o.trail (signs_of o).spent) c.self.view_is (spends_all g.D.Slot g.T.OpenedWith.opened c.self.inside.hand c.self.invariant.0)
+    subst (λ (o : Hand g.row.D.Denot). SpendsNames (named_at g.T.Opened.named g.T.Opened.opening g.T.Opened.first) o.trail (signs_of o).spent) c.self.view_is (spends_all g.D.Slot (named_at g.T.Opened.named g.T.Opened.opening g.T.Opened.first) c.self.inside.hand c.self.invariant.0)
 
 pub returns-clause-history : goal.returns-clause-history
 returns-clause-history g c =
-    subst (λ (o : Hand g.row.D.Denot). IsHistory g.T.OpenedWith.opened (held_of g.D.Slot o).block_len o.session o.trail) c.self.view_is (history_of g.D.Slot g.T.OpenedWith.opened c.self.inside.hand c.self.invariant.0)
+    subst (λ (o : Hand g.row.D.Denot). IsHistory (named_at g.T.Opened.named g.T.Opened.opening g.T.Opened.first) (held_of g.D.Slot o).block_len o.session o.trail) c.self.view_is (history_of g.D.Slot (named_at g.T.Opened.named g.T.Opened.opening g.T.Opened.first) c.self.inside.hand c.self.invariant.0)
 
 pub returns-clause-sums : goal.returns-clause-sums
 returns-clause-sums g c =
@@ -46,4 +46,4 @@ returns-clause-sums g c =
     let same : tally_in g.D.Slot own.state ≡ tally_of g.D.Slot c.close.result.items =
     tally_same g.D.Slot (λ measure. slots_home measure own.state) (λ measure. sum_by measure c.close.result.items)
     (λ measure. let home = c.end_session.ensures.enters.slots measure in let given = c.close.ensures.slots measure in omega (arith, home, given)) in
-    subst (λ (o : Hand g.row.D.Denot). SumsHold g.T.OpenedWith.opened o.trail (tally_of g.D.Slot c.close.result.items)) c.self.view_is (subst (SumsHold g.T.OpenedWith.opened own.trail) same (sums_hold g.D.Slot g.T.OpenedWith.opened own c.self.invariant.0))
+    subst (λ (o : Hand g.row.D.Denot). SumsHold (named_at g.T.Opened.named g.T.Opened.opening g.T.Opened.first) o.trail (tally_of g.D.Slot c.close.result.items)) c.self.view_is (subst (SumsHold (named_at g.T.Opened.named g.T.Opened.opening g.T.Opened.first) own.trail) same (sums_hold g.D.Slot (named_at g.T.Opened.named g.T.Opened.opening g.T.Opened.first) own c.self.invariant.0))

@@ -7,6 +7,7 @@ use Rattle.pin_core.specs.declared.tally.Tally.{Tally}
 use Rattle.session_calls.specs.declared.count.Count.{Count}
 use Rattle.session_calls.specs.declared.count.Count.TheVariants as count
 use Rattle.pin_core.proofs.Tallied.{tally_same}
+use Rattle.local_pool.specs.Counting.{named_at}
 use Rattle.local_pool.proofs.Begun.{begins, counted_alike}
 use Rattle.local_pool.proofs.owned.Alone.open.Goals as goal
 
@@ -22,7 +23,7 @@ pub begin-requires-clause-opens : goal.begin-requires-clause-opens
 begin-requires-clause-opens g c =
     let slots = c.args.slots.items in
     let pool = c.in-Ok.pool in
-    counted_alike g.T.OpenedWith.opened (tally_of g.D.Slot slots) (tally_in g.D.Slot pool) c.args.conf.now.first_name _
+    counted_alike (named_at g.T.Opened.named g.T.Opened.opening g.T.Opened.first) (tally_of g.D.Slot slots) (tally_in g.D.Slot pool) c.args.conf.now.first_name _
     (tally_same g.D.Slot (λ measure. sum_by measure slots) (λ measure. slots_home measure pool) (λ measure. sym (c.in-Ok.ensures.slots measure))) c.requires.opened
 
 pub begin-requires-clause-counts : goal.begin-requires-clause-counts

@@ -5,5 +5,5 @@ use Rattle.pool.proofs.ledger.Ledger.see.Given as goal
 
 abbrev pub invariant-loop-place : goal.invariant-loop-place
 invariant-loop-place g l =
-    SeesSome l.fn.self.accounts l.self.accounts (held_by g.O.Origin.opening g.O.Origin.outset l.fn.hand) l.place
-    × (l.self.room ≡ (held_by g.O.Origin.opening g.O.Origin.outset l.fn.hand).room)
+    SeesSome l.fn.self.accounts l.self.accounts (held_by g.O.Opened.opening g.O.Opened.outset l.fn.hand) l.place
+    × (l.self.room ≡ (held_by g.O.Opened.opening g.O.Opened.outset l.fn.hand).room)

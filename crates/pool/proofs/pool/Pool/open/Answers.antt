@@ -10,7 +10,7 @@ use Rattle.pool.proofs.pool.Pool.open.Goals as goal
 
 pub with-requires-clause-stands : goal.with-requires-clause-stands
 with-requires-clause-stands g c = (
-  stands_open g.D.Slot g.T.OpenedAs.opening g.T.OpenedAs.told g.T.OpenedAs.first c.args.conf.now c.args.slots.items (record { trail = c.in-Ok.trail; counts = c.count_opening.new.counts }) c.in-Ok-open-3.state
+  stands_open g.D.Slot g.T.Opened.opening g.T.Opened.outset.told g.T.Opened.first c.args.conf.now c.args.slots.items (record { trail = c.in-Ok.trail; counts = c.count_opening.new.counts }) c.in-Ok-open-3.state
       c.requires.opens c.in-Ok.ensures (first_count g.D.Slot c.args.slots.items c.as_slice.result.now c.in-Ok-open.counts c.count_opening.new.counts c.in-Ok-open.ensures c.count_opening.ensures c.as_slice.ensures.value)
       c.in-Ok-open-3.ensures.stands c.in-Ok-open-3.ensures.slots c.in-Ok-open-3.ensures.spare,
   refl,
@@ -21,15 +21,15 @@ with-requires-clause-rights g c = once
 
 pub invariant_of-result : goal.invariant_of-result
 invariant_of-result g c =
-    is_pass g.T.OpenedAs.opening.slots c.len-spare.result c.in-Ok-with.seat c.in-Ok-with.ensures.ok.1
+    is_pass g.T.Opened.opening.slots c.len-spare.result c.in-Ok-with.seat c.in-Ok-with.ensures.ok.1
     (c.len-spare.ensures ∙ c.args.slots.ok.0 ∙ sym c.requires.opens.numbers.slots)
 
 pub close-requires : goal.close-requires
 close-requires g c = record {
   ended = λ m.
       ap (λ (v : Parts g.row.D.Denot). get (state_of v).sessions m) (ap (λ x. x.state) c.in-Err-with.ensures.err)
-      ∙ none_opened g.D.Slot g.T.OpenedAs.opening g.T.OpenedAs.told g.T.OpenedAs.first (record { trail = c.in-Ok.trail; counts = c.count_opening.new.counts }) c.in-Ok-open-3.state
-      (stands_open g.D.Slot g.T.OpenedAs.opening g.T.OpenedAs.told g.T.OpenedAs.first c.args.conf.now c.args.slots.items (record { trail = c.in-Ok.trail; counts = c.count_opening.new.counts }) c.in-Ok-open-3.state
+      ∙ none_opened g.D.Slot g.T.Opened.opening g.T.Opened.outset.told g.T.Opened.first (record { trail = c.in-Ok.trail; counts = c.count_opening.new.counts }) c.in-Ok-open-3.state
+      (stands_open g.D.Slot g.T.Opened.opening g.T.Opened.outset.told g.T.Opened.first c.args.conf.now c.args.slots.items (record { trail = c.in-Ok.trail; counts = c.count_opening.new.counts }) c.in-Ok-open-3.state
       c.requires.opens c.in-Ok.ensures (first_count g.D.Slot c.args.slots.items c.as_slice.result.now c.in-Ok-open.counts c.count_opening.new.counts c.in-Ok-open.ensures c.count_opening.ensures c.as_slice.ensures.value)
       c.in-Ok-open-3.ensures.stands c.in-Ok-open-3.ensures.slots c.in-Ok-open-3.ensures.spare) m;
 }

@@ -6,10 +6,10 @@ use Rattle.pool.proofs.Storing.{did_grows, did_made, these_held}
 use Rattle.pool.proofs.session.SessionStore.extract.Goals as goal
 
 pub returns-clause-value : goal.returns-clause-value
-returns-clause-value g c = these_held g.T.OpenedAs.opening g.T.OpenedAs.told c.args.self.now.seat c.extract-loan.new.self (Extract c.args.p.name c.extract-loan.result.number ∷ []) c.extract-loan.ensures.extracts.did ∙ (calls_tell 0 (held_by g.T.OpenedAs.opening g.T.OpenedAs.told c.args.self.now.seat)).extract c.args.p.name c.extract-loan.result.number
+returns-clause-value g c = these_held g.T.Opened.opening g.T.Opened.outset.told c.args.self.now.seat c.extract-loan.new.self (Extract c.args.p.name c.extract-loan.result.number ∷ []) c.extract-loan.ensures.extracts.did ∙ (calls_tell 0 (held_by g.T.Opened.opening g.T.Opened.outset.told c.args.self.now.seat)).extract c.args.p.name c.extract-loan.result.number
 
 pub returns-clause-grows : goal.returns-clause-grows
-returns-clause-grows g c = did_grows g.T.OpenedAs.opening g.T.OpenedAs.told c.args.self.now.seat c.extract-loan.new.self c.extract-loan.ensures.extracts.did
+returns-clause-grows g c = did_grows g.T.Opened.opening g.T.Opened.outset.told c.args.self.now.seat c.extract-loan.new.self c.extract-loan.ensures.extracts.did
 
 pub returns-clause-entries : goal.returns-clause-entries
-returns-clause-entries g c = did_made g.T.OpenedAs.opening g.T.OpenedAs.told c.args.self.now.seat c.extract-loan.new.self c.extract-loan.ensures.extracts.did
+returns-clause-entries g c = did_made g.T.Opened.opening g.T.Opened.outset.told c.args.self.now.seat c.extract-loan.new.self c.extract-loan.ensures.extracts.did

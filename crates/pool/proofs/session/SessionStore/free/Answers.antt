@@ -6,10 +6,10 @@ use Rattle.pool.proofs.Storing.{did_grows, did_made, these_held}
 use Rattle.pool.proofs.session.SessionStore.free.Goals as goal
 
 pub returns-clause-value : goal.returns-clause-value
-returns-clause-value g c = these_held g.T.OpenedAs.opening g.T.OpenedAs.told c.args.self.now.seat c.free.new.self (Free c.args.loan.number ∷ []) c.free.ensures.did ∙ (calls_tell 0 (held_by g.T.OpenedAs.opening g.T.OpenedAs.told c.args.self.now.seat)).free c.args.loan.number
+returns-clause-value g c = these_held g.T.Opened.opening g.T.Opened.outset.told c.args.self.now.seat c.free.new.self (Free c.args.loan.number ∷ []) c.free.ensures.did ∙ (calls_tell 0 (held_by g.T.Opened.opening g.T.Opened.outset.told c.args.self.now.seat)).free c.args.loan.number
 
 pub returns-clause-grows : goal.returns-clause-grows
-returns-clause-grows g c = did_grows g.T.OpenedAs.opening g.T.OpenedAs.told c.args.self.now.seat c.free.new.self c.free.ensures.did
+returns-clause-grows g c = did_grows g.T.Opened.opening g.T.Opened.outset.told c.args.self.now.seat c.free.new.self c.free.ensures.did
 
 pub returns-clause-entries : goal.returns-clause-entries
-returns-clause-entries g c = did_made g.T.OpenedAs.opening g.T.OpenedAs.told c.args.self.now.seat c.free.new.self c.free.ensures.did
+returns-clause-entries g c = did_made g.T.Opened.opening g.T.Opened.outset.told c.args.self.now.seat c.free.new.self c.free.ensures.did

@@ -6,10 +6,10 @@ use Rattle.pool.proofs.Storing.{did_held, did_made, grows_declined}
 use Rattle.pool.proofs.session.SessionStore.pin.Goals as goal
 
 pub returns-clause-ok : goal.returns-clause-ok
-returns-clause-ok g c = on_ok_so c.pin-result.result c.pin-result.ensures.pins.ok (λ did. did_held g.T.OpenedAs.opening g.T.OpenedAs.told c.args.self.now.seat c.pin-result.new.self did ∙ (calls_tell c.args.p.now.client (held_by g.T.OpenedAs.opening g.T.OpenedAs.told c.args.self.now.seat)).pin c.args.p.now.name did.does.events did.does.is)
+returns-clause-ok g c = on_ok_so c.pin-result.result c.pin-result.ensures.pins.ok (λ did. did_held g.T.Opened.opening g.T.Opened.outset.told c.args.self.now.seat c.pin-result.new.self did ∙ (calls_tell c.args.p.now.client (held_by g.T.Opened.opening g.T.Opened.outset.told c.args.self.now.seat)).pin c.args.p.now.name did.does.events did.does.is)
 
 pub returns-clause-grows : goal.returns-clause-grows
-returns-clause-grows g c = grows_declined g.T.OpenedAs.opening g.T.OpenedAs.told c.args.self.now.seat c.pin-result.new.self _ c.args.p.now.client _ c.pin-result.result c.pin-result.ensures.pins.ok c.pin-result.ensures.pins.err
+returns-clause-grows g c = grows_declined g.T.Opened.opening g.T.Opened.outset.told c.args.self.now.seat c.pin-result.new.self _ c.args.p.now.client _ c.pin-result.result c.pin-result.ensures.pins.ok c.pin-result.ensures.pins.err
 
 pub returns-clause-entries : goal.returns-clause-entries
-returns-clause-entries g c = on_ok_so c.pin-result.result c.pin-result.ensures.pins.ok (λ did. did_made g.T.OpenedAs.opening g.T.OpenedAs.told c.args.self.now.seat c.pin-result.new.self did)
+returns-clause-entries g c = on_ok_so c.pin-result.result c.pin-result.ensures.pins.ok (λ did. did_made g.T.Opened.opening g.T.Opened.outset.told c.args.self.now.seat c.pin-result.new.self did)

@@ -6,10 +6,10 @@ use Rattle.pool.proofs.Storing.{did_grows, did_made, these_held}
 use Rattle.pool.proofs.session.SessionStore.unpin_once.Goals as goal
 
 pub returns-clause-value : goal.returns-clause-value
-returns-clause-value g c = these_held g.T.OpenedAs.opening g.T.OpenedAs.told c.args.self.now.seat c.unpin_once.new.self (UnpinOnce c.args.p.now.name ∷ []) c.unpin_once.ensures.did ∙ (calls_tell 0 (held_by g.T.OpenedAs.opening g.T.OpenedAs.told c.args.self.now.seat)).unpin_once c.args.p.now.name c.requires.pinned
+returns-clause-value g c = these_held g.T.Opened.opening g.T.Opened.outset.told c.args.self.now.seat c.unpin_once.new.self (UnpinOnce c.args.p.now.name ∷ []) c.unpin_once.ensures.did ∙ (calls_tell 0 (held_by g.T.Opened.opening g.T.Opened.outset.told c.args.self.now.seat)).unpin_once c.args.p.now.name c.requires.pinned
 
 pub returns-clause-grows : goal.returns-clause-grows
-returns-clause-grows g c = did_grows g.T.OpenedAs.opening g.T.OpenedAs.told c.args.self.now.seat c.unpin_once.new.self c.unpin_once.ensures.did
+returns-clause-grows g c = did_grows g.T.Opened.opening g.T.Opened.outset.told c.args.self.now.seat c.unpin_once.new.self c.unpin_once.ensures.did
 
 pub returns-clause-entries : goal.returns-clause-entries
-returns-clause-entries g c = did_made g.T.OpenedAs.opening g.T.OpenedAs.told c.args.self.now.seat c.unpin_once.new.self c.unpin_once.ensures.did
+returns-clause-entries g c = did_made g.T.Opened.opening g.T.Opened.outset.told c.args.self.now.seat c.unpin_once.new.self c.unpin_once.ensures.did

@@ -13,7 +13,7 @@ pub bring_loan-requires : goal.bring_loan-requires
 bring_loan-requires g c = record {
   can =
       subst (λ (t : ℕ). CanHold (state_of c.args.self.now.state) (record { session = c.args.self.now.session; tracker = t }) c.args.shell) (sym c.tracker.ensures)
-      (can_hold (knows g.D.Slot g.O.Origin.opening g.O.Origin.outset c.args.self.now c.requires.ready) c.args.c.now.tracker c.args.shell c.requires.client c.requires.blocks c.requires.room);
+      (can_hold (knows g.D.Slot g.O.Opened.opening g.O.Opened.outset c.args.self.now c.requires.ready) c.args.c.now.tracker c.args.shell c.requires.client c.requires.blocks c.requires.room);
 }
 
 pub returns-clause-acts : goal.returns-clause-acts
@@ -23,15 +23,15 @@ returns-clause-acts g c =
 
 pub returns-clause-loan : goal.returns-clause-loan
 returns-clause-loan g c =
-    subst (λ (t : ℕ). IsFreshLoan t c.args.shell c.bring_loan.result (held_by g.O.Origin.opening g.O.Origin.outset c.args.self.now)) c.tracker.ensures
-    (fresh_loan (knows g.D.Slot g.O.Origin.opening g.O.Origin.outset c.args.self.now c.requires.ready) c.tracker.result c.args.shell c.bring_loan.result c.bring_loan.ensures.fresh c.bring_loan.ensures.loan)
+    subst (λ (t : ℕ). IsFreshLoan t c.args.shell c.bring_loan.result (held_by g.O.Opened.opening g.O.Opened.outset c.args.self.now)) c.tracker.ensures
+    (fresh_loan (knows g.D.Slot g.O.Opened.opening g.O.Opened.outset c.args.self.now c.requires.ready) c.tracker.result c.args.shell c.bring_loan.result c.bring_loan.ensures.fresh c.bring_loan.ensures.loan)
 
 pub returns-clause-ready : goal.returns-clause-ready
 returns-clause-ready g c =
     ready_evicting g.D.Slot c.args.self.now c.bring_loan.new.hand c.args.shell (Alloc c.bring_loan.result.number c.tracker.result c.args.shell) c.bring_loan.ensures.goes refl
-    g.O.Origin.opening g.O.Origin.outset c.requires.ready refl c.requires.ready.rests.live c.requires.ready.rests.few
+    g.O.Opened.opening g.O.Opened.outset c.requires.ready refl c.requires.ready.rests.live c.requires.ready.rests.few
 
 pub returns-clause-needed : goal.returns-clause-needed
 returns-clause-needed g c =
     needed_evicting g.D.Slot c.args.self.now c.bring_loan.new.hand c.args.shell (Alloc c.bring_loan.result.number c.tracker.result c.args.shell) c.bring_loan.ensures.goes
-    g.O.Origin.opening g.O.Origin.outset c.requires.ready c.args.c.now.tracker (λ s. tt) c.bring_loan.ensures.room
+    g.O.Opened.opening g.O.Opened.outset c.requires.ready c.args.c.now.tracker (λ s. tt) c.bring_loan.ensures.room

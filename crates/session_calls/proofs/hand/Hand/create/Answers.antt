@@ -15,29 +15,29 @@ use Rattle.session_calls.proofs.hand.Hand.create.Goals as goal
 pub bring_page-requires-clause-can : goal.bring_page-requires-clause-can
 bring_page-requires-clause-can g c =
     subst (λ (t : ℕ). CanHold (state_of c.args.self.now.state) (record { session = c.args.self.now.session; tracker = t }) c.args.shell) (sym c.tracker.ensures)
-    (can_hold (knows g.D.Slot g.O.Origin.opening g.O.Origin.outset c.args.self.now c.requires.ready) c.args.c.now.tracker c.args.shell c.requires.client c.requires.blocks c.requires.room)
+    (can_hold (knows g.D.Slot g.O.Opened.opening g.O.Opened.outset c.args.self.now c.requires.ready) c.args.c.now.tracker c.args.shell c.requires.client c.requires.blocks c.requires.room)
 
 pub returns-clause-ok : goal.returns-clause-ok
 returns-clause-ok g c =
     subst (λ (t : ℕ). IfOk c.bring_page.result (λ made. Acts (Evicts (Create made.0.name t c.args.shell made.0.key ∷ [])) c.args.self.now c.bring_page.new.hand)) c.tracker.ensures
-    (acts_created g.D.Slot g.O.Origin.opening g.O.Origin.outset c.args.self.now c.requires.ready c.tracker.result c.args.shell c.bring_page.new.hand c.bring_page.result c.bring_page.ensures.goes)
+    (acts_created g.D.Slot g.O.Opened.opening g.O.Opened.outset c.args.self.now c.requires.ready c.tracker.result c.args.shell c.bring_page.new.hand c.bring_page.result c.bring_page.ensures.goes)
 
 pub returns-clause-page : goal.returns-clause-page
 returns-clause-page g c =
-    subst (λ (t : ℕ). IfOk c.bring_page.result (λ made. IsFreshPage t c.args.shell made (held_by g.O.Origin.opening g.O.Origin.outset c.args.self.now) (signs_by g.O.Origin.opening c.args.self.now))) c.tracker.ensures
-    (fresh_created g.D.Slot g.O.Origin.opening g.O.Origin.outset c.args.self.now c.requires.ready c.tracker.result c.args.shell c.bring_page.new.hand c.bring_page.result
+    subst (λ (t : ℕ). IfOk c.bring_page.result (λ made. IsFreshPage t c.args.shell made (held_by g.O.Opened.opening g.O.Opened.outset c.args.self.now) (signs_by g.O.Opened.opening c.args.self.now))) c.tracker.ensures
+    (fresh_created g.D.Slot g.O.Opened.opening g.O.Opened.outset c.args.self.now c.requires.ready c.tracker.result c.args.shell c.bring_page.new.hand c.bring_page.result
     c.bring_page.ensures.page c.bring_page.ensures.buffer c.bring_page.ensures.left)
 
 pub returns-clause-err : goal.returns-clause-err
 returns-clause-err g c =
-    spent_created g.D.Slot g.O.Origin.opening g.O.Origin.outset c.args.self.now c.requires.ready c.tracker.result c.args.shell c.bring_page.new.hand c.bring_page.result c.bring_page.ensures.err
+    spent_created g.D.Slot g.O.Opened.opening g.O.Opened.outset c.args.self.now c.requires.ready c.tracker.result c.args.shell c.bring_page.new.hand c.bring_page.result c.bring_page.ensures.err
 
 pub returns-clause-ready : goal.returns-clause-ready
 returns-clause-ready g c =
-    ready_created g.D.Slot g.O.Origin.opening g.O.Origin.outset c.args.self.now c.requires.ready c.tracker.result c.args.shell c.bring_page.new.hand c.bring_page.result c.bring_page.ensures.goes c.bring_page.ensures.err
+    ready_created g.D.Slot g.O.Opened.opening g.O.Opened.outset c.args.self.now c.requires.ready c.tracker.result c.args.shell c.bring_page.new.hand c.bring_page.result c.bring_page.ensures.goes c.bring_page.ensures.err
 
 pub returns-clause-needed : goal.returns-clause-needed
 returns-clause-needed g c =
-    subst (λ (t : ℕ). EntersNeeded t (length_of c.args.shell (held_by g.O.Origin.opening g.O.Origin.outset c.args.self.now)) c.args.self.now c.bring_page.new.hand) c.tracker.ensures
-    (needed_created g.D.Slot g.O.Origin.opening g.O.Origin.outset c.args.self.now c.requires.ready c.tracker.result c.args.shell c.bring_page.new.hand c.bring_page.result
+    subst (λ (t : ℕ). EntersNeeded t (length_of c.args.shell (held_by g.O.Opened.opening g.O.Opened.outset c.args.self.now)) c.args.self.now c.bring_page.new.hand) c.tracker.ensures
+    (needed_created g.D.Slot g.O.Opened.opening g.O.Opened.outset c.args.self.now c.requires.ready c.tracker.result c.args.shell c.bring_page.new.hand c.bring_page.result
     c.bring_page.ensures.goes c.bring_page.ensures.err c.bring_page.ensures.room)

@@ -9,18 +9,18 @@ use Rattle.session_calls.proofs.Accounts.{token_client, grew_by, growth_refused,
 use Rattle.session_calls.proofs.hand.Hand.reserve.Goals as goal
 
 pub increase-result-requires : goal.increase-result-requires
-increase-result-requires g c = record { client = token_client g.D.Slot g.O.Origin.opening g.O.Origin.outset c.args.self.now c.requires.ready c.of-mine.result c.tracker-tracker.result c.args.c.now.tracker c.of-mine.ensures c.tracker-tracker.ensures c.requires.client }
+increase-result-requires g c = record { client = token_client g.D.Slot g.O.Opened.opening g.O.Opened.outset c.args.self.now c.requires.ready c.of-mine.result c.tracker-tracker.result c.args.c.now.tracker c.of-mine.ensures c.tracker-tracker.ensures c.requires.client }
 
 pub returns-in_err-result-clause-reserves : goal.returns-in_err-result-clause-reserves
 returns-in_err-result-clause-reserves g c = record {
   ok = search rules;
   refused =
       let same : c.from_residual.result ≡ Err c.in_err-result.field-0.0 = search rules in
-      growth_refused g.D.Slot g.O.Origin.opening g.O.Origin.outset c.args.self.now c.requires.ready c.of-mine.result c.tracker-tracker.result c.args.c.now.tracker c.of-mine.ensures c.tracker-tracker.ensures c.requires.client c.requires.above c.from_residual.result c.args.bytes
+      growth_refused g.D.Slot g.O.Opened.opening g.O.Opened.outset c.args.self.now c.requires.ready c.of-mine.result c.tracker-tracker.result c.args.c.now.tracker c.of-mine.ensures c.tracker-tracker.ensures c.requires.client c.requires.above c.from_residual.result c.args.bytes
       (λ some. c.from_residual.ensures.0) (subst (λ (r : Result (Unit {0}) PoolErr). IfErr r (IsFrom (growth_refusal (state_of c.args.self.now.state) c.of-mine.result.tracker c.args.bytes))) (sym same) c.in_err-result.ensures.cause);
   shared =
       let same : c.from_residual.result ≡ Err c.in_err-result.field-0.0 = search rules in
-      growth_shared g.D.Slot g.O.Origin.opening g.O.Origin.outset c.args.self.now c.requires.ready c.of-mine.result c.tracker-tracker.result c.args.c.now.tracker c.of-mine.ensures c.tracker-tracker.ensures c.requires.client c.requires.above c.from_residual.result c.args.bytes
+      growth_shared g.D.Slot g.O.Opened.opening g.O.Opened.outset c.args.self.now c.requires.ready c.of-mine.result c.tracker-tracker.result c.args.c.now.tracker c.of-mine.ensures c.tracker-tracker.ensures c.requires.client c.requires.above c.from_residual.result c.args.bytes
       (subst (λ (r : Result (Unit {0}) PoolErr). IfErr r (IsFrom (growth_refusal (state_of c.args.self.now.state) c.of-mine.result.tracker c.args.bytes))) (sym same) c.in_err-result.ensures.cause);
   cause = search rules;
   err = search rules;
@@ -30,7 +30,7 @@ pub returns-clause-reserves : goal.returns-clause-reserves
 returns-clause-reserves g c = record {
   ok = search rules;
   refused =
-      growth_refused g.D.Slot g.O.Origin.opening g.O.Origin.outset c.args.self.now c.requires.ready c.of-mine.result c.tracker-tracker.result c.args.c.now.tracker c.of-mine.ensures c.tracker-tracker.ensures c.requires.client c.requires.above (Ok tt) c.args.bytes
+      growth_refused g.D.Slot g.O.Opened.opening g.O.Opened.outset c.args.self.now c.requires.ready c.of-mine.result c.tracker-tracker.result c.args.c.now.tracker c.of-mine.ensures c.tracker-tracker.ensures c.requires.client c.requires.above (Ok tt) c.args.bytes
       (λ some. absurd (false≢true (c.in_ok-result.ensures.refused.1 some))) tt;
   shared = search rules;
   cause = tt;
@@ -40,4 +40,4 @@ returns-clause-reserves g c = record {
 pub returns-clause-ready : goal.returns-clause-ready
 returns-clause-ready g c =
     let new : Hand g.row.D.Denot = record { state = c.increase-result.new.self; trail = c.enter.new.trail; counts = c.args.self.now.counts; session = c.args.self.now.session; gone = c.args.self.now.gone } in
-    (grew_by g.D.Slot g.O.Origin.opening g.O.Origin.outset c.args.self.now c.requires.ready c.of-mine.result c.tracker-tracker.result c.args.c.now.tracker c.of-mine.ensures c.tracker-tracker.ensures c.requires.client c.args.bytes new c.in_ok-result.ensures.ok c.enter.ensures refl refl).0
+    (grew_by g.D.Slot g.O.Opened.opening g.O.Opened.outset c.args.self.now c.requires.ready c.of-mine.result c.tracker-tracker.result c.args.c.now.tracker c.of-mine.ensures c.tracker-tracker.ensures c.requires.client c.args.bytes new c.in_ok-result.ensures.ok c.enter.ensures refl refl).0

@@ -8,12 +8,12 @@ use Rattle.tests_sessions.proofs.tests.asks.ask_together.Goals as goal
 pub loop-i-init : goal.loop-i-init
 loop-i-init g c =
     let len = c.len.ensures in
-    let live = all_live g.T.OpenedAs.opening g.T.OpenedAs.told c.args.pool.now c.deref.result.now c.args.pass.now c.sessions.new.pass (answer_of (λ v. v.items) (λ s. s.seat)) c.in-Ok.answers.items c.in-Ok.ensures.ok c.requires.table in
+    let live = all_live g.T.Opened.opening g.T.Opened.outset.told c.args.pool.now c.deref.result.now c.args.pass.now c.sessions.new.pass (answer_of (λ v. v.items) (λ s. s.seat)) c.in-Ok.answers.items c.in-Ok.ensures.ok c.requires.table in
     (omega (arith, len), live.0, live.1, live.2, c.in-Ok.ensures.ok.writers)
 
 pub end_answered-requires : goal.end_answered-requires
 end_answered-requires g c = record {
-  end = (next_can g.T.OpenedAs.opening g.T.OpenedAs.told c.args.pool.now c.loop-i.pass.table (answer_of (λ v. v.items) (λ s. s.seat)) c.loop-i.answers.items c.pop.new.self.items c.pop.result c.unwrap-answer.result
+  end = (next_can g.T.Opened.opening g.T.Opened.outset.told c.args.pool.now c.loop-i.pass.table (answer_of (λ v. v.items) (λ s. s.seat)) c.loop-i.answers.items c.pop.new.self.items c.pop.result c.unwrap-answer.result
       c.pop.ensures.items c.unwrap-answer.ensures c.loop-i.invariant.1 c.loop-i.invariant.2).1;
 }
 
@@ -22,7 +22,7 @@ loop-i-preserved g c =
     let sum = c.loop-i.invariant.0 in
     let cases = c.pop.ensures.len in
     let one : length (option_to_list c.pop.result) ≡ 1 = ap (λ o. length (option_to_list o)) c.unwrap-answer.ensures in
-    let left = next_can g.T.OpenedAs.opening g.T.OpenedAs.told c.args.pool.now c.loop-i.pass.table (answer_of (λ v. v.items) (λ s. s.seat)) c.loop-i.answers.items c.pop.new.self.items c.pop.result c.unwrap-answer.result
+    let left = next_can g.T.Opened.opening g.T.Opened.outset.told c.args.pool.now c.loop-i.pass.table (answer_of (λ v. v.items) (λ s. s.seat)) c.loop-i.answers.items c.pop.new.self.items c.pop.result c.unwrap-answer.result
     c.pop.ensures.items c.unwrap-answer.ensures c.loop-i.invariant.1 c.loop-i.invariant.2 in (
       omega (arith, sum, cases, one),
       c.end_answered.ensures.table ∙ c.loop-i.invariant.1,

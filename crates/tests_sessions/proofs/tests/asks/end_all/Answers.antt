@@ -12,7 +12,7 @@ loop-i-preserved g c =
     let one : length (option_to_list c.pop.result) ≡ 1 = ap (λ o. length (option_to_list o)) c.unwrap-session.ensures in
     let live = kept.3 in
     let gone = c.end.ensures.count in
-    let left = last_of (λ s. CanEnd g.T.OpenedAs.opening g.T.OpenedAs.told c.args.pass.now.table s.seat) c.loop-i.sessions.items c.pop.new.self.items c.pop.result c.unwrap-session.result c.pop.ensures.items c.unwrap-session.ensures kept.2 in (
+    let left = last_of (λ s. CanEnd g.T.Opened.opening g.T.Opened.outset.told c.args.pass.now.table s.seat) c.loop-i.sessions.items c.pop.new.self.items c.pop.result c.unwrap-session.result c.pop.ensures.items c.unwrap-session.ensures kept.2 in (
       omega (arith, len, cases, one),
       c.end.ensures.table ∙ kept.1,
       left.0,

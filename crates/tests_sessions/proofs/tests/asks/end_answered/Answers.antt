@@ -6,6 +6,6 @@ use Rattle.tests_sessions.proofs.tests.asks.end_answered.Goals as goal
 
 pub end_all-requires : goal.end_all-requires
 end_all-requires g c = record {
-  end = each_seen (CanEnd g.T.OpenedAs.opening g.T.OpenedAs.told c.args.pass.now.table) (λ s. s.seat) c.in-Ok.sessions.items
-      (subst (λ r. AllCanEnd g.T.OpenedAs.opening g.T.OpenedAs.told c.args.pass.now.table (answer_of (λ v. v.items) (λ s. s.seat) r)) c.in-Ok.is c.requires.end);
+  end = each_seen (CanEnd g.T.Opened.opening g.T.Opened.outset.told c.args.pass.now.table) (λ s. s.seat) c.in-Ok.sessions.items
+      (subst (λ r. AllCanEnd g.T.Opened.opening g.T.Opened.outset.told c.args.pass.now.table (answer_of (λ v. v.items) (λ s. s.seat) r)) c.in-Ok.is c.requires.end);
 }

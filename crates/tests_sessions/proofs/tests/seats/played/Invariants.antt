@@ -1,10 +1,13 @@
-use Rattle.std.proofs.Common.{◌==◌, length, false}
+use Rattle.std.proofs.Common.{◌==◌, None, length, false, true}
 use Rattle.pin_core.specs.Tallies.{tally_of}
+use Rattle.pool.specs.Sitting.{shared}
 use Rattle.tests_sessions.proofs.tests.seats.played.Given as goal
 
 abbrev pub ghosts-played_as : goal.ghosts-played_as
 ghosts-played_as g a = record {
   opening = record { blocks = a.conf.now.blocks; block_len = a.conf.now.block_len; marked = (a.conf.now.profile == 2); first_name = a.conf.now.first_name; slots = length a.slots.items; faults = 0; stores = 0 };
-  told = false;
+  outset = shared false;
   first = tally_of g.D.Slot a.slots.items;
+  named = true;
+  table = None;
 }
