@@ -16,7 +16,7 @@ use std::process::Abort;
 use std::sync::Wait;
 use std::test::Fail;
 use std::thread::Threads;
-use trace_check::{Checked, Opened, check_trace, entry_line, last_line, opening_line};
+use trace_check::{Checked, check_trace, entry_line, last_line, opening_line};
 
 // Two sessions share eight blocks and eight slots. Each has a client with a page of a block; a writer stores both pages;
 // they are looked at, and all end. A session's end gives its reservation back.
@@ -136,7 +136,7 @@ fn recorded_as<T: Opened + Send, D: Slot + Drop + Send, R: Threads + Wait + Abor
 
 // The lines of a trace.
 fn text_of(alloc: Global, trace: &Trace) -> Result<Vec<u8>, Memory> {
-    let opened = Opened {
+    let opened = trace_check::Opened {
         blocks: trace.blocks,
         block_len: trace.block_len,
         first_name: trace.first_name,
