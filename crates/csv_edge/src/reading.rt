@@ -121,6 +121,16 @@ impl<'a, S: Source> RowsOver<'a, S, Option<Box<Open>>> {
         }
     }
 
+    /// Lets the rows go. The source comes back, with what was not read of it.
+    pub fn into_source(self) -> &'a mut S
+        ensures same { result.ghost_name ≡ self.entry.src.ghost_name }
+        ensures source { result.now ≡ self.entry.src.now }
+    {
+        let RowsOver { src, left } = self;
+        drop(left);
+        src
+    }
+
     // Lets the input go. This stands apart, since an input that is let go takes much of the stack.
     #[cold]
     #[inline(never)]

@@ -61,5 +61,8 @@ pub mod Begun
 pub mod HeldPages
 pub mod Laying
 pub mod Weighing
+pub mod EachKey
+pub mod Inlets
+pub mod Poured
 mod Sharing
 pub mod Taken

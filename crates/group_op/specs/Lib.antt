@@ -16,5 +16,6 @@ pub mod KeyParts
 pub mod Finished
 pub mod Starting
 pub mod Pinning
+pub mod Pouring
 pub mod Laid
 pub mod Causes

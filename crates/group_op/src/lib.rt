@@ -25,6 +25,7 @@ mod operator;
 mod ordering;
 mod own_row;
 mod partial;
+mod pouring;
 mod putting;
 mod reading;
 mod reduction;
