@@ -11,7 +11,7 @@ use Rattle.query_plan.specs.declared.plan.SidePlan.{SidePlan}
 use Rattle.query_run.specs.Feeding.{AreFirstOf, OfTaken}
 use Rattle.query_run.specs.Input.{passing_in, rows_read, weight_of}
 use Rattle.query_run.specs.Through.{light_front, taken_in, taken_of}
-use Rattle.query_run.proofs.Reading.{IsLight, IsSoFar}
+use Rattle.query_run.specs.SoFar.{IsLight, IsSoFar}
 use Rattle.query_run.proofs.Weighing.{is_light}
 
 -- ---- rows that are light

@@ -1,15 +1,19 @@
 mod Accepted
 pub mod Alone
 mod Around
+mod Batched
 mod BothWants
 mod Counted
 mod Ended
 mod EndedFirst
 mod Feeders
 mod Fronts
+mod Gathers
+mod Gives
 mod Going
 mod Handed
 mod JoinWants
+mod Joint
 mod Joining
 mod KeptFirst
 mod KeptPairs
@@ -23,7 +27,10 @@ mod Results
 pub mod Runs
 mod Says
 mod Sending
+mod Shared
+mod Sharing
 mod Sides
+mod Stores
 mod Spilled
 mod Summing
 mod Taken

@@ -90,8 +90,8 @@ value-decides (Text a) (Wide b) = (λ is. absurd (false≢true is), λ same. abs
 value-decides (Wide a) (Int b) = (λ is. absurd (false≢true is), λ same. absurd (cc))
 value-decides (Wide a) (Text b) = (λ is. absurd (false≢true is), λ same. absurd (cc))
 
-rows-permute : (xs ys : List (List Value)) → SameRows xs ys → IsPermutation xs ys
-rows-permute xs ys same = permute (pointwise value_eq) (λ a b. slice_eq-Decides value-decides a b (pointwise value_eq a b) refl) xs ys same
+pub rows_permute : (xs ys : List (List Value)) → SameRows xs ys → IsPermutation xs ys
+rows_permute xs ys same = permute (pointwise value_eq) (λ a b. slice_eq-Decides value-decides a b (pointwise value_eq a b) refl) xs ys same
 
 -- ---- their groups
 
@@ -115,7 +115,7 @@ same_many xs ys same = sym (ones xs) ∙ same (λ row. 1) ∙ ones ys
 -- a grouping that was fed these rows in some order
 pub holds_ordered : (fed rows : List (List Value)) (op : Operator) (h : Holdings) (signs : Signs) → Holds fed op h signs → AreFed op.shape.kinds fed → SameRows fed rows → HoldsFor rows op h signs
 holds_ordered fed rows op h signs holds formed same =
-    let order = rows-permute fed rows same in
+    let order = rows_permute fed rows same in
     let values : AreValues rows = All-permutation (λ row. All IsValue row) fed rows order holds.values in
     record {
       fed = fed;

@@ -20,8 +20,9 @@ use Rattle.reservation_tree.specs.declared.errors.PoolErr.TheVariants.{Memory}
 use Rattle.query_run.specs.Causes.{IsOfBytes, IsSourceFault, NamesInt, OfPool, cause_of_input, side_of}
 use Rattle.query_run.specs.Feeding.{RefusesRow}
 use Rattle.query_run.specs.Input.{IsAcceptedIn, IsRefusalIn, first_refusal, first_too_long, most_bytes, rows_of, rows_read, weight_of}
-use Rattle.query_run.specs.FedRows.{AreFed, IsFed}
+use Rattle.query_run.specs.FedRows.{IsFed}
 use Rattle.query_run.specs.Plans.{kinds_of_columns}
+use Rattle.query_run.specs.SoFar.{IsLight, IsReading, IsSoFar, fed_of}
 use Rattle.query_run.specs.declared.feeding.Fed.{Fed}
 use Rattle.query_plan.specs.declared.plan.Query.{Query}
 use Rattle.query_plan.specs.declared.plan.Side.{Side}
@@ -30,14 +31,7 @@ use Rattle.query_plan.specs.declared.outcome.QueryErr.{QueryErr}
 use Rattle.query_plan.specs.declared.outcome.QueryErr.TheVariants as query
 use Rattle.query_plan.specs.declared.outcome.QueryErr.TheVariants.{TooLarge}
 
--- the rows so far, and what is still to come, are the input
-abbrev pub IsSoFar : SidePlan → Option (List ℕ) → List (List Value) → Option Typed → Type 0
-IsSoFar asked told rows rest = Becomes (rows_then rows) (option_map (rows_of asked.columns) told) rest
-
--- a row that weighs no more than is allowed, and one that does
-abbrev pub IsLight : Query → ℕ → List Value → Type 0
-IsLight plan page row = weight_of plan row ≤ page
-
+-- a row that weighs too much
 pub record IsTooLong (plan : Query) (side : Side) (page : ℕ) (row : List Value) (number : ℕ) (why : QueryErr) : Type 0 where
   pub heavy : page < weight_of plan row
   pub names_it : why ≡ query.RowTooLong side number (min (weight_of plan row) (2 ^ 64 - 1))
@@ -225,20 +219,6 @@ one_more P rows row all is = All-append P rows (row ∷ []) all only where
   only : (k : ℕ) (d : List Value) → k < 1 → P (slice_index_or (row ∷ []) k d)
   only zero d below = is
   only (suc k) d below = absurd (omega (arith, below))
-
--- so many rows were read, and those that pass were fed; the others are still to come
-pub record IsReading (plan : Query) (side : Side) (asked : SidePlan) (page : ℕ) (told : Option (List ℕ)) (fed : Fed) (feeds : List (List Value) → Type 0) (rest : Option Typed) (now : Option (List ℕ)) (allowed : ℕ) : Type 0 where
-  pub rows : List (List Value)
-  pub read : fed.read ≡ length rows
-  pub kept : fed.kept ≡ length (filter (passes asked.preds) rows)
-  pub light : All (IsLight plan page) rows
-  pub formed : AreFed (kinds_of_columns asked.columns) rows
-  pub came : feeds (filter (passes asked.preds) rows)
-  pub so_far : IsSoFar asked told rows rest
-  pub counts : CountsBytes most_bytes told allowed now
-
-abbrev pub fed_of : ℕ → ℕ → Fed
-fed_of read kept = record { read = read; kept = kept }
 
 -- nothing was read yet but the header
 pub started : (plan : Query) (side : Side) (asked : SidePlan) (page : ℕ) (told : Option (List ℕ)) (feeds : List (List Value) → Type 0) (rest : Option Typed) (now : Option (List ℕ)) (allowed : ℕ)

@@ -20,4 +20,11 @@ pub mod FeederLaws
 pub mod Spilling
 pub mod Completing
 pub mod Run
+pub mod Several
+pub mod Batches
+pub mod SoFar
+pub mod Passing
+pub mod Parallel
+pub mod Gathering
+pub mod Together
 pub mod Beginning

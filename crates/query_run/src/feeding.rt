@@ -26,10 +26,10 @@ use std::alloc::Global;
 use store_api::Store;
 
 // The most records of an input, the header among them.
-const MOST_RECORDS: u64 = 2147483648;
+pub(crate) const MOST_RECORDS: u64 = 2147483648;
 
 // The most bytes of an input.
-const MOST_BYTES: u64 = 1099511627776;
+pub(crate) const MOST_BYTES: u64 = 1099511627776;
 
 // What an aggregate adds to the weight of a row.
 pub(crate) const AGGREGATE: u64 = 16;
@@ -145,7 +145,7 @@ fn feed_row<St: Store, T: Takes<St>>(
 }
 
 // What a row weighs, or the greatest number of 64 bits.
-fn weight(plan: &Query, row: &[Value]) -> u64
+pub(crate) fn weight(plan: &Query, row: &[Value]) -> u64
     requires { length plan.now.aggs ≤ 16 }
     ensures { result ≡ min (weight_of plan.now row.now) (2 ^ 64 - 1) }
 {
@@ -160,7 +160,7 @@ fn weight(plan: &Query, row: &[Value]) -> u64
 }
 
 // What the refusal of an input is to the query that reads it.
-fn cause_of(side: Side, e: InputErr) -> QueryErr
+pub(crate) fn cause_of(side: Side, e: InputErr) -> QueryErr
     ensures { result ≡ cause_of_input side e }
 {
     match e {

@@ -1,6 +1,7 @@
 //! Whole queries over a store in memory, against worked rows. A page has 256 bytes, and a query begins with twenty of them.
 
 mod both;
+mod shared;
 
 ghost use Rattle.std.specs.Prelude.{◌≡◌, ◌≤◌, ◌⊎◌, [], ◌∷◌, codes, IfOk, All, None, length, pos};
 ghost use Rattle.row_codec.specs.declared.values.Kind.TheVariants.{Int, Text};

@@ -3,7 +3,7 @@ use Rattle.csv_edge.specs.Rows.{IsOpen, bytes_allowed, kinds_in, records_allowed
 use Rattle.query_run.specs.Input.{most_records}
 use Rattle.query_run.specs.Plans.{kinds_of_columns}
 use Rattle.query_run.specs.Taking.{TakesStill}
-use Rattle.query_run.proofs.Reading.{IsReading}
+use Rattle.query_run.specs.SoFar.{IsReading}
 use Rattle.query_run.proofs.feeding.feed_side.Given as goal
 
 abbrev pub invariant-loop-rows : goal.invariant-loop-rows
